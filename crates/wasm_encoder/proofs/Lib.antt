@@ -1,0 +1,4 @@
+pub mod Laws
+pub mod Joining
+pub mod Digits
+pub mod NumberLaws

@@ -1,0 +1,25 @@
+-- What a reader answers about all of its bytes.
+use Rattle.std.specs.Prelude.{◌≡◌, ℕ, ◌≤◌, List, ◌++◌, length, Result, Ok, Err}
+use Rattle.wasm_encoder.specs.declared.reader.ReadError.{ReadError}
+use Rattle.wasm_encoder.specs.declared.reader.ReadError.TheVariants as errors
+
+-- the answer, seen by view, is this value, unless memory ran out
+abbrev pub IsOrMemory : {X V : Type 0} → (X → V) → V → Result X ReadError → Type 0
+IsOrMemory view v (Ok x) = view x ≡ v
+IsOrMemory view v (Err errors.Memory) = Unit {0}
+IsOrMemory view v (Err (errors.Refused at)) = ⊥
+
+-- at a refusal, this holds of the place
+abbrev pub IfRefused : {X : Type 0} → Result X ReadError → (ℕ → Type 0) → Type 0
+IfRefused (Ok x) P = Unit {0}
+IfRefused (Err errors.Memory) P = Unit {0}
+IfRefused (Err (errors.Refused at)) P = P at
+
+-- The bytes have a front of this length that is whole, and no longer front is.
+pub record IsLongestFront (Whole : List ℕ → Type 0) (bytes : List ℕ) (len : ℕ) : Type 0 where
+  pub front : List ℕ
+  pub rest : List ℕ
+  pub parts : bytes ≡ front ++ rest
+  pub len_is : length front ≡ len
+  pub whole : Whole front
+  pub longest : (other after : List ℕ) → bytes ≡ other ++ after → Whole other → length other ≤ len

@@ -1,0 +1,13 @@
+//! The lowest layer of a WebAssembly encoder, proved: typed calls go in, and exactly the shortest bytes come out.
+//! Beside the writers stand readers and normalisers, which take every spelling that the binary format allows.
+#![tactic(auto)]
+
+pub mod encode;
+pub mod reader;
+pub mod sink;
+pub mod table;
+
+pub use encode::{Encode, EncodeError};
+pub use reader::ReadError;
+pub use sink::InstructionSink;
+pub use table::{Call, Kind, Opcode, Operands, Prefix};
