@@ -26,26 +26,42 @@ pub record Longer {V : Type 0} (G : Grammar V) (a : List ℕ) (vs : List V) (b :
   pub items : ws ≡ vs ++ more
   pub spells : Joined G back more
 
--- of two lists of spellings at the front of the same bytes, the longer begins with the shorter
+-- ---- two lists of spellings at the front of the same bytes
+
+regroup : (a f g x b f' g' y : List ℕ) → a ≡ f ++ g → b ≡ f' ++ g' → a ++ x ≡ b ++ y → f ++ (g ++ x) ≡ f' ++ (g' ++ y)
+regroup a f g x b f' g' y p q e = sym (append_assoc f g x) ∙ ap (λ (t : List ℕ). t ++ x) (sym p) ∙ e ∙ ap (λ (t : List ℕ). t ++ y) q ∙ append_assoc f' g' y
+
+shorter_rest : (a f g b f' g' : List ℕ) → a ≡ f ++ g → b ≡ f' ++ g' → f ≡ f' → length a ≤ length b → length g ≤ length g'
+shorter_rest a f g b f' g' p q e le = omega (arith, length-append f g, length-append f' g', ap (length {A = ℕ}) p, ap (length {A = ℕ}) q, ap (length {A = ℕ}) e)
+
+put_before : (a f g b f' g' back : List ℕ) → a ≡ f ++ g → b ≡ f' ++ g' → f ≡ f' → g' ≡ g ++ back → b ≡ a ++ back
+put_before a f g b f' g' back p q e r = q ∙ ap (λ (t : List ℕ). t ++ g') (sym e) ∙ ap (λ (t : List ℕ). f ++ t) r ∙ sym (append_assoc f g back) ∙ ap (λ (t : List ℕ). t ++ back) (sym p)
+
+put_item_before : {V : Type 0} (v w : V) (vs ws more : List V) → v ≡ w → ws ≡ vs ++ more → w ∷ ws ≡ (v ∷ vs) ++ more
+put_item_before v w vs ws more e p = cc
+
+pub empty_front : (f g : List ℕ) → f ++ g ≡ [] → f ≡ []
+empty_front [] g e = refl
+empty_front (c ∷ f) g e = absurd cc
+
+empty : (a : List ℕ) → length a ≤ 0 → a ≡ []
+empty [] le = refl
+empty (c ∷ a) le = absurd (omega arith)
+
+-- the longer begins with the shorter
 pub Joined-split : {V : Type 0} {G : Grammar V} {read : Reader V} → Reads G read → TakesBytes G → (a b x y : List ℕ) (vs ws : List V) → Joined G a vs → Joined G b ws → a ++ x ≡ b ++ y → length a ≤ length b → Longer G a vs b ws
 Joined-split r some a b x y [] ws g h e le = record { back = b; more = ws; bytes = rw g refl; items = refl; spells = h }
 Joined-split {V} {G} r some a b x y (v ∷ vs) [] g h e le =
-    let none : length (g.0 ++ g.1) ≤ 0 = subst (λ (t : List ℕ). length t ≤ 0) g.2 (subst (λ (t : List ℕ). length a ≤ length t) h le) in
-    absurd (some v (subst (λ (t : List ℕ). G t v) (empty g.0 (omega (arith, length-append g.0 g.1))) g.3))
-  where
-    empty : (t : List ℕ) → length t ≤ 0 → t ≡ []
-    empty [] le = refl
-    empty (c ∷ t) le = absurd (omega arith)
+    let none : a ≡ [] = empty a (subst (λ (t : List ℕ). length a ≤ length t) h le) in
+    absurd (some v (subst (λ (t : List ℕ). G t v) (empty_front g.0 g.1 (sym g.2 ∙ none)) g.3))
 Joined-split {V} {G} r some a b x y (v ∷ vs) (w ∷ ws) g h e le =
-    let row : g.0 ++ (g.1 ++ x) ≡ h.0 ++ (h.1 ++ y) = sym (append_assoc g.0 g.1 x) ∙ ap (λ (t : List ℕ). t ++ x) (sym g.2) ∙ e ∙ ap (λ (t : List ℕ). t ++ y) h.2 ∙ append_assoc h.0 h.1 y in
-    let one = one_reading r g.0 h.0 (g.1 ++ x) (h.1 ++ y) v w g.3 h.3 row in
-    let l : length g.1 ≤ length h.1 = omega (arith, length-append g.0 g.1, length-append h.0 h.1, ap (length {A = ℕ}) g.2, ap (length {A = ℕ}) h.2, ap (length {A = ℕ}) one.0) in
-    let rest = Joined-split r some g.1 h.1 x y vs ws g.4 h.4 one.2 l in
+    let one = one_reading r g.0 h.0 (g.1 ++ x) (h.1 ++ y) v w g.3 h.3 (regroup a g.0 g.1 x b h.0 h.1 y g.2 h.2 e) in
+    let rest = Joined-split r some g.1 h.1 x y vs ws g.4 h.4 one.2 (shorter_rest a g.0 g.1 b h.0 h.1 g.2 h.2 one.0 le) in
     record {
       back = rest.back;
       more = rest.more;
-      bytes = h.2 ∙ ap (λ (t : List ℕ). t ++ h.1) (sym one.0) ∙ ap (λ (t : List ℕ). g.0 ++ t) rest.bytes ∙ sym (append_assoc g.0 g.1 rest.back) ∙ ap (λ (t : List ℕ). t ++ rest.back) (sym g.2);
-      items = ap (λ (k : V). k ∷ ws) (sym one.1) ∙ ap (λ (t : List V). v ∷ t) rest.items;
+      bytes = put_before a g.0 g.1 b h.0 h.1 rest.back g.2 h.2 one.0 rest.bytes;
+      items = put_item_before v w vs ws rest.more one.1 rest.items;
       spells = rest.spells;
     }
 
@@ -56,12 +72,7 @@ none_left a (c ∷ back) e = absurd (omega (arith, ap (length {A = ℕ}) e, leng
 Joined-none : {V : Type 0} (G : Grammar V) → TakesBytes G → (back : List ℕ) (vs : List V) → back ≡ [] → Joined G back vs → vs ≡ []
 Joined-none G some back [] e g = refl
 Joined-none {V} G some back (v ∷ vs) e g =
-    let none : g.0 ++ g.1 ≡ [] = sym g.2 ∙ e in
-    absurd (some v (subst (λ (t : List ℕ). G t v) (empty g.0 g.1 none) g.3))
-  where
-    empty : (s t : List ℕ) → s ++ t ≡ [] → s ≡ []
-    empty [] t e = refl
-    empty (c ∷ s) t e = absurd cc
+    absurd (some v (subst (λ (t : List ℕ). G t v) (empty_front g.0 g.1 (sym g.2 ∙ e)) g.3))
 
 -- bytes spell at most one list
 pub Joined-one : {V : Type 0} {G : Grammar V} {read : Reader V} → Reads G read → TakesBytes G → (bytes : List ℕ) (vs ws : List V) → Joined G bytes vs → Joined G bytes ws → vs ≡ ws

@@ -2,3 +2,5 @@ pub mod Laws
 pub mod Joining
 pub mod Digits
 pub mod NumberLaws
+pub mod OpcodeLaws
+pub mod InstructionLaws

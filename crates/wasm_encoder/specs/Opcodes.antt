@@ -1,5 +1,5 @@
 -- The table of opcodes: which kind of operands each has (WebAssembly Core 3.0, 5.4 Instructions).
-use Rattle.std.specs.Prelude.{ℕ, List, [], ◌∷◌, Option, Some, None, ◌&&◌, nat_le, if◌then◌else◌}
+use Rattle.std.specs.Prelude.{◌≡◌, ℕ, zero, suc, ◌+◌, Bool, true, IsTrue, List, [], ◌∷◌, length, Option, Some, None, ◌&&◌, nat_le, nat_lt, if◌then◌else◌}
 use Rattle.wasm_encoder.specs.declared.table.opcode.Prefix.{Prefix}
 use Rattle.wasm_encoder.specs.declared.table.opcode.Prefix.TheVariants as prefixes
 use Rattle.wasm_encoder.specs.declared.table.opcode.Opcode.{Opcode}
@@ -42,3 +42,20 @@ kind_among (r ∷ rs) number = if nat_le r.first number && nat_le number r.last 
 -- the kind of the opcode's operands, or none where it is no opcode
 abbrev pub kind : Opcode → Option Kind
 kind op = kind_among (ranges op.prefix) op.number
+
+-- ---- a table with a place for each number up to its end
+
+-- the kinds of so many numbers, from this one on
+abbrev pub kinds_from : List Range → ℕ → ℕ → List (Option Kind)
+kinds_from rs first zero = []
+kinds_from rs first (suc more) = kind_among rs first ∷ kinds_from rs (first + 1) more
+
+-- no range reaches this number or one past it
+abbrev pub end_below : List Range → ℕ → Bool
+end_below [] number = true
+end_below (r ∷ rs) number = nat_lt r.last number && end_below rs number
+
+-- a place for each number from 0 on, up to one past which there is no opcode
+pub record IsTable (places : List (Option Kind)) (rs : List Range) : Type 0 where
+  pub each : places ≡ kinds_from rs 0 (length places)
+  pub end : IsTrue (end_below rs (length places))

@@ -6,9 +6,8 @@ ghost use Rattle.wasm_encoder.specs.declared.encode.EncodeError.TheVariants.{Mem
 
 mod leb128;
 
-pub(crate) use leb128::{put_i32, put_i64, put_u32};
-
 use leb128::put_u64;
+pub(crate) use leb128::{put_i32, put_i64, put_u32};
 use std::alloc::{AllocError, Allocator};
 use thiserror::Error;
 

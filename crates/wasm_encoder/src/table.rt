@@ -2,6 +2,7 @@
 
 mod call;
 mod opcode;
+mod places;
 
 pub use call::{Call, Operands};
 pub use opcode::{Kind, Opcode, Prefix};

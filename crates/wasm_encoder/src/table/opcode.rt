@@ -1,6 +1,8 @@
 //! The table of opcodes: which kind of operands each has (Core 3.0, 5.4).
 ghost use Rattle.std.specs.Prelude.{◌≡◌};
-ghost use Rattle.wasm_encoder.specs.Opcodes.{kind};
+ghost use Rattle.wasm_encoder.specs.Opcodes.{IsTable, kind, kind_among, ranges};
+
+use super::places::{AFTER_FB, AFTER_FC, AFTER_FD, AFTER_FE, WITHOUT_PREFIX};
 
 /// The byte before an opcode's number, if there is one.
 #[derive(Clone, Copy, Debug, PartialEq, Eq)]
@@ -37,4 +39,34 @@ pub enum Kind {
     I32,
     /// A signed number of 64 bits.
     I64,
+}
+
+impl Opcode {
+    /// The kind of the opcode's operands, or `None` where it is no opcode of the table.
+    #[tactic(auto, unfolding(crate::specs::Opcodes::ranges))]
+    pub fn kind(self) -> Option<Kind>
+        ensures { result ≡ kind self }
+    {
+        match self.prefix {
+            Prefix::None => kind_at(Prefix::None, &WITHOUT_PREFIX, self.number),
+            Prefix::Fb => kind_at(Prefix::Fb, &AFTER_FB, self.number),
+            Prefix::Fc => kind_at(Prefix::Fc, &AFTER_FC, self.number),
+            Prefix::Fd => kind_at(Prefix::Fd, &AFTER_FD, self.number),
+            Prefix::Fe => kind_at(Prefix::Fe, &AFTER_FE, self.number),
+        }
+    }
+}
+
+/// The kind at the place of a number in the table of a prefix, or `None` past its end.
+fn kind_at(prefix: Prefix, places: &[Option<Kind>], number: u32) -> Option<Kind>
+    requires { IsTable places.now (ranges prefix) }
+    ensures { result ≡ kind_among (ranges prefix) number }
+{
+    let _ = prefix;
+    let place = number as usize;
+    if place < places.len() {
+        places[place]
+    } else {
+        None
+    }
 }
