@@ -1,6 +1,7 @@
 -- The laws of instructions.
-use Rattle.std.proofs.Common.{◌≡◌, ℕ, ◌^◌, ◌<◌, ◌≤◌, Bool, true, false, eqb, List, [], ◌∷◌, ◌++◌, Option, Some, None, IsTrue, refl, sym, ap, subst, ◌∙◌, arith}
+use Rattle.std.proofs.Common.{◌≡◌, ℕ, ◌^◌, ◌<◌, ◌≤◌, Bool, true, false, eqb, List, [], ◌∷◌, ◌++◌, Option, Some, None, IsTrue, refl, sym, ap, subst, ◌∙◌, ne_eqb, arith}
 use Rattle.std.proofs.lemmas.Bool.{eqb-true}
+use Rattle.wasm_encoder.specs.declared.table.opcode.Prefix.{Prefix}
 use Rattle.wasm_encoder.specs.declared.table.opcode.Prefix.TheVariants as prefixes
 use Rattle.wasm_encoder.specs.declared.table.opcode.Opcode.{Opcode}
 use Rattle.wasm_encoder.specs.declared.table.opcode.Kind.{Kind}
@@ -10,7 +11,7 @@ use Rattle.wasm_encoder.specs.declared.table.call.Operands.TheVariants as operan
 use Rattle.wasm_encoder.specs.Grammar.{Grammar, Then, Mapped, Nothing, Never, Either}
 use Rattle.wasm_encoder.specs.Numbers.{Within, SpellsU32, unsigned_text}
 use Rattle.wasm_encoder.specs.Opcodes.{ranges, end_below, kind_among, kind}
-use Rattle.wasm_encoder.specs.Instructions.{Instruction, plain, after_fb, after_fc, after_fd, after_fe, SpellsOpcode, opcode_at, opcode_text, SpellsOperands, operands_at, operands_text, kind_of, InRange, SpellsOperandsOf, operands_of_at, instruction_of, SpellsInstruction, instruction_at, instruction_text, IsCall}
+use Rattle.wasm_encoder.specs.Instructions.{Instruction, plain, after_fb, after_fc, after_fd, after_fe, SpellsOpcode, opcode_at, opcode_text, SpellsOperands, operands_at, operands_text, kind_of, InRange, SpellsOperandsOf, operands_of_at, instruction_of, SpellsInstruction, instruction_at, instruction_text, IsCall, IsShort}
 use Rattle.wasm_encoder.proofs.Laws.{Reads, Shortest, IsTextOrLonger, MadeOf, EitherFits, HasTag, HasTag-either, HasTag-map, Reads-then, Reads-map, Reads-nothing, Reads-never, Reads-either, Reads-tag, Shortest-then, Shortest-map, Shortest-nothing, Shortest-never, Shortest-either, Shortest-for, Shortest-tag}
 use Rattle.wasm_encoder.proofs.Joining.{TakesBytes, empty_front}
 use Rattle.wasm_encoder.proofs.NumberLaws.{Reads-u32, Reads-s32, Reads-s64, Shortest-u32, Shortest-s32, Shortest-s64}
@@ -92,3 +93,94 @@ Shortest-opcode =
       spells = λ op fits. subst (λ (t : List ℕ). SpellsOpcode t op) (same_text op) (s.spells op fits);
       least = λ bytes op g. subst (λ (t : List ℕ). IsTextOrLonger bytes t) (same_text op) (s.least bytes op g);
     }
+
+-- ---- operands
+
+Reads-operands : (k : Kind) → Reads (SpellsOperands k) (operands_at k)
+unfolding SpellsOperands operands_at
+Reads-operands kinds.None = Reads-nothing operands.None
+Reads-operands kinds.Index = Reads-map operands.Index Reads-u32
+Reads-operands kinds.I32 = Reads-map operands.I32 Reads-s32
+Reads-operands kinds.I64 = Reads-map operands.I64 Reads-s64
+
+-- which operands a kind has
+unfoldable pub OperandsFit : Kind → Operands → Type 0
+OperandsFit kinds.None = λ o. operands.None ≡ o
+OperandsFit kinds.Index = MadeOf operands.Index IsU32
+OperandsFit kinds.I32 = MadeOf operands.I32 (Within (2 ^ 31))
+OperandsFit kinds.I64 = MadeOf operands.I64 (Within (2 ^ 63))
+
+Shortest-operands : (k : Kind) → Shortest (SpellsOperands k) (OperandsFit k) operands_text
+unfolding SpellsOperands operands_text OperandsFit
+Shortest-operands kinds.None = Shortest-nothing operands.None operands_text refl
+Shortest-operands kinds.Index = Shortest-map operands.Index operands_text Shortest-u32 (λ n. refl)
+Shortest-operands kinds.I32 = Shortest-map operands.I32 operands_text Shortest-s32 (λ z. refl)
+Shortest-operands kinds.I64 = Shortest-map operands.I64 operands_text Shortest-s64 (λ z. refl)
+
+operands_fit : (o : Operands) → InRange o → OperandsFit (kind_of o) o
+unfolding OperandsFit
+operands_fit operands.None fits = refl
+operands_fit (operands.Index index) fits = (index, fits, refl)
+operands_fit (operands.I32 value) fits = (value, fits, refl)
+operands_fit (operands.I64 value) fits = (value, fits, refl)
+
+-- ---- instructions
+
+Reads-operands-of : (o : Option Kind) → Reads (SpellsOperandsOf o) (operands_of_at o)
+Reads-operands-of None = Reads-never
+Reads-operands-of (Some k) = Reads-operands k
+
+pub Reads-instruction : Reads SpellsInstruction instruction_at
+unfolding SpellsInstruction instruction_at
+Reads-instruction = Reads-map instruction_of (Reads-then Reads-opcode (λ op. Reads-operands-of (kind op)))
+
+no_bytes : (op : Opcode) → SpellsOpcode [] op → ⊥
+unfolding SpellsOpcode
+no_bytes op g = g
+
+pub TakesBytes-instruction : TakesBytes SpellsInstruction
+unfolding SpellsInstruction
+TakesBytes-instruction i g =
+    let opcode = g.1.3 in no_bytes g.0.0 (subst (λ (t : List ℕ). SpellsOpcode t g.0.0) (empty_front g.1.0 g.1.1 (sym g.1.2)) opcode)
+
+abbrev OperandsOfFit : Option Kind → Operands → Type 0
+OperandsOfFit None = λ o. ⊥
+OperandsOfFit (Some k) = OperandsFit k
+
+Shortest-operands-of : (o : Option Kind) → Shortest (SpellsOperandsOf o) (OperandsOfFit o) operands_text
+Shortest-operands-of None = Shortest-never operands_text
+Shortest-operands-of (Some k) = Shortest-operands k
+
+-- the opcodes of the table are short
+pub in_table_short : (op : Opcode) (k : Kind) → kind op ≡ Some k → IsShort op
+unfolding ranges
+in_table_short op k e = by op.prefix op.number e where
+  by : (p : Prefix) (n : ℕ) → kind_among (ranges p) n ≡ Some k → IsShort (record { prefix = p; number = n })
+  by prefixes.None n e = in_table (ranges prefixes.None) 0xfb n k refl e
+  by prefixes.Fb n e = in_table (ranges prefixes.Fb) (2 ^ 14) n k refl e
+  by prefixes.Fc n e = in_table (ranges prefixes.Fc) (2 ^ 14) n k refl e
+  by prefixes.Fd n e = in_table (ranges prefixes.Fd) (2 ^ 14) n k refl e
+  by prefixes.Fe n e = in_table (ranges prefixes.Fe) (2 ^ 14) n k refl e
+
+-- below the prefix bytes
+plain_fits : (n : ℕ) → n < 0xfb → OpcodeFits n (plain n)
+plain_fits n lt = rw (ne_eqb n 0xfb (omega arith), ne_eqb n 0xfc (omega arith), ne_eqb n 0xfd (omega arith), ne_eqb n 0xfe (omega arith)) refl
+
+opcode_fits : (op : Opcode) → IsShort op → OpcodeFits (first_byte op) op
+opcode_fits op short = by op.prefix op.number short where
+  by : (p : Prefix) (n : ℕ) → let o : Opcode = record { prefix = p; number = n } in IsShort o → OpcodeFits (first_byte o) o
+  by prefixes.None n short = plain_fits n short
+  by prefixes.Fb n short = (n, omega arith, refl)
+  by prefixes.Fc n short = (n, omega arith, refl)
+  by prefixes.Fd n short = (n, omega arith, refl)
+  by prefixes.Fe n short = (n, omega arith, refl)
+
+-- an instruction of the table, with operands of its kind
+abbrev pub InstructionFits : Instruction → Type 0
+InstructionFits i = IsCall i.op i.operands × InRange i.operands
+
+pub Shortest-instruction : Shortest SpellsInstruction InstructionFits instruction_text
+unfolding SpellsInstruction
+Shortest-instruction = Shortest-for InstructionFits
+    (Shortest-map instruction_of instruction_text (Shortest-then Shortest-opcode (λ op. Shortest-operands-of (kind op))) (λ parts. refl))
+    (λ i fits. ((i.op, i.operands), (opcode_fits i.op (in_table_short i.op (kind_of i.operands) fits.0), subst (λ (o : Option Kind). OperandsOfFit o i.operands) (sym fits.0) (operands_fit i.operands fits.1)), refl))

@@ -17,6 +17,9 @@ pub record Instruction : Type 0 where
   pub op : Opcode
   pub operands : Operands
 
+abbrev pub call : Opcode → Operands → Instruction
+call op operands = record { op = op; operands = operands }
+
 -- ---- opcodes
 
 -- an opcode without prefix
@@ -34,6 +37,16 @@ after_fd number = record { prefix = prefixes.Fd; number = number }
 
 abbrev pub after_fe : ℕ → Opcode
 after_fe number = record { prefix = prefixes.Fe; number = number }
+
+-- it is written in three bytes at the most, and without prefix isn't a prefix byte
+abbrev pub IsShort : Opcode → Type 0
+IsShort op = elim op.prefix [
+  | prefixes.None ↦ op.number < 0xfb
+  | prefixes.Fb ↦ op.number < 2 ^ 14
+  | prefixes.Fc ↦ op.number < 2 ^ 14
+  | prefixes.Fd ↦ op.number < 2 ^ 14
+  | prefixes.Fe ↦ op.number < 2 ^ 14
+]
 
 -- a prefix byte and the opcode's number, or the opcode in one byte
 unfoldable pub SpellsOpcode : Grammar Opcode

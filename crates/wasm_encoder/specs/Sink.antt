@@ -6,6 +6,9 @@ use Rattle.std.specs.Vec.{vec_len, vec_capacity}
 use Rattle.std.specs.contracts.vec.Vec as vec
 use Rattle.std.specs.declared.alloc.Allocator.{Ghosts}
 use Rattle.wasm_encoder.specs.declared.sink.InstructionSink.{InstructionSink}
+use Rattle.wasm_encoder.specs.declared.table.opcode.Opcode.{Opcode}
+use Rattle.wasm_encoder.specs.declared.table.call.Operands.{Operands}
+use Rattle.wasm_encoder.specs.Instructions.{call, instruction_text}
 use Rattle.wasm_encoder.specs.declared.encode.EncodeError.{EncodeError}
 
 module _ {Z : Type 0} where
@@ -20,6 +23,10 @@ module _ {Z : Type 0} where
   -- the sink goes on, with this text at its end
   abbrev pub Appended : InstructionSink Z → List ℕ → Result (InstructionSink Z) EncodeError → Type 0
   Appended s text r = IfOk r (λ t. written t ≡ written s ++ text)
+
+  -- the sink goes on, with the text of this call at its end
+  abbrev pub Writes : InstructionSink Z → Opcode → Operands → Result (InstructionSink Z) EncodeError → Type 0
+  Writes s op operands r = Appended s (instruction_text (call op operands)) r
 
   -- there is room for any call without a list
   abbrev pub HasRoom : InstructionSink Z → Type 0

@@ -1,8 +1,9 @@
 //! Calls: an opcode with operands of its kind.
 ghost use Rattle.std.specs.Prelude.{◌≡◌, IfOk, IfErr, IsOk, ◌↔◌};
-ghost use Rattle.wasm_encoder.specs.Instructions.{IsCall};
+ghost use Rattle.wasm_encoder.specs.Instructions.{InRange, IsCall, IsShort, call, kind_of};
 
 use super::opcode::{Kind, Opcode};
+use crate::encode::EncodeError;
 use std::marker::Model;
 
 /// The operands of an instruction, one variant for each [`Kind`].
@@ -21,7 +22,7 @@ pub enum Operands {
 /// An instruction: an opcode of the table with operands of its kind.
 ///
 /// In contracts it is the record of the two.
-#[derive(Debug, Drop)]
+#[derive(Debug, PartialEq, Eq, Drop)]
 pub struct Call {
     op: Opcode,
     operands: Operands,
@@ -35,4 +36,76 @@ impl Model for Call {
     ghost view = { λ c. record { op = c.op; operands = c.operands } };
 
     ghost invariant = { λ c. IsCall c.op c.operands × InRange c.operands };
+
+    ghost inverse = { λ i. record { op = i.op; operands = i.operands } };
+}
+
+impl Operands {
+    /// The kind of opcodes that have such operands.
+    pub fn kind(&self) -> Kind
+        ensures { result ≡ kind_of self.now }
+    {
+        match self {
+            Operands::None => Kind::None,
+            Operands::Index(_) => Kind::Index,
+            Operands::I32(_) => Kind::I32,
+            Operands::I64(_) => Kind::I64,
+        }
+    }
+
+    /// An equal value. No list is copied yet, so there is always memory for it.
+    pub fn try_clone(&self) -> Result<Operands, EncodeError>
+        ensures { IfOk result (λ o. o ≡ self.now) }
+    {
+        Ok(match self {
+            Operands::None => Operands::None,
+            Operands::Index(index) => Operands::Index(*index),
+            Operands::I32(value) => Operands::I32(*value),
+            Operands::I64(value) => Operands::I64(*value),
+        })
+    }
+}
+
+impl Call {
+    /// The call of an opcode with these operands. Where the opcode isn't in the table or has operands of another
+    /// kind, the operands are handed back.
+    pub fn new(op: Opcode, operands: Operands) -> Result<Call, Operands>
+        ensures ok { IfOk result (λ c. c ≡ call op operands) }
+        ensures err { IfErr result (λ o. o ≡ operands) }
+        ensures accepts { IsOk result ↔ IsCall op operands }
+    {
+        if op.kind() == Some(operands.kind()) {
+            Ok(Call { op, operands })
+        } else {
+            Err(operands)
+        }
+    }
+
+    /// The opcode.
+    pub fn op(&self) -> Opcode
+        ensures value { result ≡ self.now.op }
+        ensures is_call { IsCall result self.now.operands }
+        ensures short { IsShort result }
+    {
+        self.op
+    }
+
+    /// The operands.
+    pub fn operands(&self) -> &Operands
+        ensures value { result.now ≡ self.now.operands }
+        ensures in_range { InRange result.now }
+    {
+        &self.operands
+    }
+
+    /// An equal call.
+    pub fn try_clone(&self) -> Result<Call, EncodeError>
+        ensures { IfOk result (λ c. c ≡ self.now) }
+    {
+        let operands = self.operands.try_clone()?;
+        Ok(Call {
+            op: self.op,
+            operands,
+        })
+    }
 }

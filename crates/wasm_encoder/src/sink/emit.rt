@@ -1,0 +1,136 @@
+//! One emitter for each kind of operands. It asks once for room for 24 bytes, which every call without a list fits
+//! into, and writes the call's text there.
+ghost use Rattle.std.specs.Prelude.{◌≡◌, ◌++◌, ◌∷◌, ◌+◌, ◌^◌, ◌<◌, ◌≤◌, IsOk, vec_len, vec_capacity};
+ghost use Rattle.std.specs.Borrow.{sem};
+ghost use Rattle.wasm_encoder.specs.Sink.{IsUnchangedAtErr, IsSameSink, Writes, HasRoom};
+ghost use Rattle.wasm_encoder.specs.Numbers.{unsigned_text};
+ghost use Rattle.wasm_encoder.specs.Instructions.{IsShort, opcode_text, plain};
+ghost use Rattle.wasm_encoder.specs.declared.table.call.Operands.TheVariants as operands;
+
+use super::InstructionSink;
+use crate::encode::{EncodeError, put_i32, put_i64, put_u32};
+use crate::table::{Opcode, Prefix};
+use std::alloc::Allocator;
+
+/// The room that every call without a list fits into, in bytes.
+const ROOM: usize = 24;
+
+/// An opcode without prefix.
+pub(super) const fn plain(number: u8) -> Opcode
+    ensures { result ≡ plain number }
+{
+    Opcode {
+        prefix: Prefix::None,
+        number: number as u32,
+    }
+}
+
+/// Writes a prefix byte and the opcode's number, in one byte or two, into reserved room.
+#[tactic(auto, unfolding(crate::specs::Numbers::unsigned_text, crate::specs::Numbers::digits_of))]
+fn put_prefixed<A: Allocator>(bytes: &mut Vec<u8, A>, prefix: u8, number: u32)
+    requires short { number < 2 ^ 14 }
+    requires room { vec_len bytes.old + 3 ≤ vec_capacity bytes.old }
+    ensures items { bytes.new.items ≡ bytes.old.items ++ prefix ∷ unsigned_text number }
+    ensures len { vec_len bytes.new ≤ vec_len bytes.old + 3 }
+    ensures capacity { vec_capacity bytes.new ≡ vec_capacity bytes.old }
+{
+    bytes.push_reserved(prefix);
+    if number < 0x80 {
+        bytes.push_reserved(number as u8);
+    } else {
+        bytes.push_reserved(0x80 + (number % 0x80) as u8);
+        bytes.push_reserved((number / 0x80) as u8);
+    }
+}
+
+/// Writes an opcode into reserved room.
+#[tactic(auto, unfolding(crate::specs::Instructions::opcode_text))]
+fn put_opcode<A: Allocator>(bytes: &mut Vec<u8, A>, op: Opcode)
+    requires short { IsShort op }
+    requires room { vec_len bytes.old + 3 ≤ vec_capacity bytes.old }
+    ensures items { bytes.new.items ≡ bytes.old.items ++ opcode_text op }
+    ensures len { vec_len bytes.new ≤ vec_len bytes.old + 3 }
+    ensures capacity { vec_capacity bytes.new ≡ vec_capacity bytes.old }
+{
+    match op.prefix {
+        Prefix::None => bytes.push_reserved(op.number as u8),
+        Prefix::Fb => put_prefixed(bytes, 0xfb, op.number),
+        Prefix::Fc => put_prefixed(bytes, 0xfc, op.number),
+        Prefix::Fd => put_prefixed(bytes, 0xfd, op.number),
+        Prefix::Fe => put_prefixed(bytes, 0xfe, op.number),
+    }
+}
+
+#[tactic(auto, unfolding(crate::specs::Instructions::operands_text))]
+impl<'a, A: Allocator> InstructionSink<'a, A> {
+    /// A call without operands.
+    pub(super) fn emit(self, op: Opcode) -> Result<InstructionSink<'a, A>, EncodeError>
+        requires { IsShort op }
+        ensures* unchanged { sem 𝓛 (IsUnchangedAtErr A.row A.Allocator self.entry result) }
+        ensures same { IsSameSink self.entry result }
+        ensures wrote { Writes self.entry op operands.None result }
+        ensures room { HasRoom self.entry → IsOk result }
+    {
+        let InstructionSink { bytes } = self;
+        bytes.reserve(ROOM)?;
+        put_opcode(bytes, op);
+        Ok(InstructionSink { bytes })
+    }
+
+    /// A call with an index.
+    pub(super) fn emit_index(
+        self,
+        op: Opcode,
+        index: u32,
+    ) -> Result<InstructionSink<'a, A>, EncodeError>
+        requires { IsShort op }
+        ensures* unchanged { sem 𝓛 (IsUnchangedAtErr A.row A.Allocator self.entry result) }
+        ensures same { IsSameSink self.entry result }
+        ensures wrote { Writes self.entry op (operands.Index index) result }
+        ensures room { HasRoom self.entry → IsOk result }
+    {
+        let InstructionSink { bytes } = self;
+        bytes.reserve(ROOM)?;
+        put_opcode(bytes, op);
+        put_u32(bytes, index);
+        Ok(InstructionSink { bytes })
+    }
+
+    /// A call with a signed number of 32 bits.
+    pub(super) fn emit_i32(
+        self,
+        op: Opcode,
+        value: i32,
+    ) -> Result<InstructionSink<'a, A>, EncodeError>
+        requires { IsShort op }
+        ensures* unchanged { sem 𝓛 (IsUnchangedAtErr A.row A.Allocator self.entry result) }
+        ensures same { IsSameSink self.entry result }
+        ensures wrote { Writes self.entry op (operands.I32 value) result }
+        ensures room { HasRoom self.entry → IsOk result }
+    {
+        let InstructionSink { bytes } = self;
+        bytes.reserve(ROOM)?;
+        put_opcode(bytes, op);
+        put_i32(bytes, value);
+        Ok(InstructionSink { bytes })
+    }
+
+    /// A call with a signed number of 64 bits.
+    pub(super) fn emit_i64(
+        self,
+        op: Opcode,
+        value: i64,
+    ) -> Result<InstructionSink<'a, A>, EncodeError>
+        requires { IsShort op }
+        ensures* unchanged { sem 𝓛 (IsUnchangedAtErr A.row A.Allocator self.entry result) }
+        ensures same { IsSameSink self.entry result }
+        ensures wrote { Writes self.entry op (operands.I64 value) result }
+        ensures room { HasRoom self.entry → IsOk result }
+    {
+        let InstructionSink { bytes } = self;
+        bytes.reserve(ROOM)?;
+        put_opcode(bytes, op);
+        put_i64(bytes, value);
+        Ok(InstructionSink { bytes })
+    }
+}
