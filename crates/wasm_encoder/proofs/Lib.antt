@@ -4,3 +4,4 @@ pub mod Digits
 pub mod NumberLaws
 pub mod OpcodeLaws
 pub mod InstructionLaws
+pub mod DigitLoop

@@ -1,5 +1,6 @@
 -- What a reader answers about all of its bytes.
 use Rattle.std.specs.Prelude.{◌≡◌, ℕ, ◌≤◌, List, ◌++◌, length, Result, Ok, Err}
+use Rattle.wasm_encoder.specs.Grammar.{Grammar}
 use Rattle.wasm_encoder.specs.declared.reader.ReadError.{ReadError}
 use Rattle.wasm_encoder.specs.declared.reader.ReadError.TheVariants as errors
 
@@ -23,3 +24,13 @@ pub record IsLongestFront (Whole : List ℕ → Type 0) (bytes : List ℕ) (len 
   pub len_is : length front ≡ len
   pub whole : Whole front
   pub longest : (other after : List ℕ) → bytes ≡ other ++ after → Whole other → length other ≤ len
+
+-- the bytes spell some value
+abbrev pub SpellsSome : {V : Type 0} → Grammar V → List ℕ → Type 0
+SpellsSome {V} G bytes = (v : V) × G bytes v
+
+-- The text is that of a value that the bytes spell.
+pub record IsNormalForm {V : Type 0} (G : Grammar V) (text_of : V → List ℕ) (bytes text : List ℕ) : Type 0 where
+  pub value : V
+  pub spelled : G bytes value
+  pub is_text : text ≡ text_of value

@@ -8,6 +8,6 @@ pub mod sink;
 pub mod table;
 
 pub use encode::{Encode, EncodeError};
-pub use reader::ReadError;
+pub use reader::{ReadError, normalise_instructions, read_instructions};
 pub use sink::InstructionSink;
 pub use table::{Call, Kind, Opcode, Operands, Prefix};

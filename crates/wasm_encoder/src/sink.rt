@@ -76,7 +76,10 @@ fn append_calls<A: Allocator>(bytes: &mut Vec<u8, A>, calls: &[Call]) -> Result<
 }
 
 /// Appends the text of a call, or nothing.
-fn append_call<A: Allocator>(bytes: &mut Vec<u8, A>, call: &Call) -> Result<(), EncodeError>
+pub(crate) fn append_call<A: Allocator>(
+    bytes: &mut Vec<u8, A>,
+    call: &Call,
+) -> Result<(), EncodeError>
     ensures ok { OnOk result (bytes.new.items ≡ bytes.old.items ++ instruction_text call.now) }
     ensures err { OnErr result (bytes.new.items ≡ bytes.old.items) }
 {

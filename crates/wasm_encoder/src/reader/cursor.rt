@@ -1,6 +1,7 @@
 //! A place in bytes, and what can be read there.
-ghost use Rattle.std.specs.Prelude.{◌≡◌, ◌^◌, ◌≤◌, IfOk, length, drop};
+ghost use Rattle.std.specs.Prelude.{◌≡◌, ◌^◌, ◌<◌, ◌≤◌, Some, IfOk, length, drop};
 ghost use Rattle.wasm_encoder.specs.Reading.{Reads, byte_at};
+ghost use Rattle.wasm_encoder.specs.Numbers.{ReadsDigits, number_at, signed, u32_at, u64_at, s32_at, s64_at, index_at};
 
 use std::marker::Model;
 
@@ -21,7 +22,7 @@ pub(crate) struct Cursor<'a> {
 }
 
 impl<'a> Model for Cursor<'a> {
-    ghost use Rattle.std.specs.Prelude.{List, ℕ};
+    ghost use Rattle.std.specs.Prelude.{◌≤◌, List, ℕ, length, drop};
 
     ghost Value = { List ℕ };
 
@@ -63,5 +64,70 @@ impl<'a> Cursor<'a> {
         let byte = self.bytes[self.position];
         self.position += 1;
         Ok(byte)
+    }
+
+    /// The digits of a number, at most so many.
+    fn digits(&mut self, most: u32) -> Result<Digits, Fault>
+        requires { most ≤ 10 }
+        ensures reads { ReadsDigits most self.old self.new result }
+        ensures few { IfOk result (λ d. d.unsigned < 128 ^ 10) }
+        ensures place { IfOk result (λ d. d.place ≤ 128 ^ 10) }
+    {
+        let mut unsigned: u128 = 0;
+        let mut place: u128 = 1;
+        for _ in 0..most {
+            let byte = self.byte()?;
+            unsigned += u128::from(byte % 128) * place;
+            place *= 128;
+            if byte < 128 {
+                return Ok(Digits {
+                    unsigned,
+                    place,
+                    last: byte,
+                });
+            }
+        }
+        Err(Fault::Malformed)
+    }
+
+    /// The digits of a signed number, at most so many, and its value.
+    fn signed(&mut self, most: u32) -> Result<i128, Fault>
+        requires { most ≤ 10 }
+        ensures reads { Reads (number_at most (λ digits. Some (signed digits))) self.old self.new result }
+    {
+        let digits = self.digits(most)?;
+        let unsigned = digits.unsigned as i128;
+        if digits.last < 64 {
+            Ok(unsigned)
+        } else {
+            Ok(unsigned - digits.place as i128)
+        }
+    }
+
+    /// A u32 (Core 3.0, 5.2.2).
+    #[tactic(auto, unfolding(crate::specs::Numbers::u32_at))]
+    pub(crate) fn u32(&mut self) -> Result<u32, Fault>
+        ensures reads { Reads u32_at self.old self.new result }
+    {
+        let digits = self.digits(5)?;
+        u32::try_from(digits.unsigned).map_err(|_| Fault::Malformed)
+    }
+
+    /// An s32 (Core 3.0, 5.2.2).
+    #[tactic(auto, unfolding(crate::specs::Numbers::s32_at))]
+    pub(crate) fn s32(&mut self) -> Result<i32, Fault>
+        ensures reads { Reads s32_at self.old self.new result }
+    {
+        let value = self.signed(5)?;
+        i32::try_from(value).map_err(|_| Fault::Malformed)
+    }
+
+    /// An s64 (Core 3.0, 5.2.2).
+    #[tactic(auto, unfolding(crate::specs::Numbers::s64_at))]
+    pub(crate) fn s64(&mut self) -> Result<i64, Fault>
+        ensures reads { Reads s64_at self.old self.new result }
+    {
+        let value = self.signed(10)?;
+        i64::try_from(value).map_err(|_| Fault::Malformed)
     }
 }

@@ -81,6 +81,14 @@ impl Call {
         }
     }
 
+    /// The call of an opcode of the table with operands of its kind.
+    pub(crate) fn from_parts(op: Opcode, operands: Operands) -> Call
+        requires { IsCall op operands }
+        ensures { result ≡ call op operands }
+    {
+        Call { op, operands }
+    }
+
     /// The opcode.
     pub fn op(&self) -> Opcode
         ensures value { result ≡ self.now.op }
