@@ -1,6 +1,7 @@
 -- The laws of instructions.
 use Rattle.std.proofs.Common.{◌≡◌, ℕ, ◌^◌, ◌<◌, ◌≤◌, Bool, true, false, eqb, List, [], ◌∷◌, ◌++◌, Option, Some, None, IsTrue, refl, sym, ap, subst, ◌∙◌, ne_eqb, arith}
 use Rattle.std.proofs.lemmas.Bool.{eqb-true}
+use Rattle.std.specs.List.{AllByRecursion}
 use Rattle.wasm_encoder.specs.declared.table.opcode.Prefix.{Prefix}
 use Rattle.wasm_encoder.specs.declared.table.opcode.Prefix.TheVariants as prefixes
 use Rattle.wasm_encoder.specs.declared.table.opcode.Opcode.{Opcode}
@@ -11,9 +12,10 @@ use Rattle.wasm_encoder.specs.declared.table.call.Operands.TheVariants as operan
 use Rattle.wasm_encoder.specs.Grammar.{Grammar, Then, Mapped, Nothing, Never, Either}
 use Rattle.wasm_encoder.specs.Numbers.{Within, SpellsU32, unsigned_text}
 use Rattle.wasm_encoder.specs.Opcodes.{ranges, end_below, kind_among, kind}
-use Rattle.wasm_encoder.specs.Instructions.{Instruction, plain, after_fb, after_fc, after_fd, after_fe, SpellsOpcode, opcode_at, opcode_text, SpellsOperands, operands_at, operands_text, kind_of, InRange, SpellsOperandsOf, operands_of_at, instruction_of, SpellsInstruction, instruction_at, instruction_text, IsCall, IsShort}
+use Rattle.wasm_encoder.specs.Instructions.{Instruction, plain, after_fb, after_fc, after_fd, after_fe, SpellsOpcode, opcode_at, opcode_text, SpellsOperands, operands_at, operands_text, kind_of, InRange, SpellsOperandsOf, operands_of_at, instruction_of, SpellsInstruction, instruction_at, instruction_text, IsCall, IsShort, SpellsInstructions, instructions_text}
 use Rattle.wasm_encoder.proofs.Laws.{Reads, Shortest, IsTextOrLonger, MadeOf, EitherFits, HasTag, HasTag-either, HasTag-map, Reads-then, Reads-map, Reads-nothing, Reads-never, Reads-either, Reads-tag, Shortest-then, Shortest-map, Shortest-nothing, Shortest-never, Shortest-either, Shortest-for, Shortest-tag}
-use Rattle.wasm_encoder.proofs.Joining.{TakesBytes, empty_front}
+use Rattle.wasm_encoder.proofs.Joining.{TakesBytes, empty_front, Joined-one, Shortest-joined}
+use Rattle.wasm_encoder.proofs.ListReading.{AtMostOne}
 use Rattle.wasm_encoder.proofs.NumberLaws.{Reads-u32, Reads-s32, Reads-s64, Shortest-u32, Shortest-s32, Shortest-s64}
 use Rattle.wasm_encoder.proofs.OpcodeLaws.{in_table}
 
@@ -91,6 +93,7 @@ Shortest-opcode =
     let s = Shortest-tag {E = OpcodeFits} {text = number_text} first_byte Shortest-number HasTag-opcode in
     record {
       spells = λ op fits. subst (λ (t : List ℕ). SpellsOpcode t op) (same_text op) (s.spells op fits);
+      again = λ bytes op g. subst (λ (t : List ℕ). SpellsOpcode t op) (same_text op) (s.again bytes op g);
       least = λ bytes op g. subst (λ (t : List ℕ). IsTextOrLonger bytes t) (same_text op) (s.least bytes op g);
     }
 
@@ -184,3 +187,11 @@ unfolding SpellsInstruction
 Shortest-instruction = Shortest-for InstructionFits
     (Shortest-map instruction_of instruction_text (Shortest-then Shortest-opcode (λ op. Shortest-operands-of (kind op))) (λ parts. refl))
     (λ i fits. ((i.op, i.operands), (opcode_fits i.op (in_table_short i.op (kind_of i.operands) fits.0), subst (λ (o : Option Kind). OperandsOfFit o i.operands) (sym fits.0) (operands_fit i.operands fits.1)), refl))
+
+-- ---- lists of instructions
+
+pub Shortest-instructions : Shortest SpellsInstructions (AllByRecursion InstructionFits) instructions_text
+Shortest-instructions = Shortest-joined Shortest-instruction
+
+pub AtMostOne-instructions : AtMostOne SpellsInstructions
+AtMostOne-instructions = Joined-one Reads-instruction TakesBytes-instruction

@@ -114,21 +114,19 @@ Joined-longest {V} {G} {read} r some bytes front left vs e g none = record {
         absurd (next r s.back after s.more s.spells more (sym (ap read rest) ∙ none))
   ]
 
--- where a longer front is left over that isn't read, the whole isn't a list
-pub Joined-refused : {V : Type 0} {G : Grammar V} {read : Reader V} → Reads G read → TakesBytes G → (bytes front left : List ℕ) (vs ws : List V) → bytes ≡ front ++ left → Joined G front vs → 0 < length left → read left ≡ None → Joined G bytes ws → ⊥
-Joined-refused {V} {G} {read} r some bytes front left vs ws e g more none h =
-    let l = (Joined-longest r some bytes front left vs e g none).longest bytes [] (sym (append-nil bytes)) (ws, h) in
-    absurd (omega (arith, l, ap (length {A = ℕ}) e, length-append front left))
-
 -- ---- texts
 
 joined_spells : {A : Type 0} {G : Grammar A} {F : A → Type 0} {text : A → List ℕ} → Shortest G F text → (vs : List A) → AllByRecursion F vs → Joined G (flat_map text vs) vs
 joined_spells r [] fits = refl
 joined_spells {text = text} r (v ∷ vs) fits = (text v, flat_map text vs, refl, r.spells v fits.0, joined_spells r vs fits.1)
 
+joined_again : {A : Type 0} {G : Grammar A} {F : A → Type 0} {text : A → List ℕ} → Shortest G F text → (bytes : List ℕ) (vs : List A) → Joined G bytes vs → Joined G (flat_map text vs) vs
+joined_again r bytes [] g = refl
+joined_again {text = text} r bytes (v ∷ vs) g = (text v, flat_map text vs, refl, r.again g.0 v g.3, joined_again r g.1 vs g.4)
+
 joined_least : {A : Type 0} {G : Grammar A} {F : A → Type 0} {text : A → List ℕ} → Shortest G F text → (bytes : List ℕ) (vs : List A) → Joined G bytes vs → IsTextOrLonger bytes (flat_map text vs)
 joined_least r bytes [] g = inl g
 joined_least {text = text} r bytes (v ∷ vs) g = least_then bytes g.0 g.1 (text v) (flat_map text vs) g.2 (r.least g.0 v g.3) (joined_least r g.1 vs g.4)
 
 pub Shortest-joined : {A : Type 0} {G : Grammar A} {F : A → Type 0} {text : A → List ℕ} → Shortest G F text → Shortest (Joined G) (AllByRecursion F) (flat_map text)
-Shortest-joined r = record { spells = joined_spells r; least = joined_least r }
+Shortest-joined r = record { spells = joined_spells r; again = joined_again r; least = joined_least r }

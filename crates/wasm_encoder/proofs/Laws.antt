@@ -20,9 +20,10 @@ pub record Reads {V : Type 0} (G : Grammar V) (read : Reader V) : Type 0 where
 abbrev pub IsTextOrLonger : List ℕ → List ℕ → Type 0
 IsTextOrLonger bytes text = (bytes ≡ text) ⊎ (length text < length bytes)
 
--- the text spells each value that fits, and every other spelling is longer
+-- the text spells each value that fits, and what is spelled at all; and every other spelling is longer
 pub record Shortest {V : Type 0} (G : Grammar V) (Fits : V → Type 0) (text : V → List ℕ) : Type 0 where
   pub spells : (v : V) → Fits v → G (text v) v
+  pub again : (bytes : List ℕ) (v : V) → G bytes v → G (text v) v
   pub least : (bytes : List ℕ) (v : V) → G bytes v → IsTextOrLonger bytes (text v)
 
 -- ---- options
@@ -146,6 +147,7 @@ pub Shortest-then : {A B : Type 0} {G : Grammar A} {H : A → Grammar B} {F : A 
     → Shortest G F text → ((a : A) → Shortest (H a) (E a) (more a)) → Shortest (Then G H) (λ v. F v.0 × E v.0 v.1) (λ v. text v.0 ++ more v.0 v.1)
 Shortest-then {text = text} {more} r s = record {
   spells = λ v fits. (text v.0, more v.0 v.1, refl, r.spells v.0 fits.0, (s v.0).spells v.1 fits.1);
+  again = λ bytes v g. (text v.0, more v.0 v.1, refl, r.again g.0 v.0 g.3, (s v.0).again g.1 v.1 g.4);
   least = λ bytes v g. least_then bytes g.0 g.1 (text v.0) (more v.0 v.1) g.2 (r.least g.0 v.0 g.3) ((s v.0).least g.1 v.1 g.4);
 }
 
@@ -157,6 +159,7 @@ MadeOf make F b = (a : _) × F a × (make a ≡ b)
 pub Shortest-map : {A B : Type 0} {G : Grammar A} {F : A → Type 0} {text : A → List ℕ} (make : A → B) (other : B → List ℕ) → Shortest G F text → ((a : A) → text a ≡ other (make a)) → Shortest (Mapped make G) (MadeOf make F) other
 Shortest-map {G = G} {text = text} make other r same = record {
   spells = λ b fits. (fits.0, subst (λ (t : List ℕ). G t fits.0) (same fits.0 ∙ ap other fits.2) (r.spells fits.0 fits.1), fits.2);
+  again = λ bytes b g. (g.0, subst (λ (t : List ℕ). G t g.0) (same g.0 ∙ ap other g.2) (r.again bytes g.0 g.1), g.2);
   least = λ bytes b g. subst (λ (t : List ℕ). IsTextOrLonger bytes t) (same g.0 ∙ ap other g.2) (r.least bytes g.0 g.1);
 }
 
@@ -164,11 +167,12 @@ Shortest-map {G = G} {text = text} make other r same = record {
 pub Shortest-nothing : {A : Type 0} (a : A) (text : A → List ℕ) → text a ≡ [] → Shortest (Nothing a) (λ b. a ≡ b) text
 Shortest-nothing a text empty = record {
   spells = λ b e. (sym (ap text e) ∙ empty, e);
+  again = λ bytes b g. (sym (ap text g.1) ∙ empty, g.1);
   least = λ bytes b g. inl (g.0 ∙ sym empty ∙ ap text g.1);
 }
 
 pub Shortest-never : {A : Type 0} (text : A → List ℕ) → Shortest (Never {A = A}) (λ a. ⊥) text
-Shortest-never text = record { spells = λ v fits. absurd fits; least = λ bytes v g. absurd g }
+Shortest-never text = record { spells = λ v fits. absurd fits; again = λ bytes v g. absurd g; least = λ bytes v g. absurd g }
 
 abbrev pub EitherFits : {A : Type 0} → Bool → (A → Type 0) → (A → Type 0) → A → Type 0
 EitherFits true F E = F
@@ -180,7 +184,7 @@ Shortest-either false r s = s
 
 -- a weaker condition, and the same texts
 pub Shortest-for : {A : Type 0} {G : Grammar A} {F : A → Type 0} {text : A → List ℕ} (E : A → Type 0) → Shortest G F text → ((a : A) → E a → F a) → Shortest G E text
-Shortest-for E r fits = record { spells = λ v e. r.spells v (fits v e); least = r.least }
+Shortest-for E r fits = record { spells = λ v e. r.spells v (fits v e); again = r.again; least = r.least }
 
 -- ---- a first byte that says what comes next
 
@@ -199,7 +203,11 @@ HasTag-map tag_of tag make G same bytes v g = same g.0 ∙ ap tag_of g.2
 
 pub Shortest-tag : {A : Type 0} {cases : ℕ → Grammar A} {E : ℕ → A → Type 0} {text : A → List ℕ} (tag_of : A → ℕ)
     → ((tag : ℕ) → Shortest (cases tag) (E tag) text) → ((tag : ℕ) → HasTag tag_of tag (cases tag)) → Shortest (ByTag cases) (λ v. E (tag_of v) v) (λ v. tag_of v ∷ text v)
-Shortest-tag {A} {cases} {E} {text} tag_of s tagged = record { spells = λ v e. (s (tag_of v)).spells v e; least = tag_least } where
+Shortest-tag {A} {cases} {E} {text} tag_of s tagged = record { spells = λ v e. (s (tag_of v)).spells v e; again = tag_again; least = tag_least } where
+  tag_again : (bytes : List ℕ) (v : A) → ByTag cases bytes v → cases (tag_of v) (text v) v
+  tag_again [] v g = absurd g
+  tag_again (tag ∷ bytes) v g = subst (λ (k : ℕ). cases k (text v) v) (tagged tag bytes v g) ((s tag).again bytes v g)
+
   tag_least : (bytes : List ℕ) (v : A) → ByTag cases bytes v → IsTextOrLonger bytes (tag_of v ∷ text v)
   tag_least [] v g = absurd g
   tag_least (tag ∷ bytes) v g = elim ((s tag).least bytes v g) [

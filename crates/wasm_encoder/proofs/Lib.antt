@@ -1,5 +1,6 @@
 pub mod Laws
 pub mod Joining
+pub mod ListReading
 pub mod Digits
 pub mod NumberLaws
 pub mod OpcodeLaws

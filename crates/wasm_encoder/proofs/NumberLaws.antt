@@ -71,12 +71,15 @@ last_below (b ∷ c ∷ digits) d = last_below (c ∷ digits) d.2
 Shortest-unsigned : (more limit : ℕ) → limit ≤ 128 * 128 ^ more → limit ≤ 128 * 128 ^ 9 → Shortest (Number (suc more) (Below limit)) (λ n. n < limit) unsigned_text
 unfolding unsigned_text
 Shortest-unsigned more limit wide room = record {
-  spells = λ n lt.
-      let p = digits_stand false 128 (omega arith) 9 n (omega arith) in
-      (p.are, length-digits_of false 128 9 more n (omega arith), (sym (magnitude-unsigned _) ∙ p.value, lt));
+  spells = spells;
+  again = λ bytes n g. spells n g.2.1;
   least = λ bytes n g.
       digits_least false 128 9 bytes n (omega arith) (omega (arith, g.2.1)) (record { are = g.0; ends = last_below bytes g.0; value = magnitude-unsigned bytes ∙ g.2.0 });
-}
+} where
+  spells : (n : ℕ) → n < limit → Number (suc more) (Below limit) (digits_of false 128 9 n) n
+  spells n lt =
+      let p = digits_stand false 128 (omega arith) 9 n (omega arith) in
+      (p.are, length-digits_of false 128 9 more n (omega arith), (sym (magnitude-unsigned _) ∙ p.value, lt))
 
 -- ---- signed texts
 
@@ -132,17 +135,21 @@ signed_text-least limit room bytes (negsuc n) lt h = digits_least true 64 9 byte
 
 Shortest-signed : (more limit : ℕ) → limit ≤ 64 * 128 ^ more → limit ≤ 64 * 128 ^ 9 → Shortest (Number (suc more) (SignedWithin limit)) (Within limit) signed_text
 Shortest-signed more limit wide room = record {
-  spells = λ z lt.
-      let p = signed_text_stands limit room z lt in (p.0, length-signed_text more limit wide z lt, (signed_from (signed_text z) z p.1, lt));
+  spells = spells;
+  again = λ bytes z g. spells z g.2.1;
   least = λ bytes z g. signed_text-least limit room bytes z g.2.1 (signed_to bytes g.0 z g.2.0);
-}
+} where
+  spells : (z : ℤ) → Within limit z → Number (suc more) (SignedWithin limit) (signed_text z) z
+  spells z lt = let p = signed_text_stands limit room z lt in (p.0, length-signed_text more limit wide z lt, (signed_from (signed_text z) z p.1, lt))
 
 Shortest-index-below : (more limit : ℕ) → limit ≤ 64 * 128 ^ more → limit ≤ 64 * 128 ^ 9 → Shortest (Number (suc more) (IndexBelow limit)) (λ n. n < limit) (λ n. signed_text (pos n))
 Shortest-index-below more limit wide room = record {
-  spells = λ n lt.
-      let p = signed_text_stands limit room (pos n) lt in (p.0, length-signed_text more limit wide (pos n) lt, (signed_from (signed_text (pos n)) (pos n) p.1, lt));
+  spells = spells;
+  again = λ bytes n g. spells n g.2.1;
   least = λ bytes n g. signed_text-least limit room bytes (pos n) g.2.1 (signed_to bytes g.0 (pos n) g.2.0);
-}
+} where
+  spells : (n : ℕ) → n < limit → Number (suc more) (IndexBelow limit) (signed_text (pos n)) n
+  spells n lt = let p = signed_text_stands limit room (pos n) lt in (p.0, length-signed_text more limit wide (pos n) lt, (signed_from (signed_text (pos n)) (pos n) p.1, lt))
 
 -- ---- the five widths
 

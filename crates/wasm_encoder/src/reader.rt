@@ -1,7 +1,7 @@
 //! Readers and normalisers: any spelling in, the list that it spells or its text out.
 //!
 //! A reader takes all of its input: bytes that are left over are refused like any others that aren't spelled.
-ghost use Rattle.std.specs.Prelude.{◌≡◌, ◌↔◌, ◌++◌, List, IfOk, IfErr, OnOk};
+ghost use Rattle.std.specs.Prelude.{◌≡◌, ◌↔◌, ◌++◌, ◌<◌, List, length, IfOk, IfErr, OnOk};
 ghost use Rattle.wasm_encoder.specs.Answers.{IsOrMemory, IfRefused, IsLongestFront, SpellsSome, IsNormalForm};
 ghost use Rattle.wasm_encoder.specs.Instructions.{Instruction, SpellsInstructions, instruction_text, instructions_text};
 ghost use Rattle.wasm_encoder.specs.declared.reader.ReadError.TheVariants.{Memory};
@@ -60,6 +60,15 @@ pub fn read_instructions(alloc: Global, bytes: &[u8]) -> Result<Vec<Call>, ReadE
     ensures one { (calls others : List Instruction) →
         SpellsInstructions bytes.now calls → SpellsInstructions bytes.now others → calls ≡ others }
 {
+    calls_of(alloc, bytes)
+}
+
+/// The instructions, read one by one to the end of the bytes.
+fn calls_of(alloc: Global, bytes: &[u8]) -> Result<Vec<Call>, ReadError>
+    ensures given { IfOk result (λ calls. SpellsInstructions bytes.now calls.items) }
+    ensures front { IfRefused result (IsLongestFront (SpellsSome SpellsInstructions) bytes.now) }
+    ensures within { IfRefused result (λ at. at < length bytes.now) }
+{
     let mut calls = Vec::new(alloc);
     let mut cursor = Cursor::new(bytes);
     while cursor.len() > 0 {
@@ -94,6 +103,16 @@ pub fn normalise_instructions(alloc: Global, bytes: &[u8]) -> Result<Vec<u8>, Re
     // The result is normal: what it spells has it as its text.
     ensures normal { IfOk result (λ text. (calls : List Instruction) →
         SpellsInstructions text.items calls → text.items ≡ instructions_text calls) }
+{
+    text_of(alloc, bytes)
+}
+
+/// The instructions' text, written one by one as they are read.
+fn text_of(alloc: Global, bytes: &[u8]) -> Result<Vec<u8>, ReadError>
+    ensures given { IfOk result (λ text.
+        IsNormalForm SpellsInstructions instructions_text bytes.now text.items) }
+    ensures front { IfRefused result (IsLongestFront (SpellsSome SpellsInstructions) bytes.now) }
+    ensures within { IfRefused result (λ at. at < length bytes.now) }
 {
     let mut text = Vec::new(alloc);
     let mut cursor = Cursor::new(bytes);
