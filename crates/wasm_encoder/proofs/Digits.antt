@@ -5,7 +5,8 @@ use Rattle.std.proofs.lemmas.Nat.{div_below}
 use Rattle.wasm_encoder.specs.Grammar.{IsBytes}
 use Rattle.wasm_encoder.specs.Reading.{◌>>=◌}
 use Rattle.wasm_encoder.specs.Numbers.{IsDigits, unsigned, last, Number, digits_at, number_at, turned, digits_of}
-use Rattle.wasm_encoder.proofs.Laws.{Fronts, Reads, IsTextOrLonger, bind_some, some_is}
+use Rattle.wasm_encoder.specs.Encoding.{IsTextOrLonger}
+use Rattle.wasm_encoder.proofs.Laws.{Fronts, Reads, bind_some, some_is}
 
 -- ---- reading
 

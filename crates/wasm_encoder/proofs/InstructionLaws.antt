@@ -1,5 +1,6 @@
 -- The laws of instructions.
-use Rattle.std.proofs.Common.{◌≡◌, ℕ, ◌^◌, ◌<◌, ◌≤◌, Bool, true, false, eqb, List, [], ◌∷◌, ◌++◌, Option, Some, None, IsTrue, refl, sym, ap, subst, ◌∙◌, ne_eqb, arith}
+use Rattle.std.proofs.Common.{◌≡◌, ℕ, ◌+◌, ◌^◌, ◌<◌, ◌≤◌, Bool, true, false, eqb, List, [], ◌∷◌, ◌++◌, length, take, get_or, Option, Some, None, IsTrue, refl, sym, ap, subst, ◌∙◌, ne_eqb, arith}
+use Rattle.std.proofs.lemmas.List.{take_more, flat_map_more}
 use Rattle.std.proofs.lemmas.Bool.{eqb-true}
 use Rattle.std.specs.List.{AllByRecursion}
 use Rattle.wasm_encoder.specs.declared.table.opcode.Prefix.{Prefix}
@@ -13,8 +14,9 @@ use Rattle.wasm_encoder.specs.Grammar.{Grammar, Then, Mapped, Nothing, Never, Ei
 use Rattle.wasm_encoder.specs.Numbers.{Within, SpellsU32, unsigned_text}
 use Rattle.wasm_encoder.specs.Opcodes.{ranges, end_below, kind_among, kind}
 use Rattle.wasm_encoder.specs.Instructions.{Instruction, plain, after_fb, after_fc, after_fd, after_fe, SpellsOpcode, opcode_at, opcode_text, SpellsOperands, operands_at, operands_text, kind_of, InRange, SpellsOperandsOf, operands_of_at, instruction_of, SpellsInstruction, instruction_at, instruction_text, IsCall, IsShort, SpellsInstructions, instructions_text}
-use Rattle.wasm_encoder.proofs.Laws.{Reads, Shortest, IsTextOrLonger, MadeOf, EitherFits, HasTag, HasTag-either, HasTag-map, Reads-then, Reads-map, Reads-nothing, Reads-never, Reads-either, Reads-tag, Shortest-then, Shortest-map, Shortest-nothing, Shortest-never, Shortest-either, Shortest-for, Shortest-tag}
-use Rattle.wasm_encoder.proofs.Joining.{TakesBytes, empty_front, Joined-one, Shortest-joined}
+use Rattle.wasm_encoder.specs.Encoding.{IsTextOrLonger}
+use Rattle.wasm_encoder.proofs.Laws.{Reads, Shortest, MadeOf, EitherFits, HasTag, HasTag-either, HasTag-map, Reads-then, Reads-map, Reads-nothing, Reads-never, Reads-either, Reads-tag, Shortest-then, Shortest-map, Shortest-nothing, Shortest-never, Shortest-either, Shortest-for, Shortest-tag}
+use Rattle.wasm_encoder.proofs.Joining.{TakesBytes, empty_front, Joined-more, Joined-one, Shortest-joined}
 use Rattle.wasm_encoder.proofs.ListReading.{AtMostOne}
 use Rattle.wasm_encoder.proofs.NumberLaws.{Reads-u32, Reads-s32, Reads-s64, Shortest-u32, Shortest-s32, Shortest-s64}
 use Rattle.wasm_encoder.proofs.OpcodeLaws.{in_table}
@@ -195,3 +197,18 @@ Shortest-instructions = Shortest-joined Shortest-instruction
 
 pub AtMostOne-instructions : AtMostOne SpellsInstructions
 AtMostOne-instructions = Joined-one Reads-instruction TakesBytes-instruction
+
+-- one instruction more at the end
+pub record More (calls : List Instruction) (i : ℕ) (old new : List ℕ) : Type 0 where
+  pub text : new ≡ old ++ instructions_text (take (i + 1) calls)
+  pub spells : SpellsInstructions (instructions_text (take (i + 1) calls)) (take (i + 1) calls)
+
+pub instructions_more : (calls : List Instruction) (i : ℕ) (call : Instruction) (old mid new : List ℕ) → i < length calls → get_or calls i call ≡ call → mid ≡ old ++ instructions_text (take i calls) → SpellsInstructions (instructions_text (take i calls)) (take i calls)
+    → new ≡ mid ++ instruction_text call → SpellsInstruction (instruction_text call) call → More calls i old new
+instructions_more calls i call old mid new lt at so_far spelled more one =
+    let longer : take (i + 1) calls ≡ take i calls ++ call ∷ [] = take_more calls i call lt ∙ ap (λ (k : Instruction). take i calls ++ k ∷ []) at in
+    let joined : instructions_text (take i calls ++ call ∷ []) ≡ instructions_text (take i calls) ++ instruction_text call = sym (flat_map_more instruction_text [] (take i calls) call) in
+    record {
+      text = rw longer (more ∙ ap (λ (t : List ℕ). t ++ instruction_text call) so_far ∙ flat_map_more instruction_text old (take i calls) call);
+      spells = rw longer (subst (λ (t : List ℕ). SpellsInstructions t (take i calls ++ call ∷ [])) (sym joined) (Joined-more SpellsInstruction (instructions_text (take i calls)) (take i calls) (instruction_text call) call spelled one));
+    }

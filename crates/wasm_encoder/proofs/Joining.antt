@@ -6,7 +6,8 @@ use Rattle.std.specs.List.{flat_map, AllByRecursion}
 use Rattle.wasm_encoder.specs.Grammar.{Grammar, Joined}
 use Rattle.wasm_encoder.specs.Reading.{Reader}
 use Rattle.wasm_encoder.specs.Answers.{IsLongestFront}
-use Rattle.wasm_encoder.proofs.Laws.{Fronts, Reads, Shortest, IsTextOrLonger, least_then, one_reading}
+use Rattle.wasm_encoder.specs.Encoding.{IsTextOrLonger}
+use Rattle.wasm_encoder.proofs.Laws.{Fronts, Reads, Shortest, least_then, one_reading}
 
 -- no value is spelled by no bytes
 abbrev pub TakesBytes : {V : Type 0} → Grammar V → Type 0

@@ -3,6 +3,7 @@ use Rattle.std.proofs.Common.{◌≡◌, ℕ, ◌<◌, ◌⊎◌, Bool, true, fa
 use Rattle.std.proofs.lemmas.List.{append_cancel_right}
 use Rattle.std.proofs.lemmas.Bool.{eqb-true}
 use Rattle.wasm_encoder.specs.Grammar.{Grammar, IsBytes, Then, Mapped, Nothing, Never, Either, ByTag}
+use Rattle.wasm_encoder.specs.Encoding.{IsTextOrLonger}
 use Rattle.wasm_encoder.specs.Reading.{Reader, ◌>>=◌, then_at, map_at, nothing_at, never_at, either_at, by_tag}
 
 -- a front of the bytes spells the value, and this is the rest
@@ -15,10 +16,6 @@ pub record Fronts {V : Type 0} (G : Grammar V) (bytes : List ℕ) (v : V) (rest 
 pub record Reads {V : Type 0} (G : Grammar V) (read : Reader V) : Type 0 where
   pub sound : (bytes : List ℕ) (v : V) (rest : List ℕ) → IsBytes bytes → read bytes ≡ Some (v, rest) → Fronts G bytes v rest
   pub complete : (front : List ℕ) (v : V) (rest : List ℕ) → G front v → read (front ++ rest) ≡ Some (v, rest)
-
--- the bytes are the text, or there are more of them
-abbrev pub IsTextOrLonger : List ℕ → List ℕ → Type 0
-IsTextOrLonger bytes text = (bytes ≡ text) ⊎ (length text < length bytes)
 
 -- the text spells each value that fits, and what is spelled at all; and every other spelling is longer
 pub record Shortest {V : Type 0} (G : Grammar V) (Fits : V → Type 0) (text : V → List ℕ) : Type 0 where

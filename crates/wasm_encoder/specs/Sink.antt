@@ -1,6 +1,6 @@
 -- What the instruction sink promises. The sink lends a list of bytes, so what holds of that list at an `Err` is said
 -- of the loan's end.
-use Rattle.std.specs.Prelude.{ℕ, Result, List, ◌≡◌, ◌++◌, ◌+◌, ◌≤◌, IfOk}
+use Rattle.std.specs.Prelude.{ℕ, Result, List, ◌≡◌, ◌++◌, ◌+◌, ◌≤◌, IfOk, MatchResult}
 use Rattle.std.specs.Borrow.{RestsIfErr, Fml, u8, RattleType}
 use Rattle.std.specs.Vec.{vec_len, vec_capacity}
 use Rattle.std.specs.contracts.vec.Vec as vec
@@ -10,6 +10,7 @@ use Rattle.wasm_encoder.specs.declared.table.opcode.Opcode.{Opcode}
 use Rattle.wasm_encoder.specs.declared.table.call.Operands.{Operands}
 use Rattle.wasm_encoder.specs.Instructions.{call, instruction_text}
 use Rattle.wasm_encoder.specs.declared.encode.EncodeError.{EncodeError}
+use Rattle.wasm_encoder.specs.declared.encode.EncodeError.TheVariants as errors
 
 module _ {Z : Type 0} where
   -- the bytes behind the sink
@@ -20,13 +21,13 @@ module _ {Z : Type 0} where
   abbrev pub IsSameSink : InstructionSink Z → Result (InstructionSink Z) EncodeError → Type 0
   IsSameSink s r = IfOk r (λ t. t.bytes.ghost_name ≡ s.bytes.ghost_name)
 
-  -- the sink goes on, with this text at its end
-  abbrev pub Appended : InstructionSink Z → List ℕ → Result (InstructionSink Z) EncodeError → Type 0
-  Appended s text r = IfOk r (λ t. written t ≡ written s ++ text)
+  -- the sink goes on with this text at its end, or memory ran out
+  abbrev pub Appends : InstructionSink Z → List ℕ → Result (InstructionSink Z) EncodeError → Type 0
+  Appends s text r = MatchResult r (λ t. written t ≡ written s ++ text) (λ e. e ≡ errors.Memory)
 
-  -- the sink goes on, with the text of this call at its end
+  -- the sink goes on with the text of this call at its end, or memory ran out
   abbrev pub Writes : InstructionSink Z → Opcode → Operands → Result (InstructionSink Z) EncodeError → Type 0
-  Writes s op operands r = Appended s (instruction_text (call op operands)) r
+  Writes s op operands r = Appends s (instruction_text (call op operands)) r
 
   -- there is room for any call without a list
   abbrev pub HasRoom : InstructionSink Z → Type 0

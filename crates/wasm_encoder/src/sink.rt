@@ -3,10 +3,12 @@
 //! Each method takes the sink by value and gives it back at `Ok`, so calls are chained by `?`:
 //! `InstructionSink::new(&mut code).local_get(0)?.local_get(1)?.i32_add()?.end()?`. At an `Err` the list of bytes is
 //! as it was before the call.
-ghost use Rattle.std.specs.Prelude.{◌≡◌, ◌++◌, IsOk, OnOk, OnErr};
+ghost use Rattle.std.specs.Prelude.{◌≡◌, ◌++◌, ℕ, List, IsOk, IfOk, IfErr, OnOk, OnErr};
 ghost use Rattle.std.specs.Borrow.{sem};
-ghost use Rattle.wasm_encoder.specs.Sink.{IsUnchangedAtErr, IsSameSink, Appended, Writes, HasRoom};
-ghost use Rattle.wasm_encoder.specs.Instructions.{instruction_text, instructions_text};
+ghost use Rattle.wasm_encoder.specs.Sink.{IsUnchangedAtErr, IsSameSink, Appends, HasRoom};
+ghost use Rattle.wasm_encoder.specs.Instructions.{SpellsInstruction, SpellsInstructions, instruction_text, instructions_text};
+ghost use Rattle.wasm_encoder.specs.Encoding.{IsTextOrLonger};
+ghost use Rattle.wasm_encoder.specs.declared.encode.EncodeError.TheVariants.{Memory};
 
 mod control;
 mod emit;
@@ -14,7 +16,7 @@ mod locals;
 mod numeric;
 
 use crate::encode::EncodeError;
-use crate::table::{Call, Operands};
+use crate::table::Call;
 use std::alloc::Allocator;
 
 /// Appends instructions to a list of bytes.
@@ -36,23 +38,25 @@ impl<'a, A: Allocator> InstructionSink<'a, A> {
     pub fn write_call(self, call: &Call) -> Result<InstructionSink<'a, A>, EncodeError>
         ensures* unchanged { sem 𝓛 (IsUnchangedAtErr A.row A.Allocator self.entry result) }
         ensures same { IsSameSink self.entry result }
-        ensures wrote { Appended self.entry (instruction_text call.now) result }
+        ensures wrote { Appends self.entry (instruction_text call.now) result }
         ensures room { HasRoom self.entry → IsOk result }
+        // The text spells the call.
+        ensures spells { SpellsInstruction (instruction_text call.now) call.now }
     {
-        let op = call.op();
-        match call.operands() {
-            Operands::None => self.emit(op),
-            Operands::Index(index) => self.emit_index(op, *index),
-            Operands::I32(value) => self.emit_i32(op, *value),
-            Operands::I64(value) => self.emit_i64(op, *value),
-        }
+        call.is_spelled();
+        self.emit_operands(call.op(), call.operands())
     }
 
     /// Appends the texts of calls, all of them or none.
     pub fn write_calls(self, calls: &[Call]) -> Result<InstructionSink<'a, A>, EncodeError>
         ensures* unchanged { sem 𝓛 (IsUnchangedAtErr A.row A.Allocator self.entry result) }
         ensures same { IsSameSink self.entry result }
-        ensures wrote { Appended self.entry (instructions_text calls.now) result }
+        ensures wrote { Appends self.entry (instructions_text calls.now) result }
+        // What is written spells the calls.
+        ensures spells { IfOk result (λ _. SpellsInstructions (instructions_text calls.now) calls.now) }
+        // Every other spelling of the calls is longer than what is written.
+        ensures shortest { (bytes : List ℕ) → SpellsInstructions bytes calls.now →
+            IsTextOrLonger bytes (instructions_text calls.now) }
     {
         let InstructionSink { bytes } = self;
         append_calls(bytes, calls)?;
@@ -64,6 +68,10 @@ impl<'a, A: Allocator> InstructionSink<'a, A> {
 fn append_calls<A: Allocator>(bytes: &mut Vec<u8, A>, calls: &[Call]) -> Result<(), EncodeError>
     ensures ok { OnOk result (bytes.new.items ≡ bytes.old.items ++ instructions_text calls.now) }
     ensures err { OnErr result (bytes.new.items ≡ bytes.old.items) }
+    ensures memory { IfErr result (λ e. e ≡ Memory) }
+    ensures spells { OnOk result (SpellsInstructions (instructions_text calls.now) calls.now) }
+    ensures shortest { (bytes : List ℕ) → SpellsInstructions bytes calls.now →
+        IsTextOrLonger bytes (instructions_text calls.now) }
 {
     let start = bytes.len();
     for call in calls {
@@ -82,6 +90,8 @@ pub(crate) fn append_call<A: Allocator>(
 ) -> Result<(), EncodeError>
     ensures ok { OnOk result (bytes.new.items ≡ bytes.old.items ++ instruction_text call.now) }
     ensures err { OnErr result (bytes.new.items ≡ bytes.old.items) }
+    ensures memory { IfErr result (λ e. e ≡ Memory) }
+    ensures spells { SpellsInstruction (instruction_text call.now) call.now }
 {
     InstructionSink::new(&mut *bytes).write_call(call)?;
     Ok(())

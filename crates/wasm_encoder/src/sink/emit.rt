@@ -9,7 +9,7 @@ ghost use Rattle.wasm_encoder.specs.declared.table.call.Operands.TheVariants as 
 
 use super::InstructionSink;
 use crate::encode::{EncodeError, put_i32, put_i64, put_u32};
-use crate::table::{Opcode, Prefix};
+use crate::table::{Opcode, Operands, Prefix};
 use std::alloc::Allocator;
 
 /// The room that every call without a list fits into, in bytes.
@@ -63,6 +63,26 @@ fn put_opcode<A: Allocator>(bytes: &mut Vec<u8, A>, op: Opcode)
 
 #[tactic(auto, unfolding(crate::specs::Instructions::operands_text))]
 impl<'a, A: Allocator> InstructionSink<'a, A> {
+    /// A call with these operands.
+    pub(super) fn emit_operands(
+        self,
+        op: Opcode,
+        operands: &Operands,
+    ) -> Result<InstructionSink<'a, A>, EncodeError>
+        requires { IsShort op }
+        ensures* unchanged { sem 𝓛 (IsUnchangedAtErr A.row A.Allocator self.entry result) }
+        ensures same { IsSameSink self.entry result }
+        ensures wrote { Writes self.entry op operands.now result }
+        ensures room { HasRoom self.entry → IsOk result }
+    {
+        match operands {
+            Operands::None => self.emit(op),
+            Operands::Index(index) => self.emit_index(op, *index),
+            Operands::I32(value) => self.emit_i32(op, *value),
+            Operands::I64(value) => self.emit_i64(op, *value),
+        }
+    }
+
     /// A call without operands.
     pub(super) fn emit(self, op: Opcode) -> Result<InstructionSink<'a, A>, EncodeError>
         requires { IsShort op }

@@ -1,6 +1,6 @@
 //! Calls: an opcode with operands of its kind.
 ghost use Rattle.std.specs.Prelude.{◌≡◌, IfOk, IfErr, IsOk, ◌↔◌};
-ghost use Rattle.wasm_encoder.specs.Instructions.{InRange, IsCall, IsShort, call, kind_of};
+ghost use Rattle.wasm_encoder.specs.Instructions.{IsCall, IsShort, SpellsInstruction, call, instruction_text, kind_of};
 
 use super::opcode::{Kind, Opcode};
 use crate::encode::EncodeError;
@@ -92,16 +92,22 @@ impl Call {
     /// The opcode.
     pub fn op(&self) -> Opcode
         ensures value { result ≡ self.now.op }
-        ensures is_call { IsCall result self.now.operands }
         ensures short { IsShort result }
     {
         self.op
     }
 
+    /// The text of a call spells it. Nothing is done.
+    pub(crate) fn is_spelled(&self)
+        ensures { SpellsInstruction (instruction_text self.now) self.now }
+    {
+        let _ = &self.op;
+    }
+
     /// The operands.
     pub fn operands(&self) -> &Operands
         ensures value { result.now ≡ self.now.operands }
-        ensures in_range { InRange result.now }
+        ensures fits { IsCall self.now.op result.now }
     {
         &self.operands
     }

@@ -1,6 +1,4 @@
-use Rattle.std.proofs.Common.{ap, arith}
-use Rattle.wasm_encoder.specs.Instructions.{SpellsInstructions}
-use Rattle.wasm_encoder.specs.Answers.{IsLongestFront, SpellsSome}
+use Rattle.std.proofs.Common.{arith}
 use Rattle.wasm_encoder.proofs.ListReading.{IsBytes-from, next, stopped}
 use Rattle.wasm_encoder.proofs.InstructionLaws.{Reads-instruction, TakesBytes-instruction}
 use Rattle.wasm_encoder.proofs.reader.calls_of.Goals as goal
