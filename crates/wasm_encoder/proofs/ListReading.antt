@@ -3,10 +3,12 @@ use Rattle.std.proofs.Common.{◌≡◌, ℕ, suc, ◌-◌, ◌<◌, ◌≤◌, 
 use Rattle.std.proofs.lemmas.List.{append-nil, flat_map_more}
 use Rattle.std.specs.List.{flat_map}
 use Rattle.wasm_encoder.specs.Grammar.{Grammar, Joined, IsBytes}
-use Rattle.wasm_encoder.specs.Reading.{Reader}
+use Rattle.wasm_encoder.specs.declared.reader.cursor.Fault.{Fault}
+use Rattle.wasm_encoder.specs.declared.reader.cursor.Fault.TheVariants as faults
+use Rattle.wasm_encoder.specs.Reading.{Reader, Reads as CodeReads}
 use Rattle.wasm_encoder.specs.declared.reader.ReadError.{ReadError}
 use Rattle.wasm_encoder.specs.declared.reader.ReadError.TheVariants as errors
-use Rattle.wasm_encoder.specs.Answers.{IsOrMemory, IfRefused, IsLongestFront, SpellsSome, IsNormalForm}
+use Rattle.wasm_encoder.specs.Answers.{answer_to, HoldsAtRefusal, IsOrMemory, IfRefused, IsLongestFront, SpellsSome, IsNormalForm}
 use Rattle.wasm_encoder.proofs.Laws.{Reads, Shortest, Fronts, IsBytes-back}
 use Rattle.wasm_encoder.proofs.Joining.{TakesBytes, Joined-more, Joined-longest}
 
@@ -50,10 +52,16 @@ end G bytes [] vs p none = subst (λ (t : List ℕ). Joined G t vs) (sym (p.part
 end G bytes (b ∷ left) vs p none = absurd (omega arith)
 
 -- no item is read of the bytes that are left
-pub stopped : {V : Type 0} {G : Grammar V} {read : Reader V} → Reads G read → TakesBytes G → (bytes left : List ℕ) (vs : List V) → Progress G bytes left vs → read left ≡ None → IsLongestFront (SpellsSome (Joined G)) bytes (length bytes - length left)
+stopped : {V : Type 0} {G : Grammar V} {read : Reader V} → Reads G read → TakesBytes G → (bytes left : List ℕ) (vs : List V) → Progress G bytes left vs → read left ≡ None → IsLongestFront (SpellsSome (Joined G)) bytes (length bytes - length left)
 stopped {V} {G} r some bytes left vs p none =
     let len : length p.front ≡ length bytes - length left = omega (arith, ap (length {A = ℕ}) p.parts, length-append p.front left) in
     subst (IsLongestFront (SpellsSome (Joined G)) bytes) len (Joined-longest r some bytes p.front left vs p.parts p.spells none)
+
+-- what is answered then
+pub stopped_by : {V : Type 0} {G : Grammar V} {read : Reader V} → Reads G read → TakesBytes G → (bytes left new : List ℕ) (vs : List V) → Progress G bytes left vs → (fault : Fault) → CodeReads read left new (Err fault)
+    → (e : ReadError) → e ≡ answer_to fault (length bytes - length left) → HoldsAtRefusal e (IsLongestFront (SpellsSome (Joined G)) bytes)
+stopped_by r some bytes left new vs p faults.Memory none e is = rw is tt
+stopped_by r some bytes left new vs p faults.Malformed none e is = rw is (stopped r some bytes left vs p none)
 
 -- ---- normal forms
 

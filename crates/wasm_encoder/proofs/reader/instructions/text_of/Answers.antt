@@ -1,8 +1,8 @@
 use Rattle.std.proofs.Common.{ap, arith}
 use Rattle.wasm_encoder.specs.Instructions.{SpellsInstruction, instruction_text}
-use Rattle.wasm_encoder.proofs.ListReading.{IsBytes-from, next, next_text, stopped}
+use Rattle.wasm_encoder.proofs.ListReading.{IsBytes-from, next, next_text, stopped_by}
 use Rattle.wasm_encoder.proofs.InstructionLaws.{Reads-instruction, TakesBytes-instruction}
-use Rattle.wasm_encoder.proofs.reader.text_of.Goals as goal
+use Rattle.wasm_encoder.proofs.reader.instructions.text_of.Goals as goal
 
 pub loop-cursor-smaller : goal.loop-cursor-smaller
 loop-cursor-smaller c =
@@ -14,7 +14,6 @@ loop-cursor-preserved c =
     (next Reads-instruction TakesBytes-instruction c.args.bytes.now c.loop-cursor.cursor c.call.new.self c.loop-cursor.invariant.values c.in-Ok.call (IsBytes-from c.args.bytes.now (λ i. omega (arith, c.type_inv.bytes i))) c.loop-cursor.invariant.progress c.in-Ok.ensures.reads)
     c.in_ok-append_text-in-Ok.ensures.ok
 
-pub returns-in-Err-Malformed-clause-front : goal.returns-in-Err-Malformed-clause-front
-returns-in-Err-Malformed-clause-front c =
-    let none = rw c.in-Err-Malformed.field-0-is at c.in-Err-Malformed.ensures.reads in
-    rw c.len-in-loop-cursor.ensures (stopped Reads-instruction TakesBytes-instruction c.args.bytes.now c.loop-cursor.cursor c.loop-cursor.invariant.values c.loop-cursor.invariant.progress none)
+pub returns-in-Err-clause-front : goal.returns-in-Err-clause-front
+returns-in-Err-clause-front c =
+    stopped_by Reads-instruction TakesBytes-instruction c.args.bytes.now c.loop-cursor.cursor c.call.new.self c.loop-cursor.invariant.values c.loop-cursor.invariant.progress c.in-Err.fault c.in-Err.ensures.reads c.read_error.result (rw (← c.len-in-loop-cursor.ensures) c.read_error.ensures)

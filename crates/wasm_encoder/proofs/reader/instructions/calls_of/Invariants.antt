@@ -1,7 +1,7 @@
 use Rattle.std.proofs.Common.{length}
 use Rattle.wasm_encoder.specs.Instructions.{SpellsInstruction}
 use Rattle.wasm_encoder.proofs.ListReading.{Progress}
-use Rattle.wasm_encoder.proofs.reader.calls_of.Given as goal
+use Rattle.wasm_encoder.proofs.reader.instructions.calls_of.Given as goal
 
 abbrev pub invariant-loop-cursor : goal.invariant-loop-cursor
 invariant-loop-cursor l = Progress SpellsInstruction l.bytes l.cursor l.calls.items
