@@ -7,7 +7,7 @@ pub mod reader;
 pub mod sink;
 pub mod table;
 
-pub use encode::{Encode, EncodeError};
+pub use encode::{Encode, EncodeError, encode_bytes, encode_list, encode_str};
 pub use reader::{ReadError, normalise_instructions, read_instructions};
 pub use sink::InstructionSink;
 pub use table::{Call, Kind, Opcode, Operands, Prefix};
