@@ -7,3 +7,4 @@ pub mod OpcodeLaws
 pub mod InstructionLaws
 pub mod DigitLoop
 pub mod TextLists
+pub mod ModuleLaws

@@ -11,7 +11,7 @@ pub mod wasm_core;
 
 pub use encode::{Encode, EncodeError, encode_bytes, encode_list, encode_str};
 pub use raw::RawSection;
-pub use reader::{ReadError, normalise_instructions, read_instructions};
+pub use reader::{ReadError, normalise_instructions, read_instructions, read_module};
 pub use sink::InstructionSink;
 pub use table::{Call, Kind, Opcode, Operands, Prefix};
 pub use wasm_core::{Module, Section, SectionId};
