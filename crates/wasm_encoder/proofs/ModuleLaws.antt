@@ -13,7 +13,7 @@ use Rattle.wasm_encoder.specs.Reading.{Reader, ◌>>=◌, byte_at, Reads as Code
 use Rattle.wasm_encoder.specs.Encoding.{IsTextOrLonger}
 use Rattle.wasm_encoder.specs.Answers.{answer_to, HoldsAtRefusal, IsLongestFront, SpellsSome}
 use Rattle.wasm_encoder.specs.Numbers.{SpellsU32, u32_at, unsigned_text}
-use Rattle.wasm_encoder.specs.Modules.{header, SectionParts, section_of, SpellsByteList, byte_list_at, SpellsSection, section_at, section_text, SpellsModule, module_text, IsModuleFront}
+use Rattle.wasm_encoder.specs.Modules.{header, SectionParts, IsSection, section_of, SpellsByteList, byte_list_at, SpellsSection, section_at, section_text, SpellsModule, module_text, IsModuleFront}
 use Rattle.wasm_encoder.proofs.Laws.{Fronts, Reads, Shortest, bind_some, some_is, Fronts-is, Reads-then, Reads-map, Shortest-then, Shortest-map, Shortest-for, least_then, in_a_row, read_in_row, MadeOf}
 use Rattle.wasm_encoder.proofs.Joining.{TakesBytes, Joined-one, Shortest-joined, empty_front}
 use Rattle.wasm_encoder.proofs.ListReading.{AtMostOne, Progress, stopped, end}
@@ -90,14 +90,9 @@ TakesBytes-section s g =
     let none : g.1.0 ≡ [] = empty_front g.1.0 g.1.1 (sym g.1.2) in
     absurd cc
 
--- an id is a byte, and a body's size a u32
-pub record SectionFits (s : SectionParts) : Type 0 where
-  pub id : s.id < 256
-  pub body : length s.body < 2 ^ 32
-
-Shortest-section : Shortest SpellsSection SectionFits section_text
+Shortest-section : Shortest SpellsSection IsSection section_text
 unfolding SpellsSection
-Shortest-section = Shortest-for SectionFits
+Shortest-section = Shortest-for IsSection
     (Shortest-map section_of section_text (Shortest-then Shortest-byte (λ id. Shortest-byte-list)) (λ parts. refl))
     (λ s fits. ((s.id, s.body), (fits.id, fits.body), refl))
 
@@ -126,7 +121,7 @@ Shortest-after {text = text} front s = record {
 pub AtMostOne-module : AtMostOne SpellsModule
 AtMostOne-module = After-one header (Joined-one Reads-section TakesBytes-section)
 
-pub Shortest-module : Shortest SpellsModule (AllByRecursion SectionFits) module_text
+pub Shortest-module : Shortest SpellsModule (AllByRecursion IsSection) module_text
 Shortest-module = Shortest-after header (Shortest-joined Shortest-section)
 
 -- the longest front of the sections is the longest front of the module
@@ -203,3 +198,7 @@ module_unspelled bytes body left new vs e p more faults.Malformed none error is 
 
 pub module_given : (bytes body left : List ℕ) (vs : List SectionParts) → bytes ≡ header ++ body → Progress SpellsSection body left vs → length left ≤ 0 → SpellsModule bytes vs
 module_given bytes body left vs e p none = (body, e, end SpellsSection body left vs p none)
+
+-- a module that was written is read back
+pub AllSections-spelled : (bytes : List ℕ) (vs : List SectionParts) → AllByRecursion IsSection vs → bytes ≡ module_text vs → SpellsModule bytes vs
+AllSections-spelled bytes vs fits e = subst (λ (t : List ℕ). SpellsModule t vs) (sym e) (Shortest-module.spells vs fits)

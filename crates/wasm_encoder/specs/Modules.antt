@@ -1,5 +1,5 @@
 -- Modules: a header, and then sections (WebAssembly Core 3.0, 5.5 Modules).
-use Rattle.std.specs.Prelude.{◌≡◌, ℕ, ◌⊎◌, List, [], ◌∷◌, ◌++◌, length, take, drop, map, Some, None, nat_lt, if◌then◌else◌}
+use Rattle.std.specs.Prelude.{◌≡◌, ℕ, ◌^◌, ◌<◌, ◌⊎◌, List, [], ◌∷◌, ◌++◌, length, take, drop, map, Some, None, nat_lt, if◌then◌else◌}
 use Rattle.std.specs.List.{flat_map}
 use Rattle.wasm_encoder.specs.declared.raw.RawSection.{RawSection}
 use Rattle.wasm_encoder.specs.declared.wasm_core.SectionId.{SectionId}
@@ -36,6 +36,11 @@ section_id ids.Tag = 13
 pub record SectionParts : Type 0 where
   pub id : ℕ
   pub body : List ℕ
+
+-- an id is a byte, and a body's size a u32
+pub record IsSection (s : SectionParts) : Type 0 where
+  pub id : s.id < 2 ^ 8
+  pub body : length s.body < 2 ^ 32
 
 abbrev pub section_of : ℕ × List ℕ → SectionParts
 section_of parts = record { id = parts.0; body = parts.1 }

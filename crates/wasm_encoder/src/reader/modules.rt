@@ -1,9 +1,10 @@
 //! Modules: a header, and then sections (Core 3.0, 5.5).
 ghost use Rattle.std.specs.Prelude.{◌≡◌, ◌++◌, ℕ, List, drop, IfOk, IfSome, IfNone};
+ghost use Rattle.std.specs.List.{AllByRecursion};
 ghost use Rattle.wasm_encoder.specs.Reading.{Reads, map_ok};
 ghost use Rattle.wasm_encoder.specs.Answers.{IsOrMemory, IfRefused, IsLongestFront};
 ghost use Rattle.wasm_encoder.specs.Encoding.{IsTextOrLonger};
-ghost use Rattle.wasm_encoder.specs.Modules.{header, SectionParts, SpellsModule, IsModuleFront, all_parts_of, module_text, parts_of, byte_list_at, section_at};
+ghost use Rattle.wasm_encoder.specs.Modules.{header, IsSection, SectionParts, SpellsModule, IsModuleFront, all_parts_of, module_text, parts_of, byte_list_at, section_at};
 
 use super::cursor::{Cursor, Fault};
 use super::{ReadError, read_error};
@@ -26,6 +27,10 @@ pub fn read_module<'a>(alloc: Global, bytes: &'a [u8]) -> Result<Vec<RawSection<
     // The bytes spell at most one list.
     ensures one { (sections others : List SectionParts) →
         SpellsModule bytes.now sections → SpellsModule bytes.now others → sections ≡ others }
+    // The text of a list, as `Module` writes it, is read back.
+    ensures read_back { (sections : List SectionParts) → AllByRecursion IsSection sections →
+        bytes.now ≡ module_text sections →
+        IsOrMemory (λ given. all_parts_of given.items) sections result }
     // Every other spelling of a list is longer than its text.
     ensures shortest { (sections : List SectionParts) → SpellsModule bytes.now sections →
         IsTextOrLonger bytes.now (module_text sections) }
