@@ -48,11 +48,11 @@ pub IsBytes-after : {A : Type 0} {G : Grammar A} (bytes rest : List ℕ) (a : A)
 IsBytes-after bytes rest a one fits = IsBytes-back one.front rest (rw one.parts at fits)
 
 -- two fronts in a row
-in_a_row : (bytes a middle b rest : List ℕ) → bytes ≡ a ++ middle → middle ≡ b ++ rest → bytes ≡ (a ++ b) ++ rest
+pub in_a_row : (bytes a middle b rest : List ℕ) → bytes ≡ a ++ middle → middle ≡ b ++ rest → bytes ≡ (a ++ b) ++ rest
 in_a_row bytes a middle b rest p q = p ∙ ap (λ (t : List ℕ). a ++ t) q ∙ sym (append_assoc a b rest)
 
 -- reading two fronts in a row
-read_in_row : {V : Type 0} (read : Reader V) (bytes a b rest : List ℕ) (v : V) → bytes ≡ a ++ b → read (a ++ (b ++ rest)) ≡ Some (v, b ++ rest) → read (bytes ++ rest) ≡ Some (v, b ++ rest)
+pub read_in_row : {V : Type 0} (read : Reader V) (bytes a b rest : List ℕ) (v : V) → bytes ≡ a ++ b → read (a ++ (b ++ rest)) ≡ Some (v, b ++ rest) → read (bytes ++ rest) ≡ Some (v, b ++ rest)
 read_in_row read bytes a b rest v e p = ap (λ (t : List ℕ). read (t ++ rest)) e ∙ ap read (append_assoc a b rest) ∙ p
 
 -- ---- once and for all: no spelling is a proper beginning of another, and bytes spell at most one value

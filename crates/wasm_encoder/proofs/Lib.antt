@@ -6,3 +6,5 @@ pub mod NumberLaws
 pub mod OpcodeLaws
 pub mod InstructionLaws
 pub mod DigitLoop
+pub mod TextLists
+pub mod ModuleLaws

@@ -1,6 +1,6 @@
 -- A loop that reads items as long as there are bytes left, over any grammar.
-use Rattle.std.proofs.Common.{◌≡◌, ℕ, suc, ◌-◌, ◌<◌, ◌≤◌, List, [], ◌∷◌, ◌++◌, length, get_or, Option, Some, None, Result, Ok, Err, IfOk, ◌↔◌, refl, sym, ap, subst, ◌∙◌, append_assoc, length-append, arith}
-use Rattle.std.proofs.lemmas.List.{append-nil, flat_map_more}
+use Rattle.std.proofs.Common.{◌≡◌, ℕ, suc, ◌-◌, ◌<◌, ◌≤◌, List, [], ◌∷◌, ◌++◌, length, get_or, take, drop, Option, Some, None, Result, Ok, Err, IfOk, ◌↔◌, refl, sym, ap, subst, ◌∙◌, append_assoc, length-append, arith}
+use Rattle.std.proofs.lemmas.List.{append-nil, take-append-drop, flat_map_more}
 use Rattle.std.specs.List.{flat_map}
 use Rattle.wasm_encoder.specs.Grammar.{Grammar, Joined, IsBytes}
 use Rattle.wasm_encoder.specs.declared.reader.cursor.Fault.{Fault}
@@ -52,7 +52,7 @@ end G bytes [] vs p none = subst (λ (t : List ℕ). Joined G t vs) (sym (p.part
 end G bytes (b ∷ left) vs p none = absurd (omega arith)
 
 -- no item is read of the bytes that are left
-stopped : {V : Type 0} {G : Grammar V} {read : Reader V} → Reads G read → TakesBytes G → (bytes left : List ℕ) (vs : List V) → Progress G bytes left vs → read left ≡ None → IsLongestFront (SpellsSome (Joined G)) bytes (length bytes - length left)
+pub stopped : {V : Type 0} {G : Grammar V} {read : Reader V} → Reads G read → TakesBytes G → (bytes left : List ℕ) (vs : List V) → Progress G bytes left vs → read left ≡ None → IsLongestFront (SpellsSome (Joined G)) bytes (length bytes - length left)
 stopped {V} {G} r some bytes left vs p none =
     let len : length p.front ≡ length bytes - length left = omega (arith, ap (length {A = ℕ}) p.parts, length-append p.front left) in
     subst (IsLongestFront (SpellsSome (Joined G)) bytes) len (Joined-longest r some bytes p.front left vs p.parts p.spells none)
@@ -62,6 +62,9 @@ pub stopped_by : {V : Type 0} {G : Grammar V} {read : Reader V} → Reads G read
     → (e : ReadError) → e ≡ answer_to fault (length bytes - length left) → HoldsAtRefusal e (IsLongestFront (SpellsSome (Joined G)) bytes)
 stopped_by r some bytes left new vs p faults.Memory none e is = rw is tt
 stopped_by r some bytes left new vs p faults.Malformed none e is = rw is (stopped r some bytes left vs p none)
+
+pub IsBytes-drop : (bytes : List ℕ) (n : ℕ) → IsBytes bytes → IsBytes (drop n bytes)
+IsBytes-drop bytes n fits = IsBytes-back (take n bytes) (drop n bytes) (rw (take-append-drop n bytes) fits)
 
 -- ---- normal forms
 
@@ -92,19 +95,28 @@ AtMostOne {V} G = (bytes : List ℕ) (v w : V) → G bytes v → G bytes w → v
 not_whole : {V : Type 0} (G : Grammar V) (bytes : List ℕ) (at : ℕ) → at < length bytes → IsLongestFront (SpellsSome G) bytes at → (v : V) → G bytes v → ⊥
 not_whole G bytes at lt front v g = let le = front.longest bytes [] (sym (append-nil bytes)) (v, g) in absurd (omega arith)
 
+-- nothing is spelled where it refused
+abbrev pub IfRefusedNone : {X V : Type 0} → Grammar V → List ℕ → Result X ReadError → Type 0
+IfRefusedNone {V = V} G bytes result = IfRefused result (λ _. (v : V) → G bytes v → ⊥)
+
+pub none_within : {X V : Type 0} (G : Grammar V) (bytes : List ℕ) (result : Result X ReadError) → IfRefused result (IsLongestFront (SpellsSome G) bytes) → IfRefused result (λ at. at < length bytes) → IfRefusedNone G bytes result
+none_within G bytes (Ok x) front within = tt
+none_within G bytes (Err errors.Memory) front within = tt
+none_within G bytes (Err (errors.Refused at)) front within = not_whole G bytes at within front
+
 -- what is spelled is given
 pub gives_all : {X V : Type 0} {G : Grammar V} → AtMostOne G → (view : X → V) (bytes : List ℕ) (result : Result X ReadError)
-    → IfOk result (λ x. G bytes (view x)) → IfRefused result (IsLongestFront (SpellsSome G) bytes) → IfRefused result (λ at. at < length bytes) → (v : V) → G bytes v → IsOrMemory view v result
-gives_all one view bytes (Ok x) given front within v g = one bytes (view x) v given g
-gives_all one view bytes (Err errors.Memory) given front within v g = tt
-gives_all {G = G} one view bytes (Err (errors.Refused at)) given front within v g = not_whole G bytes at within front v g
+    → IfOk result (λ x. G bytes (view x)) → IfRefusedNone G bytes result → (v : V) → G bytes v → IsOrMemory view v result
+gives_all one view bytes (Ok x) given none v g = one bytes (view x) v given g
+gives_all one view bytes (Err errors.Memory) given none v g = tt
+gives_all one view bytes (Err (errors.Refused at)) given none v g = none v g
 
 -- the text of what is spelled is given
 pub gives_text : {X V : Type 0} {G : Grammar V} → AtMostOne G → (text_of : V → List ℕ) (view : X → List ℕ) (bytes : List ℕ) (result : Result X ReadError)
-    → IfOk result (λ x. IsNormalForm G text_of bytes (view x)) → IfRefused result (IsLongestFront (SpellsSome G) bytes) → IfRefused result (λ at. at < length bytes) → (v : V) → G bytes v → IsOrMemory view (text_of v) result
-gives_text one text_of view bytes (Ok x) given front within v g = given.is_text ∙ ap text_of (one bytes given.value v given.spelled g)
-gives_text one text_of view bytes (Err errors.Memory) given front within v g = tt
-gives_text {G = G} one text_of view bytes (Err (errors.Refused at)) given front within v g = not_whole G bytes at within front v g
+    → IfOk result (λ x. IsNormalForm G text_of bytes (view x)) → IfRefusedNone G bytes result → (v : V) → G bytes v → IsOrMemory view (text_of v) result
+gives_text one text_of view bytes (Ok x) given none v g = given.is_text ∙ ap text_of (one bytes given.value v given.spelled g)
+gives_text one text_of view bytes (Err errors.Memory) given none v g = tt
+gives_text one text_of view bytes (Err (errors.Refused at)) given none v g = none v g
 
 -- the text of what the bytes spell spells what they spell
 same_values : {V : Type 0} {G : Grammar V} {F : V → Type 0} {text_of : V → List ℕ} → AtMostOne G → Shortest G F text_of → (bytes text : List ℕ) → IsNormalForm G text_of bytes text → (w : V) → G text w ↔ G bytes w

@@ -36,6 +36,14 @@ abbrev pub ByTag : {A : Type 0} → (ℕ → Grammar A) → Grammar A
 ByTag cases [] v = ⊥
 ByTag cases (tag ∷ bytes) v = cases tag bytes v
 
+-- one byte
+abbrev pub AByte : Grammar ℕ
+AByte bytes b = (bytes ≡ b ∷ []) × (b < 256)
+
+-- these bytes, and then a spelling
+abbrev pub After : {A : Type 0} → List ℕ → Grammar A → Grammar A
+After front G bytes v = (back : List ℕ) × (bytes ≡ front ++ back) × G back v
+
 -- spellings of the values of a list, with nothing between and nothing left over
 abbrev pub Joined : {A : Type 0} → Grammar A → Grammar (List A)
 Joined G bytes [] = bytes ≡ []

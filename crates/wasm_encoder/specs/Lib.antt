@@ -6,3 +6,4 @@ pub mod Instructions
 pub mod Encoding
 pub mod Answers
 pub mod Sink
+pub mod Modules

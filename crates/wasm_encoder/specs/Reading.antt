@@ -13,6 +13,11 @@ abbrev pub ◌>>=◌ : {A B : Type 0} → Option A → (A → Option B) → Opti
 (Some x) >>= f = f x
 None >>= f = None
 
+-- the same result, with the value seen by view
+abbrev pub map_ok : {X V : Type 0} → (X → V) → Result X Fault → Result V Fault
+map_ok view (Ok x) = Ok (view x)
+map_ok view (Err e) = Err e
+
 -- What the code gave is what the reading function gives at the old bytes, and the new bytes are what it leaves.
 abbrev pub Reads : {V : Type 0} → Reader V → List ℕ → List ℕ → Result V Fault → Type 0
 Reads read old new (Ok v) = read old ≡ Some (v, new)

@@ -1,13 +1,15 @@
 //! What can be written as bytes, and the errors of writing.
 ghost use Rattle.std.specs.Prelude.{◌≡◌, ◌++◌, ℕ, List, Option, Some, OnOk, OnErr, IsErrOf, IsSomeAnd, IsNone};
 ghost use Rattle.wasm_encoder.specs.Numbers.{unsigned_text, signed_text};
-ghost use Rattle.wasm_encoder.specs.Encoding.{usize_text};
+ghost use Rattle.wasm_encoder.specs.Encoding.{option_text, usize_text};
 ghost use Rattle.wasm_encoder.specs.declared.encode.EncodeError.TheVariants.{Memory};
 
 mod leb128;
+mod lists;
 
 use leb128::put_u64;
 pub(crate) use leb128::{put_i32, put_i64, put_u32};
+pub use lists::{encode_bytes, encode_list, encode_str};
 use std::alloc::{AllocError, Allocator};
 use thiserror::Error;
 
@@ -101,5 +103,34 @@ impl Encode for usize {
             return Err(EncodeError::TooLong);
         };
         number.encode(sink)
+    }
+}
+
+/// The text of what is referred to.
+impl<T: Encode> Encode for &T {
+    ghost text = { λ value. T.text value.now };
+
+    fn encode<A: Allocator>(&self, sink: &mut Vec<u8, A>) -> Result<(), EncodeError> {
+        (**self).encode(sink)
+    }
+}
+
+/// A zero byte for `None`, and a one before the text of a value.
+impl<T: Encode> Encode for Option<T> {
+    ghost text = { option_text T.text };
+
+    fn encode<A: Allocator>(&self, sink: &mut Vec<u8, A>) -> Result<(), EncodeError> {
+        sink.reserve(1)?;
+        let Some(value) = self else {
+            sink.push_reserved(0);
+            return Ok(());
+        };
+        let start = sink.len();
+        sink.push_reserved(1);
+        let result = value.encode(sink);
+        if result.is_err() {
+            sink.truncate(start);
+        }
+        result
     }
 }

@@ -3,11 +3,15 @@
 #![tactic(auto)]
 
 pub mod encode;
+pub mod raw;
 pub mod reader;
 pub mod sink;
 pub mod table;
+pub mod wasm_core;
 
-pub use encode::{Encode, EncodeError};
-pub use reader::{ReadError, normalise_instructions, read_instructions};
+pub use encode::{Encode, EncodeError, encode_bytes, encode_list, encode_str};
+pub use raw::RawSection;
+pub use reader::{ReadError, normalise_instructions, read_instructions, read_module};
 pub use sink::InstructionSink;
 pub use table::{Call, Kind, Opcode, Operands, Prefix};
+pub use wasm_core::{Module, Section, SectionId};

@@ -7,9 +7,11 @@ ghost use Rattle.wasm_encoder.specs.Answers.{answer_to};
 
 mod cursor;
 mod instructions;
+mod modules;
 
 use cursor::Fault;
 pub use instructions::{normalise_instructions, read_instructions};
+pub use modules::read_module;
 use std::alloc::{AllocError, AllocFailed};
 use thiserror::Error;
 

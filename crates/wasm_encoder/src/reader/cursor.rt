@@ -1,7 +1,8 @@
 //! A place in bytes, and what can be read there.
-ghost use Rattle.std.specs.Prelude.{◌≡◌, ◌^◌, ◌<◌, ◌≤◌, Some, IfOk, length, drop};
+ghost use Rattle.std.specs.Prelude.{◌≡◌, ◌^◌, ◌<◌, ◌≤◌, Some, IfOk, IfErr, length, take, drop};
 ghost use Rattle.wasm_encoder.specs.Reading.{Reads, byte_at};
 ghost use Rattle.wasm_encoder.specs.Numbers.{ReadsDigits, number_at, signed, u32_at, u64_at, s32_at, s64_at, index_at};
+ghost use Rattle.wasm_encoder.specs.declared.reader.cursor.Fault.TheVariants.{Malformed};
 
 use std::marker::Model;
 
@@ -64,6 +65,21 @@ impl<'a> Cursor<'a> {
         let byte = self.bytes[self.position];
         self.position += 1;
         Ok(byte)
+    }
+
+    /// So many bytes.
+    pub(super) fn take(&mut self, count: usize) -> Result<&'a [u8], Fault>
+        ensures ok { IfOk result (λ taken. (taken.now ≡ take count self.old) × (self.new ≡ drop count self.old)) }
+        ensures enough { IfOk result (λ _. count ≤ length self.old) }
+        ensures err { IfErr result (λ e. (e ≡ Malformed) × (length self.old < count)) }
+    {
+        if self.bytes.len() - self.position < count {
+            return Err(Fault::Malformed);
+        }
+        let end = self.position + count;
+        let taken = &self.bytes[self.position..end];
+        self.position = end;
+        Ok(taken)
     }
 
     /// The digits of a number, at most so many.

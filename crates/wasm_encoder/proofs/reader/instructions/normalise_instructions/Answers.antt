@@ -1,10 +1,10 @@
-use Rattle.wasm_encoder.specs.Instructions.{instructions_text}
-use Rattle.wasm_encoder.proofs.ListReading.{gives_text, gives_same, gives_normal}
+use Rattle.wasm_encoder.specs.Instructions.{SpellsInstructions, instructions_text}
+use Rattle.wasm_encoder.proofs.ListReading.{none_within, gives_text, gives_same, gives_normal}
 use Rattle.wasm_encoder.proofs.InstructionLaws.{AtMostOne-instructions, Shortest-instructions}
 use Rattle.wasm_encoder.proofs.reader.instructions.normalise_instructions.Goals as goal
 
 pub returns-clause-complete : goal.returns-clause-complete
-returns-clause-complete c = gives_text AtMostOne-instructions instructions_text (λ text. text.items) c.args.bytes.now c.text_of.result c.text_of.ensures.given c.text_of.ensures.front c.text_of.ensures.within
+returns-clause-complete c = gives_text AtMostOne-instructions instructions_text (λ text. text.items) c.args.bytes.now c.text_of.result c.text_of.ensures.given (none_within SpellsInstructions c.args.bytes.now c.text_of.result c.text_of.ensures.front c.text_of.ensures.within)
 
 pub returns-clause-one : goal.returns-clause-one
 returns-clause-one c = AtMostOne-instructions c.args.bytes.now

@@ -1,0 +1,17 @@
+use Rattle.wasm_encoder.specs.Modules.{all_parts_of}
+use Rattle.wasm_encoder.proofs.ListReading.{gives_all}
+use Rattle.wasm_encoder.proofs.ModuleLaws.{AtMostOne-module, Shortest-module, AllSections-spelled}
+use Rattle.wasm_encoder.proofs.reader.modules.read_module.Goals as goal
+
+pub returns-clause-complete : goal.returns-clause-complete
+returns-clause-complete c = gives_all AtMostOne-module (λ given. all_parts_of given.items) c.args.bytes.now c.sections_of.result c.sections_of.ensures.given c.sections_of.ensures.unspelled
+
+pub returns-clause-one : goal.returns-clause-one
+returns-clause-one c = AtMostOne-module c.args.bytes.now
+
+pub returns-clause-shortest : goal.returns-clause-shortest
+returns-clause-shortest c = Shortest-module.least c.args.bytes.now
+
+pub returns-clause-read_back : goal.returns-clause-read_back
+returns-clause-read_back c sections fits e =
+    gives_all AtMostOne-module (λ given. all_parts_of given.items) c.args.bytes.now c.sections_of.result c.sections_of.ensures.given c.sections_of.ensures.unspelled sections (AllSections-spelled c.args.bytes.now sections fits e)

@@ -1,0 +1,91 @@
+//! Modules: a header, and then sections (Core 3.0, 5.5).
+ghost use Rattle.std.specs.Prelude.{◌≡◌, ◌++◌, ℕ, List, drop, IfOk, IfSome, IfNone};
+ghost use Rattle.std.specs.List.{AllByRecursion};
+ghost use Rattle.wasm_encoder.specs.Reading.{Reads, map_ok};
+ghost use Rattle.wasm_encoder.specs.Answers.{IsOrMemory, IfRefused, IsLongestFront};
+ghost use Rattle.wasm_encoder.specs.Encoding.{IsTextOrLonger};
+ghost use Rattle.wasm_encoder.specs.Modules.{header, IsSection, SectionParts, SpellsModule, IsModuleFront, all_parts_of, module_text, parts_of, byte_list_at, section_at};
+
+use super::cursor::{Cursor, Fault};
+use super::{ReadError, read_error};
+use crate::raw::RawSection;
+use crate::wasm_core::Module;
+use std::alloc::Global;
+
+/// The sections of the module that the bytes spell, with their bodies as they lie in the bytes (Core 3.0, 5.5.16).
+///
+/// No body is looked into. `Refused` carries the number of bytes of the header and of the sections that are whole
+/// before the first that isn't, or 0 where the header isn't there.
+pub fn read_module<'a>(alloc: Global, bytes: &'a [u8]) -> Result<Vec<RawSection<'a>>, ReadError>
+    // What is given, the bytes spell.
+    ensures given { IfOk result (λ sections. SpellsModule bytes.now (all_parts_of sections.items)) }
+    // What the bytes spell is given, unless memory ran out.
+    ensures complete { (sections : List SectionParts) → SpellsModule bytes.now sections →
+        IsOrMemory (λ given. all_parts_of given.items) sections result }
+    // `at` is the length of the longest front that is whole.
+    ensures front { IfRefused result (IsLongestFront IsModuleFront bytes.now) }
+    // The bytes spell at most one list.
+    ensures one { (sections others : List SectionParts) →
+        SpellsModule bytes.now sections → SpellsModule bytes.now others → sections ≡ others }
+    // The text of a list, as `Module` writes it, is read back.
+    ensures read_back { (sections : List SectionParts) → AllByRecursion IsSection sections →
+        bytes.now ≡ module_text sections →
+        IsOrMemory (λ given. all_parts_of given.items) sections result }
+    // Every other spelling of a list is longer than its text.
+    ensures shortest { (sections : List SectionParts) → SpellsModule bytes.now sections →
+        IsTextOrLonger bytes.now (module_text sections) }
+{
+    sections_of(alloc, bytes)
+}
+
+/// The sections, read one by one to the end of the bytes.
+fn sections_of<'a>(alloc: Global, bytes: &'a [u8]) -> Result<Vec<RawSection<'a>>, ReadError>
+    ensures given { IfOk result (λ sections. SpellsModule bytes.now (all_parts_of sections.items)) }
+    ensures front { IfRefused result (IsLongestFront IsModuleFront bytes.now) }
+    ensures unspelled { IfRefused result (λ _.
+        (sections : List SectionParts) → SpellsModule bytes.now sections → ⊥) }
+{
+    let Some(rest) = after_header(bytes) else {
+        return Err(ReadError::Refused { at: 0 });
+    };
+    let mut sections = Vec::new(alloc);
+    let mut cursor = Cursor::new(rest);
+    while cursor.len() > 0 {
+        let at = bytes.len() - cursor.len();
+        match cursor.section() {
+            Ok(section) => sections.push(section)?,
+            Err(fault) => return Err(read_error(fault, at)),
+        }
+    }
+    Ok(sections)
+}
+
+/// The bytes after the header, if it is there.
+fn after_header(bytes: &[u8]) -> Option<&[u8]>
+    ensures found { IfSome result (λ rest. bytes.now ≡ header ++ rest.now) }
+    ensures rest { IfSome result (λ rest. rest.now ≡ drop 8 bytes.now) }
+    ensures missing { IfNone result ((rest : List ℕ) → bytes.now ≡ header ++ rest → ⊥) }
+{
+    bytes.strip_prefix(&Module::HEADER)
+}
+
+impl<'a> Cursor<'a> {
+    /// Bytes after their number.
+    #[tactic(auto, unfolding(crate::specs::Modules::byte_list_at))]
+    fn byte_list(&mut self) -> Result<&'a [u8], Fault>
+        ensures reads { Reads byte_list_at self.old self.new (map_ok (λ body. body.now) result) }
+    {
+        let size = self.u32()? as usize;
+        self.take(size)
+    }
+
+    /// A section.
+    #[tactic(auto, unfolding(crate::specs::Modules::section_at))]
+    fn section(&mut self) -> Result<RawSection<'a>, Fault>
+        ensures reads { Reads section_at self.old self.new (map_ok parts_of result) }
+    {
+        let id = self.byte()?;
+        let body = self.byte_list()?;
+        Ok(RawSection { id, body })
+    }
+}
