@@ -1,0 +1,71 @@
+//! How a vector can differ.
+
+use hex::FromHexError;
+use std::alloc::{AllocError, AllocFailed};
+use thiserror::Error;
+use wasm_encoder::{EncodeError, ReadError};
+
+/// Why a vector does not hold.
+#[derive(Debug, Drop, Error)]
+pub enum Mismatch {
+    /// There was no memory to try it.
+    #[error("no memory")]
+    Memory,
+    /// The line is no vector, or one of a kind that is not known here.
+    #[error("the line is not understood")]
+    NotUnderstood,
+    /// A value was refused.
+    #[error("{0}")]
+    Refused(EncodeError),
+    /// A value was written as other bytes.
+    #[error("other bytes are written")]
+    Written,
+    /// `write_call` does not write what the method writes.
+    #[error("write_call writes other bytes")]
+    WriteCall,
+    /// The bytes are read as other calls.
+    #[error("other calls are read")]
+    Read,
+    /// The normal form is another, or the place of a refusal.
+    #[error("the normaliser answers otherwise")]
+    Normalised,
+}
+
+impl From<AllocError> for Mismatch {
+    fn from(_error: AllocError) -> Mismatch {
+        Mismatch::Memory
+    }
+}
+
+impl<T: Drop> From<AllocFailed<T>> for Mismatch {
+    fn from(_error: AllocFailed<T>) -> Mismatch {
+        Mismatch::Memory
+    }
+}
+
+impl From<EncodeError> for Mismatch {
+    fn from(error: EncodeError) -> Mismatch {
+        match error {
+            EncodeError::Memory => Mismatch::Memory,
+            other => Mismatch::Refused(other),
+        }
+    }
+}
+
+impl From<ReadError> for Mismatch {
+    fn from(error: ReadError) -> Mismatch {
+        match error {
+            ReadError::Memory => Mismatch::Memory,
+            ReadError::Refused { .. } => Mismatch::Read,
+        }
+    }
+}
+
+impl From<FromHexError> for Mismatch {
+    fn from(error: FromHexError) -> Mismatch {
+        match error {
+            FromHexError::OutOfMemory => Mismatch::Memory,
+            _ => Mismatch::NotUnderstood,
+        }
+    }
+}

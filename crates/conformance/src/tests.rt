@@ -1,0 +1,28 @@
+//! Worked examples, each public function on its happy path, and what no contract says.
+
+mod growths;
+mod reading;
+mod table;
+mod writing;
+
+use std::alloc::Global;
+use std::test::Fail;
+use wasm_encoder::{Call, Opcode, Operands, Prefix};
+
+/// The opcode of one byte.
+fn plain(number: u32) -> Opcode {
+    Opcode {
+        prefix: Prefix::None,
+        number,
+    }
+}
+
+/// A call of the table.
+fn call(number: u32, operands: Operands) -> Result<Call, Fail> {
+    Ok(Call::new(plain(number), operands)?)
+}
+
+/// The bytes that a row gives in hex.
+fn bytes(alloc: Global, hex: &str) -> Result<Vec<u8>, Fail> {
+    Ok(hex::decode(alloc, hex)?)
+}

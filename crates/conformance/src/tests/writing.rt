@@ -1,0 +1,139 @@
+//! What is written: by the sink's methods, by calls of the table, and by encoded numbers.
+
+use super::{bytes, call};
+use std::alloc::Global;
+use std::process::Abort;
+use std::test::Fail;
+use wasm_encoder::{Call, Encode, EncodeError, InstructionSink, Operands};
+
+#[test]
+fn a_chain_of_calls(rt: HostRuntime) -> Result<(), Fail> {
+    let mut code = Vec::new(rt.alloc());
+    InstructionSink::new(&mut code)
+        .local_get(0)?
+        .local_get(1)?
+        .i32_add()?
+        .end()?;
+    assert_eq!(rt; code, bytes(rt.alloc(), "200020016A0B")?);
+    let calls = [
+        call(0x20, Operands::Index(0))?,
+        call(0x20, Operands::Index(1))?,
+        call(0x6a, Operands::None)?,
+        call(0x0b, Operands::None)?,
+    ];
+    let mut same = Vec::new(rt.alloc());
+    InstructionSink::new(&mut same).write_calls(calls.as_slice())?;
+    assert_eq!(rt; same, code);
+    Ok(())
+}
+
+#[test]
+fn constants(rt: HostRuntime) -> Result<(), Fail> {
+    for (value, hex) in [(64, "41C000"), (-64, "4140"), (-123456, "41C0BB78")] {
+        let mut code = Vec::new(rt.alloc());
+        InstructionSink::new(&mut code).i32_const(value)?;
+        assert_eq!(rt; code, bytes(rt.alloc(), hex)?, "at {value}");
+    }
+    let mut code = Vec::new(rt.alloc());
+    InstructionSink::new(&mut code).i64_const(i64::MIN)?;
+    assert_eq!(rt; code, bytes(rt.alloc(), "428080808080808080807F")?);
+    Ok(())
+}
+
+#[test]
+fn numbers(rt: HostRuntime) -> Result<(), Fail> {
+    for (value, hex) in [(624485u32, "E58E26"), (4294967295, "FFFFFFFF0F")] {
+        let mut text = Vec::new(rt.alloc());
+        value.encode(&mut text)?;
+        assert_eq!(rt; text, bytes(rt.alloc(), hex)?, "at {value}");
+    }
+    let mut text = vec![in rt.alloc(); 0x2a]?;
+    assert_eq!(rt;
+        4294967296usize.encode(&mut text),
+        Err(EncodeError::TooLong)
+    );
+    assert_eq!(rt; text.as_slice(), [0x2a].as_slice());
+    4294967295usize.encode(&mut text)?;
+    assert_eq!(rt; text, bytes(rt.alloc(), "2AFFFFFFFF0F")?);
+    Ok(())
+}
+
+#[test]
+fn numbers_of_64_bits(rt: HostRuntime) -> Result<(), Fail> {
+    let mut text = Vec::new(rt.alloc());
+    4398046511104u64.encode(&mut text)?;
+    assert_eq!(rt; text, bytes(rt.alloc(), "80808080808001")?);
+    let mut text = Vec::new(rt.alloc());
+    (-123456i32).encode(&mut text)?;
+    (-50368841737919696i64).encode(&mut text)?;
+    assert_eq!(rt; text, bytes(rt.alloc(), "C0BB78B0C6DAC3E2B9C3A67F")?);
+    Ok(())
+}
+
+#[test]
+fn error_texts(rt: HostRuntime) -> Result<(), Fail> {
+    for (error, text) in [
+        (EncodeError::Memory, "no memory"),
+        (EncodeError::TooLong, "too long"),
+        (EncodeError::Alignment, "alignment out of range"),
+    ] {
+        assert_eq!(rt; error.to_string(rt.alloc())?.as_str(), text);
+    }
+    Ok(())
+}
+
+/// Each call is written as the methods wrote it.
+fn as_calls(rt: &impl Abort, alloc: Global, calls: &[Call], code: &Vec<u8>) -> Result<(), Fail> {
+    let mut same = Vec::new(alloc);
+    for call in calls {
+        InstructionSink::new(&mut same).write_call(call)?;
+    }
+    assert_eq!(rt; same.as_slice(), code.as_slice());
+    Ok(())
+}
+
+#[test]
+fn methods_without_operands(rt: HostRuntime) -> Result<(), Fail> {
+    let mut code = Vec::new(rt.alloc());
+    InstructionSink::new(&mut code)
+        .unreachable()?
+        .nop()?
+        .end()?
+        .drop()?
+        .select()?
+        .i32_add()?
+        .i32_sub()?;
+    let calls = [
+        call(0x00, Operands::None)?,
+        call(0x01, Operands::None)?,
+        call(0x0b, Operands::None)?,
+        call(0x1a, Operands::None)?,
+        call(0x1b, Operands::None)?,
+        call(0x6a, Operands::None)?,
+        call(0x6b, Operands::None)?,
+    ];
+    as_calls(&rt, rt.alloc(), calls.as_slice(), &code)
+}
+
+#[test]
+fn methods_with_operands(rt: HostRuntime) -> Result<(), Fail> {
+    let mut code = Vec::new(rt.alloc());
+    InstructionSink::new(&mut code)
+        .br(1)?
+        .call(2)?
+        .local_get(3)?
+        .local_set(4)?
+        .local_tee(5)?
+        .i32_const(-6)?
+        .i64_const(-7)?;
+    let calls = [
+        call(0x0c, Operands::Index(1))?,
+        call(0x10, Operands::Index(2))?,
+        call(0x20, Operands::Index(3))?,
+        call(0x21, Operands::Index(4))?,
+        call(0x22, Operands::Index(5))?,
+        call(0x41, Operands::I32(-6))?,
+        call(0x42, Operands::I64(-7))?,
+    ];
+    as_calls(&rt, rt.alloc(), calls.as_slice(), &code)
+}

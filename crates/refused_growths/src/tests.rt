@@ -1,0 +1,100 @@
+//! Each test makes a call. Where a request for memory is refused, the answer says so, the test prints `refused`, and
+//! the same call is made again, with memory. The answer is then the right one.
+
+use std::test::Fail;
+use wasm_encoder::{
+    Call, EncodeError, Opcode, Operands, Prefix, ReadError, normalise_instructions,
+    read_instructions,
+};
+
+/// Three times `local.get 0`, `local.get 1`, `i32.add`, `end`, in more bytes than are needed.
+const CODE: [u8; 27] = [
+    0x20, 0x80, 0x00, 0x20, 0x81, 0x80, 0x00, 0x6a, 0x0b, 0x20, 0x80, 0x00, 0x20, 0x81, 0x80, 0x00,
+    0x6a, 0x0b, 0x20, 0x80, 0x00, 0x20, 0x81, 0x80, 0x00, 0x6a, 0x0b,
+];
+
+/// The same in the fewest bytes.
+const NORMAL: [u8; 18] = [
+    0x20, 0x00, 0x20, 0x01, 0x6a, 0x0b, 0x20, 0x00, 0x20, 0x01, 0x6a, 0x0b, 0x20, 0x00, 0x20, 0x01,
+    0x6a, 0x0b,
+];
+
+fn call(number: u32, operands: Operands) -> Result<Call, Fail> {
+    let prefix = Prefix::None;
+    Ok(Call::new(Opcode { prefix, number }, operands)?)
+}
+
+#[test]
+fn calls_are_read(rt: HostRuntime) -> Result<(), Fail> {
+    let calls = match read_instructions(rt.alloc(), CODE.as_slice()) {
+        Err(ReadError::Memory) => {
+            println!(rt; "refused")?;
+            read_instructions(rt.alloc(), CODE.as_slice())?
+        }
+        answer => answer?,
+    };
+    let expected = [
+        call(0x20, Operands::Index(0))?,
+        call(0x20, Operands::Index(1))?,
+        call(0x6a, Operands::None)?,
+        call(0x0b, Operands::None)?,
+    ];
+    assert_eq!(rt; calls.len(), 12);
+    for four in calls.as_slice().chunks(4) {
+        assert_eq!(rt; four, expected.as_slice());
+    }
+    Ok(())
+}
+
+#[test]
+fn calls_are_normalised(rt: HostRuntime) -> Result<(), Fail> {
+    let text = match normalise_instructions(rt.alloc(), CODE.as_slice()) {
+        Err(ReadError::Memory) => {
+            println!(rt; "refused")?;
+            normalise_instructions(rt.alloc(), CODE.as_slice())?
+        }
+        answer => answer?,
+    };
+    assert_eq!(rt; text.as_slice(), NORMAL.as_slice());
+    Ok(())
+}
+
+#[test]
+fn operands_are_cloned(rt: HostRuntime) -> Result<(), Fail> {
+    for operands in [
+        Operands::None,
+        Operands::Index(7),
+        Operands::I32(-7),
+        Operands::I64(-7),
+    ] {
+        let same = match operands.try_clone() {
+            Err(EncodeError::Memory) => {
+                println!(rt; "refused")?;
+                operands.try_clone()?
+            }
+            answer => answer?,
+        };
+        assert_eq!(rt; same, operands);
+    }
+    Ok(())
+}
+
+#[test]
+fn calls_are_cloned(rt: HostRuntime) -> Result<(), Fail> {
+    for call in [
+        call(0x0b, Operands::None)?,
+        call(0x20, Operands::Index(7))?,
+        call(0x41, Operands::I32(-7))?,
+        call(0x42, Operands::I64(-7))?,
+    ] {
+        let same = match call.try_clone() {
+            Err(EncodeError::Memory) => {
+                println!(rt; "refused")?;
+                call.try_clone()?
+            }
+            answer => answer?,
+        };
+        assert_eq!(rt; same, call);
+    }
+    Ok(())
+}
