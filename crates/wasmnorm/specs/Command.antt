@@ -1,0 +1,29 @@
+-- The words that the program takes, its exit status and what it reports.
+use Rattle.std.specs.Prelude.{ℕ, List, [], ◌∷◌, ◌++◌, Result, Ok, Err, codes, decimal}
+use Rattle.wasmnorm.specs.declared.modes.Mode.{Mode}
+use Rattle.wasmnorm.specs.declared.modes.Mode.TheVariants.{Calls}
+use Rattle.wasmnorm.specs.declared.run.RunError.{RunError}
+use Rattle.wasmnorm.specs.declared.run.RunError.TheVariants as errors
+
+-- the word that asks for the mode
+abbrev pub word_of : Mode → List ℕ
+word_of Calls = codes "calls"
+
+-- the exit status of a run that ended so
+abbrev pub status_of : {X : Type 0} → Result X RunError → ℕ
+status_of (Ok x) = 0
+status_of (Err (errors.Refused at)) = 1
+status_of (Err errors.Memory) = 3
+status_of (Err errors.Read) = 4
+status_of (Err errors.Write) = 4
+
+-- what is said of an error
+abbrev pub message_of : RunError → List ℕ
+message_of (errors.Refused at) = codes "refused at " ++ decimal at
+message_of errors.Memory = codes "no memory"
+message_of errors.Read = codes "read failed"
+message_of errors.Write = codes "write failed"
+
+-- that, and a line feed
+abbrev pub line_of : RunError → List ℕ
+line_of error = message_of error ++ 10 ∷ []

@@ -1,0 +1,4 @@
+pub mod Modes
+pub mod Streams
+pub mod Run
+pub mod Command

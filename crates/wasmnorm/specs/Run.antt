@@ -1,0 +1,63 @@
+-- What a run reads, writes and answers.
+use Rattle.std.specs.Prelude.{ℕ, List, Option, Result, Ok, Err}
+use Rattle.std.specs.Io.KnownBytes.{Appends}
+use Rattle.wasm_encoder.specs.declared.reader.ReadError.{ReadError}
+use Rattle.wasm_encoder.specs.declared.reader.ReadError.TheVariants as read_errors
+use Rattle.wasmnorm.specs.Modes.{NormalForm}
+use Rattle.wasmnorm.specs.Streams.{AppendsFront}
+use Rattle.wasmnorm.specs.declared.modes.Mode.{Mode}
+use Rattle.wasmnorm.specs.declared.run.RunError.{RunError}
+use Rattle.wasmnorm.specs.declared.run.RunError.TheVariants as errors
+
+-- ---- outputs
+
+-- The known contents of a writer grew by a normal form of the input.
+pub record AppendsNormalForm (mode : Mode) (input : List ℕ) (old new : Option (List ℕ)) : Type 0 where
+  pub text : List ℕ
+  pub normal : NormalForm mode input text
+  pub appended : Appends old new text
+
+-- The known contents of a writer grew by a beginning of a normal form of the input, but not by all of it.
+pub record AppendsBeginning (mode : Mode) (input : List ℕ) (old new : Option (List ℕ)) : Type 0 where
+  pub text : List ℕ
+  pub normal : NormalForm mode input text
+  pub appended : AppendsFront old new text
+
+-- ---- answers
+
+-- at a refusal, this holds of the place
+abbrev pub IfRefused : {X : Type 0} → Result X RunError → (ℕ → Type 0) → Type 0
+IfRefused (Ok x) P = Unit {0}
+IfRefused (Err (errors.Refused at)) P = P at
+IfRefused (Err errors.Memory) P = Unit {0}
+IfRefused (Err errors.Read) P = Unit {0}
+IfRefused (Err errors.Write) P = Unit {0}
+
+-- this holds at each answer that is given once all the input is read
+abbrev pub OnceAllIsRead : {X : Type 0} → Result X RunError → Type 0 → Type 0
+OnceAllIsRead (Ok x) P = P
+OnceAllIsRead (Err (errors.Refused at)) P = P
+OnceAllIsRead (Err errors.Memory) P = Unit {0}
+OnceAllIsRead (Err errors.Read) P = Unit {0}
+OnceAllIsRead (Err errors.Write) P = P
+
+-- this holds at each answer that is given before a byte is written
+abbrev pub BeforeAnyWrite : {X : Type 0} → Result X RunError → Type 0 → Type 0
+BeforeAnyWrite (Ok x) P = Unit {0}
+BeforeAnyWrite (Err (errors.Refused at)) P = P
+BeforeAnyWrite (Err errors.Memory) P = P
+BeforeAnyWrite (Err errors.Read) P = P
+BeforeAnyWrite (Err errors.Write) P = Unit {0}
+
+-- this holds where a write failed
+abbrev pub IfWriteFailed : {X : Type 0} → Result X RunError → Type 0 → Type 0
+IfWriteFailed (Ok x) P = Unit {0}
+IfWriteFailed (Err (errors.Refused at)) P = Unit {0}
+IfWriteFailed (Err errors.Memory) P = Unit {0}
+IfWriteFailed (Err errors.Read) P = Unit {0}
+IfWriteFailed (Err errors.Write) P = P
+
+-- the error of a run whose normaliser gave this error
+abbrev pub run_error : ReadError → RunError
+run_error read_errors.Memory = errors.Memory
+run_error (read_errors.Refused at) = errors.Refused at

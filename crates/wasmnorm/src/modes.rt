@@ -1,0 +1,31 @@
+//! What the program reads its input as, and the normal form in each mode.
+ghost use Rattle.std.specs.Prelude.{List, ℕ, IfOk};
+ghost use Rattle.wasm_encoder.specs.Answers.{IsOrMemory, IfRefused, IsLongestFront};
+ghost use Rattle.wasmnorm.specs.Modes.{Spelled, NormalForm};
+
+use std::alloc::Global;
+use wasm_encoder::{ReadError, normalise_instructions};
+
+/// What the input is read as.
+#[derive(Clone, Copy, Debug, PartialEq, Eq)]
+pub enum Mode {
+    /// A list of instructions.
+    Calls,
+}
+
+/// The normal form of the input.
+pub fn normalise(alloc: Global, mode: Mode, input: &[u8]) -> Result<Vec<u8>, ReadError>
+    // A normal form is given.
+    ensures given { IfOk result (λ text. NormalForm mode input.now text.items) }
+    // Where the input has one, it is given, unless memory ran out.
+    ensures complete { (text : List ℕ) → NormalForm mode input.now text →
+        IsOrMemory (λ given. given.items) text result }
+    // Only what spells nothing is refused.
+    ensures unspelled { IfRefused result (λ _. Spelled mode input.now → ⊥) }
+    // `at` is the length of the longest front that spells something.
+    ensures front { IfRefused result (IsLongestFront (Spelled mode) input.now) }
+{
+    match mode {
+        Mode::Calls => normalise_instructions(alloc, input),
+    }
+}

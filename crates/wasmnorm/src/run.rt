@@ -1,0 +1,85 @@
+//! One run of the program, over any reader and any writer.
+ghost use Rattle.std.specs.Prelude.{◌≡◌, List, ℕ, IfSome, OnOk};
+ghost use Rattle.std.specs.Io.KnownBytes.{IsAtEnd, Keeps, Appends};
+ghost use Rattle.wasm_encoder.specs.Answers.{IsLongestFront};
+ghost use Rattle.wasmnorm.specs.Modes.{Spelled, NormalForm};
+ghost use Rattle.wasmnorm.specs.Run.{AppendsNormalForm, AppendsBeginning, IfRefused, OnceAllIsRead, BeforeAnyWrite, IfWriteFailed, run_error};
+ghost use Rattle.wasmnorm.specs.declared.run.RunError.TheVariants.{Memory};
+
+use crate::modes::{Mode, normalise};
+use crate::streams::{read_all, write_all};
+use std::alloc::{AllocError, Global};
+use std::io::{Read, Write};
+use wasm_encoder::ReadError;
+
+/// Why a run did not write the whole normal form of its input.
+#[derive(Clone, Copy, Debug, PartialEq, Eq)]
+pub enum RunError {
+    /// The input spells nothing of the mode.
+    Refused {
+        /// How many bytes the longest front has that is whole.
+        at: usize,
+    },
+    /// There was no memory.
+    Memory,
+    /// A read failed, or the reads brought no end of the input.
+    Read,
+    /// A write failed, or took no byte.
+    Write,
+}
+
+impl From<AllocError> for RunError {
+    ghost from_gives = { λ _ error. error ≡ Memory };
+
+    fn from(_error: AllocError) -> RunError {
+        RunError::Memory
+    }
+}
+
+impl From<ReadError> for RunError {
+    ghost from_gives = { λ error run. run ≡ run_error error };
+
+    fn from(error: ReadError) -> RunError {
+        match error {
+            ReadError::Memory => RunError::Memory,
+            ReadError::Refused { at } => RunError::Refused { at },
+        }
+    }
+}
+
+/// Reads all of the input, and writes its normal form.
+///
+/// A call that the system interrupts has failed like any other. After `Memory` or `Read` some of the
+/// input may be read.
+pub fn run<R: Read, W: Write>(
+    alloc: Global,
+    mode: Mode,
+    reader: &mut R,
+    writer: &mut W,
+) -> Result<(), RunError>
+    // A normal form of the input is written, and nothing else.
+    ensures ok { OnOk result (IfSome (R.remaining reader.old) (λ input.
+        AppendsNormalForm mode input (W.contents writer.old) (W.contents writer.new))) }
+    // It is the text of whatever the input spells.
+    ensures complete { OnOk result (IfSome (R.remaining reader.old) (λ input.
+        (text : List ℕ) → NormalForm mode input text →
+        Appends (W.contents writer.old) (W.contents writer.new) text)) }
+    // All of the input is read before it is judged or a byte is written.
+    ensures read_to_end { OnceAllIsRead result (IsAtEnd (R.remaining reader.new)) }
+    // Only what spells nothing is refused.
+    ensures unspelled { IfRefused result (λ _. IfSome (R.remaining reader.old) (λ input.
+        Spelled mode input → ⊥)) }
+    // `at` is the length of the longest front that spells something.
+    ensures refused { IfRefused result (λ at. IfSome (R.remaining reader.old) (λ input.
+        IsLongestFront (Spelled mode) input at)) }
+    // After any error but `Write` nothing is written.
+    ensures nothing_written { BeforeAnyWrite result
+        (Keeps (W.contents writer.old) (W.contents writer.new)) }
+    // After `Write` a beginning of a normal form is, and not all of it.
+    ensures beginning { IfWriteFailed result (IfSome (R.remaining reader.old) (λ input.
+        AppendsBeginning mode input (W.contents writer.old) (W.contents writer.new))) }
+{
+    let input = read_all(alloc, reader, u32::MAX)?;
+    let text = normalise(alloc, mode, &input)?;
+    write_all(writer, &text)
+}

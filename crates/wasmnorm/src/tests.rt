@@ -1,0 +1,213 @@
+use crate::command::{USAGE, mode_of, report, status};
+use crate::modes::Mode;
+use crate::run::{RunError, run};
+use crate::streams::{flush, read_all, write_all};
+use std::alloc::Global;
+use std::io;
+use std::io::{ErrorKind, Read, Write};
+use std::test::Fail;
+
+// Instructions in a longer spelling, and their normal form.
+const LONG: [u8; 4] = [0x20, 0xC2, 0x80, 0x00];
+
+const NORMAL: [u8; 2] = [0x20, 0x42];
+
+// Gives its bytes a few at a time, and fails at one of its reads.
+#[derive(Drop)]
+struct FailRead<'a> {
+    rest: &'a [u8],
+    step: usize,
+    good_reads: u32,
+    kind: ErrorKind,
+}
+
+impl<'a> Read for FailRead<'a> {
+    fn read(&mut self, buf: &mut [u8]) -> io::Result<usize> {
+        if self.good_reads == 0 {
+            return Err(io::Error::from(self.kind));
+        }
+        self.good_reads -= 1;
+        let most = self.step.min(buf.len());
+        self.rest.read(&mut buf[..most])
+    }
+}
+
+// How a writer stops taking bytes.
+#[derive(Clone, Copy, Debug)]
+enum Stop {
+    Fails(ErrorKind),
+    TakesNone,
+}
+
+const STOPS: [Stop; 3] = [
+    Stop::Fails(ErrorKind::BrokenPipe),
+    Stop::Fails(ErrorKind::Interrupted),
+    Stop::TakesNone,
+];
+
+// Takes a few bytes at a time, and stops at one of its writes. Its flush fails.
+#[derive(Drop)]
+struct FailWrite {
+    taken: Vec<u8>,
+    step: usize,
+    good_writes: u32,
+    stop: Stop,
+}
+
+impl FailWrite {
+    fn new(alloc: Global, step: usize, good_writes: u32, stop: Stop) -> FailWrite {
+        FailWrite {
+            taken: Vec::new(alloc),
+            step,
+            good_writes,
+            stop,
+        }
+    }
+}
+
+impl Write for FailWrite {
+    fn write(&mut self, buf: &[u8]) -> io::Result<usize> {
+        if self.good_writes == 0 {
+            return match self.stop {
+                Stop::Fails(kind) => Err(io::Error::from(kind)),
+                Stop::TakesNone => Ok(0),
+            };
+        }
+        self.good_writes -= 1;
+        let most = self.step.min(buf.len());
+        self.taken.write(&buf[..most])
+    }
+
+    fn flush(&mut self) -> io::Result<()> {
+        Err(io::Error::from(ErrorKind::BrokenPipe))
+    }
+}
+
+#[test]
+fn runs_give_the_normal_form_or_the_place(rt: HostRuntime) {
+    let cases: [(&[u8], Result<(), RunError>, &[u8]); 3] = [
+        (&LONG, Ok(()), &NORMAL),
+        (&[], Ok(()), &[]),
+        (&[0x0B, 0x0B, 0x16], Err(RunError::Refused { at: 2 }), &[]),
+    ];
+    for (input, outcome, text) in cases {
+        let (mut reader, mut writer) = (input, Vec::new(rt.alloc()));
+        let got = run(rt.alloc(), Mode::Calls, &mut reader, &mut writer);
+        assert_eq!(rt; got, outcome, "at {input:?}");
+        assert_eq!(rt; writer.as_slice(), text);
+    }
+}
+
+#[test]
+fn long_inputs_are_read_in_many_chunks(rt: HostRuntime) -> Result<(), Fail> {
+    let input = vec![in rt.alloc(); 1u8; 200_000]?;
+    let (mut reader, mut writer) = (input.as_slice(), Vec::new(rt.alloc()));
+    let got = run(rt.alloc(), Mode::Calls, &mut reader, &mut writer);
+    assert_eq!(rt; got, Ok(()));
+    assert!(rt; writer == input);
+    Ok(())
+}
+
+#[test]
+fn a_failed_read_writes_nothing(rt: HostRuntime) {
+    for kind in [ErrorKind::BrokenPipe, ErrorKind::Interrupted] {
+        for good_reads in 0..=4 {
+            let (rest, step) = (LONG.as_slice(), 1);
+            let mut reader = FailRead {
+                rest,
+                step,
+                good_reads,
+                kind,
+            };
+            let mut writer = Vec::new(rt.alloc());
+            let got = run(rt.alloc(), Mode::Calls, &mut reader, &mut writer);
+            assert_eq!(rt; got, Err(RunError::Read), "at {good_reads}");
+            assert!(rt; writer.is_empty());
+        }
+    }
+}
+
+#[test]
+fn reads_are_bounded(rt: HostRuntime) {
+    for most_reads in 0..=5 {
+        let (rest, step) = (LONG.as_slice(), 1);
+        let (good_reads, kind) = (5, ErrorKind::BrokenPipe);
+        let mut reader = FailRead {
+            rest,
+            step,
+            good_reads,
+            kind,
+        };
+        let got = read_all(rt.alloc(), &mut reader, most_reads);
+        let whole = got.is_ok_and(|bytes| bytes.as_slice() == LONG.as_slice());
+        assert_eq!(rt; whole, most_reads == 5, "at {most_reads}");
+    }
+}
+
+#[test]
+fn a_stopped_write_leaves_a_beginning(rt: HostRuntime) {
+    for stop in STOPS {
+        for good_writes in 0..=2 {
+            let mut writer = FailWrite::new(rt.alloc(), 1, good_writes, stop);
+            let got = run(rt.alloc(), Mode::Calls, &mut LONG.as_slice(), &mut writer);
+            let is_whole = good_writes == 2;
+            assert_eq!(rt; got.is_ok(), is_whole, "at {good_writes}");
+            assert_eq!(rt; got == Err(RunError::Write), !is_whole);
+            assert_eq!(rt; writer.taken.as_slice(), &NORMAL[..good_writes as usize]);
+        }
+    }
+}
+
+#[test]
+fn writes_take_as_many_calls_as_they_need(rt: HostRuntime) {
+    for stop in STOPS {
+        for (good_writes, len) in [(0, 0), (1, 3), (2, 6), (3, 7)] {
+            let mut writer = FailWrite::new(rt.alloc(), 3, good_writes, stop);
+            let got = write_all(&mut writer, b"instant");
+            assert_eq!(rt; got.is_ok(), len == 7, "at {good_writes}");
+            assert_eq!(rt; writer.taken.as_slice(), &b"instant"[..len]);
+        }
+        let mut full = FailWrite::new(rt.alloc(), 3, 0, stop);
+        assert_eq!(rt; write_all(&mut full, b""), Ok(()));
+        assert_eq!(rt; flush(&mut full), Err(RunError::Write));
+    }
+    assert_eq!(rt; flush(&mut Vec::<u8>::new(rt.alloc())), Ok(()));
+}
+
+#[test]
+fn one_word_asks_for_a_mode(rt: HostRuntime) {
+    let none: [&[&str]; 7] = [
+        &[],
+        &[""],
+        &["types"],
+        &["module"],
+        &["Calls"],
+        &["calls "],
+        &["calls", "calls"],
+    ];
+    assert_eq!(rt; mode_of(&["calls"]), Some(Mode::Calls));
+    for args in none {
+        assert_eq!(rt; mode_of(args), None, "at {args:?}");
+    }
+    assert_eq!(rt; USAGE, "usage: wasmnorm calls|types|module");
+}
+
+#[test]
+fn errors_have_a_status_and_a_line(rt: HostRuntime) {
+    let cases = [
+        (RunError::Refused { at: 1024 }, 1, "refused at 1024\n"),
+        (RunError::Refused { at: 0 }, 1, "refused at 0\n"),
+        (RunError::Memory, 3, "no memory\n"),
+        (RunError::Read, 4, "read failed\n"),
+        (RunError::Write, 4, "write failed\n"),
+    ];
+    for (error, code, line) in cases {
+        let mut writer = Vec::new(rt.alloc());
+        assert!(rt; report(&error, &mut writer));
+        assert_eq!(rt; writer.as_slice(), line.as_bytes());
+        assert_eq!(rt; status(&Err(error)), code);
+        let stop = Stop::Fails(ErrorKind::BrokenPipe);
+        assert!(rt; !report(&error, &mut FailWrite::new(rt.alloc(), 4, 2, stop)));
+    }
+    assert_eq!(rt; status(&Ok(())), 0);
+}
