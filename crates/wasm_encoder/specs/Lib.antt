@@ -7,3 +7,4 @@ pub mod Encoding
 pub mod Answers
 pub mod Sink
 pub mod Modules
+pub mod Types

@@ -3,10 +3,12 @@
 #![tactic(auto)]
 
 pub mod encode;
+pub mod list;
 pub mod raw;
 pub mod reader;
 pub mod sink;
 pub mod table;
+pub mod types;
 pub mod wasm_core;
 
 pub use encode::{Encode, EncodeError, encode_bytes, encode_list, encode_str};
