@@ -8,3 +8,4 @@ pub mod InstructionLaws
 pub mod DigitLoop
 pub mod TextLists
 pub mod ModuleLaws
+pub mod HeapTypeLaws

@@ -1,5 +1,5 @@
 -- Grammars: which bytes spell which value, and how spellings are put together.
-use Rattle.std.specs.Prelude.{◌≡◌, ℕ, ◌<◌, Bool, true, false, List, [], ◌∷◌, ◌++◌}
+use Rattle.std.specs.Prelude.{◌≡◌, ℕ, ◌<◌, Bool, true, false, List, [], ◌∷◌, ◌++◌, Option, Some, None}
 
 -- which bytes spell which value
 abbrev pub Grammar : Type 0 → Type 1
@@ -35,6 +35,21 @@ Either false G H = H
 abbrev pub ByTag : {A : Type 0} → (ℕ → Grammar A) → Grammar A
 ByTag cases [] v = ⊥
 ByTag cases (tag ∷ bytes) v = cases tag bytes v
+
+-- what the first byte says, which is looked at and not taken
+abbrev pub Peek : {A : Type 0} → (ℕ → Grammar A) → Grammar A
+Peek cases [] v = ⊥
+Peek cases (b ∷ bytes) v = cases b (b ∷ bytes) v
+
+-- a first byte, whichever it is, and then a spelling
+abbrev pub Tail : {A : Type 0} → Grammar A → Grammar A
+Tail G [] v = ⊥
+Tail G (b ∷ bytes) v = G bytes v
+
+-- no bytes, for the value that there is
+abbrev pub Only : {A : Type 0} → Option A → Grammar A
+Only None bytes v = ⊥
+Only (Some a) bytes v = (bytes ≡ []) × (a ≡ v)
 
 -- one byte
 abbrev pub AByte : Grammar ℕ

@@ -8,3 +8,4 @@ pub mod Answers
 pub mod Sink
 pub mod Modules
 pub mod Types
+pub mod HeapTypes

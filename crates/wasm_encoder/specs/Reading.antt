@@ -52,3 +52,23 @@ either_at false read other = other
 abbrev pub by_tag : {A : Type 0} → (ℕ → Reader A) → Reader A
 by_tag reads [] = None
 by_tag reads (tag ∷ bytes) = reads tag bytes
+
+abbrev pub peek_at : {A : Type 0} → (ℕ → Reader A) → Reader A
+peek_at reads bytes = do
+  first ← byte_at bytes
+  reads first.0 bytes
+
+abbrev pub tail_at : {A : Type 0} → Reader A → Reader A
+tail_at read bytes = do
+  first ← byte_at bytes
+  read first.1
+
+abbrev pub only_at : {A : Type 0} → Option A → Reader A
+only_at None bytes = None
+only_at (Some a) bytes = Some (a, bytes)
+
+-- What the code saw is the first byte.
+abbrev pub Sees : List ℕ → Result ℕ Fault → Type 0
+Sees bytes (Ok b) = (rest : List ℕ) × (byte_at bytes ≡ Some (b, rest))
+Sees bytes (Err faults.Malformed) = byte_at bytes ≡ None
+Sees bytes (Err faults.Memory) = Unit {0}

@@ -6,6 +6,7 @@ ghost use Rattle.wasm_encoder.specs.declared.reader.ReadError.TheVariants.{Memor
 ghost use Rattle.wasm_encoder.specs.Answers.{answer_to};
 
 mod cursor;
+mod heap_types;
 mod instructions;
 mod modules;
 
