@@ -30,6 +30,33 @@ fn abstract_of(byte: u8) -> Option<AbstractHeapType>
     }
 }
 
+/// The value type of a byte, if it is no reference.
+#[tactic(auto, unfolding(crate::specs::HeapTypes::number_type_of))]
+fn number_type_of(byte: u8) -> Option<ValType>
+    ensures { result ≡ number_type_of byte }
+{
+    match byte {
+        0x7f => Some(ValType::I32),
+        0x7e => Some(ValType::I64),
+        0x7d => Some(ValType::F32),
+        0x7c => Some(ValType::F64),
+        0x7b => Some(ValType::V128),
+        _ => None,
+    }
+}
+
+/// The packed storage type of a byte.
+#[tactic(auto, unfolding(crate::specs::HeapTypes::packed_of))]
+fn packed_of(byte: u8) -> Option<StorageType>
+    ensures { result ≡ packed_of byte }
+{
+    match byte {
+        0x78 => Some(StorageType::I8),
+        0x77 => Some(StorageType::I16),
+        _ => None,
+    }
+}
+
 impl<'a> Cursor<'a> {
     /// An abstract heap type that isn't shared.
     #[tactic(auto, unfolding(crate::specs::HeapTypes::abstract_at))]
@@ -60,5 +87,62 @@ impl<'a> Cursor<'a> {
             return Ok(HeapType::Abstract { shared: false, ty });
         }
         Ok(HeapType::Concrete(self.index()?))
+    }
+
+    /// A reference type, in its long or its short form.
+    #[tactic(auto, unfolding(crate::specs::HeapTypes::ref_type_at))]
+    pub(super) fn ref_type(&mut self) -> Result<RefType, Fault>
+        ensures reads { Reads ref_type_at self.old self.new result }
+    {
+        let first = self.peek()?;
+        if first == 0x63 {
+            self.byte()?;
+            let heap_type = self.heap_type()?;
+            return Ok(RefType {
+                nullable: true,
+                heap_type,
+            });
+        }
+        if first == 0x64 {
+            self.byte()?;
+            let heap_type = self.heap_type()?;
+            return Ok(RefType {
+                nullable: false,
+                heap_type,
+            });
+        }
+        if first == 0x65 {
+            self.byte()?;
+            let ty = self.abstract_heap_type()?;
+            return Ok(RefType::new_abstract(ty, true, true));
+        }
+        let ty = self.abstract_heap_type()?;
+        Ok(RefType::new_abstract(ty, true, false))
+    }
+
+    /// A value type.
+    #[tactic(auto, unfolding(crate::specs::HeapTypes::val_type_at))]
+    pub(super) fn val_type(&mut self) -> Result<ValType, Fault>
+        ensures reads { Reads val_type_at self.old self.new result }
+    {
+        let first = self.peek()?;
+        if (0x7b..=0x7f).contains(&first) {
+            self.byte()?;
+            return number_type_of(first).ok_or(Fault::Malformed);
+        }
+        Ok(ValType::Ref(self.ref_type()?))
+    }
+
+    /// A storage type.
+    #[tactic(auto, unfolding(crate::specs::HeapTypes::storage_type_at))]
+    pub(super) fn storage_type(&mut self) -> Result<StorageType, Fault>
+        ensures reads { Reads storage_type_at self.old self.new result }
+    {
+        let first = self.peek()?;
+        if (0x77..=0x78).contains(&first) {
+            self.byte()?;
+            return packed_of(first).ok_or(Fault::Malformed);
+        }
+        Ok(StorageType::Val(self.val_type()?))
     }
 }
