@@ -9,3 +9,4 @@ pub mod DigitLoop
 pub mod TextLists
 pub mod ModuleLaws
 pub mod HeapTypeLaws
+pub mod ValueTypeLaws
