@@ -1,5 +1,5 @@
 -- Grammars: which bytes spell which value, and how spellings are put together.
-use Rattle.std.specs.Prelude.{◌≡◌, ℕ, ◌<◌, Bool, true, false, List, [], ◌∷◌, ◌++◌, Option, Some, None}
+use Rattle.std.specs.Prelude.{◌≡◌, ℕ, ◌<◌, Bool, true, false, List, [], ◌∷◌, ◌++◌, length, Option, Some, None}
 
 -- which bytes spell which value
 abbrev pub Grammar : Type 0 → Type 1
@@ -63,3 +63,7 @@ After front G bytes v = (back : List ℕ) × (bytes ≡ front ++ back) × G back
 abbrev pub Joined : {A : Type 0} → Grammar A → Grammar (List A)
 Joined G bytes [] = bytes ≡ []
 Joined G bytes (v ∷ vs) = (front : List ℕ) × (back : List ℕ) × (bytes ≡ front ++ back) × G front v × Joined G back vs
+
+-- a count, and then as many spellings
+abbrev pub Counted : {A : Type 0} → Grammar ℕ → Grammar A → Grammar (List A)
+Counted Count G bytes vs = (front : List ℕ) × (back : List ℕ) × (bytes ≡ front ++ back) × Count front (length vs) × Joined G back vs

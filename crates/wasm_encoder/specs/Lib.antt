@@ -9,3 +9,4 @@ pub mod Sink
 pub mod Modules
 pub mod Types
 pub mod HeapTypes
+pub mod CompositeTypes
