@@ -10,3 +10,5 @@ pub mod TextLists
 pub mod ModuleLaws
 pub mod HeapTypeLaws
 pub mod ValueTypeLaws
+pub mod Counting
+pub mod CompositeLaws
