@@ -12,3 +12,4 @@ pub mod HeapTypeLaws
 pub mod ValueTypeLaws
 pub mod Counting
 pub mod CompositeLaws
+pub mod CompositeTexts
