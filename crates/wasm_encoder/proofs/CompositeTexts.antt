@@ -21,7 +21,7 @@ use Rattle.wasm_encoder.proofs.NumberLaws.{Shortest-u32, Shortest-index}
 use Rattle.wasm_encoder.proofs.HeapTypeLaws.{longer_cons, pick, only_is}
 use Rattle.wasm_encoder.proofs.ValueTypeLaws.{ValTypeFits, StorageTypeFits, Shortest-val-type, Shortest-storage-type}
 
-abbrev IsU32 : ℕ → Type 0
+abbrev pub IsU32 : ℕ → Type 0
 IsU32 n = n < 2 ^ 32
 
 -- a list that has a count, of items that fit
@@ -121,11 +121,11 @@ Shortest-inner = Shortest-for InnerFits (Shortest-tag {E = InnerFitsAt} {text = 
 -- ---- first bytes
 
 -- there is a first byte, of which this holds
-abbrev Begins : (ℕ → Type 0) → List ℕ → Type 0
+abbrev pub Begins : (ℕ → Type 0) → List ℕ → Type 0
 Begins P [] = ⊥
 Begins P (b ∷ bytes) = P b
 
-abbrev IsInnerByte : ℕ → Type 0
+abbrev pub IsInnerByte : ℕ → Type 0
 IsInnerByte b = (0x5d ≤ b) × (b ≤ 0x60)
 
 inner_byte-range : (c : CompositeInnerType) → IsInnerByte (inner_byte c)
@@ -134,17 +134,17 @@ inner_byte-range (inner.Struct s) = (lit≤ tt, lit≤ tt)
 inner_byte-range (inner.Array a) = (lit≤ tt, lit≤ tt)
 inner_byte-range (inner.Cont c) = (lit≤ tt, lit≤ tt)
 
-inner_begins : (bytes : List ℕ) (c : CompositeInnerType) → SpellsInner bytes c → Begins IsInnerByte bytes
+pub inner_begins : (bytes : List ℕ) (c : CompositeInnerType) → SpellsInner bytes c → Begins IsInnerByte bytes
 unfolding SpellsInner
 inner_begins [] c g = g
 inner_begins (b ∷ bytes) c g = subst IsInnerByte (sym (HasTag-inner b bytes c g)) (inner_byte-range c)
 
 -- ---- a byte that may stand before a spelling
 
-abbrev Prefixed : {C : Type 0} → ℕ → Grammar C → Grammar C → Grammar C
+abbrev pub Prefixed : {C : Type 0} → ℕ → Grammar C → Grammar C → Grammar C
 Prefixed flag H K = Peek (λ byte. Either (eqb byte flag) (Tail H) K)
 
-flag_case : {C : Type 0} (flag : ℕ) (H K : Grammar C) (P : List ℕ → C → Type 0) → ((bytes : List ℕ) (c : C) → H bytes c → P (flag ∷ bytes) c) → ((bytes : List ℕ) (c : C) → K bytes c → P bytes c)
+pub flag_case : {C : Type 0} (flag : ℕ) (H K : Grammar C) (P : List ℕ → C → Type 0) → ((bytes : List ℕ) (c : C) → H bytes c → P (flag ∷ bytes) c) → ((bytes : List ℕ) (c : C) → K bytes c → P bytes c)
     → (bytes : List ℕ) (c : C) → Prefixed flag H K bytes c → P bytes c
 flag_case flag H K P f k [] c g = absurd g
 flag_case flag H K P f k (b ∷ bytes) c g = by (eqb b flag) refl g where
@@ -152,14 +152,14 @@ flag_case flag H K P f k (b ∷ bytes) c g = by (eqb b flag) refl g where
   by true is g = subst (λ (n : ℕ). P (n ∷ bytes) c) (sym (eqb-true b flag is)) (f bytes c g)
   by false not g = k (b ∷ bytes) c g
 
-with_flag : {C : Type 0} (flag : ℕ) (H K : Grammar C) (bytes : List ℕ) (c : C) → H bytes c → Prefixed flag H K (flag ∷ bytes) c
+pub with_flag : {C : Type 0} (flag : ℕ) (H K : Grammar C) (bytes : List ℕ) (c : C) → H bytes c → Prefixed flag H K (flag ∷ bytes) c
 with_flag flag H K bytes c g = let same : eqb flag flag ≡ true = eq-eqb flag flag refl in rw same g
 
-without_flag : {C : Type 0} (flag : ℕ) (H K : Grammar C) (bytes : List ℕ) (c : C) → K bytes c → Begins (λ b. b ≡ flag → ⊥) bytes → Prefixed flag H K bytes c
+pub without_flag : {C : Type 0} (flag : ℕ) (H K : Grammar C) (bytes : List ℕ) (c : C) → K bytes c → Begins (λ b. b ≡ flag → ⊥) bytes → Prefixed flag H K bytes c
 without_flag flag H K [] c g apart = apart
 without_flag flag H K (b ∷ bytes) c g apart = rw (ne_eqb b flag apart) g
 
-Begins-as : (P Q : ℕ → Type 0) (bytes : List ℕ) → ((b : ℕ) → P b → Q b) → Begins P bytes → Begins Q bytes
+pub Begins-as : (P Q : ℕ → Type 0) (bytes : List ℕ) → ((b : ℕ) → P b → Q b) → Begins P bytes → Begins Q bytes
 Begins-as P Q [] f h = h
 Begins-as P Q (b ∷ bytes) f h = f b h
 

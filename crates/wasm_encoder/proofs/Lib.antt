@@ -13,3 +13,4 @@ pub mod ValueTypeLaws
 pub mod Counting
 pub mod CompositeLaws
 pub mod CompositeTexts
+pub mod EntryLaws
