@@ -1,8 +1,11 @@
 -- The laws of counted lists.
-use Rattle.std.proofs.Common.{◌≡◌, ℕ, zero, suc, ◌<◌, List, [], ◌∷◌, ◌++◌, length, Option, Some, None, refl, sym, ap, subst}
+use Rattle.std.proofs.Common.{◌≡◌, ℕ, zero, suc, ◌+◌, ◌-◌, ◌<◌, ◌≤◌, List, [], ◌∷◌, ◌++◌, length, Option, Some, None, Err, refl, sym, ap, subst, ◌∙◌, append_assoc, arith}
+use Rattle.std.proofs.lemmas.List.{append-nil}
+use Rattle.wasm_encoder.specs.declared.reader.cursor.Fault.{Fault}
+use Rattle.wasm_encoder.specs.declared.reader.cursor.Fault.TheVariants as faults
 use Rattle.std.specs.List.{flat_map, AllByRecursion}
 use Rattle.wasm_encoder.specs.Grammar.{Grammar, IsBytes, Joined, Counted}
-use Rattle.wasm_encoder.specs.Reading.{Reader, ◌>>=◌, times_at, counted_at}
+use Rattle.wasm_encoder.specs.Reading.{Reader, ◌>>=◌, times_at, counted_at, Reads as CodeReads}
 use Rattle.wasm_encoder.proofs.Laws.{Fronts, Reads, Shortest, bind_some, Fronts-is, IsBytes-after, in_a_row, read_in_row, least_then}
 use Rattle.wasm_encoder.proofs.Joining.{Shortest-joined}
 
@@ -51,6 +54,45 @@ Reads-counted {A} {Count} {G} {count} {read} r s = record {
       let p : count (front ++ rest) ≡ Some (length vs, g.1 ++ rest) = read_in_row count front g.0 g.1 rest (length vs) g.2 (r.complete g.0 (length vs) (g.1 ++ rest) g.3) in
       rw p (times_complete s g.1 vs rest g.4);
 }
+
+-- ---- a loop that reads so many items
+
+-- items that were read, and those that are still read
+abbrev pub after_items : {A : Type 0} → List A → Option (List A × List ℕ) → Option (List A × List ℕ)
+after_items front read = read >>= λ x. Some (front ++ x.0, x.1)
+
+regroup_items : {A : Type 0} (front : List A) (v : A) (read : Option (List A × List ℕ)) → after_items front (read >>= λ x. Some (v ∷ x.0, x.1)) ≡ after_items (front ++ v ∷ []) read
+regroup_items {A} front v (Some x) = ap (λ (vs : List A). Some (vs, x.1)) (simp append_assoc)
+regroup_items front v None = refl
+
+pub items_go_on : {A : Type 0} (read : Reader A) (front : List A) (count i : ℕ) (bytes : List ℕ) (v : A) (after : List ℕ) (total : Option (List A × List ℕ)) → i < count → read bytes ≡ Some (v, after)
+    → after_items front (times_at read (count - i) bytes) ≡ total → after_items (front ++ v ∷ []) (times_at read (count - (i + 1)) after) ≡ total
+unfolding times_at
+items_go_on read front count i bytes v after total lt h so_far =
+    let k : count - i ≡ suc (count - (i + 1)) = omega arith in
+    let one : after_items front (times_at read (count - i) bytes) ≡ after_items (front ++ v ∷ []) (times_at read (count - (i + 1)) after) = rw (k, h) (regroup_items front v (times_at read (count - (i + 1)) after)) in
+    sym one ∙ so_far
+
+items_end : {A : Type 0} (read : Reader A) (front : List A) (count i : ℕ) (bytes : List ℕ) (total : Option (List A × List ℕ)) → i < count → read bytes ≡ None
+    → after_items front (times_at read (count - i) bytes) ≡ total → total ≡ None
+unfolding times_at
+items_end read front count i bytes total lt h so_far =
+    let k : count - i ≡ suc (count - (i + 1)) = omega arith in
+    let one : after_items front (times_at read (count - i) bytes) ≡ None = rw (k, h) refl in
+    sym so_far ∙ one
+
+-- an item was wanting
+pub items_fail : {A V : Type 0} (fault : Fault) (read : Reader A) (whole : Reader V) (front : List A) (count i : ℕ) (bytes new old : List ℕ) (total : Option (List A × List ℕ)) → i < count → CodeReads read bytes new (Err fault)
+    → after_items front (times_at read (count - i) bytes) ≡ total → (total ≡ None → whole old ≡ None) → CodeReads whole old new (Err fault)
+items_fail faults.Memory read whole front count i bytes new old total lt h so_far is = tt
+items_fail faults.Malformed read whole front count i bytes new old total lt h so_far is = is (items_end read front count i bytes total lt h so_far)
+
+pub items_all : {A : Type 0} (read : Reader A) (front : List A) (count i : ℕ) (bytes : List ℕ) (total : Option (List A × List ℕ)) → count ≤ i → after_items front (times_at read (count - i) bytes) ≡ total → total ≡ Some (front, bytes)
+unfolding times_at
+items_all {A} read front count i bytes total le so_far =
+    let k : count - i ≡ 0 = omega arith in
+    let one : after_items front (times_at read (count - i) bytes) ≡ Some (front, bytes) = rw k (ap (λ (vs : List A). Some (vs, bytes)) (append-nil front)) in
+    sym so_far ∙ one
 
 pub Shortest-counted : {A : Type 0} {Count : Grammar ℕ} {G : Grammar A} {C : ℕ → Type 0} {F : A → Type 0} {count : ℕ → List ℕ} {text : A → List ℕ}
     → Shortest Count C count → Shortest G F text → Shortest (Counted Count G) (λ vs. C (length vs) × AllByRecursion F vs) (λ vs. count (length vs) ++ flat_map text vs)

@@ -5,6 +5,7 @@ ghost use Rattle.std.specs.Prelude.{◌≡◌};
 ghost use Rattle.wasm_encoder.specs.declared.reader.ReadError.TheVariants.{Memory};
 ghost use Rattle.wasm_encoder.specs.Answers.{answer_to};
 
+mod composite_types;
 mod cursor;
 mod heap_types;
 mod instructions;

@@ -2,8 +2,9 @@
 ghost use Rattle.std.specs.Prelude.{◌≡◌, ◌^◌, ◌<◌, ◌≤◌, Some, IfOk, IfErr, length, take, drop};
 ghost use Rattle.wasm_encoder.specs.Reading.{Reads, Sees, byte_at};
 ghost use Rattle.wasm_encoder.specs.Numbers.{ReadsDigits, number_at, signed, u32_at, u64_at, s32_at, s64_at, index_at};
-ghost use Rattle.wasm_encoder.specs.declared.reader.cursor.Fault.TheVariants.{Malformed};
+ghost use Rattle.wasm_encoder.specs.declared.reader.cursor.Fault.TheVariants.{Malformed, Memory};
 
+use std::alloc::{AllocError, AllocFailed};
 use std::marker::Model;
 
 /// Why nothing was read.
@@ -13,6 +14,22 @@ pub(crate) enum Fault {
     Memory,
     /// It isn't spelled there.
     Malformed,
+}
+
+impl From<AllocError> for Fault {
+    ghost from_gives = { λ _ fault. fault ≡ Memory };
+
+    fn from(_error: AllocError) -> Fault {
+        Fault::Memory
+    }
+}
+
+impl<T: Drop> From<AllocFailed<T>> for Fault {
+    ghost from_gives = { λ _ fault. fault ≡ Memory };
+
+    fn from(_error: AllocFailed<T>) -> Fault {
+        Fault::Memory
+    }
 }
 
 /// A place in bytes. In contracts it is the bytes that are left.

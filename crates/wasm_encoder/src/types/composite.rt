@@ -35,6 +35,29 @@ pub struct FuncType {
     results: Items<ValType>,
 }
 
+impl FuncType {
+    /// A function type of these parameters and results.
+    pub(crate) fn from_lists(params: Items<ValType>, results: Items<ValType>) -> FuncType
+        ensures { result ≡ record { params = params; results = results } }
+    {
+        FuncType { params, results }
+    }
+
+    /// The types of the parameters.
+    pub fn params(&self) -> &[ValType]
+        ensures value { result.now ≡ self.now.params }
+    {
+        self.params.as_slice()
+    }
+
+    /// The types of the results.
+    pub fn results(&self) -> &[ValType]
+        ensures value { result.now ≡ self.now.results }
+    {
+        self.results.as_slice()
+    }
+}
+
 /// What a defined type is made of.
 #[derive(Debug, PartialEq, Eq, Drop)]
 pub enum CompositeInnerType {
