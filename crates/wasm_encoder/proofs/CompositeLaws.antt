@@ -1,19 +1,10 @@
 -- The laws of fields, composite types, subtypes and entries.
-use Rattle.std.proofs.Common.{◌≡◌, ℕ, ◌+◌, ◌^◌, ◌<◌, ◌≤◌, ◌⊎◌, Bool, true, false, cond, eqb, List, [], ◌∷◌, ◌++◌, length, Option, Some, None, refl, sym, ap, subst, ◌∙◌, ne_eqb, inl, inr, arith, pos}
-use Rattle.std.proofs.lemmas.Bool.{eqb-true}
-use Rattle.wasm_encoder.specs.declared.types.composite.CompositeInnerType.{CompositeInnerType}
-use Rattle.wasm_encoder.specs.declared.types.composite.CompositeInnerType.TheVariants as inner
-use Rattle.wasm_encoder.specs.declared.types.composite.CompositeType.{CompositeType}
-use Rattle.wasm_encoder.specs.declared.types.composite.SubType.{SubType}
-use Rattle.wasm_encoder.specs.declared.types.composite.TypeEntry.{TypeEntry}
+use Rattle.std.proofs.Common.{ℕ, true, false, eqb, [], Some, None}
 use Rattle.wasm_encoder.specs.declared.types.composite.TypeEntry.TheVariants as entries
-use Rattle.wasm_encoder.specs.Encoding.{IsTextOrLonger}
-use Rattle.wasm_encoder.specs.Grammar.{Grammar, Then, Mapped, Never, Either, ByTag, Peek, Tail, Only}
+use Rattle.wasm_encoder.specs.Grammar.{Grammar}
 use Rattle.wasm_encoder.specs.Reading.{Reader}
-use Rattle.wasm_encoder.specs.Numbers.{SpellsU32, SpellsIndex, u32_at, index_at, unsigned_text, signed_text}
-use Rattle.wasm_encoder.specs.HeapTypes.{SpellsValType, val_type_at, val_type_text, SpellsStorageType, storage_type_at, storage_type_text}
-use Rattle.wasm_encoder.specs.CompositeTypes.{SpellsList, list_at, items_text, mutability_of, mutability_text, field_of, SpellsFieldType, field_type_at, field_type_text, func_of, struct_of, array_of, cont_of, SpellsInner, inner_at, inner_byte, inner_rest, inner_text, Flagged, flagged_at, flagged_text, Indexed, indexed_at, indexed_text, composite_of, SpellsCompositeType, composite_type_at, composite_type_text, sub_of, SpellsSubType, sub_type_at, supertypes_text, sub_type_text, SpellsEntry, entry_at, entry_text, SpellsTypeBody}
-use Rattle.wasm_encoder.proofs.Laws.{Reads, Shortest, Reads-then, Reads-map, Reads-never, Reads-either, Reads-tag, Reads-peek, Reads-tail, Reads-only}
+use Rattle.wasm_encoder.specs.CompositeTypes.{SpellsList, list_at, mutability_of, field_of, SpellsFieldType, field_type_at, func_of, struct_of, array_of, cont_of, SpellsInner, inner_at, Flagged, flagged_at, Indexed, indexed_at, composite_of, SpellsCompositeType, composite_type_at, sub_of, SpellsSubType, sub_type_at, SpellsEntry, entry_at}
+use Rattle.wasm_encoder.proofs.Laws.{Reads, Reads-then, Reads-map, Reads-never, Reads-either, Reads-tag, Reads-peek, Reads-tail, Reads-only}
 use Rattle.wasm_encoder.proofs.Counting.{Reads-counted}
 use Rattle.wasm_encoder.proofs.NumberLaws.{Reads-u32, Reads-index}
 use Rattle.wasm_encoder.proofs.HeapTypeLaws.{either_some, mapped_some, Reads-val-type, Reads-storage-type}
@@ -81,3 +72,7 @@ unfolding SpellsEntry entry_at
 Reads-entry = Reads-peek
     (λ byte. Reads-either (eqb byte 0x4e) (Reads-tail (Reads-map entries.Rec (Reads-list Reads-sub-type))) (Reads-map entries.Sub Reads-sub-type))
     (λ byte v. either_some (eqb byte 0x4e) _ _ v (λ g. g) (mapped_some entries.Sub SpellsSubType v sub_some))
+
+pub entry_some : SomeBytes SpellsEntry
+unfolding SpellsEntry
+entry_some a g = g

@@ -1,21 +1,16 @@
 -- The laws of the texts of fields, composite types, subtypes and entries.
-use Rattle.std.proofs.Common.{◌≡◌, ℕ, ◌+◌, ◌^◌, ◌<◌, ◌≤◌, ◌⊎◌, Bool, true, false, cond, eqb, List, [], ◌∷◌, ◌++◌, length, Option, Some, None, refl, sym, ap, subst, ◌∙◌, ne_eqb, inl, inr, arith, lit≤, pos, append_assoc, length-append}
-use Rattle.std.proofs.lemmas.Bool.{eqb-true, le-leb, eq-eqb}
-use Rattle.std.specs.List.{flat_map, AllByRecursion}
-use Rattle.wasm_encoder.specs.declared.types.value.ValType.{ValType}
+use Rattle.std.proofs.Common.{◌≡◌, ℕ, ◌^◌, ◌<◌, ◌≤◌, Bool, true, false, cond, eqb, List, [], ◌∷◌, ◌++◌, length, Option, Some, None, refl, sym, ap, subst, ◌∙◌, ne_eqb, inl, lit≤}
+use Rattle.std.proofs.lemmas.Bool.{eqb-true, eq-eqb}
+use Rattle.std.specs.List.{AllByRecursion}
 use Rattle.wasm_encoder.specs.declared.types.composite.FieldType.{FieldType}
 use Rattle.wasm_encoder.specs.declared.types.composite.CompositeInnerType.{CompositeInnerType}
 use Rattle.wasm_encoder.specs.declared.types.composite.CompositeInnerType.TheVariants as inner
-use Rattle.wasm_encoder.specs.declared.types.composite.CompositeType.{CompositeType}
-use Rattle.wasm_encoder.specs.declared.types.composite.SubType.{SubType}
-use Rattle.wasm_encoder.specs.declared.types.composite.TypeEntry.{TypeEntry}
-use Rattle.wasm_encoder.specs.declared.types.composite.TypeEntry.TheVariants as entries
 use Rattle.wasm_encoder.specs.Encoding.{IsTextOrLonger}
 use Rattle.wasm_encoder.specs.Grammar.{Grammar, Then, Mapped, Never, Either, ByTag, Peek, Tail, Only}
-use Rattle.wasm_encoder.specs.Numbers.{SpellsU32, SpellsIndex, unsigned_text, signed_text, digits_of}
-use Rattle.wasm_encoder.specs.HeapTypes.{SpellsValType, val_type_text, SpellsStorageType, storage_type_text}
-use Rattle.wasm_encoder.specs.CompositeTypes.{SpellsList, items_text, mutability_of, mutability_text, field_of, SpellsFieldType, field_type_text, func_of, struct_of, array_of, cont_of, SpellsInner, inner_byte, inner_rest, inner_text, Flagged, flagged_text, Indexed, indexed_text, composite_of, SpellsCompositeType, composite_type_text, sub_of, SpellsSubType, supertypes_text, sub_type_text, SpellsEntry, entry_text, SpellsTypeBody, type_body_text}
-use Rattle.wasm_encoder.proofs.Laws.{Shortest, MadeOf, EitherFits, HasTag, HasTag-either, HasTag-map, Shortest-then, Shortest-map, Shortest-never, Shortest-either, Shortest-for, Shortest-tag, some_is}
+use Rattle.wasm_encoder.specs.Numbers.{SpellsU32, SpellsIndex, unsigned_text}
+use Rattle.wasm_encoder.specs.HeapTypes.{SpellsValType}
+use Rattle.wasm_encoder.specs.CompositeTypes.{SpellsList, items_text, mutability_of, mutability_text, field_of, SpellsFieldType, field_type_text, func_of, struct_of, array_of, cont_of, SpellsInner, inner_byte, inner_rest, inner_text, Flagged, flagged_text, Indexed, indexed_text}
+use Rattle.wasm_encoder.proofs.Laws.{Shortest, MadeOf, EitherFits, HasTag, HasTag-either, HasTag-map, Shortest-then, Shortest-map, Shortest-never, Shortest-either, Shortest-for, Shortest-tag}
 use Rattle.wasm_encoder.proofs.Counting.{Shortest-counted}
 use Rattle.wasm_encoder.proofs.NumberLaws.{Shortest-u32, Shortest-index}
 use Rattle.wasm_encoder.proofs.HeapTypeLaws.{longer_cons, pick, only_is}

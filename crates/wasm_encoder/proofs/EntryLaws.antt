@@ -1,17 +1,16 @@
 -- The laws of the texts of composite types, subtypes, entries and type bodies.
-use Rattle.std.proofs.Common.{◌≡◌, ℕ, ◌+◌, ◌^◌, ◌<◌, ◌≤◌, ◌⊎◌, Bool, true, false, cond, eqb, List, [], ◌∷◌, ◌++◌, length, Option, Some, None, refl, sym, ap, subst, ◌∙◌, ne_eqb, inl, inr, arith, lit<, append_assoc, length-append}
+use Rattle.std.proofs.Common.{◌≡◌, ℕ, ◌⊎◌, Bool, true, false, eqb, List, [], ◌∷◌, ◌++◌, length, Option, Some, None, refl, sym, ap, subst, ne_eqb, inl, inr, arith, lit<}
 use Rattle.std.proofs.lemmas.Bool.{eqb-true}
-use Rattle.std.specs.List.{flat_map, AllByRecursion}
 use Rattle.wasm_encoder.specs.declared.types.composite.CompositeInnerType.{CompositeInnerType}
 use Rattle.wasm_encoder.specs.declared.types.composite.CompositeType.{CompositeType}
 use Rattle.wasm_encoder.specs.declared.types.composite.SubType.{SubType}
 use Rattle.wasm_encoder.specs.declared.types.composite.TypeEntry.{TypeEntry}
 use Rattle.wasm_encoder.specs.declared.types.composite.TypeEntry.TheVariants as entries
 use Rattle.wasm_encoder.specs.Encoding.{IsTextOrLonger}
-use Rattle.wasm_encoder.specs.Grammar.{Grammar, Then, Mapped, Either, Peek, Tail}
+use Rattle.wasm_encoder.specs.Grammar.{Grammar, Then, Mapped, Either, Tail}
 use Rattle.wasm_encoder.specs.Numbers.{SpellsU32, unsigned_text, digits_of}
-use Rattle.wasm_encoder.specs.CompositeTypes.{SpellsList, items_text, SpellsInner, inner_text, Flagged, flagged_text, Indexed, indexed_text, composite_of, SpellsCompositeType, composite_type_text, sub_of, SpellsSubType, supertypes_text, sub_type_text, SpellsEntry, entry_text, SpellsTypeBody, type_body_text}
-use Rattle.wasm_encoder.proofs.Laws.{Shortest, MadeOf, Shortest-then, Shortest-map, Shortest-for}
+use Rattle.wasm_encoder.specs.CompositeTypes.{SpellsList, items_text, SpellsInner, inner_text, Flagged, Indexed, indexed_text, composite_of, SpellsCompositeType, composite_type_text, sub_of, SpellsSubType, supertypes_text, sub_type_text, SpellsEntry, entry_text, SpellsTypeBody, type_body_text}
+use Rattle.wasm_encoder.proofs.Laws.{Shortest, Shortest-then, Shortest-map, Shortest-for}
 use Rattle.wasm_encoder.proofs.NumberLaws.{Shortest-u32}
 use Rattle.wasm_encoder.proofs.HeapTypeLaws.{longer_cons}
 use Rattle.wasm_encoder.proofs.CompositeTexts.{IsU32, ListFits, Shortest-list, InnerFits, Shortest-inner, Begins, Begins-as, IsInnerByte, inner_begins, Prefixed, flag_case, with_flag, without_flag, Shortest-flagged, Shortest-indexed, IndexedFits}

@@ -1,6 +1,6 @@
 -- The laws of heap, reference, value and storage types.
-use Rattle.std.proofs.Common.{◌≡◌, ℕ, ◌+◌, ◌^◌, ◌<◌, ◌≤◌, ◌⊎◌, Bool, true, false, eqb, leb, ltb, ◌&&◌, List, [], ◌∷◌, ◌++◌, length, Option, Some, None, refl, sym, ap, subst, ◌∙◌, cond, ne_eqb, inl, inr, arith, lit≤, ℤ, pos, ◌-ℤ◌}
-use Rattle.std.proofs.lemmas.Bool.{ltb-true, lt-ltb, le-ltb, lt-leb, le-leb, eqb-true, cases_lt}
+use Rattle.std.proofs.Common.{◌≡◌, ℕ, ◌^◌, ◌<◌, ◌≤◌, ◌⊎◌, Bool, true, false, eqb, List, [], ◌∷◌, Option, Some, None, refl, sym, ap, subst, ◌∙◌, cond, ne_eqb, inl, inr, arith, lit≤, pos, ◌-ℤ◌}
+use Rattle.std.proofs.lemmas.Bool.{lt-ltb, le-ltb, lt-leb, le-leb, eqb-true, cases_lt}
 use Rattle.std.proofs.lemmas.Int.{ints}
 use Rattle.std.proofs.Math.Bool.{and-false}
 use Rattle.wasm_encoder.specs.declared.types.heap.AbstractHeapType.{AbstractHeapType}
@@ -9,9 +9,9 @@ use Rattle.wasm_encoder.specs.declared.types.heap.HeapType.{HeapType}
 use Rattle.wasm_encoder.specs.declared.types.heap.HeapType.TheVariants.{Abstract, Concrete, Exact}
 use Rattle.wasm_encoder.specs.declared.types.value.ValType.TheVariants as values
 use Rattle.wasm_encoder.specs.declared.types.value.StorageType.TheVariants as storages
-use Rattle.wasm_encoder.specs.Numbers.{IsDigits, unsigned, signed, SpellsU32, SpellsIndex, u32_at, index_at, unsigned_text, signed_text}
+use Rattle.wasm_encoder.specs.Numbers.{unsigned, signed, SpellsU32, SpellsIndex, unsigned_text, signed_text}
 use Rattle.wasm_encoder.specs.Encoding.{IsTextOrLonger}
-use Rattle.wasm_encoder.specs.HeapTypes.{abstract_byte, abstract_of, heap_type_text, ref_type_text, val_type_text, storage_type_text, SpellsAbstract, abstract_at, is_type_byte, SpellsHeapType, heap_type_at, reference, SpellsRefType, ref_type_at, is_number_byte, number_type_of, SpellsValType, val_type_at, is_packed_byte, packed_of, SpellsStorageType, storage_type_at}
+use Rattle.wasm_encoder.specs.HeapTypes.{abstract_byte, abstract_of, heap_type_text, SpellsAbstract, abstract_at, is_type_byte, SpellsHeapType, heap_type_at, reference, SpellsRefType, ref_type_at, is_number_byte, number_type_of, SpellsValType, val_type_at, is_packed_byte, packed_of, SpellsStorageType, storage_type_at}
 use Rattle.wasm_encoder.specs.Grammar.{Grammar, Either, Mapped, Tail, Only}
 use Rattle.wasm_encoder.proofs.Laws.{Reads, Shortest, some, some_is, Reads-map, Reads-either, Reads-tag, Reads-peek, Reads-tail, Reads-only}
 use Rattle.wasm_encoder.proofs.NumberLaws.{Reads-u32, Reads-index, Shortest-u32, Shortest-index}

@@ -14,3 +14,4 @@ pub mod Counting
 pub mod CompositeLaws
 pub mod CompositeTexts
 pub mod EntryLaws
+pub mod TypeBodyLaws

@@ -1,8 +1,7 @@
 -- The laws of the texts of reference, value and storage types.
-use Rattle.std.proofs.Common.{◌≡◌, ℕ, ◌+◌, ◌^◌, ◌<◌, ◌≤◌, ◌⊎◌, Bool, true, false, cond, eqb, leb, ltb, ◌&&◌, List, [], ◌∷◌, ◌++◌, length, Option, Some, None, refl, sym, ap, subst, ◌∙◌, ne_eqb, inl, inr, arith, lit≤}
-use Rattle.std.proofs.lemmas.Bool.{lt-leb, le-leb, eqb-true, leb-true}
+use Rattle.std.proofs.Common.{◌≡◌, ℕ, ◌<◌, ◌≤◌, Bool, true, false, eqb, leb, ◌&&◌, List, [], ◌∷◌, length, Some, None, refl, sym, ap, subst, ◌∙◌, ne_eqb, inl, inr, arith}
+use Rattle.std.proofs.lemmas.Bool.{lt-leb, eqb-true, leb-true}
 use Rattle.std.proofs.Math.Bool.{and-false}
-use Rattle.wasm_encoder.specs.declared.types.heap.AbstractHeapType.{AbstractHeapType}
 use Rattle.wasm_encoder.specs.declared.types.heap.HeapType.{HeapType}
 use Rattle.wasm_encoder.specs.declared.types.heap.HeapType.TheVariants.{Abstract, Concrete, Exact}
 use Rattle.wasm_encoder.specs.declared.types.heap.RefType.{RefType}
@@ -11,7 +10,7 @@ use Rattle.wasm_encoder.specs.declared.types.value.ValType.TheVariants as values
 use Rattle.wasm_encoder.specs.declared.types.value.StorageType.{StorageType}
 use Rattle.wasm_encoder.specs.declared.types.value.StorageType.TheVariants as storages
 use Rattle.wasm_encoder.specs.Encoding.{IsTextOrLonger}
-use Rattle.wasm_encoder.specs.Grammar.{Grammar, Either, Mapped, Tail, Only}
+use Rattle.wasm_encoder.specs.Grammar.{Either, Mapped, Tail, Only}
 use Rattle.wasm_encoder.specs.HeapTypes.{abstract_byte, abstract_text, SpellsAbstract, SpellsHeapType, heap_type_text, reference, SpellsRefType, reference_text, ref_type_text, is_number_byte, number_type_of, SpellsValType, val_type_text, is_packed_byte, packed_of, SpellsStorageType, storage_type_text}
 use Rattle.wasm_encoder.proofs.Laws.{Shortest}
 use Rattle.wasm_encoder.proofs.HeapTypeLaws.{HeapTypeFits, IsHeapType, heap_is, longer_cons, abstract_is, abstract_spells, abstract_range, pick, only_is, Shortest-heap-type}

@@ -1,5 +1,5 @@
 -- Heap, reference, value, storage and block types (WebAssembly Core 3.0, 5.3.3 to 5.3.8 and 5.4.1).
-use Rattle.std.specs.Prelude.{◌≡◌, ℕ, ◌<◌, ◌^◌, Bool, true, false, ◌&&◌, ◌==◌, nat_le, nat_lt, if◌then◌else◌, List, [], ◌∷◌, ◌++◌, Option, Some, None, pos}
+use Rattle.std.specs.Prelude.{ℕ, Bool, true, false, ◌&&◌, ◌==◌, nat_le, nat_lt, if◌then◌else◌, List, [], ◌∷◌, Option, Some, None, pos}
 use Rattle.wasm_encoder.specs.declared.types.heap.AbstractHeapType.{AbstractHeapType}
 use Rattle.wasm_encoder.specs.declared.types.heap.AbstractHeapType.TheVariants as abstracts
 use Rattle.wasm_encoder.specs.declared.types.heap.HeapType.{HeapType}

@@ -10,12 +10,14 @@ mod cursor;
 mod heap_types;
 mod instructions;
 mod modules;
+mod type_section;
 
 use cursor::Fault;
 pub use instructions::{normalise_instructions, read_instructions};
 pub use modules::read_module;
 use std::alloc::{AllocError, AllocFailed};
 use thiserror::Error;
+pub use type_section::read_type_section;
 
 /// Why bytes were not read.
 #[derive(Debug, PartialEq, Eq, Drop, Error)]

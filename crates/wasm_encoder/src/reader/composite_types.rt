@@ -181,7 +181,7 @@ impl<'a> Cursor<'a> {
 
     /// An entry of a type section.
     #[tactic(auto, unfolding(crate::specs::CompositeTypes::entry_at))]
-    fn entry(&mut self, alloc: Global) -> Result<TypeEntry, Fault>
+    pub(super) fn entry(&mut self, alloc: Global) -> Result<TypeEntry, Fault>
         ensures reads { Reads entry_at self.old self.new result }
     {
         if self.peek()? == 0x4e {

@@ -1,4 +1,3 @@
-use Rattle.std.proofs.Common.{◌≡◌, Some, sym, ap, ◌∙◌}
 use Rattle.std.proofs.lemmas.Result.{err_from_is_err_and}
 use Rattle.wasm_encoder.specs.CompositeTypes.{list_at}
 use Rattle.wasm_encoder.proofs.Counting.{items_go_on, items_fail, items_all}
@@ -16,5 +15,5 @@ loop-preserved g c =
 
 pub returns : goal.returns
 returns g c = record {
-  reads = rw c.from.ensures (items_all g.T.Readable.read_at c.loop.items.items c.in_ok-count.count c.loop.counter c.loop.self (list_at g.T.Readable.read_at c.args.self.now) c.loop-test.false c.loop.invariant)
+  reads = rw c.from.ensures (items_all g.T.Readable.read_at c.loop.items.items c.in_ok-count.count c.loop.counter c.loop.self (list_at g.T.Readable.read_at c.args.self.now) c.loop-test.false c.loop.invariant);
 }
