@@ -1,10 +1,10 @@
 -- Digits: what is read of them, and the fewest that stand for a number.
-use Rattle.std.proofs.Common.{◌≡◌, ℕ, zero, suc, ◌+◌, ◌*◌, ◌%◌, ◌/◌, ◌^◌, ◌<◌, ◌≤◌, Bool, true, false, cond, ltb, List, [], ◌∷◌, ◌++◌, length, Option, Some, None, refl, sym, ap, subst, ◌∙◌, inl, inr, arith}
+use Rattle.std.proofs.Common.{◌≡◌, ℕ, zero, suc, ◌+◌, ◌*◌, ◌%◌, ◌/◌, ◌^◌, ◌<◌, ◌≤◌, Bool, true, false, cond, ltb, List, [], ◌∷◌, ◌++◌, length, Option, Some, refl, sym, ap, subst, inl, inr, arith}
 use Rattle.std.proofs.lemmas.Bool.{ltb-true, lt-ltb, ltb-false, le-ltb}
 use Rattle.std.proofs.lemmas.Nat.{div_below}
 use Rattle.wasm_encoder.specs.Grammar.{IsBytes}
 use Rattle.wasm_encoder.specs.Reading.{◌>>=◌}
-use Rattle.wasm_encoder.specs.Numbers.{IsDigits, unsigned, last, Number, digits_at, number_at, turned, digits_of}
+use Rattle.wasm_encoder.specs.Numbers.{IsDigits, last, Number, digits_at, number_at, turned, digits_of}
 use Rattle.wasm_encoder.specs.Encoding.{IsTextOrLonger}
 use Rattle.wasm_encoder.proofs.Laws.{Fronts, Reads, bind_some, some_is}
 

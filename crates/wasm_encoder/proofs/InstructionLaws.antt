@@ -1,7 +1,6 @@
 -- The laws of instructions.
-use Rattle.std.proofs.Common.{◌≡◌, ℕ, ◌+◌, ◌^◌, ◌<◌, ◌≤◌, Bool, true, false, eqb, List, [], ◌∷◌, ◌++◌, length, take, get_or, Option, Some, None, IsTrue, refl, sym, ap, subst, ◌∙◌, ne_eqb, arith}
+use Rattle.std.proofs.Common.{◌≡◌, ℕ, ◌+◌, ◌^◌, ◌<◌, eqb, List, [], ◌∷◌, ◌++◌, length, take, get_or, Option, Some, None, refl, sym, ap, subst, ◌∙◌, ne_eqb, arith}
 use Rattle.std.proofs.lemmas.List.{take_more, flat_map_more}
-use Rattle.std.proofs.lemmas.Bool.{eqb-true}
 use Rattle.std.specs.List.{AllByRecursion}
 use Rattle.wasm_encoder.specs.declared.table.opcode.Prefix.{Prefix}
 use Rattle.wasm_encoder.specs.declared.table.opcode.Prefix.TheVariants as prefixes
@@ -10,9 +9,9 @@ use Rattle.wasm_encoder.specs.declared.table.opcode.Kind.{Kind}
 use Rattle.wasm_encoder.specs.declared.table.opcode.Kind.TheVariants as kinds
 use Rattle.wasm_encoder.specs.declared.table.call.Operands.{Operands}
 use Rattle.wasm_encoder.specs.declared.table.call.Operands.TheVariants as operands
-use Rattle.wasm_encoder.specs.Grammar.{Grammar, Then, Mapped, Nothing, Never, Either}
+use Rattle.wasm_encoder.specs.Grammar.{Mapped, Nothing, Either}
 use Rattle.wasm_encoder.specs.Numbers.{Within, SpellsU32, unsigned_text}
-use Rattle.wasm_encoder.specs.Opcodes.{ranges, end_below, kind_among, kind}
+use Rattle.wasm_encoder.specs.Opcodes.{ranges, kind_among, kind}
 use Rattle.wasm_encoder.specs.Instructions.{Instruction, plain, after_fb, after_fc, after_fd, after_fe, SpellsOpcode, opcode_at, opcode_text, SpellsOperands, operands_at, operands_text, kind_of, InRange, SpellsOperandsOf, operands_of_at, instruction_of, SpellsInstruction, instruction_at, instruction_text, IsCall, IsShort, SpellsInstructions, instructions_text}
 use Rattle.wasm_encoder.specs.Encoding.{IsTextOrLonger}
 use Rattle.wasm_encoder.proofs.Laws.{Reads, Shortest, MadeOf, EitherFits, HasTag, HasTag-either, HasTag-map, Reads-then, Reads-map, Reads-nothing, Reads-never, Reads-either, Reads-tag, Shortest-then, Shortest-map, Shortest-nothing, Shortest-never, Shortest-either, Shortest-for, Shortest-tag}

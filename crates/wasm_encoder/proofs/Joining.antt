@@ -1,5 +1,5 @@
 -- The laws of lists with nothing between their items.
-use Rattle.std.proofs.Common.{◌≡◌, ℕ, ◌<◌, ◌≤◌, ◌⊎◌, List, [], ◌∷◌, ◌++◌, length, Option, Some, None, refl, sym, ap, subst, ◌∙◌, append_assoc, length-append, inl, inr, arith}
+use Rattle.std.proofs.Common.{◌≡◌, ℕ, ◌<◌, ◌≤◌, List, [], ◌∷◌, ◌++◌, length, Option, Some, None, refl, sym, ap, subst, ◌∙◌, append_assoc, length-append, inl, inr, arith}
 use Rattle.std.proofs.lemmas.List.{append-nil, append_cancel_left}
 use Rattle.std.proofs.lemmas.Bool.{cases_lt}
 use Rattle.std.specs.List.{flat_map, AllByRecursion}
@@ -7,7 +7,7 @@ use Rattle.wasm_encoder.specs.Grammar.{Grammar, Joined}
 use Rattle.wasm_encoder.specs.Reading.{Reader}
 use Rattle.wasm_encoder.specs.Answers.{IsLongestFront}
 use Rattle.wasm_encoder.specs.Encoding.{IsTextOrLonger}
-use Rattle.wasm_encoder.proofs.Laws.{Fronts, Reads, Shortest, least_then, one_reading}
+use Rattle.wasm_encoder.proofs.Laws.{Reads, Shortest, least_then, one_reading}
 
 -- no value is spelled by no bytes
 abbrev pub TakesBytes : {V : Type 0} → Grammar V → Type 0
@@ -83,7 +83,7 @@ Joined-one {V} {G} r some bytes vs ws g h =
     sym (s.items ∙ ap (λ (t : List V). vs ++ t) none ∙ append-nil vs)
 
 -- a spelling comes next, where a longer list is spelled
-next : {V : Type 0} {G : Grammar V} {read : Reader V} → Reads G read → (back y : List ℕ) (more : List V) → Joined G back more → 0 < length back → read (back ++ y) ≡ None → ⊥
+pub next : {V : Type 0} {G : Grammar V} {read : Reader V} → Reads G read → (back y : List ℕ) (more : List V) → Joined G back more → 0 < length back → read (back ++ y) ≡ None → ⊥
 next r back y [] g some none = absurd (omega (arith, ap (length {A = ℕ}) g))
 next {read = read} r back y (v ∷ more) g some none =
     let p = r.complete g.0 v (g.1 ++ y) g.3 in

@@ -1,10 +1,10 @@
 -- The laws of grammars, and how each way to put spellings together keeps them.
-use Rattle.std.proofs.Common.{◌≡◌, ℕ, ◌<◌, ◌⊎◌, Bool, true, false, List, [], ◌∷◌, ◌++◌, length, Option, Some, None, eqb, refl, sym, ap, subst, ◌∙◌, append_assoc, length-append, inl, inr, arith}
+use Rattle.std.proofs.Common.{◌≡◌, ℕ, Bool, true, false, List, [], ◌∷◌, ◌++◌, Option, Some, None, eqb, refl, sym, ap, subst, ◌∙◌, append_assoc, length-append, inl, inr, arith}
 use Rattle.std.proofs.lemmas.List.{append_cancel_right}
 use Rattle.std.proofs.lemmas.Bool.{eqb-true}
-use Rattle.wasm_encoder.specs.Grammar.{Grammar, IsBytes, Then, Mapped, Nothing, Never, Either, ByTag}
+use Rattle.wasm_encoder.specs.Grammar.{Grammar, IsBytes, Then, Mapped, Nothing, Never, Either, ByTag, Peek, Tail, Only}
 use Rattle.wasm_encoder.specs.Encoding.{IsTextOrLonger}
-use Rattle.wasm_encoder.specs.Reading.{Reader, ◌>>=◌, then_at, map_at, nothing_at, never_at, either_at, by_tag}
+use Rattle.wasm_encoder.specs.Reading.{Reader, ◌>>=◌, then_at, map_at, nothing_at, never_at, either_at, by_tag, peek_at, tail_at, only_at}
 
 -- a front of the bytes spells the value, and this is the rest
 pub record Fronts {V : Type 0} (G : Grammar V) (bytes : List ℕ) (v : V) (rest : List ℕ) : Type 0 where
@@ -211,3 +211,42 @@ Shortest-tag {A} {cases} {E} {text} tag_of s tagged = record { spells = λ v e. 
     | inl p ↦ inl (ap (λ (k : ℕ). k ∷ bytes) (tagged tag bytes v g) ∙ ap (λ (t : List ℕ). tag_of v ∷ t) p)
     | inr p ↦ inr (omega arith)
   ]
+
+-- ---- a first byte that is looked at
+
+pub Reads-peek : {A : Type 0} {cases : ℕ → Grammar A} {reads : ℕ → Reader A} → ((b : ℕ) → Reads (cases b) (reads b)) → ((b : ℕ) (v : A) → cases b [] v → ⊥) → Reads (Peek cases) (peek_at reads)
+Reads-peek {A} {cases} {reads} r some_byte = record { sound = peek_sound; complete = peek_complete } where
+  opened : (b : ℕ) (bytes front : List ℕ) (v : A) (rest : List ℕ) → cases b front v → b ∷ bytes ≡ front ++ rest → Fronts (Peek cases) (b ∷ bytes) v rest
+  opened b bytes [] v rest g e = absurd (some_byte b v g)
+  opened b bytes (c ∷ front) v rest g e = let same : b ≡ c = cc in record { front = c ∷ front; spells = subst (λ (k : ℕ). cases k (c ∷ front) v) same g; parts = e }
+
+  peek_sound : (bytes : List ℕ) (v : A) (rest : List ℕ) → IsBytes bytes → peek_at reads bytes ≡ Some (v, rest) → Fronts (Peek cases) bytes v rest
+  peek_sound [] v rest fits e = absurd cc
+  peek_sound (b ∷ bytes) v rest fits e = let one = (r b).sound (b ∷ bytes) v rest fits e in opened b bytes one.front v rest one.spells one.parts
+
+  peek_complete : (front : List ℕ) (v : A) (rest : List ℕ) → Peek cases front v → peek_at reads (front ++ rest) ≡ Some (v, rest)
+  peek_complete [] v rest g = absurd g
+  peek_complete (b ∷ front) v rest g = (r b).complete (b ∷ front) v rest g
+
+-- the first byte is taken
+pub Reads-tail : {A : Type 0} {G : Grammar A} {read : Reader A} → Reads G read → Reads (Tail G) (tail_at read)
+Reads-tail {A} {G} {read} r = record { sound = tail_sound; complete = tail_complete } where
+  tail_sound : (bytes : List ℕ) (v : A) (rest : List ℕ) → IsBytes bytes → tail_at read bytes ≡ Some (v, rest) → Fronts (Tail G) bytes v rest
+  tail_sound [] v rest fits e = absurd cc
+  tail_sound (b ∷ bytes) v rest fits e = let one = r.sound bytes v rest fits.1 e in record { front = b ∷ one.front; spells = one.spells; parts = ap (λ (t : List ℕ). b ∷ t) one.parts }
+
+  tail_complete : (front : List ℕ) (v : A) (rest : List ℕ) → Tail G front v → tail_at read (front ++ rest) ≡ Some (v, rest)
+  tail_complete [] v rest g = absurd g
+  tail_complete (b ∷ front) v rest g = r.complete front v rest g
+
+pub Reads-only : {A : Type 0} (o : Option A) → Reads (Only o) (only_at o)
+Reads-only None = record { sound = λ bytes v rest fits e. absurd cc; complete = λ front v rest g. absurd g }
+Reads-only {A} (Some a) = record {
+  sound = λ bytes v rest fits e. Fronts-is (Only (Some a)) bytes a v bytes rest e (record { front = []; spells = (refl, refl); parts = refl });
+  complete = λ front v rest g. rw (g.0, g.1) refl;
+}
+
+-- what holds of the spellings of both holds of those of either
+pub either_holds : {A : Type 0} (test : Bool) {G H : Grammar A} (P : List ℕ → A → Type 0) → (test ≡ true → (bytes : List ℕ) (v : A) → G bytes v → P bytes v) → (test ≡ false → (bytes : List ℕ) (v : A) → H bytes v → P bytes v) → (bytes : List ℕ) (v : A) → Either test G H bytes v → P bytes v
+either_holds true P f g = f refl
+either_holds false P f g = g refl

@@ -8,3 +8,10 @@ pub mod InstructionLaws
 pub mod DigitLoop
 pub mod TextLists
 pub mod ModuleLaws
+pub mod HeapTypeLaws
+pub mod ValueTypeLaws
+pub mod Counting
+pub mod CompositeLaws
+pub mod CompositeTexts
+pub mod EntryLaws
+pub mod TypeBodyLaws

@@ -1,5 +1,5 @@
 -- A loop that reads items as long as there are bytes left, over any grammar.
-use Rattle.std.proofs.Common.{◌≡◌, ℕ, suc, ◌-◌, ◌<◌, ◌≤◌, List, [], ◌∷◌, ◌++◌, length, get_or, take, drop, Option, Some, None, Result, Ok, Err, IfOk, ◌↔◌, refl, sym, ap, subst, ◌∙◌, append_assoc, length-append, arith}
+use Rattle.std.proofs.Common.{◌≡◌, ℕ, suc, ◌-◌, ◌<◌, ◌≤◌, List, [], ◌∷◌, ◌++◌, length, get_or, take, drop, Some, None, Result, Ok, Err, IfOk, ◌↔◌, refl, sym, ap, subst, ◌∙◌, append_assoc, length-append, arith}
 use Rattle.std.proofs.lemmas.List.{append-nil, take-append-drop, flat_map_more}
 use Rattle.std.specs.List.{flat_map}
 use Rattle.wasm_encoder.specs.Grammar.{Grammar, Joined, IsBytes}
@@ -9,7 +9,7 @@ use Rattle.wasm_encoder.specs.Reading.{Reader, Reads as CodeReads}
 use Rattle.wasm_encoder.specs.declared.reader.ReadError.{ReadError}
 use Rattle.wasm_encoder.specs.declared.reader.ReadError.TheVariants as errors
 use Rattle.wasm_encoder.specs.Answers.{answer_to, HoldsAtRefusal, IsOrMemory, IfRefused, IsLongestFront, SpellsSome, IsNormalForm}
-use Rattle.wasm_encoder.proofs.Laws.{Reads, Shortest, Fronts, IsBytes-back}
+use Rattle.wasm_encoder.proofs.Laws.{Reads, Shortest, IsBytes-back}
 use Rattle.wasm_encoder.proofs.Joining.{TakesBytes, Joined-more, Joined-longest}
 
 pub IsBytes-from : (bytes : List ℕ) → ((i : ℕ) → get_or bytes i 0 < 256) → IsBytes bytes

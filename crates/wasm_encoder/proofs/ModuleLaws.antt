@@ -1,20 +1,19 @@
 -- The laws of sections and modules.
-use Rattle.std.proofs.Common.{◌≡◌, ℕ, ◌+◌, ◌-◌, ◌^◌, ◌<◌, ◌≤◌, ◌⊎◌, Bool, true, false, cond, ltb, List, [], ◌∷◌, ◌++◌, length, take, drop, Option, Some, None, Err, eqb, refl, sym, ap, subst, ◌∙◌, append_assoc, length-append, inl, inr, arith}
+use Rattle.std.proofs.Common.{◌≡◌, ℕ, ◌+◌, ◌-◌, ◌^◌, ◌<◌, ◌≤◌, Bool, true, false, cond, ltb, List, [], ◌∷◌, ◌++◌, length, take, drop, Option, Some, None, Err, eqb, refl, sym, ap, subst, ◌∙◌, append_assoc, length-append, inl, inr, arith}
 use Rattle.std.specs.Prelude.{MatchOption, IfSome, IfNone}
 use lib.Pointwise.{pointwise, bytes_decides}
 use Rattle.std.proofs.lemmas.List.{append-nil, append_cancel_left, take_at, drop_at, take-append-drop, length-take}
 use Rattle.std.proofs.lemmas.Bool.{ltb-false, le-ltb}
-use Rattle.std.specs.List.{flat_map, AllByRecursion}
+use Rattle.std.specs.List.{AllByRecursion}
 use Rattle.wasm_encoder.specs.Grammar.{Grammar, IsBytes, AByte, After, Joined}
 use Rattle.wasm_encoder.specs.declared.reader.cursor.Fault.{Fault}
 use Rattle.wasm_encoder.specs.declared.reader.cursor.Fault.TheVariants as faults
 use Rattle.wasm_encoder.specs.declared.reader.ReadError.{ReadError}
-use Rattle.wasm_encoder.specs.Reading.{Reader, ◌>>=◌, byte_at, Reads as CodeReads}
-use Rattle.wasm_encoder.specs.Encoding.{IsTextOrLonger}
+use Rattle.wasm_encoder.specs.Reading.{byte_at, Reads as CodeReads}
 use Rattle.wasm_encoder.specs.Answers.{answer_to, HoldsAtRefusal, IsLongestFront, SpellsSome}
 use Rattle.wasm_encoder.specs.Numbers.{SpellsU32, u32_at, unsigned_text}
 use Rattle.wasm_encoder.specs.Modules.{header, SectionParts, IsSection, section_of, SpellsByteList, byte_list_at, SpellsSection, section_at, section_text, SpellsModule, module_text, IsModuleFront}
-use Rattle.wasm_encoder.proofs.Laws.{Fronts, Reads, Shortest, bind_some, some_is, Fronts-is, Reads-then, Reads-map, Shortest-then, Shortest-map, Shortest-for, least_then, in_a_row, read_in_row, MadeOf}
+use Rattle.wasm_encoder.proofs.Laws.{Fronts, Reads, Shortest, bind_some, some_is, Fronts-is, Reads-then, Reads-map, Shortest-then, Shortest-map, Shortest-for, least_then, in_a_row, read_in_row}
 use Rattle.wasm_encoder.proofs.Joining.{TakesBytes, Joined-one, Shortest-joined, empty_front}
 use Rattle.wasm_encoder.proofs.ListReading.{AtMostOne, Progress, stopped, end}
 use Rattle.wasm_encoder.proofs.NumberLaws.{Reads-u32, Shortest-u32}

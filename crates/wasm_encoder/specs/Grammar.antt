@@ -1,5 +1,5 @@
 -- Grammars: which bytes spell which value, and how spellings are put together.
-use Rattle.std.specs.Prelude.{◌≡◌, ℕ, ◌<◌, Bool, true, false, List, [], ◌∷◌, ◌++◌}
+use Rattle.std.specs.Prelude.{◌≡◌, ℕ, ◌<◌, Bool, true, false, List, [], ◌∷◌, ◌++◌, length, Option, Some, None}
 
 -- which bytes spell which value
 abbrev pub Grammar : Type 0 → Type 1
@@ -36,6 +36,21 @@ abbrev pub ByTag : {A : Type 0} → (ℕ → Grammar A) → Grammar A
 ByTag cases [] v = ⊥
 ByTag cases (tag ∷ bytes) v = cases tag bytes v
 
+-- what the first byte says, which is looked at and not taken
+abbrev pub Peek : {A : Type 0} → (ℕ → Grammar A) → Grammar A
+Peek cases [] v = ⊥
+Peek cases (b ∷ bytes) v = cases b (b ∷ bytes) v
+
+-- a first byte, whichever it is, and then a spelling
+abbrev pub Tail : {A : Type 0} → Grammar A → Grammar A
+Tail G [] v = ⊥
+Tail G (b ∷ bytes) v = G bytes v
+
+-- no bytes, for the value that there is
+abbrev pub Only : {A : Type 0} → Option A → Grammar A
+Only None bytes v = ⊥
+Only (Some a) bytes v = (bytes ≡ []) × (a ≡ v)
+
 -- one byte
 abbrev pub AByte : Grammar ℕ
 AByte bytes b = (bytes ≡ b ∷ []) × (b < 256)
@@ -48,3 +63,7 @@ After front G bytes v = (back : List ℕ) × (bytes ≡ front ++ back) × G back
 abbrev pub Joined : {A : Type 0} → Grammar A → Grammar (List A)
 Joined G bytes [] = bytes ≡ []
 Joined G bytes (v ∷ vs) = (front : List ℕ) × (back : List ℕ) × (bytes ≡ front ++ back) × G front v × Joined G back vs
+
+-- a count, and then as many spellings
+abbrev pub Counted : {A : Type 0} → Grammar ℕ → Grammar A → Grammar (List A)
+Counted Count G bytes vs = (front : List ℕ) × (back : List ℕ) × (bytes ≡ front ++ back) × Count front (length vs) × Joined G back vs

@@ -7,3 +7,6 @@ pub mod Encoding
 pub mod Answers
 pub mod Sink
 pub mod Modules
+pub mod Types
+pub mod HeapTypes
+pub mod CompositeTypes

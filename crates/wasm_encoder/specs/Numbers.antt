@@ -4,7 +4,7 @@ use Rattle.wasm_encoder.specs.declared.reader.cursor.Digits.{Digits}
 use Rattle.wasm_encoder.specs.declared.reader.cursor.Fault.{Fault}
 use Rattle.wasm_encoder.specs.declared.reader.cursor.Fault.TheVariants as faults
 use Rattle.wasm_encoder.specs.Grammar.{Grammar}
-use Rattle.wasm_encoder.specs.Reading.{Reader, ◌>>=◌, byte_at}
+use Rattle.wasm_encoder.specs.Reading.{Reader, ◌>>=◌}
 
 -- one or more bytes, all but the last from 0x80 on, the last below 0x80
 abbrev pub IsDigits : List ℕ → Type 0

@@ -1,7 +1,7 @@
 -- Reading functions: the value at the front of the bytes and the bytes after it, or none. They stand between the
 -- code and the grammars: the private readers are proved equal to them, and they are proved to find what the
 -- grammars spell. No public contract speaks of them.
-use Rattle.std.specs.Prelude.{◌≡◌, ℕ, Bool, true, false, List, [], ◌∷◌, Option, Some, None, Result, Ok, Err}
+use Rattle.std.specs.Prelude.{◌≡◌, ℕ, zero, suc, Bool, true, false, List, [], ◌∷◌, Option, Some, None, Result, Ok, Err}
 use Rattle.wasm_encoder.specs.declared.reader.cursor.Fault.{Fault}
 use Rattle.wasm_encoder.specs.declared.reader.cursor.Fault.TheVariants as faults
 
@@ -52,3 +52,36 @@ either_at false read other = other
 abbrev pub by_tag : {A : Type 0} → (ℕ → Reader A) → Reader A
 by_tag reads [] = None
 by_tag reads (tag ∷ bytes) = reads tag bytes
+
+abbrev pub peek_at : {A : Type 0} → (ℕ → Reader A) → Reader A
+peek_at reads bytes = do
+  first ← byte_at bytes
+  reads first.0 bytes
+
+abbrev pub tail_at : {A : Type 0} → Reader A → Reader A
+tail_at read bytes = do
+  first ← byte_at bytes
+  read first.1
+
+abbrev pub only_at : {A : Type 0} → Option A → Reader A
+only_at None bytes = None
+only_at (Some a) bytes = Some (a, bytes)
+
+-- What the code saw is the first byte.
+abbrev pub Sees : List ℕ → Result ℕ Fault → Type 0
+Sees bytes (Ok b) = (rest : List ℕ) × (byte_at bytes ≡ Some (b, rest))
+Sees bytes (Err faults.Malformed) = byte_at bytes ≡ None
+Sees bytes (Err faults.Memory) = Unit {0}
+
+-- so many values
+unfoldable pub times_at : {A : Type 0} → Reader A → ℕ → Reader (List A)
+times_at read zero bytes = Some ([], bytes)
+times_at read (suc n) bytes = do
+  v ← read bytes
+  vs ← times_at read n v.1
+  Some (v.0 ∷ vs.0, vs.1)
+
+abbrev pub counted_at : {A : Type 0} → Reader ℕ → Reader A → Reader (List A)
+counted_at count read bytes = do
+  n ← count bytes
+  times_at read n.0 n.1

@@ -3,15 +3,24 @@
 #![tactic(auto)]
 
 pub mod encode;
+pub mod list;
 pub mod raw;
 pub mod reader;
 pub mod sink;
 pub mod table;
+pub mod types;
 pub mod wasm_core;
 
 pub use encode::{Encode, EncodeError, encode_bytes, encode_list, encode_str};
+pub use list::Items;
 pub use raw::RawSection;
-pub use reader::{ReadError, normalise_instructions, read_instructions, read_module};
+pub use reader::{
+    ReadError, normalise_instructions, read_instructions, read_module, read_type_section,
+};
 pub use sink::InstructionSink;
 pub use table::{Call, Kind, Opcode, Operands, Prefix};
+pub use types::{
+    AbstractHeapType, ArrayType, CompositeInnerType, CompositeType, ContType, FieldType, FuncType,
+    HeapType, RefType, StorageType, StructType, SubType, TypeEntry, ValType,
+};
 pub use wasm_core::{Module, Section, SectionId};

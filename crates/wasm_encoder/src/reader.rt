@@ -5,15 +5,19 @@ ghost use Rattle.std.specs.Prelude.{◌≡◌};
 ghost use Rattle.wasm_encoder.specs.declared.reader.ReadError.TheVariants.{Memory};
 ghost use Rattle.wasm_encoder.specs.Answers.{answer_to};
 
+mod composite_types;
 mod cursor;
+mod heap_types;
 mod instructions;
 mod modules;
+mod type_section;
 
 use cursor::Fault;
 pub use instructions::{normalise_instructions, read_instructions};
 pub use modules::read_module;
 use std::alloc::{AllocError, AllocFailed};
 use thiserror::Error;
+pub use type_section::read_type_section;
 
 /// Why bytes were not read.
 #[derive(Debug, PartialEq, Eq, Drop, Error)]

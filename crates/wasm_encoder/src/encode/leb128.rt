@@ -1,5 +1,5 @@
 //! LEB128 numbers, written into room that was reserved. `encode` and the instruction sink write them here alone.
-ghost use Rattle.std.specs.Prelude.{◌≡◌, ◌++◌, ◌+◌, ◌*◌, ◌^◌, ◌<◌, ◌≤◌, vec_len, vec_capacity};
+ghost use Rattle.std.specs.Prelude.{◌≡◌, ◌++◌, ◌+◌, ◌*◌, ◌^◌, ◌<◌, ◌≤◌, pos, vec_len, vec_capacity};
 ghost use Rattle.wasm_encoder.specs.Numbers.{turned, digits_of, unsigned_text, signed_text};
 
 use std::alloc::Allocator;
@@ -120,4 +120,14 @@ pub(crate) fn put_i64<A: Allocator>(bytes: &mut Vec<u8, A>, value: i64)
     } else {
         put_many(bytes, false, 64, value as u64);
     }
+}
+
+/// Writes an index in the place of a negative type code, in 1 to 5 bytes.
+#[tactic(auto, unfolding(crate::specs::Numbers::signed_text))]
+pub(crate) fn put_index<A: Allocator>(bytes: &mut Vec<u8, A>, index: u32)
+    requires { vec_len bytes.old + 5 ≤ vec_capacity bytes.old }
+    ensures items { bytes.new.items ≡ bytes.old.items ++ signed_text (pos index) }
+    ensures capacity { vec_capacity bytes.new ≡ vec_capacity bytes.old }
+{
+    put_few(bytes, false, 64, u64::from(index));
 }

@@ -1,9 +1,10 @@
 //! A place in bytes, and what can be read there.
 ghost use Rattle.std.specs.Prelude.{◌≡◌, ◌^◌, ◌<◌, ◌≤◌, Some, IfOk, IfErr, length, take, drop};
-ghost use Rattle.wasm_encoder.specs.Reading.{Reads, byte_at};
+ghost use Rattle.wasm_encoder.specs.Reading.{Reads, Sees, byte_at};
 ghost use Rattle.wasm_encoder.specs.Numbers.{ReadsDigits, number_at, signed, u32_at, u64_at, s32_at, s64_at, index_at};
-ghost use Rattle.wasm_encoder.specs.declared.reader.cursor.Fault.TheVariants.{Malformed};
+ghost use Rattle.wasm_encoder.specs.declared.reader.cursor.Fault.TheVariants.{Malformed, Memory};
 
+use std::alloc::{AllocError, AllocFailed};
 use std::marker::Model;
 
 /// Why nothing was read.
@@ -13,6 +14,22 @@ pub(crate) enum Fault {
     Memory,
     /// It isn't spelled there.
     Malformed,
+}
+
+impl From<AllocError> for Fault {
+    ghost from_gives = { λ _ fault. fault ≡ Memory };
+
+    fn from(_error: AllocError) -> Fault {
+        Fault::Memory
+    }
+}
+
+impl<T: Drop> From<AllocFailed<T>> for Fault {
+    ghost from_gives = { λ _ fault. fault ≡ Memory };
+
+    fn from(_error: AllocFailed<T>) -> Fault {
+        Fault::Memory
+    }
 }
 
 /// A place in bytes. In contracts it is the bytes that are left.
@@ -65,6 +82,16 @@ impl<'a> Cursor<'a> {
         let byte = self.bytes[self.position];
         self.position += 1;
         Ok(byte)
+    }
+
+    /// The byte that comes next, which is left there.
+    pub(super) fn peek(&self) -> Result<u8, Fault>
+        ensures { Sees self.now result }
+    {
+        if self.position == self.bytes.len() {
+            return Err(Fault::Malformed);
+        }
+        Ok(self.bytes[self.position])
     }
 
     /// So many bytes.
@@ -145,5 +172,14 @@ impl<'a> Cursor<'a> {
     {
         let value = self.signed(10)?;
         i64::try_from(value).map_err(|_| Fault::Malformed)
+    }
+
+    /// An index in the place of a negative type code: an s33 that isn't negative (Core 3.0, 5.3.3).
+    #[tactic(auto, unfolding(crate::specs::Numbers::index_at))]
+    pub(crate) fn index(&mut self) -> Result<u32, Fault>
+        ensures reads { Reads index_at self.old self.new result }
+    {
+        let value = self.signed(5)?;
+        u32::try_from(value).map_err(|_| Fault::Malformed)
     }
 }

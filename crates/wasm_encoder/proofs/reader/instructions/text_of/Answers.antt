@@ -1,4 +1,4 @@
-use Rattle.std.proofs.Common.{ap, arith}
+use Rattle.std.proofs.Common.{arith}
 use Rattle.wasm_encoder.specs.Instructions.{SpellsInstruction, instruction_text}
 use Rattle.wasm_encoder.proofs.ListReading.{IsBytes-from, next, next_text, stopped_by}
 use Rattle.wasm_encoder.proofs.InstructionLaws.{Reads-instruction, TakesBytes-instruction}

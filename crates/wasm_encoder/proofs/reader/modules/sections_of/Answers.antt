@@ -1,8 +1,8 @@
-use Rattle.std.proofs.Common.{◌≡◌, ◌++◌, ◌∷◌, [], drop, sym, ap, ◌∙◌, arith}
+use Rattle.std.proofs.Common.{◌≡◌, ◌++◌, ◌∷◌, [], drop, ap, ◌∙◌, arith}
 use Rattle.std.proofs.lemmas.List.{map_push}
 use Rattle.wasm_encoder.specs.Modules.{header, parts_of, all_parts_of}
 use Rattle.wasm_encoder.proofs.ListReading.{IsBytes-from, IsBytes-drop, next}
-use Rattle.wasm_encoder.proofs.ModuleLaws.{Reads-section, TakesBytes-section, no_header, module_front, module_unspelled, module_given}
+use Rattle.wasm_encoder.proofs.ModuleLaws.{Reads-section, TakesBytes-section, module_front, module_unspelled}
 use Rattle.wasm_encoder.proofs.reader.modules.sections_of.Goals as goal
 
 pub loop-cursor-smaller : goal.loop-cursor-smaller
