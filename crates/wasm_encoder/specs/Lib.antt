@@ -10,3 +10,4 @@ pub mod Modules
 pub mod Types
 pub mod HeapTypes
 pub mod CompositeTypes
+pub mod TypeEncoding

@@ -4,6 +4,7 @@ ghost use Rattle.wasm_encoder.specs.Numbers.{unsigned_text, signed_text};
 ghost use Rattle.wasm_encoder.specs.Encoding.{option_text, usize_text};
 ghost use Rattle.wasm_encoder.specs.declared.encode.EncodeError.TheVariants.{Memory};
 
+mod composite_types;
 mod heap_types;
 mod leb128;
 mod lists;

@@ -1,0 +1,38 @@
+-- The texts of composite types, subtypes and entries, or none where a list is too long.
+use Rattle.std.specs.Prelude.{ℕ, Bool, true, false, List, [], ◌∷◌, Option, Some, None, pos}
+use Rattle.wasm_encoder.specs.declared.types.value.ValType.{ValType}
+use Rattle.wasm_encoder.specs.declared.types.composite.FieldType.{FieldType}
+use Rattle.wasm_encoder.specs.declared.types.composite.CompositeInnerType.{CompositeInnerType}
+use Rattle.wasm_encoder.specs.declared.types.composite.CompositeInnerType.TheVariants as inner
+use Rattle.wasm_encoder.specs.declared.types.composite.CompositeType.{CompositeType}
+use Rattle.wasm_encoder.specs.declared.types.composite.SubType.{SubType}
+use Rattle.wasm_encoder.specs.declared.types.composite.TypeEntry.{TypeEntry}
+use Rattle.wasm_encoder.specs.declared.types.composite.TypeEntry.TheVariants as entries
+use Rattle.wasm_encoder.specs.Numbers.{unsigned_text, signed_text}
+use Rattle.wasm_encoder.specs.Encoding.{both_texts, list_text}
+use Rattle.wasm_encoder.specs.HeapTypes.{val_type_text}
+use Rattle.wasm_encoder.specs.CompositeTypes.{field_type_text}
+
+abbrev pub index_encoding : ℕ → Option (List ℕ)
+index_encoding index = Some (unsigned_text index)
+
+abbrev pub val_type_encoding : ValType → Option (List ℕ)
+val_type_encoding ty = Some (val_type_text ty)
+
+abbrev pub field_type_encoding : FieldType → Option (List ℕ)
+field_type_encoding field = Some (field_type_text field)
+
+abbrev pub inner_encoding : CompositeInnerType → Option (List ℕ)
+inner_encoding (inner.Func f) = both_texts (Some (0x60 ∷ [])) (both_texts (list_text val_type_encoding f.params) (list_text val_type_encoding f.results))
+inner_encoding (inner.Struct s) = both_texts (Some (0x5f ∷ [])) (list_text field_type_encoding s.fields)
+inner_encoding (inner.Array a) = Some (0x5e ∷ field_type_text a.0)
+inner_encoding (inner.Cont c) = Some (0x5d ∷ signed_text (pos c.0))
+
+-- what stands before what a composite type is made of
+abbrev pub shared_text : Bool → List ℕ
+shared_text true = 0x65 ∷ []
+shared_text false = []
+
+abbrev pub flagged_index_text : ℕ → Option ℕ → List ℕ
+flagged_index_text flag None = []
+flagged_index_text flag (Some index) = flag ∷ unsigned_text index
