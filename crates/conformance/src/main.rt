@@ -4,8 +4,9 @@
 
 mod answers;
 mod columns;
+mod encoded;
 mod mismatch;
-mod numbers;
+mod sections;
 mod sink;
 #[cfg(test)]
 mod tests;
@@ -22,6 +23,10 @@ enum Suite {
     Sink,
     /// One encoded number each.
     Numbers,
+    /// One encoded option, list, text or id of a section each, or bytes.
+    Lists,
+    /// One section or module each.
+    Sections,
     /// What a normaliser answers to some bytes.
     Answers,
 }
@@ -31,6 +36,8 @@ impl Suite {
         match self {
             Suite::Sink => "sink.tsv",
             Suite::Numbers => "numbers.tsv",
+            Suite::Lists => "lists.tsv",
+            Suite::Sections => "sections.tsv",
             Suite::Answers => "answers.tsv",
         }
     }
@@ -38,7 +45,8 @@ impl Suite {
     fn check(self, alloc: Global, line: &str) -> Result<(), Mismatch> {
         match self {
             Suite::Sink => sink::check(alloc, line),
-            Suite::Numbers => numbers::check(alloc, line),
+            Suite::Numbers | Suite::Lists => encoded::check(alloc, line),
+            Suite::Sections => sections::check(alloc, line),
             Suite::Answers => answers::check(alloc, line),
         }
     }
@@ -62,5 +70,7 @@ fn replay(rt: &(impl Files + Print + AllocGlobal), suite: Suite) -> io::Result<(
 fn main(rt: HostRuntime) -> io::Result<()> {
     replay(&rt, Suite::Sink)?;
     replay(&rt, Suite::Numbers)?;
+    replay(&rt, Suite::Lists)?;
+    replay(&rt, Suite::Sections)?;
     replay(&rt, Suite::Answers)
 }

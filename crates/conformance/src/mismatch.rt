@@ -23,8 +23,8 @@ pub enum Mismatch {
     /// `write_call` does not write what the method writes.
     #[error("write_call writes other bytes")]
     WriteCall,
-    /// The bytes are read as other calls.
-    #[error("other calls are read")]
+    /// The bytes are read as other calls or sections.
+    #[error("other calls or sections are read")]
     Read,
     /// The normal form is another, or the place of a refusal.
     #[error("the normaliser answers otherwise")]

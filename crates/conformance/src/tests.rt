@@ -1,6 +1,9 @@
 //! Worked examples, each public function on its happy path, and what no contract says.
 
 mod growths;
+mod lists;
+mod modules;
+mod own;
 mod reading;
 mod table;
 mod writing;

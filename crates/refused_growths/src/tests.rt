@@ -1,6 +1,8 @@
 //! Each test makes a call. Where a request for memory is refused, the answer says so, the test prints `refused`, and
 //! the same call is made again, with memory. The answer is then the right one.
 
+mod modules;
+
 use std::test::Fail;
 use wasm_encoder::{
     Call, EncodeError, Opcode, Operands, Prefix, ReadError, normalise_instructions,

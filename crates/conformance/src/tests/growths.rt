@@ -3,12 +3,12 @@
 use super::{bytes, call};
 use crate::columns::Token;
 use crate::mismatch::Mismatch;
-use crate::{numbers, sink};
+use crate::{encoded, sink};
 use rationed::Rationed;
 use std::alloc::{Allocator, Global};
 use std::process::Abort;
 use std::test::Fail;
-use wasm_encoder::{Call, InstructionSink, Operands};
+use wasm_encoder::{Call, Encode, InstructionSink, Operands, RawSection, Section};
 
 /// What is written to a list.
 #[derive(Drop)]
@@ -21,11 +21,21 @@ enum Text<'a> {
     Call(&'a Call),
     /// Calls.
     Calls(&'a [Call]),
+    /// The encoded value of a token.
+    Token(&'a str),
+    /// A section without its id.
+    Raw(&'a RawSection<'a>),
+    /// A section.
+    Section(&'a RawSection<'a>),
 }
 
-fn write<A: Allocator>(text: &Text<'_>, list: &mut Vec<u8, A>) -> Result<(), Mismatch> {
+fn write<A: Allocator>(
+    alloc: Global,
+    text: &Text<'_>,
+    list: &mut Vec<u8, A>,
+) -> Result<(), Mismatch> {
     match text {
-        Text::Number(number) => numbers::encode(*number, list)?,
+        Text::Number(number) => number.encode(list)?,
         Text::Method(name, tokens) => {
             sink::write(InstructionSink::new(list), name, tokens)?;
         }
@@ -35,6 +45,9 @@ fn write<A: Allocator>(text: &Text<'_>, list: &mut Vec<u8, A>) -> Result<(), Mis
         Text::Calls(calls) => {
             InstructionSink::new(list).write_calls(calls)?;
         }
+        Text::Token(token) => encoded::encode(alloc, token, list)?,
+        Text::Raw(section) => section.encode(list)?,
+        Text::Section(section) => section.append_to(list)?,
     }
     Ok(())
 }
@@ -56,7 +69,7 @@ fn refuse_each(rt: &impl Abort, alloc: Global, text: &Text<'_>, hex: &str) -> Re
         let ration = Rationed::new(alloc, granted);
         let mut list = full_list(&ration);
         let before = list.as_slice().to_vec(alloc)?;
-        match write(text, &mut list) {
+        match write(alloc, text, &mut list) {
             Err(Mismatch::Memory) => {
                 assert_eq!(rt; list.as_slice(), before.as_slice(), "at {hex}");
             }
@@ -107,6 +120,30 @@ fn growths_are_refused(rt: HostRuntime) -> Result<(), Fail> {
     Ok(())
 }
 
+#[test]
+fn growths_of_lists_are_refused(rt: HostRuntime) -> Result<(), Fail> {
+    let section = RawSection {
+        id: 10,
+        body: b"nine byte",
+    };
+    for (text, hex) in [
+        (Text::Token("none"), "2A00"),
+        (Text::Token("some:u32:624485"), "2A01E58E26"),
+        (
+            Text::Token("list:[i64:64;u64:4398046511104;u32:624485]"),
+            "2A03C00080808080808001E58E26",
+        ),
+        (Text::Token("bytes:0B16212C374247"), "2A070B16212C374247"),
+        (Text::Token("str:74657374"), "2A0474657374"),
+        (Text::Token("sectionid:tag"), "2A0D"),
+        (Text::Raw(&section), "2A096E696E652062797465"),
+        (Text::Section(&section), "2A0A096E696E652062797465"),
+    ] {
+        refuse_each(&rt, rt.alloc(), &text, hex)?;
+    }
+    Ok(())
+}
+
 /// The sink's methods, each with the longest operands.
 const METHODS: [(&str, &[Token]); 14] = [
     ("unreachable", &[]),
@@ -130,7 +167,7 @@ fn one_growth_is_enough(rt: HostRuntime) -> Result<(), Fail> {
     for (method, tokens) in METHODS {
         let ration = Rationed::new(rt.alloc(), 1);
         let mut list = Vec::new(&ration);
-        write(&Text::Method(method, tokens), &mut list)?;
+        write(rt.alloc(), &Text::Method(method, tokens), &mut list)?;
         assert!(rt; !list.is_empty(), "at {method}");
     }
     let constant = call(0x42, Operands::I64(i64::MIN))?;
@@ -144,7 +181,7 @@ fn one_growth_is_enough(rt: HostRuntime) -> Result<(), Fail> {
     ] {
         let ration = Rationed::new(rt.alloc(), 1);
         let mut list = Vec::new(&ration);
-        write(&text, &mut list)?;
+        write(rt.alloc(), &text, &mut list)?;
         assert!(rt; !list.is_empty());
     }
     Ok(())
@@ -155,13 +192,13 @@ fn room_for_24_bytes_is_enough(rt: HostRuntime) -> Result<(), Fail> {
     for (method, tokens) in METHODS {
         let ration = Rationed::new(rt.alloc(), 1);
         let mut list = Vec::with_capacity(&ration, 24)?;
-        write(&Text::Method(method, tokens), &mut list)?;
+        write(rt.alloc(), &Text::Method(method, tokens), &mut list)?;
         assert!(rt; !list.is_empty(), "at {method}");
     }
     let ration = Rationed::new(rt.alloc(), 1);
     let mut list = Vec::with_capacity(&ration, 24)?;
     let constant = call(0x42, Operands::I64(i64::MIN))?;
-    write(&Text::Call(&constant), &mut list)?;
+    write(rt.alloc(), &Text::Call(&constant), &mut list)?;
     assert!(rt; !list.is_empty());
     Ok(())
 }

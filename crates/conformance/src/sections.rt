@@ -1,0 +1,107 @@
+//! Vectors of sections: `raw`, a section's id and body, and its text, or `module`, the sections of a module, and the
+//! module.
+
+use crate::columns::columns;
+use crate::mismatch::Mismatch;
+use std::alloc::Global;
+use wasm_encoder::{Encode, Module, RawSection, read_module};
+
+/// A section that a vector gives.
+#[derive(Drop)]
+struct OwnedSection {
+    id: u8,
+    body: Vec<u8>,
+}
+
+impl OwnedSection {
+    fn as_raw(&self) -> RawSection<'_> {
+        RawSection {
+            id: self.id,
+            body: self.body.as_slice(),
+        }
+    }
+}
+
+/// Holds sections, modules and their reader to the vector of a line.
+pub fn check(alloc: Global, line: &str) -> Result<(), Mismatch> {
+    let (row, words, hex) = columns(line)?;
+    let words: Vec<&str> = words.split(' ').collect(alloc)?;
+    let expected = hex::decode(alloc, hex)?;
+    match (row, words.as_slice()) {
+        ("raw", [id, body]) => check_raw(alloc, &owned(alloc, id, body)?, expected.as_slice()),
+        ("module", [count, words @ ..]) => {
+            let sections = sections(alloc, words)?;
+            if parse_count(count) != Some(sections.len()) {
+                return Err(Mismatch::NotUnderstood);
+            }
+            check_module(alloc, sections.as_slice(), expected.as_slice())?;
+            check_reader(alloc, sections.as_slice(), expected.as_slice())
+        }
+        _ => Err(Mismatch::NotUnderstood),
+    }
+}
+
+/// How many sections a word announces, as `raws:2`.
+fn parse_count(word: &str) -> Option<usize> {
+    word.strip_prefix("raws:")?.parse().ok()
+}
+
+/// The sections, an id and a body each.
+fn sections(alloc: Global, words: &[&str]) -> Result<Vec<OwnedSection>, Mismatch> {
+    let mut sections = Vec::new(alloc);
+    for section in words.chunks(2) {
+        let [id, body] = section else {
+            return Err(Mismatch::NotUnderstood);
+        };
+        sections.push(owned(alloc, id, body)?)?;
+    }
+    Ok(sections)
+}
+
+/// A section by its id and its body, which is `-` where it is empty.
+fn owned(alloc: Global, id: &str, body: &str) -> Result<OwnedSection, Mismatch> {
+    let Ok(id) = id.parse() else {
+        return Err(Mismatch::NotUnderstood);
+    };
+    let body = if body == "-" { "" } else { body };
+    let body = hex::decode(alloc, body)?;
+    Ok(OwnedSection { id, body })
+}
+
+/// The section's text is the bytes.
+fn check_raw(alloc: Global, section: &OwnedSection, expected: &[u8]) -> Result<(), Mismatch> {
+    let mut bytes = Vec::new(alloc);
+    section.as_raw().encode(&mut bytes)?;
+    if bytes.as_slice() == expected {
+        Ok(())
+    } else {
+        Err(Mismatch::Written)
+    }
+}
+
+/// The module of the sections is the bytes.
+fn check_module(alloc: Global, sections: &[OwnedSection], expected: &[u8]) -> Result<(), Mismatch> {
+    let mut module = Module::new(alloc)?;
+    for section in sections {
+        module.section(&section.as_raw())?;
+    }
+    if module.finish().as_slice() == expected {
+        Ok(())
+    } else {
+        Err(Mismatch::Written)
+    }
+}
+
+/// The bytes are read as the sections.
+fn check_reader(alloc: Global, sections: &[OwnedSection], bytes: &[u8]) -> Result<(), Mismatch> {
+    let read = read_module(alloc, bytes)?;
+    if read.len() != sections.len() {
+        return Err(Mismatch::Read);
+    }
+    for (raw, section) in read.iter().zip(sections) {
+        if raw.id != section.id || raw.body != section.body.as_slice() {
+            return Err(Mismatch::Read);
+        }
+    }
+    Ok(())
+}
