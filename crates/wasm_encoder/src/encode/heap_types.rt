@@ -33,6 +33,7 @@ fn abstract_byte(ty: AbstractHeapType) -> u8
 fn put_abstract<A: Allocator>(bytes: &mut Vec<u8, A>, shared: bool, ty: AbstractHeapType)
     requires { vec_len bytes.old + 2 ≤ vec_capacity bytes.old }
     ensures items { bytes.new.items ≡ bytes.old.items ++ abstract_text shared ty }
+    ensures len { vec_len bytes.new ≤ vec_len bytes.old + 2 }
     ensures capacity { vec_capacity bytes.new ≡ vec_capacity bytes.old }
 {
     if shared {
@@ -46,6 +47,7 @@ fn put_abstract<A: Allocator>(bytes: &mut Vec<u8, A>, shared: bool, ty: Abstract
 pub(crate) fn put_heap_type<A: Allocator>(bytes: &mut Vec<u8, A>, ty: HeapType)
     requires { vec_len bytes.old + 6 ≤ vec_capacity bytes.old }
     ensures items { bytes.new.items ≡ bytes.old.items ++ heap_type_text ty }
+    ensures len { vec_len bytes.new ≤ vec_len bytes.old + 6 }
     ensures capacity { vec_capacity bytes.new ≡ vec_capacity bytes.old }
 {
     match ty {
@@ -63,6 +65,7 @@ pub(crate) fn put_heap_type<A: Allocator>(bytes: &mut Vec<u8, A>, ty: HeapType)
 pub(crate) fn put_ref_type<A: Allocator>(bytes: &mut Vec<u8, A>, ty: RefType)
     requires { vec_len bytes.old + 7 ≤ vec_capacity bytes.old }
     ensures items { bytes.new.items ≡ bytes.old.items ++ ref_type_text ty }
+    ensures len { vec_len bytes.new ≤ vec_len bytes.old + 7 }
     ensures capacity { vec_capacity bytes.new ≡ vec_capacity bytes.old }
 {
     if !ty.nullable {
@@ -84,6 +87,7 @@ pub(crate) fn put_ref_type<A: Allocator>(bytes: &mut Vec<u8, A>, ty: RefType)
 pub(crate) fn put_val_type<A: Allocator>(bytes: &mut Vec<u8, A>, ty: ValType)
     requires { vec_len bytes.old + 7 ≤ vec_capacity bytes.old }
     ensures items { bytes.new.items ≡ bytes.old.items ++ val_type_text ty }
+    ensures len { vec_len bytes.new ≤ vec_len bytes.old + 7 }
     ensures capacity { vec_capacity bytes.new ≡ vec_capacity bytes.old }
 {
     match ty {
@@ -101,6 +105,7 @@ pub(crate) fn put_val_type<A: Allocator>(bytes: &mut Vec<u8, A>, ty: ValType)
 pub(crate) fn put_storage_type<A: Allocator>(bytes: &mut Vec<u8, A>, ty: StorageType)
     requires { vec_len bytes.old + 7 ≤ vec_capacity bytes.old }
     ensures items { bytes.new.items ≡ bytes.old.items ++ storage_type_text ty }
+    ensures len { vec_len bytes.new ≤ vec_len bytes.old + 7 }
     ensures capacity { vec_capacity bytes.new ≡ vec_capacity bytes.old }
 {
     match ty {

@@ -20,6 +20,7 @@ fn put_few<A: Allocator>(bytes: &mut Vec<u8, A>, turn: bool, top: u64, n: u64)
     requires top { top ≤ 128 }
     requires few { n < top * 128 ^ 4 }
     ensures items { bytes.new.items ≡ bytes.old.items ++ digits_of turn top 9 n }
+    ensures len { vec_len bytes.new ≤ vec_len bytes.old + 5 }
     ensures capacity { vec_capacity bytes.new ≡ vec_capacity bytes.old }
 {
     if n < top {
@@ -56,6 +57,7 @@ fn put_many<A: Allocator>(bytes: &mut Vec<u8, A>, turn: bool, top: u64, n: u64)
     requires many { n < top * 128 ^ 9 }
     requires some { 64 ≤ top }
     ensures items { bytes.new.items ≡ bytes.old.items ++ digits_of turn top 9 n }
+    ensures len { vec_len bytes.new ≤ vec_len bytes.old + 10 }
     ensures capacity { vec_capacity bytes.new ≡ vec_capacity bytes.old }
 {
     if n / (128 * 128 * 128 * 128) < top {
@@ -79,6 +81,7 @@ fn put_many<A: Allocator>(bytes: &mut Vec<u8, A>, turn: bool, top: u64, n: u64)
 pub(crate) fn put_u32<A: Allocator>(bytes: &mut Vec<u8, A>, value: u32)
     requires { vec_len bytes.old + 5 ≤ vec_capacity bytes.old }
     ensures items { bytes.new.items ≡ bytes.old.items ++ unsigned_text value }
+    ensures len { vec_len bytes.new ≤ vec_len bytes.old + 5 }
     ensures capacity { vec_capacity bytes.new ≡ vec_capacity bytes.old }
 {
     put_few(bytes, false, 128, u64::from(value));
@@ -89,6 +92,7 @@ pub(crate) fn put_u32<A: Allocator>(bytes: &mut Vec<u8, A>, value: u32)
 pub(crate) fn put_u64<A: Allocator>(bytes: &mut Vec<u8, A>, value: u64)
     requires { vec_len bytes.old + 10 ≤ vec_capacity bytes.old }
     ensures items { bytes.new.items ≡ bytes.old.items ++ unsigned_text value }
+    ensures len { vec_len bytes.new ≤ vec_len bytes.old + 10 }
     ensures capacity { vec_capacity bytes.new ≡ vec_capacity bytes.old }
 {
     put_many(bytes, false, 128, value);
@@ -99,6 +103,7 @@ pub(crate) fn put_u64<A: Allocator>(bytes: &mut Vec<u8, A>, value: u64)
 pub(crate) fn put_i32<A: Allocator>(bytes: &mut Vec<u8, A>, value: i32)
     requires { vec_len bytes.old + 5 ≤ vec_capacity bytes.old }
     ensures items { bytes.new.items ≡ bytes.old.items ++ signed_text value }
+    ensures len { vec_len bytes.new ≤ vec_len bytes.old + 5 }
     ensures capacity { vec_capacity bytes.new ≡ vec_capacity bytes.old }
 {
     if value < 0 {
@@ -113,6 +118,7 @@ pub(crate) fn put_i32<A: Allocator>(bytes: &mut Vec<u8, A>, value: i32)
 pub(crate) fn put_i64<A: Allocator>(bytes: &mut Vec<u8, A>, value: i64)
     requires { vec_len bytes.old + 10 ≤ vec_capacity bytes.old }
     ensures items { bytes.new.items ≡ bytes.old.items ++ signed_text value }
+    ensures len { vec_len bytes.new ≤ vec_len bytes.old + 10 }
     ensures capacity { vec_capacity bytes.new ≡ vec_capacity bytes.old }
 {
     if value < 0 {
@@ -127,6 +133,7 @@ pub(crate) fn put_i64<A: Allocator>(bytes: &mut Vec<u8, A>, value: i64)
 pub(crate) fn put_index<A: Allocator>(bytes: &mut Vec<u8, A>, index: u32)
     requires { vec_len bytes.old + 5 ≤ vec_capacity bytes.old }
     ensures items { bytes.new.items ≡ bytes.old.items ++ signed_text (pos index) }
+    ensures len { vec_len bytes.new ≤ vec_len bytes.old + 5 }
     ensures capacity { vec_capacity bytes.new ≡ vec_capacity bytes.old }
 {
     put_few(bytes, false, 64, u64::from(index));
