@@ -36,3 +36,18 @@ shared_text false = []
 abbrev pub flagged_index_text : ℕ → Option ℕ → List ℕ
 flagged_index_text flag None = []
 flagged_index_text flag (Some index) = flag ∷ unsigned_text index
+
+abbrev pub composite_encoding : CompositeType → Option (List ℕ)
+composite_encoding c = both_texts (Some (shared_text c.shared)) (both_texts (Some (flagged_index_text 0x4c c.describes)) (both_texts (Some (flagged_index_text 0x4d c.descriptor)) (inner_encoding c.inner)))
+
+abbrev pub supertypes_encoding : Bool → List ℕ → Option (List ℕ)
+supertypes_encoding true [] = Some []
+supertypes_encoding true (index ∷ indexes) = both_texts (Some (0x4f ∷ [])) (list_text index_encoding (index ∷ indexes))
+supertypes_encoding false indexes = both_texts (Some (0x50 ∷ [])) (list_text index_encoding indexes)
+
+abbrev pub sub_encoding : SubType → Option (List ℕ)
+sub_encoding s = both_texts (supertypes_encoding s.is_final s.supertype_idxs) (composite_encoding s.composite_type)
+
+abbrev pub entry_encoding : TypeEntry → Option (List ℕ)
+entry_encoding (entries.Sub s) = sub_encoding s
+entry_encoding (entries.Rec types) = both_texts (Some (0x4e ∷ [])) (list_text sub_encoding types)

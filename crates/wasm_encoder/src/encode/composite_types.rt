@@ -1,13 +1,13 @@
 //! Fields and composite types, written (Core 3.0, 5.3.8 to 5.3.10).
 ghost use Rattle.std.specs.Prelude.{◌≡◌, ◌++◌, ◌+◌, ◌≤◌, Some, OnOk, IsErrOf, IsSomeAnd, IsNone, length, take, vec_len, vec_capacity};
 ghost use Rattle.wasm_encoder.specs.CompositeTypes.{field_type_text};
-ghost use Rattle.wasm_encoder.specs.TypeEncoding.{inner_encoding};
+ghost use Rattle.wasm_encoder.specs.TypeEncoding.{inner_encoding, composite_encoding, supertypes_encoding, sub_encoding, entry_encoding, shared_text, flagged_index_text};
 
 use super::heap_types::put_storage_type;
-use super::leb128::put_index;
+use super::leb128::{put_index, put_u32};
 use super::lists::encode_list;
 use super::{Encode, EncodeError};
-use crate::types::{CompositeInnerType, FieldType};
+use crate::types::{CompositeInnerType, CompositeType, FieldType, SubType, TypeEntry};
 use std::alloc::Allocator;
 
 /// Writes a field in 2 to 8 bytes.
@@ -73,6 +73,127 @@ impl Encode for CompositeInnerType {
     fn encode<A: Allocator>(&self, sink: &mut Vec<u8, A>) -> Result<(), EncodeError> {
         let start = sink.len();
         let result = append_inner(self, sink);
+        if result.is_err() {
+            sink.truncate(start);
+        }
+        result
+    }
+}
+
+/// Writes a byte and an index, or nothing, into reserved room.
+fn put_flagged_index<A: Allocator>(bytes: &mut Vec<u8, A>, flag: u8, index: Option<u32>)
+    requires { vec_len bytes.old + 6 ≤ vec_capacity bytes.old }
+    ensures items { bytes.new.items ≡ bytes.old.items ++ flagged_index_text flag index }
+    ensures len { vec_len bytes.new ≤ vec_len bytes.old + 6 }
+    ensures capacity { vec_capacity bytes.new ≡ vec_capacity bytes.old }
+{
+    if let Some(index) = index {
+        bytes.push_reserved(flag);
+        put_u32(bytes, index);
+    }
+}
+
+/// Writes what stands before a composite type into reserved room.
+fn put_flags<A: Allocator>(bytes: &mut Vec<u8, A>, ty: &CompositeType)
+    requires { vec_len bytes.old + 13 ≤ vec_capacity bytes.old }
+    ensures items { bytes.new.items ≡ bytes.old.items ++ (shared_text ty.now.shared ++ (flagged_index_text 0x4c ty.now.describes ++ flagged_index_text 0x4d ty.now.descriptor)) }
+{
+    if ty.shared {
+        bytes.push_reserved(0x65);
+    }
+    put_flagged_index(bytes, 0x4c, ty.describes);
+    put_flagged_index(bytes, 0x4d, ty.descriptor);
+}
+
+/// Appends a composite type. An `Err` can leave a part of it.
+fn append_composite<A: Allocator>(
+    ty: &CompositeType,
+    sink: &mut Vec<u8, A>,
+) -> Result<(), EncodeError>
+    ensures ok { OnOk result (IsSomeAnd (composite_encoding ty.now) (λ t. sink.new.items ≡ sink.old.items ++ t)) }
+    ensures too_long { IsErrOf result EncodeError.TooLong → IsNone (composite_encoding ty.now) }
+    ensures alignment { IsErrOf result EncodeError.Alignment → IsNone (composite_encoding ty.now) }
+    ensures kept { take (length sink.old.items) sink.new.items ≡ sink.old.items }
+{
+    sink.reserve(13)?;
+    put_flags(sink, ty);
+    ty.inner.encode(sink)
+}
+
+/// What it shares and describes, its descriptor, and what it is made of (Core 3.0, 5.3.10 and proposals).
+impl Encode for CompositeType {
+    ghost text = { composite_encoding };
+
+    fn encode<A: Allocator>(&self, sink: &mut Vec<u8, A>) -> Result<(), EncodeError> {
+        let start = sink.len();
+        let result = append_composite(self, sink);
+        if result.is_err() {
+            sink.truncate(start);
+        }
+        result
+    }
+}
+
+/// Appends the supertypes of a subtype, if they are written. An `Err` can leave a part of them.
+fn append_supertypes<A: Allocator>(
+    is_final: bool,
+    supertypes: &[u32],
+    sink: &mut Vec<u8, A>,
+) -> Result<(), EncodeError>
+    ensures ok { OnOk result (IsSomeAnd (supertypes_encoding is_final supertypes.now) (λ t. sink.new.items ≡ sink.old.items ++ t)) }
+    ensures too_long { IsErrOf result EncodeError.TooLong → IsNone (supertypes_encoding is_final supertypes.now) }
+    ensures alignment { IsErrOf result EncodeError.Alignment → IsNone (supertypes_encoding is_final supertypes.now) }
+    ensures kept { take (length sink.old.items) sink.new.items ≡ sink.old.items }
+{
+    sink.reserve(1)?;
+    match supertypes {
+        [] if is_final => Ok(()),
+        _ => {
+            sink.push_reserved(if is_final { 0x4f } else { 0x50 });
+            encode_list(supertypes, sink)
+        }
+    }
+}
+
+/// Appends a subtype. An `Err` can leave a part of it.
+fn append_sub<A: Allocator>(ty: &SubType, sink: &mut Vec<u8, A>) -> Result<(), EncodeError>
+    ensures ok { OnOk result (IsSomeAnd (sub_encoding ty.now) (λ t. sink.new.items ≡ sink.old.items ++ t)) }
+    ensures too_long { IsErrOf result EncodeError.TooLong → IsNone (sub_encoding ty.now) }
+    ensures alignment { IsErrOf result EncodeError.Alignment → IsNone (sub_encoding ty.now) }
+    ensures kept { take (length sink.old.items) sink.new.items ≡ sink.old.items }
+{
+    append_supertypes(ty.is_final, ty.supertype_idxs.as_slice(), sink)?;
+    ty.composite_type.encode(sink)
+}
+
+/// `0x50` or `0x4F` and the supertypes, and the composite type; a final one without supertypes is the composite type
+/// alone (Core 3.0, 5.3.11).
+impl Encode for SubType {
+    ghost text = { sub_encoding };
+
+    fn encode<A: Allocator>(&self, sink: &mut Vec<u8, A>) -> Result<(), EncodeError> {
+        let start = sink.len();
+        let result = append_sub(self, sink);
+        if result.is_err() {
+            sink.truncate(start);
+        }
+        result
+    }
+}
+
+/// `0x4E` and a list of subtypes, or one subtype (Core 3.0, 5.3.12).
+impl Encode for TypeEntry {
+    ghost text = { entry_encoding };
+
+    fn encode<A: Allocator>(&self, sink: &mut Vec<u8, A>) -> Result<(), EncodeError> {
+        let types = match self {
+            TypeEntry::Sub(ty) => return ty.encode(sink),
+            TypeEntry::Rec(types) => types,
+        };
+        let start = sink.len();
+        sink.reserve(1)?;
+        sink.push_reserved(0x4e);
+        let result = encode_list(types.as_slice(), sink);
         if result.is_err() {
             sink.truncate(start);
         }
