@@ -15,3 +15,4 @@ pub mod CompositeLaws
 pub mod CompositeTexts
 pub mod EntryLaws
 pub mod TypeBodyLaws
+pub mod EncodingLaws
