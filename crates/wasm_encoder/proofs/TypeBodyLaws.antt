@@ -1,6 +1,7 @@
 -- The laws of type bodies, and of the loop that reads one.
 use Rattle.std.proofs.Common.{◌≡◌, ℕ, ◌+◌, ◌-◌, ◌<◌, ◌≤◌, ◌⊎◌, List, [], ◌∷◌, ◌++◌, length, Some, None, Err, refl, sym, ap, subst, ◌∙◌, append_assoc, length-append, inl, inr, arith}
-use Rattle.std.proofs.lemmas.List.{append-nil, append_cancel_left}
+use Rattle.std.proofs.lemmas.List.{append-nil, append_cancel_left, flat_map_more}
+use Rattle.std.specs.List.{flat_map}
 use Rattle.std.proofs.lemmas.Bool.{cases_lt}
 use Rattle.wasm_encoder.specs.declared.types.composite.TypeEntry.{TypeEntry}
 use Rattle.wasm_encoder.specs.declared.reader.cursor.Fault.{Fault}
@@ -8,9 +9,9 @@ use Rattle.wasm_encoder.specs.declared.reader.cursor.Fault.TheVariants as faults
 use Rattle.wasm_encoder.specs.declared.reader.ReadError.{ReadError}
 use Rattle.wasm_encoder.specs.Grammar.{IsBytes, Joined}
 use Rattle.wasm_encoder.specs.Reading.{Reader, Reads as CodeReads}
-use Rattle.wasm_encoder.specs.Answers.{answer_to, HoldsAtRefusal, IsLongestFront}
-use Rattle.wasm_encoder.specs.Numbers.{SpellsU32, u32_at}
-use Rattle.wasm_encoder.specs.CompositeTypes.{SpellsEntry, entry_at, SpellsTypeBody, HasEntries, IsTypeBodyFront}
+use Rattle.wasm_encoder.specs.Answers.{answer_to, HoldsAtRefusal, IsLongestFront, IsNormalForm}
+use Rattle.wasm_encoder.specs.Numbers.{SpellsU32, u32_at, unsigned_text}
+use Rattle.wasm_encoder.specs.CompositeTypes.{SpellsEntry, entry_at, SpellsTypeBody, HasEntries, IsTypeBodyFront, entry_text, type_body_text}
 use Rattle.wasm_encoder.proofs.Laws.{IsBytes-back, one_reading}
 use Rattle.wasm_encoder.proofs.Joining.{Joined-split, next as comes_next}
 use Rattle.wasm_encoder.proofs.ListReading.{AtMostOne, Progress, begin, end, next}
@@ -143,3 +144,30 @@ taken_more body left rest count entries entry fits t lt e =
 pub taken_all : (body left : List ℕ) (count : ℕ) (entries : List TypeEntry) → Taken body left count entries → length entries ≡ count → length left ≤ 0 → SpellsTypeBody body entries
 unfolding SpellsTypeBody
 taken_all body left count entries t full none = (t.head, t.after, t.parts, subst (λ (n : ℕ). SpellsU32 t.head n) (sym full) t.counted, end SpellsEntry t.after left entries t.progress none)
+
+-- ---- the loop that writes what it reads
+
+-- the entries that were read were written after the count
+pub record Rewritten (body left : List ℕ) (count i : ℕ) (text : List ℕ) : Type 0 where
+  pub entries : List TypeEntry
+  pub taken : Taken body left count entries
+  pub len : length entries ≡ i
+  pub is_text : text ≡ unsigned_text count ++ flat_map entry_text entries
+
+pub rewritten_none : (body left : List ℕ) (count : ℕ) (text : List ℕ) → IsBytes body → u32_at body ≡ Some (count, left) → text ≡ unsigned_text count → Rewritten body left count 0 text
+rewritten_none body left count text fits e is = record { entries = []; taken = taken_none body left count fits e; len = refl; is_text = is ∙ sym (append-nil (unsigned_text count)) }
+
+pub rewritten_more : (body left rest : List ℕ) (count i : ℕ) (text more : List ℕ) (entry : TypeEntry) → IsBytes body → Rewritten body left count i text → i < count → entry_at left ≡ Some (entry, rest) → more ≡ text ++ entry_text entry → Rewritten body rest count (i + 1) more
+rewritten_more body left rest count i text more entry fits r lt e is = record {
+  entries = r.entries ++ entry ∷ [];
+  taken = taken_more body left rest count r.entries entry fits r.taken (omega (arith, r.len)) e;
+  len = omega (arith, length-append r.entries (entry ∷ []), r.len);
+  is_text = is ∙ ap (λ (t : List ℕ). t ++ entry_text entry) r.is_text ∙ flat_map_more entry_text (unsigned_text count) r.entries entry;
+}
+
+pub rewritten_all : (body left : List ℕ) (count i : ℕ) (text : List ℕ) → Rewritten body left count i text → i ≡ count → length left ≤ 0 → IsNormalForm SpellsTypeBody type_body_text body text
+rewritten_all body left count i text r full none = record {
+  value = r.entries;
+  spelled = taken_all body left count r.entries r.taken (r.len ∙ full) none;
+  is_text = r.is_text ∙ ap (λ (n : ℕ). unsigned_text n ++ flat_map entry_text r.entries) (sym (r.len ∙ full));
+}

@@ -15,7 +15,8 @@ pub use encode::{Encode, EncodeError, encode_bytes, encode_list, encode_str};
 pub use list::Items;
 pub use raw::RawSection;
 pub use reader::{
-    ReadError, normalise_instructions, read_instructions, read_module, read_type_section,
+    ReadError, normalise_instructions, normalise_type_section, read_instructions, read_module,
+    read_type_section,
 };
 pub use sink::InstructionSink;
 pub use table::{Call, Kind, Opcode, Operands, Prefix};

@@ -17,7 +17,7 @@ pub use instructions::{normalise_instructions, read_instructions};
 pub use modules::read_module;
 use std::alloc::{AllocError, AllocFailed};
 use thiserror::Error;
-pub use type_section::read_type_section;
+pub use type_section::{normalise_type_section, read_type_section};
 
 /// Why bytes were not read.
 #[derive(Debug, PartialEq, Eq, Drop, Error)]

@@ -1,12 +1,15 @@
 //! Bodies of type sections (Core 3.0, 5.5.4).
-ghost use Rattle.std.specs.Prelude.{◌≡◌, List, IfOk};
-ghost use Rattle.wasm_encoder.specs.Answers.{IsOrMemory, IfRefused, IsLongestFront};
+ghost use Rattle.std.specs.Prelude.{◌≡◌, ◌↔◌, ◌++◌, List, IfOk, IfErr, OnOk};
+ghost use Rattle.wasm_encoder.specs.Answers.{IsOrMemory, IfRefused, IsLongestFront, IsNormalForm};
+ghost use Rattle.wasm_encoder.specs.Numbers.{unsigned_text};
 ghost use Rattle.wasm_encoder.specs.Encoding.{IsTextOrLonger};
-ghost use Rattle.wasm_encoder.specs.CompositeTypes.{SpellsTypeBody, IsTypeBodyFront, type_body_text};
+ghost use Rattle.wasm_encoder.specs.CompositeTypes.{SpellsTypeBody, IsTypeBodyFront, entry_text, type_body_text};
 ghost use Rattle.wasm_encoder.specs.declared.types.composite.TypeEntry.{TypeEntry};
+ghost use Rattle.wasm_encoder.specs.declared.reader.ReadError.TheVariants.{Memory};
 
 use super::cursor::Cursor;
 use super::{ReadError, read_error};
+use crate::encode::Encode;
 use crate::types::TypeEntry;
 use std::alloc::Global;
 
@@ -56,4 +59,77 @@ fn entries_of(alloc: Global, body: &[u8]) -> Result<Vec<TypeEntry>, ReadError>
         return Err(ReadError::Refused { at });
     }
     Ok(entries)
+}
+
+/// The normal bytes of the body of a type section: the same entries in the fewest bytes (Core 3.0, 5.5.4).
+///
+/// `Refused` carries the number of bytes of the count and of the entries that are whole before the first that isn't,
+/// or before what is left over.
+pub fn normalise_type_section(alloc: Global, body: &[u8]) -> Result<Vec<u8>, ReadError>
+    // The result is the text of a list that the body spells.
+    ensures given { IfOk result (λ text.
+        IsNormalForm SpellsTypeBody type_body_text body.now text.items) }
+    // Where the body spells a list, its text is given, unless memory ran out.
+    ensures complete { (entries : List TypeEntry) → SpellsTypeBody body.now entries →
+        IsOrMemory (λ text. text.items) (type_body_text entries) result }
+    // `at` is the length of the longest front that is whole.
+    ensures front { IfRefused result (IsLongestFront IsTypeBodyFront body.now) }
+    // The body spells at most one list.
+    ensures one { (entries others : List TypeEntry) →
+        SpellsTypeBody body.now entries → SpellsTypeBody body.now others → entries ≡ others }
+    // The result spells a list exactly if the body does.
+    ensures same { IfOk result (λ text. (entries : List TypeEntry) →
+        SpellsTypeBody text.items entries ↔ SpellsTypeBody body.now entries) }
+    // The result is normal: what it spells has it as its text.
+    ensures normal { IfOk result (λ text. (entries : List TypeEntry) →
+        SpellsTypeBody text.items entries → text.items ≡ type_body_text entries) }
+{
+    body_text_of(alloc, body)
+}
+
+/// The entries' text after their count, written one by one as they are read.
+fn body_text_of(alloc: Global, body: &[u8]) -> Result<Vec<u8>, ReadError>
+    ensures given { IfOk result (λ text.
+        IsNormalForm SpellsTypeBody type_body_text body.now text.items) }
+    ensures front { IfRefused result (IsLongestFront IsTypeBodyFront body.now) }
+    ensures unspelled { IfRefused result (λ _. (entries : List TypeEntry) → SpellsTypeBody body.now entries → ⊥) }
+{
+    let mut cursor = Cursor::new(body);
+    let count = match cursor.u32() {
+        Ok(count) => count,
+        Err(fault) => return Err(read_error(fault, 0)),
+    };
+    let mut text = Vec::new(alloc);
+    append_count(&mut text, count)?;
+    for _ in 0..count {
+        let at = body.len() - cursor.len();
+        match cursor.entry(alloc) {
+            Ok(entry) => append_entry(&mut text, &entry)?,
+            Err(fault) => return Err(read_error(fault, at)),
+        }
+    }
+    if cursor.len() > 0 {
+        let at = body.len() - cursor.len();
+        return Err(ReadError::Refused { at });
+    }
+    Ok(text)
+}
+
+/// Appends the text of a count.
+fn append_count(text: &mut Vec<u8>, count: u32) -> Result<(), ReadError>
+    ensures ok { OnOk result (text.new.items ≡ text.old.items ++ unsigned_text count) }
+    ensures err { IfErr result (λ e. e ≡ Memory) }
+{
+    count.encode(text).map_err(|_| ReadError::Memory)
+}
+
+/// Appends the text of an entry that was read. Its lists have counts that were read, so only memory can be wanting.
+fn append_entry(text: &mut Vec<u8>, entry: &TypeEntry) -> Result<(), ReadError>
+    ensures ok { OnOk result (text.new.items ≡ text.old.items ++ entry_text entry.now) }
+    ensures err { IfErr result (λ e. e ≡ Memory) }
+{
+    match entry.encode(text) {
+        Ok(()) => Ok(()),
+        Err(_) => Err(ReadError::Memory),
+    }
 }
