@@ -24,6 +24,7 @@ pub fn mode_of(args: &[&str]) -> Option<Mode>
     match args {
         [word] => match *word {
             "calls" => Some(Mode::Calls),
+            "types" => Some(Mode::Types),
             _ => None,
         },
         _ => None,

@@ -1,16 +1,18 @@
 //! What the program reads its input as, and the normal form in each mode.
 ghost use Rattle.std.specs.Prelude.{List, ℕ, IfOk};
 ghost use Rattle.wasm_encoder.specs.Answers.{IsOrMemory, IfRefused, IsLongestFront};
-ghost use Rattle.wasmnorm.specs.Modes.{Spelled, NormalForm};
+ghost use Rattle.wasmnorm.specs.Modes.{Spelled, NormalForm, IsWholeFront};
 
 use std::alloc::Global;
-use wasm_encoder::{ReadError, normalise_instructions};
+use wasm_encoder::{ReadError, normalise_instructions, normalise_type_section};
 
 /// What the input is read as.
 #[derive(Clone, Copy, Debug, PartialEq, Eq)]
 pub enum Mode {
     /// A list of instructions.
     Calls,
+    /// The body of a type section.
+    Types,
 }
 
 /// The normal form of the input.
@@ -22,10 +24,11 @@ pub fn normalise(alloc: Global, mode: Mode, input: &[u8]) -> Result<Vec<u8>, Rea
         IsOrMemory (λ given. given.items) text result }
     // Only what spells nothing is refused.
     ensures unspelled { IfRefused result (λ _. Spelled mode input.now → ⊥) }
-    // `at` is the length of the longest front that spells something.
-    ensures front { IfRefused result (IsLongestFront (Spelled mode) input.now) }
+    // `at` is the length of the longest front that is whole.
+    ensures front { IfRefused result (IsLongestFront (IsWholeFront mode) input.now) }
 {
     match mode {
         Mode::Calls => normalise_instructions(alloc, input),
+        Mode::Types => normalise_type_section(alloc, input),
     }
 }

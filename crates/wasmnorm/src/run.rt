@@ -2,7 +2,7 @@
 ghost use Rattle.std.specs.Prelude.{◌≡◌, List, ℕ, IfSome, OnOk};
 ghost use Rattle.std.specs.Io.KnownBytes.{IsAtEnd, Keeps, Appends};
 ghost use Rattle.wasm_encoder.specs.Answers.{IsLongestFront};
-ghost use Rattle.wasmnorm.specs.Modes.{Spelled, NormalForm};
+ghost use Rattle.wasmnorm.specs.Modes.{Spelled, NormalForm, IsWholeFront};
 ghost use Rattle.wasmnorm.specs.Run.{AppendsNormalForm, AppendsBeginning, IfRefused, OnceAllIsRead, BeforeAnyWrite, IfWriteFailed, run_error};
 ghost use Rattle.wasmnorm.specs.declared.run.RunError.TheVariants.{Memory};
 
@@ -69,9 +69,9 @@ pub fn run<R: Read, W: Write>(
     // Only what spells nothing is refused.
     ensures unspelled { IfRefused result (λ _. IfSome (R.remaining reader.old) (λ input.
         Spelled mode input → ⊥)) }
-    // `at` is the length of the longest front that spells something.
+    // `at` is the length of the longest front that is whole.
     ensures refused { IfRefused result (λ at. IfSome (R.remaining reader.old) (λ input.
-        IsLongestFront (Spelled mode) input at)) }
+        IsLongestFront (IsWholeFront mode) input at)) }
     // After any error but `Write` nothing is written.
     ensures nothing_written { BeforeAnyWrite result
         (Keeps (W.contents writer.old) (W.contents writer.new)) }

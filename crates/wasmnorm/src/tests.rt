@@ -85,14 +85,32 @@ impl Write for FailWrite {
 
 #[test]
 fn runs_give_the_normal_form_or_the_place(rt: HostRuntime) {
-    let cases: [(&[u8], Result<(), RunError>, &[u8]); 3] = [
-        (&LONG, Ok(()), &NORMAL),
-        (&[], Ok(()), &[]),
-        (&[0x0B, 0x0B, 0x16], Err(RunError::Refused { at: 2 }), &[]),
+    let cases: [(Mode, &[u8], Result<(), RunError>, &[u8]); 6] = [
+        (Mode::Calls, &LONG, Ok(()), &NORMAL),
+        (Mode::Calls, &[], Ok(()), &[]),
+        (
+            Mode::Calls,
+            &[0x0B, 0x0B, 0x16],
+            Err(RunError::Refused { at: 2 }),
+            &[],
+        ),
+        (
+            Mode::Types,
+            &[0x01, 0x4F, 0x00, 0x60, 0x00, 0x00],
+            Ok(()),
+            &[0x01, 0x60, 0x00, 0x00],
+        ),
+        (
+            Mode::Types,
+            &[0x01, 0x60, 0x00, 0x00, 0x00],
+            Err(RunError::Refused { at: 4 }),
+            &[],
+        ),
+        (Mode::Types, &[], Err(RunError::Refused { at: 0 }), &[]),
     ];
-    for (input, outcome, text) in cases {
+    for (mode, input, outcome, text) in cases {
         let (mut reader, mut writer) = (input, Vec::new(rt.alloc()));
-        let got = run(rt.alloc(), Mode::Calls, &mut reader, &mut writer);
+        let got = run(rt.alloc(), mode, &mut reader, &mut writer);
         assert_eq!(rt; got, outcome, "at {input:?}");
         assert_eq!(rt; writer.as_slice(), text);
     }
@@ -176,16 +194,16 @@ fn writes_take_as_many_calls_as_they_need(rt: HostRuntime) {
 
 #[test]
 fn one_word_asks_for_a_mode(rt: HostRuntime) {
-    let none: [&[&str]; 7] = [
+    let none: [&[&str]; 6] = [
         &[],
         &[""],
-        &["types"],
         &["module"],
         &["Calls"],
         &["calls "],
         &["calls", "calls"],
     ];
     assert_eq!(rt; mode_of(&["calls"]), Some(Mode::Calls));
+    assert_eq!(rt; mode_of(&["types"]), Some(Mode::Types));
     for args in none {
         assert_eq!(rt; mode_of(args), None, "at {args:?}");
     }
