@@ -4,7 +4,9 @@
 use crate::columns::columns;
 use crate::mismatch::Mismatch;
 use std::alloc::Global;
-use wasm_encoder::{ReadError, normalise_instructions, read_instructions};
+use wasm_encoder::{
+    ReadError, normalise_instructions, normalise_type_section, read_instructions, read_type_section,
+};
 
 /// What a reader is to answer.
 #[derive(Drop)]
@@ -25,6 +27,11 @@ pub fn check(alloc: Global, line: &str) -> Result<(), Mismatch> {
             let calls = read_instructions(alloc, input.as_slice());
             check_read(calls.map(|_| ()), &expected)?;
             check_normal(normalise_instructions(alloc, input.as_slice()), &expected)
+        }
+        "types" => {
+            let entries = read_type_section(alloc, input.as_slice());
+            check_read(entries.map(|_| ()), &expected)?;
+            check_normal(normalise_type_section(alloc, input.as_slice()), &expected)
         }
         _ => Err(Mismatch::NotUnderstood),
     }
