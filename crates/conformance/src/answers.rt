@@ -5,7 +5,8 @@ use crate::columns::columns;
 use crate::mismatch::Mismatch;
 use std::alloc::Global;
 use wasm_encoder::{
-    ReadError, normalise_instructions, normalise_type_section, read_instructions, read_type_section,
+    ReadError, normalise_instructions, normalise_module, normalise_type_section, read_instructions,
+    read_type_section,
 };
 
 /// What a reader is to answer.
@@ -17,7 +18,7 @@ enum Answer {
     Refused(usize),
 }
 
-/// Holds a reader and its normaliser to the vector of a line.
+/// Holds a normaliser and its reader to the vector of a line, or a module's normaliser alone.
 pub fn check(alloc: Global, line: &str) -> Result<(), Mismatch> {
     let (what, input, answer) = columns(line)?;
     let input = hex::decode(alloc, input)?;
@@ -32,6 +33,15 @@ pub fn check(alloc: Global, line: &str) -> Result<(), Mismatch> {
             let entries = read_type_section(alloc, input.as_slice());
             check_read(entries.map(|_| ()), &expected)?;
             check_normal(normalise_type_section(alloc, input.as_slice()), &expected)
+        }
+        "module" => {
+            check_normal(normalise_module(alloc, input.as_slice()), &expected)?;
+            match &expected {
+                Answer::Normal(normal) => {
+                    check_normal(normalise_module(alloc, normal.as_slice()), &expected)
+                }
+                Answer::Refused(_) => Ok(()),
+            }
         }
         _ => Err(Mismatch::NotUnderstood),
     }

@@ -4,17 +4,15 @@ ghost use Rattle.wasm_encoder.specs.Numbers.{unsigned_text, signed_text};
 ghost use Rattle.wasm_encoder.specs.Encoding.{usize_text};
 ghost use Rattle.conformance.specs.declared.columns.Token.TheVariants as tokens;
 
-use crate::columns::{Token, columns, parse_token};
+use crate::columns::{Token, parse_token};
 use crate::mismatch::Mismatch;
+use crate::sink::arguments::{block_type, catch, handler, memarg};
+use crate::type_tokens::{abstract_heap_type, heap_type, ref_type, storage_type, val_type};
 use std::alloc::{Allocator, Global};
 use wasm_encoder::{Encode, EncodeError, SectionId, encode_bytes, encode_list, encode_str};
 
-/// Holds `encode` to the vector of a line.
-pub fn check(alloc: Global, line: &str) -> Result<(), Mismatch> {
-    let (row, token, hex) = columns(line)?;
-    if row != "encode" {
-        return Err(Mismatch::NotUnderstood);
-    }
+/// Holds `encode` to the vector.
+pub fn check(alloc: Global, token: &str, hex: &str) -> Result<(), Mismatch> {
     let expected = hex::decode(alloc, hex)?;
     let mut bytes = Vec::new(alloc);
     encode(alloc, token, &mut bytes)?;
@@ -41,9 +39,23 @@ pub fn encode<A: Allocator>(
             encode_str(text.map_err(|_| Mismatch::NotUnderstood)?.as_str(), bytes)?
         }
         Some(("sectionid", name)) => section_id(name)?.encode(bytes)?,
+        Some(("absheap", text)) => known(abstract_heap_type(text))?.encode(bytes)?,
+        Some(("heap", text)) => known(heap_type(text))?.encode(bytes)?,
+        Some(("ref", text)) => known(ref_type(text))?.encode(bytes)?,
+        Some(("val", text)) => known(val_type(text))?.encode(bytes)?,
+        Some(("storage", text)) => known(storage_type(text))?.encode(bytes)?,
+        Some(("block", text)) => known(block_type(text))?.encode(bytes)?,
+        Some(("memarg", text)) => known(memarg(text))?.encode(bytes)?,
+        Some(("catch", _)) => known(catch(token))?.encode(bytes)?,
+        Some(("handle", _)) => known(handler(token))?.encode(bytes)?,
         _ => parse_token(token)?.encode(bytes)?,
     }
     Ok(())
+}
+
+/// What a token stands for, if it does.
+fn known<T>(value: Option<T>) -> Result<T, Mismatch> {
+    value.ok_or(Mismatch::NotUnderstood)
 }
 
 /// The numbers of a list, as in `[u32:7;u32:8]`.

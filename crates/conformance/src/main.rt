@@ -5,11 +5,14 @@
 mod answers;
 mod columns;
 mod encoded;
+mod entries;
 mod mismatch;
 mod sections;
 mod sink;
 #[cfg(test)]
 mod tests;
+mod type_tokens;
+mod words;
 
 use mismatch::Mismatch;
 use std::alloc::Global;
@@ -21,34 +24,42 @@ use std::{fs, io};
 enum Suite {
     /// One call of the sink each.
     Sink,
-    /// One encoded number each.
-    Numbers,
-    /// One encoded option, list, text or id of a section each, or bytes.
-    Lists,
-    /// One section or module each.
-    Sections,
+    /// One encoded value, entry, section or module each.
+    Types,
     /// What a normaliser answers to some bytes.
     Answers,
+    /// The normal forms of modules that a compiler and a linker made.
+    Linked,
 }
 
 impl Suite {
     fn file(self) -> &'static str {
         match self {
             Suite::Sink => "sink.tsv",
-            Suite::Numbers => "numbers.tsv",
-            Suite::Lists => "lists.tsv",
-            Suite::Sections => "sections.tsv",
+            Suite::Types => "types.tsv",
             Suite::Answers => "answers.tsv",
+            Suite::Linked => "linked.tsv",
         }
     }
 
     fn check(self, alloc: Global, line: &str) -> Result<(), Mismatch> {
         match self {
             Suite::Sink => sink::check(alloc, line),
-            Suite::Numbers | Suite::Lists => encoded::check(alloc, line),
-            Suite::Sections => sections::check(alloc, line),
-            Suite::Answers => answers::check(alloc, line),
+            Suite::Types => check_types(alloc, line),
+            Suite::Answers | Suite::Linked => answers::check(alloc, line),
         }
+    }
+}
+
+/// Holds what the first column says to the others.
+fn check_types(alloc: Global, line: &str) -> Result<(), Mismatch> {
+    let columns: Vec<&str> = line.split('\t').collect(alloc)?;
+    match columns.as_slice() {
+        ["encode", token, hex] => encoded::check(alloc, token, hex),
+        ["entry", words, hex, section] => entries::check_entry(alloc, words, hex, section),
+        ["section", words, hex, len] => entries::check_section(alloc, words, hex, len),
+        [row, words, hex] => sections::check(alloc, row, words, hex),
+        _ => Err(Mismatch::NotUnderstood),
     }
 }
 
@@ -69,8 +80,7 @@ fn replay(rt: &(impl Files + Print + AllocGlobal), suite: Suite) -> io::Result<(
 
 fn main(rt: HostRuntime) -> io::Result<()> {
     replay(&rt, Suite::Sink)?;
-    replay(&rt, Suite::Numbers)?;
-    replay(&rt, Suite::Lists)?;
-    replay(&rt, Suite::Sections)?;
-    replay(&rt, Suite::Answers)
+    replay(&rt, Suite::Types)?;
+    replay(&rt, Suite::Answers)?;
+    replay(&rt, Suite::Linked)
 }

@@ -1,7 +1,6 @@
 //! Vectors of sections: `raw`, a section's id and body, and its text, or `module`, the sections of a module, and the
 //! module.
 
-use crate::columns::columns;
 use crate::mismatch::Mismatch;
 use std::alloc::Global;
 use wasm_encoder::{Encode, Module, RawSection, read_module};
@@ -22,9 +21,8 @@ impl OwnedSection {
     }
 }
 
-/// Holds sections, modules and their reader to the vector of a line.
-pub fn check(alloc: Global, line: &str) -> Result<(), Mismatch> {
-    let (row, words, hex) = columns(line)?;
+/// Holds sections, modules and their reader to the vector.
+pub fn check(alloc: Global, row: &str, words: &str, hex: &str) -> Result<(), Mismatch> {
     let words: Vec<&str> = words.split(' ').collect(alloc)?;
     let expected = hex::decode(alloc, hex)?;
     match (row, words.as_slice()) {

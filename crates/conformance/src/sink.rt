@@ -1,43 +1,139 @@
 //! Vectors of one call of the sink: the method, the tokens of its operands, and the bytes that it writes.
 
-use crate::columns::{Token, columns, parse_token};
+pub mod arguments;
+mod indexes;
+mod lists;
+mod memory;
+mod plain;
+mod values;
+mod vectors;
+
+use crate::columns::columns;
 use crate::mismatch::Mismatch;
+use arguments::{Argument, arguments};
+use rationed::Rationed;
 use std::alloc::{Allocator, Global};
 use wasm_encoder::{
-    Call, InstructionSink, Opcode, Operands, Prefix, normalise_instructions, read_instructions,
+    Call, InstructionSink, Items, Opcode, Operands, Prefix, normalise_instructions,
+    read_instructions,
 };
 
 /// Holds the sink, the reader and the normaliser to the vector of a line.
 pub fn check(alloc: Global, line: &str) -> Result<(), Mismatch> {
     let (method, operands, hex) = columns(line)?;
     let expected = hex::decode(alloc, hex)?;
-    let tokens = tokens(alloc, operands)?;
-    check_method(alloc, method, tokens.as_slice(), expected.as_slice())?;
-    let call = call(expected.as_slice(), tokens.as_slice())?;
-    check_call(alloc, &call, expected.as_slice())?;
-    check_readers(alloc, &call, expected.as_slice())
+    let expected = expected.as_slice();
+    let mut code = Vec::new(alloc);
+    write(alloc, InstructionSink::new(&mut code), method, operands)?;
+    if code.as_slice() != expected {
+        return Err(Mismatch::Written);
+    }
+    if !operands.contains("list:") {
+        check_growth(alloc, 0, method, operands, expected)?;
+        check_growth(alloc, 24, method, operands, expected)?;
+    }
+    let call = Call::new(opcode(expected)?, operands_of(alloc, method, operands)?).map_err(
+        |_| Mismatch::NotUnderstood,
+    )?;
+    check_call(alloc, &call, expected)?;
+    check_readers(alloc, &call, expected)
 }
 
-fn tokens(alloc: Global, operands: &str) -> Result<Vec<Token>, Mismatch> {
-    let mut tokens = Vec::new(alloc);
-    if operands.is_empty() {
-        return Ok(tokens);
-    }
-    for text in operands.split(' ') {
-        tokens.push(parse_token(text)?)?;
-    }
-    Ok(tokens)
-}
-
-/// The method by its name writes the bytes.
-fn check_method(
+/// Calls the method of this name, with the operands that the tokens stand for.
+pub fn write<'a, A: Allocator>(
     alloc: Global,
+    sink: InstructionSink<'a, A>,
     method: &str,
-    tokens: &[Token],
+    operands: &str,
+) -> Result<InstructionSink<'a, A>, Mismatch> {
+    if let Some(listed) = lists::parse_listed(alloc, method, operands)? {
+        return lists::write(sink, method, &listed);
+    }
+    let arguments = arguments(alloc, operands)?;
+    match arguments.as_slice() {
+        [] => plain::control(sink, method),
+        [only] => write_one(sink, method, *only),
+        [first, second] => write_two(sink, method, *first, *second),
+        [
+            Argument::U32(label),
+            Argument::Reference(from),
+            Argument::Reference(to),
+        ] => { values::cast(sink, method, *label, *from, *to) }
+        [
+            Argument::Order(order),
+            Argument::U32(first),
+            Argument::U32(second),
+        ] => { indexes::order_two_indexes(sink, method, *order, *first, *second) }
+        _ => Err(Mismatch::NotUnderstood),
+    }
+}
+
+fn write_one<'a, A: Allocator>(
+    sink: InstructionSink<'a, A>,
+    method: &str,
+    only: Argument,
+) -> Result<InstructionSink<'a, A>, Mismatch> {
+    match only {
+        Argument::U32(index) => indexes::index(sink, method, index),
+        Argument::I32(value) => values::int_32(sink, method, value),
+        Argument::I64(value) => values::int_64(sink, method, value),
+        Argument::I128(value) => values::vector(sink, method, value),
+        Argument::F32(value) => values::float_32(sink, method, value),
+        Argument::F64(value) => values::float_64(sink, method, value),
+        Argument::Lane(lane) => memory::lane(sink, method, lane),
+        Argument::Lanes(lanes) => values::lanes(sink, method, lanes),
+        Argument::Memory(memarg) => memory::memory(sink, method, memarg),
+        Argument::Order(ordering) => values::order(sink, method, ordering),
+        Argument::Heap(ty) => values::heap(sink, method, ty),
+        Argument::Value(ty) => values::one_type(sink, method, ty),
+        Argument::Block(ty) => values::block(sink, method, ty),
+        Argument::Reference(_) => Err(Mismatch::NotUnderstood),
+    }
+}
+
+fn write_two<'a, A: Allocator>(
+    sink: InstructionSink<'a, A>,
+    method: &str,
+    first: Argument,
+    second: Argument,
+) -> Result<InstructionSink<'a, A>, Mismatch> {
+    match (first, second) {
+        (Argument::U32(first), Argument::U32(second)) => {
+            indexes::two_indexes(sink, method, first, second)
+        }
+        (Argument::Memory(memarg), Argument::Lane(lane)) => {
+            memory::memory_lane(sink, method, memarg, lane)
+        }
+        (Argument::Order(ordering), Argument::U32(index)) => {
+            indexes::order_index(sink, method, ordering, index)
+        }
+        _ => Err(Mismatch::NotUnderstood),
+    }
+}
+
+/// Appends what the method of this name writes.
+fn append<A: Allocator>(
+    alloc: Global,
+    code: &mut Vec<u8, A>,
+    method: &str,
+    operands: &str,
+) -> Result<(), Mismatch> {
+    write(alloc, InstructionSink::new(code), method, operands)?;
+    Ok(())
+}
+
+/// The method writes the bytes into a list with so much room, where one request for memory is granted: the room, or a
+/// growth.
+fn check_growth(
+    alloc: Global,
+    room: usize,
+    method: &str,
+    operands: &str,
     expected: &[u8],
 ) -> Result<(), Mismatch> {
-    let mut code = Vec::new(alloc);
-    write(InstructionSink::new(&mut code), method, tokens)?;
+    let ration = Rationed::new(alloc, 1);
+    let mut code = Vec::with_capacity(&ration, room)?;
+    append(alloc, &mut code, method, operands)?;
     if code.as_slice() == expected {
         Ok(())
     } else {
@@ -45,84 +141,64 @@ fn check_method(
     }
 }
 
-/// Calls the method of this name.
-pub fn write<'a, A: Allocator>(
-    sink: InstructionSink<'a, A>,
-    method: &str,
-    tokens: &[Token],
-) -> Result<InstructionSink<'a, A>, Mismatch> {
-    match tokens {
-        [] => write_plain(sink, method),
-        [Token::U32(index)] => write_index(sink, method, *index),
-        [Token::I32(value)] => write_i32(sink, method, *value),
-        [Token::I64(value)] => write_i64(sink, method, *value),
+/// The operands of the call, in written order.
+fn operands_of(alloc: Global, method: &str, operands: &str) -> Result<Operands, Mismatch> {
+    if let Some(listed) = lists::parse_listed(alloc, method, operands)? {
+        return Ok(lists::operands(listed));
+    }
+    let arguments = arguments(alloc, operands)?;
+    match arguments.as_slice() {
+        [] => Ok(Operands::None),
+        [only] => one_operand(alloc, *only),
+        [first, second] => two_operands(method, *first, *second),
+        [
+            Argument::U32(label),
+            Argument::Reference(from),
+            Argument::Reference(to),
+        ] => { Ok(Operands::Cast(*label, *from, *to)) }
+        [
+            Argument::Order(order),
+            Argument::U32(first),
+            Argument::U32(second),
+        ] => { Ok(Operands::OrderTwoIndexes(*order, *first, *second)) }
         _ => Err(Mismatch::NotUnderstood),
     }
 }
 
-fn write_plain<'a, A: Allocator>(
-    sink: InstructionSink<'a, A>,
-    method: &str,
-) -> Result<InstructionSink<'a, A>, Mismatch> {
-    Ok(match method {
-        "unreachable" => sink.unreachable()?,
-        "nop" => sink.nop()?,
-        "end" => sink.end()?,
-        "drop" => sink.drop()?,
-        "select" => sink.select()?,
-        "i32_add" => sink.i32_add()?,
-        "i32_sub" => sink.i32_sub()?,
-        _ => return Err(Mismatch::NotUnderstood),
+fn one_operand(alloc: Global, only: Argument) -> Result<Operands, Mismatch> {
+    Ok(match only {
+        Argument::U32(index) => Operands::Index(index),
+        Argument::I32(value) => Operands::I32(value),
+        Argument::I64(value) => Operands::I64(value),
+        Argument::I128(value) => Operands::V128(value),
+        Argument::F32(value) => Operands::F32(value),
+        Argument::F64(value) => Operands::F64(value),
+        Argument::Lane(lane) => Operands::Lane(lane),
+        Argument::Lanes(lanes) => Operands::Shuffle(lanes),
+        Argument::Memory(memarg) => Operands::Mem(memarg),
+        Argument::Order(ordering) => Operands::Order(ordering),
+        Argument::Heap(ty) => Operands::Heap(ty),
+        Argument::Value(ty) => Operands::Types(Items::from_slice(alloc, &[ty])?),
+        Argument::Block(ty) => Operands::Block(ty),
+        Argument::Reference(_) => return Err(Mismatch::NotUnderstood),
     })
 }
 
-fn write_index<'a, A: Allocator>(
-    sink: InstructionSink<'a, A>,
-    method: &str,
-    index: u32,
-) -> Result<InstructionSink<'a, A>, Mismatch> {
-    Ok(match method {
-        "br" => sink.br(index)?,
-        "call" => sink.call(index)?,
-        "local_get" => sink.local_get(index)?,
-        "local_set" => sink.local_set(index)?,
-        "local_tee" => sink.local_tee(index)?,
+/// Of four methods the second parameter is written first.
+fn two_operands(method: &str, first: Argument, second: Argument) -> Result<Operands, Mismatch> {
+    Ok(match (first, second) {
+        (Argument::U32(first), Argument::U32(second)) => match method {
+            "call_indirect" | "return_call_indirect" | "memory_init" | "table_init" => {
+                Operands::TwoIndexes(second, first)
+            }
+            _ => Operands::TwoIndexes(first, second),
+        },
+        (Argument::Memory(memarg), Argument::Lane(lane)) => Operands::MemLane(memarg, lane),
+        (Argument::Order(ordering), Argument::U32(index)) => {
+            Operands::OrderIndex(ordering, index)
+        }
         _ => return Err(Mismatch::NotUnderstood),
     })
-}
-
-fn write_i32<'a, A: Allocator>(
-    sink: InstructionSink<'a, A>,
-    method: &str,
-    value: i32,
-) -> Result<InstructionSink<'a, A>, Mismatch> {
-    Ok(match method {
-        "i32_const" => sink.i32_const(value)?,
-        _ => return Err(Mismatch::NotUnderstood),
-    })
-}
-
-fn write_i64<'a, A: Allocator>(
-    sink: InstructionSink<'a, A>,
-    method: &str,
-    value: i64,
-) -> Result<InstructionSink<'a, A>, Mismatch> {
-    Ok(match method {
-        "i64_const" => sink.i64_const(value)?,
-        _ => return Err(Mismatch::NotUnderstood),
-    })
-}
-
-/// The call of the opcode that the bytes begin with.
-fn call(bytes: &[u8], tokens: &[Token]) -> Result<Call, Mismatch> {
-    let operands = match tokens {
-        [] => Operands::None,
-        [Token::U32(index)] => Operands::Index(*index),
-        [Token::I32(value)] => Operands::I32(*value),
-        [Token::I64(value)] => Operands::I64(*value),
-        _ => return Err(Mismatch::NotUnderstood),
-    };
-    Call::new(opcode(bytes)?, operands).map_err(|_| Mismatch::NotUnderstood)
 }
 
 /// The opcode that the bytes begin with. After a prefix its number has one byte or two.

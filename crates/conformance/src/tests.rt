@@ -1,11 +1,17 @@
 //! Worked examples, each public function on its happy path, and what no contract says.
 
+mod calls;
 mod growths;
+mod instructions;
 mod lists;
 mod modules;
+mod operands;
 mod own;
 mod reading;
 mod table;
+mod type_sections;
+mod typed_modules;
+mod types;
 mod writing;
 
 use std::alloc::Global;

@@ -1,7 +1,10 @@
 //! Each test makes a call. Where a request for memory is refused, the answer says so, the test prints `refused`, and
 //! the same call is made again, with memory. The answer is then the right one.
 
+mod lists;
 mod modules;
+mod typed_modules;
+mod types;
 
 use std::test::Fail;
 use wasm_encoder::{

@@ -1,8 +1,6 @@
 -- The laws of the texts of fields, composite types, subtypes and entries.
-use Rattle.std.proofs.Common.{◌≡◌, ℕ, ◌^◌, ◌<◌, ◌≤◌, Bool, true, false, cond, eqb, List, [], ◌∷◌, ◌++◌, length, Option, Some, None, refl, sym, ap, subst, ◌∙◌, ne_eqb, inl, lit≤}
+use Rattle.std.proofs.Common.{◌≡◌, ℕ, ◌≤◌, Bool, true, false, cond, eqb, List, [], ◌∷◌, ◌++◌, Option, Some, None, refl, sym, ap, subst, ◌∙◌, ne_eqb, inl, lit≤}
 use Rattle.std.proofs.lemmas.Bool.{eqb-true, eq-eqb}
-use Rattle.std.specs.List.{AllByRecursion}
-use Rattle.wasm_encoder.specs.declared.types.composite.FieldType.{FieldType}
 use Rattle.wasm_encoder.specs.declared.types.composite.CompositeInnerType.{CompositeInnerType}
 use Rattle.wasm_encoder.specs.declared.types.composite.CompositeInnerType.TheVariants as inner
 use Rattle.wasm_encoder.specs.Encoding.{IsTextOrLonger}
@@ -10,18 +8,12 @@ use Rattle.wasm_encoder.specs.Grammar.{Grammar, Then, Mapped, Never, Either, ByT
 use Rattle.wasm_encoder.specs.Numbers.{SpellsU32, SpellsIndex, unsigned_text}
 use Rattle.wasm_encoder.specs.HeapTypes.{SpellsValType}
 use Rattle.wasm_encoder.specs.CompositeTypes.{SpellsList, items_text, mutability_of, mutability_text, field_of, SpellsFieldType, field_type_text, func_of, struct_of, array_of, cont_of, SpellsInner, inner_byte, inner_rest, inner_text, Flagged, flagged_text, Indexed, indexed_text}
+use Rattle.wasm_encoder.specs.TypeRanges.{IsU32, ListFits, ValTypeFits, FieldTypeFits, InnerFits}
 use Rattle.wasm_encoder.proofs.Laws.{Shortest, MadeOf, EitherFits, HasTag, HasTag-either, HasTag-map, Shortest-then, Shortest-map, Shortest-never, Shortest-either, Shortest-for, Shortest-tag}
 use Rattle.wasm_encoder.proofs.Counting.{Shortest-counted}
 use Rattle.wasm_encoder.proofs.NumberLaws.{Shortest-u32, Shortest-index}
 use Rattle.wasm_encoder.proofs.HeapTypeLaws.{longer_cons, pick, only_is}
-use Rattle.wasm_encoder.proofs.ValueTypeLaws.{ValTypeFits, StorageTypeFits, Shortest-val-type, Shortest-storage-type}
-
-abbrev pub IsU32 : ℕ → Type 0
-IsU32 n = n < 2 ^ 32
-
--- a list that has a count, of items that fit
-abbrev pub ListFits : {A : Type 0} → (A → Type 0) → List A → Type 0
-ListFits F xs = IsU32 (length xs) × AllByRecursion F xs
+use Rattle.wasm_encoder.proofs.ValueTypeLaws.{Shortest-val-type, Shortest-storage-type}
 
 pub Shortest-list : {A : Type 0} {G : Grammar A} {F : A → Type 0} {text : A → List ℕ} → Shortest G F text → Shortest (SpellsList G) (ListFits F) (items_text text)
 Shortest-list s = Shortest-counted Shortest-u32 s
@@ -54,9 +46,6 @@ Shortest-mutability = record {
       let o = only_is (mutability_of b) bytes m g in
       inl (ap (λ (k : ℕ). k ∷ bytes) (mutability_of-is b m o.1) ∙ ap (λ (t : List ℕ). mutability_byte m ∷ t) o.0 ∙ text_is m)
 
-abbrev pub FieldTypeFits : FieldType → Type 0
-FieldTypeFits f = StorageTypeFits f.element_type
-
 pub Shortest-field-type : Shortest SpellsFieldType FieldTypeFits field_type_text
 unfolding SpellsFieldType field_type_text
 Shortest-field-type = Shortest-for FieldTypeFits
@@ -64,12 +53,6 @@ Shortest-field-type = Shortest-for FieldTypeFits
     (λ f fits. ((f.element_type, f.mutable), (fits, tt), refl))
 
 -- ---- what a composite type is made of
-
-abbrev pub InnerFits : CompositeInnerType → Type 0
-InnerFits (inner.Func f) = ListFits ValTypeFits f.params × ListFits ValTypeFits f.results
-InnerFits (inner.Struct s) = ListFits FieldTypeFits s.fields
-InnerFits (inner.Array a) = FieldTypeFits a.0
-InnerFits (inner.Cont c) = IsU32 c.0
 
 abbrev InnerFitsAt : ℕ → CompositeInnerType → Type 0
 InnerFitsAt byte =

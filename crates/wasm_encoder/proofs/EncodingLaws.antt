@@ -1,5 +1,5 @@
 -- Where a type has an encoding, it is the type's text.
-use Rattle.std.proofs.Common.{◌≡◌, ℕ, ◌^◌, Bool, true, false, cond, ltb, List, [], ◌∷◌, ◌++◌, length, Option, Some, None, refl, sym, ap, ◌∙◌}
+use Rattle.std.proofs.Common.{◌≡◌, ℕ, ◌^◌, Bool, true, false, cond, ltb, List, [], ◌∷◌, ◌++◌, length, Option, Some, None, refl, ap, ◌∙◌}
 use Rattle.std.specs.List.{flat_map}
 use Rattle.std.specs.Prelude.{IsSomeAnd}
 use Rattle.wasm_encoder.specs.declared.types.composite.CompositeInnerType.{CompositeInnerType}
@@ -13,7 +13,6 @@ use Rattle.wasm_encoder.specs.Encoding.{both_texts, usize_text, texts, list_text
 use Rattle.wasm_encoder.specs.HeapTypes.{val_type_text}
 use Rattle.wasm_encoder.specs.CompositeTypes.{items_text, field_type_text, inner_text, indexed_text, flagged_text, composite_type_text, supertypes_text, sub_type_text, entry_text}
 use Rattle.wasm_encoder.specs.TypeEncoding.{index_encoding, val_type_encoding, field_type_encoding, inner_encoding, shared_text, flagged_index_text, composite_encoding, supertypes_encoding, sub_encoding, entry_encoding}
-use Rattle.wasm_encoder.proofs.Laws.{some_is}
 
 -- the encoding, if there is one, is this text
 abbrev pub IsEncoding : Option (List ℕ) → List ℕ → Type 0
@@ -25,7 +24,7 @@ both_is (Some s) (Some t) x y p q = ap (λ (k : List ℕ). k ++ t) p ∙ ap (λ 
 both_is (Some s) None x y p q = tt
 both_is None b x y p q = tt
 
-texts_is : {T : Type 0} (enc : T → Option (List ℕ)) (f : T → List ℕ) → ((x : T) → IsEncoding (enc x) (f x)) → (xs : List T) → IsEncoding (texts enc xs) (flat_map f xs)
+pub texts_is : {T : Type 0} (enc : T → Option (List ℕ)) (f : T → List ℕ) → ((x : T) → IsEncoding (enc x) (f x)) → (xs : List T) → IsEncoding (texts enc xs) (flat_map f xs)
 texts_is enc f h [] = refl
 texts_is enc f h (x ∷ xs) = both_is (enc x) (texts enc xs) (f x) (flat_map f xs) (h x) (texts_is enc f h xs)
 

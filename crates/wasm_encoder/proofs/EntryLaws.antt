@@ -10,10 +10,11 @@ use Rattle.wasm_encoder.specs.Encoding.{IsTextOrLonger}
 use Rattle.wasm_encoder.specs.Grammar.{Grammar, Then, Mapped, Either, Tail}
 use Rattle.wasm_encoder.specs.Numbers.{SpellsU32, unsigned_text, digits_of}
 use Rattle.wasm_encoder.specs.CompositeTypes.{SpellsList, items_text, SpellsInner, inner_text, Flagged, Indexed, indexed_text, composite_of, SpellsCompositeType, composite_type_text, sub_of, SpellsSubType, supertypes_text, sub_type_text, SpellsEntry, entry_text, SpellsTypeBody, type_body_text}
+use Rattle.wasm_encoder.specs.TypeRanges.{IsU32, ListFits, InnerFits, IndexFits, CompositeTypeFits, SubTypeFits, EntryFits, TypeBodyFits}
 use Rattle.wasm_encoder.proofs.Laws.{Shortest, Shortest-then, Shortest-map, Shortest-for}
 use Rattle.wasm_encoder.proofs.NumberLaws.{Shortest-u32}
 use Rattle.wasm_encoder.proofs.HeapTypeLaws.{longer_cons}
-use Rattle.wasm_encoder.proofs.CompositeTexts.{IsU32, ListFits, Shortest-list, InnerFits, Shortest-inner, Begins, Begins-as, IsInnerByte, inner_begins, Prefixed, flag_case, with_flag, without_flag, Shortest-flagged, Shortest-indexed, IndexedFits}
+use Rattle.wasm_encoder.proofs.CompositeTexts.{Shortest-list, Shortest-inner, Begins, Begins-as, IsInnerByte, inner_begins, Prefixed, flag_case, with_flag, without_flag, Shortest-flagged, Shortest-indexed, IndexedFits}
 
 -- ---- first bytes
 
@@ -70,14 +71,6 @@ describes_apart bytes p g = Begins-as (OrByte 0x4c (OrByte 0x4d IsInnerByte)) _ 
 Shortest-with-descriptor : Shortest WithDescriptor (IndexedFits 0x4d Shortest-inner inner_apart) (indexed_text 0x4d inner_text)
 Shortest-with-descriptor = Shortest-indexed 0x4d Shortest-inner inner_apart
 
-abbrev IndexFits : Option ℕ → Type 0
-IndexFits None = Unit {0}
-IndexFits (Some index) = IsU32 index
-
--- the indexes are u32, and so are the counts inside
-abbrev pub CompositeTypeFits : CompositeType → Type 0
-CompositeTypeFits c = IndexFits c.describes × IndexFits c.descriptor × InnerFits c.inner
-
 abbrev DescriptorFits : Option ℕ × CompositeInnerType → Type 0
 DescriptorFits = IndexedFits 0x4d Shortest-inner inner_apart
 
@@ -102,9 +95,6 @@ Shortest-composite-type = Shortest-for CompositeTypeFits
     (λ c fits. ((c.shared, (c.describes, (c.descriptor, c.inner))), describes_fits c.describes c.descriptor c.inner fits.0 fits.1 fits.2, refl))
 
 -- ---- subtypes
-
-abbrev pub SubTypeFits : SubType → Type 0
-SubTypeFits s = ListFits IsU32 s.supertype_idxs × CompositeTypeFits s.composite_type
 
 abbrev Supertypes : Grammar (List ℕ × CompositeType)
 Supertypes = Then (SpellsList SpellsU32) (λ supertypes. SpellsCompositeType)
@@ -196,10 +186,6 @@ sub_apart (b ∷ bytes) s g = by (eqb b 0x50) refl (eqb b 0x4f) refl g where
   by false not true is g = λ e. let k = eqb-true b 0x4f is in absurd (omega arith)
   by false not false nor g = composite (composite_begins (b ∷ bytes) g.0 g.1)
 
-abbrev pub EntryFits : TypeEntry → Type 0
-EntryFits (entries.Sub s) = SubTypeFits s
-EntryFits (entries.Rec types) = ListFits SubTypeFits types
-
 abbrev Members : TypeEntry → Type 0
 Members (entries.Sub s) = SpellsSubType (sub_type_text s) s
 Members (entries.Rec types) = SpellsList SpellsSubType (items_text sub_type_text types) types
@@ -224,9 +210,6 @@ Shortest-entry = record {
 }
 
 -- ---- type bodies
-
-abbrev pub TypeBodyFits : List TypeEntry → Type 0
-TypeBodyFits = ListFits EntryFits
 
 pub Shortest-type-body : Shortest SpellsTypeBody TypeBodyFits type_body_text
 unfolding SpellsTypeBody

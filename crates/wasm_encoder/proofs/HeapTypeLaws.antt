@@ -12,6 +12,7 @@ use Rattle.wasm_encoder.specs.declared.types.value.StorageType.TheVariants as st
 use Rattle.wasm_encoder.specs.Numbers.{unsigned, signed, SpellsU32, SpellsIndex, unsigned_text, signed_text}
 use Rattle.wasm_encoder.specs.Encoding.{IsTextOrLonger}
 use Rattle.wasm_encoder.specs.HeapTypes.{abstract_byte, abstract_of, heap_type_text, SpellsAbstract, abstract_at, is_type_byte, SpellsHeapType, heap_type_at, reference, SpellsRefType, ref_type_at, is_number_byte, number_type_of, SpellsValType, val_type_at, is_packed_byte, packed_of, SpellsStorageType, storage_type_at}
+use Rattle.wasm_encoder.specs.TypeRanges.{HeapTypeFits}
 use Rattle.wasm_encoder.specs.Grammar.{Grammar, Either, Mapped, Tail, Only}
 use Rattle.wasm_encoder.proofs.Laws.{Reads, Shortest, some, some_is, Reads-map, Reads-either, Reads-tag, Reads-peek, Reads-tail, Reads-only}
 use Rattle.wasm_encoder.proofs.NumberLaws.{Reads-u32, Reads-index, Shortest-u32, Shortest-index}
@@ -147,11 +148,6 @@ abstract_range abstracts.Exn = (lit≤ tt, lit≤ tt)
 abstract_range abstracts.Cont = (lit≤ tt, lit≤ tt)
 
 -- ---- heap types
-
-abbrev pub HeapTypeFits : HeapType → Type 0
-HeapTypeFits (Abstract shared ty) = Unit {0}
-HeapTypeFits (Concrete index) = index < 2 ^ 32
-HeapTypeFits (Exact index) = index < 2 ^ 32
 
 -- an index doesn't begin with a byte of a type
 abbrev pub BeginsNoType : List ℕ → Type 0

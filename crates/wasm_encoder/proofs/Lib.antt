@@ -4,9 +4,15 @@ pub mod ListReading
 pub mod Digits
 pub mod NumberLaws
 pub mod OpcodeLaws
+pub mod MemArgLaws
+pub mod OperandLaws
+pub mod RawLaws
 pub mod InstructionLaws
 pub mod DigitLoop
 pub mod TextLists
+pub mod TypeSectionLaws
+pub mod IteratorLaws
+pub mod HeaderLaws
 pub mod ModuleLaws
 pub mod HeapTypeLaws
 pub mod ValueTypeLaws
@@ -16,3 +22,7 @@ pub mod CompositeTexts
 pub mod EntryLaws
 pub mod TypeBodyLaws
 pub mod EncodingLaws
+pub mod SizedLaws
+pub mod TypedModuleLaws
+pub mod ExactLaws
+mod KeptBytes

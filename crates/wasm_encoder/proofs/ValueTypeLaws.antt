@@ -12,13 +12,11 @@ use Rattle.wasm_encoder.specs.declared.types.value.StorageType.TheVariants as st
 use Rattle.wasm_encoder.specs.Encoding.{IsTextOrLonger}
 use Rattle.wasm_encoder.specs.Grammar.{Either, Mapped, Tail, Only}
 use Rattle.wasm_encoder.specs.HeapTypes.{abstract_byte, abstract_text, SpellsAbstract, SpellsHeapType, heap_type_text, reference, SpellsRefType, reference_text, ref_type_text, is_number_byte, number_type_of, SpellsValType, val_type_text, is_packed_byte, packed_of, SpellsStorageType, storage_type_text}
+use Rattle.wasm_encoder.specs.TypeRanges.{HeapTypeFits, RefTypeFits, ValTypeFits, StorageTypeFits}
 use Rattle.wasm_encoder.proofs.Laws.{Shortest}
-use Rattle.wasm_encoder.proofs.HeapTypeLaws.{HeapTypeFits, IsHeapType, heap_is, longer_cons, abstract_is, abstract_spells, abstract_range, pick, only_is, Shortest-heap-type}
+use Rattle.wasm_encoder.proofs.HeapTypeLaws.{IsHeapType, heap_is, longer_cons, abstract_is, abstract_spells, abstract_range, pick, only_is, Shortest-heap-type}
 
 -- ---- reference types
-
-abbrev pub RefTypeFits : RefType → Type 0
-RefTypeFits r = HeapTypeFits r.heap_type
 
 no_reference_byte : (b : ℕ) → 0x66 ≤ b → (eqb b 0x63 ≡ false) × (eqb b 0x64 ≡ false) × (eqb b 0x65 ≡ false)
 no_reference_byte b le = (ne_eqb b 0x63 (omega arith), ne_eqb b 0x64 (omega arith), ne_eqb b 0x65 (omega arith))
@@ -90,14 +88,6 @@ ref_begins (b ∷ bytes) r g = by (eqb b 0x63) refl (eqb b 0x64) refl (eqb b 0x6
   by false not false nor false other g =
       let e : b ≡ abstract_byte g.0 = heads b bytes (abstract_byte g.0) [] (abstract_is (b ∷ bytes) g.0 g.1) in
       let r = abstract_range g.0 in omega (arith, r.1)
-
-abbrev pub ValTypeFits : ValType → Type 0
-ValTypeFits values.I32 = Unit {0}
-ValTypeFits values.I64 = Unit {0}
-ValTypeFits values.F32 = Unit {0}
-ValTypeFits values.F64 = Unit {0}
-ValTypeFits values.V128 = Unit {0}
-ValTypeFits (values.Ref r) = RefTypeFits r
 
 ref_in_val_type : (bytes : List ℕ) (r : RefType) → SpellsRefType bytes r → SpellsValType bytes (values.Ref r)
 unfolding SpellsValType
@@ -180,11 +170,6 @@ val_begins (b ∷ bytes) v g = by (is_number_byte b) refl g where
   by true is g =
       let le = leb-true 0x7b b (first_true (leb 0x7b b) (leb b 0x7f) is) in rw (lt-leb b 0x78 (omega arith), and-false) refl
   by false not g = let lt = ref_begins (b ∷ bytes) g.0 g.1 in rw (lt-leb 0x77 b lt) refl
-
-abbrev pub StorageTypeFits : StorageType → Type 0
-StorageTypeFits storages.I8 = Unit {0}
-StorageTypeFits storages.I16 = Unit {0}
-StorageTypeFits (storages.Val v) = ValTypeFits v
 
 val_in_storage_type : (bytes : List ℕ) (v : ValType) → SpellsValType bytes v → SpellsStorageType bytes (storages.Val v)
 unfolding SpellsStorageType

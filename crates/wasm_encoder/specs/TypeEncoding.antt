@@ -2,6 +2,10 @@
 use Rattle.std.specs.Prelude.{ℕ, Bool, true, false, List, [], ◌∷◌, Option, Some, None, pos}
 use Rattle.wasm_encoder.specs.declared.types.value.ValType.{ValType}
 use Rattle.wasm_encoder.specs.declared.types.composite.FieldType.{FieldType}
+use Rattle.wasm_encoder.specs.declared.types.composite.FuncType.{FuncType}
+use Rattle.wasm_encoder.specs.declared.types.composite.StructType.{StructType}
+use Rattle.wasm_encoder.specs.declared.types.composite.ArrayType.{ArrayType}
+use Rattle.wasm_encoder.specs.declared.types.composite.ContType.{ContType}
 use Rattle.wasm_encoder.specs.declared.types.composite.CompositeInnerType.{CompositeInnerType}
 use Rattle.wasm_encoder.specs.declared.types.composite.CompositeInnerType.TheVariants as inner
 use Rattle.wasm_encoder.specs.declared.types.composite.CompositeType.{CompositeType}
@@ -22,11 +26,23 @@ val_type_encoding ty = Some (val_type_text ty)
 abbrev pub field_type_encoding : FieldType → Option (List ℕ)
 field_type_encoding field = Some (field_type_text field)
 
+abbrev pub func_encoding : FuncType → Option (List ℕ)
+func_encoding f = both_texts (Some (0x60 ∷ [])) (both_texts (list_text val_type_encoding f.params) (list_text val_type_encoding f.results))
+
+abbrev pub struct_encoding : StructType → Option (List ℕ)
+struct_encoding s = both_texts (Some (0x5f ∷ [])) (list_text field_type_encoding s.fields)
+
+abbrev pub array_encoding : ArrayType → Option (List ℕ)
+array_encoding a = Some (0x5e ∷ field_type_text a.0)
+
+abbrev pub cont_encoding : ContType → Option (List ℕ)
+cont_encoding c = Some (0x5d ∷ signed_text (pos c.0))
+
 abbrev pub inner_encoding : CompositeInnerType → Option (List ℕ)
-inner_encoding (inner.Func f) = both_texts (Some (0x60 ∷ [])) (both_texts (list_text val_type_encoding f.params) (list_text val_type_encoding f.results))
-inner_encoding (inner.Struct s) = both_texts (Some (0x5f ∷ [])) (list_text field_type_encoding s.fields)
-inner_encoding (inner.Array a) = Some (0x5e ∷ field_type_text a.0)
-inner_encoding (inner.Cont c) = Some (0x5d ∷ signed_text (pos c.0))
+inner_encoding (inner.Func f) = func_encoding f
+inner_encoding (inner.Struct s) = struct_encoding s
+inner_encoding (inner.Array a) = array_encoding a
+inner_encoding (inner.Cont c) = cont_encoding c
 
 -- what stands before what a composite type is made of
 abbrev pub shared_text : Bool → List ℕ

@@ -6,12 +6,20 @@ ghost use Rattle.wasm_encoder.specs.declared.encode.EncodeError.TheVariants.{Mem
 
 mod composite_types;
 mod heap_types;
+mod iterators;
 mod leb128;
 mod lists;
+mod operands;
 
+pub(crate) use heap_types::{put_heap_type, put_val_type};
+pub(crate) use iterators::append_items;
 use leb128::put_u64;
-pub(crate) use leb128::{put_i32, put_i64, put_u32};
+pub(crate) use leb128::{put_i32, put_i64, put_u32, u32_len};
 pub use lists::{encode_bytes, encode_list, encode_str};
+pub(crate) use operands::{
+    put_bits_32, put_bits_64, put_block_type, put_catch, put_handle, put_mem_arg, put_ordering,
+    put_vector,
+};
 use std::alloc::{AllocError, Allocator};
 use thiserror::Error;
 

@@ -64,7 +64,21 @@ impl<T> Items<T> {
     }
 }
 
+impl<T> Items<T> {
+    /// What its memory is asked of.
+    pub(crate) fn allocator(&self) -> Global {
+        *self.items.allocator()
+    }
+}
+
 impl<T: Copy> Items<T> {
+    /// An equal list.
+    pub fn try_clone(&self) -> Result<Items<T>, EncodeError>
+        ensures { IfOk result (λ list. list ≡ self.now) }
+    {
+        Items::from_slice(self.allocator(), self.as_slice())
+    }
+
     /// A list of the same items.
     pub fn from_slice(alloc: Global, items: &[T]) -> Result<Items<T>, EncodeError>
         ensures { IfOk result (λ list. list ≡ items.now) }
@@ -98,6 +112,19 @@ impl<T: Eq> Eq for Items<T> {
     ghost use Rattle.std.specs.Cmp.Lexicographic.{lists_equiv};
 
     ghost laws = { lists_equiv T.Eq.laws };
+}
+
+impl<T: Hash> Hash for Items<T> {
+    ghost use Rattle.std.specs.Hash as fed;
+    ghost use Rattle.std.specs.Hash.{items_Alike};
+
+    ghost hash_input = { fed.slice T.hash_input };
+
+    ghost respects_eq = { (items_Alike (record { fed = T.respects_eq })).fed };
+
+    fn hash<H: Hasher>(&self, state: &mut H) {
+        self.items.hash(state);
+    }
 }
 
 impl<T: Debug> Debug for Items<T> {

@@ -10,7 +10,9 @@ mod cursor;
 mod heap_types;
 mod instructions;
 mod modules;
+mod operands;
 mod type_section;
+mod typed_modules;
 
 use cursor::Fault;
 pub use instructions::{normalise_instructions, read_instructions};
@@ -18,6 +20,7 @@ pub use modules::read_module;
 use std::alloc::{AllocError, AllocFailed};
 use thiserror::Error;
 pub use type_section::{normalise_type_section, read_type_section};
+pub use typed_modules::normalise_module;
 
 /// Why bytes were not read.
 #[derive(Debug, PartialEq, Eq, Drop, Error)]

@@ -5,15 +5,22 @@
 //! as it was before the call.
 ghost use Rattle.std.specs.Prelude.{◌≡◌, ◌++◌, ℕ, List, IsOk, IfOk, IfErr, OnOk, OnErr};
 ghost use Rattle.std.specs.Borrow.{sem};
-ghost use Rattle.wasm_encoder.specs.Sink.{IsUnchangedAtErr, IsSameSink, Appends, HasRoom};
-ghost use Rattle.wasm_encoder.specs.Instructions.{SpellsInstruction, SpellsInstructions, instruction_text, instructions_text};
+ghost use Rattle.wasm_encoder.specs.Sink.{IsUnchangedAtErr, IsSameSink, AppendsCall, AppendsCalls, HasRoom, IsCallRefusal, IsRefusalOfOne};
+ghost use Rattle.wasm_encoder.specs.Instructions.{HasNoList, SpellsInstruction, SpellsInstructions, instruction_text, instructions_text};
 ghost use Rattle.wasm_encoder.specs.Encoding.{IsTextOrLonger};
-ghost use Rattle.wasm_encoder.specs.declared.encode.EncodeError.TheVariants.{Memory};
 
+mod aggregates;
+mod atomics;
 mod control;
 mod emit;
-mod locals;
+mod memory;
 mod numeric;
+mod parametric;
+mod references;
+mod stack_switching;
+mod tables;
+mod variables;
+mod vectors;
 
 use crate::encode::EncodeError;
 use crate::table::Call;
@@ -35,23 +42,27 @@ impl<'a, A: Allocator> InstructionSink<'a, A> {
     }
 
     /// Appends the text of a call.
+    ///
+    /// `TooLong` where a list has more than 4,294,967,295 items.
     pub fn write_call(self, call: &Call) -> Result<InstructionSink<'a, A>, EncodeError>
         ensures* unchanged { sem 𝓛 (IsUnchangedAtErr A.row A.Allocator self.entry result) }
         ensures same { IsSameSink self.entry result }
-        ensures wrote { Appends self.entry (instruction_text call.now) result }
-        ensures room { HasRoom self.entry → IsOk result }
+        ensures wrote { AppendsCall self.entry call.now result }
+        ensures room { HasRoom self.entry → HasNoList call.now.operands → IsOk result }
         // The text spells the call.
-        ensures spells { SpellsInstruction (instruction_text call.now) call.now }
+        ensures spells { IfOk result (λ _. SpellsInstruction (instruction_text call.now) call.now) }
     {
         call.is_spelled();
         self.emit_operands(call.op(), call.operands())
     }
 
     /// Appends the texts of calls, all of them or none.
+    ///
+    /// `TooLong` where a list in one of them has more than 4,294,967,295 items.
     pub fn write_calls(self, calls: &[Call]) -> Result<InstructionSink<'a, A>, EncodeError>
         ensures* unchanged { sem 𝓛 (IsUnchangedAtErr A.row A.Allocator self.entry result) }
         ensures same { IsSameSink self.entry result }
-        ensures wrote { Appends self.entry (instructions_text calls.now) result }
+        ensures wrote { AppendsCalls self.entry calls.now result }
         // What is written spells the calls.
         ensures spells { IfOk result (λ _. SpellsInstructions (instructions_text calls.now) calls.now) }
         // Every other spelling of the calls is longer than what is written.
@@ -68,7 +79,7 @@ impl<'a, A: Allocator> InstructionSink<'a, A> {
 fn append_calls<A: Allocator>(bytes: &mut Vec<u8, A>, calls: &[Call]) -> Result<(), EncodeError>
     ensures ok { OnOk result (bytes.new.items ≡ bytes.old.items ++ instructions_text calls.now) }
     ensures err { OnErr result (bytes.new.items ≡ bytes.old.items) }
-    ensures memory { IfErr result (λ e. e ≡ Memory) }
+    ensures refused { IfErr result (IsRefusalOfOne calls.now) }
     ensures spells { OnOk result (SpellsInstructions (instructions_text calls.now) calls.now) }
     ensures shortest { (bytes : List ℕ) → SpellsInstructions bytes calls.now →
         IsTextOrLonger bytes (instructions_text calls.now) }
@@ -90,8 +101,8 @@ pub(crate) fn append_call<A: Allocator>(
 ) -> Result<(), EncodeError>
     ensures ok { OnOk result (bytes.new.items ≡ bytes.old.items ++ instruction_text call.now) }
     ensures err { OnErr result (bytes.new.items ≡ bytes.old.items) }
-    ensures memory { IfErr result (λ e. e ≡ Memory) }
-    ensures spells { SpellsInstruction (instruction_text call.now) call.now }
+    ensures refused { IfErr result (IsCallRefusal call.now) }
+    ensures spells { OnOk result (SpellsInstruction (instruction_text call.now) call.now) }
 {
     InstructionSink::new(&mut *bytes).write_call(call)?;
     Ok(())

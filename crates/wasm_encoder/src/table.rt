@@ -3,6 +3,7 @@
 mod call;
 mod opcode;
 mod places;
+mod ranges;
 
 pub use call::{Call, Operands};
 pub use opcode::{Kind, Opcode, Prefix};

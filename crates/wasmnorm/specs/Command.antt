@@ -1,7 +1,7 @@
 -- The words that the program takes, its exit status and what it reports.
 use Rattle.std.specs.Prelude.{ℕ, List, [], ◌∷◌, ◌++◌, Result, Ok, Err, codes, decimal}
 use Rattle.wasmnorm.specs.declared.modes.Mode.{Mode}
-use Rattle.wasmnorm.specs.declared.modes.Mode.TheVariants.{Calls, Types}
+use Rattle.wasmnorm.specs.declared.modes.Mode.TheVariants.{Calls, Types, Module}
 use Rattle.wasmnorm.specs.declared.run.RunError.{RunError}
 use Rattle.wasmnorm.specs.declared.run.RunError.TheVariants as errors
 
@@ -9,6 +9,7 @@ use Rattle.wasmnorm.specs.declared.run.RunError.TheVariants as errors
 abbrev pub word_of : Mode → List ℕ
 word_of Calls = codes "calls"
 word_of Types = codes "types"
+word_of Module = codes "module"
 
 -- the exit status of a run that ended so
 abbrev pub status_of : {X : Type 0} → Result X RunError → ℕ

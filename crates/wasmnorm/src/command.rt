@@ -25,6 +25,7 @@ pub fn mode_of(args: &[&str]) -> Option<Mode>
         [word] => match *word {
             "calls" => Some(Mode::Calls),
             "types" => Some(Mode::Types),
+            "module" => Some(Mode::Module),
             _ => None,
         },
         _ => None,

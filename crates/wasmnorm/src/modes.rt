@@ -4,7 +4,7 @@ ghost use Rattle.wasm_encoder.specs.Answers.{IsOrMemory, IfRefused, IsLongestFro
 ghost use Rattle.wasmnorm.specs.Modes.{Spelled, NormalForm, IsWholeFront};
 
 use std::alloc::Global;
-use wasm_encoder::{ReadError, normalise_instructions, normalise_type_section};
+use wasm_encoder::{ReadError, normalise_instructions, normalise_module, normalise_type_section};
 
 /// What the input is read as.
 #[derive(Clone, Copy, Debug, PartialEq, Eq)]
@@ -13,6 +13,8 @@ pub enum Mode {
     Calls,
     /// The body of a type section.
     Types,
+    /// A module, of which the type sections are read.
+    Module,
 }
 
 /// The normal form of the input.
@@ -30,5 +32,6 @@ pub fn normalise(alloc: Global, mode: Mode, input: &[u8]) -> Result<Vec<u8>, Rea
     match mode {
         Mode::Calls => normalise_instructions(alloc, input),
         Mode::Types => normalise_type_section(alloc, input),
+        Mode::Module => normalise_module(alloc, input),
     }
 }

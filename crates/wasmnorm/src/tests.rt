@@ -5,6 +5,7 @@ use crate::streams::{flush, read_all, write_all};
 use std::alloc::Global;
 use std::io;
 use std::io::{ErrorKind, Read, Write};
+use std::process::Abort;
 use std::test::Fail;
 
 // Instructions in a longer spelling, and their normal form.
@@ -12,12 +13,36 @@ const LONG: [u8; 4] = [0x20, 0xC2, 0x80, 0x00];
 
 const NORMAL: [u8; 2] = [0x20, 0x42];
 
+// A module with a type section in a longer spelling and a section of other bytes, and its normal form.
+const LONG_MODULE: [u8; 21] = [
+    0x00, 0x61, 0x73, 0x6D, 0x01, 0x00, 0x00, 0x00, 0x01, 0x86, 0x00, 0x01, 0x4F, 0x00, 0x60, 0x00,
+    0x00, 0x03, 0x81, 0x00, 0x80,
+];
+
+const NORMAL_MODULE: [u8; 17] = [
+    0x00, 0x61, 0x73, 0x6D, 0x01, 0x00, 0x00, 0x00, 0x01, 0x04, 0x01, 0x60, 0x00, 0x00, 0x03, 0x01,
+    0x80,
+];
+
+// What is read in each mode, and its normal form.
+fn samples() -> [(Mode, &'static [u8], &'static [u8]); 3] {
+    [
+        (Mode::Calls, &LONG, &NORMAL),
+        (
+            Mode::Types,
+            &[0x01, 0x4F, 0x00, 0x60, 0x00, 0x00],
+            &[0x01, 0x60, 0x00, 0x00],
+        ),
+        (Mode::Module, &LONG_MODULE, &NORMAL_MODULE),
+    ]
+}
+
 // Gives its bytes a few at a time, and fails at one of its reads.
 #[derive(Drop)]
 struct FailRead<'a> {
     rest: &'a [u8],
     step: usize,
-    good_reads: u32,
+    good_reads: usize,
     kind: ErrorKind,
 }
 
@@ -50,12 +75,12 @@ const STOPS: [Stop; 3] = [
 struct FailWrite {
     taken: Vec<u8>,
     step: usize,
-    good_writes: u32,
+    good_writes: usize,
     stop: Stop,
 }
 
 impl FailWrite {
-    fn new(alloc: Global, step: usize, good_writes: u32, stop: Stop) -> FailWrite {
+    fn new(alloc: Global, step: usize, good_writes: usize, stop: Stop) -> FailWrite {
         FailWrite {
             taken: Vec::new(alloc),
             step,
@@ -85,8 +110,11 @@ impl Write for FailWrite {
 
 #[test]
 fn runs_give_the_normal_form_or_the_place(rt: HostRuntime) {
-    let cases: [(Mode, &[u8], Result<(), RunError>, &[u8]); 6] = [
-        (Mode::Calls, &LONG, Ok(()), &NORMAL),
+    for (mode, input, text) in samples() {
+        check_run(&rt, rt.alloc(), mode, input, Ok(()), text);
+        check_run(&rt, rt.alloc(), mode, text, Ok(()), text);
+    }
+    let cases: [(Mode, &[u8], Result<(), RunError>, &[u8]); 7] = [
         (Mode::Calls, &[], Ok(()), &[]),
         (
             Mode::Calls,
@@ -96,24 +124,37 @@ fn runs_give_the_normal_form_or_the_place(rt: HostRuntime) {
         ),
         (
             Mode::Types,
-            &[0x01, 0x4F, 0x00, 0x60, 0x00, 0x00],
-            Ok(()),
-            &[0x01, 0x60, 0x00, 0x00],
-        ),
-        (
-            Mode::Types,
             &[0x01, 0x60, 0x00, 0x00, 0x00],
             Err(RunError::Refused { at: 4 }),
             &[],
         ),
         (Mode::Types, &[], Err(RunError::Refused { at: 0 }), &[]),
+        (Mode::Module, &[], Err(RunError::Refused { at: 0 }), &[]),
+        (Mode::Module, &LONG_MODULE[..8], Ok(()), &LONG_MODULE[..8]),
+        (
+            Mode::Module,
+            &LONG_MODULE[..20],
+            Err(RunError::Refused { at: 17 }),
+            &[],
+        ),
     ];
     for (mode, input, outcome, text) in cases {
-        let (mut reader, mut writer) = (input, Vec::new(rt.alloc()));
-        let got = run(rt.alloc(), mode, &mut reader, &mut writer);
-        assert_eq!(rt; got, outcome, "at {input:?}");
-        assert_eq!(rt; writer.as_slice(), text);
+        check_run(&rt, rt.alloc(), mode, input, outcome, text);
     }
+}
+
+fn check_run(
+    rt: &impl Abort,
+    alloc: Global,
+    mode: Mode,
+    input: &[u8],
+    outcome: Result<(), RunError>,
+    text: &[u8],
+) {
+    let (mut reader, mut writer) = (input, Vec::new(alloc));
+    let got = run(alloc, mode, &mut reader, &mut writer);
+    assert_eq!(rt; got, outcome, "at {input:?}");
+    assert_eq!(rt; writer.as_slice(), text);
 }
 
 #[test]
@@ -128,19 +169,20 @@ fn long_inputs_are_read_in_many_chunks(rt: HostRuntime) -> Result<(), Fail> {
 
 #[test]
 fn a_failed_read_writes_nothing(rt: HostRuntime) {
-    for kind in [ErrorKind::BrokenPipe, ErrorKind::Interrupted] {
-        for good_reads in 0..=4 {
-            let (rest, step) = (LONG.as_slice(), 1);
-            let mut reader = FailRead {
-                rest,
-                step,
-                good_reads,
-                kind,
-            };
-            let mut writer = Vec::new(rt.alloc());
-            let got = run(rt.alloc(), Mode::Calls, &mut reader, &mut writer);
-            assert_eq!(rt; got, Err(RunError::Read), "at {good_reads}");
-            assert!(rt; writer.is_empty());
+    for (mode, rest, _) in samples() {
+        for kind in [ErrorKind::BrokenPipe, ErrorKind::Interrupted] {
+            for good_reads in 0..rest.len().saturating_add(1) {
+                let mut reader = FailRead {
+                    rest,
+                    step: 1,
+                    good_reads,
+                    kind,
+                };
+                let mut writer = Vec::new(rt.alloc());
+                let got = run(rt.alloc(), mode, &mut reader, &mut writer);
+                assert_eq!(rt; got, Err(RunError::Read), "at {good_reads}");
+                assert!(rt; writer.is_empty());
+            }
         }
     }
 }
@@ -164,14 +206,17 @@ fn reads_are_bounded(rt: HostRuntime) {
 
 #[test]
 fn a_stopped_write_leaves_a_beginning(rt: HostRuntime) {
-    for stop in STOPS {
-        for good_writes in 0..=2 {
-            let mut writer = FailWrite::new(rt.alloc(), 1, good_writes, stop);
-            let got = run(rt.alloc(), Mode::Calls, &mut LONG.as_slice(), &mut writer);
-            let is_whole = good_writes == 2;
-            assert_eq!(rt; got.is_ok(), is_whole, "at {good_writes}");
-            assert_eq!(rt; got == Err(RunError::Write), !is_whole);
-            assert_eq!(rt; writer.taken.as_slice(), &NORMAL[..good_writes as usize]);
+    for (mode, input, text) in samples() {
+        for stop in STOPS {
+            for good_writes in 0..=text.len() {
+                let mut writer = FailWrite::new(rt.alloc(), 1, good_writes, stop);
+                let mut reader = input;
+                let got = run(rt.alloc(), mode, &mut reader, &mut writer);
+                let is_whole = good_writes == text.len();
+                assert_eq!(rt; got.is_ok(), is_whole, "at {good_writes}");
+                assert_eq!(rt; got == Err(RunError::Write), !is_whole);
+                assert_eq!(rt; writer.taken.as_slice(), &text[..good_writes]);
+            }
         }
     }
 }
@@ -197,13 +242,14 @@ fn one_word_asks_for_a_mode(rt: HostRuntime) {
     let none: [&[&str]; 6] = [
         &[],
         &[""],
-        &["module"],
+        &["modules"],
         &["Calls"],
         &["calls "],
         &["calls", "calls"],
     ];
     assert_eq!(rt; mode_of(&["calls"]), Some(Mode::Calls));
     assert_eq!(rt; mode_of(&["types"]), Some(Mode::Types));
+    assert_eq!(rt; mode_of(&["module"]), Some(Mode::Module));
     for args in none {
         assert_eq!(rt; mode_of(args), None, "at {args:?}");
     }

@@ -15,8 +15,8 @@ use wasm_encoder::{Call, Encode, InstructionSink, Operands, RawSection, Section}
 enum Text<'a> {
     /// An encoded number.
     Number(Token),
-    /// What the sink's method of this name writes.
-    Method(&'a str, &'a [Token]),
+    /// What the sink's method of this name writes, with the operands that the tokens stand for.
+    Method(&'a str, &'a str),
     /// A call.
     Call(&'a Call),
     /// Calls.
@@ -36,8 +36,8 @@ fn write<A: Allocator>(
 ) -> Result<(), Mismatch> {
     match text {
         Text::Number(number) => number.encode(list)?,
-        Text::Method(name, tokens) => {
-            sink::write(InstructionSink::new(list), name, tokens)?;
+        Text::Method(name, operands) => {
+            sink::write(alloc, InstructionSink::new(list), name, operands)?;
         }
         Text::Call(call) => {
             InstructionSink::new(list).write_call(call)?;
@@ -102,16 +102,6 @@ fn growths_are_refused(rt: HostRuntime) -> Result<(), Fail> {
             "2AB0C6DAC3E2B9C3A67F",
         ),
         (Text::Number(Token::Usize(4294967295)), "2AFFFFFFFF0F"),
-        (Text::Method("nop", &[]), "2A01"),
-        (Text::Method("local_get", &[Token::U32(1)]), "2A2001"),
-        (
-            Text::Method("i32_const", &[Token::I32(-123456)]),
-            "2A41C0BB78",
-        ),
-        (
-            Text::Method("i64_const", &[Token::I64(i64::MIN)]),
-            "2A428080808080808080807F",
-        ),
         (Text::Call(&end), "2A0B"),
         (Text::Calls(calls.as_slice()), "2A200020016A0B"),
     ] {
@@ -144,31 +134,146 @@ fn growths_of_lists_are_refused(rt: HostRuntime) -> Result<(), Fail> {
     Ok(())
 }
 
-/// The sink's methods, each with the longest operands.
-const METHODS: [(&str, &[Token]); 14] = [
-    ("unreachable", &[]),
-    ("nop", &[]),
-    ("end", &[]),
-    ("drop", &[]),
-    ("select", &[]),
-    ("i32_add", &[]),
-    ("i32_sub", &[]),
-    ("br", &[Token::U32(u32::MAX)]),
-    ("call", &[Token::U32(u32::MAX)]),
-    ("local_get", &[Token::U32(u32::MAX)]),
-    ("local_set", &[Token::U32(u32::MAX)]),
-    ("local_tee", &[Token::U32(u32::MAX)]),
-    ("i32_const", &[Token::I32(i32::MIN)]),
-    ("i64_const", &[Token::I64(i64::MIN)]),
+/// A method of each kind of operands without a list, its longest operands, and what it writes.
+const METHODS: [(&str, &str, &str); 21] = [
+    ("nop", "", "01"),
+    ("i16x8_shl", "", "FD8B01"),
+    ("block", "block:func:4294967295", "02FFFFFFFF0F"),
+    ("br", "u32:4294967295", "0CFFFFFFFF0F"),
+    (
+        "struct_get",
+        "u32:4294967295 u32:4294967295",
+        "FB02FFFFFFFF0FFFFFFFFF0F",
+    ),
+    (
+        "typed_select",
+        "val:ref:0:exact:4294967295",
+        "1C016462FFFFFFFF0F",
+    ),
+    (
+        "i32_atomic_load",
+        "memarg:18446744073709551615,63,4294967295",
+        "FE107FFFFFFFFF0FFFFFFFFFFFFFFFFFFF01",
+    ),
+    ("i32_const", "i32:-2147483648", "418080808078"),
+    (
+        "i64_const",
+        "i64:-9223372036854775808",
+        "428080808080808080807F",
+    ),
+    ("f32_const", "f32:4294967295", "43FFFFFFFF"),
+    ("f64_const", "f64:1", "440100000000000000"),
+    ("ref_null", "heap:exact:4294967295", "D062FFFFFFFF0F"),
+    (
+        "br_on_cast",
+        "u32:4294967295 ref:1:exact:4294967295 ref:1:exact:4294967295",
+        "FB1803FFFFFFFF0F62FFFFFFFF0F62FFFFFFFF0F",
+    ),
+    (
+        "v128_const",
+        "i128:1",
+        "FD0C01000000000000000000000000000000",
+    ),
+    (
+        "i8x16_shuffle",
+        "lanes:0,1,2,3,4,5,6,7,8,9,10,11,12,13,14,15",
+        "FD0D000102030405060708090A0B0C0D0E0F",
+    ),
+    ("i8x16_extract_lane_s", "lane:255", "FD15FF"),
+    (
+        "v128_load8_lane",
+        "memarg:18446744073709551615,63,4294967295 lane:255",
+        "FD547FFFFFFFFF0FFFFFFFFFFFFFFFFFFF01FF",
+    ),
+    ("atomic_fence", "order:acqrel", "FE0301"),
+    (
+        "global_atomic_get",
+        "order:acqrel u32:4294967295",
+        "FE4F01FFFFFFFF0F",
+    ),
+    (
+        "struct_atomic_get",
+        "order:acqrel u32:4294967295 u32:4294967295",
+        "FE5C01FFFFFFFF0FFFFFFFFF0F",
+    ),
+    ("i32x4_relaxed_dot_i8x16_i7x16_add_s", "", "FD9302"),
+];
+
+/// The methods with a list, and what they write.
+const LISTS: [(&str, &str, &str); 6] = [
+    ("br_table", "list:[u32:0;u32:1;u32:2] u32:3", "0E0300010203"),
+    ("typed_select_multi", "list:[val:i32;val:i64]", "1C027F7E"),
+    (
+        "try_table",
+        "block:empty list:[catch:one:1,0;catch:allref:2]",
+        "1F40020001000302",
+    ),
+    (
+        "resume",
+        "u32:3 list:[handle:label:0,1;handle:switch:2]",
+        "E303020000010102",
+    ),
+    (
+        "resume_throw",
+        "u32:1 u32:2 list:[handle:switch:300]",
+        "E401020101AC02",
+    ),
+    (
+        "resume_throw_ref",
+        "u32:1 list:[handle:label:0,1]",
+        "E50101000001",
+    ),
 ];
 
 #[test]
+fn growths_of_methods_are_refused(rt: HostRuntime) -> Result<(), Fail> {
+    for (method, operands, hex) in METHODS {
+        let hex = format!(in rt.alloc(); "2A{hex}")?;
+        refuse_each(
+            &rt,
+            rt.alloc(),
+            &Text::Method(method, operands),
+            hex.as_str(),
+        )?;
+    }
+    for (method, operands, hex) in LISTS {
+        let hex = format!(in rt.alloc(); "2A{hex}")?;
+        refuse_each(
+            &rt,
+            rt.alloc(),
+            &Text::Method(method, operands),
+            hex.as_str(),
+        )?;
+    }
+    Ok(())
+}
+
+/// The call of the method writes these bytes into the list, as far as the ration goes.
+fn grants(
+    rt: &impl Abort,
+    alloc: Global,
+    row: (&str, &str, &str),
+    room: usize,
+) -> Result<(), Fail> {
+    let (method, operands, hex) = row;
+    let ration = Rationed::new(alloc, 1);
+    let mut list = Vec::new(&ration);
+    if room > 0 {
+        list.reserve(room)?;
+    }
+    write(alloc, &Text::Method(method, operands), &mut list)?;
+    assert_eq!(rt;
+        list.as_slice(),
+        bytes(alloc, hex)?.as_slice(),
+        "at {method}"
+    );
+    Ok(())
+}
+
+#[test]
 fn one_growth_is_enough(rt: HostRuntime) -> Result<(), Fail> {
-    for (method, tokens) in METHODS {
-        let ration = Rationed::new(rt.alloc(), 1);
-        let mut list = Vec::new(&ration);
-        write(rt.alloc(), &Text::Method(method, tokens), &mut list)?;
-        assert!(rt; !list.is_empty(), "at {method}");
+    for row in METHODS {
+        grants(&rt, rt.alloc(), row, 0)?;
     }
     let constant = call(0x42, Operands::I64(i64::MIN))?;
     for text in [
@@ -189,11 +294,8 @@ fn one_growth_is_enough(rt: HostRuntime) -> Result<(), Fail> {
 
 #[test]
 fn room_for_24_bytes_is_enough(rt: HostRuntime) -> Result<(), Fail> {
-    for (method, tokens) in METHODS {
-        let ration = Rationed::new(rt.alloc(), 1);
-        let mut list = Vec::with_capacity(&ration, 24)?;
-        write(rt.alloc(), &Text::Method(method, tokens), &mut list)?;
-        assert!(rt; !list.is_empty(), "at {method}");
+    for row in METHODS {
+        grants(&rt, rt.alloc(), row, 24)?;
     }
     let ration = Rationed::new(rt.alloc(), 1);
     let mut list = Vec::with_capacity(&ration, 24)?;

@@ -2,7 +2,7 @@
 
 use super::bytes;
 use super::own::{Long, Never};
-use crate::encoded;
+use crate::check_types;
 use std::test::Fail;
 use wasm_encoder::{Encode, EncodeError, SectionId, encode_bytes, encode_list, encode_str};
 
@@ -87,7 +87,7 @@ fn tokens(rt: HostRuntime) -> Result<(), Fail> {
         "encode\tlist:[i32:-65;i64:64]\t02BF7FC000",
         "encode\tsectionid:tag\t0D",
     ] {
-        encoded::check(rt.alloc(), line)?;
+        check_types(rt.alloc(), line)?;
     }
     Ok(())
 }

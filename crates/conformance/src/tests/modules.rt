@@ -2,7 +2,7 @@
 
 use super::bytes;
 use super::own::{Long, Memories, Never, Unappended};
-use crate::sections;
+use crate::check_types;
 use std::alloc::Global;
 use std::process::Abort;
 use std::test::Fail;
@@ -179,7 +179,7 @@ fn lines(rt: HostRuntime) -> Result<(), Fail> {
         "module\traws:0\t0061736D01000000",
         "module\traws:2 3 00 1 01\t0061736D01000000030100010101",
     ] {
-        sections::check(rt.alloc(), line)?;
+        check_types(rt.alloc(), line)?;
     }
     Ok(())
 }

@@ -1,85 +1,90 @@
-//! The table of opcodes, and calls.
+//! The table of opcodes.
 
-use super::{call, plain};
 use std::test::Fail;
-use wasm_encoder::{Call, Kind, Opcode, Operands, Prefix};
+use wasm_encoder::{Kind, Opcode, Prefix};
 
-const PREFIXES: [Prefix; 5] = [Prefix::None, Prefix::Fb, Prefix::Fc, Prefix::Fd, Prefix::Fe];
+/// How many of the numbers below 512 are opcodes of the prefix.
+fn opcodes(prefix: Prefix) -> u32 {
+    let mut opcodes: u32 = 0;
+    for number in 0..512 {
+        if (Opcode { prefix, number }).kind().is_some() {
+            opcodes = opcodes.saturating_add(1);
+        }
+    }
+    opcodes
+}
+
+#[test]
+fn opcodes_of_each_prefix(rt: HostRuntime) {
+    assert_eq!(rt; opcodes(Prefix::None), 206);
+    assert_eq!(rt; opcodes(Prefix::Fb), 38);
+    assert_eq!(rt; opcodes(Prefix::Fc), 23);
+    assert_eq!(rt; opcodes(Prefix::Fd), 256);
+    assert_eq!(rt; opcodes(Prefix::Fe), 104);
+}
 
 #[test]
 fn kinds_of_opcodes(rt: HostRuntime) {
     for (number, kind) in [
-        (0x00, Kind::None),
-        (0x01, Kind::None),
-        (0x0b, Kind::None),
-        (0x0c, Kind::Index),
-        (0x10, Kind::Index),
-        (0x1a, Kind::None),
-        (0x1b, Kind::None),
-        (0x20, Kind::Index),
-        (0x21, Kind::Index),
-        (0x22, Kind::Index),
-        (0x41, Kind::I32),
-        (0x42, Kind::I64),
-        (0x6a, Kind::None),
-        (0x6b, Kind::None),
+        (0x00, Some(Kind::None)),
+        (0x02, Some(Kind::Block)),
+        (0x0e, Some(Kind::BrTable)),
+        (0x11, Some(Kind::TwoIndexes)),
+        (0x16, None),
+        (0x1c, Some(Kind::Types)),
+        (0x1d, None),
+        (0x1f, Some(Kind::TryTable)),
+        (0x20, Some(Kind::Index)),
+        (0x27, None),
+        (0x28, Some(Kind::Mem)),
+        (0x3e, Some(Kind::Mem)),
+        (0x41, Some(Kind::I32)),
+        (0x42, Some(Kind::I64)),
+        (0x43, Some(Kind::F32)),
+        (0x44, Some(Kind::F64)),
+        (0xc4, Some(Kind::None)),
+        (0xc5, None),
+        (0xd0, Some(Kind::Heap)),
+        (0xe3, Some(Kind::Resume)),
+        (0xe4, Some(Kind::ResumeThrow)),
+        (0xe5, Some(Kind::Resume)),
+        (0xe6, Some(Kind::TwoIndexes)),
+        (0xe7, None),
+        (0xfb, None),
+        (256, None),
     ] {
-        assert_eq!(rt; plain(number).kind(), Some(kind), "at {number}");
-    }
-    let mut opcodes: u32 = 0;
-    for prefix in PREFIXES {
-        for number in 0..512 {
-            if (Opcode { prefix, number }).kind().is_some() {
-                opcodes = opcodes.saturating_add(1);
-            }
-        }
-    }
-    assert_eq!(rt; opcodes, 14);
-}
-
-#[test]
-fn calls_are_made(rt: HostRuntime) -> Result<(), Fail> {
-    for (number, operands, kind) in [
-        (0x0b, Operands::None, Kind::None),
-        (0x20, Operands::Index(7), Kind::Index),
-        (0x41, Operands::I32(-7), Kind::I32),
-        (0x42, Operands::I64(-7), Kind::I64),
-    ] {
-        assert_eq!(rt; operands.kind(), kind);
-        let same = operands.try_clone()?;
-        assert_eq!(rt; same, operands);
-        let call = call(number, operands)?;
-        assert_eq!(rt; call.op(), plain(number));
-        assert_eq!(rt; *call.operands(), same);
-        assert_eq!(rt; call.try_clone()?, call);
-    }
-    Ok(())
-}
-
-#[test]
-fn operands_are_handed_back(rt: HostRuntime) {
-    for (number, operands, same) in [
-        (0x0b, Operands::Index(7), Operands::Index(7)),
-        (0x20, Operands::None, Operands::None),
-        (0x41, Operands::I64(-7), Operands::I64(-7)),
-        (0x42, Operands::I32(-7), Operands::I32(-7)),
-        (0x16, Operands::None, Operands::None),
-        (0xff, Operands::Index(7), Operands::Index(7)),
-    ] {
-        assert_eq!(rt;
-            Call::new(plain(number), operands),
-            Err(same),
-            "at {number}"
-        );
+        let op = Opcode {
+            prefix: Prefix::None,
+            number,
+        };
+        assert_eq!(rt; op.kind(), kind, "at {number}");
     }
 }
 
 #[test]
-fn calls_differ(rt: HostRuntime) -> Result<(), Fail> {
-    let get = call(0x20, Operands::Index(0))?;
-    assert!(rt; get != call(0x21, Operands::Index(0))?);
-    assert!(rt; get != call(0x20, Operands::Index(1))?);
-    assert!(rt; Operands::I32(1) != Operands::I64(1));
-    assert!(rt; Operands::None != Operands::Index(0));
-    Ok(())
+fn kinds_after_prefixes(rt: HostRuntime) {
+    for (prefix, number, kind) in [
+        (Prefix::Fb, 0x18, Some(Kind::Cast)),
+        (Prefix::Fb, 0x1f, None),
+        (Prefix::Fb, 0x26, Some(Kind::Cast)),
+        (Prefix::Fb, 0x27, None),
+        (Prefix::Fc, 0x08, Some(Kind::TwoIndexes)),
+        (Prefix::Fc, 0x16, Some(Kind::None)),
+        (Prefix::Fc, 0x17, None),
+        (Prefix::Fd, 0x0c, Some(Kind::V128)),
+        (Prefix::Fd, 0x0d, Some(Kind::Shuffle)),
+        (Prefix::Fd, 0x15, Some(Kind::Lane)),
+        (Prefix::Fd, 0x54, Some(Kind::MemLane)),
+        (Prefix::Fd, 0x9a, None),
+        (Prefix::Fd, 0x113, Some(Kind::None)),
+        (Prefix::Fd, 0x114, None),
+        (Prefix::Fe, 0x03, Some(Kind::Order)),
+        (Prefix::Fe, 0x4f, Some(Kind::OrderIndex)),
+        (Prefix::Fe, 0x5c, Some(Kind::OrderTwoIndexes)),
+        (Prefix::Fe, 0x72, Some(Kind::None)),
+        (Prefix::Fe, 0x73, None),
+        (Prefix::Fe, 4294967295, None),
+    ] {
+        assert_eq!(rt; (Opcode { prefix, number }).kind(), kind, "at {number}");
+    }
 }

@@ -1,13 +1,16 @@
 //! Fields and composite types, written (Core 3.0, 5.3.8 to 5.3.10).
 ghost use Rattle.std.specs.Prelude.{◌≡◌, ◌++◌, ◌+◌, ◌≤◌, Some, OnOk, IsErrOf, IsSomeAnd, IsNone, length, take, vec_len, vec_capacity};
 ghost use Rattle.wasm_encoder.specs.CompositeTypes.{field_type_text};
-ghost use Rattle.wasm_encoder.specs.TypeEncoding.{inner_encoding, composite_encoding, supertypes_encoding, sub_encoding, entry_encoding, shared_text, flagged_index_text};
+ghost use Rattle.wasm_encoder.specs.TypeEncoding.{func_encoding, struct_encoding, array_encoding, cont_encoding, inner_encoding, composite_encoding, supertypes_encoding, sub_encoding, entry_encoding, shared_text, flagged_index_text};
 
 use super::heap_types::put_storage_type;
 use super::leb128::{put_index, put_u32};
 use super::lists::encode_list;
 use super::{Encode, EncodeError};
-use crate::types::{CompositeInnerType, CompositeType, FieldType, SubType, TypeEntry};
+use crate::types::{
+    ArrayType, CompositeInnerType, CompositeType, ContType, FieldType, FuncType, StructType,
+    SubType, TypeEntry,
+};
 use std::alloc::Allocator;
 
 /// Writes a field in 2 to 8 bytes.
@@ -32,51 +35,84 @@ impl Encode for FieldType {
     }
 }
 
-/// Appends what a composite type is made of. An `Err` can leave a part of it.
-fn append_inner<A: Allocator>(
-    inner: &CompositeInnerType,
-    sink: &mut Vec<u8, A>,
-) -> Result<(), EncodeError>
-    ensures ok { OnOk result (IsSomeAnd (inner_encoding inner.now) (λ t. sink.new.items ≡ sink.old.items ++ t)) }
-    ensures too_long { IsErrOf result EncodeError.TooLong → IsNone (inner_encoding inner.now) }
-    ensures alignment { IsErrOf result EncodeError.Alignment → IsNone (inner_encoding inner.now) }
+/// Appends a function type. An `Err` can leave a part of it.
+fn append_func<A: Allocator>(ty: &FuncType, sink: &mut Vec<u8, A>) -> Result<(), EncodeError>
+    ensures ok { OnOk result (IsSomeAnd (func_encoding ty.now) (λ t. sink.new.items ≡ sink.old.items ++ t)) }
+    ensures too_long { IsErrOf result EncodeError.TooLong → IsNone (func_encoding ty.now) }
+    ensures alignment { IsErrOf result EncodeError.Alignment → IsNone (func_encoding ty.now) }
     ensures kept { take (length sink.old.items) sink.new.items ≡ sink.old.items }
 {
-    sink.reserve(9)?;
-    match inner {
-        CompositeInnerType::Func(ty) => {
-            sink.push_reserved(0x60);
-            encode_list(ty.params(), sink)?;
-            encode_list(ty.results(), sink)
-        }
-        CompositeInnerType::Struct(ty) => {
-            sink.push_reserved(0x5f);
-            encode_list(ty.fields.as_slice(), sink)
-        }
-        CompositeInnerType::Array(ty) => {
-            sink.push_reserved(0x5e);
-            put_field_type(sink, ty.0);
-            Ok(())
-        }
-        CompositeInnerType::Cont(ty) => {
-            sink.push_reserved(0x5d);
-            put_index(sink, ty.0);
-            Ok(())
-        }
-    }
+    sink.reserve(1)?;
+    sink.push_reserved(0x60);
+    encode_list(ty.params(), sink)?;
+    encode_list(ty.results(), sink)
 }
 
-/// The byte of a composite type, and then its parts (Core 3.0, 5.3.10).
-impl Encode for CompositeInnerType {
-    ghost text = { inner_encoding };
+/// `0x60`, the parameters and the results (Core 3.0, 5.3.10).
+impl Encode for FuncType {
+    ghost text = { func_encoding };
 
     fn encode<A: Allocator>(&self, sink: &mut Vec<u8, A>) -> Result<(), EncodeError> {
         let start = sink.len();
-        let result = append_inner(self, sink);
+        let result = append_func(self, sink);
         if result.is_err() {
             sink.truncate(start);
         }
         result
+    }
+}
+
+/// `0x5F` and the fields (Core 3.0, 5.3.10).
+impl Encode for StructType {
+    ghost text = { struct_encoding };
+
+    fn encode<A: Allocator>(&self, sink: &mut Vec<u8, A>) -> Result<(), EncodeError> {
+        let start = sink.len();
+        sink.reserve(1)?;
+        sink.push_reserved(0x5f);
+        let result = encode_list(self.fields.as_slice(), sink);
+        if result.is_err() {
+            sink.truncate(start);
+        }
+        result
+    }
+}
+
+/// `0x5E` and the field (Core 3.0, 5.3.10).
+impl Encode for ArrayType {
+    ghost text = { array_encoding };
+
+    fn encode<A: Allocator>(&self, sink: &mut Vec<u8, A>) -> Result<(), EncodeError> {
+        sink.reserve(9)?;
+        sink.push_reserved(0x5e);
+        put_field_type(sink, self.0);
+        Ok(())
+    }
+}
+
+/// `0x5D` and the index of a function type, as an s33 (a proposal).
+impl Encode for ContType {
+    ghost text = { cont_encoding };
+
+    fn encode<A: Allocator>(&self, sink: &mut Vec<u8, A>) -> Result<(), EncodeError> {
+        sink.reserve(6)?;
+        sink.push_reserved(0x5d);
+        put_index(sink, self.0);
+        Ok(())
+    }
+}
+
+/// The text of what it is made of (Core 3.0, 5.3.10).
+impl Encode for CompositeInnerType {
+    ghost text = { inner_encoding };
+
+    fn encode<A: Allocator>(&self, sink: &mut Vec<u8, A>) -> Result<(), EncodeError> {
+        match self {
+            CompositeInnerType::Func(ty) => ty.encode(sink),
+            CompositeInnerType::Struct(ty) => ty.encode(sink),
+            CompositeInnerType::Array(ty) => ty.encode(sink),
+            CompositeInnerType::Cont(ty) => ty.encode(sink),
+        }
     }
 }
 

@@ -1,5 +1,5 @@
 //! LEB128 numbers, written into room that was reserved. `encode` and the instruction sink write them here alone.
-ghost use Rattle.std.specs.Prelude.{◌≡◌, ◌++◌, ◌+◌, ◌*◌, ◌^◌, ◌<◌, ◌≤◌, pos, vec_len, vec_capacity};
+ghost use Rattle.std.specs.Prelude.{◌≡◌, ◌++◌, ◌+◌, ◌*◌, ◌^◌, ◌<◌, ◌≤◌, length, pos, vec_len, vec_capacity};
 ghost use Rattle.wasm_encoder.specs.Numbers.{turned, digits_of, unsigned_text, signed_text};
 
 use std::alloc::Allocator;
@@ -137,4 +137,19 @@ pub(crate) fn put_index<A: Allocator>(bytes: &mut Vec<u8, A>, index: u32)
     ensures capacity { vec_capacity bytes.new ≡ vec_capacity bytes.old }
 {
     put_few(bytes, false, 64, u64::from(index));
+}
+
+/// How many bytes the text of a number has.
+#[tactic(auto, unfolding(crate::specs::Numbers::unsigned_text, crate::specs::Numbers::digits_of))]
+pub(crate) fn u32_len(value: u32) -> usize
+    ensures value { result ≡ length (unsigned_text value) }
+    ensures most { result ≤ 5 }
+{
+    match value {
+        0..0x80 => 1,
+        0x80..0x4000 => 2,
+        0x4000..0x20_0000 => 3,
+        0x20_0000..0x1000_0000 => 4,
+        _ => 5,
+    }
 }

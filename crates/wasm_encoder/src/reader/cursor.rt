@@ -156,6 +156,15 @@ impl<'a> Cursor<'a> {
         u32::try_from(digits.unsigned).map_err(|_| Fault::Malformed)
     }
 
+    /// A u64 (Core 3.0, 5.2.2).
+    #[tactic(auto, unfolding(crate::specs::Numbers::u64_at))]
+    pub(super) fn u64(&mut self) -> Result<u64, Fault>
+        ensures reads { Reads u64_at self.old self.new result }
+    {
+        let digits = self.digits(10)?;
+        u64::try_from(digits.unsigned).map_err(|_| Fault::Malformed)
+    }
+
     /// An s32 (Core 3.0, 5.2.2).
     #[tactic(auto, unfolding(crate::specs::Numbers::s32_at))]
     pub(crate) fn s32(&mut self) -> Result<i32, Fault>

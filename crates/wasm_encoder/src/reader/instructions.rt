@@ -2,13 +2,13 @@
 ghost use Rattle.std.specs.Prelude.{◌≡◌, ◌↔◌, ◌++◌, ◌<◌, List, length, IfOk, IfErr, OnOk};
 ghost use Rattle.wasm_encoder.specs.Reading.{Reads};
 ghost use Rattle.wasm_encoder.specs.Answers.{IsOrMemory, IfRefused, IsLongestFront, SpellsSome, IsNormalForm};
-ghost use Rattle.wasm_encoder.specs.Instructions.{Instruction, SpellsInstructions, instruction_text, instructions_text, kind_of, opcode_at, operands_at, instruction_at};
+ghost use Rattle.wasm_encoder.specs.Instructions.{Instruction, SpellsInstructions, instruction_text, instructions_text, opcode_at, instruction_at};
 ghost use Rattle.wasm_encoder.specs.declared.reader.ReadError.TheVariants.{Memory};
 
 use super::cursor::{Cursor, Fault};
 use super::{ReadError, read_error};
 use crate::sink::append_call;
-use crate::table::{Call, Kind, Opcode, Operands, Prefix};
+use crate::table::{Call, Opcode, Prefix};
 use std::alloc::Global;
 
 /// The instructions that the bytes spell, in any spelling of their numbers (Core 3.0, 5.4).
@@ -39,7 +39,7 @@ fn calls_of(alloc: Global, bytes: &[u8]) -> Result<Vec<Call>, ReadError>
     let mut cursor = Cursor::new(bytes);
     while cursor.len() > 0 {
         let at = bytes.len() - cursor.len();
-        match cursor.call() {
+        match cursor.call(alloc) {
             Ok(call) => calls.push(call)?,
             Err(fault) => return Err(read_error(fault, at)),
         }
@@ -83,8 +83,8 @@ fn text_of(alloc: Global, bytes: &[u8]) -> Result<Vec<u8>, ReadError>
     let mut cursor = Cursor::new(bytes);
     while cursor.len() > 0 {
         let at = bytes.len() - cursor.len();
-        match cursor.call() {
-            Ok(call) => append_text(&mut text, &call)?,
+        match cursor.call(alloc) {
+            Ok(call) => append_text(&mut text, call)?,
             Err(fault) => return Err(read_error(fault, at)),
         }
     }
@@ -93,11 +93,11 @@ fn text_of(alloc: Global, bytes: &[u8]) -> Result<Vec<u8>, ReadError>
 
 /// Appends the text of a call that was read. Its lists are no longer than the bytes that they were read from, so
 /// only memory can be wanting.
-fn append_text(text: &mut Vec<u8>, call: &Call) -> Result<(), ReadError>
-    ensures ok { OnOk result (text.new.items ≡ text.old.items ++ instruction_text call.now) }
+fn append_text(text: &mut Vec<u8>, call: Call) -> Result<(), ReadError>
+    ensures ok { OnOk result (text.new.items ≡ text.old.items ++ instruction_text call) }
     ensures err { IfErr result (λ e. e ≡ Memory) }
 {
-    append_call(text, call).map_err(|_| ReadError::Memory)
+    append_call(text, &call).map_err(|_| ReadError::Memory)
 }
 
 impl<'a> Cursor<'a> {
@@ -123,30 +123,16 @@ impl<'a> Cursor<'a> {
         Ok(Opcode { prefix, number })
     }
 
-    /// Operands of a kind.
-    #[tactic(auto, unfolding(crate::specs::Instructions::operands_at))]
-    fn operands(&mut self, kind: Kind) -> Result<Operands, Fault>
-        ensures reads { Reads (operands_at kind) self.old self.new result }
-        ensures kind { IfOk result (λ o. kind_of o ≡ kind) }
-    {
-        match kind {
-            Kind::None => Ok(Operands::None),
-            Kind::Index => Ok(Operands::Index(self.u32()?)),
-            Kind::I32 => Ok(Operands::I32(self.s32()?)),
-            Kind::I64 => Ok(Operands::I64(self.s64()?)),
-        }
-    }
-
     /// An instruction.
     #[tactic(auto, unfolding(crate::specs::Instructions::instruction_at))]
-    pub(super) fn call(&mut self) -> Result<Call, Fault>
+    pub(super) fn call(&mut self, alloc: Global) -> Result<Call, Fault>
         ensures reads { Reads instruction_at self.old self.new result }
     {
         let op = self.opcode()?;
         let Some(kind) = op.kind() else {
             return Err(Fault::Malformed);
         };
-        let operands = self.operands(kind)?;
+        let operands = self.operands(alloc, kind)?;
         Ok(Call::from_parts(op, operands))
     }
 }

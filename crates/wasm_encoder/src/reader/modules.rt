@@ -1,10 +1,11 @@
 //! Modules: a header, and then sections (Core 3.0, 5.5).
-ghost use Rattle.std.specs.Prelude.{◌≡◌, ◌++◌, ℕ, List, drop, IfOk, IfSome, IfNone};
+ghost use Rattle.std.specs.Prelude.{◌≡◌, ◌++◌, ℕ, List, drop, map, IfOk, IfSome, IfNone};
 ghost use Rattle.std.specs.List.{AllByRecursion};
 ghost use Rattle.wasm_encoder.specs.Reading.{Reads, map_ok};
 ghost use Rattle.wasm_encoder.specs.Answers.{IsOrMemory, IfRefused, IsLongestFront};
 ghost use Rattle.wasm_encoder.specs.Encoding.{IsTextOrLonger};
 ghost use Rattle.wasm_encoder.specs.Modules.{header, IsSection, SectionParts, SpellsModule, IsModuleFront, all_parts_of, module_text, parts_of, byte_list_at, section_at};
+ghost use Rattle.wasm_encoder.specs.TypedModules.{TypedSection, IsTypedSection, framed, typed_module_text, Holds};
 
 use super::cursor::{Cursor, Fault};
 use super::{ReadError, read_error};
@@ -31,6 +32,13 @@ pub fn read_module<'a>(alloc: Global, bytes: &'a [u8]) -> Result<Vec<RawSection<
     ensures read_back { (sections : List SectionParts) → AllByRecursion IsSection sections →
         bytes.now ≡ module_text sections →
         IsOrMemory (λ given. all_parts_of given.items) sections result }
+    // The text of a typed module is read back as its sections, each with its body as bytes.
+    ensures typed_read_back { (sections : List TypedSection) → AllByRecursion IsTypedSection sections →
+        bytes.now ≡ typed_module_text sections →
+        IsOrMemory (λ given. all_parts_of given.items) (map framed sections) result }
+    // That body of a type section spells its entries.
+    ensures entries_read_back { (section : TypedSection) → IsTypedSection section →
+        Holds (framed section) section.content }
     // Every other spelling of a list is longer than its text.
     ensures shortest { (sections : List SectionParts) → SpellsModule bytes.now sections →
         IsTextOrLonger bytes.now (module_text sections) }
@@ -61,7 +69,7 @@ fn sections_of<'a>(alloc: Global, bytes: &'a [u8]) -> Result<Vec<RawSection<'a>>
 }
 
 /// The bytes after the header, if it is there.
-fn after_header(bytes: &[u8]) -> Option<&[u8]>
+pub(super) fn after_header(bytes: &[u8]) -> Option<&[u8]>
     ensures found { IfSome result (λ rest. bytes.now ≡ header ++ rest.now) }
     ensures rest { IfSome result (λ rest. rest.now ≡ drop 8 bytes.now) }
     ensures missing { IfNone result ((rest : List ℕ) → bytes.now ≡ header ++ rest → ⊥) }
@@ -81,7 +89,7 @@ impl<'a> Cursor<'a> {
 
     /// A section.
     #[tactic(auto, unfolding(crate::specs::Modules::section_at))]
-    fn section(&mut self) -> Result<RawSection<'a>, Fault>
+    pub(super) fn section(&mut self) -> Result<RawSection<'a>, Fault>
         ensures reads { Reads section_at self.old self.new (map_ok parts_of result) }
     {
         let id = self.byte()?;

@@ -88,7 +88,7 @@ pub fn normalise_type_section(alloc: Global, body: &[u8]) -> Result<Vec<u8>, Rea
 }
 
 /// The entries' text after their count, written one by one as they are read.
-fn body_text_of(alloc: Global, body: &[u8]) -> Result<Vec<u8>, ReadError>
+pub(super) fn body_text_of(alloc: Global, body: &[u8]) -> Result<Vec<u8>, ReadError>
     ensures given { IfOk result (λ text.
         IsNormalForm SpellsTypeBody type_body_text body.now text.items) }
     ensures front { IfRefused result (IsLongestFront IsTypeBodyFront body.now) }

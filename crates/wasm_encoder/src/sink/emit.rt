@@ -2,10 +2,18 @@
 //! into, and writes the call's text there.
 ghost use Rattle.std.specs.Prelude.{◌≡◌, ◌++◌, ◌∷◌, ◌+◌, ◌^◌, ◌<◌, ◌≤◌, IsOk, vec_len, vec_capacity};
 ghost use Rattle.std.specs.Borrow.{sem};
-ghost use Rattle.wasm_encoder.specs.Sink.{IsUnchangedAtErr, IsSameSink, Writes, HasRoom};
+ghost use Rattle.wasm_encoder.specs.Sink.{IsUnchangedAtErr, IsSameSink, Writes, WritesText, HasRoom};
 ghost use Rattle.wasm_encoder.specs.Numbers.{unsigned_text};
-ghost use Rattle.wasm_encoder.specs.Instructions.{IsShort, opcode_text, plain};
+ghost use Rattle.wasm_encoder.specs.Instructions.{HasNoList, IsAligned, IsShort, opcode_text, plain, after_fb, after_fc, after_fd, after_fe};
 ghost use Rattle.wasm_encoder.specs.declared.table.call.Operands.TheVariants as operands;
+
+mod bits;
+mod items;
+mod iterators;
+mod lists;
+mod memory;
+mod orders;
+mod types;
 
 use super::InstructionSink;
 use crate::encode::{EncodeError, put_i32, put_i64, put_u32};
@@ -22,6 +30,46 @@ pub(super) const fn plain(number: u8) -> Opcode
     Opcode {
         prefix: Prefix::None,
         number: number as u32,
+    }
+}
+
+/// An opcode after the byte `0xFB`.
+pub(super) const fn after_fb(number: u32) -> Opcode
+    ensures { result ≡ after_fb number }
+{
+    Opcode {
+        prefix: Prefix::Fb,
+        number,
+    }
+}
+
+/// An opcode after the byte `0xFC`.
+pub(super) const fn after_fc(number: u32) -> Opcode
+    ensures { result ≡ after_fc number }
+{
+    Opcode {
+        prefix: Prefix::Fc,
+        number,
+    }
+}
+
+/// An opcode after the byte `0xFD`.
+pub(super) const fn after_fd(number: u32) -> Opcode
+    ensures { result ≡ after_fd number }
+{
+    Opcode {
+        prefix: Prefix::Fd,
+        number,
+    }
+}
+
+/// An opcode after the byte `0xFE`.
+pub(super) const fn after_fe(number: u32) -> Opcode
+    ensures { result ≡ after_fe number }
+{
+    Opcode {
+        prefix: Prefix::Fe,
+        number,
     }
 }
 
@@ -72,14 +120,41 @@ impl<'a, A: Allocator> InstructionSink<'a, A> {
         requires { IsShort op }
         ensures* unchanged { sem 𝓛 (IsUnchangedAtErr A.row A.Allocator self.entry result) }
         ensures same { IsSameSink self.entry result }
-        ensures wrote { Writes self.entry op operands.now result }
-        ensures room { HasRoom self.entry → IsOk result }
+        ensures wrote { WritesText self.entry op operands.now result }
+        ensures room { HasRoom self.entry → HasNoList operands.now → IsAligned operands.now → IsOk result }
     {
         match operands {
             Operands::None => self.emit(op),
+            Operands::Block(ty) => self.emit_block(op, *ty),
             Operands::Index(index) => self.emit_index(op, *index),
+            Operands::TwoIndexes(first, second) => self.emit_two_indexes(op, *first, *second),
+            Operands::BrTable(labels, default) => {
+                self.emit_branch_table_of(op, labels.as_slice(), *default)
+            }
+            Operands::Types(types) => self.emit_types_of(op, types.as_slice()),
+            Operands::TryTable(ty, clauses) => self.emit_try_table_of(op, *ty, clauses.as_slice()),
+            Operands::Mem(arg) => self.emit_mem(op, *arg),
             Operands::I32(value) => self.emit_i32(op, *value),
             Operands::I64(value) => self.emit_i64(op, *value),
+            Operands::F32(value) => self.emit_f32(op, *value),
+            Operands::F64(value) => self.emit_f64(op, *value),
+            Operands::Heap(ty) => self.emit_heap(op, *ty),
+            Operands::Resume(index, handlers) => {
+                self.emit_resume_of(op, *index, handlers.as_slice())
+            }
+            Operands::ResumeThrow(index, tag, handlers) => {
+                self.emit_resume_throw_of(op, *index, *tag, handlers.as_slice())
+            }
+            Operands::Cast(label, before, after) => self.emit_cast(op, *label, *before, *after),
+            Operands::V128(value) => self.emit_v128(op, *value),
+            Operands::Shuffle(lanes) => self.emit_shuffle(op, *lanes),
+            Operands::Lane(lane) => self.emit_lane(op, *lane),
+            Operands::MemLane(arg, lane) => self.emit_mem_lane(op, *arg, *lane),
+            Operands::Order(ordering) => self.emit_order(op, *ordering),
+            Operands::OrderIndex(ordering, index) => self.emit_order_index(op, *ordering, *index),
+            Operands::OrderTwoIndexes(ordering, first, second) => {
+                self.emit_order_two_indexes(op, *ordering, *first, *second)
+            }
         }
     }
 
@@ -113,6 +188,27 @@ impl<'a, A: Allocator> InstructionSink<'a, A> {
         bytes.reserve(ROOM)?;
         put_opcode(bytes, op);
         put_u32(bytes, index);
+        Ok(InstructionSink { bytes })
+    }
+
+    /// A call with two indexes, in the order in which they are written.
+    pub(super) fn emit_two_indexes(
+        self,
+        op: Opcode,
+        first: u32,
+        second: u32,
+    ) -> Result<InstructionSink<'a, A>, EncodeError>
+        requires { IsShort op }
+        ensures* unchanged { sem 𝓛 (IsUnchangedAtErr A.row A.Allocator self.entry result) }
+        ensures same { IsSameSink self.entry result }
+        ensures wrote { Writes self.entry op (operands.TwoIndexes first second) result }
+        ensures room { HasRoom self.entry → IsOk result }
+    {
+        let InstructionSink { bytes } = self;
+        bytes.reserve(ROOM)?;
+        put_opcode(bytes, op);
+        put_u32(bytes, first);
+        put_u32(bytes, second);
         Ok(InstructionSink { bytes })
     }
 

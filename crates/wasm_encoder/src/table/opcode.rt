@@ -33,12 +33,50 @@ pub struct Opcode {
 pub enum Kind {
     /// Nothing.
     None,
+    /// A block type.
+    Block,
     /// An index, as a u32.
     Index,
+    /// Two indexes.
+    TwoIndexes,
+    /// A list of labels, and the label of all other numbers.
+    BrTable,
+    /// A list of value types.
+    Types,
+    /// A block type and a list of catch clauses.
+    TryTable,
+    /// A memory argument.
+    Mem,
     /// A signed number of 32 bits.
     I32,
     /// A signed number of 64 bits.
     I64,
+    /// The bits of a floating-point number, in 4 bytes.
+    F32,
+    /// The bits of a floating-point number, in 8 bytes.
+    F64,
+    /// A heap type.
+    Heap,
+    /// An index and a list of handlers.
+    Resume,
+    /// Two indexes and a list of handlers.
+    ResumeThrow,
+    /// Flags, a label and two heap types.
+    Cast,
+    /// The bits of a vector, in 16 bytes.
+    V128,
+    /// Sixteen lanes.
+    Shuffle,
+    /// A lane.
+    Lane,
+    /// A memory argument and a lane.
+    MemLane,
+    /// An ordering.
+    Order,
+    /// An ordering and an index.
+    OrderIndex,
+    /// An ordering and two indexes.
+    OrderTwoIndexes,
 }
 
 impl Opcode {

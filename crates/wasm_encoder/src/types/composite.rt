@@ -1,8 +1,11 @@
 //! Composite types, subtypes and the entries of a type section (Core 3.0, 5.3.9 to 5.3.12).
-ghost use Rattle.std.specs.Prelude.{◌≡◌};
+ghost use Rattle.std.specs.Prelude.{◌≡◌, IfOk};
+ghost use Rattle.std.specs.Iterator.{Drains, IsFinite};
 
 use super::value::{StorageType, ValType};
+use crate::encode::EncodeError;
 use crate::list::Items;
+use std::alloc::Global;
 
 /// A field of a structure, or what an array holds.
 #[derive(Clone, Copy, Debug, PartialEq, Eq, Hash, PartialOrd, Ord)]
@@ -22,25 +25,64 @@ pub struct ArrayType(pub FieldType);
 pub struct ContType(pub u32);
 
 /// A structure.
-#[derive(Debug, PartialEq, Eq, Drop)]
+#[derive(Debug, PartialEq, Eq, Hash, Drop)]
 pub struct StructType {
     /// The fields, in order.
     pub fields: Items<FieldType>,
 }
 
+impl StructType {
+    /// A structure of these fields.
+    pub fn new(alloc: Global, fields: &[FieldType]) -> Result<StructType, EncodeError>
+        ensures { IfOk result (λ ty. ty.fields ≡ fields.now) }
+    {
+        let fields = Items::from_slice(alloc, fields)?;
+        Ok(StructType { fields })
+    }
+}
+
 /// A function type.
-#[derive(Debug, PartialEq, Eq, Drop)]
+#[derive(Debug, PartialEq, Eq, Hash, Drop)]
 pub struct FuncType {
     params: Items<ValType>,
     results: Items<ValType>,
 }
 
 impl FuncType {
+    /// A function type of the parameters and results that two iterators give.
+    pub fn new<P: Iterator<Item = ValType>, R: Iterator<Item = ValType>>(
+        alloc: Global,
+        params: P,
+        results: R,
+    ) -> Result<FuncType, EncodeError>
+        requires params { P.can_next params × IsFinite (P.remaining params) }
+        requires results { R.can_next results × IsFinite (R.remaining results) }
+        ensures params { IfOk result (λ ty. Drains P.next_gives params ty.params) }
+        ensures results { IfOk result (λ ty. Drains R.next_gives results ty.results) }
+    {
+        let params: Vec<ValType> = params.collect(alloc)?;
+        let results: Vec<ValType> = results.collect(alloc)?;
+        Ok(FuncType {
+            params: Items::from(params),
+            results: Items::from(results),
+        })
+    }
+
     /// A function type of these parameters and results.
     pub(crate) fn from_lists(params: Items<ValType>, results: Items<ValType>) -> FuncType
         ensures { result ≡ record { params = params; results = results } }
     {
         FuncType { params, results }
+    }
+
+    /// An equal function type.
+    pub fn try_clone(&self) -> Result<FuncType, EncodeError>
+        ensures { IfOk result (λ ty. ty ≡ self.now) }
+    {
+        Ok(FuncType {
+            params: self.params.try_clone()?,
+            results: self.results.try_clone()?,
+        })
     }
 
     /// The types of the parameters.

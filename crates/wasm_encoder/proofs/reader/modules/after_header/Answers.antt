@@ -1,4 +1,4 @@
-use Rattle.wasm_encoder.proofs.ModuleLaws.{header_found, header_missing}
+use Rattle.wasm_encoder.proofs.HeaderLaws.{header_found, header_missing}
 use Rattle.wasm_encoder.proofs.reader.modules.after_header.Goals as goal
 
 pub returns-clause-found : goal.returns-clause-found

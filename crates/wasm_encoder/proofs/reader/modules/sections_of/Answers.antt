@@ -2,7 +2,8 @@ use Rattle.std.proofs.Common.{◌≡◌, ◌++◌, ◌∷◌, [], drop, ap, ◌�
 use Rattle.std.proofs.lemmas.List.{map_push}
 use Rattle.wasm_encoder.specs.Modules.{header, parts_of, all_parts_of}
 use Rattle.wasm_encoder.proofs.ListReading.{IsBytes-from, IsBytes-drop, next}
-use Rattle.wasm_encoder.proofs.ModuleLaws.{Reads-section, TakesBytes-section, module_front, module_unspelled}
+use Rattle.wasm_encoder.proofs.ModuleLaws.{Reads-section, TakesBytes-section}
+use Rattle.wasm_encoder.proofs.HeaderLaws.{headed_front, headed_unspelled}
 use Rattle.wasm_encoder.proofs.reader.modules.sections_of.Goals as goal
 
 pub loop-cursor-smaller : goal.loop-cursor-smaller
@@ -18,9 +19,9 @@ loop-cursor-preserved c =
 pub returns-in-Err-clause-front : goal.returns-in-Err-clause-front
 returns-in-Err-clause-front c =
     let e = c.in-Some.ensures.found ∙ ap (λ t. header ++ t) c.in-Some.ensures.rest in
-    module_front c.args.bytes.now (drop 8 c.args.bytes.now) c.loop-cursor.cursor c.section.new.self (all_parts_of c.loop-cursor.sections.items) e c.loop-cursor.invariant (omega arith) c.in-Err.fault c.in-Err.ensures.reads c.read_error.result (rw (← c.len-in-loop-cursor.ensures) c.read_error.ensures)
+    headed_front Reads-section TakesBytes-section c.args.bytes.now (drop 8 c.args.bytes.now) c.loop-cursor.cursor c.section.new.self (all_parts_of c.loop-cursor.sections.items) e c.loop-cursor.invariant (omega arith) c.in-Err.fault c.in-Err.ensures.reads c.read_error.result (rw (← c.len-in-loop-cursor.ensures) c.read_error.ensures)
 
 pub returns-in-Err-clause-unspelled : goal.returns-in-Err-clause-unspelled
 returns-in-Err-clause-unspelled c =
     let e = c.in-Some.ensures.found ∙ ap (λ t. header ++ t) c.in-Some.ensures.rest in
-    module_unspelled c.args.bytes.now (drop 8 c.args.bytes.now) c.loop-cursor.cursor c.section.new.self (all_parts_of c.loop-cursor.sections.items) e c.loop-cursor.invariant (omega arith) c.in-Err.fault c.in-Err.ensures.reads c.read_error.result (rw (← c.len-in-loop-cursor.ensures) c.read_error.ensures)
+    headed_unspelled Reads-section TakesBytes-section c.args.bytes.now (drop 8 c.args.bytes.now) c.loop-cursor.cursor c.section.new.self (all_parts_of c.loop-cursor.sections.items) e c.loop-cursor.invariant (omega arith) c.in-Err.fault c.in-Err.ensures.reads c.read_error.result (rw (← c.len-in-loop-cursor.ensures) c.read_error.ensures)

@@ -1,4 +1,4 @@
-use Rattle.std.proofs.Common.{◌≡◌, ℕ, List, ◌-◌, length, Err, inl, inr, refl, subst, arith, length-append}
+use Rattle.std.proofs.Common.{◌≡◌, ℕ, List, ◌-◌, length, Err, inl, inr, subst, arith}
 use Rattle.wasm_encoder.specs.declared.types.composite.TypeEntry.{TypeEntry}
 use Rattle.wasm_encoder.specs.Reading.{Reads as CodeReads}
 use Rattle.wasm_encoder.specs.Answers.{IsLongestFront}

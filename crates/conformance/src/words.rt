@@ -1,0 +1,64 @@
+//! The words of a column, one after the other.
+
+use crate::mismatch::Mismatch;
+use std::alloc::Global;
+
+/// Words that are taken from the front.
+#[derive(Drop)]
+pub struct Words<'a> {
+    words: Vec<&'a str>,
+    next: usize,
+}
+
+impl<'a> Words<'a> {
+    /// The words that spaces split.
+    pub fn new(alloc: Global, text: &'a str) -> Result<Words<'a>, Mismatch> {
+        let words = text.split(' ').collect(alloc)?;
+        Ok(Words { words, next: 0 })
+    }
+
+    /// The next word.
+    pub fn next(&mut self) -> Result<&'a str, Mismatch> {
+        let word = self.words.get(self.next).ok_or(Mismatch::NotUnderstood)?;
+        self.next += 1;
+        Ok(*word)
+    }
+
+    /// What stands after this key and a colon in the next word.
+    pub fn value(&mut self, key: &str) -> Result<&'a str, Mismatch> {
+        match self.next()?.split_once(':') {
+            Some((name, value)) if name == key => Ok(value),
+            _ => Err(Mismatch::NotUnderstood),
+        }
+    }
+
+    /// Whether no word is left.
+    pub fn is_at_end(&self) -> bool {
+        self.next >= self.words.len()
+    }
+}
+
+/// The tokens of a list, as of `[val:i32;val:i64]`.
+pub fn list_tokens(alloc: Global, list: &str) -> Result<Vec<&str>, Mismatch> {
+    let list = list.strip_prefix('[').ok_or(Mismatch::NotUnderstood)?;
+    let list = list.strip_suffix(']').ok_or(Mismatch::NotUnderstood)?;
+    if list.is_empty() {
+        return Ok(Vec::new(alloc));
+    }
+    Ok(list.split(';').collect(alloc)?)
+}
+
+/// The items of a list, each read from its token.
+pub fn items<T: Drop, Read: Fn(&str) -> Option<T>>(
+    alloc: Global,
+    list: &str,
+    read: Read,
+) -> Result<Vec<T>, Mismatch>
+    requires { Read.IsAlwaysCallable read }
+{
+    let mut items = Vec::new(alloc);
+    for token in list_tokens(alloc, list)?.as_slice() {
+        items.push(read(token).ok_or(Mismatch::NotUnderstood)?)?;
+    }
+    Ok(items)
+}

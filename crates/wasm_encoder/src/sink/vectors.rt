@@ -1,0 +1,12 @@
+//! Vector instructions (Core 3.0, 5.4, vector instructions). An opcode is the byte `0xFD` and a number.
+
+mod bitwise;
+mod comparisons;
+mod floats;
+mod integers_16;
+mod integers_32;
+mod integers_64;
+mod integers_8;
+mod lanes;
+mod memory;
+mod relaxed;
