@@ -1,63 +1,7 @@
 //! Readers and normalisers: any spelling in, the list that it spells or its text out.
-//!
-//! A reader takes all of its input: bytes that are left over are refused like any others that aren't spelled.
-ghost use Rattle.std.specs.Prelude.{◌≡◌};
-ghost use Rattle.wasm_encoder.specs.declared.reader.ReadError.TheVariants.{Memory};
-ghost use Rattle.wasm_encoder.specs.Answers.{answer_to};
 
-mod composite_types;
-mod cursor;
-mod heap_types;
-mod instructions;
-mod modules;
-mod operands;
-mod type_section;
-mod typed_modules;
-
-use cursor::Fault;
-pub use instructions::{normalise_instructions, read_instructions};
-pub use modules::read_module;
-use std::alloc::{AllocError, AllocFailed};
-use thiserror::Error;
-pub use type_section::{normalise_type_section, read_type_section};
-pub use typed_modules::normalise_module;
-
-/// Why bytes were not read.
-#[derive(Debug, PartialEq, Eq, Drop, Error)]
-pub enum ReadError {
-    /// There was no memory for what the bytes spell.
-    #[error("no memory")]
-    Memory,
-    /// The bytes spell nothing of what is read.
-    #[error("refused at {at}")]
-    Refused {
-        /// How many bytes the longest front has that is whole.
-        at: usize,
-    },
-}
-
-impl From<AllocError> for ReadError {
-    ghost from_gives = { λ _ e. e ≡ Memory };
-
-    fn from(_error: AllocError) -> ReadError {
-        ReadError::Memory
-    }
-}
-
-impl<T: Drop> From<AllocFailed<T>> for ReadError {
-    ghost from_gives = { λ _ e. e ≡ Memory };
-
-    fn from(_error: AllocFailed<T>) -> ReadError {
-        ReadError::Memory
-    }
-}
-
-/// What a reader answers to a fault in what begins at this place.
-fn read_error(fault: Fault, at: usize) -> ReadError
-    ensures { result ≡ answer_to fault at }
-{
-    match fault {
-        Fault::Memory => ReadError::Memory,
-        Fault::Malformed => ReadError::Refused { at },
-    }
-}
+pub use wasm_instructions::reader::{normalise_instructions, read_instructions};
+pub use wasm_modules::reader::{
+    normalise_module, normalise_type_section, read_module, read_type_section,
+};
+pub use wasm_values::reader::ReadError;

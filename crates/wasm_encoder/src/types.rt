@@ -1,15 +1,7 @@
 //! Heap, reference, value, storage and composite types, and the type section (Core 3.0, 5.3 and 5.5.4).
 
-mod composite;
-mod copies;
-mod heap;
-mod section;
-mod value;
-
-pub use composite::{
-    ArrayType, CompositeInnerType, CompositeType, ContType, FieldType, FuncType, StructType,
-    SubType, TypeEntry,
+pub use wasm_modules::type_section::{CoreTypeEncoder, TypeSection};
+pub use wasm_types::types::{
+    AbstractHeapType, ArrayType, CompositeInnerType, CompositeType, ContType, FieldType, FuncType,
+    HeapType, RefType, StorageType, StructType, SubType, TypeEntry, ValType,
 };
-pub use heap::{AbstractHeapType, HeapType, RefType};
-pub use section::{CoreTypeEncoder, TypeSection};
-pub use value::{StorageType, ValType};

@@ -1,13 +1,11 @@
 //! Lists of bytes whose memory is refused: by an allocator that grants so many requests and refuses the others.
 
 use super::{bytes, call};
-use crate::columns::Token;
-use crate::mismatch::Mismatch;
-use crate::{encoded, sink};
 use rationed::Rationed;
 use std::alloc::{Allocator, Global};
 use std::process::Abort;
 use std::test::Fail;
+use vectors::{Mismatch, Token};
 use wasm_encoder::{Call, Encode, InstructionSink, Operands, RawSection, Section};
 
 /// What is written to a list.
@@ -37,7 +35,7 @@ fn write<A: Allocator>(
     match text {
         Text::Number(number) => number.encode(list)?,
         Text::Method(name, operands) => {
-            sink::write(alloc, InstructionSink::new(list), name, operands)?;
+            vectors::write(alloc, InstructionSink::new(list), name, operands)?;
         }
         Text::Call(call) => {
             InstructionSink::new(list).write_call(call)?;
@@ -45,7 +43,7 @@ fn write<A: Allocator>(
         Text::Calls(calls) => {
             InstructionSink::new(list).write_calls(calls)?;
         }
-        Text::Token(token) => encoded::encode(alloc, token, list)?,
+        Text::Token(token) => vectors::encode(alloc, token, list)?,
         Text::Raw(section) => section.encode(list)?,
         Text::Section(section) => section.append_to(list)?,
     }

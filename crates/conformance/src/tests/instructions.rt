@@ -1,9 +1,9 @@
 //! The sink's methods: worked examples, and what is refused.
 
 use super::bytes;
-use crate::sink;
 use rationed::Rationed;
 use std::alloc::Global;
+use std::iter::repeat_n;
 use std::process::Abort;
 use std::test::Fail;
 use wasm_encoder::{
@@ -14,7 +14,7 @@ use wasm_encoder::{
 fn written(rt: &impl Abort, alloc: Global, rows: &[(&str, &str, &str)]) -> Result<(), Fail> {
     for (method, operands, hex) in rows {
         let mut code = Vec::new(alloc);
-        sink::write(alloc, InstructionSink::new(&mut code), method, operands)?;
+        vectors::write(alloc, InstructionSink::new(&mut code), method, operands)?;
         assert_eq!(rt; code, bytes(alloc, hex)?, "at {method}");
     }
     Ok(())
@@ -169,7 +169,7 @@ fn alignments_are_refused_before_memory(rt: HostRuntime) -> Result<(), Fail> {
 /// More labels than a u32 counts are refused, by what they say of their number.
 fn refuses_labels(rt: &impl Abort, alloc: Global, count: usize) -> Result<(), Fail> {
     let mut code = vec![in alloc; 0x2a]?;
-    let labels = (0..count).map(|_| 0);
+    let labels = repeat_n(0, count);
     let refused = InstructionSink::new(&mut code).br_table(labels, 0).err();
     assert_eq!(rt; refused, Some(EncodeError::TooLong));
     assert_eq!(rt; code.as_slice(), [0x2a].as_slice());

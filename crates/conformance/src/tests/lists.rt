@@ -2,8 +2,8 @@
 
 use super::bytes;
 use super::own::{Long, Never};
-use crate::check_types;
 use std::test::Fail;
+use vectors::check_types;
 use wasm_encoder::{Encode, EncodeError, SectionId, encode_bytes, encode_list, encode_str};
 
 #[test]

@@ -2,10 +2,10 @@
 
 use super::bytes;
 use super::own::{Long, Memories, Never, Unappended};
-use crate::check_types;
 use std::alloc::Global;
 use std::process::Abort;
 use std::test::Fail;
+use vectors::check_types;
 use wasm_encoder::{Encode, EncodeError, Module, RawSection, ReadError, Section, read_module};
 
 /// The module is read as these sections.

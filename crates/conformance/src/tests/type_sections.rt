@@ -1,11 +1,11 @@
 //! Type sections: what their calls write, and how their bodies are read.
 
 use super::bytes;
-use crate::check_types;
 use std::alloc::Global;
 use std::iter::repeat_n;
 use std::process::Abort;
 use std::test::Fail;
+use vectors::check_types;
 use wasm_encoder::{
     ContType, Encode, EncodeError, FuncType, Items, Module, RawSection, ReadError, Section,
     StorageType, TypeEntry, TypeSection, ValType, normalise_type_section, read_type_section,

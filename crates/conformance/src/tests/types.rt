@@ -1,10 +1,10 @@
 //! Types: their texts, what is asked of them, and their order.
 
 use super::bytes;
-use crate::check_types;
 use std::alloc::Global;
 use std::process::Abort;
 use std::test::Fail;
+use vectors::check_types;
 use wasm_encoder::{AbstractHeapType, Encode, HeapType, RefType, StorageType, ValType};
 
 /// Worked rows, as lines of vectors.

@@ -1,6 +1,6 @@
 use Rattle.std.proofs.Common.{List, ℕ, Result, Ok, Err, sym, subst}
-use Rattle.wasm_encoder.specs.declared.reader.ReadError.{ReadError}
-use Rattle.wasm_encoder.specs.declared.reader.ReadError.TheVariants as errors
+use Rattle.wasm_values.specs.declared.reader.ReadError.{ReadError}
+use Rattle.wasm_values.specs.declared.reader.ReadError.TheVariants as errors
 use Rattle.wasm_encoder.specs.Grammar.{Grammar}
 use Rattle.wasm_encoder.specs.Answers.{IsOrMemory, IfRefused, SpellsSome}
 use Rattle.wasm_encoder.specs.TypedModules.{SpellsTypedModule, typed_module_text}

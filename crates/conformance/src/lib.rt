@@ -1,0 +1,5 @@
+//! Tests of the encoder.
+#![tactic(auto)]
+
+#[cfg(test)]
+mod tests;

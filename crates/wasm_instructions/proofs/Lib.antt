@@ -1,0 +1,6 @@
+pub mod MemArgLaws
+pub mod OperandLaws
+pub mod RawLaws
+pub mod OpcodeLaws
+pub mod InstructionLaws
+mod KeptBytes

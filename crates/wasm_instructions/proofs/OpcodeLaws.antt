@@ -1,0 +1,35 @@
+-- The laws of the table of opcodes.
+use Rattle.std.proofs.Common.{◌≡◌, ℕ, zero, suc, ◌+◌, ◌<◌, ◌≤◌, Bool, true, false, leb, ltb, ◌&&◌, IsTrue, List, [], ◌∷◌, length, get_or, Option, Some, None, refl, sym, ap, ◌∙◌, inl, inr, arith}
+use Rattle.std.proofs.lemmas.Bool.{ltb-true, lt-leb, cases_lt}
+use Rattle.std.proofs.Math.Bool.{and-false}
+use Rattle.wasm_instructions.specs.declared.table.opcode.Kind.{Kind}
+use Rattle.wasm_instructions.specs.Opcodes.{Range, kind_among, kinds_from, end_below, IsTable}
+
+kinds_from-at : (rs : List Range) (first count i : ℕ) → i < count → get_or (kinds_from rs first count) i None ≡ kind_among rs (first + i)
+kinds_from-at rs first zero i lt = absurd (omega arith)
+kinds_from-at rs first (suc count) zero lt = ap (kind_among rs) (omega arith)
+kinds_from-at rs first (suc count) (suc i) lt = kinds_from-at rs (first + 1) count i (omega arith) ∙ ap (kind_among rs) (omega arith)
+
+both : (s t : Bool) → IsTrue (s && t) → (s ≡ true) × IsTrue t
+both true t h = (refl, h)
+both false t h = absurd cc
+
+past_end : (rs : List Range) (end number : ℕ) → IsTrue (end_below rs end) → end ≤ number → kind_among rs number ≡ None
+past_end [] end number h le = refl
+past_end (r ∷ rs) end number h le =
+    let parts = both (ltb r.last end) (end_below rs end) h in
+    let past : leb number r.last ≡ false = lt-leb number r.last (omega (arith, ltb-true _ _ parts.0)) in
+    rw (past, and-false) (past_end rs end number parts.1 le)
+
+pub place_is : (places : List (Option Kind)) (rs : List Range) (number : ℕ) → IsTable places rs → number < length places → get_or places number None ≡ kind_among rs number
+place_is places rs number h lt = ap (λ (ks : List (Option Kind)). get_or ks number None) h.each ∙ kinds_from-at rs 0 (length places) number lt ∙ ap (kind_among rs) (omega arith)
+
+pub no_place : (places : List (Option Kind)) (rs : List Range) (number : ℕ) → IsTable places rs → length places ≤ number → None ≡ kind_among rs number
+no_place places rs number h le = sym (past_end rs (length places) number h.end le)
+
+-- an opcode's number is below the end of its table
+pub in_table : (rs : List Range) (end number : ℕ) (k : Kind) → IsTrue (end_below rs end) → kind_among rs number ≡ Some k → number < end
+in_table rs end number k h e = elim (cases_lt number end) [
+  | inl lt ↦ lt
+  | inr le ↦ let none = past_end rs end number h le in absurd cc
+]

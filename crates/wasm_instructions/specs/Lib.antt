@@ -1,0 +1,6 @@
+pub mod Opcodes
+pub mod MemArgs
+pub mod Operands
+pub mod Instructions
+pub mod Sink
+pub mod ListCalls

@@ -1,0 +1,233 @@
+//! What stands after opcodes, written into room that was reserved (Core 3.0, 5.4).
+ghost use Rattle.std.specs.Prelude.{◌≡◌, ◌++◌, ◌∷◌, ◌+◌, ◌<◌, ◌≤◌, Some, vec_len, vec_capacity};
+ghost use Rattle.wasm_instructions.specs.MemArgs.{mem_arg_text, mem_arg_encoding};
+ghost use Rattle.wasm_instructions.specs.Operands.{block_type_text, catch_text, handle_text, ordering_text, little_endian_text, to_bits, vector_text};
+
+use crate::operands::{BlockType, Catch, Handle, MemArg, Ordering};
+use std::alloc::Allocator;
+use wasm_types::encode::put_val_type;
+use wasm_values::encode::leb128::{put_index, put_u32, put_u64};
+use wasm_values::encode::{Encode, EncodeError};
+
+/// Writes a block type in 1 to 7 bytes.
+#[tactic(auto, unfolding(crate::specs::Operands::block_type_text))]
+pub(crate) fn put_block_type<A: Allocator>(bytes: &mut Vec<u8, A>, ty: BlockType)
+    requires { vec_len bytes.old + 7 ≤ vec_capacity bytes.old }
+    ensures items { bytes.new.items ≡ bytes.old.items ++ block_type_text ty }
+    ensures len { vec_len bytes.new ≤ vec_len bytes.old + 7 }
+    ensures capacity { vec_capacity bytes.new ≡ vec_capacity bytes.old }
+{
+    match ty {
+        BlockType::Empty => bytes.push_reserved(0x40),
+        BlockType::Result(ty) => put_val_type(bytes, ty),
+        BlockType::FunctionType(index) => put_index(bytes, index),
+    }
+}
+
+/// Writes a memory argument in 2 to 16 bytes. Memory 0 goes without its index.
+#[tactic(auto, unfolding(crate::specs::MemArgs::mem_arg_text, wasm_values::specs::Numbers::unsigned_text, wasm_values::specs::Numbers::digits_of))]
+pub(crate) fn put_mem_arg<A: Allocator>(bytes: &mut Vec<u8, A>, arg: MemArg)
+    requires aligned { arg.align < 64 }
+    requires room { vec_len bytes.old + 16 ≤ vec_capacity bytes.old }
+    ensures items { bytes.new.items ≡ bytes.old.items ++ mem_arg_text arg }
+    ensures len { vec_len bytes.new ≤ vec_len bytes.old + 16 }
+    ensures capacity { vec_capacity bytes.new ≡ vec_capacity bytes.old }
+{
+    if arg.memory_index == 0 {
+        bytes.push_reserved(arg.align as u8);
+    } else {
+        bytes.push_reserved(arg.align as u8 + 64);
+        put_u32(bytes, arg.memory_index);
+    }
+    put_u64(bytes, arg.offset);
+}
+
+/// Writes a clause of `try_table` in 2 to 11 bytes.
+#[tactic(auto, unfolding(crate::specs::Operands::catch_text))]
+pub(crate) fn put_catch<A: Allocator>(bytes: &mut Vec<u8, A>, clause: Catch)
+    requires { vec_len bytes.old + 11 ≤ vec_capacity bytes.old }
+    ensures items { bytes.new.items ≡ bytes.old.items ++ catch_text clause }
+    ensures len { vec_len bytes.new ≤ vec_len bytes.old + 11 }
+    ensures capacity { vec_capacity bytes.new ≡ vec_capacity bytes.old }
+{
+    match clause {
+        Catch::One { tag, label } => {
+            bytes.push_reserved(0x00);
+            put_u32(bytes, tag);
+            put_u32(bytes, label);
+        }
+        Catch::OneRef { tag, label } => {
+            bytes.push_reserved(0x01);
+            put_u32(bytes, tag);
+            put_u32(bytes, label);
+        }
+        Catch::All { label } => {
+            bytes.push_reserved(0x02);
+            put_u32(bytes, label);
+        }
+        Catch::AllRef { label } => {
+            bytes.push_reserved(0x03);
+            put_u32(bytes, label);
+        }
+    }
+}
+
+/// Writes a clause of `resume` in 2 to 11 bytes.
+#[tactic(auto, unfolding(crate::specs::Operands::handle_text))]
+pub(crate) fn put_handle<A: Allocator>(bytes: &mut Vec<u8, A>, clause: Handle)
+    requires { vec_len bytes.old + 11 ≤ vec_capacity bytes.old }
+    ensures items { bytes.new.items ≡ bytes.old.items ++ handle_text clause }
+    ensures len { vec_len bytes.new ≤ vec_len bytes.old + 11 }
+    ensures capacity { vec_capacity bytes.new ≡ vec_capacity bytes.old }
+{
+    match clause {
+        Handle::OnLabel { tag, label } => {
+            bytes.push_reserved(0x00);
+            put_u32(bytes, tag);
+            put_u32(bytes, label);
+        }
+        Handle::OnSwitch { tag } => {
+            bytes.push_reserved(0x01);
+            put_u32(bytes, tag);
+        }
+    }
+}
+
+/// Writes an ordering in one byte.
+#[tactic(auto, unfolding(crate::specs::Operands::ordering_text))]
+pub(crate) fn put_ordering<A: Allocator>(bytes: &mut Vec<u8, A>, ordering: Ordering)
+    requires { vec_len bytes.old + 1 ≤ vec_capacity bytes.old }
+    ensures items { bytes.new.items ≡ bytes.old.items ++ ordering_text ordering }
+    ensures len { vec_len bytes.new ≤ vec_len bytes.old + 1 }
+    ensures capacity { vec_capacity bytes.new ≡ vec_capacity bytes.old }
+{
+    match ordering {
+        Ordering::SeqCst => bytes.push_reserved(0x00),
+        Ordering::AcqRel => bytes.push_reserved(0x01),
+    }
+}
+
+/// Writes a number in 4 bytes, the least first.
+#[tactic(auto, unfolding(crate::specs::Operands::little_endian_text))]
+pub(crate) fn put_bits_32<A: Allocator>(bytes: &mut Vec<u8, A>, value: u32)
+    requires { vec_len bytes.old + 4 ≤ vec_capacity bytes.old }
+    ensures items { bytes.new.items ≡ bytes.old.items ++ little_endian_text 4 value }
+    ensures len { vec_len bytes.new ≤ vec_len bytes.old + 4 }
+    ensures capacity { vec_capacity bytes.new ≡ vec_capacity bytes.old }
+{
+    let second = value / 0x100;
+    let third = second / 0x100;
+    let fourth = third / 0x100;
+    bytes.push_reserved((value % 0x100) as u8);
+    bytes.push_reserved((second % 0x100) as u8);
+    bytes.push_reserved((third % 0x100) as u8);
+    bytes.push_reserved((fourth % 0x100) as u8);
+}
+
+/// Writes a number in 8 bytes, the least first.
+#[tactic(auto, unfolding(crate::specs::Operands::little_endian_text))]
+pub(crate) fn put_bits_64<A: Allocator>(bytes: &mut Vec<u8, A>, value: u64)
+    requires { vec_len bytes.old + 8 ≤ vec_capacity bytes.old }
+    ensures items { bytes.new.items ≡ bytes.old.items ++ little_endian_text 8 value }
+    ensures len { vec_len bytes.new ≤ vec_len bytes.old + 8 }
+    ensures capacity { vec_capacity bytes.new ≡ vec_capacity bytes.old }
+{
+    let second = value / 0x100;
+    let third = second / 0x100;
+    let fourth = third / 0x100;
+    let fifth = fourth / 0x100;
+    let sixth = fifth / 0x100;
+    let seventh = sixth / 0x100;
+    let eighth = seventh / 0x100;
+    bytes.push_reserved((value % 0x100) as u8);
+    bytes.push_reserved((second % 0x100) as u8);
+    bytes.push_reserved((third % 0x100) as u8);
+    bytes.push_reserved((fourth % 0x100) as u8);
+    bytes.push_reserved((fifth % 0x100) as u8);
+    bytes.push_reserved((sixth % 0x100) as u8);
+    bytes.push_reserved((seventh % 0x100) as u8);
+    bytes.push_reserved((eighth % 0x100) as u8);
+}
+
+/// The bits of a vector: a negative number less -2^127, with the highest bit set.
+fn vector_bits(value: i128) -> u128
+    ensures { result ≡ to_bits value }
+{
+    if value < 0 {
+        (value - i128::MIN) as u128 + (1 << 127)
+    } else {
+        value as u128
+    }
+}
+
+/// Writes a vector in 16 bytes, the least first, in two's complement.
+#[tactic(auto, unfolding(crate::specs::Operands::vector_text))]
+pub(crate) fn put_vector<A: Allocator>(bytes: &mut Vec<u8, A>, value: i128)
+    requires { vec_len bytes.old + 16 ≤ vec_capacity bytes.old }
+    ensures items { bytes.new.items ≡ bytes.old.items ++ vector_text value }
+    ensures len { vec_len bytes.new ≤ vec_len bytes.old + 16 }
+    ensures capacity { vec_capacity bytes.new ≡ vec_capacity bytes.old }
+{
+    let bits = vector_bits(value);
+    put_bits_64(bytes, (bits % (1 << 64)) as u64);
+    put_bits_64(bytes, (bits / (1 << 64)) as u64);
+}
+
+/// One byte, a value type, or an index as an s33 (Core 3.0, 5.4, block types).
+impl Encode for BlockType {
+    ghost text = { λ ty. Some (block_type_text ty) };
+
+    fn encode<A: Allocator>(&self, sink: &mut Vec<u8, A>) -> Result<(), EncodeError> {
+        sink.reserve(7)?;
+        put_block_type(sink, *self);
+        Ok(())
+    }
+}
+
+/// The alignment and the offset, with the memory's index between them where that isn't 0 (Core 3.0, 5.4, memory
+/// instructions). An alignment of 64 or more is refused by [`EncodeError::Alignment`], before anything grows.
+impl Encode for MemArg {
+    ghost text = { mem_arg_encoding };
+
+    fn encode<A: Allocator>(&self, sink: &mut Vec<u8, A>) -> Result<(), EncodeError> {
+        if self.align >= 64 {
+            return Err(EncodeError::Alignment);
+        }
+        sink.reserve(16)?;
+        put_mem_arg(sink, *self);
+        Ok(())
+    }
+}
+
+/// The byte of the clause, its tag, if it has one, and its label (Core 3.0, 5.4, control instructions).
+impl Encode for Catch {
+    ghost text = { λ clause. Some (catch_text clause) };
+
+    fn encode<A: Allocator>(&self, sink: &mut Vec<u8, A>) -> Result<(), EncodeError> {
+        sink.reserve(11)?;
+        put_catch(sink, *self);
+        Ok(())
+    }
+}
+
+/// The byte of the clause, its tag, and its label, if it has one.
+impl Encode for Handle {
+    ghost text = { λ clause. Some (handle_text clause) };
+
+    fn encode<A: Allocator>(&self, sink: &mut Vec<u8, A>) -> Result<(), EncodeError> {
+        sink.reserve(11)?;
+        put_handle(sink, *self);
+        Ok(())
+    }
+}
+
+/// One byte.
+impl Encode for Ordering {
+    ghost text = { λ ordering. Some (ordering_text ordering) };
+
+    fn encode<A: Allocator>(&self, sink: &mut Vec<u8, A>) -> Result<(), EncodeError> {
+        sink.reserve(1)?;
+        put_ordering(sink, *self);
+        Ok(())
+    }
+}

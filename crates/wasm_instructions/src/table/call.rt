@@ -1,0 +1,236 @@
+//! Calls: an opcode with operands of its kind.
+ghost use Rattle.std.specs.Prelude.{◌≡◌, IfOk, IfErr, IsOk, IsTrue, ◌↔◌};
+ghost use Rattle.wasm_instructions.specs.Instructions.{IsAligned, IsCall, IsCounted, ItemsInRange, IsShort, SpellsInstruction, call, instruction_text, kind_of};
+
+use super::opcode::{Kind, Opcode};
+use super::ranges::all_in_range;
+use crate::operands::{BlockType, Catch, Handle, Ieee32, Ieee64, Lane, MemArg, Ordering};
+use std::marker::Model;
+use wasm_types::types::{HeapType, RefType, ValType};
+use wasm_values::encode::EncodeError;
+use wasm_values::list::Items;
+
+/// The operands of an instruction, one variant for each [`Kind`], in the order in which they are written.
+#[derive(Debug, PartialEq, Eq, Drop)]
+pub enum Operands {
+    /// No operands.
+    None,
+    /// The type of a block.
+    Block(BlockType),
+    /// An index: of a local, a function, a label.
+    Index(u32),
+    /// Two indexes, in written order.
+    TwoIndexes(u32, u32),
+    /// The labels of `br_table`, and the label of all other numbers.
+    BrTable(Items<u32>, u32),
+    /// The types of `select`.
+    Types(Items<ValType>),
+    /// The type of a `try_table` and its clauses.
+    TryTable(BlockType, Items<Catch>),
+    /// Where memory is reached.
+    Mem(MemArg),
+    /// The value of an `i32.const`.
+    I32(i32),
+    /// The value of an `i64.const`.
+    I64(i64),
+    /// The value of an `f32.const`.
+    F32(Ieee32),
+    /// The value of an `f64.const`.
+    F64(Ieee64),
+    /// A heap type.
+    Heap(HeapType),
+    /// The continuation type of a `resume`, and its handlers.
+    Resume(u32, Items<Handle>),
+    /// The continuation type of a `resume_throw`, its tag, and its handlers.
+    ResumeThrow(u32, u32, Items<Handle>),
+    /// The label of a branch on a cast, the type before and the type after.
+    Cast(u32, RefType, RefType),
+    /// The value of a `v128.const`.
+    V128(i128),
+    /// The lanes of an `i8x16.shuffle`.
+    Shuffle([Lane; 16]),
+    /// A lane.
+    Lane(Lane),
+    /// Where memory is reached, and a lane.
+    MemLane(MemArg, Lane),
+    /// An ordering.
+    Order(Ordering),
+    /// An ordering and an index.
+    OrderIndex(Ordering, u32),
+    /// An ordering and two indexes.
+    OrderTwoIndexes(Ordering, u32, u32),
+}
+
+/// An instruction: an opcode of the table with operands of its kind.
+///
+/// In contracts it is the record of the two.
+#[derive(Debug, PartialEq, Eq, Drop)]
+pub struct Call {
+    op: Opcode,
+    operands: Operands,
+}
+
+impl Model for Call {
+    ghost use Rattle.wasm_instructions.specs.Instructions.{Instruction, IsCall, InRange};
+
+    ghost Value = { Instruction };
+
+    ghost view = { λ c. record { op = c.op; operands = c.operands } };
+
+    ghost invariant = { λ c. IsCall c.op c.operands × InRange c.operands };
+
+    ghost inverse = { λ i. record { op = i.op; operands = i.operands } };
+}
+
+impl Operands {
+    /// The kind of opcodes that have such operands.
+    pub fn kind(&self) -> Kind
+        ensures { result ≡ kind_of self.now }
+    {
+        match self {
+            Operands::None => Kind::None,
+            Operands::Block(_) => Kind::Block,
+            Operands::Index(_) => Kind::Index,
+            Operands::TwoIndexes(_, _) => Kind::TwoIndexes,
+            Operands::BrTable(_, _) => Kind::BrTable,
+            Operands::Types(_) => Kind::Types,
+            Operands::TryTable(_, _) => Kind::TryTable,
+            Operands::Mem(_) => Kind::Mem,
+            Operands::I32(_) => Kind::I32,
+            Operands::I64(_) => Kind::I64,
+            Operands::F32(_) => Kind::F32,
+            Operands::F64(_) => Kind::F64,
+            Operands::Heap(_) => Kind::Heap,
+            Operands::Resume(_, _) => Kind::Resume,
+            Operands::ResumeThrow(_, _, _) => Kind::ResumeThrow,
+            Operands::Cast(_, _, _) => Kind::Cast,
+            Operands::V128(_) => Kind::V128,
+            Operands::Shuffle(_) => Kind::Shuffle,
+            Operands::Lane(_) => Kind::Lane,
+            Operands::MemLane(_, _) => Kind::MemLane,
+            Operands::Order(_) => Kind::Order,
+            Operands::OrderIndex(_, _) => Kind::OrderIndex,
+            Operands::OrderTwoIndexes(_, _, _) => Kind::OrderTwoIndexes,
+        }
+    }
+
+    /// Whether alignments are below 64, which the format has spellings for.
+    pub(crate) fn is_aligned(&self) -> bool
+        ensures { IsTrue result ↔ IsAligned self.now }
+    {
+        match self {
+            Operands::Mem(arg) | Operands::MemLane(arg, _) => arg.align < 64,
+            _ => true,
+        }
+    }
+
+    /// The numbers in lists are in the ranges of their widths. Nothing is done.
+    fn items_in_range(&self)
+        ensures { ItemsInRange self.now }
+    {
+        match self {
+            Operands::BrTable(labels, _) => all_in_range(labels.as_slice()),
+            Operands::Types(types) => all_in_range(types.as_slice()),
+            Operands::TryTable(_, clauses) => all_in_range(clauses.as_slice()),
+            Operands::Resume(_, handlers) | Operands::ResumeThrow(_, _, handlers) => {
+                all_in_range(handlers.as_slice());
+            }
+            _ => {}
+        }
+    }
+
+    /// An equal value.
+    pub fn try_clone(&self) -> Result<Operands, EncodeError>
+        ensures { IfOk result (λ o. o ≡ self.now) }
+    {
+        Ok(match self {
+            Operands::None => Operands::None,
+            Operands::Block(ty) => Operands::Block(*ty),
+            Operands::Index(index) => Operands::Index(*index),
+            Operands::TwoIndexes(first, second) => Operands::TwoIndexes(*first, *second),
+            Operands::BrTable(labels, default) => Operands::BrTable(labels.try_clone()?, *default),
+            Operands::Types(types) => Operands::Types(types.try_clone()?),
+            Operands::TryTable(ty, clauses) => Operands::TryTable(*ty, clauses.try_clone()?),
+            Operands::Mem(arg) => Operands::Mem(*arg),
+            Operands::I32(value) => Operands::I32(*value),
+            Operands::I64(value) => Operands::I64(*value),
+            Operands::F32(value) => Operands::F32(*value),
+            Operands::F64(value) => Operands::F64(*value),
+            Operands::Heap(ty) => Operands::Heap(*ty),
+            Operands::Resume(index, handlers) => Operands::Resume(*index, handlers.try_clone()?),
+            Operands::ResumeThrow(index, tag, handlers) => {
+                Operands::ResumeThrow(*index, *tag, handlers.try_clone()?)
+            }
+            Operands::Cast(label, before, after) => Operands::Cast(*label, *before, *after),
+            Operands::V128(value) => Operands::V128(*value),
+            Operands::Shuffle(lanes) => Operands::Shuffle(*lanes),
+            Operands::Lane(lane) => Operands::Lane(*lane),
+            Operands::MemLane(arg, lane) => Operands::MemLane(*arg, *lane),
+            Operands::Order(ordering) => Operands::Order(*ordering),
+            Operands::OrderIndex(ordering, index) => Operands::OrderIndex(*ordering, *index),
+            Operands::OrderTwoIndexes(ordering, first, second) => {
+                Operands::OrderTwoIndexes(*ordering, *first, *second)
+            }
+        })
+    }
+}
+
+impl Call {
+    /// The call of an opcode with these operands. Where the opcode isn't in the table, has operands of another kind,
+    /// or an alignment is 64 or more, the operands are handed back.
+    pub fn new(op: Opcode, operands: Operands) -> Result<Call, Operands>
+        ensures ok { IfOk result (λ c. c ≡ call op operands) }
+        ensures err { IfErr result (λ o. o ≡ operands) }
+        ensures accepts { IsOk result ↔ (IsCall op operands × IsAligned operands) }
+    {
+        if op.kind() == Some(operands.kind()) && operands.is_aligned() {
+            Ok(Call { op, operands })
+        } else {
+            Err(operands)
+        }
+    }
+
+    /// The call of an opcode of the table with operands of its kind, with alignments below 64.
+    pub(crate) fn from_parts(op: Opcode, operands: Operands) -> Call
+        requires call { IsCall op operands }
+        requires aligned { IsAligned operands }
+        ensures { result ≡ call op operands }
+    {
+        Call { op, operands }
+    }
+
+    /// The opcode.
+    pub fn op(&self) -> Opcode
+        ensures value { result ≡ self.now.op }
+        ensures short { IsShort result }
+    {
+        self.op
+    }
+
+    /// The text of a call spells it, where no list is too long. Nothing is done.
+    pub(crate) fn is_spelled(&self)
+        ensures spelled { IsCounted self.now.operands → SpellsInstruction (instruction_text self.now) self.now }
+        ensures aligned { IsAligned self.now.operands }
+    {
+        self.operands.items_in_range();
+    }
+
+    /// The operands.
+    pub fn operands(&self) -> &Operands
+        ensures value { result.now ≡ self.now.operands }
+        ensures fits { IsCall self.now.op result.now }
+    {
+        &self.operands
+    }
+
+    /// An equal call.
+    pub fn try_clone(&self) -> Result<Call, EncodeError>
+        ensures { IfOk result (λ c. c ≡ self.now) }
+    {
+        let operands = self.operands.try_clone()?;
+        Ok(Call {
+            op: self.op,
+            operands,
+        })
+    }
+}

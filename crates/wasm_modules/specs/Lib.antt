@@ -1,0 +1,4 @@
+pub mod Modules
+pub mod TypeSections
+pub mod Sized
+pub mod TypedModules

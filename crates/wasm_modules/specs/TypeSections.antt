@@ -1,0 +1,71 @@
+-- Type sections that are being built: how many entries were written, and their texts (WebAssembly Core 3.0, 5.5.4).
+use Rattle.std.specs.Prelude.{◌≡◌, ℕ, ◌+◌, ◌^◌, List, [], ◌∷◌, ◌++◌, length, Option, Some, None, Bool, true, false, IsSomeAnd}
+use Rattle.std.specs.Iterator.{Drains}
+use Rattle.wasm_types.specs.declared.types.value.ValType.{ValType}
+use Rattle.wasm_types.specs.declared.types.value.StorageType.{StorageType}
+use Rattle.wasm_types.specs.declared.types.composite.FieldType.{FieldType}
+use Rattle.wasm_types.specs.declared.types.composite.FuncType.{FuncType}
+use Rattle.wasm_types.specs.declared.types.composite.CompositeInnerType.{CompositeInnerType}
+use Rattle.wasm_types.specs.declared.types.composite.CompositeInnerType.TheVariants as inner
+use Rattle.wasm_types.specs.declared.types.composite.TypeEntry.{TypeEntry}
+use Rattle.wasm_types.specs.declared.types.composite.TypeEntry.TheVariants as entries
+use Rattle.wasm_values.specs.Numbers.{unsigned_text}
+use Rattle.wasm_values.specs.Encoding.{byte_list_text, texts}
+use Rattle.wasm_types.specs.TypeEncoding.{entry_encoding}
+
+-- the number of entries, and their bytes
+pub record Entries : Type 0 where
+  pub count : ℕ
+  pub bytes : List ℕ
+
+-- The section stands for these entries: it has their number and their texts, with nothing between.
+pub record StandsFor (section : Entries) (entries : List TypeEntry) : Type 0 where
+  pub count : section.count ≡ length entries
+  pub bytes : texts entry_encoding entries ≡ Some section.bytes
+
+-- The new section is the old one with one entry more.
+pub record Gains (old : Entries) (entry : TypeEntry) (new : Entries) : Type 0 where
+  pub count : new.count ≡ old.count + 1
+  pub bytes : IsSomeAnd (entry_encoding entry) (λ t. new.bytes ≡ old.bytes ++ t)
+  pub stands : (before : List TypeEntry) → StandsFor old before → StandsFor new (before ++ entry ∷ [])
+
+-- The new section is the old one with these entries more.
+pub record GainsAll (old : Entries) (more : List TypeEntry) (new : Entries) : Type 0 where
+  pub count : new.count ≡ old.count + length more
+  pub bytes : IsSomeAnd (texts entry_encoding more) (λ t. new.bytes ≡ old.bytes ++ t)
+  pub stands : (before : List TypeEntry) → StandsFor old before → StandsFor new (before ++ more)
+
+-- no entry can be added: their number is the greatest that there is
+abbrev pub IsFull : Entries → Type 0
+IsFull section = section.count + 1 ≡ 2 ^ 32
+
+-- the count and the entries (5.5.4)
+abbrev pub body_bytes : Entries → List ℕ
+body_bytes section = unsigned_text section.count ++ section.bytes
+
+-- the body, after the number of its bytes (5.5.2)
+abbrev pub section_text : Entries → Option (List ℕ)
+section_text section = byte_list_text (body_bytes section)
+
+-- ---- entries of one type: final, without supertypes, not shared, with no descriptor
+
+abbrev pub plain_entry : CompositeInnerType → TypeEntry
+plain_entry inner = entries.Sub (record { is_final = true; supertype_idxs = []; composite_type = record { inner = inner; shared = false; descriptor = None; describes = None } })
+
+abbrev pub struct_entry : List FieldType → TypeEntry
+struct_entry fields = plain_entry (inner.Struct (record { fields = fields }))
+
+abbrev pub array_entry : StorageType → Bool → TypeEntry
+array_entry ty mutable = plain_entry (inner.Array (record { 0 = record { element_type = ty; mutable = mutable } }))
+
+-- ---- types from iterators
+
+module _ {P R : Type 0} (gives_params : P → Option ValType → P → Type 0) (gives_results : R → Option ValType → R → Type 0) where
+  -- this holds of the lists that the two iterators give
+  abbrev pub OfBoth : P → R → (FuncType → Type 0) → Type 0
+  OfBoth params results Holds = (ps : List ValType) × (rs : List ValType) × Drains gives_params params ps × Drains gives_results results rs × Holds (record { params = ps; results = rs })
+
+module _ {S A : Type 0} (gives : S → Option A → S → Type 0) where
+  -- this holds of the list that the iterator gives
+  abbrev pub OfItems : S → (List A → Type 0) → Type 0
+  OfItems items Holds = (xs : List A) × Drains gives items xs × Holds xs

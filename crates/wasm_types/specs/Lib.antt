@@ -1,0 +1,5 @@
+pub mod HeapTypes
+pub mod CompositeTypes
+pub mod Types
+pub mod TypeRanges
+pub mod TypeEncoding

@@ -1,0 +1,171 @@
+//! Heap, reference, value and storage types, written into room that was reserved (Core 3.0, 5.3.3 to 5.3.8).
+ghost use Rattle.std.specs.Prelude.{◌≡◌, ◌++◌, ◌+◌, ◌≤◌, Some, vec_len, vec_capacity};
+ghost use Rattle.wasm_types.specs.HeapTypes.{abstract_byte, abstract_type_text, abstract_text, heap_type_text, ref_type_text, val_type_text, storage_type_text};
+
+use crate::types::{AbstractHeapType, HeapType, RefType, StorageType, ValType};
+use std::alloc::Allocator;
+use wasm_values::encode::leb128::{put_index, put_u32};
+use wasm_values::encode::{Encode, EncodeError};
+
+/// The byte of an abstract heap type.
+fn abstract_byte(ty: AbstractHeapType) -> u8
+    ensures { result ≡ abstract_byte ty }
+{
+    match ty {
+        AbstractHeapType::NoCont => 0x75,
+        AbstractHeapType::NoExn => 0x74,
+        AbstractHeapType::NoFunc => 0x73,
+        AbstractHeapType::NoExtern => 0x72,
+        AbstractHeapType::None => 0x71,
+        AbstractHeapType::Func => 0x70,
+        AbstractHeapType::Extern => 0x6f,
+        AbstractHeapType::Any => 0x6e,
+        AbstractHeapType::Eq => 0x6d,
+        AbstractHeapType::I31 => 0x6c,
+        AbstractHeapType::Struct => 0x6b,
+        AbstractHeapType::Array => 0x6a,
+        AbstractHeapType::Exn => 0x69,
+        AbstractHeapType::Cont => 0x68,
+    }
+}
+
+/// Writes an abstract heap type in one byte, or in two where it is shared.
+fn put_abstract<A: Allocator>(bytes: &mut Vec<u8, A>, shared: bool, ty: AbstractHeapType)
+    requires { vec_len bytes.old + 2 ≤ vec_capacity bytes.old }
+    ensures items { bytes.new.items ≡ bytes.old.items ++ abstract_text shared ty }
+    ensures len { vec_len bytes.new ≤ vec_len bytes.old + 2 }
+    ensures capacity { vec_capacity bytes.new ≡ vec_capacity bytes.old }
+{
+    if shared {
+        bytes.push_reserved(0x65);
+    }
+    bytes.push_reserved(abstract_byte(ty));
+}
+
+/// Writes a heap type in 1 to 6 bytes.
+#[tactic(auto, unfolding(crate::specs::HeapTypes::heap_type_text))]
+pub fn put_heap_type<A: Allocator>(bytes: &mut Vec<u8, A>, ty: HeapType)
+    requires { vec_len bytes.old + 6 ≤ vec_capacity bytes.old }
+    ensures items { bytes.new.items ≡ bytes.old.items ++ heap_type_text ty }
+    ensures len { vec_len bytes.new ≤ vec_len bytes.old + 6 }
+    ensures capacity { vec_capacity bytes.new ≡ vec_capacity bytes.old }
+{
+    match ty {
+        HeapType::Abstract { shared, ty } => put_abstract(bytes, shared, ty),
+        HeapType::Concrete(index) => put_index(bytes, index),
+        HeapType::Exact(index) => {
+            bytes.push_reserved(0x62);
+            put_u32(bytes, index);
+        }
+    }
+}
+
+/// Writes a reference type in 1 to 7 bytes: the short form where there is one.
+#[tactic(auto, unfolding(crate::specs::HeapTypes::ref_type_text))]
+pub fn put_ref_type<A: Allocator>(bytes: &mut Vec<u8, A>, ty: RefType)
+    requires { vec_len bytes.old + 7 ≤ vec_capacity bytes.old }
+    ensures items { bytes.new.items ≡ bytes.old.items ++ ref_type_text ty }
+    ensures len { vec_len bytes.new ≤ vec_len bytes.old + 7 }
+    ensures capacity { vec_capacity bytes.new ≡ vec_capacity bytes.old }
+{
+    if !ty.nullable {
+        bytes.push_reserved(0x64);
+        put_heap_type(bytes, ty.heap_type);
+        return;
+    }
+    match ty.heap_type {
+        HeapType::Abstract { shared, ty } => put_abstract(bytes, shared, ty),
+        HeapType::Concrete(_) | HeapType::Exact(_) => {
+            bytes.push_reserved(0x63);
+            put_heap_type(bytes, ty.heap_type);
+        }
+    }
+}
+
+/// Writes a value type in 1 to 7 bytes.
+#[tactic(auto, unfolding(crate::specs::HeapTypes::val_type_text))]
+pub fn put_val_type<A: Allocator>(bytes: &mut Vec<u8, A>, ty: ValType)
+    requires { vec_len bytes.old + 7 ≤ vec_capacity bytes.old }
+    ensures items { bytes.new.items ≡ bytes.old.items ++ val_type_text ty }
+    ensures len { vec_len bytes.new ≤ vec_len bytes.old + 7 }
+    ensures capacity { vec_capacity bytes.new ≡ vec_capacity bytes.old }
+{
+    match ty {
+        ValType::I32 => bytes.push_reserved(0x7f),
+        ValType::I64 => bytes.push_reserved(0x7e),
+        ValType::F32 => bytes.push_reserved(0x7d),
+        ValType::F64 => bytes.push_reserved(0x7c),
+        ValType::V128 => bytes.push_reserved(0x7b),
+        ValType::Ref(ty) => put_ref_type(bytes, ty),
+    }
+}
+
+/// Writes a storage type in 1 to 7 bytes.
+#[tactic(auto, unfolding(crate::specs::HeapTypes::storage_type_text))]
+pub fn put_storage_type<A: Allocator>(bytes: &mut Vec<u8, A>, ty: StorageType)
+    requires { vec_len bytes.old + 7 ≤ vec_capacity bytes.old }
+    ensures items { bytes.new.items ≡ bytes.old.items ++ storage_type_text ty }
+    ensures len { vec_len bytes.new ≤ vec_len bytes.old + 7 }
+    ensures capacity { vec_capacity bytes.new ≡ vec_capacity bytes.old }
+{
+    match ty {
+        StorageType::I8 => bytes.push_reserved(0x78),
+        StorageType::I16 => bytes.push_reserved(0x77),
+        StorageType::Val(ty) => put_val_type(bytes, ty),
+    }
+}
+
+/// One byte (Core 3.0, 5.3.3).
+impl Encode for AbstractHeapType {
+    ghost text = { λ ty. Some (abstract_type_text ty) };
+
+    fn encode<A: Allocator>(&self, sink: &mut Vec<u8, A>) -> Result<(), EncodeError> {
+        sink.reserve(1)?;
+        sink.push_reserved(abstract_byte(*self));
+        Ok(())
+    }
+}
+
+/// A byte or two, or an index as an s33, or `0x62` and an index (Core 3.0, 5.3.3).
+impl Encode for HeapType {
+    ghost text = { λ ty. Some (heap_type_text ty) };
+
+    fn encode<A: Allocator>(&self, sink: &mut Vec<u8, A>) -> Result<(), EncodeError> {
+        sink.reserve(6)?;
+        put_heap_type(sink, *self);
+        Ok(())
+    }
+}
+
+/// The short form for a nullable abstract one, else `0x63` or `0x64` and the heap type (Core 3.0, 5.3.5).
+impl Encode for RefType {
+    ghost text = { λ ty. Some (ref_type_text ty) };
+
+    fn encode<A: Allocator>(&self, sink: &mut Vec<u8, A>) -> Result<(), EncodeError> {
+        sink.reserve(7)?;
+        put_ref_type(sink, *self);
+        Ok(())
+    }
+}
+
+/// One byte, or a reference type (Core 3.0, 5.3.6).
+impl Encode for ValType {
+    ghost text = { λ ty. Some (val_type_text ty) };
+
+    fn encode<A: Allocator>(&self, sink: &mut Vec<u8, A>) -> Result<(), EncodeError> {
+        sink.reserve(7)?;
+        put_val_type(sink, *self);
+        Ok(())
+    }
+}
+
+/// One byte where it is packed, else a value type (Core 3.0, 5.3.8).
+impl Encode for StorageType {
+    ghost text = { λ ty. Some (storage_type_text ty) };
+
+    fn encode<A: Allocator>(&self, sink: &mut Vec<u8, A>) -> Result<(), EncodeError> {
+        sink.reserve(7)?;
+        put_storage_type(sink, *self);
+        Ok(())
+    }
+}

@@ -1,0 +1,14 @@
+//! Heap, reference, value, storage and composite types, subtypes, and entries of a type section (Core 3.0, 5.3 and
+//! 5.5.4).
+
+mod composite;
+mod copies;
+mod heap;
+mod value;
+
+pub use composite::{
+    ArrayType, CompositeInnerType, CompositeType, ContType, FieldType, FuncType, StructType,
+    SubType, TypeEntry,
+};
+pub use heap::{AbstractHeapType, HeapType, RefType};
+pub use value::{StorageType, ValType};

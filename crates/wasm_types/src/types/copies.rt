@@ -1,0 +1,86 @@
+//! Copies of the types that own lists.
+ghost use Rattle.std.specs.Prelude.{◌≡◌, IfOk};
+
+use super::composite::{
+    CompositeInnerType, CompositeType, FuncType, StructType, SubType, TypeEntry,
+};
+use std::alloc::{AllocError, Global};
+use wasm_values::encode::EncodeError;
+use wasm_values::list::Items;
+
+impl StructType {
+    /// An equal structure.
+    pub fn try_clone(&self) -> Result<StructType, EncodeError>
+        ensures { IfOk result (λ ty. ty ≡ self.now) }
+    {
+        let fields = self.fields.try_clone()?;
+        Ok(StructType { fields })
+    }
+}
+
+impl CompositeInnerType {
+    /// An equal type.
+    pub fn try_clone(&self) -> Result<CompositeInnerType, EncodeError>
+        ensures { IfOk result (λ ty. ty ≡ self.now) }
+    {
+        Ok(match self {
+            CompositeInnerType::Func(ty) => CompositeInnerType::Func(ty.try_clone()?),
+            CompositeInnerType::Array(ty) => CompositeInnerType::Array(*ty),
+            CompositeInnerType::Struct(ty) => CompositeInnerType::Struct(ty.try_clone()?),
+            CompositeInnerType::Cont(ty) => CompositeInnerType::Cont(*ty),
+        })
+    }
+}
+
+impl CompositeType {
+    /// An equal type.
+    pub fn try_clone(&self) -> Result<CompositeType, EncodeError>
+        ensures { IfOk result (λ ty. ty ≡ self.now) }
+    {
+        Ok(CompositeType {
+            inner: self.inner.try_clone()?,
+            shared: self.shared,
+            descriptor: self.descriptor,
+            describes: self.describes,
+        })
+    }
+}
+
+impl SubType {
+    /// An equal type.
+    pub fn try_clone(&self) -> Result<SubType, EncodeError>
+        ensures { IfOk result (λ ty. ty ≡ self.now) }
+    {
+        Ok(SubType {
+            is_final: self.is_final,
+            supertype_idxs: self.supertype_idxs.try_clone()?,
+            composite_type: self.composite_type.try_clone()?,
+        })
+    }
+}
+
+impl TypeEntry {
+    /// An equal entry.
+    pub fn try_clone(&self) -> Result<TypeEntry, EncodeError>
+        ensures { IfOk result (λ entry. entry ≡ self.now) }
+    {
+        Ok(match self {
+            TypeEntry::Sub(ty) => TypeEntry::Sub(ty.try_clone()?),
+            TypeEntry::Rec(types) => {
+                let copies = copies_of(types.allocator(), types.as_slice())?;
+                TypeEntry::Rec(Items::from(copies))
+            }
+        })
+    }
+}
+
+/// Copies of the types of a group.
+fn copies_of(alloc: Global, types: &[SubType]) -> Result<Vec<SubType>, EncodeError>
+    ensures { IfOk result (λ copies. copies.items ≡ types.now) }
+{
+    let mut copies = Vec::with_capacity(alloc, types.len())?;
+    for ty in types {
+        copies.push(ty.try_clone()?).map_err(AllocError::from)?;
+    }
+    Ok(copies)
+}
