@@ -12,13 +12,14 @@ pub(super) fn block<'a, A: Allocator>(
     method: &str,
     block_type: BlockType,
 ) -> Result<InstructionSink<'a, A>, Mismatch> {
-    Ok(match method {
-        "block" => sink.block(block_type)?,
-        "loop_" => sink.loop_(block_type)?,
-        "if_" => sink.if_(block_type)?,
-        "try_" => sink.try_(block_type)?,
+    let written = match method {
+        "block" => sink.block(block_type),
+        "loop_" => sink.loop_(block_type),
+        "if_" => sink.if_(block_type),
+        "try_" => sink.try_(block_type),
         _ => return Err(Mismatch::NotUnderstood),
-    })
+    };
+    Ok(written?)
 }
 
 /// A heap type.
@@ -27,16 +28,17 @@ pub(super) fn heap<'a, A: Allocator>(
     method: &str,
     heap_type: HeapType,
 ) -> Result<InstructionSink<'a, A>, Mismatch> {
-    Ok(match method {
-        "ref_null" => sink.ref_null(heap_type)?,
-        "ref_test_non_null" => sink.ref_test_non_null(heap_type)?,
-        "ref_test_nullable" => sink.ref_test_nullable(heap_type)?,
-        "ref_cast_non_null" => sink.ref_cast_non_null(heap_type)?,
-        "ref_cast_nullable" => sink.ref_cast_nullable(heap_type)?,
-        "ref_cast_desc_eq_non_null" => sink.ref_cast_desc_eq_non_null(heap_type)?,
-        "ref_cast_desc_eq_nullable" => sink.ref_cast_desc_eq_nullable(heap_type)?,
+    let written = match method {
+        "ref_null" => sink.ref_null(heap_type),
+        "ref_test_non_null" => sink.ref_test_non_null(heap_type),
+        "ref_test_nullable" => sink.ref_test_nullable(heap_type),
+        "ref_cast_non_null" => sink.ref_cast_non_null(heap_type),
+        "ref_cast_nullable" => sink.ref_cast_nullable(heap_type),
+        "ref_cast_desc_eq_non_null" => sink.ref_cast_desc_eq_non_null(heap_type),
+        "ref_cast_desc_eq_nullable" => sink.ref_cast_desc_eq_nullable(heap_type),
         _ => return Err(Mismatch::NotUnderstood),
-    })
+    };
+    Ok(written?)
 }
 
 /// A label and two reference types.
@@ -47,13 +49,14 @@ pub(super) fn cast<'a, A: Allocator>(
     from: RefType,
     to: RefType,
 ) -> Result<InstructionSink<'a, A>, Mismatch> {
-    Ok(match method {
-        "br_on_cast" => sink.br_on_cast(label, from, to)?,
-        "br_on_cast_fail" => sink.br_on_cast_fail(label, from, to)?,
-        "br_on_cast_desc_eq" => sink.br_on_cast_desc_eq(label, from, to)?,
-        "br_on_cast_desc_eq_fail" => sink.br_on_cast_desc_eq_fail(label, from, to)?,
+    let written = match method {
+        "br_on_cast" => sink.br_on_cast(label, from, to),
+        "br_on_cast_fail" => sink.br_on_cast_fail(label, from, to),
+        "br_on_cast_desc_eq" => sink.br_on_cast_desc_eq(label, from, to),
+        "br_on_cast_desc_eq_fail" => sink.br_on_cast_desc_eq_fail(label, from, to),
         _ => return Err(Mismatch::NotUnderstood),
-    })
+    };
+    Ok(written?)
 }
 
 /// A 32-bit integer.
@@ -62,10 +65,11 @@ pub(super) fn int_32<'a, A: Allocator>(
     method: &str,
     value: i32,
 ) -> Result<InstructionSink<'a, A>, Mismatch> {
-    Ok(match method {
-        "i32_const" => sink.i32_const(value)?,
+    let written = match method {
+        "i32_const" => sink.i32_const(value),
         _ => return Err(Mismatch::NotUnderstood),
-    })
+    };
+    Ok(written?)
 }
 
 /// A 64-bit integer.
@@ -74,10 +78,11 @@ pub(super) fn int_64<'a, A: Allocator>(
     method: &str,
     value: i64,
 ) -> Result<InstructionSink<'a, A>, Mismatch> {
-    Ok(match method {
-        "i64_const" => sink.i64_const(value)?,
+    let written = match method {
+        "i64_const" => sink.i64_const(value),
         _ => return Err(Mismatch::NotUnderstood),
-    })
+    };
+    Ok(written?)
 }
 
 /// A 32-bit floating-point number.
@@ -86,10 +91,11 @@ pub(super) fn float_32<'a, A: Allocator>(
     method: &str,
     value: Ieee32,
 ) -> Result<InstructionSink<'a, A>, Mismatch> {
-    Ok(match method {
-        "f32_const" => sink.f32_const(value)?,
+    let written = match method {
+        "f32_const" => sink.f32_const(value),
         _ => return Err(Mismatch::NotUnderstood),
-    })
+    };
+    Ok(written?)
 }
 
 /// A 64-bit floating-point number.
@@ -98,10 +104,11 @@ pub(super) fn float_64<'a, A: Allocator>(
     method: &str,
     value: Ieee64,
 ) -> Result<InstructionSink<'a, A>, Mismatch> {
-    Ok(match method {
-        "f64_const" => sink.f64_const(value)?,
+    let written = match method {
+        "f64_const" => sink.f64_const(value),
         _ => return Err(Mismatch::NotUnderstood),
-    })
+    };
+    Ok(written?)
 }
 
 /// A vector.
@@ -110,10 +117,11 @@ pub(super) fn vector<'a, A: Allocator>(
     method: &str,
     value: i128,
 ) -> Result<InstructionSink<'a, A>, Mismatch> {
-    Ok(match method {
-        "v128_const" => sink.v128_const(value)?,
+    let written = match method {
+        "v128_const" => sink.v128_const(value),
         _ => return Err(Mismatch::NotUnderstood),
-    })
+    };
+    Ok(written?)
 }
 
 /// Sixteen lanes.
@@ -122,10 +130,11 @@ pub(super) fn lanes<'a, A: Allocator>(
     method: &str,
     lanes: [Lane; 16],
 ) -> Result<InstructionSink<'a, A>, Mismatch> {
-    Ok(match method {
-        "i8x16_shuffle" => sink.i8x16_shuffle(lanes)?,
+    let written = match method {
+        "i8x16_shuffle" => sink.i8x16_shuffle(lanes),
         _ => return Err(Mismatch::NotUnderstood),
-    })
+    };
+    Ok(written?)
 }
 
 /// An ordering.
@@ -134,10 +143,11 @@ pub(super) fn order<'a, A: Allocator>(
     method: &str,
     ordering: Ordering,
 ) -> Result<InstructionSink<'a, A>, Mismatch> {
-    Ok(match method {
-        "atomic_fence" => sink.atomic_fence(ordering)?,
+    let written = match method {
+        "atomic_fence" => sink.atomic_fence(ordering),
         _ => return Err(Mismatch::NotUnderstood),
-    })
+    };
+    Ok(written?)
 }
 
 /// A value type.
@@ -146,8 +156,9 @@ pub(super) fn one_type<'a, A: Allocator>(
     method: &str,
     ty: ValType,
 ) -> Result<InstructionSink<'a, A>, Mismatch> {
-    Ok(match method {
-        "typed_select" => sink.typed_select(ty)?,
+    let written = match method {
+        "typed_select" => sink.typed_select(ty),
         _ => return Err(Mismatch::NotUnderstood),
-    })
+    };
+    Ok(written?)
 }
