@@ -13,8 +13,8 @@ pub use Rattle.wasm_instructions.specs.Opcodes
 pub use Rattle.wasm_instructions.specs.MemArgs
 pub use Rattle.wasm_instructions.specs.Operands
 pub use Rattle.wasm_instructions.specs.Instructions
-pub use Rattle.wasm_instructions.specs.Sink
-pub use Rattle.wasm_instructions.specs.ListCalls
+pub use Rattle.wasm_sink.specs.Sink
+pub use Rattle.wasm_sink.specs.ListCalls
 pub use Rattle.wasm_modules.specs.Modules
 pub use Rattle.wasm_modules.specs.TypeSections
 pub use Rattle.wasm_modules.specs.Sized

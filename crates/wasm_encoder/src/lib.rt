@@ -2,7 +2,7 @@
 //! Beside the writers stand readers and normalisers, which take every spelling that the binary format allows.
 //!
 //! This crate has no code of its own. It gathers what callers name from the crates below it, which follow the chapters
-//! of the binary format: `wasm_values`, `wasm_types`, `wasm_instructions` and `wasm_modules`.
+//! of the binary format: `wasm_values`, `wasm_types`, `wasm_modules`, `wasm_instructions` and `wasm_sink`.
 #![tactic(auto)]
 
 pub mod encode;
@@ -22,11 +22,12 @@ pub use types::{
 pub use wasm_instructions::operands::{
     BlockType, Catch, Handle, Ieee32, Ieee64, Lane, MemArg, Ordering,
 };
-pub use wasm_instructions::sink::InstructionSink;
 pub use wasm_instructions::table::{Call, Kind, Opcode, Operands, Prefix};
-pub use wasm_instructions::{operands, sink, table};
+pub use wasm_instructions::{operands, table};
 pub use wasm_modules::raw::RawSection;
 pub use wasm_modules::wasm_core::{Module, Section, SectionId};
 pub use wasm_modules::{raw, wasm_core};
+pub use wasm_sink::sink;
+pub use wasm_sink::sink::InstructionSink;
 pub use wasm_values::list;
 pub use wasm_values::list::Items;

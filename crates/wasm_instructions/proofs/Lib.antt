@@ -3,4 +3,3 @@ pub mod OperandLaws
 pub mod RawLaws
 pub mod OpcodeLaws
 pub mod InstructionLaws
-mod KeptBytes

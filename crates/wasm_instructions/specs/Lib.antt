@@ -2,5 +2,3 @@ pub mod Opcodes
 pub mod MemArgs
 pub mod Operands
 pub mod Instructions
-pub mod Sink
-pub mod ListCalls

@@ -1,9 +1,8 @@
-//! Instructions of WebAssembly (Core 3.0, 5.4): one call of the sink for each opcode, calls as values, and the readers
-//! and the normaliser of sequences of instructions.
+//! Instructions of WebAssembly (Core 3.0, 5.4): operands, the table of opcodes, calls (an opcode with operands
+//! of its kind), and their reader.
 #![tactic(auto)]
 
 pub mod encode;
 pub mod operands;
 pub mod reader;
-pub mod sink;
 pub mod table;

@@ -1,6 +1,6 @@
-//! Readers and the normaliser of instructions.
+//! The reader of instructions.
 
 mod instructions;
 mod operands;
 
-pub use instructions::{normalise_instructions, read_instructions};
+pub use instructions::{read_call, read_instructions};

@@ -11,7 +11,7 @@ use wasm_values::encode::{Encode, EncodeError};
 
 /// Writes a block type in 1 to 7 bytes.
 #[tactic(auto, unfolding(crate::specs::Operands::block_type_text))]
-pub(crate) fn put_block_type<A: Allocator>(bytes: &mut Vec<u8, A>, ty: BlockType)
+pub fn put_block_type<A: Allocator>(bytes: &mut Vec<u8, A>, ty: BlockType)
     requires { vec_len bytes.old + 7 ≤ vec_capacity bytes.old }
     ensures items { bytes.new.items ≡ bytes.old.items ++ block_type_text ty }
     ensures len { vec_len bytes.new ≤ vec_len bytes.old + 7 }
@@ -26,7 +26,7 @@ pub(crate) fn put_block_type<A: Allocator>(bytes: &mut Vec<u8, A>, ty: BlockType
 
 /// Writes a memory argument in 2 to 16 bytes. Memory 0 goes without its index.
 #[tactic(auto, unfolding(crate::specs::MemArgs::mem_arg_text, wasm_values::specs::Numbers::unsigned_text, wasm_values::specs::Numbers::digits_of))]
-pub(crate) fn put_mem_arg<A: Allocator>(bytes: &mut Vec<u8, A>, arg: MemArg)
+pub fn put_mem_arg<A: Allocator>(bytes: &mut Vec<u8, A>, arg: MemArg)
     requires aligned { arg.align < 64 }
     requires room { vec_len bytes.old + 16 ≤ vec_capacity bytes.old }
     ensures items { bytes.new.items ≡ bytes.old.items ++ mem_arg_text arg }
@@ -44,7 +44,7 @@ pub(crate) fn put_mem_arg<A: Allocator>(bytes: &mut Vec<u8, A>, arg: MemArg)
 
 /// Writes a clause of `try_table` in 2 to 11 bytes.
 #[tactic(auto, unfolding(crate::specs::Operands::catch_text))]
-pub(crate) fn put_catch<A: Allocator>(bytes: &mut Vec<u8, A>, clause: Catch)
+pub fn put_catch<A: Allocator>(bytes: &mut Vec<u8, A>, clause: Catch)
     requires { vec_len bytes.old + 11 ≤ vec_capacity bytes.old }
     ensures items { bytes.new.items ≡ bytes.old.items ++ catch_text clause }
     ensures len { vec_len bytes.new ≤ vec_len bytes.old + 11 }
@@ -74,7 +74,7 @@ pub(crate) fn put_catch<A: Allocator>(bytes: &mut Vec<u8, A>, clause: Catch)
 
 /// Writes a clause of `resume` in 2 to 11 bytes.
 #[tactic(auto, unfolding(crate::specs::Operands::handle_text))]
-pub(crate) fn put_handle<A: Allocator>(bytes: &mut Vec<u8, A>, clause: Handle)
+pub fn put_handle<A: Allocator>(bytes: &mut Vec<u8, A>, clause: Handle)
     requires { vec_len bytes.old + 11 ≤ vec_capacity bytes.old }
     ensures items { bytes.new.items ≡ bytes.old.items ++ handle_text clause }
     ensures len { vec_len bytes.new ≤ vec_len bytes.old + 11 }
@@ -95,7 +95,7 @@ pub(crate) fn put_handle<A: Allocator>(bytes: &mut Vec<u8, A>, clause: Handle)
 
 /// Writes an ordering in one byte.
 #[tactic(auto, unfolding(crate::specs::Operands::ordering_text))]
-pub(crate) fn put_ordering<A: Allocator>(bytes: &mut Vec<u8, A>, ordering: Ordering)
+pub fn put_ordering<A: Allocator>(bytes: &mut Vec<u8, A>, ordering: Ordering)
     requires { vec_len bytes.old + 1 ≤ vec_capacity bytes.old }
     ensures items { bytes.new.items ≡ bytes.old.items ++ ordering_text ordering }
     ensures len { vec_len bytes.new ≤ vec_len bytes.old + 1 }
@@ -109,7 +109,7 @@ pub(crate) fn put_ordering<A: Allocator>(bytes: &mut Vec<u8, A>, ordering: Order
 
 /// Writes a number in 4 bytes, the least first.
 #[tactic(auto, unfolding(crate::specs::Operands::little_endian_text))]
-pub(crate) fn put_bits_32<A: Allocator>(bytes: &mut Vec<u8, A>, value: u32)
+pub fn put_bits_32<A: Allocator>(bytes: &mut Vec<u8, A>, value: u32)
     requires { vec_len bytes.old + 4 ≤ vec_capacity bytes.old }
     ensures items { bytes.new.items ≡ bytes.old.items ++ little_endian_text 4 value }
     ensures len { vec_len bytes.new ≤ vec_len bytes.old + 4 }
@@ -126,7 +126,7 @@ pub(crate) fn put_bits_32<A: Allocator>(bytes: &mut Vec<u8, A>, value: u32)
 
 /// Writes a number in 8 bytes, the least first.
 #[tactic(auto, unfolding(crate::specs::Operands::little_endian_text))]
-pub(crate) fn put_bits_64<A: Allocator>(bytes: &mut Vec<u8, A>, value: u64)
+pub fn put_bits_64<A: Allocator>(bytes: &mut Vec<u8, A>, value: u64)
     requires { vec_len bytes.old + 8 ≤ vec_capacity bytes.old }
     ensures items { bytes.new.items ≡ bytes.old.items ++ little_endian_text 8 value }
     ensures len { vec_len bytes.new ≤ vec_len bytes.old + 8 }
@@ -162,7 +162,7 @@ fn vector_bits(value: i128) -> u128
 
 /// Writes a vector in 16 bytes, the least first, in two's complement.
 #[tactic(auto, unfolding(crate::specs::Operands::vector_text))]
-pub(crate) fn put_vector<A: Allocator>(bytes: &mut Vec<u8, A>, value: i128)
+pub fn put_vector<A: Allocator>(bytes: &mut Vec<u8, A>, value: i128)
     requires { vec_len bytes.old + 16 ≤ vec_capacity bytes.old }
     ensures items { bytes.new.items ≡ bytes.old.items ++ vector_text value }
     ensures len { vec_len bytes.new ≤ vec_len bytes.old + 16 }

@@ -208,7 +208,7 @@ impl Call {
     }
 
     /// The text of a call spells it, where no list is too long. Nothing is done.
-    pub(crate) fn is_spelled(&self)
+    pub fn is_spelled(&self)
         ensures spelled { IsCounted self.now.operands → SpellsInstruction (instruction_text self.now) self.now }
         ensures aligned { IsAligned self.now.operands }
     {

@@ -1,0 +1,70 @@
+-- What the instruction sink promises. The sink lends a list of bytes, so what holds of that list at an `Err` is said
+-- of the loan's end.
+use Rattle.std.specs.Prelude.{ℕ, Result, List, ◌≡◌, ◌++◌, ◌+◌, ◌≤◌, IfOk, MatchResult}
+use Rattle.std.specs.List.{AllByRecursion}
+use Rattle.std.specs.Borrow.{RestsIfErr, Fml, u8, RattleType}
+use Rattle.std.specs.Vec.{vec_len, vec_capacity}
+use Rattle.std.specs.contracts.vec.Vec as vec
+use Rattle.std.specs.declared.alloc.Allocator.{Ghosts}
+use Rattle.wasm_sink.specs.declared.sink.InstructionSink.{InstructionSink}
+use Rattle.wasm_instructions.specs.declared.table.opcode.Opcode.{Opcode}
+use Rattle.wasm_instructions.specs.declared.table.call.Operands.{Operands}
+use Rattle.wasm_instructions.specs.Instructions.{Instruction, call, instruction_text, instructions_text, IsAligned, IsCounted, HasText}
+use Rattle.wasm_values.specs.declared.encode.EncodeError.{EncodeError}
+use Rattle.wasm_values.specs.declared.encode.EncodeError.TheVariants as errors
+
+-- why a call wasn't written: memory ran out, an alignment is out of range, or a list is too long
+abbrev pub IsRefusal : Operands → EncodeError → Type 0
+IsRefusal operands errors.Memory = Unit {0}
+IsRefusal operands errors.Alignment = IsAligned operands → ⊥
+IsRefusal operands errors.TooLong = IsCounted operands → ⊥
+
+-- Why a `Call` wasn't written: memory ran out, or a list is too long. Its alignments are in range.
+abbrev pub IsCallRefusal : Instruction → EncodeError → Type 0
+IsCallRefusal c errors.Memory = Unit {0}
+IsCallRefusal c errors.Alignment = ⊥
+IsCallRefusal c errors.TooLong = IsCounted c.operands → ⊥
+
+-- why one of several wasn't written
+abbrev pub IsRefusalOfOne : List Instruction → EncodeError → Type 0
+IsRefusalOfOne calls errors.Memory = Unit {0}
+IsRefusalOfOne calls errors.Alignment = ⊥
+IsRefusalOfOne calls errors.TooLong = AllByRecursion (λ c. IsCounted c.operands) calls → ⊥
+
+module _ {Z : Type 0} where
+  -- the bytes behind the sink
+  abbrev pub written : InstructionSink Z → List ℕ
+  written s = s.bytes.now.items
+
+  -- the sink that comes back is over the same list
+  abbrev pub IsSameSink : InstructionSink Z → Result (InstructionSink Z) EncodeError → Type 0
+  IsSameSink s r = IfOk r (λ t. t.bytes.ghost_name ≡ s.bytes.ghost_name)
+
+  -- the sink goes on with this text at its end, or memory ran out
+  abbrev pub Appends : InstructionSink Z → List ℕ → Result (InstructionSink Z) EncodeError → Type 0
+  Appends s text r = MatchResult r (λ t. written t ≡ written s ++ text) (λ e. e ≡ errors.Memory)
+
+  -- the sink goes on with the text of this call at its end, or memory ran out
+  abbrev pub Writes : InstructionSink Z → Opcode → Operands → Result (InstructionSink Z) EncodeError → Type 0
+  Writes s op operands r = Appends s (instruction_text (call op operands)) r
+
+  -- the sink goes on with the text of this call at its end, where it has one, or tells why not
+  abbrev pub WritesText : InstructionSink Z → Opcode → Operands → Result (InstructionSink Z) EncodeError → Type 0
+  WritesText s op operands r = MatchResult r (λ t. (written t ≡ written s ++ instruction_text (call op operands)) × HasText operands) (IsRefusal operands)
+
+  -- the sink goes on with the text of this call at its end, or tells why not
+  abbrev pub AppendsCall : InstructionSink Z → Instruction → Result (InstructionSink Z) EncodeError → Type 0
+  AppendsCall s c r = MatchResult r (λ t. (written t ≡ written s ++ instruction_text c) × IsCounted c.operands) (IsCallRefusal c)
+
+  -- the sink goes on with the texts of these calls at its end, or tells why not
+  abbrev pub AppendsCalls : InstructionSink Z → List Instruction → Result (InstructionSink Z) EncodeError → Type 0
+  AppendsCalls s calls r = MatchResult r (λ t. written t ≡ written s ++ instructions_text calls) (IsRefusalOfOne calls)
+
+  -- there is room for any call without a list
+  abbrev pub HasRoom : InstructionSink Z → Type 0
+  HasRoom s = vec_len s.bytes.now + 24 ≤ vec_capacity s.bytes.now
+
+module _ (A : RattleType) (heap : Ghosts A.Denot) where
+  -- after an `Err` the list is as it was
+  abbrev pub IsUnchangedAtErr : InstructionSink A.Denot → Result (InstructionSink A.Denot) EncodeError → Fml
+  IsUnchangedAtErr s r = RestsIfErr (vec.the_row u8 A heap) s.bytes (λ x. x.bytes.ghost_name) r (λ n. n.items ≡ s.bytes.now.items)

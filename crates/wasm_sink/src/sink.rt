@@ -1,0 +1,109 @@
+//! The instruction sink: one method for each instruction.
+//!
+//! Each method takes the sink by value and gives it back at `Ok`, so calls are chained by `?`:
+//! `InstructionSink::new(&mut code).local_get(0)?.local_get(1)?.i32_add()?.end()?`. At an `Err` the list of bytes is
+//! as it was before the call.
+ghost use Rattle.std.specs.Prelude.{◌≡◌, ◌++◌, ℕ, List, IsOk, IfOk, IfErr, OnOk, OnErr};
+ghost use Rattle.std.specs.Borrow.{sem};
+ghost use Rattle.wasm_sink.specs.Sink.{IsUnchangedAtErr, IsSameSink, AppendsCall, AppendsCalls, HasRoom, IsCallRefusal, IsRefusalOfOne};
+ghost use Rattle.wasm_instructions.specs.Instructions.{HasNoList, SpellsInstruction, SpellsInstructions, instruction_text, instructions_text};
+ghost use Rattle.wasm_values.specs.Encoding.{IsTextOrLonger};
+
+mod aggregates;
+mod atomics;
+mod control;
+mod emit;
+mod memory;
+mod numeric;
+mod parametric;
+mod references;
+mod stack_switching;
+mod tables;
+mod variables;
+mod vectors;
+
+use wasm_instructions::table::Call;
+use std::alloc::Allocator;
+use wasm_values::encode::EncodeError;
+
+/// Appends instructions to a list of bytes.
+#[derive(Drop)]
+pub struct InstructionSink<'a, A: Allocator> {
+    bytes: &'a mut Vec<u8, A>,
+}
+
+impl<'a, A: Allocator> InstructionSink<'a, A> {
+    /// A sink that appends to this list.
+    pub fn new(bytes: &'a mut Vec<u8, A>) -> InstructionSink<'a, A>
+        ensures same_reference { result.bytes.ghost_name ≡ bytes.entry.ghost_name }
+        ensures value { result.bytes.now ≡ bytes.old }
+    {
+        InstructionSink { bytes }
+    }
+
+    /// Appends the text of a call.
+    ///
+    /// `TooLong` where a list has more than 4,294,967,295 items.
+    pub fn write_call(self, call: &Call) -> Result<InstructionSink<'a, A>, EncodeError>
+        ensures* unchanged { sem 𝓛 (IsUnchangedAtErr A.row A.Allocator self.entry result) }
+        ensures same { IsSameSink self.entry result }
+        ensures wrote { AppendsCall self.entry call.now result }
+        ensures room { HasRoom self.entry → HasNoList call.now.operands → IsOk result }
+        // The text spells the call.
+        ensures spells { IfOk result (λ _. SpellsInstruction (instruction_text call.now) call.now) }
+    {
+        call.is_spelled();
+        self.emit_operands(call.op(), call.operands())
+    }
+
+    /// Appends the texts of calls, all of them or none.
+    ///
+    /// `TooLong` where a list in one of them has more than 4,294,967,295 items.
+    pub fn write_calls(self, calls: &[Call]) -> Result<InstructionSink<'a, A>, EncodeError>
+        ensures* unchanged { sem 𝓛 (IsUnchangedAtErr A.row A.Allocator self.entry result) }
+        ensures same { IsSameSink self.entry result }
+        ensures wrote { AppendsCalls self.entry calls.now result }
+        // What is written spells the calls.
+        ensures spells { IfOk result (λ _. SpellsInstructions (instructions_text calls.now) calls.now) }
+        // Every other spelling of the calls is longer than what is written.
+        ensures shortest { (bytes : List ℕ) → SpellsInstructions bytes calls.now →
+            IsTextOrLonger bytes (instructions_text calls.now) }
+    {
+        let InstructionSink { bytes } = self;
+        append_calls(bytes, calls)?;
+        Ok(InstructionSink { bytes })
+    }
+}
+
+/// Appends the texts of calls, all of them or none.
+fn append_calls<A: Allocator>(bytes: &mut Vec<u8, A>, calls: &[Call]) -> Result<(), EncodeError>
+    ensures ok { OnOk result (bytes.new.items ≡ bytes.old.items ++ instructions_text calls.now) }
+    ensures err { OnErr result (bytes.new.items ≡ bytes.old.items) }
+    ensures refused { IfErr result (IsRefusalOfOne calls.now) }
+    ensures spells { OnOk result (SpellsInstructions (instructions_text calls.now) calls.now) }
+    ensures shortest { (bytes : List ℕ) → SpellsInstructions bytes calls.now →
+        IsTextOrLonger bytes (instructions_text calls.now) }
+{
+    let start = bytes.len();
+    for call in calls {
+        if let Err(error) = append_call(bytes, call) {
+            bytes.truncate(start);
+            return Err(error);
+        }
+    }
+    Ok(())
+}
+
+/// Appends the text of a call, or nothing.
+pub(crate) fn append_call<A: Allocator>(
+    bytes: &mut Vec<u8, A>,
+    call: &Call,
+) -> Result<(), EncodeError>
+    ensures ok { OnOk result (bytes.new.items ≡ bytes.old.items ++ instruction_text call.now) }
+    ensures err { OnErr result (bytes.new.items ≡ bytes.old.items) }
+    ensures refused { IfErr result (IsCallRefusal call.now) }
+    ensures spells { OnOk result (SpellsInstruction (instruction_text call.now) call.now) }
+{
+    InstructionSink::new(&mut *bytes).write_call(call)?;
+    Ok(())
+}

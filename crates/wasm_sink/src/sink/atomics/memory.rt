@@ -1,0 +1,221 @@
+//! Waiting, notifying, fences, atomic loads and stores: of the proposal on threads.
+ghost use Rattle.std.specs.Prelude.{◌≤◌, ◌<◌, ◌↔◌, IsOk, IsErrOf};
+ghost use Rattle.std.specs.Borrow.{sem};
+ghost use Rattle.wasm_sink.specs.Sink.{IsUnchangedAtErr, IsSameSink, Writes, WritesText, HasRoom};
+ghost use Rattle.wasm_instructions.specs.Instructions.{after_fe};
+ghost use Rattle.wasm_instructions.specs.declared.table.call.Operands.TheVariants as operands;
+
+use wasm_instructions::operands::{MemArg, Ordering};
+use crate::sink::InstructionSink;
+use crate::sink::emit::after_fe;
+use std::alloc::Allocator;
+use wasm_values::encode::EncodeError;
+
+impl<'a, A: Allocator> InstructionSink<'a, A> {
+    /// `memory.atomic.notify`: `0xFE 0x00`.
+    pub fn memory_atomic_notify(self, memarg: MemArg) -> Result<InstructionSink<'a, A>, EncodeError>
+        ensures* unchanged { sem 𝓛 (IsUnchangedAtErr A.row A.Allocator self.entry result) }
+        ensures same { IsSameSink self.entry result }
+        ensures wrote { WritesText self.entry (after_fe 0x00) (operands.Mem memarg) result }
+        ensures alignment { IsErrOf result EncodeError.Alignment ↔ 64 ≤ memarg.align }
+        ensures room { HasRoom self.entry → memarg.align < 64 → IsOk result }
+    {
+        self.emit_mem(after_fe(0x00), memarg)
+    }
+
+    /// `memory.atomic.wait32`: `0xFE 0x01`.
+    pub fn memory_atomic_wait32(self, memarg: MemArg) -> Result<InstructionSink<'a, A>, EncodeError>
+        ensures* unchanged { sem 𝓛 (IsUnchangedAtErr A.row A.Allocator self.entry result) }
+        ensures same { IsSameSink self.entry result }
+        ensures wrote { WritesText self.entry (after_fe 0x01) (operands.Mem memarg) result }
+        ensures alignment { IsErrOf result EncodeError.Alignment ↔ 64 ≤ memarg.align }
+        ensures room { HasRoom self.entry → memarg.align < 64 → IsOk result }
+    {
+        self.emit_mem(after_fe(0x01), memarg)
+    }
+
+    /// `memory.atomic.wait64`: `0xFE 0x02`.
+    pub fn memory_atomic_wait64(self, memarg: MemArg) -> Result<InstructionSink<'a, A>, EncodeError>
+        ensures* unchanged { sem 𝓛 (IsUnchangedAtErr A.row A.Allocator self.entry result) }
+        ensures same { IsSameSink self.entry result }
+        ensures wrote { WritesText self.entry (after_fe 0x02) (operands.Mem memarg) result }
+        ensures alignment { IsErrOf result EncodeError.Alignment ↔ 64 ≤ memarg.align }
+        ensures room { HasRoom self.entry → memarg.align < 64 → IsOk result }
+    {
+        self.emit_mem(after_fe(0x02), memarg)
+    }
+
+    /// `atomic.fence`: `0xFE 0x03`.
+    pub fn atomic_fence(self, ordering: Ordering) -> Result<InstructionSink<'a, A>, EncodeError>
+        ensures* unchanged { sem 𝓛 (IsUnchangedAtErr A.row A.Allocator self.entry result) }
+        ensures same { IsSameSink self.entry result }
+        ensures wrote { Writes self.entry (after_fe 0x03) (operands.Order ordering) result }
+        ensures room { HasRoom self.entry → IsOk result }
+    {
+        self.emit_order(after_fe(0x03), ordering)
+    }
+
+    /// `pause`: `0xFE 0x04`.
+    pub fn pause(self) -> Result<InstructionSink<'a, A>, EncodeError>
+        ensures* unchanged { sem 𝓛 (IsUnchangedAtErr A.row A.Allocator self.entry result) }
+        ensures same { IsSameSink self.entry result }
+        ensures wrote { Writes self.entry (after_fe 0x04) operands.None result }
+        ensures room { HasRoom self.entry → IsOk result }
+    {
+        self.emit(after_fe(0x04))
+    }
+
+    /// `i32.atomic.load`: `0xFE 0x10`.
+    pub fn i32_atomic_load(self, memarg: MemArg) -> Result<InstructionSink<'a, A>, EncodeError>
+        ensures* unchanged { sem 𝓛 (IsUnchangedAtErr A.row A.Allocator self.entry result) }
+        ensures same { IsSameSink self.entry result }
+        ensures wrote { WritesText self.entry (after_fe 0x10) (operands.Mem memarg) result }
+        ensures alignment { IsErrOf result EncodeError.Alignment ↔ 64 ≤ memarg.align }
+        ensures room { HasRoom self.entry → memarg.align < 64 → IsOk result }
+    {
+        self.emit_mem(after_fe(0x10), memarg)
+    }
+
+    /// `i64.atomic.load`: `0xFE 0x11`.
+    pub fn i64_atomic_load(self, memarg: MemArg) -> Result<InstructionSink<'a, A>, EncodeError>
+        ensures* unchanged { sem 𝓛 (IsUnchangedAtErr A.row A.Allocator self.entry result) }
+        ensures same { IsSameSink self.entry result }
+        ensures wrote { WritesText self.entry (after_fe 0x11) (operands.Mem memarg) result }
+        ensures alignment { IsErrOf result EncodeError.Alignment ↔ 64 ≤ memarg.align }
+        ensures room { HasRoom self.entry → memarg.align < 64 → IsOk result }
+    {
+        self.emit_mem(after_fe(0x11), memarg)
+    }
+
+    /// `i32.atomic.load8_u`: `0xFE 0x12`.
+    pub fn i32_atomic_load8_u(self, memarg: MemArg) -> Result<InstructionSink<'a, A>, EncodeError>
+        ensures* unchanged { sem 𝓛 (IsUnchangedAtErr A.row A.Allocator self.entry result) }
+        ensures same { IsSameSink self.entry result }
+        ensures wrote { WritesText self.entry (after_fe 0x12) (operands.Mem memarg) result }
+        ensures alignment { IsErrOf result EncodeError.Alignment ↔ 64 ≤ memarg.align }
+        ensures room { HasRoom self.entry → memarg.align < 64 → IsOk result }
+    {
+        self.emit_mem(after_fe(0x12), memarg)
+    }
+
+    /// `i32.atomic.load16_u`: `0xFE 0x13`.
+    pub fn i32_atomic_load16_u(self, memarg: MemArg) -> Result<InstructionSink<'a, A>, EncodeError>
+        ensures* unchanged { sem 𝓛 (IsUnchangedAtErr A.row A.Allocator self.entry result) }
+        ensures same { IsSameSink self.entry result }
+        ensures wrote { WritesText self.entry (after_fe 0x13) (operands.Mem memarg) result }
+        ensures alignment { IsErrOf result EncodeError.Alignment ↔ 64 ≤ memarg.align }
+        ensures room { HasRoom self.entry → memarg.align < 64 → IsOk result }
+    {
+        self.emit_mem(after_fe(0x13), memarg)
+    }
+
+    /// `i64.atomic.load8_u`: `0xFE 0x14`.
+    pub fn i64_atomic_load8_u(self, memarg: MemArg) -> Result<InstructionSink<'a, A>, EncodeError>
+        ensures* unchanged { sem 𝓛 (IsUnchangedAtErr A.row A.Allocator self.entry result) }
+        ensures same { IsSameSink self.entry result }
+        ensures wrote { WritesText self.entry (after_fe 0x14) (operands.Mem memarg) result }
+        ensures alignment { IsErrOf result EncodeError.Alignment ↔ 64 ≤ memarg.align }
+        ensures room { HasRoom self.entry → memarg.align < 64 → IsOk result }
+    {
+        self.emit_mem(after_fe(0x14), memarg)
+    }
+
+    /// `i64.atomic.load16_u`: `0xFE 0x15`.
+    pub fn i64_atomic_load16_u(self, memarg: MemArg) -> Result<InstructionSink<'a, A>, EncodeError>
+        ensures* unchanged { sem 𝓛 (IsUnchangedAtErr A.row A.Allocator self.entry result) }
+        ensures same { IsSameSink self.entry result }
+        ensures wrote { WritesText self.entry (after_fe 0x15) (operands.Mem memarg) result }
+        ensures alignment { IsErrOf result EncodeError.Alignment ↔ 64 ≤ memarg.align }
+        ensures room { HasRoom self.entry → memarg.align < 64 → IsOk result }
+    {
+        self.emit_mem(after_fe(0x15), memarg)
+    }
+
+    /// `i64.atomic.load32_u`: `0xFE 0x16`.
+    pub fn i64_atomic_load32_u(self, memarg: MemArg) -> Result<InstructionSink<'a, A>, EncodeError>
+        ensures* unchanged { sem 𝓛 (IsUnchangedAtErr A.row A.Allocator self.entry result) }
+        ensures same { IsSameSink self.entry result }
+        ensures wrote { WritesText self.entry (after_fe 0x16) (operands.Mem memarg) result }
+        ensures alignment { IsErrOf result EncodeError.Alignment ↔ 64 ≤ memarg.align }
+        ensures room { HasRoom self.entry → memarg.align < 64 → IsOk result }
+    {
+        self.emit_mem(after_fe(0x16), memarg)
+    }
+
+    /// `i32.atomic.store`: `0xFE 0x17`.
+    pub fn i32_atomic_store(self, memarg: MemArg) -> Result<InstructionSink<'a, A>, EncodeError>
+        ensures* unchanged { sem 𝓛 (IsUnchangedAtErr A.row A.Allocator self.entry result) }
+        ensures same { IsSameSink self.entry result }
+        ensures wrote { WritesText self.entry (after_fe 0x17) (operands.Mem memarg) result }
+        ensures alignment { IsErrOf result EncodeError.Alignment ↔ 64 ≤ memarg.align }
+        ensures room { HasRoom self.entry → memarg.align < 64 → IsOk result }
+    {
+        self.emit_mem(after_fe(0x17), memarg)
+    }
+
+    /// `i64.atomic.store`: `0xFE 0x18`.
+    pub fn i64_atomic_store(self, memarg: MemArg) -> Result<InstructionSink<'a, A>, EncodeError>
+        ensures* unchanged { sem 𝓛 (IsUnchangedAtErr A.row A.Allocator self.entry result) }
+        ensures same { IsSameSink self.entry result }
+        ensures wrote { WritesText self.entry (after_fe 0x18) (operands.Mem memarg) result }
+        ensures alignment { IsErrOf result EncodeError.Alignment ↔ 64 ≤ memarg.align }
+        ensures room { HasRoom self.entry → memarg.align < 64 → IsOk result }
+    {
+        self.emit_mem(after_fe(0x18), memarg)
+    }
+
+    /// `i32.atomic.store8`: `0xFE 0x19`.
+    pub fn i32_atomic_store8(self, memarg: MemArg) -> Result<InstructionSink<'a, A>, EncodeError>
+        ensures* unchanged { sem 𝓛 (IsUnchangedAtErr A.row A.Allocator self.entry result) }
+        ensures same { IsSameSink self.entry result }
+        ensures wrote { WritesText self.entry (after_fe 0x19) (operands.Mem memarg) result }
+        ensures alignment { IsErrOf result EncodeError.Alignment ↔ 64 ≤ memarg.align }
+        ensures room { HasRoom self.entry → memarg.align < 64 → IsOk result }
+    {
+        self.emit_mem(after_fe(0x19), memarg)
+    }
+
+    /// `i32.atomic.store16`: `0xFE 0x1A`.
+    pub fn i32_atomic_store16(self, memarg: MemArg) -> Result<InstructionSink<'a, A>, EncodeError>
+        ensures* unchanged { sem 𝓛 (IsUnchangedAtErr A.row A.Allocator self.entry result) }
+        ensures same { IsSameSink self.entry result }
+        ensures wrote { WritesText self.entry (after_fe 0x1a) (operands.Mem memarg) result }
+        ensures alignment { IsErrOf result EncodeError.Alignment ↔ 64 ≤ memarg.align }
+        ensures room { HasRoom self.entry → memarg.align < 64 → IsOk result }
+    {
+        self.emit_mem(after_fe(0x1a), memarg)
+    }
+
+    /// `i64.atomic.store8`: `0xFE 0x1B`.
+    pub fn i64_atomic_store8(self, memarg: MemArg) -> Result<InstructionSink<'a, A>, EncodeError>
+        ensures* unchanged { sem 𝓛 (IsUnchangedAtErr A.row A.Allocator self.entry result) }
+        ensures same { IsSameSink self.entry result }
+        ensures wrote { WritesText self.entry (after_fe 0x1b) (operands.Mem memarg) result }
+        ensures alignment { IsErrOf result EncodeError.Alignment ↔ 64 ≤ memarg.align }
+        ensures room { HasRoom self.entry → memarg.align < 64 → IsOk result }
+    {
+        self.emit_mem(after_fe(0x1b), memarg)
+    }
+
+    /// `i64.atomic.store16`: `0xFE 0x1C`.
+    pub fn i64_atomic_store16(self, memarg: MemArg) -> Result<InstructionSink<'a, A>, EncodeError>
+        ensures* unchanged { sem 𝓛 (IsUnchangedAtErr A.row A.Allocator self.entry result) }
+        ensures same { IsSameSink self.entry result }
+        ensures wrote { WritesText self.entry (after_fe 0x1c) (operands.Mem memarg) result }
+        ensures alignment { IsErrOf result EncodeError.Alignment ↔ 64 ≤ memarg.align }
+        ensures room { HasRoom self.entry → memarg.align < 64 → IsOk result }
+    {
+        self.emit_mem(after_fe(0x1c), memarg)
+    }
+
+    /// `i64.atomic.store32`: `0xFE 0x1D`.
+    pub fn i64_atomic_store32(self, memarg: MemArg) -> Result<InstructionSink<'a, A>, EncodeError>
+        ensures* unchanged { sem 𝓛 (IsUnchangedAtErr A.row A.Allocator self.entry result) }
+        ensures same { IsSameSink self.entry result }
+        ensures wrote { WritesText self.entry (after_fe 0x1d) (operands.Mem memarg) result }
+        ensures alignment { IsErrOf result EncodeError.Alignment ↔ 64 ≤ memarg.align }
+        ensures room { HasRoom self.entry → memarg.align < 64 → IsOk result }
+    {
+        self.emit_mem(after_fe(0x1d), memarg)
+    }
+}

@@ -1,0 +1,658 @@
+//! Atomic reads with a write: of the proposal on threads.
+ghost use Rattle.std.specs.Prelude.{◌≤◌, ◌<◌, ◌↔◌, IsOk, IsErrOf};
+ghost use Rattle.std.specs.Borrow.{sem};
+ghost use Rattle.wasm_sink.specs.Sink.{IsUnchangedAtErr, IsSameSink, WritesText, HasRoom};
+ghost use Rattle.wasm_instructions.specs.Instructions.{after_fe};
+ghost use Rattle.wasm_instructions.specs.declared.table.call.Operands.TheVariants as operands;
+
+use wasm_instructions::operands::MemArg;
+use crate::sink::InstructionSink;
+use crate::sink::emit::after_fe;
+use std::alloc::Allocator;
+use wasm_values::encode::EncodeError;
+
+impl<'a, A: Allocator> InstructionSink<'a, A> {
+    /// `i32.atomic.rmw.add`: `0xFE 0x1E`.
+    pub fn i32_atomic_rmw_add(self, memarg: MemArg) -> Result<InstructionSink<'a, A>, EncodeError>
+        ensures* unchanged { sem 𝓛 (IsUnchangedAtErr A.row A.Allocator self.entry result) }
+        ensures same { IsSameSink self.entry result }
+        ensures wrote { WritesText self.entry (after_fe 0x1e) (operands.Mem memarg) result }
+        ensures alignment { IsErrOf result EncodeError.Alignment ↔ 64 ≤ memarg.align }
+        ensures room { HasRoom self.entry → memarg.align < 64 → IsOk result }
+    {
+        self.emit_mem(after_fe(0x1e), memarg)
+    }
+
+    /// `i64.atomic.rmw.add`: `0xFE 0x1F`.
+    pub fn i64_atomic_rmw_add(self, memarg: MemArg) -> Result<InstructionSink<'a, A>, EncodeError>
+        ensures* unchanged { sem 𝓛 (IsUnchangedAtErr A.row A.Allocator self.entry result) }
+        ensures same { IsSameSink self.entry result }
+        ensures wrote { WritesText self.entry (after_fe 0x1f) (operands.Mem memarg) result }
+        ensures alignment { IsErrOf result EncodeError.Alignment ↔ 64 ≤ memarg.align }
+        ensures room { HasRoom self.entry → memarg.align < 64 → IsOk result }
+    {
+        self.emit_mem(after_fe(0x1f), memarg)
+    }
+
+    /// `i32.atomic.rmw8.add_u`: `0xFE 0x20`.
+    pub fn i32_atomic_rmw8_add_u(
+        self,
+        memarg: MemArg,
+    ) -> Result<InstructionSink<'a, A>, EncodeError>
+        ensures* unchanged { sem 𝓛 (IsUnchangedAtErr A.row A.Allocator self.entry result) }
+        ensures same { IsSameSink self.entry result }
+        ensures wrote { WritesText self.entry (after_fe 0x20) (operands.Mem memarg) result }
+        ensures alignment { IsErrOf result EncodeError.Alignment ↔ 64 ≤ memarg.align }
+        ensures room { HasRoom self.entry → memarg.align < 64 → IsOk result }
+    {
+        self.emit_mem(after_fe(0x20), memarg)
+    }
+
+    /// `i32.atomic.rmw16.add_u`: `0xFE 0x21`.
+    pub fn i32_atomic_rmw16_add_u(
+        self,
+        memarg: MemArg,
+    ) -> Result<InstructionSink<'a, A>, EncodeError>
+        ensures* unchanged { sem 𝓛 (IsUnchangedAtErr A.row A.Allocator self.entry result) }
+        ensures same { IsSameSink self.entry result }
+        ensures wrote { WritesText self.entry (after_fe 0x21) (operands.Mem memarg) result }
+        ensures alignment { IsErrOf result EncodeError.Alignment ↔ 64 ≤ memarg.align }
+        ensures room { HasRoom self.entry → memarg.align < 64 → IsOk result }
+    {
+        self.emit_mem(after_fe(0x21), memarg)
+    }
+
+    /// `i64.atomic.rmw8.add_u`: `0xFE 0x22`.
+    pub fn i64_atomic_rmw8_add_u(
+        self,
+        memarg: MemArg,
+    ) -> Result<InstructionSink<'a, A>, EncodeError>
+        ensures* unchanged { sem 𝓛 (IsUnchangedAtErr A.row A.Allocator self.entry result) }
+        ensures same { IsSameSink self.entry result }
+        ensures wrote { WritesText self.entry (after_fe 0x22) (operands.Mem memarg) result }
+        ensures alignment { IsErrOf result EncodeError.Alignment ↔ 64 ≤ memarg.align }
+        ensures room { HasRoom self.entry → memarg.align < 64 → IsOk result }
+    {
+        self.emit_mem(after_fe(0x22), memarg)
+    }
+
+    /// `i64.atomic.rmw16.add_u`: `0xFE 0x23`.
+    pub fn i64_atomic_rmw16_add_u(
+        self,
+        memarg: MemArg,
+    ) -> Result<InstructionSink<'a, A>, EncodeError>
+        ensures* unchanged { sem 𝓛 (IsUnchangedAtErr A.row A.Allocator self.entry result) }
+        ensures same { IsSameSink self.entry result }
+        ensures wrote { WritesText self.entry (after_fe 0x23) (operands.Mem memarg) result }
+        ensures alignment { IsErrOf result EncodeError.Alignment ↔ 64 ≤ memarg.align }
+        ensures room { HasRoom self.entry → memarg.align < 64 → IsOk result }
+    {
+        self.emit_mem(after_fe(0x23), memarg)
+    }
+
+    /// `i64.atomic.rmw32.add_u`: `0xFE 0x24`.
+    pub fn i64_atomic_rmw32_add_u(
+        self,
+        memarg: MemArg,
+    ) -> Result<InstructionSink<'a, A>, EncodeError>
+        ensures* unchanged { sem 𝓛 (IsUnchangedAtErr A.row A.Allocator self.entry result) }
+        ensures same { IsSameSink self.entry result }
+        ensures wrote { WritesText self.entry (after_fe 0x24) (operands.Mem memarg) result }
+        ensures alignment { IsErrOf result EncodeError.Alignment ↔ 64 ≤ memarg.align }
+        ensures room { HasRoom self.entry → memarg.align < 64 → IsOk result }
+    {
+        self.emit_mem(after_fe(0x24), memarg)
+    }
+
+    /// `i32.atomic.rmw.sub`: `0xFE 0x25`.
+    pub fn i32_atomic_rmw_sub(self, memarg: MemArg) -> Result<InstructionSink<'a, A>, EncodeError>
+        ensures* unchanged { sem 𝓛 (IsUnchangedAtErr A.row A.Allocator self.entry result) }
+        ensures same { IsSameSink self.entry result }
+        ensures wrote { WritesText self.entry (after_fe 0x25) (operands.Mem memarg) result }
+        ensures alignment { IsErrOf result EncodeError.Alignment ↔ 64 ≤ memarg.align }
+        ensures room { HasRoom self.entry → memarg.align < 64 → IsOk result }
+    {
+        self.emit_mem(after_fe(0x25), memarg)
+    }
+
+    /// `i64.atomic.rmw.sub`: `0xFE 0x26`.
+    pub fn i64_atomic_rmw_sub(self, memarg: MemArg) -> Result<InstructionSink<'a, A>, EncodeError>
+        ensures* unchanged { sem 𝓛 (IsUnchangedAtErr A.row A.Allocator self.entry result) }
+        ensures same { IsSameSink self.entry result }
+        ensures wrote { WritesText self.entry (after_fe 0x26) (operands.Mem memarg) result }
+        ensures alignment { IsErrOf result EncodeError.Alignment ↔ 64 ≤ memarg.align }
+        ensures room { HasRoom self.entry → memarg.align < 64 → IsOk result }
+    {
+        self.emit_mem(after_fe(0x26), memarg)
+    }
+
+    /// `i32.atomic.rmw8.sub_u`: `0xFE 0x27`.
+    pub fn i32_atomic_rmw8_sub_u(
+        self,
+        memarg: MemArg,
+    ) -> Result<InstructionSink<'a, A>, EncodeError>
+        ensures* unchanged { sem 𝓛 (IsUnchangedAtErr A.row A.Allocator self.entry result) }
+        ensures same { IsSameSink self.entry result }
+        ensures wrote { WritesText self.entry (after_fe 0x27) (operands.Mem memarg) result }
+        ensures alignment { IsErrOf result EncodeError.Alignment ↔ 64 ≤ memarg.align }
+        ensures room { HasRoom self.entry → memarg.align < 64 → IsOk result }
+    {
+        self.emit_mem(after_fe(0x27), memarg)
+    }
+
+    /// `i32.atomic.rmw16.sub_u`: `0xFE 0x28`.
+    pub fn i32_atomic_rmw16_sub_u(
+        self,
+        memarg: MemArg,
+    ) -> Result<InstructionSink<'a, A>, EncodeError>
+        ensures* unchanged { sem 𝓛 (IsUnchangedAtErr A.row A.Allocator self.entry result) }
+        ensures same { IsSameSink self.entry result }
+        ensures wrote { WritesText self.entry (after_fe 0x28) (operands.Mem memarg) result }
+        ensures alignment { IsErrOf result EncodeError.Alignment ↔ 64 ≤ memarg.align }
+        ensures room { HasRoom self.entry → memarg.align < 64 → IsOk result }
+    {
+        self.emit_mem(after_fe(0x28), memarg)
+    }
+
+    /// `i64.atomic.rmw8.sub_u`: `0xFE 0x29`.
+    pub fn i64_atomic_rmw8_sub_u(
+        self,
+        memarg: MemArg,
+    ) -> Result<InstructionSink<'a, A>, EncodeError>
+        ensures* unchanged { sem 𝓛 (IsUnchangedAtErr A.row A.Allocator self.entry result) }
+        ensures same { IsSameSink self.entry result }
+        ensures wrote { WritesText self.entry (after_fe 0x29) (operands.Mem memarg) result }
+        ensures alignment { IsErrOf result EncodeError.Alignment ↔ 64 ≤ memarg.align }
+        ensures room { HasRoom self.entry → memarg.align < 64 → IsOk result }
+    {
+        self.emit_mem(after_fe(0x29), memarg)
+    }
+
+    /// `i64.atomic.rmw16.sub_u`: `0xFE 0x2A`.
+    pub fn i64_atomic_rmw16_sub_u(
+        self,
+        memarg: MemArg,
+    ) -> Result<InstructionSink<'a, A>, EncodeError>
+        ensures* unchanged { sem 𝓛 (IsUnchangedAtErr A.row A.Allocator self.entry result) }
+        ensures same { IsSameSink self.entry result }
+        ensures wrote { WritesText self.entry (after_fe 0x2a) (operands.Mem memarg) result }
+        ensures alignment { IsErrOf result EncodeError.Alignment ↔ 64 ≤ memarg.align }
+        ensures room { HasRoom self.entry → memarg.align < 64 → IsOk result }
+    {
+        self.emit_mem(after_fe(0x2a), memarg)
+    }
+
+    /// `i64.atomic.rmw32.sub_u`: `0xFE 0x2B`.
+    pub fn i64_atomic_rmw32_sub_u(
+        self,
+        memarg: MemArg,
+    ) -> Result<InstructionSink<'a, A>, EncodeError>
+        ensures* unchanged { sem 𝓛 (IsUnchangedAtErr A.row A.Allocator self.entry result) }
+        ensures same { IsSameSink self.entry result }
+        ensures wrote { WritesText self.entry (after_fe 0x2b) (operands.Mem memarg) result }
+        ensures alignment { IsErrOf result EncodeError.Alignment ↔ 64 ≤ memarg.align }
+        ensures room { HasRoom self.entry → memarg.align < 64 → IsOk result }
+    {
+        self.emit_mem(after_fe(0x2b), memarg)
+    }
+
+    /// `i32.atomic.rmw.and`: `0xFE 0x2C`.
+    pub fn i32_atomic_rmw_and(self, memarg: MemArg) -> Result<InstructionSink<'a, A>, EncodeError>
+        ensures* unchanged { sem 𝓛 (IsUnchangedAtErr A.row A.Allocator self.entry result) }
+        ensures same { IsSameSink self.entry result }
+        ensures wrote { WritesText self.entry (after_fe 0x2c) (operands.Mem memarg) result }
+        ensures alignment { IsErrOf result EncodeError.Alignment ↔ 64 ≤ memarg.align }
+        ensures room { HasRoom self.entry → memarg.align < 64 → IsOk result }
+    {
+        self.emit_mem(after_fe(0x2c), memarg)
+    }
+
+    /// `i64.atomic.rmw.and`: `0xFE 0x2D`.
+    pub fn i64_atomic_rmw_and(self, memarg: MemArg) -> Result<InstructionSink<'a, A>, EncodeError>
+        ensures* unchanged { sem 𝓛 (IsUnchangedAtErr A.row A.Allocator self.entry result) }
+        ensures same { IsSameSink self.entry result }
+        ensures wrote { WritesText self.entry (after_fe 0x2d) (operands.Mem memarg) result }
+        ensures alignment { IsErrOf result EncodeError.Alignment ↔ 64 ≤ memarg.align }
+        ensures room { HasRoom self.entry → memarg.align < 64 → IsOk result }
+    {
+        self.emit_mem(after_fe(0x2d), memarg)
+    }
+
+    /// `i32.atomic.rmw8.and_u`: `0xFE 0x2E`.
+    pub fn i32_atomic_rmw8_and_u(
+        self,
+        memarg: MemArg,
+    ) -> Result<InstructionSink<'a, A>, EncodeError>
+        ensures* unchanged { sem 𝓛 (IsUnchangedAtErr A.row A.Allocator self.entry result) }
+        ensures same { IsSameSink self.entry result }
+        ensures wrote { WritesText self.entry (after_fe 0x2e) (operands.Mem memarg) result }
+        ensures alignment { IsErrOf result EncodeError.Alignment ↔ 64 ≤ memarg.align }
+        ensures room { HasRoom self.entry → memarg.align < 64 → IsOk result }
+    {
+        self.emit_mem(after_fe(0x2e), memarg)
+    }
+
+    /// `i32.atomic.rmw16.and_u`: `0xFE 0x2F`.
+    pub fn i32_atomic_rmw16_and_u(
+        self,
+        memarg: MemArg,
+    ) -> Result<InstructionSink<'a, A>, EncodeError>
+        ensures* unchanged { sem 𝓛 (IsUnchangedAtErr A.row A.Allocator self.entry result) }
+        ensures same { IsSameSink self.entry result }
+        ensures wrote { WritesText self.entry (after_fe 0x2f) (operands.Mem memarg) result }
+        ensures alignment { IsErrOf result EncodeError.Alignment ↔ 64 ≤ memarg.align }
+        ensures room { HasRoom self.entry → memarg.align < 64 → IsOk result }
+    {
+        self.emit_mem(after_fe(0x2f), memarg)
+    }
+
+    /// `i64.atomic.rmw8.and_u`: `0xFE 0x30`.
+    pub fn i64_atomic_rmw8_and_u(
+        self,
+        memarg: MemArg,
+    ) -> Result<InstructionSink<'a, A>, EncodeError>
+        ensures* unchanged { sem 𝓛 (IsUnchangedAtErr A.row A.Allocator self.entry result) }
+        ensures same { IsSameSink self.entry result }
+        ensures wrote { WritesText self.entry (after_fe 0x30) (operands.Mem memarg) result }
+        ensures alignment { IsErrOf result EncodeError.Alignment ↔ 64 ≤ memarg.align }
+        ensures room { HasRoom self.entry → memarg.align < 64 → IsOk result }
+    {
+        self.emit_mem(after_fe(0x30), memarg)
+    }
+
+    /// `i64.atomic.rmw16.and_u`: `0xFE 0x31`.
+    pub fn i64_atomic_rmw16_and_u(
+        self,
+        memarg: MemArg,
+    ) -> Result<InstructionSink<'a, A>, EncodeError>
+        ensures* unchanged { sem 𝓛 (IsUnchangedAtErr A.row A.Allocator self.entry result) }
+        ensures same { IsSameSink self.entry result }
+        ensures wrote { WritesText self.entry (after_fe 0x31) (operands.Mem memarg) result }
+        ensures alignment { IsErrOf result EncodeError.Alignment ↔ 64 ≤ memarg.align }
+        ensures room { HasRoom self.entry → memarg.align < 64 → IsOk result }
+    {
+        self.emit_mem(after_fe(0x31), memarg)
+    }
+
+    /// `i64.atomic.rmw32.and_u`: `0xFE 0x32`.
+    pub fn i64_atomic_rmw32_and_u(
+        self,
+        memarg: MemArg,
+    ) -> Result<InstructionSink<'a, A>, EncodeError>
+        ensures* unchanged { sem 𝓛 (IsUnchangedAtErr A.row A.Allocator self.entry result) }
+        ensures same { IsSameSink self.entry result }
+        ensures wrote { WritesText self.entry (after_fe 0x32) (operands.Mem memarg) result }
+        ensures alignment { IsErrOf result EncodeError.Alignment ↔ 64 ≤ memarg.align }
+        ensures room { HasRoom self.entry → memarg.align < 64 → IsOk result }
+    {
+        self.emit_mem(after_fe(0x32), memarg)
+    }
+
+    /// `i32.atomic.rmw.or`: `0xFE 0x33`.
+    pub fn i32_atomic_rmw_or(self, memarg: MemArg) -> Result<InstructionSink<'a, A>, EncodeError>
+        ensures* unchanged { sem 𝓛 (IsUnchangedAtErr A.row A.Allocator self.entry result) }
+        ensures same { IsSameSink self.entry result }
+        ensures wrote { WritesText self.entry (after_fe 0x33) (operands.Mem memarg) result }
+        ensures alignment { IsErrOf result EncodeError.Alignment ↔ 64 ≤ memarg.align }
+        ensures room { HasRoom self.entry → memarg.align < 64 → IsOk result }
+    {
+        self.emit_mem(after_fe(0x33), memarg)
+    }
+
+    /// `i64.atomic.rmw.or`: `0xFE 0x34`.
+    pub fn i64_atomic_rmw_or(self, memarg: MemArg) -> Result<InstructionSink<'a, A>, EncodeError>
+        ensures* unchanged { sem 𝓛 (IsUnchangedAtErr A.row A.Allocator self.entry result) }
+        ensures same { IsSameSink self.entry result }
+        ensures wrote { WritesText self.entry (after_fe 0x34) (operands.Mem memarg) result }
+        ensures alignment { IsErrOf result EncodeError.Alignment ↔ 64 ≤ memarg.align }
+        ensures room { HasRoom self.entry → memarg.align < 64 → IsOk result }
+    {
+        self.emit_mem(after_fe(0x34), memarg)
+    }
+
+    /// `i32.atomic.rmw8.or_u`: `0xFE 0x35`.
+    pub fn i32_atomic_rmw8_or_u(self, memarg: MemArg) -> Result<InstructionSink<'a, A>, EncodeError>
+        ensures* unchanged { sem 𝓛 (IsUnchangedAtErr A.row A.Allocator self.entry result) }
+        ensures same { IsSameSink self.entry result }
+        ensures wrote { WritesText self.entry (after_fe 0x35) (operands.Mem memarg) result }
+        ensures alignment { IsErrOf result EncodeError.Alignment ↔ 64 ≤ memarg.align }
+        ensures room { HasRoom self.entry → memarg.align < 64 → IsOk result }
+    {
+        self.emit_mem(after_fe(0x35), memarg)
+    }
+
+    /// `i32.atomic.rmw16.or_u`: `0xFE 0x36`.
+    pub fn i32_atomic_rmw16_or_u(
+        self,
+        memarg: MemArg,
+    ) -> Result<InstructionSink<'a, A>, EncodeError>
+        ensures* unchanged { sem 𝓛 (IsUnchangedAtErr A.row A.Allocator self.entry result) }
+        ensures same { IsSameSink self.entry result }
+        ensures wrote { WritesText self.entry (after_fe 0x36) (operands.Mem memarg) result }
+        ensures alignment { IsErrOf result EncodeError.Alignment ↔ 64 ≤ memarg.align }
+        ensures room { HasRoom self.entry → memarg.align < 64 → IsOk result }
+    {
+        self.emit_mem(after_fe(0x36), memarg)
+    }
+
+    /// `i64.atomic.rmw8.or_u`: `0xFE 0x37`.
+    pub fn i64_atomic_rmw8_or_u(self, memarg: MemArg) -> Result<InstructionSink<'a, A>, EncodeError>
+        ensures* unchanged { sem 𝓛 (IsUnchangedAtErr A.row A.Allocator self.entry result) }
+        ensures same { IsSameSink self.entry result }
+        ensures wrote { WritesText self.entry (after_fe 0x37) (operands.Mem memarg) result }
+        ensures alignment { IsErrOf result EncodeError.Alignment ↔ 64 ≤ memarg.align }
+        ensures room { HasRoom self.entry → memarg.align < 64 → IsOk result }
+    {
+        self.emit_mem(after_fe(0x37), memarg)
+    }
+
+    /// `i64.atomic.rmw16.or_u`: `0xFE 0x38`.
+    pub fn i64_atomic_rmw16_or_u(
+        self,
+        memarg: MemArg,
+    ) -> Result<InstructionSink<'a, A>, EncodeError>
+        ensures* unchanged { sem 𝓛 (IsUnchangedAtErr A.row A.Allocator self.entry result) }
+        ensures same { IsSameSink self.entry result }
+        ensures wrote { WritesText self.entry (after_fe 0x38) (operands.Mem memarg) result }
+        ensures alignment { IsErrOf result EncodeError.Alignment ↔ 64 ≤ memarg.align }
+        ensures room { HasRoom self.entry → memarg.align < 64 → IsOk result }
+    {
+        self.emit_mem(after_fe(0x38), memarg)
+    }
+
+    /// `i64.atomic.rmw32.or_u`: `0xFE 0x39`.
+    pub fn i64_atomic_rmw32_or_u(
+        self,
+        memarg: MemArg,
+    ) -> Result<InstructionSink<'a, A>, EncodeError>
+        ensures* unchanged { sem 𝓛 (IsUnchangedAtErr A.row A.Allocator self.entry result) }
+        ensures same { IsSameSink self.entry result }
+        ensures wrote { WritesText self.entry (after_fe 0x39) (operands.Mem memarg) result }
+        ensures alignment { IsErrOf result EncodeError.Alignment ↔ 64 ≤ memarg.align }
+        ensures room { HasRoom self.entry → memarg.align < 64 → IsOk result }
+    {
+        self.emit_mem(after_fe(0x39), memarg)
+    }
+
+    /// `i32.atomic.rmw.xor`: `0xFE 0x3A`.
+    pub fn i32_atomic_rmw_xor(self, memarg: MemArg) -> Result<InstructionSink<'a, A>, EncodeError>
+        ensures* unchanged { sem 𝓛 (IsUnchangedAtErr A.row A.Allocator self.entry result) }
+        ensures same { IsSameSink self.entry result }
+        ensures wrote { WritesText self.entry (after_fe 0x3a) (operands.Mem memarg) result }
+        ensures alignment { IsErrOf result EncodeError.Alignment ↔ 64 ≤ memarg.align }
+        ensures room { HasRoom self.entry → memarg.align < 64 → IsOk result }
+    {
+        self.emit_mem(after_fe(0x3a), memarg)
+    }
+
+    /// `i64.atomic.rmw.xor`: `0xFE 0x3B`.
+    pub fn i64_atomic_rmw_xor(self, memarg: MemArg) -> Result<InstructionSink<'a, A>, EncodeError>
+        ensures* unchanged { sem 𝓛 (IsUnchangedAtErr A.row A.Allocator self.entry result) }
+        ensures same { IsSameSink self.entry result }
+        ensures wrote { WritesText self.entry (after_fe 0x3b) (operands.Mem memarg) result }
+        ensures alignment { IsErrOf result EncodeError.Alignment ↔ 64 ≤ memarg.align }
+        ensures room { HasRoom self.entry → memarg.align < 64 → IsOk result }
+    {
+        self.emit_mem(after_fe(0x3b), memarg)
+    }
+
+    /// `i32.atomic.rmw8.xor_u`: `0xFE 0x3C`.
+    pub fn i32_atomic_rmw8_xor_u(
+        self,
+        memarg: MemArg,
+    ) -> Result<InstructionSink<'a, A>, EncodeError>
+        ensures* unchanged { sem 𝓛 (IsUnchangedAtErr A.row A.Allocator self.entry result) }
+        ensures same { IsSameSink self.entry result }
+        ensures wrote { WritesText self.entry (after_fe 0x3c) (operands.Mem memarg) result }
+        ensures alignment { IsErrOf result EncodeError.Alignment ↔ 64 ≤ memarg.align }
+        ensures room { HasRoom self.entry → memarg.align < 64 → IsOk result }
+    {
+        self.emit_mem(after_fe(0x3c), memarg)
+    }
+
+    /// `i32.atomic.rmw16.xor_u`: `0xFE 0x3D`.
+    pub fn i32_atomic_rmw16_xor_u(
+        self,
+        memarg: MemArg,
+    ) -> Result<InstructionSink<'a, A>, EncodeError>
+        ensures* unchanged { sem 𝓛 (IsUnchangedAtErr A.row A.Allocator self.entry result) }
+        ensures same { IsSameSink self.entry result }
+        ensures wrote { WritesText self.entry (after_fe 0x3d) (operands.Mem memarg) result }
+        ensures alignment { IsErrOf result EncodeError.Alignment ↔ 64 ≤ memarg.align }
+        ensures room { HasRoom self.entry → memarg.align < 64 → IsOk result }
+    {
+        self.emit_mem(after_fe(0x3d), memarg)
+    }
+
+    /// `i64.atomic.rmw8.xor_u`: `0xFE 0x3E`.
+    pub fn i64_atomic_rmw8_xor_u(
+        self,
+        memarg: MemArg,
+    ) -> Result<InstructionSink<'a, A>, EncodeError>
+        ensures* unchanged { sem 𝓛 (IsUnchangedAtErr A.row A.Allocator self.entry result) }
+        ensures same { IsSameSink self.entry result }
+        ensures wrote { WritesText self.entry (after_fe 0x3e) (operands.Mem memarg) result }
+        ensures alignment { IsErrOf result EncodeError.Alignment ↔ 64 ≤ memarg.align }
+        ensures room { HasRoom self.entry → memarg.align < 64 → IsOk result }
+    {
+        self.emit_mem(after_fe(0x3e), memarg)
+    }
+
+    /// `i64.atomic.rmw16.xor_u`: `0xFE 0x3F`.
+    pub fn i64_atomic_rmw16_xor_u(
+        self,
+        memarg: MemArg,
+    ) -> Result<InstructionSink<'a, A>, EncodeError>
+        ensures* unchanged { sem 𝓛 (IsUnchangedAtErr A.row A.Allocator self.entry result) }
+        ensures same { IsSameSink self.entry result }
+        ensures wrote { WritesText self.entry (after_fe 0x3f) (operands.Mem memarg) result }
+        ensures alignment { IsErrOf result EncodeError.Alignment ↔ 64 ≤ memarg.align }
+        ensures room { HasRoom self.entry → memarg.align < 64 → IsOk result }
+    {
+        self.emit_mem(after_fe(0x3f), memarg)
+    }
+
+    /// `i64.atomic.rmw32.xor_u`: `0xFE 0x40`.
+    pub fn i64_atomic_rmw32_xor_u(
+        self,
+        memarg: MemArg,
+    ) -> Result<InstructionSink<'a, A>, EncodeError>
+        ensures* unchanged { sem 𝓛 (IsUnchangedAtErr A.row A.Allocator self.entry result) }
+        ensures same { IsSameSink self.entry result }
+        ensures wrote { WritesText self.entry (after_fe 0x40) (operands.Mem memarg) result }
+        ensures alignment { IsErrOf result EncodeError.Alignment ↔ 64 ≤ memarg.align }
+        ensures room { HasRoom self.entry → memarg.align < 64 → IsOk result }
+    {
+        self.emit_mem(after_fe(0x40), memarg)
+    }
+
+    /// `i32.atomic.rmw.xchg`: `0xFE 0x41`.
+    pub fn i32_atomic_rmw_xchg(self, memarg: MemArg) -> Result<InstructionSink<'a, A>, EncodeError>
+        ensures* unchanged { sem 𝓛 (IsUnchangedAtErr A.row A.Allocator self.entry result) }
+        ensures same { IsSameSink self.entry result }
+        ensures wrote { WritesText self.entry (after_fe 0x41) (operands.Mem memarg) result }
+        ensures alignment { IsErrOf result EncodeError.Alignment ↔ 64 ≤ memarg.align }
+        ensures room { HasRoom self.entry → memarg.align < 64 → IsOk result }
+    {
+        self.emit_mem(after_fe(0x41), memarg)
+    }
+
+    /// `i64.atomic.rmw.xchg`: `0xFE 0x42`.
+    pub fn i64_atomic_rmw_xchg(self, memarg: MemArg) -> Result<InstructionSink<'a, A>, EncodeError>
+        ensures* unchanged { sem 𝓛 (IsUnchangedAtErr A.row A.Allocator self.entry result) }
+        ensures same { IsSameSink self.entry result }
+        ensures wrote { WritesText self.entry (after_fe 0x42) (operands.Mem memarg) result }
+        ensures alignment { IsErrOf result EncodeError.Alignment ↔ 64 ≤ memarg.align }
+        ensures room { HasRoom self.entry → memarg.align < 64 → IsOk result }
+    {
+        self.emit_mem(after_fe(0x42), memarg)
+    }
+
+    /// `i32.atomic.rmw8.xchg_u`: `0xFE 0x43`.
+    pub fn i32_atomic_rmw8_xchg_u(
+        self,
+        memarg: MemArg,
+    ) -> Result<InstructionSink<'a, A>, EncodeError>
+        ensures* unchanged { sem 𝓛 (IsUnchangedAtErr A.row A.Allocator self.entry result) }
+        ensures same { IsSameSink self.entry result }
+        ensures wrote { WritesText self.entry (after_fe 0x43) (operands.Mem memarg) result }
+        ensures alignment { IsErrOf result EncodeError.Alignment ↔ 64 ≤ memarg.align }
+        ensures room { HasRoom self.entry → memarg.align < 64 → IsOk result }
+    {
+        self.emit_mem(after_fe(0x43), memarg)
+    }
+
+    /// `i32.atomic.rmw16.xchg_u`: `0xFE 0x44`.
+    pub fn i32_atomic_rmw16_xchg_u(
+        self,
+        memarg: MemArg,
+    ) -> Result<InstructionSink<'a, A>, EncodeError>
+        ensures* unchanged { sem 𝓛 (IsUnchangedAtErr A.row A.Allocator self.entry result) }
+        ensures same { IsSameSink self.entry result }
+        ensures wrote { WritesText self.entry (after_fe 0x44) (operands.Mem memarg) result }
+        ensures alignment { IsErrOf result EncodeError.Alignment ↔ 64 ≤ memarg.align }
+        ensures room { HasRoom self.entry → memarg.align < 64 → IsOk result }
+    {
+        self.emit_mem(after_fe(0x44), memarg)
+    }
+
+    /// `i64.atomic.rmw8.xchg_u`: `0xFE 0x45`.
+    pub fn i64_atomic_rmw8_xchg_u(
+        self,
+        memarg: MemArg,
+    ) -> Result<InstructionSink<'a, A>, EncodeError>
+        ensures* unchanged { sem 𝓛 (IsUnchangedAtErr A.row A.Allocator self.entry result) }
+        ensures same { IsSameSink self.entry result }
+        ensures wrote { WritesText self.entry (after_fe 0x45) (operands.Mem memarg) result }
+        ensures alignment { IsErrOf result EncodeError.Alignment ↔ 64 ≤ memarg.align }
+        ensures room { HasRoom self.entry → memarg.align < 64 → IsOk result }
+    {
+        self.emit_mem(after_fe(0x45), memarg)
+    }
+
+    /// `i64.atomic.rmw16.xchg_u`: `0xFE 0x46`.
+    pub fn i64_atomic_rmw16_xchg_u(
+        self,
+        memarg: MemArg,
+    ) -> Result<InstructionSink<'a, A>, EncodeError>
+        ensures* unchanged { sem 𝓛 (IsUnchangedAtErr A.row A.Allocator self.entry result) }
+        ensures same { IsSameSink self.entry result }
+        ensures wrote { WritesText self.entry (after_fe 0x46) (operands.Mem memarg) result }
+        ensures alignment { IsErrOf result EncodeError.Alignment ↔ 64 ≤ memarg.align }
+        ensures room { HasRoom self.entry → memarg.align < 64 → IsOk result }
+    {
+        self.emit_mem(after_fe(0x46), memarg)
+    }
+
+    /// `i64.atomic.rmw32.xchg_u`: `0xFE 0x47`.
+    pub fn i64_atomic_rmw32_xchg_u(
+        self,
+        memarg: MemArg,
+    ) -> Result<InstructionSink<'a, A>, EncodeError>
+        ensures* unchanged { sem 𝓛 (IsUnchangedAtErr A.row A.Allocator self.entry result) }
+        ensures same { IsSameSink self.entry result }
+        ensures wrote { WritesText self.entry (after_fe 0x47) (operands.Mem memarg) result }
+        ensures alignment { IsErrOf result EncodeError.Alignment ↔ 64 ≤ memarg.align }
+        ensures room { HasRoom self.entry → memarg.align < 64 → IsOk result }
+    {
+        self.emit_mem(after_fe(0x47), memarg)
+    }
+
+    /// `i32.atomic.rmw.cmpxchg`: `0xFE 0x48`.
+    pub fn i32_atomic_rmw_cmpxchg(
+        self,
+        memarg: MemArg,
+    ) -> Result<InstructionSink<'a, A>, EncodeError>
+        ensures* unchanged { sem 𝓛 (IsUnchangedAtErr A.row A.Allocator self.entry result) }
+        ensures same { IsSameSink self.entry result }
+        ensures wrote { WritesText self.entry (after_fe 0x48) (operands.Mem memarg) result }
+        ensures alignment { IsErrOf result EncodeError.Alignment ↔ 64 ≤ memarg.align }
+        ensures room { HasRoom self.entry → memarg.align < 64 → IsOk result }
+    {
+        self.emit_mem(after_fe(0x48), memarg)
+    }
+
+    /// `i64.atomic.rmw.cmpxchg`: `0xFE 0x49`.
+    pub fn i64_atomic_rmw_cmpxchg(
+        self,
+        memarg: MemArg,
+    ) -> Result<InstructionSink<'a, A>, EncodeError>
+        ensures* unchanged { sem 𝓛 (IsUnchangedAtErr A.row A.Allocator self.entry result) }
+        ensures same { IsSameSink self.entry result }
+        ensures wrote { WritesText self.entry (after_fe 0x49) (operands.Mem memarg) result }
+        ensures alignment { IsErrOf result EncodeError.Alignment ↔ 64 ≤ memarg.align }
+        ensures room { HasRoom self.entry → memarg.align < 64 → IsOk result }
+    {
+        self.emit_mem(after_fe(0x49), memarg)
+    }
+
+    /// `i32.atomic.rmw8.cmpxchg_u`: `0xFE 0x4A`.
+    pub fn i32_atomic_rmw8_cmpxchg_u(
+        self,
+        memarg: MemArg,
+    ) -> Result<InstructionSink<'a, A>, EncodeError>
+        ensures* unchanged { sem 𝓛 (IsUnchangedAtErr A.row A.Allocator self.entry result) }
+        ensures same { IsSameSink self.entry result }
+        ensures wrote { WritesText self.entry (after_fe 0x4a) (operands.Mem memarg) result }
+        ensures alignment { IsErrOf result EncodeError.Alignment ↔ 64 ≤ memarg.align }
+        ensures room { HasRoom self.entry → memarg.align < 64 → IsOk result }
+    {
+        self.emit_mem(after_fe(0x4a), memarg)
+    }
+
+    /// `i32.atomic.rmw16.cmpxchg_u`: `0xFE 0x4B`.
+    pub fn i32_atomic_rmw16_cmpxchg_u(
+        self,
+        memarg: MemArg,
+    ) -> Result<InstructionSink<'a, A>, EncodeError>
+        ensures* unchanged { sem 𝓛 (IsUnchangedAtErr A.row A.Allocator self.entry result) }
+        ensures same { IsSameSink self.entry result }
+        ensures wrote { WritesText self.entry (after_fe 0x4b) (operands.Mem memarg) result }
+        ensures alignment { IsErrOf result EncodeError.Alignment ↔ 64 ≤ memarg.align }
+        ensures room { HasRoom self.entry → memarg.align < 64 → IsOk result }
+    {
+        self.emit_mem(after_fe(0x4b), memarg)
+    }
+
+    /// `i64.atomic.rmw8.cmpxchg_u`: `0xFE 0x4C`.
+    pub fn i64_atomic_rmw8_cmpxchg_u(
+        self,
+        memarg: MemArg,
+    ) -> Result<InstructionSink<'a, A>, EncodeError>
+        ensures* unchanged { sem 𝓛 (IsUnchangedAtErr A.row A.Allocator self.entry result) }
+        ensures same { IsSameSink self.entry result }
+        ensures wrote { WritesText self.entry (after_fe 0x4c) (operands.Mem memarg) result }
+        ensures alignment { IsErrOf result EncodeError.Alignment ↔ 64 ≤ memarg.align }
+        ensures room { HasRoom self.entry → memarg.align < 64 → IsOk result }
+    {
+        self.emit_mem(after_fe(0x4c), memarg)
+    }
+
+    /// `i64.atomic.rmw16.cmpxchg_u`: `0xFE 0x4D`.
+    pub fn i64_atomic_rmw16_cmpxchg_u(
+        self,
+        memarg: MemArg,
+    ) -> Result<InstructionSink<'a, A>, EncodeError>
+        ensures* unchanged { sem 𝓛 (IsUnchangedAtErr A.row A.Allocator self.entry result) }
+        ensures same { IsSameSink self.entry result }
+        ensures wrote { WritesText self.entry (after_fe 0x4d) (operands.Mem memarg) result }
+        ensures alignment { IsErrOf result EncodeError.Alignment ↔ 64 ≤ memarg.align }
+        ensures room { HasRoom self.entry → memarg.align < 64 → IsOk result }
+    {
+        self.emit_mem(after_fe(0x4d), memarg)
+    }
+
+    /// `i64.atomic.rmw32.cmpxchg_u`: `0xFE 0x4E`.
+    pub fn i64_atomic_rmw32_cmpxchg_u(
+        self,
+        memarg: MemArg,
+    ) -> Result<InstructionSink<'a, A>, EncodeError>
+        ensures* unchanged { sem 𝓛 (IsUnchangedAtErr A.row A.Allocator self.entry result) }
+        ensures same { IsSameSink self.entry result }
+        ensures wrote { WritesText self.entry (after_fe 0x4e) (operands.Mem memarg) result }
+        ensures alignment { IsErrOf result EncodeError.Alignment ↔ 64 ≤ memarg.align }
+        ensures room { HasRoom self.entry → memarg.align < 64 → IsOk result }
+    {
+        self.emit_mem(after_fe(0x4e), memarg)
+    }
+}

@@ -1,0 +1,526 @@
+//! Atomic accesses to globals, tables, structs and arrays, and shared references to 31-bit integers: of the proposal
+//! on shared types.
+ghost use Rattle.std.specs.Prelude.{IsOk};
+ghost use Rattle.std.specs.Borrow.{sem};
+ghost use Rattle.wasm_sink.specs.Sink.{IsUnchangedAtErr, IsSameSink, Writes, HasRoom};
+ghost use Rattle.wasm_instructions.specs.Instructions.{after_fe};
+ghost use Rattle.wasm_instructions.specs.declared.table.call.Operands.TheVariants as operands;
+
+use wasm_instructions::operands::Ordering;
+use crate::sink::InstructionSink;
+use crate::sink::emit::after_fe;
+use std::alloc::Allocator;
+use wasm_values::encode::EncodeError;
+
+impl<'a, A: Allocator> InstructionSink<'a, A> {
+    /// `global.atomic.get`: `0xFE 0x4F`.
+    pub fn global_atomic_get(
+        self,
+        ordering: Ordering,
+        global: u32,
+    ) -> Result<InstructionSink<'a, A>, EncodeError>
+        ensures* unchanged { sem 𝓛 (IsUnchangedAtErr A.row A.Allocator self.entry result) }
+        ensures same { IsSameSink self.entry result }
+        ensures wrote { Writes self.entry (after_fe 0x4f) (operands.OrderIndex ordering global) result }
+        ensures room { HasRoom self.entry → IsOk result }
+    {
+        self.emit_order_index(after_fe(0x4f), ordering, global)
+    }
+
+    /// `global.atomic.set`: `0xFE 0x50`.
+    pub fn global_atomic_set(
+        self,
+        ordering: Ordering,
+        global: u32,
+    ) -> Result<InstructionSink<'a, A>, EncodeError>
+        ensures* unchanged { sem 𝓛 (IsUnchangedAtErr A.row A.Allocator self.entry result) }
+        ensures same { IsSameSink self.entry result }
+        ensures wrote { Writes self.entry (after_fe 0x50) (operands.OrderIndex ordering global) result }
+        ensures room { HasRoom self.entry → IsOk result }
+    {
+        self.emit_order_index(after_fe(0x50), ordering, global)
+    }
+
+    /// `global.atomic.rmw.add`: `0xFE 0x51`.
+    pub fn global_atomic_rmw_add(
+        self,
+        ordering: Ordering,
+        global: u32,
+    ) -> Result<InstructionSink<'a, A>, EncodeError>
+        ensures* unchanged { sem 𝓛 (IsUnchangedAtErr A.row A.Allocator self.entry result) }
+        ensures same { IsSameSink self.entry result }
+        ensures wrote { Writes self.entry (after_fe 0x51) (operands.OrderIndex ordering global) result }
+        ensures room { HasRoom self.entry → IsOk result }
+    {
+        self.emit_order_index(after_fe(0x51), ordering, global)
+    }
+
+    /// `global.atomic.rmw.sub`: `0xFE 0x52`.
+    pub fn global_atomic_rmw_sub(
+        self,
+        ordering: Ordering,
+        global: u32,
+    ) -> Result<InstructionSink<'a, A>, EncodeError>
+        ensures* unchanged { sem 𝓛 (IsUnchangedAtErr A.row A.Allocator self.entry result) }
+        ensures same { IsSameSink self.entry result }
+        ensures wrote { Writes self.entry (after_fe 0x52) (operands.OrderIndex ordering global) result }
+        ensures room { HasRoom self.entry → IsOk result }
+    {
+        self.emit_order_index(after_fe(0x52), ordering, global)
+    }
+
+    /// `global.atomic.rmw.and`: `0xFE 0x53`.
+    pub fn global_atomic_rmw_and(
+        self,
+        ordering: Ordering,
+        global: u32,
+    ) -> Result<InstructionSink<'a, A>, EncodeError>
+        ensures* unchanged { sem 𝓛 (IsUnchangedAtErr A.row A.Allocator self.entry result) }
+        ensures same { IsSameSink self.entry result }
+        ensures wrote { Writes self.entry (after_fe 0x53) (operands.OrderIndex ordering global) result }
+        ensures room { HasRoom self.entry → IsOk result }
+    {
+        self.emit_order_index(after_fe(0x53), ordering, global)
+    }
+
+    /// `global.atomic.rmw.or`: `0xFE 0x54`.
+    pub fn global_atomic_rmw_or(
+        self,
+        ordering: Ordering,
+        global: u32,
+    ) -> Result<InstructionSink<'a, A>, EncodeError>
+        ensures* unchanged { sem 𝓛 (IsUnchangedAtErr A.row A.Allocator self.entry result) }
+        ensures same { IsSameSink self.entry result }
+        ensures wrote { Writes self.entry (after_fe 0x54) (operands.OrderIndex ordering global) result }
+        ensures room { HasRoom self.entry → IsOk result }
+    {
+        self.emit_order_index(after_fe(0x54), ordering, global)
+    }
+
+    /// `global.atomic.rmw.xor`: `0xFE 0x55`.
+    pub fn global_atomic_rmw_xor(
+        self,
+        ordering: Ordering,
+        global: u32,
+    ) -> Result<InstructionSink<'a, A>, EncodeError>
+        ensures* unchanged { sem 𝓛 (IsUnchangedAtErr A.row A.Allocator self.entry result) }
+        ensures same { IsSameSink self.entry result }
+        ensures wrote { Writes self.entry (after_fe 0x55) (operands.OrderIndex ordering global) result }
+        ensures room { HasRoom self.entry → IsOk result }
+    {
+        self.emit_order_index(after_fe(0x55), ordering, global)
+    }
+
+    /// `global.atomic.rmw.xchg`: `0xFE 0x56`.
+    pub fn global_atomic_rmw_xchg(
+        self,
+        ordering: Ordering,
+        global: u32,
+    ) -> Result<InstructionSink<'a, A>, EncodeError>
+        ensures* unchanged { sem 𝓛 (IsUnchangedAtErr A.row A.Allocator self.entry result) }
+        ensures same { IsSameSink self.entry result }
+        ensures wrote { Writes self.entry (after_fe 0x56) (operands.OrderIndex ordering global) result }
+        ensures room { HasRoom self.entry → IsOk result }
+    {
+        self.emit_order_index(after_fe(0x56), ordering, global)
+    }
+
+    /// `global.atomic.rmw.cmpxchg`: `0xFE 0x57`.
+    pub fn global_atomic_rmw_cmpxchg(
+        self,
+        ordering: Ordering,
+        global: u32,
+    ) -> Result<InstructionSink<'a, A>, EncodeError>
+        ensures* unchanged { sem 𝓛 (IsUnchangedAtErr A.row A.Allocator self.entry result) }
+        ensures same { IsSameSink self.entry result }
+        ensures wrote { Writes self.entry (after_fe 0x57) (operands.OrderIndex ordering global) result }
+        ensures room { HasRoom self.entry → IsOk result }
+    {
+        self.emit_order_index(after_fe(0x57), ordering, global)
+    }
+
+    /// `table.atomic.get`: `0xFE 0x58`.
+    pub fn table_atomic_get(
+        self,
+        ordering: Ordering,
+        table: u32,
+    ) -> Result<InstructionSink<'a, A>, EncodeError>
+        ensures* unchanged { sem 𝓛 (IsUnchangedAtErr A.row A.Allocator self.entry result) }
+        ensures same { IsSameSink self.entry result }
+        ensures wrote { Writes self.entry (after_fe 0x58) (operands.OrderIndex ordering table) result }
+        ensures room { HasRoom self.entry → IsOk result }
+    {
+        self.emit_order_index(after_fe(0x58), ordering, table)
+    }
+
+    /// `table.atomic.set`: `0xFE 0x59`.
+    pub fn table_atomic_set(
+        self,
+        ordering: Ordering,
+        table: u32,
+    ) -> Result<InstructionSink<'a, A>, EncodeError>
+        ensures* unchanged { sem 𝓛 (IsUnchangedAtErr A.row A.Allocator self.entry result) }
+        ensures same { IsSameSink self.entry result }
+        ensures wrote { Writes self.entry (after_fe 0x59) (operands.OrderIndex ordering table) result }
+        ensures room { HasRoom self.entry → IsOk result }
+    {
+        self.emit_order_index(after_fe(0x59), ordering, table)
+    }
+
+    /// `table.atomic.rmw.xchg`: `0xFE 0x5A`.
+    pub fn table_atomic_rmw_xchg(
+        self,
+        ordering: Ordering,
+        table: u32,
+    ) -> Result<InstructionSink<'a, A>, EncodeError>
+        ensures* unchanged { sem 𝓛 (IsUnchangedAtErr A.row A.Allocator self.entry result) }
+        ensures same { IsSameSink self.entry result }
+        ensures wrote { Writes self.entry (after_fe 0x5a) (operands.OrderIndex ordering table) result }
+        ensures room { HasRoom self.entry → IsOk result }
+    {
+        self.emit_order_index(after_fe(0x5a), ordering, table)
+    }
+
+    /// `table.atomic.rmw.cmpxchg`: `0xFE 0x5B`.
+    pub fn table_atomic_rmw_cmpxchg(
+        self,
+        ordering: Ordering,
+        table: u32,
+    ) -> Result<InstructionSink<'a, A>, EncodeError>
+        ensures* unchanged { sem 𝓛 (IsUnchangedAtErr A.row A.Allocator self.entry result) }
+        ensures same { IsSameSink self.entry result }
+        ensures wrote { Writes self.entry (after_fe 0x5b) (operands.OrderIndex ordering table) result }
+        ensures room { HasRoom self.entry → IsOk result }
+    {
+        self.emit_order_index(after_fe(0x5b), ordering, table)
+    }
+
+    /// `struct.atomic.get`: `0xFE 0x5C`.
+    pub fn struct_atomic_get(
+        self,
+        ordering: Ordering,
+        ty: u32,
+        field: u32,
+    ) -> Result<InstructionSink<'a, A>, EncodeError>
+        ensures* unchanged { sem 𝓛 (IsUnchangedAtErr A.row A.Allocator self.entry result) }
+        ensures same { IsSameSink self.entry result }
+        ensures wrote { Writes self.entry (after_fe 0x5c) (operands.OrderTwoIndexes ordering ty field) result }
+        ensures room { HasRoom self.entry → IsOk result }
+    {
+        self.emit_order_two_indexes(after_fe(0x5c), ordering, ty, field)
+    }
+
+    /// `struct.atomic.get_s`: `0xFE 0x5D`.
+    pub fn struct_atomic_get_s(
+        self,
+        ordering: Ordering,
+        ty: u32,
+        field: u32,
+    ) -> Result<InstructionSink<'a, A>, EncodeError>
+        ensures* unchanged { sem 𝓛 (IsUnchangedAtErr A.row A.Allocator self.entry result) }
+        ensures same { IsSameSink self.entry result }
+        ensures wrote { Writes self.entry (after_fe 0x5d) (operands.OrderTwoIndexes ordering ty field) result }
+        ensures room { HasRoom self.entry → IsOk result }
+    {
+        self.emit_order_two_indexes(after_fe(0x5d), ordering, ty, field)
+    }
+
+    /// `struct.atomic.get_u`: `0xFE 0x5E`.
+    pub fn struct_atomic_get_u(
+        self,
+        ordering: Ordering,
+        ty: u32,
+        field: u32,
+    ) -> Result<InstructionSink<'a, A>, EncodeError>
+        ensures* unchanged { sem 𝓛 (IsUnchangedAtErr A.row A.Allocator self.entry result) }
+        ensures same { IsSameSink self.entry result }
+        ensures wrote { Writes self.entry (after_fe 0x5e) (operands.OrderTwoIndexes ordering ty field) result }
+        ensures room { HasRoom self.entry → IsOk result }
+    {
+        self.emit_order_two_indexes(after_fe(0x5e), ordering, ty, field)
+    }
+
+    /// `struct.atomic.set`: `0xFE 0x5F`.
+    pub fn struct_atomic_set(
+        self,
+        ordering: Ordering,
+        ty: u32,
+        field: u32,
+    ) -> Result<InstructionSink<'a, A>, EncodeError>
+        ensures* unchanged { sem 𝓛 (IsUnchangedAtErr A.row A.Allocator self.entry result) }
+        ensures same { IsSameSink self.entry result }
+        ensures wrote { Writes self.entry (after_fe 0x5f) (operands.OrderTwoIndexes ordering ty field) result }
+        ensures room { HasRoom self.entry → IsOk result }
+    {
+        self.emit_order_two_indexes(after_fe(0x5f), ordering, ty, field)
+    }
+
+    /// `struct.atomic.rmw.add`: `0xFE 0x60`.
+    pub fn struct_atomic_rmw_add(
+        self,
+        ordering: Ordering,
+        ty: u32,
+        field: u32,
+    ) -> Result<InstructionSink<'a, A>, EncodeError>
+        ensures* unchanged { sem 𝓛 (IsUnchangedAtErr A.row A.Allocator self.entry result) }
+        ensures same { IsSameSink self.entry result }
+        ensures wrote { Writes self.entry (after_fe 0x60) (operands.OrderTwoIndexes ordering ty field) result }
+        ensures room { HasRoom self.entry → IsOk result }
+    {
+        self.emit_order_two_indexes(after_fe(0x60), ordering, ty, field)
+    }
+
+    /// `struct.atomic.rmw.sub`: `0xFE 0x61`.
+    pub fn struct_atomic_rmw_sub(
+        self,
+        ordering: Ordering,
+        ty: u32,
+        field: u32,
+    ) -> Result<InstructionSink<'a, A>, EncodeError>
+        ensures* unchanged { sem 𝓛 (IsUnchangedAtErr A.row A.Allocator self.entry result) }
+        ensures same { IsSameSink self.entry result }
+        ensures wrote { Writes self.entry (after_fe 0x61) (operands.OrderTwoIndexes ordering ty field) result }
+        ensures room { HasRoom self.entry → IsOk result }
+    {
+        self.emit_order_two_indexes(after_fe(0x61), ordering, ty, field)
+    }
+
+    /// `struct.atomic.rmw.and`: `0xFE 0x62`.
+    pub fn struct_atomic_rmw_and(
+        self,
+        ordering: Ordering,
+        ty: u32,
+        field: u32,
+    ) -> Result<InstructionSink<'a, A>, EncodeError>
+        ensures* unchanged { sem 𝓛 (IsUnchangedAtErr A.row A.Allocator self.entry result) }
+        ensures same { IsSameSink self.entry result }
+        ensures wrote { Writes self.entry (after_fe 0x62) (operands.OrderTwoIndexes ordering ty field) result }
+        ensures room { HasRoom self.entry → IsOk result }
+    {
+        self.emit_order_two_indexes(after_fe(0x62), ordering, ty, field)
+    }
+
+    /// `struct.atomic.rmw.or`: `0xFE 0x63`.
+    pub fn struct_atomic_rmw_or(
+        self,
+        ordering: Ordering,
+        ty: u32,
+        field: u32,
+    ) -> Result<InstructionSink<'a, A>, EncodeError>
+        ensures* unchanged { sem 𝓛 (IsUnchangedAtErr A.row A.Allocator self.entry result) }
+        ensures same { IsSameSink self.entry result }
+        ensures wrote { Writes self.entry (after_fe 0x63) (operands.OrderTwoIndexes ordering ty field) result }
+        ensures room { HasRoom self.entry → IsOk result }
+    {
+        self.emit_order_two_indexes(after_fe(0x63), ordering, ty, field)
+    }
+
+    /// `struct.atomic.rmw.xor`: `0xFE 0x64`.
+    pub fn struct_atomic_rmw_xor(
+        self,
+        ordering: Ordering,
+        ty: u32,
+        field: u32,
+    ) -> Result<InstructionSink<'a, A>, EncodeError>
+        ensures* unchanged { sem 𝓛 (IsUnchangedAtErr A.row A.Allocator self.entry result) }
+        ensures same { IsSameSink self.entry result }
+        ensures wrote { Writes self.entry (after_fe 0x64) (operands.OrderTwoIndexes ordering ty field) result }
+        ensures room { HasRoom self.entry → IsOk result }
+    {
+        self.emit_order_two_indexes(after_fe(0x64), ordering, ty, field)
+    }
+
+    /// `struct.atomic.rmw.xchg`: `0xFE 0x65`.
+    pub fn struct_atomic_rmw_xchg(
+        self,
+        ordering: Ordering,
+        ty: u32,
+        field: u32,
+    ) -> Result<InstructionSink<'a, A>, EncodeError>
+        ensures* unchanged { sem 𝓛 (IsUnchangedAtErr A.row A.Allocator self.entry result) }
+        ensures same { IsSameSink self.entry result }
+        ensures wrote { Writes self.entry (after_fe 0x65) (operands.OrderTwoIndexes ordering ty field) result }
+        ensures room { HasRoom self.entry → IsOk result }
+    {
+        self.emit_order_two_indexes(after_fe(0x65), ordering, ty, field)
+    }
+
+    /// `struct.atomic.rmw.cmpxchg`: `0xFE 0x66`.
+    pub fn struct_atomic_rmw_cmpxchg(
+        self,
+        ordering: Ordering,
+        ty: u32,
+        field: u32,
+    ) -> Result<InstructionSink<'a, A>, EncodeError>
+        ensures* unchanged { sem 𝓛 (IsUnchangedAtErr A.row A.Allocator self.entry result) }
+        ensures same { IsSameSink self.entry result }
+        ensures wrote { Writes self.entry (after_fe 0x66) (operands.OrderTwoIndexes ordering ty field) result }
+        ensures room { HasRoom self.entry → IsOk result }
+    {
+        self.emit_order_two_indexes(after_fe(0x66), ordering, ty, field)
+    }
+
+    /// `array.atomic.get`: `0xFE 0x67`.
+    pub fn array_atomic_get(
+        self,
+        ordering: Ordering,
+        ty: u32,
+    ) -> Result<InstructionSink<'a, A>, EncodeError>
+        ensures* unchanged { sem 𝓛 (IsUnchangedAtErr A.row A.Allocator self.entry result) }
+        ensures same { IsSameSink self.entry result }
+        ensures wrote { Writes self.entry (after_fe 0x67) (operands.OrderIndex ordering ty) result }
+        ensures room { HasRoom self.entry → IsOk result }
+    {
+        self.emit_order_index(after_fe(0x67), ordering, ty)
+    }
+
+    /// `array.atomic.get_s`: `0xFE 0x68`.
+    pub fn array_atomic_get_s(
+        self,
+        ordering: Ordering,
+        ty: u32,
+    ) -> Result<InstructionSink<'a, A>, EncodeError>
+        ensures* unchanged { sem 𝓛 (IsUnchangedAtErr A.row A.Allocator self.entry result) }
+        ensures same { IsSameSink self.entry result }
+        ensures wrote { Writes self.entry (after_fe 0x68) (operands.OrderIndex ordering ty) result }
+        ensures room { HasRoom self.entry → IsOk result }
+    {
+        self.emit_order_index(after_fe(0x68), ordering, ty)
+    }
+
+    /// `array.atomic.get_u`: `0xFE 0x69`.
+    pub fn array_atomic_get_u(
+        self,
+        ordering: Ordering,
+        ty: u32,
+    ) -> Result<InstructionSink<'a, A>, EncodeError>
+        ensures* unchanged { sem 𝓛 (IsUnchangedAtErr A.row A.Allocator self.entry result) }
+        ensures same { IsSameSink self.entry result }
+        ensures wrote { Writes self.entry (after_fe 0x69) (operands.OrderIndex ordering ty) result }
+        ensures room { HasRoom self.entry → IsOk result }
+    {
+        self.emit_order_index(after_fe(0x69), ordering, ty)
+    }
+
+    /// `array.atomic.set`: `0xFE 0x6A`.
+    pub fn array_atomic_set(
+        self,
+        ordering: Ordering,
+        ty: u32,
+    ) -> Result<InstructionSink<'a, A>, EncodeError>
+        ensures* unchanged { sem 𝓛 (IsUnchangedAtErr A.row A.Allocator self.entry result) }
+        ensures same { IsSameSink self.entry result }
+        ensures wrote { Writes self.entry (after_fe 0x6a) (operands.OrderIndex ordering ty) result }
+        ensures room { HasRoom self.entry → IsOk result }
+    {
+        self.emit_order_index(after_fe(0x6a), ordering, ty)
+    }
+
+    /// `array.atomic.rmw.add`: `0xFE 0x6B`.
+    pub fn array_atomic_rmw_add(
+        self,
+        ordering: Ordering,
+        ty: u32,
+    ) -> Result<InstructionSink<'a, A>, EncodeError>
+        ensures* unchanged { sem 𝓛 (IsUnchangedAtErr A.row A.Allocator self.entry result) }
+        ensures same { IsSameSink self.entry result }
+        ensures wrote { Writes self.entry (after_fe 0x6b) (operands.OrderIndex ordering ty) result }
+        ensures room { HasRoom self.entry → IsOk result }
+    {
+        self.emit_order_index(after_fe(0x6b), ordering, ty)
+    }
+
+    /// `array.atomic.rmw.sub`: `0xFE 0x6C`.
+    pub fn array_atomic_rmw_sub(
+        self,
+        ordering: Ordering,
+        ty: u32,
+    ) -> Result<InstructionSink<'a, A>, EncodeError>
+        ensures* unchanged { sem 𝓛 (IsUnchangedAtErr A.row A.Allocator self.entry result) }
+        ensures same { IsSameSink self.entry result }
+        ensures wrote { Writes self.entry (after_fe 0x6c) (operands.OrderIndex ordering ty) result }
+        ensures room { HasRoom self.entry → IsOk result }
+    {
+        self.emit_order_index(after_fe(0x6c), ordering, ty)
+    }
+
+    /// `array.atomic.rmw.and`: `0xFE 0x6D`.
+    pub fn array_atomic_rmw_and(
+        self,
+        ordering: Ordering,
+        ty: u32,
+    ) -> Result<InstructionSink<'a, A>, EncodeError>
+        ensures* unchanged { sem 𝓛 (IsUnchangedAtErr A.row A.Allocator self.entry result) }
+        ensures same { IsSameSink self.entry result }
+        ensures wrote { Writes self.entry (after_fe 0x6d) (operands.OrderIndex ordering ty) result }
+        ensures room { HasRoom self.entry → IsOk result }
+    {
+        self.emit_order_index(after_fe(0x6d), ordering, ty)
+    }
+
+    /// `array.atomic.rmw.or`: `0xFE 0x6E`.
+    pub fn array_atomic_rmw_or(
+        self,
+        ordering: Ordering,
+        ty: u32,
+    ) -> Result<InstructionSink<'a, A>, EncodeError>
+        ensures* unchanged { sem 𝓛 (IsUnchangedAtErr A.row A.Allocator self.entry result) }
+        ensures same { IsSameSink self.entry result }
+        ensures wrote { Writes self.entry (after_fe 0x6e) (operands.OrderIndex ordering ty) result }
+        ensures room { HasRoom self.entry → IsOk result }
+    {
+        self.emit_order_index(after_fe(0x6e), ordering, ty)
+    }
+
+    /// `array.atomic.rmw.xor`: `0xFE 0x6F`.
+    pub fn array_atomic_rmw_xor(
+        self,
+        ordering: Ordering,
+        ty: u32,
+    ) -> Result<InstructionSink<'a, A>, EncodeError>
+        ensures* unchanged { sem 𝓛 (IsUnchangedAtErr A.row A.Allocator self.entry result) }
+        ensures same { IsSameSink self.entry result }
+        ensures wrote { Writes self.entry (after_fe 0x6f) (operands.OrderIndex ordering ty) result }
+        ensures room { HasRoom self.entry → IsOk result }
+    {
+        self.emit_order_index(after_fe(0x6f), ordering, ty)
+    }
+
+    /// `array.atomic.rmw.xchg`: `0xFE 0x70`.
+    pub fn array_atomic_rmw_xchg(
+        self,
+        ordering: Ordering,
+        ty: u32,
+    ) -> Result<InstructionSink<'a, A>, EncodeError>
+        ensures* unchanged { sem 𝓛 (IsUnchangedAtErr A.row A.Allocator self.entry result) }
+        ensures same { IsSameSink self.entry result }
+        ensures wrote { Writes self.entry (after_fe 0x70) (operands.OrderIndex ordering ty) result }
+        ensures room { HasRoom self.entry → IsOk result }
+    {
+        self.emit_order_index(after_fe(0x70), ordering, ty)
+    }
+
+    /// `array.atomic.rmw.cmpxchg`: `0xFE 0x71`.
+    pub fn array_atomic_rmw_cmpxchg(
+        self,
+        ordering: Ordering,
+        ty: u32,
+    ) -> Result<InstructionSink<'a, A>, EncodeError>
+        ensures* unchanged { sem 𝓛 (IsUnchangedAtErr A.row A.Allocator self.entry result) }
+        ensures same { IsSameSink self.entry result }
+        ensures wrote { Writes self.entry (after_fe 0x71) (operands.OrderIndex ordering ty) result }
+        ensures room { HasRoom self.entry → IsOk result }
+    {
+        self.emit_order_index(after_fe(0x71), ordering, ty)
+    }
+
+    /// `ref.i31_shared`: `0xFE 0x72`.
+    pub fn ref_i31_shared(self) -> Result<InstructionSink<'a, A>, EncodeError>
+        ensures* unchanged { sem 𝓛 (IsUnchangedAtErr A.row A.Allocator self.entry result) }
+        ensures same { IsSameSink self.entry result }
+        ensures wrote { Writes self.entry (after_fe 0x72) operands.None result }
+        ensures room { HasRoom self.entry → IsOk result }
+    {
+        self.emit(after_fe(0x72))
+    }
+}

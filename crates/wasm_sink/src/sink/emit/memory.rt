@@ -1,0 +1,65 @@
+//! Calls with memory arguments. An alignment of 64 or more is refused before anything grows.
+ghost use Rattle.std.specs.Prelude.{◌≤◌, ◌<◌, ◌↔◌, IsOk, IsErrOf};
+ghost use Rattle.std.specs.Borrow.{sem};
+ghost use Rattle.wasm_sink.specs.Sink.{IsUnchangedAtErr, IsSameSink, WritesText, HasRoom};
+ghost use Rattle.wasm_instructions.specs.Instructions.{IsShort};
+ghost use Rattle.wasm_instructions.specs.declared.table.call.Operands.TheVariants as operands;
+
+use super::{ROOM, put_opcode};
+use wasm_instructions::encode::put_mem_arg;
+use wasm_instructions::operands::{Lane, MemArg};
+use crate::sink::InstructionSink;
+use wasm_instructions::table::Opcode;
+use std::alloc::Allocator;
+use wasm_values::encode::EncodeError;
+
+#[tactic(auto, unfolding(wasm_instructions::specs::Instructions::operands_text))]
+impl<'a, A: Allocator> InstructionSink<'a, A> {
+    /// A call with a memory argument.
+    pub(in crate::sink) fn emit_mem(
+        self,
+        op: Opcode,
+        memarg: MemArg,
+    ) -> Result<InstructionSink<'a, A>, EncodeError>
+        requires { IsShort op }
+        ensures* unchanged { sem 𝓛 (IsUnchangedAtErr A.row A.Allocator self.entry result) }
+        ensures same { IsSameSink self.entry result }
+        ensures wrote { WritesText self.entry op (operands.Mem memarg) result }
+        ensures alignment { IsErrOf result EncodeError.Alignment ↔ 64 ≤ memarg.align }
+        ensures room { HasRoom self.entry → memarg.align < 64 → IsOk result }
+    {
+        let InstructionSink { bytes } = self;
+        if memarg.align >= 64 {
+            return Err(EncodeError::Alignment);
+        }
+        bytes.reserve(ROOM)?;
+        put_opcode(bytes, op);
+        put_mem_arg(bytes, memarg);
+        Ok(InstructionSink { bytes })
+    }
+
+    /// A call with a memory argument and a lane.
+    pub(in crate::sink) fn emit_mem_lane(
+        self,
+        op: Opcode,
+        memarg: MemArg,
+        lane: Lane,
+    ) -> Result<InstructionSink<'a, A>, EncodeError>
+        requires { IsShort op }
+        ensures* unchanged { sem 𝓛 (IsUnchangedAtErr A.row A.Allocator self.entry result) }
+        ensures same { IsSameSink self.entry result }
+        ensures wrote { WritesText self.entry op (operands.MemLane memarg lane) result }
+        ensures alignment { IsErrOf result EncodeError.Alignment ↔ 64 ≤ memarg.align }
+        ensures room { HasRoom self.entry → memarg.align < 64 → IsOk result }
+    {
+        let InstructionSink { bytes } = self;
+        if memarg.align >= 64 {
+            return Err(EncodeError::Alignment);
+        }
+        bytes.reserve(ROOM)?;
+        put_opcode(bytes, op);
+        put_mem_arg(bytes, memarg);
+        bytes.push_reserved(lane);
+        Ok(InstructionSink { bytes })
+    }
+}

@@ -1,0 +1,97 @@
+//! Instructions on tables (Core 3.0, 5.4, table instructions).
+ghost use Rattle.std.specs.Prelude.{IsOk};
+ghost use Rattle.std.specs.Borrow.{sem};
+ghost use Rattle.wasm_sink.specs.Sink.{IsUnchangedAtErr, IsSameSink, Writes, HasRoom};
+ghost use Rattle.wasm_instructions.specs.Instructions.{plain, after_fc};
+ghost use Rattle.wasm_instructions.specs.declared.table.call.Operands.TheVariants as operands;
+
+use crate::sink::InstructionSink;
+use crate::sink::emit::{after_fc, plain};
+use std::alloc::Allocator;
+use wasm_values::encode::EncodeError;
+
+impl<'a, A: Allocator> InstructionSink<'a, A> {
+    /// `table.get`: `0x25`.
+    pub fn table_get(self, table: u32) -> Result<InstructionSink<'a, A>, EncodeError>
+        ensures* unchanged { sem 𝓛 (IsUnchangedAtErr A.row A.Allocator self.entry result) }
+        ensures same { IsSameSink self.entry result }
+        ensures wrote { Writes self.entry (plain 0x25) (operands.Index table) result }
+        ensures room { HasRoom self.entry → IsOk result }
+    {
+        self.emit_index(plain(0x25), table)
+    }
+
+    /// `table.set`: `0x26`.
+    pub fn table_set(self, table: u32) -> Result<InstructionSink<'a, A>, EncodeError>
+        ensures* unchanged { sem 𝓛 (IsUnchangedAtErr A.row A.Allocator self.entry result) }
+        ensures same { IsSameSink self.entry result }
+        ensures wrote { Writes self.entry (plain 0x26) (operands.Index table) result }
+        ensures room { HasRoom self.entry → IsOk result }
+    {
+        self.emit_index(plain(0x26), table)
+    }
+
+    /// `table.init`: `0xFC 0x0C`.
+    pub fn table_init(self, table: u32, segment: u32) -> Result<InstructionSink<'a, A>, EncodeError>
+        ensures* unchanged { sem 𝓛 (IsUnchangedAtErr A.row A.Allocator self.entry result) }
+        ensures same { IsSameSink self.entry result }
+        ensures wrote { Writes self.entry (after_fc 0x0c) (operands.TwoIndexes segment table) result }
+        ensures room { HasRoom self.entry → IsOk result }
+    {
+        self.emit_two_indexes(after_fc(0x0c), segment, table)
+    }
+
+    /// `elem.drop`: `0xFC 0x0D`.
+    pub fn elem_drop(self, segment: u32) -> Result<InstructionSink<'a, A>, EncodeError>
+        ensures* unchanged { sem 𝓛 (IsUnchangedAtErr A.row A.Allocator self.entry result) }
+        ensures same { IsSameSink self.entry result }
+        ensures wrote { Writes self.entry (after_fc 0x0d) (operands.Index segment) result }
+        ensures room { HasRoom self.entry → IsOk result }
+    {
+        self.emit_index(after_fc(0x0d), segment)
+    }
+
+    /// `table.copy`: `0xFC 0x0E`.
+    pub fn table_copy(
+        self,
+        destination: u32,
+        source: u32,
+    ) -> Result<InstructionSink<'a, A>, EncodeError>
+        ensures* unchanged { sem 𝓛 (IsUnchangedAtErr A.row A.Allocator self.entry result) }
+        ensures same { IsSameSink self.entry result }
+        ensures wrote { Writes self.entry (after_fc 0x0e) (operands.TwoIndexes destination source) result }
+        ensures room { HasRoom self.entry → IsOk result }
+    {
+        self.emit_two_indexes(after_fc(0x0e), destination, source)
+    }
+
+    /// `table.grow`: `0xFC 0x0F`.
+    pub fn table_grow(self, table: u32) -> Result<InstructionSink<'a, A>, EncodeError>
+        ensures* unchanged { sem 𝓛 (IsUnchangedAtErr A.row A.Allocator self.entry result) }
+        ensures same { IsSameSink self.entry result }
+        ensures wrote { Writes self.entry (after_fc 0x0f) (operands.Index table) result }
+        ensures room { HasRoom self.entry → IsOk result }
+    {
+        self.emit_index(after_fc(0x0f), table)
+    }
+
+    /// `table.size`: `0xFC 0x10`.
+    pub fn table_size(self, table: u32) -> Result<InstructionSink<'a, A>, EncodeError>
+        ensures* unchanged { sem 𝓛 (IsUnchangedAtErr A.row A.Allocator self.entry result) }
+        ensures same { IsSameSink self.entry result }
+        ensures wrote { Writes self.entry (after_fc 0x10) (operands.Index table) result }
+        ensures room { HasRoom self.entry → IsOk result }
+    {
+        self.emit_index(after_fc(0x10), table)
+    }
+
+    /// `table.fill`: `0xFC 0x11`.
+    pub fn table_fill(self, table: u32) -> Result<InstructionSink<'a, A>, EncodeError>
+        ensures* unchanged { sem 𝓛 (IsUnchangedAtErr A.row A.Allocator self.entry result) }
+        ensures same { IsSameSink self.entry result }
+        ensures wrote { Writes self.entry (after_fc 0x11) (operands.Index table) result }
+        ensures room { HasRoom self.entry → IsOk result }
+    {
+        self.emit_index(after_fc(0x11), table)
+    }
+}

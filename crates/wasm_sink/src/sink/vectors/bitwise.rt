@@ -1,0 +1,83 @@
+//! Operations on vectors as a whole (Core 3.0, 5.4, vector instructions).
+ghost use Rattle.std.specs.Prelude.{IsOk};
+ghost use Rattle.std.specs.Borrow.{sem};
+ghost use Rattle.wasm_sink.specs.Sink.{IsUnchangedAtErr, IsSameSink, Writes, HasRoom};
+ghost use Rattle.wasm_instructions.specs.Instructions.{after_fd};
+ghost use Rattle.wasm_instructions.specs.declared.table.call.Operands.TheVariants as operands;
+
+use crate::sink::InstructionSink;
+use crate::sink::emit::after_fd;
+use std::alloc::Allocator;
+use wasm_values::encode::EncodeError;
+
+impl<'a, A: Allocator> InstructionSink<'a, A> {
+    /// `v128.not`: `0xFD 0x4D`.
+    pub fn v128_not(self) -> Result<InstructionSink<'a, A>, EncodeError>
+        ensures* unchanged { sem 𝓛 (IsUnchangedAtErr A.row A.Allocator self.entry result) }
+        ensures same { IsSameSink self.entry result }
+        ensures wrote { Writes self.entry (after_fd 0x4d) operands.None result }
+        ensures room { HasRoom self.entry → IsOk result }
+    {
+        self.emit(after_fd(0x4d))
+    }
+
+    /// `v128.and`: `0xFD 0x4E`.
+    pub fn v128_and(self) -> Result<InstructionSink<'a, A>, EncodeError>
+        ensures* unchanged { sem 𝓛 (IsUnchangedAtErr A.row A.Allocator self.entry result) }
+        ensures same { IsSameSink self.entry result }
+        ensures wrote { Writes self.entry (after_fd 0x4e) operands.None result }
+        ensures room { HasRoom self.entry → IsOk result }
+    {
+        self.emit(after_fd(0x4e))
+    }
+
+    /// `v128.andnot`: `0xFD 0x4F`.
+    pub fn v128_andnot(self) -> Result<InstructionSink<'a, A>, EncodeError>
+        ensures* unchanged { sem 𝓛 (IsUnchangedAtErr A.row A.Allocator self.entry result) }
+        ensures same { IsSameSink self.entry result }
+        ensures wrote { Writes self.entry (after_fd 0x4f) operands.None result }
+        ensures room { HasRoom self.entry → IsOk result }
+    {
+        self.emit(after_fd(0x4f))
+    }
+
+    /// `v128.or`: `0xFD 0x50`.
+    pub fn v128_or(self) -> Result<InstructionSink<'a, A>, EncodeError>
+        ensures* unchanged { sem 𝓛 (IsUnchangedAtErr A.row A.Allocator self.entry result) }
+        ensures same { IsSameSink self.entry result }
+        ensures wrote { Writes self.entry (after_fd 0x50) operands.None result }
+        ensures room { HasRoom self.entry → IsOk result }
+    {
+        self.emit(after_fd(0x50))
+    }
+
+    /// `v128.xor`: `0xFD 0x51`.
+    pub fn v128_xor(self) -> Result<InstructionSink<'a, A>, EncodeError>
+        ensures* unchanged { sem 𝓛 (IsUnchangedAtErr A.row A.Allocator self.entry result) }
+        ensures same { IsSameSink self.entry result }
+        ensures wrote { Writes self.entry (after_fd 0x51) operands.None result }
+        ensures room { HasRoom self.entry → IsOk result }
+    {
+        self.emit(after_fd(0x51))
+    }
+
+    /// `v128.bitselect`: `0xFD 0x52`.
+    pub fn v128_bitselect(self) -> Result<InstructionSink<'a, A>, EncodeError>
+        ensures* unchanged { sem 𝓛 (IsUnchangedAtErr A.row A.Allocator self.entry result) }
+        ensures same { IsSameSink self.entry result }
+        ensures wrote { Writes self.entry (after_fd 0x52) operands.None result }
+        ensures room { HasRoom self.entry → IsOk result }
+    {
+        self.emit(after_fd(0x52))
+    }
+
+    /// `v128.any_true`: `0xFD 0x53`.
+    pub fn v128_any_true(self) -> Result<InstructionSink<'a, A>, EncodeError>
+        ensures* unchanged { sem 𝓛 (IsUnchangedAtErr A.row A.Allocator self.entry result) }
+        ensures same { IsSameSink self.entry result }
+        ensures wrote { Writes self.entry (after_fd 0x53) operands.None result }
+        ensures room { HasRoom self.entry → IsOk result }
+    {
+        self.emit(after_fd(0x53))
+    }
+}

@@ -1,0 +1,193 @@
+//! Operations on two integers of 64 bits (Core 3.0, 5.4, vector instructions).
+ghost use Rattle.std.specs.Prelude.{IsOk};
+ghost use Rattle.std.specs.Borrow.{sem};
+ghost use Rattle.wasm_sink.specs.Sink.{IsUnchangedAtErr, IsSameSink, Writes, HasRoom};
+ghost use Rattle.wasm_instructions.specs.Instructions.{after_fd};
+ghost use Rattle.wasm_instructions.specs.declared.table.call.Operands.TheVariants as operands;
+
+use crate::sink::InstructionSink;
+use crate::sink::emit::after_fd;
+use std::alloc::Allocator;
+use wasm_values::encode::EncodeError;
+
+impl<'a, A: Allocator> InstructionSink<'a, A> {
+    /// `i64x2.abs`: `0xFD 0xC0`.
+    pub fn i64x2_abs(self) -> Result<InstructionSink<'a, A>, EncodeError>
+        ensures* unchanged { sem 𝓛 (IsUnchangedAtErr A.row A.Allocator self.entry result) }
+        ensures same { IsSameSink self.entry result }
+        ensures wrote { Writes self.entry (after_fd 0xc0) operands.None result }
+        ensures room { HasRoom self.entry → IsOk result }
+    {
+        self.emit(after_fd(0xc0))
+    }
+
+    /// `i64x2.neg`: `0xFD 0xC1`.
+    pub fn i64x2_neg(self) -> Result<InstructionSink<'a, A>, EncodeError>
+        ensures* unchanged { sem 𝓛 (IsUnchangedAtErr A.row A.Allocator self.entry result) }
+        ensures same { IsSameSink self.entry result }
+        ensures wrote { Writes self.entry (after_fd 0xc1) operands.None result }
+        ensures room { HasRoom self.entry → IsOk result }
+    {
+        self.emit(after_fd(0xc1))
+    }
+
+    /// `i64x2.all_true`: `0xFD 0xC3`.
+    pub fn i64x2_all_true(self) -> Result<InstructionSink<'a, A>, EncodeError>
+        ensures* unchanged { sem 𝓛 (IsUnchangedAtErr A.row A.Allocator self.entry result) }
+        ensures same { IsSameSink self.entry result }
+        ensures wrote { Writes self.entry (after_fd 0xc3) operands.None result }
+        ensures room { HasRoom self.entry → IsOk result }
+    {
+        self.emit(after_fd(0xc3))
+    }
+
+    /// `i64x2.bitmask`: `0xFD 0xC4`.
+    pub fn i64x2_bitmask(self) -> Result<InstructionSink<'a, A>, EncodeError>
+        ensures* unchanged { sem 𝓛 (IsUnchangedAtErr A.row A.Allocator self.entry result) }
+        ensures same { IsSameSink self.entry result }
+        ensures wrote { Writes self.entry (after_fd 0xc4) operands.None result }
+        ensures room { HasRoom self.entry → IsOk result }
+    {
+        self.emit(after_fd(0xc4))
+    }
+
+    /// `i64x2.extend_low_i32x4_s`: `0xFD 0xC7`.
+    pub fn i64x2_extend_low_i32x4_s(self) -> Result<InstructionSink<'a, A>, EncodeError>
+        ensures* unchanged { sem 𝓛 (IsUnchangedAtErr A.row A.Allocator self.entry result) }
+        ensures same { IsSameSink self.entry result }
+        ensures wrote { Writes self.entry (after_fd 0xc7) operands.None result }
+        ensures room { HasRoom self.entry → IsOk result }
+    {
+        self.emit(after_fd(0xc7))
+    }
+
+    /// `i64x2.extend_high_i32x4_s`: `0xFD 0xC8`.
+    pub fn i64x2_extend_high_i32x4_s(self) -> Result<InstructionSink<'a, A>, EncodeError>
+        ensures* unchanged { sem 𝓛 (IsUnchangedAtErr A.row A.Allocator self.entry result) }
+        ensures same { IsSameSink self.entry result }
+        ensures wrote { Writes self.entry (after_fd 0xc8) operands.None result }
+        ensures room { HasRoom self.entry → IsOk result }
+    {
+        self.emit(after_fd(0xc8))
+    }
+
+    /// `i64x2.extend_low_i32x4_u`: `0xFD 0xC9`.
+    pub fn i64x2_extend_low_i32x4_u(self) -> Result<InstructionSink<'a, A>, EncodeError>
+        ensures* unchanged { sem 𝓛 (IsUnchangedAtErr A.row A.Allocator self.entry result) }
+        ensures same { IsSameSink self.entry result }
+        ensures wrote { Writes self.entry (after_fd 0xc9) operands.None result }
+        ensures room { HasRoom self.entry → IsOk result }
+    {
+        self.emit(after_fd(0xc9))
+    }
+
+    /// `i64x2.extend_high_i32x4_u`: `0xFD 0xCA`.
+    pub fn i64x2_extend_high_i32x4_u(self) -> Result<InstructionSink<'a, A>, EncodeError>
+        ensures* unchanged { sem 𝓛 (IsUnchangedAtErr A.row A.Allocator self.entry result) }
+        ensures same { IsSameSink self.entry result }
+        ensures wrote { Writes self.entry (after_fd 0xca) operands.None result }
+        ensures room { HasRoom self.entry → IsOk result }
+    {
+        self.emit(after_fd(0xca))
+    }
+
+    /// `i64x2.shl`: `0xFD 0xCB`.
+    pub fn i64x2_shl(self) -> Result<InstructionSink<'a, A>, EncodeError>
+        ensures* unchanged { sem 𝓛 (IsUnchangedAtErr A.row A.Allocator self.entry result) }
+        ensures same { IsSameSink self.entry result }
+        ensures wrote { Writes self.entry (after_fd 0xcb) operands.None result }
+        ensures room { HasRoom self.entry → IsOk result }
+    {
+        self.emit(after_fd(0xcb))
+    }
+
+    /// `i64x2.shr_s`: `0xFD 0xCC`.
+    pub fn i64x2_shr_s(self) -> Result<InstructionSink<'a, A>, EncodeError>
+        ensures* unchanged { sem 𝓛 (IsUnchangedAtErr A.row A.Allocator self.entry result) }
+        ensures same { IsSameSink self.entry result }
+        ensures wrote { Writes self.entry (after_fd 0xcc) operands.None result }
+        ensures room { HasRoom self.entry → IsOk result }
+    {
+        self.emit(after_fd(0xcc))
+    }
+
+    /// `i64x2.shr_u`: `0xFD 0xCD`.
+    pub fn i64x2_shr_u(self) -> Result<InstructionSink<'a, A>, EncodeError>
+        ensures* unchanged { sem 𝓛 (IsUnchangedAtErr A.row A.Allocator self.entry result) }
+        ensures same { IsSameSink self.entry result }
+        ensures wrote { Writes self.entry (after_fd 0xcd) operands.None result }
+        ensures room { HasRoom self.entry → IsOk result }
+    {
+        self.emit(after_fd(0xcd))
+    }
+
+    /// `i64x2.add`: `0xFD 0xCE`.
+    pub fn i64x2_add(self) -> Result<InstructionSink<'a, A>, EncodeError>
+        ensures* unchanged { sem 𝓛 (IsUnchangedAtErr A.row A.Allocator self.entry result) }
+        ensures same { IsSameSink self.entry result }
+        ensures wrote { Writes self.entry (after_fd 0xce) operands.None result }
+        ensures room { HasRoom self.entry → IsOk result }
+    {
+        self.emit(after_fd(0xce))
+    }
+
+    /// `i64x2.sub`: `0xFD 0xD1`.
+    pub fn i64x2_sub(self) -> Result<InstructionSink<'a, A>, EncodeError>
+        ensures* unchanged { sem 𝓛 (IsUnchangedAtErr A.row A.Allocator self.entry result) }
+        ensures same { IsSameSink self.entry result }
+        ensures wrote { Writes self.entry (after_fd 0xd1) operands.None result }
+        ensures room { HasRoom self.entry → IsOk result }
+    {
+        self.emit(after_fd(0xd1))
+    }
+
+    /// `i64x2.mul`: `0xFD 0xD5`.
+    pub fn i64x2_mul(self) -> Result<InstructionSink<'a, A>, EncodeError>
+        ensures* unchanged { sem 𝓛 (IsUnchangedAtErr A.row A.Allocator self.entry result) }
+        ensures same { IsSameSink self.entry result }
+        ensures wrote { Writes self.entry (after_fd 0xd5) operands.None result }
+        ensures room { HasRoom self.entry → IsOk result }
+    {
+        self.emit(after_fd(0xd5))
+    }
+
+    /// `i64x2.extmul_low_i32x4_s`: `0xFD 0xDC`.
+    pub fn i64x2_extmul_low_i32x4_s(self) -> Result<InstructionSink<'a, A>, EncodeError>
+        ensures* unchanged { sem 𝓛 (IsUnchangedAtErr A.row A.Allocator self.entry result) }
+        ensures same { IsSameSink self.entry result }
+        ensures wrote { Writes self.entry (after_fd 0xdc) operands.None result }
+        ensures room { HasRoom self.entry → IsOk result }
+    {
+        self.emit(after_fd(0xdc))
+    }
+
+    /// `i64x2.extmul_high_i32x4_s`: `0xFD 0xDD`.
+    pub fn i64x2_extmul_high_i32x4_s(self) -> Result<InstructionSink<'a, A>, EncodeError>
+        ensures* unchanged { sem 𝓛 (IsUnchangedAtErr A.row A.Allocator self.entry result) }
+        ensures same { IsSameSink self.entry result }
+        ensures wrote { Writes self.entry (after_fd 0xdd) operands.None result }
+        ensures room { HasRoom self.entry → IsOk result }
+    {
+        self.emit(after_fd(0xdd))
+    }
+
+    /// `i64x2.extmul_low_i32x4_u`: `0xFD 0xDE`.
+    pub fn i64x2_extmul_low_i32x4_u(self) -> Result<InstructionSink<'a, A>, EncodeError>
+        ensures* unchanged { sem 𝓛 (IsUnchangedAtErr A.row A.Allocator self.entry result) }
+        ensures same { IsSameSink self.entry result }
+        ensures wrote { Writes self.entry (after_fd 0xde) operands.None result }
+        ensures room { HasRoom self.entry → IsOk result }
+    {
+        self.emit(after_fd(0xde))
+    }
+
+    /// `i64x2.extmul_high_i32x4_u`: `0xFD 0xDF`.
+    pub fn i64x2_extmul_high_i32x4_u(self) -> Result<InstructionSink<'a, A>, EncodeError>
+        ensures* unchanged { sem 𝓛 (IsUnchangedAtErr A.row A.Allocator self.entry result) }
+        ensures same { IsSameSink self.entry result }
+        ensures wrote { Writes self.entry (after_fd 0xdf) operands.None result }
+        ensures room { HasRoom self.entry → IsOk result }
+    {
+        self.emit(after_fd(0xdf))
+    }
+}

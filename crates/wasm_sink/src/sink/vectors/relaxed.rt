@@ -1,0 +1,213 @@
+//! Relaxed operations on vectors (Core 3.0, 5.4, vector instructions).
+ghost use Rattle.std.specs.Prelude.{IsOk};
+ghost use Rattle.std.specs.Borrow.{sem};
+ghost use Rattle.wasm_sink.specs.Sink.{IsUnchangedAtErr, IsSameSink, Writes, HasRoom};
+ghost use Rattle.wasm_instructions.specs.Instructions.{after_fd};
+ghost use Rattle.wasm_instructions.specs.declared.table.call.Operands.TheVariants as operands;
+
+use crate::sink::InstructionSink;
+use crate::sink::emit::after_fd;
+use std::alloc::Allocator;
+use wasm_values::encode::EncodeError;
+
+impl<'a, A: Allocator> InstructionSink<'a, A> {
+    /// `i8x16.relaxed_swizzle`: `0xFD 0x100`.
+    pub fn i8x16_relaxed_swizzle(self) -> Result<InstructionSink<'a, A>, EncodeError>
+        ensures* unchanged { sem 𝓛 (IsUnchangedAtErr A.row A.Allocator self.entry result) }
+        ensures same { IsSameSink self.entry result }
+        ensures wrote { Writes self.entry (after_fd 0x100) operands.None result }
+        ensures room { HasRoom self.entry → IsOk result }
+    {
+        self.emit(after_fd(0x100))
+    }
+
+    /// `i32x4.relaxed_trunc_f32x4_s`: `0xFD 0x101`.
+    pub fn i32x4_relaxed_trunc_f32x4_s(self) -> Result<InstructionSink<'a, A>, EncodeError>
+        ensures* unchanged { sem 𝓛 (IsUnchangedAtErr A.row A.Allocator self.entry result) }
+        ensures same { IsSameSink self.entry result }
+        ensures wrote { Writes self.entry (after_fd 0x101) operands.None result }
+        ensures room { HasRoom self.entry → IsOk result }
+    {
+        self.emit(after_fd(0x101))
+    }
+
+    /// `i32x4.relaxed_trunc_f32x4_u`: `0xFD 0x102`.
+    pub fn i32x4_relaxed_trunc_f32x4_u(self) -> Result<InstructionSink<'a, A>, EncodeError>
+        ensures* unchanged { sem 𝓛 (IsUnchangedAtErr A.row A.Allocator self.entry result) }
+        ensures same { IsSameSink self.entry result }
+        ensures wrote { Writes self.entry (after_fd 0x102) operands.None result }
+        ensures room { HasRoom self.entry → IsOk result }
+    {
+        self.emit(after_fd(0x102))
+    }
+
+    /// `i32x4.relaxed_trunc_f64x2_s_zero`: `0xFD 0x103`.
+    pub fn i32x4_relaxed_trunc_f64x2_s_zero(self) -> Result<InstructionSink<'a, A>, EncodeError>
+        ensures* unchanged { sem 𝓛 (IsUnchangedAtErr A.row A.Allocator self.entry result) }
+        ensures same { IsSameSink self.entry result }
+        ensures wrote { Writes self.entry (after_fd 0x103) operands.None result }
+        ensures room { HasRoom self.entry → IsOk result }
+    {
+        self.emit(after_fd(0x103))
+    }
+
+    /// `i32x4.relaxed_trunc_f64x2_u_zero`: `0xFD 0x104`.
+    pub fn i32x4_relaxed_trunc_f64x2_u_zero(self) -> Result<InstructionSink<'a, A>, EncodeError>
+        ensures* unchanged { sem 𝓛 (IsUnchangedAtErr A.row A.Allocator self.entry result) }
+        ensures same { IsSameSink self.entry result }
+        ensures wrote { Writes self.entry (after_fd 0x104) operands.None result }
+        ensures room { HasRoom self.entry → IsOk result }
+    {
+        self.emit(after_fd(0x104))
+    }
+
+    /// `f32x4.relaxed_madd`: `0xFD 0x105`.
+    pub fn f32x4_relaxed_madd(self) -> Result<InstructionSink<'a, A>, EncodeError>
+        ensures* unchanged { sem 𝓛 (IsUnchangedAtErr A.row A.Allocator self.entry result) }
+        ensures same { IsSameSink self.entry result }
+        ensures wrote { Writes self.entry (after_fd 0x105) operands.None result }
+        ensures room { HasRoom self.entry → IsOk result }
+    {
+        self.emit(after_fd(0x105))
+    }
+
+    /// `f32x4.relaxed_nmadd`: `0xFD 0x106`.
+    pub fn f32x4_relaxed_nmadd(self) -> Result<InstructionSink<'a, A>, EncodeError>
+        ensures* unchanged { sem 𝓛 (IsUnchangedAtErr A.row A.Allocator self.entry result) }
+        ensures same { IsSameSink self.entry result }
+        ensures wrote { Writes self.entry (after_fd 0x106) operands.None result }
+        ensures room { HasRoom self.entry → IsOk result }
+    {
+        self.emit(after_fd(0x106))
+    }
+
+    /// `f64x2.relaxed_madd`: `0xFD 0x107`.
+    pub fn f64x2_relaxed_madd(self) -> Result<InstructionSink<'a, A>, EncodeError>
+        ensures* unchanged { sem 𝓛 (IsUnchangedAtErr A.row A.Allocator self.entry result) }
+        ensures same { IsSameSink self.entry result }
+        ensures wrote { Writes self.entry (after_fd 0x107) operands.None result }
+        ensures room { HasRoom self.entry → IsOk result }
+    {
+        self.emit(after_fd(0x107))
+    }
+
+    /// `f64x2.relaxed_nmadd`: `0xFD 0x108`.
+    pub fn f64x2_relaxed_nmadd(self) -> Result<InstructionSink<'a, A>, EncodeError>
+        ensures* unchanged { sem 𝓛 (IsUnchangedAtErr A.row A.Allocator self.entry result) }
+        ensures same { IsSameSink self.entry result }
+        ensures wrote { Writes self.entry (after_fd 0x108) operands.None result }
+        ensures room { HasRoom self.entry → IsOk result }
+    {
+        self.emit(after_fd(0x108))
+    }
+
+    /// `i8x16.relaxed_laneselect`: `0xFD 0x109`.
+    pub fn i8x16_relaxed_laneselect(self) -> Result<InstructionSink<'a, A>, EncodeError>
+        ensures* unchanged { sem 𝓛 (IsUnchangedAtErr A.row A.Allocator self.entry result) }
+        ensures same { IsSameSink self.entry result }
+        ensures wrote { Writes self.entry (after_fd 0x109) operands.None result }
+        ensures room { HasRoom self.entry → IsOk result }
+    {
+        self.emit(after_fd(0x109))
+    }
+
+    /// `i16x8.relaxed_laneselect`: `0xFD 0x10A`.
+    pub fn i16x8_relaxed_laneselect(self) -> Result<InstructionSink<'a, A>, EncodeError>
+        ensures* unchanged { sem 𝓛 (IsUnchangedAtErr A.row A.Allocator self.entry result) }
+        ensures same { IsSameSink self.entry result }
+        ensures wrote { Writes self.entry (after_fd 0x10a) operands.None result }
+        ensures room { HasRoom self.entry → IsOk result }
+    {
+        self.emit(after_fd(0x10a))
+    }
+
+    /// `i32x4.relaxed_laneselect`: `0xFD 0x10B`.
+    pub fn i32x4_relaxed_laneselect(self) -> Result<InstructionSink<'a, A>, EncodeError>
+        ensures* unchanged { sem 𝓛 (IsUnchangedAtErr A.row A.Allocator self.entry result) }
+        ensures same { IsSameSink self.entry result }
+        ensures wrote { Writes self.entry (after_fd 0x10b) operands.None result }
+        ensures room { HasRoom self.entry → IsOk result }
+    {
+        self.emit(after_fd(0x10b))
+    }
+
+    /// `i64x2.relaxed_laneselect`: `0xFD 0x10C`.
+    pub fn i64x2_relaxed_laneselect(self) -> Result<InstructionSink<'a, A>, EncodeError>
+        ensures* unchanged { sem 𝓛 (IsUnchangedAtErr A.row A.Allocator self.entry result) }
+        ensures same { IsSameSink self.entry result }
+        ensures wrote { Writes self.entry (after_fd 0x10c) operands.None result }
+        ensures room { HasRoom self.entry → IsOk result }
+    {
+        self.emit(after_fd(0x10c))
+    }
+
+    /// `f32x4.relaxed_min`: `0xFD 0x10D`.
+    pub fn f32x4_relaxed_min(self) -> Result<InstructionSink<'a, A>, EncodeError>
+        ensures* unchanged { sem 𝓛 (IsUnchangedAtErr A.row A.Allocator self.entry result) }
+        ensures same { IsSameSink self.entry result }
+        ensures wrote { Writes self.entry (after_fd 0x10d) operands.None result }
+        ensures room { HasRoom self.entry → IsOk result }
+    {
+        self.emit(after_fd(0x10d))
+    }
+
+    /// `f32x4.relaxed_max`: `0xFD 0x10E`.
+    pub fn f32x4_relaxed_max(self) -> Result<InstructionSink<'a, A>, EncodeError>
+        ensures* unchanged { sem 𝓛 (IsUnchangedAtErr A.row A.Allocator self.entry result) }
+        ensures same { IsSameSink self.entry result }
+        ensures wrote { Writes self.entry (after_fd 0x10e) operands.None result }
+        ensures room { HasRoom self.entry → IsOk result }
+    {
+        self.emit(after_fd(0x10e))
+    }
+
+    /// `f64x2.relaxed_min`: `0xFD 0x10F`.
+    pub fn f64x2_relaxed_min(self) -> Result<InstructionSink<'a, A>, EncodeError>
+        ensures* unchanged { sem 𝓛 (IsUnchangedAtErr A.row A.Allocator self.entry result) }
+        ensures same { IsSameSink self.entry result }
+        ensures wrote { Writes self.entry (after_fd 0x10f) operands.None result }
+        ensures room { HasRoom self.entry → IsOk result }
+    {
+        self.emit(after_fd(0x10f))
+    }
+
+    /// `f64x2.relaxed_max`: `0xFD 0x110`.
+    pub fn f64x2_relaxed_max(self) -> Result<InstructionSink<'a, A>, EncodeError>
+        ensures* unchanged { sem 𝓛 (IsUnchangedAtErr A.row A.Allocator self.entry result) }
+        ensures same { IsSameSink self.entry result }
+        ensures wrote { Writes self.entry (after_fd 0x110) operands.None result }
+        ensures room { HasRoom self.entry → IsOk result }
+    {
+        self.emit(after_fd(0x110))
+    }
+
+    /// `i16x8.relaxed_q15mulr_s`: `0xFD 0x111`.
+    pub fn i16x8_relaxed_q15mulr_s(self) -> Result<InstructionSink<'a, A>, EncodeError>
+        ensures* unchanged { sem 𝓛 (IsUnchangedAtErr A.row A.Allocator self.entry result) }
+        ensures same { IsSameSink self.entry result }
+        ensures wrote { Writes self.entry (after_fd 0x111) operands.None result }
+        ensures room { HasRoom self.entry → IsOk result }
+    {
+        self.emit(after_fd(0x111))
+    }
+
+    /// `i16x8.relaxed_dot_i8x16_i7x16_s`: `0xFD 0x112`.
+    pub fn i16x8_relaxed_dot_i8x16_i7x16_s(self) -> Result<InstructionSink<'a, A>, EncodeError>
+        ensures* unchanged { sem 𝓛 (IsUnchangedAtErr A.row A.Allocator self.entry result) }
+        ensures same { IsSameSink self.entry result }
+        ensures wrote { Writes self.entry (after_fd 0x112) operands.None result }
+        ensures room { HasRoom self.entry → IsOk result }
+    {
+        self.emit(after_fd(0x112))
+    }
+
+    /// `i32x4.relaxed_dot_i8x16_i7x16_add_s`: `0xFD 0x113`.
+    pub fn i32x4_relaxed_dot_i8x16_i7x16_add_s(self) -> Result<InstructionSink<'a, A>, EncodeError>
+        ensures* unchanged { sem 𝓛 (IsUnchangedAtErr A.row A.Allocator self.entry result) }
+        ensures same { IsSameSink self.entry result }
+        ensures wrote { Writes self.entry (after_fd 0x113) operands.None result }
+        ensures room { HasRoom self.entry → IsOk result }
+    {
+        self.emit(after_fd(0x113))
+    }
+}
