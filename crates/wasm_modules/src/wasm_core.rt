@@ -22,6 +22,7 @@ pub trait Section: Encode {
         ensures ok { OnOk result (IsSomeAnd (Self.text self.now) (λ t. dst.new.items ≡ dst.old.items ++ id self.now ∷ t)) }
         ensures too_long { IsErrOf result EncodeError.TooLong → IsNone (Self.text self.now) }
         ensures alignment { IsErrOf result EncodeError.Alignment → IsNone (Self.text self.now) }
+        ensures misaligned { IsErrOf result EncodeError.Alignment → Self.misaligned self.now }
         ensures err { OnErr result (dst.new.items ≡ dst.old.items) }
     {
         let start = dst.len();
@@ -95,6 +96,8 @@ impl From<SectionId> for u8 {
 impl Encode for SectionId {
     ghost text = { λ id. Some (section_id id ∷ []) };
 
+    ghost misaligned = { λ _. ⊥ };
+
     fn encode<A: Allocator>(&self, sink: &mut Vec<u8, A>) -> Result<(), EncodeError> {
         sink.reserve(1)?;
         sink.push_reserved(u8::from(*self));
@@ -137,6 +140,7 @@ impl Module {
         ensures ok { OnOk result (IsSomeAnd (S.text section.now) (λ t. self.new ≡ self.old ++ S.id section.now ∷ t)) }
         ensures too_long { IsErrOf result EncodeError.TooLong → IsNone (S.text section.now) }
         ensures alignment { IsErrOf result EncodeError.Alignment → IsNone (S.text section.now) }
+        ensures misaligned { IsErrOf result EncodeError.Alignment → S.misaligned section.now }
         ensures err { OnErr result (self.new ≡ self.old) }
     {
         let start = self.bytes.len();
