@@ -10,7 +10,7 @@ ghost use Rattle.std.specs.Iterator.{size};
 ghost use Rattle.wasm_types.specs.TypeEncoding.{func_encoding, sub_encoding, entry_encoding};
 ghost use Rattle.wasm_types.specs.declared.types.composite.CompositeInnerType.TheVariants as inner;
 ghost use Rattle.wasm_types.specs.declared.types.composite.TypeEntry.TheVariants as entries;
-ghost use Rattle.wasm_values.specs.declared.encode.EncodeError.TheVariants.{TooLong};
+ghost use Rattle.wasm_values.specs.declared.encode.EncodeError.TheVariants.{Memory, TooLong};
 
 use crate::wasm_core::{Section, SectionId};
 use std::alloc::{Allocator, Global};
@@ -79,7 +79,8 @@ impl TypeSection {
 
     /// A section of the same entries.
     pub fn try_clone(&self) -> Result<TypeSection, EncodeError>
-        ensures { IfOk result (λ section. section ≡ self.now) }
+        ensures ok { IfOk result (λ section. section ≡ self.now) }
+        ensures err { IfErr result (λ e. e ≡ Memory) }
     {
         let bytes = Vec::from_slice(*self.bytes.allocator(), self.bytes.as_slice())?;
         Ok(TypeSection {

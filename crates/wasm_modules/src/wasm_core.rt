@@ -1,6 +1,7 @@
 //! Sections and modules (Core 3.0, 5.5).
-ghost use Rattle.std.specs.Prelude.{◌≡◌, ◌++◌, ◌∷◌, ℕ, List, Some, [], IfOk, OnOk, OnErr, IsErrOf, IsSomeAnd, IsNone, length};
+ghost use Rattle.std.specs.Prelude.{◌≡◌, ◌++◌, ◌∷◌, ℕ, List, Some, [], IfOk, IfErr, OnOk, OnErr, IsErrOf, IsSomeAnd, IsNone, length};
 ghost use Rattle.wasm_modules.specs.Modules.{header, section_id};
+ghost use Rattle.wasm_values.specs.declared.encode.EncodeError.TheVariants.{Memory};
 
 use std::alloc::{Allocator, Global};
 use std::marker::Model;
@@ -127,7 +128,8 @@ impl Module {
 
     /// A module without sections.
     pub fn new(alloc: Global) -> Result<Module, EncodeError>
-        ensures { IfOk result (λ m. m ≡ header) }
+        ensures ok { IfOk result (λ m. m ≡ header) }
+        ensures err { IfErr result (λ e. e ≡ Memory) }
     {
         let bytes = Vec::from_slice(alloc, &Module::HEADER)?;
         Ok(Module { bytes })
@@ -177,7 +179,8 @@ impl Module {
 
     /// An equal module.
     pub fn try_clone(&self) -> Result<Module, EncodeError>
-        ensures { IfOk result (λ m. m ≡ self.now) }
+        ensures ok { IfOk result (λ m. m ≡ self.now) }
+        ensures err { IfErr result (λ e. e ≡ Memory) }
     {
         let bytes = Vec::from_slice(*self.bytes.allocator(), self.bytes.as_slice())?;
         Ok(Module { bytes })
