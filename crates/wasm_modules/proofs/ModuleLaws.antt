@@ -1,9 +1,8 @@
 -- The laws of sections and modules.
-use Rattle.std.proofs.Common.{◌≡◌, ℕ, ◌^◌, ◌<◌, ◌≤◌, Bool, true, false, cond, ltb, List, [], ◌∷◌, ◌++◌, length, take, drop, Some, None, refl, sym, subst, length-append, inl, arith}
+use Rattle.std.proofs.Common.{◌≡◌, ℕ, ◌^◌, ◌<◌, ◌≤◌, Bool, true, false, cond, ltb, List, [], ◌++◌, length, take, drop, Some, None, refl, sym, subst, length-append, inl, arith}
 use Rattle.std.proofs.lemmas.List.{take_at, drop_at, take-append-drop, length-take}
 use Rattle.std.proofs.lemmas.Bool.{ltb-false, le-ltb}
 use Rattle.std.specs.List.{AllByRecursion}
-use Rattle.wasm_values.specs.Grammar.{IsBytes}
 use Rattle.wasm_values.specs.Numbers.{SpellsU32, u32_at, unsigned_text}
 use Rattle.wasm_modules.specs.Modules.{SectionParts, IsSection, section_of, SpellsByteList, byte_list_at, SpellsSection, section_at, section_text, SpellsModule, module_text}
 use Rattle.wasm_values.proofs.Laws.{Fronts, Reads, Reads-byte, Shortest, Shortest-byte, bind_some, some_is, Reads-then, Reads-map, Shortest-then, Shortest-map, Shortest-for, least_then, in_a_row, read_in_row}

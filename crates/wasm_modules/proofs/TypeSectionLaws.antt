@@ -9,31 +9,40 @@ use Rattle.wasm_types.specs.TypeEncoding.{inner_encoding, entry_encoding}
 use Rattle.wasm_modules.specs.TypeSections.{Entries, StandsFor, Gains, GainsAll, body_bytes, section_text, plain_entry}
 use Rattle.wasm_types.specs.CompositeTypes.{SpellsTypeBody, entry_text, type_body_text}
 use Rattle.wasm_types.specs.TypeRanges.{TypeBodyFits}
-use Rattle.wasm_values.proofs.TextLists.{IsFollowed, texts-push, both_texts-assoc}
+use Rattle.wasm_values.proofs.TextLists.{IsFollowed, both_texts-assoc, both_texts-nil, nil-both_texts}
 use Rattle.wasm_types.proofs.EncodingLaws.{IsEncoding, texts_is, entry_is}
 use Rattle.wasm_types.proofs.EntryLaws.{Shortest-type-body}
 
 -- ---- an entry of one type with nothing before what it is made of
 
-nothing_before : (t : Option (List ℕ)) → both_texts (Some []) t ≡ t
-nothing_before (Some t) = refl
-nothing_before None = refl
-
 pub plain_is : (i : CompositeInnerType) → entry_encoding (plain_entry i) ≡ inner_encoding i
-plain_is i = nothing_before _ ∙ nothing_before _ ∙ nothing_before _ ∙ nothing_before (inner_encoding i)
+plain_is i = nil-both_texts _ ∙ nil-both_texts _ ∙ nil-both_texts _ ∙ nil-both_texts (inner_encoding i)
 
--- ---- one entry more
+-- ---- some entries more
 
-stands_more : (old new : Entries) (before : List TypeEntry) (entry : TypeEntry) → StandsFor old before → new.count ≡ old.count + 1 → IsSomeAnd (entry_encoding entry) (λ t. new.bytes ≡ old.bytes ++ t) → StandsFor new (before ++ entry ∷ [])
-stands_more old new before entry s count bytes = record { count = omega (arith, length-append before (entry ∷ []), s.count); bytes = texts-push entry_encoding before entry ∙ ap (λ (t : Option (List ℕ)). both_texts t (entry_encoding entry)) s.bytes ∙ grown (entry_encoding entry) bytes } where
-  grown : (t : Option (List ℕ)) → IsSomeAnd t (λ t. new.bytes ≡ old.bytes ++ t) → both_texts (Some old.bytes) t ≡ Some new.bytes
+texts-append : (xs ys : List TypeEntry) → texts entry_encoding (xs ++ ys) ≡ both_texts (texts entry_encoding xs) (texts entry_encoding ys)
+texts-append [] ys = sym (nil-both_texts (texts entry_encoding ys))
+texts-append (x ∷ xs) ys = ap (both_texts (entry_encoding x)) (texts-append xs ys) ∙ sym (both_texts-assoc (entry_encoding x) (texts entry_encoding xs) (texts entry_encoding ys))
+
+stands_more : (old new : Entries) (before more : List TypeEntry) → StandsFor old before → new.count ≡ old.count + length more → IsFollowed old.bytes (texts entry_encoding more) new.bytes → StandsFor new (before ++ more)
+stands_more old new before more s count bytes = record { count = omega (arith, length-append before more, s.count); bytes = texts-append before more ∙ ap (λ (t : Option (List ℕ)). both_texts t (texts entry_encoding more)) s.bytes ∙ grown (texts entry_encoding more) bytes } where
+  grown : (t : Option (List ℕ)) → IsFollowed old.bytes t new.bytes → both_texts (Some old.bytes) t ≡ Some new.bytes
   grown (Some t) e = ap (λ (k : List ℕ). Some k) (sym e)
   grown None e = absurd e
 
-pub gains : (old new : Entries) (entry : TypeEntry) → new.count ≡ old.count + 1 → IsSomeAnd (entry_encoding entry) (λ t. new.bytes ≡ old.bytes ++ t) → Gains old entry new
-gains old new entry count bytes = record { count = count; bytes = bytes; stands = λ before s. stands_more old new before entry s count bytes }
+pub gains_all : (old new : Entries) (more : List TypeEntry) → new.count ≡ old.count + length more → IsFollowed old.bytes (both_texts (Some []) (texts entry_encoding more)) new.bytes → GainsAll old more new
+gains_all old new more count bytes =
+    let plainly = subst (λ (t : Option (List ℕ)). IsFollowed old.bytes t new.bytes) (nil-both_texts (texts entry_encoding more)) bytes in
+    record { count = count; bytes = plainly; stands = λ before s. stands_more old new before more s count plainly }
 
-pub gains_plain : (old new : Entries) (i : CompositeInnerType) → new.count ≡ old.count + 1 → IsSomeAnd (inner_encoding i) (λ t. new.bytes ≡ old.bytes ++ t) → Gains old (plain_entry i) new
+-- ---- one entry more
+
+pub gains : (old new : Entries) (entry : TypeEntry) → new.count ≡ old.count + 1 → IsFollowed old.bytes (entry_encoding entry) new.bytes → Gains old entry new
+gains old new entry count bytes =
+    let alone = subst (λ (t : Option (List ℕ)). IsFollowed old.bytes t new.bytes) (sym (both_texts-nil (entry_encoding entry))) bytes in
+    record { count = count; bytes = bytes; stands = λ before s. stands_more old new before (entry ∷ []) s count alone }
+
+pub gains_plain : (old new : Entries) (i : CompositeInnerType) → new.count ≡ old.count + 1 → IsFollowed old.bytes (inner_encoding i) new.bytes → Gains old (plain_entry i) new
 gains_plain old new i count bytes = gains old new (plain_entry i) count (rw (plain_is i) bytes)
 
 -- the same, of what is answered
@@ -45,23 +54,6 @@ gains_ok (Err e) old new entry count bytes = tt
 pub gains_plain_ok : {T E : Type 0} (r : Result T E) (old new : Entries) (i : CompositeInnerType) → OnOk r (new.count ≡ old.count + 1) → OnOk r (IsSomeAnd (inner_encoding i) (λ t. new.bytes ≡ old.bytes ++ t)) → OnOk r (Gains old (plain_entry i) new)
 gains_plain_ok (Ok x) old new i count bytes = gains_plain old new i count bytes
 gains_plain_ok (Err e) old new i count bytes = tt
-
--- ---- some entries more
-
-texts-append : (xs ys : List TypeEntry) → texts entry_encoding (xs ++ ys) ≡ both_texts (texts entry_encoding xs) (texts entry_encoding ys)
-texts-append [] ys = sym (nothing_before (texts entry_encoding ys))
-texts-append (x ∷ xs) ys = ap (both_texts (entry_encoding x)) (texts-append xs ys) ∙ sym (both_texts-assoc (entry_encoding x) (texts entry_encoding xs) (texts entry_encoding ys))
-
-stands_all : (old new : Entries) (before more : List TypeEntry) → StandsFor old before → new.count ≡ old.count + length more → IsSomeAnd (texts entry_encoding more) (λ t. new.bytes ≡ old.bytes ++ t) → StandsFor new (before ++ more)
-stands_all old new before more s count bytes = record { count = omega (arith, length-append before more, s.count); bytes = texts-append before more ∙ ap (λ (t : Option (List ℕ)). both_texts t (texts entry_encoding more)) s.bytes ∙ grown (texts entry_encoding more) bytes } where
-  grown : (t : Option (List ℕ)) → IsSomeAnd t (λ t. new.bytes ≡ old.bytes ++ t) → both_texts (Some old.bytes) t ≡ Some new.bytes
-  grown (Some t) e = ap (λ (k : List ℕ). Some k) (sym e)
-  grown None e = absurd e
-
-pub gains_all : (old new : Entries) (more : List TypeEntry) → new.count ≡ old.count + length more → IsFollowed old.bytes (both_texts (Some []) (texts entry_encoding more)) new.bytes → GainsAll old more new
-gains_all old new more count bytes =
-    let plainly = subst (λ (t : Option (List ℕ)). IsFollowed old.bytes t new.bytes) (nothing_before (texts entry_encoding more)) bytes in
-    record { count = count; bytes = plainly; stands = λ before s. stands_all old new before more s count plainly }
 
 -- ---- what a section that stands for entries writes
 

@@ -18,6 +18,8 @@ pub struct RawSection<'a> {
 impl<'a> Encode for RawSection<'a> {
     ghost text = { λ section. byte_list_text section.body.now };
 
+    ghost misaligned = { λ _. ⊥ };
+
     fn encode<A: Allocator>(&self, sink: &mut Vec<u8, A>) -> Result<(), EncodeError> {
         encode_bytes(self.body, sink)
     }

@@ -1,7 +1,7 @@
 //! The type section (Core 3.0, 5.5.4).
 ghost use Rattle.std.specs.Prelude.{◌≡◌, ℕ, List, ◌++◌, ◌∷◌, ◌+◌, ◌^◌, ◌≤◌, ◌⊎◌, [], OnOk, OnErr, IfOk, IfErr, IsErrOf, IsTrue, ◌↔◌, IsSomeAnd, IsNone, Some, length, take};
 ghost use Rattle.wasm_modules.specs.TypeSections.{Entries, StandsFor, Gains, GainsAll, IsFull, OfBoth, OfItems, section_text, body_bytes, plain_entry, struct_entry, array_entry};
-ghost use Rattle.wasm_values.specs.Iterators.{IsExact, HasNoText};
+ghost use Rattle.wasm_values.specs.Iterators.{IsExact, HasNoText, GivesMisaligned};
 ghost use Rattle.wasm_values.specs.Encoding.{both_texts, list_text, texts, byte_list_text, IsTextOrLonger};
 ghost use Rattle.wasm_types.specs.CompositeTypes.{SpellsTypeBody, type_body_text};
 ghost use Rattle.wasm_types.specs.TypeRanges.{TypeBodyFits};
@@ -10,7 +10,7 @@ ghost use Rattle.std.specs.Iterator.{size};
 ghost use Rattle.wasm_types.specs.TypeEncoding.{func_encoding, sub_encoding, entry_encoding};
 ghost use Rattle.wasm_types.specs.declared.types.composite.CompositeInnerType.TheVariants as inner;
 ghost use Rattle.wasm_types.specs.declared.types.composite.TypeEntry.TheVariants as entries;
-ghost use Rattle.wasm_values.specs.declared.encode.EncodeError.TheVariants.{TooLong};
+ghost use Rattle.wasm_values.specs.declared.encode.EncodeError.TheVariants.{Memory, TooLong};
 
 use crate::wasm_core::{Section, SectionId};
 use std::alloc::{Allocator, Global};
@@ -79,7 +79,8 @@ impl TypeSection {
 
     /// A section of the same entries.
     pub fn try_clone(&self) -> Result<TypeSection, EncodeError>
-        ensures { IfOk result (λ section. section ≡ self.now) }
+        ensures ok { IfOk result (λ section. section ≡ self.now) }
+        ensures err { IfErr result (λ e. e ≡ Memory) }
     {
         let bytes = Vec::from_slice(*self.bytes.allocator(), self.bytes.as_slice())?;
         Ok(TypeSection {
@@ -96,6 +97,7 @@ impl TypeSection {
         ensures err { OnErr result (self.new ≡ self.old) }
         ensures too_long { IsErrOf result EncodeError.TooLong →
             (2 ^ 32 ≤ self.old.count + length entries.now) ⊎ IsNone (texts entry_encoding entries.now) }
+        ensures alignment { ¬ IsErrOf result EncodeError.Alignment }
     {
         let start = self.bytes.len();
         let count = self.count;
@@ -112,6 +114,7 @@ impl TypeSection {
         ensures ok { OnOk result (GainsAll self.old entries.now self.new) }
         ensures too_long { IsErrOf result EncodeError.TooLong →
             (2 ^ 32 ≤ self.old.count + length entries.now) ⊎ IsNone (texts entry_encoding entries.now) }
+        ensures alignment { ¬ IsErrOf result EncodeError.Alignment }
         ensures kept { take (length self.old.bytes) self.new.bytes ≡ self.old.bytes }
     {
         for entry in entries {
@@ -134,6 +137,7 @@ impl TypeSection {
         ensures bytes { OnOk result (IsSomeAnd (T.text entry.now) (λ t. self.new.bytes ≡ self.old.bytes ++ t)) }
         ensures err { OnErr result (self.new ≡ self.old) }
         ensures too_long { IsErrOf result EncodeError.TooLong → IsFull self.old ⊎ IsNone (T.text entry.now) }
+        ensures misaligned { IsErrOf result EncodeError.Alignment → T.misaligned entry.now }
     {
         let count = self.next_count()?;
         entry.encode(&mut self.bytes)?;
@@ -169,10 +173,12 @@ impl TypeSection {
 impl Encode for TypeSection {
     ghost text = { section_text };
 
+    ghost misaligned = { λ _. ⊥ };
+
     fn encode<A: Allocator>(&self, sink: &mut Vec<u8, A>) -> Result<(), EncodeError>
         ensures ok { OnOk result (IsSomeAnd (section_text self.now) (λ t. sink.new.items ≡ sink.old.items ++ t)) }
         ensures too_long { IsErrOf result EncodeError.TooLong → IsNone (section_text self.now) }
-        ensures alignment { IsErrOf result EncodeError.Alignment → IsNone (section_text self.now) }
+        ensures alignment { ¬ IsErrOf result EncodeError.Alignment }
         ensures err { OnErr result (sink.new.items ≡ sink.old.items) }
         // Sections that stand for the same entries have the same text.
         ensures one_text { (other : Entries) (entries : List TypeEntry) →
@@ -211,6 +217,7 @@ impl<'a> CoreTypeEncoder<'a> {
         ensures ok { OnOk result (Gains self.entry.section.now (plain_entry (inner.Func ty.now)) self.exit.0.now) }
         ensures err { OnErr result (self.exit.0.now ≡ self.entry.section.now) }
         ensures too_long { IsErrOf result EncodeError.TooLong → IsFull self.entry.section.now ⊎ IsNone (func_encoding ty.now) }
+        ensures alignment { ¬ IsErrOf result EncodeError.Alignment }
     {
         let CoreTypeEncoder { section } = self;
         section.add(ty)
@@ -221,6 +228,7 @@ impl<'a> CoreTypeEncoder<'a> {
         ensures ok { OnOk result (Gains self.entry.section.now (array_entry ty.now mutable) self.exit.0.now) }
         ensures err { OnErr result (self.exit.0.now ≡ self.entry.section.now) }
         ensures too_long { IsErrOf result EncodeError.TooLong → IsFull self.entry.section.now }
+        ensures alignment { ¬ IsErrOf result EncodeError.Alignment }
     {
         let CoreTypeEncoder { section } = self;
         let field = FieldType {
@@ -235,6 +243,7 @@ impl<'a> CoreTypeEncoder<'a> {
         ensures ok { OnOk result (Gains self.entry.section.now (plain_entry (inner.Cont ty.now)) self.exit.0.now) }
         ensures err { OnErr result (self.exit.0.now ≡ self.entry.section.now) }
         ensures too_long { IsErrOf result EncodeError.TooLong → IsFull self.entry.section.now }
+        ensures alignment { ¬ IsErrOf result EncodeError.Alignment }
     {
         let CoreTypeEncoder { section } = self;
         section.add(ty)
@@ -245,6 +254,7 @@ impl<'a> CoreTypeEncoder<'a> {
         ensures ok { OnOk result (Gains self.entry.section.now (entries.Sub ty.now) self.exit.0.now) }
         ensures err { OnErr result (self.exit.0.now ≡ self.entry.section.now) }
         ensures too_long { IsErrOf result EncodeError.TooLong → IsFull self.entry.section.now ⊎ IsNone (sub_encoding ty.now) }
+        ensures alignment { ¬ IsErrOf result EncodeError.Alignment }
     {
         let CoreTypeEncoder { section } = self;
         section.add(ty)
@@ -267,6 +277,7 @@ impl<'a> CoreTypeEncoder<'a> {
         ensures err { OnErr result (self.exit.0.now ≡ self.entry.section.now) }
         ensures too_long { IsErrOf result EncodeError.TooLong →
             IsFull self.entry.section.now ⊎ (2 ^ 32 ≤ size (P.remaining params)) ⊎ (2 ^ 32 ≤ size (R.remaining results)) }
+        ensures alignment { ¬ IsErrOf result EncodeError.Alignment }
     {
         let CoreTypeEncoder { section } = self;
         let count = section.next_count()?;
@@ -288,6 +299,7 @@ impl<'a> CoreTypeEncoder<'a> {
         ensures err { OnErr result (self.exit.0.now ≡ self.entry.section.now) }
         ensures too_long { IsErrOf result EncodeError.TooLong →
             IsFull self.entry.section.now ⊎ (2 ^ 32 ≤ size (F.remaining fields)) }
+        ensures alignment { ¬ IsErrOf result EncodeError.Alignment }
     {
         let CoreTypeEncoder { section } = self;
         let count = section.next_count()?;
@@ -307,6 +319,7 @@ impl<'a> CoreTypeEncoder<'a> {
         ensures err { OnErr result (self.exit.0.now ≡ self.entry.section.now) }
         ensures too_long { IsErrOf result EncodeError.TooLong →
             IsFull self.entry.section.now ⊎ HasNoText sub_encoding S.next_gives S.remaining types }
+        ensures alignment { ¬ IsErrOf result EncodeError.Alignment }
     {
         let CoreTypeEncoder { section } = self;
         let count = section.next_count()?;
@@ -326,6 +339,7 @@ fn append_tagged<T: Encode + Drop, I: ExactSizeIterator<Item = T>>(
     ensures ok { OnOk result (OfItems I.next_gives items (λ xs.
         IsSomeAnd (both_texts (Some (tag ∷ [])) (list_text T.text xs)) (λ t. bytes.new.items ≡ bytes.old.items ++ t))) }
     ensures too_long { IsErrOf result EncodeError.TooLong → HasNoText T.text I.next_gives I.remaining items }
+    ensures misaligned { IsErrOf result EncodeError.Alignment → GivesMisaligned T.misaligned I.next_gives items }
     ensures kept { take (length bytes.old.items) bytes.new.items ≡ bytes.old.items }
 {
     bytes.reserve(1)?;
@@ -345,6 +359,7 @@ fn append_function<P: ExactSizeIterator<Item = ValType>, R: ExactSizeIterator<It
         IsSomeAnd (func_encoding ty) (λ t. bytes.new.items ≡ bytes.old.items ++ t))) }
     ensures too_long { IsErrOf result EncodeError.TooLong →
         (2 ^ 32 ≤ size (P.remaining params)) ⊎ (2 ^ 32 ≤ size (R.remaining results)) }
+    ensures alignment { ¬ IsErrOf result EncodeError.Alignment }
     ensures kept { take (length bytes.old.items) bytes.new.items ≡ bytes.old.items }
 {
     if u32::try_from(results.len()).is_err() {
@@ -361,7 +376,7 @@ fn append_section<A: Allocator>(
 ) -> Result<(), EncodeError>
     ensures ok { OnOk result (IsSomeAnd (section_text section.now) (λ t. sink.new.items ≡ sink.old.items ++ t)) }
     ensures too_long { IsErrOf result EncodeError.TooLong → IsNone (section_text section.now) }
-    ensures alignment { IsErrOf result EncodeError.Alignment → IsNone (section_text section.now) }
+    ensures alignment { ¬ IsErrOf result EncodeError.Alignment }
     ensures kept { take (length sink.old.items) sink.new.items ≡ sink.old.items }
 {
     let size = u32_len(section.count) + section.bytes.len();

@@ -1,6 +1,7 @@
 //! Sections and modules (Core 3.0, 5.5).
-ghost use Rattle.std.specs.Prelude.{◌≡◌, ◌++◌, ◌∷◌, ℕ, List, Some, [], IfOk, OnOk, OnErr, IsErrOf, IsSomeAnd, IsNone, length};
+ghost use Rattle.std.specs.Prelude.{◌≡◌, ◌++◌, ◌∷◌, ℕ, List, Some, [], IfOk, IfErr, OnOk, OnErr, IsErrOf, IsSomeAnd, IsNone, length};
 ghost use Rattle.wasm_modules.specs.Modules.{header, section_id};
+ghost use Rattle.wasm_values.specs.declared.encode.EncodeError.TheVariants.{Memory};
 
 use std::alloc::{Allocator, Global};
 use std::marker::Model;
@@ -22,6 +23,7 @@ pub trait Section: Encode {
         ensures ok { OnOk result (IsSomeAnd (Self.text self.now) (λ t. dst.new.items ≡ dst.old.items ++ id self.now ∷ t)) }
         ensures too_long { IsErrOf result EncodeError.TooLong → IsNone (Self.text self.now) }
         ensures alignment { IsErrOf result EncodeError.Alignment → IsNone (Self.text self.now) }
+        ensures misaligned { IsErrOf result EncodeError.Alignment → Self.misaligned self.now }
         ensures err { OnErr result (dst.new.items ≡ dst.old.items) }
     {
         let start = dst.len();
@@ -95,6 +97,8 @@ impl From<SectionId> for u8 {
 impl Encode for SectionId {
     ghost text = { λ id. Some (section_id id ∷ []) };
 
+    ghost misaligned = { λ _. ⊥ };
+
     fn encode<A: Allocator>(&self, sink: &mut Vec<u8, A>) -> Result<(), EncodeError> {
         sink.reserve(1)?;
         sink.push_reserved(u8::from(*self));
@@ -124,7 +128,8 @@ impl Module {
 
     /// A module without sections.
     pub fn new(alloc: Global) -> Result<Module, EncodeError>
-        ensures { IfOk result (λ m. m ≡ header) }
+        ensures ok { IfOk result (λ m. m ≡ header) }
+        ensures err { IfErr result (λ e. e ≡ Memory) }
     {
         let bytes = Vec::from_slice(alloc, &Module::HEADER)?;
         Ok(Module { bytes })
@@ -137,6 +142,7 @@ impl Module {
         ensures ok { OnOk result (IsSomeAnd (S.text section.now) (λ t. self.new ≡ self.old ++ S.id section.now ∷ t)) }
         ensures too_long { IsErrOf result EncodeError.TooLong → IsNone (S.text section.now) }
         ensures alignment { IsErrOf result EncodeError.Alignment → IsNone (S.text section.now) }
+        ensures misaligned { IsErrOf result EncodeError.Alignment → S.misaligned section.now }
         ensures err { OnErr result (self.new ≡ self.old) }
     {
         let start = self.bytes.len();
@@ -173,7 +179,8 @@ impl Module {
 
     /// An equal module.
     pub fn try_clone(&self) -> Result<Module, EncodeError>
-        ensures { IfOk result (λ m. m ≡ self.now) }
+        ensures ok { IfOk result (λ m. m ≡ self.now) }
+        ensures err { IfErr result (λ e. e ≡ Memory) }
     {
         let bytes = Vec::from_slice(*self.bytes.allocator(), self.bytes.as_slice())?;
         Ok(Module { bytes })

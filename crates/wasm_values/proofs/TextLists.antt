@@ -19,16 +19,17 @@ both_texts-assoc (Some a) (Some b) None = refl
 both_texts-assoc (Some a) None c = refl
 both_texts-assoc None b c = refl
 
-both_texts-nil : (a : Option (List ℕ)) → both_texts a (Some []) ≡ a
+pub both_texts-nil : (a : Option (List ℕ)) → both_texts a (Some []) ≡ a
 both_texts-nil (Some a) = ap (λ (t : List ℕ). Some t) (append-nil a)
 both_texts-nil None = refl
 
+pub nil-both_texts : (a : Option (List ℕ)) → both_texts (Some []) a ≡ a
+nil-both_texts (Some a) = refl
+nil-both_texts None = refl
+
 module _ {T : Type 0} (text : T → Option (List ℕ)) where
   pub texts-push : (xs : List T) (x : T) → texts text (xs ++ x ∷ []) ≡ both_texts (texts text xs) (text x)
-  texts-push [] x = both_texts-nil (text x) ∙ sym (nil-both_texts (text x)) where
-    nil-both_texts : (a : Option (List ℕ)) → both_texts (Some []) a ≡ a
-    nil-both_texts (Some a) = refl
-    nil-both_texts None = refl
+  texts-push [] x = both_texts-nil (text x) ∙ sym (nil-both_texts (text x))
   texts-push (y ∷ xs) x = ap (both_texts (text y)) (texts-push xs x) ∙ sym (both_texts-assoc (text y) (texts text xs) (text x))
 
   -- one item more

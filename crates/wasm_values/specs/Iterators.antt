@@ -1,5 +1,6 @@
 -- Iterators that tell how many items are to come, and the texts of what they give.
 use Rattle.std.specs.Prelude.{◌≡◌, ℕ, ◌^◌, ◌≤◌, ◌⊎◌, ◌++◌, List, length, Option, IsSomeAnd, IsNone}
+use Rattle.std.specs.List.{Any}
 use Rattle.std.specs.Iterator.{Count, size, Drains, Yields}
 use Rattle.wasm_values.specs.Encoding.{texts, list_text}
 
@@ -17,3 +18,8 @@ module _ {S A : Type 0} (text : A → Option (List ℕ)) (gives : S → Option A
   -- there are more items than a u32 counts, or some that it gave have no text
   abbrev pub HasNoText : (S → Count) → S → Type 0
   HasNoText left s = (2 ^ 32 ≤ size (left s)) ⊎ ((xs : List A) × (t : S) × Yields gives s xs t × IsNone (texts text xs))
+
+module _ {S A : Type 0} (misaligned : A → Type 0) (gives : S → Option A → S → Type 0) where
+  -- an alignment in an item that it gave may be out of range
+  abbrev pub GivesMisaligned : S → Type 0
+  GivesMisaligned s = (xs : List A) × (t : S) × Yields gives s xs t × Any misaligned xs

@@ -1,5 +1,5 @@
 //! What can be written as bytes, and the errors of writing.
-ghost use Rattle.std.specs.Prelude.{◌≡◌, ◌++◌, ℕ, List, Option, Some, OnOk, OnErr, IsErrOf, IsSomeAnd, IsNone};
+ghost use Rattle.std.specs.Prelude.{◌≡◌, ◌++◌, ℕ, List, Option, Some, OnOk, OnErr, IsErrOf, IsSomeAnd, IsNone, ⊤};
 ghost use Rattle.wasm_values.specs.Numbers.{unsigned_text, signed_text};
 ghost use Rattle.wasm_values.specs.Encoding.{option_text, usize_text};
 ghost use Rattle.wasm_values.specs.declared.encode.EncodeError.TheVariants.{Memory};
@@ -43,17 +43,23 @@ pub trait Encode {
     /// The text of the value, or none where a length passes its limit or an alignment is out of range.
     ghost text: { Self → Option (List ℕ) };
 
+    /// Whether an alignment in the value may be out of range: `encode` answers `Alignment` for no other value.
+    ghost misaligned: { Self → Type 0 } = { λ _. ⊤ };
+
     /// Appends the text of the value to `sink`, or leaves `sink` as it was.
     fn encode<A: Allocator>(&self, sink: &mut Vec<u8, A>) -> Result<(), EncodeError>
         ensures ok { OnOk result (IsSomeAnd (text self.now) (λ t. sink.new.items ≡ sink.old.items ++ t)) }
         ensures too_long { IsErrOf result EncodeError.TooLong → IsNone (text self.now) }
         ensures alignment { IsErrOf result EncodeError.Alignment → IsNone (text self.now) }
+        ensures misaligned { IsErrOf result EncodeError.Alignment → misaligned self.now }
         ensures err { OnErr result (sink.new.items ≡ sink.old.items) };
 }
 
 /// An unsigned LEB128 number of 1 to 5 bytes (Core 3.0, 5.2.2).
 impl Encode for u32 {
     ghost text = { λ n. Some (unsigned_text n) };
+
+    ghost misaligned = { λ _. ⊥ };
 
     fn encode<A: Allocator>(&self, sink: &mut Vec<u8, A>) -> Result<(), EncodeError> {
         sink.reserve(5)?;
@@ -66,6 +72,8 @@ impl Encode for u32 {
 impl Encode for u64 {
     ghost text = { λ n. Some (unsigned_text n) };
 
+    ghost misaligned = { λ _. ⊥ };
+
     fn encode<A: Allocator>(&self, sink: &mut Vec<u8, A>) -> Result<(), EncodeError> {
         sink.reserve(10)?;
         put_u64(sink, *self);
@@ -76,6 +84,8 @@ impl Encode for u64 {
 /// A signed LEB128 number of 1 to 5 bytes (Core 3.0, 5.2.2).
 impl Encode for i32 {
     ghost text = { λ z. Some (signed_text z) };
+
+    ghost misaligned = { λ _. ⊥ };
 
     fn encode<A: Allocator>(&self, sink: &mut Vec<u8, A>) -> Result<(), EncodeError> {
         sink.reserve(5)?;
@@ -88,6 +98,8 @@ impl Encode for i32 {
 impl Encode for i64 {
     ghost text = { λ z. Some (signed_text z) };
 
+    ghost misaligned = { λ _. ⊥ };
+
     fn encode<A: Allocator>(&self, sink: &mut Vec<u8, A>) -> Result<(), EncodeError> {
         sink.reserve(10)?;
         put_i64(sink, *self);
@@ -98,6 +110,8 @@ impl Encode for i64 {
 /// A length or a count, as a `u32`; past 4,294,967,295 it is refused by [`EncodeError::TooLong`].
 impl Encode for usize {
     ghost text = { λ n. usize_text n };
+
+    ghost misaligned = { λ _. ⊥ };
 
     fn encode<A: Allocator>(&self, sink: &mut Vec<u8, A>) -> Result<(), EncodeError> {
         let Ok(number) = u32::try_from(*self) else {
@@ -111,6 +125,8 @@ impl Encode for usize {
 impl<T: Encode> Encode for &T {
     ghost text = { λ value. T.text value.now };
 
+    ghost misaligned = { λ value. T.misaligned value.now };
+
     fn encode<A: Allocator>(&self, sink: &mut Vec<u8, A>) -> Result<(), EncodeError> {
         (**self).encode(sink)
     }
@@ -119,6 +135,8 @@ impl<T: Encode> Encode for &T {
 /// A zero byte for `None`, and a one before the text of a value.
 impl<T: Encode> Encode for Option<T> {
     ghost text = { option_text T.text };
+
+    ghost misaligned = { λ option. IsSomeAnd option T.misaligned };
 
     fn encode<A: Allocator>(&self, sink: &mut Vec<u8, A>) -> Result<(), EncodeError> {
         sink.reserve(1)?;

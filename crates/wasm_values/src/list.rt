@@ -1,5 +1,6 @@
 //! A list that owns its items. In contracts it is the items alone, without where they lie in memory.
-ghost use Rattle.std.specs.Prelude.{◌≡◌, ◌↔◌, List, [], length, IfOk, IsTrue};
+ghost use Rattle.std.specs.Prelude.{◌≡◌, ◌↔◌, List, [], length, IfOk, IfErr, IsTrue};
+ghost use Rattle.wasm_values.specs.declared.encode.EncodeError.TheVariants.{Memory};
 
 use crate::encode::EncodeError;
 use std::alloc::Global;
@@ -74,14 +75,16 @@ impl<T> Items<T> {
 impl<T: Copy> Items<T> {
     /// An equal list.
     pub fn try_clone(&self) -> Result<Items<T>, EncodeError>
-        ensures { IfOk result (λ list. list ≡ self.now) }
+        ensures ok { IfOk result (λ list. list ≡ self.now) }
+        ensures err { IfErr result (λ e. e ≡ Memory) }
     {
         Items::from_slice(self.allocator(), self.as_slice())
     }
 
     /// A list of the same items.
     pub fn from_slice(alloc: Global, items: &[T]) -> Result<Items<T>, EncodeError>
-        ensures { IfOk result (λ list. list ≡ items.now) }
+        ensures ok { IfOk result (λ list. list ≡ items.now) }
+        ensures err { IfErr result (λ e. e ≡ Memory) }
     {
         let items = Vec::from_slice(alloc, items)?;
         Ok(Items { items })

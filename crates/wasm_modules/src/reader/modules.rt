@@ -1,11 +1,12 @@
 //! Modules: a header, and then sections (Core 3.0, 5.5).
-ghost use Rattle.std.specs.Prelude.{◌≡◌, ◌++◌, ℕ, List, drop, map, IfOk, IfSome, IfNone};
+ghost use Rattle.std.specs.Prelude.{◌≡◌, ◌++◌, ℕ, List, drop, map, IfOk, IfErr, IfSome, IfNone};
 ghost use Rattle.std.specs.List.{AllByRecursion};
 ghost use Rattle.wasm_values.specs.Reading.{Reads, map_ok};
 ghost use Rattle.wasm_values.specs.Answers.{IsOrMemory, IfRefused, IsLongestFront};
 ghost use Rattle.wasm_values.specs.Encoding.{IsTextOrLonger};
 ghost use Rattle.wasm_modules.specs.Modules.{header, IsSection, SectionParts, SpellsModule, IsModuleFront, all_parts_of, module_text, parts_of, byte_list_at, section_at};
 ghost use Rattle.wasm_modules.specs.TypedModules.{TypedSection, IsTypedSection, framed, typed_module_text, Holds};
+ghost use Rattle.wasm_values.specs.declared.reader.cursor.Fault.TheVariants.{Malformed};
 
 use crate::raw::RawSection;
 use crate::wasm_core::Module;
@@ -81,6 +82,7 @@ pub(super) fn after_header(bytes: &[u8]) -> Option<&[u8]>
 #[tactic(auto, unfolding(crate::specs::Modules::byte_list_at))]
 fn read_byte_list<'a>(cursor: &mut Cursor<'a>) -> Result<&'a [u8], Fault>
     ensures reads { Reads byte_list_at cursor.old cursor.new (map_ok (λ body. body.now) result) }
+    ensures err { IfErr result (λ e. e ≡ Malformed) }
 {
     let size = cursor.u32()? as usize;
     cursor.take(size)
@@ -90,6 +92,7 @@ fn read_byte_list<'a>(cursor: &mut Cursor<'a>) -> Result<&'a [u8], Fault>
 #[tactic(auto, unfolding(crate::specs::Modules::section_at))]
 pub fn read_section<'a>(cursor: &mut Cursor<'a>) -> Result<RawSection<'a>, Fault>
     ensures reads { Reads section_at cursor.old cursor.new (map_ok parts_of result) }
+    ensures err { IfErr result (λ e. e ≡ Malformed) }
 {
     let id = cursor.byte()?;
     let body = read_byte_list(cursor)?;

@@ -27,6 +27,8 @@ fn put_field_type<A: Allocator>(bytes: &mut Vec<u8, A>, field: FieldType)
 impl Encode for FieldType {
     ghost text = { λ field. Some (field_type_text field) };
 
+    ghost misaligned = { λ _. ⊥ };
+
     fn encode<A: Allocator>(&self, sink: &mut Vec<u8, A>) -> Result<(), EncodeError> {
         sink.reserve(8)?;
         put_field_type(sink, *self);
@@ -38,7 +40,7 @@ impl Encode for FieldType {
 fn append_func<A: Allocator>(ty: &FuncType, sink: &mut Vec<u8, A>) -> Result<(), EncodeError>
     ensures ok { OnOk result (IsSomeAnd (func_encoding ty.now) (λ t. sink.new.items ≡ sink.old.items ++ t)) }
     ensures too_long { IsErrOf result EncodeError.TooLong → IsNone (func_encoding ty.now) }
-    ensures alignment { IsErrOf result EncodeError.Alignment → IsNone (func_encoding ty.now) }
+    ensures alignment { ¬ IsErrOf result EncodeError.Alignment }
     ensures kept { take (length sink.old.items) sink.new.items ≡ sink.old.items }
 {
     sink.reserve(1)?;
@@ -50,6 +52,8 @@ fn append_func<A: Allocator>(ty: &FuncType, sink: &mut Vec<u8, A>) -> Result<(),
 /// `0x60`, the parameters and the results (Core 3.0, 5.3.10).
 impl Encode for FuncType {
     ghost text = { func_encoding };
+
+    ghost misaligned = { λ _. ⊥ };
 
     fn encode<A: Allocator>(&self, sink: &mut Vec<u8, A>) -> Result<(), EncodeError> {
         let start = sink.len();
@@ -64,6 +68,8 @@ impl Encode for FuncType {
 /// `0x5F` and the fields (Core 3.0, 5.3.10).
 impl Encode for StructType {
     ghost text = { struct_encoding };
+
+    ghost misaligned = { λ _. ⊥ };
 
     fn encode<A: Allocator>(&self, sink: &mut Vec<u8, A>) -> Result<(), EncodeError> {
         let start = sink.len();
@@ -81,6 +87,8 @@ impl Encode for StructType {
 impl Encode for ArrayType {
     ghost text = { array_encoding };
 
+    ghost misaligned = { λ _. ⊥ };
+
     fn encode<A: Allocator>(&self, sink: &mut Vec<u8, A>) -> Result<(), EncodeError> {
         sink.reserve(9)?;
         sink.push_reserved(0x5e);
@@ -93,6 +101,8 @@ impl Encode for ArrayType {
 impl Encode for ContType {
     ghost text = { cont_encoding };
 
+    ghost misaligned = { λ _. ⊥ };
+
     fn encode<A: Allocator>(&self, sink: &mut Vec<u8, A>) -> Result<(), EncodeError> {
         sink.reserve(6)?;
         sink.push_reserved(0x5d);
@@ -104,6 +114,8 @@ impl Encode for ContType {
 /// The text of what it is made of (Core 3.0, 5.3.10).
 impl Encode for CompositeInnerType {
     ghost text = { inner_encoding };
+
+    ghost misaligned = { λ _. ⊥ };
 
     fn encode<A: Allocator>(&self, sink: &mut Vec<u8, A>) -> Result<(), EncodeError> {
         match self {
@@ -147,7 +159,7 @@ fn append_composite<A: Allocator>(
 ) -> Result<(), EncodeError>
     ensures ok { OnOk result (IsSomeAnd (composite_encoding ty.now) (λ t. sink.new.items ≡ sink.old.items ++ t)) }
     ensures too_long { IsErrOf result EncodeError.TooLong → IsNone (composite_encoding ty.now) }
-    ensures alignment { IsErrOf result EncodeError.Alignment → IsNone (composite_encoding ty.now) }
+    ensures alignment { ¬ IsErrOf result EncodeError.Alignment }
     ensures kept { take (length sink.old.items) sink.new.items ≡ sink.old.items }
 {
     sink.reserve(13)?;
@@ -158,6 +170,8 @@ fn append_composite<A: Allocator>(
 /// What it shares and describes, its descriptor, and what it is made of (Core 3.0, 5.3.10 and proposals).
 impl Encode for CompositeType {
     ghost text = { composite_encoding };
+
+    ghost misaligned = { λ _. ⊥ };
 
     fn encode<A: Allocator>(&self, sink: &mut Vec<u8, A>) -> Result<(), EncodeError> {
         let start = sink.len();
@@ -177,7 +191,7 @@ fn append_supertypes<A: Allocator>(
 ) -> Result<(), EncodeError>
     ensures ok { OnOk result (IsSomeAnd (supertypes_encoding is_final supertypes.now) (λ t. sink.new.items ≡ sink.old.items ++ t)) }
     ensures too_long { IsErrOf result EncodeError.TooLong → IsNone (supertypes_encoding is_final supertypes.now) }
-    ensures alignment { IsErrOf result EncodeError.Alignment → IsNone (supertypes_encoding is_final supertypes.now) }
+    ensures alignment { ¬ IsErrOf result EncodeError.Alignment }
     ensures kept { take (length sink.old.items) sink.new.items ≡ sink.old.items }
 {
     sink.reserve(1)?;
@@ -194,7 +208,7 @@ fn append_supertypes<A: Allocator>(
 fn append_sub<A: Allocator>(ty: &SubType, sink: &mut Vec<u8, A>) -> Result<(), EncodeError>
     ensures ok { OnOk result (IsSomeAnd (sub_encoding ty.now) (λ t. sink.new.items ≡ sink.old.items ++ t)) }
     ensures too_long { IsErrOf result EncodeError.TooLong → IsNone (sub_encoding ty.now) }
-    ensures alignment { IsErrOf result EncodeError.Alignment → IsNone (sub_encoding ty.now) }
+    ensures alignment { ¬ IsErrOf result EncodeError.Alignment }
     ensures kept { take (length sink.old.items) sink.new.items ≡ sink.old.items }
 {
     append_supertypes(ty.is_final, ty.supertype_idxs.as_slice(), sink)?;
@@ -205,6 +219,8 @@ fn append_sub<A: Allocator>(ty: &SubType, sink: &mut Vec<u8, A>) -> Result<(), E
 /// alone (Core 3.0, 5.3.11).
 impl Encode for SubType {
     ghost text = { sub_encoding };
+
+    ghost misaligned = { λ _. ⊥ };
 
     fn encode<A: Allocator>(&self, sink: &mut Vec<u8, A>) -> Result<(), EncodeError> {
         let start = sink.len();
@@ -219,6 +235,8 @@ impl Encode for SubType {
 /// `0x4E` and a list of subtypes, or one subtype (Core 3.0, 5.3.12).
 impl Encode for TypeEntry {
     ghost text = { entry_encoding };
+
+    ghost misaligned = { λ _. ⊥ };
 
     fn encode<A: Allocator>(&self, sink: &mut Vec<u8, A>) -> Result<(), EncodeError> {
         let types = match self {

@@ -119,6 +119,8 @@ pub fn put_storage_type<A: Allocator>(bytes: &mut Vec<u8, A>, ty: StorageType)
 impl Encode for AbstractHeapType {
     ghost text = { λ ty. Some (abstract_type_text ty) };
 
+    ghost misaligned = { λ _. ⊥ };
+
     fn encode<A: Allocator>(&self, sink: &mut Vec<u8, A>) -> Result<(), EncodeError> {
         sink.reserve(1)?;
         sink.push_reserved(abstract_byte(*self));
@@ -129,6 +131,8 @@ impl Encode for AbstractHeapType {
 /// A byte or two, or an index as an s33, or `0x62` and an index (Core 3.0, 5.3.3).
 impl Encode for HeapType {
     ghost text = { λ ty. Some (heap_type_text ty) };
+
+    ghost misaligned = { λ _. ⊥ };
 
     fn encode<A: Allocator>(&self, sink: &mut Vec<u8, A>) -> Result<(), EncodeError> {
         sink.reserve(6)?;
@@ -141,6 +145,8 @@ impl Encode for HeapType {
 impl Encode for RefType {
     ghost text = { λ ty. Some (ref_type_text ty) };
 
+    ghost misaligned = { λ _. ⊥ };
+
     fn encode<A: Allocator>(&self, sink: &mut Vec<u8, A>) -> Result<(), EncodeError> {
         sink.reserve(7)?;
         put_ref_type(sink, *self);
@@ -152,6 +158,8 @@ impl Encode for RefType {
 impl Encode for ValType {
     ghost text = { λ ty. Some (val_type_text ty) };
 
+    ghost misaligned = { λ _. ⊥ };
+
     fn encode<A: Allocator>(&self, sink: &mut Vec<u8, A>) -> Result<(), EncodeError> {
         sink.reserve(7)?;
         put_val_type(sink, *self);
@@ -162,6 +170,8 @@ impl Encode for ValType {
 /// One byte where it is packed, else a value type (Core 3.0, 5.3.8).
 impl Encode for StorageType {
     ghost text = { λ ty. Some (storage_type_text ty) };
+
+    ghost misaligned = { λ _. ⊥ };
 
     fn encode<A: Allocator>(&self, sink: &mut Vec<u8, A>) -> Result<(), EncodeError> {
         sink.reserve(7)?;

@@ -1,7 +1,8 @@
 //! Heap, reference, value and storage types (Core 3.0, 5.3.3 to 5.3.8).
-ghost use Rattle.std.specs.Prelude.{◌≡◌};
+ghost use Rattle.std.specs.Prelude.{◌≡◌, IfErr};
 ghost use Rattle.wasm_values.specs.Reading.{Reads};
 ghost use Rattle.wasm_types.specs.HeapTypes.{abstract_of, abstract_at, heap_type_at, ref_type_at, val_type_at, storage_type_at, number_type_of, packed_of};
+ghost use Rattle.wasm_values.specs.declared.reader.cursor.Fault.TheVariants.{Malformed};
 
 use crate::types::{AbstractHeapType, HeapType, RefType, StorageType, ValType};
 use wasm_values::reader::cursor::{Cursor, Fault};
@@ -61,6 +62,7 @@ fn packed_of(byte: u8) -> Option<StorageType>
 #[tactic(auto, unfolding(crate::specs::HeapTypes::abstract_at))]
 fn read_abstract_heap_type(cursor: &mut Cursor<'_>) -> Result<AbstractHeapType, Fault>
     ensures reads { Reads abstract_at cursor.old cursor.new result }
+    ensures err { IfErr result (λ e. e ≡ Malformed) }
 {
     let byte = cursor.byte()?;
     abstract_of(byte).ok_or(Fault::Malformed)
@@ -70,6 +72,7 @@ fn read_abstract_heap_type(cursor: &mut Cursor<'_>) -> Result<AbstractHeapType, 
 #[tactic(auto, unfolding(crate::specs::HeapTypes::heap_type_at))]
 pub fn read_heap_type(cursor: &mut Cursor<'_>) -> Result<HeapType, Fault>
     ensures reads { Reads heap_type_at cursor.old cursor.new result }
+    ensures err { IfErr result (λ e. e ≡ Malformed) }
 {
     let first = cursor.peek()?;
     if first == 0x65 {
@@ -92,6 +95,7 @@ pub fn read_heap_type(cursor: &mut Cursor<'_>) -> Result<HeapType, Fault>
 #[tactic(auto, unfolding(crate::specs::HeapTypes::ref_type_at))]
 pub fn read_ref_type(cursor: &mut Cursor<'_>) -> Result<RefType, Fault>
     ensures reads { Reads ref_type_at cursor.old cursor.new result }
+    ensures err { IfErr result (λ e. e ≡ Malformed) }
 {
     let first = cursor.peek()?;
     if first == 0x63 {
@@ -123,6 +127,7 @@ pub fn read_ref_type(cursor: &mut Cursor<'_>) -> Result<RefType, Fault>
 #[tactic(auto, unfolding(crate::specs::HeapTypes::val_type_at))]
 pub fn read_val_type(cursor: &mut Cursor<'_>) -> Result<ValType, Fault>
     ensures reads { Reads val_type_at cursor.old cursor.new result }
+    ensures err { IfErr result (λ e. e ≡ Malformed) }
 {
     let first = cursor.peek()?;
     if (0x7b..=0x7f).contains(&first) {
@@ -136,6 +141,7 @@ pub fn read_val_type(cursor: &mut Cursor<'_>) -> Result<ValType, Fault>
 #[tactic(auto, unfolding(crate::specs::HeapTypes::storage_type_at))]
 pub fn read_storage_type(cursor: &mut Cursor<'_>) -> Result<StorageType, Fault>
     ensures reads { Reads storage_type_at cursor.old cursor.new result }
+    ensures err { IfErr result (λ e. e ≡ Malformed) }
 {
     let first = cursor.peek()?;
     if (0x77..=0x78).contains(&first) {

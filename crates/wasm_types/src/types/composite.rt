@@ -1,6 +1,7 @@
 //! Composite types, subtypes and the entries of a type section (Core 3.0, 5.3.9 to 5.3.12).
-ghost use Rattle.std.specs.Prelude.{◌≡◌, IfOk};
+ghost use Rattle.std.specs.Prelude.{◌≡◌, IfOk, IfErr};
 ghost use Rattle.std.specs.Iterator.{Drains, IsFinite};
+ghost use Rattle.wasm_values.specs.declared.encode.EncodeError.TheVariants.{Memory};
 
 use super::value::{StorageType, ValType};
 use std::alloc::Global;
@@ -34,7 +35,8 @@ pub struct StructType {
 impl StructType {
     /// A structure of these fields.
     pub fn new(alloc: Global, fields: &[FieldType]) -> Result<StructType, EncodeError>
-        ensures { IfOk result (λ ty. ty.fields ≡ fields.now) }
+        ensures ok { IfOk result (λ ty. ty.fields ≡ fields.now) }
+        ensures err { IfErr result (λ e. e ≡ Memory) }
     {
         let fields = Items::from_slice(alloc, fields)?;
         Ok(StructType { fields })
@@ -59,6 +61,7 @@ impl FuncType {
         requires results { R.can_next results × IsFinite (R.remaining results) }
         ensures params { IfOk result (λ ty. Drains P.next_gives params ty.params) }
         ensures results { IfOk result (λ ty. Drains R.next_gives results ty.results) }
+        ensures err { IfErr result (λ e. e ≡ Memory) }
     {
         let params: Vec<ValType> = params.collect(alloc)?;
         let results: Vec<ValType> = results.collect(alloc)?;
@@ -77,7 +80,8 @@ impl FuncType {
 
     /// An equal function type.
     pub fn try_clone(&self) -> Result<FuncType, EncodeError>
-        ensures { IfOk result (λ ty. ty ≡ self.now) }
+        ensures ok { IfOk result (λ ty. ty ≡ self.now) }
+        ensures err { IfErr result (λ e. e ≡ Memory) }
     {
         Ok(FuncType {
             params: self.params.try_clone()?,

@@ -1,5 +1,6 @@
 //! Copies of the types that own lists.
-ghost use Rattle.std.specs.Prelude.{◌≡◌, IfOk};
+ghost use Rattle.std.specs.Prelude.{◌≡◌, IfOk, IfErr};
+ghost use Rattle.wasm_values.specs.declared.encode.EncodeError.TheVariants.{Memory};
 
 use super::composite::{
     CompositeInnerType, CompositeType, FuncType, StructType, SubType, TypeEntry,
@@ -11,7 +12,8 @@ use wasm_values::list::Items;
 impl StructType {
     /// An equal structure.
     pub fn try_clone(&self) -> Result<StructType, EncodeError>
-        ensures { IfOk result (λ ty. ty ≡ self.now) }
+        ensures ok { IfOk result (λ ty. ty ≡ self.now) }
+        ensures err { IfErr result (λ e. e ≡ Memory) }
     {
         let fields = self.fields.try_clone()?;
         Ok(StructType { fields })
@@ -21,7 +23,8 @@ impl StructType {
 impl CompositeInnerType {
     /// An equal type.
     pub fn try_clone(&self) -> Result<CompositeInnerType, EncodeError>
-        ensures { IfOk result (λ ty. ty ≡ self.now) }
+        ensures ok { IfOk result (λ ty. ty ≡ self.now) }
+        ensures err { IfErr result (λ e. e ≡ Memory) }
     {
         Ok(match self {
             CompositeInnerType::Func(ty) => CompositeInnerType::Func(ty.try_clone()?),
@@ -35,7 +38,8 @@ impl CompositeInnerType {
 impl CompositeType {
     /// An equal type.
     pub fn try_clone(&self) -> Result<CompositeType, EncodeError>
-        ensures { IfOk result (λ ty. ty ≡ self.now) }
+        ensures ok { IfOk result (λ ty. ty ≡ self.now) }
+        ensures err { IfErr result (λ e. e ≡ Memory) }
     {
         Ok(CompositeType {
             inner: self.inner.try_clone()?,
@@ -49,7 +53,8 @@ impl CompositeType {
 impl SubType {
     /// An equal type.
     pub fn try_clone(&self) -> Result<SubType, EncodeError>
-        ensures { IfOk result (λ ty. ty ≡ self.now) }
+        ensures ok { IfOk result (λ ty. ty ≡ self.now) }
+        ensures err { IfErr result (λ e. e ≡ Memory) }
     {
         Ok(SubType {
             is_final: self.is_final,
@@ -62,7 +67,8 @@ impl SubType {
 impl TypeEntry {
     /// An equal entry.
     pub fn try_clone(&self) -> Result<TypeEntry, EncodeError>
-        ensures { IfOk result (λ entry. entry ≡ self.now) }
+        ensures ok { IfOk result (λ entry. entry ≡ self.now) }
+        ensures err { IfErr result (λ e. e ≡ Memory) }
     {
         Ok(match self {
             TypeEntry::Sub(ty) => TypeEntry::Sub(ty.try_clone()?),
@@ -76,7 +82,8 @@ impl TypeEntry {
 
 /// Copies of the types of a group.
 fn copies_of(alloc: Global, types: &[SubType]) -> Result<Vec<SubType>, EncodeError>
-    ensures { IfOk result (λ copies. copies.items ≡ types.now) }
+    ensures ok { IfOk result (λ copies. copies.items ≡ types.now) }
+    ensures err { IfErr result (λ e. e ≡ Memory) }
 {
     let mut copies = Vec::with_capacity(alloc, types.len())?;
     for ty in types {

@@ -1,6 +1,6 @@
 //! Lists from iterators that tell how many items are to come (Core 3.0, 5.1.3).
 ghost use Rattle.std.specs.Prelude.{◌≡◌, OnOk, IsErrOf, length, take};
-ghost use Rattle.wasm_values.specs.Iterators.{IsExact, AppendsItems, HasNoText};
+ghost use Rattle.wasm_values.specs.Iterators.{IsExact, AppendsItems, HasNoText, GivesMisaligned};
 
 use super::{Encode, EncodeError};
 use std::alloc::Allocator;
@@ -16,6 +16,7 @@ pub fn append_items<T: Encode + Drop, I: ExactSizeIterator<Item = T>, A: Allocat
     ensures ok { OnOk result (AppendsItems T.text I.next_gives items sink.old.items sink.new.items) }
     ensures too_long { IsErrOf result EncodeError.TooLong → HasNoText T.text I.next_gives I.remaining items }
     ensures alignment { IsErrOf result EncodeError.Alignment → HasNoText T.text I.next_gives I.remaining items }
+    ensures misaligned { IsErrOf result EncodeError.Alignment → GivesMisaligned T.misaligned I.next_gives items }
     ensures kept { take (length sink.old.items) sink.new.items ≡ sink.old.items }
 {
     items.len().encode(sink)?;

@@ -1,5 +1,6 @@
 //! Lists, bytes and texts, after their number (Core 3.0, 5.1.3 and 5.2.4).
 ghost use Rattle.std.specs.Prelude.{◌≡◌, ◌++◌, OnOk, OnErr, IsErrOf, IsSomeAnd, IsNone, length, take};
+ghost use Rattle.std.specs.List.{Any};
 ghost use Rattle.wasm_values.specs.Encoding.{byte_list_text, list_text};
 
 use super::{Encode, EncodeError};
@@ -15,6 +16,7 @@ pub fn encode_list<T: Encode, A: Allocator>(
     ensures ok { OnOk result (IsSomeAnd (list_text T.text items.now) (λ t. sink.new.items ≡ sink.old.items ++ t)) }
     ensures too_long { IsErrOf result EncodeError.TooLong → IsNone (list_text T.text items.now) }
     ensures alignment { IsErrOf result EncodeError.Alignment → IsNone (list_text T.text items.now) }
+    ensures misaligned { IsErrOf result EncodeError.Alignment → Any T.misaligned items.now }
     ensures err { OnErr result (sink.new.items ≡ sink.old.items) }
 {
     let start = sink.len();
@@ -33,6 +35,7 @@ fn append_list<T: Encode, A: Allocator>(
     ensures ok { OnOk result (IsSomeAnd (list_text T.text items.now) (λ t. sink.new.items ≡ sink.old.items ++ t)) }
     ensures too_long { IsErrOf result EncodeError.TooLong → IsNone (list_text T.text items.now) }
     ensures alignment { IsErrOf result EncodeError.Alignment → IsNone (list_text T.text items.now) }
+    ensures misaligned { IsErrOf result EncodeError.Alignment → Any T.misaligned items.now }
     ensures kept { take (length sink.old.items) sink.new.items ≡ sink.old.items }
 {
     items.len().encode(sink)?;
@@ -48,7 +51,7 @@ fn append_list<T: Encode, A: Allocator>(
 pub fn encode_bytes<A: Allocator>(bytes: &[u8], sink: &mut Vec<u8, A>) -> Result<(), EncodeError>
     ensures ok { OnOk result (IsSomeAnd (byte_list_text bytes.now) (λ t. sink.new.items ≡ sink.old.items ++ t)) }
     ensures too_long { IsErrOf result EncodeError.TooLong → IsNone (byte_list_text bytes.now) }
-    ensures alignment { IsErrOf result EncodeError.Alignment → IsNone (byte_list_text bytes.now) }
+    ensures alignment { ¬ IsErrOf result EncodeError.Alignment }
     ensures err { OnErr result (sink.new.items ≡ sink.old.items) }
 {
     let start = sink.len();
@@ -66,7 +69,7 @@ pub fn encode_bytes<A: Allocator>(bytes: &[u8], sink: &mut Vec<u8, A>) -> Result
 pub fn encode_str<A: Allocator>(text: &str, sink: &mut Vec<u8, A>) -> Result<(), EncodeError>
     ensures ok { OnOk result (IsSomeAnd (byte_list_text text.now) (λ t. sink.new.items ≡ sink.old.items ++ t)) }
     ensures too_long { IsErrOf result EncodeError.TooLong → IsNone (byte_list_text text.now) }
-    ensures alignment { IsErrOf result EncodeError.Alignment → IsNone (byte_list_text text.now) }
+    ensures alignment { ¬ IsErrOf result EncodeError.Alignment }
     ensures err { OnErr result (sink.new.items ≡ sink.old.items) }
 {
     encode_bytes(text.as_bytes(), sink)

@@ -75,6 +75,7 @@ impl<'a> Cursor<'a> {
     /// One byte.
     pub fn byte(&mut self) -> Result<u8, Fault>
         ensures reads { Reads byte_at self.old self.new result }
+        ensures err { IfErr result (λ e. e ≡ Malformed) }
     {
         if self.position == self.bytes.len() {
             return Err(Fault::Malformed);
@@ -86,7 +87,8 @@ impl<'a> Cursor<'a> {
 
     /// The byte that comes next, which is left there.
     pub fn peek(&self) -> Result<u8, Fault>
-        ensures { Sees self.now result }
+        ensures sees { Sees self.now result }
+        ensures err { IfErr result (λ e. e ≡ Malformed) }
     {
         if self.position == self.bytes.len() {
             return Err(Fault::Malformed);
@@ -113,6 +115,7 @@ impl<'a> Cursor<'a> {
     fn digits(&mut self, most: u32) -> Result<Digits, Fault>
         requires { most ≤ 10 }
         ensures reads { ReadsDigits most self.old self.new result }
+        ensures err { IfErr result (λ e. e ≡ Malformed) }
         ensures few { IfOk result (λ d. d.unsigned < 128 ^ 10) }
         ensures place { IfOk result (λ d. d.place ≤ 128 ^ 10) }
     {
@@ -137,6 +140,7 @@ impl<'a> Cursor<'a> {
     fn signed(&mut self, most: u32) -> Result<i128, Fault>
         requires { most ≤ 10 }
         ensures reads { Reads (number_at most (λ digits. Some (signed digits))) self.old self.new result }
+        ensures err { IfErr result (λ e. e ≡ Malformed) }
     {
         let digits = self.digits(most)?;
         let unsigned = digits.unsigned as i128;
@@ -151,6 +155,7 @@ impl<'a> Cursor<'a> {
     #[tactic(auto, unfolding(crate::specs::Numbers::u32_at))]
     pub fn u32(&mut self) -> Result<u32, Fault>
         ensures reads { Reads u32_at self.old self.new result }
+        ensures err { IfErr result (λ e. e ≡ Malformed) }
     {
         let digits = self.digits(5)?;
         u32::try_from(digits.unsigned).map_err(|_| Fault::Malformed)
@@ -160,6 +165,7 @@ impl<'a> Cursor<'a> {
     #[tactic(auto, unfolding(crate::specs::Numbers::u64_at))]
     pub fn u64(&mut self) -> Result<u64, Fault>
         ensures reads { Reads u64_at self.old self.new result }
+        ensures err { IfErr result (λ e. e ≡ Malformed) }
     {
         let digits = self.digits(10)?;
         u64::try_from(digits.unsigned).map_err(|_| Fault::Malformed)
@@ -169,6 +175,7 @@ impl<'a> Cursor<'a> {
     #[tactic(auto, unfolding(crate::specs::Numbers::s32_at))]
     pub fn s32(&mut self) -> Result<i32, Fault>
         ensures reads { Reads s32_at self.old self.new result }
+        ensures err { IfErr result (λ e. e ≡ Malformed) }
     {
         let value = self.signed(5)?;
         i32::try_from(value).map_err(|_| Fault::Malformed)
@@ -178,6 +185,7 @@ impl<'a> Cursor<'a> {
     #[tactic(auto, unfolding(crate::specs::Numbers::s64_at))]
     pub fn s64(&mut self) -> Result<i64, Fault>
         ensures reads { Reads s64_at self.old self.new result }
+        ensures err { IfErr result (λ e. e ≡ Malformed) }
     {
         let value = self.signed(10)?;
         i64::try_from(value).map_err(|_| Fault::Malformed)
@@ -187,6 +195,7 @@ impl<'a> Cursor<'a> {
     #[tactic(auto, unfolding(crate::specs::Numbers::index_at))]
     pub fn index(&mut self) -> Result<u32, Fault>
         ensures reads { Reads index_at self.old self.new result }
+        ensures err { IfErr result (λ e. e ≡ Malformed) }
     {
         let value = self.signed(5)?;
         u32::try_from(value).map_err(|_| Fault::Malformed)
