@@ -3,4 +3,5 @@ pub mod OperandLaws
 pub mod RawLaws
 pub mod OpcodeLaws
 pub mod InstructionLaws
+pub mod LengthLaws
 mod KeptBytes

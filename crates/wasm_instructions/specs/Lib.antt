@@ -2,5 +2,6 @@ pub mod Opcodes
 pub mod MemArgs
 pub mod Operands
 pub mod Instructions
+pub mod Lengths
 pub mod Sink
 pub mod ListCalls
