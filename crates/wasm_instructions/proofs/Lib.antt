@@ -3,3 +3,4 @@ pub mod OperandLaws
 pub mod RawLaws
 pub mod OpcodeLaws
 pub mod InstructionLaws
+pub mod LengthLaws

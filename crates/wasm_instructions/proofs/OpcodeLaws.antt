@@ -1,8 +1,10 @@
 -- The laws of the table of opcodes.
-use Rattle.std.proofs.Common.{◌≡◌, ℕ, zero, suc, ◌+◌, ◌<◌, ◌≤◌, Bool, true, false, leb, ltb, ◌&&◌, IsTrue, List, [], ◌∷◌, length, get_or, Option, Some, None, refl, sym, ap, ◌∙◌, inl, inr, arith}
-use Rattle.std.proofs.lemmas.Bool.{ltb-true, lt-leb, cases_lt}
+use Rattle.std.proofs.Common.{◌≡◌, ℕ, zero, suc, ◌+◌, ◌<◌, ◌≤◌, Bool, true, false, leb, ltb, ◌&&◌, IsTrue, List, [], ◌∷◌, length, get_or, Option, Some, None, refl, sym, ap, subst, ◌∙◌, cond, inl, inr, arith}
+use Rattle.std.proofs.lemmas.Bool.{ltb-true, leb-true, lt-leb, cases_lt}
 use Rattle.std.proofs.Math.Bool.{and-false}
 use Rattle.wasm_instructions.specs.declared.table.opcode.Kind.{Kind}
+use Rattle.wasm_instructions.specs.declared.table.opcode.Kind.TheVariants as kinds
+use Rattle.wasm_values.proofs.Laws.{some_is}
 use Rattle.wasm_instructions.specs.Opcodes.{Range, kind_among, kinds_from, end_below, IsTable}
 
 kinds_from-at : (rs : List Range) (first count i : ℕ) → i < count → get_or (kinds_from rs first count) i None ≡ kind_among rs (first + i)
@@ -33,3 +35,30 @@ in_table rs end number k h e = elim (cases_lt number end) [
   | inl lt ↦ lt
   | inr le ↦ let none = past_end rs end number h le in absurd cc
 ]
+
+-- ---- branches on casts
+
+-- the last number of a range of branches on casts is below 128
+abbrev pub is_low_cast : ℕ → Kind → Bool
+is_low_cast last kinds.Cast = ltb last 128
+is_low_cast last k = true
+
+abbrev pub casts_below : List Range → Bool
+casts_below [] = true
+casts_below (r ∷ rs) = is_low_cast r.last r.kind && casts_below rs
+
+is_low : (k : Kind) (last n : ℕ) → k ≡ kinds.Cast → is_low_cast last k ≡ true → n ≤ last → n < 128
+is_low k last n is low le =
+    let test : is_low_cast last kinds.Cast ≡ true = subst (λ (k : Kind). is_low_cast last k ≡ true) is low in
+    omega (arith, ltb-true last 128 test)
+
+pub cast_is_low : (rs : List Range) (n : ℕ) → IsTrue (casts_below rs) → kind_among rs n ≡ Some kinds.Cast → n < 128
+cast_is_low [] n h e = absurd cc
+cast_is_low (r ∷ rs) n h e = by (leb r.first n) (leb n r.last) refl (cast_is_low rs n p.1) e where
+  p : (is_low_cast r.last r.kind ≡ true) × IsTrue (casts_below rs)
+  p = both (is_low_cast r.last r.kind) (casts_below rs) h
+
+  by : (s t : Bool) → leb n r.last ≡ t → (kind_among rs n ≡ Some kinds.Cast → n < 128) → cond (s && t) (Some r.kind) (kind_among rs n) ≡ Some kinds.Cast → n < 128
+  by true true within later e = is_low r.kind r.last n (some_is r.kind kinds.Cast e) p.0 (leb-true n r.last within)
+  by true false within later e = later e
+  by false t within later e = later e

@@ -2,3 +2,4 @@ pub mod Opcodes
 pub mod MemArgs
 pub mod Operands
 pub mod Instructions
+pub mod Lengths

@@ -7,6 +7,7 @@ ghost use Rattle.std.specs.Prelude.{◌≡◌, ◌++◌, ℕ, List, IsOk, IfOk, 
 ghost use Rattle.std.specs.Borrow.{sem};
 ghost use Rattle.wasm_sink.specs.Sink.{IsUnchangedAtErr, IsSameSink, AppendsCall, AppendsCalls, HasRoom, IsCallRefusal, IsRefusalOfOne};
 ghost use Rattle.wasm_instructions.specs.Instructions.{HasNoList, SpellsInstruction, SpellsInstructions, instruction_text, instructions_text};
+ghost use Rattle.wasm_instructions.specs.Lengths.{HasNoLongList, IsShortText};
 ghost use Rattle.wasm_values.specs.Encoding.{IsTextOrLonger};
 
 mod aggregates;
@@ -51,6 +52,8 @@ impl<'a, A: Allocator> InstructionSink<'a, A> {
         ensures room { HasRoom self.entry → HasNoList call.now.operands → IsOk result }
         // The text spells the call.
         ensures spells { IfOk result (λ _. SpellsInstruction (instruction_text call.now) call.now) }
+        // A call without a list, or with a list of one type, has from 1 to 20 bytes.
+        ensures length { HasNoLongList call.now.operands → IsShortText (instruction_text call.now) }
     {
         call.is_spelled();
         self.emit_operands(call.op(), call.operands())

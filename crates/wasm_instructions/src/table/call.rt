@@ -1,6 +1,7 @@
 //! Calls: an opcode with operands of its kind.
 ghost use Rattle.std.specs.Prelude.{◌≡◌, IfOk, IfErr, IsOk, IsTrue, ◌↔◌};
 ghost use Rattle.wasm_instructions.specs.Instructions.{IsAligned, IsCall, IsCounted, ItemsInRange, IsShort, SpellsInstruction, call, instruction_text, kind_of};
+ghost use Rattle.wasm_instructions.specs.Lengths.{HasNoLongList, IsShortText};
 
 use super::opcode::{Kind, Opcode};
 use super::ranges::all_in_range;
@@ -207,10 +208,12 @@ impl Call {
         self.op
     }
 
-    /// The text of a call spells it, where no list is too long. Nothing is done.
+    /// The text of a call spells it, where no list is too long, and without a list it has at most 20 bytes. Nothing is
+    /// done.
     pub fn is_spelled(&self)
         ensures spelled { IsCounted self.now.operands → SpellsInstruction (instruction_text self.now) self.now }
         ensures aligned { IsAligned self.now.operands }
+        ensures short { HasNoLongList self.now.operands → IsShortText (instruction_text self.now) }
     {
         self.operands.items_in_range();
     }

@@ -1,0 +1,14 @@
+-- How long calls are.
+use Rattle.std.specs.Prelude.{◌≡◌, ℕ, ◌≤◌, List, length}
+use Rattle.wasm_instructions.specs.declared.table.call.Operands.{Operands}
+use Rattle.wasm_instructions.specs.declared.table.call.Operands.TheVariants as operands
+use Rattle.wasm_instructions.specs.Instructions.{HasNoList}
+
+-- none of the operands is a list, but for a list of one type
+abbrev pub HasNoLongList : Operands → Type 0
+HasNoLongList (operands.Types types) = length types ≡ 1
+HasNoLongList o = HasNoList o
+
+-- from 1 to 20 bytes
+abbrev pub IsShortText : List ℕ → Type 0
+IsShortText text = (1 ≤ length text) × (length text ≤ 20)
