@@ -4,3 +4,4 @@ pub mod RawLaws
 pub mod OpcodeLaws
 pub mod InstructionLaws
 mod KeptBytes
+mod ChainLaws
