@@ -1,1 +1,2 @@
 mod KeptBytes
+pub mod ChainLaws

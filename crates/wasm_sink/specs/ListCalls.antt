@@ -6,8 +6,8 @@ use Rattle.wasm_instructions.specs.declared.table.opcode.Opcode.{Opcode}
 use Rattle.wasm_instructions.specs.declared.table.call.Operands.{Operands}
 use Rattle.wasm_values.specs.declared.encode.EncodeError.{EncodeError}
 use Rattle.wasm_values.specs.declared.encode.EncodeError.TheVariants as errors
-use Rattle.wasm_instructions.specs.Instructions.{call, instruction_text}
-use Rattle.wasm_sink.specs.Sink.{written}
+use Rattle.wasm_instructions.specs.Instructions.{call}
+use Rattle.wasm_sink.specs.Sink.{GoesOn}
 
 module _ {S A : Type 0} (gives : S → Option A → S → Type 0) where
   -- the new bytes are the old ones and then the text of the list that the iterator gives, which a u32 counts
@@ -16,7 +16,7 @@ module _ {S A : Type 0} (gives : S → Option A → S → Type 0) where
 
   -- the sink goes on with the text of the call with the list that the iterator gives
   abbrev pub WritesItems : {Z : Type 0} → InstructionSink Z → Opcode → (List A → Operands) → S → Result (InstructionSink Z) EncodeError → Type 0
-  WritesItems s op operands items r = IfOk r (λ t. AppendsAll items (λ xs. instruction_text (call op (operands xs))) (written s) (written t))
+  WritesItems s op operands items r = IfOk r (λ t. (xs : List A) × Drains gives items xs × GoesOn s (call op (operands xs)) t × (length xs < 2 ^ 32))
 
 -- memory ran out, or there are more items than a u32 counts
 abbrev pub IsRefusedList : ℕ → EncodeError → Type 0
@@ -27,4 +27,4 @@ IsRefusedList count errors.Alignment = ⊥
 module _ {Z : Type 0} where
   -- the sink goes on with the text of a call with a list of so many items, or tells why not
   abbrev pub WritesList : InstructionSink Z → Opcode → Operands → ℕ → Result (InstructionSink Z) EncodeError → Type 0
-  WritesList s op operands count r = MatchResult r (λ t. (written t ≡ written s ++ instruction_text (call op operands)) × (count < 2 ^ 32)) (IsRefusedList count)
+  WritesList s op operands count r = MatchResult r (λ t. GoesOn s (call op operands) t × (count < 2 ^ 32)) (IsRefusedList count)

@@ -1,6 +1,6 @@
 -- What the instruction sink promises. The sink lends a list of bytes, so what holds of that list at an `Err` is said
 -- of the loan's end.
-use Rattle.std.specs.Prelude.{ℕ, Result, List, ◌≡◌, ◌++◌, ◌+◌, ◌≤◌, IfOk, MatchResult}
+use Rattle.std.specs.Prelude.{ℕ, Result, List, [], ◌∷◌, ◌≡◌, ◌++◌, ◌+◌, ◌≤◌, IfOk, MatchResult}
 use Rattle.std.specs.List.{AllByRecursion}
 use Rattle.std.specs.Borrow.{RestsIfErr, Fml, u8, RattleType}
 use Rattle.std.specs.Vec.{vec_len, vec_capacity}
@@ -40,21 +40,27 @@ module _ {Z : Type 0} where
   abbrev pub IsSameSink : InstructionSink Z → Result (InstructionSink Z) EncodeError → Type 0
   IsSameSink s r = IfOk r (λ t. t.bytes.ghost_name ≡ s.bytes.ghost_name)
 
-  -- the sink goes on with this text at its end, or memory ran out
-  abbrev pub Appends : InstructionSink Z → List ℕ → Result (InstructionSink Z) EncodeError → Type 0
-  Appends s text r = MatchResult r (λ t. written t ≡ written s ++ text) (λ e. e ≡ errors.Memory)
+  -- the sink goes on with the text of this call at its end
+  abbrev pub GoesOn : InstructionSink Z → Instruction → InstructionSink Z → Type 0
+  GoesOn s c t = written t ≡ written s ++ instruction_text c
+
+  -- A chain of calls: the sink goes on with the first, the sink that comes back with the second, and so on. The clause
+  -- `wrote` of a method or of `write_call` gives such a step at `Ok`.
+  abbrev pub Chain : InstructionSink Z → List Instruction → InstructionSink Z → Type 0
+  Chain s [] t = written t ≡ written s
+  Chain s (c ∷ calls) t = (next : InstructionSink Z) × GoesOn s c next × Chain next calls t
 
   -- the sink goes on with the text of this call at its end, or memory ran out
   abbrev pub Writes : InstructionSink Z → Opcode → Operands → Result (InstructionSink Z) EncodeError → Type 0
-  Writes s op operands r = Appends s (instruction_text (call op operands)) r
+  Writes s op operands r = MatchResult r (GoesOn s (call op operands)) (λ e. e ≡ errors.Memory)
 
   -- the sink goes on with the text of this call at its end, where it has one, or tells why not
   abbrev pub WritesText : InstructionSink Z → Opcode → Operands → Result (InstructionSink Z) EncodeError → Type 0
-  WritesText s op operands r = MatchResult r (λ t. (written t ≡ written s ++ instruction_text (call op operands)) × HasText operands) (IsRefusal operands)
+  WritesText s op operands r = MatchResult r (λ t. GoesOn s (call op operands) t × HasText operands) (IsRefusal operands)
 
   -- the sink goes on with the text of this call at its end, or tells why not
   abbrev pub AppendsCall : InstructionSink Z → Instruction → Result (InstructionSink Z) EncodeError → Type 0
-  AppendsCall s c r = MatchResult r (λ t. (written t ≡ written s ++ instruction_text c) × IsCounted c.operands) (IsCallRefusal c)
+  AppendsCall s c r = MatchResult r (λ t. GoesOn s c t × IsCounted c.operands) (IsCallRefusal c)
 
   -- the sink goes on with the texts of these calls at its end, or tells why not
   abbrev pub AppendsCalls : InstructionSink Z → List Instruction → Result (InstructionSink Z) EncodeError → Type 0

@@ -5,7 +5,7 @@
 //! as it was before the call.
 ghost use Rattle.std.specs.Prelude.{◌≡◌, ◌++◌, ℕ, List, IsOk, IfOk, IfErr, OnOk, OnErr};
 ghost use Rattle.std.specs.Borrow.{sem};
-ghost use Rattle.wasm_sink.specs.Sink.{IsUnchangedAtErr, IsSameSink, AppendsCall, AppendsCalls, HasRoom, IsCallRefusal, IsRefusalOfOne};
+ghost use Rattle.wasm_sink.specs.Sink.{IsUnchangedAtErr, IsSameSink, AppendsCall, AppendsCalls, Chain, written, HasRoom, IsCallRefusal, IsRefusalOfOne};
 ghost use Rattle.wasm_instructions.specs.Instructions.{HasNoList, SpellsInstruction, SpellsInstructions, instruction_text, instructions_text};
 ghost use Rattle.wasm_instructions.specs.Lengths.{HasNoLongList, IsShortText};
 ghost use Rattle.wasm_values.specs.Encoding.{IsTextOrLonger};
@@ -62,10 +62,14 @@ impl<'a, A: Allocator> InstructionSink<'a, A> {
     /// Appends the texts of calls, all of them or none.
     ///
     /// `TooLong` where a list in one of them has more than 4,294,967,295 items.
+    #[tactic(auto, using(crate::proofs::ChainLaws::same_as_chain))]
     pub fn write_calls(self, calls: &[Call]) -> Result<InstructionSink<'a, A>, EncodeError>
         ensures* unchanged { sem 𝓛 (IsUnchangedAtErr A.row A.Allocator self.entry result) }
         ensures same { IsSameSink self.entry result }
         ensures wrote { AppendsCalls self.entry calls.now result }
+        // After equal bytes, a chain of methods and `write_call`, one for each of the calls, writes the same.
+        ensures one_by_one { (start finish : InstructionSink A) → written start ≡ written self.entry →
+            Chain start calls.now finish → IfOk result (λ sink. written sink ≡ written finish) }
         // What is written spells the calls.
         ensures spells { IfOk result (λ _. SpellsInstructions (instructions_text calls.now) calls.now) }
         // Every other spelling of the calls is longer than what is written.

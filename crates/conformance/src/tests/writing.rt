@@ -82,13 +82,16 @@ fn error_texts(rt: HostRuntime) -> Result<(), Fail> {
     Ok(())
 }
 
-/// Each call is written as the methods wrote it.
+/// The calls are written as the methods wrote them, one by one and all at once.
 fn as_calls(rt: &impl Abort, alloc: Global, calls: &[Call], code: &Vec<u8>) -> Result<(), Fail> {
-    let mut same = Vec::new(alloc);
+    let mut one_by_one = Vec::new(alloc);
     for call in calls {
-        InstructionSink::new(&mut same).write_call(call)?;
+        InstructionSink::new(&mut one_by_one).write_call(call)?;
     }
-    assert_eq!(rt; same.as_slice(), code.as_slice());
+    assert_eq!(rt; one_by_one.as_slice(), code.as_slice());
+    let mut at_once = Vec::new(alloc);
+    InstructionSink::new(&mut at_once).write_calls(calls)?;
+    assert_eq!(rt; at_once.as_slice(), code.as_slice());
     Ok(())
 }
 

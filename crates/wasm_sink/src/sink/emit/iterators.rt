@@ -102,6 +102,7 @@ fn append_resume_throw<I: ExactSizeIterator<Item = Handle>, A: Allocator>(
     append_each(bytes, handlers)
 }
 
+#[tactic(auto, unfolding(crate::specs::ListCalls::AppendsAll))]
 impl<'a, A: Allocator> InstructionSink<'a, A> {
     /// A call with labels, and the label of all other numbers.
     pub(in crate::sink) fn emit_branch_table<I: ExactSizeIterator<Item = u32>>(
