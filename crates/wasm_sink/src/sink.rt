@@ -23,8 +23,8 @@ mod tables;
 mod variables;
 mod vectors;
 
-use wasm_instructions::table::Call;
 use std::alloc::Allocator;
+use wasm_instructions::table::Call;
 use wasm_values::encode::EncodeError;
 
 /// Appends instructions to a list of bytes.

@@ -9,10 +9,10 @@ ghost use Rattle.wasm_sink.specs.ListCalls.{WritesItems, IsRefusedList};
 ghost use Rattle.wasm_instructions.specs.Instructions.{plain};
 ghost use Rattle.wasm_instructions.specs.declared.table.call.Operands.TheVariants as operands;
 
-use wasm_instructions::operands::{BlockType, Catch};
 use crate::sink::InstructionSink;
 use crate::sink::emit::plain;
 use std::alloc::Allocator;
+use wasm_instructions::operands::{BlockType, Catch};
 use wasm_values::encode::EncodeError;
 
 impl<'a, A: Allocator> InstructionSink<'a, A> {

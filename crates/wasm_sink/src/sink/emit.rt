@@ -16,8 +16,8 @@ mod orders;
 mod types;
 
 use super::InstructionSink;
-use wasm_instructions::table::{Opcode, Operands, Prefix};
 use std::alloc::Allocator;
+use wasm_instructions::table::{Opcode, Operands, Prefix};
 use wasm_values::encode::EncodeError;
 use wasm_values::encode::leb128::{put_i32, put_i64, put_u32};
 

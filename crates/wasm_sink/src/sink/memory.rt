@@ -5,10 +5,10 @@ ghost use Rattle.wasm_sink.specs.Sink.{IsUnchangedAtErr, IsSameSink, Writes, Wri
 ghost use Rattle.wasm_instructions.specs.Instructions.{plain, after_fc};
 ghost use Rattle.wasm_instructions.specs.declared.table.call.Operands.TheVariants as operands;
 
-use wasm_instructions::operands::MemArg;
 use crate::sink::InstructionSink;
 use crate::sink::emit::{after_fc, plain};
 use std::alloc::Allocator;
+use wasm_instructions::operands::MemArg;
 use wasm_values::encode::EncodeError;
 
 impl<'a, A: Allocator> InstructionSink<'a, A> {

@@ -5,10 +5,10 @@ ghost use Rattle.wasm_sink.specs.Sink.{IsUnchangedAtErr, IsSameSink, Writes, Wri
 ghost use Rattle.wasm_instructions.specs.Instructions.{after_fe};
 ghost use Rattle.wasm_instructions.specs.declared.table.call.Operands.TheVariants as operands;
 
-use wasm_instructions::operands::{MemArg, Ordering};
 use crate::sink::InstructionSink;
 use crate::sink::emit::after_fe;
 use std::alloc::Allocator;
+use wasm_instructions::operands::{MemArg, Ordering};
 use wasm_values::encode::EncodeError;
 
 impl<'a, A: Allocator> InstructionSink<'a, A> {

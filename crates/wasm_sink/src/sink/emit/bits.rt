@@ -6,11 +6,11 @@ ghost use Rattle.wasm_instructions.specs.Instructions.{IsShort};
 ghost use Rattle.wasm_instructions.specs.declared.table.call.Operands.TheVariants as operands;
 
 use super::{ROOM, put_opcode};
+use crate::sink::InstructionSink;
+use std::alloc::Allocator;
 use wasm_instructions::encode::{put_bits_32, put_bits_64, put_vector};
 use wasm_instructions::operands::{Ieee32, Ieee64, Lane};
-use crate::sink::InstructionSink;
 use wasm_instructions::table::Opcode;
-use std::alloc::Allocator;
 use wasm_values::encode::EncodeError;
 
 #[tactic(auto, unfolding(wasm_instructions::specs::Instructions::operands_text))]

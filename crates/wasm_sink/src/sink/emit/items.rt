@@ -8,9 +8,9 @@ ghost use Rattle.wasm_types.specs.HeapTypes.{val_type_text};
 ghost use Rattle.wasm_types.specs.CompositeTypes.{items_text};
 ghost use Rattle.wasm_instructions.specs.Operands.{catch_text, handle_text};
 
+use std::alloc::Allocator;
 use wasm_instructions::encode::{put_catch, put_handle};
 use wasm_instructions::operands::{Catch, Handle};
-use std::alloc::Allocator;
 use wasm_types::encode::put_val_type;
 use wasm_types::types::ValType;
 use wasm_values::encode::EncodeError;

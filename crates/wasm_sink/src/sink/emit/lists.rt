@@ -8,11 +8,11 @@ ghost use Rattle.wasm_instructions.specs.declared.table.call.Operands.TheVariant
 
 use super::items::append_all;
 use super::{ROOM, put_opcode};
+use crate::sink::InstructionSink;
+use std::alloc::Allocator;
 use wasm_instructions::encode::put_block_type;
 use wasm_instructions::operands::{BlockType, Catch, Handle};
-use crate::sink::InstructionSink;
 use wasm_instructions::table::Opcode;
-use std::alloc::Allocator;
 use wasm_types::types::ValType;
 use wasm_values::encode::EncodeError;
 use wasm_values::encode::leb128::put_u32;

@@ -6,11 +6,11 @@ ghost use Rattle.wasm_instructions.specs.Instructions.{IsShort};
 ghost use Rattle.wasm_instructions.specs.declared.table.call.Operands.TheVariants as operands;
 
 use super::{ROOM, put_opcode};
+use crate::sink::InstructionSink;
+use std::alloc::Allocator;
 use wasm_instructions::encode::put_ordering;
 use wasm_instructions::operands::Ordering;
-use crate::sink::InstructionSink;
 use wasm_instructions::table::Opcode;
-use std::alloc::Allocator;
 use wasm_values::encode::EncodeError;
 use wasm_values::encode::leb128::put_u32;
 

@@ -7,11 +7,11 @@ ghost use Rattle.wasm_instructions.specs.Operands.{nullables_byte};
 ghost use Rattle.wasm_instructions.specs.declared.table.call.Operands.TheVariants as operands;
 
 use super::{ROOM, put_opcode};
+use crate::sink::InstructionSink;
+use std::alloc::Allocator;
 use wasm_instructions::encode::put_block_type;
 use wasm_instructions::operands::BlockType;
-use crate::sink::InstructionSink;
 use wasm_instructions::table::Opcode;
-use std::alloc::Allocator;
 use wasm_types::encode::{put_heap_type, put_val_type};
 use wasm_types::types::{HeapType, RefType, ValType};
 use wasm_values::encode::EncodeError;

@@ -5,10 +5,10 @@ ghost use Rattle.wasm_sink.specs.Sink.{IsUnchangedAtErr, IsSameSink, Writes, Has
 ghost use Rattle.wasm_instructions.specs.Instructions.{plain};
 ghost use Rattle.wasm_instructions.specs.declared.table.call.Operands.TheVariants as operands;
 
-use wasm_instructions::operands::{Ieee32, Ieee64};
 use crate::sink::InstructionSink;
 use crate::sink::emit::plain;
 use std::alloc::Allocator;
+use wasm_instructions::operands::{Ieee32, Ieee64};
 use wasm_values::encode::EncodeError;
 
 impl<'a, A: Allocator> InstructionSink<'a, A> {

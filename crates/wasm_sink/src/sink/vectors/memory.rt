@@ -5,10 +5,10 @@ ghost use Rattle.wasm_sink.specs.Sink.{IsUnchangedAtErr, IsSameSink, WritesText,
 ghost use Rattle.wasm_instructions.specs.Instructions.{after_fd};
 ghost use Rattle.wasm_instructions.specs.declared.table.call.Operands.TheVariants as operands;
 
-use wasm_instructions::operands::{Lane, MemArg};
 use crate::sink::InstructionSink;
 use crate::sink::emit::after_fd;
 use std::alloc::Allocator;
+use wasm_instructions::operands::{Lane, MemArg};
 use wasm_values::encode::EncodeError;
 
 impl<'a, A: Allocator> InstructionSink<'a, A> {
