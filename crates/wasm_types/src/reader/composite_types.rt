@@ -1,9 +1,10 @@
 //! Fields, composite types, subtypes and entries of a type section (Core 3.0, 5.3.8 to 5.3.12 and 5.5.4).
-ghost use Rattle.std.specs.Prelude.{◌≡◌, ℕ, List, Option};
+ghost use Rattle.std.specs.Prelude.{◌≡◌, ℕ, List, Option, IfErr};
 ghost use Rattle.wasm_values.specs.Reading.{Reads, map_at, then_at};
 ghost use Rattle.wasm_values.specs.Numbers.{u32_at};
 ghost use Rattle.wasm_types.specs.HeapTypes.{val_type_at};
 ghost use Rattle.wasm_types.specs.CompositeTypes.{list_at, field_type_at, inner_at, indexed_at, composite_type_at, sub_of, sub_type_at, entry_at};
+ghost use Rattle.wasm_values.specs.declared.reader.cursor.Fault.TheVariants.{Malformed};
 
 use super::heap_types::{read_storage_type, read_val_type};
 use crate::types::{
@@ -27,7 +28,10 @@ pub trait Readable: Drop {
 impl Readable for u32 {
     ghost read_at = { u32_at };
 
-    fn read(alloc: Global, cursor: &mut Cursor<'_>) -> Result<u32, Fault> {
+    fn read(alloc: Global, cursor: &mut Cursor<'_>) -> Result<u32, Fault>
+        ensures reads { Reads u32_at cursor.old cursor.new result }
+        ensures err { IfErr result (λ e. e ≡ Malformed) }
+    {
         let _ = alloc;
         cursor.u32()
     }
@@ -36,7 +40,10 @@ impl Readable for u32 {
 impl Readable for ValType {
     ghost read_at = { val_type_at };
 
-    fn read(alloc: Global, cursor: &mut Cursor<'_>) -> Result<ValType, Fault> {
+    fn read(alloc: Global, cursor: &mut Cursor<'_>) -> Result<ValType, Fault>
+        ensures reads { Reads val_type_at cursor.old cursor.new result }
+        ensures err { IfErr result (λ e. e ≡ Malformed) }
+    {
         let _ = alloc;
         read_val_type(cursor)
     }
@@ -46,7 +53,10 @@ impl Readable for FieldType {
     ghost read_at = { field_type_at };
 
     #[tactic(auto, unfolding(crate::specs::CompositeTypes::field_type_at))]
-    fn read(alloc: Global, cursor: &mut Cursor<'_>) -> Result<FieldType, Fault> {
+    fn read(alloc: Global, cursor: &mut Cursor<'_>) -> Result<FieldType, Fault>
+        ensures reads { Reads field_type_at cursor.old cursor.new result }
+        ensures err { IfErr result (λ e. e ≡ Malformed) }
+    {
         let _ = alloc;
         let element_type = read_storage_type(cursor)?;
         let mutable = match cursor.byte()? {
