@@ -6,7 +6,10 @@ use std::alloc::{Allocator, Global};
 use std::process::Abort;
 use std::test::Fail;
 use vectors::{Mismatch, Token};
-use wasm_encoder::{Call, Encode, InstructionSink, Operands, RawSection, Section};
+use wasm_encoder::{
+    BlockType, Call, Catch, Encode, Handle, InstructionSink, Items, Operands, RawSection, Section,
+    ValType,
+};
 
 /// What is written to a list.
 #[derive(Drop)]
@@ -286,6 +289,59 @@ fn one_growth_is_enough(rt: HostRuntime) -> Result<(), Fail> {
         let mut list = Vec::new(&ration);
         write(rt.alloc(), &text, &mut list)?;
         assert!(rt; !list.is_empty());
+    }
+    Ok(())
+}
+
+#[test]
+fn one_growth_is_enough_for_calls_with_short_items(rt: HostRuntime) -> Result<(), Fail> {
+    let labels = Items::from_slice(rt.alloc(), &[7; 100])?;
+    let types = Items::from_slice(rt.alloc(), &[ValType::I32; 100])?;
+    let clauses = Items::from_slice(rt.alloc(), &[Catch::All { label: 7 }; 100])?;
+    let handlers = Items::from_slice(rt.alloc(), &[Handle::OnSwitch { tag: 7 }; 100])?;
+    let others = Items::from_slice(rt.alloc(), &[Handle::OnSwitch { tag: 7 }; 100])?;
+    for (number, operands, len) in [
+        (0x0e, Operands::BrTable(labels, 7), 103),
+        (0x1c, Operands::Types(types), 102),
+        (0x1f, Operands::TryTable(BlockType::Empty, clauses), 203),
+        (0xe3, Operands::Resume(7, handlers), 203),
+        (0xe4, Operands::ResumeThrow(7, 7, others), 204),
+    ] {
+        let call = call(number, operands)?;
+        let ration = Rationed::new(rt.alloc(), 1);
+        let mut list = Vec::new(&ration);
+        InstructionSink::new(&mut list).write_call(&call)?;
+        assert_eq!(rt; list.len(), len, "at {number}");
+    }
+    Ok(())
+}
+
+/// The methods with a list, what is before it and after it, an item in the fewest bytes, and how many bytes a call with
+/// 100 of them is.
+const LONG_LISTS: [(&str, &str, &str, &str, usize); 6] = [
+    ("br_table", "", "u32:7", " u32:7", 103),
+    ("typed_select_multi", "", "val:i32", "", 102),
+    ("try_table", "block:empty ", "catch:all:7", "", 203),
+    ("resume", "u32:7 ", "handle:switch:7", "", 203),
+    ("resume_throw", "u32:7 u32:7 ", "handle:switch:7", "", 204),
+    ("resume_throw_ref", "u32:7 ", "handle:switch:7", "", 203),
+];
+
+#[test]
+fn one_growth_is_enough_for_short_items(rt: HostRuntime) -> Result<(), Fail> {
+    for (method, before, item, after, len) in LONG_LISTS {
+        let mut operands = format!(in rt.alloc(); "{before}list:[{item}")?;
+        for _ in 1..100 {
+            operands.push_str(";")?;
+            operands.push_str(item)?;
+        }
+        operands.push_str("]")?;
+        operands.push_str(after)?;
+        let ration = Rationed::new(rt.alloc(), 1);
+        let mut list = Vec::new(&ration);
+        let text = Text::Method(method, operands.as_str());
+        write(rt.alloc(), &text, &mut list)?;
+        assert_eq!(rt; list.len(), len, "at {method}");
     }
     Ok(())
 }

@@ -1,6 +1,6 @@
 //! Lists of what has a text of its own, after their number (Core 3.0, 5.1.3).
-ghost use Rattle.std.specs.Prelude.{◌≡◌, ◌++◌, ◌+◌, ◌≤◌, ◌<◌, ◌^◌, ℕ, List, length, take, OnOk, OnErr, IfErr, vec_len, vec_capacity};
-ghost use Rattle.std.specs.Iterator.{size};
+ghost use Rattle.std.specs.Prelude.{◌≡◌, ◌++◌, ◌+◌, ◌≤◌, ◌<◌, ◌^◌, ℕ, List, length, take, OnOk, IfOk, IfErr, vec_len, vec_capacity};
+ghost use Rattle.std.specs.Iterator.{IsFinite, size};
 ghost use Rattle.wasm_values.specs.Iterators.{IsExact};
 ghost use Rattle.wasm_sink.specs.ListCalls.{AppendsAll, IsRefusedList};
 ghost use Rattle.wasm_values.specs.Numbers.{unsigned_text};
@@ -8,7 +8,8 @@ ghost use Rattle.wasm_types.specs.HeapTypes.{val_type_text};
 ghost use Rattle.wasm_types.specs.CompositeTypes.{items_text};
 ghost use Rattle.wasm_instructions.specs.Operands.{catch_text, handle_text};
 
-use std::alloc::Allocator;
+use super::ROOM;
+use std::alloc::{AllocError, Allocator};
 use wasm_instructions::encode::{put_catch, put_handle};
 use wasm_instructions::operands::{Catch, Handle};
 use wasm_types::encode::put_val_type;
@@ -17,20 +18,25 @@ use wasm_values::encode::EncodeError;
 use wasm_values::encode::leb128::put_u32;
 
 /// The room that every item fits into, in bytes.
-const ROOM: usize = 11;
+const ITEM_ROOM: usize = 11;
 
 /// What lists of operands are made of. Each item has a text.
 pub(super) trait Item: Copy + Drop {
+    /// The fewest bytes that an item is written in.
+    const LEAST: usize;
+
     /// The text of the item.
     ghost text: { Self → List ℕ };
 
-    /// Writes the item in 1 to 11 bytes, into reserved room.
+    /// Writes the item in `LEAST` to 11 bytes, into reserved room.
     fn put<A: Allocator>(self, bytes: &mut Vec<u8, A>)
         requires room { vec_len bytes.old + 11 ≤ vec_capacity bytes.old }
         ensures items { bytes.new.items ≡ bytes.old.items ++ text self };
 }
 
 impl Item for u32 {
+    const LEAST: usize = 1;
+
     ghost text = { unsigned_text };
 
     fn put<A: Allocator>(self, bytes: &mut Vec<u8, A>) {
@@ -39,6 +45,8 @@ impl Item for u32 {
 }
 
 impl Item for ValType {
+    const LEAST: usize = 1;
+
     ghost text = { val_type_text };
 
     fn put<A: Allocator>(self, bytes: &mut Vec<u8, A>) {
@@ -47,6 +55,8 @@ impl Item for ValType {
 }
 
 impl Item for Catch {
+    const LEAST: usize = 2;
+
     ghost text = { catch_text };
 
     fn put<A: Allocator>(self, bytes: &mut Vec<u8, A>) {
@@ -55,6 +65,8 @@ impl Item for Catch {
 }
 
 impl Item for Handle {
+    const LEAST: usize = 2;
+
     ghost text = { handle_text };
 
     fn put<A: Allocator>(self, bytes: &mut Vec<u8, A>) {
@@ -62,57 +74,62 @@ impl Item for Handle {
     }
 }
 
-/// Appends the number of items. `TooLong` where there are more than 4,294,967,295.
-fn append_count<A: Allocator>(bytes: &mut Vec<u8, A>, count: usize) -> Result<(), EncodeError>
-    ensures ok { OnOk result (bytes.new.items ≡ bytes.old.items ++ unsigned_text count) }
-    ensures counted { OnOk result (count < 2 ^ 32) }
+/// Makes room at once for a call with so many items, and answers their number: 24 bytes, which all else of the call
+/// fits into, and the fewest that the items are written in.
+///
+/// `TooLong` where there are more than 4,294,967,295 items.
+pub(super) fn reserve_list<T: Item, A: Allocator>(
+    bytes: &mut Vec<u8, A>,
+    count: usize,
+) -> Result<u32, EncodeError>
+    ensures count { IfOk result (λ n. n ≡ count) }
+    ensures room { OnOk result (vec_len bytes.new + 24 ≤ vec_capacity bytes.new) }
     ensures err { IfErr result (IsRefusedList count) }
-    ensures unchanged { OnErr result (bytes.new.items ≡ bytes.old.items) }
+    ensures unchanged { bytes.new.items ≡ bytes.old.items }
 {
     let Ok(number) = u32::try_from(count) else {
         return Err(EncodeError::TooLong);
     };
-    bytes.reserve(5)?;
-    put_u32(bytes, number);
-    Ok(())
+    bytes.reserve(count.saturating_mul(T::LEAST).saturating_add(ROOM))?;
+    Ok(number)
 }
 
-/// Appends the number of the items to come and then the items. An `Err` can leave a part of them.
-///
-/// `TooLong` where there are more than 4,294,967,295 items, before one is asked for.
+/// Appends the number of the items to come, into reserved room, and then the items. An `Err` can leave a part of them.
 #[tactic(auto, unfolding(crate::specs::ListCalls::AppendsAll))]
 pub(super) fn append_each<T: Item, I: ExactSizeIterator<Item = T>, A: Allocator>(
     bytes: &mut Vec<u8, A>,
+    count: u32,
     items: I,
-) -> Result<(), EncodeError>
-    requires { IsExact I.can_next I.next_gives I.remaining items }
+) -> Result<(), AllocError>
+    requires exact { IsExact I.can_next I.next_gives I.remaining items }
+    requires finite { IsFinite (I.remaining items) }
+    requires count { count ≡ size (I.remaining items) }
+    requires room { vec_len bytes.old + 5 ≤ vec_capacity bytes.old }
     ensures ok { OnOk result (AppendsAll I.next_gives items (items_text T.text) bytes.old.items bytes.new.items) }
-    ensures err { IfErr result (IsRefusedList (size (I.remaining items))) }
     ensures kept { take (length bytes.old.items) bytes.new.items ≡ bytes.old.items }
 {
-    append_count(bytes, items.len())?;
+    put_u32(bytes, count);
     for item in items {
-        bytes.reserve(ROOM)?;
+        bytes.reserve(ITEM_ROOM)?;
         item.put(bytes);
     }
     Ok(())
 }
 
-/// Appends the number of items and then the items. An `Err` can leave a part of them.
-///
-/// `TooLong` where there are more than 4,294,967,295.
+/// Appends the number of items, into reserved room, and then the items. An `Err` can leave a part of them.
 pub(super) fn append_all<T: Item, A: Allocator>(
     bytes: &mut Vec<u8, A>,
+    count: u32,
     items: &[T],
-) -> Result<(), EncodeError>
+) -> Result<(), AllocError>
+    requires count { count ≡ length items.now }
+    requires room { vec_len bytes.old + 5 ≤ vec_capacity bytes.old }
     ensures ok { OnOk result (bytes.new.items ≡ bytes.old.items ++ items_text T.text items.now) }
-    ensures counted { OnOk result (length items.now < 2 ^ 32) }
-    ensures err { IfErr result (IsRefusedList (length items.now)) }
     ensures kept { take (length bytes.old.items) bytes.new.items ≡ bytes.old.items }
 {
-    append_count(bytes, items.len())?;
+    put_u32(bytes, count);
     for item in items {
-        bytes.reserve(ROOM)?;
+        bytes.reserve(ITEM_ROOM)?;
         item.put(bytes);
     }
     Ok(())

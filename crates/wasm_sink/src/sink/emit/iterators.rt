@@ -8,8 +8,8 @@ ghost use Rattle.wasm_sink.specs.Sink.{IsUnchangedAtErr, IsSameSink};
 ghost use Rattle.wasm_instructions.specs.Instructions.{IsShort, call, instruction_text, plain};
 ghost use Rattle.wasm_instructions.specs.declared.table.call.Operands.TheVariants as operands;
 
-use super::items::append_each;
-use super::{ROOM, put_opcode};
+use super::items::{append_each, reserve_list};
+use super::put_opcode;
 use crate::sink::InstructionSink;
 use std::alloc::Allocator;
 use wasm_instructions::encode::put_block_type;
@@ -32,10 +32,10 @@ fn append_branch_table<I: ExactSizeIterator<Item = u32>, A: Allocator>(
     ensures err { IfErr result (IsRefusedList (size (I.remaining labels))) }
     ensures kept { take (length bytes.old.items) bytes.new.items ≡ bytes.old.items }
 {
-    bytes.reserve(ROOM)?;
+    let count = reserve_list::<u32, A>(bytes, labels.len())?;
     put_opcode(bytes, op);
-    append_each(bytes, labels)?;
-    bytes.reserve(ROOM)?;
+    append_each(bytes, count, labels)?;
+    bytes.reserve(5)?;
     put_u32(bytes, default);
     Ok(())
 }
@@ -54,10 +54,11 @@ fn append_try_table<I: ExactSizeIterator<Item = Catch>, A: Allocator>(
     ensures err { IfErr result (IsRefusedList (size (I.remaining clauses))) }
     ensures kept { take (length bytes.old.items) bytes.new.items ≡ bytes.old.items }
 {
-    bytes.reserve(ROOM)?;
+    let count = reserve_list::<Catch, A>(bytes, clauses.len())?;
     put_opcode(bytes, op);
     put_block_type(bytes, block_type);
-    append_each(bytes, clauses)
+    append_each(bytes, count, clauses)?;
+    Ok(())
 }
 
 /// Appends a call with an index and handlers. An `Err` can leave a part of it.
@@ -74,10 +75,11 @@ fn append_resume<I: ExactSizeIterator<Item = Handle>, A: Allocator>(
     ensures err { IfErr result (IsRefusedList (size (I.remaining handlers))) }
     ensures kept { take (length bytes.old.items) bytes.new.items ≡ bytes.old.items }
 {
-    bytes.reserve(ROOM)?;
+    let count = reserve_list::<Handle, A>(bytes, handlers.len())?;
     put_opcode(bytes, op);
     put_u32(bytes, index);
-    append_each(bytes, handlers)
+    append_each(bytes, count, handlers)?;
+    Ok(())
 }
 
 /// Appends a call with two indexes and handlers. An `Err` can leave a part of it.
@@ -95,11 +97,12 @@ fn append_resume_throw<I: ExactSizeIterator<Item = Handle>, A: Allocator>(
     ensures err { IfErr result (IsRefusedList (size (I.remaining handlers))) }
     ensures kept { take (length bytes.old.items) bytes.new.items ≡ bytes.old.items }
 {
-    bytes.reserve(ROOM)?;
+    let count = reserve_list::<Handle, A>(bytes, handlers.len())?;
     put_opcode(bytes, op);
     put_u32(bytes, first);
     put_u32(bytes, second);
-    append_each(bytes, handlers)
+    append_each(bytes, count, handlers)?;
+    Ok(())
 }
 
 #[tactic(auto, unfolding(crate::specs::ListCalls::AppendsAll))]

@@ -6,8 +6,8 @@ ghost use Rattle.wasm_sink.specs.Sink.{IsUnchangedAtErr, IsSameSink};
 ghost use Rattle.wasm_instructions.specs.Instructions.{IsShort, call, instruction_text};
 ghost use Rattle.wasm_instructions.specs.declared.table.call.Operands.TheVariants as operands;
 
-use super::items::append_all;
-use super::{ROOM, put_opcode};
+use super::items::{append_all, reserve_list};
+use super::put_opcode;
 use crate::sink::InstructionSink;
 use std::alloc::Allocator;
 use wasm_instructions::encode::put_block_type;
@@ -31,10 +31,10 @@ fn append_branch_table_of<A: Allocator>(
     ensures err { IfErr result (IsRefusedList (length labels.now)) }
     ensures kept { take (length bytes.old.items) bytes.new.items ≡ bytes.old.items }
 {
-    bytes.reserve(ROOM)?;
+    let count = reserve_list::<u32, A>(bytes, labels.len())?;
     put_opcode(bytes, op);
-    append_all(bytes, labels)?;
-    bytes.reserve(ROOM)?;
+    append_all(bytes, count, labels)?;
+    bytes.reserve(5)?;
     put_u32(bytes, default);
     Ok(())
 }
@@ -52,9 +52,10 @@ fn append_types_of<A: Allocator>(
     ensures err { IfErr result (IsRefusedList (length types.now)) }
     ensures kept { take (length bytes.old.items) bytes.new.items ≡ bytes.old.items }
 {
-    bytes.reserve(ROOM)?;
+    let count = reserve_list::<ValType, A>(bytes, types.len())?;
     put_opcode(bytes, op);
-    append_all(bytes, types)
+    append_all(bytes, count, types)?;
+    Ok(())
 }
 
 /// Appends a call with a block type and clauses that catch exceptions. An `Err` can leave a part of it.
@@ -71,10 +72,11 @@ fn append_try_table_of<A: Allocator>(
     ensures err { IfErr result (IsRefusedList (length clauses.now)) }
     ensures kept { take (length bytes.old.items) bytes.new.items ≡ bytes.old.items }
 {
-    bytes.reserve(ROOM)?;
+    let count = reserve_list::<Catch, A>(bytes, clauses.len())?;
     put_opcode(bytes, op);
     put_block_type(bytes, block_type);
-    append_all(bytes, clauses)
+    append_all(bytes, count, clauses)?;
+    Ok(())
 }
 
 /// Appends a call with an index and handlers. An `Err` can leave a part of it.
@@ -91,10 +93,11 @@ fn append_resume_of<A: Allocator>(
     ensures err { IfErr result (IsRefusedList (length handlers.now)) }
     ensures kept { take (length bytes.old.items) bytes.new.items ≡ bytes.old.items }
 {
-    bytes.reserve(ROOM)?;
+    let count = reserve_list::<Handle, A>(bytes, handlers.len())?;
     put_opcode(bytes, op);
     put_u32(bytes, index);
-    append_all(bytes, handlers)
+    append_all(bytes, count, handlers)?;
+    Ok(())
 }
 
 /// Appends a call with two indexes and handlers. An `Err` can leave a part of it.
@@ -112,11 +115,12 @@ fn append_resume_throw_of<A: Allocator>(
     ensures err { IfErr result (IsRefusedList (length handlers.now)) }
     ensures kept { take (length bytes.old.items) bytes.new.items ≡ bytes.old.items }
 {
-    bytes.reserve(ROOM)?;
+    let count = reserve_list::<Handle, A>(bytes, handlers.len())?;
     put_opcode(bytes, op);
     put_u32(bytes, first);
     put_u32(bytes, second);
-    append_all(bytes, handlers)
+    append_all(bytes, count, handlers)?;
+    Ok(())
 }
 
 impl<'a, A: Allocator> InstructionSink<'a, A> {
