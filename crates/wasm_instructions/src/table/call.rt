@@ -2,6 +2,7 @@
 ghost use Rattle.std.specs.Prelude.{◌≡◌, IfOk, IfErr, IsOk, IsTrue, ◌↔◌};
 ghost use Rattle.wasm_instructions.specs.Instructions.{IsAligned, IsCall, IsCounted, ItemsInRange, IsShort, SpellsInstruction, call, instruction_text, kind_of};
 ghost use Rattle.wasm_instructions.specs.Lengths.{HasNoLongList, IsShortText};
+ghost use Rattle.wasm_values.specs.declared.encode.EncodeError.TheVariants.{Memory};
 
 use super::opcode::{Kind, Opcode};
 use super::ranges::all_in_range;
@@ -142,7 +143,8 @@ impl Operands {
 
     /// An equal value.
     pub fn try_clone(&self) -> Result<Operands, EncodeError>
-        ensures { IfOk result (λ o. o ≡ self.now) }
+        ensures ok { IfOk result (λ o. o ≡ self.now) }
+        ensures err { IfErr result (λ e. e ≡ Memory) }
     {
         Ok(match self {
             Operands::None => Operands::None,
@@ -228,7 +230,8 @@ impl Call {
 
     /// An equal call.
     pub fn try_clone(&self) -> Result<Call, EncodeError>
-        ensures { IfOk result (λ c. c ≡ self.now) }
+        ensures ok { IfOk result (λ c. c ≡ self.now) }
+        ensures err { IfErr result (λ e. e ≡ Memory) }
     {
         let operands = self.operands.try_clone()?;
         Ok(Call {
