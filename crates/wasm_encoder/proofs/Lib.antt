@@ -1,1 +1,8 @@
 pub use Rattle.wasm_values.proofs.ExactLaws
+pub mod HeaderLaws
+pub mod ModuleLaws
+pub mod SizedLaws
+pub mod TypedModuleLaws
+pub mod TypeBodyLaws
+pub mod TypeSectionLaws
+pub mod IteratorLaws

@@ -15,7 +15,7 @@ pub use Rattle.wasm_instructions.specs.Operands
 pub use Rattle.wasm_instructions.specs.Instructions
 pub use Rattle.wasm_sink.specs.Sink
 pub use Rattle.wasm_sink.specs.ListCalls
-pub use Rattle.wasm_modules.specs.Modules
-pub use Rattle.wasm_modules.specs.TypeSections
-pub use Rattle.wasm_modules.specs.Sized
-pub use Rattle.wasm_modules.specs.TypedModules
+pub mod Modules
+pub mod TypeSections
+pub mod Sized
+pub mod TypedModules

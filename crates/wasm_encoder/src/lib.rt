@@ -1,15 +1,20 @@
 //! The lowest layer of a WebAssembly encoder, proved: typed calls go in, and exactly the shortest bytes come out.
 //! Beside the writers stand readers and normalisers, which take every spelling that the binary format allows.
 //!
-//! This crate has no code of its own. It gathers what callers name from the crates below it, which follow the chapters
-//! of the binary format: `wasm_values`, `wasm_types`, `wasm_modules`, `wasm_instructions` and `wasm_sink`.
+//! Modules and their sections (Core 3.0, 5.5) stand here. What they are made of comes from the crates below, which
+//! follow the chapters of the binary format: `wasm_values`, `wasm_types`, `wasm_instructions` and `wasm_sink`. Callers
+//! name this crate alone.
 #![tactic(auto)]
 
 pub mod encode;
+pub mod raw;
 pub mod reader;
+mod type_section;
 pub mod types;
+pub mod wasm_core;
 
 pub use encode::{Encode, EncodeError, encode_bytes, encode_list, encode_str};
+pub use raw::RawSection;
 pub use reader::{
     ReadError, normalise_instructions, normalise_module, normalise_type_section, read_instructions,
     read_module, read_type_section,
@@ -19,14 +24,12 @@ pub use types::{
     FieldType, FuncType, HeapType, RefType, StorageType, StructType, SubType, TypeEntry,
     TypeSection, ValType,
 };
+pub use wasm_core::{Module, Section, SectionId};
 pub use wasm_instructions::operands::{
     BlockType, Catch, Handle, Ieee32, Ieee64, Lane, MemArg, Ordering,
 };
 pub use wasm_instructions::table::{Call, Kind, Opcode, Operands, Prefix};
 pub use wasm_instructions::{operands, table};
-pub use wasm_modules::raw::RawSection;
-pub use wasm_modules::wasm_core::{Module, Section, SectionId};
-pub use wasm_modules::{raw, wasm_core};
 pub use wasm_sink::sink;
 pub use wasm_sink::sink::InstructionSink;
 pub use wasm_values::list;

@@ -1,6 +1,6 @@
 //! Heap, reference, value, storage and composite types, and the type section (Core 3.0, 5.3 and 5.5.4).
 
-pub use wasm_modules::type_section::{CoreTypeEncoder, TypeSection};
+pub use crate::type_section::{CoreTypeEncoder, TypeSection};
 pub use wasm_types::types::{
     AbstractHeapType, ArrayType, CompositeInnerType, CompositeType, ContType, FieldType, FuncType,
     HeapType, RefType, StorageType, StructType, SubType, TypeEntry, ValType,

@@ -1,0 +1,388 @@
+//! The type section (Core 3.0, 5.5.4).
+ghost use Rattle.std.specs.Prelude.{◌≡◌, ℕ, List, ◌++◌, ◌∷◌, ◌+◌, ◌^◌, ◌≤◌, ◌⊎◌, [], OnOk, OnErr, IfOk, IfErr, IsErrOf, IsTrue, ◌↔◌, IsSomeAnd, IsNone, Some, length, take};
+ghost use Rattle.wasm_encoder.specs.TypeSections.{Entries, StandsFor, Gains, GainsAll, IsFull, OfBoth, OfItems, section_text, body_bytes, plain_entry, struct_entry, array_entry};
+ghost use Rattle.wasm_values.specs.Iterators.{IsExact, HasNoText, GivesMisaligned};
+ghost use Rattle.wasm_values.specs.Encoding.{both_texts, list_text, texts, byte_list_text, IsTextOrLonger};
+ghost use Rattle.wasm_types.specs.CompositeTypes.{SpellsTypeBody, type_body_text};
+ghost use Rattle.wasm_types.specs.TypeRanges.{TypeBodyFits};
+ghost use Rattle.wasm_types.specs.declared.types.composite.TypeEntry.{TypeEntry};
+ghost use Rattle.std.specs.Iterator.{size};
+ghost use Rattle.wasm_types.specs.TypeEncoding.{func_encoding, sub_encoding, entry_encoding};
+ghost use Rattle.wasm_types.specs.declared.types.composite.CompositeInnerType.TheVariants as inner;
+ghost use Rattle.wasm_types.specs.declared.types.composite.TypeEntry.TheVariants as entries;
+ghost use Rattle.wasm_values.specs.declared.encode.EncodeError.TheVariants.{Memory, TooLong};
+
+use crate::wasm_core::{Section, SectionId};
+use std::alloc::{Allocator, Global};
+use std::marker::Model;
+use wasm_types::types::{
+    ArrayType, ContType, FieldType, FuncType, StorageType, SubType, TypeEntry, ValType,
+};
+use wasm_values::encode::leb128::u32_len;
+use wasm_values::encode::{Encode, EncodeError, append_items};
+
+/// A type section that entries are added to, one after the other.
+///
+/// In contracts it is the number of its entries and their bytes.
+#[derive(Debug, Drop)]
+pub struct TypeSection {
+    bytes: Vec<u8>,
+    count: u32,
+}
+
+impl Model for TypeSection {
+    ghost use Rattle.wasm_encoder.specs.TypeSections.{Entries};
+
+    ghost Value = { Entries };
+
+    ghost view = { λ s. record { count = s.count; bytes = s.bytes.items } };
+}
+
+/// Adds one entry to a type section. One that isn't used leaves the section as it was.
+#[derive(Drop)]
+pub struct CoreTypeEncoder<'a> {
+    section: &'a mut TypeSection,
+}
+
+impl TypeSection {
+    /// A section without entries. It takes no memory.
+    pub fn new(alloc: Global) -> TypeSection
+        ensures { StandsFor result [] }
+    {
+        TypeSection {
+            bytes: Vec::new(alloc),
+            count: 0,
+        }
+    }
+
+    /// How many entries there are. A group counts as one.
+    pub fn len(&self) -> u32
+        ensures { result ≡ self.now.count }
+    {
+        self.count
+    }
+
+    /// Whether there are no entries.
+    pub fn is_empty(&self) -> bool
+        ensures { IsTrue result ↔ (self.now.count ≡ 0) }
+    {
+        self.count == 0
+    }
+
+    /// An encoder for one entry.
+    pub fn ty(&mut self) -> CoreTypeEncoder<'_>
+        ensures same_reference { result.section.ghost_name ≡ self.entry.ghost_name }
+        ensures value { result.section.now ≡ self.old }
+    {
+        CoreTypeEncoder { section: self }
+    }
+
+    /// A section of the same entries.
+    pub fn try_clone(&self) -> Result<TypeSection, EncodeError>
+        ensures ok { IfOk result (λ section. section ≡ self.now) }
+        ensures err { IfErr result (λ e. e ≡ Memory) }
+    {
+        let bytes = Vec::from_slice(*self.bytes.allocator(), self.bytes.as_slice())?;
+        Ok(TypeSection {
+            bytes,
+            count: self.count,
+        })
+    }
+
+    /// Adds entries, all of them or none.
+    ///
+    /// `TooLong` where there would be more than 4,294,967,295, or where a list in an entry is too long.
+    pub fn entries(&mut self, entries: &[TypeEntry]) -> Result<(), EncodeError>
+        ensures ok { OnOk result (GainsAll self.old entries.now self.new) }
+        ensures err { OnErr result (self.new ≡ self.old) }
+        ensures too_long { IsErrOf result EncodeError.TooLong →
+            (2 ^ 32 ≤ self.old.count + length entries.now) ⊎ IsNone (texts entry_encoding entries.now) }
+        ensures alignment { ¬ IsErrOf result EncodeError.Alignment }
+    {
+        let start = self.bytes.len();
+        let count = self.count;
+        let added = self.add_each(entries);
+        if added.is_err() {
+            self.bytes.truncate(start);
+            self.count = count;
+        }
+        added
+    }
+
+    /// Adds entries one by one. An `Err` can leave some of them.
+    fn add_each(&mut self, entries: &[TypeEntry]) -> Result<(), EncodeError>
+        ensures ok { OnOk result (GainsAll self.old entries.now self.new) }
+        ensures too_long { IsErrOf result EncodeError.TooLong →
+            (2 ^ 32 ≤ self.old.count + length entries.now) ⊎ IsNone (texts entry_encoding entries.now) }
+        ensures alignment { ¬ IsErrOf result EncodeError.Alignment }
+        ensures kept { take (length self.old.bytes) self.new.bytes ≡ self.old.bytes }
+    {
+        for entry in entries {
+            self.add(entry)?;
+        }
+        Ok(())
+    }
+
+    /// The number of entries after one more.
+    fn next_count(&self) -> Result<u32, EncodeError>
+        ensures ok { IfOk result (λ count. count ≡ self.now.count + 1) }
+        ensures err { IfErr result (λ e. (e ≡ TooLong) × IsFull self.now) }
+    {
+        self.count.checked_add(1).ok_or(EncodeError::TooLong)
+    }
+
+    /// Adds an entry by what encodes it, or leaves the section as it was.
+    fn add<T: Encode>(&mut self, entry: &T) -> Result<(), EncodeError>
+        ensures count { OnOk result (self.new.count ≡ self.old.count + 1) }
+        ensures bytes { OnOk result (IsSomeAnd (T.text entry.now) (λ t. self.new.bytes ≡ self.old.bytes ++ t)) }
+        ensures err { OnErr result (self.new ≡ self.old) }
+        ensures too_long { IsErrOf result EncodeError.TooLong → IsFull self.old ⊎ IsNone (T.text entry.now) }
+        ensures misaligned { IsErrOf result EncodeError.Alignment → T.misaligned entry.now }
+    {
+        let count = self.next_count()?;
+        entry.encode(&mut self.bytes)?;
+        self.count = count;
+        Ok(())
+    }
+}
+
+impl TypeSection {
+    /// Keeps what was appended since `start` as one entry more, or takes it back.
+    fn settle(
+        &mut self,
+        start: usize,
+        count: u32,
+        appended: Result<(), EncodeError>,
+    ) -> Result<(), EncodeError>
+        ensures same { result ≡ appended }
+        ensures ok { OnOk result ((self.new.count ≡ count) × (self.new.bytes ≡ self.old.bytes)) }
+        ensures err { OnErr result ((self.new.count ≡ self.old.count) × (self.new.bytes ≡ take start self.old.bytes)) }
+    {
+        match appended {
+            Ok(()) => self.count = count,
+            Err(_) => self.bytes.truncate(start),
+        }
+        appended
+    }
+}
+
+/// The size of the body, the number of entries, and the entries (Core 3.0, 5.5.2 and 5.5.4).
+///
+/// `TooLong` where the body has more than 4,294,967,295 bytes.
+#[tactic(auto, using(crate::proofs::TypeSectionLaws::one_text, crate::proofs::TypeSectionLaws::section_is_body, crate::proofs::TypeSectionLaws::body_spells, crate::proofs::TypeSectionLaws::body_shortest))]
+impl Encode for TypeSection {
+    ghost text = { section_text };
+
+    ghost misaligned = { λ _. ⊥ };
+
+    fn encode<A: Allocator>(&self, sink: &mut Vec<u8, A>) -> Result<(), EncodeError>
+        ensures ok { OnOk result (IsSomeAnd (section_text self.now) (λ t. sink.new.items ≡ sink.old.items ++ t)) }
+        ensures too_long { IsErrOf result EncodeError.TooLong → IsNone (section_text self.now) }
+        ensures alignment { ¬ IsErrOf result EncodeError.Alignment }
+        ensures err { OnErr result (sink.new.items ≡ sink.old.items) }
+        // Sections that stand for the same entries have the same text.
+        ensures one_text { (other : Entries) (entries : List TypeEntry) →
+            StandsFor self.now entries → StandsFor other entries → section_text other ≡ section_text self.now }
+        // The text is that of the entries, after its length.
+        ensures is_body { (entries : List TypeEntry) → StandsFor self.now entries →
+            section_text self.now ≡ byte_list_text (type_body_text entries) }
+        // The body spells the entries, as their numbers are u32s.
+        ensures spells { (entries : List TypeEntry) → StandsFor self.now entries → TypeBodyFits entries →
+            SpellsTypeBody (body_bytes self.now) entries }
+        // Every other spelling of the entries is longer than the body.
+        ensures shortest { (entries : List TypeEntry) (bytes : List ℕ) → StandsFor self.now entries →
+            SpellsTypeBody bytes entries → IsTextOrLonger bytes (body_bytes self.now) }
+    {
+        let start = sink.len();
+        let result = append_section(self, sink);
+        if result.is_err() {
+            sink.truncate(start);
+        }
+        result
+    }
+}
+
+impl Section for TypeSection {
+    ghost id = { λ _. 1 };
+
+    fn id(&self) -> u8 {
+        u8::from(SectionId::Types)
+    }
+}
+
+#[tactic(auto, using(crate::proofs::TypeSectionLaws::gains_ok, crate::proofs::TypeSectionLaws::gains_plain_ok))]
+impl<'a> CoreTypeEncoder<'a> {
+    /// Adds a function type: final, without supertypes, not shared.
+    pub fn func_type(self, ty: &FuncType) -> Result<(), EncodeError>
+        ensures ok { OnOk result (Gains self.entry.section.now (plain_entry (inner.Func ty.now)) self.exit.0.now) }
+        ensures err { OnErr result (self.exit.0.now ≡ self.entry.section.now) }
+        ensures too_long { IsErrOf result EncodeError.TooLong → IsFull self.entry.section.now ⊎ IsNone (func_encoding ty.now) }
+        ensures alignment { ¬ IsErrOf result EncodeError.Alignment }
+    {
+        let CoreTypeEncoder { section } = self;
+        section.add(ty)
+    }
+
+    /// Adds an array type: final, without supertypes, not shared.
+    pub fn array(self, ty: &StorageType, mutable: bool) -> Result<(), EncodeError>
+        ensures ok { OnOk result (Gains self.entry.section.now (array_entry ty.now mutable) self.exit.0.now) }
+        ensures err { OnErr result (self.exit.0.now ≡ self.entry.section.now) }
+        ensures too_long { IsErrOf result EncodeError.TooLong → IsFull self.entry.section.now }
+        ensures alignment { ¬ IsErrOf result EncodeError.Alignment }
+    {
+        let CoreTypeEncoder { section } = self;
+        let field = FieldType {
+            element_type: *ty,
+            mutable,
+        };
+        section.add(&ArrayType(field))
+    }
+
+    /// Adds a continuation type: final, without supertypes, not shared.
+    pub fn cont(self, ty: &ContType) -> Result<(), EncodeError>
+        ensures ok { OnOk result (Gains self.entry.section.now (plain_entry (inner.Cont ty.now)) self.exit.0.now) }
+        ensures err { OnErr result (self.exit.0.now ≡ self.entry.section.now) }
+        ensures too_long { IsErrOf result EncodeError.TooLong → IsFull self.entry.section.now }
+        ensures alignment { ¬ IsErrOf result EncodeError.Alignment }
+    {
+        let CoreTypeEncoder { section } = self;
+        section.add(ty)
+    }
+
+    /// Adds a subtype.
+    pub fn subtype(self, ty: &SubType) -> Result<(), EncodeError>
+        ensures ok { OnOk result (Gains self.entry.section.now (entries.Sub ty.now) self.exit.0.now) }
+        ensures err { OnErr result (self.exit.0.now ≡ self.entry.section.now) }
+        ensures too_long { IsErrOf result EncodeError.TooLong → IsFull self.entry.section.now ⊎ IsNone (sub_encoding ty.now) }
+        ensures alignment { ¬ IsErrOf result EncodeError.Alignment }
+    {
+        let CoreTypeEncoder { section } = self;
+        section.add(ty)
+    }
+
+    /// Adds a function type of the parameters and results that two iterators give: final, without supertypes, not
+    /// shared.
+    ///
+    /// `TooLong` where there are 4,294,967,295 entries, or more parameters or results than that, before any is asked
+    /// for.
+    pub fn function<P: ExactSizeIterator<Item = ValType>, R: ExactSizeIterator<Item = ValType>>(
+        self,
+        params: P,
+        results: R,
+    ) -> Result<(), EncodeError>
+        requires params { IsExact P.can_next P.next_gives P.remaining params }
+        requires results { IsExact R.can_next R.next_gives R.remaining results }
+        ensures ok { OnOk result (OfBoth P.next_gives R.next_gives params results (λ ty.
+            Gains self.entry.section.now (plain_entry (inner.Func ty)) self.exit.0.now)) }
+        ensures err { OnErr result (self.exit.0.now ≡ self.entry.section.now) }
+        ensures too_long { IsErrOf result EncodeError.TooLong →
+            IsFull self.entry.section.now ⊎ (2 ^ 32 ≤ size (P.remaining params)) ⊎ (2 ^ 32 ≤ size (R.remaining results)) }
+        ensures alignment { ¬ IsErrOf result EncodeError.Alignment }
+    {
+        let CoreTypeEncoder { section } = self;
+        let count = section.next_count()?;
+        let start = section.bytes.len();
+        let appended = append_function(params, results, &mut section.bytes);
+        section.settle(start, count, appended)
+    }
+
+    /// Adds a structure of the fields that an iterator gives: final, without supertypes, not shared.
+    ///
+    /// `TooLong` where there are 4,294,967,295 entries, or more fields than that, before any is asked for.
+    pub fn struct_<F: ExactSizeIterator<Item = FieldType>>(
+        self,
+        fields: F,
+    ) -> Result<(), EncodeError>
+        requires { IsExact F.can_next F.next_gives F.remaining fields }
+        ensures ok { OnOk result (OfItems F.next_gives fields (λ fields.
+            Gains self.entry.section.now (struct_entry fields) self.exit.0.now)) }
+        ensures err { OnErr result (self.exit.0.now ≡ self.entry.section.now) }
+        ensures too_long { IsErrOf result EncodeError.TooLong →
+            IsFull self.entry.section.now ⊎ (2 ^ 32 ≤ size (F.remaining fields)) }
+        ensures alignment { ¬ IsErrOf result EncodeError.Alignment }
+    {
+        let CoreTypeEncoder { section } = self;
+        let count = section.next_count()?;
+        let start = section.bytes.len();
+        let appended = append_tagged(0x5f, fields, &mut section.bytes);
+        section.settle(start, count, appended)
+    }
+
+    /// Adds a group of the types that an iterator gives. It is one entry.
+    ///
+    /// `TooLong` where there are 4,294,967,295 entries, or more types than that, before any is asked for, or where a
+    /// list in a type is too long.
+    pub fn rec<S: ExactSizeIterator<Item = SubType>>(self, types: S) -> Result<(), EncodeError>
+        requires { IsExact S.can_next S.next_gives S.remaining types }
+        ensures ok { OnOk result (OfItems S.next_gives types (λ types.
+            Gains self.entry.section.now (entries.Rec types) self.exit.0.now)) }
+        ensures err { OnErr result (self.exit.0.now ≡ self.entry.section.now) }
+        ensures too_long { IsErrOf result EncodeError.TooLong →
+            IsFull self.entry.section.now ⊎ HasNoText sub_encoding S.next_gives S.remaining types }
+        ensures alignment { ¬ IsErrOf result EncodeError.Alignment }
+    {
+        let CoreTypeEncoder { section } = self;
+        let count = section.next_count()?;
+        let start = section.bytes.len();
+        let appended = append_tagged(0x4e, types, &mut section.bytes);
+        section.settle(start, count, appended)
+    }
+}
+
+/// Appends a byte and the list that an iterator gives. An `Err` can leave a part of it.
+fn append_tagged<T: Encode + Drop, I: ExactSizeIterator<Item = T>>(
+    tag: u8,
+    items: I,
+    bytes: &mut Vec<u8>,
+) -> Result<(), EncodeError>
+    requires { IsExact I.can_next I.next_gives I.remaining items }
+    ensures ok { OnOk result (OfItems I.next_gives items (λ xs.
+        IsSomeAnd (both_texts (Some (tag ∷ [])) (list_text T.text xs)) (λ t. bytes.new.items ≡ bytes.old.items ++ t))) }
+    ensures too_long { IsErrOf result EncodeError.TooLong → HasNoText T.text I.next_gives I.remaining items }
+    ensures misaligned { IsErrOf result EncodeError.Alignment → GivesMisaligned T.misaligned I.next_gives items }
+    ensures kept { take (length bytes.old.items) bytes.new.items ≡ bytes.old.items }
+{
+    bytes.reserve(1)?;
+    bytes.push_reserved(tag);
+    append_items(items, bytes)
+}
+
+/// Appends a function type of what two iterators give. An `Err` can leave a part of it.
+fn append_function<P: ExactSizeIterator<Item = ValType>, R: ExactSizeIterator<Item = ValType>>(
+    params: P,
+    results: R,
+    bytes: &mut Vec<u8>,
+) -> Result<(), EncodeError>
+    requires params { IsExact P.can_next P.next_gives P.remaining params }
+    requires results { IsExact R.can_next R.next_gives R.remaining results }
+    ensures ok { OnOk result (OfBoth P.next_gives R.next_gives params results (λ ty.
+        IsSomeAnd (func_encoding ty) (λ t. bytes.new.items ≡ bytes.old.items ++ t))) }
+    ensures too_long { IsErrOf result EncodeError.TooLong →
+        (2 ^ 32 ≤ size (P.remaining params)) ⊎ (2 ^ 32 ≤ size (R.remaining results)) }
+    ensures alignment { ¬ IsErrOf result EncodeError.Alignment }
+    ensures kept { take (length bytes.old.items) bytes.new.items ≡ bytes.old.items }
+{
+    if u32::try_from(results.len()).is_err() {
+        return Err(EncodeError::TooLong);
+    }
+    append_tagged(0x60, params, bytes)?;
+    append_items(results, bytes)
+}
+
+/// Appends the size, the count and the entries of a section. An `Err` can leave a part of them.
+fn append_section<A: Allocator>(
+    section: &TypeSection,
+    sink: &mut Vec<u8, A>,
+) -> Result<(), EncodeError>
+    ensures ok { OnOk result (IsSomeAnd (section_text section.now) (λ t. sink.new.items ≡ sink.old.items ++ t)) }
+    ensures too_long { IsErrOf result EncodeError.TooLong → IsNone (section_text section.now) }
+    ensures alignment { ¬ IsErrOf result EncodeError.Alignment }
+    ensures kept { take (length sink.old.items) sink.new.items ≡ sink.old.items }
+{
+    let size = u32_len(section.count) + section.bytes.len();
+    sink.reserve(10)?;
+    size.encode(sink)?;
+    section.count.encode(sink)?;
+    sink.extend_from_slice(section.bytes.as_slice())?;
+    Ok(())
+}

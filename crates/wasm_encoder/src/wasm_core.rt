@@ -1,0 +1,188 @@
+//! Sections and modules (Core 3.0, 5.5).
+ghost use Rattle.std.specs.Prelude.{◌≡◌, ◌++◌, ◌∷◌, ℕ, List, Some, [], IfOk, IfErr, OnOk, OnErr, IsErrOf, IsSomeAnd, IsNone, length};
+ghost use Rattle.wasm_encoder.specs.Modules.{header, section_id};
+ghost use Rattle.wasm_values.specs.declared.encode.EncodeError.TheVariants.{Memory};
+
+use std::alloc::{Allocator, Global};
+use std::marker::Model;
+use wasm_values::encode::{Encode, EncodeError};
+
+/// A section of a module: an id, and a text that is the section's size and its body.
+///
+/// Callers implement it for their own sections. Any id may be given, and a module takes any text.
+pub trait Section: Encode {
+    /// The id of the section.
+    ghost id: { Self → ℕ };
+
+    /// The id of the section.
+    fn id(&self) -> u8
+        ensures { result ≡ id self.now };
+
+    /// Appends the id and the text of the section to `dst`, or leaves `dst` as it was.
+    fn append_to<A: Allocator>(&self, dst: &mut Vec<u8, A>) -> Result<(), EncodeError>
+        ensures ok { OnOk result (IsSomeAnd (Self.text self.now) (λ t. dst.new.items ≡ dst.old.items ++ id self.now ∷ t)) }
+        ensures too_long { IsErrOf result EncodeError.TooLong → IsNone (Self.text self.now) }
+        ensures alignment { IsErrOf result EncodeError.Alignment → IsNone (Self.text self.now) }
+        ensures misaligned { IsErrOf result EncodeError.Alignment → Self.misaligned self.now }
+        ensures err { OnErr result (dst.new.items ≡ dst.old.items) }
+    {
+        let start = dst.len();
+        dst.reserve(1)?;
+        dst.push_reserved(self.id());
+        let result = self.encode(dst);
+        if result.is_err() {
+            dst.truncate(start);
+        }
+        result
+    }
+}
+
+/// The ids of the sections that the standard and this project's proposals know.
+#[derive(Clone, Copy, Debug, PartialEq, Eq, PartialOrd, Ord)]
+pub enum SectionId {
+    /// Custom sections.
+    Custom,
+    /// Types.
+    Types,
+    /// Imports.
+    Import,
+    /// Functions.
+    Function,
+    /// Tables.
+    Table,
+    /// Memories.
+    Memory,
+    /// Globals.
+    Global,
+    /// Exports.
+    Export,
+    /// The start function.
+    Start,
+    /// Element segments.
+    Element,
+    /// Code.
+    Code,
+    /// Data segments.
+    Data,
+    /// The number of data segments.
+    DataCount,
+    /// Tags.
+    Tag,
+}
+
+impl From<SectionId> for u8 {
+    ghost from_gives = { λ id byte. byte ≡ section_id id };
+
+    fn from(id: SectionId) -> u8 {
+        match id {
+            SectionId::Custom => 0,
+            SectionId::Types => 1,
+            SectionId::Import => 2,
+            SectionId::Function => 3,
+            SectionId::Table => 4,
+            SectionId::Memory => 5,
+            SectionId::Global => 6,
+            SectionId::Export => 7,
+            SectionId::Start => 8,
+            SectionId::Element => 9,
+            SectionId::Code => 10,
+            SectionId::Data => 11,
+            SectionId::DataCount => 12,
+            SectionId::Tag => 13,
+        }
+    }
+}
+
+/// One byte (Core 3.0, 5.5.2).
+impl Encode for SectionId {
+    ghost text = { λ id. Some (section_id id ∷ []) };
+
+    ghost misaligned = { λ _. ⊥ };
+
+    fn encode<A: Allocator>(&self, sink: &mut Vec<u8, A>) -> Result<(), EncodeError> {
+        sink.reserve(1)?;
+        sink.push_reserved(u8::from(*self));
+        Ok(())
+    }
+}
+
+/// A module as bytes: a header, and then each section's id and text (Core 3.0, 5.5.16).
+///
+/// In contracts it is its bytes.
+#[derive(Debug, Drop)]
+pub struct Module {
+    bytes: Vec<u8>,
+}
+
+impl Model for Module {
+    ghost use Rattle.std.specs.Prelude.{ℕ, List};
+
+    ghost Value = { List ℕ };
+
+    ghost view = { λ m. m.bytes.items };
+}
+
+impl Module {
+    /// The bytes that every module begins with: the magic number and the version.
+    pub const HEADER: [u8; 8] = [0x00, 0x61, 0x73, 0x6D, 0x01, 0x00, 0x00, 0x00];
+
+    /// A module without sections.
+    pub fn new(alloc: Global) -> Result<Module, EncodeError>
+        ensures ok { IfOk result (λ m. m ≡ header) }
+        ensures err { IfErr result (λ e. e ≡ Memory) }
+    {
+        let bytes = Vec::from_slice(alloc, &Module::HEADER)?;
+        Ok(Module { bytes })
+    }
+
+    /// Appends the id of a section and its text, or leaves the module as it was.
+    ///
+    /// The section's own `append_to` is never called.
+    pub fn section<S: Section>(&mut self, section: &S) -> Result<(), EncodeError>
+        ensures ok { OnOk result (IsSomeAnd (S.text section.now) (λ t. self.new ≡ self.old ++ S.id section.now ∷ t)) }
+        ensures too_long { IsErrOf result EncodeError.TooLong → IsNone (S.text section.now) }
+        ensures alignment { IsErrOf result EncodeError.Alignment → IsNone (S.text section.now) }
+        ensures misaligned { IsErrOf result EncodeError.Alignment → S.misaligned section.now }
+        ensures err { OnErr result (self.new ≡ self.old) }
+    {
+        let start = self.bytes.len();
+        self.bytes.reserve(1)?;
+        self.bytes.push_reserved(section.id());
+        let result = section.encode(&mut self.bytes);
+        if result.is_err() {
+            self.bytes.truncate(start);
+        }
+        result
+    }
+
+    /// The bytes of the module.
+    pub fn as_slice(&self) -> &[u8]
+        ensures value { result.now ≡ self.now }
+    {
+        self.bytes.as_slice()
+    }
+
+    /// How many bytes the module has.
+    pub fn len(&self) -> usize
+        ensures { result ≡ length self.now }
+    {
+        self.bytes.len()
+    }
+
+    /// The bytes of the module, as the list that they are kept in.
+    pub fn finish(self) -> Vec<u8>
+        ensures { result.items ≡ self }
+    {
+        let Module { bytes } = self;
+        bytes
+    }
+
+    /// An equal module.
+    pub fn try_clone(&self) -> Result<Module, EncodeError>
+        ensures ok { IfOk result (λ m. m ≡ self.now) }
+        ensures err { IfErr result (λ e. e ≡ Memory) }
+    {
+        let bytes = Vec::from_slice(*self.bytes.allocator(), self.bytes.as_slice())?;
+        Ok(Module { bytes })
+    }
+}

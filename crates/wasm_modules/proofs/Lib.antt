@@ -1,7 +1,0 @@
-pub mod HeaderLaws
-pub mod ModuleLaws
-pub mod SizedLaws
-pub mod TypedModuleLaws
-pub mod TypeBodyLaws
-pub mod TypeSectionLaws
-pub mod IteratorLaws

@@ -1,4 +1,0 @@
-pub mod Modules
-pub mod TypeSections
-pub mod Sized
-pub mod TypedModules
