@@ -5,3 +5,4 @@ pub mod TypedModuleLaws
 pub mod TypeBodyLaws
 pub mod TypeSectionLaws
 pub mod IteratorLaws
+pub mod RewritingLaws
