@@ -6,3 +6,4 @@ pub mod TypedModuleLaws
 pub mod TypeBodyLaws
 pub mod TypeSectionLaws
 pub mod IteratorLaws
+pub mod RewritingLaws

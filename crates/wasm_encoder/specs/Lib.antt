@@ -19,3 +19,4 @@ pub mod Modules
 pub mod TypeSections
 pub mod Sized
 pub mod TypedModules
+pub mod Rewriting

@@ -1,17 +1,17 @@
 //! Bodies of type sections (Core 3.0, 5.5.4).
-ghost use Rattle.std.specs.Prelude.{◌≡◌, ◌↔◌, ◌++◌, List, IfOk, IfErr, OnOk};
+ghost use Rattle.std.specs.Prelude.{◌≡◌, ◌↔◌, ◌++◌, List, IfOk, OnOk};
 ghost use Rattle.wasm_values.specs.Answers.{IsOrMemory, IfRefused, IsLongestFront, IsNormalForm};
 ghost use Rattle.wasm_values.specs.Numbers.{unsigned_text};
 ghost use Rattle.wasm_values.specs.Encoding.{IsTextOrLonger};
-ghost use Rattle.wasm_types.specs.CompositeTypes.{SpellsTypeBody, IsTypeBodyFront, entry_text, type_body_text};
+ghost use Rattle.wasm_types.specs.CompositeTypes.{SpellsTypeBody, IsTypeBodyFront, list_at, items_text, sub_type_at, sub_type_text, entry_at, entry_text, type_body_text};
 ghost use Rattle.wasm_types.specs.declared.types.composite.TypeEntry.{TypeEntry};
-ghost use Rattle.wasm_values.specs.declared.reader.ReadError.TheVariants.{Memory};
+ghost use Rattle.wasm_encoder.specs.Rewriting.{Rewrites};
 
-use std::alloc::Global;
-use wasm_types::reader::read_entry;
-use wasm_types::types::TypeEntry;
+use std::alloc::{AllocError, Global};
+use wasm_types::reader::{Readable, read_entry};
+use wasm_types::types::{SubType, TypeEntry};
 use wasm_values::encode::Encode;
-use wasm_values::reader::cursor::Cursor;
+use wasm_values::reader::cursor::{Cursor, Fault};
 use wasm_values::reader::{ReadError, read_error};
 
 /// The entries that the body of a type section spells, in any spelling (Core 3.0, 5.5.4).
@@ -104,9 +104,8 @@ pub(super) fn body_text_of(alloc: Global, body: &[u8]) -> Result<Vec<u8>, ReadEr
     append_count(&mut text, count)?;
     for _ in 0..count {
         let at = body.len() - cursor.len();
-        match read_entry(alloc, &mut cursor) {
-            Ok(entry) => append_entry(&mut text, &entry)?,
-            Err(fault) => return Err(read_error(fault, at)),
+        if let Err(fault) = rewrite_entry(alloc, &mut cursor, &mut text) {
+            return Err(read_error(fault, at));
         }
     }
     if cursor.len() > 0 {
@@ -116,21 +115,52 @@ pub(super) fn body_text_of(alloc: Global, body: &[u8]) -> Result<Vec<u8>, ReadEr
     Ok(text)
 }
 
-/// Appends the text of a count.
-fn append_count(text: &mut Vec<u8>, count: u32) -> Result<(), ReadError>
-    ensures ok { OnOk result (text.new.items ≡ text.old.items ++ unsigned_text count) }
-    ensures err { IfErr result (λ e. e ≡ Memory) }
+/// Appends the text of the entry at the front. Of a group one member at a time is held.
+fn rewrite_entry(alloc: Global, cursor: &mut Cursor<'_>, text: &mut Vec<u8>) -> Result<(), Fault>
+    ensures rewrites { Rewrites entry_at entry_text cursor.old cursor.new text.old.items text.new.items result }
 {
-    count.encode(text).map_err(|_| ReadError::Memory)
+    if cursor.peek()? == 0x4e {
+        cursor.byte()?;
+        text.push(0x4e)?;
+        return rewrite_members(alloc, cursor, text);
+    }
+    rewrite_sub_type(alloc, cursor, text)
 }
 
-/// Appends the text of an entry that was read. Its lists have counts that were read, so only memory can be wanting.
-fn append_entry(text: &mut Vec<u8>, entry: &TypeEntry) -> Result<(), ReadError>
-    ensures ok { OnOk result (text.new.items ≡ text.old.items ++ entry_text entry.now) }
-    ensures err { IfErr result (λ e. e ≡ Memory) }
+/// Appends the text of the list of subtypes at the front: the count, and then each as it is read.
+fn rewrite_members(alloc: Global, cursor: &mut Cursor<'_>, text: &mut Vec<u8>) -> Result<(), Fault>
+    ensures rewrites { Rewrites (list_at sub_type_at) (items_text sub_type_text) cursor.old cursor.new text.old.items text.new.items result }
 {
-    match entry.encode(text) {
-        Ok(()) => Ok(()),
-        Err(_) => Err(ReadError::Memory),
+    let count = cursor.u32()?;
+    append_count(text, count)?;
+    for _ in 0..count {
+        rewrite_sub_type(alloc, cursor, text)?;
     }
+    Ok(())
+}
+
+/// Appends the text of the subtype at the front.
+fn rewrite_sub_type(alloc: Global, cursor: &mut Cursor<'_>, text: &mut Vec<u8>) -> Result<(), Fault>
+    ensures rewrites { Rewrites sub_type_at sub_type_text cursor.old cursor.new text.old.items text.new.items result }
+{
+    let ty = SubType::read(alloc, cursor)?;
+    append_sub_type(text, &ty)?;
+    Ok(())
+}
+
+/// Appends the text of a subtype that was read. Its lists have counts that were read, so only memory can be wanting.
+fn append_sub_type(text: &mut Vec<u8>, ty: &SubType) -> Result<(), AllocError>
+    ensures ok { OnOk result (text.new.items ≡ text.old.items ++ sub_type_text ty.now) }
+{
+    match ty.encode(text) {
+        Ok(()) => Ok(()),
+        Err(_) => Err(AllocError),
+    }
+}
+
+/// Appends the text of a count.
+fn append_count(text: &mut Vec<u8>, count: u32) -> Result<(), AllocError>
+    ensures ok { OnOk result (text.new.items ≡ text.old.items ++ unsigned_text count) }
+{
+    count.encode(text).map_err(|_| AllocError)
 }
