@@ -31,6 +31,15 @@ fn call(number: u32, operands: Operands) -> Result<Call, Fail> {
     Ok(Call::new(plain(number), operands)?)
 }
 
+/// Such calls, one after the other.
+fn calls_of(alloc: Global, rows: &[(u32, Operands)]) -> Result<Vec<Call>, Fail> {
+    let mut calls = Vec::new(alloc);
+    for (number, operands) in rows {
+        calls.push(call(*number, operands.try_clone()?)?)?;
+    }
+    Ok(calls)
+}
+
 /// The bytes that a row gives in hex.
 fn bytes(alloc: Global, hex: &str) -> Result<Vec<u8>, Fail> {
     Ok(hex::decode(alloc, hex)?)

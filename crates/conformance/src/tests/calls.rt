@@ -277,21 +277,40 @@ fn worked_calls(rt: HostRuntime) -> Result<(), Fail> {
         nullable: true,
         heap_type: HeapType::Exact(4294967295),
     };
-    let cast = Opcode {
-        prefix: Prefix::Fb,
-        number: 0x18,
-    };
-    let calls = [
-        call(0x1f, Operands::TryTable(BlockType::Empty, clauses))?,
-        call(0xe3, Operands::Resume(3, handlers))?,
-        call(0x43, Operands::F32(Ieee32::new(1065353216)))?,
-        Call::new(cast, Operands::Cast(4294967295, exact, exact))?,
-        call(0xe4, Operands::ResumeThrow(1, 2, Items::new(rt.alloc())))?,
-    ];
-    check_written(
-        &rt,
-        rt.alloc(),
-        &calls,
-        "1F40020001000302E303020000010102430000803FFB1803FFFFFFFF0F62FFFFFFFF0F62FFFFFFFF0FE4010200",
-    )
+    for (prefix, number, operands, text) in [
+        (
+            Prefix::None,
+            0x1f,
+            Operands::TryTable(BlockType::Empty, clauses),
+            "1F40020001000302",
+        ),
+        (
+            Prefix::None,
+            0xe3,
+            Operands::Resume(3, handlers),
+            "E303020000010102",
+        ),
+        (
+            Prefix::None,
+            0x43,
+            Operands::F32(Ieee32::new(1065353216)),
+            "430000803F",
+        ),
+        (
+            Prefix::Fb,
+            0x18,
+            Operands::Cast(4294967295, exact, exact),
+            "FB1803FFFFFFFF0F62FFFFFFFF0F62FFFFFFFF0F",
+        ),
+        (
+            Prefix::None,
+            0xe4,
+            Operands::ResumeThrow(1, 2, Items::new(rt.alloc())),
+            "E4010200",
+        ),
+    ] {
+        let call = Call::new(Opcode { prefix, number }, operands)?;
+        check_written(&rt, rt.alloc(), &[call], text)?;
+    }
+    Ok(())
 }

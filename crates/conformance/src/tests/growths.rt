@@ -1,6 +1,6 @@
 //! Lists of bytes whose memory is refused: by an allocator that grants so many requests and refuses the others.
 
-use super::{bytes, call};
+use super::{bytes, call, calls_of};
 use rationed::Rationed;
 use std::alloc::{Allocator, Global};
 use std::process::Abort;
@@ -88,12 +88,15 @@ fn refuse_each(rt: &impl Abort, alloc: Global, text: &Text<'_>, hex: &str) -> Re
 #[test]
 fn growths_are_refused(rt: HostRuntime) -> Result<(), Fail> {
     let end = call(0x0b, Operands::None)?;
-    let calls = [
-        call(0x20, Operands::Index(0))?,
-        call(0x20, Operands::Index(1))?,
-        call(0x6a, Operands::None)?,
-        call(0x0b, Operands::None)?,
-    ];
+    let calls = calls_of(
+        rt.alloc(),
+        &[
+            (0x20, Operands::Index(0)),
+            (0x20, Operands::Index(1)),
+            (0x6a, Operands::None),
+            (0x0b, Operands::None),
+        ],
+    )?;
     for (text, hex) in [
         (Text::Number(Token::U32(624485)), "2AE58E26"),
         (Text::Number(Token::U64(4398046511104)), "2A80808080808001"),

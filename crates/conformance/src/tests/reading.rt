@@ -1,23 +1,23 @@
 //! What is read, and the normal forms.
 
-use super::{bytes, call};
+use super::{bytes, calls_of};
 use std::test::Fail;
 use wasm_encoder::{Operands, ReadError, normalise_instructions, read_instructions};
 
 #[test]
 fn calls_are_read(rt: HostRuntime) -> Result<(), Fail> {
-    let code = bytes(rt.alloc(), "200020016A0B")?;
-    let calls = [
-        call(0x20, Operands::Index(0))?,
-        call(0x20, Operands::Index(1))?,
-        call(0x6a, Operands::None)?,
-        call(0x0b, Operands::None)?,
-    ];
+    let code = bytes(rt.alloc(), "200020016A0B41FFFFFFFF07")?;
+    let calls = calls_of(
+        rt.alloc(),
+        &[
+            (0x20, Operands::Index(0)),
+            (0x20, Operands::Index(1)),
+            (0x6a, Operands::None),
+            (0x0b, Operands::None),
+            (0x41, Operands::I32(2147483647)),
+        ],
+    )?;
     let read = read_instructions(rt.alloc(), code.as_slice())?;
-    assert_eq!(rt; read.as_slice(), calls.as_slice());
-    let code = bytes(rt.alloc(), "41FFFFFFFF07")?;
-    let read = read_instructions(rt.alloc(), code.as_slice())?;
-    let calls = [call(0x41, Operands::I32(2147483647))?];
     assert_eq!(rt; read.as_slice(), calls.as_slice());
     Ok(())
 }

@@ -1,30 +1,49 @@
 //! What is written: by the sink's methods, by calls of the table, and by encoded numbers.
 
-use super::{bytes, call};
+use super::{bytes, calls_of};
 use std::alloc::Global;
 use std::process::Abort;
 use std::test::Fail;
 use wasm_encoder::{Call, Encode, EncodeError, InstructionSink, Operands};
 
-#[test]
-fn a_chain_of_calls(rt: HostRuntime) -> Result<(), Fail> {
-    let mut code = Vec::new(rt.alloc());
+/// The calls are written as the methods wrote them, one by one and all at once.
+fn as_calls(rt: &impl Abort, alloc: Global, calls: &[Call], code: &Vec<u8>) -> Result<(), Fail> {
+    let mut one_by_one = Vec::new(alloc);
+    for call in calls {
+        InstructionSink::new(&mut one_by_one).write_call(call)?;
+    }
+    assert_eq!(rt; one_by_one.as_slice(), code.as_slice());
+    let mut at_once = Vec::new(alloc);
+    InstructionSink::new(&mut at_once).write_calls(calls)?;
+    assert_eq!(rt; at_once.as_slice(), code.as_slice());
+    Ok(())
+}
+
+/// A chain of calls.
+fn a_sum(alloc: Global) -> Result<Vec<u8>, Fail> {
+    let mut code = Vec::new(alloc);
     InstructionSink::new(&mut code)
         .local_get(0)?
         .local_get(1)?
         .i32_add()?
         .end()?;
+    Ok(code)
+}
+
+#[test]
+fn a_chain_of_calls(rt: HostRuntime) -> Result<(), Fail> {
+    let code = a_sum(rt.alloc())?;
     assert_eq!(rt; code, bytes(rt.alloc(), "200020016A0B")?);
-    let calls = [
-        call(0x20, Operands::Index(0))?,
-        call(0x20, Operands::Index(1))?,
-        call(0x6a, Operands::None)?,
-        call(0x0b, Operands::None)?,
-    ];
-    let mut same = Vec::new(rt.alloc());
-    InstructionSink::new(&mut same).write_calls(calls.as_slice())?;
-    assert_eq!(rt; same, code);
-    Ok(())
+    let same = calls_of(
+        rt.alloc(),
+        &[
+            (0x20, Operands::Index(0)),
+            (0x20, Operands::Index(1)),
+            (0x6a, Operands::None),
+            (0x0b, Operands::None),
+        ],
+    )?;
+    as_calls(&rt, rt.alloc(), same.as_slice(), &code)
 }
 
 #[test]
@@ -82,22 +101,9 @@ fn error_texts(rt: HostRuntime) -> Result<(), Fail> {
     Ok(())
 }
 
-/// The calls are written as the methods wrote them, one by one and all at once.
-fn as_calls(rt: &impl Abort, alloc: Global, calls: &[Call], code: &Vec<u8>) -> Result<(), Fail> {
-    let mut one_by_one = Vec::new(alloc);
-    for call in calls {
-        InstructionSink::new(&mut one_by_one).write_call(call)?;
-    }
-    assert_eq!(rt; one_by_one.as_slice(), code.as_slice());
-    let mut at_once = Vec::new(alloc);
-    InstructionSink::new(&mut at_once).write_calls(calls)?;
-    assert_eq!(rt; at_once.as_slice(), code.as_slice());
-    Ok(())
-}
-
-#[test]
-fn methods_without_operands(rt: HostRuntime) -> Result<(), Fail> {
-    let mut code = Vec::new(rt.alloc());
+/// A chain of calls without operands.
+fn without_operands(alloc: Global) -> Result<Vec<u8>, Fail> {
+    let mut code = Vec::new(alloc);
     InstructionSink::new(&mut code)
         .unreachable()?
         .nop()?
@@ -106,21 +112,30 @@ fn methods_without_operands(rt: HostRuntime) -> Result<(), Fail> {
         .select()?
         .i32_add()?
         .i32_sub()?;
-    let calls = [
-        call(0x00, Operands::None)?,
-        call(0x01, Operands::None)?,
-        call(0x0b, Operands::None)?,
-        call(0x1a, Operands::None)?,
-        call(0x1b, Operands::None)?,
-        call(0x6a, Operands::None)?,
-        call(0x6b, Operands::None)?,
-    ];
-    as_calls(&rt, rt.alloc(), calls.as_slice(), &code)
+    Ok(code)
 }
 
 #[test]
-fn methods_with_operands(rt: HostRuntime) -> Result<(), Fail> {
-    let mut code = Vec::new(rt.alloc());
+fn methods_without_operands(rt: HostRuntime) -> Result<(), Fail> {
+    let code = without_operands(rt.alloc())?;
+    let same = calls_of(
+        rt.alloc(),
+        &[
+            (0x00, Operands::None),
+            (0x01, Operands::None),
+            (0x0b, Operands::None),
+            (0x1a, Operands::None),
+            (0x1b, Operands::None),
+            (0x6a, Operands::None),
+            (0x6b, Operands::None),
+        ],
+    )?;
+    as_calls(&rt, rt.alloc(), same.as_slice(), &code)
+}
+
+/// A chain of calls with a number each.
+fn with_operands(alloc: Global) -> Result<Vec<u8>, Fail> {
+    let mut code = Vec::new(alloc);
     InstructionSink::new(&mut code)
         .br(1)?
         .call(2)?
@@ -129,14 +144,23 @@ fn methods_with_operands(rt: HostRuntime) -> Result<(), Fail> {
         .local_tee(5)?
         .i32_const(-6)?
         .i64_const(-7)?;
-    let calls = [
-        call(0x0c, Operands::Index(1))?,
-        call(0x10, Operands::Index(2))?,
-        call(0x20, Operands::Index(3))?,
-        call(0x21, Operands::Index(4))?,
-        call(0x22, Operands::Index(5))?,
-        call(0x41, Operands::I32(-6))?,
-        call(0x42, Operands::I64(-7))?,
-    ];
-    as_calls(&rt, rt.alloc(), calls.as_slice(), &code)
+    Ok(code)
+}
+
+#[test]
+fn methods_with_operands(rt: HostRuntime) -> Result<(), Fail> {
+    let code = with_operands(rt.alloc())?;
+    let same = calls_of(
+        rt.alloc(),
+        &[
+            (0x0c, Operands::Index(1)),
+            (0x10, Operands::Index(2)),
+            (0x20, Operands::Index(3)),
+            (0x21, Operands::Index(4)),
+            (0x22, Operands::Index(5)),
+            (0x41, Operands::I32(-6)),
+            (0x42, Operands::I64(-7)),
+        ],
+    )?;
+    as_calls(&rt, rt.alloc(), same.as_slice(), &code)
 }
