@@ -29,25 +29,66 @@ pub fn encode<A: Allocator>(
     token: &str,
     bytes: &mut Vec<u8, A>,
 ) -> Result<(), Mismatch> {
-    match token.split_once(':') {
-        None if token == "none" => None::<Token>.encode(bytes)?,
-        Some(("some", number)) => Some(parse_token(number)?).encode(bytes)?,
-        Some(("list", items)) => encode_list(numbers(alloc, items)?.as_slice(), bytes)?,
-        Some(("bytes", hex)) => encode_bytes(hex::decode(alloc, hex)?.as_slice(), bytes)?,
-        Some(("str", hex)) => {
-            let text = String::from_utf8(hex::decode(alloc, hex)?);
+    let (kind, value) = token.split_once(':').unwrap_or((token, ""));
+    match kind {
+        "list" | "bytes" | "str" => encode_items(alloc, kind, value, bytes),
+        "absheap" | "heap" | "ref" | "val" | "storage" => encode_type(kind, value, bytes),
+        "block" | "memarg" | "catch" | "handle" => encode_operand(token, bytes),
+        _ => encode_number(token, bytes),
+    }
+}
+
+/// Encodes a list of numbers, bytes or a text.
+fn encode_items<A: Allocator>(
+    alloc: Global,
+    kind: &str,
+    items: &str,
+    bytes: &mut Vec<u8, A>,
+) -> Result<(), Mismatch> {
+    match kind {
+        "list" => encode_list(numbers(alloc, items)?.as_slice(), bytes)?,
+        "bytes" => encode_bytes(hex::decode(alloc, items)?.as_slice(), bytes)?,
+        _ => {
+            let text = String::from_utf8(hex::decode(alloc, items)?);
             encode_str(text.map_err(|_| Mismatch::NotUnderstood)?.as_str(), bytes)?
         }
-        Some(("sectionid", name)) => section_id(name)?.encode(bytes)?,
-        Some(("absheap", text)) => known(abstract_heap_type(text))?.encode(bytes)?,
-        Some(("heap", text)) => known(heap_type(text))?.encode(bytes)?,
-        Some(("ref", text)) => known(ref_type(text))?.encode(bytes)?,
-        Some(("val", text)) => known(val_type(text))?.encode(bytes)?,
-        Some(("storage", text)) => known(storage_type(text))?.encode(bytes)?,
+    }
+    Ok(())
+}
+
+/// Encodes a type.
+fn encode_type<A: Allocator>(
+    kind: &str,
+    text: &str,
+    bytes: &mut Vec<u8, A>,
+) -> Result<(), Mismatch> {
+    match kind {
+        "absheap" => known(abstract_heap_type(text))?.encode(bytes)?,
+        "heap" => known(heap_type(text))?.encode(bytes)?,
+        "ref" => known(ref_type(text))?.encode(bytes)?,
+        "val" => known(val_type(text))?.encode(bytes)?,
+        _ => known(storage_type(text))?.encode(bytes)?,
+    }
+    Ok(())
+}
+
+/// Encodes an operand of instructions.
+fn encode_operand<A: Allocator>(token: &str, bytes: &mut Vec<u8, A>) -> Result<(), Mismatch> {
+    match token.split_once(':') {
         Some(("block", text)) => known(block_type(text))?.encode(bytes)?,
         Some(("memarg", text)) => known(memarg(text))?.encode(bytes)?,
         Some(("catch", _)) => known(catch(token))?.encode(bytes)?,
-        Some(("handle", _)) => known(handler(token))?.encode(bytes)?,
+        _ => known(handler(token))?.encode(bytes)?,
+    }
+    Ok(())
+}
+
+/// Encodes a number, one that may be missing, or a section's id.
+fn encode_number<A: Allocator>(token: &str, bytes: &mut Vec<u8, A>) -> Result<(), Mismatch> {
+    match token.split_once(':') {
+        None if token == "none" => None::<Token>.encode(bytes)?,
+        Some(("some", number)) => Some(parse_token(number)?).encode(bytes)?,
+        Some(("sectionid", name)) => section_id(name)?.encode(bytes)?,
         _ => parse_token(token)?.encode(bytes)?,
     }
     Ok(())
