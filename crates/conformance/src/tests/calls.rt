@@ -111,17 +111,22 @@ fn with_lists(alloc: Global) -> Result<[(Prefix, u32, Operands, Kind); 5], Fail>
     ])
 }
 
+/// The call is made of the opcode and the operands, and copied.
+fn is_made(rt: &impl Abort, op: Opcode, operands: Operands, kind: Kind) -> Result<(), Fail> {
+    assert_eq!(rt; operands.kind(), kind);
+    let same = operands.try_clone()?;
+    assert_eq!(rt; same, operands);
+    let call = Call::new(op, operands)?;
+    assert_eq!(rt; call.op(), op);
+    assert_eq!(rt; *call.operands(), same);
+    assert_eq!(rt; call.try_clone()?, call);
+    Ok(())
+}
+
 #[test]
 fn calls_are_made(rt: HostRuntime) -> Result<(), Fail> {
     for (prefix, number, operands, kind) in fixed() {
-        let op = Opcode { prefix, number };
-        assert_eq!(rt; operands.kind(), kind);
-        let same = operands.try_clone()?;
-        assert_eq!(rt; same, operands);
-        let call = Call::new(op, operands)?;
-        assert_eq!(rt; call.op(), op);
-        assert_eq!(rt; *call.operands(), same);
-        assert_eq!(rt; call.try_clone()?, call);
+        is_made(&rt, Opcode { prefix, number }, operands, kind)?;
     }
     Ok(())
 }
@@ -129,67 +134,63 @@ fn calls_are_made(rt: HostRuntime) -> Result<(), Fail> {
 #[test]
 fn calls_with_lists_are_made(rt: HostRuntime) -> Result<(), Fail> {
     for (prefix, number, operands, kind) in with_lists(rt.alloc())? {
-        let op = Opcode { prefix, number };
-        assert_eq!(rt; operands.kind(), kind);
-        let same = operands.try_clone()?;
-        assert_eq!(rt; same, operands);
-        let call = Call::new(op, operands)?;
-        assert_eq!(rt; call.op(), op);
-        assert_eq!(rt; *call.operands(), same);
-        assert_eq!(rt; call.try_clone()?, call);
+        is_made(&rt, Opcode { prefix, number }, operands, kind)?;
     }
     Ok(())
 }
 
+/// No call is made of the opcode and the operands, which are handed back.
+fn is_handed_back(rt: &impl Abort, op: Opcode, operands: Operands) -> Result<(), Fail> {
+    let same = operands.try_clone()?;
+    assert_eq!(rt; Call::new(op, operands), Err(same), "at {op:?}");
+    Ok(())
+}
+
 #[test]
-fn operands_are_handed_back(rt: HostRuntime) {
-    for (number, operands, same) in [
-        (0x0b, Operands::Index(7), Operands::Index(7)),
-        (0x20, Operands::None, Operands::None),
-        (0x41, Operands::I64(-7), Operands::I64(-7)),
-        (0x42, Operands::I32(-7), Operands::I32(-7)),
-        (0x43, Operands::I32(7), Operands::I32(7)),
-        (0x16, Operands::None, Operands::None),
-        (0xff, Operands::Index(7), Operands::Index(7)),
+fn operands_are_handed_back(rt: HostRuntime) -> Result<(), Fail> {
+    for (number, operands) in [
+        (0x0b, Operands::Index(7)),
+        (0x20, Operands::None),
+        (0x41, Operands::I64(-7)),
+        (0x42, Operands::I32(-7)),
+        (0x43, Operands::I32(7)),
+        (0x16, Operands::None),
+        (0xff, Operands::Index(7)),
     ] {
-        assert_eq!(rt;
-            Call::new(plain(number), operands),
-            Err(same),
-            "at {number}"
-        );
+        is_handed_back(&rt, plain(number), operands)?;
     }
     let no_opcode = Opcode {
         prefix: Prefix::Fd,
         number: 0x9a,
     };
-    assert_eq!(rt; Call::new(no_opcode, Operands::None), Err(Operands::None));
+    is_handed_back(&rt, no_opcode, Operands::None)
 }
 
 #[test]
-fn alignments_of_calls(rt: HostRuntime) {
+fn alignments_of_calls(rt: HostRuntime) -> Result<(), Fail> {
     let fits = MemArg { align: 63, ..ARG };
     let wide = MemArg { align: 64, ..ARG };
     let lane = Opcode {
         prefix: Prefix::Fd,
         number: 0x54,
     };
-    assert!(rt; Call::new(plain(0x28), Operands::Mem(fits)).is_ok());
-    assert!(rt; Call::new(lane, Operands::MemLane(fits, 0)).is_ok());
-    assert_eq!(rt;
-        Call::new(plain(0x28), Operands::Mem(wide)),
-        Err(Operands::Mem(wide))
-    );
-    assert_eq!(rt;
-        Call::new(lane, Operands::MemLane(wide, 0)),
-        Err(Operands::MemLane(wide, 0))
-    );
+    is_made(&rt, plain(0x28), Operands::Mem(fits), Kind::Mem)?;
+    is_made(&rt, lane, Operands::MemLane(fits, 0), Kind::MemLane)?;
+    is_handed_back(&rt, plain(0x28), Operands::Mem(wide))?;
+    is_handed_back(&rt, lane, Operands::MemLane(wide, 0))
 }
 
 #[test]
 fn calls_differ(rt: HostRuntime) -> Result<(), Fail> {
     let get = call(0x20, Operands::Index(0))?;
-    assert!(rt; get != call(0x21, Operands::Index(0))?);
-    assert!(rt; get != call(0x20, Operands::Index(1))?);
+    for (number, operands) in [(0x21, Operands::Index(0)), (0x20, Operands::Index(1))] {
+        assert!(rt; get != call(number, operands)?);
+    }
+    Ok(())
+}
+
+#[test]
+fn operands_differ(rt: HostRuntime) {
     assert!(rt; Operands::I32(1) != Operands::I64(1));
     assert!(rt; Operands::None != Operands::Index(0));
     assert!(rt; Operands::F32(Ieee32::new(1)) != Operands::F32(Ieee32::new(2)));
@@ -198,7 +199,6 @@ fn calls_differ(rt: HostRuntime) -> Result<(), Fail> {
         ty: AbstractHeapType::Any,
     };
     assert!(rt; Operands::Heap(HeapType::ANY) != Operands::Heap(shared));
-    Ok(())
 }
 
 #[test]

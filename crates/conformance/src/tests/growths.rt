@@ -229,30 +229,33 @@ const LISTS: [(&str, &str, &str); 6] = [
     ),
 ];
 
-#[test]
-fn growths_of_methods_are_refused(rt: HostRuntime) -> Result<(), Fail> {
-    for (method, operands, hex) in METHODS {
-        let hex = format!(in rt.alloc(); "2A{hex}")?;
-        refuse_each(
-            &rt,
-            rt.alloc(),
-            &Text::Method(method, operands),
-            hex.as_str(),
-        )?;
-    }
-    for (method, operands, hex) in LISTS {
-        let hex = format!(in rt.alloc(); "2A{hex}")?;
-        refuse_each(
-            &rt,
-            rt.alloc(),
-            &Text::Method(method, operands),
-            hex.as_str(),
-        )?;
+/// Each growth of the methods is refused.
+fn refuse_methods(rt: &impl Abort, alloc: Global, rows: &[(&str, &str, &str)]) -> Result<(), Fail> {
+    for (method, operands, hex) in rows {
+        let hex = format!(in alloc; "2A{hex}")?;
+        refuse_each(rt, alloc, &Text::Method(method, operands), hex.as_str())?;
     }
     Ok(())
 }
 
-/// The call of the method writes these bytes into the list, as far as the ration goes.
+#[test]
+fn growths_of_methods_are_refused(rt: HostRuntime) -> Result<(), Fail> {
+    refuse_methods(&rt, rt.alloc(), &METHODS)?;
+    refuse_methods(&rt, rt.alloc(), &LISTS)
+}
+
+/// What is written to a list that is granted one request for memory, and makes it first where it is to have room.
+fn granted(alloc: Global, text: &Text<'_>, room: usize) -> Result<Vec<u8>, Fail> {
+    let ration = Rationed::new(alloc, 1);
+    let mut list = Vec::new(&ration);
+    if room > 0 {
+        list.reserve(room)?;
+    }
+    write(alloc, text, &mut list)?;
+    Ok(list.as_slice().to_vec(alloc)?)
+}
+
+/// The call of the method writes these bytes with one request for memory.
 fn grants(
     rt: &impl Abort,
     alloc: Global,
@@ -260,17 +263,8 @@ fn grants(
     room: usize,
 ) -> Result<(), Fail> {
     let (method, operands, hex) = row;
-    let ration = Rationed::new(alloc, 1);
-    let mut list = Vec::new(&ration);
-    if room > 0 {
-        list.reserve(room)?;
-    }
-    write(alloc, &Text::Method(method, operands), &mut list)?;
-    assert_eq!(rt;
-        list.as_slice(),
-        bytes(alloc, hex)?.as_slice(),
-        "at {method}"
-    );
+    let written = granted(alloc, &Text::Method(method, operands), room)?;
+    assert_eq!(rt; written, bytes(alloc, hex)?, "at {method}");
     Ok(())
 }
 
@@ -280,18 +274,15 @@ fn one_growth_is_enough(rt: HostRuntime) -> Result<(), Fail> {
         grants(&rt, rt.alloc(), row, 0)?;
     }
     let constant = call(0x42, Operands::I64(i64::MIN))?;
-    for text in [
-        Text::Number(Token::U32(u32::MAX)),
-        Text::Number(Token::U64(u64::MAX)),
-        Text::Number(Token::I32(i32::MIN)),
-        Text::Number(Token::I64(i64::MIN)),
-        Text::Number(Token::Usize(4294967295)),
-        Text::Call(&constant),
+    for (text, len) in [
+        (Text::Number(Token::U32(u32::MAX)), 5),
+        (Text::Number(Token::U64(u64::MAX)), 10),
+        (Text::Number(Token::I32(i32::MIN)), 5),
+        (Text::Number(Token::I64(i64::MIN)), 10),
+        (Text::Number(Token::Usize(4294967295)), 5),
+        (Text::Call(&constant), 11),
     ] {
-        let ration = Rationed::new(rt.alloc(), 1);
-        let mut list = Vec::new(&ration);
-        write(rt.alloc(), &text, &mut list)?;
-        assert!(rt; !list.is_empty());
+        assert_eq!(rt; granted(rt.alloc(), &text, 0)?.len(), len);
     }
     Ok(())
 }
@@ -311,10 +302,8 @@ fn one_growth_is_enough_for_calls_with_short_items(rt: HostRuntime) -> Result<()
         (0xe4, Operands::ResumeThrow(7, 7, others), 204),
     ] {
         let call = call(number, operands)?;
-        let ration = Rationed::new(rt.alloc(), 1);
-        let mut list = Vec::new(&ration);
-        InstructionSink::new(&mut list).write_call(&call)?;
-        assert_eq!(rt; list.len(), len, "at {number}");
+        let written = granted(rt.alloc(), &Text::Call(&call), 0)?;
+        assert_eq!(rt; written.len(), len, "at {number}");
     }
     Ok(())
 }
@@ -340,11 +329,8 @@ fn one_growth_is_enough_for_short_items(rt: HostRuntime) -> Result<(), Fail> {
         }
         operands.push_str("]")?;
         operands.push_str(after)?;
-        let ration = Rationed::new(rt.alloc(), 1);
-        let mut list = Vec::new(&ration);
-        let text = Text::Method(method, operands.as_str());
-        write(rt.alloc(), &text, &mut list)?;
-        assert_eq!(rt; list.len(), len, "at {method}");
+        let written = granted(rt.alloc(), &Text::Method(method, operands.as_str()), 0)?;
+        assert_eq!(rt; written.len(), len, "at {method}");
     }
     Ok(())
 }
@@ -354,10 +340,7 @@ fn room_for_24_bytes_is_enough(rt: HostRuntime) -> Result<(), Fail> {
     for row in METHODS {
         grants(&rt, rt.alloc(), row, 24)?;
     }
-    let ration = Rationed::new(rt.alloc(), 1);
-    let mut list = Vec::with_capacity(&ration, 24)?;
     let constant = call(0x42, Operands::I64(i64::MIN))?;
-    write(rt.alloc(), &Text::Call(&constant), &mut list)?;
-    assert!(rt; !list.is_empty());
+    assert_eq!(rt; granted(rt.alloc(), &Text::Call(&constant), 24)?.len(), 11);
     Ok(())
 }
