@@ -29,7 +29,9 @@ pub fn encode<A: Allocator>(
     token: &str,
     bytes: &mut Vec<u8, A>,
 ) -> Result<(), Mismatch> {
-    let (kind, value) = token.split_once(':').unwrap_or((token, ""));
+    let Some((kind, value)) = token.split_once(':') else {
+        return encode_number(token, bytes);
+    };
     match kind {
         "list" | "bytes" | "str" => encode_items(alloc, kind, value, bytes),
         "absheap" | "heap" | "ref" | "val" | "storage" => encode_type(kind, value, bytes),

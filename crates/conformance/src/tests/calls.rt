@@ -277,40 +277,28 @@ fn worked_calls(rt: HostRuntime) -> Result<(), Fail> {
         nullable: true,
         heap_type: HeapType::Exact(4294967295),
     };
-    for (prefix, number, operands, text) in [
+    let mut calls = Vec::new(rt.alloc());
+    for (prefix, number, operands) in [
         (
             Prefix::None,
             0x1f,
             Operands::TryTable(BlockType::Empty, clauses),
-            "1F40020001000302",
         ),
-        (
-            Prefix::None,
-            0xe3,
-            Operands::Resume(3, handlers),
-            "E303020000010102",
-        ),
-        (
-            Prefix::None,
-            0x43,
-            Operands::F32(Ieee32::new(1065353216)),
-            "430000803F",
-        ),
-        (
-            Prefix::Fb,
-            0x18,
-            Operands::Cast(4294967295, exact, exact),
-            "FB1803FFFFFFFF0F62FFFFFFFF0F62FFFFFFFF0F",
-        ),
+        (Prefix::None, 0xe3, Operands::Resume(3, handlers)),
+        (Prefix::None, 0x43, Operands::F32(Ieee32::new(1065353216))),
+        (Prefix::Fb, 0x18, Operands::Cast(4294967295, exact, exact)),
         (
             Prefix::None,
             0xe4,
             Operands::ResumeThrow(1, 2, Items::new(rt.alloc())),
-            "E4010200",
         ),
     ] {
-        let call = Call::new(Opcode { prefix, number }, operands)?;
-        check_written(&rt, rt.alloc(), &[call], text)?;
+        calls.push(Call::new(Opcode { prefix, number }, operands)?)?;
     }
-    Ok(())
+    check_written(
+        &rt,
+        rt.alloc(),
+        calls.as_slice(),
+        "1F40020001000302E303020000010102430000803FFB1803FFFFFFFF0F62FFFFFFFF0F62FFFFFFFF0FE4010200",
+    )
 }

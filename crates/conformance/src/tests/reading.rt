@@ -1,25 +1,35 @@
 //! What is read, and the normal forms.
 
 use super::{bytes, calls_of};
+use std::alloc::Global;
+use std::process::Abort;
 use std::test::Fail;
 use wasm_encoder::{Operands, ReadError, normalise_instructions, read_instructions};
 
+/// The bytes are read as these calls.
+fn is_read_as(
+    rt: &impl Abort,
+    alloc: Global,
+    hex: &str,
+    rows: &[(u32, Operands)],
+) -> Result<(), Fail> {
+    let code = bytes(alloc, hex)?;
+    let read = read_instructions(alloc, code.as_slice())?;
+    assert_eq!(rt; read.as_slice(), calls_of(alloc, rows)?.as_slice());
+    Ok(())
+}
+
 #[test]
 fn calls_are_read(rt: HostRuntime) -> Result<(), Fail> {
-    let code = bytes(rt.alloc(), "200020016A0B41FFFFFFFF07")?;
-    let calls = calls_of(
-        rt.alloc(),
-        &[
-            (0x20, Operands::Index(0)),
-            (0x20, Operands::Index(1)),
-            (0x6a, Operands::None),
-            (0x0b, Operands::None),
-            (0x41, Operands::I32(2147483647)),
-        ],
-    )?;
-    let read = read_instructions(rt.alloc(), code.as_slice())?;
-    assert_eq!(rt; read.as_slice(), calls.as_slice());
-    Ok(())
+    let sum = [
+        (0x20, Operands::Index(0)),
+        (0x20, Operands::Index(1)),
+        (0x6a, Operands::None),
+        (0x0b, Operands::None),
+    ];
+    is_read_as(&rt, rt.alloc(), "200020016A0B", &sum)?;
+    let constant = [(0x41, Operands::I32(2147483647))];
+    is_read_as(&rt, rt.alloc(), "41FFFFFFFF07", &constant)
 }
 
 #[test]
