@@ -1,6 +1,7 @@
 //! Worked examples, each public function on its happy path, and what no contract says.
 
 mod calls;
+mod decoded_modules;
 mod growths;
 mod instructions;
 mod lists;
@@ -10,7 +11,6 @@ mod own;
 mod reading;
 mod table;
 mod type_sections;
-mod typed_modules;
 mod types;
 mod writing;
 

@@ -85,18 +85,18 @@ fn add_entry(
         "func_type" => {
             let ty = function(alloc, words)?;
             types.ty().func_type(&ty)?;
-            Ok(plain(alloc, CompositeInnerType::Func(ty)))
+            Ok(final_entry(alloc, CompositeInnerType::Func(ty)))
         }
         "array" => {
             let ty = array(words)?;
             types.ty().array(&ty.0.element_type, ty.0.mutable)?;
-            Ok(plain(alloc, CompositeInnerType::Array(ty)))
+            Ok(final_entry(alloc, CompositeInnerType::Array(ty)))
         }
         "struct_" => add_struct(alloc, words, types),
         "cont" => {
             let ty = continuation(words)?;
             types.ty().cont(&ty)?;
-            Ok(plain(alloc, CompositeInnerType::Cont(ty)))
+            Ok(final_entry(alloc, CompositeInnerType::Cont(ty)))
         }
         "subtype" => {
             let ty = sub_type(alloc, words)?;
@@ -116,7 +116,7 @@ fn add_function(
     let ty = function(alloc, words)?;
     let params = ty.params().iter().copied();
     types.ty().function(params, ty.results().iter().copied())?;
-    Ok(plain(alloc, CompositeInnerType::Func(ty)))
+    Ok(final_entry(alloc, CompositeInnerType::Func(ty)))
 }
 
 fn add_struct(
@@ -127,7 +127,7 @@ fn add_struct(
     let fields = field_types(alloc, words.value("list")?)?;
     types.ty().struct_(fields.as_slice().iter().copied())?;
     let ty = StructType::new(alloc, fields.as_slice())?;
-    Ok(plain(alloc, CompositeInnerType::Struct(ty)))
+    Ok(final_entry(alloc, CompositeInnerType::Struct(ty)))
 }
 
 fn add_group(
@@ -144,7 +144,7 @@ fn add_group(
 }
 
 /// The entry of one type: final, without supertypes, not shared.
-fn plain(alloc: Global, inner: CompositeInnerType) -> TypeEntry {
+fn final_entry(alloc: Global, inner: CompositeInnerType) -> TypeEntry {
     TypeEntry::Sub(SubType {
         is_final: true,
         supertype_idxs: Items::new(alloc),

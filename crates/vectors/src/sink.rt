@@ -4,9 +4,9 @@ pub mod arguments;
 mod indexes;
 mod lists;
 mod memory;
-mod plain;
 mod values;
 mod vectors;
+mod without_operands;
 
 use crate::columns::columns;
 use crate::mismatch::Mismatch;
@@ -51,7 +51,7 @@ pub fn write<'a, A: Allocator>(
     }
     let arguments = arguments(alloc, operands)?;
     match arguments.as_slice() {
-        [] => plain::control(sink, method),
+        [] => without_operands::control(sink, method),
         [only] => write_one(sink, method, *only),
         [first, second] => write_two(sink, method, *first, *second),
         [

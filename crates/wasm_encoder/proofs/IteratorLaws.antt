@@ -6,12 +6,12 @@ use Rattle.wasm_types.specs.declared.types.value.ValType.{ValType}
 use Rattle.wasm_types.specs.declared.types.composite.FuncType.{FuncType}
 use Rattle.wasm_types.specs.declared.types.composite.CompositeInnerType.TheVariants as inner
 use Rattle.wasm_types.specs.declared.types.composite.TypeEntry.{TypeEntry}
-use Rattle.wasm_values.specs.Encoding.{both_texts, texts, list_text}
+use Rattle.wasm_codec.specs.Encoding.{both_texts, texts, list_text}
 use Rattle.wasm_types.specs.TypeEncoding.{val_type_encoding, func_encoding, entry_encoding}
-use Rattle.wasm_values.specs.Iterators.{AppendsItems, HasNoText}
-use Rattle.wasm_encoder.specs.TypeSections.{Entries, Gains, OfBoth, OfItems, plain_entry}
-use Rattle.wasm_values.proofs.TextLists.{followed_by, both_texts-assoc}
-use Rattle.wasm_encoder.proofs.TypeSectionLaws.{gains, plain_is}
+use Rattle.wasm_codec.specs.Iterators.{AppendsItems, HasNoText}
+use Rattle.wasm_encoder.specs.TypeSections.{Entries, Gains, OfBoth, OfItems, final_entry}
+use Rattle.wasm_codec.proofs.TextLists.{followed_by, both_texts-assoc}
+use Rattle.wasm_encoder.proofs.TypeSectionLaws.{gains, final_is}
 
 -- where each item has a text, only their number can be too great
 
@@ -40,12 +40,12 @@ gains_items gives items (Ok x) (Ok y) old new before mid count entry_of encoding
 
 pub gains_function : {P R T E : Type 0} (gives_params : P → Option ValType → P → Type 0) (gives_results : R → Option ValType → R → Type 0) (params : P) (results : R) (r appended : Result T E) (old new : Entries) (before mid : List ℕ) (count : ℕ)
     → r ≡ appended → before ≡ old.bytes → count ≡ old.count + 1 → OnOk r ((new.count ≡ count) × (new.bytes ≡ mid)) → OnOk appended (OfBoth gives_params gives_results params results (λ ty. IsSomeAnd (func_encoding ty) (λ t. mid ≡ before ++ t)))
-    → OnOk r (OfBoth gives_params gives_results params results (λ ty. Gains old (plain_entry (inner.Func ty)) new))
+    → OnOk r (OfBoth gives_params gives_results params results (λ ty. Gains old (final_entry (inner.Func ty)) new))
 gains_function gp gr params results (Err e) appended old new before mid count is start next kept h = tt
 gains_function gp gr params results (Ok x) (Err e) old new before mid count is start next kept h = absurd cc
 gains_function gp gr params results (Ok x) (Ok y) old new before mid count is start next kept h =
     let ty : FuncType = record { params = h.0; results = h.1 } in
-    (h.0, h.1, h.2, h.3, gains old new (plain_entry (inner.Func ty)) (kept.0 ∙ next) (rw (plain_is (inner.Func ty), kept.1, sym start) h.4))
+    (h.0, h.1, h.2, h.3, gains old new (final_entry (inner.Func ty)) (kept.0 ∙ next) (rw (final_is (inner.Func ty), kept.1, sym start) h.4))
 
 pub function_ok : {P R T E : Type 0} (gives_params : P → Option ValType → P → Type 0) (gives_results : R → Option ValType → R → Type 0) (params : P) (results : R) (r : Result T E) (old mid new : List ℕ)
     → OfItems gives_params params (λ ps. IsSomeAnd (both_texts (Some (0x60 ∷ [])) (list_text val_type_encoding ps)) (λ t. mid ≡ old ++ t)) → OnOk r (AppendsItems val_type_encoding gives_results results mid new)

@@ -1,9 +1,3 @@
-pub use Rattle.wasm_values.proofs.ExactLaws
-pub mod HeaderLaws
-pub mod ModuleLaws
-pub mod SizedLaws
-pub mod TypedModuleLaws
-pub mod TypeBodyLaws
+pub use Rattle.wasm_codec.proofs.ExactLaws
 pub mod TypeSectionLaws
 pub mod IteratorLaws
-pub mod RewritingLaws

@@ -4,19 +4,19 @@ use Rattle.std.specs.List.{flat_map}
 use Rattle.std.specs.Prelude.{IsSomeAnd}
 use Rattle.wasm_types.specs.declared.types.composite.CompositeInnerType.{CompositeInnerType}
 use Rattle.wasm_types.specs.declared.types.composite.TypeEntry.{TypeEntry}
-use Rattle.wasm_values.specs.Encoding.{both_texts, texts, byte_list_text, IsTextOrLonger}
+use Rattle.wasm_codec.specs.Encoding.{both_texts, texts, byte_list_text, IsTextOrLonger}
 use Rattle.wasm_types.specs.TypeEncoding.{inner_encoding, entry_encoding}
-use Rattle.wasm_encoder.specs.TypeSections.{Entries, StandsFor, Gains, GainsAll, body_bytes, section_text, plain_entry}
+use Rattle.wasm_encoder.specs.TypeSections.{Entries, StandsFor, Gains, GainsAll, body_bytes, type_section_text, final_entry}
 use Rattle.wasm_types.specs.CompositeTypes.{SpellsTypeBody, entry_text, type_body_text}
 use Rattle.wasm_types.specs.TypeRanges.{TypeBodyFits}
-use Rattle.wasm_values.proofs.TextLists.{IsFollowed, both_texts-assoc, both_texts-nil, nil-both_texts}
+use Rattle.wasm_codec.proofs.TextLists.{IsFollowed, both_texts-assoc, both_texts-nil, nil-both_texts}
 use Rattle.wasm_types.proofs.EncodingLaws.{IsEncoding, texts_is, entry_is}
 use Rattle.wasm_types.proofs.EntryLaws.{Shortest-type-body}
 
 -- ---- an entry of one type with nothing before what it is made of
 
-pub plain_is : (i : CompositeInnerType) → entry_encoding (plain_entry i) ≡ inner_encoding i
-plain_is i = nil-both_texts _ ∙ nil-both_texts _ ∙ nil-both_texts _ ∙ nil-both_texts (inner_encoding i)
+pub final_is : (i : CompositeInnerType) → entry_encoding (final_entry i) ≡ inner_encoding i
+final_is i = nil-both_texts _ ∙ nil-both_texts _ ∙ nil-both_texts _ ∙ nil-both_texts (inner_encoding i)
 
 -- ---- some entries more
 
@@ -42,8 +42,8 @@ gains old new entry count bytes =
     let alone = subst (λ (t : Option (List ℕ)). IsFollowed old.bytes t new.bytes) (sym (both_texts-nil (entry_encoding entry))) bytes in
     record { count = count; bytes = bytes; stands = λ before s. stands_more old new before (entry ∷ []) s count alone }
 
-pub gains_plain : (old new : Entries) (i : CompositeInnerType) → new.count ≡ old.count + 1 → IsFollowed old.bytes (inner_encoding i) new.bytes → Gains old (plain_entry i) new
-gains_plain old new i count bytes = gains old new (plain_entry i) count (rw (plain_is i) bytes)
+pub gains_final : (old new : Entries) (i : CompositeInnerType) → new.count ≡ old.count + 1 → IsFollowed old.bytes (inner_encoding i) new.bytes → Gains old (final_entry i) new
+gains_final old new i count bytes = gains old new (final_entry i) count (rw (final_is i) bytes)
 
 -- the same, of what is answered
 
@@ -51,9 +51,9 @@ pub gains_ok : {T E : Type 0} (r : Result T E) (old new : Entries) (entry : Type
 gains_ok (Ok x) old new entry count bytes = gains old new entry count bytes
 gains_ok (Err e) old new entry count bytes = tt
 
-pub gains_plain_ok : {T E : Type 0} (r : Result T E) (old new : Entries) (i : CompositeInnerType) → OnOk r (new.count ≡ old.count + 1) → OnOk r (IsSomeAnd (inner_encoding i) (λ t. new.bytes ≡ old.bytes ++ t)) → OnOk r (Gains old (plain_entry i) new)
-gains_plain_ok (Ok x) old new i count bytes = gains_plain old new i count bytes
-gains_plain_ok (Err e) old new i count bytes = tt
+pub gains_final_ok : {T E : Type 0} (r : Result T E) (old new : Entries) (i : CompositeInnerType) → OnOk r (new.count ≡ old.count + 1) → OnOk r (IsSomeAnd (inner_encoding i) (λ t. new.bytes ≡ old.bytes ++ t)) → OnOk r (Gains old (final_entry i) new)
+gains_final_ok (Ok x) old new i count bytes = gains_final old new i count bytes
+gains_final_ok (Err e) old new i count bytes = tt
 
 -- ---- what a section that stands for entries writes
 
@@ -63,10 +63,10 @@ is_text section entries s = by (texts entry_encoding entries) s.bytes (texts_is 
   by (Some t) e is = let same : t ≡ section.bytes = cc in rw (s.count, sym same, is) refl
   by None e is = absurd cc
 
-pub one_text : (section other : Entries) (entries : List TypeEntry) → StandsFor section entries → StandsFor other entries → section_text other ≡ section_text section
+pub one_text : (section other : Entries) (entries : List TypeEntry) → StandsFor section entries → StandsFor other entries → type_section_text other ≡ type_section_text section
 one_text section other entries s o = ap byte_list_text (is_text other entries o ∙ sym (is_text section entries s))
 
-pub section_is_body : (section : Entries) (entries : List TypeEntry) → StandsFor section entries → section_text section ≡ byte_list_text (type_body_text entries)
+pub section_is_body : (section : Entries) (entries : List TypeEntry) → StandsFor section entries → type_section_text section ≡ byte_list_text (type_body_text entries)
 section_is_body section entries s = ap byte_list_text (is_text section entries s)
 
 pub body_spells : (section : Entries) (entries : List TypeEntry) → StandsFor section entries → TypeBodyFits entries → SpellsTypeBody (body_bytes section) entries

@@ -9,8 +9,8 @@ use Rattle.wasm_types.specs.declared.types.composite.CompositeInnerType.{Composi
 use Rattle.wasm_types.specs.declared.types.composite.CompositeInnerType.TheVariants as inner
 use Rattle.wasm_types.specs.declared.types.composite.TypeEntry.{TypeEntry}
 use Rattle.wasm_types.specs.declared.types.composite.TypeEntry.TheVariants as entries
-use Rattle.wasm_values.specs.Numbers.{unsigned_text}
-use Rattle.wasm_values.specs.Encoding.{byte_list_text, texts}
+use Rattle.wasm_codec.specs.Numbers.{unsigned_text}
+use Rattle.wasm_codec.specs.Encoding.{byte_list_text, texts}
 use Rattle.wasm_types.specs.TypeEncoding.{entry_encoding}
 
 -- the number of entries, and their bytes
@@ -44,19 +44,19 @@ abbrev pub body_bytes : Entries → List ℕ
 body_bytes section = unsigned_text section.count ++ section.bytes
 
 -- the body, after the number of its bytes (5.5.2)
-abbrev pub section_text : Entries → Option (List ℕ)
-section_text section = byte_list_text (body_bytes section)
+abbrev pub type_section_text : Entries → Option (List ℕ)
+type_section_text section = byte_list_text (body_bytes section)
 
 -- ---- entries of one type: final, without supertypes, not shared, with no descriptor
 
-abbrev pub plain_entry : CompositeInnerType → TypeEntry
-plain_entry inner = entries.Sub (record { is_final = true; supertype_idxs = []; composite_type = record { inner = inner; shared = false; descriptor = None; describes = None } })
+abbrev pub final_entry : CompositeInnerType → TypeEntry
+final_entry inner = entries.Sub (record { is_final = true; supertype_idxs = []; composite_type = record { inner = inner; shared = false; descriptor = None; describes = None } })
 
 abbrev pub struct_entry : List FieldType → TypeEntry
-struct_entry fields = plain_entry (inner.Struct (record { fields = fields }))
+struct_entry fields = final_entry (inner.Struct (record { fields = fields }))
 
 abbrev pub array_entry : StorageType → Bool → TypeEntry
-array_entry ty mutable = plain_entry (inner.Array (record { 0 = record { element_type = ty; mutable = mutable } }))
+array_entry ty mutable = final_entry (inner.Array (record { 0 = record { element_type = ty; mutable = mutable } }))
 
 -- ---- types from iterators
 

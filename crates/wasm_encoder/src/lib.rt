@@ -2,7 +2,7 @@
 //! Beside the writers stand readers and normalisers, which take every spelling that the binary format allows.
 //!
 //! Modules and their sections (Core 3.0, 5.5) stand here. What they are made of comes from the crates below, which
-//! follow the chapters of the binary format: `wasm_values`, `wasm_types`, `wasm_instructions` and `wasm_sink`. Callers
+//! follow the chapters of the binary format: `wasm_codec`, `wasm_types`, `wasm_instructions` and `wasm_sink`. Callers
 //! name this crate alone.
 #![tactic(auto)]
 
@@ -24,6 +24,8 @@ pub use types::{
     FieldType, FuncType, HeapType, RefType, StorageType, StructType, SubType, TypeEntry,
     TypeSection, ValType,
 };
+pub use wasm_codec::list;
+pub use wasm_codec::list::Items;
 pub use wasm_core::{Module, Section, SectionId};
 pub use wasm_instructions::operands::{
     BlockType, Catch, Handle, Ieee32, Ieee64, Lane, MemArg, Ordering,
@@ -32,5 +34,3 @@ pub use wasm_instructions::table::{Call, Kind, Opcode, Operands, Prefix};
 pub use wasm_instructions::{operands, table};
 pub use wasm_sink::sink;
 pub use wasm_sink::sink::InstructionSink;
-pub use wasm_values::list;
-pub use wasm_values::list::Items;

@@ -2,13 +2,9 @@
 //!
 //! A reader takes all of its input: bytes that are left over are refused like any others that aren't spelled.
 
-mod modules;
-mod type_section;
-mod typed_modules;
-
-pub use modules::read_module;
-pub use type_section::{normalise_type_section, read_type_section};
-pub use typed_modules::normalise_module;
+pub use wasm_codec::reader::ReadError;
+pub use wasm_instructions::normaliser::normalise_instructions;
 pub use wasm_instructions::reader::read_instructions;
-pub use wasm_sink::normaliser::normalise_instructions;
-pub use wasm_values::reader::ReadError;
+pub use wasm_modules::normaliser::normalise_module;
+pub use wasm_modules::reader::read_module;
+pub use wasm_types::reader::{normalise_type_section, read_type_section};

@@ -1,8 +1,8 @@
 //! The type section (Core 3.0, 5.5.4).
 ghost use Rattle.std.specs.Prelude.{◌≡◌, ℕ, List, ◌++◌, ◌∷◌, ◌+◌, ◌^◌, ◌≤◌, ◌⊎◌, [], OnOk, OnErr, IfOk, IfErr, IsErrOf, IsTrue, ◌↔◌, IsSomeAnd, IsNone, Some, length, take};
-ghost use Rattle.wasm_encoder.specs.TypeSections.{Entries, StandsFor, Gains, GainsAll, IsFull, OfBoth, OfItems, section_text, body_bytes, plain_entry, struct_entry, array_entry};
-ghost use Rattle.wasm_values.specs.Iterators.{IsExact, HasNoText, GivesMisaligned};
-ghost use Rattle.wasm_values.specs.Encoding.{both_texts, list_text, texts, byte_list_text, IsTextOrLonger};
+ghost use Rattle.wasm_encoder.specs.TypeSections.{Entries, StandsFor, Gains, GainsAll, IsFull, OfBoth, OfItems, type_section_text, body_bytes, final_entry, struct_entry, array_entry};
+ghost use Rattle.wasm_codec.specs.Iterators.{IsExact, HasNoText, GivesMisaligned};
+ghost use Rattle.wasm_codec.specs.Encoding.{both_texts, list_text, texts, byte_list_text, IsTextOrLonger};
 ghost use Rattle.wasm_types.specs.CompositeTypes.{SpellsTypeBody, type_body_text};
 ghost use Rattle.wasm_types.specs.TypeRanges.{TypeBodyFits};
 ghost use Rattle.wasm_types.specs.declared.types.composite.TypeEntry.{TypeEntry};
@@ -10,16 +10,16 @@ ghost use Rattle.std.specs.Iterator.{size};
 ghost use Rattle.wasm_types.specs.TypeEncoding.{func_encoding, sub_encoding, entry_encoding};
 ghost use Rattle.wasm_types.specs.declared.types.composite.CompositeInnerType.TheVariants as inner;
 ghost use Rattle.wasm_types.specs.declared.types.composite.TypeEntry.TheVariants as entries;
-ghost use Rattle.wasm_values.specs.declared.encode.EncodeError.TheVariants.{Memory, TooLong};
+ghost use Rattle.wasm_codec.specs.declared.encode.EncodeError.TheVariants.{Memory, TooLong};
 
 use crate::wasm_core::{Section, SectionId};
 use std::alloc::{Allocator, Global};
 use std::marker::Model;
+use wasm_codec::encode::leb128::u32_len;
+use wasm_codec::encode::{Encode, EncodeError, append_items, keep_or_undo};
 use wasm_types::types::{
     ArrayType, ContType, FieldType, FuncType, StorageType, SubType, TypeEntry, ValType,
 };
-use wasm_values::encode::leb128::u32_len;
-use wasm_values::encode::{Encode, EncodeError, append_items};
 
 /// A type section that entries are added to, one after the other.
 ///
@@ -103,10 +103,9 @@ impl TypeSection {
         let count = self.count;
         let added = self.add_each(entries);
         if added.is_err() {
-            self.bytes.truncate(start);
             self.count = count;
         }
-        added
+        keep_or_undo(&mut self.bytes, start, added)
     }
 
     /// Adds entries one by one. An `Err` can leave some of them.
@@ -158,11 +157,9 @@ impl TypeSection {
         ensures ok { OnOk result ((self.new.count ≡ count) × (self.new.bytes ≡ self.old.bytes)) }
         ensures err { OnErr result ((self.new.count ≡ self.old.count) × (self.new.bytes ≡ take start self.old.bytes)) }
     {
-        match appended {
-            Ok(()) => self.count = count,
-            Err(_) => self.bytes.truncate(start),
-        }
-        appended
+        keep_or_undo(&mut self.bytes, start, appended)?;
+        self.count = count;
+        Ok(())
     }
 }
 
@@ -171,21 +168,21 @@ impl TypeSection {
 /// `TooLong` where the body has more than 4,294,967,295 bytes.
 #[tactic(auto, using(crate::proofs::TypeSectionLaws::one_text, crate::proofs::TypeSectionLaws::section_is_body, crate::proofs::TypeSectionLaws::body_spells, crate::proofs::TypeSectionLaws::body_shortest))]
 impl Encode for TypeSection {
-    ghost text = { section_text };
+    ghost text = { type_section_text };
 
     ghost misaligned = { λ _. ⊥ };
 
     fn encode<A: Allocator>(&self, sink: &mut Vec<u8, A>) -> Result<(), EncodeError>
-        ensures ok { OnOk result (IsSomeAnd (section_text self.now) (λ t. sink.new.items ≡ sink.old.items ++ t)) }
-        ensures too_long { IsErrOf result EncodeError.TooLong → IsNone (section_text self.now) }
+        ensures ok { OnOk result (IsSomeAnd (type_section_text self.now) (λ t. sink.new.items ≡ sink.old.items ++ t)) }
+        ensures too_long { IsErrOf result EncodeError.TooLong → IsNone (type_section_text self.now) }
         ensures alignment { ¬ IsErrOf result EncodeError.Alignment }
         ensures err { OnErr result (sink.new.items ≡ sink.old.items) }
         // Sections that stand for the same entries have the same text.
         ensures one_text { (other : Entries) (entries : List TypeEntry) →
-            StandsFor self.now entries → StandsFor other entries → section_text other ≡ section_text self.now }
+            StandsFor self.now entries → StandsFor other entries → type_section_text other ≡ type_section_text self.now }
         // The text is that of the entries, after its length.
         ensures is_body { (entries : List TypeEntry) → StandsFor self.now entries →
-            section_text self.now ≡ byte_list_text (type_body_text entries) }
+            type_section_text self.now ≡ byte_list_text (type_body_text entries) }
         // The body spells the entries, as their numbers are u32s.
         ensures spells { (entries : List TypeEntry) → StandsFor self.now entries → TypeBodyFits entries →
             SpellsTypeBody (body_bytes self.now) entries }
@@ -195,10 +192,7 @@ impl Encode for TypeSection {
     {
         let start = sink.len();
         let result = append_section(self, sink);
-        if result.is_err() {
-            sink.truncate(start);
-        }
-        result
+        keep_or_undo(sink, start, result)
     }
 }
 
@@ -210,11 +204,11 @@ impl Section for TypeSection {
     }
 }
 
-#[tactic(auto, using(crate::proofs::TypeSectionLaws::gains_ok, crate::proofs::TypeSectionLaws::gains_plain_ok))]
+#[tactic(auto, using(crate::proofs::TypeSectionLaws::gains_ok, crate::proofs::TypeSectionLaws::gains_final_ok))]
 impl<'a> CoreTypeEncoder<'a> {
     /// Adds a function type: final, without supertypes, not shared.
     pub fn func_type(self, ty: &FuncType) -> Result<(), EncodeError>
-        ensures ok { OnOk result (Gains self.entry.section.now (plain_entry (inner.Func ty.now)) self.exit.0.now) }
+        ensures ok { OnOk result (Gains self.entry.section.now (final_entry (inner.Func ty.now)) self.exit.0.now) }
         ensures err { OnErr result (self.exit.0.now ≡ self.entry.section.now) }
         ensures too_long { IsErrOf result EncodeError.TooLong → IsFull self.entry.section.now ⊎ IsNone (func_encoding ty.now) }
         ensures alignment { ¬ IsErrOf result EncodeError.Alignment }
@@ -240,7 +234,7 @@ impl<'a> CoreTypeEncoder<'a> {
 
     /// Adds a continuation type: final, without supertypes, not shared.
     pub fn cont(self, ty: &ContType) -> Result<(), EncodeError>
-        ensures ok { OnOk result (Gains self.entry.section.now (plain_entry (inner.Cont ty.now)) self.exit.0.now) }
+        ensures ok { OnOk result (Gains self.entry.section.now (final_entry (inner.Cont ty.now)) self.exit.0.now) }
         ensures err { OnErr result (self.exit.0.now ≡ self.entry.section.now) }
         ensures too_long { IsErrOf result EncodeError.TooLong → IsFull self.entry.section.now }
         ensures alignment { ¬ IsErrOf result EncodeError.Alignment }
@@ -273,7 +267,7 @@ impl<'a> CoreTypeEncoder<'a> {
         requires params { IsExact P.can_next P.next_gives P.remaining params }
         requires results { IsExact R.can_next R.next_gives R.remaining results }
         ensures ok { OnOk result (OfBoth P.next_gives R.next_gives params results (λ ty.
-            Gains self.entry.section.now (plain_entry (inner.Func ty)) self.exit.0.now)) }
+            Gains self.entry.section.now (final_entry (inner.Func ty)) self.exit.0.now)) }
         ensures err { OnErr result (self.exit.0.now ≡ self.entry.section.now) }
         ensures too_long { IsErrOf result EncodeError.TooLong →
             IsFull self.entry.section.now ⊎ (2 ^ 32 ≤ size (P.remaining params)) ⊎ (2 ^ 32 ≤ size (R.remaining results)) }
@@ -374,8 +368,8 @@ fn append_section<A: Allocator>(
     section: &TypeSection,
     sink: &mut Vec<u8, A>,
 ) -> Result<(), EncodeError>
-    ensures ok { OnOk result (IsSomeAnd (section_text section.now) (λ t. sink.new.items ≡ sink.old.items ++ t)) }
-    ensures too_long { IsErrOf result EncodeError.TooLong → IsNone (section_text section.now) }
+    ensures ok { OnOk result (IsSomeAnd (type_section_text section.now) (λ t. sink.new.items ≡ sink.old.items ++ t)) }
+    ensures too_long { IsErrOf result EncodeError.TooLong → IsNone (type_section_text section.now) }
     ensures alignment { ¬ IsErrOf result EncodeError.Alignment }
     ensures kept { take (length sink.old.items) sink.new.items ≡ sink.old.items }
 {

@@ -1,11 +1,13 @@
 //! Sections and modules (Core 3.0, 5.5).
 ghost use Rattle.std.specs.Prelude.{◌≡◌, ◌++◌, ◌∷◌, ℕ, List, Some, [], IfOk, IfErr, OnOk, OnErr, IsErrOf, IsSomeAnd, IsNone, length};
-ghost use Rattle.wasm_encoder.specs.Modules.{header, section_id};
-ghost use Rattle.wasm_values.specs.declared.encode.EncodeError.TheVariants.{Memory};
+ghost use Rattle.wasm_modules.specs.Modules.{header};
+ghost use Rattle.wasm_encoder.specs.SectionIds.{section_id};
+ghost use Rattle.wasm_codec.specs.declared.encode.EncodeError.TheVariants.{Memory};
 
 use std::alloc::{Allocator, Global};
 use std::marker::Model;
-use wasm_values::encode::{Encode, EncodeError};
+use wasm_codec::encode::{Encode, EncodeError};
+use wasm_modules::section::{HEADER, RawSection, TYPE_SECTION_ID, append_section};
 
 /// A section of a module: an id, and a text that is the section's size and its body.
 ///
@@ -26,14 +28,15 @@ pub trait Section: Encode {
         ensures misaligned { IsErrOf result EncodeError.Alignment → Self.misaligned self.now }
         ensures err { OnErr result (dst.new.items ≡ dst.old.items) }
     {
-        let start = dst.len();
-        dst.reserve(1)?;
-        dst.push_reserved(self.id());
-        let result = self.encode(dst);
-        if result.is_err() {
-            dst.truncate(start);
-        }
-        result
+        append_section(self.id(), self, dst)
+    }
+}
+
+impl<'a> Section for RawSection<'a> {
+    ghost id = { λ section. section.id };
+
+    fn id(&self) -> u8 {
+        self.id
     }
 }
 
@@ -76,7 +79,7 @@ impl From<SectionId> for u8 {
     fn from(id: SectionId) -> u8 {
         match id {
             SectionId::Custom => 0,
-            SectionId::Types => 1,
+            SectionId::Types => TYPE_SECTION_ID,
             SectionId::Import => 2,
             SectionId::Function => 3,
             SectionId::Table => 4,
@@ -124,7 +127,7 @@ impl Model for Module {
 
 impl Module {
     /// The bytes that every module begins with: the magic number and the version.
-    pub const HEADER: [u8; 8] = [0x00, 0x61, 0x73, 0x6D, 0x01, 0x00, 0x00, 0x00];
+    pub const HEADER: [u8; 8] = HEADER;
 
     /// A module without sections.
     pub fn new(alloc: Global) -> Result<Module, EncodeError>
@@ -145,14 +148,7 @@ impl Module {
         ensures misaligned { IsErrOf result EncodeError.Alignment → S.misaligned section.now }
         ensures err { OnErr result (self.new ≡ self.old) }
     {
-        let start = self.bytes.len();
-        self.bytes.reserve(1)?;
-        self.bytes.push_reserved(section.id());
-        let result = section.encode(&mut self.bytes);
-        if result.is_err() {
-            self.bytes.truncate(start);
-        }
-        result
+        append_section(section.id(), section, &mut self.bytes)
     }
 
     /// The bytes of the module.

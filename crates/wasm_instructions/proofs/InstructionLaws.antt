@@ -9,39 +9,39 @@ use Rattle.wasm_instructions.specs.declared.table.opcode.Kind.{Kind}
 use Rattle.wasm_instructions.specs.declared.table.opcode.Kind.TheVariants as kinds
 use Rattle.wasm_instructions.specs.declared.table.call.Operands.{Operands}
 use Rattle.wasm_instructions.specs.declared.table.call.Operands.TheVariants as operands
-use Rattle.wasm_values.specs.Grammar.{Grammar, Mapped, Nothing, Either}
-use Rattle.wasm_values.specs.Reading.{Reader}
-use Rattle.wasm_types.specs.CompositeTypes.{SpellsList, list_at}
+use Rattle.wasm_codec.specs.Grammar.{Grammar, Mapped, Nothing, Either, TakesBytes}
+use Rattle.wasm_codec.specs.Reading.{Reader, IsReadBy}
+use Rattle.wasm_codec.specs.Lists.{SpellsList, list_at}
 use Rattle.wasm_instructions.specs.MemArgs.{MemArgFits}
 use Rattle.wasm_instructions.specs.Operands.{IsLanes, BlockTypeFits, CatchFits, HandleFits}
-use Rattle.wasm_values.specs.Numbers.{Within, SpellsU32, unsigned_text}
+use Rattle.wasm_codec.specs.Numbers.{Within, SpellsU32, unsigned_text}
 use Rattle.wasm_instructions.specs.Opcodes.{ranges, kind_among, kind}
-use Rattle.wasm_instructions.specs.Instructions.{Instruction, plain, after_fb, after_fc, after_fd, after_fe, SpellsOpcode, opcode_at, opcode_text, SpellsOperands, operands_at, operands_text, kind_of, InRange, ItemsInRange, IsCounted, two_indexes_of, br_table_of, try_table_of, f32_of, f64_of, resume_of, resume_throw_of, branch_of, mem_lane_of, order_index_of, order_two_indexes_of, SpellsOperandsOf, operands_of_at, instruction_of, SpellsInstruction, instruction_at, instruction_text, IsCall, IsShort, SpellsInstructions, instructions_text}
-use Rattle.wasm_values.specs.Encoding.{IsTextOrLonger}
+use Rattle.wasm_instructions.specs.Instructions.{Instruction, without_prefix, after_fb, after_fc, after_fd, after_fe, SpellsOpcode, opcode_at, opcode_text, SpellsOperands, operands_at, operands_text, kind_of, InRange, ItemsInRange, IsCounted, two_indexes_of, br_table_of, try_table_of, f32_of, f64_of, resume_of, resume_throw_of, branch_of, mem_lane_of, order_index_of, order_two_indexes_of, SpellsOperandsOf, operands_of_at, instruction_of, SpellsInstruction, instruction_at, instruction_text, IsCall, IsShort, SpellsInstructions, instructions_text}
+use Rattle.wasm_codec.specs.Encoding.{IsTextOrLonger}
 use Rattle.wasm_types.specs.TypeRanges.{IsU32, HeapTypeFits, ValTypeFits, ListFits}
-use Rattle.wasm_values.proofs.Laws.{Reads, Reads-byte, Shortest-byte, Shortest, MadeOf, EitherFits, HasTag, HasTag-either, HasTag-map, Reads-then, Reads-map, Reads-nothing, Reads-never, Reads-either, Reads-tag, Shortest-then, Shortest-map, Shortest-nothing, Shortest-never, Shortest-either, Shortest-for, Shortest-tag}
-use Rattle.wasm_values.proofs.Joining.{TakesBytes, empty_front, Joined-more, Joined-one, Shortest-joined}
-use Rattle.wasm_values.proofs.ListReading.{AtMostOne, IsBytes-from}
-use Rattle.wasm_values.proofs.NumberLaws.{Reads-u32, Reads-s32, Reads-s64, Shortest-u32, Shortest-s32, Shortest-s64}
+use Rattle.wasm_codec.proofs.Laws.{IsReadBy-byte, Shortest-byte, Shortest, MadeOf, EitherFits, HasTag, HasTag-either, HasTag-map, IsReadBy-then, IsReadBy-map, IsReadBy-nothing, IsReadBy-never, IsReadBy-either, IsReadBy-tag, Shortest-then, Shortest-map, Shortest-nothing, Shortest-never, Shortest-either, Shortest-for, Shortest-tag}
+use Rattle.wasm_codec.proofs.Joining.{empty_front, Joined-more, Joined-one, Shortest-joined}
+use Rattle.wasm_codec.proofs.ListReading.{AtMostOne, IsBytes-from}
+use Rattle.wasm_codec.proofs.NumberLaws.{IsReadBy-u32, IsReadBy-s32, IsReadBy-s64, Shortest-u32, Shortest-s32, Shortest-s64}
 use Rattle.wasm_instructions.proofs.OpcodeLaws.{in_table}
-use Rattle.wasm_values.proofs.Counting.{Reads-counted}
+use Rattle.wasm_codec.proofs.Counting.{IsReadBy-counted}
 use Rattle.wasm_types.proofs.CompositeTexts.{Shortest-list}
-use Rattle.wasm_types.proofs.HeapTypeLaws.{Reads-heap-type, Reads-val-type, Shortest-heap-type}
+use Rattle.wasm_types.proofs.HeapTypeLaws.{IsReadBy-heap-type, IsReadBy-val-type, Shortest-heap-type}
 use Rattle.wasm_types.proofs.ValueTypeLaws.{Shortest-val-type}
-use Rattle.wasm_instructions.proofs.MemArgLaws.{Reads-mem-arg, Shortest-mem-arg}
-use Rattle.wasm_instructions.proofs.RawLaws.{Reads-little-endian, Shortest-little-endian, Reads-vector, Shortest-vector, Reads-lanes, Shortest-lanes}
-use Rattle.wasm_instructions.proofs.OperandLaws.{Reads-block-type, Shortest-block-type, Reads-catch, Shortest-catch, Reads-handle, Shortest-handle, Reads-ordering, Shortest-ordering, CastFits, Reads-cast, Shortest-cast}
+use Rattle.wasm_instructions.proofs.MemArgLaws.{IsReadBy-mem-arg, Shortest-mem-arg}
+use Rattle.wasm_instructions.proofs.RawLaws.{IsReadBy-little-endian, Shortest-little-endian, IsReadBy-vector, Shortest-vector, IsReadBy-lanes, Shortest-lanes}
+use Rattle.wasm_instructions.proofs.OperandLaws.{IsReadBy-block-type, Shortest-block-type, IsReadBy-catch, Shortest-catch, IsReadBy-handle, Shortest-handle, IsReadBy-ordering, Shortest-ordering, CastFits, IsReadBy-cast, Shortest-cast}
 
 -- ---- opcodes
 
-Reads-opcode : Reads SpellsOpcode opcode_at
+IsReadBy-opcode : IsReadBy SpellsOpcode opcode_at
 unfolding SpellsOpcode opcode_at
-Reads-opcode = Reads-tag (λ byte.
-    Reads-either (eqb byte 0xfb) (Reads-map after_fb Reads-u32)
-    (Reads-either (eqb byte 0xfc) (Reads-map after_fc Reads-u32)
-    (Reads-either (eqb byte 0xfd) (Reads-map after_fd Reads-u32)
-    (Reads-either (eqb byte 0xfe) (Reads-map after_fe Reads-u32)
-    (Reads-nothing (plain byte))))))
+IsReadBy-opcode = IsReadBy-tag (λ byte.
+    IsReadBy-either (eqb byte 0xfb) (IsReadBy-map after_fb IsReadBy-u32)
+    (IsReadBy-either (eqb byte 0xfc) (IsReadBy-map after_fc IsReadBy-u32)
+    (IsReadBy-either (eqb byte 0xfd) (IsReadBy-map after_fd IsReadBy-u32)
+    (IsReadBy-either (eqb byte 0xfe) (IsReadBy-map after_fe IsReadBy-u32)
+    (IsReadBy-nothing (without_prefix byte))))))
 
 -- the first byte
 abbrev first_byte : Opcode → ℕ
@@ -69,17 +69,17 @@ OpcodeFits byte =
     (EitherFits (eqb byte 0xfc) (MadeOf after_fc IsU32)
     (EitherFits (eqb byte 0xfd) (MadeOf after_fd IsU32)
     (EitherFits (eqb byte 0xfe) (MadeOf after_fe IsU32)
-    (λ op. plain byte ≡ op))))
+    (λ op. without_prefix byte ≡ op))))
 
-Shortest-number : (byte : ℕ) → Shortest (Either (eqb byte 0xfb) (Mapped after_fb SpellsU32) (Either (eqb byte 0xfc) (Mapped after_fc SpellsU32) (Either (eqb byte 0xfd) (Mapped after_fd SpellsU32) (Either (eqb byte 0xfe) (Mapped after_fe SpellsU32) (Nothing (plain byte)))))) (OpcodeFits byte) number_text
+Shortest-number : (byte : ℕ) → Shortest (Either (eqb byte 0xfb) (Mapped after_fb SpellsU32) (Either (eqb byte 0xfc) (Mapped after_fc SpellsU32) (Either (eqb byte 0xfd) (Mapped after_fd SpellsU32) (Either (eqb byte 0xfe) (Mapped after_fe SpellsU32) (Nothing (without_prefix byte)))))) (OpcodeFits byte) number_text
 Shortest-number byte =
     Shortest-either (eqb byte 0xfb) (Shortest-map after_fb number_text Shortest-u32 (λ n. refl))
     (Shortest-either (eqb byte 0xfc) (Shortest-map after_fc number_text Shortest-u32 (λ n. refl))
     (Shortest-either (eqb byte 0xfd) (Shortest-map after_fd number_text Shortest-u32 (λ n. refl))
     (Shortest-either (eqb byte 0xfe) (Shortest-map after_fe number_text Shortest-u32 (λ n. refl))
-    (Shortest-nothing (plain byte) number_text refl))))
+    (Shortest-nothing (without_prefix byte) number_text refl))))
 
-HasTag-opcode : (byte : ℕ) → HasTag first_byte byte (Either (eqb byte 0xfb) (Mapped after_fb SpellsU32) (Either (eqb byte 0xfc) (Mapped after_fc SpellsU32) (Either (eqb byte 0xfd) (Mapped after_fd SpellsU32) (Either (eqb byte 0xfe) (Mapped after_fe SpellsU32) (Nothing (plain byte))))))
+HasTag-opcode : (byte : ℕ) → HasTag first_byte byte (Either (eqb byte 0xfb) (Mapped after_fb SpellsU32) (Either (eqb byte 0xfc) (Mapped after_fc SpellsU32) (Either (eqb byte 0xfd) (Mapped after_fd SpellsU32) (Either (eqb byte 0xfe) (Mapped after_fe SpellsU32) (Nothing (without_prefix byte))))))
 HasTag-opcode byte =
     HasTag-either first_byte byte 0xfb _ _ (λ e. HasTag-map first_byte byte after_fb SpellsU32 (λ n. e))
     (HasTag-either first_byte byte 0xfc _ _ (λ e. HasTag-map first_byte byte after_fc SpellsU32 (λ n. e))
@@ -109,34 +109,34 @@ Shortest-opcode =
 
 -- ---- operands
 
-Reads-list : {A : Type 0} {G : Grammar A} {read : Reader A} → Reads G read → Reads (SpellsList G) (list_at read)
-Reads-list r = Reads-counted Reads-u32 r
+IsReadBy-list : {A : Type 0} {G : Grammar A} {read : Reader A} → IsReadBy G read → IsReadBy (SpellsList G) (list_at read)
+IsReadBy-list r = IsReadBy-counted IsReadBy-u32 r
 
-Reads-operands : (k : Kind) → Reads (SpellsOperands k) (operands_at k)
+IsReadBy-operands : (k : Kind) → IsReadBy (SpellsOperands k) (operands_at k)
 unfolding SpellsOperands operands_at
-Reads-operands kinds.None = Reads-nothing operands.None
-Reads-operands kinds.Block = Reads-map operands.Block Reads-block-type
-Reads-operands kinds.Index = Reads-map operands.Index Reads-u32
-Reads-operands kinds.TwoIndexes = Reads-map two_indexes_of (Reads-then Reads-u32 (λ first. Reads-u32))
-Reads-operands kinds.BrTable = Reads-map br_table_of (Reads-then (Reads-list Reads-u32) (λ labels. Reads-u32))
-Reads-operands kinds.Types = Reads-map operands.Types (Reads-list Reads-val-type)
-Reads-operands kinds.TryTable = Reads-map try_table_of (Reads-then Reads-block-type (λ ty. Reads-list Reads-catch))
-Reads-operands kinds.Mem = Reads-map operands.Mem Reads-mem-arg
-Reads-operands kinds.I32 = Reads-map operands.I32 Reads-s32
-Reads-operands kinds.I64 = Reads-map operands.I64 Reads-s64
-Reads-operands kinds.F32 = Reads-map f32_of (Reads-little-endian 4)
-Reads-operands kinds.F64 = Reads-map f64_of (Reads-little-endian 8)
-Reads-operands kinds.Heap = Reads-map operands.Heap Reads-heap-type
-Reads-operands kinds.Resume = Reads-map resume_of (Reads-then Reads-u32 (λ index. Reads-list Reads-handle))
-Reads-operands kinds.ResumeThrow = Reads-map resume_throw_of (Reads-then Reads-u32 (λ index. Reads-then Reads-u32 (λ tag. Reads-list Reads-handle)))
-Reads-operands kinds.Cast = Reads-map branch_of Reads-cast
-Reads-operands kinds.V128 = Reads-map operands.V128 Reads-vector
-Reads-operands kinds.Shuffle = Reads-map operands.Shuffle Reads-lanes
-Reads-operands kinds.Lane = Reads-map operands.Lane Reads-byte
-Reads-operands kinds.MemLane = Reads-map mem_lane_of (Reads-then Reads-mem-arg (λ arg. Reads-byte))
-Reads-operands kinds.Order = Reads-map operands.Order Reads-ordering
-Reads-operands kinds.OrderIndex = Reads-map order_index_of (Reads-then Reads-ordering (λ ordering. Reads-u32))
-Reads-operands kinds.OrderTwoIndexes = Reads-map order_two_indexes_of (Reads-then Reads-ordering (λ ordering. Reads-then Reads-u32 (λ first. Reads-u32)))
+IsReadBy-operands kinds.None = IsReadBy-nothing operands.None
+IsReadBy-operands kinds.Block = IsReadBy-map operands.Block IsReadBy-block-type
+IsReadBy-operands kinds.Index = IsReadBy-map operands.Index IsReadBy-u32
+IsReadBy-operands kinds.TwoIndexes = IsReadBy-map two_indexes_of (IsReadBy-then IsReadBy-u32 (λ first. IsReadBy-u32))
+IsReadBy-operands kinds.BrTable = IsReadBy-map br_table_of (IsReadBy-then (IsReadBy-list IsReadBy-u32) (λ labels. IsReadBy-u32))
+IsReadBy-operands kinds.Types = IsReadBy-map operands.Types (IsReadBy-list IsReadBy-val-type)
+IsReadBy-operands kinds.TryTable = IsReadBy-map try_table_of (IsReadBy-then IsReadBy-block-type (λ ty. IsReadBy-list IsReadBy-catch))
+IsReadBy-operands kinds.Mem = IsReadBy-map operands.Mem IsReadBy-mem-arg
+IsReadBy-operands kinds.I32 = IsReadBy-map operands.I32 IsReadBy-s32
+IsReadBy-operands kinds.I64 = IsReadBy-map operands.I64 IsReadBy-s64
+IsReadBy-operands kinds.F32 = IsReadBy-map f32_of (IsReadBy-little-endian 4)
+IsReadBy-operands kinds.F64 = IsReadBy-map f64_of (IsReadBy-little-endian 8)
+IsReadBy-operands kinds.Heap = IsReadBy-map operands.Heap IsReadBy-heap-type
+IsReadBy-operands kinds.Resume = IsReadBy-map resume_of (IsReadBy-then IsReadBy-u32 (λ index. IsReadBy-list IsReadBy-handle))
+IsReadBy-operands kinds.ResumeThrow = IsReadBy-map resume_throw_of (IsReadBy-then IsReadBy-u32 (λ index. IsReadBy-then IsReadBy-u32 (λ tag. IsReadBy-list IsReadBy-handle)))
+IsReadBy-operands kinds.Cast = IsReadBy-map branch_of IsReadBy-cast
+IsReadBy-operands kinds.V128 = IsReadBy-map operands.V128 IsReadBy-vector
+IsReadBy-operands kinds.Shuffle = IsReadBy-map operands.Shuffle IsReadBy-lanes
+IsReadBy-operands kinds.Lane = IsReadBy-map operands.Lane IsReadBy-byte
+IsReadBy-operands kinds.MemLane = IsReadBy-map mem_lane_of (IsReadBy-then IsReadBy-mem-arg (λ arg. IsReadBy-byte))
+IsReadBy-operands kinds.Order = IsReadBy-map operands.Order IsReadBy-ordering
+IsReadBy-operands kinds.OrderIndex = IsReadBy-map order_index_of (IsReadBy-then IsReadBy-ordering (λ ordering. IsReadBy-u32))
+IsReadBy-operands kinds.OrderTwoIndexes = IsReadBy-map order_two_indexes_of (IsReadBy-then IsReadBy-ordering (λ ordering. IsReadBy-then IsReadBy-u32 (λ first. IsReadBy-u32)))
 
 abbrev ArePair : ℕ × ℕ → Type 0
 ArePair p = IsU32 p.0 × IsU32 p.1
@@ -221,13 +221,13 @@ operands_fit (operands.OrderTwoIndexes ordering first second) fits items counted
 
 -- ---- instructions
 
-Reads-operands-of : (o : Option Kind) → Reads (SpellsOperandsOf o) (operands_of_at o)
-Reads-operands-of None = Reads-never
-Reads-operands-of (Some k) = Reads-operands k
+IsReadBy-operands-of : (o : Option Kind) → IsReadBy (SpellsOperandsOf o) (operands_of_at o)
+IsReadBy-operands-of None = IsReadBy-never
+IsReadBy-operands-of (Some k) = IsReadBy-operands k
 
-pub Reads-instruction : Reads SpellsInstruction instruction_at
+pub IsReadBy-instruction : IsReadBy SpellsInstruction instruction_at
 unfolding SpellsInstruction instruction_at
-Reads-instruction = Reads-map instruction_of (Reads-then Reads-opcode (λ op. Reads-operands-of (kind op)))
+IsReadBy-instruction = IsReadBy-map instruction_of (IsReadBy-then IsReadBy-opcode (λ op. IsReadBy-operands-of (kind op)))
 
 no_bytes : (op : Opcode) → SpellsOpcode [] op → ⊥
 unfolding SpellsOpcode
@@ -258,13 +258,13 @@ in_table_short op k e = by op.prefix op.number e where
   by prefixes.Fe n e = in_table (ranges prefixes.Fe) (2 ^ 14) n k refl e
 
 -- below the prefix bytes
-plain_fits : (n : ℕ) → n < 0xfb → OpcodeFits n (plain n)
-plain_fits n lt = rw (ne_eqb n 0xfb (omega arith), ne_eqb n 0xfc (omega arith), ne_eqb n 0xfd (omega arith), ne_eqb n 0xfe (omega arith)) refl
+without_prefix_fits : (n : ℕ) → n < 0xfb → OpcodeFits n (without_prefix n)
+without_prefix_fits n lt = rw (ne_eqb n 0xfb (omega arith), ne_eqb n 0xfc (omega arith), ne_eqb n 0xfd (omega arith), ne_eqb n 0xfe (omega arith)) refl
 
 opcode_fits : (op : Opcode) → IsShort op → OpcodeFits (first_byte op) op
 opcode_fits op short = by op.prefix op.number short where
   by : (p : Prefix) (n : ℕ) → let o : Opcode = record { prefix = p; number = n } in IsShort o → OpcodeFits (first_byte o) o
-  by prefixes.None n short = plain_fits n short
+  by prefixes.None n short = without_prefix_fits n short
   by prefixes.Fb n short = (n, omega arith, refl)
   by prefixes.Fc n short = (n, omega arith, refl)
   by prefixes.Fd n short = (n, omega arith, refl)
@@ -289,7 +289,7 @@ pub Shortest-instructions : Shortest SpellsInstructions (AllByRecursion Instruct
 Shortest-instructions = Shortest-joined Shortest-instruction
 
 pub AtMostOne-instructions : AtMostOne SpellsInstructions
-AtMostOne-instructions = Joined-one Reads-instruction TakesBytes-instruction
+AtMostOne-instructions = Joined-one IsReadBy-instruction TakesBytes-instruction
 
 -- one instruction more at the end
 pub record More (calls : List Instruction) (i : ℕ) (old new : List ℕ) : Type 0 where

@@ -6,7 +6,7 @@ use Rattle.wasm_types.specs.declared.types.value.ValType.{ValType}
 use Rattle.wasm_types.specs.declared.types.value.ValType.TheVariants as values
 use Rattle.wasm_types.specs.HeapTypes.{heap_type_text, reference_text, ref_type_text, val_type_text}
 use Rattle.wasm_types.specs.TypeRanges.{IsU32, HeapTypeFits, ValTypeFits}
-use Rattle.wasm_types.specs.CompositeTypes.{items_text}
+use Rattle.wasm_codec.specs.Lists.{items_text}
 use Rattle.wasm_instructions.specs.declared.operands.control.BlockType.{BlockType}
 use Rattle.wasm_instructions.specs.declared.operands.control.BlockType.TheVariants as blocks
 use Rattle.wasm_instructions.specs.declared.operands.memory.MemArg.{MemArg}
@@ -17,9 +17,9 @@ use Rattle.wasm_instructions.specs.declared.table.opcode.Opcode.{Opcode}
 use Rattle.wasm_instructions.specs.declared.table.opcode.Kind.TheVariants as kinds
 use Rattle.wasm_instructions.specs.declared.table.call.Operands.{Operands}
 use Rattle.wasm_instructions.specs.declared.table.call.Operands.TheVariants as operands
-use Rattle.wasm_values.specs.Numbers.{Within, SpellsU32, SpellsU64, SpellsS32, SpellsS64, SpellsIndex, unsigned_text, signed_text}
-use Rattle.wasm_values.proofs.Digits.{length-digits_of}
-use Rattle.wasm_values.proofs.NumberLaws.{Shortest-u32, Shortest-u64, Shortest-s32, Shortest-s64, Shortest-index}
+use Rattle.wasm_codec.specs.Numbers.{Within, SpellsU32, SpellsU64, SpellsS32, SpellsS64, SpellsIndex, unsigned_text, signed_text}
+use Rattle.wasm_codec.proofs.Digits.{length-digits_of}
+use Rattle.wasm_codec.proofs.NumberLaws.{Shortest-u32, Shortest-u64, Shortest-s32, Shortest-s64, Shortest-index}
 use Rattle.wasm_instructions.specs.MemArgs.{mem_arg_text, MemArgFits}
 use Rattle.wasm_instructions.specs.Operands.{Cast, block_type_text, BlockTypeFits, ordering_text, cast_text, little_endian_text, to_bits, vector_text}
 use Rattle.wasm_instructions.specs.Opcodes.{ranges, kind_among, kind}

@@ -4,3 +4,6 @@ pub mod RawLaws
 pub mod OpcodeLaws
 pub mod InstructionLaws
 pub mod LengthLaws
+mod KeptBytes
+mod HeldLists
+mod CallLaws

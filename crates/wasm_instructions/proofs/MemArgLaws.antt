@@ -2,19 +2,20 @@
 use Rattle.std.proofs.Common.{◌≡◌, ℕ, ◌+◌, ◌-◌, ◌^◌, ◌<◌, ◌≤◌, Bool, true, false, cond, ltb, eqb, List, [], ◌∷◌, ◌++◌, length, refl, sym, ap, subst, ◌∙◌, length-append, inl, inr, arith}
 use Rattle.std.proofs.lemmas.Bool.{ltb-true, ltb-false, lt-ltb, le-ltb, eqb-true}
 use Rattle.wasm_instructions.specs.declared.operands.memory.MemArg.{MemArg}
-use Rattle.wasm_values.specs.Grammar.{Then, Mapped, Never, Either}
-use Rattle.wasm_values.specs.Numbers.{SpellsU32, SpellsU64, digits_of, unsigned_text}
-use Rattle.wasm_values.specs.Encoding.{IsTextOrLonger}
+use Rattle.wasm_codec.specs.Grammar.{Then, Mapped, Never, Either}
+use Rattle.wasm_codec.specs.Numbers.{SpellsU32, SpellsU64, digits_of, unsigned_text}
+use Rattle.wasm_codec.specs.Encoding.{IsTextOrLonger}
 use Rattle.wasm_instructions.specs.MemArgs.{in_first, in_memory, AfterAlignment, SpellsMemArg, mem_arg_at, mem_arg_text, MemArgFits}
-use Rattle.wasm_values.proofs.Laws.{Reads, Shortest, Reads-then, Reads-map, Reads-either, Reads-never, least_then}
-use Rattle.wasm_values.proofs.NumberLaws.{Reads-u32, Reads-u64, Shortest-u32, Shortest-u64}
+use Rattle.wasm_codec.specs.Reading.{IsReadBy}
+use Rattle.wasm_codec.proofs.Laws.{Shortest, IsReadBy-then, IsReadBy-map, IsReadBy-either, IsReadBy-never, least_then}
+use Rattle.wasm_codec.proofs.NumberLaws.{IsReadBy-u32, IsReadBy-u64, Shortest-u32, Shortest-u64}
 
-pub Reads-mem-arg : Reads SpellsMemArg mem_arg_at
+pub IsReadBy-mem-arg : IsReadBy SpellsMemArg mem_arg_at
 unfolding SpellsMemArg mem_arg_at
-Reads-mem-arg = Reads-map (λ (p : ℕ × MemArg). p.1) (Reads-then Reads-u32 (λ n.
-    Reads-either (ltb n 64) (Reads-map (in_first n) Reads-u64)
-    (Reads-either (ltb n 128) (Reads-map (in_memory (n - 64)) (Reads-then Reads-u32 (λ memory. Reads-u64)))
-    Reads-never)))
+IsReadBy-mem-arg = IsReadBy-map (λ (p : ℕ × MemArg). p.1) (IsReadBy-then IsReadBy-u32 (λ n.
+    IsReadBy-either (ltb n 64) (IsReadBy-map (in_first n) IsReadBy-u64)
+    (IsReadBy-either (ltb n 128) (IsReadBy-map (in_memory (n - 64)) (IsReadBy-then IsReadBy-u32 (λ memory. IsReadBy-u64)))
+    IsReadBy-never)))
 
 -- ---- numbers
 

@@ -4,7 +4,7 @@ use Rattle.std.proofs.lemmas.Bool.{ltb-true, leb-true, lt-leb, cases_lt}
 use Rattle.std.proofs.Math.Bool.{and-false}
 use Rattle.wasm_instructions.specs.declared.table.opcode.Kind.{Kind}
 use Rattle.wasm_instructions.specs.declared.table.opcode.Kind.TheVariants as kinds
-use Rattle.wasm_values.proofs.Laws.{some_is}
+use Rattle.wasm_codec.proofs.Laws.{some_is}
 use Rattle.wasm_instructions.specs.Opcodes.{Range, kind_among, kinds_from, end_below, IsTable}
 
 kinds_from-at : (rs : List Range) (first count i : ℕ) → i < count → get_or (kinds_from rs first count) i None ≡ kind_among rs (first + i)

@@ -14,26 +14,27 @@ use Rattle.wasm_instructions.specs.declared.operands.control.Handle.{Handle}
 use Rattle.wasm_instructions.specs.declared.operands.control.Handle.TheVariants as handles
 use Rattle.wasm_instructions.specs.declared.operands.memory.Ordering.{Ordering}
 use Rattle.wasm_instructions.specs.declared.operands.memory.Ordering.TheVariants as orderings
-use Rattle.wasm_values.specs.Grammar.{Grammar, Then, Mapped, Nothing, Never, Either, ByTag, Tail, Only}
-use Rattle.wasm_values.specs.Encoding.{IsTextOrLonger}
-use Rattle.wasm_values.specs.Numbers.{SpellsU32, SpellsIndex, signed_text}
+use Rattle.wasm_codec.specs.Grammar.{Grammar, TakesBytes, Then, Mapped, Nothing, Never, Either, ByTag, Tail, Only}
+use Rattle.wasm_codec.specs.Encoding.{IsTextOrLonger}
+use Rattle.wasm_codec.specs.Numbers.{SpellsU32, SpellsIndex, signed_text}
 use Rattle.wasm_types.specs.HeapTypes.{abstract_byte, is_type_byte, SpellsAbstract, heap_type_text, reference, SpellsRefType, is_number_byte, number_type_of, SpellsValType, val_type_text}
 use Rattle.wasm_types.specs.HeapTypes as types
 use Rattle.wasm_instructions.specs.Operands.{SpellsBlockType, block_type_at, block_type_text, one_of, one_ref_of, SpellsCatch, catch_at, catch_byte, catch_rest, catch_text, on_label_of, SpellsHandle, handle_at, handle_byte, handle_rest, handle_text, ordering_of, SpellsOrdering, ordering_at, ordering_byte, ordering_text, nullables_of, nullables_byte, Cast, cast_of, SpellsCast, cast_at, cast_text, BlockTypeFits, CatchFits, HandleFits}
 use Rattle.wasm_types.specs.TypeRanges.{IsU32, HeapTypeFits}
-use Rattle.wasm_values.proofs.Laws.{Reads, Shortest, MadeOf, EitherFits, HasTag, HasTag-either, HasTag-map, Reads-then, Reads-map, Reads-nothing, Reads-never, Reads-either, Reads-tag, Reads-peek, Reads-tail, Reads-only, Shortest-then, Shortest-map, Shortest-never, Shortest-either, Shortest-for, Shortest-tag}
-use Rattle.wasm_values.proofs.NumberLaws.{Reads-u32, Reads-index, Shortest-u32, Shortest-index}
-use Rattle.wasm_types.proofs.HeapTypeLaws.{index_begins, index_some, either_some, mapped_some, abstract_is, abstract_range, pick, only_is, Reads-heap-type, Reads-val-type, val_type_some, Shortest-heap-type}
+use Rattle.wasm_codec.specs.Reading.{IsReadBy}
+use Rattle.wasm_codec.proofs.Laws.{Shortest, MadeOf, EitherFits, HasTag, HasTag-either, HasTag-map, IsReadBy-then, IsReadBy-map, IsReadBy-nothing, IsReadBy-never, IsReadBy-either, IsReadBy-tag, IsReadBy-peek, IsReadBy-tail, IsReadBy-only, Shortest-then, Shortest-map, Shortest-never, Shortest-either, Shortest-for, Shortest-tag}
+use Rattle.wasm_codec.proofs.NumberLaws.{IsReadBy-u32, IsReadBy-index, Shortest-u32, Shortest-index}
+use Rattle.wasm_types.proofs.HeapTypeLaws.{index_begins, index_some, either_some, mapped_some, abstract_is, abstract_range, pick, only_is, IsReadBy-heap-type, IsReadBy-val-type, val_type_some, Shortest-heap-type}
 use Rattle.wasm_types.proofs.ValueTypeLaws.{Shortest-val-type}
 
 -- ---- block types
 
-pub Reads-block-type : Reads SpellsBlockType block_type_at
+pub IsReadBy-block-type : IsReadBy SpellsBlockType block_type_at
 unfolding SpellsBlockType block_type_at
-Reads-block-type = Reads-peek
-    (λ byte. Reads-either (eqb byte 0x40) (Reads-tail (Reads-nothing blocks.Empty))
-    (Reads-either (is_type_byte byte) (Reads-map blocks.Result Reads-val-type)
-    (Reads-map blocks.FunctionType Reads-index)))
+IsReadBy-block-type = IsReadBy-peek
+    (λ byte. IsReadBy-either (eqb byte 0x40) (IsReadBy-tail (IsReadBy-nothing blocks.Empty))
+    (IsReadBy-either (is_type_byte byte) (IsReadBy-map blocks.Result IsReadBy-val-type)
+    (IsReadBy-map blocks.FunctionType IsReadBy-index)))
     (λ byte v. either_some (eqb byte 0x40) _ _ v (λ g. g)
     (either_some (is_type_byte byte) _ _ v (mapped_some blocks.Result SpellsValType v val_type_some)
     (mapped_some blocks.FunctionType SpellsIndex v index_some)))
@@ -116,14 +117,18 @@ Shortest-block-type = record {
 
 -- ---- clauses of try_table
 
-pub Reads-catch : Reads SpellsCatch catch_at
+pub catch_some : TakesBytes SpellsCatch
+unfolding SpellsCatch
+catch_some v g = g
+
+pub IsReadBy-catch : IsReadBy SpellsCatch catch_at
 unfolding SpellsCatch catch_at
-Reads-catch = Reads-tag (λ byte.
-    Reads-either (eqb byte 0x00) (Reads-map one_of (Reads-then Reads-u32 (λ tag. Reads-u32)))
-    (Reads-either (eqb byte 0x01) (Reads-map one_ref_of (Reads-then Reads-u32 (λ tag. Reads-u32)))
-    (Reads-either (eqb byte 0x02) (Reads-map catches.All Reads-u32)
-    (Reads-either (eqb byte 0x03) (Reads-map catches.AllRef Reads-u32)
-    Reads-never))))
+IsReadBy-catch = IsReadBy-tag (λ byte.
+    IsReadBy-either (eqb byte 0x00) (IsReadBy-map one_of (IsReadBy-then IsReadBy-u32 (λ tag. IsReadBy-u32)))
+    (IsReadBy-either (eqb byte 0x01) (IsReadBy-map one_ref_of (IsReadBy-then IsReadBy-u32 (λ tag. IsReadBy-u32)))
+    (IsReadBy-either (eqb byte 0x02) (IsReadBy-map catches.All IsReadBy-u32)
+    (IsReadBy-either (eqb byte 0x03) (IsReadBy-map catches.AllRef IsReadBy-u32)
+    IsReadBy-never))))
 
 abbrev ArePairs : ℕ × ℕ → Type 0
 ArePairs p = IsU32 p.0 × IsU32 p.1
@@ -172,12 +177,16 @@ Shortest-catch = Shortest-for CatchFits (Shortest-tag {E = CatchFitsAt} {text = 
 
 -- ---- clauses of resume
 
-pub Reads-handle : Reads SpellsHandle handle_at
+pub handle_some : TakesBytes SpellsHandle
+unfolding SpellsHandle
+handle_some v g = g
+
+pub IsReadBy-handle : IsReadBy SpellsHandle handle_at
 unfolding SpellsHandle handle_at
-Reads-handle = Reads-tag (λ byte.
-    Reads-either (eqb byte 0x00) (Reads-map on_label_of (Reads-then Reads-u32 (λ tag. Reads-u32)))
-    (Reads-either (eqb byte 0x01) (Reads-map handles.OnSwitch Reads-u32)
-    Reads-never))
+IsReadBy-handle = IsReadBy-tag (λ byte.
+    IsReadBy-either (eqb byte 0x00) (IsReadBy-map on_label_of (IsReadBy-then IsReadBy-u32 (λ tag. IsReadBy-u32)))
+    (IsReadBy-either (eqb byte 0x01) (IsReadBy-map handles.OnSwitch IsReadBy-u32)
+    IsReadBy-never))
 
 abbrev HandleFitsAt : ℕ → Handle → Type 0
 HandleFitsAt byte =
@@ -233,9 +242,9 @@ module _ {A : Type 0} (of_byte : ℕ → Option A) (byte_of : A → ℕ) where
 
 -- ---- orderings
 
-pub Reads-ordering : Reads SpellsOrdering ordering_at
+pub IsReadBy-ordering : IsReadBy SpellsOrdering ordering_at
 unfolding SpellsOrdering ordering_at
-Reads-ordering = Reads-tag (λ byte. Reads-only (ordering_of byte))
+IsReadBy-ordering = IsReadBy-tag (λ byte. IsReadBy-only (ordering_of byte))
 
 ordering_spells : (o : Ordering) → ByteOf ordering_of ordering_byte (ordering_byte o ∷ []) o
 ordering_spells orderings.SeqCst = (refl, refl)
@@ -261,9 +270,9 @@ nullables_back b p =
     pick nullables_byte b 0x00 (false, false) p _ refl (pick nullables_byte b 0x01 (true, false) p _ refl
     (pick nullables_byte b 0x02 (false, true) p _ refl (pick nullables_byte b 0x03 (true, true) p None refl (λ none. absurd cc))))
 
-pub Reads-cast : Reads SpellsCast cast_at
+pub IsReadBy-cast : IsReadBy SpellsCast cast_at
 unfolding SpellsCast cast_at
-Reads-cast = Reads-map cast_of (Reads-then (Reads-tag (λ byte. Reads-only (nullables_of byte))) (λ flags. Reads-then Reads-u32 (λ label. Reads-then Reads-heap-type (λ before. Reads-heap-type))))
+IsReadBy-cast = IsReadBy-map cast_of (IsReadBy-then (IsReadBy-tag (λ byte. IsReadBy-only (nullables_of byte))) (λ flags. IsReadBy-then IsReadBy-u32 (λ label. IsReadBy-then IsReadBy-heap-type (λ before. IsReadBy-heap-type))))
 
 abbrev pub CastFits : Cast → Type 0
 CastFits c = IsU32 c.label × HeapTypeFits c.before.heap_type × HeapTypeFits c.after.heap_type

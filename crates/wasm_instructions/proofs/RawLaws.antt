@@ -4,18 +4,19 @@ use Rattle.std.proofs.lemmas.List.{take_at, drop_at, take-append-drop, length-ta
 use Rattle.std.proofs.lemmas.Bool.{ltb-false, lt-ltb, le-ltb}
 use Rattle.std.proofs.lemmas.Nat.{div_below}
 use Rattle.std.proofs.lemmas.Int.{ints}
-use Rattle.wasm_values.specs.Grammar.{IsBytes, Then}
-use Rattle.wasm_values.specs.Encoding.{IsTextOrLonger}
-use Rattle.wasm_values.specs.Numbers.{Within}
+use Rattle.wasm_codec.specs.Grammar.{IsBytes, Then}
+use Rattle.wasm_codec.specs.Encoding.{IsTextOrLonger}
+use Rattle.wasm_codec.specs.Numbers.{Within}
 use Rattle.wasm_instructions.specs.Operands.{LittleEndian, little_endian_at, little_endian_text, from_bits, to_bits, from_halves, SpellsVector, vector_at, vector_text, IsLanes, SpellsLanes, lanes_at}
-use Rattle.wasm_values.proofs.Laws.{Fronts, Reads, Reads-byte, Shortest, some_is, Reads-then, Reads-map, Reads-nothing, Shortest-then}
+use Rattle.wasm_codec.specs.Reading.{Fronts, IsReadBy}
+use Rattle.wasm_codec.proofs.Laws.{IsReadBy-byte, Shortest, some_is, IsReadBy-then, IsReadBy-map, IsReadBy-nothing, Shortest-then}
 
 -- ---- numbers in so many bytes
 
-pub Reads-little-endian : (count : ℕ) → Reads (LittleEndian count) (little_endian_at count)
+pub IsReadBy-little-endian : (count : ℕ) → IsReadBy (LittleEndian count) (little_endian_at count)
 unfolding LittleEndian little_endian_at
-Reads-little-endian zero = Reads-nothing 0
-Reads-little-endian (suc more) = Reads-map (λ (p : ℕ × ℕ). p.0 + 256 * p.1) (Reads-then Reads-byte (λ low. Reads-little-endian more))
+IsReadBy-little-endian zero = IsReadBy-nothing 0
+IsReadBy-little-endian (suc more) = IsReadBy-map (λ (p : ℕ × ℕ). p.0 + 256 * p.1) (IsReadBy-then IsReadBy-byte (λ low. IsReadBy-little-endian more))
 
 one_less : (more n : ℕ) → n < 256 ^ suc more → n / 256 < 256 ^ more
 one_less more n lt =
@@ -60,9 +61,9 @@ Shortest-little-endian count = record {
 
 -- ---- vectors
 
-pub Reads-vector : Reads SpellsVector vector_at
+pub IsReadBy-vector : IsReadBy SpellsVector vector_at
 unfolding SpellsVector vector_at
-Reads-vector = Reads-map from_halves (Reads-then (Reads-little-endian 8) (λ low. Reads-little-endian 8))
+IsReadBy-vector = IsReadBy-map from_halves (IsReadBy-then (IsReadBy-little-endian 8) (λ low. IsReadBy-little-endian 8))
 
 bits_below : (z : ℤ) → Within (2 ^ 127) z → to_bits z < 2 ^ 128
 bits_below (pos n) fits = omega arith
@@ -161,9 +162,9 @@ lanes_taken bytes fits le = record {
   parts = sym (take-append-drop 16 bytes);
 }
 
-pub Reads-lanes : Reads SpellsLanes lanes_at
+pub IsReadBy-lanes : IsReadBy SpellsLanes lanes_at
 unfolding SpellsLanes lanes_at
-Reads-lanes = record {
+IsReadBy-lanes = record {
   sound = λ bytes v rest fits e.
       let g = guard_none (ltb (length bytes) 16) (take 16 bytes, drop 16 bytes) (v, rest) e in
       subst (λ (x : List ℕ × List ℕ). Fronts SpellsLanes bytes x.0 x.1) g.1 (lanes_taken bytes fits (ltb-false _ _ g.0));

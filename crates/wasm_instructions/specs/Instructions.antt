@@ -12,12 +12,12 @@ use Rattle.wasm_instructions.specs.declared.table.opcode.Kind.{Kind}
 use Rattle.wasm_instructions.specs.declared.table.opcode.Kind.TheVariants as kinds
 use Rattle.wasm_instructions.specs.declared.table.call.Operands.{Operands}
 use Rattle.wasm_instructions.specs.declared.table.call.Operands.TheVariants as operands
-use Rattle.wasm_values.specs.Grammar.{Grammar, Then, Mapped, Nothing, Never, Either, ByTag, AByte, Joined}
-use Rattle.wasm_values.specs.Reading.{Reader, then_at, map_at, nothing_at, never_at, either_at, by_tag, byte_at}
-use Rattle.wasm_values.specs.Numbers.{Within, SpellsU32, SpellsS32, SpellsS64, u32_at, s32_at, s64_at, unsigned_text, signed_text}
+use Rattle.wasm_codec.specs.Grammar.{Grammar, Then, Mapped, Nothing, Never, Either, ByTag, AByte, Joined}
+use Rattle.wasm_codec.specs.Reading.{Reader, then_at, map_at, nothing_at, never_at, either_at, by_tag, byte_at}
+use Rattle.wasm_codec.specs.Numbers.{Within, SpellsU32, SpellsS32, SpellsS64, u32_at, s32_at, s64_at, unsigned_text, signed_text}
 use Rattle.wasm_types.specs.TypeRanges.{HeapTypeFits, ValTypeFits}
 use Rattle.wasm_types.specs.HeapTypes.{SpellsHeapType, heap_type_at, heap_type_text, SpellsValType, val_type_at, val_type_text}
-use Rattle.wasm_types.specs.CompositeTypes.{SpellsList, list_at, items_text}
+use Rattle.wasm_codec.specs.Lists.{SpellsList, list_at, items_text}
 use Rattle.wasm_instructions.specs.MemArgs.{SpellsMemArg, mem_arg_at, mem_arg_text, MemArgFits}
 use Rattle.wasm_instructions.specs.Operands.{SpellsBlockType, block_type_at, block_type_text, BlockTypeFits, SpellsCatch, catch_at, catch_text, CatchFits, SpellsHandle, handle_at, handle_text, HandleFits, SpellsOrdering, ordering_at, ordering_text, Cast, SpellsCast, cast_at, cast_text, LittleEndian, little_endian_at, little_endian_text, ieee32, ieee64, SpellsVector, vector_at, vector_text, SpellsLanes, lanes_at}
 use Rattle.wasm_instructions.specs.Opcodes.{kind}
@@ -33,8 +33,8 @@ call op operands = record { op = op; operands = operands }
 -- ---- opcodes
 
 -- an opcode without prefix
-abbrev pub plain : ℕ → Opcode
-plain number = record { prefix = prefixes.None; number = number }
+abbrev pub without_prefix : ℕ → Opcode
+without_prefix number = record { prefix = prefixes.None; number = number }
 
 abbrev pub after_fb : ℕ → Opcode
 after_fb number = record { prefix = prefixes.Fb; number = number }
@@ -65,7 +65,7 @@ SpellsOpcode = ByTag (λ byte.
     (Either (byte == 0xfc) (Mapped after_fc SpellsU32)
     (Either (byte == 0xfd) (Mapped after_fd SpellsU32)
     (Either (byte == 0xfe) (Mapped after_fe SpellsU32)
-    (Nothing (plain byte))))))
+    (Nothing (without_prefix byte))))))
 
 unfoldable pub opcode_at : Reader Opcode
 opcode_at = by_tag (λ byte.
@@ -73,7 +73,7 @@ opcode_at = by_tag (λ byte.
     (either_at (byte == 0xfc) (map_at after_fc u32_at)
     (either_at (byte == 0xfd) (map_at after_fd u32_at)
     (either_at (byte == 0xfe) (map_at after_fe u32_at)
-    (nothing_at (plain byte))))))
+    (nothing_at (without_prefix byte))))))
 
 unfoldable pub opcode_text : Opcode → List ℕ
 opcode_text op = elim op.prefix [

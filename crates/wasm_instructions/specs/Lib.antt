@@ -3,3 +3,4 @@ pub mod MemArgs
 pub mod Operands
 pub mod Instructions
 pub mod Lengths
+pub mod Appending

@@ -1,9 +1,9 @@
 -- Memory arguments (WebAssembly Core 3.0, 5.4, memory instructions).
 use Rattle.std.specs.Prelude.{ℕ, ◌+◌, ◌-◌, ◌<◌, ◌^◌, List, ◌++◌, Option, Some, None, nat_lt, ◌==◌, if◌then◌else◌}
 use Rattle.wasm_instructions.specs.declared.operands.memory.MemArg.{MemArg}
-use Rattle.wasm_values.specs.Grammar.{Grammar, Then, Mapped, Never, Either}
-use Rattle.wasm_values.specs.Reading.{Reader, then_at, map_at, never_at, either_at}
-use Rattle.wasm_values.specs.Numbers.{SpellsU32, SpellsU64, u32_at, u64_at, unsigned_text}
+use Rattle.wasm_codec.specs.Grammar.{Grammar, Then, Mapped, Never, Either}
+use Rattle.wasm_codec.specs.Reading.{Reader, then_at, map_at, never_at, either_at}
+use Rattle.wasm_codec.specs.Numbers.{SpellsU32, SpellsU64, u32_at, u64_at, unsigned_text}
 
 -- in memory 0, which goes without its index
 abbrev pub in_first : ℕ → ℕ → MemArg

@@ -13,9 +13,9 @@ use Rattle.wasm_instructions.specs.declared.operands.memory.Ordering.{Ordering}
 use Rattle.wasm_instructions.specs.declared.operands.memory.Ordering.TheVariants as orderings
 use Rattle.wasm_instructions.specs.declared.operands.constants.Ieee32.{Ieee32}
 use Rattle.wasm_instructions.specs.declared.operands.constants.Ieee64.{Ieee64}
-use Rattle.wasm_values.specs.Grammar.{Grammar, IsBytes, Then, Mapped, Nothing, Never, Either, ByTag, Peek, Tail, Only, AByte}
-use Rattle.wasm_values.specs.Reading.{Reader, then_at, map_at, nothing_at, never_at, either_at, by_tag, peek_at, tail_at, only_at, byte_at}
-use Rattle.wasm_values.specs.Numbers.{SpellsU32, SpellsIndex, u32_at, index_at, unsigned_text, signed_text}
+use Rattle.wasm_codec.specs.Grammar.{Grammar, IsBytes, Then, Mapped, Nothing, Never, Either, ByTag, Peek, Tail, Only, AByte}
+use Rattle.wasm_codec.specs.Reading.{Reader, then_at, map_at, nothing_at, never_at, either_at, by_tag, peek_at, tail_at, only_at, byte_at}
+use Rattle.wasm_codec.specs.Numbers.{SpellsU32, SpellsIndex, u32_at, index_at, unsigned_text, signed_text}
 use Rattle.wasm_types.specs.TypeRanges.{IsU32, ValTypeFits}
 use Rattle.wasm_types.specs.HeapTypes.{is_type_byte, SpellsHeapType, heap_type_at, heap_type_text, reference, SpellsValType, val_type_at, val_type_text}
 

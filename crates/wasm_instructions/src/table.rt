@@ -3,7 +3,6 @@
 mod call;
 mod opcode;
 mod places;
-mod ranges;
 
 pub use call::{Call, Operands};
 pub use opcode::{Kind, Opcode, Prefix};

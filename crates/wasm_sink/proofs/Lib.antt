@@ -1,2 +1,1 @@
-mod KeptBytes
 pub mod ChainLaws

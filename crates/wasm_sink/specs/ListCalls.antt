@@ -1,28 +1,18 @@
--- Calls with a list that an iterator gives.
-use Rattle.std.specs.Prelude.{◌≡◌, ℕ, ◌^◌, ◌<◌, ◌≤◌, ◌++◌, List, length, Option, Result, IfOk, MatchResult}
+-- Calls with a list.
+use Rattle.std.specs.Prelude.{ℕ, ◌^◌, ◌<◌, List, length, Option, Result, IfOk, MatchResult}
 use Rattle.std.specs.Iterator.{Drains}
 use Rattle.wasm_sink.specs.declared.sink.InstructionSink.{InstructionSink}
 use Rattle.wasm_instructions.specs.declared.table.opcode.Opcode.{Opcode}
 use Rattle.wasm_instructions.specs.declared.table.call.Operands.{Operands}
-use Rattle.wasm_values.specs.declared.encode.EncodeError.{EncodeError}
-use Rattle.wasm_values.specs.declared.encode.EncodeError.TheVariants as errors
+use Rattle.wasm_codec.specs.declared.encode.EncodeError.{EncodeError}
 use Rattle.wasm_instructions.specs.Instructions.{call}
+use Rattle.wasm_instructions.specs.Appending.{IsRefusedList}
 use Rattle.wasm_sink.specs.Sink.{GoesOn}
 
 module _ {S A : Type 0} (gives : S → Option A → S → Type 0) where
-  -- the new bytes are the old ones and then the text of the list that the iterator gives, which a u32 counts
-  unfoldable pub AppendsAll : S → (List A → List ℕ) → List ℕ → List ℕ → Type 0
-  AppendsAll items text old new = (xs : List A) × Drains gives items xs × (new ≡ old ++ text xs) × (length xs < 2 ^ 32)
-
   -- the sink goes on with the text of the call with the list that the iterator gives
   abbrev pub WritesItems : {Z : Type 0} → InstructionSink Z → Opcode → (List A → Operands) → S → Result (InstructionSink Z) EncodeError → Type 0
   WritesItems s op operands items r = IfOk r (λ t. (xs : List A) × Drains gives items xs × GoesOn s (call op (operands xs)) t × (length xs < 2 ^ 32))
-
--- memory ran out, or there are more items than a u32 counts
-abbrev pub IsRefusedList : ℕ → EncodeError → Type 0
-IsRefusedList count errors.Memory = Unit {0}
-IsRefusedList count errors.TooLong = 2 ^ 32 ≤ count
-IsRefusedList count errors.Alignment = ⊥
 
 module _ {Z : Type 0} where
   -- the sink goes on with the text of a call with a list of so many items, or tells why not

@@ -1,7 +1,6 @@
 -- What the instruction sink promises. The sink lends a list of bytes, so what holds of that list at an `Err` is said
 -- of the loan's end.
 use Rattle.std.specs.Prelude.{ℕ, Result, List, [], ◌∷◌, ◌≡◌, ◌++◌, ◌+◌, ◌≤◌, IfOk, MatchResult}
-use Rattle.std.specs.List.{AllByRecursion}
 use Rattle.std.specs.Borrow.{RestsIfErr, Fml, u8, RattleType}
 use Rattle.std.specs.Vec.{vec_len, vec_capacity}
 use Rattle.std.specs.contracts.vec.Vec as vec
@@ -9,27 +8,10 @@ use Rattle.std.specs.declared.alloc.Allocator.{Ghosts}
 use Rattle.wasm_sink.specs.declared.sink.InstructionSink.{InstructionSink}
 use Rattle.wasm_instructions.specs.declared.table.opcode.Opcode.{Opcode}
 use Rattle.wasm_instructions.specs.declared.table.call.Operands.{Operands}
-use Rattle.wasm_instructions.specs.Instructions.{Instruction, call, instruction_text, instructions_text, IsAligned, IsCounted, HasText}
-use Rattle.wasm_values.specs.declared.encode.EncodeError.{EncodeError}
-use Rattle.wasm_values.specs.declared.encode.EncodeError.TheVariants as errors
-
--- why a call wasn't written: memory ran out, an alignment is out of range, or a list is too long
-abbrev pub IsRefusal : Operands → EncodeError → Type 0
-IsRefusal operands errors.Memory = Unit {0}
-IsRefusal operands errors.Alignment = IsAligned operands → ⊥
-IsRefusal operands errors.TooLong = IsCounted operands → ⊥
-
--- Why a `Call` wasn't written: memory ran out, or a list is too long. Its alignments are in range.
-abbrev pub IsCallRefusal : Instruction → EncodeError → Type 0
-IsCallRefusal c errors.Memory = Unit {0}
-IsCallRefusal c errors.Alignment = ⊥
-IsCallRefusal c errors.TooLong = IsCounted c.operands → ⊥
-
--- why one of several wasn't written
-abbrev pub IsRefusalOfOne : List Instruction → EncodeError → Type 0
-IsRefusalOfOne calls errors.Memory = Unit {0}
-IsRefusalOfOne calls errors.Alignment = ⊥
-IsRefusalOfOne calls errors.TooLong = AllByRecursion (λ c. IsCounted c.operands) calls → ⊥
+use Rattle.wasm_instructions.specs.Instructions.{Instruction, call, instruction_text, instructions_text, IsCounted, HasText}
+use Rattle.wasm_instructions.specs.Appending.{IsRefusal, IsCallRefusal, IsRefusalOfOne}
+use Rattle.wasm_codec.specs.declared.encode.EncodeError.{EncodeError}
+use Rattle.wasm_codec.specs.declared.encode.EncodeError.TheVariants as errors
 
 module _ {Z : Type 0} where
   -- the bytes behind the sink

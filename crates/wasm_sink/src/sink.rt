@@ -3,12 +3,12 @@
 //! Each method takes the sink by value and gives it back at `Ok`, so calls are chained by `?`:
 //! `InstructionSink::new(&mut code).local_get(0)?.local_get(1)?.i32_add()?.end()?`. At an `Err` the list of bytes is
 //! as it was before the call.
-ghost use Rattle.std.specs.Prelude.{◌≡◌, ◌++◌, ℕ, List, IsOk, IfOk, IfErr, OnOk, OnErr};
+ghost use Rattle.std.specs.Prelude.{◌≡◌, ℕ, List, IsOk, IfOk};
 ghost use Rattle.std.specs.Borrow.{sem};
-ghost use Rattle.wasm_sink.specs.Sink.{IsUnchangedAtErr, IsSameSink, AppendsCall, AppendsCalls, Chain, written, HasRoom, IsCallRefusal, IsRefusalOfOne};
+ghost use Rattle.wasm_sink.specs.Sink.{IsUnchangedAtErr, IsSameSink, AppendsCall, AppendsCalls, Chain, written, HasRoom};
 ghost use Rattle.wasm_instructions.specs.Instructions.{HasNoList, SpellsInstruction, SpellsInstructions, instruction_text, instructions_text};
 ghost use Rattle.wasm_instructions.specs.Lengths.{HasNoLongList, IsShortText};
-ghost use Rattle.wasm_values.specs.Encoding.{IsTextOrLonger};
+ghost use Rattle.wasm_codec.specs.Encoding.{IsTextOrLonger};
 
 mod aggregates;
 mod atomics;
@@ -24,8 +24,9 @@ mod variables;
 mod vectors;
 
 use std::alloc::Allocator;
+use wasm_codec::encode::EncodeError;
+use wasm_instructions::encode::{append_call, append_calls};
 use wasm_instructions::table::Call;
-use wasm_values::encode::EncodeError;
 
 /// Appends instructions to a list of bytes.
 #[derive(Drop)]
@@ -55,8 +56,9 @@ impl<'a, A: Allocator> InstructionSink<'a, A> {
         // A call without a list, or with a list of one type, has from 1 to 20 bytes.
         ensures length { HasNoLongList call.now.operands → IsShortText (instruction_text call.now) }
     {
-        call.is_spelled();
-        self.emit_operands(call.op(), call.operands())
+        let InstructionSink { bytes } = self;
+        append_call(bytes, call)?;
+        Ok(InstructionSink { bytes })
     }
 
     /// Appends the texts of calls, all of them or none.
@@ -80,37 +82,4 @@ impl<'a, A: Allocator> InstructionSink<'a, A> {
         append_calls(bytes, calls)?;
         Ok(InstructionSink { bytes })
     }
-}
-
-/// Appends the texts of calls, all of them or none.
-fn append_calls<A: Allocator>(bytes: &mut Vec<u8, A>, calls: &[Call]) -> Result<(), EncodeError>
-    ensures ok { OnOk result (bytes.new.items ≡ bytes.old.items ++ instructions_text calls.now) }
-    ensures err { OnErr result (bytes.new.items ≡ bytes.old.items) }
-    ensures refused { IfErr result (IsRefusalOfOne calls.now) }
-    ensures spells { OnOk result (SpellsInstructions (instructions_text calls.now) calls.now) }
-    ensures shortest { (bytes : List ℕ) → SpellsInstructions bytes calls.now →
-        IsTextOrLonger bytes (instructions_text calls.now) }
-{
-    let start = bytes.len();
-    for call in calls {
-        if let Err(error) = append_call(bytes, call) {
-            bytes.truncate(start);
-            return Err(error);
-        }
-    }
-    Ok(())
-}
-
-/// Appends the text of a call, or nothing.
-pub(crate) fn append_call<A: Allocator>(
-    bytes: &mut Vec<u8, A>,
-    call: &Call,
-) -> Result<(), EncodeError>
-    ensures ok { OnOk result (bytes.new.items ≡ bytes.old.items ++ instruction_text call.now) }
-    ensures err { OnErr result (bytes.new.items ≡ bytes.old.items) }
-    ensures refused { IfErr result (IsCallRefusal call.now) }
-    ensures spells { OnOk result (SpellsInstruction (instruction_text call.now) call.now) }
-{
-    InstructionSink::new(&mut *bytes).write_call(call)?;
-    Ok(())
 }

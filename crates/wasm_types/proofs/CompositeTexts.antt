@@ -3,15 +3,16 @@ use Rattle.std.proofs.Common.{◌≡◌, ℕ, ◌≤◌, Bool, true, false, cond
 use Rattle.std.proofs.lemmas.Bool.{eqb-true, eq-eqb}
 use Rattle.wasm_types.specs.declared.types.composite.CompositeInnerType.{CompositeInnerType}
 use Rattle.wasm_types.specs.declared.types.composite.CompositeInnerType.TheVariants as inner
-use Rattle.wasm_values.specs.Encoding.{IsTextOrLonger}
-use Rattle.wasm_values.specs.Grammar.{Grammar, Then, Mapped, Never, Either, ByTag, Peek, Tail, Only}
-use Rattle.wasm_values.specs.Numbers.{SpellsU32, SpellsIndex, unsigned_text}
+use Rattle.wasm_codec.specs.Encoding.{IsTextOrLonger}
+use Rattle.wasm_codec.specs.Grammar.{Grammar, Then, Mapped, Never, Either, ByTag, Peek, Tail, Only}
+use Rattle.wasm_codec.specs.Numbers.{SpellsU32, SpellsIndex, unsigned_text}
 use Rattle.wasm_types.specs.HeapTypes.{SpellsValType}
-use Rattle.wasm_types.specs.CompositeTypes.{SpellsList, items_text, mutability_of, mutability_text, field_of, SpellsFieldType, field_type_text, func_of, struct_of, array_of, cont_of, SpellsInner, inner_byte, inner_rest, inner_text, Flagged, flagged_text, Indexed, indexed_text}
+use Rattle.wasm_codec.specs.Lists.{SpellsList, items_text}
+use Rattle.wasm_types.specs.CompositeTypes.{mutability_of, mutability_text, field_of, SpellsFieldType, field_type_text, func_of, struct_of, array_of, cont_of, SpellsInner, inner_byte, inner_rest, inner_text, Flagged, flagged_text, Indexed, indexed_text}
 use Rattle.wasm_types.specs.TypeRanges.{IsU32, ListFits, ValTypeFits, FieldTypeFits, InnerFits}
-use Rattle.wasm_values.proofs.Laws.{Shortest, MadeOf, EitherFits, HasTag, HasTag-either, HasTag-map, Shortest-then, Shortest-map, Shortest-never, Shortest-either, Shortest-for, Shortest-tag}
-use Rattle.wasm_values.proofs.Counting.{Shortest-counted}
-use Rattle.wasm_values.proofs.NumberLaws.{Shortest-u32, Shortest-index}
+use Rattle.wasm_codec.proofs.Laws.{Shortest, MadeOf, EitherFits, HasTag, HasTag-either, HasTag-map, Shortest-then, Shortest-map, Shortest-never, Shortest-either, Shortest-for, Shortest-tag}
+use Rattle.wasm_codec.proofs.Counting.{Shortest-counted}
+use Rattle.wasm_codec.proofs.NumberLaws.{Shortest-u32, Shortest-index}
 use Rattle.wasm_types.proofs.HeapTypeLaws.{longer_cons, pick, only_is}
 use Rattle.wasm_types.proofs.ValueTypeLaws.{Shortest-val-type, Shortest-storage-type}
 

@@ -8,10 +8,11 @@ use Rattle.wasm_types.specs.declared.types.composite.CompositeType.{CompositeTyp
 use Rattle.wasm_types.specs.declared.types.composite.SubType.{SubType}
 use Rattle.wasm_types.specs.declared.types.composite.TypeEntry.{TypeEntry}
 use Rattle.wasm_types.specs.declared.types.composite.TypeEntry.TheVariants as entries
-use Rattle.wasm_values.specs.Numbers.{unsigned_text}
-use Rattle.wasm_values.specs.Encoding.{both_texts, usize_text, texts, list_text}
+use Rattle.wasm_codec.specs.Numbers.{unsigned_text}
+use Rattle.wasm_codec.specs.Encoding.{both_texts, usize_text, texts, list_text}
 use Rattle.wasm_types.specs.HeapTypes.{val_type_text}
-use Rattle.wasm_types.specs.CompositeTypes.{items_text, field_type_text, inner_text, indexed_text, flagged_text, composite_type_text, supertypes_text, sub_type_text, entry_text}
+use Rattle.wasm_codec.specs.Lists.{items_text}
+use Rattle.wasm_types.specs.CompositeTypes.{field_type_text, inner_text, indexed_text, flagged_text, composite_type_text, supertypes_text, sub_type_text, entry_text}
 use Rattle.wasm_types.specs.TypeEncoding.{index_encoding, val_type_encoding, field_type_encoding, inner_encoding, shared_text, flagged_index_text, composite_encoding, supertypes_encoding, sub_encoding, entry_encoding}
 
 -- the encoding, if there is one, is this text

@@ -6,13 +6,14 @@ use Rattle.wasm_types.specs.declared.types.composite.CompositeType.{CompositeTyp
 use Rattle.wasm_types.specs.declared.types.composite.SubType.{SubType}
 use Rattle.wasm_types.specs.declared.types.composite.TypeEntry.{TypeEntry}
 use Rattle.wasm_types.specs.declared.types.composite.TypeEntry.TheVariants as entries
-use Rattle.wasm_values.specs.Encoding.{IsTextOrLonger}
-use Rattle.wasm_values.specs.Grammar.{Grammar, Then, Mapped, Either, Tail}
-use Rattle.wasm_values.specs.Numbers.{SpellsU32, unsigned_text, digits_of}
-use Rattle.wasm_types.specs.CompositeTypes.{SpellsList, items_text, SpellsInner, inner_text, Flagged, Indexed, indexed_text, composite_of, SpellsCompositeType, composite_type_text, sub_of, SpellsSubType, supertypes_text, sub_type_text, SpellsEntry, entry_text, SpellsTypeBody, type_body_text}
+use Rattle.wasm_codec.specs.Encoding.{IsTextOrLonger}
+use Rattle.wasm_codec.specs.Grammar.{Grammar, Then, Mapped, Either, Tail}
+use Rattle.wasm_codec.specs.Numbers.{SpellsU32, unsigned_text, digits_of}
+use Rattle.wasm_codec.specs.Lists.{SpellsList, items_text}
+use Rattle.wasm_types.specs.CompositeTypes.{SpellsInner, inner_text, Flagged, Indexed, indexed_text, composite_of, SpellsCompositeType, composite_type_text, sub_of, SpellsSubType, supertypes_text, sub_type_text, SpellsEntry, entry_text, SpellsTypeBody, type_body_text}
 use Rattle.wasm_types.specs.TypeRanges.{IsU32, ListFits, InnerFits, IndexFits, CompositeTypeFits, SubTypeFits, EntryFits, TypeBodyFits}
-use Rattle.wasm_values.proofs.Laws.{Shortest, Shortest-then, Shortest-map, Shortest-for}
-use Rattle.wasm_values.proofs.NumberLaws.{Shortest-u32}
+use Rattle.wasm_codec.proofs.Laws.{Shortest, Shortest-then, Shortest-map, Shortest-for}
+use Rattle.wasm_codec.proofs.NumberLaws.{Shortest-u32}
 use Rattle.wasm_types.proofs.HeapTypeLaws.{longer_cons}
 use Rattle.wasm_types.proofs.CompositeTexts.{Shortest-list, Shortest-inner, Begins, Begins-as, IsInnerByte, inner_begins, Prefixed, flag_case, with_flag, without_flag, Shortest-flagged, Shortest-indexed, IndexedFits}
 

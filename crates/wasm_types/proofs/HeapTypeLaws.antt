@@ -9,19 +9,20 @@ use Rattle.wasm_types.specs.declared.types.heap.HeapType.{HeapType}
 use Rattle.wasm_types.specs.declared.types.heap.HeapType.TheVariants.{Abstract, Concrete, Exact}
 use Rattle.wasm_types.specs.declared.types.value.ValType.TheVariants as values
 use Rattle.wasm_types.specs.declared.types.value.StorageType.TheVariants as storages
-use Rattle.wasm_values.specs.Numbers.{unsigned, signed, SpellsU32, SpellsIndex, unsigned_text, signed_text}
-use Rattle.wasm_values.specs.Encoding.{IsTextOrLonger}
+use Rattle.wasm_codec.specs.Numbers.{unsigned, signed, SpellsU32, SpellsIndex, unsigned_text, signed_text}
+use Rattle.wasm_codec.specs.Encoding.{IsTextOrLonger}
 use Rattle.wasm_types.specs.HeapTypes.{abstract_byte, abstract_of, heap_type_text, SpellsAbstract, abstract_at, is_type_byte, SpellsHeapType, heap_type_at, reference, SpellsRefType, ref_type_at, is_number_byte, number_type_of, SpellsValType, val_type_at, is_packed_byte, packed_of, SpellsStorageType, storage_type_at}
 use Rattle.wasm_types.specs.TypeRanges.{HeapTypeFits}
-use Rattle.wasm_values.specs.Grammar.{Grammar, Either, Mapped, Tail, Only}
-use Rattle.wasm_values.proofs.Laws.{Reads, Shortest, some, some_is, Reads-map, Reads-either, Reads-tag, Reads-peek, Reads-tail, Reads-only}
-use Rattle.wasm_values.proofs.NumberLaws.{Reads-u32, Reads-index, Shortest-u32, Shortest-index}
+use Rattle.wasm_codec.specs.Grammar.{Grammar, Either, Mapped, Tail, Only}
+use Rattle.wasm_codec.specs.Reading.{IsReadBy}
+use Rattle.wasm_codec.proofs.Laws.{Shortest, some, some_is, IsReadBy-map, IsReadBy-either, IsReadBy-tag, IsReadBy-peek, IsReadBy-tail, IsReadBy-only}
+use Rattle.wasm_codec.proofs.NumberLaws.{IsReadBy-u32, IsReadBy-index, Shortest-u32, Shortest-index}
 
 -- ---- reading
 
-pub Reads-abstract : Reads SpellsAbstract abstract_at
+pub IsReadBy-abstract : IsReadBy SpellsAbstract abstract_at
 unfolding SpellsAbstract abstract_at
-Reads-abstract = Reads-tag (λ byte. Reads-only (abstract_of byte))
+IsReadBy-abstract = IsReadBy-tag (λ byte. IsReadBy-only (abstract_of byte))
 
 -- neither has a spelling without bytes
 pub either_some : {A : Type 0} (test : Bool) (G H : Grammar A) (v : A) → (G [] v → ⊥) → (H [] v → ⊥) → Either test G H [] v → ⊥
@@ -39,25 +40,25 @@ pub index_some : (n : ℕ) → SpellsIndex [] n → ⊥
 unfolding SpellsIndex
 index_some n g = g.0
 
-pub Reads-heap-type : Reads SpellsHeapType heap_type_at
+pub IsReadBy-heap-type : IsReadBy SpellsHeapType heap_type_at
 unfolding SpellsHeapType heap_type_at
-Reads-heap-type = Reads-peek
-    (λ byte. Reads-either (eqb byte 0x65) (Reads-tail (Reads-map (Abstract true) Reads-abstract))
-    (Reads-either (eqb byte 0x62) (Reads-tail (Reads-map Exact Reads-u32))
-    (Reads-either (is_type_byte byte) (Reads-map (Abstract false) Reads-abstract)
-    (Reads-map Concrete Reads-index))))
+IsReadBy-heap-type = IsReadBy-peek
+    (λ byte. IsReadBy-either (eqb byte 0x65) (IsReadBy-tail (IsReadBy-map (Abstract true) IsReadBy-abstract))
+    (IsReadBy-either (eqb byte 0x62) (IsReadBy-tail (IsReadBy-map Exact IsReadBy-u32))
+    (IsReadBy-either (is_type_byte byte) (IsReadBy-map (Abstract false) IsReadBy-abstract)
+    (IsReadBy-map Concrete IsReadBy-index))))
     (λ byte v. either_some (eqb byte 0x65) _ _ v (λ g. g)
     (either_some (eqb byte 0x62) _ _ v (λ g. g)
     (either_some (is_type_byte byte) _ _ v (mapped_some (Abstract false) SpellsAbstract v abstract_some)
     (mapped_some Concrete SpellsIndex v index_some))))
 
-pub Reads-ref-type : Reads SpellsRefType ref_type_at
+pub IsReadBy-ref-type : IsReadBy SpellsRefType ref_type_at
 unfolding SpellsRefType ref_type_at
-Reads-ref-type = Reads-peek
-    (λ byte. Reads-either (eqb byte 0x63) (Reads-tail (Reads-map (reference true) Reads-heap-type))
-    (Reads-either (eqb byte 0x64) (Reads-tail (Reads-map (reference false) Reads-heap-type))
-    (Reads-either (eqb byte 0x65) (Reads-tail (Reads-map (λ ty. reference true (Abstract true ty)) Reads-abstract))
-    (Reads-map (λ ty. reference true (Abstract false ty)) Reads-abstract))))
+IsReadBy-ref-type = IsReadBy-peek
+    (λ byte. IsReadBy-either (eqb byte 0x63) (IsReadBy-tail (IsReadBy-map (reference true) IsReadBy-heap-type))
+    (IsReadBy-either (eqb byte 0x64) (IsReadBy-tail (IsReadBy-map (reference false) IsReadBy-heap-type))
+    (IsReadBy-either (eqb byte 0x65) (IsReadBy-tail (IsReadBy-map (λ ty. reference true (Abstract true ty)) IsReadBy-abstract))
+    (IsReadBy-map (λ ty. reference true (Abstract false ty)) IsReadBy-abstract))))
     (λ byte v. either_some (eqb byte 0x63) _ _ v (λ g. g)
     (either_some (eqb byte 0x64) _ _ v (λ g. g)
     (either_some (eqb byte 0x65) _ _ v (λ g. g)
@@ -67,20 +68,20 @@ pub ref_type_some : (r : _) → SpellsRefType [] r → ⊥
 unfolding SpellsRefType
 ref_type_some r g = g
 
-pub Reads-val-type : Reads SpellsValType val_type_at
+pub IsReadBy-val-type : IsReadBy SpellsValType val_type_at
 unfolding SpellsValType val_type_at
-Reads-val-type = Reads-peek
-    (λ byte. Reads-either (is_number_byte byte) (Reads-tail (Reads-only (number_type_of byte))) (Reads-map values.Ref Reads-ref-type))
+IsReadBy-val-type = IsReadBy-peek
+    (λ byte. IsReadBy-either (is_number_byte byte) (IsReadBy-tail (IsReadBy-only (number_type_of byte))) (IsReadBy-map values.Ref IsReadBy-ref-type))
     (λ byte v. either_some (is_number_byte byte) _ _ v (λ g. g) (mapped_some values.Ref SpellsRefType v ref_type_some))
 
 pub val_type_some : (v : _) → SpellsValType [] v → ⊥
 unfolding SpellsValType
 val_type_some v g = g
 
-pub Reads-storage-type : Reads SpellsStorageType storage_type_at
+pub IsReadBy-storage-type : IsReadBy SpellsStorageType storage_type_at
 unfolding SpellsStorageType storage_type_at
-Reads-storage-type = Reads-peek
-    (λ byte. Reads-either (is_packed_byte byte) (Reads-tail (Reads-only (packed_of byte))) (Reads-map storages.Val Reads-val-type))
+IsReadBy-storage-type = IsReadBy-peek
+    (λ byte. IsReadBy-either (is_packed_byte byte) (IsReadBy-tail (IsReadBy-only (packed_of byte))) (IsReadBy-map storages.Val IsReadBy-val-type))
     (λ byte v. either_some (is_packed_byte byte) _ _ v (λ g. g) (mapped_some storages.Val SpellsValType v val_type_some))
 
 -- ---- tables of bytes

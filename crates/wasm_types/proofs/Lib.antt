@@ -4,3 +4,4 @@ pub mod CompositeLaws
 pub mod CompositeTexts
 pub mod EntryLaws
 pub mod EncodingLaws
+pub mod RewritingLaws

@@ -9,11 +9,11 @@ use Rattle.wasm_types.specs.declared.types.value.ValType.{ValType}
 use Rattle.wasm_types.specs.declared.types.value.ValType.TheVariants as values
 use Rattle.wasm_types.specs.declared.types.value.StorageType.{StorageType}
 use Rattle.wasm_types.specs.declared.types.value.StorageType.TheVariants as storages
-use Rattle.wasm_values.specs.Encoding.{IsTextOrLonger}
-use Rattle.wasm_values.specs.Grammar.{Either, Mapped, Tail, Only}
+use Rattle.wasm_codec.specs.Encoding.{IsTextOrLonger}
+use Rattle.wasm_codec.specs.Grammar.{Either, Mapped, Tail, Only}
 use Rattle.wasm_types.specs.HeapTypes.{abstract_byte, abstract_text, SpellsAbstract, SpellsHeapType, heap_type_text, reference, SpellsRefType, reference_text, ref_type_text, is_number_byte, number_type_of, SpellsValType, val_type_text, is_packed_byte, packed_of, SpellsStorageType, storage_type_text}
 use Rattle.wasm_types.specs.TypeRanges.{HeapTypeFits, RefTypeFits, ValTypeFits, StorageTypeFits}
-use Rattle.wasm_values.proofs.Laws.{Shortest}
+use Rattle.wasm_codec.proofs.Laws.{Shortest}
 use Rattle.wasm_types.proofs.HeapTypeLaws.{IsHeapType, heap_is, longer_cons, abstract_is, abstract_spells, abstract_range, pick, only_is, Shortest-heap-type}
 
 -- ---- reference types

@@ -1,6 +1,5 @@
 -- Fields, composite types, subtypes and the entries of a type section (WebAssembly Core 3.0, 5.3.9 to 5.3.12 and 5.5.4).
-use Rattle.std.specs.Prelude.{◌≡◌, ℕ, ◌≤◌, ◌⊎◌, Bool, true, false, ◌==◌, if◌then◌else◌, List, [], ◌∷◌, ◌++◌, length, Option, Some, None, pos}
-use Rattle.std.specs.List.{flat_map}
+use Rattle.std.specs.Prelude.{ℕ, Bool, true, false, ◌==◌, if◌then◌else◌, List, [], ◌∷◌, ◌++◌, Option, Some, None, pos}
 use Rattle.wasm_types.specs.declared.types.value.ValType.{ValType}
 use Rattle.wasm_types.specs.declared.types.value.StorageType.{StorageType}
 use Rattle.wasm_types.specs.declared.types.composite.FieldType.{FieldType}
@@ -10,20 +9,11 @@ use Rattle.wasm_types.specs.declared.types.composite.CompositeType.{CompositeTyp
 use Rattle.wasm_types.specs.declared.types.composite.SubType.{SubType}
 use Rattle.wasm_types.specs.declared.types.composite.TypeEntry.{TypeEntry}
 use Rattle.wasm_types.specs.declared.types.composite.TypeEntry.TheVariants as entries
-use Rattle.wasm_values.specs.Grammar.{Grammar, Then, Mapped, Never, Either, ByTag, Peek, Tail, Only, Joined, Counted}
-use Rattle.wasm_values.specs.Reading.{Reader, then_at, map_at, never_at, either_at, by_tag, peek_at, tail_at, only_at, counted_at}
-use Rattle.wasm_values.specs.Numbers.{SpellsU32, SpellsIndex, u32_at, index_at, unsigned_text, signed_text}
+use Rattle.wasm_codec.specs.Grammar.{Grammar, Then, Mapped, Never, Either, ByTag, Peek, Tail, Only}
+use Rattle.wasm_codec.specs.Reading.{Reader, then_at, map_at, never_at, either_at, by_tag, peek_at, tail_at, only_at}
+use Rattle.wasm_codec.specs.Lists.{SpellsList, list_at, items_text, IsListFront}
+use Rattle.wasm_codec.specs.Numbers.{SpellsU32, SpellsIndex, u32_at, index_at, unsigned_text, signed_text}
 use Rattle.wasm_types.specs.HeapTypes.{SpellsValType, val_type_at, val_type_text, SpellsStorageType, storage_type_at, storage_type_text}
-
--- a count, and then the items (5.1.3)
-abbrev pub SpellsList : {A : Type 0} → Grammar A → Grammar (List A)
-SpellsList G = Counted SpellsU32 G
-
-abbrev pub list_at : {A : Type 0} → Reader A → Reader (List A)
-list_at read = counted_at u32_at read
-
-abbrev pub items_text : {A : Type 0} → (A → List ℕ) → List A → List ℕ
-items_text text xs = unsigned_text (length xs) ++ flat_map text xs
 
 -- ---- fields (5.3.8)
 
@@ -178,17 +168,6 @@ SpellsTypeBody = SpellsList SpellsEntry
 abbrev pub type_body_text : List TypeEntry → List ℕ
 type_body_text entries = items_text entry_text entries
 
--- A count, and at most as many entries.
-pub record HasEntries (front : List ℕ) : Type 0 where
-  pub count : ℕ
-  pub entries : List TypeEntry
-  pub head : List ℕ
-  pub back : List ℕ
-  pub parts : front ≡ head ++ back
-  pub counted : SpellsU32 head count
-  pub few : length entries ≤ count
-  pub spelled : Joined SpellsEntry back entries
-
 -- a front of a type body that is whole: nothing, or a count and at most as many entries
 abbrev pub IsTypeBodyFront : List ℕ → Type 0
-IsTypeBodyFront front = (front ≡ []) ⊎ HasEntries front
+IsTypeBodyFront = IsListFront SpellsEntry

@@ -1,4 +1,4 @@
--- Heap, reference, value, storage and block types (WebAssembly Core 3.0, 5.3.3 to 5.3.8 and 5.4.1).
+-- Heap, reference, value and storage types (WebAssembly Core 3.0, 5.3.3 to 5.3.8).
 use Rattle.std.specs.Prelude.{ℕ, Bool, true, false, ◌&&◌, ◌==◌, nat_le, nat_lt, if◌then◌else◌, List, [], ◌∷◌, Option, Some, None, pos}
 use Rattle.wasm_types.specs.declared.types.heap.AbstractHeapType.{AbstractHeapType}
 use Rattle.wasm_types.specs.declared.types.heap.AbstractHeapType.TheVariants as abstracts
@@ -9,9 +9,9 @@ use Rattle.wasm_types.specs.declared.types.value.ValType.{ValType}
 use Rattle.wasm_types.specs.declared.types.value.ValType.TheVariants as values
 use Rattle.wasm_types.specs.declared.types.value.StorageType.{StorageType}
 use Rattle.wasm_types.specs.declared.types.value.StorageType.TheVariants as storages
-use Rattle.wasm_values.specs.Grammar.{Grammar, Mapped, Either, ByTag, Peek, Tail, Only}
-use Rattle.wasm_values.specs.Reading.{Reader, map_at, either_at, by_tag, peek_at, tail_at, only_at}
-use Rattle.wasm_values.specs.Numbers.{SpellsU32, SpellsIndex, u32_at, index_at, unsigned_text, signed_text}
+use Rattle.wasm_codec.specs.Grammar.{Grammar, Mapped, Either, ByTag, Peek, Tail, Only}
+use Rattle.wasm_codec.specs.Reading.{Reader, map_at, either_at, by_tag, peek_at, tail_at, only_at}
+use Rattle.wasm_codec.specs.Numbers.{SpellsU32, SpellsIndex, u32_at, index_at, unsigned_text, signed_text}
 
 -- ---- abstract heap types (5.3.3; shared ones, exact ones and continuations are of proposals)
 

@@ -12,8 +12,8 @@ use Rattle.wasm_types.specs.declared.types.composite.CompositeType.{CompositeTyp
 use Rattle.wasm_types.specs.declared.types.composite.SubType.{SubType}
 use Rattle.wasm_types.specs.declared.types.composite.TypeEntry.{TypeEntry}
 use Rattle.wasm_types.specs.declared.types.composite.TypeEntry.TheVariants as entries
-use Rattle.wasm_values.specs.Numbers.{unsigned_text, signed_text}
-use Rattle.wasm_values.specs.Encoding.{both_texts, list_text}
+use Rattle.wasm_codec.specs.Numbers.{unsigned_text, signed_text}
+use Rattle.wasm_codec.specs.Encoding.{both_texts, list_text}
 use Rattle.wasm_types.specs.HeapTypes.{val_type_text}
 use Rattle.wasm_types.specs.CompositeTypes.{field_type_text}
 

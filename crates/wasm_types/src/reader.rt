@@ -1,7 +1,9 @@
-//! Readers of types.
+//! Readers of types, and the reader and the normaliser of the bodies of type sections.
 
 mod composite_types;
 mod heap_types;
+mod type_bodies;
 
-pub use composite_types::{Readable, read_entry, read_list};
+pub use composite_types::read_entry;
 pub use heap_types::{read_heap_type, read_val_type};
+pub use type_bodies::{normalise_type_section, read_type_section};

@@ -1,8 +1,8 @@
 -- What a run reads, writes and answers.
 use Rattle.std.specs.Prelude.{ℕ, List, Option, Result, Ok, Err}
 use Rattle.std.specs.Io.KnownBytes.{Appends}
-use Rattle.wasm_values.specs.declared.reader.ReadError.{ReadError}
-use Rattle.wasm_values.specs.declared.reader.ReadError.TheVariants as read_errors
+use Rattle.wasm_codec.specs.declared.reader.ReadError.{ReadError}
+use Rattle.wasm_codec.specs.declared.reader.ReadError.TheVariants as read_errors
 use Rattle.wasmnorm.specs.Modes.{NormalForm}
 use Rattle.wasmnorm.specs.Streams.{AppendsFront}
 use Rattle.wasmnorm.specs.declared.modes.Mode.{Mode}

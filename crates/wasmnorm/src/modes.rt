@@ -1,10 +1,13 @@
 //! What the program reads its input as, and the normal form in each mode.
 ghost use Rattle.std.specs.Prelude.{List, ℕ, IfOk};
-ghost use Rattle.wasm_encoder.specs.Answers.{IsOrMemory, IfRefused, IsLongestFront};
+ghost use Rattle.wasm_codec.specs.Answers.{IsOrMemory, IfRefused, IsLongestFront};
 ghost use Rattle.wasmnorm.specs.Modes.{Spelled, NormalForm, IsWholeFront};
 
 use std::alloc::Global;
-use wasm_encoder::{ReadError, normalise_instructions, normalise_module, normalise_type_section};
+use wasm_codec::reader::ReadError;
+use wasm_instructions::normaliser::normalise_instructions;
+use wasm_modules::normaliser::normalise_module;
+use wasm_types::reader::normalise_type_section;
 
 /// What the input is read as.
 #[derive(Clone, Copy, Debug, PartialEq, Eq)]

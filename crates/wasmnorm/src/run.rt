@@ -1,7 +1,7 @@
 //! One run of the program, over any reader and any writer.
 ghost use Rattle.std.specs.Prelude.{◌≡◌, List, ℕ, IfSome, OnOk};
 ghost use Rattle.std.specs.Io.KnownBytes.{IsAtEnd, Keeps, Appends};
-ghost use Rattle.wasm_encoder.specs.Answers.{IsLongestFront};
+ghost use Rattle.wasm_codec.specs.Answers.{IsLongestFront};
 ghost use Rattle.wasmnorm.specs.Modes.{Spelled, NormalForm, IsWholeFront};
 ghost use Rattle.wasmnorm.specs.Run.{AppendsNormalForm, AppendsBeginning, IfRefused, OnceAllIsRead, BeforeAnyWrite, IfWriteFailed, run_error};
 ghost use Rattle.wasmnorm.specs.declared.run.RunError.TheVariants.{Memory};
@@ -10,7 +10,7 @@ use crate::modes::{Mode, normalise};
 use crate::streams::{read_all, write_all};
 use std::alloc::{AllocError, Global};
 use std::io::{Read, Write};
-use wasm_encoder::ReadError;
+use wasm_codec::reader::ReadError;
 
 /// Why a run did not write the whole normal form of its input.
 #[derive(Clone, Copy, Debug, PartialEq, Eq)]

@@ -5,9 +5,9 @@ ghost use Rattle.wasm_instructions.specs.Operands.{block_type_text, catch_text, 
 
 use crate::operands::{BlockType, Catch, Handle, MemArg, Ordering};
 use std::alloc::Allocator;
+use wasm_codec::encode::leb128::{put_index, put_u32, put_u64};
+use wasm_codec::encode::{Encode, EncodeError};
 use wasm_types::encode::put_val_type;
-use wasm_values::encode::leb128::{put_index, put_u32, put_u64};
-use wasm_values::encode::{Encode, EncodeError};
 
 /// Writes a block type in 1 to 7 bytes.
 #[tactic(auto, unfolding(crate::specs::Operands::block_type_text))]
@@ -25,7 +25,7 @@ pub fn put_block_type<A: Allocator>(bytes: &mut Vec<u8, A>, ty: BlockType)
 }
 
 /// Writes a memory argument in 2 to 16 bytes. Memory 0 goes without its index.
-#[tactic(auto, unfolding(crate::specs::MemArgs::mem_arg_text, wasm_values::specs::Numbers::unsigned_text, wasm_values::specs::Numbers::digits_of))]
+#[tactic(auto, unfolding(crate::specs::MemArgs::mem_arg_text, wasm_codec::specs::Numbers::unsigned_text, wasm_codec::specs::Numbers::digits_of))]
 pub fn put_mem_arg<A: Allocator>(bytes: &mut Vec<u8, A>, arg: MemArg)
     requires aligned { arg.align < 64 }
     requires room { vec_len bytes.old + 16 ≤ vec_capacity bytes.old }

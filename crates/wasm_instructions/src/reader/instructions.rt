@@ -1,14 +1,16 @@
 //! Lists of instructions (Core 3.0, 5.4).
-ghost use Rattle.std.specs.Prelude.{◌≡◌, ◌<◌, List, length, IfOk};
-ghost use Rattle.wasm_values.specs.Reading.{Reads};
-ghost use Rattle.wasm_values.specs.Answers.{IsOrMemory, IfRefused, IsLongestFront, SpellsSome};
-ghost use Rattle.wasm_instructions.specs.Instructions.{Instruction, SpellsInstructions, opcode_at, instruction_at};
+ghost use Rattle.std.specs.Prelude.{◌≡◌, List, IfOk, refl};
+ghost use Rattle.wasm_codec.specs.Reading.{Reads};
+ghost use Rattle.wasm_codec.specs.Answers.{IsOrMemory, IfRefused, IsLongestFront, SpellsSome};
+ghost use Rattle.wasm_instructions.specs.Instructions.{Instruction, IsCounted, SpellsInstruction, SpellsInstructions, opcode_at, instruction_at};
 
 use super::operands::read_operands;
-use crate::table::{Call, Opcode, Prefix};
+use crate::table::{Call, Opcode};
 use std::alloc::Global;
-use wasm_values::reader::cursor::{Cursor, Fault};
-use wasm_values::reader::{ReadError, read_error};
+use wasm_codec::reader::ReadError;
+use wasm_codec::reader::cursor::{Cursor, Fault};
+use wasm_codec::reader::lists::read_joined;
+use wasm_codec::reader::readable::Readable;
 
 /// The instructions that the bytes spell, in any spelling of their numbers (Core 3.0, 5.4).
 ///
@@ -25,25 +27,7 @@ pub fn read_instructions(alloc: Global, bytes: &[u8]) -> Result<Vec<Call>, ReadE
     ensures one { (calls others : List Instruction) →
         SpellsInstructions bytes.now calls → SpellsInstructions bytes.now others → calls ≡ others }
 {
-    calls_of(alloc, bytes)
-}
-
-/// The instructions, read one by one to the end of the bytes.
-fn calls_of(alloc: Global, bytes: &[u8]) -> Result<Vec<Call>, ReadError>
-    ensures given { IfOk result (λ calls. SpellsInstructions bytes.now calls.items) }
-    ensures front { IfRefused result (IsLongestFront (SpellsSome SpellsInstructions) bytes.now) }
-    ensures within { IfRefused result (λ at. at < length bytes.now) }
-{
-    let mut calls = Vec::new(alloc);
-    let mut cursor = Cursor::new(bytes);
-    while cursor.len() > 0 {
-        let at = bytes.len() - cursor.len();
-        match read_call(alloc, &mut cursor) {
-            Ok(call) => calls.push(call)?,
-            Err(fault) => return Err(read_error(fault, at)),
-        }
-    }
-    Ok(calls)
+    read_joined(alloc, bytes)
 }
 
 /// An opcode: a prefix byte and a number, or one byte.
@@ -51,27 +35,21 @@ fn calls_of(alloc: Global, bytes: &[u8]) -> Result<Vec<Call>, ReadError>
 fn read_opcode(cursor: &mut Cursor<'_>) -> Result<Opcode, Fault>
     ensures reads { Reads opcode_at cursor.old cursor.new result }
 {
-    let byte = cursor.byte()?;
-    let prefix = match byte {
-        0xfb => Prefix::Fb,
-        0xfc => Prefix::Fc,
-        0xfd => Prefix::Fd,
-        0xfe => Prefix::Fe,
-        _ => {
-            return Ok(Opcode {
-                prefix: Prefix::None,
-                number: u32::from(byte),
-            });
-        }
-    };
-    let number = cursor.u32()?;
-    Ok(Opcode { prefix, number })
+    match cursor.byte()? {
+        0xfb => Ok(Opcode::after_fb(cursor.u32()?)),
+        0xfc => Ok(Opcode::after_fc(cursor.u32()?)),
+        0xfd => Ok(Opcode::after_fd(cursor.u32()?)),
+        0xfe => Ok(Opcode::after_fe(cursor.u32()?)),
+        byte => Ok(Opcode::without_prefix(byte)),
+    }
 }
 
 /// An instruction.
 #[tactic(auto, unfolding(crate::specs::Instructions::instruction_at))]
 pub fn read_call(alloc: Global, cursor: &mut Cursor<'_>) -> Result<Call, Fault>
     ensures reads { Reads instruction_at cursor.old cursor.new result }
+    // A u32 counts the items of its lists.
+    ensures counted { IfOk result (λ call. IsCounted call.operands) }
 {
     let op = read_opcode(cursor)?;
     let Some(kind) = op.kind() else {
@@ -79,4 +57,22 @@ pub fn read_call(alloc: Global, cursor: &mut Cursor<'_>) -> Result<Call, Fault>
     };
     let operands = read_operands(alloc, cursor, kind)?;
     Ok(Call::from_parts(op, operands))
+}
+
+impl<'a> Readable<'a> for Call {
+    ghost Value = { Instruction };
+
+    ghost view = { λ call. call };
+
+    ghost views = { λ calls. calls };
+
+    ghost views_each = { record { none = refl; more = λ calls call. refl } };
+
+    ghost spells = { SpellsInstruction };
+
+    ghost read_at = { instruction_at };
+
+    fn read(alloc: Global, cursor: &mut Cursor<'a>) -> Result<Call, Fault> {
+        read_call(alloc, cursor)
+    }
 }

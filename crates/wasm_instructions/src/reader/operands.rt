@@ -1,17 +1,21 @@
 //! What stands after opcodes (Core 3.0, 5.4).
-ghost use Rattle.std.specs.Prelude.{◌≡◌, ◌<◌, IfOk};
-ghost use Rattle.wasm_values.specs.Reading.{Reads, map_at};
+ghost use Rattle.std.specs.Prelude.{◌≡◌, ◌<◌, IfOk, refl};
+ghost use Rattle.wasm_codec.specs.Reading.{Reads, map_at};
 ghost use Rattle.wasm_instructions.specs.MemArgs.{mem_arg_at};
-ghost use Rattle.wasm_instructions.specs.Operands.{block_type_at, catch_at, handle_at, ordering_at, cast_at, ieee32, ieee64, little_endian_at, from_bits, vector_at, lanes_at};
+ghost use Rattle.wasm_instructions.specs.Operands.{block_type_at, SpellsCatch, catch_at, SpellsHandle, handle_at, ordering_at, cast_at, ieee32, ieee64, little_endian_at, from_bits, vector_at, lanes_at};
+ghost use Rattle.wasm_instructions.specs.declared.operands.control.Catch.{Catch};
+ghost use Rattle.wasm_instructions.specs.declared.operands.control.Handle.{Handle};
 ghost use Rattle.wasm_instructions.specs.declared.table.opcode.Kind.TheVariants as kinds;
-ghost use Rattle.wasm_instructions.specs.Instructions.{IsAligned, branch_of, kind_of, operands_at};
+ghost use Rattle.wasm_instructions.specs.Instructions.{IsAligned, IsCounted, branch_of, kind_of, operands_at};
 
 use crate::operands::{BlockType, Catch, Handle, Ieee32, Ieee64, Lane, MemArg, Ordering};
 use crate::table::{Kind, Operands};
 use std::alloc::Global;
-use wasm_types::reader::{Readable, read_heap_type, read_list, read_val_type};
+use wasm_codec::reader::cursor::{Cursor, Fault};
+use wasm_codec::reader::lists::read_list;
+use wasm_codec::reader::readable::Readable;
+use wasm_types::reader::{read_heap_type, read_val_type};
 use wasm_types::types::RefType;
-use wasm_values::reader::cursor::{Cursor, Fault};
 
 /// Operands of a kind.
 #[tactic(auto, unfolding(crate::specs::Instructions::operands_at))]
@@ -19,6 +23,7 @@ pub fn read_operands(alloc: Global, cursor: &mut Cursor<'_>, kind: Kind) -> Resu
     ensures reads { Reads (operands_at kind) cursor.old cursor.new result }
     ensures kind { IfOk result (λ o. kind_of o ≡ kind) }
     ensures aligned { IfOk result (λ o. IsAligned o) }
+    ensures counted { IfOk result (λ o. IsCounted o) }
 {
     match kind {
         Kind::None => Ok(Operands::None),
@@ -107,6 +112,7 @@ fn read_cast(cursor: &mut Cursor<'_>) -> Result<Operands, Fault>
     ensures reads { Reads (map_at branch_of cast_at) cursor.old cursor.new result }
     ensures kind { IfOk result (λ o. kind_of o ≡ kinds.Cast) }
     ensures aligned { IfOk result (λ o. IsAligned o) }
+    ensures counted { IfOk result (λ o. IsCounted o) }
 {
     let (before_nullable, after_nullable) = match cursor.byte()? {
         0x00 => (false, false),
@@ -202,53 +208,87 @@ fn from_bits(bits: u128) -> i128
     }
 }
 
-impl Readable for Catch {
+impl<'a> Readable<'a> for Catch {
+    ghost Value = { Catch };
+
+    ghost view = { λ catch. catch };
+
+    ghost views = { λ catches. catches };
+
+    ghost views_each = { record { none = refl; more = λ catches catch. refl } };
+
+    ghost spells = { SpellsCatch };
+
     ghost read_at = { catch_at };
 
-    #[tactic(auto, unfolding(crate::specs::Operands::catch_at))]
-    fn read(alloc: Global, cursor: &mut Cursor<'_>) -> Result<Catch, Fault> {
+    fn read(alloc: Global, cursor: &mut Cursor<'a>) -> Result<Catch, Fault> {
         let _ = alloc;
-        match cursor.byte()? {
-            0x00 => {
-                let tag = cursor.u32()?;
-                let label = cursor.u32()?;
-                Ok(Catch::One { tag, label })
-            }
-            0x01 => {
-                let tag = cursor.u32()?;
-                let label = cursor.u32()?;
-                Ok(Catch::OneRef { tag, label })
-            }
-            0x02 => {
-                let label = cursor.u32()?;
-                Ok(Catch::All { label })
-            }
-            0x03 => {
-                let label = cursor.u32()?;
-                Ok(Catch::AllRef { label })
-            }
-            _ => Err(Fault::Malformed),
-        }
+        read_catch(cursor)
     }
 }
 
-impl Readable for Handle {
+/// A clause of a `try_table`.
+#[tactic(auto, unfolding(crate::specs::Operands::catch_at))]
+fn read_catch(cursor: &mut Cursor<'_>) -> Result<Catch, Fault>
+    ensures reads { Reads catch_at cursor.old cursor.new result }
+{
+    match cursor.byte()? {
+        0x00 => {
+            let tag = cursor.u32()?;
+            let label = cursor.u32()?;
+            Ok(Catch::One { tag, label })
+        }
+        0x01 => {
+            let tag = cursor.u32()?;
+            let label = cursor.u32()?;
+            Ok(Catch::OneRef { tag, label })
+        }
+        0x02 => {
+            let label = cursor.u32()?;
+            Ok(Catch::All { label })
+        }
+        0x03 => {
+            let label = cursor.u32()?;
+            Ok(Catch::AllRef { label })
+        }
+        _ => Err(Fault::Malformed),
+    }
+}
+
+impl<'a> Readable<'a> for Handle {
+    ghost Value = { Handle };
+
+    ghost view = { λ handle. handle };
+
+    ghost views = { λ handles. handles };
+
+    ghost views_each = { record { none = refl; more = λ handles handle. refl } };
+
+    ghost spells = { SpellsHandle };
+
     ghost read_at = { handle_at };
 
-    #[tactic(auto, unfolding(crate::specs::Operands::handle_at))]
-    fn read(alloc: Global, cursor: &mut Cursor<'_>) -> Result<Handle, Fault> {
+    fn read(alloc: Global, cursor: &mut Cursor<'a>) -> Result<Handle, Fault> {
         let _ = alloc;
-        match cursor.byte()? {
-            0x00 => {
-                let tag = cursor.u32()?;
-                let label = cursor.u32()?;
-                Ok(Handle::OnLabel { tag, label })
-            }
-            0x01 => {
-                let tag = cursor.u32()?;
-                Ok(Handle::OnSwitch { tag })
-            }
-            _ => Err(Fault::Malformed),
+        read_handle(cursor)
+    }
+}
+
+/// A handler of a `resume`.
+#[tactic(auto, unfolding(crate::specs::Operands::handle_at))]
+fn read_handle(cursor: &mut Cursor<'_>) -> Result<Handle, Fault>
+    ensures reads { Reads handle_at cursor.old cursor.new result }
+{
+    match cursor.byte()? {
+        0x00 => {
+            let tag = cursor.u32()?;
+            let label = cursor.u32()?;
+            Ok(Handle::OnLabel { tag, label })
         }
+        0x01 => {
+            let tag = cursor.u32()?;
+            Ok(Handle::OnSwitch { tag })
+        }
+        _ => Err(Fault::Malformed),
     }
 }

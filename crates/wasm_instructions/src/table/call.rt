@@ -1,16 +1,14 @@
 //! Calls: an opcode with operands of its kind.
 ghost use Rattle.std.specs.Prelude.{◌≡◌, IfOk, IfErr, IsOk, IsTrue, ◌↔◌};
-ghost use Rattle.wasm_instructions.specs.Instructions.{IsAligned, IsCall, IsCounted, ItemsInRange, IsShort, SpellsInstruction, call, instruction_text, kind_of};
-ghost use Rattle.wasm_instructions.specs.Lengths.{HasNoLongList, IsShortText};
-ghost use Rattle.wasm_values.specs.declared.encode.EncodeError.TheVariants.{Memory};
+ghost use Rattle.wasm_instructions.specs.Instructions.{InRange, IsAligned, IsCall, IsShort, call, kind_of};
+ghost use Rattle.wasm_codec.specs.declared.encode.EncodeError.TheVariants.{Memory};
 
 use super::opcode::{Kind, Opcode};
-use super::ranges::all_in_range;
 use crate::operands::{BlockType, Catch, Handle, Ieee32, Ieee64, Lane, MemArg, Ordering};
 use std::marker::Model;
+use wasm_codec::encode::EncodeError;
+use wasm_codec::list::Items;
 use wasm_types::types::{HeapType, RefType, ValType};
-use wasm_values::encode::EncodeError;
-use wasm_values::list::Items;
 
 /// The operands of an instruction, one variant for each [`Kind`], in the order in which they are written.
 #[derive(Debug, PartialEq, Eq, Drop)]
@@ -126,21 +124,6 @@ impl Operands {
         }
     }
 
-    /// The numbers in lists are in the ranges of their widths. Nothing is done.
-    fn items_in_range(&self)
-        ensures { ItemsInRange self.now }
-    {
-        match self {
-            Operands::BrTable(labels, _) => all_in_range(labels.as_slice()),
-            Operands::Types(types) => all_in_range(types.as_slice()),
-            Operands::TryTable(_, clauses) => all_in_range(clauses.as_slice()),
-            Operands::Resume(_, handlers) | Operands::ResumeThrow(_, _, handlers) => {
-                all_in_range(handlers.as_slice());
-            }
-            _ => {}
-        }
-    }
-
     /// An equal value.
     pub fn try_clone(&self) -> Result<Operands, EncodeError>
         ensures ok { IfOk result (λ o. o ≡ self.now) }
@@ -210,20 +193,12 @@ impl Call {
         self.op
     }
 
-    /// The text of a call spells it, where no list is too long, and without a list it has at most 20 bytes. Nothing is
-    /// done.
-    pub fn is_spelled(&self)
-        ensures spelled { IsCounted self.now.operands → SpellsInstruction (instruction_text self.now) self.now }
-        ensures aligned { IsAligned self.now.operands }
-        ensures short { HasNoLongList self.now.operands → IsShortText (instruction_text self.now) }
-    {
-        self.operands.items_in_range();
-    }
-
     /// The operands.
     pub fn operands(&self) -> &Operands
         ensures value { result.now ≡ self.now.operands }
         ensures fits { IsCall self.now.op result.now }
+        // Numbers outside lists are in range, and alignments below 64.
+        ensures in_range { InRange result.now }
     {
         &self.operands
     }

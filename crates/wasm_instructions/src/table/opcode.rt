@@ -1,6 +1,7 @@
 //! The table of opcodes: which kind of operands each has (Core 3.0, 5.4).
 ghost use Rattle.std.specs.Prelude.{◌≡◌};
 ghost use Rattle.wasm_instructions.specs.Opcodes.{IsTable, kind, kind_among, ranges};
+ghost use Rattle.wasm_instructions.specs.Instructions.{without_prefix, after_fb, after_fc, after_fd, after_fe};
 
 use super::places::{AFTER_FB, AFTER_FC, AFTER_FD, AFTER_FE, WITHOUT_PREFIX};
 
@@ -80,6 +81,61 @@ pub enum Kind {
 }
 
 impl Opcode {
+    /// An opcode of one byte.
+    #[inline]
+    pub const fn without_prefix(number: u8) -> Opcode
+        ensures { result ≡ without_prefix number }
+    {
+        Opcode {
+            prefix: Prefix::None,
+            number: number as u32,
+        }
+    }
+
+    /// An opcode after the byte `0xFB`.
+    #[inline]
+    pub const fn after_fb(number: u32) -> Opcode
+        ensures { result ≡ after_fb number }
+    {
+        Opcode {
+            prefix: Prefix::Fb,
+            number,
+        }
+    }
+
+    /// An opcode after the byte `0xFC`.
+    #[inline]
+    pub const fn after_fc(number: u32) -> Opcode
+        ensures { result ≡ after_fc number }
+    {
+        Opcode {
+            prefix: Prefix::Fc,
+            number,
+        }
+    }
+
+    /// An opcode after the byte `0xFD`.
+    #[inline]
+    pub const fn after_fd(number: u32) -> Opcode
+        ensures { result ≡ after_fd number }
+    {
+        Opcode {
+            prefix: Prefix::Fd,
+            number,
+        }
+    }
+
+    /// An opcode after the byte `0xFE`.
+    #[inline]
+    pub const fn after_fe(number: u32) -> Opcode
+        ensures { result ≡ after_fe number }
+    {
+        Opcode {
+            prefix: Prefix::Fe,
+            number,
+        }
+    }
+
     /// The kind of the opcode's operands, or `None` where it is no opcode of the table.
     #[tactic(auto, unfolding(crate::specs::Opcodes::ranges))]
     pub fn kind(self) -> Option<Kind>

@@ -7,9 +7,9 @@ ghost use Rattle.wasm_instructions.specs.Instructions.{after_fb};
 ghost use Rattle.wasm_instructions.specs.declared.table.call.Operands.TheVariants as operands;
 
 use crate::sink::InstructionSink;
-use crate::sink::emit::after_fb;
 use std::alloc::Allocator;
-use wasm_values::encode::EncodeError;
+use wasm_codec::encode::EncodeError;
+use wasm_instructions::table::Opcode;
 
 impl<'a, A: Allocator> InstructionSink<'a, A> {
     /// `struct.new`: `0xFB 0x00`.
@@ -19,7 +19,7 @@ impl<'a, A: Allocator> InstructionSink<'a, A> {
         ensures wrote { Writes self.entry (after_fb 0x00) (operands.Index ty) result }
         ensures room { HasRoom self.entry → IsOk result }
     {
-        self.emit_index(after_fb(0x00), ty)
+        self.emit_index(Opcode::after_fb(0x00), ty)
     }
 
     /// `struct.new_default`: `0xFB 0x01`.
@@ -29,7 +29,7 @@ impl<'a, A: Allocator> InstructionSink<'a, A> {
         ensures wrote { Writes self.entry (after_fb 0x01) (operands.Index ty) result }
         ensures room { HasRoom self.entry → IsOk result }
     {
-        self.emit_index(after_fb(0x01), ty)
+        self.emit_index(Opcode::after_fb(0x01), ty)
     }
 
     /// `struct.get`: `0xFB 0x02`.
@@ -39,7 +39,7 @@ impl<'a, A: Allocator> InstructionSink<'a, A> {
         ensures wrote { Writes self.entry (after_fb 0x02) (operands.TwoIndexes ty field) result }
         ensures room { HasRoom self.entry → IsOk result }
     {
-        self.emit_two_indexes(after_fb(0x02), ty, field)
+        self.emit_two_indexes(Opcode::after_fb(0x02), ty, field)
     }
 
     /// `struct.get_s`: `0xFB 0x03`.
@@ -49,7 +49,7 @@ impl<'a, A: Allocator> InstructionSink<'a, A> {
         ensures wrote { Writes self.entry (after_fb 0x03) (operands.TwoIndexes ty field) result }
         ensures room { HasRoom self.entry → IsOk result }
     {
-        self.emit_two_indexes(after_fb(0x03), ty, field)
+        self.emit_two_indexes(Opcode::after_fb(0x03), ty, field)
     }
 
     /// `struct.get_u`: `0xFB 0x04`.
@@ -59,7 +59,7 @@ impl<'a, A: Allocator> InstructionSink<'a, A> {
         ensures wrote { Writes self.entry (after_fb 0x04) (operands.TwoIndexes ty field) result }
         ensures room { HasRoom self.entry → IsOk result }
     {
-        self.emit_two_indexes(after_fb(0x04), ty, field)
+        self.emit_two_indexes(Opcode::after_fb(0x04), ty, field)
     }
 
     /// `struct.set`: `0xFB 0x05`.
@@ -69,7 +69,7 @@ impl<'a, A: Allocator> InstructionSink<'a, A> {
         ensures wrote { Writes self.entry (after_fb 0x05) (operands.TwoIndexes ty field) result }
         ensures room { HasRoom self.entry → IsOk result }
     {
-        self.emit_two_indexes(after_fb(0x05), ty, field)
+        self.emit_two_indexes(Opcode::after_fb(0x05), ty, field)
     }
 
     /// `array.new`: `0xFB 0x06`.
@@ -79,7 +79,7 @@ impl<'a, A: Allocator> InstructionSink<'a, A> {
         ensures wrote { Writes self.entry (after_fb 0x06) (operands.Index ty) result }
         ensures room { HasRoom self.entry → IsOk result }
     {
-        self.emit_index(after_fb(0x06), ty)
+        self.emit_index(Opcode::after_fb(0x06), ty)
     }
 
     /// `array.new_default`: `0xFB 0x07`.
@@ -89,7 +89,7 @@ impl<'a, A: Allocator> InstructionSink<'a, A> {
         ensures wrote { Writes self.entry (after_fb 0x07) (operands.Index ty) result }
         ensures room { HasRoom self.entry → IsOk result }
     {
-        self.emit_index(after_fb(0x07), ty)
+        self.emit_index(Opcode::after_fb(0x07), ty)
     }
 
     /// `array.new_fixed`: `0xFB 0x08`.
@@ -103,7 +103,7 @@ impl<'a, A: Allocator> InstructionSink<'a, A> {
         ensures wrote { Writes self.entry (after_fb 0x08) (operands.TwoIndexes ty length) result }
         ensures room { HasRoom self.entry → IsOk result }
     {
-        self.emit_two_indexes(after_fb(0x08), ty, length)
+        self.emit_two_indexes(Opcode::after_fb(0x08), ty, length)
     }
 
     /// `array.new_data`: `0xFB 0x09`.
@@ -117,7 +117,7 @@ impl<'a, A: Allocator> InstructionSink<'a, A> {
         ensures wrote { Writes self.entry (after_fb 0x09) (operands.TwoIndexes ty segment) result }
         ensures room { HasRoom self.entry → IsOk result }
     {
-        self.emit_two_indexes(after_fb(0x09), ty, segment)
+        self.emit_two_indexes(Opcode::after_fb(0x09), ty, segment)
     }
 
     /// `array.new_elem`: `0xFB 0x0A`.
@@ -131,7 +131,7 @@ impl<'a, A: Allocator> InstructionSink<'a, A> {
         ensures wrote { Writes self.entry (after_fb 0x0a) (operands.TwoIndexes ty segment) result }
         ensures room { HasRoom self.entry → IsOk result }
     {
-        self.emit_two_indexes(after_fb(0x0a), ty, segment)
+        self.emit_two_indexes(Opcode::after_fb(0x0a), ty, segment)
     }
 
     /// `array.get`: `0xFB 0x0B`.
@@ -141,7 +141,7 @@ impl<'a, A: Allocator> InstructionSink<'a, A> {
         ensures wrote { Writes self.entry (after_fb 0x0b) (operands.Index ty) result }
         ensures room { HasRoom self.entry → IsOk result }
     {
-        self.emit_index(after_fb(0x0b), ty)
+        self.emit_index(Opcode::after_fb(0x0b), ty)
     }
 
     /// `array.get_s`: `0xFB 0x0C`.
@@ -151,7 +151,7 @@ impl<'a, A: Allocator> InstructionSink<'a, A> {
         ensures wrote { Writes self.entry (after_fb 0x0c) (operands.Index ty) result }
         ensures room { HasRoom self.entry → IsOk result }
     {
-        self.emit_index(after_fb(0x0c), ty)
+        self.emit_index(Opcode::after_fb(0x0c), ty)
     }
 
     /// `array.get_u`: `0xFB 0x0D`.
@@ -161,7 +161,7 @@ impl<'a, A: Allocator> InstructionSink<'a, A> {
         ensures wrote { Writes self.entry (after_fb 0x0d) (operands.Index ty) result }
         ensures room { HasRoom self.entry → IsOk result }
     {
-        self.emit_index(after_fb(0x0d), ty)
+        self.emit_index(Opcode::after_fb(0x0d), ty)
     }
 
     /// `array.set`: `0xFB 0x0E`.
@@ -171,7 +171,7 @@ impl<'a, A: Allocator> InstructionSink<'a, A> {
         ensures wrote { Writes self.entry (after_fb 0x0e) (operands.Index ty) result }
         ensures room { HasRoom self.entry → IsOk result }
     {
-        self.emit_index(after_fb(0x0e), ty)
+        self.emit_index(Opcode::after_fb(0x0e), ty)
     }
 
     /// `array.len`: `0xFB 0x0F`.
@@ -181,7 +181,7 @@ impl<'a, A: Allocator> InstructionSink<'a, A> {
         ensures wrote { Writes self.entry (after_fb 0x0f) operands.None result }
         ensures room { HasRoom self.entry → IsOk result }
     {
-        self.emit(after_fb(0x0f))
+        self.emit(Opcode::after_fb(0x0f))
     }
 
     /// `array.fill`: `0xFB 0x10`.
@@ -191,7 +191,7 @@ impl<'a, A: Allocator> InstructionSink<'a, A> {
         ensures wrote { Writes self.entry (after_fb 0x10) (operands.Index ty) result }
         ensures room { HasRoom self.entry → IsOk result }
     {
-        self.emit_index(after_fb(0x10), ty)
+        self.emit_index(Opcode::after_fb(0x10), ty)
     }
 
     /// `array.copy`: `0xFB 0x11`.
@@ -205,7 +205,7 @@ impl<'a, A: Allocator> InstructionSink<'a, A> {
         ensures wrote { Writes self.entry (after_fb 0x11) (operands.TwoIndexes destination_type source_type) result }
         ensures room { HasRoom self.entry → IsOk result }
     {
-        self.emit_two_indexes(after_fb(0x11), destination_type, source_type)
+        self.emit_two_indexes(Opcode::after_fb(0x11), destination_type, source_type)
     }
 
     /// `array.init_data`: `0xFB 0x12`.
@@ -219,7 +219,7 @@ impl<'a, A: Allocator> InstructionSink<'a, A> {
         ensures wrote { Writes self.entry (after_fb 0x12) (operands.TwoIndexes ty segment) result }
         ensures room { HasRoom self.entry → IsOk result }
     {
-        self.emit_two_indexes(after_fb(0x12), ty, segment)
+        self.emit_two_indexes(Opcode::after_fb(0x12), ty, segment)
     }
 
     /// `array.init_elem`: `0xFB 0x13`.
@@ -233,7 +233,7 @@ impl<'a, A: Allocator> InstructionSink<'a, A> {
         ensures wrote { Writes self.entry (after_fb 0x13) (operands.TwoIndexes ty segment) result }
         ensures room { HasRoom self.entry → IsOk result }
     {
-        self.emit_two_indexes(after_fb(0x13), ty, segment)
+        self.emit_two_indexes(Opcode::after_fb(0x13), ty, segment)
     }
 
     /// `struct.new_desc`: `0xFB 0x20`.
@@ -243,7 +243,7 @@ impl<'a, A: Allocator> InstructionSink<'a, A> {
         ensures wrote { Writes self.entry (after_fb 0x20) (operands.Index ty) result }
         ensures room { HasRoom self.entry → IsOk result }
     {
-        self.emit_index(after_fb(0x20), ty)
+        self.emit_index(Opcode::after_fb(0x20), ty)
     }
 
     /// `struct.new_default_desc`: `0xFB 0x21`.
@@ -253,6 +253,6 @@ impl<'a, A: Allocator> InstructionSink<'a, A> {
         ensures wrote { Writes self.entry (after_fb 0x21) (operands.Index ty) result }
         ensures room { HasRoom self.entry → IsOk result }
     {
-        self.emit_index(after_fb(0x21), ty)
+        self.emit_index(Opcode::after_fb(0x21), ty)
     }
 }

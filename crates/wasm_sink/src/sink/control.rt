@@ -3,157 +3,158 @@
 ghost use Rattle.std.specs.Prelude.{IsOk, IfErr};
 ghost use Rattle.std.specs.Borrow.{sem};
 ghost use Rattle.std.specs.Iterator.{size};
-ghost use Rattle.wasm_values.specs.Iterators.{IsExact};
+ghost use Rattle.wasm_codec.specs.Iterators.{IsExact};
 ghost use Rattle.wasm_sink.specs.Sink.{IsUnchangedAtErr, IsSameSink, Writes, HasRoom};
-ghost use Rattle.wasm_sink.specs.ListCalls.{WritesItems, IsRefusedList};
-ghost use Rattle.wasm_instructions.specs.Instructions.{plain};
+ghost use Rattle.wasm_sink.specs.ListCalls.{WritesItems};
+ghost use Rattle.wasm_instructions.specs.Appending.{IsRefusedList};
+ghost use Rattle.wasm_instructions.specs.Instructions.{without_prefix};
 ghost use Rattle.wasm_instructions.specs.declared.table.call.Operands.TheVariants as operands;
 
 use crate::sink::InstructionSink;
-use crate::sink::emit::plain;
 use std::alloc::Allocator;
+use wasm_codec::encode::EncodeError;
 use wasm_instructions::operands::{BlockType, Catch};
-use wasm_values::encode::EncodeError;
+use wasm_instructions::table::Opcode;
 
 impl<'a, A: Allocator> InstructionSink<'a, A> {
     /// `unreachable`: `0x00`.
     pub fn unreachable(self) -> Result<InstructionSink<'a, A>, EncodeError>
         ensures* unchanged { sem 𝓛 (IsUnchangedAtErr A.row A.Allocator self.entry result) }
         ensures same { IsSameSink self.entry result }
-        ensures wrote { Writes self.entry (plain 0x00) operands.None result }
+        ensures wrote { Writes self.entry (without_prefix 0x00) operands.None result }
         ensures room { HasRoom self.entry → IsOk result }
     {
-        self.emit(plain(0x00))
+        self.emit(Opcode::without_prefix(0x00))
     }
 
     /// `nop`: `0x01`.
     pub fn nop(self) -> Result<InstructionSink<'a, A>, EncodeError>
         ensures* unchanged { sem 𝓛 (IsUnchangedAtErr A.row A.Allocator self.entry result) }
         ensures same { IsSameSink self.entry result }
-        ensures wrote { Writes self.entry (plain 0x01) operands.None result }
+        ensures wrote { Writes self.entry (without_prefix 0x01) operands.None result }
         ensures room { HasRoom self.entry → IsOk result }
     {
-        self.emit(plain(0x01))
+        self.emit(Opcode::without_prefix(0x01))
     }
 
     /// `block`: `0x02`.
     pub fn block(self, block_type: BlockType) -> Result<InstructionSink<'a, A>, EncodeError>
         ensures* unchanged { sem 𝓛 (IsUnchangedAtErr A.row A.Allocator self.entry result) }
         ensures same { IsSameSink self.entry result }
-        ensures wrote { Writes self.entry (plain 0x02) (operands.Block block_type) result }
+        ensures wrote { Writes self.entry (without_prefix 0x02) (operands.Block block_type) result }
         ensures room { HasRoom self.entry → IsOk result }
     {
-        self.emit_block(plain(0x02), block_type)
+        self.emit_block(Opcode::without_prefix(0x02), block_type)
     }
 
     /// `loop`: `0x03`.
     pub fn loop_(self, block_type: BlockType) -> Result<InstructionSink<'a, A>, EncodeError>
         ensures* unchanged { sem 𝓛 (IsUnchangedAtErr A.row A.Allocator self.entry result) }
         ensures same { IsSameSink self.entry result }
-        ensures wrote { Writes self.entry (plain 0x03) (operands.Block block_type) result }
+        ensures wrote { Writes self.entry (without_prefix 0x03) (operands.Block block_type) result }
         ensures room { HasRoom self.entry → IsOk result }
     {
-        self.emit_block(plain(0x03), block_type)
+        self.emit_block(Opcode::without_prefix(0x03), block_type)
     }
 
     /// `if`: `0x04`.
     pub fn if_(self, block_type: BlockType) -> Result<InstructionSink<'a, A>, EncodeError>
         ensures* unchanged { sem 𝓛 (IsUnchangedAtErr A.row A.Allocator self.entry result) }
         ensures same { IsSameSink self.entry result }
-        ensures wrote { Writes self.entry (plain 0x04) (operands.Block block_type) result }
+        ensures wrote { Writes self.entry (without_prefix 0x04) (operands.Block block_type) result }
         ensures room { HasRoom self.entry → IsOk result }
     {
-        self.emit_block(plain(0x04), block_type)
+        self.emit_block(Opcode::without_prefix(0x04), block_type)
     }
 
     /// `else`: `0x05`.
     pub fn else_(self) -> Result<InstructionSink<'a, A>, EncodeError>
         ensures* unchanged { sem 𝓛 (IsUnchangedAtErr A.row A.Allocator self.entry result) }
         ensures same { IsSameSink self.entry result }
-        ensures wrote { Writes self.entry (plain 0x05) operands.None result }
+        ensures wrote { Writes self.entry (without_prefix 0x05) operands.None result }
         ensures room { HasRoom self.entry → IsOk result }
     {
-        self.emit(plain(0x05))
+        self.emit(Opcode::without_prefix(0x05))
     }
 
     /// `try`: `0x06`.
     pub fn try_(self, block_type: BlockType) -> Result<InstructionSink<'a, A>, EncodeError>
         ensures* unchanged { sem 𝓛 (IsUnchangedAtErr A.row A.Allocator self.entry result) }
         ensures same { IsSameSink self.entry result }
-        ensures wrote { Writes self.entry (plain 0x06) (operands.Block block_type) result }
+        ensures wrote { Writes self.entry (without_prefix 0x06) (operands.Block block_type) result }
         ensures room { HasRoom self.entry → IsOk result }
     {
-        self.emit_block(plain(0x06), block_type)
+        self.emit_block(Opcode::without_prefix(0x06), block_type)
     }
 
     /// `catch`: `0x07`.
     pub fn catch(self, tag: u32) -> Result<InstructionSink<'a, A>, EncodeError>
         ensures* unchanged { sem 𝓛 (IsUnchangedAtErr A.row A.Allocator self.entry result) }
         ensures same { IsSameSink self.entry result }
-        ensures wrote { Writes self.entry (plain 0x07) (operands.Index tag) result }
+        ensures wrote { Writes self.entry (without_prefix 0x07) (operands.Index tag) result }
         ensures room { HasRoom self.entry → IsOk result }
     {
-        self.emit_index(plain(0x07), tag)
+        self.emit_index(Opcode::without_prefix(0x07), tag)
     }
 
     /// `throw`: `0x08`.
     pub fn throw(self, tag: u32) -> Result<InstructionSink<'a, A>, EncodeError>
         ensures* unchanged { sem 𝓛 (IsUnchangedAtErr A.row A.Allocator self.entry result) }
         ensures same { IsSameSink self.entry result }
-        ensures wrote { Writes self.entry (plain 0x08) (operands.Index tag) result }
+        ensures wrote { Writes self.entry (without_prefix 0x08) (operands.Index tag) result }
         ensures room { HasRoom self.entry → IsOk result }
     {
-        self.emit_index(plain(0x08), tag)
+        self.emit_index(Opcode::without_prefix(0x08), tag)
     }
 
     /// `rethrow`: `0x09`.
     pub fn rethrow(self, label: u32) -> Result<InstructionSink<'a, A>, EncodeError>
         ensures* unchanged { sem 𝓛 (IsUnchangedAtErr A.row A.Allocator self.entry result) }
         ensures same { IsSameSink self.entry result }
-        ensures wrote { Writes self.entry (plain 0x09) (operands.Index label) result }
+        ensures wrote { Writes self.entry (without_prefix 0x09) (operands.Index label) result }
         ensures room { HasRoom self.entry → IsOk result }
     {
-        self.emit_index(plain(0x09), label)
+        self.emit_index(Opcode::without_prefix(0x09), label)
     }
 
     /// `throw_ref`: `0x0A`.
     pub fn throw_ref(self) -> Result<InstructionSink<'a, A>, EncodeError>
         ensures* unchanged { sem 𝓛 (IsUnchangedAtErr A.row A.Allocator self.entry result) }
         ensures same { IsSameSink self.entry result }
-        ensures wrote { Writes self.entry (plain 0x0a) operands.None result }
+        ensures wrote { Writes self.entry (without_prefix 0x0a) operands.None result }
         ensures room { HasRoom self.entry → IsOk result }
     {
-        self.emit(plain(0x0a))
+        self.emit(Opcode::without_prefix(0x0a))
     }
 
     /// `end`: `0x0B`.
     pub fn end(self) -> Result<InstructionSink<'a, A>, EncodeError>
         ensures* unchanged { sem 𝓛 (IsUnchangedAtErr A.row A.Allocator self.entry result) }
         ensures same { IsSameSink self.entry result }
-        ensures wrote { Writes self.entry (plain 0x0b) operands.None result }
+        ensures wrote { Writes self.entry (without_prefix 0x0b) operands.None result }
         ensures room { HasRoom self.entry → IsOk result }
     {
-        self.emit(plain(0x0b))
+        self.emit(Opcode::without_prefix(0x0b))
     }
 
     /// `br`: `0x0C`.
     pub fn br(self, label: u32) -> Result<InstructionSink<'a, A>, EncodeError>
         ensures* unchanged { sem 𝓛 (IsUnchangedAtErr A.row A.Allocator self.entry result) }
         ensures same { IsSameSink self.entry result }
-        ensures wrote { Writes self.entry (plain 0x0c) (operands.Index label) result }
+        ensures wrote { Writes self.entry (without_prefix 0x0c) (operands.Index label) result }
         ensures room { HasRoom self.entry → IsOk result }
     {
-        self.emit_index(plain(0x0c), label)
+        self.emit_index(Opcode::without_prefix(0x0c), label)
     }
 
     /// `br_if`: `0x0D`.
     pub fn br_if(self, label: u32) -> Result<InstructionSink<'a, A>, EncodeError>
         ensures* unchanged { sem 𝓛 (IsUnchangedAtErr A.row A.Allocator self.entry result) }
         ensures same { IsSameSink self.entry result }
-        ensures wrote { Writes self.entry (plain 0x0d) (operands.Index label) result }
+        ensures wrote { Writes self.entry (without_prefix 0x0d) (operands.Index label) result }
         ensures room { HasRoom self.entry → IsOk result }
     {
-        self.emit_index(plain(0x0d), label)
+        self.emit_index(Opcode::without_prefix(0x0d), label)
     }
 
     /// `br_table`: `0x0E`.
@@ -165,7 +166,7 @@ impl<'a, A: Allocator> InstructionSink<'a, A> {
         requires { IsExact I.can_next I.next_gives I.remaining labels }
         ensures* unchanged { sem 𝓛 (IsUnchangedAtErr A.row A.Allocator self.entry result) }
         ensures same { IsSameSink self.entry result }
-        ensures wrote { WritesItems I.next_gives self.entry (plain 0x0e) (λ xs. operands.BrTable xs default) labels result }
+        ensures wrote { WritesItems I.next_gives self.entry (without_prefix 0x0e) (λ xs. operands.BrTable xs default) labels result }
         ensures err { IfErr result (IsRefusedList (size (I.remaining labels))) }
     {
         self.emit_branch_table(0x0e, labels, default)
@@ -175,40 +176,40 @@ impl<'a, A: Allocator> InstructionSink<'a, A> {
     pub fn return_(self) -> Result<InstructionSink<'a, A>, EncodeError>
         ensures* unchanged { sem 𝓛 (IsUnchangedAtErr A.row A.Allocator self.entry result) }
         ensures same { IsSameSink self.entry result }
-        ensures wrote { Writes self.entry (plain 0x0f) operands.None result }
+        ensures wrote { Writes self.entry (without_prefix 0x0f) operands.None result }
         ensures room { HasRoom self.entry → IsOk result }
     {
-        self.emit(plain(0x0f))
+        self.emit(Opcode::without_prefix(0x0f))
     }
 
     /// `call`: `0x10`.
     pub fn call(self, function: u32) -> Result<InstructionSink<'a, A>, EncodeError>
         ensures* unchanged { sem 𝓛 (IsUnchangedAtErr A.row A.Allocator self.entry result) }
         ensures same { IsSameSink self.entry result }
-        ensures wrote { Writes self.entry (plain 0x10) (operands.Index function) result }
+        ensures wrote { Writes self.entry (without_prefix 0x10) (operands.Index function) result }
         ensures room { HasRoom self.entry → IsOk result }
     {
-        self.emit_index(plain(0x10), function)
+        self.emit_index(Opcode::without_prefix(0x10), function)
     }
 
     /// `call_indirect`: `0x11`.
     pub fn call_indirect(self, table: u32, ty: u32) -> Result<InstructionSink<'a, A>, EncodeError>
         ensures* unchanged { sem 𝓛 (IsUnchangedAtErr A.row A.Allocator self.entry result) }
         ensures same { IsSameSink self.entry result }
-        ensures wrote { Writes self.entry (plain 0x11) (operands.TwoIndexes ty table) result }
+        ensures wrote { Writes self.entry (without_prefix 0x11) (operands.TwoIndexes ty table) result }
         ensures room { HasRoom self.entry → IsOk result }
     {
-        self.emit_two_indexes(plain(0x11), ty, table)
+        self.emit_two_indexes(Opcode::without_prefix(0x11), ty, table)
     }
 
     /// `return_call`: `0x12`.
     pub fn return_call(self, function: u32) -> Result<InstructionSink<'a, A>, EncodeError>
         ensures* unchanged { sem 𝓛 (IsUnchangedAtErr A.row A.Allocator self.entry result) }
         ensures same { IsSameSink self.entry result }
-        ensures wrote { Writes self.entry (plain 0x12) (operands.Index function) result }
+        ensures wrote { Writes self.entry (without_prefix 0x12) (operands.Index function) result }
         ensures room { HasRoom self.entry → IsOk result }
     {
-        self.emit_index(plain(0x12), function)
+        self.emit_index(Opcode::without_prefix(0x12), function)
     }
 
     /// `return_call_indirect`: `0x13`.
@@ -219,50 +220,50 @@ impl<'a, A: Allocator> InstructionSink<'a, A> {
     ) -> Result<InstructionSink<'a, A>, EncodeError>
         ensures* unchanged { sem 𝓛 (IsUnchangedAtErr A.row A.Allocator self.entry result) }
         ensures same { IsSameSink self.entry result }
-        ensures wrote { Writes self.entry (plain 0x13) (operands.TwoIndexes ty table) result }
+        ensures wrote { Writes self.entry (without_prefix 0x13) (operands.TwoIndexes ty table) result }
         ensures room { HasRoom self.entry → IsOk result }
     {
-        self.emit_two_indexes(plain(0x13), ty, table)
+        self.emit_two_indexes(Opcode::without_prefix(0x13), ty, table)
     }
 
     /// `call_ref`: `0x14`.
     pub fn call_ref(self, ty: u32) -> Result<InstructionSink<'a, A>, EncodeError>
         ensures* unchanged { sem 𝓛 (IsUnchangedAtErr A.row A.Allocator self.entry result) }
         ensures same { IsSameSink self.entry result }
-        ensures wrote { Writes self.entry (plain 0x14) (operands.Index ty) result }
+        ensures wrote { Writes self.entry (without_prefix 0x14) (operands.Index ty) result }
         ensures room { HasRoom self.entry → IsOk result }
     {
-        self.emit_index(plain(0x14), ty)
+        self.emit_index(Opcode::without_prefix(0x14), ty)
     }
 
     /// `return_call_ref`: `0x15`.
     pub fn return_call_ref(self, ty: u32) -> Result<InstructionSink<'a, A>, EncodeError>
         ensures* unchanged { sem 𝓛 (IsUnchangedAtErr A.row A.Allocator self.entry result) }
         ensures same { IsSameSink self.entry result }
-        ensures wrote { Writes self.entry (plain 0x15) (operands.Index ty) result }
+        ensures wrote { Writes self.entry (without_prefix 0x15) (operands.Index ty) result }
         ensures room { HasRoom self.entry → IsOk result }
     {
-        self.emit_index(plain(0x15), ty)
+        self.emit_index(Opcode::without_prefix(0x15), ty)
     }
 
     /// `delegate`: `0x18`.
     pub fn delegate(self, label: u32) -> Result<InstructionSink<'a, A>, EncodeError>
         ensures* unchanged { sem 𝓛 (IsUnchangedAtErr A.row A.Allocator self.entry result) }
         ensures same { IsSameSink self.entry result }
-        ensures wrote { Writes self.entry (plain 0x18) (operands.Index label) result }
+        ensures wrote { Writes self.entry (without_prefix 0x18) (operands.Index label) result }
         ensures room { HasRoom self.entry → IsOk result }
     {
-        self.emit_index(plain(0x18), label)
+        self.emit_index(Opcode::without_prefix(0x18), label)
     }
 
     /// `catch_all`: `0x19`.
     pub fn catch_all(self) -> Result<InstructionSink<'a, A>, EncodeError>
         ensures* unchanged { sem 𝓛 (IsUnchangedAtErr A.row A.Allocator self.entry result) }
         ensures same { IsSameSink self.entry result }
-        ensures wrote { Writes self.entry (plain 0x19) operands.None result }
+        ensures wrote { Writes self.entry (without_prefix 0x19) operands.None result }
         ensures room { HasRoom self.entry → IsOk result }
     {
-        self.emit(plain(0x19))
+        self.emit(Opcode::without_prefix(0x19))
     }
 
     /// `try_table`: `0x1F`.
@@ -274,7 +275,7 @@ impl<'a, A: Allocator> InstructionSink<'a, A> {
         requires { IsExact I.can_next I.next_gives I.remaining clauses }
         ensures* unchanged { sem 𝓛 (IsUnchangedAtErr A.row A.Allocator self.entry result) }
         ensures same { IsSameSink self.entry result }
-        ensures wrote { WritesItems I.next_gives self.entry (plain 0x1f) (λ xs. operands.TryTable block_type xs) clauses result }
+        ensures wrote { WritesItems I.next_gives self.entry (without_prefix 0x1f) (λ xs. operands.TryTable block_type xs) clauses result }
         ensures err { IfErr result (IsRefusedList (size (I.remaining clauses))) }
     {
         self.emit_try_table(0x1f, block_type, clauses)

@@ -2,287 +2,287 @@
 ghost use Rattle.std.specs.Prelude.{◌≤◌, ◌<◌, ◌↔◌, IsOk, IsErrOf};
 ghost use Rattle.std.specs.Borrow.{sem};
 ghost use Rattle.wasm_sink.specs.Sink.{IsUnchangedAtErr, IsSameSink, Writes, WritesText, HasRoom};
-ghost use Rattle.wasm_instructions.specs.Instructions.{plain, after_fc};
+ghost use Rattle.wasm_instructions.specs.Instructions.{without_prefix, after_fc};
 ghost use Rattle.wasm_instructions.specs.declared.table.call.Operands.TheVariants as operands;
 
 use crate::sink::InstructionSink;
-use crate::sink::emit::{after_fc, plain};
 use std::alloc::Allocator;
+use wasm_codec::encode::EncodeError;
 use wasm_instructions::operands::MemArg;
-use wasm_values::encode::EncodeError;
+use wasm_instructions::table::Opcode;
 
 impl<'a, A: Allocator> InstructionSink<'a, A> {
     /// `i32.load`: `0x28`.
     pub fn i32_load(self, memarg: MemArg) -> Result<InstructionSink<'a, A>, EncodeError>
         ensures* unchanged { sem 𝓛 (IsUnchangedAtErr A.row A.Allocator self.entry result) }
         ensures same { IsSameSink self.entry result }
-        ensures wrote { WritesText self.entry (plain 0x28) (operands.Mem memarg) result }
+        ensures wrote { WritesText self.entry (without_prefix 0x28) (operands.Mem memarg) result }
         ensures alignment { IsErrOf result EncodeError.Alignment ↔ 64 ≤ memarg.align }
         ensures room { HasRoom self.entry → memarg.align < 64 → IsOk result }
     {
-        self.emit_mem(plain(0x28), memarg)
+        self.emit_mem(Opcode::without_prefix(0x28), memarg)
     }
 
     /// `i64.load`: `0x29`.
     pub fn i64_load(self, memarg: MemArg) -> Result<InstructionSink<'a, A>, EncodeError>
         ensures* unchanged { sem 𝓛 (IsUnchangedAtErr A.row A.Allocator self.entry result) }
         ensures same { IsSameSink self.entry result }
-        ensures wrote { WritesText self.entry (plain 0x29) (operands.Mem memarg) result }
+        ensures wrote { WritesText self.entry (without_prefix 0x29) (operands.Mem memarg) result }
         ensures alignment { IsErrOf result EncodeError.Alignment ↔ 64 ≤ memarg.align }
         ensures room { HasRoom self.entry → memarg.align < 64 → IsOk result }
     {
-        self.emit_mem(plain(0x29), memarg)
+        self.emit_mem(Opcode::without_prefix(0x29), memarg)
     }
 
     /// `f32.load`: `0x2A`.
     pub fn f32_load(self, memarg: MemArg) -> Result<InstructionSink<'a, A>, EncodeError>
         ensures* unchanged { sem 𝓛 (IsUnchangedAtErr A.row A.Allocator self.entry result) }
         ensures same { IsSameSink self.entry result }
-        ensures wrote { WritesText self.entry (plain 0x2a) (operands.Mem memarg) result }
+        ensures wrote { WritesText self.entry (without_prefix 0x2a) (operands.Mem memarg) result }
         ensures alignment { IsErrOf result EncodeError.Alignment ↔ 64 ≤ memarg.align }
         ensures room { HasRoom self.entry → memarg.align < 64 → IsOk result }
     {
-        self.emit_mem(plain(0x2a), memarg)
+        self.emit_mem(Opcode::without_prefix(0x2a), memarg)
     }
 
     /// `f64.load`: `0x2B`.
     pub fn f64_load(self, memarg: MemArg) -> Result<InstructionSink<'a, A>, EncodeError>
         ensures* unchanged { sem 𝓛 (IsUnchangedAtErr A.row A.Allocator self.entry result) }
         ensures same { IsSameSink self.entry result }
-        ensures wrote { WritesText self.entry (plain 0x2b) (operands.Mem memarg) result }
+        ensures wrote { WritesText self.entry (without_prefix 0x2b) (operands.Mem memarg) result }
         ensures alignment { IsErrOf result EncodeError.Alignment ↔ 64 ≤ memarg.align }
         ensures room { HasRoom self.entry → memarg.align < 64 → IsOk result }
     {
-        self.emit_mem(plain(0x2b), memarg)
+        self.emit_mem(Opcode::without_prefix(0x2b), memarg)
     }
 
     /// `i32.load8_s`: `0x2C`.
     pub fn i32_load8_s(self, memarg: MemArg) -> Result<InstructionSink<'a, A>, EncodeError>
         ensures* unchanged { sem 𝓛 (IsUnchangedAtErr A.row A.Allocator self.entry result) }
         ensures same { IsSameSink self.entry result }
-        ensures wrote { WritesText self.entry (plain 0x2c) (operands.Mem memarg) result }
+        ensures wrote { WritesText self.entry (without_prefix 0x2c) (operands.Mem memarg) result }
         ensures alignment { IsErrOf result EncodeError.Alignment ↔ 64 ≤ memarg.align }
         ensures room { HasRoom self.entry → memarg.align < 64 → IsOk result }
     {
-        self.emit_mem(plain(0x2c), memarg)
+        self.emit_mem(Opcode::without_prefix(0x2c), memarg)
     }
 
     /// `i32.load8_u`: `0x2D`.
     pub fn i32_load8_u(self, memarg: MemArg) -> Result<InstructionSink<'a, A>, EncodeError>
         ensures* unchanged { sem 𝓛 (IsUnchangedAtErr A.row A.Allocator self.entry result) }
         ensures same { IsSameSink self.entry result }
-        ensures wrote { WritesText self.entry (plain 0x2d) (operands.Mem memarg) result }
+        ensures wrote { WritesText self.entry (without_prefix 0x2d) (operands.Mem memarg) result }
         ensures alignment { IsErrOf result EncodeError.Alignment ↔ 64 ≤ memarg.align }
         ensures room { HasRoom self.entry → memarg.align < 64 → IsOk result }
     {
-        self.emit_mem(plain(0x2d), memarg)
+        self.emit_mem(Opcode::without_prefix(0x2d), memarg)
     }
 
     /// `i32.load16_s`: `0x2E`.
     pub fn i32_load16_s(self, memarg: MemArg) -> Result<InstructionSink<'a, A>, EncodeError>
         ensures* unchanged { sem 𝓛 (IsUnchangedAtErr A.row A.Allocator self.entry result) }
         ensures same { IsSameSink self.entry result }
-        ensures wrote { WritesText self.entry (plain 0x2e) (operands.Mem memarg) result }
+        ensures wrote { WritesText self.entry (without_prefix 0x2e) (operands.Mem memarg) result }
         ensures alignment { IsErrOf result EncodeError.Alignment ↔ 64 ≤ memarg.align }
         ensures room { HasRoom self.entry → memarg.align < 64 → IsOk result }
     {
-        self.emit_mem(plain(0x2e), memarg)
+        self.emit_mem(Opcode::without_prefix(0x2e), memarg)
     }
 
     /// `i32.load16_u`: `0x2F`.
     pub fn i32_load16_u(self, memarg: MemArg) -> Result<InstructionSink<'a, A>, EncodeError>
         ensures* unchanged { sem 𝓛 (IsUnchangedAtErr A.row A.Allocator self.entry result) }
         ensures same { IsSameSink self.entry result }
-        ensures wrote { WritesText self.entry (plain 0x2f) (operands.Mem memarg) result }
+        ensures wrote { WritesText self.entry (without_prefix 0x2f) (operands.Mem memarg) result }
         ensures alignment { IsErrOf result EncodeError.Alignment ↔ 64 ≤ memarg.align }
         ensures room { HasRoom self.entry → memarg.align < 64 → IsOk result }
     {
-        self.emit_mem(plain(0x2f), memarg)
+        self.emit_mem(Opcode::without_prefix(0x2f), memarg)
     }
 
     /// `i64.load8_s`: `0x30`.
     pub fn i64_load8_s(self, memarg: MemArg) -> Result<InstructionSink<'a, A>, EncodeError>
         ensures* unchanged { sem 𝓛 (IsUnchangedAtErr A.row A.Allocator self.entry result) }
         ensures same { IsSameSink self.entry result }
-        ensures wrote { WritesText self.entry (plain 0x30) (operands.Mem memarg) result }
+        ensures wrote { WritesText self.entry (without_prefix 0x30) (operands.Mem memarg) result }
         ensures alignment { IsErrOf result EncodeError.Alignment ↔ 64 ≤ memarg.align }
         ensures room { HasRoom self.entry → memarg.align < 64 → IsOk result }
     {
-        self.emit_mem(plain(0x30), memarg)
+        self.emit_mem(Opcode::without_prefix(0x30), memarg)
     }
 
     /// `i64.load8_u`: `0x31`.
     pub fn i64_load8_u(self, memarg: MemArg) -> Result<InstructionSink<'a, A>, EncodeError>
         ensures* unchanged { sem 𝓛 (IsUnchangedAtErr A.row A.Allocator self.entry result) }
         ensures same { IsSameSink self.entry result }
-        ensures wrote { WritesText self.entry (plain 0x31) (operands.Mem memarg) result }
+        ensures wrote { WritesText self.entry (without_prefix 0x31) (operands.Mem memarg) result }
         ensures alignment { IsErrOf result EncodeError.Alignment ↔ 64 ≤ memarg.align }
         ensures room { HasRoom self.entry → memarg.align < 64 → IsOk result }
     {
-        self.emit_mem(plain(0x31), memarg)
+        self.emit_mem(Opcode::without_prefix(0x31), memarg)
     }
 
     /// `i64.load16_s`: `0x32`.
     pub fn i64_load16_s(self, memarg: MemArg) -> Result<InstructionSink<'a, A>, EncodeError>
         ensures* unchanged { sem 𝓛 (IsUnchangedAtErr A.row A.Allocator self.entry result) }
         ensures same { IsSameSink self.entry result }
-        ensures wrote { WritesText self.entry (plain 0x32) (operands.Mem memarg) result }
+        ensures wrote { WritesText self.entry (without_prefix 0x32) (operands.Mem memarg) result }
         ensures alignment { IsErrOf result EncodeError.Alignment ↔ 64 ≤ memarg.align }
         ensures room { HasRoom self.entry → memarg.align < 64 → IsOk result }
     {
-        self.emit_mem(plain(0x32), memarg)
+        self.emit_mem(Opcode::without_prefix(0x32), memarg)
     }
 
     /// `i64.load16_u`: `0x33`.
     pub fn i64_load16_u(self, memarg: MemArg) -> Result<InstructionSink<'a, A>, EncodeError>
         ensures* unchanged { sem 𝓛 (IsUnchangedAtErr A.row A.Allocator self.entry result) }
         ensures same { IsSameSink self.entry result }
-        ensures wrote { WritesText self.entry (plain 0x33) (operands.Mem memarg) result }
+        ensures wrote { WritesText self.entry (without_prefix 0x33) (operands.Mem memarg) result }
         ensures alignment { IsErrOf result EncodeError.Alignment ↔ 64 ≤ memarg.align }
         ensures room { HasRoom self.entry → memarg.align < 64 → IsOk result }
     {
-        self.emit_mem(plain(0x33), memarg)
+        self.emit_mem(Opcode::without_prefix(0x33), memarg)
     }
 
     /// `i64.load32_s`: `0x34`.
     pub fn i64_load32_s(self, memarg: MemArg) -> Result<InstructionSink<'a, A>, EncodeError>
         ensures* unchanged { sem 𝓛 (IsUnchangedAtErr A.row A.Allocator self.entry result) }
         ensures same { IsSameSink self.entry result }
-        ensures wrote { WritesText self.entry (plain 0x34) (operands.Mem memarg) result }
+        ensures wrote { WritesText self.entry (without_prefix 0x34) (operands.Mem memarg) result }
         ensures alignment { IsErrOf result EncodeError.Alignment ↔ 64 ≤ memarg.align }
         ensures room { HasRoom self.entry → memarg.align < 64 → IsOk result }
     {
-        self.emit_mem(plain(0x34), memarg)
+        self.emit_mem(Opcode::without_prefix(0x34), memarg)
     }
 
     /// `i64.load32_u`: `0x35`.
     pub fn i64_load32_u(self, memarg: MemArg) -> Result<InstructionSink<'a, A>, EncodeError>
         ensures* unchanged { sem 𝓛 (IsUnchangedAtErr A.row A.Allocator self.entry result) }
         ensures same { IsSameSink self.entry result }
-        ensures wrote { WritesText self.entry (plain 0x35) (operands.Mem memarg) result }
+        ensures wrote { WritesText self.entry (without_prefix 0x35) (operands.Mem memarg) result }
         ensures alignment { IsErrOf result EncodeError.Alignment ↔ 64 ≤ memarg.align }
         ensures room { HasRoom self.entry → memarg.align < 64 → IsOk result }
     {
-        self.emit_mem(plain(0x35), memarg)
+        self.emit_mem(Opcode::without_prefix(0x35), memarg)
     }
 
     /// `i32.store`: `0x36`.
     pub fn i32_store(self, memarg: MemArg) -> Result<InstructionSink<'a, A>, EncodeError>
         ensures* unchanged { sem 𝓛 (IsUnchangedAtErr A.row A.Allocator self.entry result) }
         ensures same { IsSameSink self.entry result }
-        ensures wrote { WritesText self.entry (plain 0x36) (operands.Mem memarg) result }
+        ensures wrote { WritesText self.entry (without_prefix 0x36) (operands.Mem memarg) result }
         ensures alignment { IsErrOf result EncodeError.Alignment ↔ 64 ≤ memarg.align }
         ensures room { HasRoom self.entry → memarg.align < 64 → IsOk result }
     {
-        self.emit_mem(plain(0x36), memarg)
+        self.emit_mem(Opcode::without_prefix(0x36), memarg)
     }
 
     /// `i64.store`: `0x37`.
     pub fn i64_store(self, memarg: MemArg) -> Result<InstructionSink<'a, A>, EncodeError>
         ensures* unchanged { sem 𝓛 (IsUnchangedAtErr A.row A.Allocator self.entry result) }
         ensures same { IsSameSink self.entry result }
-        ensures wrote { WritesText self.entry (plain 0x37) (operands.Mem memarg) result }
+        ensures wrote { WritesText self.entry (without_prefix 0x37) (operands.Mem memarg) result }
         ensures alignment { IsErrOf result EncodeError.Alignment ↔ 64 ≤ memarg.align }
         ensures room { HasRoom self.entry → memarg.align < 64 → IsOk result }
     {
-        self.emit_mem(plain(0x37), memarg)
+        self.emit_mem(Opcode::without_prefix(0x37), memarg)
     }
 
     /// `f32.store`: `0x38`.
     pub fn f32_store(self, memarg: MemArg) -> Result<InstructionSink<'a, A>, EncodeError>
         ensures* unchanged { sem 𝓛 (IsUnchangedAtErr A.row A.Allocator self.entry result) }
         ensures same { IsSameSink self.entry result }
-        ensures wrote { WritesText self.entry (plain 0x38) (operands.Mem memarg) result }
+        ensures wrote { WritesText self.entry (without_prefix 0x38) (operands.Mem memarg) result }
         ensures alignment { IsErrOf result EncodeError.Alignment ↔ 64 ≤ memarg.align }
         ensures room { HasRoom self.entry → memarg.align < 64 → IsOk result }
     {
-        self.emit_mem(plain(0x38), memarg)
+        self.emit_mem(Opcode::without_prefix(0x38), memarg)
     }
 
     /// `f64.store`: `0x39`.
     pub fn f64_store(self, memarg: MemArg) -> Result<InstructionSink<'a, A>, EncodeError>
         ensures* unchanged { sem 𝓛 (IsUnchangedAtErr A.row A.Allocator self.entry result) }
         ensures same { IsSameSink self.entry result }
-        ensures wrote { WritesText self.entry (plain 0x39) (operands.Mem memarg) result }
+        ensures wrote { WritesText self.entry (without_prefix 0x39) (operands.Mem memarg) result }
         ensures alignment { IsErrOf result EncodeError.Alignment ↔ 64 ≤ memarg.align }
         ensures room { HasRoom self.entry → memarg.align < 64 → IsOk result }
     {
-        self.emit_mem(plain(0x39), memarg)
+        self.emit_mem(Opcode::without_prefix(0x39), memarg)
     }
 
     /// `i32.store8`: `0x3A`.
     pub fn i32_store8(self, memarg: MemArg) -> Result<InstructionSink<'a, A>, EncodeError>
         ensures* unchanged { sem 𝓛 (IsUnchangedAtErr A.row A.Allocator self.entry result) }
         ensures same { IsSameSink self.entry result }
-        ensures wrote { WritesText self.entry (plain 0x3a) (operands.Mem memarg) result }
+        ensures wrote { WritesText self.entry (without_prefix 0x3a) (operands.Mem memarg) result }
         ensures alignment { IsErrOf result EncodeError.Alignment ↔ 64 ≤ memarg.align }
         ensures room { HasRoom self.entry → memarg.align < 64 → IsOk result }
     {
-        self.emit_mem(plain(0x3a), memarg)
+        self.emit_mem(Opcode::without_prefix(0x3a), memarg)
     }
 
     /// `i32.store16`: `0x3B`.
     pub fn i32_store16(self, memarg: MemArg) -> Result<InstructionSink<'a, A>, EncodeError>
         ensures* unchanged { sem 𝓛 (IsUnchangedAtErr A.row A.Allocator self.entry result) }
         ensures same { IsSameSink self.entry result }
-        ensures wrote { WritesText self.entry (plain 0x3b) (operands.Mem memarg) result }
+        ensures wrote { WritesText self.entry (without_prefix 0x3b) (operands.Mem memarg) result }
         ensures alignment { IsErrOf result EncodeError.Alignment ↔ 64 ≤ memarg.align }
         ensures room { HasRoom self.entry → memarg.align < 64 → IsOk result }
     {
-        self.emit_mem(plain(0x3b), memarg)
+        self.emit_mem(Opcode::without_prefix(0x3b), memarg)
     }
 
     /// `i64.store8`: `0x3C`.
     pub fn i64_store8(self, memarg: MemArg) -> Result<InstructionSink<'a, A>, EncodeError>
         ensures* unchanged { sem 𝓛 (IsUnchangedAtErr A.row A.Allocator self.entry result) }
         ensures same { IsSameSink self.entry result }
-        ensures wrote { WritesText self.entry (plain 0x3c) (operands.Mem memarg) result }
+        ensures wrote { WritesText self.entry (without_prefix 0x3c) (operands.Mem memarg) result }
         ensures alignment { IsErrOf result EncodeError.Alignment ↔ 64 ≤ memarg.align }
         ensures room { HasRoom self.entry → memarg.align < 64 → IsOk result }
     {
-        self.emit_mem(plain(0x3c), memarg)
+        self.emit_mem(Opcode::without_prefix(0x3c), memarg)
     }
 
     /// `i64.store16`: `0x3D`.
     pub fn i64_store16(self, memarg: MemArg) -> Result<InstructionSink<'a, A>, EncodeError>
         ensures* unchanged { sem 𝓛 (IsUnchangedAtErr A.row A.Allocator self.entry result) }
         ensures same { IsSameSink self.entry result }
-        ensures wrote { WritesText self.entry (plain 0x3d) (operands.Mem memarg) result }
+        ensures wrote { WritesText self.entry (without_prefix 0x3d) (operands.Mem memarg) result }
         ensures alignment { IsErrOf result EncodeError.Alignment ↔ 64 ≤ memarg.align }
         ensures room { HasRoom self.entry → memarg.align < 64 → IsOk result }
     {
-        self.emit_mem(plain(0x3d), memarg)
+        self.emit_mem(Opcode::without_prefix(0x3d), memarg)
     }
 
     /// `i64.store32`: `0x3E`.
     pub fn i64_store32(self, memarg: MemArg) -> Result<InstructionSink<'a, A>, EncodeError>
         ensures* unchanged { sem 𝓛 (IsUnchangedAtErr A.row A.Allocator self.entry result) }
         ensures same { IsSameSink self.entry result }
-        ensures wrote { WritesText self.entry (plain 0x3e) (operands.Mem memarg) result }
+        ensures wrote { WritesText self.entry (without_prefix 0x3e) (operands.Mem memarg) result }
         ensures alignment { IsErrOf result EncodeError.Alignment ↔ 64 ≤ memarg.align }
         ensures room { HasRoom self.entry → memarg.align < 64 → IsOk result }
     {
-        self.emit_mem(plain(0x3e), memarg)
+        self.emit_mem(Opcode::without_prefix(0x3e), memarg)
     }
 
     /// `memory.size`: `0x3F`.
     pub fn memory_size(self, memory: u32) -> Result<InstructionSink<'a, A>, EncodeError>
         ensures* unchanged { sem 𝓛 (IsUnchangedAtErr A.row A.Allocator self.entry result) }
         ensures same { IsSameSink self.entry result }
-        ensures wrote { Writes self.entry (plain 0x3f) (operands.Index memory) result }
+        ensures wrote { Writes self.entry (without_prefix 0x3f) (operands.Index memory) result }
         ensures room { HasRoom self.entry → IsOk result }
     {
-        self.emit_index(plain(0x3f), memory)
+        self.emit_index(Opcode::without_prefix(0x3f), memory)
     }
 
     /// `memory.grow`: `0x40`.
     pub fn memory_grow(self, memory: u32) -> Result<InstructionSink<'a, A>, EncodeError>
         ensures* unchanged { sem 𝓛 (IsUnchangedAtErr A.row A.Allocator self.entry result) }
         ensures same { IsSameSink self.entry result }
-        ensures wrote { Writes self.entry (plain 0x40) (operands.Index memory) result }
+        ensures wrote { Writes self.entry (without_prefix 0x40) (operands.Index memory) result }
         ensures room { HasRoom self.entry → IsOk result }
     {
-        self.emit_index(plain(0x40), memory)
+        self.emit_index(Opcode::without_prefix(0x40), memory)
     }
 
     /// `memory.init`: `0xFC 0x08`.
@@ -296,7 +296,7 @@ impl<'a, A: Allocator> InstructionSink<'a, A> {
         ensures wrote { Writes self.entry (after_fc 0x08) (operands.TwoIndexes segment memory) result }
         ensures room { HasRoom self.entry → IsOk result }
     {
-        self.emit_two_indexes(after_fc(0x08), segment, memory)
+        self.emit_two_indexes(Opcode::after_fc(0x08), segment, memory)
     }
 
     /// `data.drop`: `0xFC 0x09`.
@@ -306,7 +306,7 @@ impl<'a, A: Allocator> InstructionSink<'a, A> {
         ensures wrote { Writes self.entry (after_fc 0x09) (operands.Index segment) result }
         ensures room { HasRoom self.entry → IsOk result }
     {
-        self.emit_index(after_fc(0x09), segment)
+        self.emit_index(Opcode::after_fc(0x09), segment)
     }
 
     /// `memory.copy`: `0xFC 0x0A`.
@@ -320,7 +320,7 @@ impl<'a, A: Allocator> InstructionSink<'a, A> {
         ensures wrote { Writes self.entry (after_fc 0x0a) (operands.TwoIndexes destination source) result }
         ensures room { HasRoom self.entry → IsOk result }
     {
-        self.emit_two_indexes(after_fc(0x0a), destination, source)
+        self.emit_two_indexes(Opcode::after_fc(0x0a), destination, source)
     }
 
     /// `memory.fill`: `0xFC 0x0B`.
@@ -330,7 +330,7 @@ impl<'a, A: Allocator> InstructionSink<'a, A> {
         ensures wrote { Writes self.entry (after_fc 0x0b) (operands.Index memory) result }
         ensures room { HasRoom self.entry → IsOk result }
     {
-        self.emit_index(after_fc(0x0b), memory)
+        self.emit_index(Opcode::after_fc(0x0b), memory)
     }
 
     /// `memory.discard`: `0xFC 0x12`.
@@ -340,6 +340,6 @@ impl<'a, A: Allocator> InstructionSink<'a, A> {
         ensures wrote { Writes self.entry (after_fc 0x12) (operands.Index memory) result }
         ensures room { HasRoom self.entry → IsOk result }
     {
-        self.emit_index(after_fc(0x12), memory)
+        self.emit_index(Opcode::after_fc(0x12), memory)
     }
 }

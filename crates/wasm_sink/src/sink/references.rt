@@ -3,84 +3,84 @@
 ghost use Rattle.std.specs.Prelude.{IsOk};
 ghost use Rattle.std.specs.Borrow.{sem};
 ghost use Rattle.wasm_sink.specs.Sink.{IsUnchangedAtErr, IsSameSink, Writes, HasRoom};
-ghost use Rattle.wasm_instructions.specs.Instructions.{plain, after_fb};
+ghost use Rattle.wasm_instructions.specs.Instructions.{without_prefix, after_fb};
 ghost use Rattle.wasm_instructions.specs.declared.table.call.Operands.TheVariants as operands;
 
 use crate::sink::InstructionSink;
-use crate::sink::emit::{after_fb, plain};
 use std::alloc::Allocator;
+use wasm_codec::encode::EncodeError;
+use wasm_instructions::table::Opcode;
 use wasm_types::types::{HeapType, RefType};
-use wasm_values::encode::EncodeError;
 
 impl<'a, A: Allocator> InstructionSink<'a, A> {
     /// `ref.null`: `0xD0`.
     pub fn ref_null(self, heap_type: HeapType) -> Result<InstructionSink<'a, A>, EncodeError>
         ensures* unchanged { sem 𝓛 (IsUnchangedAtErr A.row A.Allocator self.entry result) }
         ensures same { IsSameSink self.entry result }
-        ensures wrote { Writes self.entry (plain 0xd0) (operands.Heap heap_type) result }
+        ensures wrote { Writes self.entry (without_prefix 0xd0) (operands.Heap heap_type) result }
         ensures room { HasRoom self.entry → IsOk result }
     {
-        self.emit_heap(plain(0xd0), heap_type)
+        self.emit_heap(Opcode::without_prefix(0xd0), heap_type)
     }
 
     /// `ref.is_null`: `0xD1`.
     pub fn ref_is_null(self) -> Result<InstructionSink<'a, A>, EncodeError>
         ensures* unchanged { sem 𝓛 (IsUnchangedAtErr A.row A.Allocator self.entry result) }
         ensures same { IsSameSink self.entry result }
-        ensures wrote { Writes self.entry (plain 0xd1) operands.None result }
+        ensures wrote { Writes self.entry (without_prefix 0xd1) operands.None result }
         ensures room { HasRoom self.entry → IsOk result }
     {
-        self.emit(plain(0xd1))
+        self.emit(Opcode::without_prefix(0xd1))
     }
 
     /// `ref.func`: `0xD2`.
     pub fn ref_func(self, function: u32) -> Result<InstructionSink<'a, A>, EncodeError>
         ensures* unchanged { sem 𝓛 (IsUnchangedAtErr A.row A.Allocator self.entry result) }
         ensures same { IsSameSink self.entry result }
-        ensures wrote { Writes self.entry (plain 0xd2) (operands.Index function) result }
+        ensures wrote { Writes self.entry (without_prefix 0xd2) (operands.Index function) result }
         ensures room { HasRoom self.entry → IsOk result }
     {
-        self.emit_index(plain(0xd2), function)
+        self.emit_index(Opcode::without_prefix(0xd2), function)
     }
 
     /// `ref.eq`: `0xD3`.
     pub fn ref_eq(self) -> Result<InstructionSink<'a, A>, EncodeError>
         ensures* unchanged { sem 𝓛 (IsUnchangedAtErr A.row A.Allocator self.entry result) }
         ensures same { IsSameSink self.entry result }
-        ensures wrote { Writes self.entry (plain 0xd3) operands.None result }
+        ensures wrote { Writes self.entry (without_prefix 0xd3) operands.None result }
         ensures room { HasRoom self.entry → IsOk result }
     {
-        self.emit(plain(0xd3))
+        self.emit(Opcode::without_prefix(0xd3))
     }
 
     /// `ref.as_non_null`: `0xD4`.
     pub fn ref_as_non_null(self) -> Result<InstructionSink<'a, A>, EncodeError>
         ensures* unchanged { sem 𝓛 (IsUnchangedAtErr A.row A.Allocator self.entry result) }
         ensures same { IsSameSink self.entry result }
-        ensures wrote { Writes self.entry (plain 0xd4) operands.None result }
+        ensures wrote { Writes self.entry (without_prefix 0xd4) operands.None result }
         ensures room { HasRoom self.entry → IsOk result }
     {
-        self.emit(plain(0xd4))
+        self.emit(Opcode::without_prefix(0xd4))
     }
 
     /// `br_on_null`: `0xD5`.
     pub fn br_on_null(self, label: u32) -> Result<InstructionSink<'a, A>, EncodeError>
         ensures* unchanged { sem 𝓛 (IsUnchangedAtErr A.row A.Allocator self.entry result) }
         ensures same { IsSameSink self.entry result }
-        ensures wrote { Writes self.entry (plain 0xd5) (operands.Index label) result }
+        ensures wrote { Writes self.entry (without_prefix 0xd5) (operands.Index label) result }
         ensures room { HasRoom self.entry → IsOk result }
     {
-        self.emit_index(plain(0xd5), label)
+        self.emit_index(Opcode::without_prefix(0xd5), label)
     }
 
     /// `br_on_non_null`: `0xD6`.
     pub fn br_on_non_null(self, label: u32) -> Result<InstructionSink<'a, A>, EncodeError>
         ensures* unchanged { sem 𝓛 (IsUnchangedAtErr A.row A.Allocator self.entry result) }
         ensures same { IsSameSink self.entry result }
-        ensures wrote { Writes self.entry (plain 0xd6) (operands.Index label) result }
+        ensures wrote { Writes self.entry (without_prefix 0xd6) (operands.Index label) result }
         ensures room { HasRoom self.entry → IsOk result }
     {
-        self.emit_index(plain(0xd6), label)
+        self.emit_index(Opcode::without_prefix(0xd6), label)
     }
 
     /// `ref.test` of a type without null: `0xFB 0x14`.
@@ -93,7 +93,7 @@ impl<'a, A: Allocator> InstructionSink<'a, A> {
         ensures wrote { Writes self.entry (after_fb 0x14) (operands.Heap heap_type) result }
         ensures room { HasRoom self.entry → IsOk result }
     {
-        self.emit_heap(after_fb(0x14), heap_type)
+        self.emit_heap(Opcode::after_fb(0x14), heap_type)
     }
 
     /// `ref.test` of a type with null: `0xFB 0x15`.
@@ -106,7 +106,7 @@ impl<'a, A: Allocator> InstructionSink<'a, A> {
         ensures wrote { Writes self.entry (after_fb 0x15) (operands.Heap heap_type) result }
         ensures room { HasRoom self.entry → IsOk result }
     {
-        self.emit_heap(after_fb(0x15), heap_type)
+        self.emit_heap(Opcode::after_fb(0x15), heap_type)
     }
 
     /// `ref.cast` to a type without null: `0xFB 0x16`.
@@ -119,7 +119,7 @@ impl<'a, A: Allocator> InstructionSink<'a, A> {
         ensures wrote { Writes self.entry (after_fb 0x16) (operands.Heap heap_type) result }
         ensures room { HasRoom self.entry → IsOk result }
     {
-        self.emit_heap(after_fb(0x16), heap_type)
+        self.emit_heap(Opcode::after_fb(0x16), heap_type)
     }
 
     /// `ref.cast` to a type with null: `0xFB 0x17`.
@@ -132,7 +132,7 @@ impl<'a, A: Allocator> InstructionSink<'a, A> {
         ensures wrote { Writes self.entry (after_fb 0x17) (operands.Heap heap_type) result }
         ensures room { HasRoom self.entry → IsOk result }
     {
-        self.emit_heap(after_fb(0x17), heap_type)
+        self.emit_heap(Opcode::after_fb(0x17), heap_type)
     }
 
     /// `br_on_cast`: `0xFB 0x18`.
@@ -147,7 +147,7 @@ impl<'a, A: Allocator> InstructionSink<'a, A> {
         ensures wrote { Writes self.entry (after_fb 0x18) (operands.Cast label from to) result }
         ensures room { HasRoom self.entry → IsOk result }
     {
-        self.emit_cast(after_fb(0x18), label, from, to)
+        self.emit_cast(Opcode::after_fb(0x18), label, from, to)
     }
 
     /// `br_on_cast_fail`: `0xFB 0x19`.
@@ -162,7 +162,7 @@ impl<'a, A: Allocator> InstructionSink<'a, A> {
         ensures wrote { Writes self.entry (after_fb 0x19) (operands.Cast label from to) result }
         ensures room { HasRoom self.entry → IsOk result }
     {
-        self.emit_cast(after_fb(0x19), label, from, to)
+        self.emit_cast(Opcode::after_fb(0x19), label, from, to)
     }
 
     /// `any.convert_extern`: `0xFB 0x1A`.
@@ -172,7 +172,7 @@ impl<'a, A: Allocator> InstructionSink<'a, A> {
         ensures wrote { Writes self.entry (after_fb 0x1a) operands.None result }
         ensures room { HasRoom self.entry → IsOk result }
     {
-        self.emit(after_fb(0x1a))
+        self.emit(Opcode::after_fb(0x1a))
     }
 
     /// `extern.convert_any`: `0xFB 0x1B`.
@@ -182,7 +182,7 @@ impl<'a, A: Allocator> InstructionSink<'a, A> {
         ensures wrote { Writes self.entry (after_fb 0x1b) operands.None result }
         ensures room { HasRoom self.entry → IsOk result }
     {
-        self.emit(after_fb(0x1b))
+        self.emit(Opcode::after_fb(0x1b))
     }
 
     /// `ref.i31`: `0xFB 0x1C`.
@@ -192,7 +192,7 @@ impl<'a, A: Allocator> InstructionSink<'a, A> {
         ensures wrote { Writes self.entry (after_fb 0x1c) operands.None result }
         ensures room { HasRoom self.entry → IsOk result }
     {
-        self.emit(after_fb(0x1c))
+        self.emit(Opcode::after_fb(0x1c))
     }
 
     /// `i31.get_s`: `0xFB 0x1D`.
@@ -202,7 +202,7 @@ impl<'a, A: Allocator> InstructionSink<'a, A> {
         ensures wrote { Writes self.entry (after_fb 0x1d) operands.None result }
         ensures room { HasRoom self.entry → IsOk result }
     {
-        self.emit(after_fb(0x1d))
+        self.emit(Opcode::after_fb(0x1d))
     }
 
     /// `i31.get_u`: `0xFB 0x1E`.
@@ -212,7 +212,7 @@ impl<'a, A: Allocator> InstructionSink<'a, A> {
         ensures wrote { Writes self.entry (after_fb 0x1e) operands.None result }
         ensures room { HasRoom self.entry → IsOk result }
     {
-        self.emit(after_fb(0x1e))
+        self.emit(Opcode::after_fb(0x1e))
     }
 
     /// `ref.get_desc`: `0xFB 0x22`.
@@ -222,7 +222,7 @@ impl<'a, A: Allocator> InstructionSink<'a, A> {
         ensures wrote { Writes self.entry (after_fb 0x22) (operands.Index ty) result }
         ensures room { HasRoom self.entry → IsOk result }
     {
-        self.emit_index(after_fb(0x22), ty)
+        self.emit_index(Opcode::after_fb(0x22), ty)
     }
 
     /// `ref.cast_desc_eq` to a type without null: `0xFB 0x23`.
@@ -235,7 +235,7 @@ impl<'a, A: Allocator> InstructionSink<'a, A> {
         ensures wrote { Writes self.entry (after_fb 0x23) (operands.Heap heap_type) result }
         ensures room { HasRoom self.entry → IsOk result }
     {
-        self.emit_heap(after_fb(0x23), heap_type)
+        self.emit_heap(Opcode::after_fb(0x23), heap_type)
     }
 
     /// `ref.cast_desc_eq` to a type with null: `0xFB 0x24`.
@@ -248,7 +248,7 @@ impl<'a, A: Allocator> InstructionSink<'a, A> {
         ensures wrote { Writes self.entry (after_fb 0x24) (operands.Heap heap_type) result }
         ensures room { HasRoom self.entry → IsOk result }
     {
-        self.emit_heap(after_fb(0x24), heap_type)
+        self.emit_heap(Opcode::after_fb(0x24), heap_type)
     }
 
     /// `br_on_cast_desc_eq`: `0xFB 0x25`.
@@ -263,7 +263,7 @@ impl<'a, A: Allocator> InstructionSink<'a, A> {
         ensures wrote { Writes self.entry (after_fb 0x25) (operands.Cast label from to) result }
         ensures room { HasRoom self.entry → IsOk result }
     {
-        self.emit_cast(after_fb(0x25), label, from, to)
+        self.emit_cast(Opcode::after_fb(0x25), label, from, to)
     }
 
     /// `br_on_cast_desc_eq_fail`: `0xFB 0x26`.
@@ -278,6 +278,6 @@ impl<'a, A: Allocator> InstructionSink<'a, A> {
         ensures wrote { Writes self.entry (after_fb 0x26) (operands.Cast label from to) result }
         ensures room { HasRoom self.entry → IsOk result }
     {
-        self.emit_cast(after_fb(0x26), label, from, to)
+        self.emit_cast(Opcode::after_fb(0x26), label, from, to)
     }
 }

@@ -2,27 +2,28 @@
 ghost use Rattle.std.specs.Prelude.{IsOk, IfErr};
 ghost use Rattle.std.specs.Borrow.{sem};
 ghost use Rattle.std.specs.Iterator.{size};
-ghost use Rattle.wasm_values.specs.Iterators.{IsExact};
+ghost use Rattle.wasm_codec.specs.Iterators.{IsExact};
 ghost use Rattle.wasm_sink.specs.Sink.{IsUnchangedAtErr, IsSameSink, Writes, HasRoom};
-ghost use Rattle.wasm_sink.specs.ListCalls.{WritesItems, IsRefusedList};
-ghost use Rattle.wasm_instructions.specs.Instructions.{plain};
+ghost use Rattle.wasm_sink.specs.ListCalls.{WritesItems};
+ghost use Rattle.wasm_instructions.specs.Appending.{IsRefusedList};
+ghost use Rattle.wasm_instructions.specs.Instructions.{without_prefix};
 ghost use Rattle.wasm_instructions.specs.declared.table.call.Operands.TheVariants as operands;
 
 use crate::sink::InstructionSink;
-use crate::sink::emit::plain;
 use std::alloc::Allocator;
+use wasm_codec::encode::EncodeError;
 use wasm_instructions::operands::Handle;
-use wasm_values::encode::EncodeError;
+use wasm_instructions::table::Opcode;
 
 impl<'a, A: Allocator> InstructionSink<'a, A> {
     /// `cont.new`: `0xE0`.
     pub fn cont_new(self, ty: u32) -> Result<InstructionSink<'a, A>, EncodeError>
         ensures* unchanged { sem 𝓛 (IsUnchangedAtErr A.row A.Allocator self.entry result) }
         ensures same { IsSameSink self.entry result }
-        ensures wrote { Writes self.entry (plain 0xe0) (operands.Index ty) result }
+        ensures wrote { Writes self.entry (without_prefix 0xe0) (operands.Index ty) result }
         ensures room { HasRoom self.entry → IsOk result }
     {
-        self.emit_index(plain(0xe0), ty)
+        self.emit_index(Opcode::without_prefix(0xe0), ty)
     }
 
     /// `cont.bind`: `0xE1`.
@@ -33,20 +34,20 @@ impl<'a, A: Allocator> InstructionSink<'a, A> {
     ) -> Result<InstructionSink<'a, A>, EncodeError>
         ensures* unchanged { sem 𝓛 (IsUnchangedAtErr A.row A.Allocator self.entry result) }
         ensures same { IsSameSink self.entry result }
-        ensures wrote { Writes self.entry (plain 0xe1) (operands.TwoIndexes argument_type result_type) result }
+        ensures wrote { Writes self.entry (without_prefix 0xe1) (operands.TwoIndexes argument_type result_type) result }
         ensures room { HasRoom self.entry → IsOk result }
     {
-        self.emit_two_indexes(plain(0xe1), argument_type, result_type)
+        self.emit_two_indexes(Opcode::without_prefix(0xe1), argument_type, result_type)
     }
 
     /// `suspend`: `0xE2`.
     pub fn suspend(self, tag: u32) -> Result<InstructionSink<'a, A>, EncodeError>
         ensures* unchanged { sem 𝓛 (IsUnchangedAtErr A.row A.Allocator self.entry result) }
         ensures same { IsSameSink self.entry result }
-        ensures wrote { Writes self.entry (plain 0xe2) (operands.Index tag) result }
+        ensures wrote { Writes self.entry (without_prefix 0xe2) (operands.Index tag) result }
         ensures room { HasRoom self.entry → IsOk result }
     {
-        self.emit_index(plain(0xe2), tag)
+        self.emit_index(Opcode::without_prefix(0xe2), tag)
     }
 
     /// `resume`: `0xE3`.
@@ -58,7 +59,7 @@ impl<'a, A: Allocator> InstructionSink<'a, A> {
         requires { IsExact I.can_next I.next_gives I.remaining handlers }
         ensures* unchanged { sem 𝓛 (IsUnchangedAtErr A.row A.Allocator self.entry result) }
         ensures same { IsSameSink self.entry result }
-        ensures wrote { WritesItems I.next_gives self.entry (plain 0xe3) (λ xs. operands.Resume ty xs) handlers result }
+        ensures wrote { WritesItems I.next_gives self.entry (without_prefix 0xe3) (λ xs. operands.Resume ty xs) handlers result }
         ensures err { IfErr result (IsRefusedList (size (I.remaining handlers))) }
     {
         self.emit_resume(0xe3, ty, handlers)
@@ -74,7 +75,7 @@ impl<'a, A: Allocator> InstructionSink<'a, A> {
         requires { IsExact I.can_next I.next_gives I.remaining handlers }
         ensures* unchanged { sem 𝓛 (IsUnchangedAtErr A.row A.Allocator self.entry result) }
         ensures same { IsSameSink self.entry result }
-        ensures wrote { WritesItems I.next_gives self.entry (plain 0xe4) (λ xs. operands.ResumeThrow ty tag xs) handlers result }
+        ensures wrote { WritesItems I.next_gives self.entry (without_prefix 0xe4) (λ xs. operands.ResumeThrow ty tag xs) handlers result }
         ensures err { IfErr result (IsRefusedList (size (I.remaining handlers))) }
     {
         self.emit_resume_throw(0xe4, ty, tag, handlers)
@@ -89,7 +90,7 @@ impl<'a, A: Allocator> InstructionSink<'a, A> {
         requires { IsExact I.can_next I.next_gives I.remaining handlers }
         ensures* unchanged { sem 𝓛 (IsUnchangedAtErr A.row A.Allocator self.entry result) }
         ensures same { IsSameSink self.entry result }
-        ensures wrote { WritesItems I.next_gives self.entry (plain 0xe5) (λ xs. operands.Resume ty xs) handlers result }
+        ensures wrote { WritesItems I.next_gives self.entry (without_prefix 0xe5) (λ xs. operands.Resume ty xs) handlers result }
         ensures err { IfErr result (IsRefusedList (size (I.remaining handlers))) }
     {
         self.emit_resume(0xe5, ty, handlers)
@@ -99,9 +100,9 @@ impl<'a, A: Allocator> InstructionSink<'a, A> {
     pub fn switch(self, ty: u32, tag: u32) -> Result<InstructionSink<'a, A>, EncodeError>
         ensures* unchanged { sem 𝓛 (IsUnchangedAtErr A.row A.Allocator self.entry result) }
         ensures same { IsSameSink self.entry result }
-        ensures wrote { Writes self.entry (plain 0xe6) (operands.TwoIndexes ty tag) result }
+        ensures wrote { Writes self.entry (without_prefix 0xe6) (operands.TwoIndexes ty tag) result }
         ensures room { HasRoom self.entry → IsOk result }
     {
-        self.emit_two_indexes(plain(0xe6), ty, tag)
+        self.emit_two_indexes(Opcode::without_prefix(0xe6), ty, tag)
     }
 }

@@ -2,33 +2,33 @@
 ghost use Rattle.std.specs.Prelude.{IsOk};
 ghost use Rattle.std.specs.Borrow.{sem};
 ghost use Rattle.wasm_sink.specs.Sink.{IsUnchangedAtErr, IsSameSink, Writes, HasRoom};
-ghost use Rattle.wasm_instructions.specs.Instructions.{plain, after_fc};
+ghost use Rattle.wasm_instructions.specs.Instructions.{without_prefix, after_fc};
 ghost use Rattle.wasm_instructions.specs.declared.table.call.Operands.TheVariants as operands;
 
 use crate::sink::InstructionSink;
-use crate::sink::emit::{after_fc, plain};
 use std::alloc::Allocator;
-use wasm_values::encode::EncodeError;
+use wasm_codec::encode::EncodeError;
+use wasm_instructions::table::Opcode;
 
 impl<'a, A: Allocator> InstructionSink<'a, A> {
     /// `table.get`: `0x25`.
     pub fn table_get(self, table: u32) -> Result<InstructionSink<'a, A>, EncodeError>
         ensures* unchanged { sem 𝓛 (IsUnchangedAtErr A.row A.Allocator self.entry result) }
         ensures same { IsSameSink self.entry result }
-        ensures wrote { Writes self.entry (plain 0x25) (operands.Index table) result }
+        ensures wrote { Writes self.entry (without_prefix 0x25) (operands.Index table) result }
         ensures room { HasRoom self.entry → IsOk result }
     {
-        self.emit_index(plain(0x25), table)
+        self.emit_index(Opcode::without_prefix(0x25), table)
     }
 
     /// `table.set`: `0x26`.
     pub fn table_set(self, table: u32) -> Result<InstructionSink<'a, A>, EncodeError>
         ensures* unchanged { sem 𝓛 (IsUnchangedAtErr A.row A.Allocator self.entry result) }
         ensures same { IsSameSink self.entry result }
-        ensures wrote { Writes self.entry (plain 0x26) (operands.Index table) result }
+        ensures wrote { Writes self.entry (without_prefix 0x26) (operands.Index table) result }
         ensures room { HasRoom self.entry → IsOk result }
     {
-        self.emit_index(plain(0x26), table)
+        self.emit_index(Opcode::without_prefix(0x26), table)
     }
 
     /// `table.init`: `0xFC 0x0C`.
@@ -38,7 +38,7 @@ impl<'a, A: Allocator> InstructionSink<'a, A> {
         ensures wrote { Writes self.entry (after_fc 0x0c) (operands.TwoIndexes segment table) result }
         ensures room { HasRoom self.entry → IsOk result }
     {
-        self.emit_two_indexes(after_fc(0x0c), segment, table)
+        self.emit_two_indexes(Opcode::after_fc(0x0c), segment, table)
     }
 
     /// `elem.drop`: `0xFC 0x0D`.
@@ -48,7 +48,7 @@ impl<'a, A: Allocator> InstructionSink<'a, A> {
         ensures wrote { Writes self.entry (after_fc 0x0d) (operands.Index segment) result }
         ensures room { HasRoom self.entry → IsOk result }
     {
-        self.emit_index(after_fc(0x0d), segment)
+        self.emit_index(Opcode::after_fc(0x0d), segment)
     }
 
     /// `table.copy`: `0xFC 0x0E`.
@@ -62,7 +62,7 @@ impl<'a, A: Allocator> InstructionSink<'a, A> {
         ensures wrote { Writes self.entry (after_fc 0x0e) (operands.TwoIndexes destination source) result }
         ensures room { HasRoom self.entry → IsOk result }
     {
-        self.emit_two_indexes(after_fc(0x0e), destination, source)
+        self.emit_two_indexes(Opcode::after_fc(0x0e), destination, source)
     }
 
     /// `table.grow`: `0xFC 0x0F`.
@@ -72,7 +72,7 @@ impl<'a, A: Allocator> InstructionSink<'a, A> {
         ensures wrote { Writes self.entry (after_fc 0x0f) (operands.Index table) result }
         ensures room { HasRoom self.entry → IsOk result }
     {
-        self.emit_index(after_fc(0x0f), table)
+        self.emit_index(Opcode::after_fc(0x0f), table)
     }
 
     /// `table.size`: `0xFC 0x10`.
@@ -82,7 +82,7 @@ impl<'a, A: Allocator> InstructionSink<'a, A> {
         ensures wrote { Writes self.entry (after_fc 0x10) (operands.Index table) result }
         ensures room { HasRoom self.entry → IsOk result }
     {
-        self.emit_index(after_fc(0x10), table)
+        self.emit_index(Opcode::after_fc(0x10), table)
     }
 
     /// `table.fill`: `0xFC 0x11`.
@@ -92,6 +92,6 @@ impl<'a, A: Allocator> InstructionSink<'a, A> {
         ensures wrote { Writes self.entry (after_fc 0x11) (operands.Index table) result }
         ensures room { HasRoom self.entry → IsOk result }
     {
-        self.emit_index(after_fc(0x11), table)
+        self.emit_index(Opcode::after_fc(0x11), table)
     }
 }

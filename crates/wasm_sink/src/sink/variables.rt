@@ -2,62 +2,62 @@
 ghost use Rattle.std.specs.Prelude.{IsOk};
 ghost use Rattle.std.specs.Borrow.{sem};
 ghost use Rattle.wasm_sink.specs.Sink.{IsUnchangedAtErr, IsSameSink, Writes, HasRoom};
-ghost use Rattle.wasm_instructions.specs.Instructions.{plain};
+ghost use Rattle.wasm_instructions.specs.Instructions.{without_prefix};
 ghost use Rattle.wasm_instructions.specs.declared.table.call.Operands.TheVariants as operands;
 
 use crate::sink::InstructionSink;
-use crate::sink::emit::plain;
 use std::alloc::Allocator;
-use wasm_values::encode::EncodeError;
+use wasm_codec::encode::EncodeError;
+use wasm_instructions::table::Opcode;
 
 impl<'a, A: Allocator> InstructionSink<'a, A> {
     /// `local.get`: `0x20`.
     pub fn local_get(self, local: u32) -> Result<InstructionSink<'a, A>, EncodeError>
         ensures* unchanged { sem 𝓛 (IsUnchangedAtErr A.row A.Allocator self.entry result) }
         ensures same { IsSameSink self.entry result }
-        ensures wrote { Writes self.entry (plain 0x20) (operands.Index local) result }
+        ensures wrote { Writes self.entry (without_prefix 0x20) (operands.Index local) result }
         ensures room { HasRoom self.entry → IsOk result }
     {
-        self.emit_index(plain(0x20), local)
+        self.emit_index(Opcode::without_prefix(0x20), local)
     }
 
     /// `local.set`: `0x21`.
     pub fn local_set(self, local: u32) -> Result<InstructionSink<'a, A>, EncodeError>
         ensures* unchanged { sem 𝓛 (IsUnchangedAtErr A.row A.Allocator self.entry result) }
         ensures same { IsSameSink self.entry result }
-        ensures wrote { Writes self.entry (plain 0x21) (operands.Index local) result }
+        ensures wrote { Writes self.entry (without_prefix 0x21) (operands.Index local) result }
         ensures room { HasRoom self.entry → IsOk result }
     {
-        self.emit_index(plain(0x21), local)
+        self.emit_index(Opcode::without_prefix(0x21), local)
     }
 
     /// `local.tee`: `0x22`.
     pub fn local_tee(self, local: u32) -> Result<InstructionSink<'a, A>, EncodeError>
         ensures* unchanged { sem 𝓛 (IsUnchangedAtErr A.row A.Allocator self.entry result) }
         ensures same { IsSameSink self.entry result }
-        ensures wrote { Writes self.entry (plain 0x22) (operands.Index local) result }
+        ensures wrote { Writes self.entry (without_prefix 0x22) (operands.Index local) result }
         ensures room { HasRoom self.entry → IsOk result }
     {
-        self.emit_index(plain(0x22), local)
+        self.emit_index(Opcode::without_prefix(0x22), local)
     }
 
     /// `global.get`: `0x23`.
     pub fn global_get(self, global: u32) -> Result<InstructionSink<'a, A>, EncodeError>
         ensures* unchanged { sem 𝓛 (IsUnchangedAtErr A.row A.Allocator self.entry result) }
         ensures same { IsSameSink self.entry result }
-        ensures wrote { Writes self.entry (plain 0x23) (operands.Index global) result }
+        ensures wrote { Writes self.entry (without_prefix 0x23) (operands.Index global) result }
         ensures room { HasRoom self.entry → IsOk result }
     {
-        self.emit_index(plain(0x23), global)
+        self.emit_index(Opcode::without_prefix(0x23), global)
     }
 
     /// `global.set`: `0x24`.
     pub fn global_set(self, global: u32) -> Result<InstructionSink<'a, A>, EncodeError>
         ensures* unchanged { sem 𝓛 (IsUnchangedAtErr A.row A.Allocator self.entry result) }
         ensures same { IsSameSink self.entry result }
-        ensures wrote { Writes self.entry (plain 0x24) (operands.Index global) result }
+        ensures wrote { Writes self.entry (without_prefix 0x24) (operands.Index global) result }
         ensures room { HasRoom self.entry → IsOk result }
     {
-        self.emit_index(plain(0x24), global)
+        self.emit_index(Opcode::without_prefix(0x24), global)
     }
 }

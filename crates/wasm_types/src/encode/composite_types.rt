@@ -1,4 +1,4 @@
-//! Fields and composite types, written (Core 3.0, 5.3.8 to 5.3.10).
+//! Fields, composite types, subtypes and the entries of a type section, written (Core 3.0, 5.3.8 to 5.3.12).
 ghost use Rattle.std.specs.Prelude.{◌≡◌, ◌++◌, ◌+◌, ◌≤◌, Some, OnOk, IsErrOf, IsSomeAnd, IsNone, length, take, vec_len, vec_capacity};
 ghost use Rattle.wasm_types.specs.CompositeTypes.{field_type_text};
 ghost use Rattle.wasm_types.specs.TypeEncoding.{func_encoding, struct_encoding, array_encoding, cont_encoding, inner_encoding, composite_encoding, supertypes_encoding, sub_encoding, entry_encoding, shared_text, flagged_index_text};
@@ -9,8 +9,8 @@ use crate::types::{
     SubType, TypeEntry,
 };
 use std::alloc::Allocator;
-use wasm_values::encode::leb128::{put_index, put_u32};
-use wasm_values::encode::{Encode, EncodeError, encode_list};
+use wasm_codec::encode::leb128::{put_index, put_u32};
+use wasm_codec::encode::{Encode, EncodeError, encode_list, keep_or_undo};
 
 /// Writes a field in 2 to 8 bytes.
 #[tactic(auto, unfolding(crate::specs::CompositeTypes::field_type_text))]
@@ -58,10 +58,7 @@ impl Encode for FuncType {
     fn encode<A: Allocator>(&self, sink: &mut Vec<u8, A>) -> Result<(), EncodeError> {
         let start = sink.len();
         let result = append_func(self, sink);
-        if result.is_err() {
-            sink.truncate(start);
-        }
-        result
+        keep_or_undo(sink, start, result)
     }
 }
 
@@ -76,10 +73,7 @@ impl Encode for StructType {
         sink.reserve(1)?;
         sink.push_reserved(0x5f);
         let result = encode_list(self.fields.as_slice(), sink);
-        if result.is_err() {
-            sink.truncate(start);
-        }
-        result
+        keep_or_undo(sink, start, result)
     }
 }
 
@@ -176,10 +170,7 @@ impl Encode for CompositeType {
     fn encode<A: Allocator>(&self, sink: &mut Vec<u8, A>) -> Result<(), EncodeError> {
         let start = sink.len();
         let result = append_composite(self, sink);
-        if result.is_err() {
-            sink.truncate(start);
-        }
-        result
+        keep_or_undo(sink, start, result)
     }
 }
 
@@ -225,10 +216,7 @@ impl Encode for SubType {
     fn encode<A: Allocator>(&self, sink: &mut Vec<u8, A>) -> Result<(), EncodeError> {
         let start = sink.len();
         let result = append_sub(self, sink);
-        if result.is_err() {
-            sink.truncate(start);
-        }
-        result
+        keep_or_undo(sink, start, result)
     }
 }
 
@@ -247,9 +235,6 @@ impl Encode for TypeEntry {
         sink.reserve(1)?;
         sink.push_reserved(0x4e);
         let result = encode_list(types.as_slice(), sink);
-        if result.is_err() {
-            sink.truncate(start);
-        }
-        result
+        keep_or_undo(sink, start, result)
     }
 }

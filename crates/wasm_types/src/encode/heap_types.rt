@@ -4,8 +4,8 @@ ghost use Rattle.wasm_types.specs.HeapTypes.{abstract_byte, abstract_type_text, 
 
 use crate::types::{AbstractHeapType, HeapType, RefType, StorageType, ValType};
 use std::alloc::Allocator;
-use wasm_values::encode::leb128::{put_index, put_u32};
-use wasm_values::encode::{Encode, EncodeError};
+use wasm_codec::encode::leb128::{put_index, put_u32};
+use wasm_codec::encode::{Encode, EncodeError};
 
 /// The byte of an abstract heap type.
 fn abstract_byte(ty: AbstractHeapType) -> u8

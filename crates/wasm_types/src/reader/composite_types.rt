@@ -1,10 +1,15 @@
 //! Fields, composite types, subtypes and entries of a type section (Core 3.0, 5.3.8 to 5.3.12 and 5.5.4).
-ghost use Rattle.std.specs.Prelude.{◌≡◌, ℕ, List, Option, IfErr};
-ghost use Rattle.wasm_values.specs.Reading.{Reads, map_at, then_at};
-ghost use Rattle.wasm_values.specs.Numbers.{u32_at};
-ghost use Rattle.wasm_types.specs.HeapTypes.{val_type_at};
-ghost use Rattle.wasm_types.specs.CompositeTypes.{list_at, field_type_at, inner_at, indexed_at, composite_type_at, sub_of, sub_type_at, entry_at};
-ghost use Rattle.wasm_values.specs.declared.reader.cursor.Fault.TheVariants.{Malformed};
+ghost use Rattle.std.specs.Prelude.{◌≡◌, IfErr, refl};
+ghost use Rattle.wasm_codec.specs.Reading.{Reads, map_at, then_at};
+ghost use Rattle.wasm_codec.specs.Numbers.{u32_at};
+ghost use Rattle.wasm_types.specs.HeapTypes.{SpellsValType, val_type_at};
+ghost use Rattle.wasm_codec.specs.Lists.{list_at};
+ghost use Rattle.wasm_types.specs.CompositeTypes.{SpellsFieldType, SpellsSubType, SpellsEntry, field_type_at, inner_at, indexed_at, composite_type_at, sub_of, sub_type_at, entry_at};
+ghost use Rattle.wasm_codec.specs.declared.reader.cursor.Fault.TheVariants.{Malformed};
+ghost use Rattle.wasm_types.specs.declared.types.value.ValType.{ValType};
+ghost use Rattle.wasm_types.specs.declared.types.composite.FieldType.{FieldType};
+ghost use Rattle.wasm_types.specs.declared.types.composite.SubType.{SubType};
+ghost use Rattle.wasm_types.specs.declared.types.composite.TypeEntry.{TypeEntry};
 
 use super::heap_types::{read_storage_type, read_val_type};
 use crate::types::{
@@ -12,76 +17,65 @@ use crate::types::{
     SubType, TypeEntry, ValType,
 };
 use std::alloc::Global;
-use wasm_values::list::Items;
-use wasm_values::reader::cursor::{Cursor, Fault};
+use wasm_codec::list::Items;
+use wasm_codec::reader::cursor::{Cursor, Fault};
+use wasm_codec::reader::lists::read_list;
+use wasm_codec::reader::readable::Readable;
 
-/// What can be read as an item of a list.
-pub trait Readable: Drop {
-    /// What is read at the front of bytes.
-    ghost read_at: { List ℕ → Option (Self × List ℕ) };
+impl<'a> Readable<'a> for ValType {
+    ghost Value = { ValType };
 
-    /// The item at the front.
-    fn read(alloc: Global, cursor: &mut Cursor<'_>) -> Result<Self, Fault>
-        ensures reads { Reads read_at cursor.old cursor.new result };
-}
+    ghost view = { λ ty. ty };
 
-impl Readable for u32 {
-    ghost read_at = { u32_at };
+    ghost views = { λ types. types };
 
-    fn read(alloc: Global, cursor: &mut Cursor<'_>) -> Result<u32, Fault>
-        ensures reads { Reads u32_at cursor.old cursor.new result }
-        ensures err { IfErr result (λ e. e ≡ Malformed) }
-    {
-        let _ = alloc;
-        cursor.u32()
-    }
-}
+    ghost views_each = { record { none = refl; more = λ types ty. refl } };
 
-impl Readable for ValType {
+    ghost spells = { SpellsValType };
+
     ghost read_at = { val_type_at };
 
-    fn read(alloc: Global, cursor: &mut Cursor<'_>) -> Result<ValType, Fault>
-        ensures reads { Reads val_type_at cursor.old cursor.new result }
-        ensures err { IfErr result (λ e. e ≡ Malformed) }
-    {
+    fn read(alloc: Global, cursor: &mut Cursor<'a>) -> Result<ValType, Fault> {
         let _ = alloc;
         read_val_type(cursor)
     }
 }
 
-impl Readable for FieldType {
+impl<'a> Readable<'a> for FieldType {
+    ghost Value = { FieldType };
+
+    ghost view = { λ field. field };
+
+    ghost views = { λ fields. fields };
+
+    ghost views_each = { record { none = refl; more = λ fields field. refl } };
+
+    ghost spells = { SpellsFieldType };
+
     ghost read_at = { field_type_at };
 
-    #[tactic(auto, unfolding(crate::specs::CompositeTypes::field_type_at))]
-    fn read(alloc: Global, cursor: &mut Cursor<'_>) -> Result<FieldType, Fault>
-        ensures reads { Reads field_type_at cursor.old cursor.new result }
-        ensures err { IfErr result (λ e. e ≡ Malformed) }
-    {
+    fn read(alloc: Global, cursor: &mut Cursor<'a>) -> Result<FieldType, Fault> {
         let _ = alloc;
-        let element_type = read_storage_type(cursor)?;
-        let mutable = match cursor.byte()? {
-            0x00 => false,
-            0x01 => true,
-            _ => return Err(Fault::Malformed),
-        };
-        Ok(FieldType {
-            element_type,
-            mutable,
-        })
+        read_field_type(cursor)
     }
 }
 
-/// A list: a count, and then the items.
-pub fn read_list<T: Readable>(alloc: Global, cursor: &mut Cursor<'_>) -> Result<Items<T>, Fault>
-    ensures reads { Reads (list_at T.read_at) cursor.old cursor.new result }
+/// A field.
+#[tactic(auto, unfolding(crate::specs::CompositeTypes::field_type_at))]
+fn read_field_type(cursor: &mut Cursor<'_>) -> Result<FieldType, Fault>
+    ensures reads { Reads field_type_at cursor.old cursor.new result }
+    ensures err { IfErr result (λ e. e ≡ Malformed) }
 {
-    let count = cursor.u32()?;
-    let mut items = Vec::new(alloc);
-    for _ in 0..count {
-        let item = T::read(alloc, cursor)?;
-        items.push(item)?;
-    }
-    Ok(Items::from(items))
+    let element_type = read_storage_type(cursor)?;
+    let mutable = match cursor.byte()? {
+        0x00 => false,
+        0x01 => true,
+        _ => return Err(Fault::Malformed),
+    };
+    Ok(FieldType {
+        element_type,
+        mutable,
+    })
 }
 
 /// What a composite type is made of.
@@ -99,7 +93,7 @@ fn read_inner_type(alloc: Global, cursor: &mut Cursor<'_>) -> Result<CompositeIn
             let fields = read_list(alloc, cursor)?;
             Ok(CompositeInnerType::Struct(StructType { fields }))
         }
-        0x5e => Ok(CompositeInnerType::Array(ArrayType(FieldType::read(alloc, cursor)?))),
+        0x5e => Ok(CompositeInnerType::Array(ArrayType(read_field_type(cursor)?))),
         0x5d => Ok(CompositeInnerType::Cont(ContType(cursor.index()?))),
         _ => Err(Fault::Malformed),
     }
@@ -208,18 +202,38 @@ pub fn read_entry(alloc: Global, cursor: &mut Cursor<'_>) -> Result<TypeEntry, F
     Ok(TypeEntry::Sub(read_sub_type(alloc, cursor)?))
 }
 
-impl Readable for SubType {
+impl<'a> Readable<'a> for SubType {
+    ghost Value = { SubType };
+
+    ghost view = { λ ty. ty };
+
+    ghost views = { λ types. types };
+
+    ghost views_each = { record { none = refl; more = λ types ty. refl } };
+
+    ghost spells = { SpellsSubType };
+
     ghost read_at = { sub_type_at };
 
-    fn read(alloc: Global, cursor: &mut Cursor<'_>) -> Result<SubType, Fault> {
+    fn read(alloc: Global, cursor: &mut Cursor<'a>) -> Result<SubType, Fault> {
         read_sub_type(alloc, cursor)
     }
 }
 
-impl Readable for TypeEntry {
+impl<'a> Readable<'a> for TypeEntry {
+    ghost Value = { TypeEntry };
+
+    ghost view = { λ entry. entry };
+
+    ghost views = { λ entries. entries };
+
+    ghost views_each = { record { none = refl; more = λ entries entry. refl } };
+
+    ghost spells = { SpellsEntry };
+
     ghost read_at = { entry_at };
 
-    fn read(alloc: Global, cursor: &mut Cursor<'_>) -> Result<TypeEntry, Fault> {
+    fn read(alloc: Global, cursor: &mut Cursor<'a>) -> Result<TypeEntry, Fault> {
         read_entry(alloc, cursor)
     }
 }

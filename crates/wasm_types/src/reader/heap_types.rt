@@ -1,11 +1,11 @@
 //! Heap, reference, value and storage types (Core 3.0, 5.3.3 to 5.3.8).
 ghost use Rattle.std.specs.Prelude.{◌≡◌, IfErr};
-ghost use Rattle.wasm_values.specs.Reading.{Reads};
+ghost use Rattle.wasm_codec.specs.Reading.{Reads};
 ghost use Rattle.wasm_types.specs.HeapTypes.{abstract_of, abstract_at, heap_type_at, ref_type_at, val_type_at, storage_type_at, number_type_of, packed_of};
-ghost use Rattle.wasm_values.specs.declared.reader.cursor.Fault.TheVariants.{Malformed};
+ghost use Rattle.wasm_codec.specs.declared.reader.cursor.Fault.TheVariants.{Malformed};
 
 use crate::types::{AbstractHeapType, HeapType, RefType, StorageType, ValType};
-use wasm_values::reader::cursor::{Cursor, Fault};
+use wasm_codec::reader::cursor::{Cursor, Fault};
 
 /// The abstract heap type of a byte.
 #[tactic(auto, unfolding(crate::specs::HeapTypes::abstract_of))]

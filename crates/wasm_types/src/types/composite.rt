@@ -1,12 +1,12 @@
 //! Composite types, subtypes and the entries of a type section (Core 3.0, 5.3.9 to 5.3.12).
 ghost use Rattle.std.specs.Prelude.{◌≡◌, IfOk, IfErr};
 ghost use Rattle.std.specs.Iterator.{Drains, IsFinite};
-ghost use Rattle.wasm_values.specs.declared.encode.EncodeError.TheVariants.{Memory};
+ghost use Rattle.wasm_codec.specs.declared.encode.EncodeError.TheVariants.{Memory};
 
 use super::value::{StorageType, ValType};
 use std::alloc::Global;
-use wasm_values::encode::EncodeError;
-use wasm_values::list::Items;
+use wasm_codec::encode::EncodeError;
+use wasm_codec::list::Items;
 
 /// A field of a structure, or what an array holds.
 #[derive(Clone, Copy, Debug, PartialEq, Eq, Hash, PartialOrd, Ord)]

@@ -1,13 +1,13 @@
 //! Copies of the types that own lists.
 ghost use Rattle.std.specs.Prelude.{◌≡◌, IfOk, IfErr};
-ghost use Rattle.wasm_values.specs.declared.encode.EncodeError.TheVariants.{Memory};
+ghost use Rattle.wasm_codec.specs.declared.encode.EncodeError.TheVariants.{Memory};
 
 use super::composite::{
     CompositeInnerType, CompositeType, FuncType, StructType, SubType, TypeEntry,
 };
 use std::alloc::{AllocError, Global};
-use wasm_values::encode::EncodeError;
-use wasm_values::list::Items;
+use wasm_codec::encode::EncodeError;
+use wasm_codec::list::Items;
 
 impl StructType {
     /// An equal structure.

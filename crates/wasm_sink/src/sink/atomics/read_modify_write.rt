@@ -6,10 +6,10 @@ ghost use Rattle.wasm_instructions.specs.Instructions.{after_fe};
 ghost use Rattle.wasm_instructions.specs.declared.table.call.Operands.TheVariants as operands;
 
 use crate::sink::InstructionSink;
-use crate::sink::emit::after_fe;
 use std::alloc::Allocator;
+use wasm_codec::encode::EncodeError;
 use wasm_instructions::operands::MemArg;
-use wasm_values::encode::EncodeError;
+use wasm_instructions::table::Opcode;
 
 impl<'a, A: Allocator> InstructionSink<'a, A> {
     /// `i32.atomic.rmw.add`: `0xFE 0x1E`.
@@ -20,7 +20,7 @@ impl<'a, A: Allocator> InstructionSink<'a, A> {
         ensures alignment { IsErrOf result EncodeError.Alignment ↔ 64 ≤ memarg.align }
         ensures room { HasRoom self.entry → memarg.align < 64 → IsOk result }
     {
-        self.emit_mem(after_fe(0x1e), memarg)
+        self.emit_mem(Opcode::after_fe(0x1e), memarg)
     }
 
     /// `i64.atomic.rmw.add`: `0xFE 0x1F`.
@@ -31,7 +31,7 @@ impl<'a, A: Allocator> InstructionSink<'a, A> {
         ensures alignment { IsErrOf result EncodeError.Alignment ↔ 64 ≤ memarg.align }
         ensures room { HasRoom self.entry → memarg.align < 64 → IsOk result }
     {
-        self.emit_mem(after_fe(0x1f), memarg)
+        self.emit_mem(Opcode::after_fe(0x1f), memarg)
     }
 
     /// `i32.atomic.rmw8.add_u`: `0xFE 0x20`.
@@ -45,7 +45,7 @@ impl<'a, A: Allocator> InstructionSink<'a, A> {
         ensures alignment { IsErrOf result EncodeError.Alignment ↔ 64 ≤ memarg.align }
         ensures room { HasRoom self.entry → memarg.align < 64 → IsOk result }
     {
-        self.emit_mem(after_fe(0x20), memarg)
+        self.emit_mem(Opcode::after_fe(0x20), memarg)
     }
 
     /// `i32.atomic.rmw16.add_u`: `0xFE 0x21`.
@@ -59,7 +59,7 @@ impl<'a, A: Allocator> InstructionSink<'a, A> {
         ensures alignment { IsErrOf result EncodeError.Alignment ↔ 64 ≤ memarg.align }
         ensures room { HasRoom self.entry → memarg.align < 64 → IsOk result }
     {
-        self.emit_mem(after_fe(0x21), memarg)
+        self.emit_mem(Opcode::after_fe(0x21), memarg)
     }
 
     /// `i64.atomic.rmw8.add_u`: `0xFE 0x22`.
@@ -73,7 +73,7 @@ impl<'a, A: Allocator> InstructionSink<'a, A> {
         ensures alignment { IsErrOf result EncodeError.Alignment ↔ 64 ≤ memarg.align }
         ensures room { HasRoom self.entry → memarg.align < 64 → IsOk result }
     {
-        self.emit_mem(after_fe(0x22), memarg)
+        self.emit_mem(Opcode::after_fe(0x22), memarg)
     }
 
     /// `i64.atomic.rmw16.add_u`: `0xFE 0x23`.
@@ -87,7 +87,7 @@ impl<'a, A: Allocator> InstructionSink<'a, A> {
         ensures alignment { IsErrOf result EncodeError.Alignment ↔ 64 ≤ memarg.align }
         ensures room { HasRoom self.entry → memarg.align < 64 → IsOk result }
     {
-        self.emit_mem(after_fe(0x23), memarg)
+        self.emit_mem(Opcode::after_fe(0x23), memarg)
     }
 
     /// `i64.atomic.rmw32.add_u`: `0xFE 0x24`.
@@ -101,7 +101,7 @@ impl<'a, A: Allocator> InstructionSink<'a, A> {
         ensures alignment { IsErrOf result EncodeError.Alignment ↔ 64 ≤ memarg.align }
         ensures room { HasRoom self.entry → memarg.align < 64 → IsOk result }
     {
-        self.emit_mem(after_fe(0x24), memarg)
+        self.emit_mem(Opcode::after_fe(0x24), memarg)
     }
 
     /// `i32.atomic.rmw.sub`: `0xFE 0x25`.
@@ -112,7 +112,7 @@ impl<'a, A: Allocator> InstructionSink<'a, A> {
         ensures alignment { IsErrOf result EncodeError.Alignment ↔ 64 ≤ memarg.align }
         ensures room { HasRoom self.entry → memarg.align < 64 → IsOk result }
     {
-        self.emit_mem(after_fe(0x25), memarg)
+        self.emit_mem(Opcode::after_fe(0x25), memarg)
     }
 
     /// `i64.atomic.rmw.sub`: `0xFE 0x26`.
@@ -123,7 +123,7 @@ impl<'a, A: Allocator> InstructionSink<'a, A> {
         ensures alignment { IsErrOf result EncodeError.Alignment ↔ 64 ≤ memarg.align }
         ensures room { HasRoom self.entry → memarg.align < 64 → IsOk result }
     {
-        self.emit_mem(after_fe(0x26), memarg)
+        self.emit_mem(Opcode::after_fe(0x26), memarg)
     }
 
     /// `i32.atomic.rmw8.sub_u`: `0xFE 0x27`.
@@ -137,7 +137,7 @@ impl<'a, A: Allocator> InstructionSink<'a, A> {
         ensures alignment { IsErrOf result EncodeError.Alignment ↔ 64 ≤ memarg.align }
         ensures room { HasRoom self.entry → memarg.align < 64 → IsOk result }
     {
-        self.emit_mem(after_fe(0x27), memarg)
+        self.emit_mem(Opcode::after_fe(0x27), memarg)
     }
 
     /// `i32.atomic.rmw16.sub_u`: `0xFE 0x28`.
@@ -151,7 +151,7 @@ impl<'a, A: Allocator> InstructionSink<'a, A> {
         ensures alignment { IsErrOf result EncodeError.Alignment ↔ 64 ≤ memarg.align }
         ensures room { HasRoom self.entry → memarg.align < 64 → IsOk result }
     {
-        self.emit_mem(after_fe(0x28), memarg)
+        self.emit_mem(Opcode::after_fe(0x28), memarg)
     }
 
     /// `i64.atomic.rmw8.sub_u`: `0xFE 0x29`.
@@ -165,7 +165,7 @@ impl<'a, A: Allocator> InstructionSink<'a, A> {
         ensures alignment { IsErrOf result EncodeError.Alignment ↔ 64 ≤ memarg.align }
         ensures room { HasRoom self.entry → memarg.align < 64 → IsOk result }
     {
-        self.emit_mem(after_fe(0x29), memarg)
+        self.emit_mem(Opcode::after_fe(0x29), memarg)
     }
 
     /// `i64.atomic.rmw16.sub_u`: `0xFE 0x2A`.
@@ -179,7 +179,7 @@ impl<'a, A: Allocator> InstructionSink<'a, A> {
         ensures alignment { IsErrOf result EncodeError.Alignment ↔ 64 ≤ memarg.align }
         ensures room { HasRoom self.entry → memarg.align < 64 → IsOk result }
     {
-        self.emit_mem(after_fe(0x2a), memarg)
+        self.emit_mem(Opcode::after_fe(0x2a), memarg)
     }
 
     /// `i64.atomic.rmw32.sub_u`: `0xFE 0x2B`.
@@ -193,7 +193,7 @@ impl<'a, A: Allocator> InstructionSink<'a, A> {
         ensures alignment { IsErrOf result EncodeError.Alignment ↔ 64 ≤ memarg.align }
         ensures room { HasRoom self.entry → memarg.align < 64 → IsOk result }
     {
-        self.emit_mem(after_fe(0x2b), memarg)
+        self.emit_mem(Opcode::after_fe(0x2b), memarg)
     }
 
     /// `i32.atomic.rmw.and`: `0xFE 0x2C`.
@@ -204,7 +204,7 @@ impl<'a, A: Allocator> InstructionSink<'a, A> {
         ensures alignment { IsErrOf result EncodeError.Alignment ↔ 64 ≤ memarg.align }
         ensures room { HasRoom self.entry → memarg.align < 64 → IsOk result }
     {
-        self.emit_mem(after_fe(0x2c), memarg)
+        self.emit_mem(Opcode::after_fe(0x2c), memarg)
     }
 
     /// `i64.atomic.rmw.and`: `0xFE 0x2D`.
@@ -215,7 +215,7 @@ impl<'a, A: Allocator> InstructionSink<'a, A> {
         ensures alignment { IsErrOf result EncodeError.Alignment ↔ 64 ≤ memarg.align }
         ensures room { HasRoom self.entry → memarg.align < 64 → IsOk result }
     {
-        self.emit_mem(after_fe(0x2d), memarg)
+        self.emit_mem(Opcode::after_fe(0x2d), memarg)
     }
 
     /// `i32.atomic.rmw8.and_u`: `0xFE 0x2E`.
@@ -229,7 +229,7 @@ impl<'a, A: Allocator> InstructionSink<'a, A> {
         ensures alignment { IsErrOf result EncodeError.Alignment ↔ 64 ≤ memarg.align }
         ensures room { HasRoom self.entry → memarg.align < 64 → IsOk result }
     {
-        self.emit_mem(after_fe(0x2e), memarg)
+        self.emit_mem(Opcode::after_fe(0x2e), memarg)
     }
 
     /// `i32.atomic.rmw16.and_u`: `0xFE 0x2F`.
@@ -243,7 +243,7 @@ impl<'a, A: Allocator> InstructionSink<'a, A> {
         ensures alignment { IsErrOf result EncodeError.Alignment ↔ 64 ≤ memarg.align }
         ensures room { HasRoom self.entry → memarg.align < 64 → IsOk result }
     {
-        self.emit_mem(after_fe(0x2f), memarg)
+        self.emit_mem(Opcode::after_fe(0x2f), memarg)
     }
 
     /// `i64.atomic.rmw8.and_u`: `0xFE 0x30`.
@@ -257,7 +257,7 @@ impl<'a, A: Allocator> InstructionSink<'a, A> {
         ensures alignment { IsErrOf result EncodeError.Alignment ↔ 64 ≤ memarg.align }
         ensures room { HasRoom self.entry → memarg.align < 64 → IsOk result }
     {
-        self.emit_mem(after_fe(0x30), memarg)
+        self.emit_mem(Opcode::after_fe(0x30), memarg)
     }
 
     /// `i64.atomic.rmw16.and_u`: `0xFE 0x31`.
@@ -271,7 +271,7 @@ impl<'a, A: Allocator> InstructionSink<'a, A> {
         ensures alignment { IsErrOf result EncodeError.Alignment ↔ 64 ≤ memarg.align }
         ensures room { HasRoom self.entry → memarg.align < 64 → IsOk result }
     {
-        self.emit_mem(after_fe(0x31), memarg)
+        self.emit_mem(Opcode::after_fe(0x31), memarg)
     }
 
     /// `i64.atomic.rmw32.and_u`: `0xFE 0x32`.
@@ -285,7 +285,7 @@ impl<'a, A: Allocator> InstructionSink<'a, A> {
         ensures alignment { IsErrOf result EncodeError.Alignment ↔ 64 ≤ memarg.align }
         ensures room { HasRoom self.entry → memarg.align < 64 → IsOk result }
     {
-        self.emit_mem(after_fe(0x32), memarg)
+        self.emit_mem(Opcode::after_fe(0x32), memarg)
     }
 
     /// `i32.atomic.rmw.or`: `0xFE 0x33`.
@@ -296,7 +296,7 @@ impl<'a, A: Allocator> InstructionSink<'a, A> {
         ensures alignment { IsErrOf result EncodeError.Alignment ↔ 64 ≤ memarg.align }
         ensures room { HasRoom self.entry → memarg.align < 64 → IsOk result }
     {
-        self.emit_mem(after_fe(0x33), memarg)
+        self.emit_mem(Opcode::after_fe(0x33), memarg)
     }
 
     /// `i64.atomic.rmw.or`: `0xFE 0x34`.
@@ -307,7 +307,7 @@ impl<'a, A: Allocator> InstructionSink<'a, A> {
         ensures alignment { IsErrOf result EncodeError.Alignment ↔ 64 ≤ memarg.align }
         ensures room { HasRoom self.entry → memarg.align < 64 → IsOk result }
     {
-        self.emit_mem(after_fe(0x34), memarg)
+        self.emit_mem(Opcode::after_fe(0x34), memarg)
     }
 
     /// `i32.atomic.rmw8.or_u`: `0xFE 0x35`.
@@ -318,7 +318,7 @@ impl<'a, A: Allocator> InstructionSink<'a, A> {
         ensures alignment { IsErrOf result EncodeError.Alignment ↔ 64 ≤ memarg.align }
         ensures room { HasRoom self.entry → memarg.align < 64 → IsOk result }
     {
-        self.emit_mem(after_fe(0x35), memarg)
+        self.emit_mem(Opcode::after_fe(0x35), memarg)
     }
 
     /// `i32.atomic.rmw16.or_u`: `0xFE 0x36`.
@@ -332,7 +332,7 @@ impl<'a, A: Allocator> InstructionSink<'a, A> {
         ensures alignment { IsErrOf result EncodeError.Alignment ↔ 64 ≤ memarg.align }
         ensures room { HasRoom self.entry → memarg.align < 64 → IsOk result }
     {
-        self.emit_mem(after_fe(0x36), memarg)
+        self.emit_mem(Opcode::after_fe(0x36), memarg)
     }
 
     /// `i64.atomic.rmw8.or_u`: `0xFE 0x37`.
@@ -343,7 +343,7 @@ impl<'a, A: Allocator> InstructionSink<'a, A> {
         ensures alignment { IsErrOf result EncodeError.Alignment ↔ 64 ≤ memarg.align }
         ensures room { HasRoom self.entry → memarg.align < 64 → IsOk result }
     {
-        self.emit_mem(after_fe(0x37), memarg)
+        self.emit_mem(Opcode::after_fe(0x37), memarg)
     }
 
     /// `i64.atomic.rmw16.or_u`: `0xFE 0x38`.
@@ -357,7 +357,7 @@ impl<'a, A: Allocator> InstructionSink<'a, A> {
         ensures alignment { IsErrOf result EncodeError.Alignment ↔ 64 ≤ memarg.align }
         ensures room { HasRoom self.entry → memarg.align < 64 → IsOk result }
     {
-        self.emit_mem(after_fe(0x38), memarg)
+        self.emit_mem(Opcode::after_fe(0x38), memarg)
     }
 
     /// `i64.atomic.rmw32.or_u`: `0xFE 0x39`.
@@ -371,7 +371,7 @@ impl<'a, A: Allocator> InstructionSink<'a, A> {
         ensures alignment { IsErrOf result EncodeError.Alignment ↔ 64 ≤ memarg.align }
         ensures room { HasRoom self.entry → memarg.align < 64 → IsOk result }
     {
-        self.emit_mem(after_fe(0x39), memarg)
+        self.emit_mem(Opcode::after_fe(0x39), memarg)
     }
 
     /// `i32.atomic.rmw.xor`: `0xFE 0x3A`.
@@ -382,7 +382,7 @@ impl<'a, A: Allocator> InstructionSink<'a, A> {
         ensures alignment { IsErrOf result EncodeError.Alignment ↔ 64 ≤ memarg.align }
         ensures room { HasRoom self.entry → memarg.align < 64 → IsOk result }
     {
-        self.emit_mem(after_fe(0x3a), memarg)
+        self.emit_mem(Opcode::after_fe(0x3a), memarg)
     }
 
     /// `i64.atomic.rmw.xor`: `0xFE 0x3B`.
@@ -393,7 +393,7 @@ impl<'a, A: Allocator> InstructionSink<'a, A> {
         ensures alignment { IsErrOf result EncodeError.Alignment ↔ 64 ≤ memarg.align }
         ensures room { HasRoom self.entry → memarg.align < 64 → IsOk result }
     {
-        self.emit_mem(after_fe(0x3b), memarg)
+        self.emit_mem(Opcode::after_fe(0x3b), memarg)
     }
 
     /// `i32.atomic.rmw8.xor_u`: `0xFE 0x3C`.
@@ -407,7 +407,7 @@ impl<'a, A: Allocator> InstructionSink<'a, A> {
         ensures alignment { IsErrOf result EncodeError.Alignment ↔ 64 ≤ memarg.align }
         ensures room { HasRoom self.entry → memarg.align < 64 → IsOk result }
     {
-        self.emit_mem(after_fe(0x3c), memarg)
+        self.emit_mem(Opcode::after_fe(0x3c), memarg)
     }
 
     /// `i32.atomic.rmw16.xor_u`: `0xFE 0x3D`.
@@ -421,7 +421,7 @@ impl<'a, A: Allocator> InstructionSink<'a, A> {
         ensures alignment { IsErrOf result EncodeError.Alignment ↔ 64 ≤ memarg.align }
         ensures room { HasRoom self.entry → memarg.align < 64 → IsOk result }
     {
-        self.emit_mem(after_fe(0x3d), memarg)
+        self.emit_mem(Opcode::after_fe(0x3d), memarg)
     }
 
     /// `i64.atomic.rmw8.xor_u`: `0xFE 0x3E`.
@@ -435,7 +435,7 @@ impl<'a, A: Allocator> InstructionSink<'a, A> {
         ensures alignment { IsErrOf result EncodeError.Alignment ↔ 64 ≤ memarg.align }
         ensures room { HasRoom self.entry → memarg.align < 64 → IsOk result }
     {
-        self.emit_mem(after_fe(0x3e), memarg)
+        self.emit_mem(Opcode::after_fe(0x3e), memarg)
     }
 
     /// `i64.atomic.rmw16.xor_u`: `0xFE 0x3F`.
@@ -449,7 +449,7 @@ impl<'a, A: Allocator> InstructionSink<'a, A> {
         ensures alignment { IsErrOf result EncodeError.Alignment ↔ 64 ≤ memarg.align }
         ensures room { HasRoom self.entry → memarg.align < 64 → IsOk result }
     {
-        self.emit_mem(after_fe(0x3f), memarg)
+        self.emit_mem(Opcode::after_fe(0x3f), memarg)
     }
 
     /// `i64.atomic.rmw32.xor_u`: `0xFE 0x40`.
@@ -463,7 +463,7 @@ impl<'a, A: Allocator> InstructionSink<'a, A> {
         ensures alignment { IsErrOf result EncodeError.Alignment ↔ 64 ≤ memarg.align }
         ensures room { HasRoom self.entry → memarg.align < 64 → IsOk result }
     {
-        self.emit_mem(after_fe(0x40), memarg)
+        self.emit_mem(Opcode::after_fe(0x40), memarg)
     }
 
     /// `i32.atomic.rmw.xchg`: `0xFE 0x41`.
@@ -474,7 +474,7 @@ impl<'a, A: Allocator> InstructionSink<'a, A> {
         ensures alignment { IsErrOf result EncodeError.Alignment ↔ 64 ≤ memarg.align }
         ensures room { HasRoom self.entry → memarg.align < 64 → IsOk result }
     {
-        self.emit_mem(after_fe(0x41), memarg)
+        self.emit_mem(Opcode::after_fe(0x41), memarg)
     }
 
     /// `i64.atomic.rmw.xchg`: `0xFE 0x42`.
@@ -485,7 +485,7 @@ impl<'a, A: Allocator> InstructionSink<'a, A> {
         ensures alignment { IsErrOf result EncodeError.Alignment ↔ 64 ≤ memarg.align }
         ensures room { HasRoom self.entry → memarg.align < 64 → IsOk result }
     {
-        self.emit_mem(after_fe(0x42), memarg)
+        self.emit_mem(Opcode::after_fe(0x42), memarg)
     }
 
     /// `i32.atomic.rmw8.xchg_u`: `0xFE 0x43`.
@@ -499,7 +499,7 @@ impl<'a, A: Allocator> InstructionSink<'a, A> {
         ensures alignment { IsErrOf result EncodeError.Alignment ↔ 64 ≤ memarg.align }
         ensures room { HasRoom self.entry → memarg.align < 64 → IsOk result }
     {
-        self.emit_mem(after_fe(0x43), memarg)
+        self.emit_mem(Opcode::after_fe(0x43), memarg)
     }
 
     /// `i32.atomic.rmw16.xchg_u`: `0xFE 0x44`.
@@ -513,7 +513,7 @@ impl<'a, A: Allocator> InstructionSink<'a, A> {
         ensures alignment { IsErrOf result EncodeError.Alignment ↔ 64 ≤ memarg.align }
         ensures room { HasRoom self.entry → memarg.align < 64 → IsOk result }
     {
-        self.emit_mem(after_fe(0x44), memarg)
+        self.emit_mem(Opcode::after_fe(0x44), memarg)
     }
 
     /// `i64.atomic.rmw8.xchg_u`: `0xFE 0x45`.
@@ -527,7 +527,7 @@ impl<'a, A: Allocator> InstructionSink<'a, A> {
         ensures alignment { IsErrOf result EncodeError.Alignment ↔ 64 ≤ memarg.align }
         ensures room { HasRoom self.entry → memarg.align < 64 → IsOk result }
     {
-        self.emit_mem(after_fe(0x45), memarg)
+        self.emit_mem(Opcode::after_fe(0x45), memarg)
     }
 
     /// `i64.atomic.rmw16.xchg_u`: `0xFE 0x46`.
@@ -541,7 +541,7 @@ impl<'a, A: Allocator> InstructionSink<'a, A> {
         ensures alignment { IsErrOf result EncodeError.Alignment ↔ 64 ≤ memarg.align }
         ensures room { HasRoom self.entry → memarg.align < 64 → IsOk result }
     {
-        self.emit_mem(after_fe(0x46), memarg)
+        self.emit_mem(Opcode::after_fe(0x46), memarg)
     }
 
     /// `i64.atomic.rmw32.xchg_u`: `0xFE 0x47`.
@@ -555,7 +555,7 @@ impl<'a, A: Allocator> InstructionSink<'a, A> {
         ensures alignment { IsErrOf result EncodeError.Alignment ↔ 64 ≤ memarg.align }
         ensures room { HasRoom self.entry → memarg.align < 64 → IsOk result }
     {
-        self.emit_mem(after_fe(0x47), memarg)
+        self.emit_mem(Opcode::after_fe(0x47), memarg)
     }
 
     /// `i32.atomic.rmw.cmpxchg`: `0xFE 0x48`.
@@ -569,7 +569,7 @@ impl<'a, A: Allocator> InstructionSink<'a, A> {
         ensures alignment { IsErrOf result EncodeError.Alignment ↔ 64 ≤ memarg.align }
         ensures room { HasRoom self.entry → memarg.align < 64 → IsOk result }
     {
-        self.emit_mem(after_fe(0x48), memarg)
+        self.emit_mem(Opcode::after_fe(0x48), memarg)
     }
 
     /// `i64.atomic.rmw.cmpxchg`: `0xFE 0x49`.
@@ -583,7 +583,7 @@ impl<'a, A: Allocator> InstructionSink<'a, A> {
         ensures alignment { IsErrOf result EncodeError.Alignment ↔ 64 ≤ memarg.align }
         ensures room { HasRoom self.entry → memarg.align < 64 → IsOk result }
     {
-        self.emit_mem(after_fe(0x49), memarg)
+        self.emit_mem(Opcode::after_fe(0x49), memarg)
     }
 
     /// `i32.atomic.rmw8.cmpxchg_u`: `0xFE 0x4A`.
@@ -597,7 +597,7 @@ impl<'a, A: Allocator> InstructionSink<'a, A> {
         ensures alignment { IsErrOf result EncodeError.Alignment ↔ 64 ≤ memarg.align }
         ensures room { HasRoom self.entry → memarg.align < 64 → IsOk result }
     {
-        self.emit_mem(after_fe(0x4a), memarg)
+        self.emit_mem(Opcode::after_fe(0x4a), memarg)
     }
 
     /// `i32.atomic.rmw16.cmpxchg_u`: `0xFE 0x4B`.
@@ -611,7 +611,7 @@ impl<'a, A: Allocator> InstructionSink<'a, A> {
         ensures alignment { IsErrOf result EncodeError.Alignment ↔ 64 ≤ memarg.align }
         ensures room { HasRoom self.entry → memarg.align < 64 → IsOk result }
     {
-        self.emit_mem(after_fe(0x4b), memarg)
+        self.emit_mem(Opcode::after_fe(0x4b), memarg)
     }
 
     /// `i64.atomic.rmw8.cmpxchg_u`: `0xFE 0x4C`.
@@ -625,7 +625,7 @@ impl<'a, A: Allocator> InstructionSink<'a, A> {
         ensures alignment { IsErrOf result EncodeError.Alignment ↔ 64 ≤ memarg.align }
         ensures room { HasRoom self.entry → memarg.align < 64 → IsOk result }
     {
-        self.emit_mem(after_fe(0x4c), memarg)
+        self.emit_mem(Opcode::after_fe(0x4c), memarg)
     }
 
     /// `i64.atomic.rmw16.cmpxchg_u`: `0xFE 0x4D`.
@@ -639,7 +639,7 @@ impl<'a, A: Allocator> InstructionSink<'a, A> {
         ensures alignment { IsErrOf result EncodeError.Alignment ↔ 64 ≤ memarg.align }
         ensures room { HasRoom self.entry → memarg.align < 64 → IsOk result }
     {
-        self.emit_mem(after_fe(0x4d), memarg)
+        self.emit_mem(Opcode::after_fe(0x4d), memarg)
     }
 
     /// `i64.atomic.rmw32.cmpxchg_u`: `0xFE 0x4E`.
@@ -653,6 +653,6 @@ impl<'a, A: Allocator> InstructionSink<'a, A> {
         ensures alignment { IsErrOf result EncodeError.Alignment ↔ 64 ≤ memarg.align }
         ensures room { HasRoom self.entry → memarg.align < 64 → IsOk result }
     {
-        self.emit_mem(after_fe(0x4e), memarg)
+        self.emit_mem(Opcode::after_fe(0x4e), memarg)
     }
 }

@@ -7,10 +7,10 @@ ghost use Rattle.wasm_instructions.specs.Instructions.{after_fe};
 ghost use Rattle.wasm_instructions.specs.declared.table.call.Operands.TheVariants as operands;
 
 use crate::sink::InstructionSink;
-use crate::sink::emit::after_fe;
 use std::alloc::Allocator;
+use wasm_codec::encode::EncodeError;
 use wasm_instructions::operands::Ordering;
-use wasm_values::encode::EncodeError;
+use wasm_instructions::table::Opcode;
 
 impl<'a, A: Allocator> InstructionSink<'a, A> {
     /// `global.atomic.get`: `0xFE 0x4F`.
@@ -24,7 +24,7 @@ impl<'a, A: Allocator> InstructionSink<'a, A> {
         ensures wrote { Writes self.entry (after_fe 0x4f) (operands.OrderIndex ordering global) result }
         ensures room { HasRoom self.entry → IsOk result }
     {
-        self.emit_order_index(after_fe(0x4f), ordering, global)
+        self.emit_order_index(Opcode::after_fe(0x4f), ordering, global)
     }
 
     /// `global.atomic.set`: `0xFE 0x50`.
@@ -38,7 +38,7 @@ impl<'a, A: Allocator> InstructionSink<'a, A> {
         ensures wrote { Writes self.entry (after_fe 0x50) (operands.OrderIndex ordering global) result }
         ensures room { HasRoom self.entry → IsOk result }
     {
-        self.emit_order_index(after_fe(0x50), ordering, global)
+        self.emit_order_index(Opcode::after_fe(0x50), ordering, global)
     }
 
     /// `global.atomic.rmw.add`: `0xFE 0x51`.
@@ -52,7 +52,7 @@ impl<'a, A: Allocator> InstructionSink<'a, A> {
         ensures wrote { Writes self.entry (after_fe 0x51) (operands.OrderIndex ordering global) result }
         ensures room { HasRoom self.entry → IsOk result }
     {
-        self.emit_order_index(after_fe(0x51), ordering, global)
+        self.emit_order_index(Opcode::after_fe(0x51), ordering, global)
     }
 
     /// `global.atomic.rmw.sub`: `0xFE 0x52`.
@@ -66,7 +66,7 @@ impl<'a, A: Allocator> InstructionSink<'a, A> {
         ensures wrote { Writes self.entry (after_fe 0x52) (operands.OrderIndex ordering global) result }
         ensures room { HasRoom self.entry → IsOk result }
     {
-        self.emit_order_index(after_fe(0x52), ordering, global)
+        self.emit_order_index(Opcode::after_fe(0x52), ordering, global)
     }
 
     /// `global.atomic.rmw.and`: `0xFE 0x53`.
@@ -80,7 +80,7 @@ impl<'a, A: Allocator> InstructionSink<'a, A> {
         ensures wrote { Writes self.entry (after_fe 0x53) (operands.OrderIndex ordering global) result }
         ensures room { HasRoom self.entry → IsOk result }
     {
-        self.emit_order_index(after_fe(0x53), ordering, global)
+        self.emit_order_index(Opcode::after_fe(0x53), ordering, global)
     }
 
     /// `global.atomic.rmw.or`: `0xFE 0x54`.
@@ -94,7 +94,7 @@ impl<'a, A: Allocator> InstructionSink<'a, A> {
         ensures wrote { Writes self.entry (after_fe 0x54) (operands.OrderIndex ordering global) result }
         ensures room { HasRoom self.entry → IsOk result }
     {
-        self.emit_order_index(after_fe(0x54), ordering, global)
+        self.emit_order_index(Opcode::after_fe(0x54), ordering, global)
     }
 
     /// `global.atomic.rmw.xor`: `0xFE 0x55`.
@@ -108,7 +108,7 @@ impl<'a, A: Allocator> InstructionSink<'a, A> {
         ensures wrote { Writes self.entry (after_fe 0x55) (operands.OrderIndex ordering global) result }
         ensures room { HasRoom self.entry → IsOk result }
     {
-        self.emit_order_index(after_fe(0x55), ordering, global)
+        self.emit_order_index(Opcode::after_fe(0x55), ordering, global)
     }
 
     /// `global.atomic.rmw.xchg`: `0xFE 0x56`.
@@ -122,7 +122,7 @@ impl<'a, A: Allocator> InstructionSink<'a, A> {
         ensures wrote { Writes self.entry (after_fe 0x56) (operands.OrderIndex ordering global) result }
         ensures room { HasRoom self.entry → IsOk result }
     {
-        self.emit_order_index(after_fe(0x56), ordering, global)
+        self.emit_order_index(Opcode::after_fe(0x56), ordering, global)
     }
 
     /// `global.atomic.rmw.cmpxchg`: `0xFE 0x57`.
@@ -136,7 +136,7 @@ impl<'a, A: Allocator> InstructionSink<'a, A> {
         ensures wrote { Writes self.entry (after_fe 0x57) (operands.OrderIndex ordering global) result }
         ensures room { HasRoom self.entry → IsOk result }
     {
-        self.emit_order_index(after_fe(0x57), ordering, global)
+        self.emit_order_index(Opcode::after_fe(0x57), ordering, global)
     }
 
     /// `table.atomic.get`: `0xFE 0x58`.
@@ -150,7 +150,7 @@ impl<'a, A: Allocator> InstructionSink<'a, A> {
         ensures wrote { Writes self.entry (after_fe 0x58) (operands.OrderIndex ordering table) result }
         ensures room { HasRoom self.entry → IsOk result }
     {
-        self.emit_order_index(after_fe(0x58), ordering, table)
+        self.emit_order_index(Opcode::after_fe(0x58), ordering, table)
     }
 
     /// `table.atomic.set`: `0xFE 0x59`.
@@ -164,7 +164,7 @@ impl<'a, A: Allocator> InstructionSink<'a, A> {
         ensures wrote { Writes self.entry (after_fe 0x59) (operands.OrderIndex ordering table) result }
         ensures room { HasRoom self.entry → IsOk result }
     {
-        self.emit_order_index(after_fe(0x59), ordering, table)
+        self.emit_order_index(Opcode::after_fe(0x59), ordering, table)
     }
 
     /// `table.atomic.rmw.xchg`: `0xFE 0x5A`.
@@ -178,7 +178,7 @@ impl<'a, A: Allocator> InstructionSink<'a, A> {
         ensures wrote { Writes self.entry (after_fe 0x5a) (operands.OrderIndex ordering table) result }
         ensures room { HasRoom self.entry → IsOk result }
     {
-        self.emit_order_index(after_fe(0x5a), ordering, table)
+        self.emit_order_index(Opcode::after_fe(0x5a), ordering, table)
     }
 
     /// `table.atomic.rmw.cmpxchg`: `0xFE 0x5B`.
@@ -192,7 +192,7 @@ impl<'a, A: Allocator> InstructionSink<'a, A> {
         ensures wrote { Writes self.entry (after_fe 0x5b) (operands.OrderIndex ordering table) result }
         ensures room { HasRoom self.entry → IsOk result }
     {
-        self.emit_order_index(after_fe(0x5b), ordering, table)
+        self.emit_order_index(Opcode::after_fe(0x5b), ordering, table)
     }
 
     /// `struct.atomic.get`: `0xFE 0x5C`.
@@ -207,7 +207,7 @@ impl<'a, A: Allocator> InstructionSink<'a, A> {
         ensures wrote { Writes self.entry (after_fe 0x5c) (operands.OrderTwoIndexes ordering ty field) result }
         ensures room { HasRoom self.entry → IsOk result }
     {
-        self.emit_order_two_indexes(after_fe(0x5c), ordering, ty, field)
+        self.emit_order_two_indexes(Opcode::after_fe(0x5c), ordering, ty, field)
     }
 
     /// `struct.atomic.get_s`: `0xFE 0x5D`.
@@ -222,7 +222,7 @@ impl<'a, A: Allocator> InstructionSink<'a, A> {
         ensures wrote { Writes self.entry (after_fe 0x5d) (operands.OrderTwoIndexes ordering ty field) result }
         ensures room { HasRoom self.entry → IsOk result }
     {
-        self.emit_order_two_indexes(after_fe(0x5d), ordering, ty, field)
+        self.emit_order_two_indexes(Opcode::after_fe(0x5d), ordering, ty, field)
     }
 
     /// `struct.atomic.get_u`: `0xFE 0x5E`.
@@ -237,7 +237,7 @@ impl<'a, A: Allocator> InstructionSink<'a, A> {
         ensures wrote { Writes self.entry (after_fe 0x5e) (operands.OrderTwoIndexes ordering ty field) result }
         ensures room { HasRoom self.entry → IsOk result }
     {
-        self.emit_order_two_indexes(after_fe(0x5e), ordering, ty, field)
+        self.emit_order_two_indexes(Opcode::after_fe(0x5e), ordering, ty, field)
     }
 
     /// `struct.atomic.set`: `0xFE 0x5F`.
@@ -252,7 +252,7 @@ impl<'a, A: Allocator> InstructionSink<'a, A> {
         ensures wrote { Writes self.entry (after_fe 0x5f) (operands.OrderTwoIndexes ordering ty field) result }
         ensures room { HasRoom self.entry → IsOk result }
     {
-        self.emit_order_two_indexes(after_fe(0x5f), ordering, ty, field)
+        self.emit_order_two_indexes(Opcode::after_fe(0x5f), ordering, ty, field)
     }
 
     /// `struct.atomic.rmw.add`: `0xFE 0x60`.
@@ -267,7 +267,7 @@ impl<'a, A: Allocator> InstructionSink<'a, A> {
         ensures wrote { Writes self.entry (after_fe 0x60) (operands.OrderTwoIndexes ordering ty field) result }
         ensures room { HasRoom self.entry → IsOk result }
     {
-        self.emit_order_two_indexes(after_fe(0x60), ordering, ty, field)
+        self.emit_order_two_indexes(Opcode::after_fe(0x60), ordering, ty, field)
     }
 
     /// `struct.atomic.rmw.sub`: `0xFE 0x61`.
@@ -282,7 +282,7 @@ impl<'a, A: Allocator> InstructionSink<'a, A> {
         ensures wrote { Writes self.entry (after_fe 0x61) (operands.OrderTwoIndexes ordering ty field) result }
         ensures room { HasRoom self.entry → IsOk result }
     {
-        self.emit_order_two_indexes(after_fe(0x61), ordering, ty, field)
+        self.emit_order_two_indexes(Opcode::after_fe(0x61), ordering, ty, field)
     }
 
     /// `struct.atomic.rmw.and`: `0xFE 0x62`.
@@ -297,7 +297,7 @@ impl<'a, A: Allocator> InstructionSink<'a, A> {
         ensures wrote { Writes self.entry (after_fe 0x62) (operands.OrderTwoIndexes ordering ty field) result }
         ensures room { HasRoom self.entry → IsOk result }
     {
-        self.emit_order_two_indexes(after_fe(0x62), ordering, ty, field)
+        self.emit_order_two_indexes(Opcode::after_fe(0x62), ordering, ty, field)
     }
 
     /// `struct.atomic.rmw.or`: `0xFE 0x63`.
@@ -312,7 +312,7 @@ impl<'a, A: Allocator> InstructionSink<'a, A> {
         ensures wrote { Writes self.entry (after_fe 0x63) (operands.OrderTwoIndexes ordering ty field) result }
         ensures room { HasRoom self.entry → IsOk result }
     {
-        self.emit_order_two_indexes(after_fe(0x63), ordering, ty, field)
+        self.emit_order_two_indexes(Opcode::after_fe(0x63), ordering, ty, field)
     }
 
     /// `struct.atomic.rmw.xor`: `0xFE 0x64`.
@@ -327,7 +327,7 @@ impl<'a, A: Allocator> InstructionSink<'a, A> {
         ensures wrote { Writes self.entry (after_fe 0x64) (operands.OrderTwoIndexes ordering ty field) result }
         ensures room { HasRoom self.entry → IsOk result }
     {
-        self.emit_order_two_indexes(after_fe(0x64), ordering, ty, field)
+        self.emit_order_two_indexes(Opcode::after_fe(0x64), ordering, ty, field)
     }
 
     /// `struct.atomic.rmw.xchg`: `0xFE 0x65`.
@@ -342,7 +342,7 @@ impl<'a, A: Allocator> InstructionSink<'a, A> {
         ensures wrote { Writes self.entry (after_fe 0x65) (operands.OrderTwoIndexes ordering ty field) result }
         ensures room { HasRoom self.entry → IsOk result }
     {
-        self.emit_order_two_indexes(after_fe(0x65), ordering, ty, field)
+        self.emit_order_two_indexes(Opcode::after_fe(0x65), ordering, ty, field)
     }
 
     /// `struct.atomic.rmw.cmpxchg`: `0xFE 0x66`.
@@ -357,7 +357,7 @@ impl<'a, A: Allocator> InstructionSink<'a, A> {
         ensures wrote { Writes self.entry (after_fe 0x66) (operands.OrderTwoIndexes ordering ty field) result }
         ensures room { HasRoom self.entry → IsOk result }
     {
-        self.emit_order_two_indexes(after_fe(0x66), ordering, ty, field)
+        self.emit_order_two_indexes(Opcode::after_fe(0x66), ordering, ty, field)
     }
 
     /// `array.atomic.get`: `0xFE 0x67`.
@@ -371,7 +371,7 @@ impl<'a, A: Allocator> InstructionSink<'a, A> {
         ensures wrote { Writes self.entry (after_fe 0x67) (operands.OrderIndex ordering ty) result }
         ensures room { HasRoom self.entry → IsOk result }
     {
-        self.emit_order_index(after_fe(0x67), ordering, ty)
+        self.emit_order_index(Opcode::after_fe(0x67), ordering, ty)
     }
 
     /// `array.atomic.get_s`: `0xFE 0x68`.
@@ -385,7 +385,7 @@ impl<'a, A: Allocator> InstructionSink<'a, A> {
         ensures wrote { Writes self.entry (after_fe 0x68) (operands.OrderIndex ordering ty) result }
         ensures room { HasRoom self.entry → IsOk result }
     {
-        self.emit_order_index(after_fe(0x68), ordering, ty)
+        self.emit_order_index(Opcode::after_fe(0x68), ordering, ty)
     }
 
     /// `array.atomic.get_u`: `0xFE 0x69`.
@@ -399,7 +399,7 @@ impl<'a, A: Allocator> InstructionSink<'a, A> {
         ensures wrote { Writes self.entry (after_fe 0x69) (operands.OrderIndex ordering ty) result }
         ensures room { HasRoom self.entry → IsOk result }
     {
-        self.emit_order_index(after_fe(0x69), ordering, ty)
+        self.emit_order_index(Opcode::after_fe(0x69), ordering, ty)
     }
 
     /// `array.atomic.set`: `0xFE 0x6A`.
@@ -413,7 +413,7 @@ impl<'a, A: Allocator> InstructionSink<'a, A> {
         ensures wrote { Writes self.entry (after_fe 0x6a) (operands.OrderIndex ordering ty) result }
         ensures room { HasRoom self.entry → IsOk result }
     {
-        self.emit_order_index(after_fe(0x6a), ordering, ty)
+        self.emit_order_index(Opcode::after_fe(0x6a), ordering, ty)
     }
 
     /// `array.atomic.rmw.add`: `0xFE 0x6B`.
@@ -427,7 +427,7 @@ impl<'a, A: Allocator> InstructionSink<'a, A> {
         ensures wrote { Writes self.entry (after_fe 0x6b) (operands.OrderIndex ordering ty) result }
         ensures room { HasRoom self.entry → IsOk result }
     {
-        self.emit_order_index(after_fe(0x6b), ordering, ty)
+        self.emit_order_index(Opcode::after_fe(0x6b), ordering, ty)
     }
 
     /// `array.atomic.rmw.sub`: `0xFE 0x6C`.
@@ -441,7 +441,7 @@ impl<'a, A: Allocator> InstructionSink<'a, A> {
         ensures wrote { Writes self.entry (after_fe 0x6c) (operands.OrderIndex ordering ty) result }
         ensures room { HasRoom self.entry → IsOk result }
     {
-        self.emit_order_index(after_fe(0x6c), ordering, ty)
+        self.emit_order_index(Opcode::after_fe(0x6c), ordering, ty)
     }
 
     /// `array.atomic.rmw.and`: `0xFE 0x6D`.
@@ -455,7 +455,7 @@ impl<'a, A: Allocator> InstructionSink<'a, A> {
         ensures wrote { Writes self.entry (after_fe 0x6d) (operands.OrderIndex ordering ty) result }
         ensures room { HasRoom self.entry → IsOk result }
     {
-        self.emit_order_index(after_fe(0x6d), ordering, ty)
+        self.emit_order_index(Opcode::after_fe(0x6d), ordering, ty)
     }
 
     /// `array.atomic.rmw.or`: `0xFE 0x6E`.
@@ -469,7 +469,7 @@ impl<'a, A: Allocator> InstructionSink<'a, A> {
         ensures wrote { Writes self.entry (after_fe 0x6e) (operands.OrderIndex ordering ty) result }
         ensures room { HasRoom self.entry → IsOk result }
     {
-        self.emit_order_index(after_fe(0x6e), ordering, ty)
+        self.emit_order_index(Opcode::after_fe(0x6e), ordering, ty)
     }
 
     /// `array.atomic.rmw.xor`: `0xFE 0x6F`.
@@ -483,7 +483,7 @@ impl<'a, A: Allocator> InstructionSink<'a, A> {
         ensures wrote { Writes self.entry (after_fe 0x6f) (operands.OrderIndex ordering ty) result }
         ensures room { HasRoom self.entry → IsOk result }
     {
-        self.emit_order_index(after_fe(0x6f), ordering, ty)
+        self.emit_order_index(Opcode::after_fe(0x6f), ordering, ty)
     }
 
     /// `array.atomic.rmw.xchg`: `0xFE 0x70`.
@@ -497,7 +497,7 @@ impl<'a, A: Allocator> InstructionSink<'a, A> {
         ensures wrote { Writes self.entry (after_fe 0x70) (operands.OrderIndex ordering ty) result }
         ensures room { HasRoom self.entry → IsOk result }
     {
-        self.emit_order_index(after_fe(0x70), ordering, ty)
+        self.emit_order_index(Opcode::after_fe(0x70), ordering, ty)
     }
 
     /// `array.atomic.rmw.cmpxchg`: `0xFE 0x71`.
@@ -511,7 +511,7 @@ impl<'a, A: Allocator> InstructionSink<'a, A> {
         ensures wrote { Writes self.entry (after_fe 0x71) (operands.OrderIndex ordering ty) result }
         ensures room { HasRoom self.entry → IsOk result }
     {
-        self.emit_order_index(after_fe(0x71), ordering, ty)
+        self.emit_order_index(Opcode::after_fe(0x71), ordering, ty)
     }
 
     /// `ref.i31_shared`: `0xFE 0x72`.
@@ -521,6 +521,6 @@ impl<'a, A: Allocator> InstructionSink<'a, A> {
         ensures wrote { Writes self.entry (after_fe 0x72) operands.None result }
         ensures room { HasRoom self.entry → IsOk result }
     {
-        self.emit(after_fe(0x72))
+        self.emit(Opcode::after_fe(0x72))
     }
 }

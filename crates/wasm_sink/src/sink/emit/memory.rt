@@ -1,21 +1,19 @@
-//! Calls with memory arguments. An alignment of 64 or more is refused before anything grows.
+//! Instructions with memory arguments. An alignment of 64 or more is refused before anything grows.
 ghost use Rattle.std.specs.Prelude.{◌≤◌, ◌<◌, ◌↔◌, IsOk, IsErrOf};
 ghost use Rattle.std.specs.Borrow.{sem};
 ghost use Rattle.wasm_sink.specs.Sink.{IsUnchangedAtErr, IsSameSink, WritesText, HasRoom};
 ghost use Rattle.wasm_instructions.specs.Instructions.{IsShort};
 ghost use Rattle.wasm_instructions.specs.declared.table.call.Operands.TheVariants as operands;
 
-use super::{ROOM, put_opcode};
 use crate::sink::InstructionSink;
 use std::alloc::Allocator;
-use wasm_instructions::encode::put_mem_arg;
+use wasm_codec::encode::EncodeError;
+use wasm_instructions::encode::{append_mem, append_mem_lane};
 use wasm_instructions::operands::{Lane, MemArg};
 use wasm_instructions::table::Opcode;
-use wasm_values::encode::EncodeError;
 
-#[tactic(auto, unfolding(wasm_instructions::specs::Instructions::operands_text))]
 impl<'a, A: Allocator> InstructionSink<'a, A> {
-    /// A call with a memory argument.
+    /// An instruction with a memory argument.
     pub(in crate::sink) fn emit_mem(
         self,
         op: Opcode,
@@ -29,16 +27,11 @@ impl<'a, A: Allocator> InstructionSink<'a, A> {
         ensures room { HasRoom self.entry → memarg.align < 64 → IsOk result }
     {
         let InstructionSink { bytes } = self;
-        if memarg.align >= 64 {
-            return Err(EncodeError::Alignment);
-        }
-        bytes.reserve(ROOM)?;
-        put_opcode(bytes, op);
-        put_mem_arg(bytes, memarg);
+        append_mem(bytes, op, memarg)?;
         Ok(InstructionSink { bytes })
     }
 
-    /// A call with a memory argument and a lane.
+    /// An instruction with a memory argument and a lane.
     pub(in crate::sink) fn emit_mem_lane(
         self,
         op: Opcode,
@@ -53,13 +46,7 @@ impl<'a, A: Allocator> InstructionSink<'a, A> {
         ensures room { HasRoom self.entry → memarg.align < 64 → IsOk result }
     {
         let InstructionSink { bytes } = self;
-        if memarg.align >= 64 {
-            return Err(EncodeError::Alignment);
-        }
-        bytes.reserve(ROOM)?;
-        put_opcode(bytes, op);
-        put_mem_arg(bytes, memarg);
-        bytes.push_reserved(lane);
+        append_mem_lane(bytes, op, memarg, lane)?;
         Ok(InstructionSink { bytes })
     }
 }

@@ -1,22 +1,19 @@
-//! Calls with orderings.
+//! Instructions with orderings.
 ghost use Rattle.std.specs.Prelude.{IsOk};
 ghost use Rattle.std.specs.Borrow.{sem};
 ghost use Rattle.wasm_sink.specs.Sink.{IsUnchangedAtErr, IsSameSink, Writes, HasRoom};
 ghost use Rattle.wasm_instructions.specs.Instructions.{IsShort};
 ghost use Rattle.wasm_instructions.specs.declared.table.call.Operands.TheVariants as operands;
 
-use super::{ROOM, put_opcode};
 use crate::sink::InstructionSink;
 use std::alloc::Allocator;
-use wasm_instructions::encode::put_ordering;
+use wasm_codec::encode::EncodeError;
+use wasm_instructions::encode::{append_order, append_order_index, append_order_two_indexes};
 use wasm_instructions::operands::Ordering;
 use wasm_instructions::table::Opcode;
-use wasm_values::encode::EncodeError;
-use wasm_values::encode::leb128::put_u32;
 
-#[tactic(auto, unfolding(wasm_instructions::specs::Instructions::operands_text))]
 impl<'a, A: Allocator> InstructionSink<'a, A> {
-    /// A call with an ordering.
+    /// An instruction with an ordering.
     pub(in crate::sink) fn emit_order(
         self,
         op: Opcode,
@@ -29,13 +26,11 @@ impl<'a, A: Allocator> InstructionSink<'a, A> {
         ensures room { HasRoom self.entry → IsOk result }
     {
         let InstructionSink { bytes } = self;
-        bytes.reserve(ROOM)?;
-        put_opcode(bytes, op);
-        put_ordering(bytes, ordering);
+        append_order(bytes, op, ordering)?;
         Ok(InstructionSink { bytes })
     }
 
-    /// A call with an ordering and an index.
+    /// An instruction with an ordering and an index.
     pub(in crate::sink) fn emit_order_index(
         self,
         op: Opcode,
@@ -49,14 +44,11 @@ impl<'a, A: Allocator> InstructionSink<'a, A> {
         ensures room { HasRoom self.entry → IsOk result }
     {
         let InstructionSink { bytes } = self;
-        bytes.reserve(ROOM)?;
-        put_opcode(bytes, op);
-        put_ordering(bytes, ordering);
-        put_u32(bytes, index);
+        append_order_index(bytes, op, ordering, index)?;
         Ok(InstructionSink { bytes })
     }
 
-    /// A call with an ordering and two indexes.
+    /// An instruction with an ordering and two indexes.
     pub(in crate::sink) fn emit_order_two_indexes(
         self,
         op: Opcode,
@@ -71,11 +63,7 @@ impl<'a, A: Allocator> InstructionSink<'a, A> {
         ensures room { HasRoom self.entry → IsOk result }
     {
         let InstructionSink { bytes } = self;
-        bytes.reserve(ROOM)?;
-        put_opcode(bytes, op);
-        put_ordering(bytes, ordering);
-        put_u32(bytes, first);
-        put_u32(bytes, second);
+        append_order_two_indexes(bytes, op, ordering, first, second)?;
         Ok(InstructionSink { bytes })
     }
 }

@@ -6,9 +6,9 @@ ghost use Rattle.wasm_instructions.specs.Instructions.{after_fd};
 ghost use Rattle.wasm_instructions.specs.declared.table.call.Operands.TheVariants as operands;
 
 use crate::sink::InstructionSink;
-use crate::sink::emit::after_fd;
 use std::alloc::Allocator;
-use wasm_values::encode::EncodeError;
+use wasm_codec::encode::EncodeError;
+use wasm_instructions::table::Opcode;
 
 impl<'a, A: Allocator> InstructionSink<'a, A> {
     /// `v128.not`: `0xFD 0x4D`.
@@ -18,7 +18,7 @@ impl<'a, A: Allocator> InstructionSink<'a, A> {
         ensures wrote { Writes self.entry (after_fd 0x4d) operands.None result }
         ensures room { HasRoom self.entry → IsOk result }
     {
-        self.emit(after_fd(0x4d))
+        self.emit(Opcode::after_fd(0x4d))
     }
 
     /// `v128.and`: `0xFD 0x4E`.
@@ -28,7 +28,7 @@ impl<'a, A: Allocator> InstructionSink<'a, A> {
         ensures wrote { Writes self.entry (after_fd 0x4e) operands.None result }
         ensures room { HasRoom self.entry → IsOk result }
     {
-        self.emit(after_fd(0x4e))
+        self.emit(Opcode::after_fd(0x4e))
     }
 
     /// `v128.andnot`: `0xFD 0x4F`.
@@ -38,7 +38,7 @@ impl<'a, A: Allocator> InstructionSink<'a, A> {
         ensures wrote { Writes self.entry (after_fd 0x4f) operands.None result }
         ensures room { HasRoom self.entry → IsOk result }
     {
-        self.emit(after_fd(0x4f))
+        self.emit(Opcode::after_fd(0x4f))
     }
 
     /// `v128.or`: `0xFD 0x50`.
@@ -48,7 +48,7 @@ impl<'a, A: Allocator> InstructionSink<'a, A> {
         ensures wrote { Writes self.entry (after_fd 0x50) operands.None result }
         ensures room { HasRoom self.entry → IsOk result }
     {
-        self.emit(after_fd(0x50))
+        self.emit(Opcode::after_fd(0x50))
     }
 
     /// `v128.xor`: `0xFD 0x51`.
@@ -58,7 +58,7 @@ impl<'a, A: Allocator> InstructionSink<'a, A> {
         ensures wrote { Writes self.entry (after_fd 0x51) operands.None result }
         ensures room { HasRoom self.entry → IsOk result }
     {
-        self.emit(after_fd(0x51))
+        self.emit(Opcode::after_fd(0x51))
     }
 
     /// `v128.bitselect`: `0xFD 0x52`.
@@ -68,7 +68,7 @@ impl<'a, A: Allocator> InstructionSink<'a, A> {
         ensures wrote { Writes self.entry (after_fd 0x52) operands.None result }
         ensures room { HasRoom self.entry → IsOk result }
     {
-        self.emit(after_fd(0x52))
+        self.emit(Opcode::after_fd(0x52))
     }
 
     /// `v128.any_true`: `0xFD 0x53`.
@@ -78,6 +78,6 @@ impl<'a, A: Allocator> InstructionSink<'a, A> {
         ensures wrote { Writes self.entry (after_fd 0x53) operands.None result }
         ensures room { HasRoom self.entry → IsOk result }
     {
-        self.emit(after_fd(0x53))
+        self.emit(Opcode::after_fd(0x53))
     }
 }

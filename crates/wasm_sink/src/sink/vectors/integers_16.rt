@@ -6,9 +6,9 @@ ghost use Rattle.wasm_instructions.specs.Instructions.{after_fd};
 ghost use Rattle.wasm_instructions.specs.declared.table.call.Operands.TheVariants as operands;
 
 use crate::sink::InstructionSink;
-use crate::sink::emit::after_fd;
 use std::alloc::Allocator;
-use wasm_values::encode::EncodeError;
+use wasm_codec::encode::EncodeError;
+use wasm_instructions::table::Opcode;
 
 impl<'a, A: Allocator> InstructionSink<'a, A> {
     /// `i16x8.extadd_pairwise_i8x16_s`: `0xFD 0x7C`.
@@ -18,7 +18,7 @@ impl<'a, A: Allocator> InstructionSink<'a, A> {
         ensures wrote { Writes self.entry (after_fd 0x7c) operands.None result }
         ensures room { HasRoom self.entry → IsOk result }
     {
-        self.emit(after_fd(0x7c))
+        self.emit(Opcode::after_fd(0x7c))
     }
 
     /// `i16x8.extadd_pairwise_i8x16_u`: `0xFD 0x7D`.
@@ -28,7 +28,7 @@ impl<'a, A: Allocator> InstructionSink<'a, A> {
         ensures wrote { Writes self.entry (after_fd 0x7d) operands.None result }
         ensures room { HasRoom self.entry → IsOk result }
     {
-        self.emit(after_fd(0x7d))
+        self.emit(Opcode::after_fd(0x7d))
     }
 
     /// `i16x8.abs`: `0xFD 0x80`.
@@ -38,7 +38,7 @@ impl<'a, A: Allocator> InstructionSink<'a, A> {
         ensures wrote { Writes self.entry (after_fd 0x80) operands.None result }
         ensures room { HasRoom self.entry → IsOk result }
     {
-        self.emit(after_fd(0x80))
+        self.emit(Opcode::after_fd(0x80))
     }
 
     /// `i16x8.neg`: `0xFD 0x81`.
@@ -48,7 +48,7 @@ impl<'a, A: Allocator> InstructionSink<'a, A> {
         ensures wrote { Writes self.entry (after_fd 0x81) operands.None result }
         ensures room { HasRoom self.entry → IsOk result }
     {
-        self.emit(after_fd(0x81))
+        self.emit(Opcode::after_fd(0x81))
     }
 
     /// `i16x8.q15mulr_sat_s`: `0xFD 0x82`.
@@ -58,7 +58,7 @@ impl<'a, A: Allocator> InstructionSink<'a, A> {
         ensures wrote { Writes self.entry (after_fd 0x82) operands.None result }
         ensures room { HasRoom self.entry → IsOk result }
     {
-        self.emit(after_fd(0x82))
+        self.emit(Opcode::after_fd(0x82))
     }
 
     /// `i16x8.all_true`: `0xFD 0x83`.
@@ -68,7 +68,7 @@ impl<'a, A: Allocator> InstructionSink<'a, A> {
         ensures wrote { Writes self.entry (after_fd 0x83) operands.None result }
         ensures room { HasRoom self.entry → IsOk result }
     {
-        self.emit(after_fd(0x83))
+        self.emit(Opcode::after_fd(0x83))
     }
 
     /// `i16x8.bitmask`: `0xFD 0x84`.
@@ -78,7 +78,7 @@ impl<'a, A: Allocator> InstructionSink<'a, A> {
         ensures wrote { Writes self.entry (after_fd 0x84) operands.None result }
         ensures room { HasRoom self.entry → IsOk result }
     {
-        self.emit(after_fd(0x84))
+        self.emit(Opcode::after_fd(0x84))
     }
 
     /// `i16x8.narrow_i32x4_s`: `0xFD 0x85`.
@@ -88,7 +88,7 @@ impl<'a, A: Allocator> InstructionSink<'a, A> {
         ensures wrote { Writes self.entry (after_fd 0x85) operands.None result }
         ensures room { HasRoom self.entry → IsOk result }
     {
-        self.emit(after_fd(0x85))
+        self.emit(Opcode::after_fd(0x85))
     }
 
     /// `i16x8.narrow_i32x4_u`: `0xFD 0x86`.
@@ -98,7 +98,7 @@ impl<'a, A: Allocator> InstructionSink<'a, A> {
         ensures wrote { Writes self.entry (after_fd 0x86) operands.None result }
         ensures room { HasRoom self.entry → IsOk result }
     {
-        self.emit(after_fd(0x86))
+        self.emit(Opcode::after_fd(0x86))
     }
 
     /// `i16x8.extend_low_i8x16_s`: `0xFD 0x87`.
@@ -108,7 +108,7 @@ impl<'a, A: Allocator> InstructionSink<'a, A> {
         ensures wrote { Writes self.entry (after_fd 0x87) operands.None result }
         ensures room { HasRoom self.entry → IsOk result }
     {
-        self.emit(after_fd(0x87))
+        self.emit(Opcode::after_fd(0x87))
     }
 
     /// `i16x8.extend_high_i8x16_s`: `0xFD 0x88`.
@@ -118,7 +118,7 @@ impl<'a, A: Allocator> InstructionSink<'a, A> {
         ensures wrote { Writes self.entry (after_fd 0x88) operands.None result }
         ensures room { HasRoom self.entry → IsOk result }
     {
-        self.emit(after_fd(0x88))
+        self.emit(Opcode::after_fd(0x88))
     }
 
     /// `i16x8.extend_low_i8x16_u`: `0xFD 0x89`.
@@ -128,7 +128,7 @@ impl<'a, A: Allocator> InstructionSink<'a, A> {
         ensures wrote { Writes self.entry (after_fd 0x89) operands.None result }
         ensures room { HasRoom self.entry → IsOk result }
     {
-        self.emit(after_fd(0x89))
+        self.emit(Opcode::after_fd(0x89))
     }
 
     /// `i16x8.extend_high_i8x16_u`: `0xFD 0x8A`.
@@ -138,7 +138,7 @@ impl<'a, A: Allocator> InstructionSink<'a, A> {
         ensures wrote { Writes self.entry (after_fd 0x8a) operands.None result }
         ensures room { HasRoom self.entry → IsOk result }
     {
-        self.emit(after_fd(0x8a))
+        self.emit(Opcode::after_fd(0x8a))
     }
 
     /// `i16x8.shl`: `0xFD 0x8B`.
@@ -148,7 +148,7 @@ impl<'a, A: Allocator> InstructionSink<'a, A> {
         ensures wrote { Writes self.entry (after_fd 0x8b) operands.None result }
         ensures room { HasRoom self.entry → IsOk result }
     {
-        self.emit(after_fd(0x8b))
+        self.emit(Opcode::after_fd(0x8b))
     }
 
     /// `i16x8.shr_s`: `0xFD 0x8C`.
@@ -158,7 +158,7 @@ impl<'a, A: Allocator> InstructionSink<'a, A> {
         ensures wrote { Writes self.entry (after_fd 0x8c) operands.None result }
         ensures room { HasRoom self.entry → IsOk result }
     {
-        self.emit(after_fd(0x8c))
+        self.emit(Opcode::after_fd(0x8c))
     }
 
     /// `i16x8.shr_u`: `0xFD 0x8D`.
@@ -168,7 +168,7 @@ impl<'a, A: Allocator> InstructionSink<'a, A> {
         ensures wrote { Writes self.entry (after_fd 0x8d) operands.None result }
         ensures room { HasRoom self.entry → IsOk result }
     {
-        self.emit(after_fd(0x8d))
+        self.emit(Opcode::after_fd(0x8d))
     }
 
     /// `i16x8.add`: `0xFD 0x8E`.
@@ -178,7 +178,7 @@ impl<'a, A: Allocator> InstructionSink<'a, A> {
         ensures wrote { Writes self.entry (after_fd 0x8e) operands.None result }
         ensures room { HasRoom self.entry → IsOk result }
     {
-        self.emit(after_fd(0x8e))
+        self.emit(Opcode::after_fd(0x8e))
     }
 
     /// `i16x8.add_sat_s`: `0xFD 0x8F`.
@@ -188,7 +188,7 @@ impl<'a, A: Allocator> InstructionSink<'a, A> {
         ensures wrote { Writes self.entry (after_fd 0x8f) operands.None result }
         ensures room { HasRoom self.entry → IsOk result }
     {
-        self.emit(after_fd(0x8f))
+        self.emit(Opcode::after_fd(0x8f))
     }
 
     /// `i16x8.add_sat_u`: `0xFD 0x90`.
@@ -198,7 +198,7 @@ impl<'a, A: Allocator> InstructionSink<'a, A> {
         ensures wrote { Writes self.entry (after_fd 0x90) operands.None result }
         ensures room { HasRoom self.entry → IsOk result }
     {
-        self.emit(after_fd(0x90))
+        self.emit(Opcode::after_fd(0x90))
     }
 
     /// `i16x8.sub`: `0xFD 0x91`.
@@ -208,7 +208,7 @@ impl<'a, A: Allocator> InstructionSink<'a, A> {
         ensures wrote { Writes self.entry (after_fd 0x91) operands.None result }
         ensures room { HasRoom self.entry → IsOk result }
     {
-        self.emit(after_fd(0x91))
+        self.emit(Opcode::after_fd(0x91))
     }
 
     /// `i16x8.sub_sat_s`: `0xFD 0x92`.
@@ -218,7 +218,7 @@ impl<'a, A: Allocator> InstructionSink<'a, A> {
         ensures wrote { Writes self.entry (after_fd 0x92) operands.None result }
         ensures room { HasRoom self.entry → IsOk result }
     {
-        self.emit(after_fd(0x92))
+        self.emit(Opcode::after_fd(0x92))
     }
 
     /// `i16x8.sub_sat_u`: `0xFD 0x93`.
@@ -228,7 +228,7 @@ impl<'a, A: Allocator> InstructionSink<'a, A> {
         ensures wrote { Writes self.entry (after_fd 0x93) operands.None result }
         ensures room { HasRoom self.entry → IsOk result }
     {
-        self.emit(after_fd(0x93))
+        self.emit(Opcode::after_fd(0x93))
     }
 
     /// `i16x8.mul`: `0xFD 0x95`.
@@ -238,7 +238,7 @@ impl<'a, A: Allocator> InstructionSink<'a, A> {
         ensures wrote { Writes self.entry (after_fd 0x95) operands.None result }
         ensures room { HasRoom self.entry → IsOk result }
     {
-        self.emit(after_fd(0x95))
+        self.emit(Opcode::after_fd(0x95))
     }
 
     /// `i16x8.min_s`: `0xFD 0x96`.
@@ -248,7 +248,7 @@ impl<'a, A: Allocator> InstructionSink<'a, A> {
         ensures wrote { Writes self.entry (after_fd 0x96) operands.None result }
         ensures room { HasRoom self.entry → IsOk result }
     {
-        self.emit(after_fd(0x96))
+        self.emit(Opcode::after_fd(0x96))
     }
 
     /// `i16x8.min_u`: `0xFD 0x97`.
@@ -258,7 +258,7 @@ impl<'a, A: Allocator> InstructionSink<'a, A> {
         ensures wrote { Writes self.entry (after_fd 0x97) operands.None result }
         ensures room { HasRoom self.entry → IsOk result }
     {
-        self.emit(after_fd(0x97))
+        self.emit(Opcode::after_fd(0x97))
     }
 
     /// `i16x8.max_s`: `0xFD 0x98`.
@@ -268,7 +268,7 @@ impl<'a, A: Allocator> InstructionSink<'a, A> {
         ensures wrote { Writes self.entry (after_fd 0x98) operands.None result }
         ensures room { HasRoom self.entry → IsOk result }
     {
-        self.emit(after_fd(0x98))
+        self.emit(Opcode::after_fd(0x98))
     }
 
     /// `i16x8.max_u`: `0xFD 0x99`.
@@ -278,7 +278,7 @@ impl<'a, A: Allocator> InstructionSink<'a, A> {
         ensures wrote { Writes self.entry (after_fd 0x99) operands.None result }
         ensures room { HasRoom self.entry → IsOk result }
     {
-        self.emit(after_fd(0x99))
+        self.emit(Opcode::after_fd(0x99))
     }
 
     /// `i16x8.avgr_u`: `0xFD 0x9B`.
@@ -288,7 +288,7 @@ impl<'a, A: Allocator> InstructionSink<'a, A> {
         ensures wrote { Writes self.entry (after_fd 0x9b) operands.None result }
         ensures room { HasRoom self.entry → IsOk result }
     {
-        self.emit(after_fd(0x9b))
+        self.emit(Opcode::after_fd(0x9b))
     }
 
     /// `i16x8.extmul_low_i8x16_s`: `0xFD 0x9C`.
@@ -298,7 +298,7 @@ impl<'a, A: Allocator> InstructionSink<'a, A> {
         ensures wrote { Writes self.entry (after_fd 0x9c) operands.None result }
         ensures room { HasRoom self.entry → IsOk result }
     {
-        self.emit(after_fd(0x9c))
+        self.emit(Opcode::after_fd(0x9c))
     }
 
     /// `i16x8.extmul_high_i8x16_s`: `0xFD 0x9D`.
@@ -308,7 +308,7 @@ impl<'a, A: Allocator> InstructionSink<'a, A> {
         ensures wrote { Writes self.entry (after_fd 0x9d) operands.None result }
         ensures room { HasRoom self.entry → IsOk result }
     {
-        self.emit(after_fd(0x9d))
+        self.emit(Opcode::after_fd(0x9d))
     }
 
     /// `i16x8.extmul_low_i8x16_u`: `0xFD 0x9E`.
@@ -318,7 +318,7 @@ impl<'a, A: Allocator> InstructionSink<'a, A> {
         ensures wrote { Writes self.entry (after_fd 0x9e) operands.None result }
         ensures room { HasRoom self.entry → IsOk result }
     {
-        self.emit(after_fd(0x9e))
+        self.emit(Opcode::after_fd(0x9e))
     }
 
     /// `i16x8.extmul_high_i8x16_u`: `0xFD 0x9F`.
@@ -328,6 +328,6 @@ impl<'a, A: Allocator> InstructionSink<'a, A> {
         ensures wrote { Writes self.entry (after_fd 0x9f) operands.None result }
         ensures room { HasRoom self.entry → IsOk result }
     {
-        self.emit(after_fd(0x9f))
+        self.emit(Opcode::after_fd(0x9f))
     }
 }

@@ -6,9 +6,9 @@ ghost use Rattle.wasm_instructions.specs.Instructions.{after_fd};
 ghost use Rattle.wasm_instructions.specs.declared.table.call.Operands.TheVariants as operands;
 
 use crate::sink::InstructionSink;
-use crate::sink::emit::after_fd;
 use std::alloc::Allocator;
-use wasm_values::encode::EncodeError;
+use wasm_codec::encode::EncodeError;
+use wasm_instructions::table::Opcode;
 
 impl<'a, A: Allocator> InstructionSink<'a, A> {
     /// `i32x4.extadd_pairwise_i16x8_s`: `0xFD 0x7E`.
@@ -18,7 +18,7 @@ impl<'a, A: Allocator> InstructionSink<'a, A> {
         ensures wrote { Writes self.entry (after_fd 0x7e) operands.None result }
         ensures room { HasRoom self.entry → IsOk result }
     {
-        self.emit(after_fd(0x7e))
+        self.emit(Opcode::after_fd(0x7e))
     }
 
     /// `i32x4.extadd_pairwise_i16x8_u`: `0xFD 0x7F`.
@@ -28,7 +28,7 @@ impl<'a, A: Allocator> InstructionSink<'a, A> {
         ensures wrote { Writes self.entry (after_fd 0x7f) operands.None result }
         ensures room { HasRoom self.entry → IsOk result }
     {
-        self.emit(after_fd(0x7f))
+        self.emit(Opcode::after_fd(0x7f))
     }
 
     /// `i32x4.abs`: `0xFD 0xA0`.
@@ -38,7 +38,7 @@ impl<'a, A: Allocator> InstructionSink<'a, A> {
         ensures wrote { Writes self.entry (after_fd 0xa0) operands.None result }
         ensures room { HasRoom self.entry → IsOk result }
     {
-        self.emit(after_fd(0xa0))
+        self.emit(Opcode::after_fd(0xa0))
     }
 
     /// `i32x4.neg`: `0xFD 0xA1`.
@@ -48,7 +48,7 @@ impl<'a, A: Allocator> InstructionSink<'a, A> {
         ensures wrote { Writes self.entry (after_fd 0xa1) operands.None result }
         ensures room { HasRoom self.entry → IsOk result }
     {
-        self.emit(after_fd(0xa1))
+        self.emit(Opcode::after_fd(0xa1))
     }
 
     /// `i32x4.all_true`: `0xFD 0xA3`.
@@ -58,7 +58,7 @@ impl<'a, A: Allocator> InstructionSink<'a, A> {
         ensures wrote { Writes self.entry (after_fd 0xa3) operands.None result }
         ensures room { HasRoom self.entry → IsOk result }
     {
-        self.emit(after_fd(0xa3))
+        self.emit(Opcode::after_fd(0xa3))
     }
 
     /// `i32x4.bitmask`: `0xFD 0xA4`.
@@ -68,7 +68,7 @@ impl<'a, A: Allocator> InstructionSink<'a, A> {
         ensures wrote { Writes self.entry (after_fd 0xa4) operands.None result }
         ensures room { HasRoom self.entry → IsOk result }
     {
-        self.emit(after_fd(0xa4))
+        self.emit(Opcode::after_fd(0xa4))
     }
 
     /// `i32x4.extend_low_i16x8_s`: `0xFD 0xA7`.
@@ -78,7 +78,7 @@ impl<'a, A: Allocator> InstructionSink<'a, A> {
         ensures wrote { Writes self.entry (after_fd 0xa7) operands.None result }
         ensures room { HasRoom self.entry → IsOk result }
     {
-        self.emit(after_fd(0xa7))
+        self.emit(Opcode::after_fd(0xa7))
     }
 
     /// `i32x4.extend_high_i16x8_s`: `0xFD 0xA8`.
@@ -88,7 +88,7 @@ impl<'a, A: Allocator> InstructionSink<'a, A> {
         ensures wrote { Writes self.entry (after_fd 0xa8) operands.None result }
         ensures room { HasRoom self.entry → IsOk result }
     {
-        self.emit(after_fd(0xa8))
+        self.emit(Opcode::after_fd(0xa8))
     }
 
     /// `i32x4.extend_low_i16x8_u`: `0xFD 0xA9`.
@@ -98,7 +98,7 @@ impl<'a, A: Allocator> InstructionSink<'a, A> {
         ensures wrote { Writes self.entry (after_fd 0xa9) operands.None result }
         ensures room { HasRoom self.entry → IsOk result }
     {
-        self.emit(after_fd(0xa9))
+        self.emit(Opcode::after_fd(0xa9))
     }
 
     /// `i32x4.extend_high_i16x8_u`: `0xFD 0xAA`.
@@ -108,7 +108,7 @@ impl<'a, A: Allocator> InstructionSink<'a, A> {
         ensures wrote { Writes self.entry (after_fd 0xaa) operands.None result }
         ensures room { HasRoom self.entry → IsOk result }
     {
-        self.emit(after_fd(0xaa))
+        self.emit(Opcode::after_fd(0xaa))
     }
 
     /// `i32x4.shl`: `0xFD 0xAB`.
@@ -118,7 +118,7 @@ impl<'a, A: Allocator> InstructionSink<'a, A> {
         ensures wrote { Writes self.entry (after_fd 0xab) operands.None result }
         ensures room { HasRoom self.entry → IsOk result }
     {
-        self.emit(after_fd(0xab))
+        self.emit(Opcode::after_fd(0xab))
     }
 
     /// `i32x4.shr_s`: `0xFD 0xAC`.
@@ -128,7 +128,7 @@ impl<'a, A: Allocator> InstructionSink<'a, A> {
         ensures wrote { Writes self.entry (after_fd 0xac) operands.None result }
         ensures room { HasRoom self.entry → IsOk result }
     {
-        self.emit(after_fd(0xac))
+        self.emit(Opcode::after_fd(0xac))
     }
 
     /// `i32x4.shr_u`: `0xFD 0xAD`.
@@ -138,7 +138,7 @@ impl<'a, A: Allocator> InstructionSink<'a, A> {
         ensures wrote { Writes self.entry (after_fd 0xad) operands.None result }
         ensures room { HasRoom self.entry → IsOk result }
     {
-        self.emit(after_fd(0xad))
+        self.emit(Opcode::after_fd(0xad))
     }
 
     /// `i32x4.add`: `0xFD 0xAE`.
@@ -148,7 +148,7 @@ impl<'a, A: Allocator> InstructionSink<'a, A> {
         ensures wrote { Writes self.entry (after_fd 0xae) operands.None result }
         ensures room { HasRoom self.entry → IsOk result }
     {
-        self.emit(after_fd(0xae))
+        self.emit(Opcode::after_fd(0xae))
     }
 
     /// `i32x4.sub`: `0xFD 0xB1`.
@@ -158,7 +158,7 @@ impl<'a, A: Allocator> InstructionSink<'a, A> {
         ensures wrote { Writes self.entry (after_fd 0xb1) operands.None result }
         ensures room { HasRoom self.entry → IsOk result }
     {
-        self.emit(after_fd(0xb1))
+        self.emit(Opcode::after_fd(0xb1))
     }
 
     /// `i32x4.mul`: `0xFD 0xB5`.
@@ -168,7 +168,7 @@ impl<'a, A: Allocator> InstructionSink<'a, A> {
         ensures wrote { Writes self.entry (after_fd 0xb5) operands.None result }
         ensures room { HasRoom self.entry → IsOk result }
     {
-        self.emit(after_fd(0xb5))
+        self.emit(Opcode::after_fd(0xb5))
     }
 
     /// `i32x4.min_s`: `0xFD 0xB6`.
@@ -178,7 +178,7 @@ impl<'a, A: Allocator> InstructionSink<'a, A> {
         ensures wrote { Writes self.entry (after_fd 0xb6) operands.None result }
         ensures room { HasRoom self.entry → IsOk result }
     {
-        self.emit(after_fd(0xb6))
+        self.emit(Opcode::after_fd(0xb6))
     }
 
     /// `i32x4.min_u`: `0xFD 0xB7`.
@@ -188,7 +188,7 @@ impl<'a, A: Allocator> InstructionSink<'a, A> {
         ensures wrote { Writes self.entry (after_fd 0xb7) operands.None result }
         ensures room { HasRoom self.entry → IsOk result }
     {
-        self.emit(after_fd(0xb7))
+        self.emit(Opcode::after_fd(0xb7))
     }
 
     /// `i32x4.max_s`: `0xFD 0xB8`.
@@ -198,7 +198,7 @@ impl<'a, A: Allocator> InstructionSink<'a, A> {
         ensures wrote { Writes self.entry (after_fd 0xb8) operands.None result }
         ensures room { HasRoom self.entry → IsOk result }
     {
-        self.emit(after_fd(0xb8))
+        self.emit(Opcode::after_fd(0xb8))
     }
 
     /// `i32x4.max_u`: `0xFD 0xB9`.
@@ -208,7 +208,7 @@ impl<'a, A: Allocator> InstructionSink<'a, A> {
         ensures wrote { Writes self.entry (after_fd 0xb9) operands.None result }
         ensures room { HasRoom self.entry → IsOk result }
     {
-        self.emit(after_fd(0xb9))
+        self.emit(Opcode::after_fd(0xb9))
     }
 
     /// `i32x4.dot_i16x8_s`: `0xFD 0xBA`.
@@ -218,7 +218,7 @@ impl<'a, A: Allocator> InstructionSink<'a, A> {
         ensures wrote { Writes self.entry (after_fd 0xba) operands.None result }
         ensures room { HasRoom self.entry → IsOk result }
     {
-        self.emit(after_fd(0xba))
+        self.emit(Opcode::after_fd(0xba))
     }
 
     /// `i32x4.extmul_low_i16x8_s`: `0xFD 0xBC`.
@@ -228,7 +228,7 @@ impl<'a, A: Allocator> InstructionSink<'a, A> {
         ensures wrote { Writes self.entry (after_fd 0xbc) operands.None result }
         ensures room { HasRoom self.entry → IsOk result }
     {
-        self.emit(after_fd(0xbc))
+        self.emit(Opcode::after_fd(0xbc))
     }
 
     /// `i32x4.extmul_high_i16x8_s`: `0xFD 0xBD`.
@@ -238,7 +238,7 @@ impl<'a, A: Allocator> InstructionSink<'a, A> {
         ensures wrote { Writes self.entry (after_fd 0xbd) operands.None result }
         ensures room { HasRoom self.entry → IsOk result }
     {
-        self.emit(after_fd(0xbd))
+        self.emit(Opcode::after_fd(0xbd))
     }
 
     /// `i32x4.extmul_low_i16x8_u`: `0xFD 0xBE`.
@@ -248,7 +248,7 @@ impl<'a, A: Allocator> InstructionSink<'a, A> {
         ensures wrote { Writes self.entry (after_fd 0xbe) operands.None result }
         ensures room { HasRoom self.entry → IsOk result }
     {
-        self.emit(after_fd(0xbe))
+        self.emit(Opcode::after_fd(0xbe))
     }
 
     /// `i32x4.extmul_high_i16x8_u`: `0xFD 0xBF`.
@@ -258,7 +258,7 @@ impl<'a, A: Allocator> InstructionSink<'a, A> {
         ensures wrote { Writes self.entry (after_fd 0xbf) operands.None result }
         ensures room { HasRoom self.entry → IsOk result }
     {
-        self.emit(after_fd(0xbf))
+        self.emit(Opcode::after_fd(0xbf))
     }
 
     /// `i32x4.trunc_sat_f32x4_s`: `0xFD 0xF8`.
@@ -268,7 +268,7 @@ impl<'a, A: Allocator> InstructionSink<'a, A> {
         ensures wrote { Writes self.entry (after_fd 0xf8) operands.None result }
         ensures room { HasRoom self.entry → IsOk result }
     {
-        self.emit(after_fd(0xf8))
+        self.emit(Opcode::after_fd(0xf8))
     }
 
     /// `i32x4.trunc_sat_f32x4_u`: `0xFD 0xF9`.
@@ -278,7 +278,7 @@ impl<'a, A: Allocator> InstructionSink<'a, A> {
         ensures wrote { Writes self.entry (after_fd 0xf9) operands.None result }
         ensures room { HasRoom self.entry → IsOk result }
     {
-        self.emit(after_fd(0xf9))
+        self.emit(Opcode::after_fd(0xf9))
     }
 
     /// `i32x4.trunc_sat_f64x2_s_zero`: `0xFD 0xFC`.
@@ -288,7 +288,7 @@ impl<'a, A: Allocator> InstructionSink<'a, A> {
         ensures wrote { Writes self.entry (after_fd 0xfc) operands.None result }
         ensures room { HasRoom self.entry → IsOk result }
     {
-        self.emit(after_fd(0xfc))
+        self.emit(Opcode::after_fd(0xfc))
     }
 
     /// `i32x4.trunc_sat_f64x2_u_zero`: `0xFD 0xFD`.
@@ -298,6 +298,6 @@ impl<'a, A: Allocator> InstructionSink<'a, A> {
         ensures wrote { Writes self.entry (after_fd 0xfd) operands.None result }
         ensures room { HasRoom self.entry → IsOk result }
     {
-        self.emit(after_fd(0xfd))
+        self.emit(Opcode::after_fd(0xfd))
     }
 }

@@ -6,9 +6,9 @@ ghost use Rattle.wasm_instructions.specs.Instructions.{after_fd};
 ghost use Rattle.wasm_instructions.specs.declared.table.call.Operands.TheVariants as operands;
 
 use crate::sink::InstructionSink;
-use crate::sink::emit::after_fd;
 use std::alloc::Allocator;
-use wasm_values::encode::EncodeError;
+use wasm_codec::encode::EncodeError;
+use wasm_instructions::table::Opcode;
 
 impl<'a, A: Allocator> InstructionSink<'a, A> {
     /// `i64x2.abs`: `0xFD 0xC0`.
@@ -18,7 +18,7 @@ impl<'a, A: Allocator> InstructionSink<'a, A> {
         ensures wrote { Writes self.entry (after_fd 0xc0) operands.None result }
         ensures room { HasRoom self.entry → IsOk result }
     {
-        self.emit(after_fd(0xc0))
+        self.emit(Opcode::after_fd(0xc0))
     }
 
     /// `i64x2.neg`: `0xFD 0xC1`.
@@ -28,7 +28,7 @@ impl<'a, A: Allocator> InstructionSink<'a, A> {
         ensures wrote { Writes self.entry (after_fd 0xc1) operands.None result }
         ensures room { HasRoom self.entry → IsOk result }
     {
-        self.emit(after_fd(0xc1))
+        self.emit(Opcode::after_fd(0xc1))
     }
 
     /// `i64x2.all_true`: `0xFD 0xC3`.
@@ -38,7 +38,7 @@ impl<'a, A: Allocator> InstructionSink<'a, A> {
         ensures wrote { Writes self.entry (after_fd 0xc3) operands.None result }
         ensures room { HasRoom self.entry → IsOk result }
     {
-        self.emit(after_fd(0xc3))
+        self.emit(Opcode::after_fd(0xc3))
     }
 
     /// `i64x2.bitmask`: `0xFD 0xC4`.
@@ -48,7 +48,7 @@ impl<'a, A: Allocator> InstructionSink<'a, A> {
         ensures wrote { Writes self.entry (after_fd 0xc4) operands.None result }
         ensures room { HasRoom self.entry → IsOk result }
     {
-        self.emit(after_fd(0xc4))
+        self.emit(Opcode::after_fd(0xc4))
     }
 
     /// `i64x2.extend_low_i32x4_s`: `0xFD 0xC7`.
@@ -58,7 +58,7 @@ impl<'a, A: Allocator> InstructionSink<'a, A> {
         ensures wrote { Writes self.entry (after_fd 0xc7) operands.None result }
         ensures room { HasRoom self.entry → IsOk result }
     {
-        self.emit(after_fd(0xc7))
+        self.emit(Opcode::after_fd(0xc7))
     }
 
     /// `i64x2.extend_high_i32x4_s`: `0xFD 0xC8`.
@@ -68,7 +68,7 @@ impl<'a, A: Allocator> InstructionSink<'a, A> {
         ensures wrote { Writes self.entry (after_fd 0xc8) operands.None result }
         ensures room { HasRoom self.entry → IsOk result }
     {
-        self.emit(after_fd(0xc8))
+        self.emit(Opcode::after_fd(0xc8))
     }
 
     /// `i64x2.extend_low_i32x4_u`: `0xFD 0xC9`.
@@ -78,7 +78,7 @@ impl<'a, A: Allocator> InstructionSink<'a, A> {
         ensures wrote { Writes self.entry (after_fd 0xc9) operands.None result }
         ensures room { HasRoom self.entry → IsOk result }
     {
-        self.emit(after_fd(0xc9))
+        self.emit(Opcode::after_fd(0xc9))
     }
 
     /// `i64x2.extend_high_i32x4_u`: `0xFD 0xCA`.
@@ -88,7 +88,7 @@ impl<'a, A: Allocator> InstructionSink<'a, A> {
         ensures wrote { Writes self.entry (after_fd 0xca) operands.None result }
         ensures room { HasRoom self.entry → IsOk result }
     {
-        self.emit(after_fd(0xca))
+        self.emit(Opcode::after_fd(0xca))
     }
 
     /// `i64x2.shl`: `0xFD 0xCB`.
@@ -98,7 +98,7 @@ impl<'a, A: Allocator> InstructionSink<'a, A> {
         ensures wrote { Writes self.entry (after_fd 0xcb) operands.None result }
         ensures room { HasRoom self.entry → IsOk result }
     {
-        self.emit(after_fd(0xcb))
+        self.emit(Opcode::after_fd(0xcb))
     }
 
     /// `i64x2.shr_s`: `0xFD 0xCC`.
@@ -108,7 +108,7 @@ impl<'a, A: Allocator> InstructionSink<'a, A> {
         ensures wrote { Writes self.entry (after_fd 0xcc) operands.None result }
         ensures room { HasRoom self.entry → IsOk result }
     {
-        self.emit(after_fd(0xcc))
+        self.emit(Opcode::after_fd(0xcc))
     }
 
     /// `i64x2.shr_u`: `0xFD 0xCD`.
@@ -118,7 +118,7 @@ impl<'a, A: Allocator> InstructionSink<'a, A> {
         ensures wrote { Writes self.entry (after_fd 0xcd) operands.None result }
         ensures room { HasRoom self.entry → IsOk result }
     {
-        self.emit(after_fd(0xcd))
+        self.emit(Opcode::after_fd(0xcd))
     }
 
     /// `i64x2.add`: `0xFD 0xCE`.
@@ -128,7 +128,7 @@ impl<'a, A: Allocator> InstructionSink<'a, A> {
         ensures wrote { Writes self.entry (after_fd 0xce) operands.None result }
         ensures room { HasRoom self.entry → IsOk result }
     {
-        self.emit(after_fd(0xce))
+        self.emit(Opcode::after_fd(0xce))
     }
 
     /// `i64x2.sub`: `0xFD 0xD1`.
@@ -138,7 +138,7 @@ impl<'a, A: Allocator> InstructionSink<'a, A> {
         ensures wrote { Writes self.entry (after_fd 0xd1) operands.None result }
         ensures room { HasRoom self.entry → IsOk result }
     {
-        self.emit(after_fd(0xd1))
+        self.emit(Opcode::after_fd(0xd1))
     }
 
     /// `i64x2.mul`: `0xFD 0xD5`.
@@ -148,7 +148,7 @@ impl<'a, A: Allocator> InstructionSink<'a, A> {
         ensures wrote { Writes self.entry (after_fd 0xd5) operands.None result }
         ensures room { HasRoom self.entry → IsOk result }
     {
-        self.emit(after_fd(0xd5))
+        self.emit(Opcode::after_fd(0xd5))
     }
 
     /// `i64x2.extmul_low_i32x4_s`: `0xFD 0xDC`.
@@ -158,7 +158,7 @@ impl<'a, A: Allocator> InstructionSink<'a, A> {
         ensures wrote { Writes self.entry (after_fd 0xdc) operands.None result }
         ensures room { HasRoom self.entry → IsOk result }
     {
-        self.emit(after_fd(0xdc))
+        self.emit(Opcode::after_fd(0xdc))
     }
 
     /// `i64x2.extmul_high_i32x4_s`: `0xFD 0xDD`.
@@ -168,7 +168,7 @@ impl<'a, A: Allocator> InstructionSink<'a, A> {
         ensures wrote { Writes self.entry (after_fd 0xdd) operands.None result }
         ensures room { HasRoom self.entry → IsOk result }
     {
-        self.emit(after_fd(0xdd))
+        self.emit(Opcode::after_fd(0xdd))
     }
 
     /// `i64x2.extmul_low_i32x4_u`: `0xFD 0xDE`.
@@ -178,7 +178,7 @@ impl<'a, A: Allocator> InstructionSink<'a, A> {
         ensures wrote { Writes self.entry (after_fd 0xde) operands.None result }
         ensures room { HasRoom self.entry → IsOk result }
     {
-        self.emit(after_fd(0xde))
+        self.emit(Opcode::after_fd(0xde))
     }
 
     /// `i64x2.extmul_high_i32x4_u`: `0xFD 0xDF`.
@@ -188,6 +188,6 @@ impl<'a, A: Allocator> InstructionSink<'a, A> {
         ensures wrote { Writes self.entry (after_fd 0xdf) operands.None result }
         ensures room { HasRoom self.entry → IsOk result }
     {
-        self.emit(after_fd(0xdf))
+        self.emit(Opcode::after_fd(0xdf))
     }
 }

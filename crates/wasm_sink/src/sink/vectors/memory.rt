@@ -6,10 +6,10 @@ ghost use Rattle.wasm_instructions.specs.Instructions.{after_fd};
 ghost use Rattle.wasm_instructions.specs.declared.table.call.Operands.TheVariants as operands;
 
 use crate::sink::InstructionSink;
-use crate::sink::emit::after_fd;
 use std::alloc::Allocator;
+use wasm_codec::encode::EncodeError;
 use wasm_instructions::operands::{Lane, MemArg};
-use wasm_values::encode::EncodeError;
+use wasm_instructions::table::Opcode;
 
 impl<'a, A: Allocator> InstructionSink<'a, A> {
     /// `v128.load`: `0xFD 0x00`.
@@ -20,7 +20,7 @@ impl<'a, A: Allocator> InstructionSink<'a, A> {
         ensures alignment { IsErrOf result EncodeError.Alignment ↔ 64 ≤ memarg.align }
         ensures room { HasRoom self.entry → memarg.align < 64 → IsOk result }
     {
-        self.emit_mem(after_fd(0x00), memarg)
+        self.emit_mem(Opcode::after_fd(0x00), memarg)
     }
 
     /// `v128.load8x8_s`: `0xFD 0x01`.
@@ -31,7 +31,7 @@ impl<'a, A: Allocator> InstructionSink<'a, A> {
         ensures alignment { IsErrOf result EncodeError.Alignment ↔ 64 ≤ memarg.align }
         ensures room { HasRoom self.entry → memarg.align < 64 → IsOk result }
     {
-        self.emit_mem(after_fd(0x01), memarg)
+        self.emit_mem(Opcode::after_fd(0x01), memarg)
     }
 
     /// `v128.load8x8_u`: `0xFD 0x02`.
@@ -42,7 +42,7 @@ impl<'a, A: Allocator> InstructionSink<'a, A> {
         ensures alignment { IsErrOf result EncodeError.Alignment ↔ 64 ≤ memarg.align }
         ensures room { HasRoom self.entry → memarg.align < 64 → IsOk result }
     {
-        self.emit_mem(after_fd(0x02), memarg)
+        self.emit_mem(Opcode::after_fd(0x02), memarg)
     }
 
     /// `v128.load16x4_s`: `0xFD 0x03`.
@@ -53,7 +53,7 @@ impl<'a, A: Allocator> InstructionSink<'a, A> {
         ensures alignment { IsErrOf result EncodeError.Alignment ↔ 64 ≤ memarg.align }
         ensures room { HasRoom self.entry → memarg.align < 64 → IsOk result }
     {
-        self.emit_mem(after_fd(0x03), memarg)
+        self.emit_mem(Opcode::after_fd(0x03), memarg)
     }
 
     /// `v128.load16x4_u`: `0xFD 0x04`.
@@ -64,7 +64,7 @@ impl<'a, A: Allocator> InstructionSink<'a, A> {
         ensures alignment { IsErrOf result EncodeError.Alignment ↔ 64 ≤ memarg.align }
         ensures room { HasRoom self.entry → memarg.align < 64 → IsOk result }
     {
-        self.emit_mem(after_fd(0x04), memarg)
+        self.emit_mem(Opcode::after_fd(0x04), memarg)
     }
 
     /// `v128.load32x2_s`: `0xFD 0x05`.
@@ -75,7 +75,7 @@ impl<'a, A: Allocator> InstructionSink<'a, A> {
         ensures alignment { IsErrOf result EncodeError.Alignment ↔ 64 ≤ memarg.align }
         ensures room { HasRoom self.entry → memarg.align < 64 → IsOk result }
     {
-        self.emit_mem(after_fd(0x05), memarg)
+        self.emit_mem(Opcode::after_fd(0x05), memarg)
     }
 
     /// `v128.load32x2_u`: `0xFD 0x06`.
@@ -86,7 +86,7 @@ impl<'a, A: Allocator> InstructionSink<'a, A> {
         ensures alignment { IsErrOf result EncodeError.Alignment ↔ 64 ≤ memarg.align }
         ensures room { HasRoom self.entry → memarg.align < 64 → IsOk result }
     {
-        self.emit_mem(after_fd(0x06), memarg)
+        self.emit_mem(Opcode::after_fd(0x06), memarg)
     }
 
     /// `v128.load8_splat`: `0xFD 0x07`.
@@ -97,7 +97,7 @@ impl<'a, A: Allocator> InstructionSink<'a, A> {
         ensures alignment { IsErrOf result EncodeError.Alignment ↔ 64 ≤ memarg.align }
         ensures room { HasRoom self.entry → memarg.align < 64 → IsOk result }
     {
-        self.emit_mem(after_fd(0x07), memarg)
+        self.emit_mem(Opcode::after_fd(0x07), memarg)
     }
 
     /// `v128.load16_splat`: `0xFD 0x08`.
@@ -108,7 +108,7 @@ impl<'a, A: Allocator> InstructionSink<'a, A> {
         ensures alignment { IsErrOf result EncodeError.Alignment ↔ 64 ≤ memarg.align }
         ensures room { HasRoom self.entry → memarg.align < 64 → IsOk result }
     {
-        self.emit_mem(after_fd(0x08), memarg)
+        self.emit_mem(Opcode::after_fd(0x08), memarg)
     }
 
     /// `v128.load32_splat`: `0xFD 0x09`.
@@ -119,7 +119,7 @@ impl<'a, A: Allocator> InstructionSink<'a, A> {
         ensures alignment { IsErrOf result EncodeError.Alignment ↔ 64 ≤ memarg.align }
         ensures room { HasRoom self.entry → memarg.align < 64 → IsOk result }
     {
-        self.emit_mem(after_fd(0x09), memarg)
+        self.emit_mem(Opcode::after_fd(0x09), memarg)
     }
 
     /// `v128.load64_splat`: `0xFD 0x0A`.
@@ -130,7 +130,7 @@ impl<'a, A: Allocator> InstructionSink<'a, A> {
         ensures alignment { IsErrOf result EncodeError.Alignment ↔ 64 ≤ memarg.align }
         ensures room { HasRoom self.entry → memarg.align < 64 → IsOk result }
     {
-        self.emit_mem(after_fd(0x0a), memarg)
+        self.emit_mem(Opcode::after_fd(0x0a), memarg)
     }
 
     /// `v128.store`: `0xFD 0x0B`.
@@ -141,7 +141,7 @@ impl<'a, A: Allocator> InstructionSink<'a, A> {
         ensures alignment { IsErrOf result EncodeError.Alignment ↔ 64 ≤ memarg.align }
         ensures room { HasRoom self.entry → memarg.align < 64 → IsOk result }
     {
-        self.emit_mem(after_fd(0x0b), memarg)
+        self.emit_mem(Opcode::after_fd(0x0b), memarg)
     }
 
     /// `v128.load8_lane`: `0xFD 0x54`.
@@ -156,7 +156,7 @@ impl<'a, A: Allocator> InstructionSink<'a, A> {
         ensures alignment { IsErrOf result EncodeError.Alignment ↔ 64 ≤ memarg.align }
         ensures room { HasRoom self.entry → memarg.align < 64 → IsOk result }
     {
-        self.emit_mem_lane(after_fd(0x54), memarg, lane)
+        self.emit_mem_lane(Opcode::after_fd(0x54), memarg, lane)
     }
 
     /// `v128.load16_lane`: `0xFD 0x55`.
@@ -171,7 +171,7 @@ impl<'a, A: Allocator> InstructionSink<'a, A> {
         ensures alignment { IsErrOf result EncodeError.Alignment ↔ 64 ≤ memarg.align }
         ensures room { HasRoom self.entry → memarg.align < 64 → IsOk result }
     {
-        self.emit_mem_lane(after_fd(0x55), memarg, lane)
+        self.emit_mem_lane(Opcode::after_fd(0x55), memarg, lane)
     }
 
     /// `v128.load32_lane`: `0xFD 0x56`.
@@ -186,7 +186,7 @@ impl<'a, A: Allocator> InstructionSink<'a, A> {
         ensures alignment { IsErrOf result EncodeError.Alignment ↔ 64 ≤ memarg.align }
         ensures room { HasRoom self.entry → memarg.align < 64 → IsOk result }
     {
-        self.emit_mem_lane(after_fd(0x56), memarg, lane)
+        self.emit_mem_lane(Opcode::after_fd(0x56), memarg, lane)
     }
 
     /// `v128.load64_lane`: `0xFD 0x57`.
@@ -201,7 +201,7 @@ impl<'a, A: Allocator> InstructionSink<'a, A> {
         ensures alignment { IsErrOf result EncodeError.Alignment ↔ 64 ≤ memarg.align }
         ensures room { HasRoom self.entry → memarg.align < 64 → IsOk result }
     {
-        self.emit_mem_lane(after_fd(0x57), memarg, lane)
+        self.emit_mem_lane(Opcode::after_fd(0x57), memarg, lane)
     }
 
     /// `v128.store8_lane`: `0xFD 0x58`.
@@ -216,7 +216,7 @@ impl<'a, A: Allocator> InstructionSink<'a, A> {
         ensures alignment { IsErrOf result EncodeError.Alignment ↔ 64 ≤ memarg.align }
         ensures room { HasRoom self.entry → memarg.align < 64 → IsOk result }
     {
-        self.emit_mem_lane(after_fd(0x58), memarg, lane)
+        self.emit_mem_lane(Opcode::after_fd(0x58), memarg, lane)
     }
 
     /// `v128.store16_lane`: `0xFD 0x59`.
@@ -231,7 +231,7 @@ impl<'a, A: Allocator> InstructionSink<'a, A> {
         ensures alignment { IsErrOf result EncodeError.Alignment ↔ 64 ≤ memarg.align }
         ensures room { HasRoom self.entry → memarg.align < 64 → IsOk result }
     {
-        self.emit_mem_lane(after_fd(0x59), memarg, lane)
+        self.emit_mem_lane(Opcode::after_fd(0x59), memarg, lane)
     }
 
     /// `v128.store32_lane`: `0xFD 0x5A`.
@@ -246,7 +246,7 @@ impl<'a, A: Allocator> InstructionSink<'a, A> {
         ensures alignment { IsErrOf result EncodeError.Alignment ↔ 64 ≤ memarg.align }
         ensures room { HasRoom self.entry → memarg.align < 64 → IsOk result }
     {
-        self.emit_mem_lane(after_fd(0x5a), memarg, lane)
+        self.emit_mem_lane(Opcode::after_fd(0x5a), memarg, lane)
     }
 
     /// `v128.store64_lane`: `0xFD 0x5B`.
@@ -261,7 +261,7 @@ impl<'a, A: Allocator> InstructionSink<'a, A> {
         ensures alignment { IsErrOf result EncodeError.Alignment ↔ 64 ≤ memarg.align }
         ensures room { HasRoom self.entry → memarg.align < 64 → IsOk result }
     {
-        self.emit_mem_lane(after_fd(0x5b), memarg, lane)
+        self.emit_mem_lane(Opcode::after_fd(0x5b), memarg, lane)
     }
 
     /// `v128.load32_zero`: `0xFD 0x5C`.
@@ -272,7 +272,7 @@ impl<'a, A: Allocator> InstructionSink<'a, A> {
         ensures alignment { IsErrOf result EncodeError.Alignment ↔ 64 ≤ memarg.align }
         ensures room { HasRoom self.entry → memarg.align < 64 → IsOk result }
     {
-        self.emit_mem(after_fd(0x5c), memarg)
+        self.emit_mem(Opcode::after_fd(0x5c), memarg)
     }
 
     /// `v128.load64_zero`: `0xFD 0x5D`.
@@ -283,6 +283,6 @@ impl<'a, A: Allocator> InstructionSink<'a, A> {
         ensures alignment { IsErrOf result EncodeError.Alignment ↔ 64 ≤ memarg.align }
         ensures room { HasRoom self.entry → memarg.align < 64 → IsOk result }
     {
-        self.emit_mem(after_fd(0x5d), memarg)
+        self.emit_mem(Opcode::after_fd(0x5d), memarg)
     }
 }

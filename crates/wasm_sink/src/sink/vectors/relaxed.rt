@@ -6,9 +6,9 @@ ghost use Rattle.wasm_instructions.specs.Instructions.{after_fd};
 ghost use Rattle.wasm_instructions.specs.declared.table.call.Operands.TheVariants as operands;
 
 use crate::sink::InstructionSink;
-use crate::sink::emit::after_fd;
 use std::alloc::Allocator;
-use wasm_values::encode::EncodeError;
+use wasm_codec::encode::EncodeError;
+use wasm_instructions::table::Opcode;
 
 impl<'a, A: Allocator> InstructionSink<'a, A> {
     /// `i8x16.relaxed_swizzle`: `0xFD 0x100`.
@@ -18,7 +18,7 @@ impl<'a, A: Allocator> InstructionSink<'a, A> {
         ensures wrote { Writes self.entry (after_fd 0x100) operands.None result }
         ensures room { HasRoom self.entry → IsOk result }
     {
-        self.emit(after_fd(0x100))
+        self.emit(Opcode::after_fd(0x100))
     }
 
     /// `i32x4.relaxed_trunc_f32x4_s`: `0xFD 0x101`.
@@ -28,7 +28,7 @@ impl<'a, A: Allocator> InstructionSink<'a, A> {
         ensures wrote { Writes self.entry (after_fd 0x101) operands.None result }
         ensures room { HasRoom self.entry → IsOk result }
     {
-        self.emit(after_fd(0x101))
+        self.emit(Opcode::after_fd(0x101))
     }
 
     /// `i32x4.relaxed_trunc_f32x4_u`: `0xFD 0x102`.
@@ -38,7 +38,7 @@ impl<'a, A: Allocator> InstructionSink<'a, A> {
         ensures wrote { Writes self.entry (after_fd 0x102) operands.None result }
         ensures room { HasRoom self.entry → IsOk result }
     {
-        self.emit(after_fd(0x102))
+        self.emit(Opcode::after_fd(0x102))
     }
 
     /// `i32x4.relaxed_trunc_f64x2_s_zero`: `0xFD 0x103`.
@@ -48,7 +48,7 @@ impl<'a, A: Allocator> InstructionSink<'a, A> {
         ensures wrote { Writes self.entry (after_fd 0x103) operands.None result }
         ensures room { HasRoom self.entry → IsOk result }
     {
-        self.emit(after_fd(0x103))
+        self.emit(Opcode::after_fd(0x103))
     }
 
     /// `i32x4.relaxed_trunc_f64x2_u_zero`: `0xFD 0x104`.
@@ -58,7 +58,7 @@ impl<'a, A: Allocator> InstructionSink<'a, A> {
         ensures wrote { Writes self.entry (after_fd 0x104) operands.None result }
         ensures room { HasRoom self.entry → IsOk result }
     {
-        self.emit(after_fd(0x104))
+        self.emit(Opcode::after_fd(0x104))
     }
 
     /// `f32x4.relaxed_madd`: `0xFD 0x105`.
@@ -68,7 +68,7 @@ impl<'a, A: Allocator> InstructionSink<'a, A> {
         ensures wrote { Writes self.entry (after_fd 0x105) operands.None result }
         ensures room { HasRoom self.entry → IsOk result }
     {
-        self.emit(after_fd(0x105))
+        self.emit(Opcode::after_fd(0x105))
     }
 
     /// `f32x4.relaxed_nmadd`: `0xFD 0x106`.
@@ -78,7 +78,7 @@ impl<'a, A: Allocator> InstructionSink<'a, A> {
         ensures wrote { Writes self.entry (after_fd 0x106) operands.None result }
         ensures room { HasRoom self.entry → IsOk result }
     {
-        self.emit(after_fd(0x106))
+        self.emit(Opcode::after_fd(0x106))
     }
 
     /// `f64x2.relaxed_madd`: `0xFD 0x107`.
@@ -88,7 +88,7 @@ impl<'a, A: Allocator> InstructionSink<'a, A> {
         ensures wrote { Writes self.entry (after_fd 0x107) operands.None result }
         ensures room { HasRoom self.entry → IsOk result }
     {
-        self.emit(after_fd(0x107))
+        self.emit(Opcode::after_fd(0x107))
     }
 
     /// `f64x2.relaxed_nmadd`: `0xFD 0x108`.
@@ -98,7 +98,7 @@ impl<'a, A: Allocator> InstructionSink<'a, A> {
         ensures wrote { Writes self.entry (after_fd 0x108) operands.None result }
         ensures room { HasRoom self.entry → IsOk result }
     {
-        self.emit(after_fd(0x108))
+        self.emit(Opcode::after_fd(0x108))
     }
 
     /// `i8x16.relaxed_laneselect`: `0xFD 0x109`.
@@ -108,7 +108,7 @@ impl<'a, A: Allocator> InstructionSink<'a, A> {
         ensures wrote { Writes self.entry (after_fd 0x109) operands.None result }
         ensures room { HasRoom self.entry → IsOk result }
     {
-        self.emit(after_fd(0x109))
+        self.emit(Opcode::after_fd(0x109))
     }
 
     /// `i16x8.relaxed_laneselect`: `0xFD 0x10A`.
@@ -118,7 +118,7 @@ impl<'a, A: Allocator> InstructionSink<'a, A> {
         ensures wrote { Writes self.entry (after_fd 0x10a) operands.None result }
         ensures room { HasRoom self.entry → IsOk result }
     {
-        self.emit(after_fd(0x10a))
+        self.emit(Opcode::after_fd(0x10a))
     }
 
     /// `i32x4.relaxed_laneselect`: `0xFD 0x10B`.
@@ -128,7 +128,7 @@ impl<'a, A: Allocator> InstructionSink<'a, A> {
         ensures wrote { Writes self.entry (after_fd 0x10b) operands.None result }
         ensures room { HasRoom self.entry → IsOk result }
     {
-        self.emit(after_fd(0x10b))
+        self.emit(Opcode::after_fd(0x10b))
     }
 
     /// `i64x2.relaxed_laneselect`: `0xFD 0x10C`.
@@ -138,7 +138,7 @@ impl<'a, A: Allocator> InstructionSink<'a, A> {
         ensures wrote { Writes self.entry (after_fd 0x10c) operands.None result }
         ensures room { HasRoom self.entry → IsOk result }
     {
-        self.emit(after_fd(0x10c))
+        self.emit(Opcode::after_fd(0x10c))
     }
 
     /// `f32x4.relaxed_min`: `0xFD 0x10D`.
@@ -148,7 +148,7 @@ impl<'a, A: Allocator> InstructionSink<'a, A> {
         ensures wrote { Writes self.entry (after_fd 0x10d) operands.None result }
         ensures room { HasRoom self.entry → IsOk result }
     {
-        self.emit(after_fd(0x10d))
+        self.emit(Opcode::after_fd(0x10d))
     }
 
     /// `f32x4.relaxed_max`: `0xFD 0x10E`.
@@ -158,7 +158,7 @@ impl<'a, A: Allocator> InstructionSink<'a, A> {
         ensures wrote { Writes self.entry (after_fd 0x10e) operands.None result }
         ensures room { HasRoom self.entry → IsOk result }
     {
-        self.emit(after_fd(0x10e))
+        self.emit(Opcode::after_fd(0x10e))
     }
 
     /// `f64x2.relaxed_min`: `0xFD 0x10F`.
@@ -168,7 +168,7 @@ impl<'a, A: Allocator> InstructionSink<'a, A> {
         ensures wrote { Writes self.entry (after_fd 0x10f) operands.None result }
         ensures room { HasRoom self.entry → IsOk result }
     {
-        self.emit(after_fd(0x10f))
+        self.emit(Opcode::after_fd(0x10f))
     }
 
     /// `f64x2.relaxed_max`: `0xFD 0x110`.
@@ -178,7 +178,7 @@ impl<'a, A: Allocator> InstructionSink<'a, A> {
         ensures wrote { Writes self.entry (after_fd 0x110) operands.None result }
         ensures room { HasRoom self.entry → IsOk result }
     {
-        self.emit(after_fd(0x110))
+        self.emit(Opcode::after_fd(0x110))
     }
 
     /// `i16x8.relaxed_q15mulr_s`: `0xFD 0x111`.
@@ -188,7 +188,7 @@ impl<'a, A: Allocator> InstructionSink<'a, A> {
         ensures wrote { Writes self.entry (after_fd 0x111) operands.None result }
         ensures room { HasRoom self.entry → IsOk result }
     {
-        self.emit(after_fd(0x111))
+        self.emit(Opcode::after_fd(0x111))
     }
 
     /// `i16x8.relaxed_dot_i8x16_i7x16_s`: `0xFD 0x112`.
@@ -198,7 +198,7 @@ impl<'a, A: Allocator> InstructionSink<'a, A> {
         ensures wrote { Writes self.entry (after_fd 0x112) operands.None result }
         ensures room { HasRoom self.entry → IsOk result }
     {
-        self.emit(after_fd(0x112))
+        self.emit(Opcode::after_fd(0x112))
     }
 
     /// `i32x4.relaxed_dot_i8x16_i7x16_add_s`: `0xFD 0x113`.
@@ -208,6 +208,6 @@ impl<'a, A: Allocator> InstructionSink<'a, A> {
         ensures wrote { Writes self.entry (after_fd 0x113) operands.None result }
         ensures room { HasRoom self.entry → IsOk result }
     {
-        self.emit(after_fd(0x113))
+        self.emit(Opcode::after_fd(0x113))
     }
 }

@@ -1,9 +1,9 @@
 use Rattle.std.proofs.Common.{List, ℕ, Result, Ok, Err, sym, subst}
-use Rattle.wasm_values.specs.declared.reader.ReadError.{ReadError}
-use Rattle.wasm_values.specs.declared.reader.ReadError.TheVariants as errors
-use Rattle.wasm_encoder.specs.Grammar.{Grammar}
-use Rattle.wasm_encoder.specs.Answers.{IsOrMemory, IfRefused, SpellsSome}
-use Rattle.wasm_encoder.specs.TypedModules.{SpellsTypedModule, typed_module_text}
+use Rattle.wasm_codec.specs.declared.reader.ReadError.{ReadError}
+use Rattle.wasm_codec.specs.declared.reader.ReadError.TheVariants as errors
+use Rattle.wasm_codec.specs.Grammar.{Grammar}
+use Rattle.wasm_codec.specs.Answers.{IsOrMemory, IfRefused, SpellsSome}
+use Rattle.wasm_modules.specs.DecodedModules.{SpellsDecodedModule, decoded_module_text}
 use Rattle.wasmnorm.specs.Modes.{NormalForm}
 use Rattle.wasmnorm.specs.declared.modes.Mode.TheVariants.{Module}
 use Rattle.wasmnorm.proofs.modes.normalise.Goals as goal
@@ -22,4 +22,4 @@ returns-in-Module-clause-complete c text normal =
 
 pub returns-in-Module-clause-unspelled : goal.returns-in-Module-clause-unspelled
 returns-in-Module-clause-unspelled c =
-    rw c.in-Module.is (refused_none SpellsTypedModule typed_module_text (λ text. text.items) c.args.input.now c.normalise_module.result c.normalise_module.ensures.complete)
+    rw c.in-Module.is (refused_none SpellsDecodedModule decoded_module_text (λ text. text.items) c.args.input.now c.normalise_module.result c.normalise_module.ensures.complete)

@@ -2,9 +2,9 @@ use Rattle.std.proofs.Common.{◌≡◌, ℕ, ◌+◌, List, length, [], Some, s
 use Rattle.std.proofs.lemmas.Result.{err_from_is_err_and}
 use Rattle.std.proofs.lemmas.List.{take_all}
 use Rattle.wasm_types.specs.declared.types.composite.TypeEntry.{TypeEntry}
-use Rattle.wasm_values.specs.Encoding.{both_texts, texts}
+use Rattle.wasm_codec.specs.Encoding.{both_texts, texts}
 use Rattle.wasm_types.specs.TypeEncoding.{entry_encoding}
-use Rattle.wasm_values.proofs.TextLists.{IsFollowed, followed_more, texts-none}
+use Rattle.wasm_codec.proofs.TextLists.{IsFollowed, followed_more, texts-none}
 use Rattle.wasm_encoder.proofs.TypeSectionLaws.{gains_all}
 use Rattle.wasm_encoder.proofs.type_section.TypeSection.add_each.Goals as goal
 

@@ -1,0 +1,120 @@
+-- Steps of the loop that reads digits.
+use Rattle.std.proofs.Common.{◌≡◌, ℕ, zero, suc, ◌+◌, ◌-◌, ◌*◌, ◌%◌, ◌^◌, ◌<◌, ◌≤◌, List, [], ◌∷◌, ◌++◌, length, get_or, take, drop, Option, Some, None, Ok, Err, refl, sym, ap, ◌∙◌, append_assoc, add-one, inl, inr, arith}
+use Rattle.std.proofs.lemmas.Bool.{lt-ltb, le-ltb, cases_lt}
+use Rattle.std.proofs.lemmas.List.{take_more, drop_more, drop_all, length-take}
+use Rattle.std.proofs.lemmas.Nat.{mul-le}
+use Rattle.std.proofs.Math.Nat.{pow-le-pow_right}
+use Rattle.std.proofs.Math.Nat.{pow-suc}
+use Rattle.wasm_codec.specs.declared.reader.cursor.Fault.{Fault}
+use Rattle.wasm_codec.specs.declared.reader.cursor.Fault.TheVariants as faults
+use Rattle.wasm_codec.specs.Reading.{◌>>=◌, byte_at, Reads}
+use Rattle.wasm_codec.specs.Numbers.{digits_at, unsigned, last, ReadsDigits}
+use Rattle.wasm_codec.proofs.Laws.{some, some_is}
+
+-- digits that were passed, and those that are still read
+abbrev ahead : List ℕ → Option (List ℕ × List ℕ) → Option (List ℕ × List ℕ)
+ahead front read = read >>= λ more. Some (front ++ more.0, more.1)
+
+-- what is read in all, after i digits
+abbrev pub reads_on : ℕ → List ℕ → ℕ → Option (List ℕ × List ℕ)
+reads_on most bytes i = ahead (take i bytes) (digits_at (most - i) (drop i bytes))
+
+regroup : (front : List ℕ) (b : ℕ) (read : Option (List ℕ × List ℕ)) → ahead front (read >>= λ more. Some (b ∷ more.0, more.1)) ≡ ahead (front ++ b ∷ []) read
+regroup front b (Some x) = ap (λ (ds : List ℕ). Some (ds, x.1)) (simp append_assoc)
+regroup front b None = refl
+
+-- the byte at a place
+pub record ByteAt (bytes : List ℕ) (i b : ℕ) (rest : List ℕ) : Type 0 where
+  pub within : i < length bytes
+  pub byte : get_or bytes i 0 ≡ b
+  pub after : rest ≡ drop (i + 1) bytes
+
+pub byte_is : (bytes : List ℕ) (i b : ℕ) (rest : List ℕ) → byte_at (drop i bytes) ≡ Some (b, rest) → ByteAt bytes i b rest
+byte_is bytes i b rest e = elim (cases_lt i (length bytes)) [
+  | inl lt ↦
+      let same : some (get_or bytes i 0, drop (i + 1) bytes) ≡ some (b, rest) = sym (ap byte_at (drop_more bytes i 0 lt)) ∙ e in
+      let pair = some_is (get_or bytes i 0, drop (i + 1) bytes) (b, rest) same in
+      record { within = lt; byte = ap (λ (x : ℕ × List ℕ). x.0) pair; after = sym (ap (λ (x : ℕ × List ℕ). x.1) pair) }
+  | inr le ↦
+      let none : byte_at (drop i bytes) ≡ None = ap byte_at (drop_all i bytes le) in
+      absurd cc
+]
+
+pub goes_on : (most : ℕ) (bytes : List ℕ) (i : ℕ) → i < length bytes → i < most → 128 ≤ get_or bytes i 0 → reads_on most bytes i ≡ reads_on most bytes (i + 1)
+unfolding digits_at
+goes_on most bytes i lt less high =
+    let k : most - i ≡ suc (most - (i + 1)) = omega arith in
+    rw (k, drop_more bytes i 0 lt, le-ltb (get_or bytes i 0) 128 high, take_more bytes i 0 lt)
+    (regroup (take i bytes) (get_or bytes i 0) (digits_at (most - (i + 1)) (drop (i + 1) bytes)))
+
+pub ends : (most : ℕ) (bytes : List ℕ) (i : ℕ) → i < length bytes → i < most → get_or bytes i 0 < 128 → reads_on most bytes i ≡ Some (take (i + 1) bytes, drop (i + 1) bytes)
+unfolding digits_at
+ends most bytes i lt less low =
+    let k : most - i ≡ suc (most - (i + 1)) = omega arith in
+    rw (k, drop_more bytes i 0 lt, lt-ltb (get_or bytes i 0) 128 low, take_more bytes i 0 lt) refl
+
+pub full : (most : ℕ) (bytes : List ℕ) → reads_on most bytes most ≡ None
+unfolding digits_at
+full most bytes = let k : most - most ≡ 0 = omega arith in rw k refl
+
+none_left : (n : ℕ) → digits_at n [] ≡ None
+unfolding digits_at
+none_left zero = refl
+none_left (suc n) = refl
+
+no_byte : (bytes : List ℕ) → byte_at bytes ≡ None → bytes ≡ []
+no_byte [] e = refl
+no_byte (b ∷ bytes) e = absurd cc
+
+pub runs_out : (most : ℕ) (bytes : List ℕ) (i : ℕ) → byte_at (drop i bytes) ≡ None → reads_on most bytes i ≡ None
+runs_out most bytes i e = rw (no_byte (drop i bytes) e, none_left (most - i)) refl
+
+-- a byte was wanting
+pub digits_fail : (fault : Fault) (most : ℕ) (bytes : List ℕ) (i : ℕ) (old new : List ℕ) → old ≡ drop i bytes → reads_on most bytes i ≡ digits_at most bytes → Reads byte_at old new (Err fault) → ReadsDigits most bytes new (Err fault)
+digits_fail faults.Memory most bytes i old new rest so_far e = tt
+digits_fail faults.Malformed most bytes i old new rest so_far e = sym so_far ∙ runs_out most bytes i (sym (ap byte_at rest) ∙ e)
+
+-- ---- what is kept of the digits
+
+-- room for one digit more
+pub record Room (value place digit : ℕ) : Type 0 where
+  pub part : digit * place ≤ 127 * place
+  pub place_fits : place ≤ 128 ^ 9
+
+pub room : (i value place digit : ℕ) → i < 10 → place ≡ 128 ^ i → digit < 128 → Room value place digit
+room i value place digit lt e small =
+    let early : i ≤ 9 = omega arith in
+    record { part = mul-le digit place 127 place (omega arith) (omega arith); place_fits = rw e (pow-le-pow_right (omega arith) early) }
+
+unsigned-append : (front : List ℕ) (b : ℕ) → unsigned (front ++ b ∷ []) ≡ unsigned front + (b % 128) * 128 ^ length front
+unsigned-append [] b = omega arith
+unsigned-append (c ∷ front) b =
+    let p : 128 ^ suc (length front) ≡ 128 * 128 ^ length front = omega arith in
+    rw (unsigned-append front b, p) (omega arith)
+
+last-append : (front : List ℕ) (b : ℕ) → last (front ++ b ∷ []) ≡ b
+last-append [] b = refl
+last-append (c ∷ []) b = refl
+last-append (c ∷ d ∷ front) b = last-append (d ∷ front) b
+
+pub value_more : (bytes : List ℕ) (i b value place : ℕ) → i < length bytes → get_or bytes i 0 ≡ b → value ≡ unsigned (take i bytes) → place ≡ 128 ^ i → value + (b % 128) * place ≡ unsigned (take (i + 1) bytes)
+value_more bytes i b value place lt e v p =
+    let len : length (take i bytes) ≡ i = omega (arith, length-take i bytes) in
+    rw (take_more bytes i 0 lt, e, unsigned-append (take i bytes) b, len, v, p) refl
+
+last_is : (bytes : List ℕ) (i b : ℕ) → i < length bytes → get_or bytes i 0 ≡ b → b ≡ last (take (i + 1) bytes)
+last_is bytes i b lt e = rw (take_more bytes i 0 lt, e) (sym (last-append (take i bytes) b))
+
+-- the last digit was read
+pub digits_end : (most : ℕ) (bytes : List ℕ) (i b value place : ℕ) (rest : List ℕ) → i < most → b < 128 → ByteAt bytes i b rest → reads_on most bytes i ≡ digits_at most bytes → value ≡ unsigned (take i bytes) → place ≡ 128 ^ i
+    → ReadsDigits most bytes rest (Ok (record { unsigned = value + (b % 128) * place; place = place * 128; last = b }))
+digits_end most bytes i b value place rest less low byte so_far v p =
+    let lt = byte.within in
+    let len : length (take (i + 1) bytes) ≡ i + 1 = omega (arith, length-take (i + 1) bytes) in
+    let read : digits_at most bytes ≡ Some (take (i + 1) bytes, rest) = sym so_far ∙ ends most bytes i lt less (rw byte.byte low) ∙ ap (λ (t : List ℕ). Some (take (i + 1) bytes, t)) (sym byte.after) in
+    let pow : place * 128 ≡ 128 ^ (i + 1) = rw (p, add-one) (omega (arith, pow-suc)) in
+    (take (i + 1) bytes, read, (value_more bytes i b value place lt byte.byte v p, pow ∙ ap (λ (k : ℕ). 128 ^ k) (sym len), last_is bytes i b lt byte.byte))
+
+-- another digit comes
+pub digits_more : (most : ℕ) (bytes : List ℕ) (i b : ℕ) (rest : List ℕ) → i < most → 128 ≤ b → ByteAt bytes i b rest → reads_on most bytes i ≡ digits_at most bytes → reads_on most bytes (i + 1) ≡ digits_at most bytes
+digits_more most bytes i b rest less high byte so_far = sym (goes_on most bytes i byte.within less (rw byte.byte high)) ∙ so_far

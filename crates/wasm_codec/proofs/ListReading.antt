@@ -1,0 +1,141 @@
+-- A loop that reads items as long as there are bytes left, over any grammar.
+use Rattle.std.proofs.Common.{◌≡◌, ℕ, suc, ◌-◌, ◌<◌, ◌≤◌, List, [], ◌∷◌, ◌++◌, length, get_or, take, drop, Some, None, Result, Ok, Err, IfOk, ◌↔◌, refl, sym, ap, subst, ◌∙◌, append_assoc, length-append, arith}
+use Rattle.std.proofs.lemmas.List.{append-nil, take-append-drop, flat_map_more}
+use Rattle.std.specs.List.{flat_map}
+use Rattle.wasm_codec.specs.Grammar.{Grammar, Joined, IsBytes, TakesBytes}
+use Rattle.wasm_codec.specs.declared.reader.cursor.Fault.{Fault}
+use Rattle.wasm_codec.specs.declared.reader.cursor.Fault.TheVariants as faults
+use Rattle.wasm_codec.specs.Reading.{Reader, Reads, IsReadBy}
+use Rattle.wasm_codec.specs.declared.reader.ReadError.{ReadError}
+use Rattle.wasm_codec.specs.declared.reader.ReadError.TheVariants as errors
+use Rattle.wasm_codec.specs.Answers.{answer_to, HoldsAtRefusal, IsOrMemory, IfRefused, IsLongestFront, SpellsSome, IsNormalForm}
+use Rattle.wasm_codec.proofs.Laws.{Shortest, IsBytes-back}
+use Rattle.wasm_codec.proofs.Joining.{Joined-more, Joined-longest}
+
+pub IsBytes-from : (bytes : List ℕ) → ((i : ℕ) → get_or bytes i 0 < 256) → IsBytes bytes
+IsBytes-from [] h = tt
+IsBytes-from (b ∷ bytes) h = (h 0, IsBytes-from bytes (λ i. h (suc i)))
+
+-- these items were read, and these bytes are left
+pub record Progress {V : Type 0} (G : Grammar V) (bytes left : List ℕ) (vs : List V) : Type 0 where
+  pub front : List ℕ
+  pub parts : bytes ≡ front ++ left
+  pub spells : Joined G front vs
+
+pub begin : {V : Type 0} (G : Grammar V) (bytes : List ℕ) → Progress G bytes bytes []
+begin G bytes = record { front = []; parts = refl; spells = refl }
+
+some_bytes : {V : Type 0} (G : Grammar V) → TakesBytes G → (front : List ℕ) (v : V) → G front v → 0 < length front
+some_bytes G some [] v g = absurd (some v g)
+some_bytes G some (b ∷ front) v g = omega arith
+
+-- one item more was read
+pub record Next {V : Type 0} (G : Grammar V) (bytes left rest : List ℕ) (vs : List V) (v : V) : Type 0 where
+  pub progress : Progress G bytes rest (vs ++ v ∷ [])
+  pub fewer : length rest < length left
+
+pub next : {V : Type 0} {G : Grammar V} {read : Reader V} → IsReadBy G read → TakesBytes G → (bytes left rest : List ℕ) (vs : List V) (v : V) → IsBytes bytes → Progress G bytes left vs → read left ≡ Some (v, rest) → Next G bytes left rest vs v
+next {V} {G} r some bytes left rest vs v fits p e =
+    let one = r.sound left v rest (IsBytes-back p.front left (rw p.parts at fits)) e in
+    record {
+      progress = record {
+        front = p.front ++ one.front;
+        parts = p.parts ∙ ap (λ (t : List ℕ). p.front ++ t) one.parts ∙ sym (append_assoc p.front one.front rest);
+        spells = Joined-more G p.front vs one.front v p.spells one.spells;
+      };
+      fewer = let more = some_bytes G some one.front v one.spells in omega (arith, ap (length {A = ℕ}) one.parts, length-append one.front rest);
+    }
+
+-- no bytes are left
+pub end : {V : Type 0} (G : Grammar V) (bytes left : List ℕ) (vs : List V) → Progress G bytes left vs → length left ≤ 0 → Joined G bytes vs
+end G bytes [] vs p none = subst (λ (t : List ℕ). Joined G t vs) (sym (p.parts ∙ append-nil p.front)) p.spells
+end G bytes (b ∷ left) vs p none = absurd (omega arith)
+
+-- no item is read of the bytes that are left
+pub stopped : {V : Type 0} {G : Grammar V} {read : Reader V} → IsReadBy G read → TakesBytes G → (bytes left : List ℕ) (vs : List V) → Progress G bytes left vs → read left ≡ None → IsLongestFront (SpellsSome (Joined G)) bytes (length bytes - length left)
+stopped {V} {G} r some bytes left vs p none =
+    let len : length p.front ≡ length bytes - length left = omega (arith, ap (length {A = ℕ}) p.parts, length-append p.front left) in
+    subst (IsLongestFront (SpellsSome (Joined G)) bytes) len (Joined-longest r some bytes p.front left vs p.parts p.spells none)
+
+-- what is answered then
+pub stopped_by : {V : Type 0} {G : Grammar V} {read : Reader V} → IsReadBy G read → TakesBytes G → (bytes left new : List ℕ) (vs : List V) → Progress G bytes left vs → (fault : Fault) → Reads read left new (Err fault)
+    → (e : ReadError) → e ≡ answer_to fault (length bytes - length left) → HoldsAtRefusal e (IsLongestFront (SpellsSome (Joined G)) bytes)
+stopped_by r some bytes left new vs p faults.Memory none e is = rw is tt
+stopped_by r some bytes left new vs p faults.Malformed none e is = rw is (stopped r some bytes left vs p none)
+
+pub IsBytes-drop : (bytes : List ℕ) (n : ℕ) → IsBytes bytes → IsBytes (drop n bytes)
+IsBytes-drop bytes n fits = IsBytes-back (take n bytes) (drop n bytes) (rw (take-append-drop n bytes) fits)
+
+-- ---- normal forms
+
+-- the items that were read were written, and these bytes are left
+pub record Written {V : Type 0} (G : Grammar V) (text_of : V → List ℕ) (bytes left text : List ℕ) : Type 0 where
+  pub values : List V
+  pub progress : Progress G bytes left values
+  pub is_text : text ≡ flat_map text_of values
+
+pub begin_text : {V : Type 0} (G : Grammar V) (text_of : V → List ℕ) (bytes : List ℕ) → Written G text_of bytes bytes []
+begin_text G text_of bytes = record { values = []; progress = begin G bytes; is_text = refl }
+
+-- one item more was read and written
+pub next_text : {V : Type 0} (G : Grammar V) (text_of : V → List ℕ) (bytes left rest text more : List ℕ) (v : V) (w : Written G text_of bytes left text) → Next G bytes left rest w.values v → more ≡ text ++ text_of v → Written G text_of bytes rest more
+next_text {V} G text_of bytes left rest text more v w n e = record {
+  values = w.values ++ v ∷ [];
+  progress = n.progress;
+  is_text = e ∙ ap (λ (t : List ℕ). t ++ text_of v) w.is_text ∙ flat_map_more text_of [] w.values v;
+}
+
+-- ---- what is answered
+
+-- bytes spell at most one value
+abbrev pub AtMostOne : {V : Type 0} → Grammar V → Type 0
+AtMostOne {V} G = (bytes : List ℕ) (v w : V) → G bytes v → G bytes w → v ≡ w
+
+-- where the longest front is shorter than the bytes, they spell nothing
+not_whole : {V : Type 0} (G : Grammar V) (bytes : List ℕ) (at : ℕ) → at < length bytes → IsLongestFront (SpellsSome G) bytes at → (v : V) → G bytes v → ⊥
+not_whole G bytes at lt front v g = let le = front.longest bytes [] (sym (append-nil bytes)) (v, g) in absurd (omega arith)
+
+-- nothing is spelled where it refused
+abbrev pub IfRefusedNone : {X V : Type 0} → Grammar V → List ℕ → Result X ReadError → Type 0
+IfRefusedNone {V = V} G bytes result = IfRefused result (λ _. (v : V) → G bytes v → ⊥)
+
+pub none_within : {X V : Type 0} (G : Grammar V) (bytes : List ℕ) (result : Result X ReadError) → IfRefused result (IsLongestFront (SpellsSome G) bytes) → IfRefused result (λ at. at < length bytes) → IfRefusedNone G bytes result
+none_within G bytes (Ok x) front within = tt
+none_within G bytes (Err errors.Memory) front within = tt
+none_within G bytes (Err (errors.Refused at)) front within = not_whole G bytes at within front
+
+-- what is spelled is given
+pub gives_all : {X V : Type 0} {G : Grammar V} → AtMostOne G → (view : X → V) (bytes : List ℕ) (result : Result X ReadError)
+    → IfOk result (λ x. G bytes (view x)) → IfRefusedNone G bytes result → (v : V) → G bytes v → IsOrMemory view v result
+gives_all one view bytes (Ok x) given none v g = one bytes (view x) v given g
+gives_all one view bytes (Err errors.Memory) given none v g = tt
+gives_all one view bytes (Err (errors.Refused at)) given none v g = none v g
+
+-- the text of what is spelled is given
+pub gives_text : {X V : Type 0} {G : Grammar V} → AtMostOne G → (text_of : V → List ℕ) (view : X → List ℕ) (bytes : List ℕ) (result : Result X ReadError)
+    → IfOk result (λ x. IsNormalForm G text_of bytes (view x)) → IfRefusedNone G bytes result → (v : V) → G bytes v → IsOrMemory view (text_of v) result
+gives_text one text_of view bytes (Ok x) given none v g = given.is_text ∙ ap text_of (one bytes given.value v given.spelled g)
+gives_text one text_of view bytes (Err errors.Memory) given none v g = tt
+gives_text one text_of view bytes (Err (errors.Refused at)) given none v g = none v g
+
+-- the text of what the bytes spell spells what they spell
+same_values : {V : Type 0} {G : Grammar V} {F : V → Type 0} {text_of : V → List ℕ} → AtMostOne G → Shortest G F text_of → (bytes text : List ℕ) → IsNormalForm G text_of bytes text → (w : V) → G text w ↔ G bytes w
+same_values {V} {G} one s bytes text n w =
+    let h : G text n.value = subst (λ (t : List ℕ). G t n.value) (sym n.is_text) (s.again bytes n.value n.spelled) in
+    (λ k. subst (G bytes) (one text n.value w h k) n.spelled, λ k. subst (G text) (one bytes n.value w n.spelled k) h)
+
+-- and is the text of it
+is_normal : {V : Type 0} {G : Grammar V} {F : V → Type 0} {text_of : V → List ℕ} → AtMostOne G → Shortest G F text_of → (bytes text : List ℕ) → IsNormalForm G text_of bytes text → (w : V) → G text w → text ≡ text_of w
+is_normal {V} {G} {text_of = text_of} one s bytes text n w k =
+    let h : G text n.value = subst (λ (t : List ℕ). G t n.value) (sym n.is_text) (s.again bytes n.value n.spelled) in
+    n.is_text ∙ ap text_of (one text n.value w h k)
+
+pub gives_same : {X V : Type 0} {G : Grammar V} {F : V → Type 0} {text_of : V → List ℕ} → AtMostOne G → Shortest G F text_of → (view : X → List ℕ) (bytes : List ℕ) (result : Result X ReadError)
+    → IfOk result (λ x. IsNormalForm G text_of bytes (view x)) → IfOk result (λ x. (w : V) → G (view x) w ↔ G bytes w)
+gives_same one s view bytes (Ok x) given = same_values one s bytes (view x) given
+gives_same one s view bytes (Err e) given = tt
+
+pub gives_normal : {X V : Type 0} {G : Grammar V} {F : V → Type 0} {text_of : V → List ℕ} → AtMostOne G → Shortest G F text_of → (view : X → List ℕ) (bytes : List ℕ) (result : Result X ReadError)
+    → IfOk result (λ x. IsNormalForm G text_of bytes (view x)) → IfOk result (λ x. (w : V) → G (view x) w → view x ≡ text_of w)
+gives_normal one s view bytes (Ok x) given = is_normal one s bytes (view x) given
+gives_normal one s view bytes (Err e) given = tt

@@ -1,0 +1,195 @@
+-- The laws of the five widths of numbers.
+use Rattle.std.proofs.Common.{◌≡◌, ℕ, suc, ◌+◌, ◌*◌, ◌%◌, ◌^◌, ◌<◌, ◌≤◌, Bool, true, false, cond, ltb, List, [], ◌∷◌, length, Some, None, refl, sym, ap, subst, ◌∙◌, inl, inr, arith, lit≤, ℤ, pos, negsuc}
+use Rattle.std.proofs.lemmas.Bool.{ltb-true, lt-ltb, le-ltb, cases_lt}
+use Rattle.std.proofs.lemmas.Int.{ints}
+use Rattle.wasm_codec.specs.Numbers.{IsDigits, unsigned, last, signed, Number, Below, Within, SignedWithin, IndexBelow, SpellsU32, SpellsU64, SpellsS32, SpellsS64, SpellsIndex, digits_of, unsigned_text, signed_text, number_at, below, is_within, signed_within, index_from, index_below, u32_at, u64_at, s32_at, s64_at, index_at}
+use Rattle.wasm_codec.specs.Encoding.{IsTextOrLonger}
+use Rattle.wasm_codec.specs.Reading.{IsReadBy}
+use Rattle.wasm_codec.proofs.Laws.{Shortest, some_is}
+use Rattle.wasm_codec.proofs.Digits.{IsReadBy-number, magnitude, Stands, digits_stand, digits_least, length-digits_of}
+
+-- ---- reading
+
+below_means : (limit : ℕ) (digits : List ℕ) (n : ℕ) → below limit digits ≡ Some n → Below limit digits n
+below_means limit digits n e = by (ltb (unsigned digits) limit) refl e where
+  by : (t : Bool) → ltb (unsigned digits) limit ≡ t → cond t (Some (unsigned digits)) None ≡ Some n → Below limit digits n
+  by true test e = let same : unsigned digits ≡ n = some_is (unsigned digits) n e in (same, rw (← same) (ltb-true _ _ test))
+  by false test e = absurd cc
+
+below_finds : (limit : ℕ) (digits : List ℕ) (n : ℕ) → IsDigits digits → Below limit digits n → below limit digits ≡ Some n
+below_finds limit digits n d m = rw (m.0, lt-ltb n limit m.1) refl
+
+IsReadBy-unsigned : (most limit : ℕ) → IsReadBy (Number most (Below limit)) (number_at most (below limit))
+IsReadBy-unsigned most limit = IsReadBy-number most (Below limit) (below limit) (below_means limit) (below_finds limit)
+
+within_is : (limit : ℕ) (z : ℤ) → is_within limit z ≡ true → Within limit z
+within_is limit (pos n) test = ltb-true _ _ test
+within_is limit (negsuc n) test = ltb-true _ _ test
+
+is_within_is : (limit : ℕ) (z : ℤ) → Within limit z → is_within limit z ≡ true
+is_within_is limit (pos n) lt = lt-ltb n limit lt
+is_within_is limit (negsuc n) lt = lt-ltb n limit lt
+
+signed_means : (limit : ℕ) (digits : List ℕ) (z : ℤ) → signed_within limit digits ≡ Some z → SignedWithin limit digits z
+signed_means limit digits z e = by (is_within limit (signed digits)) refl e where
+  by : (t : Bool) → is_within limit (signed digits) ≡ t → cond t (Some (signed digits)) None ≡ Some z → SignedWithin limit digits z
+  by true test e = let same : signed digits ≡ z = some_is (signed digits) z e in (same, subst (Within limit) same (within_is limit (signed digits) test))
+  by false test e = absurd cc
+
+signed_finds : (limit : ℕ) (digits : List ℕ) (z : ℤ) → IsDigits digits → SignedWithin limit digits z → signed_within limit digits ≡ Some z
+signed_finds limit digits z d m = rw (m.0, is_within_is limit z m.1) refl
+
+IsReadBy-signed : (most limit : ℕ) → IsReadBy (Number most (SignedWithin limit)) (number_at most (signed_within limit))
+IsReadBy-signed most limit = IsReadBy-number most (SignedWithin limit) (signed_within limit) (signed_means limit) (signed_finds limit)
+
+index_means : (limit : ℕ) (digits : List ℕ) (n : ℕ) → index_below limit digits ≡ Some n → IndexBelow limit digits n
+index_means limit digits n e = by (signed digits) refl e where
+  by : (z : ℤ) → signed digits ≡ z → index_from limit z ≡ Some n → IndexBelow limit digits n
+  by (pos k) is e = test (ltb k limit) refl e where
+    test : (t : Bool) → ltb k limit ≡ t → cond t (Some k) None ≡ Some n → IndexBelow limit digits n
+    test true lt e = let same : k ≡ n = some_is k n e in (is ∙ ap pos same, rw (← same) (ltb-true _ _ lt))
+    test false lt e = absurd cc
+  by (negsuc k) is e = absurd cc
+
+index_finds : (limit : ℕ) (digits : List ℕ) (n : ℕ) → IsDigits digits → IndexBelow limit digits n → index_below limit digits ≡ Some n
+index_finds limit digits n d m = rw (m.0, lt-ltb n limit m.1) refl
+
+IsReadBy-index-below : (most limit : ℕ) → IsReadBy (Number most (IndexBelow limit)) (number_at most (index_below limit))
+IsReadBy-index-below most limit = IsReadBy-number most (IndexBelow limit) (index_below limit) (index_means limit) (index_finds limit)
+
+-- ---- unsigned texts
+
+magnitude-unsigned : (digits : List ℕ) → magnitude false digits ≡ unsigned digits
+unfolding magnitude
+magnitude-unsigned [] = refl
+magnitude-unsigned (b ∷ digits) = ap (λ (k : ℕ). b % 128 + 128 * k) (magnitude-unsigned digits)
+
+last_below : (digits : List ℕ) → IsDigits digits → last digits < 128
+last_below [] d = absurd d
+last_below (b ∷ []) d = d
+last_below (b ∷ c ∷ digits) d = last_below (c ∷ digits) d.2
+
+Shortest-unsigned : (more limit : ℕ) → limit ≤ 128 * 128 ^ more → limit ≤ 128 * 128 ^ 9 → Shortest (Number (suc more) (Below limit)) (λ n. n < limit) unsigned_text
+unfolding unsigned_text
+Shortest-unsigned more limit wide room = record {
+  spells = spells;
+  again = λ bytes n g. spells n g.2.1;
+  least = λ bytes n g.
+      digits_least false 128 9 bytes n (omega arith) (omega (arith, g.2.1)) (record { are = g.0; ends = last_below bytes g.0; value = magnitude-unsigned bytes ∙ g.2.0 });
+} where
+  spells : (n : ℕ) → n < limit → Number (suc more) (Below limit) (digits_of false 128 9 n) n
+  spells n lt =
+      let p = digits_stand false 128 (omega arith) 9 n (omega arith) in
+      (p.are, length-digits_of false 128 9 more n (omega arith), (sym (magnitude-unsigned _) ∙ p.value, lt))
+
+-- ---- signed texts
+
+-- a digit and the same digit turned are 127
+both : (digits : List ℕ) → magnitude true digits + unsigned digits + 1 ≡ 128 ^ length digits
+unfolding magnitude
+both [] = refl
+both (b ∷ digits) =
+    let h = both digits in
+    let p : 128 ^ suc (length digits) ≡ 128 * 128 ^ length digits = omega arith in
+    rw p (omega arith)
+
+signed_low : (digits : List ℕ) → last digits < 64 → signed digits ≡ pos (magnitude false digits)
+signed_low digits lt = rw (lt-ltb (last digits) 64 lt) (ap pos (sym (magnitude-unsigned digits)))
+
+signed_high : (digits : List ℕ) → 64 ≤ last digits → signed digits ≡ negsuc (magnitude true digits)
+signed_high digits le = rw (le-ltb (last digits) 64 le) (omega (arith, ints, both digits))
+
+SignedStands : List ℕ → ℤ → Type 0
+SignedStands digits (pos n) = Stands false 64 digits n
+SignedStands digits (negsuc n) = Stands true 64 digits n
+
+signed_from : (digits : List ℕ) (z : ℤ) → SignedStands digits z → signed digits ≡ z
+unfolding SignedStands
+signed_from digits (pos n) h = signed_low digits h.ends ∙ ap pos h.value
+signed_from digits (negsuc n) h = signed_high digits (omega (arith, h.ends)) ∙ ap negsuc h.value
+
+signed_to : (digits : List ℕ) → IsDigits digits → (z : ℤ) → signed digits ≡ z → SignedStands digits z
+unfolding SignedStands
+signed_to digits d (pos n) e = elim (cases_lt (last digits) 64) [
+  | inl lt ↦ let p = signed_low digits lt in record { are = d; ends = lt; value = cc }
+  | inr le ↦ let p = signed_high digits le in absurd cc
+]
+signed_to digits d (negsuc n) e = elim (cases_lt (last digits) 64) [
+  | inl lt ↦ let p = signed_low digits lt in absurd cc
+  | inr le ↦ let p = signed_high digits le in record { are = d; ends = omega arith; value = cc }
+]
+
+signed_text_stands : (limit : ℕ) → limit ≤ 64 * 128 ^ 9 → (z : ℤ) → Within limit z → IsDigits (signed_text z) × SignedStands (signed_text z) z
+unfolding signed_text SignedStands
+signed_text_stands limit room (pos n) lt = let p = digits_stand false 64 (omega arith) 9 n (omega arith) in (p.are, p)
+signed_text_stands limit room (negsuc n) lt = let p = digits_stand true 64 (omega arith) 9 n (omega arith) in (p.are, p)
+
+length-signed_text : (more limit : ℕ) → limit ≤ 64 * 128 ^ more → (z : ℤ) → Within limit z → length (signed_text z) ≤ suc more
+unfolding signed_text
+length-signed_text more limit wide (pos n) lt = length-digits_of false 64 9 more n (omega arith)
+length-signed_text more limit wide (negsuc n) lt = length-digits_of true 64 9 more n (omega arith)
+
+signed_text-least : (limit : ℕ) → limit ≤ 64 * 128 ^ 9 → (bytes : List ℕ) (z : ℤ) → Within limit z → SignedStands bytes z → IsTextOrLonger bytes (signed_text z)
+unfolding signed_text SignedStands
+signed_text-least limit room bytes (pos n) lt h = digits_least false 64 9 bytes n (omega arith) (omega arith) h
+signed_text-least limit room bytes (negsuc n) lt h = digits_least true 64 9 bytes n (omega arith) (omega arith) h
+
+Shortest-signed : (more limit : ℕ) → limit ≤ 64 * 128 ^ more → limit ≤ 64 * 128 ^ 9 → Shortest (Number (suc more) (SignedWithin limit)) (Within limit) signed_text
+Shortest-signed more limit wide room = record {
+  spells = spells;
+  again = λ bytes z g. spells z g.2.1;
+  least = λ bytes z g. signed_text-least limit room bytes z g.2.1 (signed_to bytes g.0 z g.2.0);
+} where
+  spells : (z : ℤ) → Within limit z → Number (suc more) (SignedWithin limit) (signed_text z) z
+  spells z lt = let p = signed_text_stands limit room z lt in (p.0, length-signed_text more limit wide z lt, (signed_from (signed_text z) z p.1, lt))
+
+Shortest-index-below : (more limit : ℕ) → limit ≤ 64 * 128 ^ more → limit ≤ 64 * 128 ^ 9 → Shortest (Number (suc more) (IndexBelow limit)) (λ n. n < limit) (λ n. signed_text (pos n))
+Shortest-index-below more limit wide room = record {
+  spells = spells;
+  again = λ bytes n g. spells n g.2.1;
+  least = λ bytes n g. signed_text-least limit room bytes (pos n) g.2.1 (signed_to bytes g.0 (pos n) g.2.0);
+} where
+  spells : (n : ℕ) → n < limit → Number (suc more) (IndexBelow limit) (signed_text (pos n)) n
+  spells n lt = let p = signed_text_stands limit room (pos n) lt in (p.0, length-signed_text more limit wide (pos n) lt, (signed_from (signed_text (pos n)) (pos n) p.1, lt))
+
+-- ---- the five widths
+
+pub IsReadBy-u32 : IsReadBy SpellsU32 u32_at
+unfolding SpellsU32 u32_at
+IsReadBy-u32 = IsReadBy-unsigned 5 (2 ^ 32)
+
+pub Shortest-u32 : Shortest SpellsU32 (λ n. n < 2 ^ 32) unsigned_text
+unfolding SpellsU32
+Shortest-u32 = Shortest-unsigned 4 (2 ^ 32) (lit≤ tt) (lit≤ tt)
+
+pub IsReadBy-u64 : IsReadBy SpellsU64 u64_at
+unfolding SpellsU64 u64_at
+IsReadBy-u64 = IsReadBy-unsigned 10 (2 ^ 64)
+
+pub Shortest-u64 : Shortest SpellsU64 (λ n. n < 2 ^ 64) unsigned_text
+unfolding SpellsU64
+Shortest-u64 = Shortest-unsigned 9 (2 ^ 64) (lit≤ tt) (lit≤ tt)
+
+pub IsReadBy-s32 : IsReadBy SpellsS32 s32_at
+unfolding SpellsS32 s32_at
+IsReadBy-s32 = IsReadBy-signed 5 (2 ^ 31)
+
+pub Shortest-s32 : Shortest SpellsS32 (Within (2 ^ 31)) signed_text
+unfolding SpellsS32
+Shortest-s32 = Shortest-signed 4 (2 ^ 31) (lit≤ tt) (lit≤ tt)
+
+pub IsReadBy-s64 : IsReadBy SpellsS64 s64_at
+unfolding SpellsS64 s64_at
+IsReadBy-s64 = IsReadBy-signed 10 (2 ^ 63)
+
+pub Shortest-s64 : Shortest SpellsS64 (Within (2 ^ 63)) signed_text
+unfolding SpellsS64
+Shortest-s64 = Shortest-signed 9 (2 ^ 63) (lit≤ tt) (lit≤ tt)
+
+pub IsReadBy-index : IsReadBy SpellsIndex index_at
+unfolding SpellsIndex index_at
+IsReadBy-index = IsReadBy-index-below 5 (2 ^ 32)
+
+pub Shortest-index : Shortest SpellsIndex (λ n. n < 2 ^ 32) (λ n. signed_text (pos n))
+unfolding SpellsIndex
+Shortest-index = Shortest-index-below 4 (2 ^ 32) (lit≤ tt) (lit≤ tt)

@@ -1,0 +1,41 @@
+use Rattle.std.proofs.Common.{◌≡◌, arith}
+use Rattle.std.proofs.lemmas.Result.{err_from_is_err_and}
+use Rattle.wasm_codec.specs.Lists.{list_at}
+use Rattle.wasm_codec.proofs.ListLaws.{item_wanting, unread_item, all_answered}
+use Rattle.wasm_codec.proofs.RewritingLaws.{fails_to_read, fails_to_rewrite, no_items_written, item_written, all_items_written}
+use Rattle.wasm_codec.specs.Lists.{items_text}
+use Rattle.wasm_codec.proofs.rewriter.rewrite_list.Goals as goal
+
+pub loop-init : goal.loop-init
+loop-init g c = no_items_written g.T.Rewritable.spells g.T.Rewritable.read_at g.T.Rewritable.text_of c.args.cursor.now c.read_or_stay.new.cursor c.in_ok-count.count c.args.text.now.items c.append_count.new.text.items c.in_ok-count.ensures.bytes c.in_ok-count.ensures.reads c.in_ok-append_count.ensures.ok
+
+pub returns-in_err-rewrite_or_stay : goal.returns-in_err-rewrite_or_stay
+returns-in_err-rewrite_or_stay g c =
+    let p = err_from_is_err_and c.from_residual-in_err-rewrite_or_stay.result c.from_residual-in_err-rewrite_or_stay.ensures.1 in
+    let h = c.in_err-rewrite_or_stay.ensures in
+    let w = c.loop.invariant in
+    let fault = c.in_err-rewrite_or_stay.field-0.0 in
+    let none = fails_to_read g.T.Rewritable.read_at g.T.Rewritable.text_of c.loop.cursor c.rewrite_or_stay.new.cursor c.loop.text.items c.rewrite_or_stay.new.text.items fault h.rewrites in
+    let a = item_wanting {X = Unit {0}} h.finds h.some c.args.cursor.now c.loop.cursor c.rewrite_or_stay.new.cursor c.in_ok-count.count c.loop.counter w.items fault w.gone c.loop-test.true none h.stays in
+    rw (p.1, p.2) (record {
+      rewrites = fails_to_rewrite (list_at g.T.Rewritable.read_at) (items_text g.T.Rewritable.text_of) c.args.cursor.now c.rewrite_or_stay.new.cursor c.args.text.now.items c.rewrite_or_stay.new.text.items fault
+          (unread_item c.args.cursor.now c.loop.cursor c.rewrite_or_stay.new.cursor c.in_ok-count.count c.loop.counter w.items fault w.gone c.loop-test.true none);
+      finds = a.finds;
+      front = a.front;
+    })
+
+pub loop-preserved : goal.loop-preserved
+loop-preserved g c =
+    let h = c.in_ok-rewrite_or_stay.ensures in
+    item_written h.finds h.some c.args.cursor.now c.loop.cursor c.rewrite_or_stay.new.cursor c.in_ok-count.count c.loop.counter c.args.text.now.items c.loop.text.items c.rewrite_or_stay.new.text.items c.loop.invariant c.loop-test.true h.rewrites
+
+pub returns : goal.returns
+returns g c =
+    let full : c.loop.counter ≡ c.in_ok-count.count = omega arith in
+    let w = c.loop.invariant in
+    let a = all_answered {X = Unit {0}} c.args.cursor.now c.loop.cursor c.in_ok-count.count c.loop.counter w.items tt w.gone full in
+    record {
+      rewrites = all_items_written c.args.cursor.now c.loop.cursor c.in_ok-count.count c.loop.counter c.args.text.now.items c.loop.text.items w full;
+      finds = a.finds;
+      front = a.front;
+    }

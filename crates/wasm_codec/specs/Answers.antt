@@ -1,0 +1,61 @@
+-- What a reader answers about all of its bytes.
+use Rattle.std.specs.Prelude.{◌≡◌, ℕ, ◌≤◌, List, ◌++◌, length, Result, Ok, Err, IfErr}
+use Rattle.wasm_codec.specs.declared.reader.cursor.Fault.{Fault}
+use Rattle.wasm_codec.specs.declared.reader.cursor.Fault.TheVariants as faults
+use Rattle.wasm_codec.specs.Grammar.{Grammar}
+use Rattle.wasm_codec.specs.declared.reader.ReadError.{ReadError}
+use Rattle.wasm_codec.specs.declared.reader.ReadError.TheVariants as errors
+
+-- a fault in what begins at this place is answered so
+abbrev pub answer_to : Fault → ℕ → ReadError
+answer_to faults.Memory at = errors.Memory
+answer_to faults.Malformed at = errors.Refused at
+
+-- the answer, seen by view, is this value, unless memory ran out
+abbrev pub IsOrMemory : {X V : Type 0} → (X → V) → V → Result X ReadError → Type 0
+IsOrMemory view v (Ok x) = view x ≡ v
+IsOrMemory view v (Err errors.Memory) = Unit {0}
+IsOrMemory view v (Err (errors.Refused at)) = ⊥
+
+-- this holds of the place where it refused, if it did
+abbrev pub HoldsAtRefusal : ReadError → (ℕ → Type 0) → Type 0
+HoldsAtRefusal errors.Memory P = Unit {0}
+HoldsAtRefusal (errors.Refused at) P = P at
+
+-- at a refusal, this holds of the place
+abbrev pub IfRefused : {X : Type 0} → Result X ReadError → (ℕ → Type 0) → Type 0
+IfRefused r P = IfErr r (λ e. HoldsAtRefusal e P)
+
+-- The bytes have a front of this length that is whole, and no longer front is.
+pub record IsLongestFront (Whole : List ℕ → Type 0) (bytes : List ℕ) (len : ℕ) : Type 0 where
+  pub front : List ℕ
+  pub rest : List ℕ
+  pub parts : bytes ≡ front ++ rest
+  pub len_is : length front ≡ len
+  pub whole : Whole front
+  pub longest : (other after : List ℕ) → bytes ≡ other ++ after → Whole other → length other ≤ len
+
+-- the bytes spell some value
+abbrev pub SpellsSome : {V : Type 0} → Grammar V → List ℕ → Type 0
+SpellsSome {V} G bytes = (v : V) × G bytes v
+
+-- The text is that of a value that the bytes spell.
+pub record IsNormalForm {V : Type 0} (G : Grammar V) (text_of : V → List ℕ) (bytes text : List ℕ) : Type 0 where
+  pub value : V
+  pub spelled : G bytes value
+  pub is_text : text ≡ text_of value
+
+-- ---- within bytes
+
+-- this holds, unless memory ran out
+abbrev pub UnlessMemory : {X : Type 0} → Result X Fault → Type 0 → Type 0
+UnlessMemory (Ok x) P = P
+UnlessMemory (Err faults.Malformed) P = P
+UnlessMemory (Err faults.Memory) P = Unit {0}
+
+-- These bytes come after a front that is whole, and no longer front is.
+pub record IsAfterLongest (Whole : List ℕ → Type 0) (bytes rest : List ℕ) : Type 0 where
+  pub front : List ℕ
+  pub parts : bytes ≡ front ++ rest
+  pub whole : Whole front
+  pub longest : (other after : List ℕ) → bytes ≡ other ++ after → Whole other → length other ≤ length front

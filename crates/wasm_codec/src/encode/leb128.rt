@@ -1,0 +1,155 @@
+//! LEB128 numbers, written into room that was reserved. `encode` and the instruction sink write them here alone.
+ghost use Rattle.std.specs.Prelude.{◌≡◌, ◌++◌, ◌+◌, ◌*◌, ◌^◌, ◌<◌, ◌≤◌, length, pos, vec_len, vec_capacity};
+ghost use Rattle.wasm_codec.specs.Numbers.{turned, digits_of, unsigned_text, signed_text};
+
+use std::alloc::Allocator;
+
+/// The digit, or what is left of it to 127: the digits of -1 - n are those of n, each taken from 127.
+fn turned(turn: bool, digit: u8) -> u8
+    requires { digit < 128 }
+    ensures value { result ≡ turned turn digit }
+    ensures below { result < 128 }
+{
+    if turn { 127 - digit } else { digit }
+}
+
+/// Writes the fewest digits of a number that has at most five. The last stands for a number below `top`.
+#[tactic(auto, unfolding(crate::specs::Numbers::digits_of))]
+fn put_few<A: Allocator>(bytes: &mut Vec<u8, A>, turn: bool, top: u64, n: u64)
+    requires room { vec_len bytes.old + 5 ≤ vec_capacity bytes.old }
+    requires top { top ≤ 128 }
+    requires few { n < top * 128 ^ 4 }
+    ensures items { bytes.new.items ≡ bytes.old.items ++ digits_of turn top 9 n }
+    ensures len { vec_len bytes.new ≤ vec_len bytes.old + 5 }
+    ensures capacity { vec_capacity bytes.new ≡ vec_capacity bytes.old }
+{
+    if n < top {
+        bytes.push_reserved(turned(turn, n as u8));
+        return;
+    }
+    bytes.push_reserved(128 + turned(turn, (n % 128) as u8));
+    let second = n / 128;
+    if second < top {
+        bytes.push_reserved(turned(turn, second as u8));
+        return;
+    }
+    bytes.push_reserved(128 + turned(turn, (second % 128) as u8));
+    let third = second / 128;
+    if third < top {
+        bytes.push_reserved(turned(turn, third as u8));
+        return;
+    }
+    bytes.push_reserved(128 + turned(turn, (third % 128) as u8));
+    let fourth = third / 128;
+    if fourth < top {
+        bytes.push_reserved(turned(turn, fourth as u8));
+        return;
+    }
+    bytes.push_reserved(128 + turned(turn, (fourth % 128) as u8));
+    bytes.push_reserved(turned(turn, (fourth / 128) as u8));
+}
+
+/// Writes the fewest digits of a number that has at most ten.
+#[tactic(auto, unfolding(crate::specs::Numbers::digits_of))]
+fn put_many<A: Allocator>(bytes: &mut Vec<u8, A>, turn: bool, top: u64, n: u64)
+    requires room { vec_len bytes.old + 10 ≤ vec_capacity bytes.old }
+    requires top { top ≤ 128 }
+    requires many { n < top * 128 ^ 9 }
+    requires some { 64 ≤ top }
+    ensures items { bytes.new.items ≡ bytes.old.items ++ digits_of turn top 9 n }
+    ensures len { vec_len bytes.new ≤ vec_len bytes.old + 10 }
+    ensures capacity { vec_capacity bytes.new ≡ vec_capacity bytes.old }
+{
+    if n / (128 * 128 * 128 * 128) < top {
+        put_few(bytes, turn, top, n);
+        return;
+    }
+    let second = n / 128;
+    let third = second / 128;
+    let fourth = third / 128;
+    let fifth = fourth / 128;
+    bytes.push_reserved(128 + turned(turn, (n % 128) as u8));
+    bytes.push_reserved(128 + turned(turn, (second % 128) as u8));
+    bytes.push_reserved(128 + turned(turn, (third % 128) as u8));
+    bytes.push_reserved(128 + turned(turn, (fourth % 128) as u8));
+    bytes.push_reserved(128 + turned(turn, (fifth % 128) as u8));
+    put_few(bytes, turn, top, fifth / 128);
+}
+
+/// Writes a u32 in 1 to 5 bytes.
+#[tactic(auto, unfolding(crate::specs::Numbers::unsigned_text))]
+pub fn put_u32<A: Allocator>(bytes: &mut Vec<u8, A>, value: u32)
+    requires { vec_len bytes.old + 5 ≤ vec_capacity bytes.old }
+    ensures items { bytes.new.items ≡ bytes.old.items ++ unsigned_text value }
+    ensures len { vec_len bytes.new ≤ vec_len bytes.old + 5 }
+    ensures capacity { vec_capacity bytes.new ≡ vec_capacity bytes.old }
+{
+    put_few(bytes, false, 128, u64::from(value));
+}
+
+/// Writes a u64 in 1 to 10 bytes.
+#[tactic(auto, unfolding(crate::specs::Numbers::unsigned_text))]
+pub fn put_u64<A: Allocator>(bytes: &mut Vec<u8, A>, value: u64)
+    requires { vec_len bytes.old + 10 ≤ vec_capacity bytes.old }
+    ensures items { bytes.new.items ≡ bytes.old.items ++ unsigned_text value }
+    ensures len { vec_len bytes.new ≤ vec_len bytes.old + 10 }
+    ensures capacity { vec_capacity bytes.new ≡ vec_capacity bytes.old }
+{
+    put_many(bytes, false, 128, value);
+}
+
+/// Writes an s32 in 1 to 5 bytes.
+#[tactic(auto, unfolding(crate::specs::Numbers::signed_text))]
+pub fn put_i32<A: Allocator>(bytes: &mut Vec<u8, A>, value: i32)
+    requires { vec_len bytes.old + 5 ≤ vec_capacity bytes.old }
+    ensures items { bytes.new.items ≡ bytes.old.items ++ signed_text value }
+    ensures len { vec_len bytes.new ≤ vec_len bytes.old + 5 }
+    ensures capacity { vec_capacity bytes.new ≡ vec_capacity bytes.old }
+{
+    if value < 0 {
+        put_few(bytes, true, 64, (-1 - i64::from(value)) as u64);
+    } else {
+        put_few(bytes, false, 64, value as u64);
+    }
+}
+
+/// Writes an s64 in 1 to 10 bytes.
+#[tactic(auto, unfolding(crate::specs::Numbers::signed_text))]
+pub fn put_i64<A: Allocator>(bytes: &mut Vec<u8, A>, value: i64)
+    requires { vec_len bytes.old + 10 ≤ vec_capacity bytes.old }
+    ensures items { bytes.new.items ≡ bytes.old.items ++ signed_text value }
+    ensures len { vec_len bytes.new ≤ vec_len bytes.old + 10 }
+    ensures capacity { vec_capacity bytes.new ≡ vec_capacity bytes.old }
+{
+    if value < 0 {
+        put_many(bytes, true, 64, (-1 - value) as u64);
+    } else {
+        put_many(bytes, false, 64, value as u64);
+    }
+}
+
+/// Writes an index in the place of a negative type code, in 1 to 5 bytes.
+#[tactic(auto, unfolding(crate::specs::Numbers::signed_text))]
+pub fn put_index<A: Allocator>(bytes: &mut Vec<u8, A>, index: u32)
+    requires { vec_len bytes.old + 5 ≤ vec_capacity bytes.old }
+    ensures items { bytes.new.items ≡ bytes.old.items ++ signed_text (pos index) }
+    ensures len { vec_len bytes.new ≤ vec_len bytes.old + 5 }
+    ensures capacity { vec_capacity bytes.new ≡ vec_capacity bytes.old }
+{
+    put_few(bytes, false, 64, u64::from(index));
+}
+
+/// How many bytes the text of a number has.
+#[tactic(auto, unfolding(crate::specs::Numbers::unsigned_text, crate::specs::Numbers::digits_of))]
+pub fn u32_len(value: u32) -> usize
+    ensures value { result ≡ length (unsigned_text value) }
+    ensures most { result ≤ 5 }
+{
+    match value {
+        0..0x80 => 1,
+        0x80..0x4000 => 2,
+        0x4000..0x20_0000 => 3,
+        0x20_0000..0x1000_0000 => 4,
+        _ => 5,
+    }
+}

@@ -1,0 +1,54 @@
+//! Readers and normalisers: any spelling in, the list that it spells or its text out.
+//!
+//! A reader takes all of its input: bytes that are left over are refused like any others that aren't spelled.
+ghost use Rattle.std.specs.Prelude.{◌≡◌};
+ghost use Rattle.wasm_codec.specs.declared.reader.ReadError.TheVariants.{Memory};
+ghost use Rattle.wasm_codec.specs.Answers.{answer_to};
+
+pub mod cursor;
+pub mod lists;
+pub mod readable;
+
+use cursor::Fault;
+use std::alloc::{AllocError, AllocFailed};
+use thiserror::Error;
+
+/// Why bytes were not read.
+#[derive(Debug, PartialEq, Eq, Drop, Error)]
+pub enum ReadError {
+    /// There was no memory for what the bytes spell.
+    #[error("no memory")]
+    Memory,
+    /// The bytes spell nothing of what is read.
+    #[error("refused at {at}")]
+    Refused {
+        /// How many bytes the longest front has that is whole.
+        at: usize,
+    },
+}
+
+impl From<AllocError> for ReadError {
+    ghost from_gives = { λ _ e. e ≡ Memory };
+
+    fn from(_error: AllocError) -> ReadError {
+        ReadError::Memory
+    }
+}
+
+impl<T: Drop> From<AllocFailed<T>> for ReadError {
+    ghost from_gives = { λ _ e. e ≡ Memory };
+
+    fn from(_error: AllocFailed<T>) -> ReadError {
+        ReadError::Memory
+    }
+}
+
+/// What a reader answers to a fault in what begins at this place.
+pub fn read_error(fault: Fault, at: usize) -> ReadError
+    ensures { result ≡ answer_to fault at }
+{
+    match fault {
+        Fault::Memory => ReadError::Memory,
+        Fault::Malformed => ReadError::Refused { at },
+    }
+}

@@ -1,0 +1,142 @@
+//! Rewriting: items in any spelling are read, and each is written in its own text before the next is read.
+ghost use Rattle.std.specs.Prelude.{◌≡◌, ◌++◌, ℕ, List, ◌<◌, length, IfErr, OnOk};
+ghost use Rattle.std.specs.List.{flat_map};
+ghost use Rattle.wasm_codec.specs.Grammar.{Grammar, IsBytes, TakesBytes, Joined};
+ghost use Rattle.wasm_codec.specs.Reading.{Reader, IsReadBy, FindsAt};
+ghost use Rattle.wasm_codec.specs.Numbers.{unsigned_text};
+ghost use Rattle.wasm_codec.specs.Answers.{IfRefused, IsLongestFront, IsAfterLongest, UnlessMemory, SpellsSome};
+ghost use Rattle.wasm_codec.specs.Lists.{SpellsList, list_at, items_text, IsListFront};
+ghost use Rattle.wasm_codec.specs.Rewriting.{Rewrites, AppendsNormalForm};
+
+use crate::encode::leb128::put_u32;
+use crate::reader::cursor::{Cursor, Fault};
+use crate::reader::lists::read_or_stay;
+use crate::reader::{ReadError, read_error};
+use std::alloc::{AllocError, Global};
+
+/// What can be rewritten as an item of a list.
+pub trait Rewritable<'a> {
+    /// What is read and written.
+    ghost Value: { Type 0 };
+
+    /// Which bytes spell which item.
+    ghost spells: { Grammar Value };
+
+    /// What is read at the front of bytes.
+    ghost read_at: { Reader Value };
+
+    /// The text that is written.
+    ghost text_of: { Value → List ℕ };
+
+    /// Appends the text of the item at the front.
+    fn rewrite(alloc: Global, cursor: &mut Cursor<'a>, text: &mut Vec<u8>) -> Result<(), Fault>
+        ensures rewrites { Rewrites read_at text_of cursor.old cursor.new text.old.items text.new.items result }
+        // What is read is what is spelled.
+        ensures finds { IsReadBy spells read_at }
+        // No item is spelled by no bytes.
+        ensures some { TakesBytes spells };
+}
+
+/// Appends the text of the list at the front: the count, and then each item as it is read.
+///
+/// Where the count or an item is wanting, the cursor is left at the place where it would begin.
+pub fn rewrite_list<'a, T: Rewritable<'a>>(
+    alloc: Global,
+    cursor: &mut Cursor<'a>,
+    text: &mut Vec<u8>,
+) -> Result<(), Fault>
+    ensures rewrites { Rewrites (list_at T.read_at) (items_text T.text_of) cursor.old cursor.new text.old.items text.new.items result }
+    // What is read there is what is spelled there.
+    ensures finds { UnlessMemory result (FindsAt (SpellsList T.spells) (list_at T.read_at) cursor.old) }
+    // The cursor is left after the longest front that is whole.
+    ensures front { UnlessMemory result (IsAfterLongest (IsListFront T.spells) cursor.old cursor.new) }
+{
+    let count: u32 = read_or_stay(alloc, cursor)?;
+    append_count(text, count)?;
+    for _ in 0..count {
+        rewrite_or_stay::<T>(alloc, cursor, text)?;
+    }
+    Ok(())
+}
+
+/// Appends the text of a count.
+fn append_count(text: &mut Vec<u8>, count: u32) -> Result<(), AllocError>
+    ensures ok { OnOk result (text.new.items ≡ text.old.items ++ unsigned_text count) }
+{
+    text.reserve(5)?;
+    put_u32(text, count);
+    Ok(())
+}
+
+/// Appends the text of the item at the front. Where there is none the cursor stays where it is.
+fn rewrite_or_stay<'a, T: Rewritable<'a>>(
+    alloc: Global,
+    cursor: &mut Cursor<'a>,
+    text: &mut Vec<u8>,
+) -> Result<(), Fault>
+    ensures rewrites { Rewrites T.read_at T.text_of cursor.old cursor.new text.old.items text.new.items result }
+    ensures stays { IfErr result (λ _. cursor.new ≡ cursor.old) }
+    ensures finds { IsReadBy T.spells T.read_at }
+    ensures some { TakesBytes T.spells }
+{
+    let start = cursor.fork();
+    match T::rewrite(alloc, cursor, text) {
+        Ok(()) => Ok(()),
+        Err(fault) => {
+            *cursor = start;
+            Err(fault)
+        }
+    }
+}
+
+/// Appends the text of the list that the bytes spell, with nothing left over.
+///
+/// `Refused` carries the number of bytes of the count and of the items that are whole before the first that isn't, or
+/// before what is left over.
+pub fn rewrite_list_to_end<'a, T: Rewritable<'a>>(
+    alloc: Global,
+    bytes: &'a [u8],
+    text: &mut Vec<u8>,
+) -> Result<(), ReadError>
+    ensures given { OnOk result (AppendsNormalForm (SpellsList T.spells) (items_text T.text_of) bytes.now text.old.items text.new.items) }
+    ensures front { IfRefused result (IsLongestFront (IsListFront T.spells) bytes.now) }
+    ensures unspelled { IfRefused result (λ _. (items : List T.Value) → SpellsList T.spells bytes.now items → ⊥) }
+{
+    let mut cursor = Cursor::new(bytes);
+    match rewrite_list::<T>(alloc, &mut cursor, text) {
+        Ok(()) => {
+            if cursor.len() > 0 {
+                let at = bytes.len() - cursor.len();
+                return Err(ReadError::Refused { at });
+            }
+            Ok(())
+        }
+        Err(Fault::Malformed) => {
+            let at = bytes.len() - cursor.len();
+            Err(ReadError::Refused { at })
+        }
+        Err(Fault::Memory) => Err(ReadError::Memory),
+    }
+}
+
+/// Appends the texts of the items that the bytes spell one after another, with no count, read to the end.
+///
+/// `Refused` carries the number of bytes of the items that are whole before the first that isn't.
+pub fn rewrite_joined<'a, T: Rewritable<'a>>(
+    alloc: Global,
+    bytes: &'a [u8],
+    text: &mut Vec<u8>,
+) -> Result<(), ReadError>
+    ensures given { OnOk result (AppendsNormalForm (Joined T.spells) (flat_map T.text_of) bytes.now text.old.items text.new.items) }
+    ensures front { IfRefused result (IsLongestFront (SpellsSome (Joined T.spells)) bytes.now) }
+    ensures within { IfRefused result (λ at. at < length bytes.now) }
+{
+    let mut cursor = Cursor::new(bytes);
+    while cursor.len() > 0 {
+        let at = bytes.len() - cursor.len();
+        if let Err(fault) = T::rewrite(alloc, &mut cursor, text) {
+            return Err(read_error(fault, at));
+        }
+    }
+    Ok(())
+}

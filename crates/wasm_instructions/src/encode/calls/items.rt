@@ -1,0 +1,130 @@
+//! Lists of what has a text of its own, after their number (Core 3.0, 5.1.3).
+ghost use Rattle.std.specs.Prelude.{◌≡◌, ◌++◌, ◌+◌, ◌≤◌, ◌<◌, ◌^◌, ℕ, List, length, take, OnOk, IfOk, IfErr, vec_len, vec_capacity};
+ghost use Rattle.std.specs.Iterator.{IsFinite, size};
+ghost use Rattle.wasm_codec.specs.Iterators.{IsExact};
+ghost use Rattle.wasm_instructions.specs.Appending.{AppendsAll, IsRefusedList};
+ghost use Rattle.wasm_codec.specs.Numbers.{unsigned_text};
+ghost use Rattle.wasm_types.specs.HeapTypes.{val_type_text};
+ghost use Rattle.wasm_codec.specs.Lists.{items_text};
+ghost use Rattle.wasm_types.specs.TypeRanges.{ValTypeFits};
+ghost use Rattle.wasm_instructions.specs.Operands.{catch_text, CatchFits, handle_text, HandleFits};
+
+use super::ROOM;
+use crate::encode::{put_catch, put_handle};
+use crate::operands::{Catch, Handle};
+use std::alloc::{AllocError, Allocator};
+use wasm_codec::encode::EncodeError;
+use wasm_codec::encode::leb128::put_u32;
+use wasm_types::encode::put_val_type;
+use wasm_types::types::ValType;
+
+/// The room that every item fits into, in bytes.
+const ITEM_ROOM: usize = 11;
+
+/// What lists of operands are made of. Each item has a text.
+pub(super) trait Item: Copy + Drop {
+    /// The fewest bytes that an item is written in.
+    const LEAST: usize;
+
+    /// The text of the item.
+    ghost text: { Self → List ℕ };
+
+    /// Its numbers are in the ranges of their widths.
+    ghost InRange: { Self → Type 0 };
+
+    /// Writes the item in `LEAST` to 11 bytes, into reserved room.
+    fn put<A: Allocator>(self, bytes: &mut Vec<u8, A>)
+        requires room { vec_len bytes.old + 11 ≤ vec_capacity bytes.old }
+        ensures items { bytes.new.items ≡ bytes.old.items ++ text self }
+        ensures in_range { InRange self };
+}
+
+impl Item for u32 {
+    const LEAST: usize = 1;
+
+    ghost text = { unsigned_text };
+
+    ghost InRange = { λ n. n < 2 ^ 32 };
+
+    fn put<A: Allocator>(self, bytes: &mut Vec<u8, A>) {
+        put_u32(bytes, self);
+    }
+}
+
+impl Item for ValType {
+    const LEAST: usize = 1;
+
+    ghost text = { val_type_text };
+
+    ghost InRange = { ValTypeFits };
+
+    fn put<A: Allocator>(self, bytes: &mut Vec<u8, A>) {
+        put_val_type(bytes, self);
+    }
+}
+
+impl Item for Catch {
+    const LEAST: usize = 2;
+
+    ghost text = { catch_text };
+
+    ghost InRange = { CatchFits };
+
+    fn put<A: Allocator>(self, bytes: &mut Vec<u8, A>) {
+        put_catch(bytes, self);
+    }
+}
+
+impl Item for Handle {
+    const LEAST: usize = 2;
+
+    ghost text = { handle_text };
+
+    ghost InRange = { HandleFits };
+
+    fn put<A: Allocator>(self, bytes: &mut Vec<u8, A>) {
+        put_handle(bytes, self);
+    }
+}
+
+/// Makes room at once for a call with so many items, and answers their number: 24 bytes, which all else of the call
+/// fits into, and the fewest that the items are written in.
+///
+/// `TooLong` where there are more than 4,294,967,295 items.
+pub(super) fn reserve_list<T: Item, A: Allocator>(
+    bytes: &mut Vec<u8, A>,
+    count: usize,
+) -> Result<u32, EncodeError>
+    ensures count { IfOk result (λ n. n ≡ count) }
+    ensures room { OnOk result (vec_len bytes.new + 24 ≤ vec_capacity bytes.new) }
+    ensures err { IfErr result (IsRefusedList count) }
+    ensures unchanged { bytes.new.items ≡ bytes.old.items }
+{
+    let Ok(number) = u32::try_from(count) else {
+        return Err(EncodeError::TooLong);
+    };
+    bytes.reserve(count.saturating_mul(T::LEAST).saturating_add(ROOM))?;
+    Ok(number)
+}
+
+/// Appends the number of the items to come, into reserved room, and then the items. An `Err` can leave a part of them.
+#[tactic(auto, unfolding(crate::specs::Appending::AppendsAll))]
+pub(super) fn append_each<T: Item, I: ExactSizeIterator<Item = T>, A: Allocator>(
+    bytes: &mut Vec<u8, A>,
+    count: u32,
+    items: I,
+) -> Result<(), AllocError>
+    requires exact { IsExact I.can_next I.next_gives I.remaining items }
+    requires finite { IsFinite (I.remaining items) }
+    requires count { count ≡ size (I.remaining items) }
+    requires room { vec_len bytes.old + 5 ≤ vec_capacity bytes.old }
+    ensures ok { OnOk result (AppendsAll I.next_gives T.InRange items (items_text T.text) bytes.old.items bytes.new.items) }
+    ensures kept { take (length bytes.old.items) bytes.new.items ≡ bytes.old.items }
+{
+    put_u32(bytes, count);
+    for item in items {
+        bytes.reserve(ITEM_ROOM)?;
+        item.put(bytes);
+    }
+    Ok(())
+}

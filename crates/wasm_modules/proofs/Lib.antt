@@ -1,0 +1,4 @@
+pub mod HeaderLaws
+pub mod ModuleLaws
+pub mod SizedLaws
+pub mod DecodedModuleLaws

@@ -1,0 +1,51 @@
+//! Sections whose body is bytes (Core 3.0, 5.5.2).
+ghost use Rattle.std.specs.Prelude.{◌≡◌, ◌++◌, ◌∷◌, OnOk, OnErr, IsErrOf, IsSomeAnd, IsNone};
+ghost use Rattle.wasm_codec.specs.Encoding.{byte_list_text};
+
+use std::alloc::Allocator;
+use wasm_codec::encode::{Encode, EncodeError, encode_bytes, keep_or_undo};
+
+/// The bytes that every module begins with: the magic number and the version (Core 3.0, 5.5.16).
+pub const HEADER: [u8; 8] = [0x00, 0x61, 0x73, 0x6D, 0x01, 0x00, 0x00, 0x00];
+
+/// The id of type sections (Core 3.0, 5.5.2).
+pub const TYPE_SECTION_ID: u8 = 1;
+
+/// A section of any id, with a body that is taken as it is.
+#[derive(Clone, Copy, Debug)]
+pub struct RawSection<'a> {
+    /// The id of the section.
+    pub id: u8,
+    /// The body, without its size.
+    pub body: &'a [u8],
+}
+
+/// The size of the body and then the body (Core 3.0, 5.5.2).
+impl<'a> Encode for RawSection<'a> {
+    ghost text = { λ section. byte_list_text section.body.now };
+
+    ghost misaligned = { λ _. ⊥ };
+
+    fn encode<A: Allocator>(&self, sink: &mut Vec<u8, A>) -> Result<(), EncodeError> {
+        encode_bytes(self.body, sink)
+    }
+}
+
+/// Appends the id of a section and what encodes its size and its body, or leaves `dst` as it was.
+pub fn append_section<S: Encode, A: Allocator>(
+    id: u8,
+    section: &S,
+    dst: &mut Vec<u8, A>,
+) -> Result<(), EncodeError>
+    ensures ok { OnOk result (IsSomeAnd (S.text section.now) (λ t. dst.new.items ≡ dst.old.items ++ id ∷ t)) }
+    ensures too_long { IsErrOf result EncodeError.TooLong → IsNone (S.text section.now) }
+    ensures alignment { IsErrOf result EncodeError.Alignment → IsNone (S.text section.now) }
+    ensures misaligned { IsErrOf result EncodeError.Alignment → S.misaligned section.now }
+    ensures err { OnErr result (dst.new.items ≡ dst.old.items) }
+{
+    let start = dst.len();
+    dst.reserve(1)?;
+    dst.push_reserved(id);
+    let result = section.encode(dst);
+    keep_or_undo(dst, start, result)
+}

@@ -1,9 +1,0 @@
-pub mod Laws
-pub mod Joining
-pub mod ListReading
-pub mod Digits
-pub mod DigitLoop
-pub mod NumberLaws
-pub mod TextLists
-pub mod Counting
-pub mod ExactLaws

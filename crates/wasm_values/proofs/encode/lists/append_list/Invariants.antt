@@ -1,7 +1,0 @@
-use Rattle.std.proofs.Common.{length, take}
-use Rattle.wasm_values.specs.Encoding.{both_texts, usize_text, texts}
-use Rattle.wasm_values.proofs.TextLists.{IsFollowed}
-use Rattle.wasm_values.proofs.encode.lists.append_list.Given as goal
-
-abbrev pub invariant-loop-item : goal.invariant-loop-item
-invariant-loop-item g l = IsFollowed l.fn.sink.items (both_texts (usize_text (length l.items)) (texts g.T.Encode.text (take l.item-index l.items))) l.sink.items
