@@ -1,0 +1,12 @@
+pub mod NumberReading
+pub mod FormatLaws
+pub mod PlaceLists
+pub mod RawFormatLaws
+pub mod FormatLengths
+pub mod BodyLaws
+pub mod TypeFormatLaws
+pub mod OperandFormatLaws
+pub mod InstructionFormatLaws
+pub mod InstructionLengths
+pub mod CallRanges
+pub mod ModuleFormatLaws
