@@ -1,4 +1,4 @@
-//! Readers and normalisers: any spelling in, the list that it spells or its text out.
+//! What readers answer, the place in bytes that they go by, and the loops that read lists.
 //!
 //! A reader takes all of its input: bytes that are left over are refused like any others that aren't spelled.
 ghost use Rattle.std.specs.Prelude.{◌≡◌};

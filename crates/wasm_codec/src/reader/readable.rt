@@ -1,5 +1,6 @@
 //! What can be read as an item of a list.
-ghost use Rattle.std.specs.Prelude.{ℕ, List, refl};
+ghost use Rattle.wasm_codec.specs.declared.reader.cursor.Fault.TheVariants.{Malformed};
+ghost use Rattle.std.specs.Prelude.{◌≡◌, IfErr, ℕ, List, refl};
 ghost use Rattle.wasm_codec.specs.Grammar.{Grammar, TakesBytes};
 ghost use Rattle.wasm_codec.specs.Reading.{Reader, Reads, IsReadBy, ViewsEach, map_ok};
 ghost use Rattle.wasm_codec.specs.Numbers.{SpellsU32, u32_at};
@@ -49,7 +50,12 @@ impl<'a> Readable<'a> for u32 {
 
     ghost views_each = { record { none = refl; more = λ xs x. refl } };
 
-    fn read(alloc: Global, cursor: &mut Cursor<'a>) -> Result<u32, Fault> {
+    fn read(alloc: Global, cursor: &mut Cursor<'a>) -> Result<u32, Fault>
+        ensures reads { Reads u32_at cursor.old cursor.new (map_ok (λ x. x) result) }
+        ensures finds { IsReadBy SpellsU32 u32_at }
+        ensures some { TakesBytes SpellsU32 }
+        ensures err { IfErr result (λ e. e ≡ Malformed) }
+    {
         let _ = alloc;
         cursor.u32()
     }

@@ -1,6 +1,7 @@
 //! Fields, composite types, subtypes and entries of a type section (Core 3.0, 5.3.8 to 5.3.12 and 5.5.4).
 ghost use Rattle.std.specs.Prelude.{◌≡◌, IfErr, refl};
-ghost use Rattle.wasm_codec.specs.Reading.{Reads, map_at, then_at};
+ghost use Rattle.wasm_codec.specs.Grammar.{TakesBytes};
+ghost use Rattle.wasm_codec.specs.Reading.{Reads, IsReadBy, map_at, map_ok, then_at};
 ghost use Rattle.wasm_codec.specs.Numbers.{u32_at};
 ghost use Rattle.wasm_types.specs.HeapTypes.{SpellsValType, val_type_at};
 ghost use Rattle.wasm_codec.specs.Lists.{list_at};
@@ -35,7 +36,12 @@ impl<'a> Readable<'a> for ValType {
 
     ghost read_at = { val_type_at };
 
-    fn read(alloc: Global, cursor: &mut Cursor<'a>) -> Result<ValType, Fault> {
+    fn read(alloc: Global, cursor: &mut Cursor<'a>) -> Result<ValType, Fault>
+        ensures reads { Reads val_type_at cursor.old cursor.new (map_ok (λ x. x) result) }
+        ensures finds { IsReadBy SpellsValType val_type_at }
+        ensures some { TakesBytes SpellsValType }
+        ensures err { IfErr result (λ e. e ≡ Malformed) }
+    {
         let _ = alloc;
         read_val_type(cursor)
     }
@@ -54,7 +60,12 @@ impl<'a> Readable<'a> for FieldType {
 
     ghost read_at = { field_type_at };
 
-    fn read(alloc: Global, cursor: &mut Cursor<'a>) -> Result<FieldType, Fault> {
+    fn read(alloc: Global, cursor: &mut Cursor<'a>) -> Result<FieldType, Fault>
+        ensures reads { Reads field_type_at cursor.old cursor.new (map_ok (λ x. x) result) }
+        ensures finds { IsReadBy SpellsFieldType field_type_at }
+        ensures some { TakesBytes SpellsFieldType }
+        ensures err { IfErr result (λ e. e ≡ Malformed) }
+    {
         let _ = alloc;
         read_field_type(cursor)
     }
