@@ -6,8 +6,9 @@ use Rattle.wasm_codec.specs.declared.reader.cursor.Fault.TheVariants as faults
 use Rattle.std.specs.List.{flat_map, AllByRecursion}
 use Rattle.wasm_codec.specs.Grammar.{Grammar, IsBytes, Joined, Counted}
 use Rattle.wasm_codec.specs.Reading.{Reader, ◌>>=◌, times_at, counted_at, Reads, Fronts, IsReadBy}
-use Rattle.wasm_codec.proofs.Laws.{Shortest, bind_some, Fronts-is, IsBytes-after, in_a_row, read_in_row, least_then}
+use Rattle.wasm_codec.proofs.Laws.{bind_some, Fronts-is, IsBytes-after, in_a_row, read_in_row, least_then}
 use Rattle.wasm_codec.proofs.Joining.{Shortest-joined}
+use Rattle.wasm_codec.specs.Lawful.{Shortest}
 
 -- as many items as were asked for
 abbrev Times : {A : Type 0} → Grammar A → ℕ → Grammar (List A)

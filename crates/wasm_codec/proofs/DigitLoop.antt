@@ -5,10 +5,8 @@ use Rattle.std.proofs.lemmas.List.{take_more, drop_more, drop_all, length-take}
 use Rattle.std.proofs.lemmas.Nat.{mul-le}
 use Rattle.std.proofs.Math.Nat.{pow-le-pow_right}
 use Rattle.std.proofs.Math.Nat.{pow-suc}
-use Rattle.wasm_codec.specs.declared.reader.cursor.Fault.{Fault}
-use Rattle.wasm_codec.specs.declared.reader.cursor.Fault.TheVariants as faults
-use Rattle.wasm_codec.specs.Reading.{◌>>=◌, byte_at, Reads}
-use Rattle.wasm_codec.specs.Numbers.{digits_at, unsigned, last, ReadsDigits}
+use Rattle.wasm_codec.specs.Reading.{◌>>=◌, byte_at}
+use Rattle.wasm_codec.specs.Numbers.{digits_at, unsigned, last}
 use Rattle.wasm_codec.proofs.Laws.{some, some_is}
 
 -- digits that were passed, and those that are still read
@@ -70,22 +68,6 @@ pub runs_out : (most : ℕ) (bytes : List ℕ) (i : ℕ) → byte_at (drop i byt
 runs_out most bytes i e = rw (no_byte (drop i bytes) e, none_left (most - i)) refl
 
 -- a byte was wanting
-pub digits_fail : (fault : Fault) (most : ℕ) (bytes : List ℕ) (i : ℕ) (old new : List ℕ) → old ≡ drop i bytes → reads_on most bytes i ≡ digits_at most bytes → Reads byte_at old new (Err fault) → ReadsDigits most bytes new (Err fault)
-digits_fail faults.Memory most bytes i old new rest so_far e = tt
-digits_fail faults.Malformed most bytes i old new rest so_far e = sym so_far ∙ runs_out most bytes i (sym (ap byte_at rest) ∙ e)
-
--- ---- what is kept of the digits
-
--- room for one digit more
-pub record Room (value place digit : ℕ) : Type 0 where
-  pub part : digit * place ≤ 127 * place
-  pub place_fits : place ≤ 128 ^ 9
-
-pub room : (i value place digit : ℕ) → i < 10 → place ≡ 128 ^ i → digit < 128 → Room value place digit
-room i value place digit lt e small =
-    let early : i ≤ 9 = omega arith in
-    record { part = mul-le digit place 127 place (omega arith) (omega arith); place_fits = rw e (pow-le-pow_right (omega arith) early) }
-
 unsigned-append : (front : List ℕ) (b : ℕ) → unsigned (front ++ b ∷ []) ≡ unsigned front + (b % 128) * 128 ^ length front
 unsigned-append [] b = omega arith
 unsigned-append (c ∷ front) b =
@@ -105,9 +87,13 @@ value_more bytes i b value place lt e v p =
 last_is : (bytes : List ℕ) (i b : ℕ) → i < length bytes → get_or bytes i 0 ≡ b → b ≡ last (take (i + 1) bytes)
 last_is bytes i b lt e = rw (take_more bytes i 0 lt, e) (sym (last-append (take i bytes) b))
 
+-- the sum of the low seven bits of digits, 128 to their number, and the last of them
+abbrev pub Describes : ℕ → ℕ → ℕ → List ℕ → Type 0
+Describes n unit end digits = (n ≡ unsigned digits) × (unit ≡ 128 ^ length digits) × (end ≡ last digits)
+
 -- the last digit was read
 pub digits_end : (most : ℕ) (bytes : List ℕ) (i b value place : ℕ) (rest : List ℕ) → i < most → b < 128 → ByteAt bytes i b rest → reads_on most bytes i ≡ digits_at most bytes → value ≡ unsigned (take i bytes) → place ≡ 128 ^ i
-    → ReadsDigits most bytes rest (Ok (record { unsigned = value + (b % 128) * place; place = place * 128; last = b }))
+    → (digits : List ℕ) × (digits_at most bytes ≡ Some (digits, rest)) × Describes (value + (b % 128) * place) (place * 128) b digits
 digits_end most bytes i b value place rest less low byte so_far v p =
     let lt = byte.within in
     let len : length (take (i + 1) bytes) ≡ i + 1 = omega (arith, length-take (i + 1) bytes) in

@@ -7,7 +7,8 @@ use Rattle.wasm_codec.specs.Grammar.{Grammar, TakesBytes, Joined}
 use Rattle.wasm_codec.specs.Reading.{Reader, IsReadBy}
 use Rattle.wasm_codec.specs.Answers.{IsLongestFront}
 use Rattle.wasm_codec.specs.Encoding.{IsTextOrLonger}
-use Rattle.wasm_codec.proofs.Laws.{Shortest, least_then, one_reading}
+use Rattle.wasm_codec.proofs.Laws.{least_then, one_reading}
+use Rattle.wasm_codec.specs.Lawful.{Shortest}
 
 -- one more item at the end
 pub Joined-more : {V : Type 0} (G : Grammar V) (bytes : List ℕ) (vs : List V) (last : List ℕ) (v : V) → Joined G bytes vs → G last v → Joined G (bytes ++ last) (vs ++ v ∷ [])
@@ -15,7 +16,7 @@ Joined-more G bytes [] last v g h = (last, [], rw g (sym (append-nil last)), h, 
 Joined-more G bytes (w ∷ ws) last v g h =
     (g.0, g.1 ++ last, ap (λ (t : List ℕ). t ++ last) g.2 ∙ append_assoc g.0 g.1 last, g.3, Joined-more G g.1 ws last v g.4 h)
 
--- what a longer list of spellings has past a shorter one
+-- what a longer list of encodings has past a shorter one
 pub record Longer {V : Type 0} (G : Grammar V) (a : List ℕ) (vs : List V) (b : List ℕ) (ws : List V) : Type 0 where
   pub back : List ℕ
   pub more : List V
@@ -23,7 +24,7 @@ pub record Longer {V : Type 0} (G : Grammar V) (a : List ℕ) (vs : List V) (b :
   pub items : ws ≡ vs ++ more
   pub spells : Joined G back more
 
--- ---- two lists of spellings at the front of the same bytes
+-- ---- two lists of encodings that the same bytes begin with
 
 regroup : (a f g x b f' g' y : List ℕ) → a ≡ f ++ g → b ≡ f' ++ g' → a ++ x ≡ b ++ y → f ++ (g ++ x) ≡ f' ++ (g' ++ y)
 regroup a f g x b f' g' y p q e = sym (append_assoc f g x) ∙ ap (λ (t : List ℕ). t ++ x) (sym p) ∙ e ∙ ap (λ (t : List ℕ). t ++ y) q ∙ append_assoc f' g' y
@@ -71,14 +72,14 @@ Joined-none G some back [] e g = refl
 Joined-none {V} G some back (v ∷ vs) e g =
     absurd (some v (subst (λ (t : List ℕ). G t v) (empty_front g.0 g.1 (sym g.2 ∙ e)) g.3))
 
--- bytes spell at most one list
+-- bytes encode at most one list
 pub Joined-one : {V : Type 0} {G : Grammar V} {read : Reader V} → IsReadBy G read → TakesBytes G → (bytes : List ℕ) (vs ws : List V) → Joined G bytes vs → Joined G bytes ws → vs ≡ ws
 Joined-one {V} {G} r some bytes vs ws g h =
     let s = Joined-split r some bytes bytes [] [] vs ws g h refl (omega arith) in
     let none : s.more ≡ [] = Joined-none G some s.back s.more (none_left bytes s.back s.bytes) s.spells in
     sym (s.items ∙ ap (λ (t : List V). vs ++ t) none ∙ append-nil vs)
 
--- a spelling comes next, where a longer list is spelled
+-- an encoding comes next, where a longer list is encoded
 pub next : {V : Type 0} {G : Grammar V} {read : Reader V} → IsReadBy G read → (back y : List ℕ) (more : List V) → Joined G back more → 0 < length back → read (back ++ y) ≡ None → ⊥
 next r back y [] g some none = absurd (omega (arith, ap (length {A = ℕ}) g))
 next {read = read} r back y (v ∷ more) g some none =
@@ -89,7 +90,7 @@ next {read = read} r back y (v ∷ more) g some none =
     clash : {A : Type 0} (o : Option A) (x : A) → o ≡ None → o ≡ Some x → ⊥
     clash o x e f = absurd cc
 
--- where nothing more is read, what was read is the longest front
+-- where nothing more is read, what was read is the longest prefix
 pub Joined-longest : {V : Type 0} {G : Grammar V} {read : Reader V} → IsReadBy G read → TakesBytes G → (bytes front left : List ℕ) (vs : List V) → bytes ≡ front ++ left → Joined G front vs → read left ≡ None
     → IsLongestFront (λ whole. (ws : List V) × Joined G whole ws) bytes (length front)
 Joined-longest {V} {G} {read} r some bytes front left vs e g none = record {
@@ -111,7 +112,7 @@ Joined-longest {V} {G} {read} r some bytes front left vs e g none = record {
         absurd (next r s.back after s.more s.spells more (sym (ap read rest) ∙ none))
   ]
 
--- ---- texts
+-- ---- shortest encodings
 
 joined_spells : {A : Type 0} {G : Grammar A} {F : A → Type 0} {text : A → List ℕ} → Shortest G F text → (vs : List A) → AllByRecursion F vs → Joined G (flat_map text vs) vs
 joined_spells r [] fits = refl

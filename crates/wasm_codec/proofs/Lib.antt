@@ -4,8 +4,15 @@ pub mod ListReading
 pub mod Digits
 pub mod DigitLoop
 pub mod NumberLaws
-pub mod TextLists
+pub mod WrittenLists
 pub mod Counting
 pub mod ListLaws
 pub mod RewritingLaws
 pub mod ExactLaws
+pub mod NumberReading
+pub mod FormatLaws
+pub mod RawFormatLaws
+pub mod FormatLengths
+pub mod PlaceLists
+pub mod BodyLaws
+pub mod PlaceBridges

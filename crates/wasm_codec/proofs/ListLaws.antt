@@ -21,7 +21,7 @@ IsReadBy-list r = IsReadBy-counted IsReadBy-u32 r
 pub AtMostOne-list : {V : Type 0} {G : Grammar V} {read : Reader V} → IsReadBy G read → AtMostOne (SpellsList G)
 AtMostOne-list r bytes v w g h = (one_reading (IsReadBy-list r) bytes bytes [] [] v w g h refl).1
 
--- What is read of items is what is spelled, and each takes bytes.
+-- What is read of items is what is encoded, and each takes bytes.
 pub record ItemLaws {V : Type 0} (G : Grammar V) (read : Reader V) : Type 0 where
   pub finds : IsReadBy G read
   pub some : TakesBytes G
@@ -30,7 +30,7 @@ pub record ItemLaws {V : Type 0} (G : Grammar V) (read : Reader V) : Type 0 wher
 abbrev pub KnownOf : {V : Type 0} → Grammar V → Reader V → ℕ → Type 0
 KnownOf G read count = (count ≡ 0) ⊎ ItemLaws G read
 
--- ---- what is read of a list is what is spelled
+-- ---- what is read of a list is what is encoded
 
 -- without a count there is no list
 pub finds_none : {V : Type 0} (G : Grammar V) (read : Reader V) (bytes : List ℕ) → u32_at bytes ≡ None → FindsAt (SpellsList G) (list_at read) bytes
@@ -45,7 +45,7 @@ finds_none {V} G read bytes none = record { sound = λ v rest e. absurd (clash v
       let counted : u32_at bytes ≡ Some (length v, g.1 ++ rest) = ap u32_at row ∙ IsReadBy-u32.complete g.0 (length v) (g.1 ++ rest) g.3 in
       absurd cc
 
--- no items, whatever spells them
+-- no items, whatever encodes them
 no_items_found : {V : Type 0} (G : Grammar V) (read : Reader V) (bytes left : List ℕ) → IsBytes bytes → u32_at bytes ≡ Some (0, left) → FindsAt (SpellsList G) (list_at read) bytes
 unfolding times_at
 no_items_found {V} G read bytes left fits count = record { sound = λ v rest e. found v rest e; complete = λ v rest one. read_back v rest one } where
@@ -80,7 +80,7 @@ finds_list {G = G} {read} bytes left count fits e (inr laws) = record {
   complete = λ v rest one. ap (list_at read) one.parts ∙ (IsReadBy-list laws.finds).complete one.front v rest one.spells;
 }
 
--- ---- the longest front of a list
+-- ---- the longest whole prefix of a list
 
 -- the count was read, and these items; these bytes are left
 pub record Taken {V : Type 0} (G : Grammar V) (bytes left : List ℕ) (count : ℕ) (vs : List V) : Type 0 where
@@ -239,7 +239,7 @@ whole_given {G = G} bytes [] v f e none =
     subst (λ (t : List ℕ). G t v) (sym (one.parts ∙ append-nil one.front)) one.spells
 whole_given bytes (b ∷ left) v f e none = absurd (omega arith)
 
--- where something is left over the bytes spell nothing
+-- where something is left over the bytes encode nothing
 pub left_unspelled : {V : Type 0} {G : Grammar V} {read : Reader V} (bytes left : List ℕ) (v : V) → FindsAt G read bytes → read bytes ≡ Some (v, left) → 0 < length left → (w : V) → G bytes w → ⊥
 left_unspelled {V} {G} bytes left v f e more w g =
     let same : (v, left) ≡ (w, []) = some_is (v, left) (w, []) (sym e ∙ f.complete w [] (whole G bytes w g)) in

@@ -9,8 +9,9 @@ use Rattle.wasm_codec.specs.Reading.{Reader, Reads, IsReadBy}
 use Rattle.wasm_codec.specs.declared.reader.ReadError.{ReadError}
 use Rattle.wasm_codec.specs.declared.reader.ReadError.TheVariants as errors
 use Rattle.wasm_codec.specs.Answers.{answer_to, HoldsAtRefusal, IsOrMemory, IfRefused, IsLongestFront, SpellsSome, IsNormalForm}
-use Rattle.wasm_codec.proofs.Laws.{Shortest, IsBytes-back}
+use Rattle.wasm_codec.proofs.Laws.{IsBytes-back}
 use Rattle.wasm_codec.proofs.Joining.{Joined-more, Joined-longest}
+use Rattle.wasm_codec.specs.Lawful.{Shortest}
 
 pub IsBytes-from : (bytes : List ℕ) → ((i : ℕ) → get_or bytes i 0 < 256) → IsBytes bytes
 IsBytes-from [] h = tt
@@ -46,6 +47,9 @@ next {V} {G} r some bytes left rest vs v fits p e =
       fewer = let more = some_bytes G some one.front v one.spells in omega (arith, ap (length {A = ℕ}) one.parts, length-append one.front rest);
     }
 
+pub progress_bytes : {V : Type 0} {G : Grammar V} {vs : List V} (bytes left : List ℕ) → IsBytes bytes → Progress G bytes left vs → IsBytes left
+progress_bytes bytes left fits p = IsBytes-back p.front left (rw p.parts at fits)
+
 -- no bytes are left
 pub end : {V : Type 0} (G : Grammar V) (bytes left : List ℕ) (vs : List V) → Progress G bytes left vs → length left ≤ 0 → Joined G bytes vs
 end G bytes [] vs p none = subst (λ (t : List ℕ). Joined G t vs) (sym (p.parts ∙ append-nil p.front)) p.spells
@@ -74,28 +78,17 @@ pub record Written {V : Type 0} (G : Grammar V) (text_of : V → List ℕ) (byte
   pub progress : Progress G bytes left values
   pub is_text : text ≡ flat_map text_of values
 
-pub begin_text : {V : Type 0} (G : Grammar V) (text_of : V → List ℕ) (bytes : List ℕ) → Written G text_of bytes bytes []
-begin_text G text_of bytes = record { values = []; progress = begin G bytes; is_text = refl }
-
--- one item more was read and written
-pub next_text : {V : Type 0} (G : Grammar V) (text_of : V → List ℕ) (bytes left rest text more : List ℕ) (v : V) (w : Written G text_of bytes left text) → Next G bytes left rest w.values v → more ≡ text ++ text_of v → Written G text_of bytes rest more
-next_text {V} G text_of bytes left rest text more v w n e = record {
-  values = w.values ++ v ∷ [];
-  progress = n.progress;
-  is_text = e ∙ ap (λ (t : List ℕ). t ++ text_of v) w.is_text ∙ flat_map_more text_of [] w.values v;
-}
-
 -- ---- what is answered
 
--- bytes spell at most one value
+-- bytes encode at most one value
 abbrev pub AtMostOne : {V : Type 0} → Grammar V → Type 0
 AtMostOne {V} G = (bytes : List ℕ) (v w : V) → G bytes v → G bytes w → v ≡ w
 
--- where the longest front is shorter than the bytes, they spell nothing
+-- where the longest whole prefix is shorter than the bytes, they encode nothing
 not_whole : {V : Type 0} (G : Grammar V) (bytes : List ℕ) (at : ℕ) → at < length bytes → IsLongestFront (SpellsSome G) bytes at → (v : V) → G bytes v → ⊥
 not_whole G bytes at lt front v g = let le = front.longest bytes [] (sym (append-nil bytes)) (v, g) in absurd (omega arith)
 
--- nothing is spelled where it refused
+-- where it refused, the bytes encode nothing
 abbrev pub IfRefusedNone : {X V : Type 0} → Grammar V → List ℕ → Result X ReadError → Type 0
 IfRefusedNone {V = V} G bytes result = IfRefused result (λ _. (v : V) → G bytes v → ⊥)
 
@@ -104,27 +97,27 @@ none_within G bytes (Ok x) front within = tt
 none_within G bytes (Err errors.Memory) front within = tt
 none_within G bytes (Err (errors.Refused at)) front within = not_whole G bytes at within front
 
--- what is spelled is given
+-- what is encoded is given
 pub gives_all : {X V : Type 0} {G : Grammar V} → AtMostOne G → (view : X → V) (bytes : List ℕ) (result : Result X ReadError)
     → IfOk result (λ x. G bytes (view x)) → IfRefusedNone G bytes result → (v : V) → G bytes v → IsOrMemory view v result
 gives_all one view bytes (Ok x) given none v g = one bytes (view x) v given g
 gives_all one view bytes (Err errors.Memory) given none v g = tt
 gives_all one view bytes (Err (errors.Refused at)) given none v g = none v g
 
--- the text of what is spelled is given
+-- the shortest encoding of what is encoded is given
 pub gives_text : {X V : Type 0} {G : Grammar V} → AtMostOne G → (text_of : V → List ℕ) (view : X → List ℕ) (bytes : List ℕ) (result : Result X ReadError)
     → IfOk result (λ x. IsNormalForm G text_of bytes (view x)) → IfRefusedNone G bytes result → (v : V) → G bytes v → IsOrMemory view (text_of v) result
 gives_text one text_of view bytes (Ok x) given none v g = given.is_text ∙ ap text_of (one bytes given.value v given.spelled g)
 gives_text one text_of view bytes (Err errors.Memory) given none v g = tt
 gives_text one text_of view bytes (Err (errors.Refused at)) given none v g = none v g
 
--- the text of what the bytes spell spells what they spell
+-- a normal form of the bytes encodes what they encode
 same_values : {V : Type 0} {G : Grammar V} {F : V → Type 0} {text_of : V → List ℕ} → AtMostOne G → Shortest G F text_of → (bytes text : List ℕ) → IsNormalForm G text_of bytes text → (w : V) → G text w ↔ G bytes w
 same_values {V} {G} one s bytes text n w =
     let h : G text n.value = subst (λ (t : List ℕ). G t n.value) (sym n.is_text) (s.again bytes n.value n.spelled) in
     (λ k. subst (G bytes) (one text n.value w h k) n.spelled, λ k. subst (G text) (one bytes n.value w n.spelled k) h)
 
--- and is the text of it
+-- and is the shortest encoding of it
 is_normal : {V : Type 0} {G : Grammar V} {F : V → Type 0} {text_of : V → List ℕ} → AtMostOne G → Shortest G F text_of → (bytes text : List ℕ) → IsNormalForm G text_of bytes text → (w : V) → G text w → text ≡ text_of w
 is_normal {V} {G} {text_of = text_of} one s bytes text n w k =
     let h : G text n.value = subst (λ (t : List ℕ). G t n.value) (sym n.is_text) (s.again bytes n.value n.spelled) in

@@ -5,8 +5,9 @@ use Rattle.std.proofs.lemmas.Int.{ints}
 use Rattle.wasm_codec.specs.Numbers.{IsDigits, unsigned, last, signed, Number, Below, Within, SignedWithin, IndexBelow, SpellsU32, SpellsU64, SpellsS32, SpellsS64, SpellsIndex, digits_of, unsigned_text, signed_text, number_at, below, is_within, signed_within, index_from, index_below, u32_at, u64_at, s32_at, s64_at, index_at}
 use Rattle.wasm_codec.specs.Encoding.{IsTextOrLonger}
 use Rattle.wasm_codec.specs.Reading.{IsReadBy}
-use Rattle.wasm_codec.proofs.Laws.{Shortest, some_is}
+use Rattle.wasm_codec.proofs.Laws.{some_is}
 use Rattle.wasm_codec.proofs.Digits.{IsReadBy-number, magnitude, Stands, digits_stand, digits_least, length-digits_of}
+use Rattle.wasm_codec.specs.Lawful.{Shortest}
 
 -- ---- reading
 
@@ -57,7 +58,7 @@ index_finds limit digits n d m = rw (m.0, lt-ltb n limit m.1) refl
 IsReadBy-index-below : (most limit : ℕ) → IsReadBy (Number most (IndexBelow limit)) (number_at most (index_below limit))
 IsReadBy-index-below most limit = IsReadBy-number most (IndexBelow limit) (index_below limit) (index_means limit) (index_finds limit)
 
--- ---- unsigned texts
+-- ---- shortest encodings of unsigned numbers
 
 magnitude-unsigned : (digits : List ℕ) → magnitude false digits ≡ unsigned digits
 unfolding magnitude
@@ -82,7 +83,7 @@ Shortest-unsigned more limit wide room = record {
       let p = digits_stand false 128 (omega arith) 9 n (omega arith) in
       (p.are, length-digits_of false 128 9 more n (omega arith), (sym (magnitude-unsigned _) ∙ p.value, lt))
 
--- ---- signed texts
+-- ---- shortest encodings of signed numbers
 
 -- a digit and the same digit turned are 127
 both : (digits : List ℕ) → magnitude true digits + unsigned digits + 1 ≡ 128 ^ length digits

@@ -1,4 +1,4 @@
--- The laws of texts that are written as their spellings are read.
+-- The laws of rewriting: values are written in their shortest encodings as they are read.
 use Rattle.std.proofs.Common.{◌≡◌, ℕ, ◌+◌, ◌<◌, ◌≤◌, List, [], ◌∷◌, ◌++◌, length, Some, Err, refl, sym, ap, subst, ◌∙◌, append_assoc, arith}
 use Rattle.std.proofs.lemmas.List.{append-nil, flat_map_more}
 use Rattle.std.specs.List.{flat_map}
@@ -22,13 +22,13 @@ pub fails_to_rewrite : {V : Type 0} (read : Reader V) (text_of : V → List ℕ)
 fails_to_rewrite read text_of old new before after faults.Memory h = tt
 fails_to_rewrite read text_of old new before after faults.Malformed h = h
 
--- where the text began empty, the text is the normal form
+-- where nothing was written before, what is written is the normal form
 pub normal_alone : {V : Type 0} {G : Grammar V} {text_of : V → List ℕ} (bytes before after : List ℕ) → before ≡ [] → AppendsNormalForm G text_of bytes before after → IsNormalForm G text_of bytes after
 normal_alone {G = G} {text_of} bytes before after none n = subst (IsNormalForm G text_of bytes) (sym (n.appended ∙ ap (λ (t : List ℕ). t ++ n.text) none)) n.normal
 
 -- ---- the items of a list
 
--- so many items were read, and their texts were written after the count
+-- so many items were read, and their shortest encodings were written after the count
 pub record ItemsWritten {V : Type 0} (G : Grammar V) (read : Reader V) (text_of : V → List ℕ) (bytes left : List ℕ) (count i : ℕ) (before text : List ℕ) : Type 0 where
   pub items : List V
   pub gone : Gone G read bytes left count i items

@@ -26,7 +26,7 @@ HoldsAtRefusal (errors.Refused at) P = P at
 abbrev pub IfRefused : {X : Type 0} → Result X ReadError → (ℕ → Type 0) → Type 0
 IfRefused r P = IfErr r (λ e. HoldsAtRefusal e P)
 
--- The bytes have a front of this length that is whole, and no longer front is.
+-- The bytes have a prefix of this length that is whole, and no longer prefix is.
 pub record IsLongestFront (Whole : List ℕ → Type 0) (bytes : List ℕ) (len : ℕ) : Type 0 where
   pub front : List ℕ
   pub rest : List ℕ
@@ -35,11 +35,11 @@ pub record IsLongestFront (Whole : List ℕ → Type 0) (bytes : List ℕ) (len 
   pub whole : Whole front
   pub longest : (other after : List ℕ) → bytes ≡ other ++ after → Whole other → length other ≤ len
 
--- the bytes spell some value
+-- the bytes encode some value
 abbrev pub SpellsSome : {V : Type 0} → Grammar V → List ℕ → Type 0
 SpellsSome {V} G bytes = (v : V) × G bytes v
 
--- The text is that of a value that the bytes spell.
+-- This is the shortest encoding of a value that the bytes encode.
 pub record IsNormalForm {V : Type 0} (G : Grammar V) (text_of : V → List ℕ) (bytes text : List ℕ) : Type 0 where
   pub value : V
   pub spelled : G bytes value
@@ -53,7 +53,7 @@ UnlessMemory (Ok x) P = P
 UnlessMemory (Err faults.Malformed) P = P
 UnlessMemory (Err faults.Memory) P = Unit {0}
 
--- These bytes come after a front that is whole, and no longer front is.
+-- These bytes come after a prefix that is whole, and no longer prefix is.
 pub record IsAfterLongest (Whole : List ℕ → Type 0) (bytes rest : List ℕ) : Type 0 where
   pub front : List ℕ
   pub parts : bytes ≡ front ++ rest

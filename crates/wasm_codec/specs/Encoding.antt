@@ -1,36 +1,56 @@
--- Texts: of its spellings, the one that is written for a value.
-use Rattle.std.specs.Prelude.{◌≡◌, ℕ, ◌^◌, ◌<◌, ◌⊎◌, List, [], ◌∷◌, ◌++◌, length, Option, Some, None, nat_lt, if◌then◌else◌}
+-- Writing: the bytes of lists, and why a value isn't written.
+use Rattle.std.specs.Prelude.{◌≡◌, ℕ, ◌^◌, ◌≤◌, ◌<◌, ◌⊎◌, List, [], ◌∷◌, ◌++◌, length, Option, Some, None, nat_lt, if◌then◌else◌}
+use Rattle.std.specs.List.{All, Any}
+use Rattle.wasm_codec.specs.declared.encode.EncodeError.{EncodeError}
+use Rattle.wasm_codec.specs.declared.encode.EncodeError.TheVariants.{Memory, TooLong}
 use Rattle.wasm_codec.specs.Numbers.{unsigned_text}
 
--- a length or a count: a u32, and no text past its range
-abbrev pub usize_text : ℕ → Option (List ℕ)
-usize_text n = if nat_lt n (2 ^ 32) then Some (unsigned_text n) else None
-
--- one text after another, where both are there
-abbrev pub both_texts : Option (List ℕ) → Option (List ℕ) → Option (List ℕ)
-both_texts (Some front) (Some back) = Some (front ++ back)
-both_texts (Some front) None = None
-both_texts None back = None
-
 -- bytes, after their number (5.1.3 Vectors)
-abbrev pub byte_list_text : List ℕ → Option (List ℕ)
-byte_list_text bytes = both_texts (usize_text (length bytes)) (Some bytes)
+abbrev pub byte_list_text : List ℕ → List ℕ
+byte_list_text bytes = unsigned_text (length bytes) ++ bytes
 
-module _ {T : Type 0} (text : T → Option (List ℕ)) where
-  -- the texts of the items, with nothing between
-  abbrev pub texts : List T → Option (List ℕ)
-  texts [] = Some []
-  texts (x ∷ xs) = both_texts (text x) (texts xs)
+-- 0 for nothing, or 1 and the value
+abbrev pub option_text : {T : Type 0} → (T → List ℕ) → Option T → List ℕ
+option_text text None = 0 ∷ []
+option_text text (Some x) = 1 ∷ text x
 
-  -- the items, after their number (5.1.3 Vectors)
-  abbrev pub list_text : List T → Option (List ℕ)
-  list_text xs = both_texts (usize_text (length xs)) (texts xs)
+-- a u32 counts as many
+abbrev pub IsCount : ℕ → Type 0
+IsCount n = n < 2 ^ 32
 
-  -- 0 for nothing, or 1 and the value
-  abbrev pub option_text : Option T → Option (List ℕ)
-  option_text None = Some (0 ∷ [])
-  option_text (Some x) = both_texts (Some (1 ∷ [])) (text x)
+-- the answer to a number that no u32 counts, before anything grows
+abbrev pub too_long_at_once : ℕ → Option EncodeError
+too_long_at_once n = if nat_lt n (2 ^ 32) then None else Some TooLong
 
--- the bytes are the text, or there are more of them
+-- there are more than a u32 counts
+abbrev pub IsTooLong : ℕ → EncodeError → Type 0
+IsTooLong n e = (e ≡ TooLong) × (2 ^ 32 ≤ n)
+
+-- values that are refused, besides for want of memory, by `TooLong` alone
+abbrev pub OnlyTooLong : {T : Type 0} → T → EncodeError → Type 0
+OnlyTooLong x e = e ≡ TooLong
+
+-- why a list of so many items isn't written, where each of them can be: memory ran out, or they are too many
+abbrev pub IsCountRefusal : ℕ → EncodeError → Type 0
+IsCountRefusal n e = (e ≡ Memory) ⊎ IsTooLong n e
+
+module _ {T : Type 0} (Can : T → Type 0) (refuses : T → EncodeError → Type 0) where
+  -- the value can't be written, and this is an error that is answered for it
+  abbrev pub Refuses : T → EncodeError → Type 0
+  Refuses x e = (Can x → ⊥) × refuses x e
+
+  -- why a value isn't written: memory ran out, or it can't be written
+  abbrev pub IsRefusal : T → EncodeError → Type 0
+  IsRefusal x e = (e ≡ Memory) ⊎ Refuses x e
+
+  -- why a list isn't written: memory ran out, there are too many items, or one of them can't be written
+  abbrev pub IsListRefusal : List T → EncodeError → Type 0
+  IsListRefusal xs e = (e ≡ Memory) ⊎ (IsTooLong (length xs) e ⊎ Any (λ x. Refuses x e) xs)
+
+-- a list that can be written: a u32 counts the items, and each of them can be
+abbrev pub CanEncodeList : {T : Type 0} → (T → Type 0) → List T → Type 0
+CanEncodeList Can xs = IsCount (length xs) × All Can xs
+
+-- the bytes are the shortest encoding, or there are more of them
 abbrev pub IsTextOrLonger : List ℕ → List ℕ → Type 0
 IsTextOrLonger bytes text = (bytes ≡ text) ⊎ (length text < length bytes)

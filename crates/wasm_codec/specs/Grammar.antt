@@ -1,7 +1,7 @@
--- Grammars: which bytes spell which value, and how spellings are put together.
+-- Grammars: which bytes encode which value, and how encodings are put together.
 use Rattle.std.specs.Prelude.{◌≡◌, ℕ, ◌<◌, Bool, true, false, List, [], ◌∷◌, ◌++◌, length, Option, Some, None}
 
--- which bytes spell which value
+-- which bytes encode which value
 abbrev pub Grammar : Type 0 → Type 1
 Grammar V = List ℕ → V → Type 0
 
@@ -10,11 +10,11 @@ abbrev pub IsBytes : List ℕ → Type 0
 IsBytes [] = Unit {0}
 IsBytes (b ∷ bytes) = (b < 256) × IsBytes bytes
 
--- one after the other; what comes second may depend on what the first spells
+-- one after the other; what comes second may depend on what the first encodes
 abbrev pub Then : {A B : Type 0} → Grammar A → (A → Grammar B) → Grammar (A × B)
 Then G H bytes v = (front : List ℕ) × (back : List ℕ) × (bytes ≡ front ++ back) × G front v.0 × H v.0 back v.1
 
--- the spellings of a value, for what is made of it
+-- the encodings of a value, for what is made of it
 abbrev pub Mapped : {A B : Type 0} → (A → B) → Grammar A → Grammar B
 Mapped make G bytes b = (a : _) × G bytes a × (make a ≡ b)
 
@@ -22,7 +22,7 @@ Mapped make G bytes b = (a : _) × G bytes a × (make a ≡ b)
 abbrev pub Nothing : {A : Type 0} → A → Grammar A
 Nothing a bytes b = (bytes ≡ []) × (a ≡ b)
 
--- no spelling at all
+-- no encoding at all
 abbrev pub Never : {A : Type 0} → Grammar A
 Never bytes a = ⊥
 
@@ -30,21 +30,6 @@ Never bytes a = ⊥
 abbrev pub Either : {A : Type 0} → Bool → Grammar A → Grammar A → Grammar A
 Either true G H = G
 Either false G H = H
-
--- a first byte, and after it what that byte says
-abbrev pub ByTag : {A : Type 0} → (ℕ → Grammar A) → Grammar A
-ByTag cases [] v = ⊥
-ByTag cases (tag ∷ bytes) v = cases tag bytes v
-
--- what the first byte says, which is looked at and not taken
-abbrev pub Peek : {A : Type 0} → (ℕ → Grammar A) → Grammar A
-Peek cases [] v = ⊥
-Peek cases (b ∷ bytes) v = cases b (b ∷ bytes) v
-
--- a first byte, whichever it is, and then a spelling
-abbrev pub Tail : {A : Type 0} → Grammar A → Grammar A
-Tail G [] v = ⊥
-Tail G (b ∷ bytes) v = G bytes v
 
 -- no bytes, for the value that there is
 abbrev pub Only : {A : Type 0} → Option A → Grammar A
@@ -55,19 +40,19 @@ Only (Some a) bytes v = (bytes ≡ []) × (a ≡ v)
 abbrev pub AByte : Grammar ℕ
 AByte bytes b = (bytes ≡ b ∷ []) × (b < 256)
 
--- these bytes, and then a spelling
+-- these bytes, and then an encoding
 abbrev pub After : {A : Type 0} → List ℕ → Grammar A → Grammar A
 After front G bytes v = (back : List ℕ) × (bytes ≡ front ++ back) × G back v
 
--- spellings of the values of a list, with nothing between and nothing left over
+-- encodings of the values of a list, with nothing between and nothing left over
 abbrev pub Joined : {A : Type 0} → Grammar A → Grammar (List A)
 Joined G bytes [] = bytes ≡ []
 Joined G bytes (v ∷ vs) = (front : List ℕ) × (back : List ℕ) × (bytes ≡ front ++ back) × G front v × Joined G back vs
 
--- a count, and then as many spellings
+-- a count, and then as many encodings
 abbrev pub Counted : {A : Type 0} → Grammar ℕ → Grammar A → Grammar (List A)
 Counted Count G bytes vs = (front : List ℕ) × (back : List ℕ) × (bytes ≡ front ++ back) × Count front (length vs) × Joined G back vs
 
--- no value is spelled by no bytes
+-- no value is encoded by no bytes
 abbrev pub TakesBytes : {V : Type 0} → Grammar V → Type 0
 TakesBytes {V} G = (v : V) → G [] v → ⊥

@@ -6,3 +6,7 @@ pub mod Encoding
 pub mod Answers
 pub mod Rewriting
 pub mod Iterators
+pub mod Places
+pub mod ReadDigits
+pub mod formats
+pub mod Lawful

@@ -25,6 +25,6 @@ pub record HasItems {A : Type 0} (G : Grammar A) (front : List ℕ) : Type 0 whe
   pub few : length items ≤ count
   pub spelled : Joined G back items
 
--- a front of a list that is whole: nothing, or a count and at most as many items
+-- a prefix of a list that is whole: nothing, or a count and at most as many items
 abbrev pub IsListFront : {A : Type 0} → Grammar A → List ℕ → Type 0
 IsListFront G front = (front ≡ []) ⊎ HasItems G front

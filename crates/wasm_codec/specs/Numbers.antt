@@ -1,8 +1,5 @@
 -- Numbers in LEB128: digits of seven bits, the least first (WebAssembly Core 3.0, 5.2.2 Integers).
 use Rattle.std.specs.Prelude.{◌≡◌, ℕ, zero, suc, ◌+◌, ◌-◌, ◌*◌, ◌%◌, ◌/◌, ◌^◌, ◌<◌, ◌≤◌, Bool, true, false, List, [], ◌∷◌, length, Option, Some, None, Result, Ok, Err, nat_lt, if◌then◌else◌, ℤ, pos, negsuc, ◌-ℤ◌}
-use Rattle.wasm_codec.specs.declared.reader.cursor.Digits.{Digits}
-use Rattle.wasm_codec.specs.declared.reader.cursor.Fault.{Fault}
-use Rattle.wasm_codec.specs.declared.reader.cursor.Fault.TheVariants as faults
 use Rattle.wasm_codec.specs.Grammar.{Grammar}
 use Rattle.wasm_codec.specs.Reading.{Reader, ◌>>=◌}
 
@@ -65,7 +62,7 @@ SpellsS64 = Number 10 (SignedWithin (2 ^ 63))
 unfoldable pub SpellsIndex : Grammar ℕ
 SpellsIndex = Number 5 (IndexBelow (2 ^ 32))
 
--- ---- the texts: the narrow numbers, which have the fewest bytes
+-- ---- the shortest encodings: the narrow numbers, which have the fewest bytes
 
 -- the digits of -1 - n are those of n, each taken from 127
 abbrev pub turned : Bool → ℕ → ℕ
@@ -86,23 +83,13 @@ signed_text (negsuc n) = digits_of true 64 9 n
 
 -- ---- reading
 
--- the digits at the front
+-- the digits that the bytes begin with
 unfoldable pub digits_at : ℕ → Reader (List ℕ)
 digits_at zero bytes = None
 digits_at (suc most) [] = None
 digits_at (suc most) (b ∷ bytes) = if nat_lt b 128 then Some (b ∷ [], bytes) else (do
   more ← digits_at most bytes
   Some (b ∷ more.0, more.1))
-
--- what the code keeps of digits
-abbrev pub Describes : Digits → List ℕ → Type 0
-Describes d digits = (d.unsigned ≡ unsigned digits) × (d.place ≡ 128 ^ length digits) × (d.last ≡ last digits)
-
--- the code read the digits at the front, or there are none
-abbrev pub ReadsDigits : ℕ → List ℕ → List ℕ → Result Digits Fault → Type 0
-ReadsDigits most old new (Ok d) = (digits : List ℕ) × (digits_at most old ≡ Some (digits, new)) × Describes d digits
-ReadsDigits most old new (Err faults.Malformed) = digits_at most old ≡ None
-ReadsDigits most old new (Err faults.Memory) = Unit {0}
 
 abbrev pub number_at : {V : Type 0} → ℕ → (List ℕ → Option V) → Reader V
 number_at most value bytes = do

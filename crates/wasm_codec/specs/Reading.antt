@@ -1,6 +1,6 @@
--- Reading functions: the value at the front of the bytes and the bytes after it, or none. They stand between the
--- code and the grammars: the private readers are proved equal to them, and they are proved to find what the
--- grammars spell. No public contract speaks of them.
+-- Reading functions: the value that a prefix of the bytes encodes and the bytes after it, or none. They stand between
+-- the code and the grammars: the private readers are proved equal to them, and they are proved to find what bytes
+-- encode by the grammars. No public contract speaks of them.
 use Rattle.std.specs.Prelude.{◌≡◌, ℕ, zero, suc, Bool, true, false, List, [], ◌∷◌, ◌++◌, Option, Some, None, Result, Ok, Err}
 use Rattle.wasm_codec.specs.Grammar.{Grammar, IsBytes}
 use Rattle.wasm_codec.specs.declared.reader.cursor.Fault.{Fault}
@@ -50,20 +50,6 @@ abbrev pub either_at : {A : Type 0} → Bool → Reader A → Reader A → Reade
 either_at true read other = read
 either_at false read other = other
 
-abbrev pub by_tag : {A : Type 0} → (ℕ → Reader A) → Reader A
-by_tag reads [] = None
-by_tag reads (tag ∷ bytes) = reads tag bytes
-
-abbrev pub peek_at : {A : Type 0} → (ℕ → Reader A) → Reader A
-peek_at reads bytes = do
-  first ← byte_at bytes
-  reads first.0 bytes
-
-abbrev pub tail_at : {A : Type 0} → Reader A → Reader A
-tail_at read bytes = do
-  first ← byte_at bytes
-  read first.1
-
 abbrev pub only_at : {A : Type 0} → Option A → Reader A
 only_at None bytes = None
 only_at (Some a) bytes = Some (a, bytes)
@@ -89,18 +75,18 @@ counted_at count read bytes = do
 
 -- ---- what they find
 
--- a front of the bytes spells the value, and this is the rest
+-- a prefix of the bytes encodes the value, and this is the rest
 pub record Fronts {V : Type 0} (G : Grammar V) (bytes : List ℕ) (v : V) (rest : List ℕ) : Type 0 where
   pub front : List ℕ
   pub spells : G front v
   pub parts : bytes ≡ front ++ rest
 
--- the reading function finds what the grammar spells, and nothing else
+-- the reading function finds what bytes encode by the grammar, and nothing else
 pub record IsReadBy {V : Type 0} (G : Grammar V) (read : Reader V) : Type 0 where
   pub sound : (bytes : List ℕ) (v : V) (rest : List ℕ) → IsBytes bytes → read bytes ≡ Some (v, rest) → Fronts G bytes v rest
   pub complete : (front : List ℕ) (v : V) (rest : List ℕ) → G front v → read (front ++ rest) ≡ Some (v, rest)
 
--- what the reading function finds at these bytes is what a front of them spells
+-- what the reading function finds at these bytes is what a prefix of them encodes
 pub record FindsAt {V : Type 0} (G : Grammar V) (read : Reader V) (bytes : List ℕ) : Type 0 where
   pub sound : (v : V) (rest : List ℕ) → read bytes ≡ Some (v, rest) → Fronts G bytes v rest
   pub complete : (v : V) (rest : List ℕ) → Fronts G bytes v rest → read bytes ≡ Some (v, rest)

@@ -1,26 +1,52 @@
--- Texts that are written as their spellings are read: the values between are not kept.
-use Rattle.std.specs.Prelude.{◌≡◌, List, ℕ, ◌++◌, Some, None, Result, Ok, Err}
+-- Rewriting: values are written in their shortest encodings as they are read, and are not kept.
+use Rattle.std.specs.Prelude.{◌≡◌, List, ℕ, ◌++◌, Bool, true, false, Some, None, Result, Ok, Err}
 use Rattle.wasm_codec.specs.declared.reader.cursor.Fault.{Fault}
 use Rattle.wasm_codec.specs.declared.reader.cursor.Fault.TheVariants as faults
 use Rattle.wasm_codec.specs.Grammar.{Grammar}
 use Rattle.wasm_codec.specs.Reading.{Reader}
 use Rattle.wasm_codec.specs.Answers.{IsNormalForm}
+use Rattle.wasm_codec.specs.Places.{Place, place}
+use Rattle.wasm_codec.specs.formats.Combinators.{Format}
 
--- A value was read, which leaves these bytes, and its text was appended.
+-- A value was read, which leaves these bytes, and its shortest encoding was appended.
 pub record IsRewritten {V : Type 0} (read : Reader V) (text_of : V → List ℕ) (old new before after : List ℕ) : Type 0 where
   pub value : V
   pub is_read : read old ≡ Some (value, new)
   pub appended : after ≡ before ++ text_of value
 
--- What the code read and wrote: the text of the value that the reading function gives at the old bytes, or at
--- `Malformed` it gives none.
+-- What the code read and wrote: the shortest encoding of the value that the reading function gives at the old bytes,
+-- or at `Malformed` it gives none.
 abbrev pub Rewrites : {V : Type 0} → Reader V → (V → List ℕ) → List ℕ → List ℕ → List ℕ → List ℕ → Result (Unit {0}) Fault → Type 0
 Rewrites read text_of old new before after (Ok done) = IsRewritten read text_of old new before after
 Rewrites read text_of old new before after (Err faults.Malformed) = read old ≡ None
 Rewrites read text_of old new before after (Err faults.Memory) = Unit {0}
 
--- The normal form of what the bytes spell was appended.
+-- The normal form of what the bytes encode was appended.
 pub record AppendsNormalForm {V : Type 0} (G : Grammar V) (text_of : V → List ℕ) (bytes before after : List ℕ) : Type 0 where
   pub text : List ℕ
   pub appended : after ≡ before ++ text
   pub normal : IsNormalForm G text_of bytes text
+
+-- ---- runs
+
+-- A value was passed in its shortest encoding.
+pub record IsPassed {V : Type 0} (F : Format V) (old new : Place) (before after : List ℕ) : Type 0 where
+  pub value : V
+  pub is_read : F.at old ≡ Some (value, new)
+  pub shortest : new.shortest ≡ true
+  pub same : after ≡ before
+
+-- A value was passed in another, and the run before it and its shortest encoding were appended.
+pub record IsWrittenAnew {V : Type 0} (F : Format V) (old new : Place) (run before after : List ℕ) : Type 0 where
+  pub value : V
+  pub next : Place
+  pub is_read : F.at old ≡ Some (value, next)
+  pub marked : new ≡ place true next.left
+  pub appended : after ≡ (before ++ run) ++ F.bytes value
+
+-- What the code passed, or wrote anew, or at `Malformed` nothing is read.
+abbrev pub PassesOrWrites : {V : Type 0} → Format V → Place → Place → List ℕ → List ℕ → List ℕ → Result Bool Fault → Type 0
+PassesOrWrites F old new run before after (Ok false) = IsPassed F old new before after
+PassesOrWrites F old new run before after (Ok true) = IsWrittenAnew F old new run before after
+PassesOrWrites F old new run before after (Err faults.Malformed) = F.at old ≡ None
+PassesOrWrites F old new run before after (Err faults.Memory) = Unit {0}

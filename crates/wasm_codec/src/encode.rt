@@ -1,7 +1,8 @@
 //! What can be written as bytes, and the errors of writing.
-ghost use Rattle.std.specs.Prelude.{◌≡◌, ◌++◌, ℕ, List, Option, Some, OnOk, OnErr, IsErrOf, IsSomeAnd, IsNone, ⊤};
+ghost use Rattle.std.specs.Prelude.{◌≡◌, ◌++◌, ℕ, List, Option, None, OnOk, OnErr, IfErr, IsErrOf, IfSome, IsSomeAnd, ⊤};
 ghost use Rattle.wasm_codec.specs.Numbers.{unsigned_text, signed_text};
-ghost use Rattle.wasm_codec.specs.Encoding.{option_text, usize_text};
+ghost use Rattle.wasm_codec.specs.Encoding.{option_text, IsCount, IsRefusal, OnlyTooLong, too_long_at_once};
+ghost use Rattle.wasm_codec.specs.declared.encode.EncodeError.{EncodeError};
 ghost use Rattle.wasm_codec.specs.declared.encode.EncodeError.TheVariants.{Memory};
 
 mod iterators;
@@ -27,7 +28,7 @@ pub enum EncodeError {
     /// A length or a count is past 4,294,967,295, the limit of the binary format.
     #[error("too long")]
     TooLong,
-    /// The alignment of a memory argument is 64 or more, which the binary format has no spelling for.
+    /// The alignment of a memory argument is 64 or more, which the binary format has no encoding for.
     #[error("alignment out of range")]
     Alignment,
 }
@@ -40,30 +41,34 @@ impl From<AllocError> for EncodeError {
     }
 }
 
-/// A value with a text: the bytes that stand for it in the binary format, or none where it has no spelling.
+/// A value that can be written as bytes in the binary format.
 ///
 /// Callers implement it for their own types under the same contract.
 pub trait Encode {
-    /// The text of the value, or none where a length passes its limit or an alignment is out of range.
-    ghost text: { Self → Option (List ℕ) };
+    /// The bytes that are written for the value.
+    ghost bytes: { Self → List ℕ };
 
-    /// Whether an alignment in the value may be out of range: `encode` answers `Alignment` for no other value.
-    ghost misaligned: { Self → Type 0 } = { λ _. ⊤ };
+    /// Whether the value can be written. Any value can, unless said.
+    ghost CanEncode: { Self → Type 0 } = { λ _. ⊤ };
 
-    /// Appends the text of the value to `sink`, or leaves `sink` as it was.
+    /// The errors, besides `Memory`, that may be answered for a value that can't be written. None, unless said.
+    ghost refuses: { Self → EncodeError → Type 0 } = { λ _ _. ⊥ };
+
+    /// The error that is answered for the value before anything grows, whatever memory there is. None, unless said.
+    ghost at_once: { Self → Option EncodeError } = { λ _. None };
+
+    /// Appends the bytes of the value to `sink`, or leaves `sink` as it was.
     fn encode<A: Allocator>(&self, sink: &mut Vec<u8, A>) -> Result<(), EncodeError>
-        ensures ok { OnOk result (IsSomeAnd (text self.now) (λ t. sink.new.items ≡ sink.old.items ++ t)) }
-        ensures too_long { IsErrOf result EncodeError.TooLong → IsNone (text self.now) }
-        ensures alignment { IsErrOf result EncodeError.Alignment → IsNone (text self.now) }
-        ensures misaligned { IsErrOf result EncodeError.Alignment → misaligned self.now }
+        ensures ok { OnOk result (sink.new.items ≡ sink.old.items ++ bytes self.now) }
+        ensures can { OnOk result (CanEncode self.now) }
+        ensures refused { IfErr result (IsRefusal CanEncode refuses self.now) }
+        ensures at_once { IfSome (at_once self.now) (λ e. IsErrOf result e) }
         ensures err { OnErr result (sink.new.items ≡ sink.old.items) };
 }
 
 /// An unsigned LEB128 number of 1 to 5 bytes (Core 3.0, 5.2.2).
 impl Encode for u32 {
-    ghost text = { λ n. Some (unsigned_text n) };
-
-    ghost misaligned = { λ _. ⊥ };
+    ghost bytes = { unsigned_text };
 
     fn encode<A: Allocator>(&self, sink: &mut Vec<u8, A>) -> Result<(), EncodeError> {
         sink.reserve(5)?;
@@ -74,9 +79,7 @@ impl Encode for u32 {
 
 /// An unsigned LEB128 number of 1 to 10 bytes (Core 3.0, 5.2.2).
 impl Encode for u64 {
-    ghost text = { λ n. Some (unsigned_text n) };
-
-    ghost misaligned = { λ _. ⊥ };
+    ghost bytes = { unsigned_text };
 
     fn encode<A: Allocator>(&self, sink: &mut Vec<u8, A>) -> Result<(), EncodeError> {
         sink.reserve(10)?;
@@ -87,9 +90,7 @@ impl Encode for u64 {
 
 /// A signed LEB128 number of 1 to 5 bytes (Core 3.0, 5.2.2).
 impl Encode for i32 {
-    ghost text = { λ z. Some (signed_text z) };
-
-    ghost misaligned = { λ _. ⊥ };
+    ghost bytes = { signed_text };
 
     fn encode<A: Allocator>(&self, sink: &mut Vec<u8, A>) -> Result<(), EncodeError> {
         sink.reserve(5)?;
@@ -100,9 +101,7 @@ impl Encode for i32 {
 
 /// A signed LEB128 number of 1 to 10 bytes (Core 3.0, 5.2.2).
 impl Encode for i64 {
-    ghost text = { λ z. Some (signed_text z) };
-
-    ghost misaligned = { λ _. ⊥ };
+    ghost bytes = { signed_text };
 
     fn encode<A: Allocator>(&self, sink: &mut Vec<u8, A>) -> Result<(), EncodeError> {
         sink.reserve(10)?;
@@ -113,9 +112,13 @@ impl Encode for i64 {
 
 /// A length or a count, as a `u32`; past 4,294,967,295 it is refused by [`EncodeError::TooLong`].
 impl Encode for usize {
-    ghost text = { λ n. usize_text n };
+    ghost bytes = { unsigned_text };
 
-    ghost misaligned = { λ _. ⊥ };
+    ghost CanEncode = { IsCount };
+
+    ghost refuses = { OnlyTooLong };
+
+    ghost at_once = { too_long_at_once };
 
     fn encode<A: Allocator>(&self, sink: &mut Vec<u8, A>) -> Result<(), EncodeError> {
         let Ok(number) = u32::try_from(*self) else {
@@ -125,22 +128,28 @@ impl Encode for usize {
     }
 }
 
-/// The text of what is referred to.
+/// The bytes of what is referred to.
 impl<T: Encode> Encode for &T {
-    ghost text = { λ value. T.text value.now };
+    ghost bytes = { λ value. T.bytes value.now };
 
-    ghost misaligned = { λ value. T.misaligned value.now };
+    ghost CanEncode = { λ value. T.CanEncode value.now };
+
+    ghost refuses = { λ value. T.refuses value.now };
+
+    ghost at_once = { λ value. T.at_once value.now };
 
     fn encode<A: Allocator>(&self, sink: &mut Vec<u8, A>) -> Result<(), EncodeError> {
         (**self).encode(sink)
     }
 }
 
-/// A zero byte for `None`, and a one before the text of a value.
+/// A zero byte for `None`, and a one before the bytes of a value.
 impl<T: Encode> Encode for Option<T> {
-    ghost text = { option_text T.text };
+    ghost bytes = { option_text T.bytes };
 
-    ghost misaligned = { λ option. IsSomeAnd option T.misaligned };
+    ghost CanEncode = { λ option. IfSome option T.CanEncode };
+
+    ghost refuses = { λ option e. IsSomeAnd option (λ value. T.refuses value e) };
 
     fn encode<A: Allocator>(&self, sink: &mut Vec<u8, A>) -> Result<(), EncodeError> {
         sink.reserve(1)?;

@@ -1,6 +1,6 @@
 //! What readers answer, the place in bytes that they go by, and the loops that read lists.
 //!
-//! A reader takes all of its input: bytes that are left over are refused like any others that aren't spelled.
+//! A reader takes all of its input: bytes that are left over are refused like any others that encode nothing.
 ghost use Rattle.std.specs.Prelude.{◌≡◌};
 ghost use Rattle.wasm_codec.specs.declared.reader.ReadError.TheVariants.{Memory};
 ghost use Rattle.wasm_codec.specs.Answers.{answer_to};
@@ -16,13 +16,13 @@ use thiserror::Error;
 /// Why bytes were not read.
 #[derive(Debug, PartialEq, Eq, Drop, Error)]
 pub enum ReadError {
-    /// There was no memory for what the bytes spell.
+    /// There was no memory for what the bytes encode.
     #[error("no memory")]
     Memory,
-    /// The bytes spell nothing of what is read.
+    /// The bytes encode nothing of what is read.
     #[error("refused at {at}")]
     Refused {
-        /// How many bytes the longest front has that is whole.
+        /// How many bytes the longest whole prefix has.
         at: usize,
     },
 }

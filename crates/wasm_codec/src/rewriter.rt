@@ -1,8 +1,10 @@
-//! Rewriting: items in any spelling are read, and each is written in its own text before the next is read.
-ghost use Rattle.std.specs.Prelude.{◌≡◌, ◌++◌, ℕ, List, ◌<◌, length, IfErr, OnOk};
+//! Rewriting: items in any encoding are read, and each is written in its shortest encoding before the next is read.
+ghost use Rattle.std.specs.Prelude.{◌≡◌, ◌++◌, List, ◌<◌, length, IfErr, OnOk};
 ghost use Rattle.std.specs.List.{flat_map};
-ghost use Rattle.wasm_codec.specs.Grammar.{Grammar, IsBytes, TakesBytes, Joined};
-ghost use Rattle.wasm_codec.specs.Reading.{Reader, IsReadBy, FindsAt};
+ghost use Rattle.wasm_codec.specs.Grammar.{TakesBytes, Joined};
+ghost use Rattle.wasm_codec.specs.Reading.{FindsAt};
+ghost use Rattle.wasm_codec.specs.Lawful.{IsLawful, plain};
+ghost use Rattle.wasm_codec.specs.formats.Combinators.{Format};
 ghost use Rattle.wasm_codec.specs.Numbers.{unsigned_text};
 ghost use Rattle.wasm_codec.specs.Answers.{IfRefused, IsLongestFront, IsAfterLongest, UnlessMemory, SpellsSome};
 ghost use Rattle.wasm_codec.specs.Lists.{SpellsList, list_at, items_text, IsListFront};
@@ -19,25 +21,19 @@ pub trait Rewritable<'a> {
     /// What is read and written.
     ghost Value: { Type 0 };
 
-    /// Which bytes spell which item.
-    ghost spells: { Grammar Value };
+    /// Which bytes encode which item.
+    ghost format: { Format Value };
 
-    /// What is read at the front of bytes.
-    ghost read_at: { Reader Value };
-
-    /// The text that is written.
-    ghost text_of: { Value → List ℕ };
-
-    /// Appends the text of the item at the front.
+    /// Appends the shortest encoding of the next item.
     fn rewrite(alloc: Global, cursor: &mut Cursor<'a>, text: &mut Vec<u8>) -> Result<(), Fault>
-        ensures rewrites { Rewrites read_at text_of cursor.old cursor.new text.old.items text.new.items result }
-        // What is read is what is spelled.
-        ensures finds { IsReadBy spells read_at }
-        // No item is spelled by no bytes.
-        ensures some { TakesBytes spells };
+        ensures rewrites { Rewrites (plain format.at) format.bytes cursor.old.left cursor.new.left text.old.items text.new.items result }
+        // What is read is what is encoded, and the shortest encoding is known.
+        ensures lawful { IsLawful format }
+        // No item is encoded by no bytes.
+        ensures some { TakesBytes format.Encodes };
 }
 
-/// Appends the text of the list at the front: the count, and then each item as it is read.
+/// Appends the shortest encoding of the list that comes next: the count, and then each item as it is read.
 ///
 /// Where the count or an item is wanting, the cursor is left at the place where it would begin.
 pub fn rewrite_list<'a, T: Rewritable<'a>>(
@@ -45,11 +41,11 @@ pub fn rewrite_list<'a, T: Rewritable<'a>>(
     cursor: &mut Cursor<'a>,
     text: &mut Vec<u8>,
 ) -> Result<(), Fault>
-    ensures rewrites { Rewrites (list_at T.read_at) (items_text T.text_of) cursor.old cursor.new text.old.items text.new.items result }
-    // What is read there is what is spelled there.
-    ensures finds { UnlessMemory result (FindsAt (SpellsList T.spells) (list_at T.read_at) cursor.old) }
-    // The cursor is left after the longest front that is whole.
-    ensures front { UnlessMemory result (IsAfterLongest (IsListFront T.spells) cursor.old cursor.new) }
+    ensures rewrites { Rewrites (list_at (plain T.format.at)) (items_text T.format.bytes) cursor.old.left cursor.new.left text.old.items text.new.items result }
+    // What is read there is what is encoded there.
+    ensures finds { UnlessMemory result (FindsAt (SpellsList T.format.Encodes) (list_at (plain T.format.at)) cursor.old.left) }
+    // The cursor is left after the longest prefix that is whole.
+    ensures front { UnlessMemory result (IsAfterLongest (IsListFront T.format.Encodes) cursor.old.left cursor.new.left) }
 {
     let count: u32 = read_or_stay(alloc, cursor)?;
     append_count(text, count)?;
@@ -59,7 +55,7 @@ pub fn rewrite_list<'a, T: Rewritable<'a>>(
     Ok(())
 }
 
-/// Appends the text of a count.
+/// Appends the shortest encoding of a count.
 fn append_count(text: &mut Vec<u8>, count: u32) -> Result<(), AllocError>
     ensures ok { OnOk result (text.new.items ≡ text.old.items ++ unsigned_text count) }
 {
@@ -68,16 +64,16 @@ fn append_count(text: &mut Vec<u8>, count: u32) -> Result<(), AllocError>
     Ok(())
 }
 
-/// Appends the text of the item at the front. Where there is none the cursor stays where it is.
+/// Appends the shortest encoding of the next item. Where there is none the cursor stays where it is.
 fn rewrite_or_stay<'a, T: Rewritable<'a>>(
     alloc: Global,
     cursor: &mut Cursor<'a>,
     text: &mut Vec<u8>,
 ) -> Result<(), Fault>
-    ensures rewrites { Rewrites T.read_at T.text_of cursor.old cursor.new text.old.items text.new.items result }
-    ensures stays { IfErr result (λ _. cursor.new ≡ cursor.old) }
-    ensures finds { IsReadBy T.spells T.read_at }
-    ensures some { TakesBytes T.spells }
+    ensures rewrites { Rewrites (plain T.format.at) T.format.bytes cursor.old.left cursor.new.left text.old.items text.new.items result }
+    ensures stays { IfErr result (λ _. cursor.new.left ≡ cursor.old.left) }
+    ensures lawful { IsLawful T.format }
+    ensures some { TakesBytes T.format.Encodes }
 {
     let start = cursor.fork();
     match T::rewrite(alloc, cursor, text) {
@@ -89,7 +85,7 @@ fn rewrite_or_stay<'a, T: Rewritable<'a>>(
     }
 }
 
-/// Appends the text of the list that the bytes spell, with nothing left over.
+/// Appends the shortest encoding of the list that the bytes encode, with nothing left over.
 ///
 /// `Refused` carries the number of bytes of the count and of the items that are whole before the first that isn't, or
 /// before what is left over.
@@ -98,9 +94,9 @@ pub fn rewrite_list_to_end<'a, T: Rewritable<'a>>(
     bytes: &'a [u8],
     text: &mut Vec<u8>,
 ) -> Result<(), ReadError>
-    ensures given { OnOk result (AppendsNormalForm (SpellsList T.spells) (items_text T.text_of) bytes.now text.old.items text.new.items) }
-    ensures front { IfRefused result (IsLongestFront (IsListFront T.spells) bytes.now) }
-    ensures unspelled { IfRefused result (λ _. (items : List T.Value) → SpellsList T.spells bytes.now items → ⊥) }
+    ensures given { OnOk result (AppendsNormalForm (SpellsList T.format.Encodes) (items_text T.format.bytes) bytes.now text.old.items text.new.items) }
+    ensures front { IfRefused result (IsLongestFront (IsListFront T.format.Encodes) bytes.now) }
+    ensures unspelled { IfRefused result (λ _. (items : List T.Value) → SpellsList T.format.Encodes bytes.now items → ⊥) }
 {
     let mut cursor = Cursor::new(bytes);
     match rewrite_list::<T>(alloc, &mut cursor, text) {
@@ -119,7 +115,7 @@ pub fn rewrite_list_to_end<'a, T: Rewritable<'a>>(
     }
 }
 
-/// Appends the texts of the items that the bytes spell one after another, with no count, read to the end.
+/// Appends the shortest encodings of the items that the bytes encode one after another, with no count, to the end.
 ///
 /// `Refused` carries the number of bytes of the items that are whole before the first that isn't.
 pub fn rewrite_joined<'a, T: Rewritable<'a>>(
@@ -127,8 +123,8 @@ pub fn rewrite_joined<'a, T: Rewritable<'a>>(
     bytes: &'a [u8],
     text: &mut Vec<u8>,
 ) -> Result<(), ReadError>
-    ensures given { OnOk result (AppendsNormalForm (Joined T.spells) (flat_map T.text_of) bytes.now text.old.items text.new.items) }
-    ensures front { IfRefused result (IsLongestFront (SpellsSome (Joined T.spells)) bytes.now) }
+    ensures given { OnOk result (AppendsNormalForm (Joined T.format.Encodes) (flat_map T.format.bytes) bytes.now text.old.items text.new.items) }
+    ensures front { IfRefused result (IsLongestFront (SpellsSome (Joined T.format.Encodes)) bytes.now) }
     ensures within { IfRefused result (λ at. at < length bytes.now) }
 {
     let mut cursor = Cursor::new(bytes);

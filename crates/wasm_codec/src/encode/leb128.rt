@@ -139,7 +139,7 @@ pub fn put_index<A: Allocator>(bytes: &mut Vec<u8, A>, index: u32)
     put_few(bytes, false, 64, u64::from(index));
 }
 
-/// How many bytes the text of a number has.
+/// How many bytes a number's shortest encoding has.
 #[tactic(auto, unfolding(crate::specs::Numbers::unsigned_text, crate::specs::Numbers::digits_of))]
 pub fn u32_len(value: u32) -> usize
     ensures value { result ≡ length (unsigned_text value) }

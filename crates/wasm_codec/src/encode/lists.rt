@@ -1,22 +1,22 @@
 //! Lists, bytes and texts, after their number (Core 3.0, 5.1.3 and 5.2.4).
-ghost use Rattle.std.specs.Prelude.{◌≡◌, ◌++◌, OnOk, OnErr, IsErrOf, IsSomeAnd, IsNone, length, take};
-ghost use Rattle.std.specs.List.{Any};
-ghost use Rattle.wasm_codec.specs.Encoding.{byte_list_text, list_text};
+ghost use Rattle.std.specs.Prelude.{◌≡◌, ◌++◌, ◌^◌, ◌≤◌, OnOk, OnErr, IfErr, IsErrOf, length, take};
+ghost use Rattle.wasm_codec.specs.Lists.{items_text};
+ghost use Rattle.wasm_codec.specs.Encoding.{byte_list_text, CanEncodeList, IsCount, IsCountRefusal, IsListRefusal};
 
 use super::{Encode, EncodeError, keep_or_undo};
 use std::alloc::Allocator;
 
-/// Appends the number of items and then their texts, or leaves `sink` as it was.
+/// Appends the number of items and then the bytes of each, or leaves `sink` as it was.
 ///
-/// `TooLong` where there are more than 4,294,967,295 items, before the first is encoded, or where an item answers it.
+/// `TooLong` where there are more than 4,294,967,295 items, before the first is encoded; else an error of an item.
 pub fn encode_list<T: Encode, A: Allocator>(
     items: &[T],
     sink: &mut Vec<u8, A>,
 ) -> Result<(), EncodeError>
-    ensures ok { OnOk result (IsSomeAnd (list_text T.text items.now) (λ t. sink.new.items ≡ sink.old.items ++ t)) }
-    ensures too_long { IsErrOf result EncodeError.TooLong → IsNone (list_text T.text items.now) }
-    ensures alignment { IsErrOf result EncodeError.Alignment → IsNone (list_text T.text items.now) }
-    ensures misaligned { IsErrOf result EncodeError.Alignment → Any T.misaligned items.now }
+    ensures ok { OnOk result (sink.new.items ≡ sink.old.items ++ items_text T.bytes items.now) }
+    ensures can { OnOk result (CanEncodeList T.CanEncode items.now) }
+    ensures refused { IfErr result (IsListRefusal T.CanEncode T.refuses items.now) }
+    ensures too_many { 2 ^ 32 ≤ length items.now → IsErrOf result EncodeError.TooLong }
     ensures err { OnErr result (sink.new.items ≡ sink.old.items) }
 {
     let start = sink.len();
@@ -24,15 +24,15 @@ pub fn encode_list<T: Encode, A: Allocator>(
     keep_or_undo(sink, start, result)
 }
 
-/// Appends the number of items and then their texts. An `Err` can leave a part of them.
+/// Appends the number of items and then the bytes of each. An `Err` can leave a part of them.
 fn append_list<T: Encode, A: Allocator>(
     items: &[T],
     sink: &mut Vec<u8, A>,
 ) -> Result<(), EncodeError>
-    ensures ok { OnOk result (IsSomeAnd (list_text T.text items.now) (λ t. sink.new.items ≡ sink.old.items ++ t)) }
-    ensures too_long { IsErrOf result EncodeError.TooLong → IsNone (list_text T.text items.now) }
-    ensures alignment { IsErrOf result EncodeError.Alignment → IsNone (list_text T.text items.now) }
-    ensures misaligned { IsErrOf result EncodeError.Alignment → Any T.misaligned items.now }
+    ensures ok { OnOk result (sink.new.items ≡ sink.old.items ++ items_text T.bytes items.now) }
+    ensures can { OnOk result (CanEncodeList T.CanEncode items.now) }
+    ensures refused { IfErr result (IsListRefusal T.CanEncode T.refuses items.now) }
+    ensures too_many { 2 ^ 32 ≤ length items.now → IsErrOf result EncodeError.TooLong }
     ensures kept { take (length sink.old.items) sink.new.items ≡ sink.old.items }
 {
     items.len().encode(sink)?;
@@ -46,9 +46,10 @@ fn append_list<T: Encode, A: Allocator>(
 ///
 /// `TooLong` where there are more than 4,294,967,295.
 pub fn encode_bytes<A: Allocator>(bytes: &[u8], sink: &mut Vec<u8, A>) -> Result<(), EncodeError>
-    ensures ok { OnOk result (IsSomeAnd (byte_list_text bytes.now) (λ t. sink.new.items ≡ sink.old.items ++ t)) }
-    ensures too_long { IsErrOf result EncodeError.TooLong → IsNone (byte_list_text bytes.now) }
-    ensures alignment { ¬ IsErrOf result EncodeError.Alignment }
+    ensures ok { OnOk result (sink.new.items ≡ sink.old.items ++ byte_list_text bytes.now) }
+    ensures can { OnOk result (IsCount (length bytes.now)) }
+    ensures refused { IfErr result (IsCountRefusal (length bytes.now)) }
+    ensures too_many { 2 ^ 32 ≤ length bytes.now → IsErrOf result EncodeError.TooLong }
     ensures err { OnErr result (sink.new.items ≡ sink.old.items) }
 {
     let start = sink.len();
@@ -61,9 +62,10 @@ pub fn encode_bytes<A: Allocator>(bytes: &[u8], sink: &mut Vec<u8, A>) -> Result
 ///
 /// `TooLong` where there are more than 4,294,967,295.
 pub fn encode_str<A: Allocator>(text: &str, sink: &mut Vec<u8, A>) -> Result<(), EncodeError>
-    ensures ok { OnOk result (IsSomeAnd (byte_list_text text.now) (λ t. sink.new.items ≡ sink.old.items ++ t)) }
-    ensures too_long { IsErrOf result EncodeError.TooLong → IsNone (byte_list_text text.now) }
-    ensures alignment { ¬ IsErrOf result EncodeError.Alignment }
+    ensures ok { OnOk result (sink.new.items ≡ sink.old.items ++ byte_list_text text.now) }
+    ensures can { OnOk result (IsCount (length text.now)) }
+    ensures refused { IfErr result (IsCountRefusal (length text.now)) }
+    ensures too_many { 2 ^ 32 ≤ length text.now → IsErrOf result EncodeError.TooLong }
     ensures err { OnErr result (sink.new.items ≡ sink.old.items) }
 {
     encode_bytes(text.as_bytes(), sink)

@@ -1,8 +1,9 @@
 //! A place in bytes, and what can be read there.
-ghost use Rattle.std.specs.Prelude.{◌≡◌, ◌^◌, ◌<◌, ◌≤◌, Some, IfOk, IfErr, length, take, drop};
+ghost use Rattle.std.specs.Prelude.{◌≡◌, ◌^◌, ◌<◌, ◌≤◌, ◌&&◌, ◌-◌, ◌*◌, Some, IfOk, IfErr, length, take, drop, true, false, pos, negsuc};
 ghost use Rattle.wasm_codec.specs.Grammar.{IsBytes};
-ghost use Rattle.wasm_codec.specs.Reading.{Reads, Sees, byte_at};
-ghost use Rattle.wasm_codec.specs.Numbers.{ReadsDigits, number_at, signed, u32_at, u64_at, s32_at, s64_at, index_at};
+ghost use Rattle.wasm_codec.specs.Numbers.{signed, signed_text};
+ghost use Rattle.wasm_codec.specs.Places.{Place, place, Reads, Sees, byte_at, number_at, u32_at, u64_at, s32_at, s64_at, index_at};
+ghost use Rattle.wasm_codec.specs.ReadDigits.{ReadsDigits, ReadsManyDigits, ReadsOne, fewest};
 ghost use Rattle.wasm_codec.specs.declared.reader.cursor.Fault.TheVariants.{Malformed, Memory};
 
 use std::alloc::{AllocError, AllocFailed};
@@ -13,7 +14,7 @@ use std::marker::Model;
 pub enum Fault {
     /// There was no memory for it.
     Memory,
-    /// It isn't spelled there.
+    /// It isn't encoded there.
     Malformed,
 }
 
@@ -33,64 +34,124 @@ impl<T: Drop> From<AllocFailed<T>> for Fault {
     }
 }
 
-/// A place in bytes. In contracts it is the bytes that are left.
+/// A place in bytes, which knows whether all that was passed was in its shortest encoding.
 #[derive(Drop)]
 pub struct Cursor<'a> {
     bytes: &'a [u8],
     position: usize,
+    shortest: bool,
 }
 
 impl<'a> Model for Cursor<'a> {
-    ghost use Rattle.std.specs.Prelude.{◌≤◌, List, ℕ, length, drop};
+    ghost use Rattle.std.specs.Prelude.{◌≤◌, length, drop};
+    ghost use Rattle.wasm_codec.specs.Places.{Place, place};
 
-    ghost Value = { List ℕ };
+    ghost Value = { Place };
 
-    ghost view = { λ c. drop c.position c.bytes.now };
+    ghost view = { λ c. place c.shortest (drop c.position c.bytes.now) };
 
     ghost invariant = { λ c. c.position ≤ length c.bytes.now };
 }
 
-/// What digits say: the sum of their low seven bits, 128 to their number, and the last byte.
+/// What at most five digits say: the sum of their low seven bits, 128 to their number, and the last byte.
 #[derive(Clone, Copy)]
 struct Digits {
-    unsigned: u128,
-    place: u128,
+    unsigned: u64,
+    unit: u64,
     last: u8,
+}
+
+/// The same, of at most ten.
+#[derive(Clone, Copy)]
+struct ManyDigits {
+    unsigned: u128,
+    unit: u128,
+    last: u8,
+}
+
+/// Whether no fewer digits would do.
+fn is_fewest(top: u64, unit: u64, value: u64) -> bool
+    requires top { top ≤ 128 }
+    requires unit { unit ≤ 128 ^ 5 }
+    requires value { value ≤ 128 ^ 5 }
+    ensures { result ≡ fewest top unit value }
+{
+    unit == 128 || top * unit <= value * 16384
+}
+
+/// The same, of at most ten digits.
+fn is_fewest_of_many(top: u128, unit: u128, value: u128) -> bool
+    requires top { top ≤ 128 }
+    requires unit { unit ≤ 128 ^ 10 }
+    requires value { value ≤ 128 ^ 10 }
+    ensures { result ≡ fewest top unit value }
+{
+    unit == 128 || top * unit <= value * 16384
 }
 
 impl<'a> Cursor<'a> {
     /// The beginning of the bytes.
     pub fn new(bytes: &'a [u8]) -> Cursor<'a>
-        ensures { result ≡ bytes.now }
+        ensures { result ≡ place true bytes.now }
     {
-        Cursor { bytes, position: 0 }
+        Cursor {
+            bytes,
+            position: 0,
+            shortest: true,
+        }
     }
 
     /// How many bytes are left.
     pub fn len(&self) -> usize
-        ensures { result ≡ length self.now }
+        ensures { result ≡ length self.now.left }
     {
         self.bytes.len() - self.position
+    }
+
+    /// Whether all that was passed was in its shortest encoding, since the beginning or the last mark.
+    pub fn is_shortest(&self) -> bool
+        ensures { result ≡ self.now.shortest }
+    {
+        self.shortest
+    }
+
+    /// What was passed before doesn't count from here on.
+    pub fn mark(&mut self)
+        ensures { self.new ≡ place true self.old.left }
+    {
+        self.shortest = true;
+    }
+
+    /// What was passed is a long form.
+    pub fn long_form(&mut self)
+        ensures { self.new ≡ place false self.old.left }
+    {
+        self.shortest = false;
     }
 
     /// The same place, to come back to.
     pub fn fork(&self) -> Cursor<'a>
         ensures place { result ≡ self.now }
-        ensures bytes { IsBytes self.now }
+        ensures bytes { IsBytes self.now.left }
     {
-        Cursor::at(self.bytes, self.position)
+        Cursor::at(self.bytes, self.position, self.shortest)
     }
 
     /// The place after so many of the bytes.
-    fn at(bytes: &'a [u8], position: usize) -> Cursor<'a>
+    fn at(bytes: &'a [u8], position: usize, shortest: bool) -> Cursor<'a>
         requires { position ≤ length bytes.now }
-        ensures place { result ≡ drop position bytes.now }
+        ensures place { result ≡ place shortest (drop position bytes.now) }
         ensures bytes { IsBytes (drop position bytes.now) }
     {
-        Cursor { bytes, position }
+        Cursor {
+            bytes,
+            position,
+            shortest,
+        }
     }
 
     /// One byte.
+    #[tactic(auto, unfolding(crate::specs::Places::byte_at))]
     pub fn byte(&mut self) -> Result<u8, Fault>
         ensures reads { Reads byte_at self.old self.new result }
         ensures err { IfErr result (λ e. e ≡ Malformed) }
@@ -104,6 +165,7 @@ impl<'a> Cursor<'a> {
     }
 
     /// The byte that comes next, which is left there.
+    #[tactic(auto, unfolding(crate::specs::Places::byte_at))]
     pub fn peek(&self) -> Result<u8, Fault>
         ensures sees { Sees self.now result }
         ensures err { IfErr result (λ e. e ≡ Malformed) }
@@ -116,9 +178,9 @@ impl<'a> Cursor<'a> {
 
     /// So many bytes.
     pub fn take(&mut self, count: usize) -> Result<&'a [u8], Fault>
-        ensures ok { IfOk result (λ taken. (taken.now ≡ take count self.old) × (self.new ≡ drop count self.old)) }
-        ensures enough { IfOk result (λ _. count ≤ length self.old) }
-        ensures err { IfErr result (λ e. (e ≡ Malformed) × (length self.old < count)) }
+        ensures ok { IfOk result (λ taken. (taken.now ≡ take count self.old.left) × (self.new ≡ place self.old.shortest (drop count self.old.left))) }
+        ensures enough { IfOk result (λ _. count ≤ length self.old.left) }
+        ensures err { IfErr result (λ e. (e ≡ Malformed) × (length self.old.left < count)) }
     {
         if self.bytes.len() - self.position < count {
             return Err(Fault::Malformed);
@@ -129,24 +191,45 @@ impl<'a> Cursor<'a> {
         Ok(taken)
     }
 
+    /// What was passed is in its shortest encoding only if this holds.
+    fn keep(&mut self, kept: bool)
+        ensures { self.new ≡ place (self.old.shortest && kept) self.old.left }
+    {
+        self.shortest = self.shortest && kept;
+    }
+
+    /// A number of one byte, where one comes next.
+    fn one_digit(&mut self) -> Option<u8>
+        ensures { ReadsOne self.old self.new result }
+    {
+        if self.position == self.bytes.len() {
+            return None;
+        }
+        let byte = self.bytes[self.position];
+        if byte >= 128 {
+            return None;
+        }
+        self.position += 1;
+        Some(byte)
+    }
+
     /// The digits of a number, at most so many.
     fn digits(&mut self, most: u32) -> Result<Digits, Fault>
-        requires { most ≤ 10 }
+        requires { most ≤ 5 }
         ensures reads { ReadsDigits most self.old self.new result }
+        ensures few { IfOk result (λ d. d.unit ≤ 128 ^ 5) }
         ensures err { IfErr result (λ e. e ≡ Malformed) }
-        ensures few { IfOk result (λ d. d.unsigned < 128 ^ 10) }
-        ensures place { IfOk result (λ d. d.place ≤ 128 ^ 10) }
     {
-        let mut unsigned: u128 = 0;
-        let mut place: u128 = 1;
+        let mut unsigned: u64 = 0;
+        let mut unit: u64 = 1;
         for _ in 0..most {
             let byte = self.byte()?;
-            unsigned += u128::from(byte % 128) * place;
-            place *= 128;
+            unsigned += u64::from(byte % 128) * unit;
+            unit *= 128;
             if byte < 128 {
                 return Ok(Digits {
                     unsigned,
-                    place,
+                    unit,
                     last: byte,
                 });
             }
@@ -154,68 +237,145 @@ impl<'a> Cursor<'a> {
         Err(Fault::Malformed)
     }
 
-    /// The digits of a signed number, at most so many, and its value.
-    fn signed(&mut self, most: u32) -> Result<i128, Fault>
+    /// The digits of a number, at most so many.
+    fn many_digits(&mut self, most: u32) -> Result<ManyDigits, Fault>
         requires { most ≤ 10 }
-        ensures reads { Reads (number_at most (λ digits. Some (signed digits))) self.old self.new result }
+        ensures reads { ReadsManyDigits most self.old self.new result }
+        ensures few { IfOk result (λ d. d.unit ≤ 128 ^ 10) }
         ensures err { IfErr result (λ e. e ≡ Malformed) }
     {
-        let digits = self.digits(most)?;
-        let unsigned = digits.unsigned as i128;
-        if digits.last < 64 {
-            Ok(unsigned)
+        let mut unsigned: u128 = 0;
+        let mut unit: u128 = 1;
+        for _ in 0..most {
+            let byte = self.byte()?;
+            unsigned += u128::from(byte % 128) * unit;
+            unit *= 128;
+            if byte < 128 {
+                return Ok(ManyDigits {
+                    unsigned,
+                    unit,
+                    last: byte,
+                });
+            }
+        }
+        Err(Fault::Malformed)
+    }
+
+    /// The digits of a signed number, at most five, and its value.
+    #[tactic(auto, using(crate::proofs::NumberReading::signed_low, crate::proofs::NumberReading::signed_high))]
+    fn signed(&mut self) -> Result<i64, Fault>
+        ensures reads { Reads (number_at 5 (λ digits. Some (signed digits)) signed_text) self.old self.new result }
+        ensures err { IfErr result (λ e. e ≡ Malformed) }
+    {
+        let Digits {
+            unsigned,
+            unit,
+            last,
+        } = self.digits(5)?;
+        if last < 64 {
+            self.keep(is_fewest(64, unit, unsigned));
+            Ok(unsigned as i64)
         } else {
-            Ok(unsigned - digits.place as i128)
+            self.keep(is_fewest(64, unit, unit - 1 - unsigned));
+            Ok(unsigned as i64 - unit as i64)
+        }
+    }
+
+    /// The same, of at most ten.
+    #[tactic(auto, using(crate::proofs::NumberReading::signed_low, crate::proofs::NumberReading::signed_high))]
+    fn many_signed(&mut self) -> Result<i128, Fault>
+        ensures reads { Reads (number_at 10 (λ digits. Some (signed digits)) signed_text) self.old self.new result }
+        ensures err { IfErr result (λ e. e ≡ Malformed) }
+    {
+        let ManyDigits {
+            unsigned,
+            unit,
+            last,
+        } = self.many_digits(10)?;
+        if last < 64 {
+            self.keep(is_fewest_of_many(64, unit, unsigned));
+            Ok(unsigned as i128)
+        } else {
+            self.keep(is_fewest_of_many(64, unit, unit - 1 - unsigned));
+            Ok(unsigned as i128 - unit as i128)
         }
     }
 
     /// A u32 (Core 3.0, 5.2.2).
-    #[tactic(auto, unfolding(crate::specs::Numbers::u32_at))]
+    #[tactic(auto, using(crate::proofs::NumberReading::u32_one, crate::proofs::NumberReading::u32_is, crate::proofs::NumberReading::u32_wide, crate::proofs::NumberReading::u32_none))]
     pub fn u32(&mut self) -> Result<u32, Fault>
         ensures reads { Reads u32_at self.old self.new result }
         ensures err { IfErr result (λ e. e ≡ Malformed) }
     {
+        if let Some(byte) = self.one_digit() {
+            return Ok(u32::from(byte));
+        }
         let digits = self.digits(5)?;
-        u32::try_from(digits.unsigned).map_err(|_| Fault::Malformed)
+        let Ok(value) = u32::try_from(digits.unsigned) else {
+            return Err(Fault::Malformed);
+        };
+        self.keep(is_fewest(128, digits.unit, digits.unsigned));
+        Ok(value)
     }
 
     /// A u64 (Core 3.0, 5.2.2).
-    #[tactic(auto, unfolding(crate::specs::Numbers::u64_at))]
+    #[tactic(auto, using(crate::proofs::NumberReading::u64_one, crate::proofs::NumberReading::u64_is, crate::proofs::NumberReading::u64_wide, crate::proofs::NumberReading::u64_none))]
     pub fn u64(&mut self) -> Result<u64, Fault>
         ensures reads { Reads u64_at self.old self.new result }
         ensures err { IfErr result (λ e. e ≡ Malformed) }
     {
-        let digits = self.digits(10)?;
-        u64::try_from(digits.unsigned).map_err(|_| Fault::Malformed)
+        if let Some(byte) = self.one_digit() {
+            return Ok(u64::from(byte));
+        }
+        let digits = self.many_digits(10)?;
+        let Ok(value) = u64::try_from(digits.unsigned) else {
+            return Err(Fault::Malformed);
+        };
+        self.keep(is_fewest_of_many(128, digits.unit, digits.unsigned));
+        Ok(value)
     }
 
     /// An s32 (Core 3.0, 5.2.2).
-    #[tactic(auto, unfolding(crate::specs::Numbers::s32_at))]
+    #[tactic(auto, using(crate::proofs::NumberReading::s32_low, crate::proofs::NumberReading::s32_high), unfolding(crate::specs::Places::s32_at))]
     pub fn s32(&mut self) -> Result<i32, Fault>
         ensures reads { Reads s32_at self.old self.new result }
         ensures err { IfErr result (λ e. e ≡ Malformed) }
     {
-        let value = self.signed(5)?;
+        if let Some(byte) = self.one_digit() {
+            let value = i32::from(byte);
+            return Ok(if byte < 64 { value } else { value - 128 });
+        }
+        let value = self.signed()?;
         i32::try_from(value).map_err(|_| Fault::Malformed)
     }
 
     /// An s64 (Core 3.0, 5.2.2).
-    #[tactic(auto, unfolding(crate::specs::Numbers::s64_at))]
+    #[tactic(auto, using(crate::proofs::NumberReading::s64_low, crate::proofs::NumberReading::s64_high), unfolding(crate::specs::Places::s64_at))]
     pub fn s64(&mut self) -> Result<i64, Fault>
         ensures reads { Reads s64_at self.old self.new result }
         ensures err { IfErr result (λ e. e ≡ Malformed) }
     {
-        let value = self.signed(10)?;
+        if let Some(byte) = self.one_digit() {
+            let value = i64::from(byte);
+            return Ok(if byte < 64 { value } else { value - 128 });
+        }
+        let value = self.many_signed()?;
         i64::try_from(value).map_err(|_| Fault::Malformed)
     }
 
     /// An index in the place of a negative type code: an s33 that isn't negative (Core 3.0, 5.3.3).
-    #[tactic(auto, unfolding(crate::specs::Numbers::index_at))]
+    #[tactic(auto, using(crate::proofs::NumberReading::index_low, crate::proofs::NumberReading::index_high), unfolding(crate::specs::Places::index_at))]
     pub fn index(&mut self) -> Result<u32, Fault>
         ensures reads { Reads index_at self.old self.new result }
         ensures err { IfErr result (λ e. e ≡ Malformed) }
     {
-        let value = self.signed(5)?;
+        if let Some(byte) = self.one_digit() {
+            if byte >= 64 {
+                return Err(Fault::Malformed);
+            }
+            return Ok(u32::from(byte));
+        }
+        let value = self.signed()?;
         u32::try_from(value).map_err(|_| Fault::Malformed)
     }
 }

@@ -1,7 +1,10 @@
 //! Lists: a count and then the items, or the items alone to the end of the bytes (Core 3.0, 5.1.3).
 ghost use Rattle.std.specs.Prelude.{◌≡◌, ◌^◌, ◌<◌, List, length, IfOk, IfErr};
 ghost use Rattle.wasm_codec.specs.Grammar.{IsBytes, TakesBytes, Joined};
-ghost use Rattle.wasm_codec.specs.Reading.{Reads, IsReadBy, FindsAt, map_ok};
+ghost use Rattle.wasm_codec.specs.Reading.{Reads as ListReads, FindsAt, map_ok};
+ghost use Rattle.wasm_codec.specs.Places.{Reads};
+ghost use Rattle.wasm_codec.specs.Lawful.{IsLawful, plain};
+ghost use Rattle.wasm_codec.specs.formats.Combinators.{items};
 ghost use Rattle.wasm_codec.specs.Answers.{IfRefused, IsLongestFront, IsAfterLongest, UnlessMemory, SpellsSome};
 ghost use Rattle.wasm_codec.specs.Lists.{SpellsList, list_at, IsListFront};
 
@@ -18,11 +21,12 @@ pub fn read_list<'a, T: Readable<'a>>(
     alloc: Global,
     cursor: &mut Cursor<'a>,
 ) -> Result<Items<T>, Fault>
-    ensures reads { Reads (list_at T.read_at) cursor.old cursor.new (map_ok T.views result) }
-    // What is read there is what is spelled there.
-    ensures finds { UnlessMemory result (FindsAt (SpellsList T.spells) (list_at T.read_at) cursor.old) }
-    // The cursor is left after the longest front that is whole.
-    ensures front { UnlessMemory result (IsAfterLongest (IsListFront T.spells) cursor.old cursor.new) }
+    ensures reads { Reads (items T.format).at cursor.old cursor.new (map_ok T.views result) }
+    ensures left { ListReads (list_at (plain T.format.at)) cursor.old.left cursor.new.left (map_ok T.views result) }
+    // What is read there is what is encoded there.
+    ensures finds { UnlessMemory result (FindsAt (SpellsList T.format.Encodes) (list_at (plain T.format.at)) cursor.old.left) }
+    // The cursor is left after the longest prefix that is whole.
+    ensures front { UnlessMemory result (IsAfterLongest (IsListFront T.format.Encodes) cursor.old.left cursor.new.left) }
     // The number of items is a count.
     ensures counted { IfOk result (λ items. length items < 2 ^ 32) }
 {
@@ -35,16 +39,17 @@ pub fn read_list<'a, T: Readable<'a>>(
     Ok(Items::from(items))
 }
 
-/// The item at the front. Where there is none the cursor stays where it is.
+/// The next item. Where there is none the cursor stays where it is.
 pub(crate) fn read_or_stay<'a, T: Readable<'a>>(
     alloc: Global,
     cursor: &mut Cursor<'a>,
 ) -> Result<T, Fault>
-    ensures reads { Reads T.read_at cursor.old cursor.new (map_ok T.view result) }
+    ensures reads { Reads T.format.at cursor.old cursor.new (map_ok T.view result) }
+    ensures left { ListReads (plain T.format.at) cursor.old.left cursor.new.left (map_ok T.view result) }
     ensures stays { IfErr result (λ _. cursor.new ≡ cursor.old) }
-    ensures bytes { IsBytes cursor.old }
-    ensures finds { IsReadBy T.spells T.read_at }
-    ensures some { TakesBytes T.spells }
+    ensures bytes { IsBytes cursor.old.left }
+    ensures lawful { IsLawful T.format }
+    ensures some { TakesBytes T.format.Encodes }
 {
     let start = cursor.fork();
     match T::read(alloc, cursor) {
@@ -56,7 +61,7 @@ pub(crate) fn read_or_stay<'a, T: Readable<'a>>(
     }
 }
 
-/// The items of the list that the bytes spell, with nothing left over.
+/// The items of the list that the bytes encode, with nothing left over.
 ///
 /// `Refused` carries the number of bytes of the count and of the items that are whole before the first that isn't, or
 /// before what is left over.
@@ -64,9 +69,9 @@ pub fn read_list_to_end<'a, T: Readable<'a>>(
     alloc: Global,
     bytes: &'a [u8],
 ) -> Result<Vec<T>, ReadError>
-    ensures given { IfOk result (λ items. SpellsList T.spells bytes.now (T.views items.items)) }
-    ensures front { IfRefused result (IsLongestFront (IsListFront T.spells) bytes.now) }
-    ensures unspelled { IfRefused result (λ _. (items : List T.Value) → SpellsList T.spells bytes.now items → ⊥) }
+    ensures given { IfOk result (λ items. SpellsList T.format.Encodes bytes.now (T.views items.items)) }
+    ensures front { IfRefused result (IsLongestFront (IsListFront T.format.Encodes) bytes.now) }
+    ensures unspelled { IfRefused result (λ _. (items : List T.Value) → SpellsList T.format.Encodes bytes.now items → ⊥) }
     ensures counted { IfOk result (λ items. length items.items < 2 ^ 32) }
 {
     let mut cursor = Cursor::new(bytes);
@@ -86,12 +91,12 @@ pub fn read_list_to_end<'a, T: Readable<'a>>(
     }
 }
 
-/// The items that the bytes spell one after another, with no count, read to the end.
+/// The items that the bytes encode one after another, with no count, read to the end.
 ///
 /// `Refused` carries the number of bytes of the items that are whole before the first that isn't.
 pub fn read_joined<'a, T: Readable<'a>>(alloc: Global, bytes: &'a [u8]) -> Result<Vec<T>, ReadError>
-    ensures given { IfOk result (λ items. Joined T.spells bytes.now (T.views items.items)) }
-    ensures front { IfRefused result (IsLongestFront (SpellsSome (Joined T.spells)) bytes.now) }
+    ensures given { IfOk result (λ items. Joined T.format.Encodes bytes.now (T.views items.items)) }
+    ensures front { IfRefused result (IsLongestFront (SpellsSome (Joined T.format.Encodes)) bytes.now) }
     ensures within { IfRefused result (λ at. at < length bytes.now) }
 {
     let mut items = Vec::new(alloc);

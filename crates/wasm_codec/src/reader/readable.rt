@@ -1,9 +1,11 @@
 //! What can be read as an item of a list.
 ghost use Rattle.wasm_codec.specs.declared.reader.cursor.Fault.TheVariants.{Malformed};
 ghost use Rattle.std.specs.Prelude.{◌≡◌, IfErr, ℕ, List, refl};
-ghost use Rattle.wasm_codec.specs.Grammar.{Grammar, TakesBytes};
-ghost use Rattle.wasm_codec.specs.Reading.{Reader, Reads, IsReadBy, ViewsEach, map_ok};
-ghost use Rattle.wasm_codec.specs.Numbers.{SpellsU32, u32_at};
+ghost use Rattle.wasm_codec.specs.Grammar.{TakesBytes};
+ghost use Rattle.wasm_codec.specs.Reading.{ViewsEach, map_ok};
+ghost use Rattle.wasm_codec.specs.Places.{Reads};
+ghost use Rattle.wasm_codec.specs.Lawful.{IsLawful};
+ghost use Rattle.wasm_codec.specs.formats.Combinators.{Format, u32 as u32_format};
 
 use super::cursor::{Cursor, Fault};
 use std::alloc::Global;
@@ -22,19 +24,16 @@ pub trait Readable<'a>: Drop {
     /// Items stand for what each of them stands for.
     ghost views_each: { ViewsEach view views };
 
-    /// Which bytes spell which item.
-    ghost spells: { Grammar Value };
+    /// Which bytes encode which item.
+    ghost format: { Format Value };
 
-    /// What is read at the front of bytes.
-    ghost read_at: { Reader Value };
-
-    /// The item at the front.
+    /// The item that comes next.
     fn read(alloc: Global, cursor: &mut Cursor<'a>) -> Result<Self, Fault>
-        ensures reads { Reads read_at cursor.old cursor.new (map_ok view result) }
-        // What is read is what is spelled.
-        ensures finds { IsReadBy spells read_at }
-        // No item is spelled by no bytes.
-        ensures some { TakesBytes spells };
+        ensures reads { Reads format.at cursor.old cursor.new (map_ok view result) }
+        // What is read is what is encoded, and the shortest encoding is known.
+        ensures lawful { IsLawful format }
+        // No item is encoded by no bytes.
+        ensures some { TakesBytes format.Encodes };
 }
 
 impl<'a> Readable<'a> for u32 {
@@ -44,16 +43,14 @@ impl<'a> Readable<'a> for u32 {
 
     ghost views = { λ xs. xs };
 
-    ghost spells = { SpellsU32 };
-
-    ghost read_at = { u32_at };
+    ghost format = { u32_format };
 
     ghost views_each = { record { none = refl; more = λ xs x. refl } };
 
     fn read(alloc: Global, cursor: &mut Cursor<'a>) -> Result<u32, Fault>
-        ensures reads { Reads u32_at cursor.old cursor.new (map_ok (λ x. x) result) }
-        ensures finds { IsReadBy SpellsU32 u32_at }
-        ensures some { TakesBytes SpellsU32 }
+        ensures reads { Reads u32_format.at cursor.old cursor.new (map_ok (λ x. x) result) }
+        ensures lawful { IsLawful u32_format }
+        ensures some { TakesBytes u32_format.Encodes }
         ensures err { IfErr result (λ e. e ≡ Malformed) }
     {
         let _ = alloc;

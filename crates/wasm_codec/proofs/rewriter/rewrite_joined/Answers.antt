@@ -1,4 +1,6 @@
 use Rattle.std.proofs.Common.{arith}
+use Rattle.wasm_codec.specs.Lawful.{plain}
+use Rattle.wasm_codec.proofs.PlaceLists.{plain_reads}
 use Rattle.wasm_codec.specs.Grammar.{IsBytes}
 use Rattle.wasm_codec.proofs.ListReading.{IsBytes-from, stopped_by}
 use Rattle.wasm_codec.proofs.RewritingLaws.{fails_to_read, next_joined}
@@ -8,16 +10,16 @@ pub loop-cursor-smaller : goal.loop-cursor-smaller
 loop-cursor-smaller g c =
     let h = c.in_default.ensures in
     let fits : IsBytes c.args.bytes.now = IsBytes-from c.args.bytes.now (λ i. omega (arith, c.type_inv.bytes i)) in
-    (next_joined h.finds h.some c.args.bytes.now c.loop-cursor.cursor c.rewrite.new.cursor c.args.text.now.items c.loop-cursor.text.items c.rewrite.new.text.items fits c.loop-cursor.invariant h.rewrites).fewer
+    (next_joined (plain_reads h.lawful.reads) h.some c.args.bytes.now c.loop-cursor.cursor.left c.rewrite.new.cursor.left c.args.text.now.items c.loop-cursor.text.items c.rewrite.new.text.items fits c.loop-cursor.invariant h.rewrites).fewer
 
 pub loop-cursor-preserved : goal.loop-cursor-preserved
 loop-cursor-preserved g c =
     let h = c.in_default.ensures in
     let fits : IsBytes c.args.bytes.now = IsBytes-from c.args.bytes.now (λ i. omega (arith, c.type_inv.bytes i)) in
-    (next_joined h.finds h.some c.args.bytes.now c.loop-cursor.cursor c.rewrite.new.cursor c.args.text.now.items c.loop-cursor.text.items c.rewrite.new.text.items fits c.loop-cursor.invariant h.rewrites).written
+    (next_joined (plain_reads h.lawful.reads) h.some c.args.bytes.now c.loop-cursor.cursor.left c.rewrite.new.cursor.left c.args.text.now.items c.loop-cursor.text.items c.rewrite.new.text.items fits c.loop-cursor.invariant h.rewrites).written
 
 pub returns-in-Err-clause-front : goal.returns-in-Err-clause-front
 returns-in-Err-clause-front g c =
     let h = c.in-Err.ensures in
-    let none = fails_to_read g.T.Rewritable.read_at g.T.Rewritable.text_of c.loop-cursor.cursor c.rewrite.new.cursor c.loop-cursor.text.items c.rewrite.new.text.items c.in-Err.fault h.rewrites in
-    stopped_by h.finds h.some c.args.bytes.now c.loop-cursor.cursor c.rewrite.new.cursor c.loop-cursor.invariant.values c.loop-cursor.invariant.progress c.in-Err.fault none c.read_error.result (rw (← c.len-in-loop-cursor.ensures) c.read_error.ensures)
+    let none = fails_to_read (plain g.T.Rewritable.format.at) g.T.Rewritable.format.bytes c.loop-cursor.cursor.left c.rewrite.new.cursor.left c.loop-cursor.text.items c.rewrite.new.text.items c.in-Err.fault h.rewrites in
+    stopped_by (plain_reads h.lawful.reads) h.some c.args.bytes.now c.loop-cursor.cursor.left c.rewrite.new.cursor.left c.loop-cursor.invariant.values c.loop-cursor.invariant.progress c.in-Err.fault none c.read_error.result (rw (← c.len-in-loop-cursor.ensures) c.read_error.ensures)

@@ -1,5 +1,6 @@
+use Rattle.wasm_codec.specs.Lawful.{plain}
 use Rattle.wasm_codec.proofs.RewritingLaws.{ItemsWritten}
 use Rattle.wasm_codec.proofs.rewriter.rewrite_list.Given as goal
 
 abbrev pub invariant-loop : goal.invariant-loop
-invariant-loop g l = ItemsWritten g.T.Rewritable.spells g.T.Rewritable.read_at g.T.Rewritable.text_of l.fn.cursor l.cursor l.count l.counter l.fn.text.items l.text.items
+invariant-loop g l = ItemsWritten g.T.Rewritable.format.Encodes (plain g.T.Rewritable.format.at) g.T.Rewritable.format.bytes l.fn.cursor.left l.cursor.left l.count l.counter l.fn.text.items l.text.items

@@ -1,7 +1,10 @@
-use Rattle.std.proofs.Common.{length, take}
-use Rattle.wasm_codec.specs.Encoding.{both_texts, usize_text, texts}
-use Rattle.wasm_codec.proofs.TextLists.{IsFollowed}
+use Rattle.std.proofs.Common.{◌≡◌, ◌++◌, length, take}
+use Rattle.std.specs.List.{All, flat_map}
+use Rattle.wasm_codec.specs.Numbers.{unsigned_text}
 use Rattle.wasm_codec.proofs.encode.lists.append_list.Given as goal
 
 abbrev pub invariant-loop-item : goal.invariant-loop-item
-invariant-loop-item g l = IsFollowed l.fn.sink.items (both_texts (usize_text (length l.items)) (texts g.T.Encode.text (take l.item-index l.items))) l.sink.items
+invariant-loop-item g l = record {
+  bytes : l.sink.items ≡ l.fn.sink.items ++ (unsigned_text (length l.items) ++ flat_map g.T.Encode.bytes (take l.item-index l.items));
+  can : All g.T.Encode.CanEncode (take l.item-index l.items);
+}

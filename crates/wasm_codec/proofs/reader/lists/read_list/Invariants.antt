@@ -1,9 +1,12 @@
 use Rattle.std.proofs.Common.{◌≡◌, length}
+use Rattle.wasm_codec.specs.Lawful.{plain}
 use Rattle.wasm_codec.proofs.ListLaws.{Gone}
+use Rattle.wasm_codec.proofs.PlaceLists.{Passed}
 use Rattle.wasm_codec.proofs.reader.lists.read_list.Given as goal
 
 abbrev pub invariant-loop : goal.invariant-loop
 invariant-loop g l = record {
-  gone : Gone g.T.Readable.spells g.T.Readable.read_at l.fn.cursor l.cursor l.count l.counter (g.T.Readable.views l.items.items);
+  passed : Passed g.T.Readable.format l.fn.cursor l.cursor l.count l.counter (g.T.Readable.views l.items.items);
+  gone : Gone g.T.Readable.format.Encodes (plain g.T.Readable.format.at) l.fn.cursor.left l.cursor.left l.count l.counter (g.T.Readable.views l.items.items);
   len : length l.items.items ≡ l.counter;
 }

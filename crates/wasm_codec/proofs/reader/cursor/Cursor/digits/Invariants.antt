@@ -5,10 +5,11 @@ use Rattle.wasm_codec.proofs.reader.cursor.Cursor.digits.Given as goal
 
 abbrev pub invariant-loop : goal.invariant-loop
 invariant-loop l = record {
-  within : l.counter ≤ length l.fn.self;
-  rest : l.self ≡ drop l.counter l.fn.self;
-  so_far : reads_on l.most l.fn.self l.counter ≡ digits_at l.most l.fn.self;
-  value : l.unsigned ≡ unsigned (take l.counter l.fn.self);
-  place : l.place ≡ 128 ^ l.counter;
-  below : l.unsigned < l.place;
+  within : l.counter ≤ length l.fn.self.left;
+  rest : l.self.left ≡ drop l.counter l.fn.self.left;
+  keeps : l.self.shortest ≡ l.fn.self.shortest;
+  so_far : reads_on l.most l.fn.self.left l.counter ≡ digits_at l.most l.fn.self.left;
+  value : l.unsigned ≡ unsigned (take l.counter l.fn.self.left);
+  unit : l.unit ≡ 128 ^ l.counter;
+  below : l.unsigned < l.unit;
 }

@@ -1,9 +1,14 @@
-use Rattle.std.proofs.Common.{◌+◌, ◌<◌, length, drop, sym, ap, ◌∙◌, arith}
+use Rattle.std.proofs.Common.{◌+◌, ◌<◌, length, drop, ap, ◌∙◌, sym, arith}
 use Rattle.std.proofs.lemmas.List.{drop_more}
-use Rattle.wasm_codec.specs.Reading.{byte_at}
+use Rattle.wasm_codec.specs.Places.{place, byte_at, byte_from}
 use Rattle.wasm_codec.proofs.reader.cursor.Cursor.peek.Goals as goal
 
-pub returns-clause-sees : goal.returns-clause-sees
-returns-clause-sees c =
+pub returns : goal.returns
+unfolding byte_at
+returns c =
     let lt : c.self.inside.position < length c.self.inside.bytes.now = omega arith in
-    (drop (c.self.inside.position + 1) c.self.inside.bytes.now, ap byte_at (sym c.self.view_is ∙ drop_more c.self.inside.bytes.now c.self.inside.position 0 lt))
+    let more = drop_more c.self.inside.bytes.now c.self.inside.position 0 lt in
+    record {
+      sees = (place c.self.inside.shortest (drop (c.self.inside.position + 1) c.self.inside.bytes.now), ap byte_at (sym c.self.view_is) ∙ ap (byte_from c.self.inside.shortest) more);
+      err = tt;
+    }

@@ -1,9 +1,9 @@
 use Rattle.wasm_codec.specs.Numbers.{SpellsU32}
-use Rattle.wasm_codec.proofs.NumberLaws.{IsReadBy-u32}
+use Rattle.wasm_codec.proofs.FormatLaws.{Lawful-u32}
 use Rattle.wasm_codec.proofs.reader.readable.U32Readable.read.Goals as goal
 
-pub returns-clause-finds : goal.returns-clause-finds
-returns-clause-finds c = IsReadBy-u32
+pub returns-clause-lawful : goal.returns-clause-lawful
+returns-clause-lawful c = Lawful-u32
 
 pub returns-clause-some : goal.returns-clause-some
 unfolding SpellsU32

@@ -1,0 +1,99 @@
+-- How long shortest encodings are at the most.
+use Rattle.std.proofs.Common.{◌≡◌, ℕ, zero, suc, ◌+◌, ◌*◌, ◌/◌, ◌^◌, ◌<◌, ◌≤◌, Bool, true, false, cond, List, [], ◌∷◌, length, Option, Some, None, refl, length-append, arith}
+use Rattle.std.specs.Prelude.{IsSomeAnd}
+use Rattle.wasm_codec.specs.Numbers.{SpellsU32, SpellsU64, SpellsS32, SpellsS64, SpellsIndex, unsigned_text}
+use Rattle.wasm_codec.proofs.Digits.{length-digits_of}
+use Rattle.wasm_codec.specs.formats.Combinators.{Format, a_byte, nothing, ◌⊗◌, bytes_of, made, made_of, either_range, Choice, any_of, or_else, either, after, after_long, one_byte, byte_where, u32, u64, s32, s64, index, raw, little_endian}
+use Rattle.wasm_codec.proofs.NumberLaws.{Shortest-u32, Shortest-u64, Shortest-s32, Shortest-s64, Shortest-index}
+
+-- the shortest encoding of a value in range has at most so many bytes
+pub record AtMost {V : Type 0} (most : ℕ) (F : Format V) : Type 0 where
+  pub bound : (v : V) → F.InRange v → length (F.bytes v) ≤ most
+
+pub record ChoiceAtMost {V : Type 0} (most : ℕ) (C : Choice V) : Type 0 where
+  pub bound : (v : V) → C.InRange v → length (C.bytes v) ≤ most
+
+pub AtMost-more : {V : Type 0} {m n : ℕ} {F : Format V} → m ≤ n → AtMost m F → AtMost n F
+AtMost-more le p = record { bound = λ v fits. omega (arith, p.bound v fits) }
+
+pub AtMost-byte : AtMost 1 a_byte
+AtMost-byte = record { bound = λ v fits. omega arith }
+
+pub AtMost-nothing : {A : Type 0} (a : A) → AtMost 0 (nothing a)
+AtMost-nothing a = record { bound = λ v fits. omega arith }
+
+pub AtMost-one-byte : {A : Type 0} (byte_of : A → Option ℕ) (values : List A) → AtMost 1 (one_byte byte_of values)
+AtMost-one-byte {A} byte_of values = record { bound = λ v fits. by (byte_of v) } where
+  by : (o : Option ℕ) → length (bytes_of (λ b. b ∷ []) o) ≤ 1
+  by (Some b) = omega arith
+  by None = omega arith
+
+pub AtMost-raw : (count : ℕ) → AtMost count (raw count)
+AtMost-raw count = record { bound = λ v fits. omega (arith, fits.0) }
+
+pub AtMost-u32 : AtMost 5 u32
+unfolding SpellsU32
+AtMost-u32 = record { bound = λ n lt. (Shortest-u32.spells n lt).1 }
+
+pub AtMost-u64 : AtMost 10 u64
+unfolding SpellsU64
+AtMost-u64 = record { bound = λ n lt. (Shortest-u64.spells n lt).1 }
+
+pub AtMost-s32 : AtMost 5 s32
+unfolding SpellsS32
+AtMost-s32 = record { bound = λ z within. (Shortest-s32.spells z within).1 }
+
+pub AtMost-s64 : AtMost 10 s64
+unfolding SpellsS64
+AtMost-s64 = record { bound = λ z within. (Shortest-s64.spells z within).1 }
+
+pub AtMost-index : AtMost 5 index
+unfolding SpellsIndex
+AtMost-index = record { bound = λ n lt. (Shortest-index.spells n lt).1 }
+
+-- a number of 7 bits, or 14, ..
+pub length-number : (more n : ℕ) → n < 128 * 128 ^ more → length (unsigned_text n) ≤ suc more
+unfolding unsigned_text
+length-number more n lt = length-digits_of false 128 9 more n lt
+
+pub AtMost-both : {A B : Type 0} {m n : ℕ} {F : Format A} {G : Format B} → AtMost m F → AtMost n G → AtMost (m + n) (F ⊗ G)
+AtMost-both {F = F} {G = G} p q = record { bound = λ v fits. omega (arith, length-append (F.bytes v.0) (G.bytes v.1), p.bound v.0 fits.0, q.bound v.1 fits.1) }
+
+pub AtMost-made : {A B : Type 0} {most : ℕ} {F : Format A} (make : A → B) (parts : B → Option A) → AtMost most F → AtMost most (made make parts F)
+AtMost-made {A} {B} {most} {F} make parts p = record { bound = λ b. by b (parts b) } where
+  by : (b : B) (o : Option A) → IsSomeAnd o (λ a. F.InRange a × (make a ≡ b)) → length (bytes_of F.bytes o) ≤ most
+  by b (Some a) fits = p.bound a fits.0
+  by b None fits = absurd fits
+
+pub AtMost-made-of : {A B : Type 0} {most : ℕ} {F : Format A} {make : A → B} {parts : B → A} {R : B → Type 0} → ((b : B) → R b → F.InRange (parts b)) → AtMost most F → AtMost most (made_of make parts R F)
+AtMost-made-of {parts = parts} there p = record { bound = λ b fits. p.bound (parts b) (there b fits) }
+
+length-little-endian : (count n : ℕ) → length ((little_endian count).bytes n) ≡ count
+unfolding little_endian
+length-little-endian zero n = refl
+length-little-endian (suc more) n = omega (arith, length-little-endian more (n / 256))
+
+pub AtMost-little-endian : (count : ℕ) → AtMost count (little_endian count)
+AtMost-little-endian count = record { bound = λ n fits. omega (arith, length-little-endian count n) }
+
+-- ---- alternatives
+
+at_most_either : (most : ℕ) (t : Bool) (R S : Type 0) (a b : List ℕ) → (R → length a ≤ most) → (S → length b ≤ most) → either_range t R S → length (cond t a b) ≤ most
+at_most_either most true R S a b p q fits = p fits
+at_most_either most false R S a b p q fits = q fits
+
+pub AtMost-any : {V : Type 0} {most : ℕ} {C : Choice V} → ChoiceAtMost most C → AtMost most (any_of C)
+AtMost-any p = record { bound = p.bound }
+
+pub AtMost-or-else : {V : Type 0} {most : ℕ} {F : Format V} → AtMost most F → ChoiceAtMost most (or_else F)
+AtMost-or-else p = record { bound = p.bound }
+
+pub AtMost-either : {V : Type 0} {most : ℕ} (wins : V → Bool) {F : Format V} {C : Choice V} → AtMost most F → ChoiceAtMost most C → ChoiceAtMost most (either wins F C)
+AtMost-either {V} {most} wins {F} {C} p q = record { bound = λ v. at_most_either most (wins v) (F.InRange v) (C.InRange v) (F.bytes v) (C.bytes v) (p.bound v) (q.bound v) }
+
+-- also the other ways to put a byte before
+pub AtMost-after : {V : Type 0} {most : ℕ} (wins : V → Bool) (n : ℕ) {F : Format V} {C : Choice V} → AtMost most F → ChoiceAtMost (suc most) C → ChoiceAtMost (suc most) (after wins n F C)
+AtMost-after {V} {most} wins n {F} {C} p q = record { bound = λ v. at_most_either (suc most) (wins v) (F.InRange v) (C.InRange v) (n ∷ F.bytes v) (C.bytes v) (λ fits. omega (arith, p.bound v fits)) (q.bound v) }
+
+pub AtMost-after-long : {V : Type 0} {most : ℕ} (wins : V → Bool) (n : ℕ) {F : Format V} {C : Choice V} → AtMost most F → ChoiceAtMost (suc most) C → ChoiceAtMost (suc most) (after_long wins n F C)
+AtMost-after-long {V} {most} wins n {F} {C} p q = record { bound = λ v. at_most_either (suc most) (wins v) (F.InRange v) (C.InRange v) (n ∷ F.bytes v) (C.bytes v) (λ fits. omega (arith, p.bound v fits)) (q.bound v) }

@@ -1,0 +1,42 @@
+-- What holds of every format of the library, and is proved of each.
+use Rattle.std.specs.Prelude.{◌≡◌, ℕ, Bool, true, List, [], ◌∷◌, ◌++◌, Option, Some, None}
+use Rattle.wasm_codec.specs.Grammar.{Grammar, IsBytes}
+use Rattle.wasm_codec.specs.Encoding.{IsTextOrLonger}
+use Rattle.wasm_codec.specs.Reading.{◌>>=◌, Fronts, Reader as ListReader}
+use Rattle.wasm_codec.specs.Places.{Place, place, Reader, keeps}
+use Rattle.wasm_codec.specs.formats.Combinators.{Format}
+
+-- what is written encodes each value that fits, and each that is encoded at all; and every other encoding is longer
+pub record Shortest {V : Type 0} (G : Grammar V) (Fits : V → Type 0) (text : V → List ℕ) : Type 0 where
+  pub spells : (v : V) → Fits v → G (text v) v
+  pub again : (bytes : List ℕ) (v : V) → G bytes v → G (text v) v
+  pub least : (bytes : List ℕ) (v : V) → G bytes v → IsTextOrLonger bytes (text v)
+
+abbrev pub head_of : List ℕ → Option ℕ
+head_of [] = None
+head_of (b ∷ bytes) = Some b
+
+-- what is read is what is encoded, and the place tells whether it was the shortest encoding
+pub record ReadsPlaces {V : Type 0} (G : Grammar V) (bytes : V → List ℕ) (read : Reader V) : Type 0 where
+  pub sound : (p : Place) (v : V) (q : Place) → IsBytes p.left → read p ≡ Some (v, q) → Fronts G p.left v q.left
+  pub complete : (front : List ℕ) (v : V) (rest : List ℕ) (s : Bool) → G front v → read (place s (front ++ rest)) ≡ Some (v, place (keeps s front (bytes v)) rest)
+
+pub record IsLawful {V : Type 0} (F : Format V) : Type 0 where
+  -- what is read is what is encoded, and the place tells whether it was the shortest encoding
+  pub reads : ReadsPlaces F.Encodes F.bytes F.at
+  -- what is written encodes the value, and every other encoding is longer
+  pub shortest : Shortest F.Encodes F.InRange F.bytes
+  -- what is encoded is in range
+  pub in_range : (bytes : List ℕ) (v : V) → F.Encodes bytes v → F.InRange v
+  -- encodings are bytes
+  pub are_bytes : (bytes : List ℕ) (v : V) → F.Encodes bytes v → IsBytes bytes
+  -- and begin as is said
+  pub begins : (bytes : List ℕ) (v : V) → F.Encodes bytes v → F.first (head_of bytes) ≡ true
+
+-- what is read, of the bytes alone
+abbrev pub plain : {V : Type 0} → Reader V → ListReader V
+plain read bytes = read (place true bytes) >>= λ x. Some (x.0, x.1.left)
+
+-- no encoding is a proper prefix of another
+abbrev pub IsPrefixFree : {V : Type 0} → Grammar V → Type 0
+IsPrefixFree {V} G = (a b rest : List ℕ) (v w : V) → G a v → G b w → a ≡ b ++ rest → rest ≡ []

@@ -1,0 +1,2 @@
+pub mod Combinators
+pub mod Bodies

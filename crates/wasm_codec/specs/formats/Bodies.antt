@@ -1,0 +1,96 @@
+-- Bodies: bytes that are an encoding to their end. Before them stands their number, or bytes that are always the same.
+use Rattle.std.specs.Prelude.{◌≡◌, ℕ, zero, suc, ◌^◌, ◌<◌, Bool, true, false, List, [], ◌∷◌, ◌++◌, length, take, drop, Option, Some, None, nat_lt, if◌then◌else◌}
+use Rattle.std.specs.List.{AllByRecursion}
+use Rattle.wasm_codec.specs.Grammar.{Grammar, IsBytes, After}
+use Rattle.wasm_codec.specs.Reading.{◌>>=◌}
+use Rattle.wasm_codec.specs.Numbers.{SpellsU32, unsigned_text}
+use Rattle.wasm_codec.specs.Places.{Place, place, Reader, u32_at}
+use Rattle.wasm_codec.specs.formats.Combinators.{Format, any_byte, just, after_at, AllOf, all_bytes}
+
+abbrev pub at_end : List ℕ → Bool
+at_end [] = true
+at_end (b ∷ bytes) = false
+
+-- ---- formats that go on to the end of the bytes
+
+-- bytes, whichever they are
+abbrev pub bytes_to_end : Format (List ℕ)
+bytes_to_end = record {
+  Encodes = λ bytes v. (bytes ≡ v) × IsBytes v;
+  at = λ p. Some (p.left, place p.shortest []);
+  bytes = λ v. v;
+  InRange = IsBytes;
+  first = λ b. true;
+}
+
+-- items as long as there are bytes, at most so many
+unfoldable pub until_end : {A : Type 0} → Reader A → ℕ → Reader (List A)
+until_end read zero p = if at_end p.left then Some ([], p) else None
+until_end read (suc n) p = if at_end p.left then Some ([], p) else (do
+  v ← read p
+  vs ← until_end read n v.1
+  Some (v.0 ∷ vs.0, vs.1))
+
+-- encodings to the end, with nothing between
+abbrev pub to_end : {A : Type 0} → Format A → Format (List A)
+to_end F = record {
+  Encodes = AllOf F;
+  at = λ p. until_end F.at (length p.left) p;
+  bytes = all_bytes F;
+  InRange = AllByRecursion F.InRange;
+  first = λ b. true;
+}
+
+-- ---- a size, and then that many bytes, which are all of an encoding
+
+abbrev pub Sized : {A : Type 0} → Grammar A → Grammar A
+Sized G bytes v = (size : List ℕ) × (body : List ℕ) × (bytes ≡ size ++ body) × SpellsU32 size (length body) × G body v
+
+-- the bytes after their number
+abbrev pub body_at : Reader (List ℕ)
+body_at p = do
+  size ← u32_at p
+  if nat_lt (length size.1.left) size.0 then None else Some (take size.0 size.1.left, place size.1.shortest (drop size.0 size.1.left))
+
+-- what was read, where nothing is left over
+abbrev pub if_all : {A : Type 0} → Option (A × Place) → Option (A × Place)
+if_all None = None
+if_all (Some x) = if at_end x.1.left then Some x else None
+
+abbrev pub sized_at : {A : Type 0} → Reader A → Reader A
+sized_at read p = do
+  body ← body_at p
+  v ← if_all (read (place body.1.shortest body.0))
+  Some (v.0, place v.1.shortest body.1.left)
+
+abbrev pub sized : {A : Type 0} → Format A → Format A
+sized F = record {
+  Encodes = Sized F.Encodes;
+  at = sized_at F.at;
+  bytes = λ v. unsigned_text (length (F.bytes v)) ++ F.bytes v;
+  InRange = λ v. F.InRange v × (length (F.bytes v) < 2 ^ 32);
+  first = any_byte;
+}
+
+-- bytes, after their number
+abbrev pub byte_list : Format (List ℕ)
+byte_list = sized bytes_to_end
+
+-- ---- these bytes, and then the rest
+
+abbrev pub headed_at : {A : Type 0} → List ℕ → Reader A → Reader A
+headed_at [] read p = read p
+headed_at (n ∷ head) read p = after_at n (headed_at head read) p
+
+abbrev pub headed_first : List ℕ → (Option ℕ → Bool) → Option ℕ → Bool
+headed_first [] first b = first b
+headed_first (n ∷ head) first b = just n b
+
+abbrev pub headed : {A : Type 0} → List ℕ → Format A → Format A
+headed head F = record {
+  Encodes = After head F.Encodes;
+  at = headed_at head F.at;
+  bytes = λ v. head ++ F.bytes v;
+  InRange = F.InRange;
+  first = headed_first head F.first;
+}
