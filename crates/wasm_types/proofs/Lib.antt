@@ -1,7 +1,3 @@
-pub mod HeapTypeLaws
-pub mod ValueTypeLaws
-pub mod CompositeLaws
-pub mod CompositeTexts
-pub mod EntryLaws
-pub mod EncodingLaws
 pub mod RewritingLaws
+pub mod TypeFormatLaws
+pub mod CountLaws

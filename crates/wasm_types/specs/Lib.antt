@@ -1,5 +1,3 @@
-pub mod HeapTypes
-pub mod CompositeTypes
 pub mod Types
-pub mod TypeRanges
-pub mod TypeEncoding
+pub mod formats
+pub mod TypeCounts

@@ -1,7 +1,9 @@
 //! Fields, composite types, subtypes and the entries of a type section, written (Core 3.0, 5.3.8 to 5.3.12).
-ghost use Rattle.std.specs.Prelude.{◌≡◌, ◌++◌, ◌+◌, ◌≤◌, Some, OnOk, IsErrOf, IsSomeAnd, IsNone, length, take, vec_len, vec_capacity};
-ghost use Rattle.wasm_types.specs.CompositeTypes.{field_type_text};
-ghost use Rattle.wasm_types.specs.TypeEncoding.{func_encoding, struct_encoding, array_encoding, cont_encoding, inner_encoding, composite_encoding, supertypes_encoding, sub_encoding, entry_encoding, shared_text, flagged_index_text};
+ghost use Rattle.std.specs.Prelude.{◌≡◌, ◌++◌, ◌+◌, ◌≤◌, OnOk, IfErr, length, take, vec_len, vec_capacity};
+ghost use Rattle.wasm_codec.specs.Encoding.{IsCount, IsCountRefusal, IsRefusal, OnlyTooLong};
+ghost use Rattle.wasm_types.specs.declared.types.composite.CompositeInnerType.TheVariants as inner;
+ghost use Rattle.wasm_types.specs.formats.Types.{field_type, inner_type, composite_type, sub_type, recursive_type};
+ghost use Rattle.wasm_types.specs.TypeCounts.{CountedFunc, CountedStruct, CountedInner, CountedComposite, CountedSub, CountedEntry, supertypes_bytes};
 
 use super::heap_types::put_storage_type;
 use crate::types::{
@@ -13,10 +15,10 @@ use wasm_codec::encode::leb128::{put_index, put_u32};
 use wasm_codec::encode::{Encode, EncodeError, encode_list, keep_or_undo};
 
 /// Writes a field in 2 to 8 bytes.
-#[tactic(auto, unfolding(crate::specs::CompositeTypes::field_type_text))]
+#[tactic(auto, unfolding(crate::specs::formats::Types::field_type, crate::specs::formats::Types::mutability))]
 fn put_field_type<A: Allocator>(bytes: &mut Vec<u8, A>, field: FieldType)
     requires { vec_len bytes.old + 8 ≤ vec_capacity bytes.old }
-    ensures items { bytes.new.items ≡ bytes.old.items ++ field_type_text field }
+    ensures items { bytes.new.items ≡ bytes.old.items ++ field_type.bytes field }
     ensures capacity { vec_capacity bytes.new ≡ vec_capacity bytes.old }
 {
     put_storage_type(bytes, field.element_type);
@@ -25,9 +27,7 @@ fn put_field_type<A: Allocator>(bytes: &mut Vec<u8, A>, field: FieldType)
 
 /// A storage type, and then `0x00` where it is constant or `0x01` where it is mutable (Core 3.0, 5.3.8).
 impl Encode for FieldType {
-    ghost text = { λ field. Some (field_type_text field) };
-
-    ghost misaligned = { λ _. ⊥ };
+    ghost bytes = { field_type.bytes };
 
     fn encode<A: Allocator>(&self, sink: &mut Vec<u8, A>) -> Result<(), EncodeError> {
         sink.reserve(8)?;
@@ -37,10 +37,11 @@ impl Encode for FieldType {
 }
 
 /// Appends a function type. An `Err` can leave a part of it.
+#[tactic(auto, unfolding(crate::specs::formats::Types::inner_type, crate::specs::formats::Types::result_type))]
 fn append_func<A: Allocator>(ty: &FuncType, sink: &mut Vec<u8, A>) -> Result<(), EncodeError>
-    ensures ok { OnOk result (IsSomeAnd (func_encoding ty.now) (λ t. sink.new.items ≡ sink.old.items ++ t)) }
-    ensures too_long { IsErrOf result EncodeError.TooLong → IsNone (func_encoding ty.now) }
-    ensures alignment { ¬ IsErrOf result EncodeError.Alignment }
+    ensures ok { OnOk result (sink.new.items ≡ sink.old.items ++ inner_type.bytes (inner.Func ty.now)) }
+    ensures can { OnOk result (CountedFunc ty.now) }
+    ensures refused { IfErr result (IsRefusal CountedFunc OnlyTooLong ty.now) }
     ensures kept { take (length sink.old.items) sink.new.items ≡ sink.old.items }
 {
     sink.reserve(1)?;
@@ -51,9 +52,11 @@ fn append_func<A: Allocator>(ty: &FuncType, sink: &mut Vec<u8, A>) -> Result<(),
 
 /// `0x60`, the parameters and the results (Core 3.0, 5.3.10).
 impl Encode for FuncType {
-    ghost text = { func_encoding };
+    ghost bytes = { λ ty. inner_type.bytes (inner.Func ty) };
 
-    ghost misaligned = { λ _. ⊥ };
+    ghost CanEncode = { CountedFunc };
+
+    ghost refuses = { OnlyTooLong };
 
     fn encode<A: Allocator>(&self, sink: &mut Vec<u8, A>) -> Result<(), EncodeError> {
         let start = sink.len();
@@ -63,10 +66,13 @@ impl Encode for FuncType {
 }
 
 /// `0x5F` and the fields (Core 3.0, 5.3.10).
+#[tactic(auto, unfolding(crate::specs::formats::Types::inner_type, crate::specs::formats::Types::result_type))]
 impl Encode for StructType {
-    ghost text = { struct_encoding };
+    ghost bytes = { λ ty. inner_type.bytes (inner.Struct ty) };
 
-    ghost misaligned = { λ _. ⊥ };
+    ghost CanEncode = { CountedStruct };
+
+    ghost refuses = { OnlyTooLong };
 
     fn encode<A: Allocator>(&self, sink: &mut Vec<u8, A>) -> Result<(), EncodeError> {
         let start = sink.len();
@@ -78,10 +84,9 @@ impl Encode for StructType {
 }
 
 /// `0x5E` and the field (Core 3.0, 5.3.10).
+#[tactic(auto, unfolding(crate::specs::formats::Types::inner_type, crate::specs::formats::Types::result_type))]
 impl Encode for ArrayType {
-    ghost text = { array_encoding };
-
-    ghost misaligned = { λ _. ⊥ };
+    ghost bytes = { λ ty. inner_type.bytes (inner.Array ty) };
 
     fn encode<A: Allocator>(&self, sink: &mut Vec<u8, A>) -> Result<(), EncodeError> {
         sink.reserve(9)?;
@@ -92,10 +97,9 @@ impl Encode for ArrayType {
 }
 
 /// `0x5D` and the index of a function type, as an s33 (a proposal).
+#[tactic(auto, unfolding(crate::specs::formats::Types::inner_type, crate::specs::formats::Types::result_type))]
 impl Encode for ContType {
-    ghost text = { cont_encoding };
-
-    ghost misaligned = { λ _. ⊥ };
+    ghost bytes = { λ ty. inner_type.bytes (inner.Cont ty) };
 
     fn encode<A: Allocator>(&self, sink: &mut Vec<u8, A>) -> Result<(), EncodeError> {
         sink.reserve(6)?;
@@ -105,11 +109,13 @@ impl Encode for ContType {
     }
 }
 
-/// The text of what it is made of (Core 3.0, 5.3.10).
+/// The bytes of what it is made of (Core 3.0, 5.3.10).
 impl Encode for CompositeInnerType {
-    ghost text = { inner_encoding };
+    ghost bytes = { inner_type.bytes };
 
-    ghost misaligned = { λ _. ⊥ };
+    ghost CanEncode = { CountedInner };
+
+    ghost refuses = { OnlyTooLong };
 
     fn encode<A: Allocator>(&self, sink: &mut Vec<u8, A>) -> Result<(), EncodeError> {
         match self {
@@ -121,51 +127,39 @@ impl Encode for CompositeInnerType {
     }
 }
 
-/// Writes a byte and an index, or nothing, into reserved room.
-fn put_flagged_index<A: Allocator>(bytes: &mut Vec<u8, A>, flag: u8, index: Option<u32>)
-    requires { vec_len bytes.old + 6 ≤ vec_capacity bytes.old }
-    ensures items { bytes.new.items ≡ bytes.old.items ++ flagged_index_text flag index }
-    ensures len { vec_len bytes.new ≤ vec_len bytes.old + 6 }
-    ensures capacity { vec_capacity bytes.new ≡ vec_capacity bytes.old }
-{
-    if let Some(index) = index {
-        bytes.push_reserved(flag);
-        put_u32(bytes, index);
-    }
-}
-
-/// Writes what stands before a composite type into reserved room.
-fn put_flags<A: Allocator>(bytes: &mut Vec<u8, A>, ty: &CompositeType)
-    requires { vec_len bytes.old + 13 ≤ vec_capacity bytes.old }
-    ensures items { bytes.new.items ≡ bytes.old.items ++ (shared_text ty.now.shared ++ (flagged_index_text 0x4c ty.now.describes ++ flagged_index_text 0x4d ty.now.descriptor)) }
-{
-    if ty.shared {
-        bytes.push_reserved(0x65);
-    }
-    put_flagged_index(bytes, 0x4c, ty.describes);
-    put_flagged_index(bytes, 0x4d, ty.descriptor);
-}
-
 /// Appends a composite type. An `Err` can leave a part of it.
+#[tactic(auto, unfolding(crate::specs::formats::Types::composite_type))]
 fn append_composite<A: Allocator>(
     ty: &CompositeType,
     sink: &mut Vec<u8, A>,
 ) -> Result<(), EncodeError>
-    ensures ok { OnOk result (IsSomeAnd (composite_encoding ty.now) (λ t. sink.new.items ≡ sink.old.items ++ t)) }
-    ensures too_long { IsErrOf result EncodeError.TooLong → IsNone (composite_encoding ty.now) }
-    ensures alignment { ¬ IsErrOf result EncodeError.Alignment }
+    ensures ok { OnOk result (sink.new.items ≡ sink.old.items ++ composite_type.bytes ty.now) }
+    ensures can { OnOk result (CountedComposite ty.now) }
+    ensures refused { IfErr result (IsRefusal CountedComposite OnlyTooLong ty.now) }
     ensures kept { take (length sink.old.items) sink.new.items ≡ sink.old.items }
 {
     sink.reserve(13)?;
-    put_flags(sink, ty);
+    if ty.shared {
+        sink.push_reserved(0x65);
+    }
+    if let Some(index) = ty.describes {
+        sink.push_reserved(0x4c);
+        put_u32(sink, index);
+    }
+    if let Some(index) = ty.descriptor {
+        sink.push_reserved(0x4d);
+        put_u32(sink, index);
+    }
     ty.inner.encode(sink)
 }
 
 /// What it shares and describes, its descriptor, and what it is made of (Core 3.0, 5.3.10 and proposals).
 impl Encode for CompositeType {
-    ghost text = { composite_encoding };
+    ghost bytes = { composite_type.bytes };
 
-    ghost misaligned = { λ _. ⊥ };
+    ghost CanEncode = { CountedComposite };
+
+    ghost refuses = { OnlyTooLong };
 
     fn encode<A: Allocator>(&self, sink: &mut Vec<u8, A>) -> Result<(), EncodeError> {
         let start = sink.len();
@@ -180,9 +174,9 @@ fn append_supertypes<A: Allocator>(
     supertypes: &[u32],
     sink: &mut Vec<u8, A>,
 ) -> Result<(), EncodeError>
-    ensures ok { OnOk result (IsSomeAnd (supertypes_encoding is_final supertypes.now) (λ t. sink.new.items ≡ sink.old.items ++ t)) }
-    ensures too_long { IsErrOf result EncodeError.TooLong → IsNone (supertypes_encoding is_final supertypes.now) }
-    ensures alignment { ¬ IsErrOf result EncodeError.Alignment }
+    ensures ok { OnOk result (sink.new.items ≡ sink.old.items ++ supertypes_bytes is_final supertypes.now) }
+    ensures can { OnOk result (IsCount (length supertypes.now)) }
+    ensures refused { IfErr result (IsCountRefusal (length supertypes.now)) }
     ensures kept { take (length sink.old.items) sink.new.items ≡ sink.old.items }
 {
     sink.reserve(1)?;
@@ -196,10 +190,11 @@ fn append_supertypes<A: Allocator>(
 }
 
 /// Appends a subtype. An `Err` can leave a part of it.
+#[tactic(auto, unfolding(crate::specs::formats::Types::sub_type))]
 fn append_sub<A: Allocator>(ty: &SubType, sink: &mut Vec<u8, A>) -> Result<(), EncodeError>
-    ensures ok { OnOk result (IsSomeAnd (sub_encoding ty.now) (λ t. sink.new.items ≡ sink.old.items ++ t)) }
-    ensures too_long { IsErrOf result EncodeError.TooLong → IsNone (sub_encoding ty.now) }
-    ensures alignment { ¬ IsErrOf result EncodeError.Alignment }
+    ensures ok { OnOk result (sink.new.items ≡ sink.old.items ++ sub_type.bytes ty.now) }
+    ensures can { OnOk result (CountedSub ty.now) }
+    ensures refused { IfErr result (IsRefusal CountedSub OnlyTooLong ty.now) }
     ensures kept { take (length sink.old.items) sink.new.items ≡ sink.old.items }
 {
     append_supertypes(ty.is_final, ty.supertype_idxs.as_slice(), sink)?;
@@ -209,9 +204,11 @@ fn append_sub<A: Allocator>(ty: &SubType, sink: &mut Vec<u8, A>) -> Result<(), E
 /// `0x50` or `0x4F` and the supertypes, and the composite type; a final one without supertypes is the composite type
 /// alone (Core 3.0, 5.3.11).
 impl Encode for SubType {
-    ghost text = { sub_encoding };
+    ghost bytes = { sub_type.bytes };
 
-    ghost misaligned = { λ _. ⊥ };
+    ghost CanEncode = { CountedSub };
+
+    ghost refuses = { OnlyTooLong };
 
     fn encode<A: Allocator>(&self, sink: &mut Vec<u8, A>) -> Result<(), EncodeError> {
         let start = sink.len();
@@ -221,10 +218,13 @@ impl Encode for SubType {
 }
 
 /// `0x4E` and a list of subtypes, or one subtype (Core 3.0, 5.3.12).
+#[tactic(auto, using(wasm_codec::proofs::WrittenLists::list_refused), unfolding(crate::specs::formats::Types::recursive_type))]
 impl Encode for TypeEntry {
-    ghost text = { entry_encoding };
+    ghost bytes = { recursive_type.bytes };
 
-    ghost misaligned = { λ _. ⊥ };
+    ghost CanEncode = { CountedEntry };
+
+    ghost refuses = { OnlyTooLong };
 
     fn encode<A: Allocator>(&self, sink: &mut Vec<u8, A>) -> Result<(), EncodeError> {
         let types = match self {

@@ -1,6 +1,7 @@
 //! Heap, reference, value and storage types, written into room that was reserved (Core 3.0, 5.3.3 to 5.3.8).
-ghost use Rattle.std.specs.Prelude.{◌≡◌, ◌++◌, ◌+◌, ◌≤◌, Some, vec_len, vec_capacity};
-ghost use Rattle.wasm_types.specs.HeapTypes.{abstract_byte, abstract_type_text, abstract_text, heap_type_text, ref_type_text, val_type_text, storage_type_text};
+ghost use Rattle.std.specs.Prelude.{◌≡◌, [], ◌∷◌, ◌++◌, ◌+◌, ◌≤◌, vec_len, vec_capacity};
+ghost use Rattle.wasm_codec.specs.formats.Combinators.{flagged};
+ghost use Rattle.wasm_types.specs.formats.Types.{abstract_type, heap_type, ref_type, val_type, storage_type};
 
 use crate::types::{AbstractHeapType, HeapType, RefType, StorageType, ValType};
 use std::alloc::Allocator;
@@ -8,8 +9,9 @@ use wasm_codec::encode::leb128::{put_index, put_u32};
 use wasm_codec::encode::{Encode, EncodeError};
 
 /// The byte of an abstract heap type.
+#[tactic(auto, unfolding(crate::specs::formats::Types::abstract_type))]
 fn abstract_byte(ty: AbstractHeapType) -> u8
-    ensures { result ≡ abstract_byte ty }
+    ensures { abstract_type.bytes ty ≡ result ∷ [] }
 {
     match ty {
         AbstractHeapType::NoCont => 0x75,
@@ -32,7 +34,7 @@ fn abstract_byte(ty: AbstractHeapType) -> u8
 /// Writes an abstract heap type in one byte, or in two where it is shared.
 fn put_abstract<A: Allocator>(bytes: &mut Vec<u8, A>, shared: bool, ty: AbstractHeapType)
     requires { vec_len bytes.old + 2 ≤ vec_capacity bytes.old }
-    ensures items { bytes.new.items ≡ bytes.old.items ++ abstract_text shared ty }
+    ensures items { bytes.new.items ≡ bytes.old.items ++ (flagged 0x65 abstract_type).bytes (shared, ty) }
     ensures len { vec_len bytes.new ≤ vec_len bytes.old + 2 }
     ensures capacity { vec_capacity bytes.new ≡ vec_capacity bytes.old }
 {
@@ -43,10 +45,10 @@ fn put_abstract<A: Allocator>(bytes: &mut Vec<u8, A>, shared: bool, ty: Abstract
 }
 
 /// Writes a heap type in 1 to 6 bytes.
-#[tactic(auto, unfolding(crate::specs::HeapTypes::heap_type_text))]
+#[tactic(auto, unfolding(crate::specs::formats::Types::heap_type))]
 pub fn put_heap_type<A: Allocator>(bytes: &mut Vec<u8, A>, ty: HeapType)
     requires { vec_len bytes.old + 6 ≤ vec_capacity bytes.old }
-    ensures items { bytes.new.items ≡ bytes.old.items ++ heap_type_text ty }
+    ensures items { bytes.new.items ≡ bytes.old.items ++ heap_type.bytes ty }
     ensures len { vec_len bytes.new ≤ vec_len bytes.old + 6 }
     ensures capacity { vec_capacity bytes.new ≡ vec_capacity bytes.old }
 {
@@ -61,10 +63,10 @@ pub fn put_heap_type<A: Allocator>(bytes: &mut Vec<u8, A>, ty: HeapType)
 }
 
 /// Writes a reference type in 1 to 7 bytes: the short form where there is one.
-#[tactic(auto, unfolding(crate::specs::HeapTypes::ref_type_text))]
+#[tactic(auto, unfolding(crate::specs::formats::Types::ref_type))]
 pub fn put_ref_type<A: Allocator>(bytes: &mut Vec<u8, A>, ty: RefType)
     requires { vec_len bytes.old + 7 ≤ vec_capacity bytes.old }
-    ensures items { bytes.new.items ≡ bytes.old.items ++ ref_type_text ty }
+    ensures items { bytes.new.items ≡ bytes.old.items ++ ref_type.bytes ty }
     ensures len { vec_len bytes.new ≤ vec_len bytes.old + 7 }
     ensures capacity { vec_capacity bytes.new ≡ vec_capacity bytes.old }
 {
@@ -83,10 +85,10 @@ pub fn put_ref_type<A: Allocator>(bytes: &mut Vec<u8, A>, ty: RefType)
 }
 
 /// Writes a value type in 1 to 7 bytes.
-#[tactic(auto, unfolding(crate::specs::HeapTypes::val_type_text))]
+#[tactic(auto, unfolding(crate::specs::formats::Types::val_type))]
 pub fn put_val_type<A: Allocator>(bytes: &mut Vec<u8, A>, ty: ValType)
     requires { vec_len bytes.old + 7 ≤ vec_capacity bytes.old }
-    ensures items { bytes.new.items ≡ bytes.old.items ++ val_type_text ty }
+    ensures items { bytes.new.items ≡ bytes.old.items ++ val_type.bytes ty }
     ensures len { vec_len bytes.new ≤ vec_len bytes.old + 7 }
     ensures capacity { vec_capacity bytes.new ≡ vec_capacity bytes.old }
 {
@@ -101,10 +103,10 @@ pub fn put_val_type<A: Allocator>(bytes: &mut Vec<u8, A>, ty: ValType)
 }
 
 /// Writes a storage type in 1 to 7 bytes.
-#[tactic(auto, unfolding(crate::specs::HeapTypes::storage_type_text))]
+#[tactic(auto, unfolding(crate::specs::formats::Types::storage_type))]
 pub fn put_storage_type<A: Allocator>(bytes: &mut Vec<u8, A>, ty: StorageType)
     requires { vec_len bytes.old + 7 ≤ vec_capacity bytes.old }
-    ensures items { bytes.new.items ≡ bytes.old.items ++ storage_type_text ty }
+    ensures items { bytes.new.items ≡ bytes.old.items ++ storage_type.bytes ty }
     ensures len { vec_len bytes.new ≤ vec_len bytes.old + 7 }
     ensures capacity { vec_capacity bytes.new ≡ vec_capacity bytes.old }
 {
@@ -117,9 +119,7 @@ pub fn put_storage_type<A: Allocator>(bytes: &mut Vec<u8, A>, ty: StorageType)
 
 /// One byte (Core 3.0, 5.3.3).
 impl Encode for AbstractHeapType {
-    ghost text = { λ ty. Some (abstract_type_text ty) };
-
-    ghost misaligned = { λ _. ⊥ };
+    ghost bytes = { abstract_type.bytes };
 
     fn encode<A: Allocator>(&self, sink: &mut Vec<u8, A>) -> Result<(), EncodeError> {
         sink.reserve(1)?;
@@ -130,9 +130,7 @@ impl Encode for AbstractHeapType {
 
 /// A byte or two, or an index as an s33, or `0x62` and an index (Core 3.0, 5.3.3).
 impl Encode for HeapType {
-    ghost text = { λ ty. Some (heap_type_text ty) };
-
-    ghost misaligned = { λ _. ⊥ };
+    ghost bytes = { heap_type.bytes };
 
     fn encode<A: Allocator>(&self, sink: &mut Vec<u8, A>) -> Result<(), EncodeError> {
         sink.reserve(6)?;
@@ -143,9 +141,7 @@ impl Encode for HeapType {
 
 /// The short form for a nullable abstract one, else `0x63` or `0x64` and the heap type (Core 3.0, 5.3.5).
 impl Encode for RefType {
-    ghost text = { λ ty. Some (ref_type_text ty) };
-
-    ghost misaligned = { λ _. ⊥ };
+    ghost bytes = { ref_type.bytes };
 
     fn encode<A: Allocator>(&self, sink: &mut Vec<u8, A>) -> Result<(), EncodeError> {
         sink.reserve(7)?;
@@ -156,9 +152,7 @@ impl Encode for RefType {
 
 /// One byte, or a reference type (Core 3.0, 5.3.6).
 impl Encode for ValType {
-    ghost text = { λ ty. Some (val_type_text ty) };
-
-    ghost misaligned = { λ _. ⊥ };
+    ghost bytes = { val_type.bytes };
 
     fn encode<A: Allocator>(&self, sink: &mut Vec<u8, A>) -> Result<(), EncodeError> {
         sink.reserve(7)?;
@@ -169,9 +163,7 @@ impl Encode for ValType {
 
 /// One byte where it is packed, else a value type (Core 3.0, 5.3.8).
 impl Encode for StorageType {
-    ghost text = { λ ty. Some (storage_type_text ty) };
-
-    ghost misaligned = { λ _. ⊥ };
+    ghost bytes = { storage_type.bytes };
 
     fn encode<A: Allocator>(&self, sink: &mut Vec<u8, A>) -> Result<(), EncodeError> {
         sink.reserve(7)?;

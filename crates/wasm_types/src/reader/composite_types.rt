@@ -1,11 +1,11 @@
 //! Fields, composite types, subtypes and entries of a type section (Core 3.0, 5.3.8 to 5.3.12 and 5.5.4).
 ghost use Rattle.std.specs.Prelude.{◌≡◌, IfErr, refl};
 ghost use Rattle.wasm_codec.specs.Grammar.{TakesBytes};
-ghost use Rattle.wasm_codec.specs.Reading.{Reads, IsReadBy, map_at, map_ok, then_at};
-ghost use Rattle.wasm_codec.specs.Numbers.{u32_at};
-ghost use Rattle.wasm_types.specs.HeapTypes.{SpellsValType, val_type_at};
-ghost use Rattle.wasm_codec.specs.Lists.{list_at};
-ghost use Rattle.wasm_types.specs.CompositeTypes.{SpellsFieldType, SpellsSubType, SpellsEntry, field_type_at, inner_at, indexed_at, composite_type_at, sub_of, sub_type_at, entry_at};
+ghost use Rattle.wasm_codec.specs.Reading.{map_ok};
+ghost use Rattle.wasm_codec.specs.Places.{Reads};
+ghost use Rattle.wasm_codec.specs.Lawful.{IsLawful};
+ghost use Rattle.wasm_codec.specs.formats.Combinators.{◌⊗◌, made, optional, items, u32};
+ghost use Rattle.wasm_types.specs.formats.Types.{val_type, field_type, inner_type, composite_type, sub_of, sub_parts, sub_type, recursive_type};
 ghost use Rattle.wasm_codec.specs.declared.reader.cursor.Fault.TheVariants.{Malformed};
 ghost use Rattle.wasm_types.specs.declared.types.value.ValType.{ValType};
 ghost use Rattle.wasm_types.specs.declared.types.composite.FieldType.{FieldType};
@@ -32,14 +32,12 @@ impl<'a> Readable<'a> for ValType {
 
     ghost views_each = { record { none = refl; more = λ types ty. refl } };
 
-    ghost spells = { SpellsValType };
-
-    ghost read_at = { val_type_at };
+    ghost format = { val_type };
 
     fn read(alloc: Global, cursor: &mut Cursor<'a>) -> Result<ValType, Fault>
-        ensures reads { Reads val_type_at cursor.old cursor.new (map_ok (λ x. x) result) }
-        ensures finds { IsReadBy SpellsValType val_type_at }
-        ensures some { TakesBytes SpellsValType }
+        ensures reads { Reads val_type.at cursor.old cursor.new (map_ok (λ x. x) result) }
+        ensures lawful { IsLawful val_type }
+        ensures some { TakesBytes val_type.Encodes }
         ensures err { IfErr result (λ e. e ≡ Malformed) }
     {
         let _ = alloc;
@@ -56,14 +54,12 @@ impl<'a> Readable<'a> for FieldType {
 
     ghost views_each = { record { none = refl; more = λ fields field. refl } };
 
-    ghost spells = { SpellsFieldType };
-
-    ghost read_at = { field_type_at };
+    ghost format = { field_type };
 
     fn read(alloc: Global, cursor: &mut Cursor<'a>) -> Result<FieldType, Fault>
-        ensures reads { Reads field_type_at cursor.old cursor.new (map_ok (λ x. x) result) }
-        ensures finds { IsReadBy SpellsFieldType field_type_at }
-        ensures some { TakesBytes SpellsFieldType }
+        ensures reads { Reads field_type.at cursor.old cursor.new (map_ok (λ x. x) result) }
+        ensures lawful { IsLawful field_type }
+        ensures some { TakesBytes field_type.Encodes }
         ensures err { IfErr result (λ e. e ≡ Malformed) }
     {
         let _ = alloc;
@@ -72,9 +68,9 @@ impl<'a> Readable<'a> for FieldType {
 }
 
 /// A field.
-#[tactic(auto, unfolding(crate::specs::CompositeTypes::field_type_at))]
+#[tactic(auto, unfolding(crate::specs::formats::Types::field_type, crate::specs::formats::Types::mutability))]
 fn read_field_type(cursor: &mut Cursor<'_>) -> Result<FieldType, Fault>
-    ensures reads { Reads field_type_at cursor.old cursor.new result }
+    ensures reads { Reads field_type.at cursor.old cursor.new result }
     ensures err { IfErr result (λ e. e ≡ Malformed) }
 {
     let element_type = read_storage_type(cursor)?;
@@ -90,9 +86,9 @@ fn read_field_type(cursor: &mut Cursor<'_>) -> Result<FieldType, Fault>
 }
 
 /// What a composite type is made of.
-#[tactic(auto, unfolding(crate::specs::CompositeTypes::inner_at))]
+#[tactic(auto, unfolding(crate::specs::formats::Types::inner_type, crate::specs::formats::Types::result_type))]
 fn read_inner_type(alloc: Global, cursor: &mut Cursor<'_>) -> Result<CompositeInnerType, Fault>
-    ensures reads { Reads inner_at cursor.old cursor.new result }
+    ensures reads { Reads inner_type.at cursor.old cursor.new result }
 {
     match cursor.byte()? {
         0x60 => {
@@ -115,7 +111,7 @@ fn read_described_type(
     alloc: Global,
     cursor: &mut Cursor<'_>,
 ) -> Result<(Option<u32>, CompositeInnerType), Fault>
-    ensures reads { Reads (indexed_at 0x4d inner_at) cursor.old cursor.new result }
+    ensures reads { Reads (optional 0x4d u32 inner_type).at cursor.old cursor.new result }
 {
     if cursor.peek()? == 0x4d {
         cursor.byte()?;
@@ -132,7 +128,7 @@ fn read_describing_type(
     alloc: Global,
     cursor: &mut Cursor<'_>,
 ) -> Result<(Option<u32>, (Option<u32>, CompositeInnerType)), Fault>
-    ensures reads { Reads (indexed_at 0x4c (indexed_at 0x4d inner_at)) cursor.old cursor.new result }
+    ensures reads { Reads (optional 0x4c u32 (optional 0x4d u32 inner_type)).at cursor.old cursor.new result }
 {
     if cursor.peek()? == 0x4c {
         cursor.byte()?;
@@ -145,9 +141,9 @@ fn read_describing_type(
 }
 
 /// A composite type.
-#[tactic(auto, unfolding(crate::specs::CompositeTypes::composite_type_at))]
+#[tactic(auto, unfolding(crate::specs::formats::Types::composite_type))]
 fn read_composite_type(alloc: Global, cursor: &mut Cursor<'_>) -> Result<CompositeType, Fault>
-    ensures reads { Reads composite_type_at cursor.old cursor.new result }
+    ensures reads { Reads composite_type.at cursor.old cursor.new result }
 {
     let shared = cursor.peek()? == 0x65;
     if shared {
@@ -168,7 +164,7 @@ fn read_with_supertypes(
     cursor: &mut Cursor<'_>,
     is_final: bool,
 ) -> Result<SubType, Fault>
-    ensures reads { Reads (map_at (sub_of is_final) (then_at (list_at u32_at) (λ _. composite_type_at))) cursor.old cursor.new result }
+    ensures reads { Reads (made (sub_of is_final) sub_parts (items u32 ⊗ composite_type)).at cursor.old cursor.new result }
 {
     let supertype_idxs = read_list(alloc, cursor)?;
     let composite_type = read_composite_type(alloc, cursor)?;
@@ -180,9 +176,9 @@ fn read_with_supertypes(
 }
 
 /// A subtype.
-#[tactic(auto, unfolding(crate::specs::CompositeTypes::sub_type_at))]
+#[tactic(auto, unfolding(crate::specs::formats::Types::sub_type))]
 fn read_sub_type(alloc: Global, cursor: &mut Cursor<'_>) -> Result<SubType, Fault>
-    ensures reads { Reads sub_type_at cursor.old cursor.new result }
+    ensures reads { Reads sub_type.at cursor.old cursor.new result }
 {
     let first = cursor.peek()?;
     if first == 0x50 {
@@ -191,7 +187,11 @@ fn read_sub_type(alloc: Global, cursor: &mut Cursor<'_>) -> Result<SubType, Faul
     }
     if first == 0x4f {
         cursor.byte()?;
-        return read_with_supertypes(alloc, cursor, true);
+        let ty = read_with_supertypes(alloc, cursor, true)?;
+        if ty.supertype_idxs.as_slice().is_empty() {
+            cursor.long_form();
+        }
+        return Ok(ty);
     }
     let composite_type = read_composite_type(alloc, cursor)?;
     Ok(SubType {
@@ -202,9 +202,9 @@ fn read_sub_type(alloc: Global, cursor: &mut Cursor<'_>) -> Result<SubType, Faul
 }
 
 /// An entry of a type section.
-#[tactic(auto, unfolding(crate::specs::CompositeTypes::entry_at))]
+#[tactic(auto, unfolding(crate::specs::formats::Types::recursive_type))]
 pub fn read_entry(alloc: Global, cursor: &mut Cursor<'_>) -> Result<TypeEntry, Fault>
-    ensures reads { Reads entry_at cursor.old cursor.new result }
+    ensures reads { Reads recursive_type.at cursor.old cursor.new result }
 {
     if cursor.peek()? == 0x4e {
         cursor.byte()?;
@@ -222,9 +222,7 @@ impl<'a> Readable<'a> for SubType {
 
     ghost views_each = { record { none = refl; more = λ types ty. refl } };
 
-    ghost spells = { SpellsSubType };
-
-    ghost read_at = { sub_type_at };
+    ghost format = { sub_type };
 
     fn read(alloc: Global, cursor: &mut Cursor<'a>) -> Result<SubType, Fault> {
         read_sub_type(alloc, cursor)
@@ -240,9 +238,7 @@ impl<'a> Readable<'a> for TypeEntry {
 
     ghost views_each = { record { none = refl; more = λ entries entry. refl } };
 
-    ghost spells = { SpellsEntry };
-
-    ghost read_at = { entry_at };
+    ghost format = { recursive_type };
 
     fn read(alloc: Global, cursor: &mut Cursor<'a>) -> Result<TypeEntry, Fault> {
         read_entry(alloc, cursor)

@@ -1,8 +1,8 @@
-use Rattle.wasm_types.proofs.CompositeLaws.{IsReadBy-entry, entry_some}
+use Rattle.wasm_types.proofs.TypeFormatLaws.{Lawful-recursive-type, recursive_type_takes}
 use Rattle.wasm_types.proofs.reader.composite_types.TypeEntryReadable.read.Goals as goal
 
-pub returns-clause-finds : goal.returns-clause-finds
-returns-clause-finds c = IsReadBy-entry
+pub returns-clause-lawful : goal.returns-clause-lawful
+returns-clause-lawful c = Lawful-recursive-type
 
 pub returns-clause-some : goal.returns-clause-some
-returns-clause-some c = entry_some
+returns-clause-some c = recursive_type_takes

@@ -1,8 +1,8 @@
-use Rattle.wasm_types.proofs.CompositeLaws.{IsReadBy-sub-type, sub_some}
+use Rattle.wasm_types.proofs.TypeFormatLaws.{Lawful-sub-type, sub_type_takes}
 use Rattle.wasm_types.proofs.reader.type_bodies.SubTypeRewritable.rewrite.Goals as goal
 
-pub returns-clause-finds : goal.returns-clause-finds
-returns-clause-finds c = IsReadBy-sub-type
+pub returns-clause-lawful : goal.returns-clause-lawful
+returns-clause-lawful c = Lawful-sub-type
 
 pub returns-clause-some : goal.returns-clause-some
-returns-clause-some c = sub_some
+returns-clause-some c = sub_type_takes
