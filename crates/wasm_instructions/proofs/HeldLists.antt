@@ -10,7 +10,8 @@ use Rattle.wasm_instructions.specs.Appending.{AppendsAll}
 -- what was appended for a list that is held
 pub record Held {A T E : Type 0} (InRange : A → Type 0) (text : List A → List ℕ) (old new : List ℕ) (xs : List A) (r : Result T E) : Type 0 where
   pub ok : OnOk r (new ≡ old ++ text xs)
-  pub fits : OnOk r ((Unit {0} × (length xs < 2 ^ 32)) × AllByRecursion InRange xs)
+  pub counted : OnOk r (length xs < 2 ^ 32)
+  pub fits : OnOk r (AllByRecursion InRange xs)
 
 pub held : {A T E : Type 0} (InRange : A → Type 0) (text : List A → List ℕ) (s : Copied (Iter A)) (xs : List A) (old new : List ℕ) (r : Result T E) → iter_rest (copied_source s) ≡ xs → OnOk r (AppendsAll (copied_steps iter_steps) InRange s text old new) → Held InRange text old new xs r
 unfolding AppendsAll
@@ -18,6 +19,7 @@ held {A} InRange text s xs old new (Ok v) same (ys, drains, wrote, counted, fits
     let e : ys ≡ xs = drains_copied s ys drains ∙ same in
     record {
       ok = wrote ∙ ap (λ (k : List A). old ++ text k) e;
-      fits = ((tt, subst (λ (k : List A). length k < 2 ^ 32) e counted), subst (AllByRecursion InRange) e fits);
+      counted = subst (λ (k : List A). length k < 2 ^ 32) e counted;
+      fits = subst (AllByRecursion InRange) e fits;
     }
-held InRange text s xs old new (Err e) same run = record { ok = tt; fits = tt }
+held InRange text s xs old new (Err e) same run = record { ok = tt; counted = tt; fits = tt }

@@ -1,9 +1,7 @@
-pub mod MemArgLaws
-pub mod OperandLaws
-pub mod RawLaws
 pub mod OpcodeLaws
-pub mod InstructionLaws
-pub mod LengthLaws
-mod KeptBytes
 mod HeldLists
 mod CallLaws
+pub mod OperandFormatLaws
+pub mod InstructionFormatLaws
+pub mod InstructionLengths
+pub mod CallRanges

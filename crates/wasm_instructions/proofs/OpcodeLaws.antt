@@ -1,11 +1,15 @@
 -- The laws of the table of opcodes.
-use Rattle.std.proofs.Common.{◌≡◌, ℕ, zero, suc, ◌+◌, ◌<◌, ◌≤◌, Bool, true, false, leb, ltb, ◌&&◌, IsTrue, List, [], ◌∷◌, length, get_or, Option, Some, None, refl, sym, ap, subst, ◌∙◌, cond, inl, inr, arith}
+use Rattle.std.proofs.Common.{◌≡◌, ℕ, zero, suc, ◌+◌, ◌^◌, ◌<◌, ◌≤◌, Bool, true, false, leb, ltb, ◌&&◌, IsTrue, List, [], ◌∷◌, length, get_or, Option, Some, None, refl, sym, ap, subst, ◌∙◌, cond, inl, inr, arith}
 use Rattle.std.proofs.lemmas.Bool.{ltb-true, leb-true, lt-leb, cases_lt}
 use Rattle.std.proofs.Math.Bool.{and-false}
 use Rattle.wasm_instructions.specs.declared.table.opcode.Kind.{Kind}
 use Rattle.wasm_instructions.specs.declared.table.opcode.Kind.TheVariants as kinds
 use Rattle.wasm_codec.proofs.Laws.{some_is}
-use Rattle.wasm_instructions.specs.Opcodes.{Range, kind_among, kinds_from, end_below, IsTable}
+use Rattle.wasm_instructions.specs.declared.table.opcode.Prefix.{Prefix}
+use Rattle.wasm_instructions.specs.declared.table.opcode.Prefix.TheVariants as prefixes
+use Rattle.wasm_instructions.specs.declared.table.opcode.Opcode.{Opcode}
+use Rattle.wasm_instructions.specs.Instructions.{IsShort}
+use Rattle.wasm_instructions.specs.Opcodes.{Range, ranges, kind_among, kind, kinds_from, end_below, IsTable}
 
 kinds_from-at : (rs : List Range) (first count i : ℕ) → i < count → get_or (kinds_from rs first count) i None ≡ kind_among rs (first + i)
 kinds_from-at rs first zero i lt = absurd (omega arith)
@@ -30,11 +34,22 @@ pub no_place : (places : List (Option Kind)) (rs : List Range) (number : ℕ) �
 no_place places rs number h le = sym (past_end rs (length places) number h.end le)
 
 -- an opcode's number is below the end of its table
-pub in_table : (rs : List Range) (end number : ℕ) (k : Kind) → IsTrue (end_below rs end) → kind_among rs number ≡ Some k → number < end
+in_table : (rs : List Range) (end number : ℕ) (k : Kind) → IsTrue (end_below rs end) → kind_among rs number ≡ Some k → number < end
 in_table rs end number k h e = elim (cases_lt number end) [
   | inl lt ↦ lt
   | inr le ↦ let none = past_end rs end number h le in absurd cc
 ]
+
+-- the opcodes of the table are short
+pub in_table_short : (op : Opcode) (k : Kind) → kind op ≡ Some k → IsShort op
+unfolding ranges
+in_table_short op k e = by op.prefix op.number e where
+  by : (p : Prefix) (n : ℕ) → kind_among (ranges p) n ≡ Some k → IsShort (record { prefix = p; number = n })
+  by prefixes.None n e = in_table (ranges prefixes.None) 0xfb n k refl e
+  by prefixes.Fb n e = in_table (ranges prefixes.Fb) (2 ^ 14) n k refl e
+  by prefixes.Fc n e = in_table (ranges prefixes.Fc) (2 ^ 14) n k refl e
+  by prefixes.Fd n e = in_table (ranges prefixes.Fd) (2 ^ 14) n k refl e
+  by prefixes.Fe n e = in_table (ranges prefixes.Fe) (2 ^ 14) n k refl e
 
 -- ---- branches on casts
 

@@ -4,3 +4,4 @@ pub mod Operands
 pub mod Instructions
 pub mod Lengths
 pub mod Appending
+pub mod formats

@@ -1,9 +1,10 @@
 //! One appender for each kind of operands: it appends an instruction, or nothing. It asks once for room for 24 bytes,
-//! which every instruction without a list fits into, and writes the text there.
+//! which every instruction without a list fits into, and writes the bytes there.
 ghost use Rattle.std.specs.Prelude.{◌≡◌, ◌++◌, ◌∷◌, ◌+◌, ◌^◌, ◌<◌, ◌≤◌, IsOk, IfErr, OnOk, OnErr, vec_len, vec_capacity};
 ghost use Rattle.wasm_codec.specs.declared.encode.EncodeError.TheVariants.{Memory};
-ghost use Rattle.wasm_instructions.specs.Instructions.{IsShort, call, instruction_text};
-ghost use Rattle.wasm_instructions.specs.Instructions.{opcode_text};
+ghost use Rattle.wasm_instructions.specs.Instructions.{IsShort, call};
+ghost use Rattle.wasm_instructions.specs.formats.Instructions.{instruction};
+ghost use Rattle.wasm_instructions.specs.formats.Instructions.{opcode};
 ghost use Rattle.wasm_instructions.specs.declared.table.call.Operands.TheVariants as operands;
 ghost use Rattle.wasm_codec.specs.Numbers.{unsigned_text};
 
@@ -18,6 +19,7 @@ use crate::table::{Opcode, Prefix};
 pub use constants::{
     append_f32, append_f64, append_i32, append_i64, append_lane, append_shuffle, append_v128,
 };
+pub(in crate::encode) use lists::{Before, append_held};
 pub use lists::{
     append_branch_table, append_resume, append_resume_throw, append_try_table, append_type_list,
     append_types,
@@ -51,11 +53,11 @@ fn put_prefixed<A: Allocator>(bytes: &mut Vec<u8, A>, prefix: u8, number: u32)
 }
 
 /// Writes an opcode into reserved room.
-#[tactic(auto, unfolding(crate::specs::Instructions::opcode_text))]
+#[tactic(auto, unfolding(crate::specs::formats::Instructions::opcode))]
 fn put_opcode<A: Allocator>(bytes: &mut Vec<u8, A>, op: Opcode)
     requires short { IsShort op }
     requires room { vec_len bytes.old + 3 ≤ vec_capacity bytes.old }
-    ensures items { bytes.new.items ≡ bytes.old.items ++ opcode_text op }
+    ensures items { bytes.new.items ≡ bytes.old.items ++ opcode.bytes op }
     ensures len { vec_len bytes.new ≤ vec_len bytes.old + 3 }
     ensures capacity { vec_capacity bytes.new ≡ vec_capacity bytes.old }
 {
@@ -69,10 +71,10 @@ fn put_opcode<A: Allocator>(bytes: &mut Vec<u8, A>, op: Opcode)
 }
 
 /// Appends an instruction without operands.
-#[tactic(auto, unfolding(crate::specs::Instructions::operands_text))]
+#[tactic(auto, unfolding(crate::specs::formats::Instructions::instruction, crate::specs::formats::Instructions::operands_format))]
 pub fn append_opcode<A: Allocator>(bytes: &mut Vec<u8, A>, op: Opcode) -> Result<(), EncodeError>
     requires short { IsShort op }
-    ensures ok { OnOk result (bytes.new.items ≡ bytes.old.items ++ instruction_text (call op operands.None)) }
+    ensures ok { OnOk result (bytes.new.items ≡ bytes.old.items ++ instruction.bytes (call op operands.None)) }
     ensures err { OnErr result (bytes.new.items ≡ bytes.old.items) }
     ensures memory { IfErr result (λ e. e ≡ Memory) }
     ensures room { vec_len bytes.old + 24 ≤ vec_capacity bytes.old → IsOk result }
@@ -83,14 +85,14 @@ pub fn append_opcode<A: Allocator>(bytes: &mut Vec<u8, A>, op: Opcode) -> Result
 }
 
 /// Appends an instruction with an index.
-#[tactic(auto, unfolding(crate::specs::Instructions::operands_text))]
+#[tactic(auto, unfolding(crate::specs::formats::Instructions::instruction, crate::specs::formats::Instructions::operands_format))]
 pub fn append_index<A: Allocator>(
     bytes: &mut Vec<u8, A>,
     op: Opcode,
     index: u32,
 ) -> Result<(), EncodeError>
     requires short { IsShort op }
-    ensures ok { OnOk result (bytes.new.items ≡ bytes.old.items ++ instruction_text (call op (operands.Index index))) }
+    ensures ok { OnOk result (bytes.new.items ≡ bytes.old.items ++ instruction.bytes (call op (operands.Index index))) }
     ensures err { OnErr result (bytes.new.items ≡ bytes.old.items) }
     ensures memory { IfErr result (λ e. e ≡ Memory) }
     ensures room { vec_len bytes.old + 24 ≤ vec_capacity bytes.old → IsOk result }
@@ -102,7 +104,7 @@ pub fn append_index<A: Allocator>(
 }
 
 /// Appends an instruction with two indexes, in the order in which they are written.
-#[tactic(auto, unfolding(crate::specs::Instructions::operands_text))]
+#[tactic(auto, unfolding(crate::specs::formats::Instructions::instruction, crate::specs::formats::Instructions::operands_format))]
 pub fn append_two_indexes<A: Allocator>(
     bytes: &mut Vec<u8, A>,
     op: Opcode,
@@ -110,7 +112,7 @@ pub fn append_two_indexes<A: Allocator>(
     second: u32,
 ) -> Result<(), EncodeError>
     requires short { IsShort op }
-    ensures ok { OnOk result (bytes.new.items ≡ bytes.old.items ++ instruction_text (call op (operands.TwoIndexes first second))) }
+    ensures ok { OnOk result (bytes.new.items ≡ bytes.old.items ++ instruction.bytes (call op (operands.TwoIndexes first second))) }
     ensures err { OnErr result (bytes.new.items ≡ bytes.old.items) }
     ensures memory { IfErr result (λ e. e ≡ Memory) }
     ensures room { vec_len bytes.old + 24 ≤ vec_capacity bytes.old → IsOk result }

@@ -1,45 +1,46 @@
 //! Instructions, written.
 ghost use Rattle.std.specs.Prelude.{◌≡◌, ◌++◌, ◌+◌, ◌≤◌, List, ℕ, length, take, IsOk, IfErr, OnOk, OnErr, vec_len, vec_capacity};
-ghost use Rattle.wasm_codec.specs.Encoding.{IsTextOrLonger};
-ghost use Rattle.wasm_instructions.specs.Appending.{IsRefusal, IsCallRefusal, IsRefusalOfOne, counted_text};
-ghost use Rattle.wasm_instructions.specs.Instructions.{HasNoList, HasText, IsAligned, IsCounted, IsShort, ItemsInRange, SpellsInstruction, SpellsInstructions, call, instruction_text, instructions_text};
+ghost use Rattle.wasm_codec.specs.Encoding.{IsTextOrLonger, OnlyTooLong};
+ghost use Rattle.wasm_instructions.specs.Appending.{CountedCall, IsRefusal, IsCallRefusal, IsRefusalOfOne};
+ghost use Rattle.wasm_instructions.specs.Instructions.{HasNoList, HasText, IsAligned, IsCounted, IsShort, ItemsInRange, call};
+ghost use Rattle.wasm_instructions.specs.formats.Instructions.{Instructions, instruction, instructions_bytes};
 ghost use Rattle.wasm_instructions.specs.Lengths.{HasNoLongList, IsShortText};
 
 use super::calls::{
-    append_block, append_branch_table, append_cast, append_f32, append_f64, append_heap,
+    Before, append_block, append_cast, append_f32, append_f64, append_heap, append_held,
     append_i32, append_i64, append_index, append_lane, append_mem, append_mem_lane, append_opcode,
-    append_order, append_order_index, append_order_two_indexes, append_resume, append_resume_throw,
-    append_shuffle, append_try_table, append_two_indexes, append_type_list, append_v128,
+    append_order, append_order_index, append_order_two_indexes, append_shuffle, append_two_indexes,
+    append_type_list, append_v128,
 };
 use crate::table::{Call, Opcode, Operands};
 use std::alloc::Allocator;
 use wasm_codec::encode::{Encode, EncodeError, keep_or_undo};
 
-/// Appends the texts of instructions, all of them or none.
+/// Appends the shortest encodings of instructions, all of them or none.
 ///
 /// `TooLong` where a list in one of them has more than 4,294,967,295 items.
 pub fn append_calls<A: Allocator>(bytes: &mut Vec<u8, A>, calls: &[Call]) -> Result<(), EncodeError>
-    ensures ok { OnOk result (bytes.new.items ≡ bytes.old.items ++ instructions_text calls.now) }
+    ensures ok { OnOk result (bytes.new.items ≡ bytes.old.items ++ instructions_bytes calls.now) }
     ensures err { OnErr result (bytes.new.items ≡ bytes.old.items) }
     ensures refused { IfErr result (IsRefusalOfOne calls.now) }
-    ensures spells { OnOk result (SpellsInstructions (instructions_text calls.now) calls.now) }
-    ensures shortest { (bytes : List ℕ) → SpellsInstructions bytes calls.now →
-        IsTextOrLonger bytes (instructions_text calls.now) }
+    ensures spells { OnOk result (Instructions (instructions_bytes calls.now) calls.now) }
+    ensures shortest { (bytes : List ℕ) → Instructions bytes calls.now →
+        IsTextOrLonger bytes (instructions_bytes calls.now) }
 {
     let start = bytes.len();
     let appended = append_one_by_one(bytes, calls);
     keep_or_undo(bytes, start, appended)
 }
 
-/// Appends the texts of instructions, one after the other. An `Err` can leave some of them.
+/// Appends the shortest encodings of instructions, one after the other. An `Err` can leave some of them.
 fn append_one_by_one<A: Allocator>(
     bytes: &mut Vec<u8, A>,
     calls: &[Call],
 ) -> Result<(), EncodeError>
-    ensures ok { OnOk result (bytes.new.items ≡ bytes.old.items ++ instructions_text calls.now) }
+    ensures ok { OnOk result (bytes.new.items ≡ bytes.old.items ++ instructions_bytes calls.now) }
     ensures kept { take (length bytes.old.items) bytes.new.items ≡ bytes.old.items }
     ensures refused { IfErr result (IsRefusalOfOne calls.now) }
-    ensures spells { OnOk result (SpellsInstructions (instructions_text calls.now) calls.now) }
+    ensures spells { OnOk result (Instructions (instructions_bytes calls.now) calls.now) }
 {
     for call in calls {
         append_call(bytes, call)?;
@@ -47,31 +48,32 @@ fn append_one_by_one<A: Allocator>(
     Ok(())
 }
 
-/// Appends the text of an instruction, or nothing.
+/// Appends the shortest encoding of an instruction, or nothing.
 ///
 /// `TooLong` where a list has more than 4,294,967,295 items.
 pub fn append_call<A: Allocator>(bytes: &mut Vec<u8, A>, call: &Call) -> Result<(), EncodeError>
-    ensures ok { OnOk result (bytes.new.items ≡ bytes.old.items ++ instruction_text call.now) }
+    ensures ok { OnOk result (bytes.new.items ≡ bytes.old.items ++ instruction.bytes call.now) }
     ensures err { OnErr result (bytes.new.items ≡ bytes.old.items) }
     ensures counted { OnOk result (IsCounted call.now.operands) }
     ensures refused { IfErr result (IsCallRefusal call.now) }
     ensures room { vec_len bytes.old + 24 ≤ vec_capacity bytes.old → HasNoList call.now.operands → IsOk result }
-    // The text spells the instruction.
-    ensures spells { OnOk result (SpellsInstruction (instruction_text call.now) call.now) }
+    // What is written encodes the instruction.
+    ensures spells { OnOk result (instruction.Encodes (instruction.bytes call.now) call.now) }
     // An instruction without a list, or with a list of one type, has from 1 to 20 bytes.
-    ensures length { HasNoLongList call.now.operands → IsShortText (instruction_text call.now) }
+    ensures length { HasNoLongList call.now.operands → IsShortText (instruction.bytes call.now) }
 {
     append_operands(bytes, call.op(), call.operands())
 }
 
 /// Appends an instruction with these operands, or nothing.
+#[tactic(auto, unfolding(crate::specs::Appending::before_text, crate::specs::Appending::after_text, crate::specs::formats::Instructions::instruction, crate::specs::formats::Instructions::operands_format))]
 fn append_operands<A: Allocator>(
     bytes: &mut Vec<u8, A>,
     op: Opcode,
     operands: &Operands,
 ) -> Result<(), EncodeError>
     requires short { IsShort op }
-    ensures ok { OnOk result (bytes.new.items ≡ bytes.old.items ++ instruction_text (call op operands.now)) }
+    ensures ok { OnOk result (bytes.new.items ≡ bytes.old.items ++ instruction.bytes (call op operands.now)) }
     ensures err { OnErr result (bytes.new.items ≡ bytes.old.items) }
     ensures fits { OnOk result (HasText operands.now × ItemsInRange operands.now) }
     ensures refused { IfErr result (IsRefusal operands.now) }
@@ -84,11 +86,17 @@ fn append_operands<A: Allocator>(
         Operands::Index(index) => append_index(bytes, op, *index),
         Operands::TwoIndexes(first, second) => append_two_indexes(bytes, op, *first, *second),
         Operands::BrTable(labels, default) => {
-            append_branch_table(bytes, op, labels.as_slice().iter().copied(), *default)
+            append_held(
+                bytes,
+                op,
+                Before::Nothing,
+                labels.as_slice(),
+                Some(*default),
+            )
         }
         Operands::Types(types) => append_type_list(bytes, op, types.as_slice()),
         Operands::TryTable(ty, clauses) => {
-            append_try_table(bytes, op, *ty, clauses.as_slice().iter().copied())
+            append_held(bytes, op, Before::Block(*ty), clauses.as_slice(), None)
         }
         Operands::Mem(arg) => append_mem(bytes, op, *arg),
         Operands::I32(value) => append_i32(bytes, op, *value),
@@ -97,10 +105,16 @@ fn append_operands<A: Allocator>(
         Operands::F64(value) => append_f64(bytes, op, *value),
         Operands::Heap(ty) => append_heap(bytes, op, *ty),
         Operands::Resume(index, handlers) => {
-            append_resume(bytes, op, *index, handlers.as_slice().iter().copied())
+            append_held(bytes, op, Before::Index(*index), handlers.as_slice(), None)
         }
         Operands::ResumeThrow(index, tag, handlers) => {
-            append_resume_throw(bytes, op, *index, *tag, handlers.as_slice().iter().copied())
+            append_held(
+                bytes,
+                op,
+                Before::TwoIndexes(*index, *tag),
+                handlers.as_slice(),
+                None,
+            )
         }
         Operands::Cast(label, before, after) => append_cast(bytes, op, *label, *before, *after),
         Operands::V128(value) => append_v128(bytes, op, *value),
@@ -117,9 +131,11 @@ fn append_operands<A: Allocator>(
 
 /// The opcode and its operands, where a u32 counts the items of each list (Core 3.0, 5.4).
 impl Encode for Call {
-    ghost text = { counted_text };
+    ghost bytes = { instruction.bytes };
 
-    ghost misaligned = { λ _. ⊥ };
+    ghost CanEncode = { CountedCall };
+
+    ghost refuses = { OnlyTooLong };
 
     fn encode<A: Allocator>(&self, sink: &mut Vec<u8, A>) -> Result<(), EncodeError> {
         append_call(sink, self)

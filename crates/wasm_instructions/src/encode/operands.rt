@@ -1,7 +1,9 @@
 //! What stands after opcodes, written into room that was reserved (Core 3.0, 5.4).
-ghost use Rattle.std.specs.Prelude.{◌≡◌, ◌++◌, ◌∷◌, ◌+◌, ◌<◌, ◌≤◌, Some, vec_len, vec_capacity};
-ghost use Rattle.wasm_instructions.specs.MemArgs.{mem_arg_text, mem_arg_encoding};
-ghost use Rattle.wasm_instructions.specs.Operands.{block_type_text, catch_text, handle_text, ordering_text, little_endian_text, to_bits, vector_text};
+ghost use Rattle.std.specs.Prelude.{◌≡◌, ◌++◌, ◌∷◌, ◌+◌, ◌<◌, ◌≤◌, vec_len, vec_capacity};
+ghost use Rattle.wasm_instructions.specs.MemArgs.{HasAlignment, misaligned_at_once};
+ghost use Rattle.wasm_codec.specs.declared.encode.EncodeError.TheVariants.{Alignment};
+ghost use Rattle.wasm_codec.specs.formats.Combinators.{little_endian};
+ghost use Rattle.wasm_instructions.specs.formats.Operands.{block_type, catch_clause, handle_clause, mem_arg, ordering as ordering_format, to_bits, vector};
 
 use crate::operands::{BlockType, Catch, Handle, MemArg, Ordering};
 use std::alloc::Allocator;
@@ -10,10 +12,10 @@ use wasm_codec::encode::{Encode, EncodeError};
 use wasm_types::encode::put_val_type;
 
 /// Writes a block type in 1 to 7 bytes.
-#[tactic(auto, unfolding(crate::specs::Operands::block_type_text))]
+#[tactic(auto, unfolding(crate::specs::formats::Operands::block_type))]
 pub fn put_block_type<A: Allocator>(bytes: &mut Vec<u8, A>, ty: BlockType)
     requires { vec_len bytes.old + 7 ≤ vec_capacity bytes.old }
-    ensures items { bytes.new.items ≡ bytes.old.items ++ block_type_text ty }
+    ensures items { bytes.new.items ≡ bytes.old.items ++ block_type.bytes ty }
     ensures len { vec_len bytes.new ≤ vec_len bytes.old + 7 }
     ensures capacity { vec_capacity bytes.new ≡ vec_capacity bytes.old }
 {
@@ -25,11 +27,11 @@ pub fn put_block_type<A: Allocator>(bytes: &mut Vec<u8, A>, ty: BlockType)
 }
 
 /// Writes a memory argument in 2 to 16 bytes. Memory 0 goes without its index.
-#[tactic(auto, unfolding(crate::specs::MemArgs::mem_arg_text, wasm_codec::specs::Numbers::unsigned_text, wasm_codec::specs::Numbers::digits_of))]
+#[tactic(auto, unfolding(crate::specs::formats::Operands::mem_arg, wasm_codec::specs::Numbers::unsigned_text, wasm_codec::specs::Numbers::digits_of))]
 pub fn put_mem_arg<A: Allocator>(bytes: &mut Vec<u8, A>, arg: MemArg)
     requires aligned { arg.align < 64 }
     requires room { vec_len bytes.old + 16 ≤ vec_capacity bytes.old }
-    ensures items { bytes.new.items ≡ bytes.old.items ++ mem_arg_text arg }
+    ensures items { bytes.new.items ≡ bytes.old.items ++ mem_arg.bytes arg }
     ensures len { vec_len bytes.new ≤ vec_len bytes.old + 16 }
     ensures capacity { vec_capacity bytes.new ≡ vec_capacity bytes.old }
 {
@@ -43,10 +45,10 @@ pub fn put_mem_arg<A: Allocator>(bytes: &mut Vec<u8, A>, arg: MemArg)
 }
 
 /// Writes a clause of `try_table` in 2 to 11 bytes.
-#[tactic(auto, unfolding(crate::specs::Operands::catch_text))]
+#[tactic(auto, unfolding(crate::specs::formats::Operands::catch_clause))]
 pub fn put_catch<A: Allocator>(bytes: &mut Vec<u8, A>, clause: Catch)
     requires { vec_len bytes.old + 11 ≤ vec_capacity bytes.old }
-    ensures items { bytes.new.items ≡ bytes.old.items ++ catch_text clause }
+    ensures items { bytes.new.items ≡ bytes.old.items ++ catch_clause.bytes clause }
     ensures len { vec_len bytes.new ≤ vec_len bytes.old + 11 }
     ensures capacity { vec_capacity bytes.new ≡ vec_capacity bytes.old }
 {
@@ -73,10 +75,10 @@ pub fn put_catch<A: Allocator>(bytes: &mut Vec<u8, A>, clause: Catch)
 }
 
 /// Writes a clause of `resume` in 2 to 11 bytes.
-#[tactic(auto, unfolding(crate::specs::Operands::handle_text))]
+#[tactic(auto, unfolding(crate::specs::formats::Operands::handle_clause))]
 pub fn put_handle<A: Allocator>(bytes: &mut Vec<u8, A>, clause: Handle)
     requires { vec_len bytes.old + 11 ≤ vec_capacity bytes.old }
-    ensures items { bytes.new.items ≡ bytes.old.items ++ handle_text clause }
+    ensures items { bytes.new.items ≡ bytes.old.items ++ handle_clause.bytes clause }
     ensures len { vec_len bytes.new ≤ vec_len bytes.old + 11 }
     ensures capacity { vec_capacity bytes.new ≡ vec_capacity bytes.old }
 {
@@ -94,10 +96,10 @@ pub fn put_handle<A: Allocator>(bytes: &mut Vec<u8, A>, clause: Handle)
 }
 
 /// Writes an ordering in one byte.
-#[tactic(auto, unfolding(crate::specs::Operands::ordering_text))]
+#[tactic(auto, unfolding(crate::specs::formats::Operands::ordering))]
 pub fn put_ordering<A: Allocator>(bytes: &mut Vec<u8, A>, ordering: Ordering)
     requires { vec_len bytes.old + 1 ≤ vec_capacity bytes.old }
-    ensures items { bytes.new.items ≡ bytes.old.items ++ ordering_text ordering }
+    ensures items { bytes.new.items ≡ bytes.old.items ++ ordering_format.bytes ordering }
     ensures len { vec_len bytes.new ≤ vec_len bytes.old + 1 }
     ensures capacity { vec_capacity bytes.new ≡ vec_capacity bytes.old }
 {
@@ -108,10 +110,10 @@ pub fn put_ordering<A: Allocator>(bytes: &mut Vec<u8, A>, ordering: Ordering)
 }
 
 /// Writes a number in 4 bytes, the least first.
-#[tactic(auto, unfolding(crate::specs::Operands::little_endian_text))]
+#[tactic(auto, unfolding(wasm_codec::specs::formats::Combinators::little_endian))]
 pub fn put_bits_32<A: Allocator>(bytes: &mut Vec<u8, A>, value: u32)
     requires { vec_len bytes.old + 4 ≤ vec_capacity bytes.old }
-    ensures items { bytes.new.items ≡ bytes.old.items ++ little_endian_text 4 value }
+    ensures items { bytes.new.items ≡ bytes.old.items ++ (little_endian 4).bytes value }
     ensures len { vec_len bytes.new ≤ vec_len bytes.old + 4 }
     ensures capacity { vec_capacity bytes.new ≡ vec_capacity bytes.old }
 {
@@ -125,10 +127,10 @@ pub fn put_bits_32<A: Allocator>(bytes: &mut Vec<u8, A>, value: u32)
 }
 
 /// Writes a number in 8 bytes, the least first.
-#[tactic(auto, unfolding(crate::specs::Operands::little_endian_text))]
+#[tactic(auto, unfolding(wasm_codec::specs::formats::Combinators::little_endian))]
 pub fn put_bits_64<A: Allocator>(bytes: &mut Vec<u8, A>, value: u64)
     requires { vec_len bytes.old + 8 ≤ vec_capacity bytes.old }
-    ensures items { bytes.new.items ≡ bytes.old.items ++ little_endian_text 8 value }
+    ensures items { bytes.new.items ≡ bytes.old.items ++ (little_endian 8).bytes value }
     ensures len { vec_len bytes.new ≤ vec_len bytes.old + 8 }
     ensures capacity { vec_capacity bytes.new ≡ vec_capacity bytes.old }
 {
@@ -161,10 +163,10 @@ fn vector_bits(value: i128) -> u128
 }
 
 /// Writes a vector in 16 bytes, the least first, in two's complement.
-#[tactic(auto, unfolding(crate::specs::Operands::vector_text))]
+#[tactic(auto, unfolding(crate::specs::formats::Operands::vector))]
 pub fn put_vector<A: Allocator>(bytes: &mut Vec<u8, A>, value: i128)
     requires { vec_len bytes.old + 16 ≤ vec_capacity bytes.old }
-    ensures items { bytes.new.items ≡ bytes.old.items ++ vector_text value }
+    ensures items { bytes.new.items ≡ bytes.old.items ++ vector.bytes value }
     ensures len { vec_len bytes.new ≤ vec_len bytes.old + 16 }
     ensures capacity { vec_capacity bytes.new ≡ vec_capacity bytes.old }
 {
@@ -175,7 +177,7 @@ pub fn put_vector<A: Allocator>(bytes: &mut Vec<u8, A>, value: i128)
 
 /// One byte, a value type, or an index as an s33 (Core 3.0, 5.4, block types).
 impl Encode for BlockType {
-    ghost text = { λ ty. Some (block_type_text ty) };
+    ghost bytes = { block_type.bytes };
 
     fn encode<A: Allocator>(&self, sink: &mut Vec<u8, A>) -> Result<(), EncodeError> {
         sink.reserve(7)?;
@@ -187,7 +189,13 @@ impl Encode for BlockType {
 /// The alignment and the offset, with the memory's index between them where that isn't 0 (Core 3.0, 5.4, memory
 /// instructions). An alignment of 64 or more is refused by [`EncodeError::Alignment`], before anything grows.
 impl Encode for MemArg {
-    ghost text = { mem_arg_encoding };
+    ghost bytes = { mem_arg.bytes };
+
+    ghost CanEncode = { HasAlignment };
+
+    ghost refuses = { λ _ e. e ≡ Alignment };
+
+    ghost at_once = { misaligned_at_once };
 
     fn encode<A: Allocator>(&self, sink: &mut Vec<u8, A>) -> Result<(), EncodeError> {
         if self.align >= 64 {
@@ -201,7 +209,7 @@ impl Encode for MemArg {
 
 /// The byte of the clause, its tag, if it has one, and its label (Core 3.0, 5.4, control instructions).
 impl Encode for Catch {
-    ghost text = { λ clause. Some (catch_text clause) };
+    ghost bytes = { catch_clause.bytes };
 
     fn encode<A: Allocator>(&self, sink: &mut Vec<u8, A>) -> Result<(), EncodeError> {
         sink.reserve(11)?;
@@ -212,7 +220,7 @@ impl Encode for Catch {
 
 /// The byte of the clause, its tag, and its label, if it has one.
 impl Encode for Handle {
-    ghost text = { λ clause. Some (handle_text clause) };
+    ghost bytes = { handle_clause.bytes };
 
     fn encode<A: Allocator>(&self, sink: &mut Vec<u8, A>) -> Result<(), EncodeError> {
         sink.reserve(11)?;
@@ -223,7 +231,7 @@ impl Encode for Handle {
 
 /// One byte.
 impl Encode for Ordering {
-    ghost text = { λ ordering. Some (ordering_text ordering) };
+    ghost bytes = { ordering_format.bytes };
 
     fn encode<A: Allocator>(&self, sink: &mut Vec<u8, A>) -> Result<(), EncodeError> {
         sink.reserve(1)?;

@@ -5,7 +5,7 @@
 pub struct MemArg {
     /// What is added to the address, in bytes.
     pub offset: u64,
-    /// The alignment that is promised, as its power of two. From 64 on the format has no spelling for it.
+    /// The alignment that is promised, as its power of two. From 64 on the format has no encoding for it.
     pub align: u32,
     /// The memory's index.
     pub memory_index: u32,

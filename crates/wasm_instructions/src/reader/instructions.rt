@@ -1,8 +1,14 @@
 //! Lists of instructions (Core 3.0, 5.4).
 ghost use Rattle.std.specs.Prelude.{◌≡◌, List, IfOk, refl};
-ghost use Rattle.wasm_codec.specs.Reading.{Reads};
+ghost use Rattle.wasm_codec.specs.Places.{Reads};
+ghost use Rattle.wasm_codec.specs.Lawful.{IsPrefixFree};
+ghost use Rattle.wasm_codec.specs.formats.Combinators.{u32 as u32_format, u64 as u64_format, s32, s64, index};
+ghost use Rattle.wasm_types.specs.formats.Types.{heap_type, ref_type, val_type};
 ghost use Rattle.wasm_codec.specs.Answers.{IsOrMemory, IfRefused, IsLongestFront, SpellsSome};
-ghost use Rattle.wasm_instructions.specs.Instructions.{Instruction, IsCounted, SpellsInstruction, SpellsInstructions, opcode_at, instruction_at};
+ghost use Rattle.wasm_instructions.specs.Instructions.{Instruction, IsCounted};
+ghost use Rattle.wasm_instructions.specs.formats.Instructions.{Instructions, opcode, operands_format, instruction};
+ghost use Rattle.wasm_instructions.specs.formats.Operands.{block_type};
+ghost use Rattle.wasm_instructions.specs.declared.table.opcode.Kind.{Kind};
 
 use super::operands::read_operands;
 use crate::table::{Call, Opcode};
@@ -12,28 +18,40 @@ use wasm_codec::reader::cursor::{Cursor, Fault};
 use wasm_codec::reader::lists::read_joined;
 use wasm_codec::reader::readable::Readable;
 
-/// The instructions that the bytes spell, in any spelling of their numbers (Core 3.0, 5.4).
+/// The instructions that the bytes encode, each in any of its encodings (Core 3.0, 5.4).
 ///
 /// `Refused` carries the number of bytes of the instructions that are whole before the first that isn't.
 pub fn read_instructions(alloc: Global, bytes: &[u8]) -> Result<Vec<Call>, ReadError>
-    // What is given, the bytes spell.
-    ensures given { IfOk result (λ calls. SpellsInstructions bytes.now calls.items) }
-    // What the bytes spell is given, unless memory ran out.
-    ensures complete { (calls : List Instruction) → SpellsInstructions bytes.now calls →
+    // What is given, the bytes encode.
+    ensures given { IfOk result (λ calls. Instructions bytes.now calls.items) }
+    // What the bytes encode is given, unless memory ran out.
+    ensures complete { (calls : List Instruction) → Instructions bytes.now calls →
         IsOrMemory (λ given. given.items) calls result }
-    // `at` is the length of the longest front that spells a list.
-    ensures front { IfRefused result (IsLongestFront (SpellsSome SpellsInstructions) bytes.now) }
-    // The bytes spell at most one list.
+    // `at` is the length of the longest prefix that encodes a list.
+    ensures front { IfRefused result (IsLongestFront (SpellsSome Instructions) bytes.now) }
+    // The bytes encode at most one list.
     ensures one { (calls others : List Instruction) →
-        SpellsInstructions bytes.now calls → SpellsInstructions bytes.now others → calls ≡ others }
+        Instructions bytes.now calls → Instructions bytes.now others → calls ≡ others }
+    // No encoding of any of these is a proper prefix of another of its kind.
+    ensures prefix_free_u32 { IsPrefixFree u32_format.Encodes }
+    ensures prefix_free_u64 { IsPrefixFree u64_format.Encodes }
+    ensures prefix_free_s32 { IsPrefixFree s32.Encodes }
+    ensures prefix_free_s64 { IsPrefixFree s64.Encodes }
+    ensures prefix_free_index { IsPrefixFree index.Encodes }
+    ensures prefix_free_heap_types { IsPrefixFree heap_type.Encodes }
+    ensures prefix_free_ref_types { IsPrefixFree ref_type.Encodes }
+    ensures prefix_free_val_types { IsPrefixFree val_type.Encodes }
+    ensures prefix_free_block_types { IsPrefixFree block_type.Encodes }
+    ensures prefix_free_operands { (kind : Kind) → IsPrefixFree (operands_format kind).Encodes }
+    ensures prefix_free_calls { IsPrefixFree instruction.Encodes }
 {
     read_joined(alloc, bytes)
 }
 
 /// An opcode: a prefix byte and a number, or one byte.
-#[tactic(auto, unfolding(crate::specs::Instructions::opcode_at))]
+#[tactic(auto, unfolding(crate::specs::formats::Instructions::opcode))]
 fn read_opcode(cursor: &mut Cursor<'_>) -> Result<Opcode, Fault>
-    ensures reads { Reads opcode_at cursor.old cursor.new result }
+    ensures reads { Reads opcode.at cursor.old cursor.new result }
 {
     match cursor.byte()? {
         0xfb => Ok(Opcode::after_fb(cursor.u32()?)),
@@ -45,9 +63,9 @@ fn read_opcode(cursor: &mut Cursor<'_>) -> Result<Opcode, Fault>
 }
 
 /// An instruction.
-#[tactic(auto, unfolding(crate::specs::Instructions::instruction_at))]
+#[tactic(auto, unfolding(crate::specs::formats::Instructions::instruction))]
 pub fn read_call(alloc: Global, cursor: &mut Cursor<'_>) -> Result<Call, Fault>
-    ensures reads { Reads instruction_at cursor.old cursor.new result }
+    ensures reads { Reads instruction.at cursor.old cursor.new result }
     // A u32 counts the items of its lists.
     ensures counted { IfOk result (λ call. IsCounted call.operands) }
 {
@@ -68,9 +86,7 @@ impl<'a> Readable<'a> for Call {
 
     ghost views_each = { record { none = refl; more = λ calls call. refl } };
 
-    ghost spells = { SpellsInstruction };
-
-    ghost read_at = { instruction_at };
+    ghost format = { instruction };
 
     fn read(alloc: Global, cursor: &mut Cursor<'a>) -> Result<Call, Fault> {
         read_call(alloc, cursor)

@@ -1,12 +1,14 @@
 //! What stands after opcodes (Core 3.0, 5.4).
 ghost use Rattle.std.specs.Prelude.{◌≡◌, ◌<◌, IfOk, refl};
-ghost use Rattle.wasm_codec.specs.Reading.{Reads, map_at};
-ghost use Rattle.wasm_instructions.specs.MemArgs.{mem_arg_at};
-ghost use Rattle.wasm_instructions.specs.Operands.{block_type_at, SpellsCatch, catch_at, SpellsHandle, handle_at, ordering_at, cast_at, ieee32, ieee64, little_endian_at, from_bits, vector_at, lanes_at};
+ghost use Rattle.wasm_codec.specs.Places.{Reads, map_at};
+ghost use Rattle.wasm_codec.specs.formats.Combinators.{little_endian};
+ghost use Rattle.wasm_instructions.specs.Operands.{ieee32, ieee64};
+ghost use Rattle.wasm_instructions.specs.formats.Operands.{block_type, catch_clause, handle_clause, castop, mem_arg, ordering, from_bits, vector, lanes};
+ghost use Rattle.wasm_instructions.specs.formats.Instructions.{operands_format};
 ghost use Rattle.wasm_instructions.specs.declared.operands.control.Catch.{Catch};
 ghost use Rattle.wasm_instructions.specs.declared.operands.control.Handle.{Handle};
 ghost use Rattle.wasm_instructions.specs.declared.table.opcode.Kind.TheVariants as kinds;
-ghost use Rattle.wasm_instructions.specs.Instructions.{IsAligned, IsCounted, branch_of, kind_of, operands_at};
+ghost use Rattle.wasm_instructions.specs.Instructions.{IsAligned, IsCounted, kind_of};
 
 use crate::operands::{BlockType, Catch, Handle, Ieee32, Ieee64, Lane, MemArg, Ordering};
 use crate::table::{Kind, Operands};
@@ -18,9 +20,9 @@ use wasm_types::reader::{read_heap_type, read_val_type};
 use wasm_types::types::RefType;
 
 /// Operands of a kind.
-#[tactic(auto, unfolding(crate::specs::Instructions::operands_at))]
+#[tactic(auto, unfolding(crate::specs::formats::Instructions::operands_format))]
 pub fn read_operands(alloc: Global, cursor: &mut Cursor<'_>, kind: Kind) -> Result<Operands, Fault>
-    ensures reads { Reads (operands_at kind) cursor.old cursor.new result }
+    ensures reads { Reads (operands_format kind).at cursor.old cursor.new result }
     ensures kind { IfOk result (λ o. kind_of o ≡ kind) }
     ensures aligned { IfOk result (λ o. IsAligned o) }
     ensures counted { IfOk result (λ o. IsCounted o) }
@@ -29,75 +31,185 @@ pub fn read_operands(alloc: Global, cursor: &mut Cursor<'_>, kind: Kind) -> Resu
         Kind::None => Ok(Operands::None),
         Kind::Block => Ok(Operands::Block(read_block_type(cursor)?)),
         Kind::Index => Ok(Operands::Index(cursor.u32()?)),
-        Kind::TwoIndexes => Ok(Operands::TwoIndexes(cursor.u32()?, cursor.u32()?)),
-        Kind::BrTable => Ok(Operands::BrTable(read_list(alloc, cursor)?, cursor.u32()?)),
+        Kind::TwoIndexes => read_two_indexes(cursor),
+        Kind::BrTable => read_br_table(alloc, cursor),
         Kind::Types => Ok(Operands::Types(read_list(alloc, cursor)?)),
-        Kind::TryTable => Ok(Operands::TryTable(
-            read_block_type(cursor)?,
-            read_list(alloc, cursor)?,
-        )),
+        Kind::TryTable => read_try_table(alloc, cursor),
         Kind::Mem => Ok(Operands::Mem(read_mem_arg(cursor)?)),
         Kind::I32 => Ok(Operands::I32(cursor.s32()?)),
         Kind::I64 => Ok(Operands::I64(cursor.s64()?)),
         Kind::F32 => Ok(Operands::F32(read_f32(cursor)?)),
         Kind::F64 => Ok(Operands::F64(read_f64(cursor)?)),
         Kind::Heap => Ok(Operands::Heap(read_heap_type(cursor)?)),
-        Kind::Resume => Ok(Operands::Resume(cursor.u32()?, read_list(alloc, cursor)?)),
-        Kind::ResumeThrow => {
-            Ok(Operands::ResumeThrow(cursor.u32()?, cursor.u32()?, read_list(alloc, cursor)?))
-        }
+        Kind::Resume => read_resume(alloc, cursor),
+        Kind::ResumeThrow => read_resume_throw(alloc, cursor),
         Kind::Cast => read_cast(cursor),
         Kind::V128 => Ok(Operands::V128(read_vector(cursor)?)),
         Kind::Shuffle => Ok(Operands::Shuffle(read_lanes(cursor)?)),
         Kind::Lane => Ok(Operands::Lane(cursor.byte()?)),
-        Kind::MemLane => Ok(Operands::MemLane(read_mem_arg(cursor)?, cursor.byte()?)),
+        Kind::MemLane => read_mem_lane(cursor),
         Kind::Order => Ok(Operands::Order(read_ordering(cursor)?)),
-        Kind::OrderIndex => Ok(Operands::OrderIndex(read_ordering(cursor)?, cursor.u32()?)),
-        Kind::OrderTwoIndexes => {
-            Ok(Operands::OrderTwoIndexes(read_ordering(cursor)?, cursor.u32()?, cursor.u32()?))
-        }
+        Kind::OrderIndex => read_order_index(cursor),
+        Kind::OrderTwoIndexes => read_order_two_indexes(cursor),
     }
 }
 
+/// Two indexes.
+#[tactic(auto, unfolding(crate::specs::formats::Instructions::operands_format))]
+fn read_two_indexes(cursor: &mut Cursor<'_>) -> Result<Operands, Fault>
+    ensures reads { Reads (operands_format kinds.TwoIndexes).at cursor.old cursor.new result }
+    ensures kind { IfOk result (λ o. kind_of o ≡ kinds.TwoIndexes) }
+    ensures aligned { IfOk result (λ o. IsAligned o) }
+    ensures counted { IfOk result (λ o. IsCounted o) }
+{
+    let first = cursor.u32()?;
+    let second = cursor.u32()?;
+    Ok(Operands::TwoIndexes(first, second))
+}
+
+/// Labels, and the label of all other numbers.
+#[tactic(auto, unfolding(crate::specs::formats::Instructions::operands_format))]
+fn read_br_table(alloc: Global, cursor: &mut Cursor<'_>) -> Result<Operands, Fault>
+    ensures reads { Reads (operands_format kinds.BrTable).at cursor.old cursor.new result }
+    ensures kind { IfOk result (λ o. kind_of o ≡ kinds.BrTable) }
+    ensures aligned { IfOk result (λ o. IsAligned o) }
+    ensures counted { IfOk result (λ o. IsCounted o) }
+{
+    let labels = read_list(alloc, cursor)?;
+    let default = cursor.u32()?;
+    Ok(Operands::BrTable(labels, default))
+}
+
+/// A block type and clauses that catch exceptions.
+#[tactic(auto, unfolding(crate::specs::formats::Instructions::operands_format))]
+fn read_try_table(alloc: Global, cursor: &mut Cursor<'_>) -> Result<Operands, Fault>
+    ensures reads { Reads (operands_format kinds.TryTable).at cursor.old cursor.new result }
+    ensures kind { IfOk result (λ o. kind_of o ≡ kinds.TryTable) }
+    ensures aligned { IfOk result (λ o. IsAligned o) }
+    ensures counted { IfOk result (λ o. IsCounted o) }
+{
+    let ty = read_block_type(cursor)?;
+    let clauses = read_list(alloc, cursor)?;
+    Ok(Operands::TryTable(ty, clauses))
+}
+
+/// An index and handlers.
+#[tactic(auto, unfolding(crate::specs::formats::Instructions::operands_format))]
+fn read_resume(alloc: Global, cursor: &mut Cursor<'_>) -> Result<Operands, Fault>
+    ensures reads { Reads (operands_format kinds.Resume).at cursor.old cursor.new result }
+    ensures kind { IfOk result (λ o. kind_of o ≡ kinds.Resume) }
+    ensures aligned { IfOk result (λ o. IsAligned o) }
+    ensures counted { IfOk result (λ o. IsCounted o) }
+{
+    let index = cursor.u32()?;
+    let handlers = read_list(alloc, cursor)?;
+    Ok(Operands::Resume(index, handlers))
+}
+
+/// Two indexes and handlers.
+#[tactic(auto, unfolding(crate::specs::formats::Instructions::operands_format))]
+fn read_resume_throw(alloc: Global, cursor: &mut Cursor<'_>) -> Result<Operands, Fault>
+    ensures reads { Reads (operands_format kinds.ResumeThrow).at cursor.old cursor.new result }
+    ensures kind { IfOk result (λ o. kind_of o ≡ kinds.ResumeThrow) }
+    ensures aligned { IfOk result (λ o. IsAligned o) }
+    ensures counted { IfOk result (λ o. IsCounted o) }
+{
+    let index = cursor.u32()?;
+    let tag = cursor.u32()?;
+    let handlers = read_list(alloc, cursor)?;
+    Ok(Operands::ResumeThrow(index, tag, handlers))
+}
+
+/// A memory argument and a lane.
+#[tactic(auto, unfolding(crate::specs::formats::Instructions::operands_format))]
+fn read_mem_lane(cursor: &mut Cursor<'_>) -> Result<Operands, Fault>
+    ensures reads { Reads (operands_format kinds.MemLane).at cursor.old cursor.new result }
+    ensures kind { IfOk result (λ o. kind_of o ≡ kinds.MemLane) }
+    ensures aligned { IfOk result (λ o. IsAligned o) }
+    ensures counted { IfOk result (λ o. IsCounted o) }
+{
+    let arg = read_mem_arg(cursor)?;
+    let lane = cursor.byte()?;
+    Ok(Operands::MemLane(arg, lane))
+}
+
+/// An ordering and an index.
+#[tactic(auto, unfolding(crate::specs::formats::Instructions::operands_format))]
+fn read_order_index(cursor: &mut Cursor<'_>) -> Result<Operands, Fault>
+    ensures reads { Reads (operands_format kinds.OrderIndex).at cursor.old cursor.new result }
+    ensures kind { IfOk result (λ o. kind_of o ≡ kinds.OrderIndex) }
+    ensures aligned { IfOk result (λ o. IsAligned o) }
+    ensures counted { IfOk result (λ o. IsCounted o) }
+{
+    let ordering = read_ordering(cursor)?;
+    let index = cursor.u32()?;
+    Ok(Operands::OrderIndex(ordering, index))
+}
+
+/// An ordering and two indexes.
+#[tactic(auto, unfolding(crate::specs::formats::Instructions::operands_format))]
+fn read_order_two_indexes(cursor: &mut Cursor<'_>) -> Result<Operands, Fault>
+    ensures reads { Reads (operands_format kinds.OrderTwoIndexes).at cursor.old cursor.new result }
+    ensures kind { IfOk result (λ o. kind_of o ≡ kinds.OrderTwoIndexes) }
+    ensures aligned { IfOk result (λ o. IsAligned o) }
+    ensures counted { IfOk result (λ o. IsCounted o) }
+{
+    let ordering = read_ordering(cursor)?;
+    let first = cursor.u32()?;
+    let second = cursor.u32()?;
+    Ok(Operands::OrderTwoIndexes(ordering, first, second))
+}
+
 /// A block type.
-#[tactic(auto, unfolding(crate::specs::Operands::block_type_at))]
+#[tactic(auto, unfolding(crate::specs::formats::Operands::block_type))]
 fn read_block_type(cursor: &mut Cursor<'_>) -> Result<BlockType, Fault>
-    ensures reads { Reads block_type_at cursor.old cursor.new result }
+    ensures reads { Reads block_type.at cursor.old cursor.new result }
 {
     let first = cursor.peek()?;
     if first == 0x40 {
         cursor.byte()?;
         return Ok(BlockType::Empty);
     }
-    if (0x40..0x80).contains(&first) {
-        return Ok(BlockType::Result(read_val_type(cursor)?));
+    if !(0x40..0x80).contains(&first) {
+        return Ok(BlockType::FunctionType(cursor.index()?));
     }
-    Ok(BlockType::FunctionType(cursor.index()?))
+    Ok(BlockType::Result(read_val_type(cursor)?))
 }
 
 /// A memory argument.
-#[tactic(auto, unfolding(crate::specs::MemArgs::mem_arg_at))]
+#[tactic(auto, unfolding(crate::specs::formats::Operands::mem_arg))]
 fn read_mem_arg(cursor: &mut Cursor<'_>) -> Result<MemArg, Fault>
-    ensures reads { Reads mem_arg_at cursor.old cursor.new result }
+    ensures reads { Reads mem_arg.at cursor.old cursor.new result }
     ensures aligned { IfOk result (λ arg. arg.align < 64) }
 {
     let first = cursor.u32()?;
+    if first < 64 {
+        let offset = cursor.u64()?;
+        return Ok(MemArg {
+            offset,
+            align: first,
+            memory_index: 0,
+        });
+    }
     if first >= 128 {
         return Err(Fault::Malformed);
     }
-    let memory_index = if first < 64 { 0 } else { cursor.u32()? };
+    let memory_index = cursor.u32()?;
     let offset = cursor.u64()?;
+    if memory_index == 0 {
+        cursor.long_form();
+    }
     Ok(MemArg {
         offset,
-        align: first % 64,
+        align: first - 64,
         memory_index,
     })
 }
 
 /// An ordering.
-#[tactic(auto, unfolding(crate::specs::Operands::ordering_at))]
+#[tactic(auto, unfolding(crate::specs::formats::Operands::ordering))]
 fn read_ordering(cursor: &mut Cursor<'_>) -> Result<Ordering, Fault>
-    ensures reads { Reads ordering_at cursor.old cursor.new result }
+    ensures reads { Reads ordering.at cursor.old cursor.new result }
 {
     match cursor.byte()? {
         0x00 => Ok(Ordering::SeqCst),
@@ -106,21 +218,29 @@ fn read_ordering(cursor: &mut Cursor<'_>) -> Result<Ordering, Fault>
     }
 }
 
+/// Whether the types before and after a cast are nullable.
+#[tactic(auto, unfolding(crate::specs::formats::Operands::castop))]
+fn read_castop(cursor: &mut Cursor<'_>) -> Result<(bool, bool), Fault>
+    ensures reads { Reads castop.at cursor.old cursor.new result }
+{
+    match cursor.byte()? {
+        0x00 => Ok((false, false)),
+        0x01 => Ok((true, false)),
+        0x02 => Ok((false, true)),
+        0x03 => Ok((true, true)),
+        _ => Err(Fault::Malformed),
+    }
+}
+
 /// A branch on a cast: flags, a label and two heap types.
-#[tactic(auto, unfolding(crate::specs::Operands::cast_at))]
+#[tactic(auto, unfolding(crate::specs::formats::Instructions::operands_format))]
 fn read_cast(cursor: &mut Cursor<'_>) -> Result<Operands, Fault>
-    ensures reads { Reads (map_at branch_of cast_at) cursor.old cursor.new result }
+    ensures reads { Reads (operands_format kinds.Cast).at cursor.old cursor.new result }
     ensures kind { IfOk result (λ o. kind_of o ≡ kinds.Cast) }
     ensures aligned { IfOk result (λ o. IsAligned o) }
     ensures counted { IfOk result (λ o. IsCounted o) }
 {
-    let (before_nullable, after_nullable) = match cursor.byte()? {
-        0x00 => (false, false),
-        0x01 => (true, false),
-        0x02 => (false, true),
-        0x03 => (true, true),
-        _ => return Err(Fault::Malformed),
-    };
+    let (before_nullable, after_nullable) = read_castop(cursor)?;
     let label = cursor.u32()?;
     let before = RefType {
         nullable: before_nullable,
@@ -135,22 +255,22 @@ fn read_cast(cursor: &mut Cursor<'_>) -> Result<Operands, Fault>
 
 /// The bits of a floating-point number of 32 bits.
 fn read_f32(cursor: &mut Cursor<'_>) -> Result<Ieee32, Fault>
-    ensures reads { Reads (map_at ieee32 (little_endian_at 4)) cursor.old cursor.new result }
+    ensures reads { Reads (map_at ieee32 (little_endian 4).at) cursor.old cursor.new result }
 {
     Ok(Ieee32::new(read_bits_32(cursor)?))
 }
 
 /// The bits of a floating-point number of 64 bits.
 fn read_f64(cursor: &mut Cursor<'_>) -> Result<Ieee64, Fault>
-    ensures reads { Reads (map_at ieee64 (little_endian_at 8)) cursor.old cursor.new result }
+    ensures reads { Reads (map_at ieee64 (little_endian 8).at) cursor.old cursor.new result }
 {
     Ok(Ieee64::new(read_bits_64(cursor)?))
 }
 
 /// A number in 4 bytes, the least first.
-#[tactic(auto, unfolding(crate::specs::Operands::little_endian_at))]
+#[tactic(auto, unfolding(wasm_codec::specs::formats::Combinators::little_endian))]
 fn read_bits_32(cursor: &mut Cursor<'_>) -> Result<u32, Fault>
-    ensures reads { Reads (little_endian_at 4) cursor.old cursor.new result }
+    ensures reads { Reads (little_endian 4).at cursor.old cursor.new result }
 {
     let first = u32::from(cursor.byte()?);
     let second = u32::from(cursor.byte()?);
@@ -160,9 +280,9 @@ fn read_bits_32(cursor: &mut Cursor<'_>) -> Result<u32, Fault>
 }
 
 /// A number in 8 bytes, the least first.
-#[tactic(auto, unfolding(crate::specs::Operands::little_endian_at))]
+#[tactic(auto, unfolding(wasm_codec::specs::formats::Combinators::little_endian))]
 fn read_bits_64(cursor: &mut Cursor<'_>) -> Result<u64, Fault>
-    ensures reads { Reads (little_endian_at 8) cursor.old cursor.new result }
+    ensures reads { Reads (little_endian 8).at cursor.old cursor.new result }
 {
     let first = u64::from(cursor.byte()?);
     let second = u64::from(cursor.byte()?);
@@ -177,9 +297,9 @@ fn read_bits_64(cursor: &mut Cursor<'_>) -> Result<u64, Fault>
 }
 
 /// A vector: a number in 16 bytes, the least first, in two's complement.
-#[tactic(auto, unfolding(crate::specs::Operands::vector_at))]
+#[tactic(auto, unfolding(crate::specs::formats::Operands::vector))]
 fn read_vector(cursor: &mut Cursor<'_>) -> Result<i128, Fault>
-    ensures reads { Reads vector_at cursor.old cursor.new result }
+    ensures reads { Reads vector.at cursor.old cursor.new result }
 {
     let low = read_bits_64(cursor)?;
     let high = read_bits_64(cursor)?;
@@ -187,9 +307,9 @@ fn read_vector(cursor: &mut Cursor<'_>) -> Result<i128, Fault>
 }
 
 /// Sixteen lanes.
-#[tactic(auto, unfolding(crate::specs::Operands::lanes_at))]
+#[tactic(auto, unfolding(crate::specs::formats::Operands::lanes, wasm_codec::specs::Places::raw_at))]
 fn read_lanes(cursor: &mut Cursor<'_>) -> Result<[Lane; 16], Fault>
-    ensures reads { Reads lanes_at cursor.old cursor.new result }
+    ensures reads { Reads lanes.at cursor.old cursor.new result }
 {
     let bytes = cursor.take(16)?;
     let mut lanes = [0; 16];
@@ -217,9 +337,7 @@ impl<'a> Readable<'a> for Catch {
 
     ghost views_each = { record { none = refl; more = λ catches catch. refl } };
 
-    ghost spells = { SpellsCatch };
-
-    ghost read_at = { catch_at };
+    ghost format = { catch_clause };
 
     fn read(alloc: Global, cursor: &mut Cursor<'a>) -> Result<Catch, Fault> {
         let _ = alloc;
@@ -228,9 +346,9 @@ impl<'a> Readable<'a> for Catch {
 }
 
 /// A clause of a `try_table`.
-#[tactic(auto, unfolding(crate::specs::Operands::catch_at))]
+#[tactic(auto, unfolding(crate::specs::formats::Operands::catch_clause))]
 fn read_catch(cursor: &mut Cursor<'_>) -> Result<Catch, Fault>
-    ensures reads { Reads catch_at cursor.old cursor.new result }
+    ensures reads { Reads catch_clause.at cursor.old cursor.new result }
 {
     match cursor.byte()? {
         0x00 => {
@@ -264,9 +382,7 @@ impl<'a> Readable<'a> for Handle {
 
     ghost views_each = { record { none = refl; more = λ handles handle. refl } };
 
-    ghost spells = { SpellsHandle };
-
-    ghost read_at = { handle_at };
+    ghost format = { handle_clause };
 
     fn read(alloc: Global, cursor: &mut Cursor<'a>) -> Result<Handle, Fault> {
         let _ = alloc;
@@ -275,9 +391,9 @@ impl<'a> Readable<'a> for Handle {
 }
 
 /// A handler of a `resume`.
-#[tactic(auto, unfolding(crate::specs::Operands::handle_at))]
+#[tactic(auto, unfolding(crate::specs::formats::Operands::handle_clause))]
 fn read_handle(cursor: &mut Cursor<'_>) -> Result<Handle, Fault>
-    ensures reads { Reads handle_at cursor.old cursor.new result }
+    ensures reads { Reads handle_clause.at cursor.old cursor.new result }
 {
     match cursor.byte()? {
         0x00 => {

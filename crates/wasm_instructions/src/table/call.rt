@@ -114,7 +114,7 @@ impl Operands {
         }
     }
 
-    /// Whether alignments are below 64, which the format has spellings for.
+    /// Whether alignments are below 64, which the format has encodings for.
     pub(crate) fn is_aligned(&self) -> bool
         ensures { IsTrue result ↔ IsAligned self.now }
     {

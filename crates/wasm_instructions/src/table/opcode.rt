@@ -8,7 +8,7 @@ use super::places::{AFTER_FB, AFTER_FC, AFTER_FD, AFTER_FE, WITHOUT_PREFIX};
 /// The byte before an opcode's number, if there is one.
 #[derive(Clone, Copy, Debug, PartialEq, Eq)]
 pub enum Prefix {
-    /// No prefix: the opcode is one byte.
+    /// No prefix byte: the opcode is one byte.
     None,
     /// `0xFB`: garbage collection.
     Fb,
@@ -25,7 +25,7 @@ pub enum Prefix {
 pub struct Opcode {
     /// The prefix byte, if there is one.
     pub prefix: Prefix,
-    /// The number after the prefix, or the one byte itself.
+    /// The number after the prefix byte, or the one byte itself.
     pub number: u32,
 }
 
@@ -151,7 +151,7 @@ impl Opcode {
     }
 }
 
-/// The kind at the place of a number in the table of a prefix, or `None` past its end.
+/// The kind at the place of a number in the table of a `Prefix`, or `None` past its end.
 fn kind_at(prefix: Prefix, places: &[Option<Kind>], number: u32) -> Option<Kind>
     requires { IsTable places.now (ranges prefix) }
     ensures { result ≡ kind_among (ranges prefix) number }

@@ -1,7 +1,8 @@
 //! Instructions with constants and with lanes.
 ghost use Rattle.std.specs.Prelude.{◌≡◌, ◌++◌, ◌+◌, ◌≤◌, IsOk, IfErr, OnOk, OnErr, vec_len, vec_capacity};
 ghost use Rattle.wasm_codec.specs.declared.encode.EncodeError.TheVariants.{Memory};
-ghost use Rattle.wasm_instructions.specs.Instructions.{IsShort, call, instruction_text};
+ghost use Rattle.wasm_instructions.specs.Instructions.{IsShort, call};
+ghost use Rattle.wasm_instructions.specs.formats.Instructions.{instruction};
 ghost use Rattle.wasm_instructions.specs.declared.table.call.Operands.TheVariants as operands;
 
 use super::{ROOM, put_opcode};
@@ -13,14 +14,14 @@ use wasm_codec::encode::EncodeError;
 use wasm_codec::encode::leb128::{put_i32, put_i64};
 
 /// Appends an instruction with a signed number of 32 bits.
-#[tactic(auto, unfolding(crate::specs::Instructions::operands_text))]
+#[tactic(auto, unfolding(crate::specs::formats::Instructions::instruction, crate::specs::formats::Instructions::operands_format))]
 pub fn append_i32<A: Allocator>(
     bytes: &mut Vec<u8, A>,
     op: Opcode,
     value: i32,
 ) -> Result<(), EncodeError>
     requires short { IsShort op }
-    ensures ok { OnOk result (bytes.new.items ≡ bytes.old.items ++ instruction_text (call op (operands.I32 value))) }
+    ensures ok { OnOk result (bytes.new.items ≡ bytes.old.items ++ instruction.bytes (call op (operands.I32 value))) }
     ensures err { OnErr result (bytes.new.items ≡ bytes.old.items) }
     ensures memory { IfErr result (λ e. e ≡ Memory) }
     ensures room { vec_len bytes.old + 24 ≤ vec_capacity bytes.old → IsOk result }
@@ -32,14 +33,14 @@ pub fn append_i32<A: Allocator>(
 }
 
 /// Appends an instruction with a signed number of 64 bits.
-#[tactic(auto, unfolding(crate::specs::Instructions::operands_text))]
+#[tactic(auto, unfolding(crate::specs::formats::Instructions::instruction, crate::specs::formats::Instructions::operands_format))]
 pub fn append_i64<A: Allocator>(
     bytes: &mut Vec<u8, A>,
     op: Opcode,
     value: i64,
 ) -> Result<(), EncodeError>
     requires short { IsShort op }
-    ensures ok { OnOk result (bytes.new.items ≡ bytes.old.items ++ instruction_text (call op (operands.I64 value))) }
+    ensures ok { OnOk result (bytes.new.items ≡ bytes.old.items ++ instruction.bytes (call op (operands.I64 value))) }
     ensures err { OnErr result (bytes.new.items ≡ bytes.old.items) }
     ensures memory { IfErr result (λ e. e ≡ Memory) }
     ensures room { vec_len bytes.old + 24 ≤ vec_capacity bytes.old → IsOk result }
@@ -51,14 +52,14 @@ pub fn append_i64<A: Allocator>(
 }
 
 /// Appends an instruction with the bits of a floating-point number of 32 bits.
-#[tactic(auto, unfolding(crate::specs::Instructions::operands_text))]
+#[tactic(auto, unfolding(crate::specs::formats::Instructions::instruction, crate::specs::formats::Instructions::operands_format))]
 pub fn append_f32<A: Allocator>(
     bytes: &mut Vec<u8, A>,
     op: Opcode,
     value: Ieee32,
 ) -> Result<(), EncodeError>
     requires short { IsShort op }
-    ensures ok { OnOk result (bytes.new.items ≡ bytes.old.items ++ instruction_text (call op (operands.F32 value))) }
+    ensures ok { OnOk result (bytes.new.items ≡ bytes.old.items ++ instruction.bytes (call op (operands.F32 value))) }
     ensures err { OnErr result (bytes.new.items ≡ bytes.old.items) }
     ensures memory { IfErr result (λ e. e ≡ Memory) }
     ensures room { vec_len bytes.old + 24 ≤ vec_capacity bytes.old → IsOk result }
@@ -70,14 +71,14 @@ pub fn append_f32<A: Allocator>(
 }
 
 /// Appends an instruction with the bits of a floating-point number of 64 bits.
-#[tactic(auto, unfolding(crate::specs::Instructions::operands_text))]
+#[tactic(auto, unfolding(crate::specs::formats::Instructions::instruction, crate::specs::formats::Instructions::operands_format))]
 pub fn append_f64<A: Allocator>(
     bytes: &mut Vec<u8, A>,
     op: Opcode,
     value: Ieee64,
 ) -> Result<(), EncodeError>
     requires short { IsShort op }
-    ensures ok { OnOk result (bytes.new.items ≡ bytes.old.items ++ instruction_text (call op (operands.F64 value))) }
+    ensures ok { OnOk result (bytes.new.items ≡ bytes.old.items ++ instruction.bytes (call op (operands.F64 value))) }
     ensures err { OnErr result (bytes.new.items ≡ bytes.old.items) }
     ensures memory { IfErr result (λ e. e ≡ Memory) }
     ensures room { vec_len bytes.old + 24 ≤ vec_capacity bytes.old → IsOk result }
@@ -89,14 +90,14 @@ pub fn append_f64<A: Allocator>(
 }
 
 /// Appends an instruction with a vector.
-#[tactic(auto, unfolding(crate::specs::Instructions::operands_text))]
+#[tactic(auto, unfolding(crate::specs::formats::Instructions::instruction, crate::specs::formats::Instructions::operands_format))]
 pub fn append_v128<A: Allocator>(
     bytes: &mut Vec<u8, A>,
     op: Opcode,
     value: i128,
 ) -> Result<(), EncodeError>
     requires short { IsShort op }
-    ensures ok { OnOk result (bytes.new.items ≡ bytes.old.items ++ instruction_text (call op (operands.V128 value))) }
+    ensures ok { OnOk result (bytes.new.items ≡ bytes.old.items ++ instruction.bytes (call op (operands.V128 value))) }
     ensures err { OnErr result (bytes.new.items ≡ bytes.old.items) }
     ensures memory { IfErr result (λ e. e ≡ Memory) }
     ensures room { vec_len bytes.old + 24 ≤ vec_capacity bytes.old → IsOk result }
@@ -108,14 +109,14 @@ pub fn append_v128<A: Allocator>(
 }
 
 /// Appends an instruction with sixteen lanes.
-#[tactic(auto, unfolding(crate::specs::Instructions::operands_text))]
+#[tactic(auto, unfolding(crate::specs::formats::Instructions::instruction, crate::specs::formats::Instructions::operands_format, crate::specs::formats::Operands::lanes))]
 pub fn append_shuffle<A: Allocator>(
     bytes: &mut Vec<u8, A>,
     op: Opcode,
     lanes: [Lane; 16],
 ) -> Result<(), EncodeError>
     requires short { IsShort op }
-    ensures ok { OnOk result (bytes.new.items ≡ bytes.old.items ++ instruction_text (call op (operands.Shuffle lanes))) }
+    ensures ok { OnOk result (bytes.new.items ≡ bytes.old.items ++ instruction.bytes (call op (operands.Shuffle lanes))) }
     ensures err { OnErr result (bytes.new.items ≡ bytes.old.items) }
     ensures memory { IfErr result (λ e. e ≡ Memory) }
     ensures room { vec_len bytes.old + 24 ≤ vec_capacity bytes.old → IsOk result }
@@ -128,14 +129,14 @@ pub fn append_shuffle<A: Allocator>(
 }
 
 /// Appends an instruction with a lane.
-#[tactic(auto, unfolding(crate::specs::Instructions::operands_text))]
+#[tactic(auto, unfolding(crate::specs::formats::Instructions::instruction, crate::specs::formats::Instructions::operands_format))]
 pub fn append_lane<A: Allocator>(
     bytes: &mut Vec<u8, A>,
     op: Opcode,
     lane: Lane,
 ) -> Result<(), EncodeError>
     requires short { IsShort op }
-    ensures ok { OnOk result (bytes.new.items ≡ bytes.old.items ++ instruction_text (call op (operands.Lane lane))) }
+    ensures ok { OnOk result (bytes.new.items ≡ bytes.old.items ++ instruction.bytes (call op (operands.Lane lane))) }
     ensures err { OnErr result (bytes.new.items ≡ bytes.old.items) }
     ensures memory { IfErr result (λ e. e ≡ Memory) }
     ensures room { vec_len bytes.old + 24 ≤ vec_capacity bytes.old → IsOk result }

@@ -1,13 +1,13 @@
-//! Lists of what has a text of its own, after their number (Core 3.0, 5.1.3).
+//! Lists of items, each with bytes of its own, after their number (Core 3.0, 5.1.3).
 ghost use Rattle.std.specs.Prelude.{◌≡◌, ◌++◌, ◌+◌, ◌≤◌, ◌<◌, ◌^◌, ℕ, List, length, take, OnOk, IfOk, IfErr, vec_len, vec_capacity};
 ghost use Rattle.std.specs.Iterator.{IsFinite, size};
 ghost use Rattle.wasm_codec.specs.Iterators.{IsExact};
 ghost use Rattle.wasm_instructions.specs.Appending.{AppendsAll, IsRefusedList};
 ghost use Rattle.wasm_codec.specs.Numbers.{unsigned_text};
-ghost use Rattle.wasm_types.specs.HeapTypes.{val_type_text};
+ghost use Rattle.wasm_types.specs.formats.Types.{val_type};
 ghost use Rattle.wasm_codec.specs.Lists.{items_text};
-ghost use Rattle.wasm_types.specs.TypeRanges.{ValTypeFits};
-ghost use Rattle.wasm_instructions.specs.Operands.{catch_text, CatchFits, handle_text, HandleFits};
+ghost use Rattle.wasm_instructions.specs.Operands.{ValTypeFits, CatchFits, HandleFits};
+ghost use Rattle.wasm_instructions.specs.formats.Operands.{catch_clause, handle_clause};
 
 use super::ROOM;
 use crate::encode::{put_catch, put_handle};
@@ -21,12 +21,12 @@ use wasm_types::types::ValType;
 /// The room that every item fits into, in bytes.
 const ITEM_ROOM: usize = 11;
 
-/// What lists of operands are made of. Each item has a text.
-pub(super) trait Item: Copy + Drop {
+/// What lists of operands are made of. Each item has a shortest encoding.
+pub(in crate::encode) trait Item: Copy + Drop {
     /// The fewest bytes that an item is written in.
     const LEAST: usize;
 
-    /// The text of the item.
+    /// The item's shortest encoding.
     ghost text: { Self → List ℕ };
 
     /// Its numbers are in the ranges of their widths.
@@ -54,7 +54,7 @@ impl Item for u32 {
 impl Item for ValType {
     const LEAST: usize = 1;
 
-    ghost text = { val_type_text };
+    ghost text = { val_type.bytes };
 
     ghost InRange = { ValTypeFits };
 
@@ -66,7 +66,7 @@ impl Item for ValType {
 impl Item for Catch {
     const LEAST: usize = 2;
 
-    ghost text = { catch_text };
+    ghost text = { catch_clause.bytes };
 
     ghost InRange = { CatchFits };
 
@@ -78,7 +78,7 @@ impl Item for Catch {
 impl Item for Handle {
     const LEAST: usize = 2;
 
-    ghost text = { handle_text };
+    ghost text = { handle_clause.bytes };
 
     ghost InRange = { HandleFits };
 

@@ -1,15 +1,16 @@
 //! Instructions with a list that an iterator gives.
 ghost use Rattle.std.specs.List.{AllByRecursion};
-ghost use Rattle.std.specs.Prelude.{◌≡◌, ◌++◌, ◌<◌, ◌^◌, length, take, OnOk, OnErr, IfErr};
+ghost use Rattle.std.specs.Prelude.{◌≡◌, ◌++◌, ◌<◌, ◌+◌, ◌≤◌, ◌^◌, length, take, OnOk, OnErr, IfErr, vec_len, vec_capacity};
 ghost use Rattle.std.specs.Iterator.{size};
 ghost use Rattle.wasm_codec.specs.Iterators.{IsExact};
-ghost use Rattle.wasm_instructions.specs.Appending.{AppendsAll, IsRefusedList};
-ghost use Rattle.wasm_instructions.specs.Instructions.{HasText, IsShort, ItemsInRange, call, instruction_text};
-ghost use Rattle.wasm_instructions.specs.Operands.{CatchFits, HandleFits};
+ghost use Rattle.wasm_instructions.specs.Appending.{AppendsAll, IsRefusedList, before_text, list_text};
+ghost use Rattle.wasm_codec.specs.Lists.{items_text};
+ghost use Rattle.wasm_instructions.specs.Instructions.{HasText, IsShort, ItemsInRange, call};
+ghost use Rattle.wasm_instructions.specs.formats.Instructions.{instruction};
+ghost use Rattle.wasm_instructions.specs.Operands.{ValTypeFits, CatchFits, HandleFits};
 ghost use Rattle.wasm_instructions.specs.declared.table.call.Operands.TheVariants as operands;
-ghost use Rattle.wasm_types.specs.TypeRanges.{ValTypeFits};
 
-use super::items::{append_each, reserve_list};
+use super::items::{Item, append_each, reserve_list};
 use super::put_opcode;
 use super::types::append_type;
 use crate::encode::put_block_type;
@@ -21,6 +22,7 @@ use wasm_codec::encode::{EncodeError, keep_or_undo};
 use wasm_types::types::ValType;
 
 /// Appends an instruction with labels, and the label of all other numbers.
+#[tactic(auto, unfolding(crate::specs::Appending::AppendsAll, crate::specs::Appending::before_text, crate::specs::Appending::after_text, crate::specs::formats::Instructions::instruction, crate::specs::formats::Instructions::operands_format))]
 pub fn append_branch_table<I: ExactSizeIterator<Item = u32>, A: Allocator>(
     bytes: &mut Vec<u8, A>,
     op: Opcode,
@@ -29,45 +31,22 @@ pub fn append_branch_table<I: ExactSizeIterator<Item = u32>, A: Allocator>(
 ) -> Result<(), EncodeError>
     requires short { IsShort op }
     requires exact { IsExact I.can_next I.next_gives I.remaining labels }
-    ensures ok { OnOk result (AppendsAll I.next_gives (λ label. label < 2 ^ 32) labels (λ xs. instruction_text (call op (operands.BrTable xs default))) bytes.old.items bytes.new.items) }
+    ensures ok { OnOk result (AppendsAll I.next_gives (λ label. label < 2 ^ 32) labels (λ xs. instruction.bytes (call op (operands.BrTable xs default))) bytes.old.items bytes.new.items) }
     ensures refused { IfErr result (IsRefusedList (size (I.remaining labels))) }
     ensures err { OnErr result (bytes.new.items ≡ bytes.old.items) }
 {
-    let start = bytes.len();
-    let appended = write_branch_table(bytes, op, labels, default);
-    keep_or_undo(bytes, start, appended)
-}
-
-/// Appends an instruction with labels, and the label of all other numbers. An `Err` can leave a part of it.
-#[tactic(auto, unfolding(crate::specs::Appending::AppendsAll, crate::specs::Instructions::operands_text))]
-fn write_branch_table<I: ExactSizeIterator<Item = u32>, A: Allocator>(
-    bytes: &mut Vec<u8, A>,
-    op: Opcode,
-    labels: I,
-    default: u32,
-) -> Result<(), EncodeError>
-    requires short { IsShort op }
-    requires exact { IsExact I.can_next I.next_gives I.remaining labels }
-    ensures ok { OnOk result (AppendsAll I.next_gives (λ label. label < 2 ^ 32) labels (λ xs. instruction_text (call op (operands.BrTable xs default))) bytes.old.items bytes.new.items) }
-    ensures refused { IfErr result (IsRefusedList (size (I.remaining labels))) }
-    ensures kept { take (length bytes.old.items) bytes.new.items ≡ bytes.old.items }
-{
-    let count = reserve_list::<u32, A>(bytes, labels.len())?;
-    put_opcode(bytes, op);
-    append_each(bytes, count, labels)?;
-    bytes.reserve(5)?;
-    put_u32(bytes, default);
-    Ok(())
+    append_list(bytes, op, Before::Nothing, labels, Some(default))
 }
 
 /// Appends an instruction with a list of types. One type is written in one growth.
+#[tactic(auto, unfolding(crate::specs::Appending::before_text, crate::specs::Appending::after_text, crate::specs::formats::Instructions::instruction, crate::specs::formats::Instructions::operands_format))]
 pub fn append_type_list<A: Allocator>(
     bytes: &mut Vec<u8, A>,
     op: Opcode,
     types: &[ValType],
 ) -> Result<(), EncodeError>
     requires short { IsShort op }
-    ensures ok { OnOk result (bytes.new.items ≡ bytes.old.items ++ instruction_text (call op (operands.Types types.now))) }
+    ensures ok { OnOk result (bytes.new.items ≡ bytes.old.items ++ instruction.bytes (call op (operands.Types types.now))) }
     ensures err { OnErr result (bytes.new.items ≡ bytes.old.items) }
     ensures fits { OnOk result (HasText (operands.Types types.now) × ItemsInRange (operands.Types types.now)) }
     ensures refused { IfErr result (IsRefusedList (length types.now)) }
@@ -75,11 +54,12 @@ pub fn append_type_list<A: Allocator>(
 {
     match types {
         [ty] => append_type(bytes, op, *ty),
-        _ => append_types(bytes, op, types.iter().copied()),
+        _ => append_held(bytes, op, Before::Nothing, types, None),
     }
 }
 
 /// Appends an instruction with value types.
+#[tactic(auto, unfolding(crate::specs::Appending::AppendsAll, crate::specs::Appending::before_text, crate::specs::Appending::after_text, crate::specs::formats::Instructions::instruction, crate::specs::formats::Instructions::operands_format))]
 pub fn append_types<I: ExactSizeIterator<Item = ValType>, A: Allocator>(
     bytes: &mut Vec<u8, A>,
     op: Opcode,
@@ -87,35 +67,15 @@ pub fn append_types<I: ExactSizeIterator<Item = ValType>, A: Allocator>(
 ) -> Result<(), EncodeError>
     requires short { IsShort op }
     requires exact { IsExact I.can_next I.next_gives I.remaining types }
-    ensures ok { OnOk result (AppendsAll I.next_gives ValTypeFits types (λ xs. instruction_text (call op (operands.Types xs))) bytes.old.items bytes.new.items) }
+    ensures ok { OnOk result (AppendsAll I.next_gives ValTypeFits types (λ xs. instruction.bytes (call op (operands.Types xs))) bytes.old.items bytes.new.items) }
     ensures refused { IfErr result (IsRefusedList (size (I.remaining types))) }
     ensures err { OnErr result (bytes.new.items ≡ bytes.old.items) }
 {
-    let start = bytes.len();
-    let appended = write_types(bytes, op, types);
-    keep_or_undo(bytes, start, appended)
-}
-
-/// Appends an instruction with value types. An `Err` can leave a part of it.
-#[tactic(auto, unfolding(crate::specs::Appending::AppendsAll, crate::specs::Instructions::operands_text))]
-fn write_types<I: ExactSizeIterator<Item = ValType>, A: Allocator>(
-    bytes: &mut Vec<u8, A>,
-    op: Opcode,
-    types: I,
-) -> Result<(), EncodeError>
-    requires short { IsShort op }
-    requires exact { IsExact I.can_next I.next_gives I.remaining types }
-    ensures ok { OnOk result (AppendsAll I.next_gives ValTypeFits types (λ xs. instruction_text (call op (operands.Types xs))) bytes.old.items bytes.new.items) }
-    ensures refused { IfErr result (IsRefusedList (size (I.remaining types))) }
-    ensures kept { take (length bytes.old.items) bytes.new.items ≡ bytes.old.items }
-{
-    let count = reserve_list::<ValType, A>(bytes, types.len())?;
-    put_opcode(bytes, op);
-    append_each(bytes, count, types)?;
-    Ok(())
+    append_list(bytes, op, Before::Nothing, types, None)
 }
 
 /// Appends an instruction with a block type and clauses that catch exceptions.
+#[tactic(auto, unfolding(crate::specs::Appending::AppendsAll, crate::specs::Appending::before_text, crate::specs::Appending::after_text, crate::specs::formats::Instructions::instruction, crate::specs::formats::Instructions::operands_format))]
 pub fn append_try_table<I: ExactSizeIterator<Item = Catch>, A: Allocator>(
     bytes: &mut Vec<u8, A>,
     op: Opcode,
@@ -124,37 +84,15 @@ pub fn append_try_table<I: ExactSizeIterator<Item = Catch>, A: Allocator>(
 ) -> Result<(), EncodeError>
     requires short { IsShort op }
     requires exact { IsExact I.can_next I.next_gives I.remaining clauses }
-    ensures ok { OnOk result (AppendsAll I.next_gives CatchFits clauses (λ xs. instruction_text (call op (operands.TryTable block_type xs))) bytes.old.items bytes.new.items) }
+    ensures ok { OnOk result (AppendsAll I.next_gives CatchFits clauses (λ xs. instruction.bytes (call op (operands.TryTable block_type xs))) bytes.old.items bytes.new.items) }
     ensures refused { IfErr result (IsRefusedList (size (I.remaining clauses))) }
     ensures err { OnErr result (bytes.new.items ≡ bytes.old.items) }
 {
-    let start = bytes.len();
-    let appended = write_try_table(bytes, op, block_type, clauses);
-    keep_or_undo(bytes, start, appended)
-}
-
-/// Appends an instruction with a block type and clauses that catch exceptions. An `Err` can leave a part of it.
-#[tactic(auto, unfolding(crate::specs::Appending::AppendsAll, crate::specs::Instructions::operands_text))]
-fn write_try_table<I: ExactSizeIterator<Item = Catch>, A: Allocator>(
-    bytes: &mut Vec<u8, A>,
-    op: Opcode,
-    block_type: BlockType,
-    clauses: I,
-) -> Result<(), EncodeError>
-    requires short { IsShort op }
-    requires exact { IsExact I.can_next I.next_gives I.remaining clauses }
-    ensures ok { OnOk result (AppendsAll I.next_gives CatchFits clauses (λ xs. instruction_text (call op (operands.TryTable block_type xs))) bytes.old.items bytes.new.items) }
-    ensures refused { IfErr result (IsRefusedList (size (I.remaining clauses))) }
-    ensures kept { take (length bytes.old.items) bytes.new.items ≡ bytes.old.items }
-{
-    let count = reserve_list::<Catch, A>(bytes, clauses.len())?;
-    put_opcode(bytes, op);
-    put_block_type(bytes, block_type);
-    append_each(bytes, count, clauses)?;
-    Ok(())
+    append_list(bytes, op, Before::Block(block_type), clauses, None)
 }
 
 /// Appends an instruction with an index and handlers.
+#[tactic(auto, unfolding(crate::specs::Appending::AppendsAll, crate::specs::Appending::before_text, crate::specs::Appending::after_text, crate::specs::formats::Instructions::instruction, crate::specs::formats::Instructions::operands_format))]
 pub fn append_resume<I: ExactSizeIterator<Item = Handle>, A: Allocator>(
     bytes: &mut Vec<u8, A>,
     op: Opcode,
@@ -163,37 +101,15 @@ pub fn append_resume<I: ExactSizeIterator<Item = Handle>, A: Allocator>(
 ) -> Result<(), EncodeError>
     requires short { IsShort op }
     requires exact { IsExact I.can_next I.next_gives I.remaining handlers }
-    ensures ok { OnOk result (AppendsAll I.next_gives HandleFits handlers (λ xs. instruction_text (call op (operands.Resume index xs))) bytes.old.items bytes.new.items) }
+    ensures ok { OnOk result (AppendsAll I.next_gives HandleFits handlers (λ xs. instruction.bytes (call op (operands.Resume index xs))) bytes.old.items bytes.new.items) }
     ensures refused { IfErr result (IsRefusedList (size (I.remaining handlers))) }
     ensures err { OnErr result (bytes.new.items ≡ bytes.old.items) }
 {
-    let start = bytes.len();
-    let appended = write_resume(bytes, op, index, handlers);
-    keep_or_undo(bytes, start, appended)
-}
-
-/// Appends an instruction with an index and handlers. An `Err` can leave a part of it.
-#[tactic(auto, unfolding(crate::specs::Appending::AppendsAll, crate::specs::Instructions::operands_text))]
-fn write_resume<I: ExactSizeIterator<Item = Handle>, A: Allocator>(
-    bytes: &mut Vec<u8, A>,
-    op: Opcode,
-    index: u32,
-    handlers: I,
-) -> Result<(), EncodeError>
-    requires short { IsShort op }
-    requires exact { IsExact I.can_next I.next_gives I.remaining handlers }
-    ensures ok { OnOk result (AppendsAll I.next_gives HandleFits handlers (λ xs. instruction_text (call op (operands.Resume index xs))) bytes.old.items bytes.new.items) }
-    ensures refused { IfErr result (IsRefusedList (size (I.remaining handlers))) }
-    ensures kept { take (length bytes.old.items) bytes.new.items ≡ bytes.old.items }
-{
-    let count = reserve_list::<Handle, A>(bytes, handlers.len())?;
-    put_opcode(bytes, op);
-    put_u32(bytes, index);
-    append_each(bytes, count, handlers)?;
-    Ok(())
+    append_list(bytes, op, Before::Index(index), handlers, None)
 }
 
 /// Appends an instruction with two indexes and handlers.
+#[tactic(auto, unfolding(crate::specs::Appending::AppendsAll, crate::specs::Appending::before_text, crate::specs::Appending::after_text, crate::specs::formats::Instructions::instruction, crate::specs::formats::Instructions::operands_format))]
 pub fn append_resume_throw<I: ExactSizeIterator<Item = Handle>, A: Allocator>(
     bytes: &mut Vec<u8, A>,
     op: Opcode,
@@ -203,34 +119,104 @@ pub fn append_resume_throw<I: ExactSizeIterator<Item = Handle>, A: Allocator>(
 ) -> Result<(), EncodeError>
     requires short { IsShort op }
     requires exact { IsExact I.can_next I.next_gives I.remaining handlers }
-    ensures ok { OnOk result (AppendsAll I.next_gives HandleFits handlers (λ xs. instruction_text (call op (operands.ResumeThrow first second xs))) bytes.old.items bytes.new.items) }
+    ensures ok { OnOk result (AppendsAll I.next_gives HandleFits handlers (λ xs. instruction.bytes (call op (operands.ResumeThrow first second xs))) bytes.old.items bytes.new.items) }
     ensures refused { IfErr result (IsRefusedList (size (I.remaining handlers))) }
     ensures err { OnErr result (bytes.new.items ≡ bytes.old.items) }
 {
+    append_list(bytes, op, Before::TwoIndexes(first, second), handlers, None)
+}
+
+/// What stands between an opcode and a list.
+#[derive(Clone, Copy)]
+pub(in crate::encode) enum Before {
+    /// Nothing: the list is first.
+    Nothing,
+    /// The type of a block.
+    Block(BlockType),
+    /// An index.
+    Index(u32),
+    /// Two indexes.
+    TwoIndexes(u32, u32),
+}
+
+/// Writes what stands before a list in up to 10 bytes, into reserved room.
+#[tactic(auto, unfolding(crate::specs::Appending::before_text))]
+fn put_before<A: Allocator>(bytes: &mut Vec<u8, A>, before: Before)
+    requires room { vec_len bytes.old + 10 ≤ vec_capacity bytes.old }
+    ensures items { bytes.new.items ≡ bytes.old.items ++ before_text before }
+    ensures len { vec_len bytes.new ≤ vec_len bytes.old + 10 }
+    ensures capacity { vec_capacity bytes.new ≡ vec_capacity bytes.old }
+{
+    match before {
+        Before::Nothing => {}
+        Before::Block(ty) => put_block_type(bytes, ty),
+        Before::Index(index) => put_u32(bytes, index),
+        Before::TwoIndexes(first, second) => {
+            put_u32(bytes, first);
+            put_u32(bytes, second);
+        }
+    }
+}
+
+/// Appends an instruction with a list that is held, as [`append_list`] does.
+pub(in crate::encode) fn append_held<T: Item, A: Allocator>(
+    bytes: &mut Vec<u8, A>,
+    op: Opcode,
+    before: Before,
+    items: &[T],
+    after: Option<u32>,
+) -> Result<(), EncodeError>
+    requires short { IsShort op }
+    ensures ok { OnOk result (bytes.new.items ≡ bytes.old.items ++ list_text op before (items_text T.text items.now) after) }
+    ensures err { OnErr result (bytes.new.items ≡ bytes.old.items) }
+    ensures counted { OnOk result (length items.now < 2 ^ 32) }
+    ensures fits { OnOk result (AllByRecursion T.InRange items.now) }
+    ensures refused { IfErr result (IsRefusedList (length items.now)) }
+{
+    append_list(bytes, op, before, items.iter().copied(), after)
+}
+
+/// Appends an opcode, what stands before a list, the list, and the index after it, if there is one: all or nothing.
+fn append_list<T: Item, I: ExactSizeIterator<Item = T>, A: Allocator>(
+    bytes: &mut Vec<u8, A>,
+    op: Opcode,
+    before: Before,
+    items: I,
+    after: Option<u32>,
+) -> Result<(), EncodeError>
+    requires short { IsShort op }
+    requires exact { IsExact I.can_next I.next_gives I.remaining items }
+    ensures ok { OnOk result (AppendsAll I.next_gives T.InRange items (λ xs. list_text op before (items_text T.text xs) after) bytes.old.items bytes.new.items) }
+    ensures refused { IfErr result (IsRefusedList (size (I.remaining items))) }
+    ensures err { OnErr result (bytes.new.items ≡ bytes.old.items) }
+{
     let start = bytes.len();
-    let appended = write_resume_throw(bytes, op, first, second, handlers);
+    let appended = write_list(bytes, op, before, items, after);
     keep_or_undo(bytes, start, appended)
 }
 
-/// Appends an instruction with two indexes and handlers. An `Err` can leave a part of it.
-#[tactic(auto, unfolding(crate::specs::Appending::AppendsAll, crate::specs::Instructions::operands_text))]
-fn write_resume_throw<I: ExactSizeIterator<Item = Handle>, A: Allocator>(
+/// Appends an instruction with a list, as [`append_list`] does. An `Err` can leave a part of it.
+#[tactic(auto, unfolding(crate::specs::Appending::AppendsAll, crate::specs::Appending::after_text))]
+fn write_list<T: Item, I: ExactSizeIterator<Item = T>, A: Allocator>(
     bytes: &mut Vec<u8, A>,
     op: Opcode,
-    first: u32,
-    second: u32,
-    handlers: I,
+    before: Before,
+    items: I,
+    after: Option<u32>,
 ) -> Result<(), EncodeError>
     requires short { IsShort op }
-    requires exact { IsExact I.can_next I.next_gives I.remaining handlers }
-    ensures ok { OnOk result (AppendsAll I.next_gives HandleFits handlers (λ xs. instruction_text (call op (operands.ResumeThrow first second xs))) bytes.old.items bytes.new.items) }
-    ensures refused { IfErr result (IsRefusedList (size (I.remaining handlers))) }
+    requires exact { IsExact I.can_next I.next_gives I.remaining items }
+    ensures ok { OnOk result (AppendsAll I.next_gives T.InRange items (λ xs. list_text op before (items_text T.text xs) after) bytes.old.items bytes.new.items) }
+    ensures refused { IfErr result (IsRefusedList (size (I.remaining items))) }
     ensures kept { take (length bytes.old.items) bytes.new.items ≡ bytes.old.items }
 {
-    let count = reserve_list::<Handle, A>(bytes, handlers.len())?;
+    let count = reserve_list::<T, A>(bytes, items.len())?;
     put_opcode(bytes, op);
-    put_u32(bytes, first);
-    put_u32(bytes, second);
-    append_each(bytes, count, handlers)?;
+    put_before(bytes, before);
+    append_each(bytes, count, items)?;
+    if let Some(index) = after {
+        bytes.reserve(5)?;
+        put_u32(bytes, index);
+    }
     Ok(())
 }

@@ -1,7 +1,8 @@
 //! Instructions with memory arguments. An alignment of 64 or more is refused before anything grows.
 ghost use Rattle.std.specs.Prelude.{◌≡◌, ◌++◌, ◌+◌, ◌≤◌, ◌<◌, ◌↔◌, IsOk, IfErr, IsErrOf, OnOk, OnErr, vec_len, vec_capacity};
 ghost use Rattle.wasm_instructions.specs.Appending.{IsRefusal};
-ghost use Rattle.wasm_instructions.specs.Instructions.{IsShort, call, instruction_text};
+ghost use Rattle.wasm_instructions.specs.Instructions.{IsShort, call};
+ghost use Rattle.wasm_instructions.specs.formats.Instructions.{instruction};
 ghost use Rattle.wasm_instructions.specs.declared.table.call.Operands.TheVariants as operands;
 
 use super::{ROOM, put_opcode};
@@ -12,14 +13,14 @@ use std::alloc::Allocator;
 use wasm_codec::encode::EncodeError;
 
 /// Appends an instruction with a memory argument.
-#[tactic(auto, unfolding(crate::specs::Instructions::operands_text))]
+#[tactic(auto, unfolding(crate::specs::formats::Instructions::instruction, crate::specs::formats::Instructions::operands_format))]
 pub fn append_mem<A: Allocator>(
     bytes: &mut Vec<u8, A>,
     op: Opcode,
     memarg: MemArg,
 ) -> Result<(), EncodeError>
     requires short { IsShort op }
-    ensures ok { OnOk result (bytes.new.items ≡ bytes.old.items ++ instruction_text (call op (operands.Mem memarg))) }
+    ensures ok { OnOk result (bytes.new.items ≡ bytes.old.items ++ instruction.bytes (call op (operands.Mem memarg))) }
     ensures err { OnErr result (bytes.new.items ≡ bytes.old.items) }
     ensures refused { IfErr result (IsRefusal (operands.Mem memarg)) }
     ensures aligned { OnOk result (memarg.align < 64) }
@@ -36,7 +37,7 @@ pub fn append_mem<A: Allocator>(
 }
 
 /// Appends an instruction with a memory argument and a lane.
-#[tactic(auto, unfolding(crate::specs::Instructions::operands_text))]
+#[tactic(auto, unfolding(crate::specs::formats::Instructions::instruction, crate::specs::formats::Instructions::operands_format))]
 pub fn append_mem_lane<A: Allocator>(
     bytes: &mut Vec<u8, A>,
     op: Opcode,
@@ -44,7 +45,7 @@ pub fn append_mem_lane<A: Allocator>(
     lane: Lane,
 ) -> Result<(), EncodeError>
     requires short { IsShort op }
-    ensures ok { OnOk result (bytes.new.items ≡ bytes.old.items ++ instruction_text (call op (operands.MemLane memarg lane))) }
+    ensures ok { OnOk result (bytes.new.items ≡ bytes.old.items ++ instruction.bytes (call op (operands.MemLane memarg lane))) }
     ensures err { OnErr result (bytes.new.items ≡ bytes.old.items) }
     ensures refused { IfErr result (IsRefusal (operands.MemLane memarg lane)) }
     ensures aligned { OnOk result (memarg.align < 64) }

@@ -1,7 +1,8 @@
 //! Instructions with orderings.
 ghost use Rattle.std.specs.Prelude.{◌≡◌, ◌++◌, ◌+◌, ◌≤◌, IsOk, IfErr, OnOk, OnErr, vec_len, vec_capacity};
 ghost use Rattle.wasm_codec.specs.declared.encode.EncodeError.TheVariants.{Memory};
-ghost use Rattle.wasm_instructions.specs.Instructions.{IsShort, call, instruction_text};
+ghost use Rattle.wasm_instructions.specs.Instructions.{IsShort, call};
+ghost use Rattle.wasm_instructions.specs.formats.Instructions.{instruction};
 ghost use Rattle.wasm_instructions.specs.declared.table.call.Operands.TheVariants as operands;
 
 use super::{ROOM, put_opcode};
@@ -13,14 +14,14 @@ use wasm_codec::encode::EncodeError;
 use wasm_codec::encode::leb128::put_u32;
 
 /// Appends an instruction with an ordering.
-#[tactic(auto, unfolding(crate::specs::Instructions::operands_text))]
+#[tactic(auto, unfolding(crate::specs::formats::Instructions::instruction, crate::specs::formats::Instructions::operands_format))]
 pub fn append_order<A: Allocator>(
     bytes: &mut Vec<u8, A>,
     op: Opcode,
     ordering: Ordering,
 ) -> Result<(), EncodeError>
     requires short { IsShort op }
-    ensures ok { OnOk result (bytes.new.items ≡ bytes.old.items ++ instruction_text (call op (operands.Order ordering))) }
+    ensures ok { OnOk result (bytes.new.items ≡ bytes.old.items ++ instruction.bytes (call op (operands.Order ordering))) }
     ensures err { OnErr result (bytes.new.items ≡ bytes.old.items) }
     ensures memory { IfErr result (λ e. e ≡ Memory) }
     ensures room { vec_len bytes.old + 24 ≤ vec_capacity bytes.old → IsOk result }
@@ -32,7 +33,7 @@ pub fn append_order<A: Allocator>(
 }
 
 /// Appends an instruction with an ordering and an index.
-#[tactic(auto, unfolding(crate::specs::Instructions::operands_text))]
+#[tactic(auto, unfolding(crate::specs::formats::Instructions::instruction, crate::specs::formats::Instructions::operands_format))]
 pub fn append_order_index<A: Allocator>(
     bytes: &mut Vec<u8, A>,
     op: Opcode,
@@ -40,7 +41,7 @@ pub fn append_order_index<A: Allocator>(
     index: u32,
 ) -> Result<(), EncodeError>
     requires short { IsShort op }
-    ensures ok { OnOk result (bytes.new.items ≡ bytes.old.items ++ instruction_text (call op (operands.OrderIndex ordering index))) }
+    ensures ok { OnOk result (bytes.new.items ≡ bytes.old.items ++ instruction.bytes (call op (operands.OrderIndex ordering index))) }
     ensures err { OnErr result (bytes.new.items ≡ bytes.old.items) }
     ensures memory { IfErr result (λ e. e ≡ Memory) }
     ensures room { vec_len bytes.old + 24 ≤ vec_capacity bytes.old → IsOk result }
@@ -53,7 +54,7 @@ pub fn append_order_index<A: Allocator>(
 }
 
 /// Appends an instruction with an ordering and two indexes.
-#[tactic(auto, unfolding(crate::specs::Instructions::operands_text))]
+#[tactic(auto, unfolding(crate::specs::formats::Instructions::instruction, crate::specs::formats::Instructions::operands_format))]
 pub fn append_order_two_indexes<A: Allocator>(
     bytes: &mut Vec<u8, A>,
     op: Opcode,
@@ -62,7 +63,7 @@ pub fn append_order_two_indexes<A: Allocator>(
     second: u32,
 ) -> Result<(), EncodeError>
     requires short { IsShort op }
-    ensures ok { OnOk result (bytes.new.items ≡ bytes.old.items ++ instruction_text (call op (operands.OrderTwoIndexes ordering first second))) }
+    ensures ok { OnOk result (bytes.new.items ≡ bytes.old.items ++ instruction.bytes (call op (operands.OrderTwoIndexes ordering first second))) }
     ensures err { OnErr result (bytes.new.items ≡ bytes.old.items) }
     ensures memory { IfErr result (λ e. e ≡ Memory) }
     ensures room { vec_len bytes.old + 24 ≤ vec_capacity bytes.old → IsOk result }

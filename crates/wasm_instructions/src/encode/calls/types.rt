@@ -1,9 +1,10 @@
 //! Instructions with block, heap, reference and value types.
 ghost use Rattle.std.specs.Prelude.{◌≡◌, ◌++◌, ◌∷◌, [], ◌+◌, ◌≤◌, IsOk, IfErr, OnOk, OnErr, vec_len, vec_capacity};
 ghost use Rattle.wasm_codec.specs.declared.encode.EncodeError.TheVariants.{Memory};
-ghost use Rattle.wasm_instructions.specs.Instructions.{IsShort, call, instruction_text};
-ghost use Rattle.wasm_instructions.specs.Operands.{nullables_byte};
-ghost use Rattle.wasm_types.specs.TypeRanges.{ValTypeFits};
+ghost use Rattle.wasm_instructions.specs.Instructions.{IsShort, call};
+ghost use Rattle.wasm_instructions.specs.formats.Instructions.{instruction};
+ghost use Rattle.wasm_instructions.specs.formats.Operands.{castop};
+ghost use Rattle.wasm_instructions.specs.Operands.{ValTypeFits};
 ghost use Rattle.wasm_instructions.specs.declared.table.call.Operands.TheVariants as operands;
 
 use super::{ROOM, put_opcode};
@@ -17,9 +18,10 @@ use wasm_types::encode::{put_heap_type, put_val_type};
 use wasm_types::types::{HeapType, RefType, ValType};
 
 /// The flags of a branch on a cast: bit 0 where the first type is nullable, bit 1 where the second is.
+#[tactic(auto, unfolding(crate::specs::formats::Operands::castop))]
 #[inline]
 fn cast_flags(from: RefType, to: RefType) -> u8
-    ensures { result ≡ nullables_byte (from.nullable, to.nullable) }
+    ensures { castop.bytes (from.nullable, to.nullable) ≡ result ∷ [] }
 {
     match (from.nullable, to.nullable) {
         (false, false) => 0,
@@ -30,14 +32,14 @@ fn cast_flags(from: RefType, to: RefType) -> u8
 }
 
 /// Appends an instruction with a block type.
-#[tactic(auto, unfolding(crate::specs::Instructions::operands_text))]
+#[tactic(auto, unfolding(crate::specs::formats::Instructions::instruction, crate::specs::formats::Instructions::operands_format))]
 pub fn append_block<A: Allocator>(
     bytes: &mut Vec<u8, A>,
     op: Opcode,
     block_type: BlockType,
 ) -> Result<(), EncodeError>
     requires short { IsShort op }
-    ensures ok { OnOk result (bytes.new.items ≡ bytes.old.items ++ instruction_text (call op (operands.Block block_type))) }
+    ensures ok { OnOk result (bytes.new.items ≡ bytes.old.items ++ instruction.bytes (call op (operands.Block block_type))) }
     ensures err { OnErr result (bytes.new.items ≡ bytes.old.items) }
     ensures memory { IfErr result (λ e. e ≡ Memory) }
     ensures room { vec_len bytes.old + 24 ≤ vec_capacity bytes.old → IsOk result }
@@ -49,14 +51,14 @@ pub fn append_block<A: Allocator>(
 }
 
 /// Appends an instruction with a heap type.
-#[tactic(auto, unfolding(crate::specs::Instructions::operands_text))]
+#[tactic(auto, unfolding(crate::specs::formats::Instructions::instruction, crate::specs::formats::Instructions::operands_format))]
 pub fn append_heap<A: Allocator>(
     bytes: &mut Vec<u8, A>,
     op: Opcode,
     heap_type: HeapType,
 ) -> Result<(), EncodeError>
     requires short { IsShort op }
-    ensures ok { OnOk result (bytes.new.items ≡ bytes.old.items ++ instruction_text (call op (operands.Heap heap_type))) }
+    ensures ok { OnOk result (bytes.new.items ≡ bytes.old.items ++ instruction.bytes (call op (operands.Heap heap_type))) }
     ensures err { OnErr result (bytes.new.items ≡ bytes.old.items) }
     ensures memory { IfErr result (λ e. e ≡ Memory) }
     ensures room { vec_len bytes.old + 24 ≤ vec_capacity bytes.old → IsOk result }
@@ -68,14 +70,14 @@ pub fn append_heap<A: Allocator>(
 }
 
 /// Appends an instruction with a list of one value type.
-#[tactic(auto, unfolding(crate::specs::Instructions::operands_text))]
+#[tactic(auto, unfolding(crate::specs::formats::Instructions::instruction, crate::specs::formats::Instructions::operands_format))]
 pub fn append_type<A: Allocator>(
     bytes: &mut Vec<u8, A>,
     op: Opcode,
     ty: ValType,
 ) -> Result<(), EncodeError>
     requires short { IsShort op }
-    ensures ok { OnOk result (bytes.new.items ≡ bytes.old.items ++ instruction_text (call op (operands.Types (ty ∷ [])))) }
+    ensures ok { OnOk result (bytes.new.items ≡ bytes.old.items ++ instruction.bytes (call op (operands.Types (ty ∷ [])))) }
     ensures err { OnErr result (bytes.new.items ≡ bytes.old.items) }
     ensures memory { IfErr result (λ e. e ≡ Memory) }
     ensures in_range { ValTypeFits ty }
@@ -89,7 +91,7 @@ pub fn append_type<A: Allocator>(
 }
 
 /// Appends a branch on a cast: the flags of the two reference types, the label, and their heap types.
-#[tactic(auto, unfolding(crate::specs::Instructions::operands_text, crate::specs::Operands::cast_text))]
+#[tactic(auto, unfolding(crate::specs::formats::Instructions::instruction, crate::specs::formats::Instructions::operands_format))]
 pub fn append_cast<A: Allocator>(
     bytes: &mut Vec<u8, A>,
     op: Opcode,
@@ -98,7 +100,7 @@ pub fn append_cast<A: Allocator>(
     to: RefType,
 ) -> Result<(), EncodeError>
     requires short { IsShort op }
-    ensures ok { OnOk result (bytes.new.items ≡ bytes.old.items ++ instruction_text (call op (operands.Cast label from to))) }
+    ensures ok { OnOk result (bytes.new.items ≡ bytes.old.items ++ instruction.bytes (call op (operands.Cast label from to))) }
     ensures err { OnErr result (bytes.new.items ≡ bytes.old.items) }
     ensures memory { IfErr result (λ e. e ≡ Memory) }
     ensures room { vec_len bytes.old + 24 ≤ vec_capacity bytes.old → IsOk result }

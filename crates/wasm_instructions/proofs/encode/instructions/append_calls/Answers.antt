@@ -1,4 +1,4 @@
-use Rattle.wasm_instructions.proofs.InstructionLaws.{Shortest-instructions}
+use Rattle.wasm_instructions.proofs.InstructionFormatLaws.{Shortest-instructions}
 use Rattle.wasm_instructions.proofs.encode.instructions.append_calls.Goals as goal
 
 pub returns-clause-shortest : goal.returns-clause-shortest

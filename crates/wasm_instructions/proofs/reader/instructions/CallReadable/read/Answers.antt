@@ -1,8 +1,8 @@
-use Rattle.wasm_instructions.proofs.InstructionLaws.{IsReadBy-instruction, TakesBytes-instruction}
+use Rattle.wasm_instructions.proofs.InstructionFormatLaws.{Lawful-instruction, instruction_takes}
 use Rattle.wasm_instructions.proofs.reader.instructions.CallReadable.read.Goals as goal
 
-pub returns-clause-finds : goal.returns-clause-finds
-returns-clause-finds c = IsReadBy-instruction
+pub returns-clause-lawful : goal.returns-clause-lawful
+returns-clause-lawful c = Lawful-instruction
 
 pub returns-clause-some : goal.returns-clause-some
-returns-clause-some c = TakesBytes-instruction
+returns-clause-some c = instruction_takes

@@ -1,5 +1,5 @@
 use Rattle.wasm_instructions.specs.Instructions.{kind_of}
-use Rattle.wasm_instructions.proofs.InstructionLaws.{in_table_short}
+use Rattle.wasm_instructions.proofs.OpcodeLaws.{in_table_short}
 use Rattle.wasm_instructions.proofs.table.call.Call.op.Goals as goal
 
 pub returns-clause-short : goal.returns-clause-short

@@ -1,0 +1,160 @@
+-- What the types of the parts of a call say of its numbers, and what is known of its lists, puts it in the range of its format; and what that says of it.
+use Rattle.std.proofs.Common.{ne_eqb, arith, ℕ, Bool, true, false, List, [], ◌∷◌, Option, refl, subst}
+use Rattle.wasm_types.specs.declared.types.heap.AbstractHeapType.{AbstractHeapType}
+use Rattle.wasm_types.specs.declared.types.heap.AbstractHeapType.TheVariants as abstracts
+use Rattle.wasm_types.specs.declared.types.heap.HeapType.{HeapType}
+use Rattle.wasm_types.specs.declared.types.heap.HeapType.TheVariants.{Abstract, Concrete, Exact}
+use Rattle.wasm_types.specs.declared.types.value.ValType.{ValType}
+use Rattle.wasm_types.specs.declared.types.value.ValType.TheVariants as values
+use Rattle.wasm_types.specs.formats.Types.{abstract_type, heap_type, reference, ref_type, val_type}
+use Rattle.wasm_instructions.specs.declared.operands.control.BlockType.{BlockType}
+use Rattle.wasm_instructions.specs.declared.operands.control.BlockType.TheVariants as blocks
+use Rattle.std.specs.List.{AllByRecursion}
+use Rattle.wasm_codec.proofs.ListReading.{IsBytes-from}
+use Rattle.wasm_instructions.specs.declared.operands.control.Catch.{Catch}
+use Rattle.wasm_instructions.specs.declared.operands.control.Catch.TheVariants as catches
+use Rattle.wasm_instructions.specs.declared.operands.control.Handle.{Handle}
+use Rattle.wasm_instructions.specs.declared.operands.control.Handle.TheVariants as handles
+use Rattle.wasm_instructions.specs.declared.operands.memory.MemArg.{MemArg}
+use Rattle.wasm_instructions.specs.declared.operands.memory.Ordering.{Ordering}
+use Rattle.wasm_instructions.specs.declared.operands.memory.Ordering.TheVariants as orderings
+use Rattle.wasm_instructions.specs.declared.table.opcode.Prefix.{Prefix}
+use Rattle.wasm_instructions.specs.declared.table.opcode.Prefix.TheVariants as prefixes
+use Rattle.wasm_instructions.specs.declared.table.opcode.Opcode.{Opcode}
+use Rattle.wasm_instructions.specs.declared.table.opcode.Kind.{Kind}
+use Rattle.wasm_instructions.specs.declared.table.call.Operands.{Operands}
+use Rattle.wasm_instructions.specs.declared.table.call.Operands.TheVariants as operands
+use Rattle.wasm_instructions.specs.Operands.{HeapTypeFits, ValTypeFits, BlockTypeFits, CatchFits, HandleFits}
+use Rattle.wasm_instructions.specs.Instructions.{Instruction, call, InRange, ItemsInRange, IsCounted, IsCall, IsShort, kind_of}
+use Rattle.wasm_codec.specs.formats.Combinators.{little_endian, by_kind}
+use Rattle.wasm_instructions.specs.formats.Operands.{MemArgInRange, block_type, catch_clause, handle_clause, castop, mem_arg, ordering, vector, lanes}
+use Rattle.wasm_instructions.specs.formats.Instructions.{opcode, operands_format, instruction}
+use Rattle.wasm_instructions.proofs.InstructionFormatLaws.{Lawful-instruction, encodes_call}
+use Rattle.wasm_instructions.proofs.OpcodeLaws.{in_table_short}
+
+abstract_some : (ty : AbstractHeapType) → abstract_type.InRange ty
+unfolding abstract_type
+abstract_some abstracts.NoCont = refl
+abstract_some ty = refl
+
+pub heap_in_range : (h : HeapType) → HeapTypeFits h → heap_type.InRange h
+unfolding heap_type
+heap_in_range (Abstract true ty) fits = ((abstract_some ty, refl), refl)
+heap_in_range (Abstract false ty) fits = ((abstract_some ty, refl), refl)
+heap_in_range (Concrete n) fits = (fits, refl)
+heap_in_range (Exact n) fits = (fits, refl)
+
+of_parts : (nullable : Bool) (h : HeapType) → HeapTypeFits h → ref_type.InRange (reference nullable h)
+unfolding ref_type
+of_parts false h fits = (heap_in_range h fits, refl)
+of_parts true (Abstract true ty) fits = ((abstract_some ty, refl), refl)
+of_parts true (Abstract false ty) fits = ((abstract_some ty, refl), refl)
+of_parts true (Concrete n) fits = (heap_in_range (Concrete n) fits, refl)
+of_parts true (Exact n) fits = (heap_in_range (Exact n) fits, refl)
+
+pub val_in_range : (v : ValType) → ValTypeFits v → val_type.InRange v
+unfolding val_type
+val_in_range values.I32 fits = refl
+val_in_range values.I64 fits = refl
+val_in_range values.F32 fits = refl
+val_in_range values.F64 fits = refl
+val_in_range values.V128 fits = refl
+val_in_range (values.Ref r) fits = (of_parts r.nullable r.heap_type fits, refl)
+
+pub block_in_range : (ty : BlockType) → BlockTypeFits ty → block_type.InRange ty
+unfolding block_type
+block_in_range blocks.Empty fits = refl
+block_in_range (blocks.Result ty) fits = (val_in_range ty fits, refl)
+block_in_range (blocks.FunctionType index) fits = (fits, refl)
+
+pub mem_arg_in_range : (arg : MemArg) → MemArgInRange arg → mem_arg.InRange arg
+unfolding mem_arg
+mem_arg_in_range arg fits = fits
+
+catch_in_range : (c : Catch) → CatchFits c → catch_clause.InRange c
+unfolding catch_clause
+catch_in_range (catches.One tag label) fits = (fits, refl)
+catch_in_range (catches.OneRef tag label) fits = (fits, refl)
+catch_in_range (catches.All label) fits = (fits, refl)
+catch_in_range (catches.AllRef label) fits = (fits, refl)
+
+handle_in_range : (h : Handle) → HandleFits h → handle_clause.InRange h
+unfolding handle_clause
+handle_in_range (handles.OnLabel tag label) fits = (fits, refl)
+handle_in_range (handles.OnSwitch tag) fits = (fits, refl)
+
+all_of : {A : Type 0} (R S : A → Type 0) (vs : List A) → ((v : A) → R v → S v) → AllByRecursion R vs → AllByRecursion S vs
+all_of R S [] h fits = tt
+all_of R S (v ∷ vs) h fits = (h v fits.0, all_of R S vs h fits.1)
+
+castop_in_range : (p : Bool × Bool) → castop.InRange p
+unfolding castop
+castop_in_range (false, false) = refl
+castop_in_range (true, false) = refl
+castop_in_range (false, true) = refl
+castop_in_range (true, true) = refl
+
+ordering_in_range : (o : Ordering) → ordering.InRange o
+unfolding ordering
+ordering_in_range orderings.SeqCst = refl
+ordering_in_range o = refl
+
+operands_in_range : (o : Operands) → InRange o → ItemsInRange o → IsCounted o → (operands_format (kind_of o)).InRange o
+unfolding operands_format little_endian vector lanes
+operands_in_range operands.None fits in_lists counted = refl
+operands_in_range (operands.Block ty) fits in_lists counted = (block_in_range ty fits, refl)
+operands_in_range (operands.Index index) fits in_lists counted = (fits, refl)
+operands_in_range (operands.TwoIndexes first second) fits in_lists counted = (fits, refl)
+operands_in_range (operands.BrTable labels default) fits in_lists counted = (((counted, in_lists), fits), refl)
+operands_in_range (operands.Types types) fits in_lists counted = ((counted, all_of ValTypeFits val_type.InRange types val_in_range in_lists), refl)
+operands_in_range (operands.TryTable ty clauses) fits in_lists counted = ((block_in_range ty fits, (counted, all_of CatchFits catch_clause.InRange clauses catch_in_range in_lists)), refl)
+operands_in_range (operands.Mem arg) fits in_lists counted = (mem_arg_in_range arg fits, refl)
+operands_in_range (operands.I32 value) fits in_lists counted = (fits, refl)
+operands_in_range (operands.I64 value) fits in_lists counted = (fits, refl)
+operands_in_range (operands.F32 value) fits in_lists counted = (fits, refl)
+operands_in_range (operands.F64 value) fits in_lists counted = (fits, refl)
+operands_in_range (operands.Heap ty) fits in_lists counted = (heap_in_range ty fits, refl)
+operands_in_range (operands.Resume index handlers) fits in_lists counted = ((fits, (counted, all_of HandleFits handle_clause.InRange handlers handle_in_range in_lists)), refl)
+operands_in_range (operands.ResumeThrow index tag handlers) fits in_lists counted = ((fits.0, (fits.1, (counted, all_of HandleFits handle_clause.InRange handlers handle_in_range in_lists))), refl)
+operands_in_range (operands.Cast label before after) fits in_lists counted = ((castop_in_range (before.nullable, after.nullable), (fits.0, (heap_in_range before.heap_type fits.1, heap_in_range after.heap_type fits.2))), refl)
+operands_in_range (operands.V128 value) fits in_lists counted = (fits, refl)
+operands_in_range (operands.Shuffle lanes) fits in_lists counted = ((fits.0, IsBytes-from lanes fits.1), refl)
+operands_in_range (operands.Lane lane) fits in_lists counted = (fits, refl)
+operands_in_range (operands.MemLane arg lane) fits in_lists counted = ((mem_arg_in_range arg fits.0, fits.1), refl)
+operands_in_range (operands.Order o) fits in_lists counted = (ordering_in_range o, refl)
+operands_in_range (operands.OrderIndex o index) fits in_lists counted = ((ordering_in_range o, fits), refl)
+operands_in_range (operands.OrderTwoIndexes o first second) fits in_lists counted = ((ordering_in_range o, fits), refl)
+
+opcode_in_range : (op : Opcode) → IsShort op → opcode.InRange op
+unfolding opcode
+opcode_in_range op short = by op.prefix op.number short where
+  by : (p : Prefix) (n : ℕ) → let o : Opcode = record { prefix = p; number = n } in IsShort o → opcode.InRange o
+  by prefixes.None n short = ((omega arith, rw (ne_eqb n 0xfb (omega arith), ne_eqb n 0xfc (omega arith), ne_eqb n 0xfd (omega arith), ne_eqb n 0xfe (omega arith)) refl), refl)
+  by prefixes.Fb n short = (omega arith, refl)
+  by prefixes.Fc n short = (omega arith, refl)
+  by prefixes.Fd n short = (omega arith, refl)
+  by prefixes.Fe n short = (omega arith, refl)
+
+pub call_in_range : (op : Opcode) (o : Operands) → IsCall op o → InRange o → ItemsInRange o → IsCounted o → instruction.InRange (call op o)
+unfolding instruction
+call_in_range op o is fits in_lists counted = ((opcode_in_range op (in_table_short op (kind_of o) is), rw is (operands_in_range o fits in_lists counted)), refl)
+
+pub op_short : (op : Opcode) (o : Operands) → instruction.InRange (call op o) → IsShort op
+op_short op o fits = in_table_short op (kind_of o) (encodes_call (instruction.bytes (call op o)) (call op o) (Lawful-instruction.shortest.spells (call op o) fits))
+
+pub is_call : (op : Opcode) (o : Operands) → instruction.InRange (call op o) → IsCall op o
+is_call op o fits = encodes_call (instruction.bytes (call op o)) (call op o) (Lawful-instruction.shortest.spells (call op o) fits)
+
+lists_counted : (o : Operands) → (operands_format (kind_of o)).InRange o → IsCounted o
+unfolding operands_format
+lists_counted (operands.BrTable labels default) fits = fits.0.0.0
+lists_counted (operands.Types types) fits = fits.0.0
+lists_counted (operands.TryTable ty clauses) fits = fits.0.1.0
+lists_counted (operands.Resume index handlers) fits = fits.0.1.0
+lists_counted (operands.ResumeThrow index tag handlers) fits = fits.0.1.1.0
+lists_counted o fits = tt
+
+-- a u32 counts the items of its list
+pub is_counted : (i : Instruction) → instruction.InRange i → IsCounted i.operands
+unfolding instruction
+is_counted i fits = lists_counted i.operands (subst (λ (k : Option Kind). (by_kind operands_format k).InRange i.operands) (is_call i.op i.operands fits) fits.0.1)

@@ -1,0 +1,167 @@
+-- The laws of the formats of opcodes, operands and instructions, and of lists of instructions to the end.
+use Rattle.std.proofs.Common.{◌≡◌, ℕ, ◌+◌, ◌<◌, List, [], ◌∷◌, ◌++◌, length, take, get_or, Option, Some, None, refl, sym, ap, subst, ◌∙◌, lit≤}
+use Rattle.std.proofs.lemmas.List.{take_more, flat_map_more}
+use Rattle.std.specs.List.{AllByRecursion}
+use Rattle.wasm_instructions.specs.declared.table.opcode.Kind.{Kind}
+use Rattle.wasm_instructions.specs.declared.table.opcode.Kind.TheVariants as kinds
+use Rattle.wasm_instructions.specs.declared.table.call.Operands.{Operands}
+use Rattle.wasm_instructions.specs.declared.table.call.Operands.TheVariants as operands
+use Rattle.wasm_codec.proofs.Joining.{Joined-more, Joined-one, Shortest-joined}
+use Rattle.wasm_codec.specs.Grammar.{TakesBytes}
+use Rattle.wasm_codec.proofs.ListReading.{AtMostOne}
+use Rattle.wasm_codec.specs.Encoding.{IsTextOrLonger}
+use Rattle.wasm_codec.specs.Places.{place, keeps}
+use Rattle.wasm_codec.specs.formats.Combinators.{Format, narrow, by_kind}
+use Rattle.wasm_codec.proofs.FormatLaws.{Every-made, Every-after, Every-either, Lawful-byte, Lawful-nothing, Lawful-made, Lawful-then, Lawful-both, Lawful-items, Lawful-by-kind, Lawful-variant-after, Lawful-or-else, Lawful-u32, Lawful-s32, takes_bytes}
+use Rattle.wasm_codec.proofs.RawFormatLaws.{Lawful-s64, Lawful-byte-where, Lawful-little-endian}
+use Rattle.wasm_codec.proofs.PlaceLists.{plain_reads, Lawful-narrow}
+use Rattle.wasm_types.proofs.TypeFormatLaws.{Lawful-heap-type, Lawful-val-type}
+use Rattle.wasm_instructions.specs.Operands.{ieee32, ieee64}
+use Rattle.wasm_instructions.specs.Opcodes.{kind}
+use Rattle.wasm_instructions.specs.Instructions.{Instruction, without_prefix, after_fb, after_fc, after_fd, after_fe, kind_of, IsCall}
+use Rattle.wasm_instructions.specs.formats.Instructions.{fb_part, fc_part, fd_part, fe_part, one_byte_part, is_one_byte, opcode, block_part, index_part, two_indexes_part, br_table_part, types_part, try_table_part, mem_part, i32_part, i64_part, f32_part, f64_part, heap_part, resume_part, resume_throw_part, cast_of, cast_part, v128_part, shuffle_part, lane_part, mem_lane_part, order_part, order_index_part, order_two_indexes_part, operands_format, instruction_of, call_bytes, written, instruction, Instructions, instructions_bytes, ShortestInstructions}
+use Rattle.wasm_instructions.proofs.OperandFormatLaws.{Lawful-block-type, Lawful-catch, Lawful-handle, Lawful-castop, Lawful-mem-arg, Lawful-ordering, Lawful-vector, Lawful-lanes}
+use Rattle.wasm_codec.specs.Lawful.{Shortest, IsLawful}
+
+-- ---- opcodes
+
+pub Lawful-opcode : IsLawful opcode
+unfolding opcode
+Lawful-opcode =
+    (Lawful-variant-after 0xfb after_fb fb_part (λ n. refl) (lit≤ tt) refl
+    (Every-either (Every-after (Every-made (λ n. refl))) (Every-either (Every-after (Every-made (λ n. refl))) (Every-either (Every-after (Every-made (λ n. refl))) (Every-made (λ n. refl))))) Lawful-u32
+    (Lawful-variant-after 0xfc after_fc fc_part (λ n. refl) (lit≤ tt) refl
+    (Every-either (Every-after (Every-made (λ n. refl))) (Every-either (Every-after (Every-made (λ n. refl))) (Every-made (λ n. refl)))) Lawful-u32
+    (Lawful-variant-after 0xfd after_fd fd_part (λ n. refl) (lit≤ tt) refl
+    (Every-either (Every-after (Every-made (λ n. refl))) (Every-made (λ n. refl))) Lawful-u32
+    (Lawful-variant-after 0xfe after_fe fe_part (λ n. refl) (lit≤ tt) refl (Every-made (λ n. refl)) Lawful-u32
+    (Lawful-or-else refl (Lawful-made without_prefix one_byte_part (λ n. refl) (Lawful-byte-where is_one_byte))))))).lawful
+
+-- ---- operands
+
+pub Lawful-operands : (k : Kind) → IsLawful (operands_format k)
+unfolding operands_format
+Lawful-operands kinds.None = Lawful-nothing operands.None
+Lawful-operands kinds.Block = Lawful-made operands.Block block_part (λ ty. refl) Lawful-block-type
+Lawful-operands kinds.Index = Lawful-made operands.Index index_part (λ n. refl) Lawful-u32
+Lawful-operands kinds.TwoIndexes = Lawful-made (λ p. operands.TwoIndexes p.0 p.1) two_indexes_part (λ p. refl) (Lawful-both Lawful-u32 Lawful-u32)
+Lawful-operands kinds.BrTable = Lawful-made (λ p. operands.BrTable p.0 p.1) br_table_part (λ p. refl) (Lawful-both (Lawful-items Lawful-u32) Lawful-u32)
+Lawful-operands kinds.TryTable = Lawful-made (λ p. operands.TryTable p.0 p.1) try_table_part (λ p. refl) (Lawful-both Lawful-block-type (Lawful-items Lawful-catch))
+Lawful-operands kinds.Cast = Lawful-made cast_of cast_part (λ p. refl) (Lawful-both Lawful-castop (Lawful-both Lawful-u32 (Lawful-both Lawful-heap-type Lawful-heap-type)))
+Lawful-operands kinds.Resume = Lawful-made (λ p. operands.Resume p.0 p.1) resume_part (λ p. refl) (Lawful-both Lawful-u32 (Lawful-items Lawful-handle))
+Lawful-operands kinds.ResumeThrow = Lawful-made (λ p. operands.ResumeThrow p.0 p.1.0 p.1.1) resume_throw_part (λ p. refl) (Lawful-both Lawful-u32 (Lawful-both Lawful-u32 (Lawful-items Lawful-handle)))
+Lawful-operands kinds.Heap = Lawful-made operands.Heap heap_part (λ ty. refl) Lawful-heap-type
+Lawful-operands kinds.Types = Lawful-made operands.Types types_part (λ types. refl) (Lawful-items Lawful-val-type)
+Lawful-operands kinds.Mem = Lawful-made operands.Mem mem_part (λ arg. refl) Lawful-mem-arg
+Lawful-operands kinds.I32 = Lawful-made operands.I32 i32_part (λ z. refl) Lawful-s32
+Lawful-operands kinds.I64 = Lawful-made operands.I64 i64_part (λ z. refl) Lawful-s64
+Lawful-operands kinds.F32 = Lawful-made (λ bits. operands.F32 (ieee32 bits)) f32_part (λ n. refl) (Lawful-little-endian 4)
+Lawful-operands kinds.F64 = Lawful-made (λ bits. operands.F64 (ieee64 bits)) f64_part (λ n. refl) (Lawful-little-endian 8)
+Lawful-operands kinds.V128 = Lawful-made operands.V128 v128_part (λ z. refl) Lawful-vector
+Lawful-operands kinds.Shuffle = Lawful-made operands.Shuffle shuffle_part (λ v. refl) Lawful-lanes
+Lawful-operands kinds.Lane = Lawful-made operands.Lane lane_part (λ b. refl) Lawful-byte
+Lawful-operands kinds.MemLane = Lawful-made (λ p. operands.MemLane p.0 p.1) mem_lane_part (λ p. refl) (Lawful-both Lawful-mem-arg Lawful-byte)
+Lawful-operands kinds.Order = Lawful-made operands.Order order_part (λ o. refl) Lawful-ordering
+Lawful-operands kinds.OrderIndex = Lawful-made (λ p. operands.OrderIndex p.0 p.1) order_index_part (λ p. refl) (Lawful-both Lawful-ordering Lawful-u32)
+Lawful-operands kinds.OrderTwoIndexes = Lawful-made (λ p. operands.OrderTwoIndexes p.0 p.1.0 p.1.1) order_two_indexes_part (λ p. refl) (Lawful-both Lawful-ordering (Lawful-both Lawful-u32 Lawful-u32))
+
+-- ---- instructions
+
+-- what is encoded has the kind
+has_kind : (k : Kind) (back : List ℕ) (o : Operands) → (operands_format k).Encodes back o → kind_of o ≡ k
+unfolding operands_format
+has_kind kinds.None back o g = sym (ap kind_of g.1)
+has_kind kinds.Block back o g = sym (ap kind_of g.2)
+has_kind kinds.Index back o g = sym (ap kind_of g.2)
+has_kind kinds.TwoIndexes back o g = sym (ap kind_of g.2)
+has_kind kinds.BrTable back o g = sym (ap kind_of g.2)
+has_kind kinds.TryTable back o g = sym (ap kind_of g.2)
+has_kind kinds.Cast back o g = sym (ap kind_of g.2)
+has_kind kinds.Resume back o g = sym (ap kind_of g.2)
+has_kind kinds.ResumeThrow back o g = sym (ap kind_of g.2)
+has_kind kinds.Heap back o g = sym (ap kind_of g.2)
+has_kind kinds.Types back o g = sym (ap kind_of g.2)
+has_kind kinds.Mem back o g = sym (ap kind_of g.2)
+has_kind kinds.I32 back o g = sym (ap kind_of g.2)
+has_kind kinds.I64 back o g = sym (ap kind_of g.2)
+has_kind kinds.F32 back o g = sym (ap kind_of g.2)
+has_kind kinds.F64 back o g = sym (ap kind_of g.2)
+has_kind kinds.V128 back o g = sym (ap kind_of g.2)
+has_kind kinds.Shuffle back o g = sym (ap kind_of g.2)
+has_kind kinds.Lane back o g = sym (ap kind_of g.2)
+has_kind kinds.MemLane back o g = sym (ap kind_of g.2)
+has_kind kinds.Order back o g = sym (ap kind_of g.2)
+has_kind kinds.OrderIndex back o g = sym (ap kind_of g.2)
+has_kind kinds.OrderTwoIndexes back o g = sym (ap kind_of g.2)
+
+kind_in_range : (k : Kind) (o : Operands) → (operands_format k).InRange o → kind_of o ≡ k
+kind_in_range k o fits = has_kind k ((operands_format k).bytes o) o ((Lawful-operands k).shortest.spells o fits)
+
+Lawful-written : {A : Type 0} (bytes : A → List ℕ) {F : Format A} → ((v : A) → F.InRange v → F.bytes v ≡ bytes v) → IsLawful F → IsLawful (written bytes F)
+Lawful-written {A} bytes {F} same r = record {
+  reads = record {
+    sound = r.reads.sound;
+    complete = λ front v rest s g. r.reads.complete front v rest s g ∙ ap (λ (t : List ℕ). Some (v, place (keeps s front t) rest)) (same v (r.in_range front v g));
+  };
+  shortest = record {
+    spells = λ v fits. subst (λ (t : List ℕ). F.Encodes t v) (same v fits) (r.shortest.spells v fits);
+    again = λ front v g. subst (λ (t : List ℕ). F.Encodes t v) (same v (r.in_range front v g)) (r.shortest.again front v g);
+    least = λ front v g. subst (IsTextOrLonger front) (same v (r.in_range front v g)) (r.shortest.least front v g);
+  };
+  in_range = r.in_range;
+  are_bytes = r.are_bytes;
+  begins = r.begins;
+}
+
+-- operands in range have the kind of their opcode
+pub of_kind : (i : Instruction) (o : Option Kind) → (by_kind operands_format o).InRange i.operands → opcode.bytes i.op ++ (by_kind operands_format o).bytes i.operands ≡ call_bytes i
+of_kind i None fits = absurd fits
+of_kind i (Some k) fits = ap (λ (k : Kind). opcode.bytes i.op ++ (operands_format k).bytes i.operands) (sym (kind_in_range k i.operands fits))
+
+pub Lawful-instruction : IsLawful instruction
+unfolding instruction
+Lawful-instruction = Lawful-written call_bytes (λ i fits. of_kind i (kind i.op) fits.0.1) (Lawful-made instruction_of (λ i. Some (i.op, i.operands)) (λ p. refl) (Lawful-then Lawful-opcode (λ op. Lawful-by-kind Lawful-operands (kind op))))
+
+-- no instruction is encoded by no bytes
+pub instruction_takes : TakesBytes instruction.Encodes
+unfolding instruction opcode
+instruction_takes = takes_bytes Lawful-instruction refl
+
+pub encodes_call : (bytes : List ℕ) (i : Instruction) → instruction.Encodes bytes i → IsCall i.op i.operands
+unfolding instruction
+encodes_call bytes i g = subst (λ (i : Instruction). IsCall i.op i.operands) g.2 (by (kind g.0.0) refl g.1.4) where
+  by : (o : Option Kind) → kind g.0.0 ≡ o → (by_kind operands_format o).Encodes g.1.1 g.0.1 → kind g.0.0 ≡ Some (kind_of g.0.1)
+  by None is h = absurd h
+  by (Some k) is h = is ∙ ap (λ (k : Kind). Some k) (sym (has_kind k g.1.1 g.0.1 h))
+
+-- ---- instructions to the end
+
+pub AtMostOne-instructions : AtMostOne Instructions
+AtMostOne-instructions = Joined-one (plain_reads Lawful-instruction.reads) instruction_takes
+
+pub Shortest-instructions : Shortest Instructions (AllByRecursion instruction.InRange) instructions_bytes
+Shortest-instructions = Shortest-joined Lawful-instruction.shortest
+
+pub Lawful-shortest : IsLawful (narrow instruction)
+Lawful-shortest = Lawful-narrow Lawful-instruction
+
+pub shortest_takes : TakesBytes (narrow instruction).Encodes
+shortest_takes v g = instruction_takes v g.0
+
+pub AtMostOne-shortest : AtMostOne ShortestInstructions
+AtMostOne-shortest = Joined-one (plain_reads Lawful-shortest.reads) shortest_takes
+
+-- one instruction more at the end
+pub record More (calls : List Instruction) (i : ℕ) (old new : List ℕ) : Type 0 where
+  pub bytes : new ≡ old ++ instructions_bytes (take (i + 1) calls)
+  pub encodes : Instructions (instructions_bytes (take (i + 1) calls)) (take (i + 1) calls)
+
+pub instructions_more : (calls : List Instruction) (i : ℕ) (call : Instruction) (old mid new : List ℕ) → i < length calls → get_or calls i call ≡ call → mid ≡ old ++ instructions_bytes (take i calls) → Instructions (instructions_bytes (take i calls)) (take i calls)
+    → new ≡ mid ++ instruction.bytes call → instruction.Encodes (instruction.bytes call) call → More calls i old new
+instructions_more calls i call old mid new lt at so_far encoded more one =
+    let longer : take (i + 1) calls ≡ take i calls ++ call ∷ [] = take_more calls i call lt ∙ ap (λ (k : Instruction). take i calls ++ k ∷ []) at in
+    let joined : instructions_bytes (take i calls ++ call ∷ []) ≡ instructions_bytes (take i calls) ++ instruction.bytes call = sym (flat_map_more instruction.bytes [] (take i calls) call) in
+    record {
+      bytes = rw longer (more ∙ ap (λ (t : List ℕ). t ++ instruction.bytes call) so_far ∙ flat_map_more instruction.bytes old (take i calls) call);
+      encodes = rw longer (subst (λ (t : List ℕ). Instructions t (take i calls ++ call ∷ [])) (sym joined) (Joined-more instruction.Encodes (instructions_bytes (take i calls)) (take i calls) (instruction.bytes call) call encoded one));
+    }

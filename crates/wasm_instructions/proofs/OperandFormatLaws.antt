@@ -1,0 +1,271 @@
+-- The laws of the formats of what stands after opcodes.
+use Rattle.std.proofs.Common.{◌≡◌, ℕ, ℤ, ◌+◌, ◌-◌, ◌*◌, ◌%◌, ◌/◌, ◌^◌, ◌<◌, ◌≤◌, Bool, true, false, not, ◌&&◌, cond, ltb, eqb, List, [], ◌∷◌, ◌++◌, length, Some, refl, sym, ap, subst, ◌∙◌, length-append, inl, inr, arith, lit≤, pos, negsuc, ◌-ℤ◌}
+use Rattle.std.proofs.lemmas.Bool.{ltb-true, ltb-false, lt-ltb, le-ltb, eqb-true}
+use Rattle.std.proofs.lemmas.Int.{ints}
+use Rattle.wasm_instructions.specs.declared.operands.control.BlockType.{BlockType}
+use Rattle.wasm_instructions.specs.declared.operands.control.BlockType.TheVariants as blocks
+use Rattle.wasm_instructions.specs.declared.operands.control.Catch.TheVariants as catches
+use Rattle.wasm_instructions.specs.declared.operands.control.Handle.TheVariants as handles
+use Rattle.wasm_instructions.specs.declared.operands.memory.MemArg.{MemArg}
+use Rattle.wasm_instructions.specs.declared.operands.memory.Ordering.{Ordering}
+use Rattle.wasm_instructions.specs.declared.operands.memory.Ordering.TheVariants as orderings
+use Rattle.wasm_codec.specs.Grammar.{Grammar, TakesBytes, Then, Mapped, Never, Either}
+use Rattle.wasm_codec.specs.Numbers.{Within, SpellsU32, SpellsU64, digits_of, unsigned_text}
+use Rattle.wasm_codec.specs.Encoding.{IsTextOrLonger}
+use Rattle.wasm_codec.proofs.Laws.{least_then}
+use Rattle.wasm_codec.proofs.NumberLaws.{Shortest-u32, Shortest-u64}
+use Rattle.wasm_codec.specs.formats.Combinators.{◌⊗◌, ◌⊗>◌, made, choose, never, u32, u64, little_endian}
+use Rattle.wasm_codec.proofs.FormatLaws.{IsShorter, IsFound, Every-made, Lawful-made, Lawful-made-as, Lawful-then, Lawful-both, Lawful-choose, Lawful-never, Lawful-one-byte, Lawful-byte-or, Lawful-variant, Lawful-or-else, Every-either, Tagged-or, Tagged-never, Lawful-u32, Lawful-u64, Lawful-index, takes_bytes}
+use Rattle.wasm_codec.proofs.RawFormatLaws.{Lawful-made-of, Lawful-raw, Lawful-little-endian}
+use Rattle.wasm_types.specs.formats.Types.{abstract_type, ref_type, val_type}
+use Rattle.wasm_types.proofs.TypeFormatLaws.{Lawful-val-type}
+use Rattle.wasm_instructions.specs.formats.Operands.{empty_byte, function_type_part, result_part, block_type, catch_byte, tag_and_label, label_alone, catch_clause, handle_byte, on_label_part, on_switch_part, handle_clause, nullables_byte, all_nullables, castop, in_first, in_memory, after_alignment, mem_arg_bytes, MemArgInRange, is_named_first, mem_arg, ordering_byte, ordering, from_bits, to_bits, from_halves, to_halves, vector, lanes}
+use Rattle.wasm_codec.specs.Lawful.{Shortest, IsLawful}
+
+-- ---- block types
+
+empty_found : (ty : BlockType) → IsFound empty_byte (blocks.Empty ∷ []) ty
+empty_found blocks.Empty = (refl, refl)
+empty_found (blocks.Result ty) = tt
+empty_found (blocks.FunctionType index) = tt
+
+pub Lawful-block-type : IsLawful block_type
+unfolding block_type val_type ref_type abstract_type
+Lawful-block-type =
+    (Lawful-byte-or empty_byte (blocks.Empty ∷ []) empty_found refl (Every-either (Every-made (λ n. refl)) (Every-made (λ ty. refl)))
+    (Lawful-variant blocks.FunctionType function_type_part (λ n. refl) refl (Every-made (λ ty. refl)) Lawful-index
+    (Lawful-or-else refl (Lawful-made blocks.Result result_part (λ ty. refl) Lawful-val-type)))).lawful
+
+-- ---- clauses
+
+pub Lawful-catch : IsLawful catch_clause
+unfolding catch_clause
+Lawful-catch =
+    (Tagged-or catch_byte 0x00 refl (lit≤ tt) (Every-made (λ p. refl)) (Lawful-made (λ p. catches.One p.0 p.1) tag_and_label (λ p. refl) (Lawful-both Lawful-u32 Lawful-u32))
+    (Tagged-or catch_byte 0x01 refl (lit≤ tt) (Every-made (λ p. refl)) (Lawful-made (λ p. catches.OneRef p.0 p.1) tag_and_label (λ p. refl) (Lawful-both Lawful-u32 Lawful-u32))
+    (Tagged-or catch_byte 0x02 refl (lit≤ tt) (Every-made (λ n. refl)) (Lawful-made catches.All label_alone (λ n. refl) Lawful-u32)
+    (Tagged-or catch_byte 0x03 refl (lit≤ tt) (Every-made (λ n. refl)) (Lawful-made catches.AllRef label_alone (λ n. refl) Lawful-u32)
+    Tagged-never)))).choice.lawful
+
+pub Lawful-handle : IsLawful handle_clause
+unfolding handle_clause
+Lawful-handle =
+    (Tagged-or handle_byte 0x00 refl (lit≤ tt) (Every-made (λ p. refl)) (Lawful-made (λ p. handles.OnLabel p.0 p.1) on_label_part (λ p. refl) (Lawful-both Lawful-u32 Lawful-u32))
+    (Tagged-or handle_byte 0x01 refl (lit≤ tt) (Every-made (λ n. refl)) (Lawful-made handles.OnSwitch on_switch_part (λ n. refl) Lawful-u32)
+    Tagged-never)).choice.lawful
+
+-- ---- bytes from tables
+
+pub catch_takes : TakesBytes catch_clause.Encodes
+unfolding catch_clause
+catch_takes = takes_bytes Lawful-catch refl
+
+pub handle_takes : TakesBytes handle_clause.Encodes
+unfolding handle_clause
+handle_takes = takes_bytes Lawful-handle refl
+
+nullables_found : (p : Bool × Bool) → IsFound nullables_byte all_nullables p
+nullables_found (false, false) = (refl, refl)
+nullables_found (true, false) = (refl, refl)
+nullables_found (false, true) = (refl, refl)
+nullables_found (true, true) = (refl, refl)
+
+pub Lawful-castop : IsLawful castop
+unfolding castop
+Lawful-castop = Lawful-one-byte nullables_byte all_nullables nullables_found
+
+ordering_found : (o : Ordering) → IsFound ordering_byte (orderings.SeqCst ∷ orderings.AcqRel ∷ []) o
+ordering_found orderings.SeqCst = (refl, refl)
+ordering_found orderings.AcqRel = (refl, refl)
+
+pub Lawful-ordering : IsLawful ordering
+unfolding ordering
+Lawful-ordering = Lawful-one-byte ordering_byte (orderings.SeqCst ∷ orderings.AcqRel ∷ []) ordering_found
+
+-- ---- vectors
+
+bits_below : (z : ℤ) → Within (2 ^ 127) z → to_bits z < 2 ^ 128
+bits_below (pos n) fits = omega arith
+bits_below (negsuc n) fits = omega arith
+
+bits_back : (z : ℤ) → Within (2 ^ 127) z → from_bits (to_bits z) ≡ z
+bits_back (pos n) fits = rw (lt-ltb n (2 ^ 127) fits) refl
+bits_back (negsuc n) fits = rw (le-ltb (2 ^ 128 - 1 - n) (2 ^ 127) (omega arith)) (omega (arith, ints))
+
+-- the bits of a number that is less by 2^128, which is within
+wrapped : (z : ℤ) (n : ℕ) → 2 ^ 127 ≤ n → n < 2 ^ 128 → z ≡ pos n -ℤ pos (2 ^ 128) → Within (2 ^ 127) z × (to_bits z ≡ n)
+wrapped (pos k) n le lt e = absurd (omega (arith, ints, e))
+wrapped (negsuc k) n le lt e = (omega (arith, ints, e), omega (arith, ints, e))
+
+bits_again : (n : ℕ) → n < 2 ^ 128 → Within (2 ^ 127) (from_bits n) × (to_bits (from_bits n) ≡ n)
+bits_again n lt = by (ltb n (2 ^ 127)) refl where
+  by : (test : Bool) → ltb n (2 ^ 127) ≡ test → Within (2 ^ 127) (cond test (pos n) (pos n -ℤ pos (2 ^ 128))) × (to_bits (cond test (pos n) (pos n -ℤ pos (2 ^ 128))) ≡ n)
+  by true is = (ltb-true _ _ is, refl)
+  by false not = wrapped (pos n -ℤ pos (2 ^ 128)) n (ltb-false _ _ not) lt refl
+
+abbrev halved : ℕ → ℕ × ℕ
+halved k = (k % 2 ^ 64, k / 2 ^ 64)
+
+halves_are : (k low high : ℕ) → k % 2 ^ 64 ≡ low → k / 2 ^ 64 ≡ high → halved k ≡ (low, high)
+halves_are k low high e f = ap (λ (a : ℕ). (a, k / 2 ^ 64)) e ∙ ap (λ (b : ℕ). (low, b)) f
+
+halves_of : (p : ℕ × ℕ) → (p.0 < 256 ^ 8) × (p.1 < 256 ^ 8) → Within (2 ^ 127) (from_halves p) × (to_halves (from_halves p) ≡ p)
+halves_of p fits =
+    let again = bits_again (p.0 + 2 ^ 64 * p.1) (omega (arith, fits.0, fits.1)) in
+    (again.0, halves_are (to_bits (from_bits (p.0 + 2 ^ 64 * p.1))) p.0 p.1 (rw again.1 (omega (arith, fits.0))) (rw again.1 (omega (arith, fits.0))))
+
+pub halves_back : (z : ℤ) → Within (2 ^ 127) z → ((to_halves z).0 < 256 ^ 8) × ((to_halves z).1 < 256 ^ 8) × (from_halves (to_halves z) ≡ z)
+halves_back z fits =
+    let lt = bits_below z fits in
+    let n = to_bits z in
+    let e : n % 2 ^ 64 + 2 ^ 64 * (n / 2 ^ 64) ≡ n = omega arith in
+    (omega arith, omega (arith, lt), ap from_bits e ∙ bits_back z fits)
+
+pub Lawful-vector : IsLawful vector
+unfolding vector little_endian
+Lawful-vector =
+    Lawful-made-of from_halves to_halves (Within (2 ^ 127)) halves_of
+    (λ z fits. let h = halves_back z fits in ((h.0, h.1), h.2))
+    (Lawful-both (Lawful-little-endian 8) (Lawful-little-endian 8))
+
+pub Lawful-lanes : IsLawful lanes
+unfolding lanes
+Lawful-lanes = Lawful-raw 16
+
+-- ---- memory arguments
+
+abbrev AfterEncodes : ℕ → Grammar MemArg
+AfterEncodes n = (after_alignment n).Encodes
+
+abbrev MemArgEncodes : Grammar MemArg
+MemArgEncodes = Mapped (λ p. p.1) (Then SpellsU32 AfterEncodes)
+
+-- ---- numbers in memory arguments
+
+u32_in_range : (bytes : List ℕ) (n : ℕ) → SpellsU32 bytes n → n < 2 ^ 32
+unfolding SpellsU32
+u32_in_range bytes n g = g.2.1
+
+u64_in_range : (bytes : List ℕ) (n : ℕ) → SpellsU64 bytes n → n < 2 ^ 64
+unfolding SpellsU64
+u64_in_range bytes n g = g.2.1
+
+u32_has_bytes : (bytes : List ℕ) (n : ℕ) → SpellsU32 bytes n → 0 < length bytes
+unfolding SpellsU32
+u32_has_bytes [] n g = absurd g.0
+u32_has_bytes (b ∷ bytes) n g = omega arith
+
+-- a number below 128 is one byte
+one_byte : (n : ℕ) → n < 128 → unsigned_text n ≡ n ∷ []
+unfolding unsigned_text digits_of
+one_byte n lt = rw (lt-ltb n 128 lt) refl
+
+-- ---- the shortest encoding of a memory argument
+
+-- a memory argument is its parts
+parts_are : (arg : MemArg) (align memory : ℕ) → align ≡ arg.align → memory ≡ arg.memory_index → in_memory align (memory, arg.offset) ≡ arg
+parts_are arg align memory e f = ap (λ (a : ℕ). in_memory a (memory, arg.offset)) e ∙ ap (λ (m : ℕ). in_memory arg.align (m, arg.offset)) f
+
+mem_arg_encodes : (arg : MemArg) → MemArgInRange arg → MemArgEncodes (mem_arg_bytes arg) arg
+mem_arg_encodes arg fits = by (eqb arg.memory_index 0) refl where
+  align : arg.align < 64
+  align = fits.align
+
+  first : eqb arg.memory_index 0 ≡ true → AfterEncodes arg.align (unsigned_text arg.offset) arg
+  first is = rw (lt-ltb arg.align 64 align) (arg.offset, Shortest-u64.spells arg.offset fits.offset, parts_are arg arg.align 0 refl (sym (eqb-true arg.memory_index 0 is)))
+
+  named : AfterEncodes (arg.align + 64) (unsigned_text arg.memory_index ++ unsigned_text arg.offset) arg
+  named =
+      let same : arg.align + 64 - 64 ≡ arg.align = omega arith in
+      rw (le-ltb (arg.align + 64) 64 (omega arith), lt-ltb (arg.align + 64) 128 (omega arith))
+      ((arg.memory_index, arg.offset), (unsigned_text arg.memory_index, unsigned_text arg.offset, refl, Shortest-u32.spells arg.memory_index fits.memory_index, Shortest-u64.spells arg.offset fits.offset), parts_are arg (arg.align + 64 - 64) arg.memory_index same refl)
+
+  by : (test : Bool) → eqb arg.memory_index 0 ≡ test → Mapped (λ (p : ℕ × MemArg). p.1) (Then SpellsU32 AfterEncodes) (cond test (unsigned_text arg.align ++ unsigned_text arg.offset) (unsigned_text (arg.align + 64) ++ (unsigned_text arg.memory_index ++ unsigned_text arg.offset))) arg
+  by true is = ((arg.align, arg), (unsigned_text arg.align, unsigned_text arg.offset, refl, Shortest-u32.spells arg.align (omega arith), first is), refl)
+  by false not = ((arg.align + 64, arg), (unsigned_text (arg.align + 64), unsigned_text arg.memory_index ++ unsigned_text arg.offset, refl, Shortest-u32.spells (arg.align + 64) (omega arith), named), refl)
+
+-- ---- every encoding of a memory argument
+
+abbrev IsMemArg : List ℕ → MemArg → Type 0
+IsMemArg bytes arg = MemArgInRange arg × IsTextOrLonger bytes (mem_arg_bytes arg)
+
+in_first_is : (bytes front back : List ℕ) (n offset : ℕ) → bytes ≡ front ++ back → SpellsU32 front n → n < 64 → SpellsU64 back offset → IsMemArg bytes (in_first n offset)
+in_first_is bytes front back n offset e g lt h =
+    (record { align = lt; memory_index = omega arith; offset = u64_in_range back offset h }, least_then bytes front back (unsigned_text n) (unsigned_text offset) e (Shortest-u32.least front n g) (Shortest-u64.least back offset h))
+
+-- memory 0 with its index is longer
+named_first : (bytes front mid back : List ℕ) (n offset : ℕ) → bytes ≡ front ++ (mid ++ back) → SpellsU32 front n → 64 ≤ n → n < 128 → SpellsU32 mid 0 → SpellsU64 back offset → IsTextOrLonger bytes (unsigned_text (n - 64) ++ unsigned_text offset)
+named_first bytes front mid back n offset e g le lt h o =
+    let one : length (unsigned_text (n - 64)) ≡ 1 = ap (length {A = ℕ}) (one_byte (n - 64) (omega arith)) in
+    inr (rw e (at_least (length back) (length (unsigned_text offset)) one (shorter back (unsigned_text offset) (Shortest-u64.least back offset o))))
+  where
+    shorter : (b t : List ℕ) → IsTextOrLonger b t → length t ≤ length b
+    shorter b t (inl p) = omega (arith, ap (length {A = ℕ}) p)
+    shorter b t (inr p) = omega arith
+
+    at_least : (b t : ℕ) → length (unsigned_text (n - 64)) ≡ 1 → length (unsigned_text offset) ≤ length back → length (unsigned_text (n - 64) ++ unsigned_text offset) < length (front ++ (mid ++ back))
+    at_least b t one le = omega (arith, length-append (unsigned_text (n - 64)) (unsigned_text offset), length-append front (mid ++ back), length-append mid back, u32_has_bytes front n g, u32_has_bytes mid 0 h)
+
+in_memory_is : (bytes front back mid last : List ℕ) (n memory offset : ℕ) → bytes ≡ front ++ back → back ≡ mid ++ last → SpellsU32 front n → 64 ≤ n → n < 128 → SpellsU32 mid memory → SpellsU64 last offset → IsMemArg bytes (in_memory (n - 64) (memory, offset))
+in_memory_is bytes front back mid last n memory offset e f g le lt h o =
+    (record { align = omega arith; memory_index = u32_in_range mid memory h; offset = u64_in_range last offset o }, by (eqb memory 0) refl)
+  where
+    same : n - 64 + 64 ≡ n
+    same = omega arith
+
+    whole : bytes ≡ front ++ (mid ++ last)
+    whole = e ∙ ap (λ (t : List ℕ). front ++ t) f
+
+    by : (test : Bool) → eqb memory 0 ≡ test → IsTextOrLonger bytes (cond test (unsigned_text (n - 64) ++ unsigned_text offset) (unsigned_text (n - 64 + 64) ++ (unsigned_text memory ++ unsigned_text offset)))
+    by true is = named_first bytes front mid last n offset whole g le lt (subst (λ (m : ℕ). SpellsU32 mid m) (eqb-true memory 0 is) h) o
+    by false not = subst (λ (m : ℕ). IsTextOrLonger bytes (unsigned_text m ++ (unsigned_text memory ++ unsigned_text offset))) (sym same)
+        (least_then bytes front (mid ++ last) (unsigned_text n) (unsigned_text memory ++ unsigned_text offset) whole (Shortest-u32.least front n g)
+        (least_then (mid ++ last) mid last (unsigned_text memory) (unsigned_text offset) refl (Shortest-u32.least mid memory h) (Shortest-u64.least last offset o)))
+
+mem_arg_is : (bytes : List ℕ) (arg : MemArg) → MemArgEncodes bytes arg → IsMemArg bytes arg
+mem_arg_is bytes arg g = subst (IsMemArg bytes) g.2 (by (ltb g.0.0 64) refl (ltb g.0.0 128) refl g.1.4) where
+  by : (s : Bool) → ltb g.0.0 64 ≡ s → (t : Bool) → ltb g.0.0 128 ≡ t
+      → Either s (Mapped (in_first g.0.0) SpellsU64) (Either t (Mapped (in_memory (g.0.0 - 64)) (Then SpellsU32 (λ memory. SpellsU64))) Never) g.1.1 g.0.1 → IsMemArg bytes g.0.1
+  by true low t t-is h = subst (IsMemArg bytes) h.2 (in_first_is bytes g.1.0 g.1.1 g.0.0 h.0 g.1.2 g.1.3 (ltb-true _ _ low) h.1)
+  by false high true low h = subst (IsMemArg bytes) h.2 (in_memory_is bytes g.1.0 g.1.1 h.1.0 h.1.1 g.0.0 h.0.0 h.0.1 g.1.2 h.1.2 g.1.3 (ltb-false _ _ high) (ltb-true _ _ low) h.1.3 h.1.4)
+  by false high false higher h = absurd h
+
+pub Shortest-mem-arg : Shortest MemArgEncodes MemArgInRange mem_arg_bytes
+Shortest-mem-arg = record {
+  spells = mem_arg_encodes;
+  again = λ bytes arg g. mem_arg_encodes arg (mem_arg_is bytes arg g).0;
+  least = λ bytes arg g. (mem_arg_is bytes arg g).1;
+}
+
+Lawful-after-alignment : (n : ℕ) → IsLawful (after_alignment n)
+Lawful-after-alignment n =
+    Lawful-choose (ltb n 64) (Lawful-made (in_first n) (λ arg. Some arg.offset) (λ offset. refl) Lawful-u64)
+    (Lawful-choose (ltb n 128) (Lawful-made (in_memory (n - 64)) (λ arg. Some (arg.memory_index, arg.offset)) (λ p. refl) (Lawful-both Lawful-u32 Lawful-u64))
+    Lawful-never)
+
+abbrev Long : ℕ → Bool → Bool → MemArg → Type 0
+Long n s t arg = IsShorter (not s && eqb arg.memory_index 0) (mem_arg_bytes arg) (unsigned_text n ++ (choose s (made (in_first n) (λ arg. Some arg.offset) u64) (choose t (made (in_memory (n - 64)) (λ arg. Some (arg.memory_index, arg.offset)) (u32 ⊗ u64)) never)).bytes arg)
+
+-- naming memory 0 takes a longer encoding, and the rest is as it is written
+named_is_longer : (front : List ℕ) (p : ℕ × MemArg) → (u32 ⊗> after_alignment).Encodes front p → IsShorter (is_named_first p) (mem_arg_bytes p.1) ((u32 ⊗> after_alignment).bytes p)
+named_is_longer front p g = by (ltb p.0 64) refl (ltb p.0 128) refl g.4 where
+  named : (m offset : ℕ) → 64 ≤ p.0 → p.0 < 128 → (z : Bool) → eqb m 0 ≡ z → IsShorter z (cond z (unsigned_text (p.0 - 64) ++ unsigned_text offset) (unsigned_text (p.0 - 64 + 64) ++ (unsigned_text m ++ unsigned_text offset))) (unsigned_text p.0 ++ (unsigned_text m ++ unsigned_text offset))
+  named m offset le lt true is =
+      let zero : m ≡ 0 = eqb-true m 0 is in
+      let a : length (unsigned_text (p.0 - 64)) ≡ 1 = ap (length {A = ℕ}) (one_byte (p.0 - 64) (omega arith)) in
+      let b : length (unsigned_text p.0) ≡ 1 = ap (length {A = ℕ}) (one_byte p.0 lt) in
+      let c : length (unsigned_text m) ≡ 1 = ap (length {A = ℕ}) (one_byte m (omega arith)) in
+      omega (arith, a, b, c, length-append (unsigned_text (p.0 - 64)) (unsigned_text offset), length-append (unsigned_text p.0) (unsigned_text m ++ unsigned_text offset), length-append (unsigned_text m) (unsigned_text offset))
+  named m offset le lt false is =
+      let same : p.0 - 64 + 64 ≡ p.0 = omega arith in
+      ap (λ (k : ℕ). unsigned_text k ++ (unsigned_text m ++ unsigned_text offset)) same
+
+  by : (s : Bool) → ltb p.0 64 ≡ s → (t : Bool) → ltb p.0 128 ≡ t
+      → Either s (Mapped (in_first p.0) SpellsU64) (Either t (Mapped (in_memory (p.0 - 64)) (Then SpellsU32 (λ memory. SpellsU64))) Never) g.1 p.1 → Long p.0 s t p.1
+  by true low t t-is h = subst (Long p.0 true t) h.2 refl
+  by false high true low h = subst (Long p.0 false true) h.2 (named h.0.0 h.0.1 (ltb-false _ _ high) (ltb-true _ _ low) (eqb h.0.0 0) refl)
+  by false high false higher h = absurd h
+
+pub Lawful-mem-arg : IsLawful mem_arg
+unfolding mem_arg
+Lawful-mem-arg = Lawful-made-as is_named_first (λ p. p.1) mem_arg_bytes MemArgInRange (Lawful-then Lawful-u32 Lawful-after-alignment) Shortest-mem-arg (λ bytes arg g. (mem_arg_is bytes arg g).0) named_is_longer

@@ -1,0 +1,208 @@
+-- Instructions: an opcode and its operands (WebAssembly Core 3.0, 5.4 Instructions).
+use Rattle.std.specs.Prelude.{ℕ, ℤ, Bool, not, ◌||◌, ◌==◌, List, ◌++◌, Option, Some, None}
+use Rattle.wasm_types.specs.declared.types.heap.HeapType.{HeapType}
+use Rattle.wasm_types.specs.declared.types.value.ValType.{ValType}
+use Rattle.wasm_instructions.specs.declared.operands.control.BlockType.{BlockType}
+use Rattle.wasm_instructions.specs.declared.operands.control.Catch.{Catch}
+use Rattle.wasm_instructions.specs.declared.operands.control.Handle.{Handle}
+use Rattle.wasm_instructions.specs.declared.operands.memory.MemArg.{MemArg}
+use Rattle.wasm_instructions.specs.declared.operands.memory.Ordering.{Ordering}
+use Rattle.wasm_instructions.specs.declared.table.opcode.Prefix.TheVariants as prefixes
+use Rattle.wasm_instructions.specs.declared.table.opcode.Opcode.{Opcode}
+use Rattle.wasm_instructions.specs.declared.table.opcode.Kind.{Kind}
+use Rattle.wasm_instructions.specs.declared.table.opcode.Kind.TheVariants as kinds
+use Rattle.wasm_instructions.specs.declared.table.call.Operands.{Operands}
+use Rattle.wasm_instructions.specs.declared.table.call.Operands.TheVariants as operands
+use Rattle.wasm_codec.specs.Grammar.{Grammar}
+use Rattle.wasm_codec.specs.formats.Combinators.{Format, a_byte, nothing, ◌⊗◌, ◌⊗>◌, made, any_of, or_else, variant_after, byte_where, u32, s32, s64, little_endian, items, narrow, by_kind, AllOf, all_bytes}
+use Rattle.wasm_types.specs.formats.Types.{heap_type, reference, val_type}
+use Rattle.wasm_instructions.specs.formats.Operands.{block_type, catch_clause, handle_clause, castop, mem_arg, ordering, vector, lanes}
+use Rattle.wasm_instructions.specs.Operands.{ieee32, ieee64}
+use Rattle.wasm_instructions.specs.Opcodes.{kind}
+use Rattle.wasm_instructions.specs.Instructions.{Instruction, without_prefix, after_fb, after_fc, after_fd, after_fe, kind_of}
+
+-- ---- opcodes
+
+abbrev pub fb_part : Opcode → Option ℕ
+fb_part op = elim op.prefix [ prefixes.Fb ↦ Some op.number | _ ↦ None ]
+
+abbrev pub fc_part : Opcode → Option ℕ
+fc_part op = elim op.prefix [ prefixes.Fc ↦ Some op.number | _ ↦ None ]
+
+abbrev pub fd_part : Opcode → Option ℕ
+fd_part op = elim op.prefix [ prefixes.Fd ↦ Some op.number | _ ↦ None ]
+
+abbrev pub fe_part : Opcode → Option ℕ
+fe_part op = elim op.prefix [ prefixes.Fe ↦ Some op.number | _ ↦ None ]
+
+abbrev pub one_byte_part : Opcode → Option ℕ
+one_byte_part op = elim op.prefix [ prefixes.None ↦ Some op.number | _ ↦ None ]
+
+abbrev pub is_one_byte : ℕ → Bool
+is_one_byte byte = not (byte == 0xfb || byte == 0xfc || byte == 0xfd || byte == 0xfe)
+
+-- 0xFB n:u32 | 0xFC n:u32 | 0xFD n:u32 | 0xFE n:u32 | b:byte: which numbers and bytes are opcodes, the table tells
+unfoldable pub opcode : Format Opcode
+opcode = any_of
+    (variant_after 0xfb after_fb fb_part u32
+    (variant_after 0xfc after_fc fc_part u32
+    (variant_after 0xfd after_fd fd_part u32
+    (variant_after 0xfe after_fe fe_part u32
+    (or_else (made without_prefix one_byte_part (byte_where is_one_byte)))))))
+
+-- ---- the parts of operands
+
+abbrev pub block_part : Operands → Option BlockType
+block_part (operands.Block ty) = Some ty
+block_part o = None
+
+abbrev pub index_part : Operands → Option ℕ
+index_part (operands.Index index) = Some index
+index_part o = None
+
+abbrev pub two_indexes_part : Operands → Option (ℕ × ℕ)
+two_indexes_part (operands.TwoIndexes first second) = Some (first, second)
+two_indexes_part o = None
+
+abbrev pub br_table_part : Operands → Option (List ℕ × ℕ)
+br_table_part (operands.BrTable labels default) = Some (labels, default)
+br_table_part o = None
+
+abbrev pub types_part : Operands → Option (List ValType)
+types_part (operands.Types types) = Some types
+types_part o = None
+
+abbrev pub try_table_part : Operands → Option (BlockType × List Catch)
+try_table_part (operands.TryTable ty clauses) = Some (ty, clauses)
+try_table_part o = None
+
+abbrev pub mem_part : Operands → Option MemArg
+mem_part (operands.Mem arg) = Some arg
+mem_part o = None
+
+abbrev pub i32_part : Operands → Option ℤ
+i32_part (operands.I32 value) = Some value
+i32_part o = None
+
+abbrev pub i64_part : Operands → Option ℤ
+i64_part (operands.I64 value) = Some value
+i64_part o = None
+
+abbrev pub f32_part : Operands → Option ℕ
+f32_part (operands.F32 value) = Some value.bits
+f32_part o = None
+
+abbrev pub f64_part : Operands → Option ℕ
+f64_part (operands.F64 value) = Some value.bits
+f64_part o = None
+
+abbrev pub heap_part : Operands → Option HeapType
+heap_part (operands.Heap ty) = Some ty
+heap_part o = None
+
+abbrev pub resume_part : Operands → Option (ℕ × List Handle)
+resume_part (operands.Resume index handlers) = Some (index, handlers)
+resume_part o = None
+
+abbrev pub resume_throw_part : Operands → Option (ℕ × (ℕ × List Handle))
+resume_throw_part (operands.ResumeThrow index tag handlers) = Some (index, (tag, handlers))
+resume_throw_part o = None
+
+abbrev pub cast_of : (Bool × Bool) × (ℕ × (HeapType × HeapType)) → Operands
+cast_of p = operands.Cast p.1.0 (reference p.0.0 p.1.1.0) (reference p.0.1 p.1.1.1)
+
+abbrev pub cast_part : Operands → Option ((Bool × Bool) × (ℕ × (HeapType × HeapType)))
+cast_part (operands.Cast label before after) = Some ((before.nullable, after.nullable), (label, (before.heap_type, after.heap_type)))
+cast_part o = None
+
+abbrev pub v128_part : Operands → Option ℤ
+v128_part (operands.V128 value) = Some value
+v128_part o = None
+
+abbrev pub shuffle_part : Operands → Option (List ℕ)
+shuffle_part (operands.Shuffle lanes) = Some lanes
+shuffle_part o = None
+
+abbrev pub lane_part : Operands → Option ℕ
+lane_part (operands.Lane lane) = Some lane
+lane_part o = None
+
+abbrev pub mem_lane_part : Operands → Option (MemArg × ℕ)
+mem_lane_part (operands.MemLane arg lane) = Some (arg, lane)
+mem_lane_part o = None
+
+abbrev pub order_part : Operands → Option Ordering
+order_part (operands.Order ordering) = Some ordering
+order_part o = None
+
+abbrev pub order_index_part : Operands → Option (Ordering × ℕ)
+order_index_part (operands.OrderIndex ordering index) = Some (ordering, index)
+order_index_part o = None
+
+abbrev pub order_two_indexes_part : Operands → Option (Ordering × (ℕ × ℕ))
+order_two_indexes_part (operands.OrderTwoIndexes ordering first second) = Some (ordering, (first, second))
+order_two_indexes_part o = None
+
+-- ---- operands, one line for each kind
+
+-- what follows the opcode in each line of 5.4, as in 0x0E l*:list(labelidx) l_n:labelidx => br_table l* l_n
+unfoldable pub operands_format : Kind → Format Operands
+-- 5.4.1 Control Instructions
+operands_format kinds.None = nothing operands.None
+operands_format kinds.Block = made operands.Block block_part block_type
+operands_format kinds.Index = made operands.Index index_part u32
+operands_format kinds.TwoIndexes = made (λ p. operands.TwoIndexes p.0 p.1) two_indexes_part (u32 ⊗ u32)
+operands_format kinds.BrTable = made (λ p. operands.BrTable p.0 p.1) br_table_part (items u32 ⊗ u32)
+operands_format kinds.TryTable = made (λ p. operands.TryTable p.0 p.1) try_table_part (block_type ⊗ items catch_clause)
+operands_format kinds.Cast = made cast_of cast_part (castop ⊗ u32 ⊗ heap_type ⊗ heap_type)
+-- of the proposal on stack switching
+operands_format kinds.Resume = made (λ p. operands.Resume p.0 p.1) resume_part (u32 ⊗ items handle_clause)
+operands_format kinds.ResumeThrow = made (λ p. operands.ResumeThrow p.0 p.1.0 p.1.1) resume_throw_part (u32 ⊗ u32 ⊗ items handle_clause)
+-- 5.4.2 Reference Instructions
+operands_format kinds.Heap = made operands.Heap heap_part heap_type
+-- 5.4.4 Parametric Instructions
+operands_format kinds.Types = made operands.Types types_part (items val_type)
+-- 5.4.6 Memory Instructions
+operands_format kinds.Mem = made operands.Mem mem_part mem_arg
+-- 5.4.7 Numeric Instructions
+operands_format kinds.I32 = made operands.I32 i32_part s32
+operands_format kinds.I64 = made operands.I64 i64_part s64
+operands_format kinds.F32 = made (λ bits. operands.F32 (ieee32 bits)) f32_part (little_endian 4)
+operands_format kinds.F64 = made (λ bits. operands.F64 (ieee64 bits)) f64_part (little_endian 8)
+-- 5.4.8 Vector Instructions
+operands_format kinds.V128 = made operands.V128 v128_part vector
+operands_format kinds.Shuffle = made operands.Shuffle shuffle_part lanes
+operands_format kinds.Lane = made operands.Lane lane_part a_byte
+operands_format kinds.MemLane = made (λ p. operands.MemLane p.0 p.1) mem_lane_part (mem_arg ⊗ a_byte)
+-- of the proposal on shared types
+operands_format kinds.Order = made operands.Order order_part ordering
+operands_format kinds.OrderIndex = made (λ p. operands.OrderIndex p.0 p.1) order_index_part (ordering ⊗ u32)
+operands_format kinds.OrderTwoIndexes = made (λ p. operands.OrderTwoIndexes p.0 p.1.0 p.1.1) order_two_indexes_part (ordering ⊗ u32 ⊗ u32)
+
+-- ---- instructions
+
+abbrev pub instruction_of : Opcode × Operands → Instruction
+instruction_of p = record { op = p.0; operands = p.1 }
+
+-- the shortest encodings of an opcode and of operands, of which the operands tell the kind
+abbrev pub call_bytes : Instruction → List ℕ
+call_bytes i = opcode.bytes i.op ++ (operands_format (kind_of i.operands)).bytes i.operands
+
+-- the same format, where the shortest encodings of values in range are those
+abbrev pub written : {A : Type 0} → (A → List ℕ) → Format A → Format A
+written bytes F = record { Encodes = F.Encodes; at = F.at; bytes = bytes; InRange = F.InRange; first = F.first }
+
+-- instr ::= an opcode of the table and operands of its kind
+unfoldable pub instruction : Format Instruction
+instruction = written call_bytes (made instruction_of (λ i. Some (i.op, i.operands)) (opcode ⊗> (λ op. by_kind operands_format (kind op))))
+
+-- the encodings of these instructions, with nothing between and nothing left over
+abbrev pub Instructions : Grammar (List Instruction)
+Instructions = AllOf instruction
+
+abbrev pub instructions_bytes : List Instruction → List ℕ
+instructions_bytes = all_bytes instruction
+
+-- the same, each in its shortest encoding
+abbrev pub ShortestInstructions : Grammar (List Instruction)
+ShortestInstructions = AllOf (narrow instruction)

@@ -1,0 +1,171 @@
+-- What stands after opcodes (WebAssembly Core 3.0, 5.4 Instructions). Handlers, orderings and casts to descriptors are of
+-- proposals: there this is the project's own profile.
+use Rattle.std.specs.Prelude.{ℕ, ℤ, ◌+◌, ◌-◌, ◌*◌, ◌%◌, ◌/◌, ◌^◌, ◌<◌, Bool, true, false, not, ◌&&◌, ◌==◌, nat_lt, if◌then◌else◌, List, [], ◌∷◌, ◌++◌, Option, Some, None, pos, negsuc, ◌-ℤ◌}
+use Rattle.wasm_types.specs.declared.types.value.ValType.{ValType}
+use Rattle.wasm_instructions.specs.declared.operands.control.BlockType.{BlockType}
+use Rattle.wasm_instructions.specs.declared.operands.control.BlockType.TheVariants as blocks
+use Rattle.wasm_instructions.specs.declared.operands.control.Catch.{Catch}
+use Rattle.wasm_instructions.specs.declared.operands.control.Catch.TheVariants as catches
+use Rattle.wasm_instructions.specs.declared.operands.control.Handle.{Handle}
+use Rattle.wasm_instructions.specs.declared.operands.control.Handle.TheVariants as handles
+use Rattle.wasm_instructions.specs.declared.operands.memory.MemArg.{MemArg}
+use Rattle.wasm_instructions.specs.declared.operands.memory.Ordering.{Ordering}
+use Rattle.wasm_instructions.specs.declared.operands.memory.Ordering.TheVariants as orderings
+use Rattle.wasm_codec.specs.Numbers.{Within, unsigned_text}
+use Rattle.wasm_codec.specs.formats.Combinators.{Format, never, ◌⊗◌, ◌⊗>◌, made, made_as, made_of, any_of, or_else, no_other, variant, tagged, choose, one_byte, byte_or, u32, u64, index, raw, little_endian}
+use Rattle.wasm_types.specs.formats.Types.{val_type}
+
+-- ---- block types (5.4.1 Control Instructions)
+
+abbrev pub empty_byte : BlockType → Option ℕ
+empty_byte blocks.Empty = Some 0x40
+empty_byte ty = None
+
+abbrev pub function_type_part : BlockType → Option ℕ
+function_type_part (blocks.FunctionType index) = Some index
+function_type_part ty = None
+
+abbrev pub result_part : BlockType → Option ValType
+result_part (blocks.Result ty) = Some ty
+result_part ty = None
+
+-- blocktype ::= 0x40 => ε | t:valtype => t | i:s33 => i  (if i ≥ 0)
+unfoldable pub block_type : Format BlockType
+block_type = any_of
+    (byte_or empty_byte (blocks.Empty ∷ [])
+    (variant blocks.FunctionType function_type_part index
+    (or_else (made blocks.Result result_part val_type))))
+
+-- ---- clauses of try_table (5.4.1 Control Instructions)
+
+abbrev pub catch_byte : Catch → ℕ
+catch_byte (catches.One tag label) = 0x00
+catch_byte (catches.OneRef tag label) = 0x01
+catch_byte (catches.All label) = 0x02
+catch_byte (catches.AllRef label) = 0x03
+
+abbrev pub tag_and_label : Catch → Option (ℕ × ℕ)
+tag_and_label (catches.One tag label) = Some (tag, label)
+tag_and_label (catches.OneRef tag label) = Some (tag, label)
+tag_and_label c = None
+
+abbrev pub label_alone : Catch → Option ℕ
+label_alone (catches.All label) = Some label
+label_alone (catches.AllRef label) = Some label
+label_alone c = None
+
+-- catch ::= 0x00 x:tagidx l:labelidx => catch x l | 0x01 x:tagidx l:labelidx => catch_ref x l
+--         | 0x02 l:labelidx => catch_all l | 0x03 l:labelidx => catch_all_ref l
+unfoldable pub catch_clause : Format Catch
+catch_clause = any_of
+    (tagged catch_byte 0x00 (made (λ p. catches.One p.0 p.1) tag_and_label (u32 ⊗ u32))
+    (tagged catch_byte 0x01 (made (λ p. catches.OneRef p.0 p.1) tag_and_label (u32 ⊗ u32))
+    (tagged catch_byte 0x02 (made catches.All label_alone u32)
+    (tagged catch_byte 0x03 (made catches.AllRef label_alone u32)
+    no_other))))
+
+-- ---- clauses of resume (of the proposal on stack switching)
+
+abbrev pub handle_byte : Handle → ℕ
+handle_byte (handles.OnLabel tag label) = 0x00
+handle_byte (handles.OnSwitch tag) = 0x01
+
+abbrev pub on_label_part : Handle → Option (ℕ × ℕ)
+on_label_part (handles.OnLabel tag label) = Some (tag, label)
+on_label_part h = None
+
+abbrev pub on_switch_part : Handle → Option ℕ
+on_switch_part (handles.OnSwitch tag) = Some tag
+on_switch_part h = None
+
+-- hdl ::= 0x00 x:tagidx l:labelidx => on x l | 0x01 x:tagidx => on x switch
+unfoldable pub handle_clause : Format Handle
+handle_clause = any_of
+    (tagged handle_byte 0x00 (made (λ p. handles.OnLabel p.0 p.1) on_label_part (u32 ⊗ u32))
+    (tagged handle_byte 0x01 (made handles.OnSwitch on_switch_part u32)
+    no_other))
+
+-- ---- the flags of branches on casts (5.4.1 Control Instructions)
+
+abbrev pub nullables_byte : Bool × Bool → Option ℕ
+nullables_byte (false, false) = Some 0x00
+nullables_byte (true, false) = Some 0x01
+nullables_byte (false, true) = Some 0x02
+nullables_byte (true, true) = Some 0x03
+
+abbrev pub all_nullables : List (Bool × Bool)
+all_nullables = (false, false) ∷ (true, false) ∷ (false, true) ∷ (true, true) ∷ []
+
+-- castop ::= 0x00 => (ε, ε) | 0x01 => (null, ε) | 0x02 => (ε, null) | 0x03 => (null, null)
+unfoldable pub castop : Format (Bool × Bool)
+castop = one_byte nullables_byte all_nullables
+
+-- ---- memory arguments (5.4.6 Memory Instructions)
+
+abbrev pub in_first : ℕ → ℕ → MemArg
+in_first align offset = record { offset = offset; align = align; memory_index = 0 }
+
+abbrev pub in_memory : ℕ → ℕ × ℕ → MemArg
+in_memory align p = record { offset = p.1; align = align; memory_index = p.0 }
+
+-- below 64 it is the alignment, and an offset in memory 0 follows; below 128 it is the alignment and 64, and a
+-- memory's index and an offset follow
+abbrev pub after_alignment : ℕ → Format MemArg
+after_alignment n =
+    choose (nat_lt n 64) (made (in_first n) (λ arg. Some arg.offset) u64)
+    (choose (nat_lt n 128) (made (in_memory (n - 64)) (λ arg. Some (arg.memory_index, arg.offset)) (u32 ⊗ u64))
+    never)
+
+-- memory 0 is written without its index
+abbrev pub mem_arg_bytes : MemArg → List ℕ
+mem_arg_bytes arg =
+    if arg.memory_index == 0 then unsigned_text arg.align ++ unsigned_text arg.offset
+    else unsigned_text (arg.align + 64) ++ (unsigned_text arg.memory_index ++ unsigned_text arg.offset)
+
+pub record MemArgInRange (arg : MemArg) : Type 0 where
+  pub align : arg.align < 64
+  pub memory_index : arg.memory_index < 2 ^ 32
+  pub offset : arg.offset < 2 ^ 64
+
+-- memory 0 that is named
+abbrev pub is_named_first : ℕ × MemArg → Bool
+is_named_first p = not (nat_lt p.0 64) && (p.1.memory_index == 0)
+
+-- memarg ::= n:u32 o:u64 => (0, {align n, offset o})  (if n < 2^6)
+--          | n:u32 x:memidx o:u64 => (x, {align n - 2^6, offset o})  (if 2^6 ≤ n < 2^7)
+unfoldable pub mem_arg : Format MemArg
+mem_arg = made_as is_named_first (λ p. p.1) mem_arg_bytes MemArgInRange (u32 ⊗> after_alignment)
+
+-- ---- orderings (of the proposal on shared types)
+
+abbrev pub ordering_byte : Ordering → Option ℕ
+ordering_byte orderings.SeqCst = Some 0x00
+ordering_byte orderings.AcqRel = Some 0x01
+
+unfoldable pub ordering : Format Ordering
+ordering = one_byte ordering_byte (orderings.SeqCst ∷ orderings.AcqRel ∷ [])
+
+-- ---- vectors (5.4.8 Vector Instructions)
+
+-- the number of 128 bits in two's complement
+abbrev pub from_bits : ℕ → ℤ
+from_bits bits = if nat_lt bits (2 ^ 127) then pos bits else pos bits -ℤ pos (2 ^ 128)
+
+abbrev pub to_bits : ℤ → ℕ
+to_bits (pos n) = n
+to_bits (negsuc n) = 2 ^ 128 - 1 - n
+
+-- the low half and then the high half
+abbrev pub from_halves : ℕ × ℕ → ℤ
+from_halves p = from_bits (p.0 + 2 ^ 64 * p.1)
+
+abbrev pub to_halves : ℤ → ℕ × ℕ
+to_halves value = (to_bits value % 2 ^ 64, to_bits value / 2 ^ 64)
+
+-- 0xFD 12:u32 (b:byte)^16 => v128.const bytes^-1_i128(b^16): the least byte first
+unfoldable pub vector : Format ℤ
+vector = made_of from_halves to_halves (Within (2 ^ 127)) (little_endian 8 ⊗ little_endian 8)
+
+-- 0xFD 13:u32 (l:laneidx)^16 => i8x16.shuffle l^16
+unfoldable pub lanes : Format (List ℕ)
+lanes = raw 16
