@@ -8,30 +8,7 @@ use Rattle.wasm_codec.specs.Grammar.{Grammar, After, Joined, TakesBytes}
 use Rattle.wasm_codec.specs.Reading.{Reader, IsReadBy}
 use Rattle.wasm_codec.specs.Answers.{IsLongestFront, IsNormalForm, SpellsSome}
 use Rattle.wasm_codec.specs.Rewriting.{AppendsNormalForm}
-use Rattle.wasm_modules.specs.Modules.{header}
-use Rattle.wasm_codec.proofs.Laws.{Shortest}
-use Rattle.wasm_codec.proofs.Joining.{Joined-one, Shortest-joined}
-use Rattle.wasm_codec.proofs.ListReading.{AtMostOne}
-
--- ---- these bytes, and then a spelling
-
-After-one : {V : Type 0} {G : Grammar V} (front : List ℕ) → AtMostOne G → AtMostOne (After front G)
-After-one {V} {G} front one bytes v w g h =
-    let same : g.0 ≡ h.0 = append_cancel_left front g.0 h.0 (sym g.1 ∙ h.1) in
-    one h.0 v w (subst (λ (t : List ℕ). G t v) same g.2) h.2
-
-same_length : (front back text : List ℕ) → length text < length back → length (front ++ text) < length (front ++ back)
-same_length front back text lt = omega (arith, length-append front text, length-append front back)
-
-Shortest-after : {V : Type 0} {G : Grammar V} {F : V → Type 0} {text : V → List ℕ} (front : List ℕ) → Shortest G F text → Shortest (After front G) F (λ v. front ++ text v)
-Shortest-after {text = text} front s = record {
-  spells = λ v fits. (text v, refl, s.spells v fits);
-  again = λ bytes v g. (text v, refl, s.again g.0 v g.2);
-  least = λ bytes v g. elim (s.least g.0 v g.2) [
-    | inl p ↦ inl (g.1 ∙ ap (λ (t : List ℕ). front ++ t) p)
-    | inr lt ↦ inr (subst (λ (t : List ℕ). length (front ++ text v) < length t) (sym g.1) (same_length front g.0 (text v) lt))
-  ];
-}
+use Rattle.wasm_modules.specs.Sections.{header}
 
 -- ---- the header, and then items
 
@@ -43,13 +20,7 @@ Headed G = After header (Joined G)
 abbrev pub IsHeadedFront : {V : Type 0} → Grammar V → List ℕ → Type 0
 IsHeadedFront G front = (front ≡ []) ⊎ SpellsSome (Headed G) front
 
-pub AtMostOne-headed : {V : Type 0} {G : Grammar V} {read : Reader V} → IsReadBy G read → TakesBytes G → AtMostOne (Headed G)
-AtMostOne-headed r some = After-one header (Joined-one r some)
-
-pub Shortest-headed : {V : Type 0} {G : Grammar V} {F : V → Type 0} {text : V → List ℕ} → Shortest G F text → Shortest (Headed G) (AllByRecursion F) (λ vs. header ++ flat_map text vs)
-Shortest-headed s = Shortest-after header (Shortest-joined s)
-
--- the longest front of the items is the longest front after the header
+-- the longest whole prefix of the items is the longest whole prefix after the header
 pub headed_longest : {V : Type 0} {G : Grammar V} (bytes body : List ℕ) (n : ℕ) → bytes ≡ header ++ body → IsLongestFront (SpellsSome (Joined G)) body n → IsLongestFront (IsHeadedFront G) bytes (8 + n)
 headed_longest {V} {G} bytes body n e l = record {
   front = header ++ l.front;
@@ -67,13 +38,13 @@ headed_longest {V} {G} bytes body n e l = record {
       let le = l.longest back after (append_cancel_left header body (back ++ after) row) (w.0, w.1.2) in
       omega (arith, le, ap (length {A = ℕ}) w.1.1, length-append header back)
 
--- where the items have no longer front that is whole, there is no module
+-- where the items have no longer prefix that is whole, there is no module
 pub headed_none_whole : {V : Type 0} {G : Grammar V} (bytes body : List ℕ) (n : ℕ) → bytes ≡ header ++ body → n < length body → IsLongestFront (SpellsSome (Joined G)) body n → (vs : List V) → Headed G bytes vs → ⊥
 headed_none_whole bytes body n e lt l vs g =
     let le = (headed_longest bytes body n e l).longest bytes [] (sym (append-nil bytes)) (inr (vs, g)) in
     absurd (omega (arith, le, ap (length {A = ℕ}) e, length-append header body))
 
--- without the header no front but the empty one is whole
+-- without the header no prefix but the empty one is whole
 pub no_header : {V : Type 0} {G : Grammar V} (bytes : List ℕ) → ((rest : List ℕ) → bytes ≡ header ++ rest → ⊥) → IsLongestFront (IsHeadedFront G) bytes 0
 no_header {V} {G} bytes without = record {
   front = [];
@@ -102,7 +73,7 @@ header_missing now bytes None h = λ rest e.
     let there : pointwise eqb (take 8 bytes) header ≡ true = (bytes_decides (take 8 bytes) header).1 front in
     absurd cc
 
--- the text of the items after the header is the text of the whole
+-- the shortest encoding of the items, after the header, is that of the whole
 pub headed_normal : {V : Type 0} {G : Grammar V} (text_of : V → List ℕ) (bytes body before after : List ℕ) → bytes ≡ header ++ body → before ≡ header → AppendsNormalForm (Joined G) (flat_map text_of) body before after → IsNormalForm (Headed G) (λ vs. header ++ flat_map text_of vs) bytes after
 headed_normal text_of bytes body before after e is n = record {
   value = n.normal.value;

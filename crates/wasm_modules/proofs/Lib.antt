@@ -1,4 +1,4 @@
 pub mod HeaderLaws
+pub mod ModuleFormatLaws
 pub mod ModuleLaws
-pub mod SizedLaws
 pub mod DecodedModuleLaws

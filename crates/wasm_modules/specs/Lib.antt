@@ -1,3 +1,4 @@
+pub mod Sections
+pub mod formats
 pub mod Modules
-pub mod Sized
 pub mod DecodedModules

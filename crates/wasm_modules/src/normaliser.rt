@@ -3,8 +3,10 @@ ghost use Rattle.std.specs.Prelude.{◌≡◌, ◌↔◌, ◌<◌, ◌≤◌, �
 ghost use Rattle.wasm_codec.specs.Answers.{IsOrMemory, IfRefused, IsLongestFront, IsNormalForm};
 ghost use Rattle.wasm_codec.specs.Encoding.{IsTextOrLonger};
 ghost use Rattle.wasm_codec.specs.Rewriting.{Rewrites};
-ghost use Rattle.wasm_modules.specs.Modules.{parts_of, section_of, type_section_id};
-ghost use Rattle.wasm_modules.specs.DecodedModules.{DecodedSection, SpellsDecodedSection, decoded_section_at, decoded_section_text, SpellsDecodedModule, IsDecodedModuleFront, decoded_module_text, RewritesSection};
+ghost use Rattle.wasm_codec.specs.Lawful.{plain};
+ghost use Rattle.wasm_modules.specs.Sections.{DecodedSection, parts_of, section_of, type_section_id};
+ghost use Rattle.wasm_modules.specs.DecodedModules.{IsDecodedModulePrefix, RewritesSection};
+ghost use Rattle.wasm_modules.specs.formats.Modules.{decoded_section, decoded_module};
 ghost use Rattle.wasm_codec.specs.declared.reader.cursor.Fault.TheVariants as faults;
 ghost use Rattle.wasm_codec.specs.declared.encode.EncodeError.TheVariants.{Memory};
 
@@ -21,41 +23,41 @@ use wasm_types::types::TypeEntry;
 /// other body as it is (Core 3.0, 5.5.16).
 ///
 /// `Refused` carries the number of bytes of the header and of the sections that are whole before the first that isn't,
-/// or 0 where the header isn't there. A type section whose body spells no entries isn't whole.
+/// or 0 where the header isn't there. A type section whose body encodes no entries isn't whole.
 pub fn normalise_module(alloc: Global, bytes: &[u8]) -> Result<Vec<u8>, ReadError>
-    // The result is the text of a decoded module that the bytes spell.
+    // The result is the shortest encoding of a decoded module that the bytes encode.
     ensures given { IfOk result (λ text.
-        IsNormalForm SpellsDecodedModule decoded_module_text bytes.now text.items) }
-    // Where the bytes spell a decoded module, its text is given, unless memory ran out.
-    ensures complete { (sections : List DecodedSection) → SpellsDecodedModule bytes.now sections →
-        IsOrMemory (λ text. text.items) (decoded_module_text sections) result }
-    // `at` is the length of the longest front that is whole.
-    ensures front { IfRefused result (IsLongestFront IsDecodedModuleFront bytes.now) }
-    // The bytes spell at most one decoded module.
+        IsNormalForm decoded_module.Encodes decoded_module.bytes bytes.now text.items) }
+    // Where the bytes encode a decoded module, its shortest encoding is given, unless memory ran out.
+    ensures complete { (sections : List DecodedSection) → decoded_module.Encodes bytes.now sections →
+        IsOrMemory (λ text. text.items) (decoded_module.bytes sections) result }
+    // `at` is the length of the longest prefix that is whole.
+    ensures front { IfRefused result (IsLongestFront IsDecodedModulePrefix bytes.now) }
+    // The bytes encode at most one decoded module.
     ensures one { (sections others : List DecodedSection) →
-        SpellsDecodedModule bytes.now sections → SpellsDecodedModule bytes.now others → sections ≡ others }
-    // The result spells a decoded module exactly if the bytes do.
+        decoded_module.Encodes bytes.now sections → decoded_module.Encodes bytes.now others → sections ≡ others }
+    // The result encodes a decoded module exactly if the bytes do.
     ensures same { IfOk result (λ text. (sections : List DecodedSection) →
-        SpellsDecodedModule text.items sections ↔ SpellsDecodedModule bytes.now sections) }
-    // The result is normal: what it spells has it as its text.
+        decoded_module.Encodes text.items sections ↔ decoded_module.Encodes bytes.now sections) }
+    // The result is normal: it is the shortest encoding of what it encodes.
     ensures normal { IfOk result (λ text. (sections : List DecodedSection) →
-        SpellsDecodedModule text.items sections → text.items ≡ decoded_module_text sections) }
-    // Every other spelling of a decoded module is longer than its text.
-    ensures shortest { (sections : List DecodedSection) → SpellsDecodedModule bytes.now sections →
-        IsTextOrLonger bytes.now (decoded_module_text sections) }
+        decoded_module.Encodes text.items sections → text.items ≡ decoded_module.bytes sections) }
+    // Every other encoding of a decoded module is longer than its shortest.
+    ensures shortest { (sections : List DecodedSection) → decoded_module.Encodes bytes.now sections →
+        IsTextOrLonger bytes.now (decoded_module.bytes sections) }
     // The result is no longer than the bytes.
     ensures no_longer { IfOk result (λ text. length text.items ≤ length bytes.now) }
 {
     decoded_text_of(alloc, bytes)
 }
 
-/// The module's text, written section by section as they are read.
+/// The module's shortest encoding, written section by section as they are read.
 fn decoded_text_of(alloc: Global, bytes: &[u8]) -> Result<Vec<u8>, ReadError>
     ensures given { IfOk result (λ text.
-        IsNormalForm SpellsDecodedModule decoded_module_text bytes.now text.items) }
-    ensures front { IfRefused result (IsLongestFront IsDecodedModuleFront bytes.now) }
-    ensures unspelled { IfRefused result (λ _.
-        (sections : List DecodedSection) → SpellsDecodedModule bytes.now sections → ⊥) }
+        IsNormalForm decoded_module.Encodes decoded_module.bytes bytes.now text.items) }
+    ensures front { IfRefused result (IsLongestFront IsDecodedModulePrefix bytes.now) }
+    ensures none { IfRefused result (λ _.
+        (sections : List DecodedSection) → decoded_module.Encodes bytes.now sections → ⊥) }
 {
     let Some(rest) = after_header(bytes) else {
         return Err(ReadError::Refused { at: 0 });
@@ -73,20 +75,16 @@ fn decoded_text_of(alloc: Global, bytes: &[u8]) -> Result<Vec<u8>, ReadError>
 impl<'a> Rewritable<'a> for RawSection<'a> {
     ghost Value = { DecodedSection };
 
-    ghost spells = { SpellsDecodedSection };
-
-    ghost read_at = { decoded_section_at };
-
-    ghost text_of = { decoded_section_text };
+    ghost format = { decoded_section };
 
     fn rewrite(alloc: Global, cursor: &mut Cursor<'a>, text: &mut Vec<u8>) -> Result<(), Fault> {
         rewrite_section(alloc, cursor, text)
     }
 }
 
-/// Appends the text of the section at the front.
+/// Appends the shortest encoding of the next section.
 fn rewrite_section(alloc: Global, cursor: &mut Cursor<'_>, text: &mut Vec<u8>) -> Result<(), Fault>
-    ensures rewrites { Rewrites decoded_section_at decoded_section_text cursor.old cursor.new text.old.items text.new.items result }
+    ensures rewrites { Rewrites (plain decoded_section.at) decoded_section.bytes cursor.old.left cursor.new.left text.old.items text.new.items result }
 {
     let mut after = cursor.fork();
     let section = read_section(&mut after)?;
@@ -95,9 +93,9 @@ fn rewrite_section(alloc: Global, cursor: &mut Cursor<'_>, text: &mut Vec<u8>) -
     Ok(())
 }
 
-/// Appends the text of a section that was read, with its body in the fewest bytes where it is a type section.
+/// Appends the shortest encoding of a section that was read, with its body in the fewest bytes where it is a type section.
 ///
-/// `Malformed` where it is a type section whose body spells no entries.
+/// `Malformed` where it is a type section whose body encodes no entries.
 fn append_normal(alloc: Global, text: &mut Vec<u8>, section: &RawSection<'_>) -> Result<(), Fault>
     requires { length section.now.body.now < 2 ^ 32 }
     ensures { RewritesSection (parts_of section.now) text.old.items text.new.items result }
@@ -108,7 +106,7 @@ fn append_normal(alloc: Global, text: &mut Vec<u8>, section: &RawSection<'_>) ->
     only_memory(append_section(section.id, section, text))
 }
 
-/// Appends a type section with the entries that this body spells, written where the section lies: their size is put
+/// Appends a type section with the entries that this body encodes, written where the section lies: their size is put
 /// before them once they are there.
 fn append_type_section(alloc: Global, text: &mut Vec<u8>, body: &[u8]) -> Result<(), Fault>
     requires { length body.now < 2 ^ 32 }

@@ -2,11 +2,16 @@
 ghost use Rattle.std.specs.Prelude.{◌≡◌, ◌++◌, ℕ, List, drop, map, IfOk, IfErr, IfSome, IfNone, refl};
 ghost use Rattle.std.proofs.lemmas.List.{map_push};
 ghost use Rattle.std.specs.List.{AllByRecursion};
-ghost use Rattle.wasm_codec.specs.Reading.{Reads, map_ok};
+ghost use Rattle.wasm_codec.specs.Reading.{map_ok};
+ghost use Rattle.wasm_codec.specs.Lawful.{IsPrefixFree};
+ghost use Rattle.wasm_codec.specs.Places.{Reads};
+ghost use Rattle.wasm_codec.specs.formats.Bodies.{byte_list};
 ghost use Rattle.wasm_codec.specs.Answers.{IsOrMemory, IfRefused, IsLongestFront};
 ghost use Rattle.wasm_codec.specs.Encoding.{IsTextOrLonger};
-ghost use Rattle.wasm_modules.specs.Modules.{header, IsSection, SectionParts, SpellsSection, SpellsModule, IsModuleFront, all_parts_of, module_text, parts_of, byte_list_at, section_at};
-ghost use Rattle.wasm_modules.specs.DecodedModules.{DecodedSection, IsDecodedSection, framed, decoded_module_text, Holds};
+ghost use Rattle.wasm_modules.specs.Sections.{header, SectionParts, DecodedSection, all_parts_of, parts_of};
+ghost use Rattle.wasm_modules.specs.Modules.{IsSection, IsModulePrefix};
+ghost use Rattle.wasm_modules.specs.formats.Modules.{raw_section, raw_module, decoded_section, decoded_module, HoldsContent};
+ghost use Rattle.wasm_modules.specs.DecodedModules.{IsDecodedSection, framed};
 ghost use Rattle.wasm_codec.specs.declared.reader.cursor.Fault.TheVariants.{Malformed};
 
 use crate::section::{HEADER, RawSection};
@@ -16,45 +21,48 @@ use wasm_codec::reader::cursor::{Cursor, Fault};
 use wasm_codec::reader::lists::read_joined;
 use wasm_codec::reader::readable::Readable;
 
-/// The sections of the module that the bytes spell, with their bodies as they lie in the bytes (Core 3.0, 5.5.16).
+/// The sections of the module that the bytes encode, with their bodies as they lie in the bytes (Core 3.0, 5.5.16).
 ///
 /// No body is looked into. `Refused` carries the number of bytes of the header and of the sections that are whole
 /// before the first that isn't, or 0 where the header isn't there.
 pub fn read_module<'a>(alloc: Global, bytes: &'a [u8]) -> Result<Vec<RawSection<'a>>, ReadError>
-    // What is given, the bytes spell.
-    ensures given { IfOk result (λ sections. SpellsModule bytes.now (all_parts_of sections.items)) }
-    // What the bytes spell is given, unless memory ran out.
-    ensures complete { (sections : List SectionParts) → SpellsModule bytes.now sections →
+    // What is given, the bytes encode.
+    ensures given { IfOk result (λ sections. raw_module.Encodes bytes.now (all_parts_of sections.items)) }
+    // What the bytes encode is given, unless memory ran out.
+    ensures complete { (sections : List SectionParts) → raw_module.Encodes bytes.now sections →
         IsOrMemory (λ given. all_parts_of given.items) sections result }
-    // `at` is the length of the longest front that is whole.
-    ensures front { IfRefused result (IsLongestFront IsModuleFront bytes.now) }
-    // The bytes spell at most one list.
+    // `at` is the length of the longest prefix that is whole.
+    ensures front { IfRefused result (IsLongestFront IsModulePrefix bytes.now) }
+    // The bytes encode at most one list.
     ensures one { (sections others : List SectionParts) →
-        SpellsModule bytes.now sections → SpellsModule bytes.now others → sections ≡ others }
-    // The text of a list, as `Module` writes it, is read back.
+        raw_module.Encodes bytes.now sections → raw_module.Encodes bytes.now others → sections ≡ others }
+    // The shortest encoding of a list, as `Module` writes it, is read back.
     ensures read_back { (sections : List SectionParts) → AllByRecursion IsSection sections →
-        bytes.now ≡ module_text sections →
+        bytes.now ≡ raw_module.bytes sections →
         IsOrMemory (λ given. all_parts_of given.items) sections result }
-    // The text of a decoded module is read back as its sections, each with its body as bytes.
+    // The shortest encoding of a decoded module is read back as its sections, each with its body as bytes.
     ensures decoded_read_back { (sections : List DecodedSection) → AllByRecursion IsDecodedSection sections →
-        bytes.now ≡ decoded_module_text sections →
+        bytes.now ≡ decoded_module.bytes sections →
         IsOrMemory (λ given. all_parts_of given.items) (map framed sections) result }
-    // That body of a type section spells its entries.
+    // That body of a type section encodes its entries.
     ensures entries_read_back { (section : DecodedSection) → IsDecodedSection section →
-        Holds (framed section) section.content }
-    // Every other spelling of a list is longer than its text.
-    ensures shortest { (sections : List SectionParts) → SpellsModule bytes.now sections →
-        IsTextOrLonger bytes.now (module_text sections) }
+        HoldsContent (framed section) section.content }
+    // Every other encoding of a list is longer than its shortest.
+    ensures shortest { (sections : List SectionParts) → raw_module.Encodes bytes.now sections →
+        IsTextOrLonger bytes.now (raw_module.bytes sections) }
+    // No encoding of any of these is a proper prefix of another of its kind.
+    ensures prefix_free_sections { IsPrefixFree raw_section.Encodes }
+    ensures prefix_free_decoded_sections { IsPrefixFree decoded_section.Encodes }
 {
     sections_of(alloc, bytes)
 }
 
 /// The sections, read one by one to the end of the bytes.
 fn sections_of<'a>(alloc: Global, bytes: &'a [u8]) -> Result<Vec<RawSection<'a>>, ReadError>
-    ensures given { IfOk result (λ sections. SpellsModule bytes.now (all_parts_of sections.items)) }
-    ensures front { IfRefused result (IsLongestFront IsModuleFront bytes.now) }
-    ensures unspelled { IfRefused result (λ _.
-        (sections : List SectionParts) → SpellsModule bytes.now sections → ⊥) }
+    ensures given { IfOk result (λ sections. raw_module.Encodes bytes.now (all_parts_of sections.items)) }
+    ensures front { IfRefused result (IsLongestFront IsModulePrefix bytes.now) }
+    ensures none { IfRefused result (λ _.
+        (sections : List SectionParts) → raw_module.Encodes bytes.now sections → ⊥) }
 {
     let Some(rest) = after_header(bytes) else {
         return Err(ReadError::Refused { at: 0 });
@@ -77,9 +85,7 @@ impl<'a> Readable<'a> for RawSection<'a> {
 
     ghost views_each = { record { none = refl; more = λ sections section. map_push parts_of sections section } };
 
-    ghost spells = { SpellsSection };
-
-    ghost read_at = { section_at };
+    ghost format = { raw_section };
 
     fn read(alloc: Global, cursor: &mut Cursor<'a>) -> Result<RawSection<'a>, Fault> {
         let _ = alloc;
@@ -97,9 +103,8 @@ pub(crate) fn after_header(bytes: &[u8]) -> Option<&[u8]>
 }
 
 /// Bytes after their number.
-#[tactic(auto, unfolding(crate::specs::Modules::byte_list_at))]
 fn read_byte_list<'a>(cursor: &mut Cursor<'a>) -> Result<&'a [u8], Fault>
-    ensures reads { Reads byte_list_at cursor.old cursor.new (map_ok (λ body. body.now) result) }
+    ensures reads { Reads byte_list.at cursor.old cursor.new (map_ok (λ body. body.now) result) }
     ensures err { IfErr result (λ e. e ≡ Malformed) }
 {
     let size = cursor.u32()? as usize;
@@ -107,9 +112,9 @@ fn read_byte_list<'a>(cursor: &mut Cursor<'a>) -> Result<&'a [u8], Fault>
 }
 
 /// A section.
-#[tactic(auto, unfolding(crate::specs::Modules::section_at))]
+#[tactic(auto, unfolding(crate::specs::formats::Modules::raw_section))]
 pub fn read_section<'a>(cursor: &mut Cursor<'a>) -> Result<RawSection<'a>, Fault>
-    ensures reads { Reads section_at cursor.old cursor.new (map_ok parts_of result) }
+    ensures reads { Reads raw_section.at cursor.old cursor.new (map_ok parts_of result) }
     ensures err { IfErr result (λ e. e ≡ Malformed) }
 {
     let id = cursor.byte()?;

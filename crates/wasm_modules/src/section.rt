@@ -1,6 +1,6 @@
 //! Sections whose body is bytes (Core 3.0, 5.5.2).
-ghost use Rattle.std.specs.Prelude.{◌≡◌, ◌++◌, ◌∷◌, OnOk, OnErr, IsErrOf, IsSomeAnd, IsNone};
-ghost use Rattle.wasm_codec.specs.Encoding.{byte_list_text};
+ghost use Rattle.std.specs.Prelude.{◌≡◌, ◌++◌, ◌∷◌, OnOk, OnErr, IfErr, length};
+ghost use Rattle.wasm_codec.specs.Encoding.{byte_list_text, IsCount, IsRefusal, OnlyTooLong, too_long_at_once};
 
 use std::alloc::Allocator;
 use wasm_codec::encode::{Encode, EncodeError, encode_bytes, keep_or_undo};
@@ -22,9 +22,13 @@ pub struct RawSection<'a> {
 
 /// The size of the body and then the body (Core 3.0, 5.5.2).
 impl<'a> Encode for RawSection<'a> {
-    ghost text = { λ section. byte_list_text section.body.now };
+    ghost bytes = { λ section. byte_list_text section.body.now };
 
-    ghost misaligned = { λ _. ⊥ };
+    ghost CanEncode = { λ section. IsCount (length section.body.now) };
+
+    ghost refuses = { OnlyTooLong };
+
+    ghost at_once = { λ section. too_long_at_once (length section.body.now) };
 
     fn encode<A: Allocator>(&self, sink: &mut Vec<u8, A>) -> Result<(), EncodeError> {
         encode_bytes(self.body, sink)
@@ -37,10 +41,9 @@ pub fn append_section<S: Encode, A: Allocator>(
     section: &S,
     dst: &mut Vec<u8, A>,
 ) -> Result<(), EncodeError>
-    ensures ok { OnOk result (IsSomeAnd (S.text section.now) (λ t. dst.new.items ≡ dst.old.items ++ id ∷ t)) }
-    ensures too_long { IsErrOf result EncodeError.TooLong → IsNone (S.text section.now) }
-    ensures alignment { IsErrOf result EncodeError.Alignment → IsNone (S.text section.now) }
-    ensures misaligned { IsErrOf result EncodeError.Alignment → S.misaligned section.now }
+    ensures ok { OnOk result (dst.new.items ≡ dst.old.items ++ id ∷ S.bytes section.now) }
+    ensures can { OnOk result (S.CanEncode section.now) }
+    ensures refused { IfErr result (IsRefusal S.CanEncode S.refuses section.now) }
     ensures err { OnErr result (dst.new.items ≡ dst.old.items) }
 {
     let start = dst.len();

@@ -9,7 +9,7 @@ returns-in-Err-Refused-clause-front c =
     let h = rw c.in-Err-Refused.field-0-is at c.in-Err-Refused.ensures in
     headed_longest c.args.bytes.now c.in-Some.rest.now c.in-Err-Refused.at c.in-Some.ensures.found h.front
 
-pub returns-in-Err-Refused-clause-unspelled : goal.returns-in-Err-Refused-clause-unspelled
-returns-in-Err-Refused-clause-unspelled c =
+pub returns-in-Err-Refused-clause-none : goal.returns-in-Err-Refused-clause-none
+returns-in-Err-Refused-clause-none c =
     let h = rw c.in-Err-Refused.field-0-is at c.in-Err-Refused.ensures in
     headed_none_whole c.args.bytes.now c.in-Some.rest.now c.in-Err-Refused.at c.in-Some.ensures.found h.within h.front

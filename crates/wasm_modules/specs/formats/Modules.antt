@@ -1,0 +1,51 @@
+-- Modules in the binary format, each part stated once (WebAssembly Core 3.0, 5.5 Modules). Over each stands the
+-- standard's production.
+use Rattle.std.specs.Prelude.{◌≡◌, ℕ, ◌==◌, List, Option, Some, None}
+use Rattle.wasm_types.specs.declared.types.composite.TypeEntry.{TypeEntry}
+use Rattle.wasm_types.specs.formats.Types.{type_body}
+use Rattle.wasm_codec.specs.formats.Combinators.{Format, a_byte, ◌⊗>◌, ◌⊗◌, made, choose}
+use Rattle.wasm_codec.specs.formats.Bodies.{sized, byte_list, to_end, headed}
+use Rattle.wasm_modules.specs.Sections.{header, type_section_id, SectionParts, section_of, Content, type_entries, raw_bytes, DecodedSection, decoded_section_of}
+
+-- ---- sections
+
+abbrev pub section_parts : SectionParts → Option (ℕ × List ℕ)
+section_parts s = Some (s.id, s.body)
+
+-- section_N(X) ::= N:byte len:u32 x:X ⇒ x (if len = ||X||), with the bytes of X as they are
+unfoldable pub raw_section : Format SectionParts
+raw_section = made section_of section_parts (a_byte ⊗ byte_list)
+
+abbrev pub entries_part : Content → Option (List TypeEntry)
+entries_part (type_entries entries) = Some entries
+entries_part (raw_bytes bytes) = None
+
+abbrev pub bytes_part : Content → Option (List ℕ)
+bytes_part (raw_bytes bytes) = Some bytes
+bytes_part (type_entries entries) = None
+
+-- what a section of this id holds, after its size
+abbrev pub content : ℕ → Format Content
+content id = choose (id == type_section_id) (made type_entries entries_part (sized type_body)) (made raw_bytes bytes_part byte_list)
+
+abbrev pub content_parts : DecodedSection → Option (ℕ × Content)
+content_parts s = Some (s.id, s.content)
+
+-- typesec ::= ty*:section_1(list(rectype)) ⇒ ty*, and any other section with its bytes as they are
+unfoldable pub decoded_section : Format DecodedSection
+decoded_section = made decoded_section_of content_parts (a_byte ⊗> (λ id. content id))
+
+-- a section with its body as bytes holds this
+abbrev pub HoldsContent : SectionParts → Content → Type 0
+HoldsContent s (type_entries entries) = (s.id ≡ type_section_id) × type_body.Encodes s.body entries
+HoldsContent s (raw_bytes bytes) = (s.id ≡ type_section_id → ⊥) × (s.body ≡ bytes)
+
+-- ---- modules
+
+-- magic ::= 0x00 0x61 0x73 0x6D, version ::= 0x01 0x00 0x00 0x00
+-- module ::= magic version section*, with nothing left over
+abbrev pub raw_module : Format (List SectionParts)
+raw_module = headed header (to_end raw_section)
+
+abbrev pub decoded_module : Format (List DecodedSection)
+decoded_module = headed header (to_end decoded_section)
