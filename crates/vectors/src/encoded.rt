@@ -1,7 +1,7 @@
 //! Vectors of one encoded value: `encode`, the value's token, and its bytes.
-ghost use Rattle.std.specs.Prelude.{Some};
+ghost use Rattle.std.specs.Prelude.{⊤};
 ghost use Rattle.wasm_encoder.specs.Numbers.{unsigned_text, signed_text};
-ghost use Rattle.wasm_encoder.specs.Encoding.{usize_text};
+ghost use Rattle.wasm_encoder.specs.Encoding.{IsCount, OnlyTooLong};
 ghost use Rattle.vectors.specs.declared.columns.Token.TheVariants as tokens;
 
 use crate::columns::{Token, parse_token};
@@ -135,15 +135,25 @@ fn section_id(name: &str) -> Result<SectionId, Mismatch> {
     })
 }
 
-/// The text of the number.
+/// The bytes of the number.
 impl Encode for Token {
-    ghost text = { elim [
-      | tokens.U32 n ↦ Some (unsigned_text n)
-      | tokens.U64 n ↦ Some (unsigned_text n)
-      | tokens.I32 z ↦ Some (signed_text z)
-      | tokens.I64 z ↦ Some (signed_text z)
-      | tokens.Usize n ↦ usize_text n
+    ghost bytes = { elim [
+      | tokens.U32 n ↦ unsigned_text n
+      | tokens.U64 n ↦ unsigned_text n
+      | tokens.I32 z ↦ signed_text z
+      | tokens.I64 z ↦ signed_text z
+      | tokens.Usize n ↦ unsigned_text n
     ] };
+
+    ghost CanEncode = { elim [
+      | tokens.U32 n ↦ ⊤
+      | tokens.U64 n ↦ ⊤
+      | tokens.I32 z ↦ ⊤
+      | tokens.I64 z ↦ ⊤
+      | tokens.Usize n ↦ IsCount n
+    ] };
+
+    ghost refuses = { OnlyTooLong };
 
     fn encode<A: Allocator>(&self, sink: &mut Vec<u8, A>) -> Result<(), EncodeError> {
         match self {

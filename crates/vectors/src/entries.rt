@@ -67,7 +67,7 @@ pub fn check_section(alloc: Global, words: &str, hex: &str, len: &str) -> Result
     }
 }
 
-/// The text of a section.
+/// The bytes of a section.
 fn text(alloc: Global, types: &TypeSection) -> Result<Vec<u8>, Mismatch> {
     let mut bytes = Vec::new(alloc);
     types.encode(&mut bytes)?;

@@ -1,4 +1,4 @@
-//! Vectors of sections: `raw`, a section's id and body, and its text, or `module`, the sections of a module, and the
+//! Vectors of sections: `raw`, a section's id and body, and its bytes, or `module`, the sections of a module, and the
 //! module.
 
 use crate::mismatch::Mismatch;
@@ -66,7 +66,7 @@ fn owned(alloc: Global, id: &str, body: &str) -> Result<OwnedSection, Mismatch> 
     Ok(OwnedSection { id, body })
 }
 
-/// The section's text is the bytes.
+/// The section's bytes are the expected ones.
 fn check_raw(alloc: Global, section: &OwnedSection, expected: &[u8]) -> Result<(), Mismatch> {
     let mut bytes = Vec::new(alloc);
     section.as_raw().encode(&mut bytes)?;

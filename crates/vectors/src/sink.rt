@@ -201,7 +201,7 @@ fn two_operands(method: &str, first: Argument, second: Argument) -> Result<Opera
     })
 }
 
-/// The opcode that the bytes begin with. After a prefix its number has one byte or two.
+/// The opcode that the bytes begin with. After a prefix byte its number has one byte or two.
 fn opcode(bytes: &[u8]) -> Result<Opcode, Mismatch> {
     let (prefix, number) = match bytes {
         [0xfb, rest @ ..] => (Prefix::Fb, number(rest)?),

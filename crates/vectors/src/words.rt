@@ -3,7 +3,7 @@
 use crate::mismatch::Mismatch;
 use std::alloc::Global;
 
-/// Words that are taken from the front.
+/// Words that are taken in their order.
 #[derive(Drop)]
 pub struct Words<'a> {
     words: Vec<&'a str>,

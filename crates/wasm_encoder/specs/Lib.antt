@@ -1,23 +1,24 @@
 pub use Rattle.wasm_codec.specs.Grammar
-pub use Rattle.wasm_codec.specs.Reading
+pub use Rattle.wasm_codec.specs.formats.Combinators
+pub use Rattle.wasm_codec.specs.formats.Bodies
+pub use Rattle.wasm_codec.specs.Places
+pub use Rattle.wasm_codec.specs.Lawful
 pub use Rattle.wasm_codec.specs.Numbers
 pub use Rattle.wasm_codec.specs.Encoding
 pub use Rattle.wasm_codec.specs.Answers
 pub use Rattle.wasm_codec.specs.Iterators
 pub use Rattle.wasm_codec.specs.Lists
 pub use Rattle.wasm_codec.specs.Rewriting
-pub use Rattle.wasm_types.specs.HeapTypes
-pub use Rattle.wasm_types.specs.CompositeTypes
+pub use Rattle.wasm_types.specs.formats.Types as TypeFormats
 pub use Rattle.wasm_types.specs.Types
-pub use Rattle.wasm_types.specs.TypeRanges
-pub use Rattle.wasm_types.specs.TypeEncoding
+pub use Rattle.wasm_types.specs.TypeCounts
+pub use Rattle.wasm_instructions.specs.formats.Operands as OperandFormats
+pub use Rattle.wasm_instructions.specs.formats.Instructions as InstructionFormats
 pub use Rattle.wasm_instructions.specs.Opcodes
-pub use Rattle.wasm_instructions.specs.MemArgs
-pub use Rattle.wasm_instructions.specs.Operands
-pub use Rattle.wasm_instructions.specs.Instructions
 pub use Rattle.wasm_instructions.specs.Appending
+pub use Rattle.wasm_modules.specs.formats.Modules as ModuleFormats
+pub use Rattle.wasm_modules.specs.Sections
 pub use Rattle.wasm_modules.specs.Modules
-pub use Rattle.wasm_modules.specs.Sized
 pub use Rattle.wasm_modules.specs.DecodedModules
 pub use Rattle.wasm_sink.specs.Sink
 pub use Rattle.wasm_sink.specs.ListCalls

@@ -1,5 +1,6 @@
--- Type sections that are being built: how many entries were written, and their texts (WebAssembly Core 3.0, 5.5.4).
-use Rattle.std.specs.Prelude.{◌≡◌, ℕ, ◌+◌, ◌^◌, List, [], ◌∷◌, ◌++◌, length, Option, Some, None, Bool, true, false, IsSomeAnd}
+-- Type sections that are being built: how many entries were written, and their bytes (WebAssembly Core 3.0, 5.5.4).
+use Rattle.std.specs.Prelude.{◌≡◌, ℕ, ◌+◌, ◌^◌, ◌⊎◌, List, [], ◌∷◌, ◌++◌, length, Option, None, Bool, true, false}
+use Rattle.std.specs.List.{All, flat_map}
 use Rattle.std.specs.Iterator.{Drains}
 use Rattle.wasm_types.specs.declared.types.value.ValType.{ValType}
 use Rattle.wasm_types.specs.declared.types.value.StorageType.{StorageType}
@@ -10,42 +11,60 @@ use Rattle.wasm_types.specs.declared.types.composite.CompositeInnerType.TheVaria
 use Rattle.wasm_types.specs.declared.types.composite.TypeEntry.{TypeEntry}
 use Rattle.wasm_types.specs.declared.types.composite.TypeEntry.TheVariants as entries
 use Rattle.wasm_codec.specs.Numbers.{unsigned_text}
-use Rattle.wasm_codec.specs.Encoding.{byte_list_text, texts}
-use Rattle.wasm_types.specs.TypeEncoding.{entry_encoding}
+use Rattle.wasm_codec.specs.declared.encode.EncodeError.{EncodeError}
+use Rattle.wasm_codec.specs.declared.encode.EncodeError.TheVariants.{Memory, TooLong}
+use Rattle.wasm_codec.specs.Encoding.{byte_list_text, IsCount}
+use Rattle.wasm_types.specs.formats.Types.{recursive_type}
+use Rattle.wasm_types.specs.TypeCounts.{CountedEntry}
 
 -- the number of entries, and their bytes
 pub record Entries : Type 0 where
   pub count : ℕ
   pub bytes : List ℕ
 
--- The section stands for these entries: it has their number and their texts, with nothing between.
+-- The section stands for these entries: it has their number and their bytes, with nothing between, and they can be
+-- written.
 pub record StandsFor (section : Entries) (entries : List TypeEntry) : Type 0 where
   pub count : section.count ≡ length entries
-  pub bytes : texts entry_encoding entries ≡ Some section.bytes
+  pub bytes : section.bytes ≡ flat_map recursive_type.bytes entries
+  pub can : All CountedEntry entries
 
 -- The new section is the old one with one entry more.
 pub record Gains (old : Entries) (entry : TypeEntry) (new : Entries) : Type 0 where
   pub count : new.count ≡ old.count + 1
-  pub bytes : IsSomeAnd (entry_encoding entry) (λ t. new.bytes ≡ old.bytes ++ t)
+  pub bytes : new.bytes ≡ old.bytes ++ recursive_type.bytes entry
+  pub can : CountedEntry entry
   pub stands : (before : List TypeEntry) → StandsFor old before → StandsFor new (before ++ entry ∷ [])
 
 -- The new section is the old one with these entries more.
 pub record GainsAll (old : Entries) (more : List TypeEntry) (new : Entries) : Type 0 where
   pub count : new.count ≡ old.count + length more
-  pub bytes : IsSomeAnd (texts entry_encoding more) (λ t. new.bytes ≡ old.bytes ++ t)
+  pub bytes : new.bytes ≡ old.bytes ++ flat_map recursive_type.bytes more
+  pub can : All CountedEntry more
   pub stands : (before : List TypeEntry) → StandsFor old before → StandsFor new (before ++ more)
 
 -- no entry can be added: their number is the greatest that there is
 abbrev pub IsFull : Entries → Type 0
 IsFull section = section.count + 1 ≡ 2 ^ 32
 
+abbrev pub HasRoom : Entries → Type 0
+HasRoom section = IsFull section → ⊥
+
+-- memory ran out, or the error is `TooLong`, which is answered only where this doesn't hold
+abbrev pub TooLongUnless : Type 0 → EncodeError → Type 0
+TooLongUnless Can e = (e ≡ Memory) ⊎ ((Can → ⊥) × (e ≡ TooLong))
+
 -- the count and the entries (5.5.4)
 abbrev pub body_bytes : Entries → List ℕ
 body_bytes section = unsigned_text section.count ++ section.bytes
 
 -- the body, after the number of its bytes (5.5.2)
-abbrev pub type_section_text : Entries → Option (List ℕ)
+abbrev pub type_section_text : Entries → List ℕ
 type_section_text section = byte_list_text (body_bytes section)
+
+-- a section that can be written: a u32 counts the bytes of its body
+abbrev pub CountedSection : Entries → Type 0
+CountedSection section = IsCount (length (body_bytes section))
 
 -- ---- entries of one type: final, without supertypes, not shared, with no descriptor
 

@@ -1,5 +1,5 @@
 //! The lowest layer of a WebAssembly encoder, proved: typed calls go in, and exactly the shortest bytes come out.
-//! Beside the writers stand readers and normalisers, which take every spelling that the binary format allows.
+//! Beside the writers stand readers and normalisers, which take every encoding that the binary format allows.
 //!
 //! Modules and their sections (Core 3.0, 5.5) stand here. What they are made of comes from the crates below, which
 //! follow the chapters of the binary format: `wasm_codec`, `wasm_types`, `wasm_instructions` and `wasm_sink`. Callers

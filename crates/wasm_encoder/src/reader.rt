@@ -1,6 +1,6 @@
-//! Readers and normalisers: any spelling in, the list that it spells or its text out.
+//! Readers and normalisers: any encoding in, the list that it encodes or its shortest encoding out.
 //!
-//! A reader takes all of its input: bytes that are left over are refused like any others that aren't spelled.
+//! A reader takes all of its input: bytes that are left over are refused like any others that encode nothing.
 
 pub use wasm_codec::reader::ReadError;
 pub use wasm_instructions::normaliser::normalise_instructions;

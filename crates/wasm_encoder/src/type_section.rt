@@ -1,13 +1,14 @@
 //! The type section (Core 3.0, 5.5.4).
-ghost use Rattle.std.specs.Prelude.{◌≡◌, ℕ, List, ◌++◌, ◌∷◌, ◌+◌, ◌^◌, ◌≤◌, ◌⊎◌, [], OnOk, OnErr, IfOk, IfErr, IsErrOf, IsTrue, ◌↔◌, IsSomeAnd, IsNone, Some, length, take};
-ghost use Rattle.wasm_encoder.specs.TypeSections.{Entries, StandsFor, Gains, GainsAll, IsFull, OfBoth, OfItems, type_section_text, body_bytes, final_entry, struct_entry, array_entry};
-ghost use Rattle.wasm_codec.specs.Iterators.{IsExact, HasNoText, GivesMisaligned};
-ghost use Rattle.wasm_codec.specs.Encoding.{both_texts, list_text, texts, byte_list_text, IsTextOrLonger};
-ghost use Rattle.wasm_types.specs.CompositeTypes.{SpellsTypeBody, type_body_text};
-ghost use Rattle.wasm_types.specs.TypeRanges.{TypeBodyFits};
+ghost use Rattle.std.specs.Prelude.{◌≡◌, ℕ, List, ◌++◌, ◌∷◌, ◌+◌, ◌⊎◌, [], OnOk, OnErr, IfOk, IfErr, IsTrue, ◌↔◌, length, take};
+ghost use Rattle.std.specs.List.{All};
+ghost use Rattle.wasm_encoder.specs.TypeSections.{Entries, StandsFor, Gains, GainsAll, IsFull, HasRoom, TooLongUnless, CountedSection, OfBoth, OfItems, type_section_text, body_bytes, final_entry, struct_entry, array_entry};
+ghost use Rattle.wasm_codec.specs.Iterators.{IsExact, IsItemsRefusal};
+ghost use Rattle.wasm_codec.specs.Lists.{items_text};
+ghost use Rattle.wasm_codec.specs.Encoding.{byte_list_text, CanEncodeList, IsCount, IsRefusal, IsTextOrLonger, OnlyTooLong, Refuses};
+ghost use Rattle.wasm_types.specs.formats.Types.{inner_type, type_body};
+ghost use Rattle.wasm_types.specs.TypeCounts.{CountedFunc, CountedSub, CountedEntry};
 ghost use Rattle.wasm_types.specs.declared.types.composite.TypeEntry.{TypeEntry};
 ghost use Rattle.std.specs.Iterator.{size};
-ghost use Rattle.wasm_types.specs.TypeEncoding.{func_encoding, sub_encoding, entry_encoding};
 ghost use Rattle.wasm_types.specs.declared.types.composite.CompositeInnerType.TheVariants as inner;
 ghost use Rattle.wasm_types.specs.declared.types.composite.TypeEntry.TheVariants as entries;
 ghost use Rattle.wasm_codec.specs.declared.encode.EncodeError.TheVariants.{Memory, TooLong};
@@ -95,9 +96,8 @@ impl TypeSection {
     pub fn entries(&mut self, entries: &[TypeEntry]) -> Result<(), EncodeError>
         ensures ok { OnOk result (GainsAll self.old entries.now self.new) }
         ensures err { OnErr result (self.new ≡ self.old) }
-        ensures too_long { IsErrOf result EncodeError.TooLong →
-            (2 ^ 32 ≤ self.old.count + length entries.now) ⊎ IsNone (texts entry_encoding entries.now) }
-        ensures alignment { ¬ IsErrOf result EncodeError.Alignment }
+        ensures refused { IfErr result (TooLongUnless (
+            IsCount (self.old.count + length entries.now) × All CountedEntry entries.now)) }
     {
         let start = self.bytes.len();
         let count = self.count;
@@ -111,9 +111,8 @@ impl TypeSection {
     /// Adds entries one by one. An `Err` can leave some of them.
     fn add_each(&mut self, entries: &[TypeEntry]) -> Result<(), EncodeError>
         ensures ok { OnOk result (GainsAll self.old entries.now self.new) }
-        ensures too_long { IsErrOf result EncodeError.TooLong →
-            (2 ^ 32 ≤ self.old.count + length entries.now) ⊎ IsNone (texts entry_encoding entries.now) }
-        ensures alignment { ¬ IsErrOf result EncodeError.Alignment }
+        ensures refused { IfErr result (TooLongUnless (
+            IsCount (self.old.count + length entries.now) × All CountedEntry entries.now)) }
         ensures kept { take (length self.old.bytes) self.new.bytes ≡ self.old.bytes }
     {
         for entry in entries {
@@ -133,10 +132,11 @@ impl TypeSection {
     /// Adds an entry by what encodes it, or leaves the section as it was.
     fn add<T: Encode>(&mut self, entry: &T) -> Result<(), EncodeError>
         ensures count { OnOk result (self.new.count ≡ self.old.count + 1) }
-        ensures bytes { OnOk result (IsSomeAnd (T.text entry.now) (λ t. self.new.bytes ≡ self.old.bytes ++ t)) }
+        ensures bytes { OnOk result (self.new.bytes ≡ self.old.bytes ++ T.bytes entry.now) }
+        ensures can { OnOk result (T.CanEncode entry.now) }
         ensures err { OnErr result (self.new ≡ self.old) }
-        ensures too_long { IsErrOf result EncodeError.TooLong → IsFull self.old ⊎ IsNone (T.text entry.now) }
-        ensures misaligned { IsErrOf result EncodeError.Alignment → T.misaligned entry.now }
+        ensures refused { IfErr result (λ e.
+            TooLongUnless (HasRoom self.old) e ⊎ Refuses T.CanEncode T.refuses entry.now e) }
     {
         let count = self.next_count()?;
         entry.encode(&mut self.bytes)?;
@@ -168,27 +168,29 @@ impl TypeSection {
 /// `TooLong` where the body has more than 4,294,967,295 bytes.
 #[tactic(auto, using(crate::proofs::TypeSectionLaws::one_text, crate::proofs::TypeSectionLaws::section_is_body, crate::proofs::TypeSectionLaws::body_spells, crate::proofs::TypeSectionLaws::body_shortest))]
 impl Encode for TypeSection {
-    ghost text = { type_section_text };
+    ghost bytes = { type_section_text };
 
-    ghost misaligned = { λ _. ⊥ };
+    ghost CanEncode = { CountedSection };
+
+    ghost refuses = { OnlyTooLong };
 
     fn encode<A: Allocator>(&self, sink: &mut Vec<u8, A>) -> Result<(), EncodeError>
-        ensures ok { OnOk result (IsSomeAnd (type_section_text self.now) (λ t. sink.new.items ≡ sink.old.items ++ t)) }
-        ensures too_long { IsErrOf result EncodeError.TooLong → IsNone (type_section_text self.now) }
-        ensures alignment { ¬ IsErrOf result EncodeError.Alignment }
+        ensures ok { OnOk result (sink.new.items ≡ sink.old.items ++ type_section_text self.now) }
+        ensures can { OnOk result (CountedSection self.now) }
+        ensures refused { IfErr result (IsRefusal CountedSection OnlyTooLong self.now) }
         ensures err { OnErr result (sink.new.items ≡ sink.old.items) }
-        // Sections that stand for the same entries have the same text.
+        // Sections that stand for the same entries have the same bytes.
         ensures one_text { (other : Entries) (entries : List TypeEntry) →
             StandsFor self.now entries → StandsFor other entries → type_section_text other ≡ type_section_text self.now }
-        // The text is that of the entries, after its length.
+        // The body is that of the entries, after its length.
         ensures is_body { (entries : List TypeEntry) → StandsFor self.now entries →
-            type_section_text self.now ≡ byte_list_text (type_body_text entries) }
-        // The body spells the entries, as their numbers are u32s.
-        ensures spells { (entries : List TypeEntry) → StandsFor self.now entries → TypeBodyFits entries →
-            SpellsTypeBody (body_bytes self.now) entries }
-        // Every other spelling of the entries is longer than the body.
+            type_section_text self.now ≡ byte_list_text (type_body.bytes entries) }
+        // The body encodes the entries, as their numbers are u32s.
+        ensures spells { (entries : List TypeEntry) → StandsFor self.now entries → type_body.InRange entries →
+            type_body.Encodes (body_bytes self.now) entries }
+        // Every other encoding of the entries is longer than the body.
         ensures shortest { (entries : List TypeEntry) (bytes : List ℕ) → StandsFor self.now entries →
-            SpellsTypeBody bytes entries → IsTextOrLonger bytes (body_bytes self.now) }
+            type_body.Encodes bytes entries → IsTextOrLonger bytes (body_bytes self.now) }
     {
         let start = sink.len();
         let result = append_section(self, sink);
@@ -204,14 +206,13 @@ impl Section for TypeSection {
     }
 }
 
-#[tactic(auto, using(crate::proofs::TypeSectionLaws::gains_ok, crate::proofs::TypeSectionLaws::gains_final_ok))]
+#[tactic(auto, using(crate::proofs::TypeSectionLaws::gains_sub_ok, crate::proofs::TypeSectionLaws::gains_final_ok))]
 impl<'a> CoreTypeEncoder<'a> {
     /// Adds a function type: final, without supertypes, not shared.
     pub fn func_type(self, ty: &FuncType) -> Result<(), EncodeError>
         ensures ok { OnOk result (Gains self.entry.section.now (final_entry (inner.Func ty.now)) self.exit.0.now) }
         ensures err { OnErr result (self.exit.0.now ≡ self.entry.section.now) }
-        ensures too_long { IsErrOf result EncodeError.TooLong → IsFull self.entry.section.now ⊎ IsNone (func_encoding ty.now) }
-        ensures alignment { ¬ IsErrOf result EncodeError.Alignment }
+        ensures refused { IfErr result (TooLongUnless (HasRoom self.entry.section.now × CountedFunc ty.now)) }
     {
         let CoreTypeEncoder { section } = self;
         section.add(ty)
@@ -221,8 +222,7 @@ impl<'a> CoreTypeEncoder<'a> {
     pub fn array(self, ty: &StorageType, mutable: bool) -> Result<(), EncodeError>
         ensures ok { OnOk result (Gains self.entry.section.now (array_entry ty.now mutable) self.exit.0.now) }
         ensures err { OnErr result (self.exit.0.now ≡ self.entry.section.now) }
-        ensures too_long { IsErrOf result EncodeError.TooLong → IsFull self.entry.section.now }
-        ensures alignment { ¬ IsErrOf result EncodeError.Alignment }
+        ensures refused { IfErr result (TooLongUnless (HasRoom self.entry.section.now)) }
     {
         let CoreTypeEncoder { section } = self;
         let field = FieldType {
@@ -236,8 +236,7 @@ impl<'a> CoreTypeEncoder<'a> {
     pub fn cont(self, ty: &ContType) -> Result<(), EncodeError>
         ensures ok { OnOk result (Gains self.entry.section.now (final_entry (inner.Cont ty.now)) self.exit.0.now) }
         ensures err { OnErr result (self.exit.0.now ≡ self.entry.section.now) }
-        ensures too_long { IsErrOf result EncodeError.TooLong → IsFull self.entry.section.now }
-        ensures alignment { ¬ IsErrOf result EncodeError.Alignment }
+        ensures refused { IfErr result (TooLongUnless (HasRoom self.entry.section.now)) }
     {
         let CoreTypeEncoder { section } = self;
         section.add(ty)
@@ -247,8 +246,7 @@ impl<'a> CoreTypeEncoder<'a> {
     pub fn subtype(self, ty: &SubType) -> Result<(), EncodeError>
         ensures ok { OnOk result (Gains self.entry.section.now (entries.Sub ty.now) self.exit.0.now) }
         ensures err { OnErr result (self.exit.0.now ≡ self.entry.section.now) }
-        ensures too_long { IsErrOf result EncodeError.TooLong → IsFull self.entry.section.now ⊎ IsNone (sub_encoding ty.now) }
-        ensures alignment { ¬ IsErrOf result EncodeError.Alignment }
+        ensures refused { IfErr result (TooLongUnless (HasRoom self.entry.section.now × CountedSub ty.now)) }
     {
         let CoreTypeEncoder { section } = self;
         section.add(ty)
@@ -269,9 +267,8 @@ impl<'a> CoreTypeEncoder<'a> {
         ensures ok { OnOk result (OfBoth P.next_gives R.next_gives params results (λ ty.
             Gains self.entry.section.now (final_entry (inner.Func ty)) self.exit.0.now)) }
         ensures err { OnErr result (self.exit.0.now ≡ self.entry.section.now) }
-        ensures too_long { IsErrOf result EncodeError.TooLong →
-            IsFull self.entry.section.now ⊎ (2 ^ 32 ≤ size (P.remaining params)) ⊎ (2 ^ 32 ≤ size (R.remaining results)) }
-        ensures alignment { ¬ IsErrOf result EncodeError.Alignment }
+        ensures refused { IfErr result (TooLongUnless (HasRoom self.entry.section.now ×
+            IsCount (size (P.remaining params)) × IsCount (size (R.remaining results)))) }
     {
         let CoreTypeEncoder { section } = self;
         let count = section.next_count()?;
@@ -291,9 +288,7 @@ impl<'a> CoreTypeEncoder<'a> {
         ensures ok { OnOk result (OfItems F.next_gives fields (λ fields.
             Gains self.entry.section.now (struct_entry fields) self.exit.0.now)) }
         ensures err { OnErr result (self.exit.0.now ≡ self.entry.section.now) }
-        ensures too_long { IsErrOf result EncodeError.TooLong →
-            IsFull self.entry.section.now ⊎ (2 ^ 32 ≤ size (F.remaining fields)) }
-        ensures alignment { ¬ IsErrOf result EncodeError.Alignment }
+        ensures refused { IfErr result (TooLongUnless (HasRoom self.entry.section.now × IsCount (size (F.remaining fields)))) }
     {
         let CoreTypeEncoder { section } = self;
         let count = section.next_count()?;
@@ -311,9 +306,8 @@ impl<'a> CoreTypeEncoder<'a> {
         ensures ok { OnOk result (OfItems S.next_gives types (λ types.
             Gains self.entry.section.now (entries.Rec types) self.exit.0.now)) }
         ensures err { OnErr result (self.exit.0.now ≡ self.entry.section.now) }
-        ensures too_long { IsErrOf result EncodeError.TooLong →
-            IsFull self.entry.section.now ⊎ HasNoText sub_encoding S.next_gives S.remaining types }
-        ensures alignment { ¬ IsErrOf result EncodeError.Alignment }
+        ensures refused { IfErr result (λ e. TooLongUnless (HasRoom self.entry.section.now) e ⊎
+            IsItemsRefusal CountedSub OnlyTooLong S.next_gives S.remaining types e) }
     {
         let CoreTypeEncoder { section } = self;
         let count = section.next_count()?;
@@ -331,9 +325,8 @@ fn append_tagged<T: Encode + Drop, I: ExactSizeIterator<Item = T>>(
 ) -> Result<(), EncodeError>
     requires { IsExact I.can_next I.next_gives I.remaining items }
     ensures ok { OnOk result (OfItems I.next_gives items (λ xs.
-        IsSomeAnd (both_texts (Some (tag ∷ [])) (list_text T.text xs)) (λ t. bytes.new.items ≡ bytes.old.items ++ t))) }
-    ensures too_long { IsErrOf result EncodeError.TooLong → HasNoText T.text I.next_gives I.remaining items }
-    ensures misaligned { IsErrOf result EncodeError.Alignment → GivesMisaligned T.misaligned I.next_gives items }
+        (bytes.new.items ≡ bytes.old.items ++ tag ∷ items_text T.bytes xs) × CanEncodeList T.CanEncode xs)) }
+    ensures refused { IfErr result (IsItemsRefusal T.CanEncode T.refuses I.next_gives I.remaining items) }
     ensures kept { take (length bytes.old.items) bytes.new.items ≡ bytes.old.items }
 {
     bytes.reserve(1)?;
@@ -342,6 +335,7 @@ fn append_tagged<T: Encode + Drop, I: ExactSizeIterator<Item = T>>(
 }
 
 /// Appends a function type of what two iterators give. An `Err` can leave a part of it.
+#[tactic(auto, using(crate::proofs::IteratorLaws::only_too_many))]
 fn append_function<P: ExactSizeIterator<Item = ValType>, R: ExactSizeIterator<Item = ValType>>(
     params: P,
     results: R,
@@ -350,10 +344,9 @@ fn append_function<P: ExactSizeIterator<Item = ValType>, R: ExactSizeIterator<It
     requires params { IsExact P.can_next P.next_gives P.remaining params }
     requires results { IsExact R.can_next R.next_gives R.remaining results }
     ensures ok { OnOk result (OfBoth P.next_gives R.next_gives params results (λ ty.
-        IsSomeAnd (func_encoding ty) (λ t. bytes.new.items ≡ bytes.old.items ++ t))) }
-    ensures too_long { IsErrOf result EncodeError.TooLong →
-        (2 ^ 32 ≤ size (P.remaining params)) ⊎ (2 ^ 32 ≤ size (R.remaining results)) }
-    ensures alignment { ¬ IsErrOf result EncodeError.Alignment }
+        (bytes.new.items ≡ bytes.old.items ++ inner_type.bytes (inner.Func ty)) × CountedFunc ty)) }
+    ensures refused { IfErr result (TooLongUnless (
+        IsCount (size (P.remaining params)) × IsCount (size (R.remaining results)))) }
     ensures kept { take (length bytes.old.items) bytes.new.items ≡ bytes.old.items }
 {
     if u32::try_from(results.len()).is_err() {
@@ -368,9 +361,9 @@ fn append_section<A: Allocator>(
     section: &TypeSection,
     sink: &mut Vec<u8, A>,
 ) -> Result<(), EncodeError>
-    ensures ok { OnOk result (IsSomeAnd (type_section_text section.now) (λ t. sink.new.items ≡ sink.old.items ++ t)) }
-    ensures too_long { IsErrOf result EncodeError.TooLong → IsNone (type_section_text section.now) }
-    ensures alignment { ¬ IsErrOf result EncodeError.Alignment }
+    ensures ok { OnOk result (sink.new.items ≡ sink.old.items ++ type_section_text section.now) }
+    ensures can { OnOk result (CountedSection section.now) }
+    ensures refused { IfErr result (IsRefusal CountedSection OnlyTooLong section.now) }
     ensures kept { take (length sink.old.items) sink.new.items ≡ sink.old.items }
 {
     let size = u32_len(section.count) + section.bytes.len();

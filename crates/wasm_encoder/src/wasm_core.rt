@@ -1,6 +1,7 @@
 //! Sections and modules (Core 3.0, 5.5).
-ghost use Rattle.std.specs.Prelude.{◌≡◌, ◌++◌, ◌∷◌, ℕ, List, Some, [], IfOk, IfErr, OnOk, OnErr, IsErrOf, IsSomeAnd, IsNone, length};
-ghost use Rattle.wasm_modules.specs.Modules.{header};
+ghost use Rattle.std.specs.Prelude.{◌≡◌, ◌++◌, ◌∷◌, ℕ, List, [], IfOk, IfErr, OnOk, OnErr, length};
+ghost use Rattle.wasm_codec.specs.Encoding.{IsRefusal};
+ghost use Rattle.wasm_modules.specs.Sections.{header};
 ghost use Rattle.wasm_encoder.specs.SectionIds.{section_id};
 ghost use Rattle.wasm_codec.specs.declared.encode.EncodeError.TheVariants.{Memory};
 
@@ -9,9 +10,9 @@ use std::marker::Model;
 use wasm_codec::encode::{Encode, EncodeError};
 use wasm_modules::section::{HEADER, RawSection, TYPE_SECTION_ID, append_section};
 
-/// A section of a module: an id, and a text that is the section's size and its body.
+/// A section of a module: an id, and bytes that are the section's size and its body.
 ///
-/// Callers implement it for their own sections. Any id may be given, and a module takes any text.
+/// Callers implement it for their own sections. Any id may be given, and a module takes any bytes.
 pub trait Section: Encode {
     /// The id of the section.
     ghost id: { Self → ℕ };
@@ -20,12 +21,11 @@ pub trait Section: Encode {
     fn id(&self) -> u8
         ensures { result ≡ id self.now };
 
-    /// Appends the id and the text of the section to `dst`, or leaves `dst` as it was.
+    /// Appends the id and the bytes of the section to `dst`, or leaves `dst` as it was.
     fn append_to<A: Allocator>(&self, dst: &mut Vec<u8, A>) -> Result<(), EncodeError>
-        ensures ok { OnOk result (IsSomeAnd (Self.text self.now) (λ t. dst.new.items ≡ dst.old.items ++ id self.now ∷ t)) }
-        ensures too_long { IsErrOf result EncodeError.TooLong → IsNone (Self.text self.now) }
-        ensures alignment { IsErrOf result EncodeError.Alignment → IsNone (Self.text self.now) }
-        ensures misaligned { IsErrOf result EncodeError.Alignment → Self.misaligned self.now }
+        ensures ok { OnOk result (dst.new.items ≡ dst.old.items ++ id self.now ∷ Self.bytes self.now) }
+        ensures can { OnOk result (Self.CanEncode self.now) }
+        ensures refused { IfErr result (IsRefusal Self.CanEncode Self.refuses self.now) }
         ensures err { OnErr result (dst.new.items ≡ dst.old.items) }
     {
         append_section(self.id(), self, dst)
@@ -98,9 +98,7 @@ impl From<SectionId> for u8 {
 
 /// One byte (Core 3.0, 5.5.2).
 impl Encode for SectionId {
-    ghost text = { λ id. Some (section_id id ∷ []) };
-
-    ghost misaligned = { λ _. ⊥ };
+    ghost bytes = { λ id. section_id id ∷ [] };
 
     fn encode<A: Allocator>(&self, sink: &mut Vec<u8, A>) -> Result<(), EncodeError> {
         sink.reserve(1)?;
@@ -109,7 +107,7 @@ impl Encode for SectionId {
     }
 }
 
-/// A module as bytes: a header, and then each section's id and text (Core 3.0, 5.5.16).
+/// A module as bytes: a header, and then each section's id and its bytes (Core 3.0, 5.5.16).
 ///
 /// In contracts it is its bytes.
 #[derive(Debug, Drop)]
@@ -138,14 +136,13 @@ impl Module {
         Ok(Module { bytes })
     }
 
-    /// Appends the id of a section and its text, or leaves the module as it was.
+    /// Appends the id of a section and its bytes, or leaves the module as it was.
     ///
     /// The section's own `append_to` is never called.
     pub fn section<S: Section>(&mut self, section: &S) -> Result<(), EncodeError>
-        ensures ok { OnOk result (IsSomeAnd (S.text section.now) (λ t. self.new ≡ self.old ++ S.id section.now ∷ t)) }
-        ensures too_long { IsErrOf result EncodeError.TooLong → IsNone (S.text section.now) }
-        ensures alignment { IsErrOf result EncodeError.Alignment → IsNone (S.text section.now) }
-        ensures misaligned { IsErrOf result EncodeError.Alignment → S.misaligned section.now }
+        ensures ok { OnOk result (self.new ≡ self.old ++ S.id section.now ∷ S.bytes section.now) }
+        ensures can { OnOk result (S.CanEncode section.now) }
+        ensures refused { IfErr result (IsRefusal S.CanEncode S.refuses section.now) }
         ensures err { OnErr result (self.new ≡ self.old) }
     {
         append_section(section.id(), section, &mut self.bytes)

@@ -8,7 +8,8 @@ use Rattle.std.specs.declared.alloc.Allocator.{Ghosts}
 use Rattle.wasm_sink.specs.declared.sink.InstructionSink.{InstructionSink}
 use Rattle.wasm_instructions.specs.declared.table.opcode.Opcode.{Opcode}
 use Rattle.wasm_instructions.specs.declared.table.call.Operands.{Operands}
-use Rattle.wasm_instructions.specs.Instructions.{Instruction, call, instruction_text, instructions_text, IsCounted, HasText}
+use Rattle.wasm_instructions.specs.Instructions.{Instruction, call, IsCounted, HasText}
+use Rattle.wasm_instructions.specs.formats.Instructions.{instruction, instructions_bytes}
 use Rattle.wasm_instructions.specs.Appending.{IsRefusal, IsCallRefusal, IsRefusalOfOne}
 use Rattle.wasm_codec.specs.declared.encode.EncodeError.{EncodeError}
 use Rattle.wasm_codec.specs.declared.encode.EncodeError.TheVariants as errors
@@ -22,9 +23,9 @@ module _ {Z : Type 0} where
   abbrev pub IsSameSink : InstructionSink Z → Result (InstructionSink Z) EncodeError → Type 0
   IsSameSink s r = IfOk r (λ t. t.bytes.ghost_name ≡ s.bytes.ghost_name)
 
-  -- the sink goes on with the text of this call at its end
+  -- the sink goes on with the bytes of this call at its end
   abbrev pub GoesOn : InstructionSink Z → Instruction → InstructionSink Z → Type 0
-  GoesOn s c t = written t ≡ written s ++ instruction_text c
+  GoesOn s c t = written t ≡ written s ++ instruction.bytes c
 
   -- A chain of calls: the sink goes on with the first, the sink that comes back with the second, and so on. The clause
   -- `wrote` of a method or of `write_call` gives such a step at `Ok`.
@@ -32,21 +33,21 @@ module _ {Z : Type 0} where
   Chain s [] t = written t ≡ written s
   Chain s (c ∷ calls) t = (next : InstructionSink Z) × GoesOn s c next × Chain next calls t
 
-  -- the sink goes on with the text of this call at its end, or memory ran out
+  -- the sink goes on with the bytes of this call at its end, or memory ran out
   abbrev pub Writes : InstructionSink Z → Opcode → Operands → Result (InstructionSink Z) EncodeError → Type 0
   Writes s op operands r = MatchResult r (GoesOn s (call op operands)) (λ e. e ≡ errors.Memory)
 
-  -- the sink goes on with the text of this call at its end, where it has one, or tells why not
+  -- the sink goes on with the bytes of this call at its end, where it has one, or tells why not
   abbrev pub WritesText : InstructionSink Z → Opcode → Operands → Result (InstructionSink Z) EncodeError → Type 0
   WritesText s op operands r = MatchResult r (λ t. GoesOn s (call op operands) t × HasText operands) (IsRefusal operands)
 
-  -- the sink goes on with the text of this call at its end, or tells why not
+  -- the sink goes on with the bytes of this call at its end, or tells why not
   abbrev pub AppendsCall : InstructionSink Z → Instruction → Result (InstructionSink Z) EncodeError → Type 0
   AppendsCall s c r = MatchResult r (λ t. GoesOn s c t × IsCounted c.operands) (IsCallRefusal c)
 
-  -- the sink goes on with the texts of these calls at its end, or tells why not
+  -- the sink goes on with the bytes of these calls at its end, or tells why not
   abbrev pub AppendsCalls : InstructionSink Z → List Instruction → Result (InstructionSink Z) EncodeError → Type 0
-  AppendsCalls s calls r = MatchResult r (λ t. written t ≡ written s ++ instructions_text calls) (IsRefusalOfOne calls)
+  AppendsCalls s calls r = MatchResult r (λ t. written t ≡ written s ++ instructions_bytes calls) (IsRefusalOfOne calls)
 
   -- there is room for any call without a list
   abbrev pub HasRoom : InstructionSink Z → Type 0

@@ -6,7 +6,8 @@
 ghost use Rattle.std.specs.Prelude.{◌≡◌, ℕ, List, IsOk, IfOk};
 ghost use Rattle.std.specs.Borrow.{sem};
 ghost use Rattle.wasm_sink.specs.Sink.{IsUnchangedAtErr, IsSameSink, AppendsCall, AppendsCalls, Chain, written, HasRoom};
-ghost use Rattle.wasm_instructions.specs.Instructions.{HasNoList, SpellsInstruction, SpellsInstructions, instruction_text, instructions_text};
+ghost use Rattle.wasm_instructions.specs.Instructions.{HasNoList};
+ghost use Rattle.wasm_instructions.specs.formats.Instructions.{Instructions, instruction, instructions_bytes};
 ghost use Rattle.wasm_instructions.specs.Lengths.{HasNoLongList, IsShortText};
 ghost use Rattle.wasm_codec.specs.Encoding.{IsTextOrLonger};
 
@@ -43,7 +44,7 @@ impl<'a, A: Allocator> InstructionSink<'a, A> {
         InstructionSink { bytes }
     }
 
-    /// Appends the text of a call.
+    /// Appends the shortest encoding of a call.
     ///
     /// `TooLong` where a list has more than 4,294,967,295 items.
     pub fn write_call(self, call: &Call) -> Result<InstructionSink<'a, A>, EncodeError>
@@ -51,17 +52,17 @@ impl<'a, A: Allocator> InstructionSink<'a, A> {
         ensures same { IsSameSink self.entry result }
         ensures wrote { AppendsCall self.entry call.now result }
         ensures room { HasRoom self.entry → HasNoList call.now.operands → IsOk result }
-        // The text spells the call.
-        ensures spells { IfOk result (λ _. SpellsInstruction (instruction_text call.now) call.now) }
+        // What is written encodes the call.
+        ensures spells { IfOk result (λ _. instruction.Encodes (instruction.bytes call.now) call.now) }
         // A call without a list, or with a list of one type, has from 1 to 20 bytes.
-        ensures length { HasNoLongList call.now.operands → IsShortText (instruction_text call.now) }
+        ensures length { HasNoLongList call.now.operands → IsShortText (instruction.bytes call.now) }
     {
         let InstructionSink { bytes } = self;
         append_call(bytes, call)?;
         Ok(InstructionSink { bytes })
     }
 
-    /// Appends the texts of calls, all of them or none.
+    /// Appends the shortest encodings of calls, all of them or none.
     ///
     /// `TooLong` where a list in one of them has more than 4,294,967,295 items.
     #[tactic(auto, using(crate::proofs::ChainLaws::same_as_chain))]
@@ -72,11 +73,11 @@ impl<'a, A: Allocator> InstructionSink<'a, A> {
         // After equal bytes, a chain of methods and `write_call`, one for each of the calls, writes the same.
         ensures one_by_one { (start finish : InstructionSink A) → written start ≡ written self.entry →
             Chain start calls.now finish → IfOk result (λ sink. written sink ≡ written finish) }
-        // What is written spells the calls.
-        ensures spells { IfOk result (λ _. SpellsInstructions (instructions_text calls.now) calls.now) }
-        // Every other spelling of the calls is longer than what is written.
-        ensures shortest { (bytes : List ℕ) → SpellsInstructions bytes calls.now →
-            IsTextOrLonger bytes (instructions_text calls.now) }
+        // What is written encodes the calls.
+        ensures spells { IfOk result (λ _. Instructions (instructions_bytes calls.now) calls.now) }
+        // Every other encoding of the calls is longer than what is written.
+        ensures shortest { (bytes : List ℕ) → Instructions bytes calls.now →
+            IsTextOrLonger bytes (instructions_bytes calls.now) }
     {
         let InstructionSink { bytes } = self;
         append_calls(bytes, calls)?;

@@ -5,9 +5,9 @@ use Rattle.std.proofs.lemmas.List.{take_rest}
 use Rattle.std.specs.Prelude.{Option}
 use Rattle.std.specs.Io.KnownBytes.{Appends, Keeps}
 use Rattle.std.proofs.KnownBytes.{Appends-trans, Appends-kept}
-use Rattle.wasmnorm.specs.Streams.{AppendsFront}
+use Rattle.wasmnorm.specs.Streams.{AppendsPrefix}
 
--- a write of what follows a front makes the front longer
+-- a write of what follows a prefix makes the prefix longer
 pub more_written : (a b c : Option (List ℕ)) (bytes : List ℕ) (n m : ℕ) → Appends a b (take n bytes)
     → Appends b c (take m (take (length bytes - n) (drop n bytes))) → Appends a c (take (n + m) bytes)
 more_written a b c bytes n m before write =
@@ -18,8 +18,8 @@ more_written a b c bytes n m before write =
 pub still_within : (bytes : List ℕ) (n m : ℕ) → n ≤ length bytes → m ≤ length (take (length bytes - n) (drop n bytes)) → n + m ≤ length bytes
 still_within bytes n m within bound = omega (arith, length-drop n bytes, ap length (take_rest bytes n))
 
--- fewer bytes than all are a beginning
-pub front_written : (a b : Option (List ℕ)) (bytes : List ℕ) (n : ℕ) → n < length bytes → Appends a b (take n bytes) → AppendsFront a b bytes
+-- fewer bytes than all are a prefix
+pub front_written : (a b : Option (List ℕ)) (bytes : List ℕ) (n : ℕ) → n < length bytes → Appends a b (take n bytes) → AppendsPrefix a b bytes
 front_written a b bytes n short written = record {
   front = take n bytes;
   rest = drop n bytes;
@@ -30,5 +30,5 @@ front_written a b bytes n short written = record {
 
 -- and still are after a write that failed
 pub front_kept : (a b c : Option (List ℕ)) (bytes : List ℕ) (n : ℕ) → n < length bytes → Appends a b (take n bytes) → Keeps b c
-    → AppendsFront a c bytes
+    → AppendsPrefix a c bytes
 front_kept a b c bytes n short written kept = front_written a c bytes n short (Appends-kept a b c (take n bytes) written kept)

@@ -4,7 +4,7 @@ use Rattle.std.specs.Io.KnownBytes.{Appends}
 use Rattle.wasm_codec.specs.declared.reader.ReadError.{ReadError}
 use Rattle.wasm_codec.specs.declared.reader.ReadError.TheVariants as read_errors
 use Rattle.wasmnorm.specs.Modes.{NormalForm}
-use Rattle.wasmnorm.specs.Streams.{AppendsFront}
+use Rattle.wasmnorm.specs.Streams.{AppendsPrefix}
 use Rattle.wasmnorm.specs.declared.modes.Mode.{Mode}
 use Rattle.wasmnorm.specs.declared.run.RunError.{RunError}
 use Rattle.wasmnorm.specs.declared.run.RunError.TheVariants as errors
@@ -17,11 +17,11 @@ pub record AppendsNormalForm (mode : Mode) (input : List ℕ) (old new : Option 
   pub normal : NormalForm mode input text
   pub appended : Appends old new text
 
--- The known contents of a writer grew by a beginning of a normal form of the input, but not by all of it.
+-- The known contents of a writer grew by a prefix of a normal form of the input, but not by all of it.
 pub record AppendsBeginning (mode : Mode) (input : List ℕ) (old new : Option (List ℕ)) : Type 0 where
   pub text : List ℕ
   pub normal : NormalForm mode input text
-  pub appended : AppendsFront old new text
+  pub appended : AppendsPrefix old new text
 
 -- ---- answers
 

@@ -4,8 +4,8 @@ use Rattle.std.specs.Io.KnownBytes.{Appends}
 use Rattle.wasmnorm.specs.declared.run.RunError.{RunError}
 use Rattle.wasmnorm.specs.declared.run.RunError.TheVariants as errors
 
--- The known contents of a writer grew by a beginning of these bytes, but not by all of them.
-pub record AppendsFront (old new : Option (List ℕ)) (bytes : List ℕ) : Type 0 where
+-- The known contents of a writer grew by a prefix of these bytes, but not by all of them.
+pub record AppendsPrefix (old new : Option (List ℕ)) (bytes : List ℕ) : Type 0 where
   pub front : List ℕ
   pub rest : List ℕ
   pub parts : bytes ≡ front ++ rest

@@ -1,7 +1,7 @@
 //! What the program reads its input as, and the normal form in each mode.
 ghost use Rattle.std.specs.Prelude.{List, ℕ, IfOk};
 ghost use Rattle.wasm_codec.specs.Answers.{IsOrMemory, IfRefused, IsLongestFront};
-ghost use Rattle.wasmnorm.specs.Modes.{Spelled, NormalForm, IsWholeFront};
+ghost use Rattle.wasmnorm.specs.Modes.{IsEncoded, NormalForm, IsWholePrefix};
 
 use std::alloc::Global;
 use wasm_codec::reader::ReadError;
@@ -27,10 +27,10 @@ pub fn normalise(alloc: Global, mode: Mode, input: &[u8]) -> Result<Vec<u8>, Rea
     // Where the input has one, it is given, unless memory ran out.
     ensures complete { (text : List ℕ) → NormalForm mode input.now text →
         IsOrMemory (λ given. given.items) text result }
-    // Only what spells nothing is refused.
-    ensures unspelled { IfRefused result (λ _. Spelled mode input.now → ⊥) }
-    // `at` is the length of the longest front that is whole.
-    ensures front { IfRefused result (IsLongestFront (IsWholeFront mode) input.now) }
+    // Only what encodes nothing is refused.
+    ensures unspelled { IfRefused result (λ _. IsEncoded mode input.now → ⊥) }
+    // `at` is the length of the longest prefix that is whole.
+    ensures front { IfRefused result (IsLongestFront (IsWholePrefix mode) input.now) }
 {
     match mode {
         Mode::Calls => normalise_instructions(alloc, input),

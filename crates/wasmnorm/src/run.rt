@@ -2,7 +2,7 @@
 ghost use Rattle.std.specs.Prelude.{◌≡◌, List, ℕ, IfSome, OnOk};
 ghost use Rattle.std.specs.Io.KnownBytes.{IsAtEnd, Keeps, Appends};
 ghost use Rattle.wasm_codec.specs.Answers.{IsLongestFront};
-ghost use Rattle.wasmnorm.specs.Modes.{Spelled, NormalForm, IsWholeFront};
+ghost use Rattle.wasmnorm.specs.Modes.{IsEncoded, NormalForm, IsWholePrefix};
 ghost use Rattle.wasmnorm.specs.Run.{AppendsNormalForm, AppendsBeginning, IfRefused, OnceAllIsRead, BeforeAnyWrite, IfWriteFailed, run_error};
 ghost use Rattle.wasmnorm.specs.declared.run.RunError.TheVariants.{Memory};
 
@@ -15,9 +15,9 @@ use wasm_codec::reader::ReadError;
 /// Why a run did not write the whole normal form of its input.
 #[derive(Clone, Copy, Debug, PartialEq, Eq)]
 pub enum RunError {
-    /// The input spells nothing of the mode.
+    /// The input encodes nothing of the mode.
     Refused {
-        /// How many bytes the longest front has that is whole.
+        /// How many bytes the longest whole prefix has.
         at: usize,
     },
     /// There was no memory.
@@ -60,22 +60,22 @@ pub fn run<R: Read, W: Write>(
     // A normal form of the input is written, and nothing else.
     ensures ok { OnOk result (IfSome (R.remaining reader.old) (λ input.
         AppendsNormalForm mode input (W.contents writer.old) (W.contents writer.new))) }
-    // It is the text of whatever the input spells.
+    // It is the shortest encoding of whatever the input encodes.
     ensures complete { OnOk result (IfSome (R.remaining reader.old) (λ input.
         (text : List ℕ) → NormalForm mode input text →
         Appends (W.contents writer.old) (W.contents writer.new) text)) }
     // All of the input is read before it is judged or a byte is written.
     ensures read_to_end { OnceAllIsRead result (IsAtEnd (R.remaining reader.new)) }
-    // Only what spells nothing is refused.
+    // Only what encodes nothing is refused.
     ensures unspelled { IfRefused result (λ _. IfSome (R.remaining reader.old) (λ input.
-        Spelled mode input → ⊥)) }
-    // `at` is the length of the longest front that is whole.
+        IsEncoded mode input → ⊥)) }
+    // `at` is the length of the longest prefix that is whole.
     ensures refused { IfRefused result (λ at. IfSome (R.remaining reader.old) (λ input.
-        IsLongestFront (IsWholeFront mode) input at)) }
+        IsLongestFront (IsWholePrefix mode) input at)) }
     // After any error but `Write` nothing is written.
     ensures nothing_written { BeforeAnyWrite result
         (Keeps (W.contents writer.old) (W.contents writer.new)) }
-    // After `Write` a beginning of a normal form is, and not all of it.
+    // After `Write` a prefix of a normal form is, and not all of it.
     ensures beginning { IfWriteFailed result (IfSome (R.remaining reader.old) (λ input.
         AppendsBeginning mode input (W.contents writer.old) (W.contents writer.new))) }
 {

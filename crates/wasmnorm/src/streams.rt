@@ -1,7 +1,7 @@
 //! Reading and writing everything, where an interrupted call fails.
 ghost use Rattle.std.specs.Prelude.{◌≡◌, ◌<◌, IfOk, IfErr, IfSome, OnOk, OnErr, IsOkUnless, vec_len};
 ghost use Rattle.std.specs.Io.KnownBytes.{IsAtEnd, Appends, Keeps};
-ghost use Rattle.wasmnorm.specs.Streams.{AppendsFront, IsReadError};
+ghost use Rattle.wasmnorm.specs.Streams.{AppendsPrefix, IsReadError};
 
 use crate::run::RunError;
 use std::alloc::{AllocError, Global};
@@ -47,9 +47,9 @@ fn zeros(alloc: Global, len: usize) -> Result<Vec<u8>, AllocError>
 pub fn write_all<W: Write>(writer: &mut W, bytes: &[u8]) -> Result<(), RunError>
     // All of the bytes are written.
     ensures ok { OnOk result (Appends (W.contents writer.old) (W.contents writer.new) bytes.now) }
-    // Where a write fails, or takes no byte, a beginning of them is.
+    // Where a write fails, or takes no byte, a prefix of them is.
     ensures err { OnErr result
-        (AppendsFront (W.contents writer.old) (W.contents writer.new) bytes.now) }
+        (AppendsPrefix (W.contents writer.old) (W.contents writer.new) bytes.now) }
     ensures error { IsOkUnless result RunError.Write }
 {
     let mut written = 0;

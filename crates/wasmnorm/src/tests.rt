@@ -8,12 +8,12 @@ use std::io::{ErrorKind, Read, Write};
 use std::process::Abort;
 use std::test::Fail;
 
-// Instructions in a longer spelling, and their normal form.
+// Instructions in a longer encoding, and their normal form.
 const LONG: [u8; 4] = [0x20, 0xC2, 0x80, 0x00];
 
 const NORMAL: [u8; 2] = [0x20, 0x42];
 
-// A module with a type section in a longer spelling and a section of other bytes, and its normal form.
+// A module with a type section in a longer encoding and a section of other bytes, and its normal form.
 const LONG_MODULE: [u8; 21] = [
     0x00, 0x61, 0x73, 0x6D, 0x01, 0x00, 0x00, 0x00, 0x01, 0x86, 0x00, 0x01, 0x4F, 0x00, 0x60, 0x00,
     0x00, 0x03, 0x81, 0x00, 0x80,

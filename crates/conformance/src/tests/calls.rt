@@ -209,7 +209,7 @@ fn bits_come_back(rt: HostRuntime) {
     }
 }
 
-/// The text of each call of `fixed` and `with_lists`, in their order.
+/// The bytes of each call of `fixed` and `with_lists`, in their order.
 const TEXTS: [&str; 23] = [
     "0B",
     "0207",

@@ -50,7 +50,7 @@ fn normal_forms(rt: HostRuntime) -> Result<(), Fail> {
 }
 
 /// A module of one function type of 123 parameters, and what follows the first 122 of them. The size of its section is
-/// given as it is spelled.
+/// given as it is encoded.
 fn many_parameters(alloc: Global, size: &str, rest: &str) -> Result<Vec<u8>, Fail> {
     let mut long = bytes(alloc, HEADER)?;
     long.push(0x01)?;
@@ -76,7 +76,7 @@ fn refused_modules(rt: HostRuntime) -> Result<(), Fail> {
         ("", 0),
         ("006173", 0),
         ("0061736D02000000", 0),
-        // A body that spells no entries.
+        // A body that encodes no entries.
         ("0061736D010000000102000B", 8),
         ("0061736D01000000030100010101", 11),
         // A byte is left over after the entries.

@@ -1,5 +1,6 @@
 //! Values and sections of a caller's own.
-ghost use Rattle.std.specs.Prelude.{Some, None, []};
+ghost use Rattle.std.specs.Prelude.{[]};
+ghost use Rattle.wasm_encoder.specs.Encoding.{OnlyTooLong, too_long_at_once};
 ghost use Rattle.wasm_encoder.specs.Numbers.{unsigned_text};
 
 use std::alloc::Allocator;
@@ -11,32 +12,44 @@ pub struct Never;
 
 /// Always refused for want of memory.
 impl Encode for Never {
-    ghost text = { λ _. Some [] };
+    ghost bytes = { λ _. [] };
 
     fn encode<A: Allocator>(&self, _sink: &mut Vec<u8, A>) -> Result<(), EncodeError> {
         Err(EncodeError::Memory)
     }
 }
 
-/// A value with a length that has no spelling.
+/// A value with a length that can't be written.
 #[derive(Drop)]
 pub struct Long;
 
 /// Always too long.
 impl Encode for Long {
-    ghost text = { λ _. None };
+    ghost bytes = { λ _. [] };
+
+    ghost CanEncode = { λ _. ⊥ };
+
+    ghost refuses = { OnlyTooLong };
+
+    ghost at_once = { λ _. too_long_at_once 4294967296 };
 
     fn encode<A: Allocator>(&self, sink: &mut Vec<u8, A>) -> Result<(), EncodeError> {
         4294967296usize.encode(sink)
     }
 }
 
-/// A section of id 5 with the text of a value.
+/// A section of id 5 with the bytes of a value.
 #[derive(Drop)]
 pub struct Memories<T>(pub T);
 
 impl<T: Encode> Encode for Memories<T> {
-    ghost text = { λ section. T.text section.0 };
+    ghost bytes = { λ section. T.bytes section.0 };
+
+    ghost CanEncode = { λ section. T.CanEncode section.0 };
+
+    ghost refuses = { λ section. T.refuses section.0 };
+
+    ghost at_once = { λ section. T.at_once section.0 };
 
     fn encode<A: Allocator>(&self, sink: &mut Vec<u8, A>) -> Result<(), EncodeError> {
         self.0.encode(sink)
@@ -51,12 +64,12 @@ impl<T: Encode> Section for Memories<T> {
     }
 }
 
-/// A section of id 5 and text 42, whose `append_to` always answers that there is no memory.
+/// A section of id 5 with the bytes of 42, whose `append_to` always answers that there is no memory.
 #[derive(Drop)]
 pub struct Unappended;
 
 impl Encode for Unappended {
-    ghost text = { λ _. Some (unsigned_text 42) };
+    ghost bytes = { λ _. unsigned_text 42 };
 
     fn encode<A: Allocator>(&self, sink: &mut Vec<u8, A>) -> Result<(), EncodeError> {
         42u32.encode(sink)

@@ -3,7 +3,7 @@
 use std::test::Fail;
 use wasm_encoder::{Kind, Opcode, Prefix};
 
-/// How many of the numbers below 512 are opcodes of the prefix.
+/// How many of the numbers below 512 are opcodes of the `Prefix`.
 fn opcodes(prefix: Prefix) -> u32 {
     let mut opcodes: u32 = 0;
     for number in 0..512 {

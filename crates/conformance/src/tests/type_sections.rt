@@ -31,7 +31,7 @@ fn entries(rt: HostRuntime) -> Result<(), Fail> {
     Ok(())
 }
 
-/// The section has so many entries, and this text.
+/// The section has so many entries, and these bytes.
 fn is_section(
     rt: &impl Abort,
     alloc: Global,

@@ -1,4 +1,4 @@
-//! Types: their texts, what is asked of them, and their order.
+//! Types: their bytes, what is asked of them, and their order.
 
 use super::bytes;
 use std::alloc::Global;

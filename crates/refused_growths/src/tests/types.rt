@@ -148,7 +148,7 @@ fn add_other_types(
     Ok(())
 }
 
-/// The text of a section, which is encoded again where it was refused.
+/// The bytes of a section, which is encoded again where it was refused.
 fn text(rt: &(impl AllocGlobal + Print), types: &TypeSection) -> Result<Vec<u8>, Fail> {
     let mut text = Vec::new(rt.alloc());
     if let Err(EncodeError::Memory) = types.encode(&mut text) {

@@ -1,4 +1,4 @@
--- What is written so far is a front of the bytes.
+-- What is written so far is a prefix of the bytes.
 use Rattle.std.proofs.Common.{◌-◌, ◌≤◌, length, take}
 use Rattle.std.specs.Io.KnownBytes.{Appends}
 use Rattle.wasmnorm.proofs.streams.write_all.Given as goal

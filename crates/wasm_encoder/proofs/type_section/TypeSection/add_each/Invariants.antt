@@ -1,10 +1,12 @@
-use Rattle.std.proofs.Common.{◌≡◌, ◌+◌, [], take, Some}
-use Rattle.wasm_codec.specs.Encoding.{both_texts, texts}
-use Rattle.wasm_types.specs.TypeEncoding.{entry_encoding}
-use Rattle.wasm_codec.proofs.TextLists.{IsFollowed}
+use Rattle.std.proofs.Common.{◌≡◌, ◌+◌, ◌++◌, take}
+use Rattle.std.specs.List.{All, flat_map}
+use Rattle.wasm_types.specs.formats.Types.{recursive_type}
+use Rattle.wasm_types.specs.TypeCounts.{CountedEntry}
 use Rattle.wasm_encoder.proofs.type_section.TypeSection.add_each.Given as goal
 
 abbrev pub invariant-loop-entry : goal.invariant-loop-entry
-invariant-loop-entry l =
-    (l.self.count ≡ l.fn.self.count + l.entry-index) ×
-    IsFollowed l.fn.self.bytes (both_texts (Some []) (texts entry_encoding (take l.entry-index l.entries))) l.self.bytes
+invariant-loop-entry l = record {
+  count : l.self.count ≡ l.fn.self.count + l.entry-index;
+  bytes : l.self.bytes ≡ l.fn.self.bytes ++ flat_map recursive_type.bytes (take l.entry-index l.entries);
+  can : All CountedEntry (take l.entry-index l.entries);
+}
