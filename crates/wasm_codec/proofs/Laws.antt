@@ -96,7 +96,7 @@ Shortest-nothing a text empty = record {
 pub Shortest-never : {A : Type 0} (text : A → List ℕ) → Shortest (Never {A = A}) (λ a. ⊥) text
 Shortest-never text = record { spells = λ v fits. absurd fits; again = λ bytes v g. absurd g; least = λ bytes v g. absurd g }
 
--- a weaker condition, and the same shortest encodings
+-- a stronger condition, and the same shortest encodings
 pub Shortest-for : {A : Type 0} {G : Grammar A} {F : A → Type 0} {text : A → List ℕ} (E : A → Type 0) → Shortest G F text → ((a : A) → E a → F a) → Shortest G E text
 Shortest-for E r fits = record { spells = λ v e. r.spells v (fits v e); again = r.again; least = r.least }
 

@@ -178,33 +178,35 @@ pub u64_one : (p q : Place) (b : ℕ) → b < 128 → p ≡ place q.shortest (b 
 unfolding u64_at
 u64_one p q b lt e = one_unsigned (2 ^ 64) 9 p q b (lit≤ tt) lt e
 
-pub s32_low : (p q : Place) (b : ℕ) → b < 64 → p ≡ place q.shortest (b ∷ q.left) → s32_at p ≡ Some (pos b, q)
-unfolding s32_at signed_text
-s32_low p q b lt e =
+one_low : (limit most : ℕ) (p q : Place) (b : ℕ) → 64 ≤ limit → b < 64 → p ≡ place q.shortest (b ∷ q.left) → number_at (suc most) (signed_within limit) signed_text p ≡ Some (pos b, q)
+unfolding signed_text
+one_low limit most p q b wide lt e =
     let same : b % 128 + 128 * 0 ≡ b = omega arith in
-    one_read (signed_within (2 ^ 31)) signed_text 4 p q b (pos b) (omega arith) e (rw (lt-ltb b 64 lt, same, lt-ltb b (2 ^ 31) (omega arith)) refl) (one_digit false 64 b lt)
+    one_read (signed_within limit) signed_text most p q b (pos b) (omega arith) e (rw (lt-ltb b 64 lt, same, lt-ltb b limit (omega arith)) refl) (one_digit false 64 b lt)
+
+one_high : (limit most : ℕ) (p q : Place) (b : ℕ) → 64 ≤ limit → 64 ≤ b → b < 128 → p ≡ place q.shortest (b ∷ q.left) → number_at (suc most) (signed_within limit) signed_text p ≡ Some (pos b -ℤ pos 128, q)
+unfolding signed_text
+one_high limit most p q b wide le lt e =
+    let same : b % 128 + 128 * 0 ≡ b = omega arith in
+    let negative : pos b -ℤ pos (128 ^ 1) ≡ negsuc (127 - b) = omega (arith, ints) in
+    let value : signed_within limit (b ∷ []) ≡ Some (negsuc (127 - b)) = rw (le-ltb b 64 le, same, negative, lt-ltb (127 - b) limit (omega arith)) refl in
+    one_read (signed_within limit) signed_text most p q b (negsuc (127 - b)) lt e value (one_digit true 64 (127 - b) (omega arith)) ∙ ap (λ (z : ℤ). Some (z, q)) (sym negative)
+
+pub s32_low : (p q : Place) (b : ℕ) → b < 64 → p ≡ place q.shortest (b ∷ q.left) → s32_at p ≡ Some (pos b, q)
+unfolding s32_at
+s32_low p q b lt e = one_low (2 ^ 31) 4 p q b (lit≤ tt) lt e
 
 pub s32_high : (p q : Place) (b : ℕ) → 64 ≤ b → b < 128 → p ≡ place q.shortest (b ∷ q.left) → s32_at p ≡ Some (pos b -ℤ pos 128, q)
-unfolding s32_at signed_text
-s32_high p q b le lt e =
-    let same : b % 128 + 128 * 0 ≡ b = omega arith in
-    let negative : pos b -ℤ pos (128 ^ 1) ≡ negsuc (127 - b) = omega (arith, ints) in
-    let value : signed_within (2 ^ 31) (b ∷ []) ≡ Some (negsuc (127 - b)) = rw (le-ltb b 64 le, same, negative, lt-ltb (127 - b) (2 ^ 31) (omega arith)) refl in
-    one_read (signed_within (2 ^ 31)) signed_text 4 p q b (negsuc (127 - b)) lt e value (one_digit true 64 (127 - b) (omega arith)) ∙ ap (λ (z : ℤ). Some (z, q)) (sym negative)
+unfolding s32_at
+s32_high p q b le lt e = one_high (2 ^ 31) 4 p q b (lit≤ tt) le lt e
 
 pub s64_low : (p q : Place) (b : ℕ) → b < 64 → p ≡ place q.shortest (b ∷ q.left) → s64_at p ≡ Some (pos b, q)
-unfolding s64_at signed_text
-s64_low p q b lt e =
-    let same : b % 128 + 128 * 0 ≡ b = omega arith in
-    one_read (signed_within (2 ^ 63)) signed_text 9 p q b (pos b) (omega arith) e (rw (lt-ltb b 64 lt, same, lt-ltb b (2 ^ 63) (omega arith)) refl) (one_digit false 64 b lt)
+unfolding s64_at
+s64_low p q b lt e = one_low (2 ^ 63) 9 p q b (lit≤ tt) lt e
 
 pub s64_high : (p q : Place) (b : ℕ) → 64 ≤ b → b < 128 → p ≡ place q.shortest (b ∷ q.left) → s64_at p ≡ Some (pos b -ℤ pos 128, q)
-unfolding s64_at signed_text
-s64_high p q b le lt e =
-    let same : b % 128 + 128 * 0 ≡ b = omega arith in
-    let negative : pos b -ℤ pos (128 ^ 1) ≡ negsuc (127 - b) = omega (arith, ints) in
-    let value : signed_within (2 ^ 63) (b ∷ []) ≡ Some (negsuc (127 - b)) = rw (le-ltb b 64 le, same, negative, lt-ltb (127 - b) (2 ^ 63) (omega arith)) refl in
-    one_read (signed_within (2 ^ 63)) signed_text 9 p q b (negsuc (127 - b)) lt e value (one_digit true 64 (127 - b) (omega arith)) ∙ ap (λ (z : ℤ). Some (z, q)) (sym negative)
+unfolding s64_at
+s64_high p q b le lt e = one_high (2 ^ 63) 9 p q b (lit≤ tt) le lt e
 
 pub index_low : (p q : Place) (b : ℕ) → b < 64 → p ≡ place q.shortest (b ∷ q.left) → index_at p ≡ Some (b, q)
 unfolding index_at signed_text
