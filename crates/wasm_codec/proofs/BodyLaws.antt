@@ -2,21 +2,22 @@
 use Rattle.std.proofs.Common.{◌≡◌, ℕ, zero, suc, ◌+◌, ◌%◌, ◌/◌, ◌^◌, ◌<◌, ◌≤◌, Bool, true, false, cond, eqb, ltb, List, [], ◌∷◌, ◌++◌, length, take, drop, Option, Some, None, refl, sym, ap, subst, ◌∙◌, length-append, inl, inr, arith}
 use Rattle.std.proofs.lemmas.List.{append-nil, take_at, drop_at, take-append-drop, length-take}
 use Rattle.std.proofs.lemmas.Bool.{eqb-true, eq-eqb, ltb-true, ltb-false, le-ltb}
+use Rattle.std.specs.Prelude.{IsSomeAnd}
 use Rattle.std.specs.List.{flat_map}
 use Rattle.wasm_codec.specs.Grammar.{Grammar, IsBytes, After, Joined}
 use Rattle.wasm_codec.specs.Reading.{◌>>=◌}
-use Rattle.wasm_codec.specs.Encoding.{IsTextOrLonger}
-use Rattle.wasm_codec.specs.Numbers.{SpellsU32, turned, digits_of, unsigned_text}
-use Rattle.wasm_codec.proofs.Laws.{bind_some, some, some_is, in_a_row, least_then, IsBytes-after}
-use Rattle.wasm_codec.specs.Reading.{Fronts}
+use Rattle.wasm_codec.specs.Encoding.{IsShortestOrLonger}
+use Rattle.wasm_codec.specs.Numbers.{EncodesU32, turned, digits_of, unsigned_leb128}
+use Rattle.wasm_codec.proofs.Laws.{bind_some, some, some_is, in_a_row, least_then, IsBytes-after, Shortest-then, Shortest-map, Shortest-for}
+use Rattle.wasm_codec.specs.Reading.{BeginsWith}
 use Rattle.wasm_codec.proofs.Joining.{Shortest-joined}
 use Rattle.wasm_codec.specs.Grammar.{TakesBytes}
 use Rattle.wasm_codec.proofs.ListReading.{AtMostOne}
 use Rattle.wasm_codec.specs.Places.{Place, place, Reader, keeps, byte_at, u32_at}
-use Rattle.wasm_codec.specs.formats.Combinators.{Format}
+use Rattle.wasm_codec.specs.formats.Combinators.{Format, ◌⊗>◌, made, bytes_of, choose}
 use Rattle.wasm_codec.specs.formats.Bodies.{at_end, bytes_to_end, until_end, to_end, Sized, body_at, if_all, sized_at, sized, byte_list, headed_at, headed}
 use Rattle.wasm_codec.proofs.NumberReading.{byte_took}
-use Rattle.wasm_codec.proofs.FormatLaws.{Fronts-at, keeps_then, keeps_cons, keeps_same, keeps_longer, not_longer, taken_fits, IsBytes-append, read_in_row, joined_in_range, joined_bytes, begins_counted, Lawful-u32}
+use Rattle.wasm_codec.proofs.FormatLaws.{BeginsWith-at, keeps_then, keeps_cons, keeps_same, keeps_longer, not_longer, taken_fits, IsBytes-append, read_in_row, joined_in_range, joined_bytes, begins_counted, Lawful-u32}
 use Rattle.wasm_codec.specs.Lawful.{Shortest, IsLawful}
 
 -- what is read to the end of the bytes is what they encode, and the place tells whether they were the shortest encoding
@@ -45,7 +46,7 @@ Lawful-body {V} {F} r = record {
   reads = record {
     sound = λ p v q fits e none.
         let one = r.reads.sound p v q fits e in
-        subst (λ (t : List ℕ). F.Encodes t v) (sym (one.parts ∙ ap (λ (t : List ℕ). one.front ++ t) none ∙ append-nil one.front)) one.spells;
+        subst (λ (t : List ℕ). F.Encodes t v) (sym (one.parts ∙ ap (λ (t : List ℕ). one.prefix ++ t) none ∙ append-nil one.prefix)) one.encodes;
     complete = λ body v s g. ap (λ (t : List ℕ). F.at (place s t)) (sym (append-nil body)) ∙ r.reads.complete body v [] s g;
   };
   shortest = r.shortest;
@@ -61,7 +62,7 @@ Lawful-bytes_to_end = record {
         (same, subst IsBytes same fits);
     complete = λ body v s g. rw (g.0, keeps_same s v) refl;
   };
-  shortest = record { spells = λ v fits. (refl, fits); again = λ bytes v g. (refl, g.1); least = λ bytes v g. inl g.0 };
+  shortest = record { encodes = λ v fits. (refl, fits); again = λ bytes v g. (refl, g.1); least = λ bytes v g. inl g.0 };
   in_range = λ bytes v g. g.1;
   are_bytes = λ bytes v g. rw g.0 g.1;
 }
@@ -70,13 +71,13 @@ ended : (bytes : List ℕ) → at_end bytes ≡ true → bytes ≡ []
 ended [] e = refl
 ended (b ∷ bytes) e = absurd cc
 
-not_ended : (bytes : List ℕ) → 0 < length bytes → at_end bytes ≡ false
+pub not_ended : (bytes : List ℕ) → 0 < length bytes → at_end bytes ≡ false
 not_ended [] lt = absurd (omega arith)
 not_ended (b ∷ bytes) lt = refl
 
-some_bytes : {V : Type 0} (G : Grammar V) → TakesBytes G → (front : List ℕ) (v : V) → G front v → 0 < length front
+pub some_bytes : {V : Type 0} (G : Grammar V) → TakesBytes G → (prefix : List ℕ) (v : V) → G prefix v → 0 < length prefix
 some_bytes G some [] v g = absurd (some v g)
-some_bytes G some (b ∷ front) v g = omega arith
+some_bytes G some (b ∷ prefix) v g = omega arith
 
 nothing_left : {A : Type 0} (G : Grammar A) (p : Place) (vs : List A) (q : Place) → at_end p.left ≡ true → some {A = List A × Place} ([], p) ≡ some (vs, q) → Joined G p.left vs
 nothing_left {A} G p vs q is e = subst (λ (x : List A × Place). Joined G p.left x.0) (some_is ([], p) (vs, q) e) (ended p.left is)
@@ -93,7 +94,7 @@ one_more {A} {F} r n more p vs q fits false other e =
     let b = bind_some (until_end F.at n a.0.1) (λ ws. Some (a.0.0 ∷ ws.0, ws.1)) (vs, q) a.2 in
     let one = r.reads.sound p a.0.0 a.0.1 fits a.1 in
     let rest = more a.0.1 b.0.0 b.0.1 (IsBytes-after p.left a.0.1.left a.0.0 one fits) b.1 in
-    let whole : Joined F.Encodes p.left (a.0.0 ∷ b.0.0) = (one.front, a.0.1.left, one.parts, one.spells, rest) in
+    let whole : Joined F.Encodes p.left (a.0.0 ∷ b.0.0) = (one.prefix, a.0.1.left, one.parts, one.encodes, rest) in
     subst (λ (x : List A × Place). Joined F.Encodes p.left x.0) (some_is (a.0.0 ∷ b.0.0, b.0.1) (vs, q) b.2) whole
 
 until_sound : {A : Type 0} {F : Format A} → IsLawful F → (n : ℕ) → SoundUntil F n
@@ -136,41 +137,41 @@ Lawful-to-end {A} {F} r takes = record {
 
 -- ---- a size, and then that many bytes
 
-pub IsBytes-front : (front back : List ℕ) → IsBytes (front ++ back) → IsBytes front
-IsBytes-front [] back fits = tt
-IsBytes-front (b ∷ front) back fits = (fits.0, IsBytes-front front back fits.1)
+pub IsBytes-prefix : (prefix back : List ℕ) → IsBytes (prefix ++ back) → IsBytes prefix
+IsBytes-prefix [] back fits = tt
+IsBytes-prefix (b ∷ prefix) back fits = (fits.0, IsBytes-prefix prefix back fits.1)
 
 -- these bytes stand at the place, after their number
-record Body (p : Place) (body : List ℕ) (after : Place) : Type 0 where
-  size : List ℕ
-  counts : SpellsU32 size (length body)
-  parts : p.left ≡ (size ++ body) ++ after.left
-  are_bytes : IsBytes body
+pub record Body (p : Place) (body : List ℕ) (after : Place) : Type 0 where
+  pub size : List ℕ
+  pub counts : EncodesU32 size (length body)
+  pub parts : p.left ≡ (size ++ body) ++ after.left
+  pub are_bytes : IsBytes body
 
-taken : (p : Place) (n : ℕ) (mid : Place) → IsBytes p.left → n ≤ length mid.left → Fronts SpellsU32 p.left n mid.left → Body p (take n mid.left) (place mid.shortest (drop n mid.left))
+taken : (p : Place) (n : ℕ) (mid : Place) → IsBytes p.left → n ≤ length mid.left → BeginsWith EncodesU32 p.left n mid.left → Body p (take n mid.left) (place mid.shortest (drop n mid.left))
 taken p n mid fits le one =
     let split = take-append-drop n mid.left in
     let len : n ≡ length (take n mid.left) = omega (arith, length-take n mid.left) in
     record {
-      size = one.front;
-      counts = subst (λ (k : ℕ). SpellsU32 one.front k) len one.spells;
-      parts = in_a_row p.left one.front mid.left (take n mid.left) (drop n mid.left) one.parts (sym split);
-      are_bytes = IsBytes-front (take n mid.left) (drop n mid.left) (subst IsBytes (sym split) (IsBytes-after p.left mid.left n one fits));
+      size = one.prefix;
+      counts = subst (λ (k : ℕ). EncodesU32 one.prefix k) len one.encodes;
+      parts = in_a_row p.left one.prefix mid.left (take n mid.left) (drop n mid.left) one.parts (sym split);
+      are_bytes = IsBytes-prefix (take n mid.left) (drop n mid.left) (subst IsBytes (sym split) (IsBytes-after p.left mid.left n one fits));
     }
 
 guard_none : {A : Type 0} (test : Bool) (x y : A) → cond test None (Some x) ≡ Some y → (test ≡ false) × (x ≡ y)
 guard_none true x y e = absurd cc
 guard_none false x y e = (refl, some_is x y e)
 
-body_sound : (p : Place) (body : List ℕ) (after : Place) → IsBytes p.left → body_at p ≡ Some (body, after) → Body p body after
+pub body_sound : (p : Place) (body : List ℕ) (after : Place) → IsBytes p.left → body_at p ≡ Some (body, after) → Body p body after
 body_sound p body after fits e =
     let s = bind_some (u32_at p) (λ size. cond (ltb (length size.1.left) size.0) None (Some (take size.0 size.1.left, place size.1.shortest (drop size.0 size.1.left)))) (body, after) e in
     let g = guard_none (ltb (length s.0.1.left) s.0.0) (take s.0.0 s.0.1.left, place s.0.1.shortest (drop s.0.0 s.0.1.left)) (body, after) s.2 in
     subst (λ (x : List ℕ × Place). Body p x.0 x.1) g.1 (taken p s.0.0 s.0.1 fits (ltb-false _ _ g.0) (Lawful-u32.reads.sound p s.0.0 s.0.1 fits s.1))
 
-body_complete : (size body rest : List ℕ) (s : Bool) → SpellsU32 size (length body) → body_at (place s ((size ++ body) ++ rest)) ≡ Some (body, place (keeps s size (unsigned_text (length body))) rest)
+pub body_complete : (size body rest : List ℕ) (s : Bool) → EncodesU32 size (length body) → body_at (place s ((size ++ body) ++ rest)) ≡ Some (body, place (keeps s size (unsigned_leb128 (length body))) rest)
 body_complete size body rest s g =
-    let mid = keeps s size (unsigned_text (length body)) in
+    let mid = keeps s size (unsigned_leb128 (length body)) in
     let p : u32_at (place s ((size ++ body) ++ rest)) ≡ Some (length body, place mid (body ++ rest)) = read_in_row u32_at s (size ++ body) size body rest (Some (length body, place mid (body ++ rest))) refl (Lawful-u32.reads.complete size (length body) (body ++ rest) s g) in
     let long : ltb (length (body ++ rest)) (length body) ≡ false = le-ltb _ _ (omega (arith, length-append body rest)) in
     rw (p, long, take_at body rest (length body) refl, drop_at body rest (length body) refl) refl
@@ -194,63 +195,92 @@ digits_of-mono turn top (suc more) n m le = by (digits_of-mono turn top more (n 
   by fewer false small true less = absurd (omega (arith, ltb-false _ _ small, ltb-true _ _ less))
   by fewer false small false less = omega arith
 
-unsigned_text-mono : (n m : ℕ) → n ≤ m → length (unsigned_text n) ≤ length (unsigned_text m)
-unfolding unsigned_text
-unsigned_text-mono n m = digits_of-mono false 128 9 n m
+pub unsigned_leb128-mono : (n m : ℕ) → n ≤ m → length (unsigned_leb128 n) ≤ length (unsigned_leb128 m)
+unfolding unsigned_leb128
+unsigned_leb128-mono n m = digits_of-mono false 128 9 n m
 
 -- a shorter body with its size is shorter
-sized_shorter : (size body bytes : List ℕ) → SpellsU32 size (length body) → length bytes < length body → length (unsigned_text (length bytes) ++ bytes) < length (size ++ body)
+sized_shorter : (size body bytes : List ℕ) → EncodesU32 size (length body) → length bytes < length body → length (unsigned_leb128 (length bytes) ++ bytes) < length (size ++ body)
 sized_shorter size body bytes g lt =
-    let least = not_longer size (unsigned_text (length body)) (Lawful-u32.shortest.least size (length body) g) in
-    let fewer = unsigned_text-mono (length bytes) (length body) (omega arith) in
-    omega (arith, least, fewer, length-append (unsigned_text (length bytes)) bytes, length-append size body)
+    let least = not_longer size (unsigned_leb128 (length body)) (Lawful-u32.shortest.least size (length body) g) in
+    let fewer = unsigned_leb128-mono (length bytes) (length body) (omega arith) in
+    omega (arith, least, fewer, length-append (unsigned_leb128 (length bytes)) bytes, length-append size body)
 
-sized_least : (size body bytes : List ℕ) → SpellsU32 size (length body) → IsTextOrLonger body bytes → IsTextOrLonger (size ++ body) (unsigned_text (length bytes) ++ bytes)
-sized_least size body bytes g (inl e) = subst (λ (t : List ℕ). IsTextOrLonger (size ++ body) (unsigned_text (length t) ++ t)) e (least_then (size ++ body) size body (unsigned_text (length body)) body refl (Lawful-u32.shortest.least size (length body) g) (inl refl))
+sized_least : (size body bytes : List ℕ) → EncodesU32 size (length body) → IsShortestOrLonger body bytes → IsShortestOrLonger (size ++ body) (unsigned_leb128 (length bytes) ++ bytes)
+sized_least size body bytes g (inl e) = subst (λ (t : List ℕ). IsShortestOrLonger (size ++ body) (unsigned_leb128 (length t) ++ t)) e (least_then (size ++ body) size body (unsigned_leb128 (length body)) body refl (Lawful-u32.shortest.least size (length body) g) (inl refl))
 sized_least size body bytes g (inr lt) = inr (sized_shorter size body bytes g lt)
 
 -- the size and the body are in their shortest encodings just where the whole is
-keeps_sized : (s : Bool) (size body bytes : List ℕ) → SpellsU32 size (length body) → IsTextOrLonger body bytes → keeps (keeps s size (unsigned_text (length body))) body bytes ≡ keeps s (size ++ body) (unsigned_text (length bytes) ++ bytes)
+keeps_sized : (s : Bool) (size body bytes : List ℕ) → EncodesU32 size (length body) → IsShortestOrLonger body bytes → keeps (keeps s size (unsigned_leb128 (length body))) body bytes ≡ keeps s (size ++ body) (unsigned_leb128 (length bytes) ++ bytes)
 keeps_sized s size body bytes g (inl e) =
-    subst (λ (t : List ℕ). keeps (keeps s size (unsigned_text (length body))) body t ≡ keeps s (size ++ body) (unsigned_text (length t) ++ t)) e
-    (keeps_then s size body (unsigned_text (length body)) body (Lawful-u32.shortest.least size (length body) g) (inl refl))
+    subst (λ (t : List ℕ). keeps (keeps s size (unsigned_leb128 (length body))) body t ≡ keeps s (size ++ body) (unsigned_leb128 (length t) ++ t)) e
+    (keeps_then s size body (unsigned_leb128 (length body)) body (Lawful-u32.shortest.least size (length body) g) (inl refl))
 keeps_sized s size body bytes g (inr lt) =
-    keeps_longer (keeps s size (unsigned_text (length body))) body bytes lt ∙ sym (keeps_longer s (size ++ body) (unsigned_text (length bytes) ++ bytes) (sized_shorter size body bytes g lt))
+    keeps_longer (keeps s size (unsigned_leb128 (length body))) body bytes lt ∙ sym (keeps_longer s (size ++ body) (unsigned_leb128 (length bytes) ++ bytes) (sized_shorter size body bytes g lt))
 
 pub Lawful-sized : {A : Type 0} {F : Format A} → IsLawfulBody F → IsLawful (sized F)
 Lawful-sized {A} {F} r = record {
   reads = record { sound = sound; complete = complete };
-  shortest = record { spells = spells; again = λ bytes v g. spells v (in_range bytes v g); least = λ bytes v g. rw g.2 (sized_least g.0 g.1 (F.bytes v) g.3 (r.shortest.least g.1 v g.4)) };
+  shortest = record { encodes = encodes; again = λ bytes v g. encodes v (in_range bytes v g); least = λ bytes v g. rw g.2 (sized_least g.0 g.1 (F.bytes v) g.3 (r.shortest.least g.1 v g.4)) };
   in_range = in_range;
   are_bytes = λ bytes v g. rw g.2 (IsBytes-append g.0 g.1 (Lawful-u32.are_bytes g.0 (length g.1) g.3) (r.are_bytes g.1 v g.4));
   begins = λ bytes v g. rw g.2 (begins_counted g.0 g.1 (Lawful-u32.begins g.0 (length g.1) g.3));
 } where
-  sound : (p : Place) (v : A) (q : Place) → IsBytes p.left → sized_at F.at p ≡ Some (v, q) → Fronts (Sized F.Encodes) p.left v q.left
+  sound : (p : Place) (v : A) (q : Place) → IsBytes p.left → sized_at F.at p ≡ Some (v, q) → BeginsWith (Sized F.Encodes) p.left v q.left
   sound p v end fits e =
       let b = bind_some (body_at p) (λ body. if_all (F.at (place body.1.shortest body.0)) >>= λ x. Some (x.0, place x.1.shortest body.1.left)) (v, end) e in
       let x = bind_some (if_all (F.at (place b.0.1.shortest b.0.0))) (λ x. Some (x.0, place x.1.shortest b.0.1.left)) (v, end) b.2 in
       let one = body_sound p b.0.0 b.0.1 fits b.1 in
       let all = all_is (F.at (place b.0.1.shortest b.0.0)) x.0 x.1 in
       let inside = r.reads.sound (place b.0.1.shortest b.0.0) x.0.0 x.0.1 one.are_bytes all.0 all.1 in
-      Fronts-at (Sized F.Encodes) p.left x.0.0 v (place x.0.1.shortest b.0.1.left) end x.2 (record { front = one.size ++ b.0.0; spells = (one.size, b.0.0, refl, one.counts, inside); parts = one.parts })
+      BeginsWith-at (Sized F.Encodes) p.left x.0.0 v (place x.0.1.shortest b.0.1.left) end x.2 (record { prefix = one.size ++ b.0.0; encodes = (one.size, b.0.0, refl, one.counts, inside); parts = one.parts })
 
-  complete : (front : List ℕ) (v : A) (rest : List ℕ) (s : Bool) → Sized F.Encodes front v → sized_at F.at (place s (front ++ rest)) ≡ Some (v, place (keeps s front (unsigned_text (length (F.bytes v)) ++ F.bytes v)) rest)
-  complete front v rest s g =
-      let mid = keeps s g.0 (unsigned_text (length g.1)) in
-      let p : body_at (place s (front ++ rest)) ≡ Some (g.1, place mid rest) = ap (λ (t : List ℕ). body_at (place s (t ++ rest))) g.2 ∙ body_complete g.0 g.1 rest s g.3 in
+  complete : (prefix : List ℕ) (v : A) (rest : List ℕ) (s : Bool) → Sized F.Encodes prefix v → sized_at F.at (place s (prefix ++ rest)) ≡ Some (v, place (keeps s prefix (unsigned_leb128 (length (F.bytes v)) ++ F.bytes v)) rest)
+  complete prefix v rest s g =
+      let mid = keeps s g.0 (unsigned_leb128 (length g.1)) in
+      let p : body_at (place s (prefix ++ rest)) ≡ Some (g.1, place mid rest) = ap (λ (t : List ℕ). body_at (place s (t ++ rest))) g.2 ∙ body_complete g.0 g.1 rest s g.3 in
       let q = r.reads.complete g.1 v mid g.4 in
-      let k : keeps mid g.1 (F.bytes v) ≡ keeps s front (unsigned_text (length (F.bytes v)) ++ F.bytes v) =
-      keeps_sized s g.0 g.1 (F.bytes v) g.3 (r.shortest.least g.1 v g.4) ∙ ap (λ (f : List ℕ). keeps s f (unsigned_text (length (F.bytes v)) ++ F.bytes v)) (sym g.2) in
+      let k : keeps mid g.1 (F.bytes v) ≡ keeps s prefix (unsigned_leb128 (length (F.bytes v)) ++ F.bytes v) =
+      keeps_sized s g.0 g.1 (F.bytes v) g.3 (r.shortest.least g.1 v g.4) ∙ ap (λ (f : List ℕ). keeps s f (unsigned_leb128 (length (F.bytes v)) ++ F.bytes v)) (sym g.2) in
       rw (p, q, k) refl
 
-  spells : (v : A) → F.InRange v × (length (F.bytes v) < 2 ^ 32) → Sized F.Encodes (unsigned_text (length (F.bytes v)) ++ F.bytes v) v
-  spells v fits = (unsigned_text (length (F.bytes v)), F.bytes v, refl, Lawful-u32.shortest.spells (length (F.bytes v)) fits.1, r.shortest.spells v fits.0)
+  encodes : (v : A) → F.InRange v × (length (F.bytes v) < 2 ^ 32) → Sized F.Encodes (unsigned_leb128 (length (F.bytes v)) ++ F.bytes v) v
+  encodes v fits = (unsigned_leb128 (length (F.bytes v)), F.bytes v, refl, Lawful-u32.shortest.encodes (length (F.bytes v)) fits.1, r.shortest.encodes v fits.0)
 
   in_range : (bytes : List ℕ) (v : A) → Sized F.Encodes bytes v → F.InRange v × (length (F.bytes v) < 2 ^ 32)
   in_range bytes v g = (r.in_range g.1 v g.4, omega (arith, not_longer g.1 (F.bytes v) (r.shortest.least g.1 v g.4), Lawful-u32.in_range g.0 (length g.1) g.3))
 
 pub Lawful-byte-list : IsLawful byte_list
 Lawful-byte-list = Lawful-sized Lawful-bytes_to_end
+
+-- ---- what is made of a value, and the first format or the second
+
+pub Lawful-made-body : {A B : Type 0} {F : Format A} (make : A → B) (parts : B → Option A) → ((a : A) → parts (make a) ≡ Some a) → IsLawfulBody F → IsLawfulBody (made make parts F)
+Lawful-made-body {A} {B} {F} make parts inverse r = record {
+  reads = record { sound = sound; complete = complete };
+  shortest = Shortest-for (made make parts F).InRange (Shortest-map make (made make parts F).bytes r.shortest (λ a. ap (bytes_of F.bytes) (sym (inverse a)))) (λ b. fits b (parts b));
+  in_range = λ bytes b g. subst (made make parts F).InRange g.2 (rw (inverse g.0) (r.in_range bytes g.0 g.1, refl));
+  are_bytes = λ bytes b g. r.are_bytes bytes g.0 g.1;
+} where
+  fits : (b : B) (o : Option A) → IsSomeAnd o (λ a. F.InRange a × (make a ≡ b)) → (a : A) × F.InRange a × (make a ≡ b)
+  fits b (Some a) h = (a, h.0, h.1)
+  fits b None h = absurd h
+
+  sound : (p : Place) (b : B) (q : Place) → IsBytes p.left → (made make parts F).at p ≡ Some (b, q) → q.left ≡ [] → (made make parts F).Encodes p.left b
+  sound start b end all e none =
+      let p = bind_some (F.at start) (λ a. Some (make a.0, a.1)) (b, end) e in
+      let same = some_is (make p.0.0, p.0.1) (b, end) p.2 in
+      let ends : p.0.1.left ≡ [] = ap (λ (x : B × Place). x.1.left) same ∙ none in
+      (p.0.0, r.reads.sound start p.0.0 p.0.1 all p.1 ends, ap (λ (x : B × Place). x.0) same)
+
+  complete : (body : List ℕ) (b : B) (s : Bool) → (made make parts F).Encodes body b → (made make parts F).at (place s body) ≡ Some (b, place (keeps s body (bytes_of F.bytes (parts b))) [])
+  complete body b s g =
+      let p : parts b ≡ Some g.0 = ap parts (sym g.2) ∙ inverse g.0 in
+      rw (r.reads.complete body g.0 s g.1, p, g.2) refl
+
+pub Lawful-choose-body : {A : Type 0} (test : Bool) {F G : Format A} → IsLawfulBody F → IsLawfulBody G → IsLawfulBody (choose test F G)
+Lawful-choose-body true r s = r
+Lawful-choose-body false r s = s
 
 -- ---- these bytes, and then the rest
 
@@ -276,17 +306,47 @@ headed_complete r [] body v s g = rw g.1 (r.reads.complete g.0 v s g.2)
 headed_complete {F = F} r (n ∷ head) body v s g =
     rw (g.1, eq-eqb n n refl, keeps_cons s n n (head ++ g.0) (head ++ F.bytes v)) (headed_complete r head (head ++ g.0) v s (g.0, refl, g.2))
 
-headed_least : (head back bytes : List ℕ) → IsTextOrLonger back bytes → IsTextOrLonger (head ++ back) (head ++ bytes)
+headed_least : (head back bytes : List ℕ) → IsShortestOrLonger back bytes → IsShortestOrLonger (head ++ back) (head ++ bytes)
 headed_least head back bytes g = least_then (head ++ back) head back head bytes refl (inl refl) g
 
 pub Lawful-headed-body : {A : Type 0} {F : Format A} (head : List ℕ) → IsBytes head → IsLawfulBody F → IsLawfulBody (headed head F)
 Lawful-headed-body {A} {F} head are r = record {
   reads = record { sound = headed_sound r head; complete = headed_complete r head };
   shortest = record {
-    spells = λ v fits. (F.bytes v, refl, r.shortest.spells v fits);
+    encodes = λ v fits. (F.bytes v, refl, r.shortest.encodes v fits);
     again = λ bytes v g. (F.bytes v, refl, r.shortest.again g.0 v g.2);
     least = λ bytes v g. rw g.1 (headed_least head g.0 (F.bytes v) (r.shortest.least g.0 v g.2));
   };
   in_range = λ bytes v g. r.in_range g.0 v g.2;
   are_bytes = λ bytes v g. rw g.1 (IsBytes-append head g.0 are (r.are_bytes g.0 v g.2));
+}
+
+-- ---- an encoding, and then what goes on to the end
+
+then_sound : {A B : Type 0} {F : Format A} {G : A → Format B} → IsLawful F → ((a : A) → IsLawfulBody (G a)) → (p : Place) (v : A × B) (q : Place) → IsBytes p.left → (F ⊗> G).at p ≡ Some (v, q) → q.left ≡ [] → (F ⊗> G).Encodes p.left v
+then_sound {A} {B} {F} {G} r s start v end fits e none =
+    let p = bind_some (F.at start) (λ a. (G a.0).at a.1 >>= λ b. Some ((a.0, b.0), b.1)) (v, end) e in
+    let q = bind_some ((G p.0.0).at p.0.1) (λ b. Some ((p.0.0, b.0), b.1)) (v, end) p.2 in
+    let one = r.reads.sound start p.0.0 p.0.1 fits p.1 in
+    let same = some_is ((p.0.0, q.0.0), q.0.1) (v, end) q.2 in
+    let ends : q.0.1.left ≡ [] = ap (λ (x : (A × B) × Place). x.1.left) same ∙ none in
+    let two = (s p.0.0).reads.sound p.0.1 q.0.0 q.0.1 (IsBytes-after start.left p.0.1.left p.0.0 one fits) q.1 ends in
+    let whole : (F ⊗> G).Encodes start.left (p.0.0, q.0.0) = (one.prefix, p.0.1.left, one.parts, one.encodes, two) in
+    subst (λ (x : (A × B) × Place). (F ⊗> G).Encodes start.left x.0) same whole
+
+then_complete : {A B : Type 0} {F : Format A} {G : A → Format B} → IsLawful F → ((a : A) → IsLawfulBody (G a)) → (body : List ℕ) (v : A × B) (t : Bool) → (F ⊗> G).Encodes body v → (F ⊗> G).at (place t body) ≡ Some (v, place (keeps t body ((F ⊗> G).bytes v)) [])
+then_complete {A} {B} {F} {G} r s body v t g =
+    let mid = keeps t g.0 (F.bytes v.0) in
+    let p : F.at (place t body) ≡ Some (v.0, place mid g.1) = ap (λ (l : List ℕ). F.at (place t l)) g.2 ∙ r.reads.complete g.0 v.0 g.1 t g.3 in
+    let q : (G v.0).at (place mid g.1) ≡ Some (v.1, place (keeps mid g.1 ((G v.0).bytes v.1)) []) = (s v.0).reads.complete g.1 v.1 mid g.4 in
+    let k : keeps mid g.1 ((G v.0).bytes v.1) ≡ keeps t body (F.bytes v.0 ++ (G v.0).bytes v.1) =
+    keeps_then t g.0 g.1 (F.bytes v.0) ((G v.0).bytes v.1) (r.shortest.least g.0 v.0 g.3) ((s v.0).shortest.least g.1 v.1 g.4) ∙ ap (λ (f : List ℕ). keeps t f (F.bytes v.0 ++ (G v.0).bytes v.1)) (sym g.2) in
+    rw (p, q, k) refl
+
+pub Lawful-then-body : {A B : Type 0} {F : Format A} {G : A → Format B} → IsLawful F → ((a : A) → IsLawfulBody (G a)) → IsLawfulBody (F ⊗> G)
+Lawful-then-body {A} {B} {F} {G} r s = record {
+  reads = record { sound = then_sound r s; complete = then_complete r s };
+  shortest = Shortest-then r.shortest (λ a. (s a).shortest);
+  in_range = λ bytes v g. (r.in_range g.0 v.0 g.3, (s v.0).in_range g.1 v.1 g.4);
+  are_bytes = λ bytes v g. rw g.2 (IsBytes-append g.0 g.1 (r.are_bytes g.0 v.0 g.3) ((s v.0).are_bytes g.1 v.1 g.4));
 }

@@ -11,15 +11,15 @@ use Rattle.wasm_codec.proofs.Laws.{some, some_is}
 
 -- digits that were passed, and those that are still read
 abbrev ahead : List ℕ → Option (List ℕ × List ℕ) → Option (List ℕ × List ℕ)
-ahead front read = read >>= λ more. Some (front ++ more.0, more.1)
+ahead prefix read = read >>= λ more. Some (prefix ++ more.0, more.1)
 
 -- what is read in all, after i digits
 abbrev pub reads_on : ℕ → List ℕ → ℕ → Option (List ℕ × List ℕ)
 reads_on most bytes i = ahead (take i bytes) (digits_at (most - i) (drop i bytes))
 
-regroup : (front : List ℕ) (b : ℕ) (read : Option (List ℕ × List ℕ)) → ahead front (read >>= λ more. Some (b ∷ more.0, more.1)) ≡ ahead (front ++ b ∷ []) read
-regroup front b (Some x) = ap (λ (ds : List ℕ). Some (ds, x.1)) (simp append_assoc)
-regroup front b None = refl
+regroup : (prefix : List ℕ) (b : ℕ) (read : Option (List ℕ × List ℕ)) → ahead prefix (read >>= λ more. Some (b ∷ more.0, more.1)) ≡ ahead (prefix ++ b ∷ []) read
+regroup prefix b (Some x) = ap (λ (ds : List ℕ). Some (ds, x.1)) (simp append_assoc)
+regroup prefix b None = refl
 
 -- the byte at a place
 pub record ByteAt (bytes : List ℕ) (i b : ℕ) (rest : List ℕ) : Type 0 where
@@ -68,16 +68,16 @@ pub runs_out : (most : ℕ) (bytes : List ℕ) (i : ℕ) → byte_at (drop i byt
 runs_out most bytes i e = rw (no_byte (drop i bytes) e, none_left (most - i)) refl
 
 -- a byte was wanting
-unsigned-append : (front : List ℕ) (b : ℕ) → unsigned (front ++ b ∷ []) ≡ unsigned front + (b % 128) * 128 ^ length front
+unsigned-append : (prefix : List ℕ) (b : ℕ) → unsigned (prefix ++ b ∷ []) ≡ unsigned prefix + (b % 128) * 128 ^ length prefix
 unsigned-append [] b = omega arith
-unsigned-append (c ∷ front) b =
-    let p : 128 ^ suc (length front) ≡ 128 * 128 ^ length front = omega arith in
-    rw (unsigned-append front b, p) (omega arith)
+unsigned-append (c ∷ prefix) b =
+    let p : 128 ^ suc (length prefix) ≡ 128 * 128 ^ length prefix = omega arith in
+    rw (unsigned-append prefix b, p) (omega arith)
 
-last-append : (front : List ℕ) (b : ℕ) → last (front ++ b ∷ []) ≡ b
+last-append : (prefix : List ℕ) (b : ℕ) → last (prefix ++ b ∷ []) ≡ b
 last-append [] b = refl
 last-append (c ∷ []) b = refl
-last-append (c ∷ d ∷ front) b = last-append (d ∷ front) b
+last-append (c ∷ d ∷ prefix) b = last-append (d ∷ prefix) b
 
 pub value_more : (bytes : List ℕ) (i b value place : ℕ) → i < length bytes → get_or bytes i 0 ≡ b → value ≡ unsigned (take i bytes) → place ≡ 128 ^ i → value + (b % 128) * place ≡ unsigned (take (i + 1) bytes)
 value_more bytes i b value place lt e v p =

@@ -3,9 +3,9 @@ use Rattle.std.proofs.Common.{◌≡◌, ℕ, zero, suc, ◌+◌, ◌*◌, ◌%�
 use Rattle.std.proofs.lemmas.Bool.{ltb-true, lt-ltb, ltb-false, le-ltb}
 use Rattle.std.proofs.lemmas.Nat.{div_below}
 use Rattle.wasm_codec.specs.Grammar.{IsBytes}
-use Rattle.wasm_codec.specs.Reading.{◌>>=◌, Fronts, IsReadBy}
+use Rattle.wasm_codec.specs.Reading.{◌>>=◌, BeginsWith, IsReadBy}
 use Rattle.wasm_codec.specs.Numbers.{IsDigits, last, Number, digits_at, number_at, turned, digits_of}
-use Rattle.wasm_codec.specs.Encoding.{IsTextOrLonger}
+use Rattle.wasm_codec.specs.Encoding.{IsShortestOrLonger}
 use Rattle.wasm_codec.proofs.Laws.{bind_some, some_is}
 
 -- ---- reading
@@ -51,9 +51,9 @@ IsReadBy-number {V} most Means value means finds = record {
       let p = bind_some (digits_at most bytes) (λ digits. value digits.0 >>= λ v. Some (v, digits.1)) (v, rest) e in
       let q = bind_some (value p.0.0) (λ v. Some (v, p.0.1)) (v, rest) p.2 in
       let t = digits_sound most bytes p.0.0 p.0.1 fits p.1 in
-      let whole : Fronts (Number most Means) bytes q.0 p.0.1 = record { front = p.0.0; spells = (t.are, t.short, means p.0.0 q.0 q.1); parts = t.parts } in
-      subst (λ (x : V × List ℕ). Fronts (Number most Means) bytes x.0 x.1) (some_is (q.0, p.0.1) (v, rest) q.2) whole;
-  complete = λ front v rest g. rw (digits_complete most front rest g.0 g.1, finds front v g.0 g.2) refl;
+      let whole : BeginsWith (Number most Means) bytes q.0 p.0.1 = record { prefix = p.0.0; encodes = (t.are, t.short, means p.0.0 q.0 q.1); parts = t.parts } in
+      subst (λ (x : V × List ℕ). BeginsWith (Number most Means) bytes x.0 x.1) (some_is (q.0, p.0.1) (v, rest) q.2) whole;
+  complete = λ prefix v rest g. rw (digits_complete most prefix rest g.0 g.1, finds prefix v g.0 g.2) refl;
 }
 
 -- ---- the fewest digits
@@ -140,7 +140,7 @@ more-is turn top b c n bytes h =
     let low : n % 128 ≡ turned turn (b % 128) = omega (arith, t.0) in
     (rw (low, t.1) (omega arith), record { are = h.are.2; ends = h.ends; value = omega (arith, t.0) })
 
-pub digits_least : (turn : Bool) (top : ℕ) → (more : ℕ) (bytes : List ℕ) (n : ℕ) → top ≤ 128 → n < top * 128 ^ more → Stands turn top bytes n → IsTextOrLonger bytes (digits_of turn top more n)
+pub digits_least : (turn : Bool) (top : ℕ) → (more : ℕ) (bytes : List ℕ) (n : ℕ) → top ≤ 128 → n < top * 128 ^ more → Stands turn top bytes n → IsShortestOrLonger bytes (digits_of turn top more n)
 unfolding digits_of
 digits_least turn top more [] n wide lt h = absurd h.are
 digits_least turn top zero (b ∷ []) n wide lt h = inl (ap (λ (k : ℕ). k ∷ []) (one-is turn top b n h).1)
@@ -149,7 +149,7 @@ digits_least turn top (suc more) (b ∷ []) n wide lt h =
     let p = one-is turn top b n h in inl (rw (lt-ltb n top p.0) (ap (λ (k : ℕ). k ∷ []) p.1))
 digits_least turn top (suc more) (b ∷ c ∷ bytes) n wide lt h =
     by (digits_least turn top more (c ∷ bytes) (n / 128) wide (less_one top more n lt) (more-is turn top b c n bytes h).1) (ltb n top) where
-      by : IsTextOrLonger (c ∷ bytes) (digits_of turn top more (n / 128)) → (t : Bool) → IsTextOrLonger (b ∷ c ∷ bytes) (cond t (turned turn n ∷ []) ((128 + turned turn (n % 128)) ∷ digits_of turn top more (n / 128)))
+      by : IsShortestOrLonger (c ∷ bytes) (digits_of turn top more (n / 128)) → (t : Bool) → IsShortestOrLonger (b ∷ c ∷ bytes) (cond t (turned turn n ∷ []) ((128 + turned turn (n % 128)) ∷ digits_of turn top more (n / 128)))
       by again true = inr (omega arith)
       by (inl p) false = inl (rw (← p, (more-is turn top b c n bytes h).0) refl)
       by (inr p) false = inr (omega arith)

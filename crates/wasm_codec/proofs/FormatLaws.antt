@@ -9,10 +9,10 @@ use Rattle.std.proofs.Math.Bool.{or-true, and-true, and-false}
 use Rattle.std.specs.List.{flat_map, AllByRecursion}
 use Rattle.wasm_codec.specs.Grammar.{Grammar, IsBytes, Mapped, After, Joined, Nothing}
 use Rattle.wasm_codec.specs.Reading.{◌>>=◌}
-use Rattle.wasm_codec.specs.Numbers.{IsDigits, Number, unsigned, signed, digits_at, unsigned_text, signed_text, SpellsU32, SpellsU64, SpellsS32, SpellsIndex, number_at as list_number_at, u32_at as list_u32_at, u64_at as list_u64_at, s32_at as list_s32_at, index_at as list_index_at, below, signed_within, index_below}
-use Rattle.wasm_codec.specs.Encoding.{IsTextOrLonger}
+use Rattle.wasm_codec.specs.Numbers.{IsDigits, Number, unsigned, signed, digits_at, unsigned_leb128, signed_leb128, EncodesU32, EncodesU64, EncodesS32, EncodesIndex, number_at as list_number_at, u32_at as list_u32_at, u64_at as list_u64_at, s32_at as list_s32_at, index_at as list_index_at, below, signed_within, index_below}
+use Rattle.wasm_codec.specs.Encoding.{IsShortestOrLonger}
 use Rattle.wasm_codec.proofs.Laws.{bind_some, bind_is, some, some_is, in_a_row, IsBytes-after, Shortest-byte, Shortest-nothing, Shortest-never, Shortest-then, Shortest-map, Shortest-for}
-use Rattle.wasm_codec.specs.Reading.{Fronts, IsReadBy as ListReads}
+use Rattle.wasm_codec.specs.Reading.{BeginsWith, IsReadBy as ListReads}
 use Rattle.wasm_codec.proofs.NumberLaws.{IsReadBy-u32, Shortest-u32, IsReadBy-u64, Shortest-u64, IsReadBy-s32, Shortest-s32, IsReadBy-index, Shortest-index}
 use Rattle.wasm_codec.proofs.Counting.{Shortest-counted}
 use Rattle.wasm_codec.proofs.Joining.{Shortest-joined}
@@ -28,9 +28,9 @@ pub record Every {V : Type 0} (G : Grammar V) (P : V → Type 0) : Type 0 where
 
 -- ---- places
 
-pub not_longer : (bytes text : List ℕ) → IsTextOrLonger bytes text → length text ≤ length bytes
-not_longer bytes text (inl e) = omega (arith, ap (length {A = ℕ}) e)
-not_longer bytes text (inr lt) = omega arith
+pub not_longer : (bytes encoding : List ℕ) → IsShortestOrLonger bytes encoding → length encoding ≤ length bytes
+not_longer bytes encoding (inl e) = omega (arith, ap (length {A = ℕ}) e)
+not_longer bytes encoding (inr lt) = omega arith
 
 eqb_sum : (a b c d : ℕ) → b ≤ a → d ≤ c → eqb a b && eqb c d ≡ eqb (a + c) (b + d)
 eqb_sum a b c d le more = elim (eqb_tells a b) [
@@ -46,7 +46,7 @@ and_and true a b = refl
 and_and false a b = refl
 
 -- both parts are in their shortest encoding just where the whole is
-pub keeps_then : (s : Bool) (f g t u : List ℕ) → IsTextOrLonger f t → IsTextOrLonger g u → keeps (keeps s f t) g u ≡ keeps s (f ++ g) (t ++ u)
+pub keeps_then : (s : Bool) (f g t u : List ℕ) → IsShortestOrLonger f t → IsShortestOrLonger g u → keeps (keeps s f t) g u ≡ keeps s (f ++ g) (t ++ u)
 keeps_then s f g t u p q =
     and_and s (eqb (length f) (length t)) (eqb (length g) (length u))
     ∙ ap (λ (b : Bool). s && b) (eqb_sum (length f) (length t) (length g) (length u) (not_longer f t p) (not_longer g u q) ∙ sym (rw (length-append f g, length-append t u) refl))
@@ -65,13 +65,13 @@ keeps_longer s f t lt = ap (λ (b : Bool). s && b) (ne_eqb (length f) (length t)
 
 -- of a long form there are fewer bytes, and otherwise these
 abbrev pub IsShorter : Bool → List ℕ → List ℕ → Type 0
-IsShorter long text own = elim long [ true ↦ length text < length own | false ↦ text ≡ own ]
+IsShorter long encoding own = elim long [ true ↦ length encoding < length own | false ↦ encoding ≡ own ]
 
-keeps_unless : (s : Bool) (front text own : List ℕ) (long : Bool) → IsTextOrLonger front own → IsShorter long text own → keeps s front own && not long ≡ keeps s front text
-keeps_unless s front text own true least h =
-    let le = not_longer front own least in
-    and-false (keeps s front own) ∙ sym (keeps_longer s front text (omega arith))
-keeps_unless s front text own false least h = and-true (keeps s front own) ∙ ap (keeps s front) (sym h)
+keeps_unless : (s : Bool) (prefix encoding own : List ℕ) (long : Bool) → IsShortestOrLonger prefix own → IsShorter long encoding own → keeps s prefix own && not long ≡ keeps s prefix encoding
+keeps_unless s prefix encoding own true least h =
+    let le = not_longer prefix own least in
+    and-false (keeps s prefix own) ∙ sym (keeps_longer s prefix encoding (omega arith))
+keeps_unless s prefix encoding own false least h = and-true (keeps s prefix own) ∙ ap (keeps s prefix) (sym h)
 
 -- ---- bytes
 
@@ -79,24 +79,24 @@ pub IsBytes-append : (a b : List ℕ) → IsBytes a → IsBytes b → IsBytes (a
 IsBytes-append [] b p q = q
 IsBytes-append (x ∷ a) b p q = (p.0, IsBytes-append a b p.1 q)
 
-longer_cons : (b : ℕ) (bytes text : List ℕ) → IsTextOrLonger bytes text → IsTextOrLonger (b ∷ bytes) (b ∷ text)
-longer_cons b bytes text (inl e) = inl (ap (λ (t : List ℕ). b ∷ t) e)
-longer_cons b bytes text (inr lt) = inr (omega arith)
+longer_cons : (b : ℕ) (bytes encoding : List ℕ) → IsShortestOrLonger bytes encoding → IsShortestOrLonger (b ∷ bytes) (b ∷ encoding)
+longer_cons b bytes encoding (inl e) = inl (ap (λ (t : List ℕ). b ∷ t) e)
+longer_cons b bytes encoding (inr lt) = inr (omega arith)
 
 -- the first byte was taken
 pub taken_fits : (p q : Place) (b : ℕ) → byte_at p ≡ Some (b, q) → IsBytes p.left → (b < 256) × IsBytes q.left
 taken_fits p q b e fits = subst IsBytes (byte_took p q b e).bytes fits
 
 -- what was read is what the reading function answered
-pub Fronts-at : {V : Type 0} (G : Grammar V) (bytes : List ℕ) (a v : V) (after rest : Place) → some {A = V × Place} (a, after) ≡ some (v, rest) → Fronts G bytes a after.left → Fronts G bytes v rest.left
-Fronts-at {V} G bytes a v after rest e h = subst (λ (x : V × Place). Fronts G bytes x.0 x.1.left) (some_is (a, after) (v, rest) e) h
+pub BeginsWith-at : {V : Type 0} (G : Grammar V) (bytes : List ℕ) (a v : V) (after rest : Place) → some {A = V × Place} (a, after) ≡ some (v, rest) → BeginsWith G bytes a after.left → BeginsWith G bytes v rest.left
+BeginsWith-at {V} G bytes a v after rest e h = subst (λ (x : V × Place). BeginsWith G bytes x.0 x.1.left) (some_is (a, after) (v, rest) e) h
 
 pub Lawful-byte : IsLawful a_byte
 unfolding byte_at
 Lawful-byte = record {
   reads = record {
-    sound = λ p b q fits e. record { front = b ∷ []; spells = (refl, (taken_fits p q b e fits).0); parts = (byte_took p q b e).bytes };
-    complete = λ front b rest s g. rw (g.0, keeps_same s (b ∷ [])) refl;
+    sound = λ p b q fits e. record { prefix = b ∷ []; encodes = (refl, (taken_fits p q b e fits).0); parts = (byte_took p q b e).bytes };
+    complete = λ prefix b rest s g. rw (g.0, keeps_same s (b ∷ [])) refl;
   };
   shortest = Shortest-byte;
   in_range = λ bytes b g. g.1;
@@ -107,8 +107,8 @@ Lawful-byte = record {
 pub Lawful-nothing : {A : Type 0} (a : A) → IsLawful (nothing a)
 Lawful-nothing {A} a = record {
   reads = record {
-    sound = λ p b q fits e. Fronts-at (Nothing a) p.left a b p q e (record { front = []; spells = (refl, refl); parts = refl });
-    complete = λ front b rest s g. rw (g.0, g.1, keeps_same s []) refl;
+    sound = λ p b q fits e. BeginsWith-at (Nothing a) p.left a b p q e (record { prefix = []; encodes = (refl, refl); parts = refl });
+    complete = λ prefix b rest s g. rw (g.0, g.1, keeps_same s []) refl;
   };
   shortest = Shortest-nothing a (λ b. []) refl;
   in_range = λ bytes b g. g.1;
@@ -118,7 +118,7 @@ Lawful-nothing {A} a = record {
 
 pub Lawful-never : {A : Type 0} → IsLawful (never {A = A})
 Lawful-never {A} = record {
-  reads = record { sound = λ p v q fits e. absurd cc; complete = λ front v rest s g. absurd g };
+  reads = record { sound = λ p v q fits e. absurd cc; complete = λ prefix v rest s g. absurd g };
   shortest = Shortest-never (λ a. []);
   in_range = λ bytes b g. g;
   are_bytes = λ bytes b g. absurd g;
@@ -128,9 +128,9 @@ Lawful-never {A} = record {
 pub Lawful-after : {A : Type 0} (n : ℕ) {F : Format A} → n < 256 → IsLawful F → IsLawful (n ▷ F)
 unfolding byte_at
 Lawful-after {A} n {F} byte r = record {
-  reads = record { sound = sound; complete = λ front v rest s g. rw (g.1, eq-eqb n n refl, keeps_cons s n n g.0 (F.bytes v)) (r.reads.complete g.0 v rest s g.2) };
+  reads = record { sound = sound; complete = λ prefix v rest s g. rw (g.1, eq-eqb n n refl, keeps_cons s n n g.0 (F.bytes v)) (r.reads.complete g.0 v rest s g.2) };
   shortest = record {
-    spells = λ v fits. (F.bytes v, refl, r.shortest.spells v fits);
+    encodes = λ v fits. (F.bytes v, refl, r.shortest.encodes v fits);
     again = λ bytes v g. (F.bytes v, refl, r.shortest.again g.0 v g.2);
     least = λ bytes v g. rw g.1 (longer_cons n g.0 (F.bytes v) (r.shortest.least g.0 v g.2));
   };
@@ -138,22 +138,22 @@ Lawful-after {A} n {F} byte r = record {
   are_bytes = λ bytes v g. rw g.1 (byte, r.are_bytes g.0 v g.2);
   begins = λ bytes v g. rw g.1 (eq-eqb n n refl);
 } where
-  sound : (p : Place) (v : A) (q : Place) → IsBytes p.left → (n ▷ F).at p ≡ Some (v, q) → Fronts (n ▷ F).Encodes p.left v q.left
+  sound : (p : Place) (v : A) (q : Place) → IsBytes p.left → (n ▷ F).at p ≡ Some (v, q) → BeginsWith (n ▷ F).Encodes p.left v q.left
   sound p v q fits e =
       let f = bind_some (byte_at p) (λ first. cond (eqb first.0 n) (F.at first.1) None) (v, q) e in
       by f.0.0 f.0.1 f.1 (eqb f.0.0 n) refl f.2
     where
-      by : (b : ℕ) (next : Place) → byte_at p ≡ Some (b, next) → (t : Bool) → eqb b n ≡ t → cond t (F.at next) None ≡ Some (v, q) → Fronts (n ▷ F).Encodes p.left v q.left
+      by : (b : ℕ) (next : Place) → byte_at p ≡ Some (b, next) → (t : Bool) → eqb b n ≡ t → cond t (F.at next) None ≡ Some (v, q) → BeginsWith (n ▷ F).Encodes p.left v q.left
       by b next took true is e =
           let one = r.reads.sound next v q (taken_fits p next b took fits).1 e in
-          record { front = n ∷ one.front; spells = (one.front, refl, one.spells); parts = (byte_took p next b took).bytes ∙ ap (λ (k : ℕ). k ∷ next.left) (eqb-true b n is) ∙ ap (λ (t : List ℕ). n ∷ t) one.parts }
+          record { prefix = n ∷ one.prefix; encodes = (one.prefix, refl, one.encodes); parts = (byte_took p next b took).bytes ∙ ap (λ (k : ℕ). k ∷ next.left) (eqb-true b n is) ∙ ap (λ (t : List ℕ). n ∷ t) one.parts }
       by b next took false differs e = absurd cc
 
 -- ---- one after the other
 
-begins_then : (first : Option ℕ → Bool) (front back : List ℕ) → first (head_of front) ≡ true → first_of first (head_of (front ++ back)) ≡ true
+begins_then : (first : Option ℕ → Bool) (prefix back : List ℕ) → first (head_of prefix) ≡ true → first_of first (head_of (prefix ++ back)) ≡ true
 begins_then first [] back e = rw e refl
-begins_then first (b ∷ front) back e = rw e (or-true (first None))
+begins_then first (b ∷ prefix) back e = rw e (or-true (first None))
 
 -- reading two prefixes in a row
 pub read_in_row : {V : Type 0} (read : Reader V) (s : Bool) (bytes a b rest : List ℕ) (o : Option (V × Place)) → bytes ≡ a ++ b → read (place s (a ++ (b ++ rest))) ≡ o → read (place s (bytes ++ rest)) ≡ o
@@ -166,13 +166,13 @@ Reads-then {A} {B} {F} {G} r s = record {
       let q = bind_some ((G p.0.0).at p.0.1) (λ b. Some ((p.0.0, b.0), b.1)) (v, end) p.2 in
       let one = r.reads.sound start p.0.0 p.0.1 fits p.1 in
       let two = (s p.0.0).reads.sound p.0.1 q.0.0 q.0.1 (IsBytes-after start.left p.0.1.left p.0.0 one fits) q.1 in
-      Fronts-at (F ⊗> G).Encodes start.left (p.0.0, q.0.0) v q.0.1 end q.2 (record { front = one.front ++ two.front; spells = (one.front, two.front, refl, one.spells, two.spells); parts = in_a_row start.left one.front p.0.1.left two.front q.0.1.left one.parts two.parts });
-  complete = λ front v rest t g.
+      BeginsWith-at (F ⊗> G).Encodes start.left (p.0.0, q.0.0) v q.0.1 end q.2 (record { prefix = one.prefix ++ two.prefix; encodes = (one.prefix, two.prefix, refl, one.encodes, two.encodes); parts = in_a_row start.left one.prefix p.0.1.left two.prefix q.0.1.left one.parts two.parts });
+  complete = λ prefix v rest t g.
       let back = g.1 in
       let mid = keeps t g.0 (F.bytes v.0) in
-      let p : F.at (place t (front ++ rest)) ≡ Some (v.0, place mid (back ++ rest)) = read_in_row F.at t front g.0 back rest (Some (v.0, place mid (back ++ rest))) g.2 (r.reads.complete g.0 v.0 (back ++ rest) t g.3) in
+      let p : F.at (place t (prefix ++ rest)) ≡ Some (v.0, place mid (back ++ rest)) = read_in_row F.at t prefix g.0 back rest (Some (v.0, place mid (back ++ rest))) g.2 (r.reads.complete g.0 v.0 (back ++ rest) t g.3) in
       let q : (G v.0).at (place mid (back ++ rest)) ≡ Some (v.1, place (keeps mid back ((G v.0).bytes v.1)) rest) = (s v.0).reads.complete back v.1 rest mid g.4 in
-      let k : keeps mid back ((G v.0).bytes v.1) ≡ keeps t front (F.bytes v.0 ++ (G v.0).bytes v.1) =
+      let k : keeps mid back ((G v.0).bytes v.1) ≡ keeps t prefix (F.bytes v.0 ++ (G v.0).bytes v.1) =
       keeps_then t g.0 back (F.bytes v.0) ((G v.0).bytes v.1) (r.shortest.least g.0 v.0 g.3) ((s v.0).shortest.least back v.1 g.4) ∙ ap (λ (f : List ℕ). keeps t f (F.bytes v.0 ++ (G v.0).bytes v.1)) (sym g.2) in
       rw (p, q, k) refl;
 }
@@ -191,11 +191,11 @@ Lawful-both r s = Lawful-then r (λ a. s)
 
 -- ---- what is made of a value
 
-Sound-made : {A B : Type 0} {F : Format A} (long : A → Bool) (make : A → B) → IsLawful F → (p : Place) (b : B) (q : Place) → IsBytes p.left → map_unless long make F.at p ≡ Some (b, q) → Fronts (Mapped make F.Encodes) p.left b q.left
+Sound-made : {A B : Type 0} {F : Format A} (long : A → Bool) (make : A → B) → IsLawful F → (p : Place) (b : B) (q : Place) → IsBytes p.left → map_unless long make F.at p ≡ Some (b, q) → BeginsWith (Mapped make F.Encodes) p.left b q.left
 Sound-made {A} {B} {F} long make r start b end fits e =
     let p = bind_some (F.at start) (λ a. Some (make a.0, unless (long a.0) a.1)) (b, end) e in
     let one = r.reads.sound start p.0.0 p.0.1 fits p.1 in
-    Fronts-at (Mapped make F.Encodes) start.left (make p.0.0) b (unless (long p.0.0) p.0.1) end p.2 (record { front = one.front; spells = (p.0.0, one.spells, refl); parts = one.parts })
+    BeginsWith-at (Mapped make F.Encodes) start.left (make p.0.0) b (unless (long p.0.0) p.0.1) end p.2 (record { prefix = one.prefix; encodes = (p.0.0, one.encodes, refl); parts = one.parts })
 
 pub Lawful-made : {A B : Type 0} {F : Format A} (make : A → B) (parts : B → Option A) → ((a : A) → parts (make a) ≡ Some a) → IsLawful F → IsLawful (made make parts F)
 Lawful-made {A} {B} {F} make parts inverse r = record {
@@ -209,18 +209,18 @@ Lawful-made {A} {B} {F} make parts inverse r = record {
   fits b (Some a) h = (a, h.0, h.1)
   fits b None h = absurd h
 
-  sound : (p : Place) (b : B) (q : Place) → IsBytes p.left → (made make parts F).at p ≡ Some (b, q) → Fronts (made make parts F).Encodes p.left b q.left
+  sound : (p : Place) (b : B) (q : Place) → IsBytes p.left → (made make parts F).at p ≡ Some (b, q) → BeginsWith (made make parts F).Encodes p.left b q.left
   sound start b end fits e =
       let p = bind_some (F.at start) (λ a. Some (make a.0, a.1)) (b, end) e in
       let one = r.reads.sound start p.0.0 p.0.1 fits p.1 in
-      Fronts-at (Mapped make F.Encodes) start.left (make p.0.0) b p.0.1 end p.2 (record { front = one.front; spells = (p.0.0, one.spells, refl); parts = one.parts })
+      BeginsWith-at (Mapped make F.Encodes) start.left (make p.0.0) b p.0.1 end p.2 (record { prefix = one.prefix; encodes = (p.0.0, one.encodes, refl); parts = one.parts })
 
-  complete : (front : List ℕ) (b : B) (rest : List ℕ) (s : Bool) → Mapped make F.Encodes front b → (made make parts F).at (place s (front ++ rest)) ≡ Some (b, place (keeps s front (bytes_of F.bytes (parts b))) rest)
-  complete front b rest s g =
+  complete : (prefix : List ℕ) (b : B) (rest : List ℕ) (s : Bool) → Mapped make F.Encodes prefix b → (made make parts F).at (place s (prefix ++ rest)) ≡ Some (b, place (keeps s prefix (bytes_of F.bytes (parts b))) rest)
+  complete prefix b rest s g =
       let p : parts b ≡ Some g.0 = ap parts (sym g.2) ∙ inverse g.0 in
-      rw (r.reads.complete front g.0 rest s g.1, p, g.2) refl
+      rw (r.reads.complete prefix g.0 rest s g.1, p, g.2) refl
 
-pub Lawful-made-as : {A B : Type 0} {F : Format A} (long : A → Bool) (make : A → B) (bytes : B → List ℕ) (R : B → Type 0) → IsLawful F → Shortest (Mapped make F.Encodes) R bytes → ((t : List ℕ) (b : B) → Mapped make F.Encodes t b → R b) → ((front : List ℕ) (a : A) → F.Encodes front a → IsShorter (long a) (bytes (make a)) (F.bytes a)) → IsLawful (made_as long make bytes R F)
+pub Lawful-made-as : {A B : Type 0} {F : Format A} (long : A → Bool) (make : A → B) (bytes : B → List ℕ) (R : B → Type 0) → IsLawful F → Shortest (Mapped make F.Encodes) R bytes → ((t : List ℕ) (b : B) → Mapped make F.Encodes t b → R b) → ((prefix : List ℕ) (a : A) → F.Encodes prefix a → IsShorter (long a) (bytes (make a)) (F.bytes a)) → IsLawful (made_as long make bytes R F)
 Lawful-made-as {A} {B} {F} long make bytes R r s fits shorter = record {
   reads = record { sound = Sound-made long make r; complete = complete };
   shortest = s;
@@ -228,10 +228,10 @@ Lawful-made-as {A} {B} {F} long make bytes R r s fits shorter = record {
   are_bytes = λ bytes b g. r.are_bytes bytes g.0 g.1;
   begins = λ bytes b g. r.begins bytes g.0 g.1;
 } where
-  complete : (front : List ℕ) (b : B) (rest : List ℕ) (s : Bool) → Mapped make F.Encodes front b → map_unless long make F.at (place s (front ++ rest)) ≡ Some (b, place (keeps s front (bytes b)) rest)
-  complete front b rest s g =
-      let k = keeps_unless s front (bytes (make g.0)) (F.bytes g.0) (long g.0) (r.shortest.least front g.0 g.1) (shorter front g.0 g.1) in
-      rw (r.reads.complete front g.0 rest s g.1, k, g.2) refl
+  complete : (prefix : List ℕ) (b : B) (rest : List ℕ) (s : Bool) → Mapped make F.Encodes prefix b → map_unless long make F.at (place s (prefix ++ rest)) ≡ Some (b, place (keeps s prefix (bytes b)) rest)
+  complete prefix b rest s g =
+      let k = keeps_unless s prefix (bytes (make g.0)) (F.bytes g.0) (long g.0) (r.shortest.least prefix g.0 g.1) (shorter prefix g.0 g.1) in
+      rw (r.reads.complete prefix g.0 rest s g.1, k, g.2) refl
 
 pub Every-made : {A B : Type 0} {G : Grammar A} {make : A → B} {P : B → Type 0} → ((a : A) → P (make a)) → Every (Mapped make G) P
 Every-made {P = P} h = record { each = λ bytes b g. subst P g.2 (h g.0) }
@@ -300,15 +300,15 @@ pub record Loses {A : Type 0} (wins : A → Bool) (F G : Format A) : Type 0 wher
 
 -- what an alternative reads after its first byte
 pub record ReadsBranch {A : Type 0} (wins : A → Bool) (F G : Format A) (read : ℕ → Place → Reader A) : Type 0 where
-  pub sound : (b : ℕ) (p next : Place) (v : A) (q : Place) → F.first (Some b) ≡ true → byte_at p ≡ Some (b, next) → IsBytes p.left → read b p next ≡ Some (v, q) → Fronts F.Encodes p.left v q.left
-  pub complete : (b : ℕ) (front : List ℕ) (v : A) (rest : List ℕ) (s : Bool) → F.Encodes (b ∷ front) v → read b (place s (b ∷ front ++ rest)) (place s (front ++ rest)) ≡ Some (v, place (keeps s (b ∷ front) (cond (wins v) (F.bytes v) (G.bytes v))) rest)
+  pub sound : (b : ℕ) (p next : Place) (v : A) (q : Place) → F.first (Some b) ≡ true → byte_at p ≡ Some (b, next) → IsBytes p.left → read b p next ≡ Some (v, q) → BeginsWith F.Encodes p.left v q.left
+  pub complete : (b : ℕ) (prefix : List ℕ) (v : A) (rest : List ℕ) (s : Bool) → F.Encodes (b ∷ prefix) v → read b (place s (b ∷ prefix ++ rest)) (place s (prefix ++ rest)) ≡ Some (v, place (keeps s (b ∷ prefix) (cond (wins v) (F.bytes v) (G.bytes v))) rest)
 
 Lawful-alternative : {A : Type 0} (wins : A → Bool) {F : Format A} (read : ℕ → Place → Reader A) {C : Choice A} → apart F.first C.first ≡ true → ReadsBranch wins F (any_of C) read → Loses wins F (any_of C) → Every C.Encodes (λ v. wins v ≡ false) → IsLawful F → IsLawfulChoice C → IsLawfulChoice (alternative wins F read C)
 unfolding byte_at
 Lawful-alternative {A} wins {F} read {C} differ branch left right r s = record {
   lawful = record {
     reads = record { sound = sound; complete = complete };
-    shortest = record { spells = λ v. spells v (wins v); again = λ bytes v g. spells v (wins v) (in_range bytes v g); least = least };
+    shortest = record { encodes = λ v. encodes v (wins v); again = λ bytes v g. encodes v (wins v) (in_range bytes v g); least = least };
     in_range = in_range;
     are_bytes = are_bytes;
     begins = begins;
@@ -317,26 +317,26 @@ Lawful-alternative {A} wins {F} read {C} differ branch left right r s = record {
   a : Apart F.first C.first
   a = apart_is F.first C.first differ
 
-  sound : (p : Place) (v : A) (q : Place) → IsBytes p.left → (any_of (alternative wins F read C)).at p ≡ Some (v, q) → Fronts (any_of (alternative wins F read C)).Encodes p.left v q.left
+  sound : (p : Place) (v : A) (q : Place) → IsBytes p.left → (any_of (alternative wins F read C)).at p ≡ Some (v, q) → BeginsWith (any_of (alternative wins F read C)).Encodes p.left v q.left
   sound p v q fits e =
       let f = bind_some (byte_at p) (λ first. (alternative wins F read C).branch first.0 p first.1) (v, q) e in
       by f.0.0 f.0.1 f.1 (F.first (Some f.0.0)) refl f.2
     where
-      by : (b : ℕ) (next : Place) → byte_at p ≡ Some (b, next) → (t : Bool) → F.first (Some b) ≡ t → cond t (read b p next) (C.branch b p next) ≡ Some (v, q) → Fronts (any_of (alternative wins F read C)).Encodes p.left v q.left
-      by b next took true is e = let one = branch.sound b p next v q is took fits e in record { front = one.front; spells = inl one.spells; parts = one.parts }
+      by : (b : ℕ) (next : Place) → byte_at p ≡ Some (b, next) → (t : Bool) → F.first (Some b) ≡ t → cond t (read b p next) (C.branch b p next) ≡ Some (v, q) → BeginsWith (any_of (alternative wins F read C)).Encodes p.left v q.left
+      by b next took true is e = let one = branch.sound b p next v q is took fits e in record { prefix = one.prefix; encodes = inl one.encodes; parts = one.parts }
       by b next took false other e =
           let one = s.lawful.reads.sound p v q fits (bind_is (byte_at p) (λ first. C.branch first.0 p first.1) (b, next) (Some (v, q)) took e) in
-          record { front = one.front; spells = inr one.spells; parts = one.parts }
+          record { prefix = one.prefix; encodes = inr one.encodes; parts = one.parts }
 
-  complete : (front : List ℕ) (v : A) (rest : List ℕ) (t : Bool) → (any_of (alternative wins F read C)).Encodes front v → (any_of (alternative wins F read C)).at (place t (front ++ rest)) ≡ Some (v, place (keeps t front (cond (wins v) (F.bytes v) (C.bytes v))) rest)
+  complete : (prefix : List ℕ) (v : A) (rest : List ℕ) (t : Bool) → (any_of (alternative wins F read C)).Encodes prefix v → (any_of (alternative wins F read C)).at (place t (prefix ++ rest)) ≡ Some (v, place (keeps t prefix (cond (wins v) (F.bytes v) (C.bytes v))) rest)
   complete [] v rest t (inl g) = absurd (a.none (r.begins [] v g))
   complete [] v rest t (inr g) = absurd (a.nor (s.lawful.begins [] v g))
-  complete (b ∷ front) v rest t (inl g) = rw (r.begins (b ∷ front) v g) (branch.complete b front v rest t g)
-  complete (b ∷ front) v rest t (inr g) = rw (a.other b (s.lawful.are_bytes (b ∷ front) v g).0 (s.lawful.begins (b ∷ front) v g), right.each (b ∷ front) v g) (s.lawful.reads.complete (b ∷ front) v rest t g)
+  complete (b ∷ prefix) v rest t (inl g) = rw (r.begins (b ∷ prefix) v g) (branch.complete b prefix v rest t g)
+  complete (b ∷ prefix) v rest t (inr g) = rw (a.other b (s.lawful.are_bytes (b ∷ prefix) v g).0 (s.lawful.begins (b ∷ prefix) v g), right.each (b ∷ prefix) v g) (s.lawful.reads.complete (b ∷ prefix) v rest t g)
 
-  spells : (v : A) (t : Bool) → either_range t (F.InRange v) (C.InRange v) → F.Encodes (cond t (F.bytes v) (C.bytes v)) v ⊎ C.Encodes (cond t (F.bytes v) (C.bytes v)) v
-  spells v true fits = inl (r.shortest.spells v fits)
-  spells v false fits = inr (s.lawful.shortest.spells v fits)
+  encodes : (v : A) (t : Bool) → either_range t (F.InRange v) (C.InRange v) → F.Encodes (cond t (F.bytes v) (C.bytes v)) v ⊎ C.Encodes (cond t (F.bytes v) (C.bytes v)) v
+  encodes v true fits = inl (r.shortest.encodes v fits)
+  encodes v false fits = inr (s.lawful.shortest.encodes v fits)
 
   in_range : (bytes : List ℕ) (v : A) → (any_of (alternative wins F read C)).Encodes bytes v → either_range (wins v) (F.InRange v) (C.InRange v)
   in_range bytes v (inl g) = by (wins v) refl where
@@ -345,9 +345,9 @@ Lawful-alternative {A} wins {F} read {C} differ branch left right r s = record {
     by false other = (left.each bytes v g other).0
   in_range bytes v (inr g) = rw (right.each bytes v g) (s.lawful.in_range bytes v g)
 
-  least : (bytes : List ℕ) (v : A) → (any_of (alternative wins F read C)).Encodes bytes v → IsTextOrLonger bytes (cond (wins v) (F.bytes v) (C.bytes v))
+  least : (bytes : List ℕ) (v : A) → (any_of (alternative wins F read C)).Encodes bytes v → IsShortestOrLonger bytes (cond (wins v) (F.bytes v) (C.bytes v))
   least bytes v (inl g) = by (wins v) refl where
-    by : (t : Bool) → wins v ≡ t → IsTextOrLonger bytes (cond t (F.bytes v) (C.bytes v))
+    by : (t : Bool) → wins v ≡ t → IsShortestOrLonger bytes (cond t (F.bytes v) (C.bytes v))
     by true is = r.shortest.least bytes v g
     by false other = inr (left.each bytes v g other).1
   least bytes v (inr g) = rw (right.each bytes v g) (s.lawful.shortest.least bytes v g)
@@ -371,31 +371,31 @@ Lawful-either wins {F} {C} differ own other r s = Lawful-alternative wins {F = F
   branch : ReadsBranch wins F (any_of C) (λ b here next. F.at here)
   branch = record {
     sound = λ b p next v q first took fits e. r.reads.sound p v q fits e;
-    complete = λ b front v rest t g. rw (own.each (b ∷ front) v g) (r.reads.complete (b ∷ front) v rest t g);
+    complete = λ b prefix v rest t g. rw (own.each (b ∷ prefix) v g) (r.reads.complete (b ∷ prefix) v rest t g);
   }
 
 -- what is read after the byte
-after_sound : {A : Type 0} (n : ℕ) {F : Format A} (long : A → Bool) → IsLawful F → (b : ℕ) (p next : Place) (v : A) (q : Place) → eqb b n ≡ true → byte_at p ≡ Some (b, next) → IsBytes p.left → map_unless long (λ v. v) F.at next ≡ Some (v, q) → Fronts (n ▷ F).Encodes p.left v q.left
+after_sound : {A : Type 0} (n : ℕ) {F : Format A} (long : A → Bool) → IsLawful F → (b : ℕ) (p next : Place) (v : A) (q : Place) → eqb b n ≡ true → byte_at p ≡ Some (b, next) → IsBytes p.left → map_unless long (λ v. v) F.at next ≡ Some (v, q) → BeginsWith (n ▷ F).Encodes p.left v q.left
 after_sound n {F} long r b p next v q is took fits e =
     let one = Sound-made long (λ v. v) r next v q (taken_fits p next b took fits).1 e in
-    record { front = n ∷ one.front; spells = (one.front, refl, subst (F.Encodes one.front) one.spells.2 one.spells.1); parts = (byte_took p next b took).bytes ∙ ap (λ (k : ℕ). k ∷ next.left) (eqb-true b n is) ∙ ap (λ (t : List ℕ). n ∷ t) one.parts }
+    record { prefix = n ∷ one.prefix; encodes = (one.prefix, refl, subst (F.Encodes one.prefix) one.encodes.2 one.encodes.1); parts = (byte_took p next b took).bytes ∙ ap (λ (k : ℕ). k ∷ next.left) (eqb-true b n is) ∙ ap (λ (t : List ℕ). n ∷ t) one.parts }
 
 tails : {b n : ℕ} {s t : List ℕ} → b ∷ s ≡ n ∷ t → s ≡ t
 tails e = cc
 
 pub Lawful-or-after : {A : Type 0} (wins : A → Bool) (n : ℕ) {F : Format A} {C : Choice A} → n < 256 → apart (just n) C.first ≡ true → Every F.Encodes (λ v. wins v ≡ true) → Every C.Encodes (λ v. wins v ≡ false) → IsLawful F → IsLawfulChoice C → IsLawfulChoice (after wins n F C)
 Lawful-or-after {A} wins n {F} {C} byte differ own other r s = Lawful-alternative wins {F = n ▷ F} (λ b here next. F.at next) {C = C} differ branch (Loses-none (record { each = λ bytes v g. own.each g.0 v g.2 })) other (Lawful-after n byte r) s where
-  sound : (b : ℕ) (p next : Place) (v : A) (q : Place) → eqb b n ≡ true → byte_at p ≡ Some (b, next) → IsBytes p.left → F.at next ≡ Some (v, q) → Fronts (n ▷ F).Encodes p.left v q.left
+  sound : (b : ℕ) (p next : Place) (v : A) (q : Place) → eqb b n ≡ true → byte_at p ≡ Some (b, next) → IsBytes p.left → F.at next ≡ Some (v, q) → BeginsWith (n ▷ F).Encodes p.left v q.left
   sound b p next v q is took fits e =
       let one = r.reads.sound next v q (taken_fits p next b took fits).1 e in
-      record { front = n ∷ one.front; spells = (one.front, refl, one.spells); parts = (byte_took p next b took).bytes ∙ ap (λ (k : ℕ). k ∷ next.left) (eqb-true b n is) ∙ ap (λ (t : List ℕ). n ∷ t) one.parts }
+      record { prefix = n ∷ one.prefix; encodes = (one.prefix, refl, one.encodes); parts = (byte_took p next b took).bytes ∙ ap (λ (k : ℕ). k ∷ next.left) (eqb-true b n is) ∙ ap (λ (t : List ℕ). n ∷ t) one.parts }
 
   branch : ReadsBranch wins (n ▷ F) (any_of C) (λ b here next. F.at next)
   branch = record {
     sound = sound;
-    complete = λ b front v rest t g.
-        let g' : F.Encodes front v = subst (λ (f : List ℕ). F.Encodes f v) (sym (tails g.1)) g.2 in
-        rw (own.each front v g', keeps_cons t b n front (F.bytes v)) (r.reads.complete front v rest t g');
+    complete = λ b prefix v rest t g.
+        let g' : F.Encodes prefix v = subst (λ (f : List ℕ). F.Encodes f v) (sym (tails g.1)) g.2 in
+        rw (own.each prefix v g', keeps_cons t b n prefix (F.bytes v)) (r.reads.complete prefix v rest t g');
   }
 
 -- a value that is written as the others has a shorter encoding there
@@ -404,29 +404,29 @@ Lawful-or-after-long {A} wins n {F} {C} byte differ lose other r s = Lawful-alte
   left : Loses wins (n ▷ F) (any_of C)
   left = record { each = λ bytes v g is. let p = lose g.0 v g.2 is in (p.0, rw g.1 (omega (arith, p.1))) }
 
-  complete : (b : ℕ) (front : List ℕ) (v : A) (rest : List ℕ) (t : Bool) → F.Encodes front v → (w : Bool) → wins v ≡ w → keeps t front (F.bytes v) && not (not w) ≡ keeps t (b ∷ front) (cond w (n ∷ F.bytes v) (C.bytes v))
-  complete b front v rest t g true is = and-true (keeps t front (F.bytes v)) ∙ sym (keeps_cons t b n front (F.bytes v))
-  complete b front v rest t g false is =
-      let p = lose front v g is in
-      and-false (keeps t front (F.bytes v)) ∙ sym (keeps_longer t (b ∷ front) (C.bytes v) (omega (arith, p.1)))
+  complete : (b : ℕ) (prefix : List ℕ) (v : A) (rest : List ℕ) (t : Bool) → F.Encodes prefix v → (w : Bool) → wins v ≡ w → keeps t prefix (F.bytes v) && not (not w) ≡ keeps t (b ∷ prefix) (cond w (n ∷ F.bytes v) (C.bytes v))
+  complete b prefix v rest t g true is = and-true (keeps t prefix (F.bytes v)) ∙ sym (keeps_cons t b n prefix (F.bytes v))
+  complete b prefix v rest t g false is =
+      let p = lose prefix v g is in
+      and-false (keeps t prefix (F.bytes v)) ∙ sym (keeps_longer t (b ∷ prefix) (C.bytes v) (omega (arith, p.1)))
 
   branch : ReadsBranch wins (n ▷ F) (any_of C) (λ b here next. map_unless (λ v. not (wins v)) (λ v. v) F.at next)
   branch = record {
     sound = λ b p next v q is took fits e. after_sound n (λ v. not (wins v)) r b p next v q is took fits e;
-    complete = λ b front v rest t g.
-        let g' : F.Encodes front v = subst (λ (f : List ℕ). F.Encodes f v) (sym (tails g.1)) g.2 in
-        rw (r.reads.complete front v rest t g', complete b front v rest t g' (wins v) refl) refl;
+    complete = λ b prefix v rest t g.
+        let g' : F.Encodes prefix v = subst (λ (f : List ℕ). F.Encodes f v) (sym (tails g.1)) g.2 in
+        rw (r.reads.complete prefix v rest t g', complete b prefix v rest t g' (wins v) refl) refl;
   }
 
 pub Lawful-or-else : {A : Type 0} {F : Format A} → not (F.first None) ≡ true → IsLawful F → IsLawfulChoice (or_else F)
 unfolding byte_at
 Lawful-or-else {A} {F} some r = record { lawful = record { reads = record { sound = sound; complete = complete }; shortest = r.shortest; in_range = r.in_range; are_bytes = r.are_bytes; begins = r.begins } } where
-  sound : (p : Place) (v : A) (q : Place) → IsBytes p.left → (any_of (or_else F)).at p ≡ Some (v, q) → Fronts F.Encodes p.left v q.left
+  sound : (p : Place) (v : A) (q : Place) → IsBytes p.left → (any_of (or_else F)).at p ≡ Some (v, q) → BeginsWith F.Encodes p.left v q.left
   sound p v q fits e = let f = bind_some (byte_at p) (λ first. F.at p) (v, q) e in r.reads.sound p v q fits f.2
 
-  complete : (front : List ℕ) (v : A) (rest : List ℕ) (s : Bool) → F.Encodes front v → (any_of (or_else F)).at (place s (front ++ rest)) ≡ Some (v, place (keeps s front (F.bytes v)) rest)
+  complete : (prefix : List ℕ) (v : A) (rest : List ℕ) (s : Bool) → F.Encodes prefix v → (any_of (or_else F)).at (place s (prefix ++ rest)) ≡ Some (v, place (keeps s prefix (F.bytes v)) rest)
   complete [] v rest s g = absurd (not_true (F.first None) some (r.begins [] v g))
-  complete (b ∷ front) v rest s g = r.reads.complete (b ∷ front) v rest s g
+  complete (b ∷ prefix) v rest s g = r.reads.complete (b ∷ prefix) v rest s g
 
 pub Lawful-variant : {A B : Type 0} {F : Format A} {C : Choice B} (make : A → B) (parts : B → Option A) → ((a : A) → parts (make a) ≡ Some a) → apart F.first C.first ≡ true → Every C.Encodes (λ b. is_some (parts b) ≡ false) → IsLawful F → IsLawfulChoice C → IsLawfulChoice (variant make parts F C)
 Lawful-variant make parts inverse differ other r s =
@@ -499,9 +499,9 @@ found {A} byte_of (x ∷ values) b v e = by (found byte_of values b v) (is_byte 
 pub Lawful-one-byte : {A : Type 0} (byte_of : A → Option ℕ) (values : List A) → ((v : A) → IsFound byte_of values v) → IsLawful (one_byte byte_of values)
 unfolding byte_at
 Lawful-one-byte {A} byte_of values there = record {
-  reads = record { sound = sound; complete = λ front v rest s g. rw (g.2, (at g.0 v g.1).0, g.1, keeps_same s (g.0 ∷ [])) refl };
+  reads = record { sound = sound; complete = λ prefix v rest s g. rw (g.2, (at g.0 v g.1).0, g.1, keeps_same s (g.0 ∷ [])) refl };
   shortest = record {
-    spells = λ v. spells v (byte_of v) refl;
+    encodes = λ v. encodes v (byte_of v) refl;
     again = λ bytes v g. (g.0, g.1, ap (bytes_of (λ b. b ∷ [])) g.1);
     least = λ bytes v g. inl (g.2 ∙ sym (ap (bytes_of (λ b. b ∷ [])) g.1));
   };
@@ -512,17 +512,17 @@ Lawful-one-byte {A} byte_of values there = record {
   at : (b : ℕ) (v : A) → byte_of v ≡ Some b → (find byte_of values b ≡ Some v) × (ltb b 256 ≡ true)
   at b v e = subst (λ (o : Option ℕ). IfSome o (λ b. (find byte_of values b ≡ Some v) × (ltb b 256 ≡ true))) e (there v)
 
-  spells : (v : A) (o : Option ℕ) → byte_of v ≡ o → is_some o ≡ true → (b : ℕ) × (byte_of v ≡ Some b) × (bytes_of (λ b. b ∷ []) o ≡ b ∷ [])
-  spells v (Some b) e h = (b, e, refl)
-  spells v None e h = absurd cc
+  encodes : (v : A) (o : Option ℕ) → byte_of v ≡ o → is_some o ≡ true → (b : ℕ) × (byte_of v ≡ Some b) × (bytes_of (λ b. b ∷ []) o ≡ b ∷ [])
+  encodes v (Some b) e h = (b, e, refl)
+  encodes v None e h = absurd cc
 
-  sound : (p : Place) (v : A) (q : Place) → IsBytes p.left → (one_byte byte_of values).at p ≡ Some (v, q) → Fronts (one_byte byte_of values).Encodes p.left v q.left
+  sound : (p : Place) (v : A) (q : Place) → IsBytes p.left → (one_byte byte_of values).at p ≡ Some (v, q) → BeginsWith (one_byte byte_of values).Encodes p.left v q.left
   sound p v q fits e =
       let f = bind_some (byte_at p) (λ first. only_at (find byte_of values first.0) first.1) (v, q) e in
       by f.0.0 f.0.1 f.1 (find byte_of values f.0.0) refl f.2
     where
-      by : (b : ℕ) (next : Place) → byte_at p ≡ Some (b, next) → (o : Option A) → find byte_of values b ≡ o → only_at o next ≡ Some (v, q) → Fronts (one_byte byte_of values).Encodes p.left v q.left
-      by b next took (Some a) is e = Fronts-at (one_byte byte_of values).Encodes p.left a v next q e (record { front = b ∷ []; spells = (b, found byte_of values b a is, refl); parts = (byte_took p next b took).bytes })
+      by : (b : ℕ) (next : Place) → byte_at p ≡ Some (b, next) → (o : Option A) → find byte_of values b ≡ o → only_at o next ≡ Some (v, q) → BeginsWith (one_byte byte_of values).Encodes p.left v q.left
+      by b next took (Some a) is e = BeginsWith-at (one_byte byte_of values).Encodes p.left a v next q e (record { prefix = b ∷ []; encodes = (b, found byte_of values b a is, refl); parts = (byte_took p next b took).bytes })
       by b next took None is e = absurd cc
 
 pub Lawful-byte-or : {A : Type 0} {C : Choice A} (byte_of : A → Option ℕ) (values : List A) → ((v : A) → IsFound byte_of values v) → apart (one_byte byte_of values).first C.first ≡ true → Every C.Encodes (λ v. is_some (byte_of v) ≡ false) → IsLawfulChoice C → IsLawfulChoice (byte_or byte_of values C)
@@ -540,47 +540,47 @@ pub digits_some : (digits : List ℕ) → IsDigits digits → any_byte (head_of 
 digits_some [] d = absurd d
 digits_some (b ∷ digits) d = refl
 
-same_number : {V : Type 0} (bytes : V → List ℕ) (s : Bool) (digits front left rest : List ℕ) (w v : V) → digits ≡ front → w ≡ v → left ≡ rest → some {A = V × Place} (w, place (keeps s digits (bytes w)) left) ≡ some (v, place (keeps s front (bytes v)) rest)
-same_number bytes s digits front left rest w v p q r = rw (p, q, r) refl
+same_number : {V : Type 0} (bytes : V → List ℕ) (s : Bool) (digits prefix left rest : List ℕ) (w v : V) → digits ≡ prefix → w ≡ v → left ≡ rest → some {A = V × Place} (w, place (keeps s digits (bytes w)) left) ≡ some (v, place (keeps s prefix (bytes v)) rest)
+same_number bytes s digits prefix left rest w v p q r = rw (p, q, r) refl
 
 -- numbers are read as lists of bytes are
 pub Reads-number : {V : Type 0} {most : ℕ} {Means : List ℕ → V → Type 0} (value : List ℕ → Option V) (bytes : V → List ℕ) → ListReads (Number most Means) (list_number_at most value) → ReadsPlaces (Number most Means) bytes (number_at most value bytes)
 Reads-number {V} {most} {Means} value bytes r = record { sound = sound; complete = complete } where
-  sound : (p : Place) (v : V) (q : Place) → IsBytes p.left → number_at most value bytes p ≡ Some (v, q) → Fronts (Number most Means) p.left v q.left
+  sound : (p : Place) (v : V) (q : Place) → IsBytes p.left → number_at most value bytes p ≡ Some (v, q) → BeginsWith (Number most Means) p.left v q.left
   sound p v q fits e =
       let d = bind_some (digits_at most p.left) (λ digits. value digits.0 >>= λ v. Some (v, place (keeps p.shortest digits.0 (bytes v)) digits.1)) (v, q) e in
       let w = bind_some (value d.0.0) (λ v. Some (v, place (keeps p.shortest d.0.0 (bytes v)) d.0.1)) (v, q) d.2 in
       let read : list_number_at most value p.left ≡ Some (w.0, d.0.1) =
       bind_is (digits_at most p.left) (λ digits. value digits.0 >>= λ v. Some (v, digits.1)) d.0 (Some (w.0, d.0.1)) d.1
       (bind_is (value d.0.0) (λ v. Some (v, d.0.1)) w.0 (Some (w.0, d.0.1)) w.1 refl) in
-      Fronts-at (Number most Means) p.left w.0 v (place (keeps p.shortest d.0.0 (bytes w.0)) d.0.1) q w.2 (r.sound p.left w.0 d.0.1 fits read)
+      BeginsWith-at (Number most Means) p.left w.0 v (place (keeps p.shortest d.0.0 (bytes w.0)) d.0.1) q w.2 (r.sound p.left w.0 d.0.1 fits read)
 
-  complete : (front : List ℕ) (v : V) (rest : List ℕ) (s : Bool) → Number most Means front v → number_at most value bytes (place s (front ++ rest)) ≡ Some (v, place (keeps s front (bytes v)) rest)
-  complete front v rest s g =
-      let d = bind_some (digits_at most (front ++ rest)) (λ digits. value digits.0 >>= λ v. Some (v, digits.1)) (v, rest) (r.complete front v rest g) in
+  complete : (prefix : List ℕ) (v : V) (rest : List ℕ) (s : Bool) → Number most Means prefix v → number_at most value bytes (place s (prefix ++ rest)) ≡ Some (v, place (keeps s prefix (bytes v)) rest)
+  complete prefix v rest s g =
+      let d = bind_some (digits_at most (prefix ++ rest)) (λ digits. value digits.0 >>= λ v. Some (v, digits.1)) (v, rest) (r.complete prefix v rest g) in
       let w = bind_some (value d.0.0) (λ v. Some (v, d.0.1)) (v, rest) d.2 in
       let same = some_is (w.0, d.0.1) (v, rest) w.2 in
       let rest-is : d.0.1 ≡ rest = ap (λ (x : V × List ℕ). x.1) same in
       let value-is : w.0 ≡ v = ap (λ (x : V × List ℕ). x.0) same in
-      let front-is : d.0.0 ≡ front = sym (append_cancel_right front d.0.0 rest ((digits_parts most (front ++ rest) d.0.0 d.0.1 d.1).parts ∙ ap (λ (t : List ℕ). d.0.0 ++ t) rest-is)) in
-      let result : some {A = V × Place} (w.0, place (keeps s d.0.0 (bytes w.0)) d.0.1) ≡ some (v, place (keeps s front (bytes v)) rest) = same_number bytes s d.0.0 front d.0.1 rest w.0 v front-is value-is rest-is in
-      bind_is (digits_at most (front ++ rest)) (λ digits. value digits.0 >>= λ v. Some (v, place (keeps s digits.0 (bytes v)) digits.1)) d.0 (Some (v, place (keeps s front (bytes v)) rest)) d.1
-      (bind_is (value d.0.0) (λ v. Some (v, place (keeps s d.0.0 (bytes v)) d.0.1)) w.0 (Some (v, place (keeps s front (bytes v)) rest)) w.1 result)
+      let prefix-is : d.0.0 ≡ prefix = sym (append_cancel_right prefix d.0.0 rest ((digits_parts most (prefix ++ rest) d.0.0 d.0.1 d.1).parts ∙ ap (λ (t : List ℕ). d.0.0 ++ t) rest-is)) in
+      let result : some {A = V × Place} (w.0, place (keeps s d.0.0 (bytes w.0)) d.0.1) ≡ some (v, place (keeps s prefix (bytes v)) rest) = same_number bytes s d.0.0 prefix d.0.1 rest w.0 v prefix-is value-is rest-is in
+      bind_is (digits_at most (prefix ++ rest)) (λ digits. value digits.0 >>= λ v. Some (v, place (keeps s digits.0 (bytes v)) digits.1)) d.0 (Some (v, place (keeps s prefix (bytes v)) rest)) d.1
+      (bind_is (value d.0.0) (λ v. Some (v, place (keeps s d.0.0 (bytes v)) d.0.1)) w.0 (Some (v, place (keeps s prefix (bytes v)) rest)) w.1 result)
 
 pub Lawful-u32 : IsLawful u32
-unfolding SpellsU32 u32_at list_u32_at
-Lawful-u32 = record { reads = Reads-number (below (2 ^ 32)) unsigned_text IsReadBy-u32; shortest = Shortest-u32; in_range = λ bytes n g. g.2.1; are_bytes = λ bytes n g. digits_bytes bytes g.0; begins = λ bytes n g. digits_some bytes g.0 }
+unfolding EncodesU32 u32_at list_u32_at
+Lawful-u32 = record { reads = Reads-number (below (2 ^ 32)) unsigned_leb128 IsReadBy-u32; shortest = Shortest-u32; in_range = λ bytes n g. g.2.1; are_bytes = λ bytes n g. digits_bytes bytes g.0; begins = λ bytes n g. digits_some bytes g.0 }
 
 pub Lawful-u64 : IsLawful u64
-unfolding SpellsU64 u64_at list_u64_at
-Lawful-u64 = record { reads = Reads-number (below (2 ^ 64)) unsigned_text IsReadBy-u64; shortest = Shortest-u64; in_range = λ bytes n g. g.2.1; are_bytes = λ bytes n g. digits_bytes bytes g.0; begins = λ bytes n g. digits_some bytes g.0 }
+unfolding EncodesU64 u64_at list_u64_at
+Lawful-u64 = record { reads = Reads-number (below (2 ^ 64)) unsigned_leb128 IsReadBy-u64; shortest = Shortest-u64; in_range = λ bytes n g. g.2.1; are_bytes = λ bytes n g. digits_bytes bytes g.0; begins = λ bytes n g. digits_some bytes g.0 }
 
 pub Lawful-s32 : IsLawful s32
-unfolding SpellsS32 s32_at list_s32_at
-Lawful-s32 = record { reads = Reads-number (signed_within (2 ^ 31)) signed_text IsReadBy-s32; shortest = Shortest-s32; in_range = λ bytes n g. g.2.1; are_bytes = λ bytes n g. digits_bytes bytes g.0; begins = λ bytes n g. digits_some bytes g.0 }
+unfolding EncodesS32 s32_at list_s32_at
+Lawful-s32 = record { reads = Reads-number (signed_within (2 ^ 31)) signed_leb128 IsReadBy-s32; shortest = Shortest-s32; in_range = λ bytes n g. g.2.1; are_bytes = λ bytes n g. digits_bytes bytes g.0; begins = λ bytes n g. digits_some bytes g.0 }
 
-index_begins : (bytes : List ℕ) (n : ℕ) → SpellsIndex bytes n → begins_index (head_of bytes) ≡ true
-unfolding SpellsIndex
+index_begins : (bytes : List ℕ) (n : ℕ) → EncodesIndex bytes n → begins_index (head_of bytes) ≡ true
+unfolding EncodesIndex
 index_begins [] n g = absurd g.0
 index_begins (b ∷ c ∷ bytes) n g = rw (le-leb 0x80 b g.0.0) (or-true (ltb b 0x40))
 index_begins (b ∷ []) n g = elim (cases_lt b 64) [
@@ -594,8 +594,8 @@ index_begins (b ∷ []) n g = elim (cases_lt b 64) [
 ]
 
 pub Lawful-index : IsLawful index
-unfolding SpellsIndex index_at list_index_at
-Lawful-index = record { reads = Reads-number (index_below (2 ^ 32)) (λ n. signed_text (pos n)) IsReadBy-index; shortest = Shortest-index; in_range = λ bytes n g. g.2.1; are_bytes = λ bytes n g. digits_bytes bytes g.0; begins = index_begins }
+unfolding EncodesIndex index_at list_index_at
+Lawful-index = record { reads = Reads-number (index_below (2 ^ 32)) (λ n. signed_leb128 (pos n)) IsReadBy-index; shortest = Shortest-index; in_range = λ bytes n g. g.2.1; are_bytes = λ bytes n g. digits_bytes bytes g.0; begins = index_begins }
 
 -- ---- lists
 
@@ -607,57 +607,57 @@ pub joined_bytes : {A : Type 0} {F : Format A} → IsLawful F → (bytes : List 
 joined_bytes r bytes [] g = rw g tt
 joined_bytes r bytes (v ∷ vs) g = rw g.2 (IsBytes-append g.0 g.1 (r.are_bytes g.0 v g.3) (joined_bytes r g.1 vs g.4))
 
-pub begins_counted : (front back : List ℕ) → any_byte (head_of front) ≡ true → any_byte (head_of (front ++ back)) ≡ true
+pub begins_counted : (prefix back : List ℕ) → any_byte (head_of prefix) ≡ true → any_byte (head_of (prefix ++ back)) ≡ true
 begins_counted [] back e = absurd cc
-begins_counted (b ∷ front) back e = refl
+begins_counted (b ∷ prefix) back e = refl
 
 -- as many items as were asked for
 abbrev Times : {A : Type 0} → Grammar A → ℕ → Grammar (List A)
 Times G n bytes vs = (length vs ≡ n) × Joined G bytes vs
 
-times_sound : {A : Type 0} {F : Format A} → IsLawful F → (n : ℕ) (p : Place) (vs : List A) (q : Place) → IsBytes p.left → times_at F.at n p ≡ Some (vs, q) → Fronts (Times F.Encodes n) p.left vs q.left
+times_sound : {A : Type 0} {F : Format A} → IsLawful F → (n : ℕ) (p : Place) (vs : List A) (q : Place) → IsBytes p.left → times_at F.at n p ≡ Some (vs, q) → BeginsWith (Times F.Encodes n) p.left vs q.left
 unfolding times_at
-times_sound {A} {F} r zero p vs q fits e = Fronts-at (Times F.Encodes zero) p.left [] vs p q e (record { front = []; spells = (refl, refl); parts = refl })
+times_sound {A} {F} r zero p vs q fits e = BeginsWith-at (Times F.Encodes zero) p.left [] vs p q e (record { prefix = []; encodes = (refl, refl); parts = refl })
 times_sound {A} {F} r (suc n) start vs end fits e =
     let p = bind_some (F.at start) (λ v. times_at F.at n v.1 >>= λ ws. Some (v.0 ∷ ws.0, ws.1)) (vs, end) e in
     let q = bind_some (times_at F.at n p.0.1) (λ ws. Some (p.0.0 ∷ ws.0, ws.1)) (vs, end) p.2 in
     let one = r.reads.sound start p.0.0 p.0.1 fits p.1 in
     let two = times_sound r n p.0.1 q.0.0 q.0.1 (IsBytes-after start.left p.0.1.left p.0.0 one fits) q.1 in
-    Fronts-at (Times F.Encodes (suc n)) start.left (p.0.0 ∷ q.0.0) vs q.0.1 end q.2 (record {
-      front = one.front ++ two.front;
-      spells = (ap suc two.spells.0, (one.front, two.front, refl, one.spells, two.spells.1));
-      parts = in_a_row start.left one.front p.0.1.left two.front q.0.1.left one.parts two.parts;
+    BeginsWith-at (Times F.Encodes (suc n)) start.left (p.0.0 ∷ q.0.0) vs q.0.1 end q.2 (record {
+      prefix = one.prefix ++ two.prefix;
+      encodes = (ap suc two.encodes.0, (one.prefix, two.prefix, refl, one.encodes, two.encodes.1));
+      parts = in_a_row start.left one.prefix p.0.1.left two.prefix q.0.1.left one.parts two.parts;
     })
 
-times_complete : {A : Type 0} {F : Format A} → IsLawful F → (front : List ℕ) (vs : List A) (rest : List ℕ) (s : Bool) → Joined F.Encodes front vs → times_at F.at (length vs) (place s (front ++ rest)) ≡ Some (vs, place (keeps s front (flat_map F.bytes vs)) rest)
+times_complete : {A : Type 0} {F : Format A} → IsLawful F → (prefix : List ℕ) (vs : List A) (rest : List ℕ) (s : Bool) → Joined F.Encodes prefix vs → times_at F.at (length vs) (place s (prefix ++ rest)) ≡ Some (vs, place (keeps s prefix (flat_map F.bytes vs)) rest)
 unfolding times_at
-times_complete r front [] rest s g = rw (g, keeps_same s []) refl
-times_complete {A} {F} r front (v ∷ vs) rest s g =
+times_complete r prefix [] rest s g = rw (g, keeps_same s []) refl
+times_complete {A} {F} r prefix (v ∷ vs) rest s g =
     let mid = keeps s g.0 (F.bytes v) in
-    let p : F.at (place s (front ++ rest)) ≡ Some (v, place mid (g.1 ++ rest)) = read_in_row F.at s front g.0 g.1 rest (Some (v, place mid (g.1 ++ rest))) g.2 (r.reads.complete g.0 v (g.1 ++ rest) s g.3) in
-    let k : keeps mid g.1 (flat_map F.bytes vs) ≡ keeps s front (F.bytes v ++ flat_map F.bytes vs) =
+    let p : F.at (place s (prefix ++ rest)) ≡ Some (v, place mid (g.1 ++ rest)) = read_in_row F.at s prefix g.0 g.1 rest (Some (v, place mid (g.1 ++ rest))) g.2 (r.reads.complete g.0 v (g.1 ++ rest) s g.3) in
+    let k : keeps mid g.1 (flat_map F.bytes vs) ≡ keeps s prefix (F.bytes v ++ flat_map F.bytes vs) =
     keeps_then s g.0 g.1 (F.bytes v) (flat_map F.bytes vs) (r.shortest.least g.0 v g.3) ((Shortest-joined r.shortest).least g.1 vs g.4) ∙ ap (λ (f : List ℕ). keeps s f (F.bytes v ++ flat_map F.bytes vs)) (sym g.2) in
     rw (p, times_complete r g.1 vs rest mid g.4, k) refl
 
 Reads-items : {A : Type 0} {F : Format A} → IsLawful F → ReadsPlaces (items F).Encodes (items F).bytes (items F).at
 Reads-items {A} {F} r = record { sound = sound; complete = complete } where
-  sound : (p : Place) (vs : List A) (q : Place) → IsBytes p.left → (items F).at p ≡ Some (vs, q) → Fronts (items F).Encodes p.left vs q.left
+  sound : (p : Place) (vs : List A) (q : Place) → IsBytes p.left → (items F).at p ≡ Some (vs, q) → BeginsWith (items F).Encodes p.left vs q.left
   sound start vs end fits e =
       let p = bind_some (u32_at start) (λ n. times_at F.at n.0 n.1) (vs, end) e in
       let one = Lawful-u32.reads.sound start p.0.0 p.0.1 fits p.1 in
       let two = times_sound r p.0.0 p.0.1 vs end (IsBytes-after start.left p.0.1.left p.0.0 one fits) p.2 in
       record {
-        front = one.front ++ two.front;
-        spells = (one.front, two.front, refl, subst (λ (n : ℕ). SpellsU32 one.front n) (sym two.spells.0) one.spells, two.spells.1);
-        parts = in_a_row start.left one.front p.0.1.left two.front end.left one.parts two.parts;
+        prefix = one.prefix ++ two.prefix;
+        encodes = (one.prefix, two.prefix, refl, subst (λ (n : ℕ). EncodesU32 one.prefix n) (sym two.encodes.0) one.encodes, two.encodes.1);
+        parts = in_a_row start.left one.prefix p.0.1.left two.prefix end.left one.parts two.parts;
       }
 
-  complete : (front : List ℕ) (vs : List A) (rest : List ℕ) (s : Bool) → (items F).Encodes front vs → (items F).at (place s (front ++ rest)) ≡ Some (vs, place (keeps s front ((items F).bytes vs)) rest)
-  complete front vs rest s g =
-      let n = unsigned_text (length vs) in
+  complete : (prefix : List ℕ) (vs : List A) (rest : List ℕ) (s : Bool) → (items F).Encodes prefix vs → (items F).at (place s (prefix ++ rest)) ≡ Some (vs, place (keeps s prefix ((items F).bytes vs)) rest)
+  complete prefix vs rest s g =
+      let n = unsigned_leb128 (length vs) in
       let mid = keeps s g.0 n in
-      let p : u32_at (place s (front ++ rest)) ≡ Some (length vs, place mid (g.1 ++ rest)) = read_in_row u32_at s front g.0 g.1 rest (Some (length vs, place mid (g.1 ++ rest))) g.2 (Lawful-u32.reads.complete g.0 (length vs) (g.1 ++ rest) s g.3) in
-      let k : keeps mid g.1 (flat_map F.bytes vs) ≡ keeps s front (n ++ flat_map F.bytes vs) =
+      let p : u32_at (place s (prefix ++ rest)) ≡ Some (length vs, place mid (g.1 ++ rest)) = read_in_row u32_at s prefix g.0 g.1 rest (Some (length vs, place mid (g.1 ++ rest))) g.2 (Lawful-u32.reads.complete g.0 (length vs) (g.1 ++ rest) s g.3) in
+      let k : keeps mid g.1 (flat_map F.bytes vs) ≡ keeps s prefix (n ++ flat_map F.bytes vs) =
       keeps_then s g.0 g.1 n (flat_map F.bytes vs) (Lawful-u32.shortest.least g.0 (length vs) g.3) ((Shortest-joined r.shortest).least g.1 vs g.4) ∙ ap (λ (f : List ℕ). keeps s f (n ++ flat_map F.bytes vs)) (sym g.2) in
       rw (p, times_complete r g.1 vs rest mid g.4, k) refl
 
@@ -676,7 +676,7 @@ takes_bytes {F = F} r some v g = not_true (F.first None) some (r.begins [] v g)
 
 -- what is read is in range
 pub read_in_range : {A : Type 0} {F : Format A} → IsLawful F → (p : Place) (v : A) (q : Place) → IsBytes p.left → F.at p ≡ Some (v, q) → F.InRange v
-read_in_range r p v q fits e = let f = r.reads.sound p v q fits e in r.in_range f.front v f.spells
+read_in_range r p v q fits e = let f = r.reads.sound p v q fits e in r.in_range f.prefix v f.encodes
 
 -- ---- what a kind says
 

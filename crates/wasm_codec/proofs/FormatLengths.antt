@@ -1,7 +1,7 @@
 -- How long shortest encodings are at the most.
 use Rattle.std.proofs.Common.{◌≡◌, ℕ, zero, suc, ◌+◌, ◌*◌, ◌/◌, ◌^◌, ◌<◌, ◌≤◌, Bool, true, false, cond, List, [], ◌∷◌, length, Option, Some, None, refl, length-append, arith}
 use Rattle.std.specs.Prelude.{IsSomeAnd}
-use Rattle.wasm_codec.specs.Numbers.{SpellsU32, SpellsU64, SpellsS32, SpellsS64, SpellsIndex, unsigned_text}
+use Rattle.wasm_codec.specs.Numbers.{EncodesU32, EncodesU64, EncodesS32, EncodesS64, EncodesIndex, unsigned_leb128}
 use Rattle.wasm_codec.proofs.Digits.{length-digits_of}
 use Rattle.wasm_codec.specs.formats.Combinators.{Format, a_byte, nothing, ◌⊗◌, bytes_of, made, made_of, either_range, Choice, any_of, or_else, either, after, after_long, one_byte, byte_where, u32, u64, s32, s64, index, raw, little_endian}
 use Rattle.wasm_codec.proofs.NumberLaws.{Shortest-u32, Shortest-u64, Shortest-s32, Shortest-s64, Shortest-index}
@@ -32,28 +32,28 @@ pub AtMost-raw : (count : ℕ) → AtMost count (raw count)
 AtMost-raw count = record { bound = λ v fits. omega (arith, fits.0) }
 
 pub AtMost-u32 : AtMost 5 u32
-unfolding SpellsU32
-AtMost-u32 = record { bound = λ n lt. (Shortest-u32.spells n lt).1 }
+unfolding EncodesU32
+AtMost-u32 = record { bound = λ n lt. (Shortest-u32.encodes n lt).1 }
 
 pub AtMost-u64 : AtMost 10 u64
-unfolding SpellsU64
-AtMost-u64 = record { bound = λ n lt. (Shortest-u64.spells n lt).1 }
+unfolding EncodesU64
+AtMost-u64 = record { bound = λ n lt. (Shortest-u64.encodes n lt).1 }
 
 pub AtMost-s32 : AtMost 5 s32
-unfolding SpellsS32
-AtMost-s32 = record { bound = λ z within. (Shortest-s32.spells z within).1 }
+unfolding EncodesS32
+AtMost-s32 = record { bound = λ z within. (Shortest-s32.encodes z within).1 }
 
 pub AtMost-s64 : AtMost 10 s64
-unfolding SpellsS64
-AtMost-s64 = record { bound = λ z within. (Shortest-s64.spells z within).1 }
+unfolding EncodesS64
+AtMost-s64 = record { bound = λ z within. (Shortest-s64.encodes z within).1 }
 
 pub AtMost-index : AtMost 5 index
-unfolding SpellsIndex
-AtMost-index = record { bound = λ n lt. (Shortest-index.spells n lt).1 }
+unfolding EncodesIndex
+AtMost-index = record { bound = λ n lt. (Shortest-index.encodes n lt).1 }
 
 -- a number of 7 bits, or 14, ..
-pub length-number : (more n : ℕ) → n < 128 * 128 ^ more → length (unsigned_text n) ≤ suc more
-unfolding unsigned_text
+pub length-number : (more n : ℕ) → n < 128 * 128 ^ more → length (unsigned_leb128 n) ≤ suc more
+unfolding unsigned_leb128
 length-number more n lt = length-digits_of false 128 9 more n lt
 
 pub AtMost-both : {A B : Type 0} {m n : ℕ} {F : Format A} {G : Format B} → AtMost m F → AtMost n G → AtMost (m + n) (F ⊗ G)

@@ -5,8 +5,8 @@ use Rattle.std.proofs.lemmas.Bool.{cases_lt}
 use Rattle.std.specs.List.{flat_map, AllByRecursion}
 use Rattle.wasm_codec.specs.Grammar.{Grammar, TakesBytes, Joined}
 use Rattle.wasm_codec.specs.Reading.{Reader, IsReadBy}
-use Rattle.wasm_codec.specs.Answers.{IsLongestFront}
-use Rattle.wasm_codec.specs.Encoding.{IsTextOrLonger}
+use Rattle.wasm_codec.specs.Answers.{IsLongestPrefix}
+use Rattle.wasm_codec.specs.Encoding.{IsShortestOrLonger}
 use Rattle.wasm_codec.proofs.Laws.{least_then, one_reading}
 use Rattle.wasm_codec.specs.Lawful.{Shortest}
 
@@ -22,7 +22,7 @@ pub record Longer {V : Type 0} (G : Grammar V) (a : List ℕ) (vs : List V) (b :
   pub more : List V
   pub bytes : b ≡ a ++ back
   pub items : ws ≡ vs ++ more
-  pub spells : Joined G back more
+  pub encodes : Joined G back more
 
 -- ---- two lists of encodings that the same bytes begin with
 
@@ -38,9 +38,9 @@ put_before a f g b f' g' back p q e r = q ∙ ap (λ (t : List ℕ). t ++ g') (s
 put_item_before : {V : Type 0} (v w : V) (vs ws more : List V) → v ≡ w → ws ≡ vs ++ more → w ∷ ws ≡ (v ∷ vs) ++ more
 put_item_before v w vs ws more e p = cc
 
-pub empty_front : (f g : List ℕ) → f ++ g ≡ [] → f ≡ []
-empty_front [] g e = refl
-empty_front (c ∷ f) g e = absurd cc
+pub empty_prefix : (f g : List ℕ) → f ++ g ≡ [] → f ≡ []
+empty_prefix [] g e = refl
+empty_prefix (c ∷ f) g e = absurd cc
 
 empty : (a : List ℕ) → length a ≤ 0 → a ≡ []
 empty [] le = refl
@@ -48,10 +48,10 @@ empty (c ∷ a) le = absurd (omega arith)
 
 -- the longer begins with the shorter
 pub Joined-split : {V : Type 0} {G : Grammar V} {read : Reader V} → IsReadBy G read → TakesBytes G → (a b x y : List ℕ) (vs ws : List V) → Joined G a vs → Joined G b ws → a ++ x ≡ b ++ y → length a ≤ length b → Longer G a vs b ws
-Joined-split r some a b x y [] ws g h e le = record { back = b; more = ws; bytes = rw g refl; items = refl; spells = h }
+Joined-split r some a b x y [] ws g h e le = record { back = b; more = ws; bytes = rw g refl; items = refl; encodes = h }
 Joined-split {V} {G} r some a b x y (v ∷ vs) [] g h e le =
     let none : a ≡ [] = empty a (subst (λ (t : List ℕ). length a ≤ length t) h le) in
-    absurd (some v (subst (λ (t : List ℕ). G t v) (empty_front g.0 g.1 (sym g.2 ∙ none)) g.3))
+    absurd (some v (subst (λ (t : List ℕ). G t v) (empty_prefix g.0 g.1 (sym g.2 ∙ none)) g.3))
 Joined-split {V} {G} r some a b x y (v ∷ vs) (w ∷ ws) g h e le =
     let one = one_reading r g.0 h.0 (g.1 ++ x) (h.1 ++ y) v w g.3 h.3 (regroup a g.0 g.1 x b h.0 h.1 y g.2 h.2 e) in
     let rest = Joined-split r some g.1 h.1 x y vs ws g.4 h.4 one.2 (shorter_rest a g.0 g.1 b h.0 h.1 g.2 h.2 one.0 le) in
@@ -60,7 +60,7 @@ Joined-split {V} {G} r some a b x y (v ∷ vs) (w ∷ ws) g h e le =
       more = rest.more;
       bytes = put_before a g.0 g.1 b h.0 h.1 rest.back g.2 h.2 one.0 rest.bytes;
       items = put_item_before v w vs ws rest.more one.1 rest.items;
-      spells = rest.spells;
+      encodes = rest.encodes;
     }
 
 none_left : (a back : List ℕ) → a ≡ a ++ back → back ≡ []
@@ -70,13 +70,13 @@ none_left a (c ∷ back) e = absurd (omega (arith, ap (length {A = ℕ}) e, leng
 Joined-none : {V : Type 0} (G : Grammar V) → TakesBytes G → (back : List ℕ) (vs : List V) → back ≡ [] → Joined G back vs → vs ≡ []
 Joined-none G some back [] e g = refl
 Joined-none {V} G some back (v ∷ vs) e g =
-    absurd (some v (subst (λ (t : List ℕ). G t v) (empty_front g.0 g.1 (sym g.2 ∙ e)) g.3))
+    absurd (some v (subst (λ (t : List ℕ). G t v) (empty_prefix g.0 g.1 (sym g.2 ∙ e)) g.3))
 
 -- bytes encode at most one list
 pub Joined-one : {V : Type 0} {G : Grammar V} {read : Reader V} → IsReadBy G read → TakesBytes G → (bytes : List ℕ) (vs ws : List V) → Joined G bytes vs → Joined G bytes ws → vs ≡ ws
 Joined-one {V} {G} r some bytes vs ws g h =
     let s = Joined-split r some bytes bytes [] [] vs ws g h refl (omega arith) in
-    let none : s.more ≡ [] = Joined-none G some s.back s.more (none_left bytes s.back s.bytes) s.spells in
+    let none : s.more ≡ [] = Joined-none G some s.back s.more (none_left bytes s.back s.bytes) s.encodes in
     sym (s.items ∙ ap (λ (t : List V). vs ++ t) none ∙ append-nil vs)
 
 -- an encoding comes next, where a longer list is encoded
@@ -91,40 +91,40 @@ next {read = read} r back y (v ∷ more) g some none =
     clash o x e f = absurd cc
 
 -- where nothing more is read, what was read is the longest prefix
-pub Joined-longest : {V : Type 0} {G : Grammar V} {read : Reader V} → IsReadBy G read → TakesBytes G → (bytes front left : List ℕ) (vs : List V) → bytes ≡ front ++ left → Joined G front vs → read left ≡ None
-    → IsLongestFront (λ whole. (ws : List V) × Joined G whole ws) bytes (length front)
-Joined-longest {V} {G} {read} r some bytes front left vs e g none = record {
-  front = front;
+pub Joined-longest : {V : Type 0} {G : Grammar V} {read : Reader V} → IsReadBy G read → TakesBytes G → (bytes prefix left : List ℕ) (vs : List V) → bytes ≡ prefix ++ left → Joined G prefix vs → read left ≡ None
+    → IsLongestPrefix (λ whole. (ws : List V) × Joined G whole ws) bytes (length prefix)
+Joined-longest {V} {G} {read} r some bytes prefix left vs e g none = record {
+  prefix = prefix;
   rest = left;
   parts = e;
   len_is = refl;
   whole = (vs, g);
   longest = λ other after p h. longest other after p h.0 h.1;
 } where
-  longest : (other after : List ℕ) → bytes ≡ other ++ after → (ws : List V) → Joined G other ws → length other ≤ length front
-  longest other after p ws h = elim (cases_lt (length front) (length other)) [
+  longest : (other after : List ℕ) → bytes ≡ other ++ after → (ws : List V) → Joined G other ws → length other ≤ length prefix
+  longest other after p ws h = elim (cases_lt (length prefix) (length other)) [
     | inr le ↦ le
     | inl lt ↦
-        let s = Joined-split r some front other left after vs ws g h (sym e ∙ p) (omega arith) in
-        let row : front ++ left ≡ front ++ (s.back ++ after) = sym e ∙ p ∙ ap (λ (t : List ℕ). t ++ after) s.bytes ∙ append_assoc front s.back after in
-        let rest : left ≡ s.back ++ after = append_cancel_left front left (s.back ++ after) row in
-        let more : 0 < length s.back = omega (arith, ap (length {A = ℕ}) s.bytes, length-append front s.back) in
-        absurd (next r s.back after s.more s.spells more (sym (ap read rest) ∙ none))
+        let s = Joined-split r some prefix other left after vs ws g h (sym e ∙ p) (omega arith) in
+        let row : prefix ++ left ≡ prefix ++ (s.back ++ after) = sym e ∙ p ∙ ap (λ (t : List ℕ). t ++ after) s.bytes ∙ append_assoc prefix s.back after in
+        let rest : left ≡ s.back ++ after = append_cancel_left prefix left (s.back ++ after) row in
+        let more : 0 < length s.back = omega (arith, ap (length {A = ℕ}) s.bytes, length-append prefix s.back) in
+        absurd (next r s.back after s.more s.encodes more (sym (ap read rest) ∙ none))
   ]
 
 -- ---- shortest encodings
 
-joined_spells : {A : Type 0} {G : Grammar A} {F : A → Type 0} {text : A → List ℕ} → Shortest G F text → (vs : List A) → AllByRecursion F vs → Joined G (flat_map text vs) vs
-joined_spells r [] fits = refl
-joined_spells {text = text} r (v ∷ vs) fits = (text v, flat_map text vs, refl, r.spells v fits.0, joined_spells r vs fits.1)
+joined_encodes : {A : Type 0} {G : Grammar A} {F : A → Type 0} {encoding : A → List ℕ} → Shortest G F encoding → (vs : List A) → AllByRecursion F vs → Joined G (flat_map encoding vs) vs
+joined_encodes r [] fits = refl
+joined_encodes {encoding = encoding} r (v ∷ vs) fits = (encoding v, flat_map encoding vs, refl, r.encodes v fits.0, joined_encodes r vs fits.1)
 
-joined_again : {A : Type 0} {G : Grammar A} {F : A → Type 0} {text : A → List ℕ} → Shortest G F text → (bytes : List ℕ) (vs : List A) → Joined G bytes vs → Joined G (flat_map text vs) vs
+joined_again : {A : Type 0} {G : Grammar A} {F : A → Type 0} {encoding : A → List ℕ} → Shortest G F encoding → (bytes : List ℕ) (vs : List A) → Joined G bytes vs → Joined G (flat_map encoding vs) vs
 joined_again r bytes [] g = refl
-joined_again {text = text} r bytes (v ∷ vs) g = (text v, flat_map text vs, refl, r.again g.0 v g.3, joined_again r g.1 vs g.4)
+joined_again {encoding = encoding} r bytes (v ∷ vs) g = (encoding v, flat_map encoding vs, refl, r.again g.0 v g.3, joined_again r g.1 vs g.4)
 
-joined_least : {A : Type 0} {G : Grammar A} {F : A → Type 0} {text : A → List ℕ} → Shortest G F text → (bytes : List ℕ) (vs : List A) → Joined G bytes vs → IsTextOrLonger bytes (flat_map text vs)
+joined_least : {A : Type 0} {G : Grammar A} {F : A → Type 0} {encoding : A → List ℕ} → Shortest G F encoding → (bytes : List ℕ) (vs : List A) → Joined G bytes vs → IsShortestOrLonger bytes (flat_map encoding vs)
 joined_least r bytes [] g = inl g
-joined_least {text = text} r bytes (v ∷ vs) g = least_then bytes g.0 g.1 (text v) (flat_map text vs) g.2 (r.least g.0 v g.3) (joined_least r g.1 vs g.4)
+joined_least {encoding = encoding} r bytes (v ∷ vs) g = least_then bytes g.0 g.1 (encoding v) (flat_map encoding vs) g.2 (r.least g.0 v g.3) (joined_least r g.1 vs g.4)
 
-pub Shortest-joined : {A : Type 0} {G : Grammar A} {F : A → Type 0} {text : A → List ℕ} → Shortest G F text → Shortest (Joined G) (AllByRecursion F) (flat_map text)
-Shortest-joined r = record { spells = joined_spells r; again = joined_again r; least = joined_least r }
+pub Shortest-joined : {A : Type 0} {G : Grammar A} {F : A → Type 0} {encoding : A → List ℕ} → Shortest G F encoding → Shortest (Joined G) (AllByRecursion F) (flat_map encoding)
+Shortest-joined r = record { encodes = joined_encodes r; again = joined_again r; least = joined_least r }

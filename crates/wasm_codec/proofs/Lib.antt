@@ -8,11 +8,14 @@ pub mod WrittenLists
 pub mod Counting
 pub mod ListLaws
 pub mod RewritingLaws
-pub mod ExactLaws
+pub mod DrainLaws
 pub mod NumberReading
 pub mod FormatLaws
 pub mod RawFormatLaws
 pub mod FormatLengths
 pub mod PlaceLists
 pub mod BodyLaws
-pub mod PlaceBridges
+pub mod EndLaws
+pub mod AskedLaws
+pub mod SizedLaws
+pub mod Passing

@@ -1,9 +1,10 @@
 -- The laws of the five widths of numbers.
-use Rattle.std.proofs.Common.{◌≡◌, ℕ, suc, ◌+◌, ◌*◌, ◌%◌, ◌^◌, ◌<◌, ◌≤◌, Bool, true, false, cond, ltb, List, [], ◌∷◌, length, Some, None, refl, sym, ap, subst, ◌∙◌, inl, inr, arith, lit≤, ℤ, pos, negsuc}
+use Rattle.std.proofs.Common.{◌≡◌, ℕ, suc, ◌+◌, ◌*◌, ◌%◌, ◌^◌, ◌<◌, ◌≤◌, Bool, true, false, cond, ltb, List, [], ◌∷◌, length, Some, None, refl, sym, ap, subst, ◌∙◌, inl, inr, arith, lit≤, ℤ, pos, negsuc, SFits, w32, w64}
 use Rattle.std.proofs.lemmas.Bool.{ltb-true, lt-ltb, le-ltb, cases_lt}
 use Rattle.std.proofs.lemmas.Int.{ints}
-use Rattle.wasm_codec.specs.Numbers.{IsDigits, unsigned, last, signed, Number, Below, Within, SignedWithin, IndexBelow, SpellsU32, SpellsU64, SpellsS32, SpellsS64, SpellsIndex, digits_of, unsigned_text, signed_text, number_at, below, is_within, signed_within, index_from, index_below, u32_at, u64_at, s32_at, s64_at, index_at}
-use Rattle.wasm_codec.specs.Encoding.{IsTextOrLonger}
+use Rattle.wasm_codec.specs.Numbers.{IsDigits, unsigned, last, signed, Number, Below, Within, SignedWithin, IndexBelow, EncodesU32, EncodesU64, EncodesS32, EncodesS64, EncodesIndex, digits_of, unsigned_leb128, signed_leb128, number_at, below, is_within, signed_within, index_from, index_below, u32_at, u64_at, s32_at, s64_at, index_at}
+use Rattle.wasm_codec.specs.Grammar.{Grammar}
+use Rattle.wasm_codec.specs.Encoding.{IsShortestOrLonger, IsShortest}
 use Rattle.wasm_codec.specs.Reading.{IsReadBy}
 use Rattle.wasm_codec.proofs.Laws.{some_is}
 use Rattle.wasm_codec.proofs.Digits.{IsReadBy-number, magnitude, Stands, digits_stand, digits_least, length-digits_of}
@@ -70,16 +71,16 @@ last_below [] d = absurd d
 last_below (b ∷ []) d = d
 last_below (b ∷ c ∷ digits) d = last_below (c ∷ digits) d.2
 
-Shortest-unsigned : (more limit : ℕ) → limit ≤ 128 * 128 ^ more → limit ≤ 128 * 128 ^ 9 → Shortest (Number (suc more) (Below limit)) (λ n. n < limit) unsigned_text
-unfolding unsigned_text
+Shortest-unsigned : (more limit : ℕ) → limit ≤ 128 * 128 ^ more → limit ≤ 128 * 128 ^ 9 → Shortest (Number (suc more) (Below limit)) (λ n. n < limit) unsigned_leb128
+unfolding unsigned_leb128
 Shortest-unsigned more limit wide room = record {
-  spells = spells;
-  again = λ bytes n g. spells n g.2.1;
+  encodes = encodes;
+  again = λ bytes n g. encodes n g.2.1;
   least = λ bytes n g.
       digits_least false 128 9 bytes n (omega arith) (omega (arith, g.2.1)) (record { are = g.0; ends = last_below bytes g.0; value = magnitude-unsigned bytes ∙ g.2.0 });
 } where
-  spells : (n : ℕ) → n < limit → Number (suc more) (Below limit) (digits_of false 128 9 n) n
-  spells n lt =
+  encodes : (n : ℕ) → n < limit → Number (suc more) (Below limit) (digits_of false 128 9 n) n
+  encodes n lt =
       let p = digits_stand false 128 (omega arith) 9 n (omega arith) in
       (p.are, length-digits_of false 128 9 more n (omega arith), (sym (magnitude-unsigned _) ∙ p.value, lt))
 
@@ -120,77 +121,99 @@ signed_to digits d (negsuc n) e = elim (cases_lt (last digits) 64) [
   | inr le ↦ let p = signed_high digits le in record { are = d; ends = omega arith; value = cc }
 ]
 
-signed_text_stands : (limit : ℕ) → limit ≤ 64 * 128 ^ 9 → (z : ℤ) → Within limit z → IsDigits (signed_text z) × SignedStands (signed_text z) z
-unfolding signed_text SignedStands
-signed_text_stands limit room (pos n) lt = let p = digits_stand false 64 (omega arith) 9 n (omega arith) in (p.are, p)
-signed_text_stands limit room (negsuc n) lt = let p = digits_stand true 64 (omega arith) 9 n (omega arith) in (p.are, p)
+signed_leb128_stands : (limit : ℕ) → limit ≤ 64 * 128 ^ 9 → (z : ℤ) → Within limit z → IsDigits (signed_leb128 z) × SignedStands (signed_leb128 z) z
+unfolding signed_leb128 SignedStands
+signed_leb128_stands limit room (pos n) lt = let p = digits_stand false 64 (omega arith) 9 n (omega arith) in (p.are, p)
+signed_leb128_stands limit room (negsuc n) lt = let p = digits_stand true 64 (omega arith) 9 n (omega arith) in (p.are, p)
 
-length-signed_text : (more limit : ℕ) → limit ≤ 64 * 128 ^ more → (z : ℤ) → Within limit z → length (signed_text z) ≤ suc more
-unfolding signed_text
-length-signed_text more limit wide (pos n) lt = length-digits_of false 64 9 more n (omega arith)
-length-signed_text more limit wide (negsuc n) lt = length-digits_of true 64 9 more n (omega arith)
+length-signed_leb128 : (more limit : ℕ) → limit ≤ 64 * 128 ^ more → (z : ℤ) → Within limit z → length (signed_leb128 z) ≤ suc more
+unfolding signed_leb128
+length-signed_leb128 more limit wide (pos n) lt = length-digits_of false 64 9 more n (omega arith)
+length-signed_leb128 more limit wide (negsuc n) lt = length-digits_of true 64 9 more n (omega arith)
 
-signed_text-least : (limit : ℕ) → limit ≤ 64 * 128 ^ 9 → (bytes : List ℕ) (z : ℤ) → Within limit z → SignedStands bytes z → IsTextOrLonger bytes (signed_text z)
-unfolding signed_text SignedStands
-signed_text-least limit room bytes (pos n) lt h = digits_least false 64 9 bytes n (omega arith) (omega arith) h
-signed_text-least limit room bytes (negsuc n) lt h = digits_least true 64 9 bytes n (omega arith) (omega arith) h
+signed_leb128-least : (limit : ℕ) → limit ≤ 64 * 128 ^ 9 → (bytes : List ℕ) (z : ℤ) → Within limit z → SignedStands bytes z → IsShortestOrLonger bytes (signed_leb128 z)
+unfolding signed_leb128 SignedStands
+signed_leb128-least limit room bytes (pos n) lt h = digits_least false 64 9 bytes n (omega arith) (omega arith) h
+signed_leb128-least limit room bytes (negsuc n) lt h = digits_least true 64 9 bytes n (omega arith) (omega arith) h
 
-Shortest-signed : (more limit : ℕ) → limit ≤ 64 * 128 ^ more → limit ≤ 64 * 128 ^ 9 → Shortest (Number (suc more) (SignedWithin limit)) (Within limit) signed_text
+Shortest-signed : (more limit : ℕ) → limit ≤ 64 * 128 ^ more → limit ≤ 64 * 128 ^ 9 → Shortest (Number (suc more) (SignedWithin limit)) (Within limit) signed_leb128
 Shortest-signed more limit wide room = record {
-  spells = spells;
-  again = λ bytes z g. spells z g.2.1;
-  least = λ bytes z g. signed_text-least limit room bytes z g.2.1 (signed_to bytes g.0 z g.2.0);
+  encodes = encodes;
+  again = λ bytes z g. encodes z g.2.1;
+  least = λ bytes z g. signed_leb128-least limit room bytes z g.2.1 (signed_to bytes g.0 z g.2.0);
 } where
-  spells : (z : ℤ) → Within limit z → Number (suc more) (SignedWithin limit) (signed_text z) z
-  spells z lt = let p = signed_text_stands limit room z lt in (p.0, length-signed_text more limit wide z lt, (signed_from (signed_text z) z p.1, lt))
+  encodes : (z : ℤ) → Within limit z → Number (suc more) (SignedWithin limit) (signed_leb128 z) z
+  encodes z lt = let p = signed_leb128_stands limit room z lt in (p.0, length-signed_leb128 more limit wide z lt, (signed_from (signed_leb128 z) z p.1, lt))
 
-Shortest-index-below : (more limit : ℕ) → limit ≤ 64 * 128 ^ more → limit ≤ 64 * 128 ^ 9 → Shortest (Number (suc more) (IndexBelow limit)) (λ n. n < limit) (λ n. signed_text (pos n))
+Shortest-index-below : (more limit : ℕ) → limit ≤ 64 * 128 ^ more → limit ≤ 64 * 128 ^ 9 → Shortest (Number (suc more) (IndexBelow limit)) (λ n. n < limit) (λ n. signed_leb128 (pos n))
 Shortest-index-below more limit wide room = record {
-  spells = spells;
-  again = λ bytes n g. spells n g.2.1;
-  least = λ bytes n g. signed_text-least limit room bytes (pos n) g.2.1 (signed_to bytes g.0 (pos n) g.2.0);
+  encodes = encodes;
+  again = λ bytes n g. encodes n g.2.1;
+  least = λ bytes n g. signed_leb128-least limit room bytes (pos n) g.2.1 (signed_to bytes g.0 (pos n) g.2.0);
 } where
-  spells : (n : ℕ) → n < limit → Number (suc more) (IndexBelow limit) (signed_text (pos n)) n
-  spells n lt = let p = signed_text_stands limit room (pos n) lt in (p.0, length-signed_text more limit wide (pos n) lt, (signed_from (signed_text (pos n)) (pos n) p.1, lt))
+  encodes : (n : ℕ) → n < limit → Number (suc more) (IndexBelow limit) (signed_leb128 (pos n)) n
+  encodes n lt = let p = signed_leb128_stands limit room (pos n) lt in (p.0, length-signed_leb128 more limit wide (pos n) lt, (signed_from (signed_leb128 (pos n)) (pos n) p.1, lt))
 
 -- ---- the five widths
 
-pub IsReadBy-u32 : IsReadBy SpellsU32 u32_at
-unfolding SpellsU32 u32_at
+pub IsReadBy-u32 : IsReadBy EncodesU32 u32_at
+unfolding EncodesU32 u32_at
 IsReadBy-u32 = IsReadBy-unsigned 5 (2 ^ 32)
 
-pub Shortest-u32 : Shortest SpellsU32 (λ n. n < 2 ^ 32) unsigned_text
-unfolding SpellsU32
+pub Shortest-u32 : Shortest EncodesU32 (λ n. n < 2 ^ 32) unsigned_leb128
+unfolding EncodesU32
 Shortest-u32 = Shortest-unsigned 4 (2 ^ 32) (lit≤ tt) (lit≤ tt)
 
-pub IsReadBy-u64 : IsReadBy SpellsU64 u64_at
-unfolding SpellsU64 u64_at
+pub IsReadBy-u64 : IsReadBy EncodesU64 u64_at
+unfolding EncodesU64 u64_at
 IsReadBy-u64 = IsReadBy-unsigned 10 (2 ^ 64)
 
-pub Shortest-u64 : Shortest SpellsU64 (λ n. n < 2 ^ 64) unsigned_text
-unfolding SpellsU64
+pub Shortest-u64 : Shortest EncodesU64 (λ n. n < 2 ^ 64) unsigned_leb128
+unfolding EncodesU64
 Shortest-u64 = Shortest-unsigned 9 (2 ^ 64) (lit≤ tt) (lit≤ tt)
 
-pub IsReadBy-s32 : IsReadBy SpellsS32 s32_at
-unfolding SpellsS32 s32_at
+pub IsReadBy-s32 : IsReadBy EncodesS32 s32_at
+unfolding EncodesS32 s32_at
 IsReadBy-s32 = IsReadBy-signed 5 (2 ^ 31)
 
-pub Shortest-s32 : Shortest SpellsS32 (Within (2 ^ 31)) signed_text
-unfolding SpellsS32
+pub Shortest-s32 : Shortest EncodesS32 (Within (2 ^ 31)) signed_leb128
+unfolding EncodesS32
 Shortest-s32 = Shortest-signed 4 (2 ^ 31) (lit≤ tt) (lit≤ tt)
 
-pub IsReadBy-s64 : IsReadBy SpellsS64 s64_at
-unfolding SpellsS64 s64_at
+pub IsReadBy-s64 : IsReadBy EncodesS64 s64_at
+unfolding EncodesS64 s64_at
 IsReadBy-s64 = IsReadBy-signed 10 (2 ^ 63)
 
-pub Shortest-s64 : Shortest SpellsS64 (Within (2 ^ 63)) signed_text
-unfolding SpellsS64
+pub Shortest-s64 : Shortest EncodesS64 (Within (2 ^ 63)) signed_leb128
+unfolding EncodesS64
 Shortest-s64 = Shortest-signed 9 (2 ^ 63) (lit≤ tt) (lit≤ tt)
 
-pub IsReadBy-index : IsReadBy SpellsIndex index_at
-unfolding SpellsIndex index_at
+pub IsReadBy-index : IsReadBy EncodesIndex index_at
+unfolding EncodesIndex index_at
 IsReadBy-index = IsReadBy-index-below 5 (2 ^ 32)
 
-pub Shortest-index : Shortest SpellsIndex (λ n. n < 2 ^ 32) (λ n. signed_text (pos n))
-unfolding SpellsIndex
+pub Shortest-index : Shortest EncodesIndex (λ n. n < 2 ^ 32) (λ n. signed_leb128 (pos n))
+unfolding EncodesIndex
 Shortest-index = Shortest-index-below 4 (2 ^ 32) (lit≤ tt) (lit≤ tt)
+
+-- ---- what is written
+
+pub written : {V : Type 0} {G : Grammar V} {Fits : V → Type 0} {encoding : V → List ℕ} → Shortest G Fits encoding → (v : V) → Fits v → IsShortest G encoding v
+written law v fits = record { encodes = law.encodes v fits; least = λ bytes g. law.least bytes v g }
+
+pub u32_written : (n : ℕ) → n < 2 ^ 32 → IsShortest EncodesU32 unsigned_leb128 n
+u32_written n lt = written Shortest-u32 n lt
+
+pub u64_written : (n : ℕ) → n < 2 ^ 64 → IsShortest EncodesU64 unsigned_leb128 n
+u64_written n lt = written Shortest-u64 n lt
+
+pub s32_written : (z : ℤ) → SFits w32 z → IsShortest EncodesS32 signed_leb128 z
+s32_written (pos n) fits = written Shortest-s32 (pos n) fits.sfits
+s32_written (negsuc n) fits = written Shortest-s32 (negsuc n) fits.sfits
+
+pub s64_written : (z : ℤ) → SFits w64 z → IsShortest EncodesS64 signed_leb128 z
+s64_written (pos n) fits = written Shortest-s64 (pos n) fits.sfits
+s64_written (negsuc n) fits = written Shortest-s64 (negsuc n) fits.sfits
+
+pub index_written : (n : ℕ) → n < 2 ^ 32 → IsShortest EncodesIndex (λ index. signed_leb128 (pos index)) n
+index_written n lt = written Shortest-index n lt

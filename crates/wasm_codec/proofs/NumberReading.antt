@@ -6,7 +6,7 @@ use Rattle.std.proofs.lemmas.Int.{ints}
 use Rattle.std.proofs.Common.{◌≡◌, ℕ, zero, suc, ◌+◌, ◌-◌, ◌*◌, ◌%◌, ◌/◌, ◌^◌, ◌<◌, ◌≤◌, ◌&&◌, Bool, true, false, cond, eqb, ltb, List, [], ◌∷◌, ◌++◌, length, take, drop, leb, Option, Some, None, Err, refl, sym, ap, subst, ◌∙◌, inl, inr, arith, lit≤, ℤ, pos, negsuc, ◌-ℤ◌}
 use Rattle.std.proofs.lemmas.Bool.{lt-ltb, le-ltb, le-leb, lt-leb, eq-eqb, ne_eqb, cases_lt}
 use Rattle.wasm_codec.specs.Reading.{byte_at as list_byte_at, ◌>>=◌}
-use Rattle.wasm_codec.specs.Numbers.{digits_at, unsigned, last, signed, below, signed_within, index_below, turned, digits_of, unsigned_text, signed_text}
+use Rattle.wasm_codec.specs.Numbers.{digits_at, unsigned, last, signed, below, signed_within, index_below, turned, digits_of, unsigned_leb128, signed_leb128}
 use Rattle.wasm_codec.proofs.Laws.{bind_some, some_is}
 use Rattle.wasm_codec.proofs.Digits.{length-digits_of}
 use Rattle.wasm_codec.proofs.DigitLoop.{reads_on, byte_is, digits_end, runs_out}
@@ -112,15 +112,15 @@ number_is value bytes most old new n unit end d v t is test = rw (d.reads, is, t
 pub no_digits : {V : Type 0} (value : List ℕ → Option V) (bytes : V → List ℕ) (most : ℕ) (old : Place) → digits_at most old.left ≡ None → number_at most value bytes old ≡ None
 no_digits value bytes most old none = rw none refl
 
-pub unsigned_is : (limit most : ℕ) (old new : Place) (n unit end : ℕ) → Read most old new n unit end → most ≤ 10 → n < limit → number_at most (below limit) unsigned_text old ≡ Some (n, place (new.shortest && fewest 128 unit n) new.left)
-unfolding unsigned_text
+pub unsigned_is : (limit most : ℕ) (old new : Place) (n unit end : ℕ) → Read most old new n unit end → most ≤ 10 → n < limit → number_at most (below limit) unsigned_leb128 old ≡ Some (n, place (new.shortest && fewest 128 unit n) new.left)
+unfolding unsigned_leb128
 unsigned_is limit most old new n unit end d few lt =
     let same : unsigned d.digits ≡ n = sym d.value_is in
     let value : below limit d.digits ≡ Some n = rw (same, lt-ltb n limit lt) refl in
     let small : n < unit = d.below in
-    number_is (below limit) unsigned_text most old new n unit end d n (fewest 128 unit n) value (told false 128 n most old new n unit end d few (omega arith))
+    number_is (below limit) unsigned_leb128 most old new n unit end d n (fewest 128 unit n) value (told false 128 n most old new n unit end d few (omega arith))
 
-pub unsigned_none : (limit most : ℕ) (old new : Place) (n unit end : ℕ) → Read most old new n unit end → limit ≤ n → number_at most (below limit) unsigned_text old ≡ None
+pub unsigned_none : (limit most : ℕ) (old new : Place) (n unit end : ℕ) → Read most old new n unit end → limit ≤ n → number_at most (below limit) unsigned_leb128 old ≡ None
 unsigned_none limit most old new n unit end d le =
     let same : unsigned d.digits ≡ n = sym d.value_is in
     let value : below limit d.digits ≡ None = rw (same, le-ltb n limit le) refl in
@@ -129,16 +129,16 @@ unsigned_none limit most old new n unit end d le =
 abbrev pub any_signed : List ℕ → Option ℤ
 any_signed digits = Some (signed digits)
 
-pub signed_low : (most : ℕ) (old new : Place) (n unit end : ℕ) → Read most old new n unit end → most ≤ 10 → end < 64 → number_at most any_signed signed_text old ≡ Some (pos n, place (new.shortest && fewest 64 unit n) new.left)
-unfolding signed_text
+pub signed_low : (most : ℕ) (old new : Place) (n unit end : ℕ) → Read most old new n unit end → most ≤ 10 → end < 64 → number_at most any_signed signed_leb128 old ≡ Some (pos n, place (new.shortest && fewest 64 unit n) new.left)
+unfolding signed_leb128
 signed_low most old new n unit end d few lt =
     let same : unsigned d.digits ≡ n = sym d.value_is in
     let value : any_signed d.digits ≡ Some (pos n) = rw (← d.end_is, lt-ltb end 64 lt, same) refl in
     let small : n * 2 < unit = d.low lt in
-    number_is any_signed signed_text most old new n unit end d (pos n) (fewest 64 unit n) value (told false 64 n most old new n unit end d few (omega arith))
+    number_is any_signed signed_leb128 most old new n unit end d (pos n) (fewest 64 unit n) value (told false 64 n most old new n unit end d few (omega arith))
 
-pub signed_high : (most : ℕ) (old new : Place) (n unit end : ℕ) → Read most old new n unit end → most ≤ 10 → 64 ≤ end → number_at most any_signed signed_text old ≡ Some (pos n -ℤ pos unit, place (new.shortest && fewest 64 unit (unit - 1 - n)) new.left)
-unfolding signed_text
+pub signed_high : (most : ℕ) (old new : Place) (n unit end : ℕ) → Read most old new n unit end → most ≤ 10 → 64 ≤ end → number_at most any_signed signed_leb128 old ≡ Some (pos n -ℤ pos unit, place (new.shortest && fewest 64 unit (unit - 1 - n)) new.left)
+unfolding signed_leb128
 signed_high most old new n unit end d few le =
     let m = unit - 1 - n in
     let e : m ≡ unit - 1 - n = refl in
@@ -147,7 +147,7 @@ signed_high most old new n unit end d few le =
     let small : n < unit = d.below in
     let negative : pos n -ℤ pos unit ≡ negsuc m = omega (arith, ints, e) in
     let value : any_signed d.digits ≡ Some (negsuc m) = rw (← d.end_is, le-ltb end 64 le, same, ← d.unit_is, negative) refl in
-    rw negative (number_is any_signed signed_text most old new n unit end d (negsuc m) (fewest 64 unit m) value (told true 64 m most old new n unit end d few (omega arith)))
+    rw negative (number_is any_signed signed_leb128 most old new n unit end d (negsuc m) (fewest 64 unit m) value (told true 64 m most old new n unit end d few (omega arith)))
 
 -- ---- numbers of one byte
 
@@ -164,11 +164,11 @@ one_digit : (turn : Bool) (top n : ℕ) → n < top → length (digits_of turn t
 unfolding digits_of
 one_digit turn top n lt = rw (lt-ltb n top lt) refl
 
-one_unsigned : (limit most : ℕ) (p q : Place) (b : ℕ) → 128 ≤ limit → b < 128 → p ≡ place q.shortest (b ∷ q.left) → number_at (suc most) (below limit) unsigned_text p ≡ Some (b, q)
-unfolding unsigned_text
+one_unsigned : (limit most : ℕ) (p q : Place) (b : ℕ) → 128 ≤ limit → b < 128 → p ≡ place q.shortest (b ∷ q.left) → number_at (suc most) (below limit) unsigned_leb128 p ≡ Some (b, q)
+unfolding unsigned_leb128
 one_unsigned limit most p q b wide lt e =
     let same : b % 128 + 128 * 0 ≡ b = omega arith in
-    one_read (below limit) unsigned_text most p q b b lt e (rw (same, lt-ltb b limit (omega arith)) refl) (one_digit false 128 b lt)
+    one_read (below limit) unsigned_leb128 most p q b b lt e (rw (same, lt-ltb b limit (omega arith)) refl) (one_digit false 128 b lt)
 
 pub u32_one : (p q : Place) (b : ℕ) → b < 128 → p ≡ place q.shortest (b ∷ q.left) → u32_at p ≡ Some (b, q)
 unfolding u32_at
@@ -178,19 +178,19 @@ pub u64_one : (p q : Place) (b : ℕ) → b < 128 → p ≡ place q.shortest (b 
 unfolding u64_at
 u64_one p q b lt e = one_unsigned (2 ^ 64) 9 p q b (lit≤ tt) lt e
 
-one_low : (limit most : ℕ) (p q : Place) (b : ℕ) → 64 ≤ limit → b < 64 → p ≡ place q.shortest (b ∷ q.left) → number_at (suc most) (signed_within limit) signed_text p ≡ Some (pos b, q)
-unfolding signed_text
+one_low : (limit most : ℕ) (p q : Place) (b : ℕ) → 64 ≤ limit → b < 64 → p ≡ place q.shortest (b ∷ q.left) → number_at (suc most) (signed_within limit) signed_leb128 p ≡ Some (pos b, q)
+unfolding signed_leb128
 one_low limit most p q b wide lt e =
     let same : b % 128 + 128 * 0 ≡ b = omega arith in
-    one_read (signed_within limit) signed_text most p q b (pos b) (omega arith) e (rw (lt-ltb b 64 lt, same, lt-ltb b limit (omega arith)) refl) (one_digit false 64 b lt)
+    one_read (signed_within limit) signed_leb128 most p q b (pos b) (omega arith) e (rw (lt-ltb b 64 lt, same, lt-ltb b limit (omega arith)) refl) (one_digit false 64 b lt)
 
-one_high : (limit most : ℕ) (p q : Place) (b : ℕ) → 64 ≤ limit → 64 ≤ b → b < 128 → p ≡ place q.shortest (b ∷ q.left) → number_at (suc most) (signed_within limit) signed_text p ≡ Some (pos b -ℤ pos 128, q)
-unfolding signed_text
+one_high : (limit most : ℕ) (p q : Place) (b : ℕ) → 64 ≤ limit → 64 ≤ b → b < 128 → p ≡ place q.shortest (b ∷ q.left) → number_at (suc most) (signed_within limit) signed_leb128 p ≡ Some (pos b -ℤ pos 128, q)
+unfolding signed_leb128
 one_high limit most p q b wide le lt e =
     let same : b % 128 + 128 * 0 ≡ b = omega arith in
     let negative : pos b -ℤ pos (128 ^ 1) ≡ negsuc (127 - b) = omega (arith, ints) in
     let value : signed_within limit (b ∷ []) ≡ Some (negsuc (127 - b)) = rw (le-ltb b 64 le, same, negative, lt-ltb (127 - b) limit (omega arith)) refl in
-    one_read (signed_within limit) signed_text most p q b (negsuc (127 - b)) lt e value (one_digit true 64 (127 - b) (omega arith)) ∙ ap (λ (z : ℤ). Some (z, q)) (sym negative)
+    one_read (signed_within limit) signed_leb128 most p q b (negsuc (127 - b)) lt e value (one_digit true 64 (127 - b) (omega arith)) ∙ ap (λ (z : ℤ). Some (z, q)) (sym negative)
 
 pub s32_low : (p q : Place) (b : ℕ) → b < 64 → p ≡ place q.shortest (b ∷ q.left) → s32_at p ≡ Some (pos b, q)
 unfolding s32_at
@@ -209,10 +209,10 @@ unfolding s64_at
 s64_high p q b le lt e = one_high (2 ^ 63) 9 p q b (lit≤ tt) le lt e
 
 pub index_low : (p q : Place) (b : ℕ) → b < 64 → p ≡ place q.shortest (b ∷ q.left) → index_at p ≡ Some (b, q)
-unfolding index_at signed_text
+unfolding index_at signed_leb128
 index_low p q b lt e =
     let same : b % 128 + 128 * 0 ≡ b = omega arith in
-    one_read (index_below (2 ^ 32)) (λ n. signed_text (pos n)) 4 p q b b (omega arith) e (rw (lt-ltb b 64 lt, same, lt-ltb b (2 ^ 32) (omega arith)) refl) (one_digit false 64 b lt)
+    one_read (index_below (2 ^ 32)) (λ n. signed_leb128 (pos n)) 4 p q b b (omega arith) e (rw (lt-ltb b 64 lt, same, lt-ltb b (2 ^ 32) (omega arith)) refl) (one_digit false 64 b lt)
 
 pub index_high : (p q : Place) (b : ℕ) → 64 ≤ b → b < 128 → p ≡ place q.shortest (b ∷ q.left) → index_at p ≡ None
 unfolding index_at
@@ -309,7 +309,7 @@ u32_wide old new n unit end d le = unsigned_none (2 ^ 32) 5 old new n unit end d
 
 pub u32_none : (old : Place) → digits_at 5 old.left ≡ None → u32_at old ≡ None
 unfolding u32_at
-u32_none old none = no_digits (below (2 ^ 32)) unsigned_text 5 old none
+u32_none old none = no_digits (below (2 ^ 32)) unsigned_leb128 5 old none
 
 pub u64_is : (old new : Place) (n unit end : ℕ) → Read 10 old new n unit end → n < 2 ^ 64 → u64_at old ≡ Some (n, place (new.shortest && fewest 128 unit n) new.left)
 unfolding u64_at
@@ -321,4 +321,24 @@ u64_wide old new n unit end d le = unsigned_none (2 ^ 64) 10 old new n unit end 
 
 pub u64_none : (old : Place) → digits_at 10 old.left ≡ None → u64_at old ≡ None
 unfolding u64_at
-u64_none old none = no_digits (below (2 ^ 64)) unsigned_text 10 old none
+u64_none old none = no_digits (below (2 ^ 64)) unsigned_leb128 10 old none
+
+-- two bytes are the digits of a number
+two_read : (p q : Place) (b c : ℕ) → 128 ≤ b → b < 256 → c < 128 → p ≡ place q.shortest (b ∷ c ∷ q.left) → Read 5 p q (b % 128 + 128 * c) 16384 c
+unfolding digits_at
+two_read p q b c high byte low e = record {
+  digits = b ∷ c ∷ [];
+  reads = ap (λ (r : Place). digits_at 5 r.left) e ∙ rw (le-ltb b 128 high, lt-ltb c 128 low) refl;
+  keeps = sym (ap (λ (r : Place). r.shortest) e);
+  short = lit≤ tt;
+  value_is = omega arith;
+  unit_is = refl;
+  end_is = refl;
+  some = lit≤ tt;
+  below = omega arith;
+  low = λ lt. omega arith;
+  high = λ le. omega arith;
+}
+
+pub u32_two : (p q : Place) (b c : ℕ) → 128 ≤ b → b < 256 → c < 128 → p ≡ place q.shortest (b ∷ c ∷ q.left) → u32_at p ≡ Some (b % 128 + 128 * c, place (q.shortest && fewest 128 16384 (b % 128 + 128 * c)) q.left)
+u32_two p q b c high byte low e = u32_is p q (b % 128 + 128 * c) 16384 c (two_read p q b c high byte low e) (omega arith)

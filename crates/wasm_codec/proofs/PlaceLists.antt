@@ -9,85 +9,85 @@ use Rattle.wasm_codec.specs.declared.reader.cursor.Fault.TheVariants as faults
 use Rattle.wasm_codec.specs.declared.reader.ReadError.{ReadError}
 use Rattle.wasm_codec.specs.Grammar.{Grammar, IsBytes, Joined}
 use Rattle.wasm_codec.specs.Reading.{Reader as ListReader, Reads as ListReadsCode, ◌>>=◌}
-use Rattle.wasm_codec.specs.Answers.{answer_to, HoldsAtRefusal, IsLongestFront, SpellsSome, IsNormalForm}
-use Rattle.wasm_codec.specs.Encoding.{IsTextOrLonger}
-use Rattle.wasm_codec.proofs.Laws.{Fronts-is, one_reading, bind_some, some, some_is}
-use Rattle.wasm_codec.specs.Reading.{Fronts, IsReadBy as ListReads}
+use Rattle.wasm_codec.specs.Answers.{answer_to, HoldsAtRefusal, IsLongestPrefix, EncodesSome}
+use Rattle.wasm_codec.specs.Encoding.{IsShortestOrLonger}
+use Rattle.wasm_codec.proofs.Laws.{BeginsWith-is, one_reading, bind_some, some, some_is}
+use Rattle.wasm_codec.specs.Reading.{BeginsWith, IsReadBy as ListReads}
 use Rattle.wasm_codec.proofs.Joining.{Joined-more}
 use Rattle.wasm_codec.specs.Grammar.{TakesBytes}
 use Rattle.wasm_codec.proofs.ListReading.{Progress, Next, next, stopped_by}
-use Rattle.wasm_codec.specs.Rewriting.{PassesOrWrites}
-use Rattle.wasm_codec.specs.Places.{Place, place, Reader, Reads, keeps, times_at, u32_at}
-use Rattle.wasm_codec.specs.formats.Combinators.{Format, items, only_shortest, narrow}
-use Rattle.wasm_codec.proofs.FormatLaws.{Fronts-at, keeps_same}
+use Rattle.wasm_codec.specs.Rewriting.{AppendsNormalForm, PassesOrWrites}
+use Rattle.wasm_codec.specs.Places.{Place, place, Reader, Reads, keeps, times_at, counted_at, PassedAsAsked}
+use Rattle.wasm_codec.specs.formats.Combinators.{Format, only_shortest, narrow, asked}
+use Rattle.wasm_codec.proofs.FormatLaws.{BeginsWith-at, keeps_same}
 use Rattle.wasm_codec.specs.Lawful.{ReadsPlaces, IsLawful, plain, IsPrefixFree}
 
 -- ---- so many items
 
 -- items that were read, and those that are still read
 abbrev pub after_items : {A : Type 0} → List A → Option (List A × Place) → Option (List A × Place)
-after_items front read = read >>= λ x. Some (front ++ x.0, x.1)
+after_items prefix read = read >>= λ x. Some (prefix ++ x.0, x.1)
 
-regroup_items : {A : Type 0} (front : List A) (v : A) (read : Option (List A × Place)) → after_items front (read >>= λ x. Some (v ∷ x.0, x.1)) ≡ after_items (front ++ v ∷ []) read
-regroup_items {A} front v (Some x) = ap (λ (vs : List A). Some (vs, x.1)) (simp append_assoc)
-regroup_items front v None = refl
+pub regroup_items : {A : Type 0} (prefix : List A) (v : A) (read : Option (List A × Place)) → after_items prefix (read >>= λ x. Some (v ∷ x.0, x.1)) ≡ after_items (prefix ++ v ∷ []) read
+regroup_items {A} prefix v (Some x) = ap (λ (vs : List A). Some (vs, x.1)) (simp append_assoc)
+regroup_items prefix v None = refl
 
-pub items_go_on : {A : Type 0} (read : Reader A) (front : List A) (count i : ℕ) (p : Place) (v : A) (after : Place) (total : Option (List A × Place)) → i < count → read p ≡ Some (v, after)
-    → after_items front (times_at read (count - i) p) ≡ total → after_items (front ++ v ∷ []) (times_at read (count - (i + 1)) after) ≡ total
+pub items_go_on : {A : Type 0} (read : Reader A) (prefix : List A) (count i : ℕ) (p : Place) (v : A) (after : Place) (total : Option (List A × Place)) → i < count → read p ≡ Some (v, after)
+    → after_items prefix (times_at read (count - i) p) ≡ total → after_items (prefix ++ v ∷ []) (times_at read (count - (i + 1)) after) ≡ total
 unfolding times_at
-items_go_on read front count i p v after total lt h so_far =
+items_go_on read prefix count i p v after total lt h so_far =
     let k : count - i ≡ suc (count - (i + 1)) = omega arith in
-    let one : after_items front (times_at read (count - i) p) ≡ after_items (front ++ v ∷ []) (times_at read (count - (i + 1)) after) = rw (k, h) (regroup_items front v (times_at read (count - (i + 1)) after)) in
+    let one : after_items prefix (times_at read (count - i) p) ≡ after_items (prefix ++ v ∷ []) (times_at read (count - (i + 1)) after) = rw (k, h) (regroup_items prefix v (times_at read (count - (i + 1)) after)) in
     sym one ∙ so_far
 
-items_end : {A : Type 0} (read : Reader A) (front : List A) (count i : ℕ) (p : Place) (total : Option (List A × Place)) → i < count → read p ≡ None
-    → after_items front (times_at read (count - i) p) ≡ total → total ≡ None
+items_end : {A : Type 0} (read : Reader A) (prefix : List A) (count i : ℕ) (p : Place) (total : Option (List A × Place)) → i < count → read p ≡ None
+    → after_items prefix (times_at read (count - i) p) ≡ total → total ≡ None
 unfolding times_at
-items_end read front count i p total lt h so_far =
+items_end read prefix count i p total lt h so_far =
     let k : count - i ≡ suc (count - (i + 1)) = omega arith in
-    let one : after_items front (times_at read (count - i) p) ≡ None = rw (k, h) refl in
+    let one : after_items prefix (times_at read (count - i) p) ≡ None = rw (k, h) refl in
     sym so_far ∙ one
 
 -- an item was wanting
-pub items_fail : {A V : Type 0} (fault : Fault) (read : Reader A) (whole : Reader V) (front : List A) (count i : ℕ) (p new old : Place) (total : Option (List A × Place)) → i < count → Reads read p new (Err fault)
-    → after_items front (times_at read (count - i) p) ≡ total → (total ≡ None → whole old ≡ None) → Reads whole old new (Err fault)
-items_fail faults.Memory read whole front count i p new old total lt h so_far is = tt
-items_fail faults.Malformed read whole front count i p new old total lt h so_far is = is (items_end read front count i p total lt h so_far)
+pub items_fail : {A V : Type 0} (fault : Fault) (read : Reader A) (whole : Reader V) (prefix : List A) (count i : ℕ) (p new old : Place) (total : Option (List A × Place)) → i < count → Reads read p new (Err fault)
+    → after_items prefix (times_at read (count - i) p) ≡ total → (total ≡ None → whole old ≡ None) → Reads whole old new (Err fault)
+items_fail faults.Memory read whole prefix count i p new old total lt h so_far is = tt
+items_fail faults.Malformed read whole prefix count i p new old total lt h so_far is = is (items_end read prefix count i p total lt h so_far)
 
-pub items_all : {A : Type 0} (read : Reader A) (front : List A) (count i : ℕ) (p : Place) (total : Option (List A × Place)) → count ≤ i → after_items front (times_at read (count - i) p) ≡ total → total ≡ Some (front, p)
+pub items_all : {A : Type 0} (read : Reader A) (prefix : List A) (count i : ℕ) (p : Place) (total : Option (List A × Place)) → count ≤ i → after_items prefix (times_at read (count - i) p) ≡ total → total ≡ Some (prefix, p)
 unfolding times_at
-items_all {A} read front count i p total le so_far =
+items_all {A} read prefix count i p total le so_far =
     let k : count - i ≡ 0 = omega arith in
-    let one : after_items front (times_at read (count - i) p) ≡ Some (front, p) = rw k (ap (λ (vs : List A). Some (vs, p)) (append-nil front)) in
+    let one : after_items prefix (times_at read (count - i) p) ≡ Some (prefix, p) = rw k (ap (λ (vs : List A). Some (vs, p)) (append-nil prefix)) in
     sym so_far ∙ one
 
-after_no_items : {A : Type 0} (read : Option (List A × Place)) → after_items [] read ≡ read
+pub after_no_items : {A : Type 0} (read : Option (List A × Place)) → after_items [] read ≡ read
 after_no_items (Some x) = refl
 after_no_items None = refl
 
 -- the count was read, and these items after it; what is read in all is the list
-pub record Passed {V : Type 0} (F : Format V) (old here : Place) (count i : ℕ) (vs : List V) : Type 0 where
+pub record Passed {V : Type 0} (number : Reader ℕ) (F : Format V) (old here : Place) (count i : ℕ) (vs : List V) : Type 0 where
   pub begun : Place
-  pub counted : u32_at old ≡ Some (count, begun)
-  pub so_far : after_items vs (times_at F.at (count - i) here) ≡ (items F).at old
+  pub counted : number old ≡ Some (count, begun)
+  pub so_far : after_items vs (times_at F.at (count - i) here) ≡ counted_at number F.at old
 
-pub passed_none : {V : Type 0} (F : Format V) (old here : Place) (count : ℕ) → u32_at old ≡ Some (count, here) → Passed F old here count 0 []
-passed_none F old here count e =
+pub passed_none : {V : Type 0} (number : Reader ℕ) (F : Format V) (old here : Place) (count : ℕ) → number old ≡ Some (count, here) → Passed number F old here count 0 []
+passed_none number F old here count e =
     let k : count - 0 ≡ count = omega arith in
     record { begun = here; counted = e; so_far = rw (e, k) (after_no_items (times_at F.at count here)) }
 
-pub passed_more : {V : Type 0} (F : Format V) (old here next : Place) (count i : ℕ) (vs : List V) (v : V) → Passed F old here count i vs → i < count → F.at here ≡ Some (v, next) → Passed F old next count (i + 1) (vs ++ v ∷ [])
-passed_more F old here next count i vs v w lt e = record { begun = w.begun; counted = w.counted; so_far = items_go_on F.at vs count i here v next ((items F).at old) lt e w.so_far }
+pub passed_more : {V : Type 0} (number : Reader ℕ) (F : Format V) (old here next : Place) (count i : ℕ) (vs : List V) (v : V) → Passed number F old here count i vs → i < count → F.at here ≡ Some (v, next) → Passed number F old next count (i + 1) (vs ++ v ∷ [])
+passed_more number F old here next count i vs v w lt e = record { begun = w.begun; counted = w.counted; so_far = items_go_on F.at vs count i here v next (counted_at number F.at old) lt e w.so_far }
 
-pub passed_fault : {V : Type 0} (F : Format V) (old here new : Place) (count i : ℕ) (vs : List V) (fault : Fault) → Passed F old here count i vs → i < count → Reads F.at here new (Err fault) → Reads (items F).at old new (Err fault)
-passed_fault F old here new count i vs fault w lt none = items_fail fault F.at (items F).at vs count i here new old ((items F).at old) lt none w.so_far (λ e. e)
+pub passed_fault : {V : Type 0} (number : Reader ℕ) (F : Format V) (old here new : Place) (count i : ℕ) (vs : List V) (fault : Fault) → Passed number F old here count i vs → i < count → Reads F.at here new (Err fault) → Reads (counted_at number F.at) old new (Err fault)
+passed_fault number F old here new count i vs fault w lt none = items_fail fault F.at (counted_at number F.at) vs count i here new old (counted_at number F.at old) lt none w.so_far (λ e. e)
 
-pub passed_all : {V : Type 0} (F : Format V) (old here : Place) (count i : ℕ) (vs : List V) → Passed F old here count i vs → count ≤ i → (items F).at old ≡ Some (vs, here)
-passed_all F old here count i vs w le = items_all F.at vs count i here ((items F).at old) le w.so_far
+pub passed_all : {V : Type 0} (number : Reader ℕ) (F : Format V) (old here : Place) (count i : ℕ) (vs : List V) → Passed number F old here count i vs → count ≤ i → counted_at number F.at old ≡ Some (vs, here)
+passed_all number F old here count i vs w le = items_all F.at vs count i here (counted_at number F.at old) le w.so_far
 
-pub no_count : {V : Type 0} (F : Format V) (old new : Place) (fault : Fault) → Reads u32_at old new (Err fault) → Reads (items F).at old new (Err fault)
-no_count F old new faults.Memory none = tt
-no_count F old new faults.Malformed none = rw none refl
+pub no_count : {V : Type 0} (number : Reader ℕ) (F : Format V) (old new : Place) (fault : Fault) → Reads number old new (Err fault) → Reads (counted_at number F.at) old new (Err fault)
+no_count number F old new faults.Memory none = tt
+no_count number F old new faults.Malformed none = rw none refl
 
 -- ---- items to the end
 
@@ -95,8 +95,8 @@ pub plain_reads : {V : Type 0} {G : Grammar V} {bytes : V → List ℕ} {read : 
 plain_reads {V} {G} {bytes} {read} r = record {
   sound = λ l v rest fits e.
       let p = bind_some (read (place true l)) (λ x. Some (x.0, x.1.left)) (v, rest) e in
-      Fronts-is G l p.0.0 v p.0.1.left rest p.2 (r.sound (place true l) p.0.0 p.0.1 fits p.1);
-  complete = λ front v rest g. rw (r.complete front v rest true g) refl;
+      BeginsWith-is G l p.0.0 v p.0.1.left rest p.2 (r.sound (place true l) p.0.0 p.0.1 fits p.1);
+  complete = λ prefix v rest g. rw (r.complete prefix v rest true g) refl;
 }
 
 pub prefix_free : {V : Type 0} {F : Format V} → IsLawful F → IsPrefixFree F.Encodes
@@ -104,22 +104,22 @@ prefix_free {V} {F} r a b rest v w g h e = sym (one_reading (plain_reads r.reads
 
 -- one item was read, and the place tells whether it was the shortest encoding
 pub record Step {V : Type 0} (F : Format V) (p : Place) (v : V) (q : Place) : Type 0 where
-  pub front : List ℕ
-  pub spells : F.Encodes front v
-  pub parts : p.left ≡ front ++ q.left
-  pub tells : q.shortest ≡ keeps p.shortest front (F.bytes v)
+  pub prefix : List ℕ
+  pub encodes : F.Encodes prefix v
+  pub parts : p.left ≡ prefix ++ q.left
+  pub tells : q.shortest ≡ keeps p.shortest prefix (F.bytes v)
 
 pub step : {V : Type 0} {F : Format V} → IsLawful F → (p : Place) (v : V) (q : Place) → IsBytes p.left → F.at p ≡ Some (v, q) → Step F p v q
 step {V} {F} r p v q fits e =
     let one = r.reads.sound p v q fits e in
-    let again : F.at p ≡ Some (v, place (keeps p.shortest one.front (F.bytes v)) q.left) = ap (λ (l : List ℕ). F.at (place p.shortest l)) one.parts ∙ r.reads.complete one.front v q.left p.shortest one.spells in
-    let same = some_is (v, q) (v, place (keeps p.shortest one.front (F.bytes v)) q.left) (sym e ∙ again) in
-    record { front = one.front; spells = one.spells; parts = one.parts; tells = ap (λ (x : V × Place). x.1.shortest) same }
+    let again : F.at p ≡ Some (v, place (keeps p.shortest one.prefix (F.bytes v)) q.left) = ap (λ (l : List ℕ). F.at (place p.shortest l)) one.parts ∙ r.reads.complete one.prefix v q.left p.shortest one.encodes in
+    let same = some_is (v, q) (v, place (keeps p.shortest one.prefix (F.bytes v)) q.left) (sym e ∙ again) in
+    record { prefix = one.prefix; encodes = one.encodes; parts = one.parts; tells = ap (λ (x : V × Place). x.1.shortest) same }
 
 pub plain_some : {V : Type 0} {F : Format V} → IsLawful F → (p : Place) (v : V) (q : Place) → IsBytes p.left → F.at p ≡ Some (v, q) → plain F.at p.left ≡ Some (v, q.left)
 plain_some {V} {F} r p v q fits e =
     let one = r.reads.sound p v q fits e in
-    ap (plain F.at) one.parts ∙ (plain_reads r.reads).complete one.front v q.left one.spells
+    ap (plain F.at) one.parts ∙ (plain_reads r.reads).complete one.prefix v q.left one.encodes
 
 pub plain_none : {V : Type 0} {F : Format V} → IsLawful F → (p : Place) → IsBytes p.left → F.at p ≡ None → plain F.at p.left ≡ None
 plain_none {V} {F} r p fits none = by (plain F.at p.left) refl where
@@ -130,7 +130,7 @@ plain_none {V} {F} r p fits none = by (plain F.at p.left) refl where
   by None e = refl
   by (Some x) e =
       let one = (plain_reads r.reads).sound p.left x.0 x.1 fits e in
-      absurd (clash (F.at p) (x.0, place (keeps p.shortest one.front (F.bytes x.0)) x.1) none (ap (λ (l : List ℕ). F.at (place p.shortest l)) one.parts ∙ r.reads.complete one.front x.0 x.1 p.shortest one.spells))
+      absurd (clash (F.at p) (x.0, place (keeps p.shortest one.prefix (F.bytes x.0)) x.1) none (ap (λ (l : List ℕ). F.at (place p.shortest l)) one.parts ∙ r.reads.complete one.prefix x.0 x.1 p.shortest one.encodes))
 
 -- and what wasn't read: so the laws of loops over bytes serve loops over places
 pub plain_fault : {V : Type 0} {F : Format V} → IsLawful F → (p q : Place) → IsBytes p.left → (fault : Fault) → Reads F.at p q (Err fault) → ListReadsCode (plain F.at) p.left q.left (Err fault)
@@ -145,7 +145,7 @@ pub place_next : {V : Type 0} {F : Format V} → IsLawful F → TakesBytes F.Enc
 place_next r some bytes p q vs v fits left g e = next (plain_reads r.reads) some bytes p.left q.left vs v fits g (plain_some r p v q left e)
 
 pub place_stopped : {V : Type 0} {F : Format V} → IsLawful F → TakesBytes F.Encodes → (bytes : List ℕ) (p q : Place) (vs : List V) → IsBytes p.left → Progress F.Encodes bytes p.left vs → (fault : Fault) → Reads F.at p q (Err fault)
-    → (e : ReadError) → e ≡ answer_to fault (length bytes - length p.left) → HoldsAtRefusal e (IsLongestFront (SpellsSome (Joined F.Encodes)) bytes)
+    → (e : ReadError) → e ≡ answer_to fault (length bytes - length p.left) → HoldsAtRefusal e (IsLongestPrefix (EncodesSome (Joined F.Encodes)) bytes)
 place_stopped r some bytes p q vs left g faults.Memory none e is = rw is tt
 place_stopped r some bytes p q vs left g faults.Malformed none e is = stopped_by (plain_reads r.reads) some bytes p.left q.left vs g faults.Malformed (plain_none r p left none) e is
 
@@ -154,20 +154,21 @@ place_stopped r some bytes p q vs left g faults.Malformed none e is = stopped_by
 both_true : (a b : Bool) → a ≡ true → a ≡ b → b ≡ true
 both_true a b e f = sym f ∙ e
 
-is_shortest : (front text : List ℕ) → IsTextOrLonger front text → keeps true front text ≡ true → front ≡ text
-is_shortest front text (inl e) test = e
-is_shortest front text (inr lt) test = let e = eqb-true (length front) (length text) test in absurd (omega (arith, e))
+is_shortest : (prefix encoding : List ℕ) → IsShortestOrLonger prefix encoding → keeps true prefix encoding ≡ true → prefix ≡ encoding
+is_shortest prefix encoding (inl e) test = e
+is_shortest prefix encoding (inr lt) test = let e = eqb-true (length prefix) (length encoding) test in absurd (omega (arith, e))
 
--- what was passed so far: its values were written, up to the run that begins at from, which is in its shortest encoding
-pub record Normalised {V : Type 0} (F : Format V) (bytes : List ℕ) (from : ℕ) (out : List ℕ) (p : Place) : Type 0 where
+-- what was passed so far: its values were written after what was there before, up to the run that begins at from, which
+-- is in its shortest encoding
+pub record Normalised {V : Type 0} (F : Format V) (bytes : List ℕ) (from : ℕ) (before out : List ℕ) (p : Place) : Type 0 where
   pub values : List V
   pub progress : Progress F.Encodes bytes p.left values
-  pub within : from ≤ length progress.front
-  pub is_text : out ++ drop from progress.front ≡ flat_map F.bytes values
+  pub within : from ≤ length progress.prefix
+  pub is_shortest : out ++ drop from progress.prefix ≡ before ++ flat_map F.bytes values
   pub shortest : p.shortest ≡ true
 
-pub none_yet : {V : Type 0} (F : Format V) (bytes : List ℕ) → Normalised F bytes 0 [] (place true bytes)
-none_yet F bytes = record { values = []; progress = record { front = []; parts = refl; spells = refl }; within = omega arith; is_text = refl; shortest = refl }
+pub none_yet : {V : Type 0} (F : Format V) (bytes before : List ℕ) → Normalised F bytes 0 before before (place true bytes)
+none_yet F bytes before = record { values = []; progress = record { prefix = []; parts = refl; encodes = refl }; within = omega arith; is_shortest = refl; shortest = refl }
 
 drop_append : (n : ℕ) (a b : List ℕ) → n ≤ length a → drop n (a ++ b) ≡ drop n a ++ b
 drop_append zero a b le = refl
@@ -178,8 +179,8 @@ drop_whole : (a : List ℕ) → drop (length a) a ≡ []
 drop_whole [] = refl
 drop_whole (x ∷ a) = drop_whole a
 
-pub run_fits : {V : Type 0} {F : Format V} (bytes : List ℕ) (from : ℕ) (out : List ℕ) (p : Place) → Normalised F bytes from out p → from + length p.left ≤ length bytes
-run_fits bytes from out p n = omega (arith, n.within, ap (length {A = ℕ}) n.progress.parts, length-append n.progress.front p.left)
+pub run_fits : {V : Type 0} {F : Format V} (bytes : List ℕ) (from : ℕ) (before out : List ℕ) (p : Place) → Normalised F bytes from before out p → from + length p.left ≤ length bytes
+run_fits bytes from before out p n = omega (arith, n.within, ap (length {A = ℕ}) n.progress.parts, length-append n.progress.prefix p.left)
 
 -- what wasn't passed isn't read
 pub not_passed : {V : Type 0} (F : Format V) (old new : Place) (run before after : List ℕ) (fault : Fault) → PassesOrWrites F old new run before after (Err fault) → Reads F.at old new (Err fault)
@@ -187,50 +188,50 @@ not_passed F old new run before after faults.Memory h = tt
 not_passed F old new run before after faults.Malformed h = h
 
 -- where the flag stands, the run grows
-pub passed : {V : Type 0} {F : Format V} → IsLawful F → (bytes : List ℕ) (from : ℕ) (out : List ℕ) (p q : Place) (v : V) → IsBytes p.left → Normalised F bytes from out p → F.at p ≡ Some (v, q) → q.shortest ≡ true → Normalised F bytes from out q
-passed {V} {F} r bytes from out p q v fits n e stands =
+pub passed : {V : Type 0} {F : Format V} → IsLawful F → (bytes : List ℕ) (from : ℕ) (before out : List ℕ) (p q : Place) (v : V) → IsBytes p.left → Normalised F bytes from before out p → F.at p ≡ Some (v, q) → q.shortest ≡ true → Normalised F bytes from before out q
+passed {V} {F} r bytes from before out p q v fits n e stands =
     let one = step r p v q fits e in
-    let same : one.front ≡ F.bytes v = is_shortest one.front (F.bytes v) (r.shortest.least one.front v one.spells) (sym (ap (λ (s : Bool). keeps s one.front (F.bytes v)) n.shortest) ∙ sym one.tells ∙ stands) in
+    let same : one.prefix ≡ F.bytes v = is_shortest one.prefix (F.bytes v) (r.shortest.least one.prefix v one.encodes) (sym (ap (λ (s : Bool). keeps s one.prefix (F.bytes v)) n.shortest) ∙ sym one.tells ∙ stands) in
     record {
       values = n.values ++ v ∷ [];
       progress = record {
-        front = n.progress.front ++ one.front;
-        parts = n.progress.parts ∙ ap (λ (t : List ℕ). n.progress.front ++ t) one.parts ∙ sym (append_assoc n.progress.front one.front q.left);
-        spells = Joined-more F.Encodes n.progress.front n.values one.front v n.progress.spells one.spells;
+        prefix = n.progress.prefix ++ one.prefix;
+        parts = n.progress.parts ∙ ap (λ (t : List ℕ). n.progress.prefix ++ t) one.parts ∙ sym (append_assoc n.progress.prefix one.prefix q.left);
+        encodes = Joined-more F.Encodes n.progress.prefix n.values one.prefix v n.progress.encodes one.encodes;
       };
-      within = omega (arith, n.within, length-append n.progress.front one.front);
-      is_text =
-          ap (λ (t : List ℕ). out ++ t) (drop_append from n.progress.front one.front n.within) ∙ sym (append_assoc out (drop from n.progress.front) one.front)
-          ∙ ap (λ (t : List ℕ). t ++ one.front) n.is_text ∙ ap (λ (t : List ℕ). flat_map F.bytes n.values ++ t) same ∙ flat_map_more F.bytes [] n.values v;
+      within = omega (arith, n.within, length-append n.progress.prefix one.prefix);
+      is_shortest =
+          ap (λ (t : List ℕ). out ++ t) (drop_append from n.progress.prefix one.prefix n.within) ∙ sym (append_assoc out (drop from n.progress.prefix) one.prefix)
+          ∙ ap (λ (t : List ℕ). t ++ one.prefix) n.is_shortest ∙ ap (λ (t : List ℕ). (before ++ flat_map F.bytes n.values) ++ t) same ∙ flat_map_more F.bytes before n.values v;
       shortest = stands;
     }
 
-take_front : (a b : List ℕ) → take (length a) (a ++ b) ≡ a
-take_front [] b = refl
-take_front (x ∷ a) b = ap (λ (t : List ℕ). x ∷ t) (take_front a b)
+take_prefix : (a b : List ℕ) → take (length a) (a ++ b) ≡ a
+take_prefix [] b = refl
+take_prefix (x ∷ a) b = ap (λ (t : List ℕ). x ∷ t) (take_prefix a b)
 
 -- the slice that is copied
-run_is : (bytes front left : List ℕ) (from : ℕ) → bytes ≡ front ++ left → from ≤ length front → take (length bytes - length left - from) (drop from bytes) ≡ drop from front
-run_is bytes front left from e le =
-    let len : length bytes - length left - from ≡ length (drop from front) = omega (arith, ap (length {A = ℕ}) e, length-append front left, length-drop from front) in
-    rw len (rw e (rw (drop_append from front left le) (take_front (drop from front) left)))
+run_is : (bytes prefix left : List ℕ) (from : ℕ) → bytes ≡ prefix ++ left → from ≤ length prefix → take (length bytes - length left - from) (drop from bytes) ≡ drop from prefix
+run_is bytes prefix left from e le =
+    let len : length bytes - length left - from ≡ length (drop from prefix) = omega (arith, ap (length {A = ℕ}) e, length-append prefix left, length-drop from prefix) in
+    rw len (rw e (rw (drop_append from prefix left le) (take_prefix (drop from prefix) left)))
 
 -- where it fell, the run and the item were written
-pub written : {V : Type 0} {F : Format V} → IsLawful F → (bytes : List ℕ) (from : ℕ) (out : List ℕ) (p q : Place) (v : V) (run whole : List ℕ) → IsBytes p.left → Normalised F bytes from out p → F.at p ≡ Some (v, q)
-    → run ≡ take (length bytes - length p.left - from) (drop from bytes) → whole ≡ (out ++ run) ++ F.bytes v → Normalised F bytes (length bytes - length q.left) whole (place true q.left)
-written {V} {F} r bytes from out p q v run whole fits n e run-is whole-is =
+pub written : {V : Type 0} {F : Format V} → IsLawful F → (bytes : List ℕ) (from : ℕ) (before out : List ℕ) (p q : Place) (v : V) (run whole : List ℕ) → IsBytes p.left → Normalised F bytes from before out p → F.at p ≡ Some (v, q)
+    → run ≡ take (length bytes - length p.left - from) (drop from bytes) → whole ≡ (out ++ run) ++ F.bytes v → Normalised F bytes (length bytes - length q.left) before whole (place true q.left)
+written {V} {F} r bytes from before out p q v run whole fits n e run-is whole-is =
     let one = step r p v q fits e in
-    let front = n.progress.front ++ one.front in
-    let parts : bytes ≡ front ++ q.left = n.progress.parts ∙ ap (λ (t : List ℕ). n.progress.front ++ t) one.parts ∙ sym (append_assoc n.progress.front one.front q.left) in
-    let len : length bytes - length q.left ≡ length front = omega (arith, ap (length {A = ℕ}) parts, length-append front q.left) in
-    let old : run ≡ drop from n.progress.front = run-is ∙ run_is bytes n.progress.front p.left from n.progress.parts n.within in
+    let prefix = n.progress.prefix ++ one.prefix in
+    let parts : bytes ≡ prefix ++ q.left = n.progress.parts ∙ ap (λ (t : List ℕ). n.progress.prefix ++ t) one.parts ∙ sym (append_assoc n.progress.prefix one.prefix q.left) in
+    let len : length bytes - length q.left ≡ length prefix = omega (arith, ap (length {A = ℕ}) parts, length-append prefix q.left) in
+    let old : run ≡ drop from n.progress.prefix = run-is ∙ run_is bytes n.progress.prefix p.left from n.progress.parts n.within in
     record {
       values = n.values ++ v ∷ [];
-      progress = record { front = front; parts = parts; spells = Joined-more F.Encodes n.progress.front n.values one.front v n.progress.spells one.spells };
+      progress = record { prefix = prefix; parts = parts; encodes = Joined-more F.Encodes n.progress.prefix n.values one.prefix v n.progress.encodes one.encodes };
       within = omega (arith, len);
-      is_text =
-          ap (λ (t : List ℕ). whole ++ t) (ap (λ (k : ℕ). drop k front) len ∙ drop_whole front) ∙ append-nil whole ∙ whole-is
-          ∙ ap (λ (t : List ℕ). (out ++ t) ++ F.bytes v) old ∙ ap (λ (t : List ℕ). t ++ F.bytes v) n.is_text ∙ flat_map_more F.bytes [] n.values v;
+      is_shortest =
+          ap (λ (t : List ℕ). whole ++ t) (ap (λ (k : ℕ). drop k prefix) len ∙ drop_whole prefix) ∙ append-nil whole ∙ whole-is
+          ∙ ap (λ (t : List ℕ). (out ++ t) ++ F.bytes v) old ∙ ap (λ (t : List ℕ). t ++ F.bytes v) n.is_shortest ∙ flat_map_more F.bytes before n.values v;
       shortest = refl;
     }
 
@@ -244,17 +245,17 @@ rest_is bytes from =
     rw len (take_whole (drop from bytes))
 
 -- at the end the last run was written
-pub all_written : {V : Type 0} {F : Format V} (bytes : List ℕ) (from : ℕ) (out : List ℕ) (p : Place) (whole : List ℕ) → Normalised F bytes from out p → length p.left ≤ 0 → whole ≡ out ++ take (length bytes - from) (drop from bytes) → IsNormalForm (Joined F.Encodes) (flat_map F.bytes) bytes whole
-all_written {V} {F} bytes from out p whole n none e =
-    let same : bytes ≡ n.progress.front = n.progress.parts ∙ nothing p.left none in
+pub all_written : {V : Type 0} {F : Format V} (bytes : List ℕ) (from : ℕ) (before out : List ℕ) (p : Place) (whole : List ℕ) → Normalised F bytes from before out p → length p.left ≤ 0 → whole ≡ out ++ take (length bytes - from) (drop from bytes) → AppendsNormalForm (Joined F.Encodes) (flat_map F.bytes) bytes before whole
+all_written {V} {F} bytes from before out p whole n none e =
+    let same : bytes ≡ n.progress.prefix = n.progress.parts ∙ nothing p.left none in
     record {
-      value = n.values;
-      spelled = subst (λ (t : List ℕ). Joined F.Encodes t n.values) (sym same) n.progress.spells;
-      is_text = e ∙ ap (λ (t : List ℕ). out ++ t) (rest_is bytes from) ∙ ap (λ (t : List ℕ). out ++ drop from t) same ∙ n.is_text;
+      encoding = flat_map F.bytes n.values;
+      appended = e ∙ ap (λ (t : List ℕ). out ++ t) (rest_is bytes from) ∙ ap (λ (t : List ℕ). out ++ drop from t) same ∙ n.is_shortest;
+      normal = record { value = n.values; encoded = subst (λ (t : List ℕ). Joined F.Encodes t n.values) (sym same) n.progress.encodes; is_shortest = refl };
     }
   where
-    nothing : (l : List ℕ) → length l ≤ 0 → n.progress.front ++ l ≡ n.progress.front
-    nothing [] le = append-nil n.progress.front
+    nothing : (l : List ℕ) → length l ≤ 0 → n.progress.prefix ++ l ≡ n.progress.prefix
+    nothing [] le = append-nil n.progress.prefix
     nothing (x ∷ l) le = absurd (omega arith)
 
 -- ---- shortest encodings alone
@@ -263,7 +264,7 @@ pub Lawful-narrow : {A : Type 0} {F : Format A} → IsLawful F → IsLawful (nar
 Lawful-narrow {A} {F} r = record {
   reads = record { sound = sound; complete = complete };
   shortest = record {
-    spells = λ v fits. (r.shortest.spells v fits, refl);
+    encodes = λ v fits. (r.shortest.encodes v fits, refl);
     again = λ bytes v g. (r.shortest.again bytes v g.0, refl);
     least = λ bytes v g. inl g.1;
   };
@@ -271,18 +272,18 @@ Lawful-narrow {A} {F} r = record {
   are_bytes = λ bytes v g. r.are_bytes bytes v g.0;
   begins = λ bytes v g. r.begins bytes v g.0;
 } where
-  sound : (p : Place) (v : A) (q : Place) → IsBytes p.left → (narrow F).at p ≡ Some (v, q) → Fronts (narrow F).Encodes p.left v q.left
+  sound : (p : Place) (v : A) (q : Place) → IsBytes p.left → (narrow F).at p ≡ Some (v, q) → BeginsWith (narrow F).Encodes p.left v q.left
   sound p v q fits e =
       let f = bind_some (F.at (place true p.left)) (λ x. only_shortest p.shortest x) (v, q) e in
       by f.0.0 f.0.1 (step r (place true p.left) f.0.0 f.0.1 fits f.1) f.0.1.shortest refl f.2
     where
-      by : (w : A) (after : Place) → Step F (place true p.left) w after → (t : Bool) → after.shortest ≡ t → cond t (some {A = A × Place} (w, place p.shortest after.left)) None ≡ Some (v, q) → Fronts (narrow F).Encodes p.left v q.left
+      by : (w : A) (after : Place) → Step F (place true p.left) w after → (t : Bool) → after.shortest ≡ t → cond t (some {A = A × Place} (w, place p.shortest after.left)) None ≡ Some (v, q) → BeginsWith (narrow F).Encodes p.left v q.left
       by w after one true is e =
-          let same : one.front ≡ F.bytes w = is_shortest one.front (F.bytes w) (r.shortest.least one.front w one.spells) (sym one.tells ∙ is) in
-          Fronts-at (narrow F).Encodes p.left w v (place p.shortest after.left) q e (record { front = one.front; spells = (one.spells, same); parts = one.parts })
+          let same : one.prefix ≡ F.bytes w = is_shortest one.prefix (F.bytes w) (r.shortest.least one.prefix w one.encodes) (sym one.tells ∙ is) in
+          BeginsWith-at (narrow F).Encodes p.left w v (place p.shortest after.left) q e (record { prefix = one.prefix; encodes = (one.encodes, same); parts = one.parts })
       by w after one false is e = absurd cc
 
-  complete : (front : List ℕ) (v : A) (rest : List ℕ) (s : Bool) → (narrow F).Encodes front v → (narrow F).at (place s (front ++ rest)) ≡ Some (v, place (keeps s front (F.bytes v)) rest)
-  complete front v rest s g =
-      let whole : keeps true front (F.bytes v) ≡ true = ap (λ (f : List ℕ). keeps true f (F.bytes v)) g.1 ∙ keeps_same true (F.bytes v) in
-      rw (r.reads.complete front v rest true g.0, whole, and-true s) refl
+  complete : (prefix : List ℕ) (v : A) (rest : List ℕ) (s : Bool) → (narrow F).Encodes prefix v → (narrow F).at (place s (prefix ++ rest)) ≡ Some (v, place (keeps s prefix (F.bytes v)) rest)
+  complete prefix v rest s g =
+      let whole : keeps true prefix (F.bytes v) ≡ true = ap (λ (f : List ℕ). keeps true f (F.bytes v)) g.1 ∙ keeps_same true (F.bytes v) in
+      rw (r.reads.complete prefix v rest true g.0, whole, and-true s) refl

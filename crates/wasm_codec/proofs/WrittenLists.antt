@@ -1,7 +1,9 @@
 -- Lists that are written item by item.
-use Rattle.std.proofs.Common.{◌^◌, ◌<◌, List, [], ◌∷◌, ◌++◌, length, Option, subst, inl, inr, arith}
+use Rattle.std.proofs.Common.{◌≡◌, ℕ, ◌^◌, ◌<◌, List, [], ◌∷◌, ◌++◌, length, Option, ap, ◌∙◌, append_assoc, subst, inl, inr, arith}
 use Rattle.std.specs.Iterator.{Count, Yields}
+use Rattle.std.proofs.lemmas.List.{flat_map_more}
 use Rattle.std.proofs.lemmas.List.Quantifiers.{Any-push}
+use Rattle.std.specs.List.{flat_map}
 use Rattle.wasm_codec.specs.declared.encode.EncodeError.{EncodeError}
 use Rattle.wasm_codec.specs.Encoding.{Refuses, OnlyTooLong, IsRefusal, IsListRefusal, CanEncodeList}
 use Rattle.wasm_codec.specs.Iterators.{IsItemsRefusal}
@@ -16,3 +18,8 @@ pub list_refused : {T : Type 0} (Can : T → Type 0) (xs : List T) (e : EncodeEr
 list_refused Can xs e (inl memory) = inl memory
 list_refused Can xs e (inr (inl (is, long))) = inr (λ can. let few : length xs < 2 ^ 32 = can.0 in omega (arith, few, long), is)
 list_refused Can xs e (inr (inr (k, x, lt, at, (cannot, is)))) = inr (λ can. cannot (subst Can at (can.1 k x lt)), is)
+
+-- one item more was written
+pub one_more : {T : Type 0} (encoding : T → List ℕ) (old count : List ℕ) (before : List T) (item : T) (mid new : List ℕ) → mid ≡ old ++ (count ++ flat_map encoding before) → new ≡ mid ++ encoding item → new ≡ old ++ (count ++ flat_map encoding (before ++ item ∷ []))
+one_more encoding old count before item mid new m n =
+    n ∙ ap (λ (t : List ℕ). t ++ encoding item) m ∙ append_assoc old (count ++ flat_map encoding before) (encoding item) ∙ ap (λ (t : List ℕ). old ++ t) (flat_map_more encoding count before item)

@@ -27,23 +27,23 @@ abbrev pub IfRefused : {X : Type 0} → Result X ReadError → (ℕ → Type 0) 
 IfRefused r P = IfErr r (λ e. HoldsAtRefusal e P)
 
 -- The bytes have a prefix of this length that is whole, and no longer prefix is.
-pub record IsLongestFront (Whole : List ℕ → Type 0) (bytes : List ℕ) (len : ℕ) : Type 0 where
-  pub front : List ℕ
+pub record IsLongestPrefix (Whole : List ℕ → Type 0) (bytes : List ℕ) (len : ℕ) : Type 0 where
+  pub prefix : List ℕ
   pub rest : List ℕ
-  pub parts : bytes ≡ front ++ rest
-  pub len_is : length front ≡ len
-  pub whole : Whole front
+  pub parts : bytes ≡ prefix ++ rest
+  pub len_is : length prefix ≡ len
+  pub whole : Whole prefix
   pub longest : (other after : List ℕ) → bytes ≡ other ++ after → Whole other → length other ≤ len
 
 -- the bytes encode some value
-abbrev pub SpellsSome : {V : Type 0} → Grammar V → List ℕ → Type 0
-SpellsSome {V} G bytes = (v : V) × G bytes v
+abbrev pub EncodesSome : {V : Type 0} → Grammar V → List ℕ → Type 0
+EncodesSome {V} G bytes = (v : V) × G bytes v
 
 -- This is the shortest encoding of a value that the bytes encode.
-pub record IsNormalForm {V : Type 0} (G : Grammar V) (text_of : V → List ℕ) (bytes text : List ℕ) : Type 0 where
+pub record IsNormalForm {V : Type 0} (G : Grammar V) (encoding_of : V → List ℕ) (bytes encoding : List ℕ) : Type 0 where
   pub value : V
-  pub spelled : G bytes value
-  pub is_text : text ≡ text_of value
+  pub encoded : G bytes value
+  pub is_shortest : encoding ≡ encoding_of value
 
 -- ---- within bytes
 
@@ -55,7 +55,7 @@ UnlessMemory (Err faults.Memory) P = Unit {0}
 
 -- These bytes come after a prefix that is whole, and no longer prefix is.
 pub record IsAfterLongest (Whole : List ℕ → Type 0) (bytes rest : List ℕ) : Type 0 where
-  pub front : List ℕ
-  pub parts : bytes ≡ front ++ rest
-  pub whole : Whole front
-  pub longest : (other after : List ℕ) → bytes ≡ other ++ after → Whole other → length other ≤ length front
+  pub prefix : List ℕ
+  pub parts : bytes ≡ prefix ++ rest
+  pub whole : Whole prefix
+  pub longest : (other after : List ℕ) → bytes ≡ other ++ after → Whole other → length other ≤ length prefix

@@ -3,16 +3,17 @@ use Rattle.std.specs.Prelude.{◌≡◌, ℕ, ◌^◌, ◌≤◌, ◌<◌, ◌�
 use Rattle.std.specs.List.{All, Any}
 use Rattle.wasm_codec.specs.declared.encode.EncodeError.{EncodeError}
 use Rattle.wasm_codec.specs.declared.encode.EncodeError.TheVariants.{Memory, TooLong}
-use Rattle.wasm_codec.specs.Numbers.{unsigned_text}
+use Rattle.wasm_codec.specs.Numbers.{unsigned_leb128}
+use Rattle.wasm_codec.specs.Grammar.{Grammar}
 
--- bytes, after their number (5.1.3 Vectors)
-abbrev pub byte_list_text : List ℕ → List ℕ
-byte_list_text bytes = unsigned_text (length bytes) ++ bytes
+-- bytes, after their number (Vectors)
+abbrev pub byte_list_bytes : List ℕ → List ℕ
+byte_list_bytes bytes = unsigned_leb128 (length bytes) ++ bytes
 
 -- 0 for nothing, or 1 and the value
-abbrev pub option_text : {T : Type 0} → (T → List ℕ) → Option T → List ℕ
-option_text text None = 0 ∷ []
-option_text text (Some x) = 1 ∷ text x
+abbrev pub option_bytes : {T : Type 0} → (T → List ℕ) → Option T → List ℕ
+option_bytes encoding None = 0 ∷ []
+option_bytes encoding (Some x) = 1 ∷ encoding x
 
 -- a u32 counts as many
 abbrev pub IsCount : ℕ → Type 0
@@ -52,5 +53,16 @@ abbrev pub CanEncodeList : {T : Type 0} → (T → Type 0) → List T → Type 0
 CanEncodeList Can xs = IsCount (length xs) × All Can xs
 
 -- the bytes are the shortest encoding, or there are more of them
-abbrev pub IsTextOrLonger : List ℕ → List ℕ → Type 0
-IsTextOrLonger bytes text = (bytes ≡ text) ⊎ (length text < length bytes)
+abbrev pub IsShortestOrLonger : List ℕ → List ℕ → Type 0
+IsShortestOrLonger bytes encoding = (bytes ≡ encoding) ⊎ (length encoding < length bytes)
+
+-- What is written encodes the value, and every other encoding of it is longer.
+pub record IsShortest {V : Type 0} (G : Grammar V) (encoding : V → List ℕ) (v : V) : Type 0 where
+  pub encodes : G (encoding v) v
+  pub least : (bytes : List ℕ) → G bytes v → IsShortestOrLonger bytes (encoding v)
+
+-- A gap of so many bytes was appended.
+pub record OpensGap (gap : ℕ) (old new : List ℕ) : Type 0 where
+  pub filler : List ℕ
+  pub appended : new ≡ old ++ filler
+  pub len : length filler ≡ gap

@@ -12,7 +12,7 @@ IsBytes (b ∷ bytes) = (b < 256) × IsBytes bytes
 
 -- one after the other; what comes second may depend on what the first encodes
 abbrev pub Then : {A B : Type 0} → Grammar A → (A → Grammar B) → Grammar (A × B)
-Then G H bytes v = (front : List ℕ) × (back : List ℕ) × (bytes ≡ front ++ back) × G front v.0 × H v.0 back v.1
+Then G H bytes v = (prefix : List ℕ) × (back : List ℕ) × (bytes ≡ prefix ++ back) × G prefix v.0 × H v.0 back v.1
 
 -- the encodings of a value, for what is made of it
 abbrev pub Mapped : {A B : Type 0} → (A → B) → Grammar A → Grammar B
@@ -42,16 +42,16 @@ AByte bytes b = (bytes ≡ b ∷ []) × (b < 256)
 
 -- these bytes, and then an encoding
 abbrev pub After : {A : Type 0} → List ℕ → Grammar A → Grammar A
-After front G bytes v = (back : List ℕ) × (bytes ≡ front ++ back) × G back v
+After prefix G bytes v = (back : List ℕ) × (bytes ≡ prefix ++ back) × G back v
 
 -- encodings of the values of a list, with nothing between and nothing left over
 abbrev pub Joined : {A : Type 0} → Grammar A → Grammar (List A)
 Joined G bytes [] = bytes ≡ []
-Joined G bytes (v ∷ vs) = (front : List ℕ) × (back : List ℕ) × (bytes ≡ front ++ back) × G front v × Joined G back vs
+Joined G bytes (v ∷ vs) = (prefix : List ℕ) × (back : List ℕ) × (bytes ≡ prefix ++ back) × G prefix v × Joined G back vs
 
 -- a count, and then as many encodings
 abbrev pub Counted : {A : Type 0} → Grammar ℕ → Grammar A → Grammar (List A)
-Counted Count G bytes vs = (front : List ℕ) × (back : List ℕ) × (bytes ≡ front ++ back) × Count front (length vs) × Joined G back vs
+Counted Count G bytes vs = (prefix : List ℕ) × (back : List ℕ) × (bytes ≡ prefix ++ back) × Count prefix (length vs) × Joined G back vs
 
 -- no value is encoded by no bytes
 abbrev pub TakesBytes : {V : Type 0} → Grammar V → Type 0

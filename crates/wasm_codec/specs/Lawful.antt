@@ -1,16 +1,16 @@
 -- What holds of every format of the library, and is proved of each.
 use Rattle.std.specs.Prelude.{◌≡◌, ℕ, Bool, true, List, [], ◌∷◌, ◌++◌, Option, Some, None}
 use Rattle.wasm_codec.specs.Grammar.{Grammar, IsBytes}
-use Rattle.wasm_codec.specs.Encoding.{IsTextOrLonger}
-use Rattle.wasm_codec.specs.Reading.{◌>>=◌, Fronts, Reader as ListReader}
+use Rattle.wasm_codec.specs.Encoding.{IsShortestOrLonger}
+use Rattle.wasm_codec.specs.Reading.{◌>>=◌, BeginsWith, Reader as ListReader}
 use Rattle.wasm_codec.specs.Places.{Place, place, Reader, keeps}
 use Rattle.wasm_codec.specs.formats.Combinators.{Format}
 
 -- what is written encodes each value that fits, and each that is encoded at all; and every other encoding is longer
-pub record Shortest {V : Type 0} (G : Grammar V) (Fits : V → Type 0) (text : V → List ℕ) : Type 0 where
-  pub spells : (v : V) → Fits v → G (text v) v
-  pub again : (bytes : List ℕ) (v : V) → G bytes v → G (text v) v
-  pub least : (bytes : List ℕ) (v : V) → G bytes v → IsTextOrLonger bytes (text v)
+pub record Shortest {V : Type 0} (G : Grammar V) (Fits : V → Type 0) (encoding : V → List ℕ) : Type 0 where
+  pub encodes : (v : V) → Fits v → G (encoding v) v
+  pub again : (bytes : List ℕ) (v : V) → G bytes v → G (encoding v) v
+  pub least : (bytes : List ℕ) (v : V) → G bytes v → IsShortestOrLonger bytes (encoding v)
 
 abbrev pub head_of : List ℕ → Option ℕ
 head_of [] = None
@@ -18,8 +18,8 @@ head_of (b ∷ bytes) = Some b
 
 -- what is read is what is encoded, and the place tells whether it was the shortest encoding
 pub record ReadsPlaces {V : Type 0} (G : Grammar V) (bytes : V → List ℕ) (read : Reader V) : Type 0 where
-  pub sound : (p : Place) (v : V) (q : Place) → IsBytes p.left → read p ≡ Some (v, q) → Fronts G p.left v q.left
-  pub complete : (front : List ℕ) (v : V) (rest : List ℕ) (s : Bool) → G front v → read (place s (front ++ rest)) ≡ Some (v, place (keeps s front (bytes v)) rest)
+  pub sound : (p : Place) (v : V) (q : Place) → IsBytes p.left → read p ≡ Some (v, q) → BeginsWith G p.left v q.left
+  pub complete : (prefix : List ℕ) (v : V) (rest : List ℕ) (s : Bool) → G prefix v → read (place s (prefix ++ rest)) ≡ Some (v, place (keeps s prefix (bytes v)) rest)
 
 pub record IsLawful {V : Type 0} (F : Format V) : Type 0 where
   -- what is read is what is encoded, and the place tells whether it was the shortest encoding

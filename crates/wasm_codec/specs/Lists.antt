@@ -1,30 +1,47 @@
--- Lists: a count, and then the items (WebAssembly Core 3.0, 5.1.3).
-use Rattle.std.specs.Prelude.{◌≡◌, ℕ, ◌≤◌, ◌⊎◌, List, [], ◌++◌, length}
+-- Lists: a count, and then the items (WebAssembly Core 3.0, Lists).
+use Rattle.std.specs.Prelude.{◌≡◌, ℕ, ◌≤◌, ◌⊎◌, Bool, List, [], ◌++◌, length}
 use Rattle.std.specs.List.{flat_map}
 use Rattle.wasm_codec.specs.Grammar.{Grammar, Joined, Counted}
 use Rattle.wasm_codec.specs.Reading.{Reader, counted_at}
-use Rattle.wasm_codec.specs.Numbers.{SpellsU32, u32_at, unsigned_text}
+use Rattle.wasm_codec.specs.Numbers.{EncodesU32, unsigned_leb128}
+use Rattle.wasm_codec.specs.formats.Combinators.{Format, u32, asked}
+use Rattle.wasm_codec.specs.Lawful.{plain}
 
-abbrev pub SpellsList : {A : Type 0} → Grammar A → Grammar (List A)
-SpellsList G = Counted SpellsU32 G
+abbrev pub EncodesList : {A : Type 0} → Grammar A → Grammar (List A)
+EncodesList G = Counted EncodesU32 G
 
 abbrev pub list_at : {A : Type 0} → Reader A → Reader (List A)
-list_at read = counted_at u32_at read
+list_at read = counted_at (plain u32.at) read
 
-abbrev pub items_text : {A : Type 0} → (A → List ℕ) → List A → List ℕ
-items_text text xs = unsigned_text (length xs) ++ flat_map text xs
+abbrev pub items_bytes : {A : Type 0} → (A → List ℕ) → List A → List ℕ
+items_bytes encoding xs = unsigned_leb128 (length xs) ++ flat_map encoding xs
 
 -- A count, and at most as many items.
-pub record HasItems {A : Type 0} (G : Grammar A) (front : List ℕ) : Type 0 where
+pub record HasItems {A : Type 0} (Count : Grammar ℕ) (G : Grammar A) (prefix : List ℕ) : Type 0 where
   pub count : ℕ
   pub items : List A
   pub head : List ℕ
   pub back : List ℕ
-  pub parts : front ≡ head ++ back
-  pub counted : SpellsU32 head count
+  pub parts : prefix ≡ head ++ back
+  pub counted : Count head count
   pub few : length items ≤ count
-  pub spelled : Joined G back items
+  pub encoded : Joined G back items
 
--- a prefix of a list that is whole: nothing, or a count and at most as many items
-abbrev pub IsListFront : {A : Type 0} → Grammar A → List ℕ → Type 0
-IsListFront G front = (front ≡ []) ⊎ HasItems G front
+-- a prefix that is whole, where the count is encoded so: nothing, or a count and at most as many items
+abbrev pub IsCountedPrefix : {A : Type 0} → Grammar ℕ → Grammar A → List ℕ → Type 0
+IsCountedPrefix Count G prefix = (prefix ≡ []) ⊎ HasItems Count G prefix
+
+-- a prefix of a list that is whole
+abbrev pub IsListPrefix : {A : Type 0} → Grammar A → List ℕ → Type 0
+IsListPrefix G = IsCountedPrefix EncodesU32 G
+
+-- ---- where shortest encodings alone may be asked for, of the count and of the items
+
+abbrev pub AskedList : {A : Type 0} → Bool → Format A → Grammar (List A)
+AskedList strict F = Counted (asked strict u32).Encodes (asked strict F).Encodes
+
+abbrev pub asked_list_at : {A : Type 0} → Bool → Format A → Reader (List A)
+asked_list_at strict F = counted_at (plain (asked strict u32).at) (plain (asked strict F).at)
+
+abbrev pub IsAskedPrefix : {A : Type 0} → Bool → Format A → List ℕ → Type 0
+IsAskedPrefix strict F = IsCountedPrefix (asked strict u32).Encodes (asked strict F).Encodes

@@ -1,4 +1,4 @@
--- Numbers in LEB128: digits of seven bits, the least first (WebAssembly Core 3.0, 5.2.2 Integers).
+-- Numbers in LEB128: digits of seven bits, the least first (WebAssembly Core 3.0, Integers).
 use Rattle.std.specs.Prelude.{◌≡◌, ℕ, zero, suc, ◌+◌, ◌-◌, ◌*◌, ◌%◌, ◌/◌, ◌^◌, ◌<◌, ◌≤◌, Bool, true, false, List, [], ◌∷◌, length, Option, Some, None, Result, Ok, Err, nat_lt, if◌then◌else◌, ℤ, pos, negsuc, ◌-ℤ◌}
 use Rattle.wasm_codec.specs.Grammar.{Grammar}
 use Rattle.wasm_codec.specs.Reading.{Reader, ◌>>=◌}
@@ -46,21 +46,21 @@ IndexBelow limit digits n = (signed digits ≡ pos n) × (n < limit)
 
 -- ---- the five widths
 
-unfoldable pub SpellsU32 : Grammar ℕ
-SpellsU32 = Number 5 (Below (2 ^ 32))
+unfoldable pub EncodesU32 : Grammar ℕ
+EncodesU32 = Number 5 (Below (2 ^ 32))
 
-unfoldable pub SpellsU64 : Grammar ℕ
-SpellsU64 = Number 10 (Below (2 ^ 64))
+unfoldable pub EncodesU64 : Grammar ℕ
+EncodesU64 = Number 10 (Below (2 ^ 64))
 
-unfoldable pub SpellsS32 : Grammar ℤ
-SpellsS32 = Number 5 (SignedWithin (2 ^ 31))
+unfoldable pub EncodesS32 : Grammar ℤ
+EncodesS32 = Number 5 (SignedWithin (2 ^ 31))
 
-unfoldable pub SpellsS64 : Grammar ℤ
-SpellsS64 = Number 10 (SignedWithin (2 ^ 63))
+unfoldable pub EncodesS64 : Grammar ℤ
+EncodesS64 = Number 10 (SignedWithin (2 ^ 63))
 
 -- an index in the place of a negative type code: an s33 that isn't negative
-unfoldable pub SpellsIndex : Grammar ℕ
-SpellsIndex = Number 5 (IndexBelow (2 ^ 32))
+unfoldable pub EncodesIndex : Grammar ℕ
+EncodesIndex = Number 5 (IndexBelow (2 ^ 32))
 
 -- ---- the shortest encodings: the narrow numbers, which have the fewest bytes
 
@@ -74,12 +74,12 @@ unfoldable pub digits_of : Bool → ℕ → ℕ → ℕ → List ℕ
 digits_of turn top zero n = turned turn n ∷ []
 digits_of turn top (suc more) n = if nat_lt n top then turned turn n ∷ [] else (128 + turned turn (n % 128)) ∷ digits_of turn top more (n / 128)
 
-unfoldable pub unsigned_text : ℕ → List ℕ
-unsigned_text n = digits_of false 128 9 n
+unfoldable pub unsigned_leb128 : ℕ → List ℕ
+unsigned_leb128 n = digits_of false 128 9 n
 
-unfoldable pub signed_text : ℤ → List ℕ
-signed_text (pos n) = digits_of false 64 9 n
-signed_text (negsuc n) = digits_of true 64 9 n
+unfoldable pub signed_leb128 : ℤ → List ℕ
+signed_leb128 (pos n) = digits_of false 64 9 n
+signed_leb128 (negsuc n) = digits_of true 64 9 n
 
 -- ---- reading
 

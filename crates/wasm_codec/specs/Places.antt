@@ -4,7 +4,7 @@ use Rattle.std.specs.Prelude.{◌≡◌, ℕ, zero, suc, Bool, true, false, ◌&
 use Rattle.wasm_codec.specs.declared.reader.cursor.Fault.{Fault}
 use Rattle.wasm_codec.specs.declared.reader.cursor.Fault.TheVariants as faults
 use Rattle.wasm_codec.specs.Reading.{◌>>=◌}
-use Rattle.wasm_codec.specs.Numbers.{digits_at, below, signed_within, index_below, unsigned_text, signed_text}
+use Rattle.wasm_codec.specs.Numbers.{digits_at, below, signed_within, index_below, unsigned_leb128, signed_leb128}
 
 pub record Place : Type 0 where
   -- the bytes that are left
@@ -24,9 +24,25 @@ Reads read old new (Ok v) = read old ≡ Some (v, new)
 Reads read old new (Err faults.Malformed) = read old ≡ None
 Reads read old new (Err faults.Memory) = Unit {0}
 
+-- the place after the value that stands there, or none
+abbrev pub place_after : {V : Type 0} → Reader V → Place → Option Place
+place_after read p = read p >>= λ x. Some x.1
+
+-- What the code passed is what the reading function reads at the old place, and the new place is what it leaves; at a
+-- fault it reads nothing. Memory isn't wanted.
+abbrev pub Passes : {V : Type 0} → Reader V → Place → Place → Result (Unit {0}) Fault → Type 0
+Passes read old new (Ok done) = place_after read old ≡ Some new
+Passes read old new (Err faults.Malformed) = read old ≡ None
+Passes read old new (Err faults.Memory) = ⊥
+
 -- as before, and what was passed since is as long as this
 abbrev pub keeps : Bool → List ℕ → List ℕ → Bool
-keeps shortest front bytes = shortest && (length front == length bytes)
+keeps shortest prefix bytes = shortest && (length prefix == length bytes)
+
+-- where shortest encodings alone are asked for, all that was passed was in them
+abbrev pub PassedAsAsked : Bool → Place → Type 0
+PassedAsAsked true p = p.shortest ≡ true
+PassedAsAsked false p = Unit {0}
 
 -- the same, but for a long form it isn't the shortest
 abbrev pub unless : Bool → Place → Place
@@ -109,16 +125,16 @@ number_at most value bytes p = do
   Some (v, place (keeps p.shortest digits.0 (bytes v)) digits.1)
 
 unfoldable pub u32_at : Reader ℕ
-u32_at = number_at 5 (below (2 ^ 32)) unsigned_text
+u32_at = number_at 5 (below (2 ^ 32)) unsigned_leb128
 
 unfoldable pub u64_at : Reader ℕ
-u64_at = number_at 10 (below (2 ^ 64)) unsigned_text
+u64_at = number_at 10 (below (2 ^ 64)) unsigned_leb128
 
 unfoldable pub s32_at : Reader ℤ
-s32_at = number_at 5 (signed_within (2 ^ 31)) signed_text
+s32_at = number_at 5 (signed_within (2 ^ 31)) signed_leb128
 
 unfoldable pub s64_at : Reader ℤ
-s64_at = number_at 10 (signed_within (2 ^ 63)) signed_text
+s64_at = number_at 10 (signed_within (2 ^ 63)) signed_leb128
 
 unfoldable pub index_at : Reader ℕ
-index_at = number_at 5 (index_below (2 ^ 32)) (λ n. signed_text (pos n))
+index_at = number_at 5 (index_below (2 ^ 32)) (λ n. signed_leb128 (pos n))

@@ -76,20 +76,20 @@ counted_at count read bytes = do
 -- ---- what they find
 
 -- a prefix of the bytes encodes the value, and this is the rest
-pub record Fronts {V : Type 0} (G : Grammar V) (bytes : List ℕ) (v : V) (rest : List ℕ) : Type 0 where
-  pub front : List ℕ
-  pub spells : G front v
-  pub parts : bytes ≡ front ++ rest
+pub record BeginsWith {V : Type 0} (G : Grammar V) (bytes : List ℕ) (v : V) (rest : List ℕ) : Type 0 where
+  pub prefix : List ℕ
+  pub encodes : G prefix v
+  pub parts : bytes ≡ prefix ++ rest
 
 -- the reading function finds what bytes encode by the grammar, and nothing else
 pub record IsReadBy {V : Type 0} (G : Grammar V) (read : Reader V) : Type 0 where
-  pub sound : (bytes : List ℕ) (v : V) (rest : List ℕ) → IsBytes bytes → read bytes ≡ Some (v, rest) → Fronts G bytes v rest
-  pub complete : (front : List ℕ) (v : V) (rest : List ℕ) → G front v → read (front ++ rest) ≡ Some (v, rest)
+  pub sound : (bytes : List ℕ) (v : V) (rest : List ℕ) → IsBytes bytes → read bytes ≡ Some (v, rest) → BeginsWith G bytes v rest
+  pub complete : (prefix : List ℕ) (v : V) (rest : List ℕ) → G prefix v → read (prefix ++ rest) ≡ Some (v, rest)
 
 -- what the reading function finds at these bytes is what a prefix of them encodes
 pub record FindsAt {V : Type 0} (G : Grammar V) (read : Reader V) (bytes : List ℕ) : Type 0 where
-  pub sound : (v : V) (rest : List ℕ) → read bytes ≡ Some (v, rest) → Fronts G bytes v rest
-  pub complete : (v : V) (rest : List ℕ) → Fronts G bytes v rest → read bytes ≡ Some (v, rest)
+  pub sound : (v : V) (rest : List ℕ) → read bytes ≡ Some (v, rest) → BeginsWith G bytes v rest
+  pub complete : (v : V) (rest : List ℕ) → BeginsWith G bytes v rest → read bytes ≡ Some (v, rest)
 
 -- ---- items as what they stand for
 

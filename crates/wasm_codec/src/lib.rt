@@ -1,5 +1,5 @@
-//! Values of the WebAssembly binary format (Core 3.0, 5.1 and 5.2): numbers, options, lists, bytes and texts, the trait
-//! by which things are written, and the place in bytes from which things are read.
+//! Values of the WebAssembly binary format (Core 3.0, Conventions and Values): numbers, options, lists, bytes and
+//! texts, the trait by which things are written, and the place in bytes from which things are read.
 #![tactic(auto)]
 
 pub mod encode;

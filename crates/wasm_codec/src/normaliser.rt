@@ -1,22 +1,53 @@
-//! Normal forms of items one after another: what is in its shortest encoding is copied in runs, the rest is written anew.
-ghost use Rattle.std.specs.Prelude.{◌≡◌, ◌++◌, ◌<◌, length, true, IfOk, OnOk};
+//! Normal forms of items one after another: what is in its shortest encoding is copied in runs, the rest is written
+//! anew.
+ghost use Rattle.std.specs.Prelude.{◌≡◌, ◌<◌, length, true, IfOk, OnOk};
 ghost use Rattle.std.specs.List.{flat_map};
 ghost use Rattle.wasm_codec.specs.Grammar.{IsBytes, TakesBytes, Joined};
-ghost use Rattle.wasm_codec.specs.Answers.{IfRefused, IsLongestFront, IsNormalForm, SpellsSome};
+ghost use Rattle.wasm_codec.specs.Answers.{IfRefused, IsLongestPrefix, IsNormalForm, EncodesSome};
 ghost use Rattle.wasm_codec.specs.Lawful.{IsLawful};
-ghost use Rattle.wasm_codec.specs.Rewriting.{PassesOrWrites};
+ghost use Rattle.wasm_codec.specs.formats.Combinators.{items};
+ghost use Rattle.wasm_codec.specs.Rewriting.{AppendsNormalForm, PassesOrWrites, Appends};
 
 use crate::reader::cursor::{Cursor, Fault};
-use crate::reader::readable::Readable;
+use crate::reader::passing::Passable;
 use crate::reader::{ReadError, read_error};
-use std::alloc::{AllocError, Global};
+use crate::rewriter::append_count;
+use std::alloc::Global;
 
-/// What can be read and written anew.
-pub trait Normalisable<'a>: Readable<'a> {
-    /// Appends the shortest encoding of an item that was read. Nothing but memory can be wanting.
-    fn append(&self, bytes: &mut Vec<u8>) -> Result<(), AllocError>
-        requires { Self.format.InRange (Self.view self.now) }
-        ensures ok { OnOk result (bytes.new.items ≡ bytes.old.items ++ Self.format.bytes (Self.view self.now)) };
+/// What can be written anew, in its shortest encoding, as it is read.
+pub trait Normalisable<'a>: Passable<'a> {
+    /// Appends the shortest encoding of the item that comes next. Of a list in it one item at a time is held.
+    fn write_anew(alloc: Global, cursor: &mut Cursor<'a>, bytes: &mut Vec<u8>) -> Result<(), Fault>
+        ensures writes { Appends Self.format cursor.old cursor.new bytes.old.items bytes.new.items result };
+}
+
+impl<'a> Normalisable<'a> for u32 {
+    fn write_anew(
+        alloc: Global,
+        cursor: &mut Cursor<'a>,
+        bytes: &mut Vec<u8>,
+    ) -> Result<(), Fault> {
+        let _ = alloc;
+        let value = cursor.u32()?;
+        append_count(bytes, value)?;
+        Ok(())
+    }
+}
+
+/// Appends the shortest encoding of the list that comes next: the count, and then each item as it is read.
+pub fn write_list_anew<'a, T: Normalisable<'a>>(
+    alloc: Global,
+    cursor: &mut Cursor<'a>,
+    bytes: &mut Vec<u8>,
+) -> Result<(), Fault>
+    ensures writes { Appends (items T.format) cursor.old cursor.new bytes.old.items bytes.new.items result }
+{
+    let count = cursor.u32()?;
+    append_count(bytes, count)?;
+    for _ in 0..count {
+        T::write_anew(alloc, cursor, bytes)?;
+    }
+    Ok(())
 }
 
 /// The shortest encoding of the items that the bytes encode one after another, with no count, read to the end.
@@ -27,26 +58,43 @@ pub fn normalise_joined<'a, T: Normalisable<'a>>(
     bytes: &'a [u8],
 ) -> Result<Vec<u8>, ReadError>
     ensures given { IfOk result (λ given. IsNormalForm (Joined T.format.Encodes) (flat_map T.format.bytes) bytes.now given.items) }
-    ensures front { IfRefused result (IsLongestFront (SpellsSome (Joined T.format.Encodes)) bytes.now) }
+    ensures prefix { IfRefused result (IsLongestPrefix (EncodesSome (Joined T.format.Encodes)) bytes.now) }
     ensures within { IfRefused result (λ at. at < length bytes.now) }
 {
     let mut out = Vec::new(alloc);
+    append_joined::<T>(alloc, bytes, &mut out)?;
+    Ok(out)
+}
+
+/// Appends the shortest encoding of the items that the bytes encode one after another, with no count, read to the end.
+///
+/// `Refused` carries the number of bytes of the items that are whole before the first that isn't.
+pub fn append_joined<'a, T: Normalisable<'a>>(
+    alloc: Global,
+    bytes: &'a [u8],
+    out: &mut Vec<u8>,
+) -> Result<(), ReadError>
+    ensures given { OnOk result (AppendsNormalForm (Joined T.format.Encodes) (flat_map T.format.bytes) bytes.now out.old.items out.new.items) }
+    ensures prefix { IfRefused result (IsLongestPrefix (EncodesSome (Joined T.format.Encodes)) bytes.now) }
+    ensures within { IfRefused result (λ at. at < length bytes.now) }
+{
     let mut cursor = Cursor::new(bytes);
     let mut from = 0;
     while cursor.len() > 0 {
         let at = bytes.len() - cursor.len();
-        match pass_or_write::<T>(alloc, &mut cursor, &bytes[from..at], &mut out) {
+        match pass_or_write::<T>(alloc, &mut cursor, &bytes[from..at], out) {
             Ok(false) => {}
             Ok(true) => from = bytes.len() - cursor.len(),
             Err(fault) => return Err(read_error(fault, at)),
         }
     }
     out.extend_from_slice(&bytes[from..])?;
-    Ok(out)
+    Ok(())
 }
 
-/// Passes the item that comes next. Where it isn't in its shortest encoding, the run of bytes before it and then its
+/// Passes the item that comes next. Where it wasn't in its shortest encoding, the run of bytes before it and then its
 /// shortest encoding are appended, and `true` is answered.
+#[inline(always)]
 fn pass_or_write<'a, T: Normalisable<'a>>(
     alloc: Global,
     cursor: &mut Cursor<'a>,
@@ -59,12 +107,27 @@ fn pass_or_write<'a, T: Normalisable<'a>>(
     ensures lawful { IsLawful T.format }
     ensures some { TakesBytes T.format.Encodes }
 {
-    let item = T::read(alloc, cursor)?;
+    let start = cursor.fork();
+    T::pass(cursor)?;
     if cursor.is_shortest() {
         return Ok(false);
     }
+    *cursor = start;
+    write_after_run::<T>(alloc, cursor, run, out)
+}
+
+/// Appends the run of bytes and then the shortest encoding of the item that comes next, and answers `true`.
+#[inline(never)]
+fn write_after_run<'a, T: Normalisable<'a>>(
+    alloc: Global,
+    cursor: &mut Cursor<'a>,
+    run: &[u8],
+    out: &mut Vec<u8>,
+) -> Result<bool, Fault>
+    ensures writes { PassesOrWrites T.format cursor.old cursor.new run.now out.old.items out.new.items result }
+{
     out.extend_from_slice(run)?;
-    item.append(out)?;
+    T::write_anew(alloc, cursor, out)?;
     cursor.mark();
     Ok(true)
 }

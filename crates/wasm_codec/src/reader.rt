@@ -7,6 +7,7 @@ ghost use Rattle.wasm_codec.specs.Answers.{answer_to};
 
 pub mod cursor;
 pub mod lists;
+pub mod passing;
 pub mod readable;
 
 use cursor::Fault;

@@ -5,9 +5,9 @@ ghost use Rattle.wasm_codec.specs.Grammar.{TakesBytes, Joined};
 ghost use Rattle.wasm_codec.specs.Reading.{FindsAt};
 ghost use Rattle.wasm_codec.specs.Lawful.{IsLawful, plain};
 ghost use Rattle.wasm_codec.specs.formats.Combinators.{Format};
-ghost use Rattle.wasm_codec.specs.Numbers.{unsigned_text};
-ghost use Rattle.wasm_codec.specs.Answers.{IfRefused, IsLongestFront, IsAfterLongest, UnlessMemory, SpellsSome};
-ghost use Rattle.wasm_codec.specs.Lists.{SpellsList, list_at, items_text, IsListFront};
+ghost use Rattle.wasm_codec.specs.Numbers.{unsigned_leb128};
+ghost use Rattle.wasm_codec.specs.Answers.{IfRefused, IsLongestPrefix, IsAfterLongest, UnlessMemory, EncodesSome};
+ghost use Rattle.wasm_codec.specs.Lists.{EncodesList, list_at, items_bytes, IsListPrefix};
 ghost use Rattle.wasm_codec.specs.Rewriting.{Rewrites, AppendsNormalForm};
 
 use crate::encode::leb128::put_u32;
@@ -25,8 +25,8 @@ pub trait Rewritable<'a> {
     ghost format: { Format Value };
 
     /// Appends the shortest encoding of the next item.
-    fn rewrite(alloc: Global, cursor: &mut Cursor<'a>, text: &mut Vec<u8>) -> Result<(), Fault>
-        ensures rewrites { Rewrites (plain format.at) format.bytes cursor.old.left cursor.new.left text.old.items text.new.items result }
+    fn rewrite(alloc: Global, cursor: &mut Cursor<'a>, encoding: &mut Vec<u8>) -> Result<(), Fault>
+        ensures rewrites { Rewrites (plain format.at) format.bytes cursor.old.left cursor.new.left encoding.old.items encoding.new.items result }
         // What is read is what is encoded, and the shortest encoding is known.
         ensures lawful { IsLawful format }
         // No item is encoded by no bytes.
@@ -39,28 +39,28 @@ pub trait Rewritable<'a> {
 pub fn rewrite_list<'a, T: Rewritable<'a>>(
     alloc: Global,
     cursor: &mut Cursor<'a>,
-    text: &mut Vec<u8>,
+    encoding: &mut Vec<u8>,
 ) -> Result<(), Fault>
-    ensures rewrites { Rewrites (list_at (plain T.format.at)) (items_text T.format.bytes) cursor.old.left cursor.new.left text.old.items text.new.items result }
+    ensures rewrites { Rewrites (list_at (plain T.format.at)) (items_bytes T.format.bytes) cursor.old.left cursor.new.left encoding.old.items encoding.new.items result }
     // What is read there is what is encoded there.
-    ensures finds { UnlessMemory result (FindsAt (SpellsList T.format.Encodes) (list_at (plain T.format.at)) cursor.old.left) }
+    ensures finds { UnlessMemory result (FindsAt (EncodesList T.format.Encodes) (list_at (plain T.format.at)) cursor.old.left) }
     // The cursor is left after the longest prefix that is whole.
-    ensures front { UnlessMemory result (IsAfterLongest (IsListFront T.format.Encodes) cursor.old.left cursor.new.left) }
+    ensures prefix { UnlessMemory result (IsAfterLongest (IsListPrefix T.format.Encodes) cursor.old.left cursor.new.left) }
 {
-    let count: u32 = read_or_stay(alloc, cursor)?;
-    append_count(text, count)?;
+    let count: u32 = read_or_stay::<u32, false>(alloc, cursor)?;
+    append_count(encoding, count)?;
     for _ in 0..count {
-        rewrite_or_stay::<T>(alloc, cursor, text)?;
+        rewrite_or_stay::<T>(alloc, cursor, encoding)?;
     }
     Ok(())
 }
 
 /// Appends the shortest encoding of a count.
-fn append_count(text: &mut Vec<u8>, count: u32) -> Result<(), AllocError>
-    ensures ok { OnOk result (text.new.items ≡ text.old.items ++ unsigned_text count) }
+pub(crate) fn append_count(encoding: &mut Vec<u8>, count: u32) -> Result<(), AllocError>
+    ensures ok { OnOk result (encoding.new.items ≡ encoding.old.items ++ unsigned_leb128 count) }
 {
-    text.reserve(5)?;
-    put_u32(text, count);
+    encoding.reserve(5)?;
+    put_u32(encoding, count);
     Ok(())
 }
 
@@ -68,15 +68,15 @@ fn append_count(text: &mut Vec<u8>, count: u32) -> Result<(), AllocError>
 fn rewrite_or_stay<'a, T: Rewritable<'a>>(
     alloc: Global,
     cursor: &mut Cursor<'a>,
-    text: &mut Vec<u8>,
+    encoding: &mut Vec<u8>,
 ) -> Result<(), Fault>
-    ensures rewrites { Rewrites (plain T.format.at) T.format.bytes cursor.old.left cursor.new.left text.old.items text.new.items result }
+    ensures rewrites { Rewrites (plain T.format.at) T.format.bytes cursor.old.left cursor.new.left encoding.old.items encoding.new.items result }
     ensures stays { IfErr result (λ _. cursor.new.left ≡ cursor.old.left) }
     ensures lawful { IsLawful T.format }
     ensures some { TakesBytes T.format.Encodes }
 {
     let start = cursor.fork();
-    match T::rewrite(alloc, cursor, text) {
+    match T::rewrite(alloc, cursor, encoding) {
         Ok(()) => Ok(()),
         Err(fault) => {
             *cursor = start;
@@ -92,14 +92,14 @@ fn rewrite_or_stay<'a, T: Rewritable<'a>>(
 pub fn rewrite_list_to_end<'a, T: Rewritable<'a>>(
     alloc: Global,
     bytes: &'a [u8],
-    text: &mut Vec<u8>,
+    encoding: &mut Vec<u8>,
 ) -> Result<(), ReadError>
-    ensures given { OnOk result (AppendsNormalForm (SpellsList T.format.Encodes) (items_text T.format.bytes) bytes.now text.old.items text.new.items) }
-    ensures front { IfRefused result (IsLongestFront (IsListFront T.format.Encodes) bytes.now) }
-    ensures unspelled { IfRefused result (λ _. (items : List T.Value) → SpellsList T.format.Encodes bytes.now items → ⊥) }
+    ensures given { OnOk result (AppendsNormalForm (EncodesList T.format.Encodes) (items_bytes T.format.bytes) bytes.now encoding.old.items encoding.new.items) }
+    ensures prefix { IfRefused result (IsLongestPrefix (IsListPrefix T.format.Encodes) bytes.now) }
+    ensures unencoded { IfRefused result (λ _. (items : List T.Value) → EncodesList T.format.Encodes bytes.now items → ⊥) }
 {
     let mut cursor = Cursor::new(bytes);
-    match rewrite_list::<T>(alloc, &mut cursor, text) {
+    match rewrite_list::<T>(alloc, &mut cursor, encoding) {
         Ok(()) => {
             if cursor.len() > 0 {
                 let at = bytes.len() - cursor.len();
@@ -121,16 +121,16 @@ pub fn rewrite_list_to_end<'a, T: Rewritable<'a>>(
 pub fn rewrite_joined<'a, T: Rewritable<'a>>(
     alloc: Global,
     bytes: &'a [u8],
-    text: &mut Vec<u8>,
+    encoding: &mut Vec<u8>,
 ) -> Result<(), ReadError>
-    ensures given { OnOk result (AppendsNormalForm (Joined T.format.Encodes) (flat_map T.format.bytes) bytes.now text.old.items text.new.items) }
-    ensures front { IfRefused result (IsLongestFront (SpellsSome (Joined T.format.Encodes)) bytes.now) }
+    ensures given { OnOk result (AppendsNormalForm (Joined T.format.Encodes) (flat_map T.format.bytes) bytes.now encoding.old.items encoding.new.items) }
+    ensures prefix { IfRefused result (IsLongestPrefix (EncodesSome (Joined T.format.Encodes)) bytes.now) }
     ensures within { IfRefused result (λ at. at < length bytes.now) }
 {
     let mut cursor = Cursor::new(bytes);
     while cursor.len() > 0 {
         let at = bytes.len() - cursor.len();
-        if let Err(fault) = T::rewrite(alloc, &mut cursor, text) {
+        if let Err(fault) = T::rewrite(alloc, &mut cursor, encoding) {
             return Err(read_error(fault, at));
         }
     }

@@ -3,7 +3,7 @@ use Rattle.std.specs.Prelude.{◌≡◌, ℕ, zero, suc, ◌^◌, ◌<◌, Bool,
 use Rattle.std.specs.List.{AllByRecursion}
 use Rattle.wasm_codec.specs.Grammar.{Grammar, IsBytes, After}
 use Rattle.wasm_codec.specs.Reading.{◌>>=◌}
-use Rattle.wasm_codec.specs.Numbers.{SpellsU32, unsigned_text}
+use Rattle.wasm_codec.specs.Numbers.{EncodesU32, unsigned_leb128}
 use Rattle.wasm_codec.specs.Places.{Place, place, Reader, u32_at}
 use Rattle.wasm_codec.specs.formats.Combinators.{Format, any_byte, just, after_at, AllOf, all_bytes}
 
@@ -44,7 +44,7 @@ to_end F = record {
 -- ---- a size, and then that many bytes, which are all of an encoding
 
 abbrev pub Sized : {A : Type 0} → Grammar A → Grammar A
-Sized G bytes v = (size : List ℕ) × (body : List ℕ) × (bytes ≡ size ++ body) × SpellsU32 size (length body) × G body v
+Sized G bytes v = (size : List ℕ) × (body : List ℕ) × (bytes ≡ size ++ body) × EncodesU32 size (length body) × G body v
 
 -- the bytes after their number
 abbrev pub body_at : Reader (List ℕ)
@@ -67,7 +67,7 @@ abbrev pub sized : {A : Type 0} → Format A → Format A
 sized F = record {
   Encodes = Sized F.Encodes;
   at = sized_at F.at;
-  bytes = λ v. unsigned_text (length (F.bytes v)) ++ F.bytes v;
+  bytes = λ v. unsigned_leb128 (length (F.bytes v)) ++ F.bytes v;
   InRange = λ v. F.InRange v × (length (F.bytes v) < 2 ^ 32);
   first = any_byte;
 }

@@ -5,7 +5,7 @@ use Rattle.std.specs.List.{flat_map, AllByRecursion}
 use Rattle.wasm_codec.specs.Grammar.{Grammar, IsBytes, AByte, Then, Mapped, Nothing, Never, Either, After, Joined, Counted}
 use Rattle.wasm_codec.specs.Reading.{◌>>=◌}
 use Rattle.wasm_codec.specs.Places.{Place, place, Reader, byte_at, then_at, map_at, map_unless, nothing_at, never_at, either_at, by_byte, only_at, counted_at, u32_at, u64_at, s32_at, s64_at, index_at, raw_at}
-use Rattle.wasm_codec.specs.Numbers.{Within, SpellsU32, SpellsU64, SpellsS32, SpellsS64, SpellsIndex, unsigned_text, signed_text}
+use Rattle.wasm_codec.specs.Numbers.{Within, EncodesU32, EncodesU64, EncodesS32, EncodesS64, EncodesIndex, unsigned_leb128, signed_leb128}
 
 pub record Format (V : Type 0) : Type 1 where
   -- which bytes encode which value
@@ -84,7 +84,8 @@ made make parts F = record {
   first = F.first;
 }
 
--- the same, where a value is made in several ways: some are long forms, these are the bytes that are written, and these values have some
+-- the same, where a value is made in several ways: some are long forms, these are the bytes that are written, and these
+-- values have some
 abbrev pub made_as : {A B : Type 0} → (A → Bool) → (A → B) → (B → List ℕ) → (B → Type 0) → Format A → Format B
 made_as long make bytes InRange F = record { Encodes = Mapped make F.Encodes; at = map_unless long make F.at; bytes = bytes; InRange = InRange; first = F.first }
 
@@ -221,16 +222,16 @@ byte_or byte_of values C = either (λ v. is_some (byte_of v)) (one_byte byte_of 
 -- ---- numbers
 
 abbrev pub u32 : Format ℕ
-u32 = record { Encodes = SpellsU32; at = u32_at; bytes = unsigned_text; InRange = λ n. n < 2 ^ 32; first = any_byte }
+u32 = record { Encodes = EncodesU32; at = u32_at; bytes = unsigned_leb128; InRange = λ n. n < 2 ^ 32; first = any_byte }
 
 abbrev pub u64 : Format ℕ
-u64 = record { Encodes = SpellsU64; at = u64_at; bytes = unsigned_text; InRange = λ n. n < 2 ^ 64; first = any_byte }
+u64 = record { Encodes = EncodesU64; at = u64_at; bytes = unsigned_leb128; InRange = λ n. n < 2 ^ 64; first = any_byte }
 
 abbrev pub s32 : Format ℤ
-s32 = record { Encodes = SpellsS32; at = s32_at; bytes = signed_text; InRange = Within (2 ^ 31); first = any_byte }
+s32 = record { Encodes = EncodesS32; at = s32_at; bytes = signed_leb128; InRange = Within (2 ^ 31); first = any_byte }
 
 abbrev pub s64 : Format ℤ
-s64 = record { Encodes = SpellsS64; at = s64_at; bytes = signed_text; InRange = Within (2 ^ 63); first = any_byte }
+s64 = record { Encodes = EncodesS64; at = s64_at; bytes = signed_leb128; InRange = Within (2 ^ 63); first = any_byte }
 
 -- no byte of a type
 abbrev pub begins_index : Option ℕ → Bool
@@ -239,7 +240,7 @@ begins_index (Some b) = nat_lt b 0x40 || nat_le 0x80 b
 
 -- an index in the place of a negative type code
 abbrev pub index : Format ℕ
-index = record { Encodes = SpellsIndex; at = index_at; bytes = λ n. signed_text (pos n); InRange = λ n. n < 2 ^ 32; first = begins_index }
+index = record { Encodes = EncodesIndex; at = index_at; bytes = λ n. signed_leb128 (pos n); InRange = λ n. n < 2 ^ 32; first = begins_index }
 
 -- ---- raw bytes
 
@@ -280,9 +281,9 @@ little_endian (suc more) = made_of with_low low_and_high (λ n. n < 256 ^ suc mo
 -- a count, and then as many encodings
 abbrev pub items : {A : Type 0} → Format A → Format (List A)
 items F = record {
-  Encodes = Counted SpellsU32 F.Encodes;
+  Encodes = Counted EncodesU32 F.Encodes;
   at = counted_at u32_at F.at;
-  bytes = λ vs. unsigned_text (length vs) ++ flat_map F.bytes vs;
+  bytes = λ vs. unsigned_leb128 (length vs) ++ flat_map F.bytes vs;
   InRange = λ vs. (length vs < 2 ^ 32) × AllByRecursion F.InRange vs;
   first = any_byte;
 }
@@ -307,6 +308,11 @@ narrow F = record {
   InRange = F.InRange;
   first = F.first;
 }
+
+-- shortest encodings alone where that is asked for, else all
+abbrev pub asked : {A : Type 0} → Bool → Format A → Format A
+asked true F = narrow F
+asked false F = F
 
 -- ---- what a kind says
 

@@ -1,6 +1,7 @@
 //! LEB128 numbers, written into room that was reserved. `encode` and the instruction sink write them here alone.
 ghost use Rattle.std.specs.Prelude.{◌≡◌, ◌++◌, ◌+◌, ◌*◌, ◌^◌, ◌<◌, ◌≤◌, length, pos, vec_len, vec_capacity};
-ghost use Rattle.wasm_codec.specs.Numbers.{turned, digits_of, unsigned_text, signed_text};
+ghost use Rattle.wasm_codec.specs.Encoding.{IsShortest};
+ghost use Rattle.wasm_codec.specs.Numbers.{turned, digits_of, unsigned_leb128, signed_leb128, EncodesU32, EncodesU64, EncodesS32, EncodesS64, EncodesIndex};
 
 use std::alloc::Allocator;
 
@@ -77,10 +78,11 @@ fn put_many<A: Allocator>(bytes: &mut Vec<u8, A>, turn: bool, top: u64, n: u64)
 }
 
 /// Writes a u32 in 1 to 5 bytes.
-#[tactic(auto, unfolding(crate::specs::Numbers::unsigned_text))]
+#[tactic(auto, unfolding(crate::specs::Numbers::unsigned_leb128))]
 pub fn put_u32<A: Allocator>(bytes: &mut Vec<u8, A>, value: u32)
     requires { vec_len bytes.old + 5 ≤ vec_capacity bytes.old }
-    ensures items { bytes.new.items ≡ bytes.old.items ++ unsigned_text value }
+    ensures items { bytes.new.items ≡ bytes.old.items ++ unsigned_leb128 value }
+    ensures shortest { IsShortest EncodesU32 unsigned_leb128 value }
     ensures len { vec_len bytes.new ≤ vec_len bytes.old + 5 }
     ensures capacity { vec_capacity bytes.new ≡ vec_capacity bytes.old }
 {
@@ -88,10 +90,11 @@ pub fn put_u32<A: Allocator>(bytes: &mut Vec<u8, A>, value: u32)
 }
 
 /// Writes a u64 in 1 to 10 bytes.
-#[tactic(auto, unfolding(crate::specs::Numbers::unsigned_text))]
+#[tactic(auto, unfolding(crate::specs::Numbers::unsigned_leb128))]
 pub fn put_u64<A: Allocator>(bytes: &mut Vec<u8, A>, value: u64)
     requires { vec_len bytes.old + 10 ≤ vec_capacity bytes.old }
-    ensures items { bytes.new.items ≡ bytes.old.items ++ unsigned_text value }
+    ensures items { bytes.new.items ≡ bytes.old.items ++ unsigned_leb128 value }
+    ensures shortest { IsShortest EncodesU64 unsigned_leb128 value }
     ensures len { vec_len bytes.new ≤ vec_len bytes.old + 10 }
     ensures capacity { vec_capacity bytes.new ≡ vec_capacity bytes.old }
 {
@@ -99,10 +102,11 @@ pub fn put_u64<A: Allocator>(bytes: &mut Vec<u8, A>, value: u64)
 }
 
 /// Writes an s32 in 1 to 5 bytes.
-#[tactic(auto, unfolding(crate::specs::Numbers::signed_text))]
+#[tactic(auto, unfolding(crate::specs::Numbers::signed_leb128))]
 pub fn put_i32<A: Allocator>(bytes: &mut Vec<u8, A>, value: i32)
     requires { vec_len bytes.old + 5 ≤ vec_capacity bytes.old }
-    ensures items { bytes.new.items ≡ bytes.old.items ++ signed_text value }
+    ensures items { bytes.new.items ≡ bytes.old.items ++ signed_leb128 value }
+    ensures shortest { IsShortest EncodesS32 signed_leb128 value }
     ensures len { vec_len bytes.new ≤ vec_len bytes.old + 5 }
     ensures capacity { vec_capacity bytes.new ≡ vec_capacity bytes.old }
 {
@@ -114,10 +118,11 @@ pub fn put_i32<A: Allocator>(bytes: &mut Vec<u8, A>, value: i32)
 }
 
 /// Writes an s64 in 1 to 10 bytes.
-#[tactic(auto, unfolding(crate::specs::Numbers::signed_text))]
+#[tactic(auto, unfolding(crate::specs::Numbers::signed_leb128))]
 pub fn put_i64<A: Allocator>(bytes: &mut Vec<u8, A>, value: i64)
     requires { vec_len bytes.old + 10 ≤ vec_capacity bytes.old }
-    ensures items { bytes.new.items ≡ bytes.old.items ++ signed_text value }
+    ensures items { bytes.new.items ≡ bytes.old.items ++ signed_leb128 value }
+    ensures shortest { IsShortest EncodesS64 signed_leb128 value }
     ensures len { vec_len bytes.new ≤ vec_len bytes.old + 10 }
     ensures capacity { vec_capacity bytes.new ≡ vec_capacity bytes.old }
 {
@@ -129,10 +134,11 @@ pub fn put_i64<A: Allocator>(bytes: &mut Vec<u8, A>, value: i64)
 }
 
 /// Writes an index in the place of a negative type code, in 1 to 5 bytes.
-#[tactic(auto, unfolding(crate::specs::Numbers::signed_text))]
+#[tactic(auto, unfolding(crate::specs::Numbers::signed_leb128))]
 pub fn put_index<A: Allocator>(bytes: &mut Vec<u8, A>, index: u32)
     requires { vec_len bytes.old + 5 ≤ vec_capacity bytes.old }
-    ensures items { bytes.new.items ≡ bytes.old.items ++ signed_text (pos index) }
+    ensures items { bytes.new.items ≡ bytes.old.items ++ signed_leb128 (pos index) }
+    ensures shortest { IsShortest EncodesIndex (λ index. signed_leb128 (pos index)) index }
     ensures len { vec_len bytes.new ≤ vec_len bytes.old + 5 }
     ensures capacity { vec_capacity bytes.new ≡ vec_capacity bytes.old }
 {
@@ -140,9 +146,9 @@ pub fn put_index<A: Allocator>(bytes: &mut Vec<u8, A>, index: u32)
 }
 
 /// How many bytes a number's shortest encoding has.
-#[tactic(auto, unfolding(crate::specs::Numbers::unsigned_text, crate::specs::Numbers::digits_of))]
+#[tactic(auto, unfolding(crate::specs::Numbers::unsigned_leb128, crate::specs::Numbers::digits_of))]
 pub fn u32_len(value: u32) -> usize
-    ensures value { result ≡ length (unsigned_text value) }
+    ensures value { result ≡ length (unsigned_leb128 value) }
     ensures most { result ≤ 5 }
 {
     match value {

@@ -1,7 +1,8 @@
-//! Lists, bytes and texts, after their number (Core 3.0, 5.1.3 and 5.2.4).
+//! Lists, bytes and texts, after their number (Core 3.0, Lists and Names).
 ghost use Rattle.std.specs.Prelude.{◌≡◌, ◌++◌, ◌^◌, ◌≤◌, OnOk, OnErr, IfErr, IsErrOf, length, take};
-ghost use Rattle.wasm_codec.specs.Lists.{items_text};
-ghost use Rattle.wasm_codec.specs.Encoding.{byte_list_text, CanEncodeList, IsCount, IsCountRefusal, IsListRefusal};
+ghost use Rattle.std.specs.List.{All};
+ghost use Rattle.wasm_codec.specs.Lists.{items_bytes};
+ghost use Rattle.wasm_codec.specs.Encoding.{byte_list_bytes, CanEncodeList, IsCount, IsCountRefusal, IsListRefusal};
 
 use super::{Encode, EncodeError, keep_or_undo};
 use std::alloc::Allocator;
@@ -13,8 +14,9 @@ pub fn encode_list<T: Encode, A: Allocator>(
     items: &[T],
     sink: &mut Vec<u8, A>,
 ) -> Result<(), EncodeError>
-    ensures ok { OnOk result (sink.new.items ≡ sink.old.items ++ items_text T.bytes items.now) }
+    ensures ok { OnOk result (sink.new.items ≡ sink.old.items ++ items_bytes T.bytes items.now) }
     ensures can { OnOk result (CanEncodeList T.CanEncode items.now) }
+    ensures written { OnOk result (All T.IsWritten items.now) }
     ensures refused { IfErr result (IsListRefusal T.CanEncode T.refuses items.now) }
     ensures too_many { 2 ^ 32 ≤ length items.now → IsErrOf result EncodeError.TooLong }
     ensures err { OnErr result (sink.new.items ≡ sink.old.items) }
@@ -29,8 +31,9 @@ fn append_list<T: Encode, A: Allocator>(
     items: &[T],
     sink: &mut Vec<u8, A>,
 ) -> Result<(), EncodeError>
-    ensures ok { OnOk result (sink.new.items ≡ sink.old.items ++ items_text T.bytes items.now) }
+    ensures ok { OnOk result (sink.new.items ≡ sink.old.items ++ items_bytes T.bytes items.now) }
     ensures can { OnOk result (CanEncodeList T.CanEncode items.now) }
+    ensures written { OnOk result (All T.IsWritten items.now) }
     ensures refused { IfErr result (IsListRefusal T.CanEncode T.refuses items.now) }
     ensures too_many { 2 ^ 32 ≤ length items.now → IsErrOf result EncodeError.TooLong }
     ensures kept { take (length sink.old.items) sink.new.items ≡ sink.old.items }
@@ -46,7 +49,7 @@ fn append_list<T: Encode, A: Allocator>(
 ///
 /// `TooLong` where there are more than 4,294,967,295.
 pub fn encode_bytes<A: Allocator>(bytes: &[u8], sink: &mut Vec<u8, A>) -> Result<(), EncodeError>
-    ensures ok { OnOk result (sink.new.items ≡ sink.old.items ++ byte_list_text bytes.now) }
+    ensures ok { OnOk result (sink.new.items ≡ sink.old.items ++ byte_list_bytes bytes.now) }
     ensures can { OnOk result (IsCount (length bytes.now)) }
     ensures refused { IfErr result (IsCountRefusal (length bytes.now)) }
     ensures too_many { 2 ^ 32 ≤ length bytes.now → IsErrOf result EncodeError.TooLong }
@@ -62,7 +65,7 @@ pub fn encode_bytes<A: Allocator>(bytes: &[u8], sink: &mut Vec<u8, A>) -> Result
 ///
 /// `TooLong` where there are more than 4,294,967,295.
 pub fn encode_str<A: Allocator>(text: &str, sink: &mut Vec<u8, A>) -> Result<(), EncodeError>
-    ensures ok { OnOk result (sink.new.items ≡ sink.old.items ++ byte_list_text text.now) }
+    ensures ok { OnOk result (sink.new.items ≡ sink.old.items ++ byte_list_bytes text.now) }
     ensures can { OnOk result (IsCount (length text.now)) }
     ensures refused { IfErr result (IsCountRefusal (length text.now)) }
     ensures too_many { 2 ^ 32 ≤ length text.now → IsErrOf result EncodeError.TooLong }

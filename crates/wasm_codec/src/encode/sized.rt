@@ -1,11 +1,12 @@
-//! A size, and then the bytes that it counts (Core 3.0, 5.4 code and 5.5.2 sections).
-ghost use Rattle.std.specs.Prelude.{◌≡◌, ◌++◌, ◌-◌, ◌^◌, ◌<◌, ◌≤◌, length, take, drop, vec_len, IfErr, OnOk, OnErr};
-ghost use Rattle.wasm_codec.specs.Numbers.{unsigned_text};
+//! Numbers that are put before what they count (Core 3.0, Lists, Code Section and Sections).
+ghost use Rattle.std.specs.Prelude.{◌≡◌, ◌++◌, ◌+◌, ◌-◌, ◌^◌, ◌<◌, ◌≤◌, length, take, drop, vec_len, IfOk, IfErr, OnOk, OnErr};
+ghost use Rattle.wasm_codec.specs.Encoding.{OpensGap};
+ghost use Rattle.wasm_codec.specs.Numbers.{unsigned_leb128};
 ghost use Rattle.wasm_codec.specs.declared.encode.EncodeError.TheVariants.{Memory};
 
 use super::EncodeError;
-use super::leb128::put_u32;
-use std::alloc::Allocator;
+use super::leb128::{put_u32, u32_len};
+use std::alloc::{AllocError, Allocator};
 
 /// Puts the number of the bytes from `start` on before them, in the fewest bytes, or leaves `bytes` as they were.
 ///
@@ -17,14 +18,119 @@ pub fn put_size_before<A: Allocator>(
     requires start { start ≤ vec_len bytes.old }
     requires size { vec_len bytes.old - start < 2 ^ 32 }
     ensures ok { OnOk result (bytes.new.items ≡
-        take start bytes.old.items ++ (unsigned_text (length bytes.old.items - start) ++ drop start bytes.old.items)) }
+        take start bytes.old.items ++ (unsigned_leb128 (length bytes.old.items - start) ++ drop start bytes.old.items)) }
     ensures err { OnErr result (bytes.new.items ≡ bytes.old.items) }
     ensures memory { IfErr result (λ e. e ≡ Memory) }
 {
+    let size = (bytes.len() - start) as u32;
+    put_number_before(bytes, start, size)?;
+    Ok(())
+}
+
+/// Puts another count in the place of the one at `start`, in the fewest bytes. An `Err` can leave no count there.
+///
+/// Where they differ in the number of their bytes, what follows is moved.
+pub fn mend_count<A: Allocator>(
+    bytes: &mut Vec<u8, A>,
+    start: usize,
+    wrong: u32,
+    right: u32,
+) -> Result<(), AllocError>
+    requires { start + length (unsigned_leb128 wrong) ≤ vec_len bytes.old }
+    ensures ok { OnOk result (bytes.new.items ≡ take start bytes.old.items ++
+        (unsigned_leb128 right ++ drop (start + length (unsigned_leb128 wrong)) bytes.old.items)) }
+    ensures kept { take start bytes.new.items ≡ take start bytes.old.items }
+{
+    take_out(bytes, start, u32_len(wrong));
+    put_number_before(bytes, start, right)
+}
+
+/// Takes so many bytes at `start` out, and moves what follows there.
+fn take_out<A: Allocator>(bytes: &mut Vec<u8, A>, start: usize, count: usize)
+    requires { start + count ≤ vec_len bytes.old }
+    ensures { bytes.new.items ≡ take start bytes.old.items ++ drop (start + count) bytes.old.items }
+{
+    bytes[start..].rotate_left(count);
+    bytes.truncate(bytes.len() - count);
+}
+
+/// Puts a number before the bytes from `start` on, in the fewest bytes, or leaves `bytes` as they were.
+fn put_number_before<A: Allocator>(
+    bytes: &mut Vec<u8, A>,
+    start: usize,
+    number: u32,
+) -> Result<(), AllocError>
+    requires { start ≤ vec_len bytes.old }
+    ensures ok { OnOk result (bytes.new.items ≡
+        take start bytes.old.items ++ (unsigned_leb128 number ++ drop start bytes.old.items)) }
+    ensures err { OnErr result (bytes.new.items ≡ bytes.old.items) }
+{
     let end = bytes.len();
     bytes.reserve(5)?;
-    put_u32(bytes, (end - start) as u32);
+    put_u32(bytes, number);
     let digits = bytes.len() - end;
     bytes[start..].rotate_right(digits);
     Ok(())
+}
+
+/// Appends a gap for the size of what comes next, which has at most so many bytes, and answers how many bytes it has.
+pub fn open_gap<A: Allocator>(bytes: &mut Vec<u8, A>, most: u32) -> Result<usize, AllocError>
+    ensures gap { IfOk result (λ gap. gap ≡ length (unsigned_leb128 most)) }
+    ensures opens { IfOk result (λ gap. OpensGap gap bytes.old.items bytes.new.items) }
+{
+    let gap = u32_len(most);
+    bytes.extend_from_slice(&[0; 5][..gap])?;
+    Ok(gap)
+}
+
+/// Puts the number of the bytes after a gap into the gap, in the fewest bytes, and closes what is left of it.
+///
+/// The gap has `gap` bytes from `start` on. It takes no memory, and where the number fills the gap no other byte moves.
+pub fn put_size_into<A: Allocator>(bytes: &mut Vec<u8, A>, start: usize, gap: usize)
+    requires within { start + gap ≤ vec_len bytes.old }
+    requires size { vec_len bytes.old - (start + gap) < 2 ^ 32 }
+    requires fits { length (unsigned_leb128 (vec_len bytes.old - (start + gap))) ≤ gap }
+    ensures { bytes.new.items ≡ take start bytes.old.items ++
+        (unsigned_leb128 (length bytes.old.items - (start + gap)) ++ drop (start + gap) bytes.old.items) }
+{
+    let end = start + gap;
+    let size = (bytes.len() - end) as u32;
+    let from = end - u32_len(size);
+    write_u32(&mut bytes[from..end], size);
+    let unused = from - start;
+    bytes[start..].rotate_left(unused);
+    let len = bytes.len() - unused;
+    bytes.truncate(len);
+}
+
+/// Writes the fewest digits of a number over as many bytes.
+#[tactic(auto, unfolding(crate::specs::Numbers::unsigned_leb128, crate::specs::Numbers::digits_of))]
+fn write_u32(digits: &mut [u8], value: u32)
+    requires { length digits.old ≡ length (unsigned_leb128 value) }
+    ensures { digits.new ≡ unsigned_leb128 value }
+{
+    let low = 128 + (value % 128) as u8;
+    let second = value / 128;
+    let third = second / 128;
+    let fourth = third / 128;
+    match value {
+        0..0x80 => digits.copy_from_slice(&[value as u8]),
+        0x80..0x4000 => digits.copy_from_slice(&[low, second as u8]),
+        0x4000..0x20_0000 => {
+            digits.copy_from_slice(&[low, 128 + (second % 128) as u8, third as u8]);
+        }
+        0x20_0000..0x1000_0000 => digits.copy_from_slice(&[
+            low,
+            128 + (second % 128) as u8,
+            128 + (third % 128) as u8,
+            fourth as u8,
+        ]),
+        _ => digits.copy_from_slice(&[
+            low,
+            128 + (second % 128) as u8,
+            128 + (third % 128) as u8,
+            128 + (fourth % 128) as u8,
+            (fourth / 128) as u8,
+        ]),
+    }
 }

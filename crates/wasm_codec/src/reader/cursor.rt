@@ -1,9 +1,11 @@
 //! A place in bytes, and what can be read there.
 ghost use Rattle.std.specs.Prelude.{◌≡◌, ◌^◌, ◌<◌, ◌≤◌, ◌&&◌, ◌-◌, ◌*◌, Some, IfOk, IfErr, length, take, drop, true, false, pos, negsuc};
 ghost use Rattle.wasm_codec.specs.Grammar.{IsBytes};
-ghost use Rattle.wasm_codec.specs.Numbers.{signed, signed_text};
-ghost use Rattle.wasm_codec.specs.Places.{Place, place, Reads, Sees, byte_at, number_at, u32_at, u64_at, s32_at, s64_at, index_at};
-ghost use Rattle.wasm_codec.specs.ReadDigits.{ReadsDigits, ReadsManyDigits, ReadsOne, fewest};
+ghost use Rattle.wasm_codec.specs.Numbers.{signed, signed_leb128};
+ghost use Rattle.wasm_codec.specs.Reading.{map_ok};
+ghost use Rattle.wasm_codec.specs.Places.{Place, place, Reads, Passes, Sees, byte_at, number_at, u32_at, u64_at, s32_at, s64_at, index_at};
+ghost use Rattle.wasm_codec.specs.formats.Bodies.{body_at};
+ghost use Rattle.wasm_codec.specs.ReadDigits.{ReadsDigits, ReadsManyDigits, ReadsOne, ReadsTwo, fewest};
 ghost use Rattle.wasm_codec.specs.declared.reader.cursor.Fault.TheVariants.{Malformed, Memory};
 
 use std::alloc::{AllocError, AllocFailed};
@@ -102,6 +104,7 @@ impl<'a> Cursor<'a> {
     }
 
     /// How many bytes are left.
+    #[inline(always)]
     pub fn len(&self) -> usize
         ensures { result ≡ length self.now.left }
     {
@@ -151,6 +154,7 @@ impl<'a> Cursor<'a> {
     }
 
     /// One byte.
+    #[inline(always)]
     #[tactic(auto, unfolding(crate::specs::Places::byte_at))]
     pub fn byte(&mut self) -> Result<u8, Fault>
         ensures reads { Reads byte_at self.old self.new result }
@@ -165,6 +169,7 @@ impl<'a> Cursor<'a> {
     }
 
     /// The byte that comes next, which is left there.
+    #[inline(always)]
     #[tactic(auto, unfolding(crate::specs::Places::byte_at))]
     pub fn peek(&self) -> Result<u8, Fault>
         ensures sees { Sees self.now result }
@@ -191,6 +196,33 @@ impl<'a> Cursor<'a> {
         Ok(taken)
     }
 
+    /// The bytes that are left, which stay there.
+    pub fn rest(&self) -> &'a [u8]
+        ensures { result.now ≡ self.now.left }
+    {
+        &self.bytes[self.position..]
+    }
+
+    /// Bytes after their number, as a place of their own: it tells of what was passed here, and goes on from there.
+    pub fn body(&mut self) -> Result<Cursor<'a>, Fault>
+        ensures reads { Reads body_at self.old self.new (map_ok (λ body. body.left) result) }
+        ensures tells { IfOk result (λ body. body ≡ place self.new.shortest body.left) }
+        ensures bytes { IfOk result (λ body. IsBytes body.left) }
+        ensures counted { IfOk result (λ body. length body.left < 2 ^ 32) }
+        ensures err { IfErr result (λ e. e ≡ Malformed) }
+    {
+        let size = self.u32()? as usize;
+        let bytes = self.take(size)?;
+        Ok(Cursor::at(bytes, 0, self.shortest))
+    }
+
+    /// A body was passed, and its place tells this at its end.
+    pub fn body_passed(&mut self, shortest: bool)
+        ensures { self.new ≡ place shortest self.old.left }
+    {
+        self.shortest = shortest;
+    }
+
     /// What was passed is in its shortest encoding only if this holds.
     fn keep(&mut self, kept: bool)
         ensures { self.new ≡ place (self.old.shortest && kept) self.old.left }
@@ -199,6 +231,7 @@ impl<'a> Cursor<'a> {
     }
 
     /// A number of one byte, where one comes next.
+    #[inline(always)]
     fn one_digit(&mut self) -> Option<u8>
         ensures { ReadsOne self.old self.new result }
     {
@@ -213,7 +246,25 @@ impl<'a> Cursor<'a> {
         Some(byte)
     }
 
+    /// The two bytes of a number of two bytes, where one comes next.
+    #[inline(always)]
+    fn two_digits(&mut self) -> Option<(u8, u8)>
+        ensures { ReadsTwo self.old self.new result }
+    {
+        if self.bytes.len() - self.position < 2 {
+            return None;
+        }
+        let first = self.bytes[self.position];
+        let second = self.bytes[self.position + 1];
+        if first < 128 || second >= 128 {
+            return None;
+        }
+        self.position += 2;
+        Some((first, second))
+    }
+
     /// The digits of a number, at most so many.
+    #[inline(always)]
     fn digits(&mut self, most: u32) -> Result<Digits, Fault>
         requires { most ≤ 5 }
         ensures reads { ReadsDigits most self.old self.new result }
@@ -264,7 +315,7 @@ impl<'a> Cursor<'a> {
     /// The digits of a signed number, at most five, and its value.
     #[tactic(auto, using(crate::proofs::NumberReading::signed_low, crate::proofs::NumberReading::signed_high))]
     fn signed(&mut self) -> Result<i64, Fault>
-        ensures reads { Reads (number_at 5 (λ digits. Some (signed digits)) signed_text) self.old self.new result }
+        ensures reads { Reads (number_at 5 (λ digits. Some (signed digits)) signed_leb128) self.old self.new result }
         ensures err { IfErr result (λ e. e ≡ Malformed) }
     {
         let Digits {
@@ -284,7 +335,7 @@ impl<'a> Cursor<'a> {
     /// The same, of at most ten.
     #[tactic(auto, using(crate::proofs::NumberReading::signed_low, crate::proofs::NumberReading::signed_high))]
     fn many_signed(&mut self) -> Result<i128, Fault>
-        ensures reads { Reads (number_at 10 (λ digits. Some (signed digits)) signed_text) self.old self.new result }
+        ensures reads { Reads (number_at 10 (λ digits. Some (signed digits)) signed_leb128) self.old self.new result }
         ensures err { IfErr result (λ e. e ≡ Malformed) }
     {
         let ManyDigits {
@@ -301,8 +352,8 @@ impl<'a> Cursor<'a> {
         }
     }
 
-    /// A u32 (Core 3.0, 5.2.2).
-    #[tactic(auto, using(crate::proofs::NumberReading::u32_one, crate::proofs::NumberReading::u32_is, crate::proofs::NumberReading::u32_wide, crate::proofs::NumberReading::u32_none))]
+    /// A u32 (Core 3.0, Integers).
+    #[inline(always)]
     pub fn u32(&mut self) -> Result<u32, Fault>
         ensures reads { Reads u32_at self.old self.new result }
         ensures err { IfErr result (λ e. e ≡ Malformed) }
@@ -310,6 +361,16 @@ impl<'a> Cursor<'a> {
         if let Some(byte) = self.one_digit() {
             return Ok(u32::from(byte));
         }
+        self.long_u32()
+    }
+
+    /// A u32 of any number of digits.
+    #[inline]
+    #[tactic(auto, using(crate::proofs::NumberReading::u32_is, crate::proofs::NumberReading::u32_wide, crate::proofs::NumberReading::u32_none))]
+    fn long_u32(&mut self) -> Result<u32, Fault>
+        ensures reads { Reads u32_at self.old self.new result }
+        ensures err { IfErr result (λ e. e ≡ Malformed) }
+    {
         let digits = self.digits(5)?;
         let Ok(value) = u32::try_from(digits.unsigned) else {
             return Err(Fault::Malformed);
@@ -318,8 +379,34 @@ impl<'a> Cursor<'a> {
         Ok(value)
     }
 
-    /// A u64 (Core 3.0, 5.2.2).
-    #[tactic(auto, using(crate::proofs::NumberReading::u64_one, crate::proofs::NumberReading::u64_is, crate::proofs::NumberReading::u64_wide, crate::proofs::NumberReading::u64_none))]
+    /// Passes a u32.
+    #[inline(always)]
+    pub fn pass_u32(&mut self) -> Result<(), Fault>
+        ensures { Passes u32_at self.old self.new result }
+    {
+        if let Some(byte) = self.one_digit() {
+            let _ = byte;
+            return Ok(());
+        }
+        if let Some((first, second)) = self.two_digits() {
+            let value = u64::from(first % 128) + 128 * u64::from(second);
+            self.keep(is_fewest(128, 16384, value));
+            return Ok(());
+        }
+        self.pass_long_u32()
+    }
+
+    /// Passes a u32 of any number of digits.
+    #[inline(never)]
+    fn pass_long_u32(&mut self) -> Result<(), Fault>
+        ensures { Passes u32_at self.old self.new result }
+    {
+        self.long_u32()?;
+        Ok(())
+    }
+
+    /// A u64 (Core 3.0, Integers).
+    #[inline(always)]
     pub fn u64(&mut self) -> Result<u64, Fault>
         ensures reads { Reads u64_at self.old self.new result }
         ensures err { IfErr result (λ e. e ≡ Malformed) }
@@ -327,6 +414,16 @@ impl<'a> Cursor<'a> {
         if let Some(byte) = self.one_digit() {
             return Ok(u64::from(byte));
         }
+        self.long_u64()
+    }
+
+    /// A u64 of any number of digits.
+    #[inline(never)]
+    #[tactic(auto, using(crate::proofs::NumberReading::u64_is, crate::proofs::NumberReading::u64_wide, crate::proofs::NumberReading::u64_none))]
+    fn long_u64(&mut self) -> Result<u64, Fault>
+        ensures reads { Reads u64_at self.old self.new result }
+        ensures err { IfErr result (λ e. e ≡ Malformed) }
+    {
         let digits = self.many_digits(10)?;
         let Ok(value) = u64::try_from(digits.unsigned) else {
             return Err(Fault::Malformed);
@@ -335,7 +432,8 @@ impl<'a> Cursor<'a> {
         Ok(value)
     }
 
-    /// An s32 (Core 3.0, 5.2.2).
+    /// An s32 (Core 3.0, Integers).
+    #[inline(always)]
     #[tactic(auto, using(crate::proofs::NumberReading::s32_low, crate::proofs::NumberReading::s32_high), unfolding(crate::specs::Places::s32_at))]
     pub fn s32(&mut self) -> Result<i32, Fault>
         ensures reads { Reads s32_at self.old self.new result }
@@ -345,11 +443,22 @@ impl<'a> Cursor<'a> {
             let value = i32::from(byte);
             return Ok(if byte < 64 { value } else { value - 128 });
         }
+        self.long_s32()
+    }
+
+    /// An s32 of any number of digits.
+    #[inline(never)]
+    #[tactic(auto, unfolding(crate::specs::Places::s32_at))]
+    fn long_s32(&mut self) -> Result<i32, Fault>
+        ensures reads { Reads s32_at self.old self.new result }
+        ensures err { IfErr result (λ e. e ≡ Malformed) }
+    {
         let value = self.signed()?;
         i32::try_from(value).map_err(|_| Fault::Malformed)
     }
 
-    /// An s64 (Core 3.0, 5.2.2).
+    /// An s64 (Core 3.0, Integers).
+    #[inline(always)]
     #[tactic(auto, using(crate::proofs::NumberReading::s64_low, crate::proofs::NumberReading::s64_high), unfolding(crate::specs::Places::s64_at))]
     pub fn s64(&mut self) -> Result<i64, Fault>
         ensures reads { Reads s64_at self.old self.new result }
@@ -359,11 +468,22 @@ impl<'a> Cursor<'a> {
             let value = i64::from(byte);
             return Ok(if byte < 64 { value } else { value - 128 });
         }
+        self.long_s64()
+    }
+
+    /// An s64 of any number of digits.
+    #[inline(never)]
+    #[tactic(auto, unfolding(crate::specs::Places::s64_at))]
+    fn long_s64(&mut self) -> Result<i64, Fault>
+        ensures reads { Reads s64_at self.old self.new result }
+        ensures err { IfErr result (λ e. e ≡ Malformed) }
+    {
         let value = self.many_signed()?;
         i64::try_from(value).map_err(|_| Fault::Malformed)
     }
 
-    /// An index in the place of a negative type code: an s33 that isn't negative (Core 3.0, 5.3.3).
+    /// An index in the place of a negative type code: an s33 that isn't negative (Core 3.0, Heap Types).
+    #[inline(always)]
     #[tactic(auto, using(crate::proofs::NumberReading::index_low, crate::proofs::NumberReading::index_high), unfolding(crate::specs::Places::index_at))]
     pub fn index(&mut self) -> Result<u32, Fault>
         ensures reads { Reads index_at self.old self.new result }
@@ -375,6 +495,16 @@ impl<'a> Cursor<'a> {
             }
             return Ok(u32::from(byte));
         }
+        self.long_index()
+    }
+
+    /// An index of any number of digits.
+    #[inline(never)]
+    #[tactic(auto, unfolding(crate::specs::Places::index_at))]
+    fn long_index(&mut self) -> Result<u32, Fault>
+        ensures reads { Reads index_at self.old self.new result }
+        ensures err { IfErr result (λ e. e ≡ Malformed) }
+    {
         let value = self.signed()?;
         u32::try_from(value).map_err(|_| Fault::Malformed)
     }

@@ -1,9 +1,6 @@
-use Rattle.std.proofs.Common.{refl}
-use Rattle.wasm_codec.proofs.PlaceLists.{step}
+use Rattle.std.proofs.Common.{sym, ◌∙◌}
+use Rattle.wasm_codec.proofs.Passing.{is_passed}
 use Rattle.wasm_codec.proofs.normaliser.pass_or_write.Goals as goal
 
-pub append-requires : goal.append-requires
-append-requires g c κs =
-    let h = c.in_ok-item.ensures in
-    let one = step h.lawful c.args.cursor.now (g.T.Readable.view c.in_ok-item.item) c.read.new.cursor c.requires.bytes h.reads in
-    ((refl, tt), h.lawful.in_range one.front (g.T.Readable.view c.in_ok-item.item) one.spells)
+pub returns-then-is_shortest-clause-passes : goal.returns-then-is_shortest-clause-passes
+returns-then-is_shortest-clause-passes g c = is_passed g.T.Readable.format c.args.cursor.now c.pass.new.cursor c.args.out.now.items c.in_ok-pass.ensures.passes (sym c.is_shortest.ensures ∙ c.if-is_shortest.true)

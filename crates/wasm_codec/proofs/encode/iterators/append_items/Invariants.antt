@@ -1,12 +1,15 @@
-use Rattle.std.proofs.Common.{◌≡◌, ◌++◌}
+use Rattle.std.proofs.Common.{◌≡◌, ◌++◌, ◌+◌, ◌≤◌, length}
 use Rattle.std.specs.Iterator.{size}
 use Rattle.std.specs.List.{All, flat_map}
-use Rattle.wasm_codec.specs.Numbers.{unsigned_text}
+use Rattle.wasm_codec.specs.Numbers.{unsigned_leb128}
 use Rattle.wasm_codec.proofs.encode.iterators.append_items.Given as goal
 
 abbrev pub invariant-loop-item : goal.invariant-loop-item
 invariant-loop-item g l =
     (goal.iterator-loop-item g).can_next l.item-iterator ×
     (goal.iterator-loop-item g).is_finite l.item-iterator ×
-    (l.sink.items ≡ l.fn.sink.items ++ (unsigned_text (size (g.I.Iterator.remaining l.fn.items)) ++ flat_map g.T.Encode.bytes l.yielded)) ×
-    All g.T.Encode.CanEncode l.yielded
+    (l.came ≡ length l.yielded) ×
+    (l.came + (goal.iterator-loop-item g).remaining l.item-iterator ≤ size (g.I.Iterator.remaining l.fn.items)) ×
+    (l.sink.items ≡ l.fn.sink.items ++ (unsigned_leb128 (size (g.I.Iterator.remaining l.fn.items)) ++ flat_map g.T.Encode.bytes l.yielded)) ×
+    All g.T.Encode.CanEncode l.yielded ×
+    All g.T.Encode.IsWritten l.yielded

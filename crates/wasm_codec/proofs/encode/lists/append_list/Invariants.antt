@@ -1,10 +1,11 @@
 use Rattle.std.proofs.Common.{◌≡◌, ◌++◌, length, take}
 use Rattle.std.specs.List.{All, flat_map}
-use Rattle.wasm_codec.specs.Numbers.{unsigned_text}
+use Rattle.wasm_codec.specs.Numbers.{unsigned_leb128}
 use Rattle.wasm_codec.proofs.encode.lists.append_list.Given as goal
 
 abbrev pub invariant-loop-item : goal.invariant-loop-item
 invariant-loop-item g l = record {
-  bytes : l.sink.items ≡ l.fn.sink.items ++ (unsigned_text (length l.items) ++ flat_map g.T.Encode.bytes (take l.item-index l.items));
+  bytes : l.sink.items ≡ l.fn.sink.items ++ (unsigned_leb128 (length l.items) ++ flat_map g.T.Encode.bytes (take l.item-index l.items));
   can : All g.T.Encode.CanEncode (take l.item-index l.items);
+  written : All g.T.Encode.IsWritten (take l.item-index l.items);
 }

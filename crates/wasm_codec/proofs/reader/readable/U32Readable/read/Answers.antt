@@ -1,4 +1,4 @@
-use Rattle.wasm_codec.specs.Numbers.{SpellsU32}
+use Rattle.wasm_codec.specs.Numbers.{EncodesU32}
 use Rattle.wasm_codec.proofs.FormatLaws.{Lawful-u32}
 use Rattle.wasm_codec.proofs.reader.readable.U32Readable.read.Goals as goal
 
@@ -6,5 +6,5 @@ pub returns-clause-lawful : goal.returns-clause-lawful
 returns-clause-lawful c = Lawful-u32
 
 pub returns-clause-some : goal.returns-clause-some
-unfolding SpellsU32
+unfolding EncodesU32
 returns-clause-some c v g = g.0

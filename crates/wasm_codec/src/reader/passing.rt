@@ -1,0 +1,36 @@
+//! What is passed and not made: where it ends, and whether it was in its shortest encoding.
+ghost use Rattle.wasm_codec.specs.Grammar.{TakesBytes};
+ghost use Rattle.wasm_codec.specs.Places.{Passes};
+ghost use Rattle.wasm_codec.specs.Lawful.{IsLawful};
+ghost use Rattle.wasm_codec.specs.formats.Combinators.{items};
+
+use super::cursor::{Cursor, Fault};
+use super::readable::Readable;
+
+/// What can be passed without being made. It takes no memory.
+pub trait Passable<'a>: Readable<'a> {
+    /// Passes the item that comes next. The cursor then tells whether it was in its shortest encoding.
+    fn pass(cursor: &mut Cursor<'a>) -> Result<(), Fault>
+        ensures passes { Passes Self.format.at cursor.old cursor.new result }
+        // What is passed is what is encoded, and the shortest encoding is known.
+        ensures lawful { IsLawful Self.format }
+        // No item is encoded by no bytes.
+        ensures some { TakesBytes Self.format.Encodes };
+}
+
+/// Passes a list: a count, and then the items, of which none is held.
+pub fn pass_list<'a, T: Passable<'a>>(cursor: &mut Cursor<'a>) -> Result<(), Fault>
+    ensures passes { Passes (items T.format).at cursor.old cursor.new result }
+{
+    let count = cursor.u32()?;
+    for _ in 0..count {
+        T::pass(cursor)?;
+    }
+    Ok(())
+}
+
+impl<'a> Passable<'a> for u32 {
+    fn pass(cursor: &mut Cursor<'a>) -> Result<(), Fault> {
+        cursor.pass_u32()
+    }
+}
