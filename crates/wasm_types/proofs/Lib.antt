@@ -1,3 +1,4 @@
 pub mod RewritingLaws
 pub mod TypeFormatLaws
 pub mod CountLaws
+pub mod WrittenTypes

@@ -1,5 +1,5 @@
 -- The laws of the formats of types: a line for each alternative.
-use Rattle.std.proofs.Common.{◌≡◌, ℕ, ◌≤◌, Bool, true, false, not, ◌&&◌, List, [], ◌∷◌, ◌++◌, length, length-append, Some, refl, subst, lit≤, arith}
+use Rattle.std.proofs.Common.{◌≡◌, ℕ, ◌≤◌, Bool, true, false, not, ◌&&◌, List, [], ◌∷◌, ◌++◌, length, length-append, ◌↔◌, Some, refl, subst, lit≤, arith}
 use Rattle.wasm_types.specs.declared.types.heap.AbstractHeapType.{AbstractHeapType}
 use Rattle.wasm_types.specs.declared.types.heap.AbstractHeapType.TheVariants as abstracts
 use Rattle.wasm_types.specs.declared.types.heap.HeapType.{HeapType}
@@ -11,15 +11,17 @@ use Rattle.wasm_types.specs.declared.types.value.StorageType.{StorageType}
 use Rattle.wasm_types.specs.declared.types.value.StorageType.TheVariants as storages
 use Rattle.wasm_types.specs.declared.types.composite.CompositeType.{CompositeType}
 use Rattle.wasm_types.specs.declared.types.composite.SubType.{SubType}
+use Rattle.wasm_types.specs.declared.types.composite.TypeEntry.{TypeEntry}
 use Rattle.wasm_types.specs.declared.types.composite.TypeEntry.TheVariants as entries
 use Rattle.wasm_codec.specs.Grammar.{Mapped}
 use Rattle.wasm_codec.specs.Grammar.{TakesBytes}
 use Rattle.wasm_codec.specs.formats.Combinators.{Choice, ◌⊗◌, made, or_else, after, flagged, u32, items}
 use Rattle.wasm_codec.proofs.FormatLaws.{IsFound, Every-made, Every-after, Every-either, Lawful-or-after, Lawful-or-after-long, Lawful-or-else, Lawful-variant-after, Lawful-made, Lawful-both, Lawful-variant, Lawful-flagged, Lawful-optional, Lawful-one-byte, Lawful-byte-or, Lawful-u32, Lawful-index, Lawful-items, Tagged-or, Tagged-never, takes_bytes, not_longer}
+use Rattle.wasm_codec.proofs.AskedLaws.{list_narrow}
 use Rattle.wasm_codec.proofs.ListLaws.{AtMostOne-list}
 use Rattle.wasm_codec.proofs.ListReading.{AtMostOne}
 use Rattle.wasm_codec.proofs.PlaceLists.{plain_reads}
-use Rattle.wasm_types.specs.formats.Types.{abstract_byte, abstract_types, abstract_type, abstract_of, abstract_parts, concrete_part, exact_part, heap_type, reference, nullable_part, short_form, has_short_form, ref_type, number_byte, number_types, ref_part, val_type, result_type, packed_byte, packed_types, val_part, storage_type, mutability_byte, mutability, field_of, field_type, func_of, func_parts, struct_of, struct_part, array_of, array_part, cont_of, cont_part, inner_byte, inner_type, composite_of, composite_type, sub_of, sub_parts, has_supertypes, sub_type, rec_part, sub_part, recursive_type, type_body}
+use Rattle.wasm_types.specs.formats.Types.{abstract_byte, abstract_types, abstract_type, abstract_of, abstract_parts, concrete_part, exact_part, heap_type, reference, nullable_part, short_form, has_short_form, ref_type, number_byte, number_types, ref_part, val_type, result_type, packed_byte, packed_types, val_part, storage_type, mutability_byte, mutability, field_of, field_type, func_of, func_parts, struct_of, struct_part, array_of, array_part, cont_of, cont_part, inner_byte, inner_type, composite_of, composite_type, sub_of, sub_parts, has_supertypes, sub_type, rec_part, sub_part, recursive_type, type_body, ShortestTypeBody}
 use Rattle.wasm_codec.specs.Lawful.{IsLawful}
 
 -- ---- heap types
@@ -174,6 +176,14 @@ Lawful-type-body = Lawful-items Lawful-recursive-type
 pub AtMostOne-type-body : AtMostOne type_body.Encodes
 unfolding type_body
 AtMostOne-type-body = AtMostOne-list (plain_reads Lawful-recursive-type.reads)
+
+-- the encodings by shortest ones alone are the shortest encodings
+pub is_shortest_body : (bytes : List ℕ) (entries : List TypeEntry) → ShortestTypeBody bytes entries ↔ (type_body.Encodes bytes entries × (bytes ≡ type_body.bytes entries))
+unfolding type_body
+is_shortest_body = list_narrow Lawful-recursive-type
+
+pub AtMostOne-shortest-body : AtMostOne ShortestTypeBody
+AtMostOne-shortest-body bytes v w g h = AtMostOne-type-body bytes v w ((is_shortest_body bytes v).0 g).0 ((is_shortest_body bytes w).0 h).0
 
 -- ---- no value is encoded by no bytes
 

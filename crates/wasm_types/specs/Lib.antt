@@ -1,3 +1,4 @@
 pub mod Types
 pub mod formats
 pub mod TypeCounts
+pub mod TypeRanges

@@ -1,4 +1,4 @@
--- Types that can be written: a u32 counts the items of each list in them (WebAssembly Core 3.0, 5.1.3).
+-- Types that can be written: a u32 counts the items of each list in them (WebAssembly Core 3.0, Lists).
 use Rattle.std.specs.Prelude.{ℕ, Bool, true, false, List, [], ◌∷◌, length}
 use Rattle.wasm_codec.specs.formats.Combinators.{u32, items}
 use Rattle.wasm_types.specs.declared.types.composite.FuncType.{FuncType}
@@ -33,7 +33,8 @@ abbrev pub CountedEntry : TypeEntry → Type 0
 CountedEntry (entries.Sub s) = CountedSub s
 CountedEntry (entries.Rec types) = CanEncodeList CountedSub types
 
--- what stands before the composite type of a subtype (5.3.11): nothing, where it is final and has no supertypes
+-- what stands before the composite type of a subtype (Recursive Types): nothing, where it is final and has no
+-- supertypes
 abbrev pub supertypes_bytes : Bool → List ℕ → List ℕ
 supertypes_bytes true [] = []
 supertypes_bytes true (index ∷ indexes) = 0x4f ∷ (items u32).bytes (index ∷ indexes)

@@ -1,4 +1,4 @@
-//! Types of WebAssembly (Core 3.0, 2.3 and 5.3): heap, reference, value and storage types, composite types, subtypes and
+//! Types of WebAssembly (Core 3.0, Types): heap, reference, value and storage types, composite types, subtypes and
 //! the entries of a type section, with their writers and readers.
 #![tactic(auto)]
 

@@ -6,4 +6,4 @@ mod type_bodies;
 
 pub use composite_types::read_entry;
 pub use heap_types::{read_heap_type, read_val_type};
-pub use type_bodies::{normalise_type_section, read_type_section};
+pub use type_bodies::{normalise_type_section, read_type_section, read_type_section_strict};

@@ -1,5 +1,5 @@
-//! Heap, reference, value, storage and composite types, subtypes, and entries of a type section (Core 3.0, 5.3 and
-//! 5.5.4).
+//! Heap, reference, value, storage and composite types, subtypes, and entries of a type section (Core 3.0, Types and
+//! Type Section).
 
 mod composite;
 mod copies;

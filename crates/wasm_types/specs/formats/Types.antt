@@ -1,4 +1,4 @@
--- Types in the binary format, each stated once (WebAssembly Core 3.0, 5.3 Types). Over each stands the standard's
+-- Types in the binary format, each stated once (WebAssembly Core 3.0, Types). Over each stands the standard's
 -- production; what proposals add to it stands below (shared types, exact ones, continuations, descriptors).
 use Rattle.std.specs.Prelude.{ℕ, Bool, true, false, not, ◌&&◌, is_some, List, [], ◌∷◌, Option, Some, None}
 use Rattle.wasm_types.specs.declared.types.heap.AbstractHeapType.{AbstractHeapType}
@@ -17,7 +17,8 @@ use Rattle.wasm_types.specs.declared.types.composite.CompositeType.{CompositeTyp
 use Rattle.wasm_types.specs.declared.types.composite.SubType.{SubType}
 use Rattle.wasm_types.specs.declared.types.composite.TypeEntry.{TypeEntry}
 use Rattle.wasm_types.specs.declared.types.composite.TypeEntry.TheVariants as entries
-use Rattle.wasm_codec.specs.Lists.{IsListFront}
+use Rattle.wasm_codec.specs.Grammar.{Grammar}
+use Rattle.wasm_codec.specs.Lists.{IsListPrefix, AskedList, IsAskedPrefix}
 use Rattle.wasm_codec.specs.formats.Combinators.{Format, ◌⊗◌, made, any_of, or_else, no_other, after, after_long, tagged, variant, variant_after, flagged, optional, one_byte, byte_or, u32, index, items}
 
 -- ---- heap types
@@ -204,7 +205,8 @@ inner_type = any_of
 abbrev pub composite_of : Bool × (Option ℕ × (Option ℕ × CompositeInnerType)) → CompositeType
 composite_of p = record { inner = p.1.1.1; shared = p.0; descriptor = p.1.1.0; describes = p.1.0 }
 
--- and of proposals, before a comptype: 0x65 where it is shared, 0x4C x:u32 where it describes x, 0x4D x:u32 where x describes it
+-- and of proposals, before a comptype: 0x65 where it is shared, 0x4C x:u32 where it describes x, 0x4D x:u32 where x
+-- describes it
 unfoldable pub composite_type : Format CompositeType
 composite_type = made composite_of (λ c. Some (c.shared, (c.describes, (c.descriptor, c.inner)))) (flagged 0x65 (optional 0x4c u32 (optional 0x4d u32 inner_type)))
 
@@ -248,4 +250,11 @@ type_body = items recursive_type
 
 -- a prefix of a type body that is whole: nothing, or a count and at most as many entries
 abbrev pub IsTypeBodyPrefix : List ℕ → Type 0
-IsTypeBodyPrefix = IsListFront recursive_type.Encodes
+IsTypeBodyPrefix = IsListPrefix recursive_type.Encodes
+
+-- the same, with the count and each entry in its shortest encoding
+abbrev pub ShortestTypeBody : Grammar (List TypeEntry)
+ShortestTypeBody = AskedList true recursive_type
+
+abbrev pub IsShortestTypeBodyPrefix : List ℕ → Type 0
+IsShortestTypeBodyPrefix = IsAskedPrefix true recursive_type

@@ -1,7 +1,11 @@
-//! Fields, composite types, subtypes and the entries of a type section, written (Core 3.0, 5.3.8 to 5.3.12).
+//! Fields, composite types, subtypes and the entries of a type section, written (Core 3.0, Composite Types to Recursive
+//! Types).
 ghost use Rattle.std.specs.Prelude.{◌≡◌, ◌++◌, ◌+◌, ◌≤◌, OnOk, IfErr, length, take, vec_len, vec_capacity};
-ghost use Rattle.wasm_codec.specs.Encoding.{IsCount, IsCountRefusal, IsRefusal, OnlyTooLong};
+ghost use Rattle.wasm_codec.specs.Encoding.{IsCount, IsCountRefusal, IsRefusal, IsShortest, OnlyTooLong};
 ghost use Rattle.wasm_types.specs.declared.types.composite.CompositeInnerType.TheVariants as inner;
+ghost use Rattle.wasm_types.specs.TypeRanges.{StorageTypeFits};
+ghost use Rattle.wasm_codec.specs.Numbers.{EncodesU32, unsigned_leb128};
+ghost use Rattle.std.specs.List.{All};
 ghost use Rattle.wasm_types.specs.formats.Types.{field_type, inner_type, composite_type, sub_type, recursive_type};
 ghost use Rattle.wasm_types.specs.TypeCounts.{CountedFunc, CountedStruct, CountedInner, CountedComposite, CountedSub, CountedEntry, supertypes_bytes};
 
@@ -19,15 +23,19 @@ use wasm_codec::encode::{Encode, EncodeError, encode_list, keep_or_undo};
 fn put_field_type<A: Allocator>(bytes: &mut Vec<u8, A>, field: FieldType)
     requires { vec_len bytes.old + 8 ≤ vec_capacity bytes.old }
     ensures items { bytes.new.items ≡ bytes.old.items ++ field_type.bytes field }
+    ensures fits { StorageTypeFits field.element_type }
     ensures capacity { vec_capacity bytes.new ≡ vec_capacity bytes.old }
 {
     put_storage_type(bytes, field.element_type);
     bytes.push_reserved(u8::from(field.mutable));
 }
 
-/// A storage type, and then `0x00` where it is constant or `0x01` where it is mutable (Core 3.0, 5.3.8).
+/// A storage type, and then `0x00` where it is constant or `0x01` where it is mutable (Core 3.0, Composite Types).
+#[tactic(auto, using(crate::proofs::WrittenTypes::field_written))]
 impl Encode for FieldType {
     ghost bytes = { field_type.bytes };
+
+    ghost IsWritten = { IsShortest field_type.Encodes field_type.bytes };
 
     fn encode<A: Allocator>(&self, sink: &mut Vec<u8, A>) -> Result<(), EncodeError> {
         sink.reserve(8)?;
@@ -37,10 +45,11 @@ impl Encode for FieldType {
 }
 
 /// Appends a function type. An `Err` can leave a part of it.
-#[tactic(auto, unfolding(crate::specs::formats::Types::inner_type, crate::specs::formats::Types::result_type))]
+#[tactic(auto, using(crate::proofs::WrittenTypes::func_ok), unfolding(crate::specs::formats::Types::inner_type, crate::specs::formats::Types::result_type))]
 fn append_func<A: Allocator>(ty: &FuncType, sink: &mut Vec<u8, A>) -> Result<(), EncodeError>
     ensures ok { OnOk result (sink.new.items ≡ sink.old.items ++ inner_type.bytes (inner.Func ty.now)) }
     ensures can { OnOk result (CountedFunc ty.now) }
+    ensures written { OnOk result (IsShortest inner_type.Encodes inner_type.bytes (inner.Func ty.now)) }
     ensures refused { IfErr result (IsRefusal CountedFunc OnlyTooLong ty.now) }
     ensures kept { take (length sink.old.items) sink.new.items ≡ sink.old.items }
 {
@@ -50,9 +59,11 @@ fn append_func<A: Allocator>(ty: &FuncType, sink: &mut Vec<u8, A>) -> Result<(),
     encode_list(ty.results(), sink)
 }
 
-/// `0x60`, the parameters and the results (Core 3.0, 5.3.10).
+/// `0x60`, the parameters and the results (Core 3.0, Composite Types).
 impl Encode for FuncType {
     ghost bytes = { λ ty. inner_type.bytes (inner.Func ty) };
+
+    ghost IsWritten = { λ ty. IsShortest inner_type.Encodes inner_type.bytes (inner.Func ty) };
 
     ghost CanEncode = { CountedFunc };
 
@@ -65,10 +76,12 @@ impl Encode for FuncType {
     }
 }
 
-/// `0x5F` and the fields (Core 3.0, 5.3.10).
-#[tactic(auto, unfolding(crate::specs::formats::Types::inner_type, crate::specs::formats::Types::result_type))]
+/// `0x5F` and the fields (Core 3.0, Composite Types).
+#[tactic(auto, using(crate::proofs::WrittenTypes::struct_ok), unfolding(crate::specs::formats::Types::inner_type, crate::specs::formats::Types::result_type))]
 impl Encode for StructType {
     ghost bytes = { λ ty. inner_type.bytes (inner.Struct ty) };
+
+    ghost IsWritten = { λ ty. IsShortest inner_type.Encodes inner_type.bytes (inner.Struct ty) };
 
     ghost CanEncode = { CountedStruct };
 
@@ -83,10 +96,12 @@ impl Encode for StructType {
     }
 }
 
-/// `0x5E` and the field (Core 3.0, 5.3.10).
-#[tactic(auto, unfolding(crate::specs::formats::Types::inner_type, crate::specs::formats::Types::result_type))]
+/// `0x5E` and the field (Core 3.0, Composite Types).
+#[tactic(auto, using(crate::proofs::WrittenTypes::array_written), unfolding(crate::specs::formats::Types::inner_type, crate::specs::formats::Types::result_type))]
 impl Encode for ArrayType {
     ghost bytes = { λ ty. inner_type.bytes (inner.Array ty) };
+
+    ghost IsWritten = { λ ty. IsShortest inner_type.Encodes inner_type.bytes (inner.Array ty) };
 
     fn encode<A: Allocator>(&self, sink: &mut Vec<u8, A>) -> Result<(), EncodeError> {
         sink.reserve(9)?;
@@ -97,9 +112,11 @@ impl Encode for ArrayType {
 }
 
 /// `0x5D` and the index of a function type, as an s33 (a proposal).
-#[tactic(auto, unfolding(crate::specs::formats::Types::inner_type, crate::specs::formats::Types::result_type))]
+#[tactic(auto, using(crate::proofs::WrittenTypes::cont_written), unfolding(crate::specs::formats::Types::inner_type, crate::specs::formats::Types::result_type))]
 impl Encode for ContType {
     ghost bytes = { λ ty. inner_type.bytes (inner.Cont ty) };
+
+    ghost IsWritten = { λ ty. IsShortest inner_type.Encodes inner_type.bytes (inner.Cont ty) };
 
     fn encode<A: Allocator>(&self, sink: &mut Vec<u8, A>) -> Result<(), EncodeError> {
         sink.reserve(6)?;
@@ -109,9 +126,11 @@ impl Encode for ContType {
     }
 }
 
-/// The bytes of what it is made of (Core 3.0, 5.3.10).
+/// The bytes of what it is made of (Core 3.0, Composite Types).
 impl Encode for CompositeInnerType {
     ghost bytes = { inner_type.bytes };
+
+    ghost IsWritten = { IsShortest inner_type.Encodes inner_type.bytes };
 
     ghost CanEncode = { CountedInner };
 
@@ -128,13 +147,14 @@ impl Encode for CompositeInnerType {
 }
 
 /// Appends a composite type. An `Err` can leave a part of it.
-#[tactic(auto, unfolding(crate::specs::formats::Types::composite_type))]
+#[tactic(auto, using(crate::proofs::WrittenTypes::composite_ok), unfolding(crate::specs::formats::Types::composite_type))]
 fn append_composite<A: Allocator>(
     ty: &CompositeType,
     sink: &mut Vec<u8, A>,
 ) -> Result<(), EncodeError>
     ensures ok { OnOk result (sink.new.items ≡ sink.old.items ++ composite_type.bytes ty.now) }
     ensures can { OnOk result (CountedComposite ty.now) }
+    ensures written { OnOk result (IsShortest composite_type.Encodes composite_type.bytes ty.now) }
     ensures refused { IfErr result (IsRefusal CountedComposite OnlyTooLong ty.now) }
     ensures kept { take (length sink.old.items) sink.new.items ≡ sink.old.items }
 {
@@ -153,9 +173,11 @@ fn append_composite<A: Allocator>(
     ty.inner.encode(sink)
 }
 
-/// What it shares and describes, its descriptor, and what it is made of (Core 3.0, 5.3.10 and proposals).
+/// What it shares and describes, its descriptor, and what it is made of (Core 3.0, Composite Types and proposals).
 impl Encode for CompositeType {
     ghost bytes = { composite_type.bytes };
+
+    ghost IsWritten = { IsShortest composite_type.Encodes composite_type.bytes };
 
     ghost CanEncode = { CountedComposite };
 
@@ -176,6 +198,7 @@ fn append_supertypes<A: Allocator>(
 ) -> Result<(), EncodeError>
     ensures ok { OnOk result (sink.new.items ≡ sink.old.items ++ supertypes_bytes is_final supertypes.now) }
     ensures can { OnOk result (IsCount (length supertypes.now)) }
+    ensures written { OnOk result (All (IsShortest EncodesU32 unsigned_leb128) supertypes.now) }
     ensures refused { IfErr result (IsCountRefusal (length supertypes.now)) }
     ensures kept { take (length sink.old.items) sink.new.items ≡ sink.old.items }
 {
@@ -190,10 +213,11 @@ fn append_supertypes<A: Allocator>(
 }
 
 /// Appends a subtype. An `Err` can leave a part of it.
-#[tactic(auto, unfolding(crate::specs::formats::Types::sub_type))]
+#[tactic(auto, using(crate::proofs::WrittenTypes::sub_ok), unfolding(crate::specs::formats::Types::sub_type))]
 fn append_sub<A: Allocator>(ty: &SubType, sink: &mut Vec<u8, A>) -> Result<(), EncodeError>
     ensures ok { OnOk result (sink.new.items ≡ sink.old.items ++ sub_type.bytes ty.now) }
     ensures can { OnOk result (CountedSub ty.now) }
+    ensures written { OnOk result (IsShortest sub_type.Encodes sub_type.bytes ty.now) }
     ensures refused { IfErr result (IsRefusal CountedSub OnlyTooLong ty.now) }
     ensures kept { take (length sink.old.items) sink.new.items ≡ sink.old.items }
 {
@@ -202,9 +226,11 @@ fn append_sub<A: Allocator>(ty: &SubType, sink: &mut Vec<u8, A>) -> Result<(), E
 }
 
 /// `0x50` or `0x4F` and the supertypes, and the composite type; a final one without supertypes is the composite type
-/// alone (Core 3.0, 5.3.11).
+/// alone (Core 3.0, Recursive Types).
 impl Encode for SubType {
     ghost bytes = { sub_type.bytes };
+
+    ghost IsWritten = { IsShortest sub_type.Encodes sub_type.bytes };
 
     ghost CanEncode = { CountedSub };
 
@@ -217,10 +243,12 @@ impl Encode for SubType {
     }
 }
 
-/// `0x4E` and a list of subtypes, or one subtype (Core 3.0, 5.3.12).
-#[tactic(auto, using(wasm_codec::proofs::WrittenLists::list_refused), unfolding(crate::specs::formats::Types::recursive_type))]
+/// `0x4E` and a list of subtypes, or one subtype (Core 3.0, Recursive Types).
+#[tactic(auto, using(wasm_codec::proofs::WrittenLists::list_refused, crate::proofs::WrittenTypes::alone_ok, crate::proofs::WrittenTypes::group_ok), unfolding(crate::specs::formats::Types::recursive_type))]
 impl Encode for TypeEntry {
     ghost bytes = { recursive_type.bytes };
+
+    ghost IsWritten = { IsShortest recursive_type.Encodes recursive_type.bytes };
 
     ghost CanEncode = { CountedEntry };
 

@@ -1,6 +1,9 @@
-//! Heap, reference, value and storage types, written into room that was reserved (Core 3.0, 5.3.3 to 5.3.8).
+//! Heap, reference, value and storage types, written into room that was reserved (Core 3.0, Heap Types to Composite
+//! Types).
 ghost use Rattle.std.specs.Prelude.{◌≡◌, [], ◌∷◌, ◌++◌, ◌+◌, ◌≤◌, vec_len, vec_capacity};
 ghost use Rattle.wasm_codec.specs.formats.Combinators.{flagged};
+ghost use Rattle.wasm_codec.specs.Encoding.{IsShortest};
+ghost use Rattle.wasm_types.specs.TypeRanges.{HeapTypeFits, ValTypeFits, StorageTypeFits};
 ghost use Rattle.wasm_types.specs.formats.Types.{abstract_type, heap_type, ref_type, val_type, storage_type};
 
 use crate::types::{AbstractHeapType, HeapType, RefType, StorageType, ValType};
@@ -49,6 +52,7 @@ fn put_abstract<A: Allocator>(bytes: &mut Vec<u8, A>, shared: bool, ty: Abstract
 pub fn put_heap_type<A: Allocator>(bytes: &mut Vec<u8, A>, ty: HeapType)
     requires { vec_len bytes.old + 6 ≤ vec_capacity bytes.old }
     ensures items { bytes.new.items ≡ bytes.old.items ++ heap_type.bytes ty }
+    ensures fits { HeapTypeFits ty }
     ensures len { vec_len bytes.new ≤ vec_len bytes.old + 6 }
     ensures capacity { vec_capacity bytes.new ≡ vec_capacity bytes.old }
 {
@@ -67,6 +71,7 @@ pub fn put_heap_type<A: Allocator>(bytes: &mut Vec<u8, A>, ty: HeapType)
 pub fn put_ref_type<A: Allocator>(bytes: &mut Vec<u8, A>, ty: RefType)
     requires { vec_len bytes.old + 7 ≤ vec_capacity bytes.old }
     ensures items { bytes.new.items ≡ bytes.old.items ++ ref_type.bytes ty }
+    ensures fits { HeapTypeFits ty.heap_type }
     ensures len { vec_len bytes.new ≤ vec_len bytes.old + 7 }
     ensures capacity { vec_capacity bytes.new ≡ vec_capacity bytes.old }
 {
@@ -89,6 +94,7 @@ pub fn put_ref_type<A: Allocator>(bytes: &mut Vec<u8, A>, ty: RefType)
 pub fn put_val_type<A: Allocator>(bytes: &mut Vec<u8, A>, ty: ValType)
     requires { vec_len bytes.old + 7 ≤ vec_capacity bytes.old }
     ensures items { bytes.new.items ≡ bytes.old.items ++ val_type.bytes ty }
+    ensures fits { ValTypeFits ty }
     ensures len { vec_len bytes.new ≤ vec_len bytes.old + 7 }
     ensures capacity { vec_capacity bytes.new ≡ vec_capacity bytes.old }
 {
@@ -107,6 +113,7 @@ pub fn put_val_type<A: Allocator>(bytes: &mut Vec<u8, A>, ty: ValType)
 pub fn put_storage_type<A: Allocator>(bytes: &mut Vec<u8, A>, ty: StorageType)
     requires { vec_len bytes.old + 7 ≤ vec_capacity bytes.old }
     ensures items { bytes.new.items ≡ bytes.old.items ++ storage_type.bytes ty }
+    ensures fits { StorageTypeFits ty }
     ensures len { vec_len bytes.new ≤ vec_len bytes.old + 7 }
     ensures capacity { vec_capacity bytes.new ≡ vec_capacity bytes.old }
 {
@@ -117,9 +124,12 @@ pub fn put_storage_type<A: Allocator>(bytes: &mut Vec<u8, A>, ty: StorageType)
     }
 }
 
-/// One byte (Core 3.0, 5.3.3).
+/// One byte (Core 3.0, Heap Types).
+#[tactic(auto, using(crate::proofs::WrittenTypes::abstract_written))]
 impl Encode for AbstractHeapType {
     ghost bytes = { abstract_type.bytes };
+
+    ghost IsWritten = { IsShortest abstract_type.Encodes abstract_type.bytes };
 
     fn encode<A: Allocator>(&self, sink: &mut Vec<u8, A>) -> Result<(), EncodeError> {
         sink.reserve(1)?;
@@ -128,9 +138,12 @@ impl Encode for AbstractHeapType {
     }
 }
 
-/// A byte or two, or an index as an s33, or `0x62` and an index (Core 3.0, 5.3.3).
+/// A byte or two, or an index as an s33, or `0x62` and an index (Core 3.0, Heap Types).
+#[tactic(auto, using(crate::proofs::WrittenTypes::heap_written))]
 impl Encode for HeapType {
     ghost bytes = { heap_type.bytes };
+
+    ghost IsWritten = { IsShortest heap_type.Encodes heap_type.bytes };
 
     fn encode<A: Allocator>(&self, sink: &mut Vec<u8, A>) -> Result<(), EncodeError> {
         sink.reserve(6)?;
@@ -139,9 +152,12 @@ impl Encode for HeapType {
     }
 }
 
-/// The short form for a nullable abstract one, else `0x63` or `0x64` and the heap type (Core 3.0, 5.3.5).
+/// The short form for a nullable abstract one, else `0x63` or `0x64` and the heap type (Core 3.0, Reference Types).
+#[tactic(auto, using(crate::proofs::WrittenTypes::ref_written))]
 impl Encode for RefType {
     ghost bytes = { ref_type.bytes };
+
+    ghost IsWritten = { IsShortest ref_type.Encodes ref_type.bytes };
 
     fn encode<A: Allocator>(&self, sink: &mut Vec<u8, A>) -> Result<(), EncodeError> {
         sink.reserve(7)?;
@@ -150,9 +166,12 @@ impl Encode for RefType {
     }
 }
 
-/// One byte, or a reference type (Core 3.0, 5.3.6).
+/// One byte, or a reference type (Core 3.0, Value Types).
+#[tactic(auto, using(crate::proofs::WrittenTypes::val_written))]
 impl Encode for ValType {
     ghost bytes = { val_type.bytes };
+
+    ghost IsWritten = { IsShortest val_type.Encodes val_type.bytes };
 
     fn encode<A: Allocator>(&self, sink: &mut Vec<u8, A>) -> Result<(), EncodeError> {
         sink.reserve(7)?;
@@ -161,9 +180,12 @@ impl Encode for ValType {
     }
 }
 
-/// One byte where it is packed, else a value type (Core 3.0, 5.3.8).
+/// One byte where it is packed, else a value type (Core 3.0, Composite Types).
+#[tactic(auto, using(crate::proofs::WrittenTypes::storage_written))]
 impl Encode for StorageType {
     ghost bytes = { storage_type.bytes };
+
+    ghost IsWritten = { IsShortest storage_type.Encodes storage_type.bytes };
 
     fn encode<A: Allocator>(&self, sink: &mut Vec<u8, A>) -> Result<(), EncodeError> {
         sink.reserve(7)?;

@@ -1,4 +1,5 @@
-//! Fields, composite types, subtypes and entries of a type section (Core 3.0, 5.3.8 to 5.3.12 and 5.5.4).
+//! Fields, composite types, subtypes and entries of a type section (Core 3.0, Composite Types, Recursive Types and Type
+//! Section).
 ghost use Rattle.std.specs.Prelude.{◌≡◌, IfErr, refl};
 ghost use Rattle.wasm_codec.specs.Grammar.{TakesBytes};
 ghost use Rattle.wasm_codec.specs.Reading.{map_ok};
@@ -13,14 +14,17 @@ ghost use Rattle.wasm_types.specs.declared.types.composite.SubType.{SubType};
 ghost use Rattle.wasm_types.specs.declared.types.composite.TypeEntry.{TypeEntry};
 
 use super::heap_types::{read_storage_type, read_val_type};
+use crate::encode::put_val_type;
 use crate::types::{
     ArrayType, CompositeInnerType, CompositeType, ContType, FieldType, FuncType, StructType,
     SubType, TypeEntry, ValType,
 };
 use std::alloc::Global;
 use wasm_codec::list::Items;
+use wasm_codec::normaliser::Normalisable;
 use wasm_codec::reader::cursor::{Cursor, Fault};
 use wasm_codec::reader::lists::read_list;
+use wasm_codec::reader::passing::Passable;
 use wasm_codec::reader::readable::Readable;
 
 impl<'a> Readable<'a> for ValType {
@@ -42,6 +46,27 @@ impl<'a> Readable<'a> for ValType {
     {
         let _ = alloc;
         read_val_type(cursor)
+    }
+}
+
+impl<'a> Passable<'a> for ValType {
+    fn pass(cursor: &mut Cursor<'a>) -> Result<(), Fault> {
+        read_val_type(cursor)?;
+        Ok(())
+    }
+}
+
+impl<'a> Normalisable<'a> for ValType {
+    fn write_anew(
+        alloc: Global,
+        cursor: &mut Cursor<'a>,
+        bytes: &mut Vec<u8>,
+    ) -> Result<(), Fault> {
+        let _ = alloc;
+        let ty = read_val_type(cursor)?;
+        bytes.reserve(7)?;
+        put_val_type(bytes, ty);
+        Ok(())
     }
 }
 

@@ -1,4 +1,4 @@
-//! Heap, reference, value and storage types (Core 3.0, 5.3.3 to 5.3.8).
+//! Heap, reference, value and storage types (Core 3.0, Heap Types to Composite Types).
 ghost use Rattle.std.specs.Prelude.{◌≡◌, IfErr};
 ghost use Rattle.wasm_codec.specs.Places.{Reads};
 ghost use Rattle.wasm_codec.specs.formats.Combinators.{flagged};

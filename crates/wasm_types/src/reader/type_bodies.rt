@@ -1,9 +1,9 @@
-//! Bodies of type sections (Core 3.0, 5.5.4).
+//! Bodies of type sections (Core 3.0, Type Section).
 ghost use Rattle.std.specs.Prelude.{◌≡◌, ◌↔◌, ◌++◌, List, IfOk, OnOk};
-ghost use Rattle.wasm_codec.specs.Answers.{IsOrMemory, IfRefused, IsLongestFront, IsNormalForm};
-ghost use Rattle.wasm_codec.specs.Encoding.{IsTextOrLonger};
+ghost use Rattle.wasm_codec.specs.Answers.{IsOrMemory, IfRefused, IsLongestPrefix, IsNormalForm, EncodesSome};
+ghost use Rattle.wasm_codec.specs.Encoding.{IsShortestOrLonger};
 ghost use Rattle.wasm_codec.specs.Lawful.{plain, IsPrefixFree};
-ghost use Rattle.wasm_types.specs.formats.Types.{sub_type, recursive_type, type_body, IsTypeBodyPrefix, storage_type};
+ghost use Rattle.wasm_types.specs.formats.Types.{sub_type, recursive_type, type_body, IsTypeBodyPrefix, ShortestTypeBody, IsShortestTypeBodyPrefix, storage_type};
 ghost use Rattle.wasm_types.specs.declared.types.composite.SubType.{SubType};
 ghost use Rattle.wasm_types.specs.declared.types.composite.TypeEntry.{TypeEntry};
 ghost use Rattle.wasm_codec.specs.Rewriting.{Rewrites};
@@ -13,11 +13,11 @@ use std::alloc::{AllocError, Global};
 use wasm_codec::encode::{Encode, EncodeError};
 use wasm_codec::reader::ReadError;
 use wasm_codec::reader::cursor::{Cursor, Fault};
-use wasm_codec::reader::lists::read_list_to_end;
+use wasm_codec::reader::lists::{read_list_to_end, read_list_to_end_as};
 use wasm_codec::reader::readable::Readable;
 use wasm_codec::rewriter::{Rewritable, rewrite_list, rewrite_list_to_end};
 
-/// The entries that the body of a type section encodes, in any encoding (Core 3.0, 5.5.4).
+/// The entries that the body of a type section encodes, in any encoding (Core 3.0, Type Section).
 ///
 /// `Refused` carries the number of bytes of the count and of the entries that are whole before the first that isn't,
 /// or before what is left over.
@@ -29,13 +29,13 @@ pub fn read_type_section(alloc: Global, body: &[u8]) -> Result<Vec<TypeEntry>, R
     ensures complete { (entries : List TypeEntry) → type_body.Encodes body.now entries →
         IsOrMemory (λ given. given.items) entries result }
     // `at` is the length of the longest prefix that is whole.
-    ensures front { IfRefused result (IsLongestFront IsTypeBodyPrefix body.now) }
+    ensures prefix { IfRefused result (IsLongestPrefix IsTypeBodyPrefix body.now) }
     // The body encodes at most one list.
     ensures one { (entries others : List TypeEntry) →
         type_body.Encodes body.now entries → type_body.Encodes body.now others → entries ≡ others }
     // Every other encoding of a list is longer than the one that is written.
     ensures shortest { (entries : List TypeEntry) → type_body.Encodes body.now entries →
-        IsTextOrLonger body.now (type_body.bytes entries) }
+        IsShortestOrLonger body.now (type_body.bytes entries) }
     // No encoding of any of these is a proper prefix of another of its kind.
     ensures prefix_free_storage_types { IsPrefixFree storage_type.Encodes }
     ensures prefix_free_sub_types { IsPrefixFree sub_type.Encodes }
@@ -44,75 +44,112 @@ pub fn read_type_section(alloc: Global, body: &[u8]) -> Result<Vec<TypeEntry>, R
     read_list_to_end(alloc, body)
 }
 
-/// The normal bytes of the body of a type section: the same entries in the fewest bytes (Core 3.0, 5.5.4).
+/// The entries whose shortest encoding the body of a type section is (Core 3.0, Type Section).
+///
+/// `Refused` carries the number of bytes of the count and of the entries that are whole and in their shortest
+/// encodings, before the first that isn't, or before what is left over; it is 0 where the count isn't in the fewest
+/// bytes.
+pub fn read_type_section_strict(alloc: Global, body: &[u8]) -> Result<Vec<TypeEntry>, ReadError>
+    // What is given, the body is the shortest encoding of.
+    ensures given { IfOk result (λ entries. ShortestTypeBody body.now entries.items) }
+    // What the body is the shortest encoding of is given, unless memory ran out.
+    ensures complete { (entries : List TypeEntry) → ShortestTypeBody body.now entries →
+        IsOrMemory (λ given. given.items) entries result }
+    // `at` is the length of the longest prefix that is whole and in shortest encodings.
+    ensures prefix { IfRefused result (IsLongestPrefix IsShortestTypeBodyPrefix body.now) }
+    // The body is the shortest encoding of at most one list.
+    ensures one { (entries others : List TypeEntry) →
+        ShortestTypeBody body.now entries → ShortestTypeBody body.now others → entries ≡ others }
+    // That is so where it encodes the list, as `read_type_section` tells, and is as `normalise_type_section` leaves it.
+    ensures shortest { (entries : List TypeEntry) → ShortestTypeBody body.now entries ↔
+        (type_body.Encodes body.now entries × (body.now ≡ type_body.bytes entries)) }
+{
+    read_list_to_end_as::<TypeEntry, true>(alloc, body)
+}
+
+/// The normal bytes of the body of a type section: the same entries in the fewest bytes (Core 3.0, Type Section).
 ///
 /// `Refused` carries the number of bytes of the count and of the entries that are whole before the first that isn't,
 /// or before what is left over.
 pub fn normalise_type_section(alloc: Global, body: &[u8]) -> Result<Vec<u8>, ReadError>
     // The result is the shortest encoding of a list that the body encodes.
-    ensures given { IfOk result (λ text.
-        IsNormalForm type_body.Encodes type_body.bytes body.now text.items) }
+    ensures given { IfOk result (λ encoding.
+        IsNormalForm type_body.Encodes type_body.bytes body.now encoding.items) }
     // Where the body encodes a list, its shortest encoding is given, unless memory ran out.
     ensures complete { (entries : List TypeEntry) → type_body.Encodes body.now entries →
-        IsOrMemory (λ text. text.items) (type_body.bytes entries) result }
+        IsOrMemory (λ encoding. encoding.items) (type_body.bytes entries) result }
     // `at` is the length of the longest prefix that is whole.
-    ensures front { IfRefused result (IsLongestFront IsTypeBodyPrefix body.now) }
+    ensures prefix { IfRefused result (IsLongestPrefix IsTypeBodyPrefix body.now) }
     // The body encodes at most one list.
     ensures one { (entries others : List TypeEntry) →
         type_body.Encodes body.now entries → type_body.Encodes body.now others → entries ≡ others }
     // The result encodes a list exactly if the body does.
-    ensures same { IfOk result (λ text. (entries : List TypeEntry) →
-        type_body.Encodes text.items entries ↔ type_body.Encodes body.now entries) }
+    ensures same { IfOk result (λ encoding. (entries : List TypeEntry) →
+        type_body.Encodes encoding.items entries ↔ type_body.Encodes body.now entries) }
     // The result is normal: it is the shortest encoding of what it encodes.
-    ensures normal { IfOk result (λ text. (entries : List TypeEntry) →
-        type_body.Encodes text.items entries → text.items ≡ type_body.bytes entries) }
+    ensures normal { IfOk result (λ encoding. (entries : List TypeEntry) →
+        type_body.Encodes encoding.items entries → encoding.items ≡ type_body.bytes entries) }
+    // A shortest encoding stays as it is, unless memory ran out.
+    ensures stays { (entries : List TypeEntry) → ShortestTypeBody body.now entries →
+        IsOrMemory (λ encoding. encoding.items) body.now result }
+    // What stays as it is, is a shortest encoding.
+    ensures was_shortest { IfOk result (λ encoding.
+        encoding.items ≡ body.now → EncodesSome ShortestTypeBody body.now) }
 {
-    body_text_of(alloc, body)
+    body_bytes_of(alloc, body)
 }
 
 /// The entries in their shortest encoding after their count, written one by one as they are read.
 #[tactic(auto, unfolding(crate::specs::formats::Types::type_body))]
-fn body_text_of(alloc: Global, body: &[u8]) -> Result<Vec<u8>, ReadError>
-    ensures given { IfOk result (λ text.
-        IsNormalForm type_body.Encodes type_body.bytes body.now text.items) }
-    ensures front { IfRefused result (IsLongestFront IsTypeBodyPrefix body.now) }
+fn body_bytes_of(alloc: Global, body: &[u8]) -> Result<Vec<u8>, ReadError>
+    ensures given { IfOk result (λ encoding.
+        IsNormalForm type_body.Encodes type_body.bytes body.now encoding.items) }
+    ensures prefix { IfRefused result (IsLongestPrefix IsTypeBodyPrefix body.now) }
     ensures none { IfRefused result (λ _. (entries : List TypeEntry) → type_body.Encodes body.now entries → ⊥) }
 {
-    let mut text = Vec::new(alloc);
-    rewrite_list_to_end::<TypeEntry>(alloc, body, &mut text)?;
-    Ok(text)
+    let mut encoding = Vec::new(alloc);
+    rewrite_list_to_end::<TypeEntry>(alloc, body, &mut encoding)?;
+    Ok(encoding)
 }
 
 /// Appends the shortest encoding of the entry that comes next. Of a group one member at a time is held.
-fn rewrite_entry(alloc: Global, cursor: &mut Cursor<'_>, text: &mut Vec<u8>) -> Result<(), Fault>
-    ensures rewrites { Rewrites (plain recursive_type.at) recursive_type.bytes cursor.old.left cursor.new.left text.old.items text.new.items result }
+fn rewrite_entry(
+    alloc: Global,
+    cursor: &mut Cursor<'_>,
+    encoding: &mut Vec<u8>,
+) -> Result<(), Fault>
+    ensures rewrites { Rewrites (plain recursive_type.at) recursive_type.bytes cursor.old.left cursor.new.left encoding.old.items encoding.new.items result }
 {
     let start = cursor.fork();
     if start.peek()? == 0x4e {
         cursor.byte()?;
-        text.push(0x4e)?;
-        return rewrite_list::<SubType>(alloc, cursor, text);
+        encoding.push(0x4e)?;
+        return rewrite_list::<SubType>(alloc, cursor, encoding);
     }
-    rewrite_sub_type(alloc, cursor, text)
+    rewrite_sub_type(alloc, cursor, encoding)
 }
 
 /// Appends the shortest encoding of the subtype that comes next.
-fn rewrite_sub_type(alloc: Global, cursor: &mut Cursor<'_>, text: &mut Vec<u8>) -> Result<(), Fault>
-    ensures rewrites { Rewrites (plain sub_type.at) sub_type.bytes cursor.old.left cursor.new.left text.old.items text.new.items result }
+fn rewrite_sub_type(
+    alloc: Global,
+    cursor: &mut Cursor<'_>,
+    encoding: &mut Vec<u8>,
+) -> Result<(), Fault>
+    ensures rewrites { Rewrites (plain sub_type.at) sub_type.bytes cursor.old.left cursor.new.left encoding.old.items encoding.new.items result }
 {
     let _start = cursor.fork();
     let ty = SubType::read(alloc, cursor)?;
-    append_sub_type(text, &ty)?;
+    append_sub_type(encoding, &ty)?;
     Ok(())
 }
 
 /// Appends the shortest encoding of a subtype in range, so that only memory can be wanting.
 #[tactic(auto, using(crate::proofs::CountLaws::sub_counted))]
-fn append_sub_type(text: &mut Vec<u8>, ty: &SubType) -> Result<(), AllocError>
+fn append_sub_type(encoding: &mut Vec<u8>, ty: &SubType) -> Result<(), AllocError>
     requires in_range { sub_type.InRange ty.now }
-    ensures ok { OnOk result (text.new.items ≡ text.old.items ++ sub_type.bytes ty.now) }
+    ensures ok { OnOk result (encoding.new.items ≡ encoding.old.items ++ sub_type.bytes ty.now) }
 {
-    match ty.encode(text) {
+    match ty.encode(encoding) {
         Ok(()) => Ok(()),
         Err(EncodeError::Memory) => Err(AllocError),
         Err(EncodeError::TooLong | EncodeError::Alignment) => unreachable!(),
@@ -124,8 +161,12 @@ impl<'a> Rewritable<'a> for SubType {
 
     ghost format = { sub_type };
 
-    fn rewrite(alloc: Global, cursor: &mut Cursor<'a>, text: &mut Vec<u8>) -> Result<(), Fault> {
-        rewrite_sub_type(alloc, cursor, text)
+    fn rewrite(
+        alloc: Global,
+        cursor: &mut Cursor<'a>,
+        encoding: &mut Vec<u8>,
+    ) -> Result<(), Fault> {
+        rewrite_sub_type(alloc, cursor, encoding)
     }
 }
 
@@ -134,7 +175,11 @@ impl<'a> Rewritable<'a> for TypeEntry {
 
     ghost format = { recursive_type };
 
-    fn rewrite(alloc: Global, cursor: &mut Cursor<'a>, text: &mut Vec<u8>) -> Result<(), Fault> {
-        rewrite_entry(alloc, cursor, text)
+    fn rewrite(
+        alloc: Global,
+        cursor: &mut Cursor<'a>,
+        encoding: &mut Vec<u8>,
+    ) -> Result<(), Fault> {
+        rewrite_entry(alloc, cursor, encoding)
     }
 }

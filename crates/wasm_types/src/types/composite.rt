@@ -1,4 +1,4 @@
-//! Composite types, subtypes and the entries of a type section (Core 3.0, 5.3.9 to 5.3.12).
+//! Composite types, subtypes and the entries of a type section (Core 3.0, Composite Types to Recursive Types).
 ghost use Rattle.std.specs.Prelude.{◌≡◌, IfOk, IfErr};
 ghost use Rattle.std.specs.Iterator.{Drains, IsFinite};
 ghost use Rattle.wasm_codec.specs.declared.encode.EncodeError.TheVariants.{Memory};

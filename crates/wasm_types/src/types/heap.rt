@@ -1,4 +1,4 @@
-//! Heap types and reference types (Core 3.0, 5.3.3 to 5.3.5).
+//! Heap types and reference types (Core 3.0, Heap Types to Reference Types).
 ghost use Rattle.std.specs.Prelude.{◌≡◌};
 
 /// A heap type that has a name of its own.

@@ -1,4 +1,4 @@
-//! Value types and storage types (Core 3.0, 5.3.6 and 5.3.8).
+//! Value types and storage types (Core 3.0, Value Types and Composite Types).
 ghost use Rattle.std.specs.Prelude.{◌≡◌};
 ghost use Rattle.wasm_types.specs.Types.{is_defaultable, is_numeric, is_reference, is_vector, unpacked};
 ghost use Rattle.wasm_types.specs.declared.types.value.ValType.TheVariants.{Ref};

@@ -6,7 +6,7 @@ use Rattle.wasm_types.proofs.reader.type_bodies.read_type_section.Goals as goal
 
 pub returns-clause-complete : goal.returns-clause-complete
 unfolding type_body
-returns-clause-complete c = gives_all AtMostOne-type-body (λ given. given.items) c.args.body.now c.read_list_to_end.result c.read_list_to_end.ensures.given c.read_list_to_end.ensures.unspelled
+returns-clause-complete c = gives_all AtMostOne-type-body (λ given. given.items) c.args.body.now c.read_list_to_end.result c.read_list_to_end.ensures.given c.read_list_to_end.ensures.unencoded
 
 pub returns-clause-one : goal.returns-clause-one
 returns-clause-one c = AtMostOne-type-body c.args.body.now

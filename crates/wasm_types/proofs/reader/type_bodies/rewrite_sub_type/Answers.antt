@@ -12,7 +12,7 @@ returns-in_err-ty c =
     let p = err_from_is_err_and c.from_residual.result c.from_residual.ensures.1 in
     let fault = c.in_err-ty.field-0.0 in
     rw (p.1, p.2) (record {
-      rewrites = fails_to_rewrite (plain sub_type.at) sub_type.bytes c.args.cursor.now.left c.read.new.cursor.left c.args.text.now.items c.args.text.now.items fault
+      rewrites = fails_to_rewrite (plain sub_type.at) sub_type.bytes c.args.cursor.now.left c.read.new.cursor.left c.args.encoding.now.items c.args.encoding.now.items fault
           (plain_fault Lawful-sub-type c.args.cursor.now c.read.new.cursor c.fork-start.ensures.bytes fault c.in_err-ty.ensures.reads);
     })
 

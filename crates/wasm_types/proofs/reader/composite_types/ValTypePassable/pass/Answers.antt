@@ -1,0 +1,14 @@
+use Rattle.wasm_types.proofs.TypeFormatLaws.{Lawful-val-type, val_type_takes}
+use Rattle.wasm_types.proofs.reader.composite_types.ValTypePassable.pass.Goals as goal
+
+pub returns-in_err-read_val_type-clause-lawful : goal.returns-in_err-read_val_type-clause-lawful
+returns-in_err-read_val_type-clause-lawful c = Lawful-val-type
+
+pub returns-in_err-read_val_type-clause-some : goal.returns-in_err-read_val_type-clause-some
+returns-in_err-read_val_type-clause-some c = val_type_takes
+
+pub returns-clause-lawful : goal.returns-clause-lawful
+returns-clause-lawful c = Lawful-val-type
+
+pub returns-clause-some : goal.returns-clause-some
+returns-clause-some c = val_type_takes
