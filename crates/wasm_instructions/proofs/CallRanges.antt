@@ -1,12 +1,10 @@
--- What the types of the parts of a call say of its numbers, and what is known of its lists, puts it in the range of its format; and what that says of it.
-use Rattle.std.proofs.Common.{ne_eqb, arith, ℕ, Bool, true, false, List, [], ◌∷◌, Option, refl, subst}
-use Rattle.wasm_types.specs.declared.types.heap.AbstractHeapType.{AbstractHeapType}
-use Rattle.wasm_types.specs.declared.types.heap.AbstractHeapType.TheVariants as abstracts
-use Rattle.wasm_types.specs.declared.types.heap.HeapType.{HeapType}
-use Rattle.wasm_types.specs.declared.types.heap.HeapType.TheVariants.{Abstract, Concrete, Exact}
-use Rattle.wasm_types.specs.declared.types.value.ValType.{ValType}
-use Rattle.wasm_types.specs.declared.types.value.ValType.TheVariants as values
-use Rattle.wasm_types.specs.formats.Types.{abstract_type, heap_type, reference, ref_type, val_type}
+-- What the types of the parts of a call say of its numbers, and what is known of its lists, puts it in the range of its
+-- format; and what that says of it.
+use Rattle.std.proofs.Common.{ne_eqb, arith, ℕ, Bool, true, false, List, [], ◌∷◌, Option, Result, Ok, Err, OnOk, refl, subst}
+use Rattle.wasm_types.specs.formats.Types.{val_type}
+use Rattle.wasm_types.proofs.WrittenTypes.{heap_in_range, val_in_range}
+use Rattle.wasm_codec.specs.Encoding.{IsShortest}
+use Rattle.wasm_codec.proofs.NumberLaws.{written}
 use Rattle.wasm_instructions.specs.declared.operands.control.BlockType.{BlockType}
 use Rattle.wasm_instructions.specs.declared.operands.control.BlockType.TheVariants as blocks
 use Rattle.std.specs.List.{AllByRecursion}
@@ -24,42 +22,14 @@ use Rattle.wasm_instructions.specs.declared.table.opcode.Opcode.{Opcode}
 use Rattle.wasm_instructions.specs.declared.table.opcode.Kind.{Kind}
 use Rattle.wasm_instructions.specs.declared.table.call.Operands.{Operands}
 use Rattle.wasm_instructions.specs.declared.table.call.Operands.TheVariants as operands
-use Rattle.wasm_instructions.specs.Operands.{HeapTypeFits, ValTypeFits, BlockTypeFits, CatchFits, HandleFits}
+use Rattle.wasm_instructions.specs.Operands.{ValTypeFits, BlockTypeFits, CatchFits, HandleFits}
 use Rattle.wasm_instructions.specs.Instructions.{Instruction, call, InRange, ItemsInRange, IsCounted, IsCall, IsShort, kind_of}
 use Rattle.wasm_codec.specs.formats.Combinators.{little_endian, by_kind}
 use Rattle.wasm_instructions.specs.formats.Operands.{MemArgInRange, block_type, catch_clause, handle_clause, castop, mem_arg, ordering, vector, lanes}
 use Rattle.wasm_instructions.specs.formats.Instructions.{opcode, operands_format, instruction}
+use Rattle.wasm_instructions.proofs.OperandFormatLaws.{Lawful-block-type, Lawful-mem-arg, Lawful-catch, Lawful-handle, Lawful-ordering}
 use Rattle.wasm_instructions.proofs.InstructionFormatLaws.{Lawful-instruction, encodes_call}
 use Rattle.wasm_instructions.proofs.OpcodeLaws.{in_table_short}
-
-abstract_some : (ty : AbstractHeapType) → abstract_type.InRange ty
-unfolding abstract_type
-abstract_some abstracts.NoCont = refl
-abstract_some ty = refl
-
-pub heap_in_range : (h : HeapType) → HeapTypeFits h → heap_type.InRange h
-unfolding heap_type
-heap_in_range (Abstract true ty) fits = ((abstract_some ty, refl), refl)
-heap_in_range (Abstract false ty) fits = ((abstract_some ty, refl), refl)
-heap_in_range (Concrete n) fits = (fits, refl)
-heap_in_range (Exact n) fits = (fits, refl)
-
-of_parts : (nullable : Bool) (h : HeapType) → HeapTypeFits h → ref_type.InRange (reference nullable h)
-unfolding ref_type
-of_parts false h fits = (heap_in_range h fits, refl)
-of_parts true (Abstract true ty) fits = ((abstract_some ty, refl), refl)
-of_parts true (Abstract false ty) fits = ((abstract_some ty, refl), refl)
-of_parts true (Concrete n) fits = (heap_in_range (Concrete n) fits, refl)
-of_parts true (Exact n) fits = (heap_in_range (Exact n) fits, refl)
-
-pub val_in_range : (v : ValType) → ValTypeFits v → val_type.InRange v
-unfolding val_type
-val_in_range values.I32 fits = refl
-val_in_range values.I64 fits = refl
-val_in_range values.F32 fits = refl
-val_in_range values.F64 fits = refl
-val_in_range values.V128 fits = refl
-val_in_range (values.Ref r) fits = (of_parts r.nullable r.heap_type fits, refl)
 
 pub block_in_range : (ty : BlockType) → BlockTypeFits ty → block_type.InRange ty
 unfolding block_type
@@ -140,10 +110,10 @@ unfolding instruction
 call_in_range op o is fits in_lists counted = ((opcode_in_range op (in_table_short op (kind_of o) is), rw is (operands_in_range o fits in_lists counted)), refl)
 
 pub op_short : (op : Opcode) (o : Operands) → instruction.InRange (call op o) → IsShort op
-op_short op o fits = in_table_short op (kind_of o) (encodes_call (instruction.bytes (call op o)) (call op o) (Lawful-instruction.shortest.spells (call op o) fits))
+op_short op o fits = in_table_short op (kind_of o) (encodes_call (instruction.bytes (call op o)) (call op o) (Lawful-instruction.shortest.encodes (call op o) fits))
 
 pub is_call : (op : Opcode) (o : Operands) → instruction.InRange (call op o) → IsCall op o
-is_call op o fits = encodes_call (instruction.bytes (call op o)) (call op o) (Lawful-instruction.shortest.spells (call op o) fits)
+is_call op o fits = encodes_call (instruction.bytes (call op o)) (call op o) (Lawful-instruction.shortest.encodes (call op o) fits)
 
 lists_counted : (o : Operands) → (operands_format (kind_of o)).InRange o → IsCounted o
 unfolding operands_format
@@ -158,3 +128,24 @@ lists_counted o fits = tt
 pub is_counted : (i : Instruction) → instruction.InRange i → IsCounted i.operands
 unfolding instruction
 is_counted i fits = lists_counted i.operands (subst (λ (k : Option Kind). (by_kind operands_format k).InRange i.operands) (is_call i.op i.operands fits) fits.0.1)
+
+-- ---- what is written is the shortest encoding
+
+pub block_written : (ty : BlockType) → BlockTypeFits ty → IsShortest block_type.Encodes block_type.bytes ty
+block_written ty fits = written Lawful-block-type.shortest ty (block_in_range ty fits)
+
+pub mem_arg_written : (arg : MemArg) → MemArgInRange arg → IsShortest mem_arg.Encodes mem_arg.bytes arg
+mem_arg_written arg fits = written Lawful-mem-arg.shortest arg (mem_arg_in_range arg fits)
+
+pub catch_written : (c : Catch) → CatchFits c → IsShortest catch_clause.Encodes catch_clause.bytes c
+catch_written c fits = written Lawful-catch.shortest c (catch_in_range c fits)
+
+pub handle_written : (h : Handle) → HandleFits h → IsShortest handle_clause.Encodes handle_clause.bytes h
+handle_written h fits = written Lawful-handle.shortest h (handle_in_range h fits)
+
+pub ordering_written : (o : Ordering) → IsShortest ordering.Encodes ordering.bytes o
+ordering_written o = written Lawful-ordering.shortest o (ordering_in_range o)
+
+pub call_written : {T E : Type 0} (r : Result T E) (c : Instruction) → OnOk r (instruction.Encodes (instruction.bytes c) c) → OnOk r (IsShortest instruction.Encodes instruction.bytes c)
+call_written (Err e) c g = tt
+call_written (Ok x) c g = record { encodes = g; least = λ bytes other. Lawful-instruction.shortest.least bytes c other }

@@ -1,5 +1,5 @@
 -- The laws of the formats of opcodes, operands and instructions, and of lists of instructions to the end.
-use Rattle.std.proofs.Common.{◌≡◌, ℕ, ◌+◌, ◌<◌, List, [], ◌∷◌, ◌++◌, length, take, get_or, Option, Some, None, refl, sym, ap, subst, ◌∙◌, lit≤}
+use Rattle.std.proofs.Common.{◌↔◌, ◌≡◌, ℕ, ◌+◌, ◌<◌, List, [], ◌∷◌, ◌++◌, length, take, get_or, Option, Some, None, refl, sym, ap, subst, ◌∙◌, lit≤}
 use Rattle.std.proofs.lemmas.List.{take_more, flat_map_more}
 use Rattle.std.specs.List.{AllByRecursion}
 use Rattle.wasm_instructions.specs.declared.table.opcode.Kind.{Kind}
@@ -9,12 +9,13 @@ use Rattle.wasm_instructions.specs.declared.table.call.Operands.TheVariants as o
 use Rattle.wasm_codec.proofs.Joining.{Joined-more, Joined-one, Shortest-joined}
 use Rattle.wasm_codec.specs.Grammar.{TakesBytes}
 use Rattle.wasm_codec.proofs.ListReading.{AtMostOne}
-use Rattle.wasm_codec.specs.Encoding.{IsTextOrLonger}
+use Rattle.wasm_codec.specs.Encoding.{IsShortestOrLonger}
 use Rattle.wasm_codec.specs.Places.{place, keeps}
-use Rattle.wasm_codec.specs.formats.Combinators.{Format, narrow, by_kind}
+use Rattle.wasm_codec.specs.formats.Combinators.{Format, by_kind}
 use Rattle.wasm_codec.proofs.FormatLaws.{Every-made, Every-after, Every-either, Lawful-byte, Lawful-nothing, Lawful-made, Lawful-then, Lawful-both, Lawful-items, Lawful-by-kind, Lawful-variant-after, Lawful-or-else, Lawful-u32, Lawful-s32, takes_bytes}
 use Rattle.wasm_codec.proofs.RawFormatLaws.{Lawful-s64, Lawful-byte-where, Lawful-little-endian}
-use Rattle.wasm_codec.proofs.PlaceLists.{plain_reads, Lawful-narrow}
+use Rattle.wasm_codec.proofs.PlaceLists.{plain_reads}
+use Rattle.wasm_codec.proofs.AskedLaws.{joined_narrow}
 use Rattle.wasm_types.proofs.TypeFormatLaws.{Lawful-heap-type, Lawful-val-type}
 use Rattle.wasm_instructions.specs.Operands.{ieee32, ieee64}
 use Rattle.wasm_instructions.specs.Opcodes.{kind}
@@ -95,18 +96,18 @@ has_kind kinds.OrderIndex back o g = sym (ap kind_of g.2)
 has_kind kinds.OrderTwoIndexes back o g = sym (ap kind_of g.2)
 
 kind_in_range : (k : Kind) (o : Operands) → (operands_format k).InRange o → kind_of o ≡ k
-kind_in_range k o fits = has_kind k ((operands_format k).bytes o) o ((Lawful-operands k).shortest.spells o fits)
+kind_in_range k o fits = has_kind k ((operands_format k).bytes o) o ((Lawful-operands k).shortest.encodes o fits)
 
 Lawful-written : {A : Type 0} (bytes : A → List ℕ) {F : Format A} → ((v : A) → F.InRange v → F.bytes v ≡ bytes v) → IsLawful F → IsLawful (written bytes F)
 Lawful-written {A} bytes {F} same r = record {
   reads = record {
     sound = r.reads.sound;
-    complete = λ front v rest s g. r.reads.complete front v rest s g ∙ ap (λ (t : List ℕ). Some (v, place (keeps s front t) rest)) (same v (r.in_range front v g));
+    complete = λ prefix v rest s g. r.reads.complete prefix v rest s g ∙ ap (λ (t : List ℕ). Some (v, place (keeps s prefix t) rest)) (same v (r.in_range prefix v g));
   };
   shortest = record {
-    spells = λ v fits. subst (λ (t : List ℕ). F.Encodes t v) (same v fits) (r.shortest.spells v fits);
-    again = λ front v g. subst (λ (t : List ℕ). F.Encodes t v) (same v (r.in_range front v g)) (r.shortest.again front v g);
-    least = λ front v g. subst (IsTextOrLonger front) (same v (r.in_range front v g)) (r.shortest.least front v g);
+    encodes = λ v fits. subst (λ (t : List ℕ). F.Encodes t v) (same v fits) (r.shortest.encodes v fits);
+    again = λ prefix v g. subst (λ (t : List ℕ). F.Encodes t v) (same v (r.in_range prefix v g)) (r.shortest.again prefix v g);
+    least = λ prefix v g. subst (IsShortestOrLonger prefix) (same v (r.in_range prefix v g)) (r.shortest.least prefix v g);
   };
   in_range = r.in_range;
   are_bytes = r.are_bytes;
@@ -142,14 +143,12 @@ AtMostOne-instructions = Joined-one (plain_reads Lawful-instruction.reads) instr
 pub Shortest-instructions : Shortest Instructions (AllByRecursion instruction.InRange) instructions_bytes
 Shortest-instructions = Shortest-joined Lawful-instruction.shortest
 
-pub Lawful-shortest : IsLawful (narrow instruction)
-Lawful-shortest = Lawful-narrow Lawful-instruction
-
-pub shortest_takes : TakesBytes (narrow instruction).Encodes
-shortest_takes v g = instruction_takes v g.0
+-- instructions in their shortest encodings are the shortest encoding of their list
+pub are_shortest : (bytes : List ℕ) (calls : List Instruction) → ShortestInstructions bytes calls ↔ (Instructions bytes calls × (bytes ≡ instructions_bytes calls))
+are_shortest = joined_narrow Lawful-instruction
 
 pub AtMostOne-shortest : AtMostOne ShortestInstructions
-AtMostOne-shortest = Joined-one (plain_reads Lawful-shortest.reads) shortest_takes
+AtMostOne-shortest bytes v w g h = AtMostOne-instructions bytes v w ((are_shortest bytes v).0 g).0 ((are_shortest bytes w).0 h).0
 
 -- one instruction more at the end
 pub record More (calls : List Instruction) (i : ℕ) (old new : List ℕ) : Type 0 where

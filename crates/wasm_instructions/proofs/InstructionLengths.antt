@@ -14,7 +14,7 @@ use Rattle.wasm_instructions.specs.declared.table.opcode.Kind.{Kind}
 use Rattle.wasm_instructions.specs.declared.table.opcode.Kind.TheVariants as kinds
 use Rattle.wasm_instructions.specs.declared.table.call.Operands.{Operands}
 use Rattle.wasm_instructions.specs.declared.table.call.Operands.TheVariants as operands
-use Rattle.wasm_codec.specs.Numbers.{unsigned_text}
+use Rattle.wasm_codec.specs.Numbers.{unsigned_leb128}
 use Rattle.wasm_codec.specs.formats.Combinators.{flagged, items, by_kind}
 use Rattle.wasm_codec.proofs.RawFormatLaws.{little_range}
 use Rattle.wasm_codec.proofs.FormatLengths.{AtMost, AtMost-more, AtMost-byte, AtMost-nothing, AtMost-one-byte, AtMost-raw, AtMost-u32, AtMost-u64, AtMost-s32, AtMost-s64, AtMost-index, length-number, AtMost-both, AtMost-made, AtMost-made-of, AtMost-little-endian, AtMost-any, AtMost-or-else, AtMost-either, AtMost-after, AtMost-after-long}
@@ -23,7 +23,7 @@ use Rattle.wasm_instructions.specs.formats.Operands.{empty_byte, function_type_p
 use Rattle.wasm_instructions.specs.Operands.{ieee32, ieee64}
 use Rattle.wasm_instructions.specs.Opcodes.{ranges, kind_among, kind}
 use Rattle.wasm_instructions.specs.Instructions.{Instruction, IsShort}
-use Rattle.wasm_instructions.specs.Lengths.{HasNoLongList, IsShortText}
+use Rattle.wasm_instructions.specs.Lengths.{HasNoLongList, IsShortEncoding}
 use Rattle.wasm_instructions.specs.formats.Instructions.{opcode, block_part, index_part, two_indexes_part, mem_part, i32_part, i64_part, f32_part, f64_part, heap_part, cast_of, cast_part, v128_part, shuffle_part, lane_part, mem_lane_part, order_part, order_index_part, order_two_indexes_part, operands_format, instruction}
 use Rattle.wasm_instructions.proofs.OpcodeLaws.{in_table_short, cast_is_low}
 use Rattle.wasm_instructions.proofs.OperandFormatLaws.{halves_back}
@@ -67,9 +67,9 @@ AtMost-block-type = AtMost-any
 AtMost-mem-arg : AtMost 16 mem_arg
 unfolding mem_arg
 AtMost-mem-arg = record { bound = λ arg fits. by arg fits (eqb arg.memory_index 0) } where
-  by : (arg : MemArg) → MemArgInRange arg → (test : Bool) → length (cond test (unsigned_text arg.align ++ unsigned_text arg.offset) (unsigned_text (arg.align + 64) ++ (unsigned_text arg.memory_index ++ unsigned_text arg.offset))) ≤ 16
-  by arg fits true = omega (arith, length-append (unsigned_text arg.align) (unsigned_text arg.offset), length-number 0 arg.align (omega (arith, fits.align)), AtMost-u64.bound arg.offset fits.offset)
-  by arg fits false = omega (arith, length-append (unsigned_text (arg.align + 64)) (unsigned_text arg.memory_index ++ unsigned_text arg.offset), length-append (unsigned_text arg.memory_index) (unsigned_text arg.offset), length-number 0 (arg.align + 64) (omega (arith, fits.align)), AtMost-u32.bound arg.memory_index fits.memory_index, AtMost-u64.bound arg.offset fits.offset)
+  by : (arg : MemArg) → MemArgInRange arg → (test : Bool) → length (cond test (unsigned_leb128 arg.align ++ unsigned_leb128 arg.offset) (unsigned_leb128 (arg.align + 64) ++ (unsigned_leb128 arg.memory_index ++ unsigned_leb128 arg.offset))) ≤ 16
+  by arg fits true = omega (arith, length-append (unsigned_leb128 arg.align) (unsigned_leb128 arg.offset), length-number 0 arg.align (omega (arith, fits.align)), AtMost-u64.bound arg.offset fits.offset)
+  by arg fits false = omega (arith, length-append (unsigned_leb128 (arg.align + 64)) (unsigned_leb128 arg.memory_index ++ unsigned_leb128 arg.offset), length-append (unsigned_leb128 arg.memory_index) (unsigned_leb128 arg.offset), length-number 0 (arg.align + 64) (omega (arith, fits.align)), AtMost-u32.bound arg.memory_index fits.memory_index, AtMost-u64.bound arg.offset fits.offset)
 
 AtMost-ordering : AtMost 1 ordering
 unfolding ordering
@@ -147,7 +147,7 @@ no_resume_throw o short fits = fits
 
 one_type : (types : List ValType) → length types ≡ 1 → (items val_type).InRange types → length ((items val_type).bytes types) ≤ 17
 one_type [] one fits = absurd cc
-one_type (ty ∷ []) one fits = omega (arith, length-append (unsigned_text 1) (val_type.bytes ty ++ []), ap (length {A = ℕ}) (append-nil (val_type.bytes ty)), length-number 0 1 (omega arith), AtMost-val-type.bound ty fits.1.0)
+one_type (ty ∷ []) one fits = omega (arith, length-append (unsigned_leb128 1) (val_type.bytes ty ++ []), ap (length {A = ℕ}) (append-nil (val_type.bytes ty)), length-number 0 1 (omega arith), AtMost-val-type.bound ty fits.1.0)
 one_type (ty ∷ next ∷ types) one fits = absurd (omega arith)
 
 one_types : (o : Operands) → HasNoLongList o → (operands_format kinds.Types).InRange o → length ((operands_format kinds.Types).bytes o) ≤ 17
@@ -179,7 +179,7 @@ cast_opcode op e = by op.prefix op.number e where
 abbrev OneUpTo : ℕ → List ℕ → Type 0
 OneUpTo most bytes = (1 ≤ length bytes) × (length bytes ≤ most)
 
-after_prefix : (more byte n : ℕ) → n < 128 * 128 ^ more → OneUpTo (suc (suc more)) (byte ∷ unsigned_text n)
+after_prefix : (more byte n : ℕ) → n < 128 * 128 ^ more → OneUpTo (suc (suc more)) (byte ∷ unsigned_leb128 n)
 after_prefix more byte n lt = (omega arith, omega (arith, length-number more n lt))
 
 length-opcode : (op : Opcode) → IsShort op → OneUpTo 3 (opcode.bytes op)
@@ -204,13 +204,13 @@ length-low-opcode op low = by op.prefix op.number low where
 
 -- ---- instructions
 
-joined : (most more : ℕ) (s t : List ℕ) → most + more ≤ 20 → OneUpTo most s → length t ≤ more → IsShortText (s ++ t)
+joined : (most more : ℕ) (s t : List ℕ) → most + more ≤ 20 → OneUpTo most s → length t ≤ more → IsShortEncoding (s ++ t)
 joined most more s t le opcode operands = (omega (arith, length-append s t, opcode.0), omega (arith, length-append s t, opcode.1))
 
-pub length-instruction : (i : Instruction) → instruction.InRange i → HasNoLongList i.operands → IsShortText (instruction.bytes i)
+pub length-instruction : (i : Instruction) → instruction.InRange i → HasNoLongList i.operands → IsShortEncoding (instruction.bytes i)
 unfolding instruction
-length-instruction i fits short = subst IsShortText (of_kind i (kind i.op) fits.0.1) (by (kind i.op) refl fits.0.1) where
-  by : (o : Option Kind) → kind i.op ≡ o → (by_kind operands_format o).InRange i.operands → IsShortText (opcode.bytes i.op ++ (by_kind operands_format o).bytes i.operands)
+length-instruction i fits short = subst IsShortEncoding (of_kind i (kind i.op) fits.0.1) (by (kind i.op) refl fits.0.1) where
+  by : (o : Option Kind) → kind i.op ≡ o → (by_kind operands_format o).InRange i.operands → IsShortEncoding (opcode.bytes i.op ++ (by_kind operands_format o).bytes i.operands)
   by None is fits = absurd fits
   by (Some kinds.Cast) is fits = joined 2 18 _ _ (omega arith) (length-low-opcode i.op (cast_opcode i.op is)) (operands_at_most kinds.Cast i.operands short fits)
   by (Some k) is fits = joined 3 17 _ _ (omega arith) (length-opcode i.op (in_table_short i.op k is)) (operands_at_most k i.operands short fits)

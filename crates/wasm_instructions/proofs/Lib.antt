@@ -5,3 +5,4 @@ pub mod OperandFormatLaws
 pub mod InstructionFormatLaws
 pub mod InstructionLengths
 pub mod CallRanges
+pub mod Anew

@@ -10,8 +10,8 @@ use Rattle.wasm_instructions.specs.declared.operands.memory.MemArg.{MemArg}
 use Rattle.wasm_instructions.specs.declared.operands.memory.Ordering.{Ordering}
 use Rattle.wasm_instructions.specs.declared.operands.memory.Ordering.TheVariants as orderings
 use Rattle.wasm_codec.specs.Grammar.{Grammar, TakesBytes, Then, Mapped, Never, Either}
-use Rattle.wasm_codec.specs.Numbers.{Within, SpellsU32, SpellsU64, digits_of, unsigned_text}
-use Rattle.wasm_codec.specs.Encoding.{IsTextOrLonger}
+use Rattle.wasm_codec.specs.Numbers.{Within, EncodesU32, EncodesU64, digits_of, unsigned_leb128}
+use Rattle.wasm_codec.specs.Encoding.{IsShortestOrLonger}
 use Rattle.wasm_codec.proofs.Laws.{least_then}
 use Rattle.wasm_codec.proofs.NumberLaws.{Shortest-u32, Shortest-u64}
 use Rattle.wasm_codec.specs.formats.Combinators.{◌⊗◌, ◌⊗>◌, made, choose, never, u32, u64, little_endian}
@@ -138,26 +138,26 @@ abbrev AfterEncodes : ℕ → Grammar MemArg
 AfterEncodes n = (after_alignment n).Encodes
 
 abbrev MemArgEncodes : Grammar MemArg
-MemArgEncodes = Mapped (λ p. p.1) (Then SpellsU32 AfterEncodes)
+MemArgEncodes = Mapped (λ p. p.1) (Then EncodesU32 AfterEncodes)
 
 -- ---- numbers in memory arguments
 
-u32_in_range : (bytes : List ℕ) (n : ℕ) → SpellsU32 bytes n → n < 2 ^ 32
-unfolding SpellsU32
+u32_in_range : (bytes : List ℕ) (n : ℕ) → EncodesU32 bytes n → n < 2 ^ 32
+unfolding EncodesU32
 u32_in_range bytes n g = g.2.1
 
-u64_in_range : (bytes : List ℕ) (n : ℕ) → SpellsU64 bytes n → n < 2 ^ 64
-unfolding SpellsU64
+u64_in_range : (bytes : List ℕ) (n : ℕ) → EncodesU64 bytes n → n < 2 ^ 64
+unfolding EncodesU64
 u64_in_range bytes n g = g.2.1
 
-u32_has_bytes : (bytes : List ℕ) (n : ℕ) → SpellsU32 bytes n → 0 < length bytes
-unfolding SpellsU32
+u32_has_bytes : (bytes : List ℕ) (n : ℕ) → EncodesU32 bytes n → 0 < length bytes
+unfolding EncodesU32
 u32_has_bytes [] n g = absurd g.0
 u32_has_bytes (b ∷ bytes) n g = omega arith
 
 -- a number below 128 is one byte
-one_byte : (n : ℕ) → n < 128 → unsigned_text n ≡ n ∷ []
-unfolding unsigned_text digits_of
+one_byte : (n : ℕ) → n < 128 → unsigned_leb128 n ≡ n ∷ []
+unfolding unsigned_leb128 digits_of
 one_byte n lt = rw (lt-ltb n 128 lt) refl
 
 -- ---- the shortest encoding of a memory argument
@@ -171,68 +171,68 @@ mem_arg_encodes arg fits = by (eqb arg.memory_index 0) refl where
   align : arg.align < 64
   align = fits.align
 
-  first : eqb arg.memory_index 0 ≡ true → AfterEncodes arg.align (unsigned_text arg.offset) arg
-  first is = rw (lt-ltb arg.align 64 align) (arg.offset, Shortest-u64.spells arg.offset fits.offset, parts_are arg arg.align 0 refl (sym (eqb-true arg.memory_index 0 is)))
+  first : eqb arg.memory_index 0 ≡ true → AfterEncodes arg.align (unsigned_leb128 arg.offset) arg
+  first is = rw (lt-ltb arg.align 64 align) (arg.offset, Shortest-u64.encodes arg.offset fits.offset, parts_are arg arg.align 0 refl (sym (eqb-true arg.memory_index 0 is)))
 
-  named : AfterEncodes (arg.align + 64) (unsigned_text arg.memory_index ++ unsigned_text arg.offset) arg
+  named : AfterEncodes (arg.align + 64) (unsigned_leb128 arg.memory_index ++ unsigned_leb128 arg.offset) arg
   named =
       let same : arg.align + 64 - 64 ≡ arg.align = omega arith in
       rw (le-ltb (arg.align + 64) 64 (omega arith), lt-ltb (arg.align + 64) 128 (omega arith))
-      ((arg.memory_index, arg.offset), (unsigned_text arg.memory_index, unsigned_text arg.offset, refl, Shortest-u32.spells arg.memory_index fits.memory_index, Shortest-u64.spells arg.offset fits.offset), parts_are arg (arg.align + 64 - 64) arg.memory_index same refl)
+      ((arg.memory_index, arg.offset), (unsigned_leb128 arg.memory_index, unsigned_leb128 arg.offset, refl, Shortest-u32.encodes arg.memory_index fits.memory_index, Shortest-u64.encodes arg.offset fits.offset), parts_are arg (arg.align + 64 - 64) arg.memory_index same refl)
 
-  by : (test : Bool) → eqb arg.memory_index 0 ≡ test → Mapped (λ (p : ℕ × MemArg). p.1) (Then SpellsU32 AfterEncodes) (cond test (unsigned_text arg.align ++ unsigned_text arg.offset) (unsigned_text (arg.align + 64) ++ (unsigned_text arg.memory_index ++ unsigned_text arg.offset))) arg
-  by true is = ((arg.align, arg), (unsigned_text arg.align, unsigned_text arg.offset, refl, Shortest-u32.spells arg.align (omega arith), first is), refl)
-  by false not = ((arg.align + 64, arg), (unsigned_text (arg.align + 64), unsigned_text arg.memory_index ++ unsigned_text arg.offset, refl, Shortest-u32.spells (arg.align + 64) (omega arith), named), refl)
+  by : (test : Bool) → eqb arg.memory_index 0 ≡ test → Mapped (λ (p : ℕ × MemArg). p.1) (Then EncodesU32 AfterEncodes) (cond test (unsigned_leb128 arg.align ++ unsigned_leb128 arg.offset) (unsigned_leb128 (arg.align + 64) ++ (unsigned_leb128 arg.memory_index ++ unsigned_leb128 arg.offset))) arg
+  by true is = ((arg.align, arg), (unsigned_leb128 arg.align, unsigned_leb128 arg.offset, refl, Shortest-u32.encodes arg.align (omega arith), first is), refl)
+  by false not = ((arg.align + 64, arg), (unsigned_leb128 (arg.align + 64), unsigned_leb128 arg.memory_index ++ unsigned_leb128 arg.offset, refl, Shortest-u32.encodes (arg.align + 64) (omega arith), named), refl)
 
 -- ---- every encoding of a memory argument
 
 abbrev IsMemArg : List ℕ → MemArg → Type 0
-IsMemArg bytes arg = MemArgInRange arg × IsTextOrLonger bytes (mem_arg_bytes arg)
+IsMemArg bytes arg = MemArgInRange arg × IsShortestOrLonger bytes (mem_arg_bytes arg)
 
-in_first_is : (bytes front back : List ℕ) (n offset : ℕ) → bytes ≡ front ++ back → SpellsU32 front n → n < 64 → SpellsU64 back offset → IsMemArg bytes (in_first n offset)
-in_first_is bytes front back n offset e g lt h =
-    (record { align = lt; memory_index = omega arith; offset = u64_in_range back offset h }, least_then bytes front back (unsigned_text n) (unsigned_text offset) e (Shortest-u32.least front n g) (Shortest-u64.least back offset h))
+in_first_is : (bytes prefix back : List ℕ) (n offset : ℕ) → bytes ≡ prefix ++ back → EncodesU32 prefix n → n < 64 → EncodesU64 back offset → IsMemArg bytes (in_first n offset)
+in_first_is bytes prefix back n offset e g lt h =
+    (record { align = lt; memory_index = omega arith; offset = u64_in_range back offset h }, least_then bytes prefix back (unsigned_leb128 n) (unsigned_leb128 offset) e (Shortest-u32.least prefix n g) (Shortest-u64.least back offset h))
 
 -- memory 0 with its index is longer
-named_first : (bytes front mid back : List ℕ) (n offset : ℕ) → bytes ≡ front ++ (mid ++ back) → SpellsU32 front n → 64 ≤ n → n < 128 → SpellsU32 mid 0 → SpellsU64 back offset → IsTextOrLonger bytes (unsigned_text (n - 64) ++ unsigned_text offset)
-named_first bytes front mid back n offset e g le lt h o =
-    let one : length (unsigned_text (n - 64)) ≡ 1 = ap (length {A = ℕ}) (one_byte (n - 64) (omega arith)) in
-    inr (rw e (at_least (length back) (length (unsigned_text offset)) one (shorter back (unsigned_text offset) (Shortest-u64.least back offset o))))
+named_first : (bytes prefix mid back : List ℕ) (n offset : ℕ) → bytes ≡ prefix ++ (mid ++ back) → EncodesU32 prefix n → 64 ≤ n → n < 128 → EncodesU32 mid 0 → EncodesU64 back offset → IsShortestOrLonger bytes (unsigned_leb128 (n - 64) ++ unsigned_leb128 offset)
+named_first bytes prefix mid back n offset e g le lt h o =
+    let one : length (unsigned_leb128 (n - 64)) ≡ 1 = ap (length {A = ℕ}) (one_byte (n - 64) (omega arith)) in
+    inr (rw e (at_least (length back) (length (unsigned_leb128 offset)) one (shorter back (unsigned_leb128 offset) (Shortest-u64.least back offset o))))
   where
-    shorter : (b t : List ℕ) → IsTextOrLonger b t → length t ≤ length b
+    shorter : (b t : List ℕ) → IsShortestOrLonger b t → length t ≤ length b
     shorter b t (inl p) = omega (arith, ap (length {A = ℕ}) p)
     shorter b t (inr p) = omega arith
 
-    at_least : (b t : ℕ) → length (unsigned_text (n - 64)) ≡ 1 → length (unsigned_text offset) ≤ length back → length (unsigned_text (n - 64) ++ unsigned_text offset) < length (front ++ (mid ++ back))
-    at_least b t one le = omega (arith, length-append (unsigned_text (n - 64)) (unsigned_text offset), length-append front (mid ++ back), length-append mid back, u32_has_bytes front n g, u32_has_bytes mid 0 h)
+    at_least : (b t : ℕ) → length (unsigned_leb128 (n - 64)) ≡ 1 → length (unsigned_leb128 offset) ≤ length back → length (unsigned_leb128 (n - 64) ++ unsigned_leb128 offset) < length (prefix ++ (mid ++ back))
+    at_least b t one le = omega (arith, length-append (unsigned_leb128 (n - 64)) (unsigned_leb128 offset), length-append prefix (mid ++ back), length-append mid back, u32_has_bytes prefix n g, u32_has_bytes mid 0 h)
 
-in_memory_is : (bytes front back mid last : List ℕ) (n memory offset : ℕ) → bytes ≡ front ++ back → back ≡ mid ++ last → SpellsU32 front n → 64 ≤ n → n < 128 → SpellsU32 mid memory → SpellsU64 last offset → IsMemArg bytes (in_memory (n - 64) (memory, offset))
-in_memory_is bytes front back mid last n memory offset e f g le lt h o =
+in_memory_is : (bytes prefix back mid last : List ℕ) (n memory offset : ℕ) → bytes ≡ prefix ++ back → back ≡ mid ++ last → EncodesU32 prefix n → 64 ≤ n → n < 128 → EncodesU32 mid memory → EncodesU64 last offset → IsMemArg bytes (in_memory (n - 64) (memory, offset))
+in_memory_is bytes prefix back mid last n memory offset e f g le lt h o =
     (record { align = omega arith; memory_index = u32_in_range mid memory h; offset = u64_in_range last offset o }, by (eqb memory 0) refl)
   where
     same : n - 64 + 64 ≡ n
     same = omega arith
 
-    whole : bytes ≡ front ++ (mid ++ last)
-    whole = e ∙ ap (λ (t : List ℕ). front ++ t) f
+    whole : bytes ≡ prefix ++ (mid ++ last)
+    whole = e ∙ ap (λ (t : List ℕ). prefix ++ t) f
 
-    by : (test : Bool) → eqb memory 0 ≡ test → IsTextOrLonger bytes (cond test (unsigned_text (n - 64) ++ unsigned_text offset) (unsigned_text (n - 64 + 64) ++ (unsigned_text memory ++ unsigned_text offset)))
-    by true is = named_first bytes front mid last n offset whole g le lt (subst (λ (m : ℕ). SpellsU32 mid m) (eqb-true memory 0 is) h) o
-    by false not = subst (λ (m : ℕ). IsTextOrLonger bytes (unsigned_text m ++ (unsigned_text memory ++ unsigned_text offset))) (sym same)
-        (least_then bytes front (mid ++ last) (unsigned_text n) (unsigned_text memory ++ unsigned_text offset) whole (Shortest-u32.least front n g)
-        (least_then (mid ++ last) mid last (unsigned_text memory) (unsigned_text offset) refl (Shortest-u32.least mid memory h) (Shortest-u64.least last offset o)))
+    by : (test : Bool) → eqb memory 0 ≡ test → IsShortestOrLonger bytes (cond test (unsigned_leb128 (n - 64) ++ unsigned_leb128 offset) (unsigned_leb128 (n - 64 + 64) ++ (unsigned_leb128 memory ++ unsigned_leb128 offset)))
+    by true is = named_first bytes prefix mid last n offset whole g le lt (subst (λ (m : ℕ). EncodesU32 mid m) (eqb-true memory 0 is) h) o
+    by false not = subst (λ (m : ℕ). IsShortestOrLonger bytes (unsigned_leb128 m ++ (unsigned_leb128 memory ++ unsigned_leb128 offset))) (sym same)
+        (least_then bytes prefix (mid ++ last) (unsigned_leb128 n) (unsigned_leb128 memory ++ unsigned_leb128 offset) whole (Shortest-u32.least prefix n g)
+        (least_then (mid ++ last) mid last (unsigned_leb128 memory) (unsigned_leb128 offset) refl (Shortest-u32.least mid memory h) (Shortest-u64.least last offset o)))
 
 mem_arg_is : (bytes : List ℕ) (arg : MemArg) → MemArgEncodes bytes arg → IsMemArg bytes arg
 mem_arg_is bytes arg g = subst (IsMemArg bytes) g.2 (by (ltb g.0.0 64) refl (ltb g.0.0 128) refl g.1.4) where
   by : (s : Bool) → ltb g.0.0 64 ≡ s → (t : Bool) → ltb g.0.0 128 ≡ t
-      → Either s (Mapped (in_first g.0.0) SpellsU64) (Either t (Mapped (in_memory (g.0.0 - 64)) (Then SpellsU32 (λ memory. SpellsU64))) Never) g.1.1 g.0.1 → IsMemArg bytes g.0.1
+      → Either s (Mapped (in_first g.0.0) EncodesU64) (Either t (Mapped (in_memory (g.0.0 - 64)) (Then EncodesU32 (λ memory. EncodesU64))) Never) g.1.1 g.0.1 → IsMemArg bytes g.0.1
   by true low t t-is h = subst (IsMemArg bytes) h.2 (in_first_is bytes g.1.0 g.1.1 g.0.0 h.0 g.1.2 g.1.3 (ltb-true _ _ low) h.1)
   by false high true low h = subst (IsMemArg bytes) h.2 (in_memory_is bytes g.1.0 g.1.1 h.1.0 h.1.1 g.0.0 h.0.0 h.0.1 g.1.2 h.1.2 g.1.3 (ltb-false _ _ high) (ltb-true _ _ low) h.1.3 h.1.4)
   by false high false higher h = absurd h
 
 pub Shortest-mem-arg : Shortest MemArgEncodes MemArgInRange mem_arg_bytes
 Shortest-mem-arg = record {
-  spells = mem_arg_encodes;
+  encodes = mem_arg_encodes;
   again = λ bytes arg g. mem_arg_encodes arg (mem_arg_is bytes arg g).0;
   least = λ bytes arg g. (mem_arg_is bytes arg g).1;
 }
@@ -244,24 +244,24 @@ Lawful-after-alignment n =
     Lawful-never)
 
 abbrev Long : ℕ → Bool → Bool → MemArg → Type 0
-Long n s t arg = IsShorter (not s && eqb arg.memory_index 0) (mem_arg_bytes arg) (unsigned_text n ++ (choose s (made (in_first n) (λ arg. Some arg.offset) u64) (choose t (made (in_memory (n - 64)) (λ arg. Some (arg.memory_index, arg.offset)) (u32 ⊗ u64)) never)).bytes arg)
+Long n s t arg = IsShorter (not s && eqb arg.memory_index 0) (mem_arg_bytes arg) (unsigned_leb128 n ++ (choose s (made (in_first n) (λ arg. Some arg.offset) u64) (choose t (made (in_memory (n - 64)) (λ arg. Some (arg.memory_index, arg.offset)) (u32 ⊗ u64)) never)).bytes arg)
 
 -- naming memory 0 takes a longer encoding, and the rest is as it is written
-named_is_longer : (front : List ℕ) (p : ℕ × MemArg) → (u32 ⊗> after_alignment).Encodes front p → IsShorter (is_named_first p) (mem_arg_bytes p.1) ((u32 ⊗> after_alignment).bytes p)
-named_is_longer front p g = by (ltb p.0 64) refl (ltb p.0 128) refl g.4 where
-  named : (m offset : ℕ) → 64 ≤ p.0 → p.0 < 128 → (z : Bool) → eqb m 0 ≡ z → IsShorter z (cond z (unsigned_text (p.0 - 64) ++ unsigned_text offset) (unsigned_text (p.0 - 64 + 64) ++ (unsigned_text m ++ unsigned_text offset))) (unsigned_text p.0 ++ (unsigned_text m ++ unsigned_text offset))
+named_is_longer : (prefix : List ℕ) (p : ℕ × MemArg) → (u32 ⊗> after_alignment).Encodes prefix p → IsShorter (is_named_first p) (mem_arg_bytes p.1) ((u32 ⊗> after_alignment).bytes p)
+named_is_longer prefix p g = by (ltb p.0 64) refl (ltb p.0 128) refl g.4 where
+  named : (m offset : ℕ) → 64 ≤ p.0 → p.0 < 128 → (z : Bool) → eqb m 0 ≡ z → IsShorter z (cond z (unsigned_leb128 (p.0 - 64) ++ unsigned_leb128 offset) (unsigned_leb128 (p.0 - 64 + 64) ++ (unsigned_leb128 m ++ unsigned_leb128 offset))) (unsigned_leb128 p.0 ++ (unsigned_leb128 m ++ unsigned_leb128 offset))
   named m offset le lt true is =
       let zero : m ≡ 0 = eqb-true m 0 is in
-      let a : length (unsigned_text (p.0 - 64)) ≡ 1 = ap (length {A = ℕ}) (one_byte (p.0 - 64) (omega arith)) in
-      let b : length (unsigned_text p.0) ≡ 1 = ap (length {A = ℕ}) (one_byte p.0 lt) in
-      let c : length (unsigned_text m) ≡ 1 = ap (length {A = ℕ}) (one_byte m (omega arith)) in
-      omega (arith, a, b, c, length-append (unsigned_text (p.0 - 64)) (unsigned_text offset), length-append (unsigned_text p.0) (unsigned_text m ++ unsigned_text offset), length-append (unsigned_text m) (unsigned_text offset))
+      let a : length (unsigned_leb128 (p.0 - 64)) ≡ 1 = ap (length {A = ℕ}) (one_byte (p.0 - 64) (omega arith)) in
+      let b : length (unsigned_leb128 p.0) ≡ 1 = ap (length {A = ℕ}) (one_byte p.0 lt) in
+      let c : length (unsigned_leb128 m) ≡ 1 = ap (length {A = ℕ}) (one_byte m (omega arith)) in
+      omega (arith, a, b, c, length-append (unsigned_leb128 (p.0 - 64)) (unsigned_leb128 offset), length-append (unsigned_leb128 p.0) (unsigned_leb128 m ++ unsigned_leb128 offset), length-append (unsigned_leb128 m) (unsigned_leb128 offset))
   named m offset le lt false is =
       let same : p.0 - 64 + 64 ≡ p.0 = omega arith in
-      ap (λ (k : ℕ). unsigned_text k ++ (unsigned_text m ++ unsigned_text offset)) same
+      ap (λ (k : ℕ). unsigned_leb128 k ++ (unsigned_leb128 m ++ unsigned_leb128 offset)) same
 
   by : (s : Bool) → ltb p.0 64 ≡ s → (t : Bool) → ltb p.0 128 ≡ t
-      → Either s (Mapped (in_first p.0) SpellsU64) (Either t (Mapped (in_memory (p.0 - 64)) (Then SpellsU32 (λ memory. SpellsU64))) Never) g.1 p.1 → Long p.0 s t p.1
+      → Either s (Mapped (in_first p.0) EncodesU64) (Either t (Mapped (in_memory (p.0 - 64)) (Then EncodesU32 (λ memory. EncodesU64))) Never) g.1 p.1 → Long p.0 s t p.1
   by true low t t-is h = subst (Long p.0 true t) h.2 refl
   by false high true low h = subst (Long p.0 false true) h.2 (named h.0.0 h.0.1 (ltb-false _ _ high) (ltb-true _ _ low) (eqb h.0.0 0) refl)
   by false high false higher h = absurd h

@@ -11,7 +11,7 @@ use Rattle.wasm_instructions.specs.declared.encode.calls.lists.Before.TheVariant
 use Rattle.wasm_instructions.specs.Instructions.{Instruction, IsAligned, IsCounted}
 use Rattle.wasm_instructions.specs.formats.Operands.{block_type}
 use Rattle.wasm_instructions.specs.formats.Instructions.{opcode}
-use Rattle.wasm_codec.specs.Numbers.{unsigned_text}
+use Rattle.wasm_codec.specs.Numbers.{unsigned_leb128}
 
 -- why operands weren't written: memory ran out, an alignment is out of range, or a list is too long
 abbrev pub IsRefusal : Operands → EncodeError → Type 0
@@ -36,20 +36,20 @@ IsRefusalOfOne calls errors.Alignment = ⊥
 IsRefusalOfOne calls errors.TooLong = AllByRecursion (λ c. IsCounted c.operands) calls → ⊥
 
 -- what stands before a list
-unfoldable pub before_text : Before → List ℕ
-before_text parts.Nothing = []
-before_text (parts.Block ty) = block_type.bytes ty
-before_text (parts.Index index) = unsigned_text index
-before_text (parts.TwoIndexes first second) = unsigned_text first ++ unsigned_text second
+unfoldable pub before_bytes : Before → List ℕ
+before_bytes parts.Nothing = []
+before_bytes (parts.Block ty) = block_type.bytes ty
+before_bytes (parts.Index index) = unsigned_leb128 index
+before_bytes (parts.TwoIndexes first second) = unsigned_leb128 first ++ unsigned_leb128 second
 
 -- what stands after a list: an index, or nothing
-unfoldable pub after_text : Option ℕ → List ℕ
-after_text None = []
-after_text (Some index) = unsigned_text index
+unfoldable pub after_bytes : Option ℕ → List ℕ
+after_bytes None = []
+after_bytes (Some index) = unsigned_leb128 index
 
 -- the bytes of an instruction with a list
-abbrev pub list_text : Opcode → Before → List ℕ → Option ℕ → List ℕ
-list_text op before list after = opcode.bytes op ++ (before_text before ++ (list ++ after_text after))
+abbrev pub list_bytes : Opcode → Before → List ℕ → Option ℕ → List ℕ
+list_bytes op before list after = opcode.bytes op ++ (before_bytes before ++ (list ++ after_bytes after))
 
 -- memory ran out, or there are more items than a u32 counts
 abbrev pub IsRefusedList : ℕ → EncodeError → Type 0
@@ -61,4 +61,4 @@ module _ {S A : Type 0} (gives : S → Option A → S → Type 0) (InRange : A �
   -- The new bytes are the old ones and then the bytes of the list that the iterator gives, which a u32 counts. The
   -- numbers in it are in range.
   unfoldable pub AppendsAll : S → (List A → List ℕ) → List ℕ → List ℕ → Type 0
-  AppendsAll items text old new = (xs : List A) × Drains gives items xs × (new ≡ old ++ text xs) × (length xs < 2 ^ 32) × AllByRecursion InRange xs
+  AppendsAll items encoding old new = (xs : List A) × Drains gives items xs × (new ≡ old ++ encoding xs) × (length xs < 2 ^ 32) × AllByRecursion InRange xs

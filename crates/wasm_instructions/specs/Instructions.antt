@@ -1,4 +1,4 @@
--- Instructions: an opcode and its operands (WebAssembly Core 3.0, 5.4 Instructions).
+-- Instructions: an opcode and its operands (WebAssembly Core 3.0, Instructions).
 use Rattle.std.specs.Prelude.{◌≡◌, ℕ, ◌^◌, ◌<◌, length, get_or, Some}
 use Rattle.std.specs.List.{AllByRecursion}
 use Rattle.wasm_instructions.specs.declared.table.opcode.Prefix.TheVariants as prefixes
@@ -91,8 +91,8 @@ IsCounted (operands.ResumeThrow index tag handlers) = length handlers < 2 ^ 32
 IsCounted o = Unit {0}
 
 -- alignments and the counts of lists have encodings
-abbrev pub HasText : Operands → Type 0
-HasText o = IsAligned o × IsCounted o
+abbrev pub HasEncoding : Operands → Type 0
+HasEncoding o = IsAligned o × IsCounted o
 
 -- none of the operands is a list
 abbrev pub HasNoList : Operands → Type 0

@@ -10,5 +10,5 @@ HasNoLongList (operands.Types types) = length types ≡ 1
 HasNoLongList o = HasNoList o
 
 -- from 1 to 20 bytes
-abbrev pub IsShortText : List ℕ → Type 0
-IsShortText text = (1 ≤ length text) × (length text ≤ 20)
+abbrev pub IsShortEncoding : List ℕ → Type 0
+IsShortEncoding encoding = (1 ≤ length encoding) × (length encoding ≤ 20)

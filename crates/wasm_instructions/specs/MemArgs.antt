@@ -1,4 +1,4 @@
--- Which memory arguments can be written (WebAssembly Core 3.0, 5.4, memory instructions).
+-- Which memory arguments can be written (WebAssembly Core 3.0, Memory Instructions).
 use Rattle.std.specs.Prelude.{◌<◌, Option, Some, None, nat_lt, if◌then◌else◌}
 use Rattle.wasm_instructions.specs.declared.operands.memory.MemArg.{MemArg}
 use Rattle.wasm_codec.specs.declared.encode.EncodeError.{EncodeError}

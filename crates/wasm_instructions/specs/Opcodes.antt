@@ -1,4 +1,4 @@
--- The table of opcodes: which kind of operands each has (WebAssembly Core 3.0, 5.4 Instructions).
+-- The table of opcodes: which kind of operands each has (WebAssembly Core 3.0, Instructions).
 use Rattle.std.specs.Prelude.{◌≡◌, ℕ, zero, suc, ◌+◌, Bool, true, IsTrue, List, [], ◌∷◌, length, Option, Some, None, ◌&&◌, nat_le, nat_lt, if◌then◌else◌}
 use Rattle.wasm_instructions.specs.declared.table.opcode.Prefix.{Prefix}
 use Rattle.wasm_instructions.specs.declared.table.opcode.Prefix.TheVariants as prefixes

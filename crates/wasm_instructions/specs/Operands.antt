@@ -1,9 +1,6 @@
 -- Floating-point bits, and the ranges of the numbers in what stands after opcodes.
-use Rattle.std.specs.Prelude.{ℕ, ◌^◌, ◌<◌}
-use Rattle.wasm_types.specs.declared.types.heap.HeapType.{HeapType}
-use Rattle.wasm_types.specs.declared.types.heap.HeapType.TheVariants.{Abstract, Concrete, Exact}
-use Rattle.wasm_types.specs.declared.types.value.ValType.{ValType}
-use Rattle.wasm_types.specs.declared.types.value.ValType.TheVariants as values
+use Rattle.std.specs.Prelude.{ℕ}
+pub use Rattle.wasm_types.specs.TypeRanges.{IsU32, HeapTypeFits, ValTypeFits}
 use Rattle.wasm_instructions.specs.declared.operands.control.BlockType.{BlockType}
 use Rattle.wasm_instructions.specs.declared.operands.control.BlockType.TheVariants as blocks
 use Rattle.wasm_instructions.specs.declared.operands.control.Catch.{Catch}
@@ -20,22 +17,6 @@ abbrev pub ieee64 : ℕ → Ieee64
 ieee64 bits = record { bits = bits }
 
 -- ---- ranges of numbers
-
-abbrev pub IsU32 : ℕ → Type 0
-IsU32 n = n < 2 ^ 32
-
-abbrev pub HeapTypeFits : HeapType → Type 0
-HeapTypeFits (Abstract shared ty) = Unit {0}
-HeapTypeFits (Concrete index) = IsU32 index
-HeapTypeFits (Exact index) = IsU32 index
-
-abbrev pub ValTypeFits : ValType → Type 0
-ValTypeFits values.I32 = Unit {0}
-ValTypeFits values.I64 = Unit {0}
-ValTypeFits values.F32 = Unit {0}
-ValTypeFits values.F64 = Unit {0}
-ValTypeFits values.V128 = Unit {0}
-ValTypeFits (values.Ref r) = HeapTypeFits r.heap_type
 
 abbrev pub BlockTypeFits : BlockType → Type 0
 BlockTypeFits blocks.Empty = Unit {0}

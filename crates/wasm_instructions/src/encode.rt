@@ -4,6 +4,7 @@ mod calls;
 mod instructions;
 mod operands;
 
+pub(crate) use calls::put_opcode;
 pub use calls::{
     append_block, append_branch_table, append_cast, append_f32, append_f64, append_heap,
     append_i32, append_i64, append_index, append_lane, append_mem, append_mem_lane, append_opcode,

@@ -1,4 +1,4 @@
-//! Instructions of WebAssembly (Core 3.0, 5.4): operands, the table of opcodes, calls (an opcode with operands
+//! Instructions of WebAssembly (Core 3.0, Instructions): operands, the table of opcodes, calls (an opcode with operands
 //! of its kind), their writer, their reader, and the normaliser of lists of them.
 #![tactic(auto)]
 

@@ -1,44 +1,206 @@
-//! The normaliser of lists of instructions (Core 3.0, 5.4).
-ghost use Rattle.std.specs.Prelude.{◌≡◌, ◌↔◌, ◌++◌, List, IfOk, OnOk};
-ghost use Rattle.wasm_codec.specs.Answers.{IsOrMemory, IfRefused, IsLongestFront, SpellsSome, IsNormalForm};
+//! The normaliser of lists of instructions (Core 3.0, Instructions).
+ghost use Rattle.std.specs.Prelude.{◌≡◌, ◌↔◌, ◌++◌, List, Some, IfOk, OnOk};
+ghost use Rattle.wasm_codec.specs.Answers.{IsOrMemory, IfRefused, IsLongestPrefix, EncodesSome, IsNormalForm};
 ghost use Rattle.wasm_instructions.specs.Instructions.{Instruction};
-ghost use Rattle.wasm_instructions.specs.formats.Instructions.{Instructions, instruction, instructions_bytes};
+ghost use Rattle.wasm_instructions.specs.formats.Instructions.{Instructions, ShortestInstructions, opcode, operands_format, instruction, instructions_bytes};
+ghost use Rattle.wasm_instructions.specs.Opcodes.{kind as kind_at};
+ghost use Rattle.wasm_instructions.specs.declared.table.opcode.Kind.TheVariants as kinds;
+ghost use Rattle.wasm_codec.specs.Grammar.{IsBytes};
+ghost use Rattle.wasm_codec.specs.Rewriting.{Appends};
 
-use crate::encode::append_call;
-use crate::table::Call;
+use crate::encode::{append_call, put_block_type, put_catch, put_handle, put_opcode};
+use crate::operands::{Catch, Handle};
+use crate::reader::{read_block_type, read_call, read_catch, read_handle, read_opcode};
+use crate::table::{Call, Kind, Opcode};
 use std::alloc::{AllocError, Global};
 use wasm_codec::encode::EncodeError;
-use wasm_codec::normaliser::{Normalisable, normalise_joined};
+use wasm_codec::normaliser::{Normalisable, normalise_joined, write_list_anew};
 use wasm_codec::reader::ReadError;
+use wasm_codec::reader::cursor::{Cursor, Fault};
+use wasm_types::types::ValType;
 
 /// The shortest encoding of the instructions that the bytes encode.
 ///
 /// `Refused` carries the number of bytes of the instructions that are whole before the first that isn't.
 pub fn normalise_instructions(alloc: Global, bytes: &[u8]) -> Result<Vec<u8>, ReadError>
     // The result is the shortest encoding of a list that the bytes encode.
-    ensures given { IfOk result (λ text.
-        IsNormalForm Instructions instructions_bytes bytes.now text.items) }
+    ensures given { IfOk result (λ encoding.
+        IsNormalForm Instructions instructions_bytes bytes.now encoding.items) }
     // Where the bytes encode a list, its shortest encoding is given, unless memory ran out.
     ensures complete { (calls : List Instruction) → Instructions bytes.now calls →
-        IsOrMemory (λ text. text.items) (instructions_bytes calls) result }
+        IsOrMemory (λ encoding. encoding.items) (instructions_bytes calls) result }
     // `at` is the length of the longest prefix that encodes a list.
-    ensures front { IfRefused result (IsLongestFront (SpellsSome Instructions) bytes.now) }
+    ensures prefix { IfRefused result (IsLongestPrefix (EncodesSome Instructions) bytes.now) }
     // The bytes encode at most one list.
     ensures one { (calls others : List Instruction) →
         Instructions bytes.now calls → Instructions bytes.now others → calls ≡ others }
     // The result encodes a list exactly if the bytes do.
-    ensures same { IfOk result (λ text. (calls : List Instruction) →
-        Instructions text.items calls ↔ Instructions bytes.now calls) }
+    ensures same { IfOk result (λ encoding. (calls : List Instruction) →
+        Instructions encoding.items calls ↔ Instructions bytes.now calls) }
     // The result is normal: it is the shortest encoding of what it encodes.
-    ensures normal { IfOk result (λ text. (calls : List Instruction) →
-        Instructions text.items calls → text.items ≡ instructions_bytes calls) }
+    ensures normal { IfOk result (λ encoding. (calls : List Instruction) →
+        Instructions encoding.items calls → encoding.items ≡ instructions_bytes calls) }
+    // A shortest encoding stays as it is, unless memory ran out.
+    ensures stays { (calls : List Instruction) → ShortestInstructions bytes.now calls →
+        IsOrMemory (λ encoding. encoding.items) bytes.now result }
+    // What stays as it is, is a shortest encoding.
+    ensures was_shortest { IfOk result (λ encoding.
+        encoding.items ≡ bytes.now → EncodesSome ShortestInstructions bytes.now) }
 {
     normalise_joined::<Call>(alloc, bytes)
 }
 
 impl<'a> Normalisable<'a> for Call {
-    fn append(&self, bytes: &mut Vec<u8>) -> Result<(), AllocError> {
-        append_anew(self, bytes)
+    fn write_anew(
+        alloc: Global,
+        cursor: &mut Cursor<'a>,
+        bytes: &mut Vec<u8>,
+    ) -> Result<(), Fault> {
+        write_call_anew(alloc, cursor, bytes)
+    }
+}
+
+/// Appends the shortest encoding of the instruction that comes next. One with a list isn't held.
+#[tactic(auto, unfolding(crate::specs::formats::Instructions::instruction))]
+fn write_call_anew(alloc: Global, cursor: &mut Cursor<'_>, bytes: &mut Vec<u8>) -> Result<(), Fault>
+    ensures writes { Appends instruction cursor.old cursor.new bytes.old.items bytes.new.items result }
+{
+    let start = cursor.fork();
+    let op = read_opcode(cursor)?;
+    let Some(kind) = op.kind() else {
+        return Err(Fault::Malformed);
+    };
+    match kind {
+        Kind::BrTable => {
+            append_opcode(bytes, op, kind)?;
+            write_br_table(alloc, cursor, bytes)
+        }
+        Kind::Types => {
+            append_opcode(bytes, op, kind)?;
+            write_types(alloc, cursor, bytes)
+        }
+        Kind::TryTable => {
+            append_opcode(bytes, op, kind)?;
+            write_try_table(alloc, cursor, bytes)
+        }
+        Kind::Resume => {
+            append_opcode(bytes, op, kind)?;
+            write_resume(alloc, cursor, bytes)
+        }
+        Kind::ResumeThrow => {
+            append_opcode(bytes, op, kind)?;
+            write_resume_throw(alloc, cursor, bytes)
+        }
+        _ => {
+            *cursor = start;
+            write_held(alloc, cursor, bytes)
+        }
+    }
+}
+
+/// Appends the shortest encoding of an opcode of the table.
+#[tactic(auto, using(crate::proofs::OpcodeLaws::in_table_short))]
+fn append_opcode(bytes: &mut Vec<u8>, op: Opcode, kind: Kind) -> Result<(), AllocError>
+    requires { kind_at op ≡ Some kind }
+    ensures { OnOk result (bytes.new.items ≡ bytes.old.items ++ opcode.bytes op) }
+{
+    let _ = kind;
+    bytes.reserve(3)?;
+    put_opcode(bytes, op);
+    Ok(())
+}
+
+/// The labels of a `br_table`.
+#[tactic(auto, using(std::proofs::Common::append_assoc), unfolding(crate::specs::formats::Instructions::operands_format))]
+fn write_br_table(alloc: Global, cursor: &mut Cursor<'_>, bytes: &mut Vec<u8>) -> Result<(), Fault>
+    ensures writes { Appends (operands_format kinds.BrTable) cursor.old cursor.new bytes.old.items bytes.new.items result }
+{
+    write_list_anew::<u32>(alloc, cursor, bytes)?;
+    u32::write_anew(alloc, cursor, bytes)?;
+    Ok(())
+}
+
+/// The types of a `select`.
+#[tactic(auto, unfolding(crate::specs::formats::Instructions::operands_format))]
+fn write_types(alloc: Global, cursor: &mut Cursor<'_>, bytes: &mut Vec<u8>) -> Result<(), Fault>
+    ensures writes { Appends (operands_format kinds.Types) cursor.old cursor.new bytes.old.items bytes.new.items result }
+{
+    write_list_anew::<ValType>(alloc, cursor, bytes)?;
+    Ok(())
+}
+
+/// The block type and the clauses of a `try_table`.
+#[tactic(auto, using(std::proofs::Common::append_assoc), unfolding(crate::specs::formats::Instructions::operands_format))]
+fn write_try_table(alloc: Global, cursor: &mut Cursor<'_>, bytes: &mut Vec<u8>) -> Result<(), Fault>
+    ensures writes { Appends (operands_format kinds.TryTable) cursor.old cursor.new bytes.old.items bytes.new.items result }
+{
+    let ty = read_block_type(cursor)?;
+    bytes.reserve(7)?;
+    put_block_type(bytes, ty);
+    write_list_anew::<Catch>(alloc, cursor, bytes)?;
+    Ok(())
+}
+
+/// The index and the handlers of a `resume`.
+#[tactic(auto, using(std::proofs::Common::append_assoc), unfolding(crate::specs::formats::Instructions::operands_format))]
+fn write_resume(alloc: Global, cursor: &mut Cursor<'_>, bytes: &mut Vec<u8>) -> Result<(), Fault>
+    ensures writes { Appends (operands_format kinds.Resume) cursor.old cursor.new bytes.old.items bytes.new.items result }
+{
+    u32::write_anew(alloc, cursor, bytes)?;
+    write_list_anew::<Handle>(alloc, cursor, bytes)?;
+    Ok(())
+}
+
+/// The two indexes and the handlers of a `resume_throw`.
+#[tactic(auto, using(std::proofs::Common::append_assoc), unfolding(crate::specs::formats::Instructions::operands_format))]
+fn write_resume_throw(
+    alloc: Global,
+    cursor: &mut Cursor<'_>,
+    bytes: &mut Vec<u8>,
+) -> Result<(), Fault>
+    ensures writes { Appends (operands_format kinds.ResumeThrow) cursor.old cursor.new bytes.old.items bytes.new.items result }
+{
+    u32::write_anew(alloc, cursor, bytes)?;
+    u32::write_anew(alloc, cursor, bytes)?;
+    write_list_anew::<Handle>(alloc, cursor, bytes)?;
+    Ok(())
+}
+
+/// An instruction, by way of a `Call`.
+fn write_held(alloc: Global, cursor: &mut Cursor<'_>, bytes: &mut Vec<u8>) -> Result<(), Fault>
+    requires bytes { IsBytes cursor.old.left }
+    ensures writes { Appends instruction cursor.old cursor.new bytes.old.items bytes.new.items result }
+{
+    let call = read_call(alloc, cursor)?;
+    append_anew(&call, bytes)?;
+    Ok(())
+}
+
+impl<'a> Normalisable<'a> for Catch {
+    fn write_anew(
+        alloc: Global,
+        cursor: &mut Cursor<'a>,
+        bytes: &mut Vec<u8>,
+    ) -> Result<(), Fault> {
+        let _ = alloc;
+        let clause = read_catch(cursor)?;
+        bytes.reserve(11)?;
+        put_catch(bytes, clause);
+        Ok(())
+    }
+}
+
+impl<'a> Normalisable<'a> for Handle {
+    fn write_anew(
+        alloc: Global,
+        cursor: &mut Cursor<'a>,
+        bytes: &mut Vec<u8>,
+    ) -> Result<(), Fault> {
+        let _ = alloc;
+        let clause = read_handle(cursor)?;
+        bytes.reserve(11)?;
+        put_handle(bytes, clause);
+        Ok(())
     }
 }
 

@@ -1,5 +1,5 @@
-//! What stands after opcodes (Core 3.0, 5.4): block types, memory arguments, the clauses of `try_table`, constants,
-//! and what the proposals on stack switching and shared memory add.
+//! What stands after opcodes (Core 3.0, Instructions): block types, memory arguments, the clauses of `try_table`,
+//! constants, and what the proposals on stack switching and shared memory add.
 
 mod constants;
 mod control;

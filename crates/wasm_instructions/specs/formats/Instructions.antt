@@ -1,4 +1,4 @@
--- Instructions: an opcode and its operands (WebAssembly Core 3.0, 5.4 Instructions).
+-- Instructions: an opcode and its operands (WebAssembly Core 3.0, Instructions).
 use Rattle.std.specs.Prelude.{ℕ, ℤ, Bool, not, ◌||◌, ◌==◌, List, ◌++◌, Option, Some, None}
 use Rattle.wasm_types.specs.declared.types.heap.HeapType.{HeapType}
 use Rattle.wasm_types.specs.declared.types.value.ValType.{ValType}
@@ -147,7 +147,7 @@ order_two_indexes_part o = None
 
 -- what follows the opcode in each line of 5.4, as in 0x0E l*:list(labelidx) l_n:labelidx => br_table l* l_n
 unfoldable pub operands_format : Kind → Format Operands
--- 5.4.1 Control Instructions
+-- Control Instructions
 operands_format kinds.None = nothing operands.None
 operands_format kinds.Block = made operands.Block block_part block_type
 operands_format kinds.Index = made operands.Index index_part u32
@@ -158,18 +158,18 @@ operands_format kinds.Cast = made cast_of cast_part (castop ⊗ u32 ⊗ heap_typ
 -- of the proposal on stack switching
 operands_format kinds.Resume = made (λ p. operands.Resume p.0 p.1) resume_part (u32 ⊗ items handle_clause)
 operands_format kinds.ResumeThrow = made (λ p. operands.ResumeThrow p.0 p.1.0 p.1.1) resume_throw_part (u32 ⊗ u32 ⊗ items handle_clause)
--- 5.4.2 Reference Instructions
+-- Reference Instructions
 operands_format kinds.Heap = made operands.Heap heap_part heap_type
--- 5.4.4 Parametric Instructions
+-- Parametric Instructions
 operands_format kinds.Types = made operands.Types types_part (items val_type)
--- 5.4.6 Memory Instructions
+-- Memory Instructions
 operands_format kinds.Mem = made operands.Mem mem_part mem_arg
--- 5.4.7 Numeric Instructions
+-- Numeric Instructions
 operands_format kinds.I32 = made operands.I32 i32_part s32
 operands_format kinds.I64 = made operands.I64 i64_part s64
 operands_format kinds.F32 = made (λ bits. operands.F32 (ieee32 bits)) f32_part (little_endian 4)
 operands_format kinds.F64 = made (λ bits. operands.F64 (ieee64 bits)) f64_part (little_endian 8)
--- 5.4.8 Vector Instructions
+-- Vector Instructions
 operands_format kinds.V128 = made operands.V128 v128_part vector
 operands_format kinds.Shuffle = made operands.Shuffle shuffle_part lanes
 operands_format kinds.Lane = made operands.Lane lane_part a_byte

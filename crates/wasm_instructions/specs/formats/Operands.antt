@@ -1,4 +1,4 @@
--- What stands after opcodes (WebAssembly Core 3.0, 5.4 Instructions). Handlers, orderings and casts to descriptors are of
+-- What stands after opcodes (WebAssembly Core 3.0, Instructions). Handlers, orderings and casts to descriptors are of
 -- proposals: there this is the project's own profile.
 use Rattle.std.specs.Prelude.{ℕ, ℤ, ◌+◌, ◌-◌, ◌*◌, ◌%◌, ◌/◌, ◌^◌, ◌<◌, Bool, true, false, not, ◌&&◌, ◌==◌, nat_lt, if◌then◌else◌, List, [], ◌∷◌, ◌++◌, Option, Some, None, pos, negsuc, ◌-ℤ◌}
 use Rattle.wasm_types.specs.declared.types.value.ValType.{ValType}
@@ -11,11 +11,11 @@ use Rattle.wasm_instructions.specs.declared.operands.control.Handle.TheVariants 
 use Rattle.wasm_instructions.specs.declared.operands.memory.MemArg.{MemArg}
 use Rattle.wasm_instructions.specs.declared.operands.memory.Ordering.{Ordering}
 use Rattle.wasm_instructions.specs.declared.operands.memory.Ordering.TheVariants as orderings
-use Rattle.wasm_codec.specs.Numbers.{Within, unsigned_text}
+use Rattle.wasm_codec.specs.Numbers.{Within, unsigned_leb128}
 use Rattle.wasm_codec.specs.formats.Combinators.{Format, never, ◌⊗◌, ◌⊗>◌, made, made_as, made_of, any_of, or_else, no_other, variant, tagged, choose, one_byte, byte_or, u32, u64, index, raw, little_endian}
 use Rattle.wasm_types.specs.formats.Types.{val_type}
 
--- ---- block types (5.4.1 Control Instructions)
+-- ---- block types (Control Instructions)
 
 abbrev pub empty_byte : BlockType → Option ℕ
 empty_byte blocks.Empty = Some 0x40
@@ -36,7 +36,7 @@ block_type = any_of
     (variant blocks.FunctionType function_type_part index
     (or_else (made blocks.Result result_part val_type))))
 
--- ---- clauses of try_table (5.4.1 Control Instructions)
+-- ---- clauses of try_table (Control Instructions)
 
 abbrev pub catch_byte : Catch → ℕ
 catch_byte (catches.One tag label) = 0x00
@@ -85,7 +85,7 @@ handle_clause = any_of
     (tagged handle_byte 0x01 (made handles.OnSwitch on_switch_part u32)
     no_other))
 
--- ---- the flags of branches on casts (5.4.1 Control Instructions)
+-- ---- the flags of branches on casts (Control Instructions)
 
 abbrev pub nullables_byte : Bool × Bool → Option ℕ
 nullables_byte (false, false) = Some 0x00
@@ -100,7 +100,7 @@ all_nullables = (false, false) ∷ (true, false) ∷ (false, true) ∷ (true, tr
 unfoldable pub castop : Format (Bool × Bool)
 castop = one_byte nullables_byte all_nullables
 
--- ---- memory arguments (5.4.6 Memory Instructions)
+-- ---- memory arguments (Memory Instructions)
 
 abbrev pub in_first : ℕ → ℕ → MemArg
 in_first align offset = record { offset = offset; align = align; memory_index = 0 }
@@ -119,8 +119,8 @@ after_alignment n =
 -- memory 0 is written without its index
 abbrev pub mem_arg_bytes : MemArg → List ℕ
 mem_arg_bytes arg =
-    if arg.memory_index == 0 then unsigned_text arg.align ++ unsigned_text arg.offset
-    else unsigned_text (arg.align + 64) ++ (unsigned_text arg.memory_index ++ unsigned_text arg.offset)
+    if arg.memory_index == 0 then unsigned_leb128 arg.align ++ unsigned_leb128 arg.offset
+    else unsigned_leb128 (arg.align + 64) ++ (unsigned_leb128 arg.memory_index ++ unsigned_leb128 arg.offset)
 
 pub record MemArgInRange (arg : MemArg) : Type 0 where
   pub align : arg.align < 64
@@ -145,7 +145,7 @@ ordering_byte orderings.AcqRel = Some 0x01
 unfoldable pub ordering : Format Ordering
 ordering = one_byte ordering_byte (orderings.SeqCst ∷ orderings.AcqRel ∷ [])
 
--- ---- vectors (5.4.8 Vector Instructions)
+-- ---- vectors (Vector Instructions)
 
 -- the number of 128 bits in two's complement
 abbrev pub from_bits : ℕ → ℤ

@@ -6,7 +6,7 @@ ghost use Rattle.wasm_instructions.specs.Instructions.{IsShort, call};
 ghost use Rattle.wasm_instructions.specs.formats.Instructions.{instruction};
 ghost use Rattle.wasm_instructions.specs.formats.Instructions.{opcode};
 ghost use Rattle.wasm_instructions.specs.declared.table.call.Operands.TheVariants as operands;
-ghost use Rattle.wasm_codec.specs.Numbers.{unsigned_text};
+ghost use Rattle.wasm_codec.specs.Numbers.{unsigned_leb128};
 
 mod constants;
 mod items;
@@ -35,11 +35,11 @@ use wasm_codec::encode::leb128::put_u32;
 const ROOM: usize = 24;
 
 /// Writes a prefix byte and the opcode's number, in one byte or two, into reserved room.
-#[tactic(auto, unfolding(wasm_codec::specs::Numbers::unsigned_text, wasm_codec::specs::Numbers::digits_of))]
+#[tactic(auto, unfolding(wasm_codec::specs::Numbers::unsigned_leb128, wasm_codec::specs::Numbers::digits_of))]
 fn put_prefixed<A: Allocator>(bytes: &mut Vec<u8, A>, prefix: u8, number: u32)
     requires short { number < 2 ^ 14 }
     requires room { vec_len bytes.old + 3 ≤ vec_capacity bytes.old }
-    ensures items { bytes.new.items ≡ bytes.old.items ++ prefix ∷ unsigned_text number }
+    ensures items { bytes.new.items ≡ bytes.old.items ++ prefix ∷ unsigned_leb128 number }
     ensures len { vec_len bytes.new ≤ vec_len bytes.old + 3 }
     ensures capacity { vec_capacity bytes.new ≡ vec_capacity bytes.old }
 {
@@ -54,7 +54,7 @@ fn put_prefixed<A: Allocator>(bytes: &mut Vec<u8, A>, prefix: u8, number: u32)
 
 /// Writes an opcode into reserved room.
 #[tactic(auto, unfolding(crate::specs::formats::Instructions::opcode))]
-fn put_opcode<A: Allocator>(bytes: &mut Vec<u8, A>, op: Opcode)
+pub(crate) fn put_opcode<A: Allocator>(bytes: &mut Vec<u8, A>, op: Opcode)
     requires short { IsShort op }
     requires room { vec_len bytes.old + 3 ≤ vec_capacity bytes.old }
     ensures items { bytes.new.items ≡ bytes.old.items ++ opcode.bytes op }

@@ -1,10 +1,10 @@
 //! Instructions, written.
 ghost use Rattle.std.specs.Prelude.{◌≡◌, ◌++◌, ◌+◌, ◌≤◌, List, ℕ, length, take, IsOk, IfErr, OnOk, OnErr, vec_len, vec_capacity};
-ghost use Rattle.wasm_codec.specs.Encoding.{IsTextOrLonger, OnlyTooLong};
+ghost use Rattle.wasm_codec.specs.Encoding.{IsShortest, IsShortestOrLonger, OnlyTooLong};
 ghost use Rattle.wasm_instructions.specs.Appending.{CountedCall, IsRefusal, IsCallRefusal, IsRefusalOfOne};
-ghost use Rattle.wasm_instructions.specs.Instructions.{HasNoList, HasText, IsAligned, IsCounted, IsShort, ItemsInRange, call};
+ghost use Rattle.wasm_instructions.specs.Instructions.{HasNoList, HasEncoding, IsAligned, IsCounted, IsShort, ItemsInRange, call};
 ghost use Rattle.wasm_instructions.specs.formats.Instructions.{Instructions, instruction, instructions_bytes};
-ghost use Rattle.wasm_instructions.specs.Lengths.{HasNoLongList, IsShortText};
+ghost use Rattle.wasm_instructions.specs.Lengths.{HasNoLongList, IsShortEncoding};
 
 use super::calls::{
     Before, append_block, append_cast, append_f32, append_f64, append_heap, append_held,
@@ -23,9 +23,9 @@ pub fn append_calls<A: Allocator>(bytes: &mut Vec<u8, A>, calls: &[Call]) -> Res
     ensures ok { OnOk result (bytes.new.items ≡ bytes.old.items ++ instructions_bytes calls.now) }
     ensures err { OnErr result (bytes.new.items ≡ bytes.old.items) }
     ensures refused { IfErr result (IsRefusalOfOne calls.now) }
-    ensures spells { OnOk result (Instructions (instructions_bytes calls.now) calls.now) }
+    ensures encodes { OnOk result (Instructions (instructions_bytes calls.now) calls.now) }
     ensures shortest { (bytes : List ℕ) → Instructions bytes calls.now →
-        IsTextOrLonger bytes (instructions_bytes calls.now) }
+        IsShortestOrLonger bytes (instructions_bytes calls.now) }
 {
     let start = bytes.len();
     let appended = append_one_by_one(bytes, calls);
@@ -40,7 +40,7 @@ fn append_one_by_one<A: Allocator>(
     ensures ok { OnOk result (bytes.new.items ≡ bytes.old.items ++ instructions_bytes calls.now) }
     ensures kept { take (length bytes.old.items) bytes.new.items ≡ bytes.old.items }
     ensures refused { IfErr result (IsRefusalOfOne calls.now) }
-    ensures spells { OnOk result (Instructions (instructions_bytes calls.now) calls.now) }
+    ensures encodes { OnOk result (Instructions (instructions_bytes calls.now) calls.now) }
 {
     for call in calls {
         append_call(bytes, call)?;
@@ -58,15 +58,15 @@ pub fn append_call<A: Allocator>(bytes: &mut Vec<u8, A>, call: &Call) -> Result<
     ensures refused { IfErr result (IsCallRefusal call.now) }
     ensures room { vec_len bytes.old + 24 ≤ vec_capacity bytes.old → HasNoList call.now.operands → IsOk result }
     // What is written encodes the instruction.
-    ensures spells { OnOk result (instruction.Encodes (instruction.bytes call.now) call.now) }
+    ensures encodes { OnOk result (instruction.Encodes (instruction.bytes call.now) call.now) }
     // An instruction without a list, or with a list of one type, has from 1 to 20 bytes.
-    ensures length { HasNoLongList call.now.operands → IsShortText (instruction.bytes call.now) }
+    ensures length { HasNoLongList call.now.operands → IsShortEncoding (instruction.bytes call.now) }
 {
     append_operands(bytes, call.op(), call.operands())
 }
 
 /// Appends an instruction with these operands, or nothing.
-#[tactic(auto, unfolding(crate::specs::Appending::before_text, crate::specs::Appending::after_text, crate::specs::formats::Instructions::instruction, crate::specs::formats::Instructions::operands_format))]
+#[tactic(auto, unfolding(crate::specs::Appending::before_bytes, crate::specs::Appending::after_bytes, crate::specs::formats::Instructions::instruction, crate::specs::formats::Instructions::operands_format))]
 fn append_operands<A: Allocator>(
     bytes: &mut Vec<u8, A>,
     op: Opcode,
@@ -75,7 +75,7 @@ fn append_operands<A: Allocator>(
     requires short { IsShort op }
     ensures ok { OnOk result (bytes.new.items ≡ bytes.old.items ++ instruction.bytes (call op operands.now)) }
     ensures err { OnErr result (bytes.new.items ≡ bytes.old.items) }
-    ensures fits { OnOk result (HasText operands.now × ItemsInRange operands.now) }
+    ensures fits { OnOk result (HasEncoding operands.now × ItemsInRange operands.now) }
     ensures refused { IfErr result (IsRefusal operands.now) }
     ensures room { vec_len bytes.old + 24 ≤ vec_capacity bytes.old → HasNoList operands.now → IsAligned operands.now → IsOk result }
     ensures in_range { HasNoLongList operands.now → ItemsInRange operands.now }
@@ -129,9 +129,12 @@ fn append_operands<A: Allocator>(
     }
 }
 
-/// The opcode and its operands, where a u32 counts the items of each list (Core 3.0, 5.4).
+/// The opcode and its operands, where a u32 counts the items of each list (Core 3.0, Instructions).
+#[tactic(auto, using(crate::proofs::CallRanges::call_written))]
 impl Encode for Call {
     ghost bytes = { instruction.bytes };
+
+    ghost IsWritten = { IsShortest instruction.Encodes instruction.bytes };
 
     ghost CanEncode = { CountedCall };
 

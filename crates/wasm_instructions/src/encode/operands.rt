@@ -1,9 +1,11 @@
-//! What stands after opcodes, written into room that was reserved (Core 3.0, 5.4).
+//! What stands after opcodes, written into room that was reserved (Core 3.0, Instructions).
 ghost use Rattle.std.specs.Prelude.{◌≡◌, ◌++◌, ◌∷◌, ◌+◌, ◌<◌, ◌≤◌, vec_len, vec_capacity};
 ghost use Rattle.wasm_instructions.specs.MemArgs.{HasAlignment, misaligned_at_once};
 ghost use Rattle.wasm_codec.specs.declared.encode.EncodeError.TheVariants.{Alignment};
+ghost use Rattle.wasm_codec.specs.Encoding.{IsShortest};
 ghost use Rattle.wasm_codec.specs.formats.Combinators.{little_endian};
-ghost use Rattle.wasm_instructions.specs.formats.Operands.{block_type, catch_clause, handle_clause, mem_arg, ordering as ordering_format, to_bits, vector};
+ghost use Rattle.wasm_instructions.specs.Operands.{BlockTypeFits, CatchFits, HandleFits};
+ghost use Rattle.wasm_instructions.specs.formats.Operands.{MemArgInRange, block_type, catch_clause, handle_clause, mem_arg, ordering as ordering_format, to_bits, vector};
 
 use crate::operands::{BlockType, Catch, Handle, MemArg, Ordering};
 use std::alloc::Allocator;
@@ -16,6 +18,7 @@ use wasm_types::encode::put_val_type;
 pub fn put_block_type<A: Allocator>(bytes: &mut Vec<u8, A>, ty: BlockType)
     requires { vec_len bytes.old + 7 ≤ vec_capacity bytes.old }
     ensures items { bytes.new.items ≡ bytes.old.items ++ block_type.bytes ty }
+    ensures fits { BlockTypeFits ty }
     ensures len { vec_len bytes.new ≤ vec_len bytes.old + 7 }
     ensures capacity { vec_capacity bytes.new ≡ vec_capacity bytes.old }
 {
@@ -27,11 +30,12 @@ pub fn put_block_type<A: Allocator>(bytes: &mut Vec<u8, A>, ty: BlockType)
 }
 
 /// Writes a memory argument in 2 to 16 bytes. Memory 0 goes without its index.
-#[tactic(auto, unfolding(crate::specs::formats::Operands::mem_arg, wasm_codec::specs::Numbers::unsigned_text, wasm_codec::specs::Numbers::digits_of))]
+#[tactic(auto, unfolding(crate::specs::formats::Operands::mem_arg, wasm_codec::specs::Numbers::unsigned_leb128, wasm_codec::specs::Numbers::digits_of))]
 pub fn put_mem_arg<A: Allocator>(bytes: &mut Vec<u8, A>, arg: MemArg)
     requires aligned { arg.align < 64 }
     requires room { vec_len bytes.old + 16 ≤ vec_capacity bytes.old }
     ensures items { bytes.new.items ≡ bytes.old.items ++ mem_arg.bytes arg }
+    ensures fits { MemArgInRange arg }
     ensures len { vec_len bytes.new ≤ vec_len bytes.old + 16 }
     ensures capacity { vec_capacity bytes.new ≡ vec_capacity bytes.old }
 {
@@ -49,6 +53,7 @@ pub fn put_mem_arg<A: Allocator>(bytes: &mut Vec<u8, A>, arg: MemArg)
 pub fn put_catch<A: Allocator>(bytes: &mut Vec<u8, A>, clause: Catch)
     requires { vec_len bytes.old + 11 ≤ vec_capacity bytes.old }
     ensures items { bytes.new.items ≡ bytes.old.items ++ catch_clause.bytes clause }
+    ensures fits { CatchFits clause }
     ensures len { vec_len bytes.new ≤ vec_len bytes.old + 11 }
     ensures capacity { vec_capacity bytes.new ≡ vec_capacity bytes.old }
 {
@@ -79,6 +84,7 @@ pub fn put_catch<A: Allocator>(bytes: &mut Vec<u8, A>, clause: Catch)
 pub fn put_handle<A: Allocator>(bytes: &mut Vec<u8, A>, clause: Handle)
     requires { vec_len bytes.old + 11 ≤ vec_capacity bytes.old }
     ensures items { bytes.new.items ≡ bytes.old.items ++ handle_clause.bytes clause }
+    ensures fits { HandleFits clause }
     ensures len { vec_len bytes.new ≤ vec_len bytes.old + 11 }
     ensures capacity { vec_capacity bytes.new ≡ vec_capacity bytes.old }
 {
@@ -175,9 +181,12 @@ pub fn put_vector<A: Allocator>(bytes: &mut Vec<u8, A>, value: i128)
     put_bits_64(bytes, (bits / (1 << 64)) as u64);
 }
 
-/// One byte, a value type, or an index as an s33 (Core 3.0, 5.4, block types).
+/// One byte, a value type, or an index as an s33 (Core 3.0, Control Instructions).
+#[tactic(auto, using(crate::proofs::CallRanges::block_written))]
 impl Encode for BlockType {
     ghost bytes = { block_type.bytes };
+
+    ghost IsWritten = { IsShortest block_type.Encodes block_type.bytes };
 
     fn encode<A: Allocator>(&self, sink: &mut Vec<u8, A>) -> Result<(), EncodeError> {
         sink.reserve(7)?;
@@ -186,10 +195,12 @@ impl Encode for BlockType {
     }
 }
 
-/// The alignment and the offset, with the memory's index between them where that isn't 0 (Core 3.0, 5.4, memory
-/// instructions). An alignment of 64 or more is refused by [`EncodeError::Alignment`], before anything grows.
+/// The alignment and the offset, with the memory's index between them where that isn't 0 (Core 3.0, Instructions,
+/// memory instructions). An alignment of 64 or more is refused by [`EncodeError::Alignment`], before anything grows.
 impl Encode for MemArg {
     ghost bytes = { mem_arg.bytes };
+
+    ghost IsWritten = { IsShortest mem_arg.Encodes mem_arg.bytes };
 
     ghost CanEncode = { HasAlignment };
 
@@ -207,9 +218,12 @@ impl Encode for MemArg {
     }
 }
 
-/// The byte of the clause, its tag, if it has one, and its label (Core 3.0, 5.4, control instructions).
+/// The byte of the clause, its tag, if it has one, and its label (Core 3.0, Control Instructions).
+#[tactic(auto, using(crate::proofs::CallRanges::catch_written))]
 impl Encode for Catch {
     ghost bytes = { catch_clause.bytes };
+
+    ghost IsWritten = { IsShortest catch_clause.Encodes catch_clause.bytes };
 
     fn encode<A: Allocator>(&self, sink: &mut Vec<u8, A>) -> Result<(), EncodeError> {
         sink.reserve(11)?;
@@ -219,8 +233,11 @@ impl Encode for Catch {
 }
 
 /// The byte of the clause, its tag, and its label, if it has one.
+#[tactic(auto, using(crate::proofs::CallRanges::handle_written))]
 impl Encode for Handle {
     ghost bytes = { handle_clause.bytes };
+
+    ghost IsWritten = { IsShortest handle_clause.Encodes handle_clause.bytes };
 
     fn encode<A: Allocator>(&self, sink: &mut Vec<u8, A>) -> Result<(), EncodeError> {
         sink.reserve(11)?;
@@ -232,6 +249,8 @@ impl Encode for Handle {
 /// One byte.
 impl Encode for Ordering {
     ghost bytes = { ordering_format.bytes };
+
+    ghost IsWritten = { IsShortest ordering_format.Encodes ordering_format.bytes };
 
     fn encode<A: Allocator>(&self, sink: &mut Vec<u8, A>) -> Result<(), EncodeError> {
         sink.reserve(1)?;

@@ -1,4 +1,4 @@
-//! Constants that are kept as their bits, and lanes of vectors (Core 3.0, 5.2.3 and 5.4).
+//! Constants that are kept as their bits, and lanes of vectors (Core 3.0, Floating-Point and Instructions).
 ghost use Rattle.std.specs.Prelude.{◌≡◌};
 
 /// The index of a lane of a vector: one byte, of which any is read and written.

@@ -1,4 +1,4 @@
-//! Block types and the clauses of `try_table` (Core 3.0, 5.4, control instructions), and of `resume`.
+//! Block types and the clauses of `try_table` (Core 3.0, Control Instructions), and of `resume`.
 
 use wasm_types::types::ValType;
 

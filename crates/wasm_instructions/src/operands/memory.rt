@@ -1,4 +1,4 @@
-//! Memory arguments (Core 3.0, 5.4, memory instructions) and the orderings of atomic accesses.
+//! Memory arguments (Core 3.0, Memory Instructions) and the orderings of atomic accesses.
 
 /// Where an instruction reaches into memory.
 #[derive(Clone, Copy, Debug, PartialEq, Eq)]

@@ -1,12 +1,13 @@
-//! Lists of instructions (Core 3.0, 5.4).
-ghost use Rattle.std.specs.Prelude.{◌≡◌, List, IfOk, refl};
+//! Lists of instructions (Core 3.0, Instructions).
+ghost use Rattle.std.specs.Prelude.{◌≡◌, ◌↔◌, List, IfOk, IfErr, refl};
 ghost use Rattle.wasm_codec.specs.Places.{Reads};
+ghost use Rattle.wasm_codec.specs.declared.reader.cursor.Fault.TheVariants.{Malformed};
 ghost use Rattle.wasm_codec.specs.Lawful.{IsPrefixFree};
 ghost use Rattle.wasm_codec.specs.formats.Combinators.{u32 as u32_format, u64 as u64_format, s32, s64, index};
 ghost use Rattle.wasm_types.specs.formats.Types.{heap_type, ref_type, val_type};
-ghost use Rattle.wasm_codec.specs.Answers.{IsOrMemory, IfRefused, IsLongestFront, SpellsSome};
+ghost use Rattle.wasm_codec.specs.Answers.{IsOrMemory, IfRefused, IsLongestPrefix, EncodesSome};
 ghost use Rattle.wasm_instructions.specs.Instructions.{Instruction, IsCounted};
-ghost use Rattle.wasm_instructions.specs.formats.Instructions.{Instructions, opcode, operands_format, instruction};
+ghost use Rattle.wasm_instructions.specs.formats.Instructions.{Instructions, instructions_bytes, ShortestInstructions, opcode, operands_format, instruction};
 ghost use Rattle.wasm_instructions.specs.formats.Operands.{block_type};
 ghost use Rattle.wasm_instructions.specs.declared.table.opcode.Kind.{Kind};
 
@@ -15,10 +16,10 @@ use crate::table::{Call, Opcode};
 use std::alloc::Global;
 use wasm_codec::reader::ReadError;
 use wasm_codec::reader::cursor::{Cursor, Fault};
-use wasm_codec::reader::lists::read_joined;
+use wasm_codec::reader::lists::{read_joined, read_joined_as};
 use wasm_codec::reader::readable::Readable;
 
-/// The instructions that the bytes encode, each in any of its encodings (Core 3.0, 5.4).
+/// The instructions that the bytes encode, each in any of its encodings (Core 3.0, Instructions).
 ///
 /// `Refused` carries the number of bytes of the instructions that are whole before the first that isn't.
 pub fn read_instructions(alloc: Global, bytes: &[u8]) -> Result<Vec<Call>, ReadError>
@@ -28,7 +29,7 @@ pub fn read_instructions(alloc: Global, bytes: &[u8]) -> Result<Vec<Call>, ReadE
     ensures complete { (calls : List Instruction) → Instructions bytes.now calls →
         IsOrMemory (λ given. given.items) calls result }
     // `at` is the length of the longest prefix that encodes a list.
-    ensures front { IfRefused result (IsLongestFront (SpellsSome Instructions) bytes.now) }
+    ensures prefix { IfRefused result (IsLongestPrefix (EncodesSome Instructions) bytes.now) }
     // The bytes encode at most one list.
     ensures one { (calls others : List Instruction) →
         Instructions bytes.now calls → Instructions bytes.now others → calls ≡ others }
@@ -48,10 +49,35 @@ pub fn read_instructions(alloc: Global, bytes: &[u8]) -> Result<Vec<Call>, ReadE
     read_joined(alloc, bytes)
 }
 
+/// The instructions whose shortest encoding the bytes are (Core 3.0, Instructions).
+///
+/// `Refused` carries the number of bytes of the instructions that are whole and in their shortest encodings, before the
+/// first that isn't.
+pub fn read_instructions_strict(alloc: Global, bytes: &[u8]) -> Result<Vec<Call>, ReadError>
+    // What is given, the bytes are the shortest encoding of.
+    ensures given { IfOk result (λ calls. ShortestInstructions bytes.now calls.items) }
+    // What the bytes are the shortest encoding of is given, unless memory ran out.
+    ensures complete { (calls : List Instruction) → ShortestInstructions bytes.now calls →
+        IsOrMemory (λ given. given.items) calls result }
+    // `at` is the length of the longest prefix that is the shortest encoding of a list.
+    ensures prefix { IfRefused result (IsLongestPrefix (EncodesSome ShortestInstructions) bytes.now) }
+    // The bytes are the shortest encoding of at most one list.
+    ensures one { (calls others : List Instruction) →
+        ShortestInstructions bytes.now calls → ShortestInstructions bytes.now others → calls ≡ others }
+    // They are where they encode the list, as `read_instructions` tells, and are as `normalise_instructions` leaves
+    // them.
+    ensures shortest { (calls : List Instruction) → ShortestInstructions bytes.now calls ↔
+        (Instructions bytes.now calls × (bytes.now ≡ instructions_bytes calls)) }
+{
+    read_joined_as::<Call, true>(alloc, bytes)
+}
+
 /// An opcode: a prefix byte and a number, or one byte.
+#[inline(always)]
 #[tactic(auto, unfolding(crate::specs::formats::Instructions::opcode))]
-fn read_opcode(cursor: &mut Cursor<'_>) -> Result<Opcode, Fault>
+pub(crate) fn read_opcode(cursor: &mut Cursor<'_>) -> Result<Opcode, Fault>
     ensures reads { Reads opcode.at cursor.old cursor.new result }
+    ensures err { IfErr result (λ e. e ≡ Malformed) }
 {
     match cursor.byte()? {
         0xfb => Ok(Opcode::after_fb(cursor.u32()?)),

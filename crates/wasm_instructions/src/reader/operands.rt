@@ -1,7 +1,8 @@
-//! What stands after opcodes (Core 3.0, 5.4).
-ghost use Rattle.std.specs.Prelude.{◌≡◌, ◌<◌, IfOk, refl};
+//! What stands after opcodes (Core 3.0, Instructions).
+ghost use Rattle.std.specs.Prelude.{◌≡◌, ◌<◌, IfOk, IfErr, refl};
 ghost use Rattle.wasm_codec.specs.Places.{Reads, map_at};
 ghost use Rattle.wasm_codec.specs.formats.Combinators.{little_endian};
+ghost use Rattle.wasm_codec.specs.declared.reader.cursor.Fault.TheVariants.{Malformed};
 ghost use Rattle.wasm_instructions.specs.Operands.{ieee32, ieee64};
 ghost use Rattle.wasm_instructions.specs.formats.Operands.{block_type, catch_clause, handle_clause, castop, mem_arg, ordering, from_bits, vector, lanes};
 ghost use Rattle.wasm_instructions.specs.formats.Instructions.{operands_format};
@@ -161,9 +162,11 @@ fn read_order_two_indexes(cursor: &mut Cursor<'_>) -> Result<Operands, Fault>
 }
 
 /// A block type.
+#[inline]
 #[tactic(auto, unfolding(crate::specs::formats::Operands::block_type))]
-fn read_block_type(cursor: &mut Cursor<'_>) -> Result<BlockType, Fault>
+pub(crate) fn read_block_type(cursor: &mut Cursor<'_>) -> Result<BlockType, Fault>
     ensures reads { Reads block_type.at cursor.old cursor.new result }
+    ensures err { IfErr result (λ e. e ≡ Malformed) }
 {
     let first = cursor.peek()?;
     if first == 0x40 {
@@ -177,9 +180,11 @@ fn read_block_type(cursor: &mut Cursor<'_>) -> Result<BlockType, Fault>
 }
 
 /// A memory argument.
+#[inline(always)]
 #[tactic(auto, unfolding(crate::specs::formats::Operands::mem_arg))]
-fn read_mem_arg(cursor: &mut Cursor<'_>) -> Result<MemArg, Fault>
+pub(super) fn read_mem_arg(cursor: &mut Cursor<'_>) -> Result<MemArg, Fault>
     ensures reads { Reads mem_arg.at cursor.old cursor.new result }
+    ensures err { IfErr result (λ e. e ≡ Malformed) }
     ensures aligned { IfOk result (λ arg. arg.align < 64) }
 {
     let first = cursor.u32()?;
@@ -208,8 +213,9 @@ fn read_mem_arg(cursor: &mut Cursor<'_>) -> Result<MemArg, Fault>
 
 /// An ordering.
 #[tactic(auto, unfolding(crate::specs::formats::Operands::ordering))]
-fn read_ordering(cursor: &mut Cursor<'_>) -> Result<Ordering, Fault>
+pub(super) fn read_ordering(cursor: &mut Cursor<'_>) -> Result<Ordering, Fault>
     ensures reads { Reads ordering.at cursor.old cursor.new result }
+    ensures err { IfErr result (λ e. e ≡ Malformed) }
 {
     match cursor.byte()? {
         0x00 => Ok(Ordering::SeqCst),
@@ -220,8 +226,9 @@ fn read_ordering(cursor: &mut Cursor<'_>) -> Result<Ordering, Fault>
 
 /// Whether the types before and after a cast are nullable.
 #[tactic(auto, unfolding(crate::specs::formats::Operands::castop))]
-fn read_castop(cursor: &mut Cursor<'_>) -> Result<(bool, bool), Fault>
+pub(super) fn read_castop(cursor: &mut Cursor<'_>) -> Result<(bool, bool), Fault>
     ensures reads { Reads castop.at cursor.old cursor.new result }
+    ensures err { IfErr result (λ e. e ≡ Malformed) }
 {
     match cursor.byte()? {
         0x00 => Ok((false, false)),
@@ -254,15 +261,17 @@ fn read_cast(cursor: &mut Cursor<'_>) -> Result<Operands, Fault>
 }
 
 /// The bits of a floating-point number of 32 bits.
-fn read_f32(cursor: &mut Cursor<'_>) -> Result<Ieee32, Fault>
+pub(super) fn read_f32(cursor: &mut Cursor<'_>) -> Result<Ieee32, Fault>
     ensures reads { Reads (map_at ieee32 (little_endian 4).at) cursor.old cursor.new result }
+    ensures err { IfErr result (λ e. e ≡ Malformed) }
 {
     Ok(Ieee32::new(read_bits_32(cursor)?))
 }
 
 /// The bits of a floating-point number of 64 bits.
-fn read_f64(cursor: &mut Cursor<'_>) -> Result<Ieee64, Fault>
+pub(super) fn read_f64(cursor: &mut Cursor<'_>) -> Result<Ieee64, Fault>
     ensures reads { Reads (map_at ieee64 (little_endian 8).at) cursor.old cursor.new result }
+    ensures err { IfErr result (λ e. e ≡ Malformed) }
 {
     Ok(Ieee64::new(read_bits_64(cursor)?))
 }
@@ -271,6 +280,7 @@ fn read_f64(cursor: &mut Cursor<'_>) -> Result<Ieee64, Fault>
 #[tactic(auto, unfolding(wasm_codec::specs::formats::Combinators::little_endian))]
 fn read_bits_32(cursor: &mut Cursor<'_>) -> Result<u32, Fault>
     ensures reads { Reads (little_endian 4).at cursor.old cursor.new result }
+    ensures err { IfErr result (λ e. e ≡ Malformed) }
 {
     let first = u32::from(cursor.byte()?);
     let second = u32::from(cursor.byte()?);
@@ -283,6 +293,7 @@ fn read_bits_32(cursor: &mut Cursor<'_>) -> Result<u32, Fault>
 #[tactic(auto, unfolding(wasm_codec::specs::formats::Combinators::little_endian))]
 fn read_bits_64(cursor: &mut Cursor<'_>) -> Result<u64, Fault>
     ensures reads { Reads (little_endian 8).at cursor.old cursor.new result }
+    ensures err { IfErr result (λ e. e ≡ Malformed) }
 {
     let first = u64::from(cursor.byte()?);
     let second = u64::from(cursor.byte()?);
@@ -298,8 +309,9 @@ fn read_bits_64(cursor: &mut Cursor<'_>) -> Result<u64, Fault>
 
 /// A vector: a number in 16 bytes, the least first, in two's complement.
 #[tactic(auto, unfolding(crate::specs::formats::Operands::vector))]
-fn read_vector(cursor: &mut Cursor<'_>) -> Result<i128, Fault>
+pub(super) fn read_vector(cursor: &mut Cursor<'_>) -> Result<i128, Fault>
     ensures reads { Reads vector.at cursor.old cursor.new result }
+    ensures err { IfErr result (λ e. e ≡ Malformed) }
 {
     let low = read_bits_64(cursor)?;
     let high = read_bits_64(cursor)?;
@@ -308,8 +320,9 @@ fn read_vector(cursor: &mut Cursor<'_>) -> Result<i128, Fault>
 
 /// Sixteen lanes.
 #[tactic(auto, unfolding(crate::specs::formats::Operands::lanes, wasm_codec::specs::Places::raw_at))]
-fn read_lanes(cursor: &mut Cursor<'_>) -> Result<[Lane; 16], Fault>
+pub(super) fn read_lanes(cursor: &mut Cursor<'_>) -> Result<[Lane; 16], Fault>
     ensures reads { Reads lanes.at cursor.old cursor.new result }
+    ensures err { IfErr result (λ e. e ≡ Malformed) }
 {
     let bytes = cursor.take(16)?;
     let mut lanes = [0; 16];
@@ -347,8 +360,9 @@ impl<'a> Readable<'a> for Catch {
 
 /// A clause of a `try_table`.
 #[tactic(auto, unfolding(crate::specs::formats::Operands::catch_clause))]
-fn read_catch(cursor: &mut Cursor<'_>) -> Result<Catch, Fault>
+pub(crate) fn read_catch(cursor: &mut Cursor<'_>) -> Result<Catch, Fault>
     ensures reads { Reads catch_clause.at cursor.old cursor.new result }
+    ensures err { IfErr result (λ e. e ≡ Malformed) }
 {
     match cursor.byte()? {
         0x00 => {
@@ -392,8 +406,9 @@ impl<'a> Readable<'a> for Handle {
 
 /// A handler of a `resume`.
 #[tactic(auto, unfolding(crate::specs::formats::Operands::handle_clause))]
-fn read_handle(cursor: &mut Cursor<'_>) -> Result<Handle, Fault>
+pub(crate) fn read_handle(cursor: &mut Cursor<'_>) -> Result<Handle, Fault>
     ensures reads { Reads handle_clause.at cursor.old cursor.new result }
+    ensures err { IfErr result (λ e. e ≡ Malformed) }
 {
     match cursor.byte()? {
         0x00 => {

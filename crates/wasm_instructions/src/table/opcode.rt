@@ -1,4 +1,4 @@
-//! The table of opcodes: which kind of operands each has (Core 3.0, 5.4).
+//! The table of opcodes: which kind of operands each has (Core 3.0, Instructions).
 ghost use Rattle.std.specs.Prelude.{◌≡◌};
 ghost use Rattle.wasm_instructions.specs.Opcodes.{IsTable, kind, kind_among, ranges};
 ghost use Rattle.wasm_instructions.specs.Instructions.{without_prefix, after_fb, after_fc, after_fd, after_fe};
@@ -137,6 +137,7 @@ impl Opcode {
     }
 
     /// The kind of the opcode's operands, or `None` where it is no opcode of the table.
+    #[inline(always)]
     #[tactic(auto, unfolding(crate::specs::Opcodes::ranges))]
     pub fn kind(self) -> Option<Kind>
         ensures { result ≡ kind self }
@@ -152,6 +153,7 @@ impl Opcode {
 }
 
 /// The kind at the place of a number in the table of a `Prefix`, or `None` past its end.
+#[inline(always)]
 fn kind_at(prefix: Prefix, places: &[Option<Kind>], number: u32) -> Option<Kind>
     requires { IsTable places.now (ranges prefix) }
     ensures { result ≡ kind_among (ranges prefix) number }

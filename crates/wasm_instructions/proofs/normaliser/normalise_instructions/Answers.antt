@@ -1,16 +1,25 @@
-use Rattle.wasm_instructions.specs.formats.Instructions.{Instructions, instructions_bytes}
-use Rattle.wasm_codec.proofs.ListReading.{none_within, gives_text, gives_same, gives_normal}
-use Rattle.wasm_instructions.proofs.InstructionFormatLaws.{AtMostOne-instructions, Shortest-instructions}
+use Rattle.wasm_instructions.specs.formats.Instructions.{Instructions, ShortestInstructions, instructions_bytes}
+use Rattle.wasm_codec.proofs.ListReading.{none_within, gives_bytes, gives_same, gives_normal, gives_itself, was_shortest}
+use Rattle.wasm_instructions.proofs.InstructionFormatLaws.{AtMostOne-instructions, Shortest-instructions, are_shortest}
 use Rattle.wasm_instructions.proofs.normaliser.normalise_instructions.Goals as goal
 
 pub returns-clause-complete : goal.returns-clause-complete
-returns-clause-complete c = gives_text AtMostOne-instructions instructions_bytes (λ text. text.items) c.args.bytes.now c.normalise_joined.result c.normalise_joined.ensures.given (none_within Instructions c.args.bytes.now c.normalise_joined.result c.normalise_joined.ensures.front c.normalise_joined.ensures.within)
+returns-clause-complete c = gives_bytes AtMostOne-instructions instructions_bytes (λ encoding. encoding.items) c.args.bytes.now c.normalise_joined.result c.normalise_joined.ensures.given (none_within Instructions c.args.bytes.now c.normalise_joined.result c.normalise_joined.ensures.prefix c.normalise_joined.ensures.within)
 
 pub returns-clause-one : goal.returns-clause-one
 returns-clause-one c = AtMostOne-instructions c.args.bytes.now
 
 pub returns-clause-same : goal.returns-clause-same
-returns-clause-same c = gives_same AtMostOne-instructions Shortest-instructions (λ text. text.items) c.args.bytes.now c.normalise_joined.result c.normalise_joined.ensures.given
+returns-clause-same c = gives_same AtMostOne-instructions Shortest-instructions (λ encoding. encoding.items) c.args.bytes.now c.normalise_joined.result c.normalise_joined.ensures.given
 
 pub returns-clause-normal : goal.returns-clause-normal
-returns-clause-normal c = gives_normal AtMostOne-instructions Shortest-instructions (λ text. text.items) c.args.bytes.now c.normalise_joined.result c.normalise_joined.ensures.given
+returns-clause-normal c = gives_normal AtMostOne-instructions Shortest-instructions (λ encoding. encoding.items) c.args.bytes.now c.normalise_joined.result c.normalise_joined.ensures.given
+
+pub returns-clause-stays : goal.returns-clause-stays
+returns-clause-stays c calls g =
+    let are = (are_shortest c.args.bytes.now calls).0 g in
+    let none = none_within Instructions c.args.bytes.now c.normalise_joined.result c.normalise_joined.ensures.prefix c.normalise_joined.ensures.within in
+    gives_itself (λ encoding. encoding.items) c.args.bytes.now (instructions_bytes calls) c.normalise_joined.result are.1 (gives_bytes AtMostOne-instructions instructions_bytes (λ encoding. encoding.items) c.args.bytes.now c.normalise_joined.result c.normalise_joined.ensures.given none calls are.0)
+
+pub returns-clause-was_shortest : goal.returns-clause-was_shortest
+returns-clause-was_shortest c = was_shortest Instructions ShortestInstructions instructions_bytes (λ encoding. encoding.items) c.args.bytes.now c.normalise_joined.result (λ calls g e. (are_shortest c.args.bytes.now calls).1 (g, e)) c.normalise_joined.ensures.given

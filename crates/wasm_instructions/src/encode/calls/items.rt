@@ -1,11 +1,10 @@
-//! Lists of items, each with bytes of its own, after their number (Core 3.0, 5.1.3).
+//! Lists of items, each with bytes of its own, after their number (Core 3.0, Lists).
 ghost use Rattle.std.specs.Prelude.{◌≡◌, ◌++◌, ◌+◌, ◌≤◌, ◌<◌, ◌^◌, ℕ, List, length, take, OnOk, IfOk, IfErr, vec_len, vec_capacity};
 ghost use Rattle.std.specs.Iterator.{IsFinite, size};
-ghost use Rattle.wasm_codec.specs.Iterators.{IsExact};
 ghost use Rattle.wasm_instructions.specs.Appending.{AppendsAll, IsRefusedList};
-ghost use Rattle.wasm_codec.specs.Numbers.{unsigned_text};
+ghost use Rattle.wasm_codec.specs.Numbers.{unsigned_leb128};
 ghost use Rattle.wasm_types.specs.formats.Types.{val_type};
-ghost use Rattle.wasm_codec.specs.Lists.{items_text};
+ghost use Rattle.wasm_codec.specs.Lists.{items_bytes};
 ghost use Rattle.wasm_instructions.specs.Operands.{ValTypeFits, CatchFits, HandleFits};
 ghost use Rattle.wasm_instructions.specs.formats.Operands.{catch_clause, handle_clause};
 
@@ -13,8 +12,8 @@ use super::ROOM;
 use crate::encode::{put_catch, put_handle};
 use crate::operands::{Catch, Handle};
 use std::alloc::{AllocError, Allocator};
-use wasm_codec::encode::EncodeError;
 use wasm_codec::encode::leb128::put_u32;
+use wasm_codec::encode::{EncodeError, mend_count};
 use wasm_types::encode::put_val_type;
 use wasm_types::types::ValType;
 
@@ -27,7 +26,7 @@ pub(in crate::encode) trait Item: Copy + Drop {
     const LEAST: usize;
 
     /// The item's shortest encoding.
-    ghost text: { Self → List ℕ };
+    ghost encoding: { Self → List ℕ };
 
     /// Its numbers are in the ranges of their widths.
     ghost InRange: { Self → Type 0 };
@@ -35,14 +34,14 @@ pub(in crate::encode) trait Item: Copy + Drop {
     /// Writes the item in `LEAST` to 11 bytes, into reserved room.
     fn put<A: Allocator>(self, bytes: &mut Vec<u8, A>)
         requires room { vec_len bytes.old + 11 ≤ vec_capacity bytes.old }
-        ensures items { bytes.new.items ≡ bytes.old.items ++ text self }
+        ensures items { bytes.new.items ≡ bytes.old.items ++ encoding self }
         ensures in_range { InRange self };
 }
 
 impl Item for u32 {
     const LEAST: usize = 1;
 
-    ghost text = { unsigned_text };
+    ghost encoding = { unsigned_leb128 };
 
     ghost InRange = { λ n. n < 2 ^ 32 };
 
@@ -54,7 +53,7 @@ impl Item for u32 {
 impl Item for ValType {
     const LEAST: usize = 1;
 
-    ghost text = { val_type.bytes };
+    ghost encoding = { val_type.bytes };
 
     ghost InRange = { ValTypeFits };
 
@@ -66,7 +65,7 @@ impl Item for ValType {
 impl Item for Catch {
     const LEAST: usize = 2;
 
-    ghost text = { catch_clause.bytes };
+    ghost encoding = { catch_clause.bytes };
 
     ghost InRange = { CatchFits };
 
@@ -78,7 +77,7 @@ impl Item for Catch {
 impl Item for Handle {
     const LEAST: usize = 2;
 
-    ghost text = { handle_clause.bytes };
+    ghost encoding = { handle_clause.bytes };
 
     ghost InRange = { HandleFits };
 
@@ -107,24 +106,33 @@ pub(super) fn reserve_list<T: Item, A: Allocator>(
     Ok(number)
 }
 
-/// Appends the number of the items to come, into reserved room, and then the items. An `Err` can leave a part of them.
+/// Appends the number of the items that come, into reserved room, and then the items. An `Err` can leave a part of
+/// them.
+///
+/// The number that the iterator tells is written before the items, and mended where fewer come.
 #[tactic(auto, unfolding(crate::specs::Appending::AppendsAll))]
 pub(super) fn append_each<T: Item, I: ExactSizeIterator<Item = T>, A: Allocator>(
     bytes: &mut Vec<u8, A>,
-    count: u32,
+    told: u32,
     items: I,
 ) -> Result<(), AllocError>
-    requires exact { IsExact I.can_next I.next_gives I.remaining items }
+    requires can { I.can_next items }
     requires finite { IsFinite (I.remaining items) }
-    requires count { count ≡ size (I.remaining items) }
+    requires told { told ≡ size (I.remaining items) }
     requires room { vec_len bytes.old + 5 ≤ vec_capacity bytes.old }
-    ensures ok { OnOk result (AppendsAll I.next_gives T.InRange items (items_text T.text) bytes.old.items bytes.new.items) }
+    ensures ok { OnOk result (AppendsAll I.next_gives T.InRange items (items_bytes T.encoding) bytes.old.items bytes.new.items) }
     ensures kept { take (length bytes.old.items) bytes.new.items ≡ bytes.old.items }
 {
-    put_u32(bytes, count);
+    let start = bytes.len();
+    put_u32(bytes, told);
+    let mut came = 0;
     for item in items {
         bytes.reserve(ITEM_ROOM)?;
         item.put(bytes);
+        came += 1;
     }
-    Ok(())
+    if came == told {
+        return Ok(());
+    }
+    mend_count(bytes, start, told, came)
 }

@@ -2,10 +2,9 @@
 ghost use Rattle.std.specs.List.{AllByRecursion};
 ghost use Rattle.std.specs.Prelude.{◌≡◌, ◌++◌, ◌<◌, ◌+◌, ◌≤◌, ◌^◌, length, take, OnOk, OnErr, IfErr, vec_len, vec_capacity};
 ghost use Rattle.std.specs.Iterator.{size};
-ghost use Rattle.wasm_codec.specs.Iterators.{IsExact};
-ghost use Rattle.wasm_instructions.specs.Appending.{AppendsAll, IsRefusedList, before_text, list_text};
-ghost use Rattle.wasm_codec.specs.Lists.{items_text};
-ghost use Rattle.wasm_instructions.specs.Instructions.{HasText, IsShort, ItemsInRange, call};
+ghost use Rattle.wasm_instructions.specs.Appending.{AppendsAll, IsRefusedList, before_bytes, list_bytes};
+ghost use Rattle.wasm_codec.specs.Lists.{items_bytes};
+ghost use Rattle.wasm_instructions.specs.Instructions.{HasEncoding, IsShort, ItemsInRange, call};
 ghost use Rattle.wasm_instructions.specs.formats.Instructions.{instruction};
 ghost use Rattle.wasm_instructions.specs.Operands.{ValTypeFits, CatchFits, HandleFits};
 ghost use Rattle.wasm_instructions.specs.declared.table.call.Operands.TheVariants as operands;
@@ -22,7 +21,7 @@ use wasm_codec::encode::{EncodeError, keep_or_undo};
 use wasm_types::types::ValType;
 
 /// Appends an instruction with labels, and the label of all other numbers.
-#[tactic(auto, unfolding(crate::specs::Appending::AppendsAll, crate::specs::Appending::before_text, crate::specs::Appending::after_text, crate::specs::formats::Instructions::instruction, crate::specs::formats::Instructions::operands_format))]
+#[tactic(auto, unfolding(crate::specs::Appending::AppendsAll, crate::specs::Appending::before_bytes, crate::specs::Appending::after_bytes, crate::specs::formats::Instructions::instruction, crate::specs::formats::Instructions::operands_format))]
 pub fn append_branch_table<I: ExactSizeIterator<Item = u32>, A: Allocator>(
     bytes: &mut Vec<u8, A>,
     op: Opcode,
@@ -30,7 +29,7 @@ pub fn append_branch_table<I: ExactSizeIterator<Item = u32>, A: Allocator>(
     default: u32,
 ) -> Result<(), EncodeError>
     requires short { IsShort op }
-    requires exact { IsExact I.can_next I.next_gives I.remaining labels }
+    requires can { I.can_next labels }
     ensures ok { OnOk result (AppendsAll I.next_gives (λ label. label < 2 ^ 32) labels (λ xs. instruction.bytes (call op (operands.BrTable xs default))) bytes.old.items bytes.new.items) }
     ensures refused { IfErr result (IsRefusedList (size (I.remaining labels))) }
     ensures err { OnErr result (bytes.new.items ≡ bytes.old.items) }
@@ -39,7 +38,7 @@ pub fn append_branch_table<I: ExactSizeIterator<Item = u32>, A: Allocator>(
 }
 
 /// Appends an instruction with a list of types. One type is written in one growth.
-#[tactic(auto, unfolding(crate::specs::Appending::before_text, crate::specs::Appending::after_text, crate::specs::formats::Instructions::instruction, crate::specs::formats::Instructions::operands_format))]
+#[tactic(auto, unfolding(crate::specs::Appending::before_bytes, crate::specs::Appending::after_bytes, crate::specs::formats::Instructions::instruction, crate::specs::formats::Instructions::operands_format))]
 pub fn append_type_list<A: Allocator>(
     bytes: &mut Vec<u8, A>,
     op: Opcode,
@@ -48,7 +47,7 @@ pub fn append_type_list<A: Allocator>(
     requires short { IsShort op }
     ensures ok { OnOk result (bytes.new.items ≡ bytes.old.items ++ instruction.bytes (call op (operands.Types types.now))) }
     ensures err { OnErr result (bytes.new.items ≡ bytes.old.items) }
-    ensures fits { OnOk result (HasText (operands.Types types.now) × ItemsInRange (operands.Types types.now)) }
+    ensures fits { OnOk result (HasEncoding (operands.Types types.now) × ItemsInRange (operands.Types types.now)) }
     ensures refused { IfErr result (IsRefusedList (length types.now)) }
     ensures in_range { length types.now ≡ 1 → AllByRecursion ValTypeFits types.now }
 {
@@ -59,14 +58,14 @@ pub fn append_type_list<A: Allocator>(
 }
 
 /// Appends an instruction with value types.
-#[tactic(auto, unfolding(crate::specs::Appending::AppendsAll, crate::specs::Appending::before_text, crate::specs::Appending::after_text, crate::specs::formats::Instructions::instruction, crate::specs::formats::Instructions::operands_format))]
+#[tactic(auto, unfolding(crate::specs::Appending::AppendsAll, crate::specs::Appending::before_bytes, crate::specs::Appending::after_bytes, crate::specs::formats::Instructions::instruction, crate::specs::formats::Instructions::operands_format))]
 pub fn append_types<I: ExactSizeIterator<Item = ValType>, A: Allocator>(
     bytes: &mut Vec<u8, A>,
     op: Opcode,
     types: I,
 ) -> Result<(), EncodeError>
     requires short { IsShort op }
-    requires exact { IsExact I.can_next I.next_gives I.remaining types }
+    requires can { I.can_next types }
     ensures ok { OnOk result (AppendsAll I.next_gives ValTypeFits types (λ xs. instruction.bytes (call op (operands.Types xs))) bytes.old.items bytes.new.items) }
     ensures refused { IfErr result (IsRefusedList (size (I.remaining types))) }
     ensures err { OnErr result (bytes.new.items ≡ bytes.old.items) }
@@ -75,7 +74,7 @@ pub fn append_types<I: ExactSizeIterator<Item = ValType>, A: Allocator>(
 }
 
 /// Appends an instruction with a block type and clauses that catch exceptions.
-#[tactic(auto, unfolding(crate::specs::Appending::AppendsAll, crate::specs::Appending::before_text, crate::specs::Appending::after_text, crate::specs::formats::Instructions::instruction, crate::specs::formats::Instructions::operands_format))]
+#[tactic(auto, unfolding(crate::specs::Appending::AppendsAll, crate::specs::Appending::before_bytes, crate::specs::Appending::after_bytes, crate::specs::formats::Instructions::instruction, crate::specs::formats::Instructions::operands_format))]
 pub fn append_try_table<I: ExactSizeIterator<Item = Catch>, A: Allocator>(
     bytes: &mut Vec<u8, A>,
     op: Opcode,
@@ -83,7 +82,7 @@ pub fn append_try_table<I: ExactSizeIterator<Item = Catch>, A: Allocator>(
     clauses: I,
 ) -> Result<(), EncodeError>
     requires short { IsShort op }
-    requires exact { IsExact I.can_next I.next_gives I.remaining clauses }
+    requires can { I.can_next clauses }
     ensures ok { OnOk result (AppendsAll I.next_gives CatchFits clauses (λ xs. instruction.bytes (call op (operands.TryTable block_type xs))) bytes.old.items bytes.new.items) }
     ensures refused { IfErr result (IsRefusedList (size (I.remaining clauses))) }
     ensures err { OnErr result (bytes.new.items ≡ bytes.old.items) }
@@ -92,7 +91,7 @@ pub fn append_try_table<I: ExactSizeIterator<Item = Catch>, A: Allocator>(
 }
 
 /// Appends an instruction with an index and handlers.
-#[tactic(auto, unfolding(crate::specs::Appending::AppendsAll, crate::specs::Appending::before_text, crate::specs::Appending::after_text, crate::specs::formats::Instructions::instruction, crate::specs::formats::Instructions::operands_format))]
+#[tactic(auto, unfolding(crate::specs::Appending::AppendsAll, crate::specs::Appending::before_bytes, crate::specs::Appending::after_bytes, crate::specs::formats::Instructions::instruction, crate::specs::formats::Instructions::operands_format))]
 pub fn append_resume<I: ExactSizeIterator<Item = Handle>, A: Allocator>(
     bytes: &mut Vec<u8, A>,
     op: Opcode,
@@ -100,7 +99,7 @@ pub fn append_resume<I: ExactSizeIterator<Item = Handle>, A: Allocator>(
     handlers: I,
 ) -> Result<(), EncodeError>
     requires short { IsShort op }
-    requires exact { IsExact I.can_next I.next_gives I.remaining handlers }
+    requires can { I.can_next handlers }
     ensures ok { OnOk result (AppendsAll I.next_gives HandleFits handlers (λ xs. instruction.bytes (call op (operands.Resume index xs))) bytes.old.items bytes.new.items) }
     ensures refused { IfErr result (IsRefusedList (size (I.remaining handlers))) }
     ensures err { OnErr result (bytes.new.items ≡ bytes.old.items) }
@@ -109,7 +108,7 @@ pub fn append_resume<I: ExactSizeIterator<Item = Handle>, A: Allocator>(
 }
 
 /// Appends an instruction with two indexes and handlers.
-#[tactic(auto, unfolding(crate::specs::Appending::AppendsAll, crate::specs::Appending::before_text, crate::specs::Appending::after_text, crate::specs::formats::Instructions::instruction, crate::specs::formats::Instructions::operands_format))]
+#[tactic(auto, unfolding(crate::specs::Appending::AppendsAll, crate::specs::Appending::before_bytes, crate::specs::Appending::after_bytes, crate::specs::formats::Instructions::instruction, crate::specs::formats::Instructions::operands_format))]
 pub fn append_resume_throw<I: ExactSizeIterator<Item = Handle>, A: Allocator>(
     bytes: &mut Vec<u8, A>,
     op: Opcode,
@@ -118,7 +117,7 @@ pub fn append_resume_throw<I: ExactSizeIterator<Item = Handle>, A: Allocator>(
     handlers: I,
 ) -> Result<(), EncodeError>
     requires short { IsShort op }
-    requires exact { IsExact I.can_next I.next_gives I.remaining handlers }
+    requires can { I.can_next handlers }
     ensures ok { OnOk result (AppendsAll I.next_gives HandleFits handlers (λ xs. instruction.bytes (call op (operands.ResumeThrow first second xs))) bytes.old.items bytes.new.items) }
     ensures refused { IfErr result (IsRefusedList (size (I.remaining handlers))) }
     ensures err { OnErr result (bytes.new.items ≡ bytes.old.items) }
@@ -140,10 +139,10 @@ pub(in crate::encode) enum Before {
 }
 
 /// Writes what stands before a list in up to 10 bytes, into reserved room.
-#[tactic(auto, unfolding(crate::specs::Appending::before_text))]
+#[tactic(auto, unfolding(crate::specs::Appending::before_bytes))]
 fn put_before<A: Allocator>(bytes: &mut Vec<u8, A>, before: Before)
     requires room { vec_len bytes.old + 10 ≤ vec_capacity bytes.old }
-    ensures items { bytes.new.items ≡ bytes.old.items ++ before_text before }
+    ensures items { bytes.new.items ≡ bytes.old.items ++ before_bytes before }
     ensures len { vec_len bytes.new ≤ vec_len bytes.old + 10 }
     ensures capacity { vec_capacity bytes.new ≡ vec_capacity bytes.old }
 {
@@ -167,7 +166,7 @@ pub(in crate::encode) fn append_held<T: Item, A: Allocator>(
     after: Option<u32>,
 ) -> Result<(), EncodeError>
     requires short { IsShort op }
-    ensures ok { OnOk result (bytes.new.items ≡ bytes.old.items ++ list_text op before (items_text T.text items.now) after) }
+    ensures ok { OnOk result (bytes.new.items ≡ bytes.old.items ++ list_bytes op before (items_bytes T.encoding items.now) after) }
     ensures err { OnErr result (bytes.new.items ≡ bytes.old.items) }
     ensures counted { OnOk result (length items.now < 2 ^ 32) }
     ensures fits { OnOk result (AllByRecursion T.InRange items.now) }
@@ -185,8 +184,8 @@ fn append_list<T: Item, I: ExactSizeIterator<Item = T>, A: Allocator>(
     after: Option<u32>,
 ) -> Result<(), EncodeError>
     requires short { IsShort op }
-    requires exact { IsExact I.can_next I.next_gives I.remaining items }
-    ensures ok { OnOk result (AppendsAll I.next_gives T.InRange items (λ xs. list_text op before (items_text T.text xs) after) bytes.old.items bytes.new.items) }
+    requires can { I.can_next items }
+    ensures ok { OnOk result (AppendsAll I.next_gives T.InRange items (λ xs. list_bytes op before (items_bytes T.encoding xs) after) bytes.old.items bytes.new.items) }
     ensures refused { IfErr result (IsRefusedList (size (I.remaining items))) }
     ensures err { OnErr result (bytes.new.items ≡ bytes.old.items) }
 {
@@ -196,7 +195,7 @@ fn append_list<T: Item, I: ExactSizeIterator<Item = T>, A: Allocator>(
 }
 
 /// Appends an instruction with a list, as [`append_list`] does. An `Err` can leave a part of it.
-#[tactic(auto, unfolding(crate::specs::Appending::AppendsAll, crate::specs::Appending::after_text))]
+#[tactic(auto, unfolding(crate::specs::Appending::AppendsAll, crate::specs::Appending::after_bytes))]
 fn write_list<T: Item, I: ExactSizeIterator<Item = T>, A: Allocator>(
     bytes: &mut Vec<u8, A>,
     op: Opcode,
@@ -205,8 +204,8 @@ fn write_list<T: Item, I: ExactSizeIterator<Item = T>, A: Allocator>(
     after: Option<u32>,
 ) -> Result<(), EncodeError>
     requires short { IsShort op }
-    requires exact { IsExact I.can_next I.next_gives I.remaining items }
-    ensures ok { OnOk result (AppendsAll I.next_gives T.InRange items (λ xs. list_text op before (items_text T.text xs) after) bytes.old.items bytes.new.items) }
+    requires can { I.can_next items }
+    ensures ok { OnOk result (AppendsAll I.next_gives T.InRange items (λ xs. list_bytes op before (items_bytes T.encoding xs) after) bytes.old.items bytes.new.items) }
     ensures refused { IfErr result (IsRefusedList (size (I.remaining items))) }
     ensures kept { take (length bytes.old.items) bytes.new.items ≡ bytes.old.items }
 {

@@ -9,7 +9,7 @@ use Rattle.wasm_instructions.proofs.InstructionFormatLaws.{Lawful-operands, Lawf
 use Rattle.wasm_instructions.proofs.reader.instructions.read_instructions.Goals as goal
 
 pub returns-clause-complete : goal.returns-clause-complete
-returns-clause-complete c = gives_all AtMostOne-instructions (λ given. given.items) c.args.bytes.now c.read_joined.result c.read_joined.ensures.given (none_within Instructions c.args.bytes.now c.read_joined.result c.read_joined.ensures.front c.read_joined.ensures.within)
+returns-clause-complete c = gives_all AtMostOne-instructions (λ given. given.items) c.args.bytes.now c.read_joined.result c.read_joined.ensures.given (none_within Instructions c.args.bytes.now c.read_joined.result c.read_joined.ensures.prefix c.read_joined.ensures.within)
 
 pub returns-clause-one : goal.returns-clause-one
 returns-clause-one c = AtMostOne-instructions c.args.bytes.now

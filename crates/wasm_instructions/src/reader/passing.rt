@@ -1,0 +1,211 @@
+//! Instructions that are passed and not made: where each ends, and whether it was in its shortest encoding.
+ghost use Rattle.wasm_codec.specs.Places.{Passes};
+ghost use Rattle.wasm_instructions.specs.formats.Instructions.{operands_format, instruction};
+ghost use Rattle.wasm_instructions.specs.declared.table.opcode.Kind.TheVariants as kinds;
+
+use super::instructions::read_opcode;
+use super::operands::{
+    read_block_type, read_castop, read_catch, read_f32, read_f64, read_handle, read_lanes,
+    read_mem_arg, read_ordering, read_vector,
+};
+use crate::operands::{Catch, Handle};
+use crate::table::{Call, Kind, Opcode};
+use wasm_codec::reader::cursor::{Cursor, Fault};
+use wasm_codec::reader::passing::{Passable, pass_list};
+use wasm_types::reader::read_heap_type;
+use wasm_types::types::ValType;
+
+/// Passes an instruction. The cursor then tells whether it was in its shortest encoding.
+#[inline(always)]
+#[tactic(auto, unfolding(crate::specs::formats::Instructions::instruction, crate::specs::formats::Instructions::opcode))]
+pub fn pass_call(cursor: &mut Cursor<'_>) -> Result<(), Fault>
+    ensures passes { Passes instruction.at cursor.old cursor.new result }
+{
+    let first = cursor.peek()?;
+    if (0xfb..=0xfe).contains(&first) {
+        return pass_prefixed(cursor);
+    }
+    cursor.byte()?;
+    let Some(kind) = Opcode::without_prefix(first).kind() else {
+        return Err(Fault::Malformed);
+    };
+    pass_operands(cursor, kind)
+}
+
+/// Passes an instruction, of which the first byte may be a prefix.
+#[inline(never)]
+#[tactic(auto, unfolding(crate::specs::formats::Instructions::instruction))]
+fn pass_prefixed(cursor: &mut Cursor<'_>) -> Result<(), Fault>
+    ensures passes { Passes instruction.at cursor.old cursor.new result }
+{
+    let op = read_opcode(cursor)?;
+    let Some(kind) = op.kind() else {
+        return Err(Fault::Malformed);
+    };
+    pass_operands(cursor, kind)
+}
+
+/// Passes operands of a kind; of those that most instructions have, in line.
+#[inline(always)]
+#[tactic(auto, unfolding(crate::specs::formats::Instructions::operands_format))]
+fn pass_operands(cursor: &mut Cursor<'_>, kind: Kind) -> Result<(), Fault>
+    ensures passes { Passes (operands_format kind).at cursor.old cursor.new result }
+{
+    match kind {
+        Kind::None => Ok(()),
+        Kind::Index => {
+            cursor.pass_u32()?;
+            Ok(())
+        }
+        Kind::Mem => pass_mem(cursor),
+        Kind::I32 => pass_i32(cursor),
+        _ => pass_any_operands(cursor, kind),
+    }
+}
+
+/// Passes a memory argument.
+#[inline(never)]
+#[tactic(auto, unfolding(crate::specs::formats::Instructions::operands_format))]
+fn pass_mem(cursor: &mut Cursor<'_>) -> Result<(), Fault>
+    ensures passes { Passes (operands_format kinds.Mem).at cursor.old cursor.new result }
+{
+    read_mem_arg(cursor)?;
+    Ok(())
+}
+
+/// Passes a signed number of 32 bits.
+#[inline(never)]
+#[tactic(auto, unfolding(crate::specs::formats::Instructions::operands_format))]
+fn pass_i32(cursor: &mut Cursor<'_>) -> Result<(), Fault>
+    ensures passes { Passes (operands_format kinds.I32).at cursor.old cursor.new result }
+{
+    cursor.s32()?;
+    Ok(())
+}
+
+/// Passes operands of any kind.
+#[inline(never)]
+#[tactic(auto, unfolding(crate::specs::formats::Instructions::operands_format))]
+fn pass_any_operands(cursor: &mut Cursor<'_>, kind: Kind) -> Result<(), Fault>
+    ensures passes { Passes (operands_format kind).at cursor.old cursor.new result }
+{
+    match kind {
+        Kind::None => Ok(()),
+        Kind::Block => {
+            read_block_type(cursor)?;
+            Ok(())
+        }
+        Kind::Index => {
+            cursor.u32()?;
+            Ok(())
+        }
+        Kind::TwoIndexes => {
+            cursor.u32()?;
+            cursor.u32()?;
+            Ok(())
+        }
+        Kind::BrTable => {
+            pass_list::<u32>(cursor)?;
+            cursor.u32()?;
+            Ok(())
+        }
+        Kind::Types => {
+            pass_list::<ValType>(cursor)?;
+            Ok(())
+        }
+        Kind::TryTable => {
+            read_block_type(cursor)?;
+            pass_list::<Catch>(cursor)?;
+            Ok(())
+        }
+        Kind::Mem => pass_mem(cursor),
+        Kind::I32 => pass_i32(cursor),
+        Kind::I64 => {
+            cursor.s64()?;
+            Ok(())
+        }
+        Kind::F32 => {
+            read_f32(cursor)?;
+            Ok(())
+        }
+        Kind::F64 => {
+            read_f64(cursor)?;
+            Ok(())
+        }
+        Kind::Heap => {
+            read_heap_type(cursor)?;
+            Ok(())
+        }
+        Kind::Resume => {
+            cursor.u32()?;
+            pass_list::<Handle>(cursor)?;
+            Ok(())
+        }
+        Kind::ResumeThrow => {
+            cursor.u32()?;
+            cursor.u32()?;
+            pass_list::<Handle>(cursor)?;
+            Ok(())
+        }
+        Kind::Cast => {
+            read_castop(cursor)?;
+            cursor.u32()?;
+            read_heap_type(cursor)?;
+            read_heap_type(cursor)?;
+            Ok(())
+        }
+        Kind::V128 => {
+            read_vector(cursor)?;
+            Ok(())
+        }
+        Kind::Shuffle => {
+            read_lanes(cursor)?;
+            Ok(())
+        }
+        Kind::Lane => {
+            cursor.byte()?;
+            Ok(())
+        }
+        Kind::MemLane => {
+            read_mem_arg(cursor)?;
+            cursor.byte()?;
+            Ok(())
+        }
+        Kind::Order => {
+            read_ordering(cursor)?;
+            Ok(())
+        }
+        Kind::OrderIndex => {
+            read_ordering(cursor)?;
+            cursor.u32()?;
+            Ok(())
+        }
+        Kind::OrderTwoIndexes => {
+            read_ordering(cursor)?;
+            cursor.u32()?;
+            cursor.u32()?;
+            Ok(())
+        }
+    }
+}
+
+impl<'a> Passable<'a> for Call {
+    #[inline(always)]
+    fn pass(cursor: &mut Cursor<'a>) -> Result<(), Fault> {
+        pass_call(cursor)
+    }
+}
+
+impl<'a> Passable<'a> for Catch {
+    fn pass(cursor: &mut Cursor<'a>) -> Result<(), Fault> {
+        read_catch(cursor)?;
+        Ok(())
+    }
+}
+
+impl<'a> Passable<'a> for Handle {
+    fn pass(cursor: &mut Cursor<'a>) -> Result<(), Fault> {
+        read_handle(cursor)?;
+        Ok(())
+    }
+}
