@@ -1,11 +1,14 @@
 -- The laws of modules as sections with their bodies as bytes.
-use Rattle.std.proofs.Common.{◌≡◌, ℕ, List, [], ◌∷◌, ◌++◌, length, refl, sym, subst}
+use Rattle.std.proofs.Common.{◌≡◌, ℕ, List, [], ◌∷◌, ◌++◌, length, Result, Ok, Err, OnOk, refl, sym, ap, ◌∙◌, append_assoc, subst}
 use Rattle.std.specs.List.{flat_map, AllByRecursion}
 use Rattle.wasm_codec.specs.Grammar.{IsBytes}
-use Rattle.wasm_codec.specs.Numbers.{unsigned_text}
+use Rattle.wasm_codec.specs.Numbers.{unsigned_leb128}
 use Rattle.wasm_codec.proofs.Laws.{IsBytes-back}
-use Rattle.wasm_codec.proofs.BodyLaws.{IsBytes-front}
-use Rattle.wasm_modules.specs.Sections.{header, SectionParts}
+use Rattle.wasm_codec.proofs.BodyLaws.{IsBytes-prefix}
+use Rattle.std.proofs.lemmas.Grind.{flat_map-append}
+use Rattle.std.proofs.lemmas.List.{append-nil}
+use Rattle.wasm_codec.specs.Encoding.{byte_list_bytes, IsShortestOrLonger}
+use Rattle.wasm_modules.specs.Sections.{header, SectionParts, section_of}
 use Rattle.wasm_modules.specs.Modules.{IsSection}
 use Rattle.wasm_modules.specs.formats.Modules.{raw_section, raw_module}
 use Rattle.wasm_modules.proofs.ModuleFormatLaws.{Lawful-raw-module}
@@ -17,8 +20,8 @@ section_in_range s fits are = ((fits.id, (are, fits.body)), refl)
 section_body : (s : SectionParts) (more : List ℕ) → IsBytes (raw_section.bytes s ++ more) → IsBytes s.body
 unfolding raw_section
 section_body s more are =
-    let one : IsBytes (s.id ∷ (unsigned_text (length s.body) ++ s.body)) = IsBytes-front (s.id ∷ (unsigned_text (length s.body) ++ s.body)) more are in
-    IsBytes-back (unsigned_text (length s.body)) s.body one.1
+    let one : IsBytes (s.id ∷ (unsigned_leb128 (length s.body) ++ s.body)) = IsBytes-prefix (s.id ∷ (unsigned_leb128 (length s.body) ++ s.body)) more are in
+    IsBytes-back (unsigned_leb128 (length s.body)) s.body one.1
 
 -- sections whose encodings are bytes have bodies of bytes
 sections_in_range : (sections : List SectionParts) → AllByRecursion IsSection sections → IsBytes (flat_map raw_section.bytes sections) → AllByRecursion raw_section.InRange sections
@@ -30,4 +33,22 @@ sections_in_range (s ∷ sections) fits are =
 pub all_encoded : (bytes : List ℕ) (sections : List SectionParts) → IsBytes bytes → AllByRecursion IsSection sections → bytes ≡ raw_module.bytes sections → raw_module.Encodes bytes sections
 all_encoded bytes sections are fits e =
     let within : IsBytes (header ++ flat_map raw_section.bytes sections) = subst IsBytes e are in
-    subst (λ (t : List ℕ). raw_module.Encodes t sections) (sym e) (Lawful-raw-module.shortest.spells sections (sections_in_range sections fits (IsBytes-back header (flat_map raw_section.bytes sections) within)))
+    subst (λ (t : List ℕ). raw_module.Encodes t sections) (sym e) (Lawful-raw-module.shortest.encodes sections (sections_in_range sections fits (IsBytes-back header (flat_map raw_section.bytes sections) within)))
+
+-- a module with one section more
+pub one_section_more : (old new encoding body : List ℕ) (sections : List SectionParts) (id : ℕ) → old ≡ raw_module.bytes sections → encoding ≡ byte_list_bytes body → new ≡ old ++ id ∷ encoding → new ≡ raw_module.bytes (sections ++ section_of (id, body) ∷ [])
+unfolding raw_section
+one_section_more old new encoding body sections id written is appended =
+    let s : SectionParts = section_of (id, body) in
+    let alone : flat_map raw_section.bytes (s ∷ []) ≡ id ∷ byte_list_bytes body = append-nil (id ∷ byte_list_bytes body) in
+    let more : flat_map raw_section.bytes (sections ++ s ∷ []) ≡ flat_map raw_section.bytes sections ++ id ∷ byte_list_bytes body = flat_map-append raw_section.bytes sections (s ∷ []) ∙ ap (λ (t : List ℕ). flat_map raw_section.bytes sections ++ t) alone in
+    appended ∙ ap (λ (t : List ℕ). t ++ id ∷ encoding) written ∙ ap (λ (t : List ℕ). (header ++ flat_map raw_section.bytes sections) ++ id ∷ t) is
+    ∙ append_assoc header (flat_map raw_section.bytes sections) (id ∷ byte_list_bytes body) ∙ ap (λ (t : List ℕ). header ++ t) (sym more)
+
+pub goes_on : {T E : Type 0} (r : Result T E) (old new encoding body : List ℕ) (sections : List SectionParts) (id : ℕ) → OnOk r (new ≡ old ++ id ∷ encoding) → old ≡ raw_module.bytes sections → encoding ≡ byte_list_bytes body
+    → OnOk r (new ≡ raw_module.bytes (sections ++ section_of (id, body) ∷ []))
+goes_on (Ok x) old new encoding body sections id appended written is = one_section_more old new encoding body sections id written is appended
+goes_on (Err e) old new encoding body sections id appended written is = tt
+
+pub raw_shortest : (sections : List SectionParts) (bytes : List ℕ) → raw_module.Encodes bytes sections → IsShortestOrLonger bytes (raw_module.bytes sections)
+raw_shortest sections bytes g = Lawful-raw-module.shortest.least bytes sections g

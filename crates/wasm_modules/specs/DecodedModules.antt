@@ -1,26 +1,22 @@
--- Decoded modules: modules whose type sections are entries, and whose other sections are bytes (WebAssembly Core 3.0, 5.5).
-use Rattle.std.specs.Prelude.{◌≡◌, ℕ, ◌⊎◌, List, [], ◌++◌, Result, Ok, Err}
+-- Decoded modules: modules whose type sections are entries, whose code sections are code bodies, and whose other
+-- sections are bytes (WebAssembly Core 3.0, Modules).
+use Rattle.std.specs.Prelude.{◌≡◌, ℕ, ◌⊎◌, List, [], ◌∷◌, ◌++◌, length, Result, Ok, Err}
 use Rattle.wasm_codec.specs.declared.reader.cursor.Fault.{Fault}
 use Rattle.wasm_codec.specs.declared.reader.cursor.Fault.TheVariants as faults
-use Rattle.wasm_codec.specs.Answers.{SpellsSome}
-use Rattle.wasm_types.specs.formats.Types.{type_body}
-use Rattle.wasm_modules.specs.Sections.{type_section_id, SectionParts, Content, type_entries, raw_bytes, DecodedSection, decoded_section_of}
+use Rattle.wasm_codec.specs.Answers.{EncodesSome}
+use Rattle.wasm_codec.specs.Grammar.{Grammar}
+use Rattle.wasm_codec.specs.Numbers.{unsigned_leb128}
+use Rattle.wasm_modules.specs.Sections.{SectionParts, Content, DecodedSection, decoded_section_of}
 use Rattle.wasm_modules.specs.Modules.{IsSection}
-use Rattle.wasm_modules.specs.formats.Modules.{HoldsContent, decoded_section, decoded_module}
-
--- the body that is written
-abbrev pub content_bytes : Content → List ℕ
-content_bytes (type_entries entries) = type_body.bytes entries
-content_bytes (raw_bytes bytes) = bytes
+use Rattle.wasm_modules.specs.formats.Modules.{held_by, HoldsContent, decoded_section, decoded_module}
 
 -- the section with its body as bytes
 abbrev pub framed : DecodedSection → SectionParts
-framed s = record { id = s.id; body = content_bytes s.content }
+framed s = record { id = s.id; body = (held_by s.id).bytes s.content }
 
--- a section of this id can hold this: a type section entries in range, and any other bytes
+-- a section of this id can hold this
 abbrev pub CanHold : ℕ → Content → Type 0
-CanHold id (type_entries entries) = (id ≡ type_section_id) × type_body.InRange entries
-CanHold id (raw_bytes bytes) = id ≡ type_section_id → ⊥
+CanHold id c = (held_by id).InRange c
 
 -- an id is a byte, what it holds is in range, and the size of the body is a u32
 pub record IsDecodedSection (s : DecodedSection) : Type 0 where
@@ -29,9 +25,15 @@ pub record IsDecodedSection (s : DecodedSection) : Type 0 where
 
 -- a prefix of a decoded module that is whole: nothing, or the header and sections
 abbrev pub IsDecodedModulePrefix : List ℕ → Type 0
-IsDecodedModulePrefix prefix = (prefix ≡ []) ⊎ SpellsSome decoded_module.Encodes prefix
+IsDecodedModulePrefix prefix = (prefix ≡ []) ⊎ EncodesSome decoded_module.Encodes prefix
 
 -- ---- writing a section that was read
+
+-- A section of this id was appended, with the shortest encoding of what the body encodes.
+pub record AppendsSection {A : Type 0} (id : ℕ) (G : Grammar A) (encoding_of : A → List ℕ) (body old new : List ℕ) : Type 0 where
+  pub value : A
+  pub encoded : G body value
+  pub appended : new ≡ old ++ id ∷ (unsigned_leb128 (length (encoding_of value)) ++ encoding_of value)
 
 -- The shortest encoding of the section was appended, with what it holds.
 pub record AppendsHeld (s : SectionParts) (old new : List ℕ) : Type 0 where

@@ -1,3 +1,4 @@
+pub mod CodeCounts
 pub mod Sections
 pub mod formats
 pub mod Modules

@@ -1,8 +1,8 @@
--- Modules as sections with their bodies as bytes (WebAssembly Core 3.0, 5.5 Modules).
-use Rattle.std.specs.Prelude.{◌≡◌, ℕ, ◌^◌, ◌<◌, ◌⊎◌, List, [], length}
-use Rattle.wasm_codec.specs.Answers.{SpellsSome}
+-- Modules as sections with their bodies as bytes (WebAssembly Core 3.0, Modules).
+use Rattle.std.specs.Prelude.{◌≡◌, ℕ, ◌^◌, ◌<◌, ◌⊎◌, Bool, true, List, [], length}
+use Rattle.wasm_codec.specs.Answers.{EncodesSome}
 use Rattle.wasm_modules.specs.Sections.{SectionParts}
-use Rattle.wasm_modules.specs.formats.Modules.{raw_module}
+use Rattle.wasm_modules.specs.formats.Modules.{raw_module, asked_module}
 
 -- an id is a byte, and a body's size a u32
 pub record IsSection (s : SectionParts) : Type 0 where
@@ -11,4 +11,11 @@ pub record IsSection (s : SectionParts) : Type 0 where
 
 -- a prefix of a module that is whole: nothing, or the header and sections
 abbrev pub IsModulePrefix : List ℕ → Type 0
-IsModulePrefix prefix = (prefix ≡ []) ⊎ SpellsSome raw_module.Encodes prefix
+IsModulePrefix prefix = (prefix ≡ []) ⊎ EncodesSome raw_module.Encodes prefix
+
+-- the same, where shortest encodings alone may be asked for
+abbrev pub IsAskedModulePrefix : Bool → List ℕ → Type 0
+IsAskedModulePrefix strict prefix = (prefix ≡ []) ⊎ EncodesSome (asked_module strict).Encodes prefix
+
+abbrev pub IsShortestModulePrefix : List ℕ → Type 0
+IsShortestModulePrefix = IsAskedModulePrefix true

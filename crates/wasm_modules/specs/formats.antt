@@ -1,1 +1,2 @@
+pub mod CodeBodies
 pub mod Modules

@@ -1,15 +1,18 @@
-//! Sections whose body is bytes (Core 3.0, 5.5.2).
+//! Sections whose body is bytes (Core 3.0, Sections).
 ghost use Rattle.std.specs.Prelude.{◌≡◌, ◌++◌, ◌∷◌, OnOk, OnErr, IfErr, length};
-ghost use Rattle.wasm_codec.specs.Encoding.{byte_list_text, IsCount, IsRefusal, OnlyTooLong, too_long_at_once};
+ghost use Rattle.wasm_codec.specs.Encoding.{byte_list_bytes, IsCount, IsRefusal, OnlyTooLong, too_long_at_once};
 
 use std::alloc::Allocator;
 use wasm_codec::encode::{Encode, EncodeError, encode_bytes, keep_or_undo};
 
-/// The bytes that every module begins with: the magic number and the version (Core 3.0, 5.5.16).
+/// The bytes that every module begins with: the magic number and the version (Core 3.0, Modules).
 pub const HEADER: [u8; 8] = [0x00, 0x61, 0x73, 0x6D, 0x01, 0x00, 0x00, 0x00];
 
-/// The id of type sections (Core 3.0, 5.5.2).
+/// The id of type sections (Core 3.0, Sections).
 pub const TYPE_SECTION_ID: u8 = 1;
+
+/// The id of code sections (Core 3.0, Sections).
+pub const CODE_SECTION_ID: u8 = 10;
 
 /// A section of any id, with a body that is taken as it is.
 #[derive(Clone, Copy, Debug)]
@@ -20,9 +23,9 @@ pub struct RawSection<'a> {
     pub body: &'a [u8],
 }
 
-/// The size of the body and then the body (Core 3.0, 5.5.2).
+/// The size of the body and then the body (Core 3.0, Sections).
 impl<'a> Encode for RawSection<'a> {
-    ghost bytes = { λ section. byte_list_text section.body.now };
+    ghost bytes = { λ section. byte_list_bytes section.body.now };
 
     ghost CanEncode = { λ section. IsCount (length section.body.now) };
 

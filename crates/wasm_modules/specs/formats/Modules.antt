@@ -1,11 +1,14 @@
--- Modules in the binary format, each part stated once (WebAssembly Core 3.0, 5.5 Modules). Over each stands the
+-- Modules in the binary format, each part stated once (WebAssembly Core 3.0, Modules). Over each stands the
 -- standard's production.
-use Rattle.std.specs.Prelude.{◌≡◌, ℕ, ◌==◌, List, Option, Some, None}
+use Rattle.std.specs.Prelude.{ℕ, ◌==◌, Bool, true, List, Option, Some, None}
 use Rattle.wasm_types.specs.declared.types.composite.TypeEntry.{TypeEntry}
 use Rattle.wasm_types.specs.formats.Types.{type_body}
-use Rattle.wasm_codec.specs.formats.Combinators.{Format, a_byte, ◌⊗>◌, ◌⊗◌, made, choose}
-use Rattle.wasm_codec.specs.formats.Bodies.{sized, byte_list, to_end, headed}
-use Rattle.wasm_modules.specs.Sections.{header, type_section_id, SectionParts, section_of, Content, type_entries, raw_bytes, DecodedSection, decoded_section_of}
+use Rattle.wasm_codec.specs.formats.Combinators.{Format, a_byte, ◌⊗>◌, ◌⊗◌, made, choose, asked}
+use Rattle.wasm_codec.specs.Grammar.{Grammar}
+use Rattle.wasm_codec.specs.formats.Bodies.{bytes_to_end, sized, byte_list, to_end, headed}
+use Rattle.wasm_modules.specs.declared.code.CodeBody.{CodeBody}
+use Rattle.wasm_modules.specs.formats.CodeBodies.{code_section_body}
+use Rattle.wasm_modules.specs.Sections.{header, type_section_id, code_section_id, SectionParts, section_of, Content, type_entries, code_bodies, raw_bytes, DecodedSection, decoded_section_of}
 
 -- ---- sections
 
@@ -18,27 +21,37 @@ raw_section = made section_of section_parts (a_byte ⊗ byte_list)
 
 abbrev pub entries_part : Content → Option (List TypeEntry)
 entries_part (type_entries entries) = Some entries
+entries_part (code_bodies bodies) = None
 entries_part (raw_bytes bytes) = None
+
+abbrev pub bodies_part : Content → Option (List CodeBody)
+bodies_part (code_bodies bodies) = Some bodies
+bodies_part (type_entries entries) = None
+bodies_part (raw_bytes bytes) = None
 
 abbrev pub bytes_part : Content → Option (List ℕ)
 bytes_part (raw_bytes bytes) = Some bytes
 bytes_part (type_entries entries) = None
+bytes_part (code_bodies bodies) = None
 
--- what a section of this id holds, after its size
-abbrev pub content : ℕ → Format Content
-content id = choose (id == type_section_id) (made type_entries entries_part (sized type_body)) (made raw_bytes bytes_part byte_list)
+-- what the body of a section of this id holds
+abbrev pub held_by : ℕ → Format Content
+held_by id =
+    choose (id == type_section_id) (made type_entries entries_part type_body)
+    (choose (id == code_section_id) (made code_bodies bodies_part code_section_body)
+    (made raw_bytes bytes_part bytes_to_end))
 
 abbrev pub content_parts : DecodedSection → Option (ℕ × Content)
 content_parts s = Some (s.id, s.content)
 
--- typesec ::= ty*:section_1(list(rectype)) ⇒ ty*, and any other section with its bytes as they are
+-- typesec ::= ty*:section_1(list(rectype)) ⇒ ty*, codesec ::= code*:section_10(list(code)) ⇒ code*,
+-- and any other section with its bytes as they are
 unfoldable pub decoded_section : Format DecodedSection
-decoded_section = made decoded_section_of content_parts (a_byte ⊗> (λ id. content id))
+decoded_section = made decoded_section_of content_parts (a_byte ⊗> (λ id. sized (held_by id)))
 
 -- a section with its body as bytes holds this
 abbrev pub HoldsContent : SectionParts → Content → Type 0
-HoldsContent s (type_entries entries) = (s.id ≡ type_section_id) × type_body.Encodes s.body entries
-HoldsContent s (raw_bytes bytes) = (s.id ≡ type_section_id → ⊥) × (s.body ≡ bytes)
+HoldsContent s c = (held_by s.id).Encodes s.body c
 
 -- ---- modules
 
@@ -46,6 +59,13 @@ HoldsContent s (raw_bytes bytes) = (s.id ≡ type_section_id → ⊥) × (s.body
 -- module ::= magic version section*, with nothing left over
 abbrev pub raw_module : Format (List SectionParts)
 raw_module = headed header (to_end raw_section)
+
+-- the same, with each section in its shortest encoding where that is asked for: its size in the fewest bytes
+abbrev pub asked_module : Bool → Format (List SectionParts)
+asked_module strict = headed header (to_end (asked strict raw_section))
+
+abbrev pub ShortestModule : Grammar (List SectionParts)
+ShortestModule = (asked_module true).Encodes
 
 abbrev pub decoded_module : Format (List DecodedSection)
 decoded_module = headed header (to_end decoded_section)

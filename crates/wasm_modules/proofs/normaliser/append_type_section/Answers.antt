@@ -1,17 +1,11 @@
-use Rattle.std.proofs.Common.{ℕ, [], ◌∷◌, length, ap, arith, length-append}
-use Rattle.wasm_modules.proofs.DecodedModuleLaws.{appends_entries, entries_short, nothing_of_kind}
+use Rattle.std.proofs.Common.{refl}
+use Rattle.wasm_types.proofs.TypeFormatLaws.{Lawful-recursive-type}
+use Rattle.wasm_types.specs.formats.Types.{recursive_type}
+use Rattle.wasm_modules.proofs.DecodedModuleLaws.{entries_made, section_of_list}
 use Rattle.wasm_modules.proofs.normaliser.append_type_section.Goals as goal
 
-pub put_size_before-requires-clause-size : goal.put_size_before-requires-clause-size
-put_size_before-requires-clause-size c =
-    let n = c.in-Ok.ensures.given in
-    let short = entries_short c.args.body.now n.text n.normal c.requires in
-    omega (arith, short, ap (length {A = ℕ}) n.appended, length-append c.push.new.self.items n.text)
+pub append_list_section-requires : goal.append_list_section-requires
+append_list_section-requires c κs = ((refl, tt), (c.requires, Lawful-recursive-type))
 
-pub returns-in-Ok : goal.returns-in-Ok
-returns-in-Ok c =
-    appends_entries c.args.body.now c.args.text.now.items c.rewrite_list_to_end.new.text.items c.put_size_before.new.bytes.items c.len-start.result c.only_memory.result c.put_size_before.result
-    (omega (arith, c.len-start.ensures, ap (length {A = ℕ}) c.in_ok-push.ensures.items, length-append c.args.text.now.items (1 ∷ []))) (rw c.in_ok-push.ensures.items at c.in-Ok.ensures.given) c.only_memory.ensures.same c.put_size_before.ensures.ok c.only_memory.ensures.err
-
-pub returns-in-Err-Refused : goal.returns-in-Err-Refused
-returns-in-Err-Refused c = nothing_of_kind c.args.body.now (rw c.in-Err-Refused.field-0-is at c.in-Err-Refused.ensures.unspelled)
+pub returns : goal.returns
+returns c = section_of_list recursive_type (Unit {0}) 1 c.args.body.now c.args.encoding.now.items c.append_list_section.new.encoding.items c.append_list_section.result entries_made c.append_list_section.ensures.given c.append_list_section.ensures.none

@@ -23,6 +23,14 @@ returns-clause-read_back c sections fits e =
     let are : IsBytes c.args.bytes.now = IsBytes-from c.args.bytes.now (λ i. omega (arith, c.type_inv.bytes i)) in
     gives_all one_raw_module (λ given. all_parts_of given.items) c.args.bytes.now c.sections_of.result c.sections_of.ensures.given c.sections_of.ensures.none sections (all_encoded c.args.bytes.now sections are fits e)
 
+pub returns-clause-encodes : goal.returns-clause-encodes
+returns-clause-encodes c sections fits e =
+    all_encoded c.args.bytes.now sections (IsBytes-from c.args.bytes.now (λ i. omega (arith, c.type_inv.bytes i))) fits e
+
+pub returns-clause-decoded_encodes : goal.returns-clause-decoded_encodes
+returns-clause-decoded_encodes c sections fits e =
+    all_encoded c.args.bytes.now (map framed sections) (IsBytes-from c.args.bytes.now (λ i. omega (arith, c.type_inv.bytes i))) (all_framed sections fits) (e ∙ module_framed sections fits)
+
 pub returns-clause-decoded_read_back : goal.returns-clause-decoded_read_back
 returns-clause-decoded_read_back c sections fits e =
     let are : IsBytes c.args.bytes.now = IsBytes-from c.args.bytes.now (λ i. omega (arith, c.type_inv.bytes i)) in

@@ -1,0 +1,55 @@
+-- The laws of code bodies and of bodies of code sections.
+use Rattle.std.proofs.Common.{◌≡◌, ℕ, ◌≤◌, ◌↔◌, List, length, Result, Ok, Err, IfOk, refl, ap, arith}
+use Rattle.wasm_codec.specs.Grammar.{TakesBytes}
+use Rattle.wasm_codec.specs.Lawful.{IsLawful}
+use Rattle.wasm_codec.proofs.ListReading.{AtMostOne}
+use Rattle.wasm_codec.proofs.ListLaws.{AtMostOne-list}
+use Rattle.wasm_codec.proofs.PlaceLists.{plain_reads}
+use Rattle.wasm_codec.proofs.AskedLaws.{list_narrow}
+use Rattle.wasm_codec.specs.declared.reader.ReadError.{ReadError}
+use Rattle.wasm_codec.specs.Answers.{IsNormalForm}
+use Rattle.wasm_codec.proofs.FormatLaws.{not_longer, Lawful-u32, Lawful-both, Lawful-made, Lawful-items, takes_bytes}
+use Rattle.wasm_codec.proofs.BodyLaws.{IsLawfulBody, Lawful-sized, Lawful-to-end, Lawful-then-body}
+use Rattle.wasm_types.proofs.TypeFormatLaws.{Lawful-val-type}
+use Rattle.wasm_instructions.proofs.InstructionFormatLaws.{Lawful-instruction, instruction_takes}
+use Rattle.wasm_modules.specs.declared.code.CodeBody.{CodeBody}
+use Rattle.wasm_modules.specs.formats.CodeBodies.{local_group, function_code, code_body_of, code_body_parts, code_body, code_section_body, ShortestCodeSectionBody}
+
+pub Lawful-local-group : IsLawful local_group
+Lawful-local-group = Lawful-both Lawful-u32 Lawful-val-type
+
+pub local_group_takes : TakesBytes local_group.Encodes
+local_group_takes = takes_bytes Lawful-local-group refl
+
+pub Lawful-function-code : IsLawfulBody function_code
+Lawful-function-code = Lawful-then-body (Lawful-items Lawful-local-group) (λ groups. Lawful-to-end Lawful-instruction instruction_takes)
+
+pub Lawful-code_body : IsLawful code_body
+unfolding code_body
+Lawful-code_body = Lawful-made code_body_of code_body_parts (λ p. refl) (Lawful-sized Lawful-function-code)
+
+pub code_body_takes : TakesBytes code_body.Encodes
+unfolding code_body
+code_body_takes = takes_bytes Lawful-code_body refl
+
+pub Lawful-code-section-body : IsLawful code_section_body
+unfolding code_section_body
+Lawful-code-section-body = Lawful-items Lawful-code_body
+
+pub AtMostOne-code-section-body : AtMostOne code_section_body.Encodes
+unfolding code_section_body
+AtMostOne-code-section-body = AtMostOne-list (plain_reads Lawful-code_body.reads)
+
+-- the encodings by shortest ones alone are the shortest encodings
+pub is_shortest_code : (bytes : List ℕ) (bodies : List CodeBody) → ShortestCodeSectionBody bytes bodies ↔ (code_section_body.Encodes bytes bodies × (bytes ≡ code_section_body.bytes bodies))
+unfolding code_section_body
+is_shortest_code = list_narrow Lawful-code_body
+
+pub AtMostOne-shortest-code : AtMostOne ShortestCodeSectionBody
+AtMostOne-shortest-code bytes v w g h = AtMostOne-code-section-body bytes v w ((is_shortest_code bytes v).0 g).0 ((is_shortest_code bytes w).0 h).0
+
+-- what is given is no longer than the bytes
+pub no_longer_bodies : {X : Type 0} (view : X → List ℕ) (bytes : List ℕ) (result : Result X ReadError)
+    → IfOk result (λ x. IsNormalForm code_section_body.Encodes code_section_body.bytes bytes (view x)) → IfOk result (λ x. length (view x) ≤ length bytes)
+no_longer_bodies view bytes (Ok x) n = omega (arith, not_longer bytes (code_section_body.bytes n.value) (Lawful-code-section-body.shortest.least bytes n.value n.encoded), ap (length {A = ℕ}) n.is_shortest)
+no_longer_bodies view bytes (Err e) n = tt
