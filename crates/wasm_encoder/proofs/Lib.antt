@@ -1,3 +1,5 @@
-pub use Rattle.wasm_codec.proofs.ExactLaws
+pub use Rattle.wasm_codec.proofs.DrainLaws
+pub mod EncodedListLaws
+pub mod CodeSectionLaws
 pub mod TypeSectionLaws
 pub mod IteratorLaws

@@ -16,11 +16,16 @@ pub use Rattle.wasm_instructions.specs.formats.Operands as OperandFormats
 pub use Rattle.wasm_instructions.specs.formats.Instructions as InstructionFormats
 pub use Rattle.wasm_instructions.specs.Opcodes
 pub use Rattle.wasm_instructions.specs.Appending
+pub use Rattle.wasm_modules.specs.formats.CodeBodies as CodeFormats
+pub use Rattle.wasm_modules.specs.CodeCounts
 pub use Rattle.wasm_modules.specs.formats.Modules as ModuleFormats
 pub use Rattle.wasm_modules.specs.Sections
 pub use Rattle.wasm_modules.specs.Modules
 pub use Rattle.wasm_modules.specs.DecodedModules
 pub use Rattle.wasm_sink.specs.Sink
 pub use Rattle.wasm_sink.specs.ListCalls
+pub mod EncodedLists
+pub mod CodeSections
+pub mod Rows
 pub mod SectionIds
 pub mod TypeSections

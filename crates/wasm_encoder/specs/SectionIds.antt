@@ -1,10 +1,10 @@
--- The ids of sections (WebAssembly Core 3.0, 5.5.2 Sections).
+-- The ids of sections (WebAssembly Core 3.0, Sections).
 use Rattle.std.specs.Prelude.{ℕ}
 use Rattle.wasm_encoder.specs.declared.wasm_core.SectionId.{SectionId}
 use Rattle.wasm_encoder.specs.declared.wasm_core.SectionId.TheVariants as ids
 use Rattle.wasm_modules.specs.Sections.{type_section_id}
 
--- the ids of the known sections (5.5.2)
+-- the ids of the known sections (Sections)
 abbrev pub section_id : SectionId → ℕ
 section_id ids.Custom = 0
 section_id ids.Types = type_section_id

@@ -1,4 +1,5 @@
--- Type sections that are being built: how many entries were written, and their bytes (WebAssembly Core 3.0, 5.5.4).
+-- Type sections that are being built: how many entries were written, and their bytes (WebAssembly Core 3.0, Type
+-- Section).
 use Rattle.std.specs.Prelude.{◌≡◌, ℕ, ◌+◌, ◌^◌, ◌⊎◌, List, [], ◌∷◌, ◌++◌, length, Option, None, Bool, true, false}
 use Rattle.std.specs.List.{All, flat_map}
 use Rattle.std.specs.Iterator.{Drains}
@@ -10,10 +11,10 @@ use Rattle.wasm_types.specs.declared.types.composite.CompositeInnerType.{Composi
 use Rattle.wasm_types.specs.declared.types.composite.CompositeInnerType.TheVariants as inner
 use Rattle.wasm_types.specs.declared.types.composite.TypeEntry.{TypeEntry}
 use Rattle.wasm_types.specs.declared.types.composite.TypeEntry.TheVariants as entries
-use Rattle.wasm_codec.specs.Numbers.{unsigned_text}
+use Rattle.wasm_codec.specs.Numbers.{unsigned_leb128}
 use Rattle.wasm_codec.specs.declared.encode.EncodeError.{EncodeError}
 use Rattle.wasm_codec.specs.declared.encode.EncodeError.TheVariants.{Memory, TooLong}
-use Rattle.wasm_codec.specs.Encoding.{byte_list_text, IsCount}
+use Rattle.wasm_codec.specs.Encoding.{byte_list_bytes, IsCount}
 use Rattle.wasm_types.specs.formats.Types.{recursive_type}
 use Rattle.wasm_types.specs.TypeCounts.{CountedEntry}
 
@@ -23,17 +24,19 @@ pub record Entries : Type 0 where
   pub bytes : List ℕ
 
 -- The section stands for these entries: it has their number and their bytes, with nothing between, and they can be
--- written.
+-- written, with their numbers in range.
 pub record StandsFor (section : Entries) (entries : List TypeEntry) : Type 0 where
   pub count : section.count ≡ length entries
   pub bytes : section.bytes ≡ flat_map recursive_type.bytes entries
   pub can : All CountedEntry entries
+  pub in_range : All recursive_type.InRange entries
 
 -- The new section is the old one with one entry more.
 pub record Gains (old : Entries) (entry : TypeEntry) (new : Entries) : Type 0 where
   pub count : new.count ≡ old.count + 1
   pub bytes : new.bytes ≡ old.bytes ++ recursive_type.bytes entry
   pub can : CountedEntry entry
+  pub in_range : recursive_type.InRange entry
   pub stands : (before : List TypeEntry) → StandsFor old before → StandsFor new (before ++ entry ∷ [])
 
 -- The new section is the old one with these entries more.
@@ -41,6 +44,7 @@ pub record GainsAll (old : Entries) (more : List TypeEntry) (new : Entries) : Ty
   pub count : new.count ≡ old.count + length more
   pub bytes : new.bytes ≡ old.bytes ++ flat_map recursive_type.bytes more
   pub can : All CountedEntry more
+  pub in_range : All recursive_type.InRange more
   pub stands : (before : List TypeEntry) → StandsFor old before → StandsFor new (before ++ more)
 
 -- no entry can be added: their number is the greatest that there is
@@ -54,13 +58,13 @@ HasRoom section = IsFull section → ⊥
 abbrev pub TooLongUnless : Type 0 → EncodeError → Type 0
 TooLongUnless Can e = (e ≡ Memory) ⊎ ((Can → ⊥) × (e ≡ TooLong))
 
--- the count and the entries (5.5.4)
+-- the count and the entries (Type Section)
 abbrev pub body_bytes : Entries → List ℕ
-body_bytes section = unsigned_text section.count ++ section.bytes
+body_bytes section = unsigned_leb128 section.count ++ section.bytes
 
--- the body, after the number of its bytes (5.5.2)
-abbrev pub type_section_text : Entries → List ℕ
-type_section_text section = byte_list_text (body_bytes section)
+-- the body, after the number of its bytes (Sections)
+abbrev pub type_section_bytes : Entries → List ℕ
+type_section_bytes section = byte_list_bytes (body_bytes section)
 
 -- a section that can be written: a u32 counts the bytes of its body
 abbrev pub CountedSection : Entries → Type 0

@@ -1,23 +1,29 @@
 //! The lowest layer of a WebAssembly encoder, proved: typed calls go in, and exactly the shortest bytes come out.
-//! Beside the writers stand readers and normalisers, which take every encoding that the binary format allows.
+//! Beside the writers stand readers and normalisers, which take every encoding that the binary format allows, and
+//! strict readers, which take the shortest alone.
 //!
-//! Modules and their sections (Core 3.0, 5.5) stand here. What they are made of comes from the crates below, which
+//! Modules and their sections (Core 3.0, Modules) stand here. What they are made of comes from the crates below, which
 //! follow the chapters of the binary format: `wasm_codec`, `wasm_types`, `wasm_instructions` and `wasm_sink`. Callers
 //! name this crate alone.
 #![tactic(auto)]
 
+pub mod code;
 pub mod encode;
+mod encoded_list;
 pub mod raw;
 pub mod reader;
 mod type_section;
 pub mod types;
 pub mod wasm_core;
 
+pub use code::{CodeBody, CodeSection, Function};
 pub use encode::{Encode, EncodeError, encode_bytes, encode_list, encode_str};
 pub use raw::RawSection;
 pub use reader::{
-    ReadError, normalise_instructions, normalise_module, normalise_type_section, read_instructions,
-    read_module, read_type_section,
+    ReadError, normalise_code_section, normalise_instructions, normalise_module,
+    normalise_type_section, read_code_section, read_code_section_strict, read_instructions,
+    read_instructions_strict, read_module, read_module_strict, read_type_section,
+    read_type_section_strict,
 };
 pub use types::{
     AbstractHeapType, ArrayType, CompositeInnerType, CompositeType, ContType, CoreTypeEncoder,

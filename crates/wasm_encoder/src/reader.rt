@@ -1,10 +1,13 @@
 //! Readers and normalisers: any encoding in, the list that it encodes or its shortest encoding out.
 //!
-//! A reader takes all of its input: bytes that are left over are refused like any others that encode nothing.
+//! A reader takes all of its input: bytes that are left over are refused like any others that encode nothing. A strict
+//! one takes shortest encodings alone.
 
 pub use wasm_codec::reader::ReadError;
 pub use wasm_instructions::normaliser::normalise_instructions;
-pub use wasm_instructions::reader::read_instructions;
+pub use wasm_instructions::reader::{read_instructions, read_instructions_strict};
+pub use wasm_modules::code::normaliser::normalise_code_section;
+pub use wasm_modules::code::reader::{read_code_section, read_code_section_strict};
 pub use wasm_modules::normaliser::normalise_module;
-pub use wasm_modules::reader::read_module;
-pub use wasm_types::reader::{normalise_type_section, read_type_section};
+pub use wasm_modules::reader::{read_module, read_module_strict};
+pub use wasm_types::reader::{normalise_type_section, read_type_section, read_type_section_strict};

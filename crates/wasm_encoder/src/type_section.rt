@@ -1,10 +1,10 @@
-//! The type section (Core 3.0, 5.5.4).
+//! The type section (Core 3.0, Type Section).
 ghost use Rattle.std.specs.Prelude.{◌≡◌, ℕ, List, ◌++◌, ◌∷◌, ◌+◌, ◌⊎◌, [], OnOk, OnErr, IfOk, IfErr, IsTrue, ◌↔◌, length, take};
 ghost use Rattle.std.specs.List.{All};
-ghost use Rattle.wasm_encoder.specs.TypeSections.{Entries, StandsFor, Gains, GainsAll, IsFull, HasRoom, TooLongUnless, CountedSection, OfBoth, OfItems, type_section_text, body_bytes, final_entry, struct_entry, array_entry};
-ghost use Rattle.wasm_codec.specs.Iterators.{IsExact, IsItemsRefusal};
-ghost use Rattle.wasm_codec.specs.Lists.{items_text};
-ghost use Rattle.wasm_codec.specs.Encoding.{byte_list_text, CanEncodeList, IsCount, IsRefusal, IsTextOrLonger, OnlyTooLong, Refuses};
+ghost use Rattle.wasm_encoder.specs.TypeSections.{Entries, StandsFor, Gains, GainsAll, IsFull, HasRoom, TooLongUnless, CountedSection, OfBoth, OfItems, type_section_bytes, body_bytes, final_entry, struct_entry, array_entry};
+ghost use Rattle.wasm_codec.specs.Iterators.{IsItemsRefusal};
+ghost use Rattle.wasm_codec.specs.Lists.{items_bytes};
+ghost use Rattle.wasm_codec.specs.Encoding.{byte_list_bytes, CanEncodeList, IsCount, IsRefusal, IsShortest, IsShortestOrLonger, OnlyTooLong, Refuses};
 ghost use Rattle.wasm_types.specs.formats.Types.{inner_type, type_body};
 ghost use Rattle.wasm_types.specs.TypeCounts.{CountedFunc, CountedSub, CountedEntry};
 ghost use Rattle.wasm_types.specs.declared.types.composite.TypeEntry.{TypeEntry};
@@ -134,6 +134,7 @@ impl TypeSection {
         ensures count { OnOk result (self.new.count ≡ self.old.count + 1) }
         ensures bytes { OnOk result (self.new.bytes ≡ self.old.bytes ++ T.bytes entry.now) }
         ensures can { OnOk result (T.CanEncode entry.now) }
+        ensures written { OnOk result (T.IsWritten entry.now) }
         ensures err { OnErr result (self.new ≡ self.old) }
         ensures refused { IfErr result (λ e.
             TooLongUnless (HasRoom self.old) e ⊎ Refuses T.CanEncode T.refuses entry.now e) }
@@ -163,34 +164,34 @@ impl TypeSection {
     }
 }
 
-/// The size of the body, the number of entries, and the entries (Core 3.0, 5.5.2 and 5.5.4).
+/// The size of the body, the number of entries, and the entries (Core 3.0, Sections and Type Section).
 ///
 /// `TooLong` where the body has more than 4,294,967,295 bytes.
-#[tactic(auto, using(crate::proofs::TypeSectionLaws::one_text, crate::proofs::TypeSectionLaws::section_is_body, crate::proofs::TypeSectionLaws::body_spells, crate::proofs::TypeSectionLaws::body_shortest))]
+#[tactic(auto, using(crate::proofs::TypeSectionLaws::one_encoding, crate::proofs::TypeSectionLaws::section_is_body, crate::proofs::TypeSectionLaws::body_encodes, crate::proofs::TypeSectionLaws::body_shortest))]
 impl Encode for TypeSection {
-    ghost bytes = { type_section_text };
+    ghost bytes = { type_section_bytes };
 
     ghost CanEncode = { CountedSection };
 
     ghost refuses = { OnlyTooLong };
 
     fn encode<A: Allocator>(&self, sink: &mut Vec<u8, A>) -> Result<(), EncodeError>
-        ensures ok { OnOk result (sink.new.items ≡ sink.old.items ++ type_section_text self.now) }
+        ensures ok { OnOk result (sink.new.items ≡ sink.old.items ++ type_section_bytes self.now) }
         ensures can { OnOk result (CountedSection self.now) }
         ensures refused { IfErr result (IsRefusal CountedSection OnlyTooLong self.now) }
         ensures err { OnErr result (sink.new.items ≡ sink.old.items) }
         // Sections that stand for the same entries have the same bytes.
-        ensures one_text { (other : Entries) (entries : List TypeEntry) →
-            StandsFor self.now entries → StandsFor other entries → type_section_text other ≡ type_section_text self.now }
+        ensures one_encoding { (other : Entries) (entries : List TypeEntry) →
+            StandsFor self.now entries → StandsFor other entries → type_section_bytes other ≡ type_section_bytes self.now }
         // The body is that of the entries, after its length.
         ensures is_body { (entries : List TypeEntry) → StandsFor self.now entries →
-            type_section_text self.now ≡ byte_list_text (type_body.bytes entries) }
-        // The body encodes the entries, as their numbers are u32s.
-        ensures spells { (entries : List TypeEntry) → StandsFor self.now entries → type_body.InRange entries →
+            type_section_bytes self.now ≡ byte_list_bytes (type_body.bytes entries) }
+        // The body encodes the entries.
+        ensures encodes { (entries : List TypeEntry) → StandsFor self.now entries →
             type_body.Encodes (body_bytes self.now) entries }
         // Every other encoding of the entries is longer than the body.
         ensures shortest { (entries : List TypeEntry) (bytes : List ℕ) → StandsFor self.now entries →
-            type_body.Encodes bytes entries → IsTextOrLonger bytes (body_bytes self.now) }
+            type_body.Encodes bytes entries → IsShortestOrLonger bytes (body_bytes self.now) }
     {
         let start = sink.len();
         let result = append_section(self, sink);
@@ -253,17 +254,16 @@ impl<'a> CoreTypeEncoder<'a> {
     }
 
     /// Adds a function type of the parameters and results that two iterators give: final, without supertypes, not
-    /// shared.
+    /// shared. Those that come are counted, whatever `len` tells.
     ///
-    /// `TooLong` where there are 4,294,967,295 entries, or more parameters or results than that, before any is asked
-    /// for.
+    /// `TooLong` where there are 4,294,967,295 entries, or a `len` is more than that, before any is asked for.
     pub fn function<P: ExactSizeIterator<Item = ValType>, R: ExactSizeIterator<Item = ValType>>(
         self,
         params: P,
         results: R,
     ) -> Result<(), EncodeError>
-        requires params { IsExact P.can_next P.next_gives P.remaining params }
-        requires results { IsExact R.can_next R.next_gives R.remaining results }
+        requires params { P.can_next params }
+        requires results { R.can_next results }
         ensures ok { OnOk result (OfBoth P.next_gives R.next_gives params results (λ ty.
             Gains self.entry.section.now (final_entry (inner.Func ty)) self.exit.0.now)) }
         ensures err { OnErr result (self.exit.0.now ≡ self.entry.section.now) }
@@ -277,14 +277,15 @@ impl<'a> CoreTypeEncoder<'a> {
         section.settle(start, count, appended)
     }
 
-    /// Adds a structure of the fields that an iterator gives: final, without supertypes, not shared.
+    /// Adds a structure of the fields that an iterator gives: final, without supertypes, not shared. Those that come
+    /// are counted, whatever `len` tells.
     ///
-    /// `TooLong` where there are 4,294,967,295 entries, or more fields than that, before any is asked for.
+    /// `TooLong` where there are 4,294,967,295 entries, or `len` is more than that, before any is asked for.
     pub fn struct_<F: ExactSizeIterator<Item = FieldType>>(
         self,
         fields: F,
     ) -> Result<(), EncodeError>
-        requires { IsExact F.can_next F.next_gives F.remaining fields }
+        requires { F.can_next fields }
         ensures ok { OnOk result (OfItems F.next_gives fields (λ fields.
             Gains self.entry.section.now (struct_entry fields) self.exit.0.now)) }
         ensures err { OnErr result (self.exit.0.now ≡ self.entry.section.now) }
@@ -297,12 +298,13 @@ impl<'a> CoreTypeEncoder<'a> {
         section.settle(start, count, appended)
     }
 
-    /// Adds a group of the types that an iterator gives. It is one entry.
+    /// Adds a group of the types that an iterator gives. It is one entry. Those that come are counted, whatever `len`
+    /// tells.
     ///
-    /// `TooLong` where there are 4,294,967,295 entries, or more types than that, before any is asked for, or where a
+    /// `TooLong` where there are 4,294,967,295 entries, or `len` is more than that, before any is asked for, or where a
     /// list in a type is too long.
     pub fn rec<S: ExactSizeIterator<Item = SubType>>(self, types: S) -> Result<(), EncodeError>
-        requires { IsExact S.can_next S.next_gives S.remaining types }
+        requires { S.can_next types }
         ensures ok { OnOk result (OfItems S.next_gives types (λ types.
             Gains self.entry.section.now (entries.Rec types) self.exit.0.now)) }
         ensures err { OnErr result (self.exit.0.now ≡ self.entry.section.now) }
@@ -323,9 +325,9 @@ fn append_tagged<T: Encode + Drop, I: ExactSizeIterator<Item = T>>(
     items: I,
     bytes: &mut Vec<u8>,
 ) -> Result<(), EncodeError>
-    requires { IsExact I.can_next I.next_gives I.remaining items }
+    requires { I.can_next items }
     ensures ok { OnOk result (OfItems I.next_gives items (λ xs.
-        (bytes.new.items ≡ bytes.old.items ++ tag ∷ items_text T.bytes xs) × CanEncodeList T.CanEncode xs)) }
+        (bytes.new.items ≡ bytes.old.items ++ tag ∷ items_bytes T.bytes xs) × (CanEncodeList T.CanEncode xs × All T.IsWritten xs))) }
     ensures refused { IfErr result (IsItemsRefusal T.CanEncode T.refuses I.next_gives I.remaining items) }
     ensures kept { take (length bytes.old.items) bytes.new.items ≡ bytes.old.items }
 {
@@ -341,10 +343,10 @@ fn append_function<P: ExactSizeIterator<Item = ValType>, R: ExactSizeIterator<It
     results: R,
     bytes: &mut Vec<u8>,
 ) -> Result<(), EncodeError>
-    requires params { IsExact P.can_next P.next_gives P.remaining params }
-    requires results { IsExact R.can_next R.next_gives R.remaining results }
+    requires params { P.can_next params }
+    requires results { R.can_next results }
     ensures ok { OnOk result (OfBoth P.next_gives R.next_gives params results (λ ty.
-        (bytes.new.items ≡ bytes.old.items ++ inner_type.bytes (inner.Func ty)) × CountedFunc ty)) }
+        (bytes.new.items ≡ bytes.old.items ++ inner_type.bytes (inner.Func ty)) × CountedFunc ty × IsShortest inner_type.Encodes inner_type.bytes (inner.Func ty))) }
     ensures refused { IfErr result (TooLongUnless (
         IsCount (size (P.remaining params)) × IsCount (size (R.remaining results)))) }
     ensures kept { take (length bytes.old.items) bytes.new.items ≡ bytes.old.items }
@@ -361,8 +363,9 @@ fn append_section<A: Allocator>(
     section: &TypeSection,
     sink: &mut Vec<u8, A>,
 ) -> Result<(), EncodeError>
-    ensures ok { OnOk result (sink.new.items ≡ sink.old.items ++ type_section_text section.now) }
+    ensures ok { OnOk result (sink.new.items ≡ sink.old.items ++ type_section_bytes section.now) }
     ensures can { OnOk result (CountedSection section.now) }
+    ensures few { IsCount section.now.count }
     ensures refused { IfErr result (IsRefusal CountedSection OnlyTooLong section.now) }
     ensures kept { take (length sink.old.items) sink.new.items ≡ sink.old.items }
 {

@@ -1,4 +1,4 @@
-//! Heap, reference, value, storage and composite types, and the type section (Core 3.0, 5.3 and 5.5.4).
+//! Heap, reference, value, storage and composite types, and the type section (Core 3.0, Types and Type Section).
 
 pub use crate::type_section::{CoreTypeEncoder, TypeSection};
 pub use wasm_types::types::{

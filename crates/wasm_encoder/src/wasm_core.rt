@@ -1,7 +1,9 @@
-//! Sections and modules (Core 3.0, 5.5).
+//! Sections and modules (Core 3.0, Modules).
 ghost use Rattle.std.specs.Prelude.{◌≡◌, ◌++◌, ◌∷◌, ℕ, List, [], IfOk, IfErr, OnOk, OnErr, length};
-ghost use Rattle.wasm_codec.specs.Encoding.{IsRefusal};
-ghost use Rattle.wasm_modules.specs.Sections.{header};
+ghost use Rattle.std.specs.List.{AllByRecursion};
+ghost use Rattle.wasm_codec.specs.Encoding.{byte_list_bytes, IsRefusal, IsShortestOrLonger};
+ghost use Rattle.wasm_modules.specs.Sections.{header, SectionParts, section_of};
+ghost use Rattle.wasm_modules.specs.formats.Modules.{raw_module, raw_section};
 ghost use Rattle.wasm_encoder.specs.SectionIds.{section_id};
 ghost use Rattle.wasm_codec.specs.declared.encode.EncodeError.TheVariants.{Memory};
 
@@ -96,7 +98,7 @@ impl From<SectionId> for u8 {
     }
 }
 
-/// One byte (Core 3.0, 5.5.2).
+/// One byte (Core 3.0, Sections).
 impl Encode for SectionId {
     ghost bytes = { λ id. section_id id ∷ [] };
 
@@ -107,7 +109,7 @@ impl Encode for SectionId {
     }
 }
 
-/// A module as bytes: a header, and then each section's id and its bytes (Core 3.0, 5.5.16).
+/// A module as bytes: a header, and then each section's id and its bytes (Core 3.0, Modules).
 ///
 /// In contracts it is its bytes.
 #[derive(Debug, Drop)]
@@ -139,11 +141,21 @@ impl Module {
     /// Appends the id of a section and its bytes, or leaves the module as it was.
     ///
     /// The section's own `append_to` is never called.
+    #[tactic(auto, using(wasm_modules::proofs::ModuleLaws::goes_on, wasm_modules::proofs::ModuleLaws::raw_shortest))]
     pub fn section<S: Section>(&mut self, section: &S) -> Result<(), EncodeError>
         ensures ok { OnOk result (self.new ≡ self.old ++ S.id section.now ∷ S.bytes section.now) }
         ensures can { OnOk result (S.CanEncode section.now) }
         ensures refused { IfErr result (IsRefusal S.CanEncode S.refuses section.now) }
         ensures err { OnErr result (self.new ≡ self.old) }
+        // Where the section's bytes are a body after its size, the module goes on with that section.
+        ensures goes_on { (sections : List SectionParts) (body : List ℕ) → self.old ≡ raw_module.bytes sections →
+            S.bytes section.now ≡ byte_list_bytes body →
+            OnOk result (self.new ≡ raw_module.bytes (sections ++ section_of (S.id section.now, body) ∷ [])) }
+        // What is written of sections encodes them, and every other encoding of them is longer.
+        ensures encodes { (sections : List SectionParts) → AllByRecursion raw_section.InRange sections →
+            raw_module.Encodes (raw_module.bytes sections) sections }
+        ensures shortest { (sections : List SectionParts) (bytes : List ℕ) → raw_module.Encodes bytes sections →
+            IsShortestOrLonger bytes (raw_module.bytes sections) }
     {
         append_section(section.id(), section, &mut self.bytes)
     }

@@ -8,7 +8,7 @@ use Rattle.std.specs.declared.alloc.Allocator.{Ghosts}
 use Rattle.wasm_sink.specs.declared.sink.InstructionSink.{InstructionSink}
 use Rattle.wasm_instructions.specs.declared.table.opcode.Opcode.{Opcode}
 use Rattle.wasm_instructions.specs.declared.table.call.Operands.{Operands}
-use Rattle.wasm_instructions.specs.Instructions.{Instruction, call, IsCounted, HasText}
+use Rattle.wasm_instructions.specs.Instructions.{Instruction, call, IsCounted, HasEncoding}
 use Rattle.wasm_instructions.specs.formats.Instructions.{instruction, instructions_bytes}
 use Rattle.wasm_instructions.specs.Appending.{IsRefusal, IsCallRefusal, IsRefusalOfOne}
 use Rattle.wasm_codec.specs.declared.encode.EncodeError.{EncodeError}
@@ -38,8 +38,8 @@ module _ {Z : Type 0} where
   Writes s op operands r = MatchResult r (GoesOn s (call op operands)) (λ e. e ≡ errors.Memory)
 
   -- the sink goes on with the bytes of this call at its end, where it has one, or tells why not
-  abbrev pub WritesText : InstructionSink Z → Opcode → Operands → Result (InstructionSink Z) EncodeError → Type 0
-  WritesText s op operands r = MatchResult r (λ t. GoesOn s (call op operands) t × HasText operands) (IsRefusal operands)
+  abbrev pub WritesBytes : InstructionSink Z → Opcode → Operands → Result (InstructionSink Z) EncodeError → Type 0
+  WritesBytes s op operands r = MatchResult r (λ t. GoesOn s (call op operands) t × HasEncoding operands) (IsRefusal operands)
 
   -- the sink goes on with the bytes of this call at its end, or tells why not
   abbrev pub AppendsCall : InstructionSink Z → Instruction → Result (InstructionSink Z) EncodeError → Type 0

@@ -8,8 +8,8 @@ ghost use Rattle.std.specs.Borrow.{sem};
 ghost use Rattle.wasm_sink.specs.Sink.{IsUnchangedAtErr, IsSameSink, AppendsCall, AppendsCalls, Chain, written, HasRoom};
 ghost use Rattle.wasm_instructions.specs.Instructions.{HasNoList};
 ghost use Rattle.wasm_instructions.specs.formats.Instructions.{Instructions, instruction, instructions_bytes};
-ghost use Rattle.wasm_instructions.specs.Lengths.{HasNoLongList, IsShortText};
-ghost use Rattle.wasm_codec.specs.Encoding.{IsTextOrLonger};
+ghost use Rattle.wasm_instructions.specs.Lengths.{HasNoLongList, IsShortEncoding};
+ghost use Rattle.wasm_codec.specs.Encoding.{IsShortestOrLonger};
 
 mod aggregates;
 mod atomics;
@@ -53,9 +53,9 @@ impl<'a, A: Allocator> InstructionSink<'a, A> {
         ensures wrote { AppendsCall self.entry call.now result }
         ensures room { HasRoom self.entry → HasNoList call.now.operands → IsOk result }
         // What is written encodes the call.
-        ensures spells { IfOk result (λ _. instruction.Encodes (instruction.bytes call.now) call.now) }
+        ensures encodes { IfOk result (λ _. instruction.Encodes (instruction.bytes call.now) call.now) }
         // A call without a list, or with a list of one type, has from 1 to 20 bytes.
-        ensures length { HasNoLongList call.now.operands → IsShortText (instruction.bytes call.now) }
+        ensures length { HasNoLongList call.now.operands → IsShortEncoding (instruction.bytes call.now) }
     {
         let InstructionSink { bytes } = self;
         append_call(bytes, call)?;
@@ -74,10 +74,10 @@ impl<'a, A: Allocator> InstructionSink<'a, A> {
         ensures one_by_one { (start finish : InstructionSink A) → written start ≡ written self.entry →
             Chain start calls.now finish → IfOk result (λ sink. written sink ≡ written finish) }
         // What is written encodes the calls.
-        ensures spells { IfOk result (λ _. Instructions (instructions_bytes calls.now) calls.now) }
+        ensures encodes { IfOk result (λ _. Instructions (instructions_bytes calls.now) calls.now) }
         // Every other encoding of the calls is longer than what is written.
         ensures shortest { (bytes : List ℕ) → Instructions bytes calls.now →
-            IsTextOrLonger bytes (instructions_bytes calls.now) }
+            IsShortestOrLonger bytes (instructions_bytes calls.now) }
     {
         let InstructionSink { bytes } = self;
         append_calls(bytes, calls)?;

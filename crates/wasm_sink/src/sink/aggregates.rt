@@ -1,4 +1,4 @@
-//! Instructions on structs and arrays (Core 3.0, 5.4, aggregate instructions). Those with descriptors are of the proposal
+//! Instructions on structs and arrays (Core 3.0, Aggregate Instructions). Those with descriptors are of the proposal
 //! on custom descriptors.
 ghost use Rattle.std.specs.Prelude.{IsOk};
 ghost use Rattle.std.specs.Borrow.{sem};

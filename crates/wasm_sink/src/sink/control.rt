@@ -1,9 +1,8 @@
-//! Control instructions (Core 3.0, 5.4, control instructions). `try`, `catch`, `rethrow`, `delegate` and `catch_all` are
+//! Control instructions (Core 3.0, Control Instructions). `try`, `catch`, `rethrow`, `delegate` and `catch_all` are
 //! those that `try_table` took the place of.
 ghost use Rattle.std.specs.Prelude.{IsOk, IfErr};
 ghost use Rattle.std.specs.Borrow.{sem};
 ghost use Rattle.std.specs.Iterator.{size};
-ghost use Rattle.wasm_codec.specs.Iterators.{IsExact};
 ghost use Rattle.wasm_sink.specs.Sink.{IsUnchangedAtErr, IsSameSink, Writes, HasRoom};
 ghost use Rattle.wasm_sink.specs.ListCalls.{WritesItems};
 ghost use Rattle.wasm_instructions.specs.Appending.{IsRefusedList};
@@ -163,7 +162,7 @@ impl<'a, A: Allocator> InstructionSink<'a, A> {
         labels: I,
         default: u32,
     ) -> Result<InstructionSink<'a, A>, EncodeError>
-        requires { IsExact I.can_next I.next_gives I.remaining labels }
+        requires { I.can_next labels }
         ensures* unchanged { sem 𝓛 (IsUnchangedAtErr A.row A.Allocator self.entry result) }
         ensures same { IsSameSink self.entry result }
         ensures wrote { WritesItems I.next_gives self.entry (without_prefix 0x0e) (λ xs. operands.BrTable xs default) labels result }
@@ -272,7 +271,7 @@ impl<'a, A: Allocator> InstructionSink<'a, A> {
         block_type: BlockType,
         clauses: I,
     ) -> Result<InstructionSink<'a, A>, EncodeError>
-        requires { IsExact I.can_next I.next_gives I.remaining clauses }
+        requires { I.can_next clauses }
         ensures* unchanged { sem 𝓛 (IsUnchangedAtErr A.row A.Allocator self.entry result) }
         ensures same { IsSameSink self.entry result }
         ensures wrote { WritesItems I.next_gives self.entry (without_prefix 0x1f) (λ xs. operands.TryTable block_type xs) clauses result }

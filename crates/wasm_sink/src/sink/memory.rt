@@ -1,7 +1,7 @@
-//! Instructions on memories (Core 3.0, 5.4, memory instructions). `memory.discard` is of the proposal on memory control.
+//! Instructions on memories (Core 3.0, Memory Instructions). `memory.discard` is of the proposal on memory control.
 ghost use Rattle.std.specs.Prelude.{◌≤◌, ◌<◌, ◌↔◌, IsOk, IsErrOf};
 ghost use Rattle.std.specs.Borrow.{sem};
-ghost use Rattle.wasm_sink.specs.Sink.{IsUnchangedAtErr, IsSameSink, Writes, WritesText, HasRoom};
+ghost use Rattle.wasm_sink.specs.Sink.{IsUnchangedAtErr, IsSameSink, Writes, WritesBytes, HasRoom};
 ghost use Rattle.wasm_instructions.specs.Instructions.{without_prefix, after_fc};
 ghost use Rattle.wasm_instructions.specs.declared.table.call.Operands.TheVariants as operands;
 
@@ -16,7 +16,7 @@ impl<'a, A: Allocator> InstructionSink<'a, A> {
     pub fn i32_load(self, memarg: MemArg) -> Result<InstructionSink<'a, A>, EncodeError>
         ensures* unchanged { sem 𝓛 (IsUnchangedAtErr A.row A.Allocator self.entry result) }
         ensures same { IsSameSink self.entry result }
-        ensures wrote { WritesText self.entry (without_prefix 0x28) (operands.Mem memarg) result }
+        ensures wrote { WritesBytes self.entry (without_prefix 0x28) (operands.Mem memarg) result }
         ensures alignment { IsErrOf result EncodeError.Alignment ↔ 64 ≤ memarg.align }
         ensures room { HasRoom self.entry → memarg.align < 64 → IsOk result }
     {
@@ -27,7 +27,7 @@ impl<'a, A: Allocator> InstructionSink<'a, A> {
     pub fn i64_load(self, memarg: MemArg) -> Result<InstructionSink<'a, A>, EncodeError>
         ensures* unchanged { sem 𝓛 (IsUnchangedAtErr A.row A.Allocator self.entry result) }
         ensures same { IsSameSink self.entry result }
-        ensures wrote { WritesText self.entry (without_prefix 0x29) (operands.Mem memarg) result }
+        ensures wrote { WritesBytes self.entry (without_prefix 0x29) (operands.Mem memarg) result }
         ensures alignment { IsErrOf result EncodeError.Alignment ↔ 64 ≤ memarg.align }
         ensures room { HasRoom self.entry → memarg.align < 64 → IsOk result }
     {
@@ -38,7 +38,7 @@ impl<'a, A: Allocator> InstructionSink<'a, A> {
     pub fn f32_load(self, memarg: MemArg) -> Result<InstructionSink<'a, A>, EncodeError>
         ensures* unchanged { sem 𝓛 (IsUnchangedAtErr A.row A.Allocator self.entry result) }
         ensures same { IsSameSink self.entry result }
-        ensures wrote { WritesText self.entry (without_prefix 0x2a) (operands.Mem memarg) result }
+        ensures wrote { WritesBytes self.entry (without_prefix 0x2a) (operands.Mem memarg) result }
         ensures alignment { IsErrOf result EncodeError.Alignment ↔ 64 ≤ memarg.align }
         ensures room { HasRoom self.entry → memarg.align < 64 → IsOk result }
     {
@@ -49,7 +49,7 @@ impl<'a, A: Allocator> InstructionSink<'a, A> {
     pub fn f64_load(self, memarg: MemArg) -> Result<InstructionSink<'a, A>, EncodeError>
         ensures* unchanged { sem 𝓛 (IsUnchangedAtErr A.row A.Allocator self.entry result) }
         ensures same { IsSameSink self.entry result }
-        ensures wrote { WritesText self.entry (without_prefix 0x2b) (operands.Mem memarg) result }
+        ensures wrote { WritesBytes self.entry (without_prefix 0x2b) (operands.Mem memarg) result }
         ensures alignment { IsErrOf result EncodeError.Alignment ↔ 64 ≤ memarg.align }
         ensures room { HasRoom self.entry → memarg.align < 64 → IsOk result }
     {
@@ -60,7 +60,7 @@ impl<'a, A: Allocator> InstructionSink<'a, A> {
     pub fn i32_load8_s(self, memarg: MemArg) -> Result<InstructionSink<'a, A>, EncodeError>
         ensures* unchanged { sem 𝓛 (IsUnchangedAtErr A.row A.Allocator self.entry result) }
         ensures same { IsSameSink self.entry result }
-        ensures wrote { WritesText self.entry (without_prefix 0x2c) (operands.Mem memarg) result }
+        ensures wrote { WritesBytes self.entry (without_prefix 0x2c) (operands.Mem memarg) result }
         ensures alignment { IsErrOf result EncodeError.Alignment ↔ 64 ≤ memarg.align }
         ensures room { HasRoom self.entry → memarg.align < 64 → IsOk result }
     {
@@ -71,7 +71,7 @@ impl<'a, A: Allocator> InstructionSink<'a, A> {
     pub fn i32_load8_u(self, memarg: MemArg) -> Result<InstructionSink<'a, A>, EncodeError>
         ensures* unchanged { sem 𝓛 (IsUnchangedAtErr A.row A.Allocator self.entry result) }
         ensures same { IsSameSink self.entry result }
-        ensures wrote { WritesText self.entry (without_prefix 0x2d) (operands.Mem memarg) result }
+        ensures wrote { WritesBytes self.entry (without_prefix 0x2d) (operands.Mem memarg) result }
         ensures alignment { IsErrOf result EncodeError.Alignment ↔ 64 ≤ memarg.align }
         ensures room { HasRoom self.entry → memarg.align < 64 → IsOk result }
     {
@@ -82,7 +82,7 @@ impl<'a, A: Allocator> InstructionSink<'a, A> {
     pub fn i32_load16_s(self, memarg: MemArg) -> Result<InstructionSink<'a, A>, EncodeError>
         ensures* unchanged { sem 𝓛 (IsUnchangedAtErr A.row A.Allocator self.entry result) }
         ensures same { IsSameSink self.entry result }
-        ensures wrote { WritesText self.entry (without_prefix 0x2e) (operands.Mem memarg) result }
+        ensures wrote { WritesBytes self.entry (without_prefix 0x2e) (operands.Mem memarg) result }
         ensures alignment { IsErrOf result EncodeError.Alignment ↔ 64 ≤ memarg.align }
         ensures room { HasRoom self.entry → memarg.align < 64 → IsOk result }
     {
@@ -93,7 +93,7 @@ impl<'a, A: Allocator> InstructionSink<'a, A> {
     pub fn i32_load16_u(self, memarg: MemArg) -> Result<InstructionSink<'a, A>, EncodeError>
         ensures* unchanged { sem 𝓛 (IsUnchangedAtErr A.row A.Allocator self.entry result) }
         ensures same { IsSameSink self.entry result }
-        ensures wrote { WritesText self.entry (without_prefix 0x2f) (operands.Mem memarg) result }
+        ensures wrote { WritesBytes self.entry (without_prefix 0x2f) (operands.Mem memarg) result }
         ensures alignment { IsErrOf result EncodeError.Alignment ↔ 64 ≤ memarg.align }
         ensures room { HasRoom self.entry → memarg.align < 64 → IsOk result }
     {
@@ -104,7 +104,7 @@ impl<'a, A: Allocator> InstructionSink<'a, A> {
     pub fn i64_load8_s(self, memarg: MemArg) -> Result<InstructionSink<'a, A>, EncodeError>
         ensures* unchanged { sem 𝓛 (IsUnchangedAtErr A.row A.Allocator self.entry result) }
         ensures same { IsSameSink self.entry result }
-        ensures wrote { WritesText self.entry (without_prefix 0x30) (operands.Mem memarg) result }
+        ensures wrote { WritesBytes self.entry (without_prefix 0x30) (operands.Mem memarg) result }
         ensures alignment { IsErrOf result EncodeError.Alignment ↔ 64 ≤ memarg.align }
         ensures room { HasRoom self.entry → memarg.align < 64 → IsOk result }
     {
@@ -115,7 +115,7 @@ impl<'a, A: Allocator> InstructionSink<'a, A> {
     pub fn i64_load8_u(self, memarg: MemArg) -> Result<InstructionSink<'a, A>, EncodeError>
         ensures* unchanged { sem 𝓛 (IsUnchangedAtErr A.row A.Allocator self.entry result) }
         ensures same { IsSameSink self.entry result }
-        ensures wrote { WritesText self.entry (without_prefix 0x31) (operands.Mem memarg) result }
+        ensures wrote { WritesBytes self.entry (without_prefix 0x31) (operands.Mem memarg) result }
         ensures alignment { IsErrOf result EncodeError.Alignment ↔ 64 ≤ memarg.align }
         ensures room { HasRoom self.entry → memarg.align < 64 → IsOk result }
     {
@@ -126,7 +126,7 @@ impl<'a, A: Allocator> InstructionSink<'a, A> {
     pub fn i64_load16_s(self, memarg: MemArg) -> Result<InstructionSink<'a, A>, EncodeError>
         ensures* unchanged { sem 𝓛 (IsUnchangedAtErr A.row A.Allocator self.entry result) }
         ensures same { IsSameSink self.entry result }
-        ensures wrote { WritesText self.entry (without_prefix 0x32) (operands.Mem memarg) result }
+        ensures wrote { WritesBytes self.entry (without_prefix 0x32) (operands.Mem memarg) result }
         ensures alignment { IsErrOf result EncodeError.Alignment ↔ 64 ≤ memarg.align }
         ensures room { HasRoom self.entry → memarg.align < 64 → IsOk result }
     {
@@ -137,7 +137,7 @@ impl<'a, A: Allocator> InstructionSink<'a, A> {
     pub fn i64_load16_u(self, memarg: MemArg) -> Result<InstructionSink<'a, A>, EncodeError>
         ensures* unchanged { sem 𝓛 (IsUnchangedAtErr A.row A.Allocator self.entry result) }
         ensures same { IsSameSink self.entry result }
-        ensures wrote { WritesText self.entry (without_prefix 0x33) (operands.Mem memarg) result }
+        ensures wrote { WritesBytes self.entry (without_prefix 0x33) (operands.Mem memarg) result }
         ensures alignment { IsErrOf result EncodeError.Alignment ↔ 64 ≤ memarg.align }
         ensures room { HasRoom self.entry → memarg.align < 64 → IsOk result }
     {
@@ -148,7 +148,7 @@ impl<'a, A: Allocator> InstructionSink<'a, A> {
     pub fn i64_load32_s(self, memarg: MemArg) -> Result<InstructionSink<'a, A>, EncodeError>
         ensures* unchanged { sem 𝓛 (IsUnchangedAtErr A.row A.Allocator self.entry result) }
         ensures same { IsSameSink self.entry result }
-        ensures wrote { WritesText self.entry (without_prefix 0x34) (operands.Mem memarg) result }
+        ensures wrote { WritesBytes self.entry (without_prefix 0x34) (operands.Mem memarg) result }
         ensures alignment { IsErrOf result EncodeError.Alignment ↔ 64 ≤ memarg.align }
         ensures room { HasRoom self.entry → memarg.align < 64 → IsOk result }
     {
@@ -159,7 +159,7 @@ impl<'a, A: Allocator> InstructionSink<'a, A> {
     pub fn i64_load32_u(self, memarg: MemArg) -> Result<InstructionSink<'a, A>, EncodeError>
         ensures* unchanged { sem 𝓛 (IsUnchangedAtErr A.row A.Allocator self.entry result) }
         ensures same { IsSameSink self.entry result }
-        ensures wrote { WritesText self.entry (without_prefix 0x35) (operands.Mem memarg) result }
+        ensures wrote { WritesBytes self.entry (without_prefix 0x35) (operands.Mem memarg) result }
         ensures alignment { IsErrOf result EncodeError.Alignment ↔ 64 ≤ memarg.align }
         ensures room { HasRoom self.entry → memarg.align < 64 → IsOk result }
     {
@@ -170,7 +170,7 @@ impl<'a, A: Allocator> InstructionSink<'a, A> {
     pub fn i32_store(self, memarg: MemArg) -> Result<InstructionSink<'a, A>, EncodeError>
         ensures* unchanged { sem 𝓛 (IsUnchangedAtErr A.row A.Allocator self.entry result) }
         ensures same { IsSameSink self.entry result }
-        ensures wrote { WritesText self.entry (without_prefix 0x36) (operands.Mem memarg) result }
+        ensures wrote { WritesBytes self.entry (without_prefix 0x36) (operands.Mem memarg) result }
         ensures alignment { IsErrOf result EncodeError.Alignment ↔ 64 ≤ memarg.align }
         ensures room { HasRoom self.entry → memarg.align < 64 → IsOk result }
     {
@@ -181,7 +181,7 @@ impl<'a, A: Allocator> InstructionSink<'a, A> {
     pub fn i64_store(self, memarg: MemArg) -> Result<InstructionSink<'a, A>, EncodeError>
         ensures* unchanged { sem 𝓛 (IsUnchangedAtErr A.row A.Allocator self.entry result) }
         ensures same { IsSameSink self.entry result }
-        ensures wrote { WritesText self.entry (without_prefix 0x37) (operands.Mem memarg) result }
+        ensures wrote { WritesBytes self.entry (without_prefix 0x37) (operands.Mem memarg) result }
         ensures alignment { IsErrOf result EncodeError.Alignment ↔ 64 ≤ memarg.align }
         ensures room { HasRoom self.entry → memarg.align < 64 → IsOk result }
     {
@@ -192,7 +192,7 @@ impl<'a, A: Allocator> InstructionSink<'a, A> {
     pub fn f32_store(self, memarg: MemArg) -> Result<InstructionSink<'a, A>, EncodeError>
         ensures* unchanged { sem 𝓛 (IsUnchangedAtErr A.row A.Allocator self.entry result) }
         ensures same { IsSameSink self.entry result }
-        ensures wrote { WritesText self.entry (without_prefix 0x38) (operands.Mem memarg) result }
+        ensures wrote { WritesBytes self.entry (without_prefix 0x38) (operands.Mem memarg) result }
         ensures alignment { IsErrOf result EncodeError.Alignment ↔ 64 ≤ memarg.align }
         ensures room { HasRoom self.entry → memarg.align < 64 → IsOk result }
     {
@@ -203,7 +203,7 @@ impl<'a, A: Allocator> InstructionSink<'a, A> {
     pub fn f64_store(self, memarg: MemArg) -> Result<InstructionSink<'a, A>, EncodeError>
         ensures* unchanged { sem 𝓛 (IsUnchangedAtErr A.row A.Allocator self.entry result) }
         ensures same { IsSameSink self.entry result }
-        ensures wrote { WritesText self.entry (without_prefix 0x39) (operands.Mem memarg) result }
+        ensures wrote { WritesBytes self.entry (without_prefix 0x39) (operands.Mem memarg) result }
         ensures alignment { IsErrOf result EncodeError.Alignment ↔ 64 ≤ memarg.align }
         ensures room { HasRoom self.entry → memarg.align < 64 → IsOk result }
     {
@@ -214,7 +214,7 @@ impl<'a, A: Allocator> InstructionSink<'a, A> {
     pub fn i32_store8(self, memarg: MemArg) -> Result<InstructionSink<'a, A>, EncodeError>
         ensures* unchanged { sem 𝓛 (IsUnchangedAtErr A.row A.Allocator self.entry result) }
         ensures same { IsSameSink self.entry result }
-        ensures wrote { WritesText self.entry (without_prefix 0x3a) (operands.Mem memarg) result }
+        ensures wrote { WritesBytes self.entry (without_prefix 0x3a) (operands.Mem memarg) result }
         ensures alignment { IsErrOf result EncodeError.Alignment ↔ 64 ≤ memarg.align }
         ensures room { HasRoom self.entry → memarg.align < 64 → IsOk result }
     {
@@ -225,7 +225,7 @@ impl<'a, A: Allocator> InstructionSink<'a, A> {
     pub fn i32_store16(self, memarg: MemArg) -> Result<InstructionSink<'a, A>, EncodeError>
         ensures* unchanged { sem 𝓛 (IsUnchangedAtErr A.row A.Allocator self.entry result) }
         ensures same { IsSameSink self.entry result }
-        ensures wrote { WritesText self.entry (without_prefix 0x3b) (operands.Mem memarg) result }
+        ensures wrote { WritesBytes self.entry (without_prefix 0x3b) (operands.Mem memarg) result }
         ensures alignment { IsErrOf result EncodeError.Alignment ↔ 64 ≤ memarg.align }
         ensures room { HasRoom self.entry → memarg.align < 64 → IsOk result }
     {
@@ -236,7 +236,7 @@ impl<'a, A: Allocator> InstructionSink<'a, A> {
     pub fn i64_store8(self, memarg: MemArg) -> Result<InstructionSink<'a, A>, EncodeError>
         ensures* unchanged { sem 𝓛 (IsUnchangedAtErr A.row A.Allocator self.entry result) }
         ensures same { IsSameSink self.entry result }
-        ensures wrote { WritesText self.entry (without_prefix 0x3c) (operands.Mem memarg) result }
+        ensures wrote { WritesBytes self.entry (without_prefix 0x3c) (operands.Mem memarg) result }
         ensures alignment { IsErrOf result EncodeError.Alignment ↔ 64 ≤ memarg.align }
         ensures room { HasRoom self.entry → memarg.align < 64 → IsOk result }
     {
@@ -247,7 +247,7 @@ impl<'a, A: Allocator> InstructionSink<'a, A> {
     pub fn i64_store16(self, memarg: MemArg) -> Result<InstructionSink<'a, A>, EncodeError>
         ensures* unchanged { sem 𝓛 (IsUnchangedAtErr A.row A.Allocator self.entry result) }
         ensures same { IsSameSink self.entry result }
-        ensures wrote { WritesText self.entry (without_prefix 0x3d) (operands.Mem memarg) result }
+        ensures wrote { WritesBytes self.entry (without_prefix 0x3d) (operands.Mem memarg) result }
         ensures alignment { IsErrOf result EncodeError.Alignment ↔ 64 ≤ memarg.align }
         ensures room { HasRoom self.entry → memarg.align < 64 → IsOk result }
     {
@@ -258,7 +258,7 @@ impl<'a, A: Allocator> InstructionSink<'a, A> {
     pub fn i64_store32(self, memarg: MemArg) -> Result<InstructionSink<'a, A>, EncodeError>
         ensures* unchanged { sem 𝓛 (IsUnchangedAtErr A.row A.Allocator self.entry result) }
         ensures same { IsSameSink self.entry result }
-        ensures wrote { WritesText self.entry (without_prefix 0x3e) (operands.Mem memarg) result }
+        ensures wrote { WritesBytes self.entry (without_prefix 0x3e) (operands.Mem memarg) result }
         ensures alignment { IsErrOf result EncodeError.Alignment ↔ 64 ≤ memarg.align }
         ensures room { HasRoom self.entry → memarg.align < 64 → IsOk result }
     {

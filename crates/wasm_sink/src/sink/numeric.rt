@@ -1,4 +1,4 @@
-//! Numeric instructions (Core 3.0, 5.4, numeric instructions).
+//! Numeric instructions (Core 3.0, Numeric Instructions).
 
 mod conversions;
 mod floats;

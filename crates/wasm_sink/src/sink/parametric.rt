@@ -1,4 +1,4 @@
-//! `drop` and `select` (Core 3.0, 5.4, parametric instructions).
+//! `drop` and `select` (Core 3.0, Parametric Instructions).
 ghost use Rattle.std.specs.Prelude.{◌∷◌, [], length, IsOk};
 ghost use Rattle.std.specs.Borrow.{sem};
 ghost use Rattle.wasm_sink.specs.Sink.{IsUnchangedAtErr, IsSameSink, Writes, HasRoom};

@@ -2,7 +2,6 @@
 ghost use Rattle.std.specs.Prelude.{IsOk, IfErr};
 ghost use Rattle.std.specs.Borrow.{sem};
 ghost use Rattle.std.specs.Iterator.{size};
-ghost use Rattle.wasm_codec.specs.Iterators.{IsExact};
 ghost use Rattle.wasm_sink.specs.Sink.{IsUnchangedAtErr, IsSameSink, Writes, HasRoom};
 ghost use Rattle.wasm_sink.specs.ListCalls.{WritesItems};
 ghost use Rattle.wasm_instructions.specs.Appending.{IsRefusedList};
@@ -56,7 +55,7 @@ impl<'a, A: Allocator> InstructionSink<'a, A> {
         ty: u32,
         handlers: I,
     ) -> Result<InstructionSink<'a, A>, EncodeError>
-        requires { IsExact I.can_next I.next_gives I.remaining handlers }
+        requires { I.can_next handlers }
         ensures* unchanged { sem 𝓛 (IsUnchangedAtErr A.row A.Allocator self.entry result) }
         ensures same { IsSameSink self.entry result }
         ensures wrote { WritesItems I.next_gives self.entry (without_prefix 0xe3) (λ xs. operands.Resume ty xs) handlers result }
@@ -72,7 +71,7 @@ impl<'a, A: Allocator> InstructionSink<'a, A> {
         tag: u32,
         handlers: I,
     ) -> Result<InstructionSink<'a, A>, EncodeError>
-        requires { IsExact I.can_next I.next_gives I.remaining handlers }
+        requires { I.can_next handlers }
         ensures* unchanged { sem 𝓛 (IsUnchangedAtErr A.row A.Allocator self.entry result) }
         ensures same { IsSameSink self.entry result }
         ensures wrote { WritesItems I.next_gives self.entry (without_prefix 0xe4) (λ xs. operands.ResumeThrow ty tag xs) handlers result }
@@ -87,7 +86,7 @@ impl<'a, A: Allocator> InstructionSink<'a, A> {
         ty: u32,
         handlers: I,
     ) -> Result<InstructionSink<'a, A>, EncodeError>
-        requires { IsExact I.can_next I.next_gives I.remaining handlers }
+        requires { I.can_next handlers }
         ensures* unchanged { sem 𝓛 (IsUnchangedAtErr A.row A.Allocator self.entry result) }
         ensures same { IsSameSink self.entry result }
         ensures wrote { WritesItems I.next_gives self.entry (without_prefix 0xe5) (λ xs. operands.Resume ty xs) handlers result }

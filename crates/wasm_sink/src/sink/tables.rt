@@ -1,4 +1,4 @@
-//! Instructions on tables (Core 3.0, 5.4, table instructions).
+//! Instructions on tables (Core 3.0, Table Instructions).
 ghost use Rattle.std.specs.Prelude.{IsOk};
 ghost use Rattle.std.specs.Borrow.{sem};
 ghost use Rattle.wasm_sink.specs.Sink.{IsUnchangedAtErr, IsSameSink, Writes, HasRoom};

@@ -1,4 +1,4 @@
-//! Instructions on locals and globals (Core 3.0, 5.4, variable instructions).
+//! Instructions on locals and globals (Core 3.0, Variable Instructions).
 ghost use Rattle.std.specs.Prelude.{IsOk};
 ghost use Rattle.std.specs.Borrow.{sem};
 ghost use Rattle.wasm_sink.specs.Sink.{IsUnchangedAtErr, IsSameSink, Writes, HasRoom};

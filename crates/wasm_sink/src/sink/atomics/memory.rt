@@ -1,7 +1,7 @@
 //! Waiting, notifying, fences, atomic loads and stores: of the proposal on threads.
 ghost use Rattle.std.specs.Prelude.{◌≤◌, ◌<◌, ◌↔◌, IsOk, IsErrOf};
 ghost use Rattle.std.specs.Borrow.{sem};
-ghost use Rattle.wasm_sink.specs.Sink.{IsUnchangedAtErr, IsSameSink, Writes, WritesText, HasRoom};
+ghost use Rattle.wasm_sink.specs.Sink.{IsUnchangedAtErr, IsSameSink, Writes, WritesBytes, HasRoom};
 ghost use Rattle.wasm_instructions.specs.Instructions.{after_fe};
 ghost use Rattle.wasm_instructions.specs.declared.table.call.Operands.TheVariants as operands;
 
@@ -16,7 +16,7 @@ impl<'a, A: Allocator> InstructionSink<'a, A> {
     pub fn memory_atomic_notify(self, memarg: MemArg) -> Result<InstructionSink<'a, A>, EncodeError>
         ensures* unchanged { sem 𝓛 (IsUnchangedAtErr A.row A.Allocator self.entry result) }
         ensures same { IsSameSink self.entry result }
-        ensures wrote { WritesText self.entry (after_fe 0x00) (operands.Mem memarg) result }
+        ensures wrote { WritesBytes self.entry (after_fe 0x00) (operands.Mem memarg) result }
         ensures alignment { IsErrOf result EncodeError.Alignment ↔ 64 ≤ memarg.align }
         ensures room { HasRoom self.entry → memarg.align < 64 → IsOk result }
     {
@@ -27,7 +27,7 @@ impl<'a, A: Allocator> InstructionSink<'a, A> {
     pub fn memory_atomic_wait32(self, memarg: MemArg) -> Result<InstructionSink<'a, A>, EncodeError>
         ensures* unchanged { sem 𝓛 (IsUnchangedAtErr A.row A.Allocator self.entry result) }
         ensures same { IsSameSink self.entry result }
-        ensures wrote { WritesText self.entry (after_fe 0x01) (operands.Mem memarg) result }
+        ensures wrote { WritesBytes self.entry (after_fe 0x01) (operands.Mem memarg) result }
         ensures alignment { IsErrOf result EncodeError.Alignment ↔ 64 ≤ memarg.align }
         ensures room { HasRoom self.entry → memarg.align < 64 → IsOk result }
     {
@@ -38,7 +38,7 @@ impl<'a, A: Allocator> InstructionSink<'a, A> {
     pub fn memory_atomic_wait64(self, memarg: MemArg) -> Result<InstructionSink<'a, A>, EncodeError>
         ensures* unchanged { sem 𝓛 (IsUnchangedAtErr A.row A.Allocator self.entry result) }
         ensures same { IsSameSink self.entry result }
-        ensures wrote { WritesText self.entry (after_fe 0x02) (operands.Mem memarg) result }
+        ensures wrote { WritesBytes self.entry (after_fe 0x02) (operands.Mem memarg) result }
         ensures alignment { IsErrOf result EncodeError.Alignment ↔ 64 ≤ memarg.align }
         ensures room { HasRoom self.entry → memarg.align < 64 → IsOk result }
     {
@@ -69,7 +69,7 @@ impl<'a, A: Allocator> InstructionSink<'a, A> {
     pub fn i32_atomic_load(self, memarg: MemArg) -> Result<InstructionSink<'a, A>, EncodeError>
         ensures* unchanged { sem 𝓛 (IsUnchangedAtErr A.row A.Allocator self.entry result) }
         ensures same { IsSameSink self.entry result }
-        ensures wrote { WritesText self.entry (after_fe 0x10) (operands.Mem memarg) result }
+        ensures wrote { WritesBytes self.entry (after_fe 0x10) (operands.Mem memarg) result }
         ensures alignment { IsErrOf result EncodeError.Alignment ↔ 64 ≤ memarg.align }
         ensures room { HasRoom self.entry → memarg.align < 64 → IsOk result }
     {
@@ -80,7 +80,7 @@ impl<'a, A: Allocator> InstructionSink<'a, A> {
     pub fn i64_atomic_load(self, memarg: MemArg) -> Result<InstructionSink<'a, A>, EncodeError>
         ensures* unchanged { sem 𝓛 (IsUnchangedAtErr A.row A.Allocator self.entry result) }
         ensures same { IsSameSink self.entry result }
-        ensures wrote { WritesText self.entry (after_fe 0x11) (operands.Mem memarg) result }
+        ensures wrote { WritesBytes self.entry (after_fe 0x11) (operands.Mem memarg) result }
         ensures alignment { IsErrOf result EncodeError.Alignment ↔ 64 ≤ memarg.align }
         ensures room { HasRoom self.entry → memarg.align < 64 → IsOk result }
     {
@@ -91,7 +91,7 @@ impl<'a, A: Allocator> InstructionSink<'a, A> {
     pub fn i32_atomic_load8_u(self, memarg: MemArg) -> Result<InstructionSink<'a, A>, EncodeError>
         ensures* unchanged { sem 𝓛 (IsUnchangedAtErr A.row A.Allocator self.entry result) }
         ensures same { IsSameSink self.entry result }
-        ensures wrote { WritesText self.entry (after_fe 0x12) (operands.Mem memarg) result }
+        ensures wrote { WritesBytes self.entry (after_fe 0x12) (operands.Mem memarg) result }
         ensures alignment { IsErrOf result EncodeError.Alignment ↔ 64 ≤ memarg.align }
         ensures room { HasRoom self.entry → memarg.align < 64 → IsOk result }
     {
@@ -102,7 +102,7 @@ impl<'a, A: Allocator> InstructionSink<'a, A> {
     pub fn i32_atomic_load16_u(self, memarg: MemArg) -> Result<InstructionSink<'a, A>, EncodeError>
         ensures* unchanged { sem 𝓛 (IsUnchangedAtErr A.row A.Allocator self.entry result) }
         ensures same { IsSameSink self.entry result }
-        ensures wrote { WritesText self.entry (after_fe 0x13) (operands.Mem memarg) result }
+        ensures wrote { WritesBytes self.entry (after_fe 0x13) (operands.Mem memarg) result }
         ensures alignment { IsErrOf result EncodeError.Alignment ↔ 64 ≤ memarg.align }
         ensures room { HasRoom self.entry → memarg.align < 64 → IsOk result }
     {
@@ -113,7 +113,7 @@ impl<'a, A: Allocator> InstructionSink<'a, A> {
     pub fn i64_atomic_load8_u(self, memarg: MemArg) -> Result<InstructionSink<'a, A>, EncodeError>
         ensures* unchanged { sem 𝓛 (IsUnchangedAtErr A.row A.Allocator self.entry result) }
         ensures same { IsSameSink self.entry result }
-        ensures wrote { WritesText self.entry (after_fe 0x14) (operands.Mem memarg) result }
+        ensures wrote { WritesBytes self.entry (after_fe 0x14) (operands.Mem memarg) result }
         ensures alignment { IsErrOf result EncodeError.Alignment ↔ 64 ≤ memarg.align }
         ensures room { HasRoom self.entry → memarg.align < 64 → IsOk result }
     {
@@ -124,7 +124,7 @@ impl<'a, A: Allocator> InstructionSink<'a, A> {
     pub fn i64_atomic_load16_u(self, memarg: MemArg) -> Result<InstructionSink<'a, A>, EncodeError>
         ensures* unchanged { sem 𝓛 (IsUnchangedAtErr A.row A.Allocator self.entry result) }
         ensures same { IsSameSink self.entry result }
-        ensures wrote { WritesText self.entry (after_fe 0x15) (operands.Mem memarg) result }
+        ensures wrote { WritesBytes self.entry (after_fe 0x15) (operands.Mem memarg) result }
         ensures alignment { IsErrOf result EncodeError.Alignment ↔ 64 ≤ memarg.align }
         ensures room { HasRoom self.entry → memarg.align < 64 → IsOk result }
     {
@@ -135,7 +135,7 @@ impl<'a, A: Allocator> InstructionSink<'a, A> {
     pub fn i64_atomic_load32_u(self, memarg: MemArg) -> Result<InstructionSink<'a, A>, EncodeError>
         ensures* unchanged { sem 𝓛 (IsUnchangedAtErr A.row A.Allocator self.entry result) }
         ensures same { IsSameSink self.entry result }
-        ensures wrote { WritesText self.entry (after_fe 0x16) (operands.Mem memarg) result }
+        ensures wrote { WritesBytes self.entry (after_fe 0x16) (operands.Mem memarg) result }
         ensures alignment { IsErrOf result EncodeError.Alignment ↔ 64 ≤ memarg.align }
         ensures room { HasRoom self.entry → memarg.align < 64 → IsOk result }
     {
@@ -146,7 +146,7 @@ impl<'a, A: Allocator> InstructionSink<'a, A> {
     pub fn i32_atomic_store(self, memarg: MemArg) -> Result<InstructionSink<'a, A>, EncodeError>
         ensures* unchanged { sem 𝓛 (IsUnchangedAtErr A.row A.Allocator self.entry result) }
         ensures same { IsSameSink self.entry result }
-        ensures wrote { WritesText self.entry (after_fe 0x17) (operands.Mem memarg) result }
+        ensures wrote { WritesBytes self.entry (after_fe 0x17) (operands.Mem memarg) result }
         ensures alignment { IsErrOf result EncodeError.Alignment ↔ 64 ≤ memarg.align }
         ensures room { HasRoom self.entry → memarg.align < 64 → IsOk result }
     {
@@ -157,7 +157,7 @@ impl<'a, A: Allocator> InstructionSink<'a, A> {
     pub fn i64_atomic_store(self, memarg: MemArg) -> Result<InstructionSink<'a, A>, EncodeError>
         ensures* unchanged { sem 𝓛 (IsUnchangedAtErr A.row A.Allocator self.entry result) }
         ensures same { IsSameSink self.entry result }
-        ensures wrote { WritesText self.entry (after_fe 0x18) (operands.Mem memarg) result }
+        ensures wrote { WritesBytes self.entry (after_fe 0x18) (operands.Mem memarg) result }
         ensures alignment { IsErrOf result EncodeError.Alignment ↔ 64 ≤ memarg.align }
         ensures room { HasRoom self.entry → memarg.align < 64 → IsOk result }
     {
@@ -168,7 +168,7 @@ impl<'a, A: Allocator> InstructionSink<'a, A> {
     pub fn i32_atomic_store8(self, memarg: MemArg) -> Result<InstructionSink<'a, A>, EncodeError>
         ensures* unchanged { sem 𝓛 (IsUnchangedAtErr A.row A.Allocator self.entry result) }
         ensures same { IsSameSink self.entry result }
-        ensures wrote { WritesText self.entry (after_fe 0x19) (operands.Mem memarg) result }
+        ensures wrote { WritesBytes self.entry (after_fe 0x19) (operands.Mem memarg) result }
         ensures alignment { IsErrOf result EncodeError.Alignment ↔ 64 ≤ memarg.align }
         ensures room { HasRoom self.entry → memarg.align < 64 → IsOk result }
     {
@@ -179,7 +179,7 @@ impl<'a, A: Allocator> InstructionSink<'a, A> {
     pub fn i32_atomic_store16(self, memarg: MemArg) -> Result<InstructionSink<'a, A>, EncodeError>
         ensures* unchanged { sem 𝓛 (IsUnchangedAtErr A.row A.Allocator self.entry result) }
         ensures same { IsSameSink self.entry result }
-        ensures wrote { WritesText self.entry (after_fe 0x1a) (operands.Mem memarg) result }
+        ensures wrote { WritesBytes self.entry (after_fe 0x1a) (operands.Mem memarg) result }
         ensures alignment { IsErrOf result EncodeError.Alignment ↔ 64 ≤ memarg.align }
         ensures room { HasRoom self.entry → memarg.align < 64 → IsOk result }
     {
@@ -190,7 +190,7 @@ impl<'a, A: Allocator> InstructionSink<'a, A> {
     pub fn i64_atomic_store8(self, memarg: MemArg) -> Result<InstructionSink<'a, A>, EncodeError>
         ensures* unchanged { sem 𝓛 (IsUnchangedAtErr A.row A.Allocator self.entry result) }
         ensures same { IsSameSink self.entry result }
-        ensures wrote { WritesText self.entry (after_fe 0x1b) (operands.Mem memarg) result }
+        ensures wrote { WritesBytes self.entry (after_fe 0x1b) (operands.Mem memarg) result }
         ensures alignment { IsErrOf result EncodeError.Alignment ↔ 64 ≤ memarg.align }
         ensures room { HasRoom self.entry → memarg.align < 64 → IsOk result }
     {
@@ -201,7 +201,7 @@ impl<'a, A: Allocator> InstructionSink<'a, A> {
     pub fn i64_atomic_store16(self, memarg: MemArg) -> Result<InstructionSink<'a, A>, EncodeError>
         ensures* unchanged { sem 𝓛 (IsUnchangedAtErr A.row A.Allocator self.entry result) }
         ensures same { IsSameSink self.entry result }
-        ensures wrote { WritesText self.entry (after_fe 0x1c) (operands.Mem memarg) result }
+        ensures wrote { WritesBytes self.entry (after_fe 0x1c) (operands.Mem memarg) result }
         ensures alignment { IsErrOf result EncodeError.Alignment ↔ 64 ≤ memarg.align }
         ensures room { HasRoom self.entry → memarg.align < 64 → IsOk result }
     {
@@ -212,7 +212,7 @@ impl<'a, A: Allocator> InstructionSink<'a, A> {
     pub fn i64_atomic_store32(self, memarg: MemArg) -> Result<InstructionSink<'a, A>, EncodeError>
         ensures* unchanged { sem 𝓛 (IsUnchangedAtErr A.row A.Allocator self.entry result) }
         ensures same { IsSameSink self.entry result }
-        ensures wrote { WritesText self.entry (after_fe 0x1d) (operands.Mem memarg) result }
+        ensures wrote { WritesBytes self.entry (after_fe 0x1d) (operands.Mem memarg) result }
         ensures alignment { IsErrOf result EncodeError.Alignment ↔ 64 ≤ memarg.align }
         ensures room { HasRoom self.entry → memarg.align < 64 → IsOk result }
     {

@@ -5,7 +5,6 @@ ghost use Rattle.wasm_sink.specs.Sink.{IsUnchangedAtErr, IsSameSink};
 ghost use Rattle.wasm_instructions.specs.Instructions.{IsShort, without_prefix};
 ghost use Rattle.wasm_instructions.specs.declared.table.call.Operands.TheVariants as operands;
 ghost use Rattle.std.specs.Iterator.{size};
-ghost use Rattle.wasm_codec.specs.Iterators.{IsExact};
 ghost use Rattle.wasm_sink.specs.ListCalls.{WritesItems, WritesList};
 ghost use Rattle.wasm_instructions.specs.Appending.{IsRefusedList};
 
@@ -45,7 +44,7 @@ impl<'a, A: Allocator> InstructionSink<'a, A> {
         default: u32,
     ) -> Result<InstructionSink<'a, A>, EncodeError>
         requires short { number < 0xfb }
-        requires exact { IsExact I.can_next I.next_gives I.remaining labels }
+        requires can { I.can_next labels }
         ensures* unchanged { sem 𝓛 (IsUnchangedAtErr A.row A.Allocator self.entry result) }
         ensures same { IsSameSink self.entry result }
         ensures wrote { WritesItems I.next_gives self.entry (without_prefix number) (λ xs. operands.BrTable xs default) labels result }
@@ -65,7 +64,7 @@ impl<'a, A: Allocator> InstructionSink<'a, A> {
         clauses: I,
     ) -> Result<InstructionSink<'a, A>, EncodeError>
         requires short { number < 0xfb }
-        requires exact { IsExact I.can_next I.next_gives I.remaining clauses }
+        requires can { I.can_next clauses }
         ensures* unchanged { sem 𝓛 (IsUnchangedAtErr A.row A.Allocator self.entry result) }
         ensures same { IsSameSink self.entry result }
         ensures wrote { WritesItems I.next_gives self.entry (without_prefix number) (λ xs. operands.TryTable block_type xs) clauses result }
@@ -85,7 +84,7 @@ impl<'a, A: Allocator> InstructionSink<'a, A> {
         handlers: I,
     ) -> Result<InstructionSink<'a, A>, EncodeError>
         requires short { number < 0xfb }
-        requires exact { IsExact I.can_next I.next_gives I.remaining handlers }
+        requires can { I.can_next handlers }
         ensures* unchanged { sem 𝓛 (IsUnchangedAtErr A.row A.Allocator self.entry result) }
         ensures same { IsSameSink self.entry result }
         ensures wrote { WritesItems I.next_gives self.entry (without_prefix number) (λ xs. operands.Resume index xs) handlers result }
@@ -106,7 +105,7 @@ impl<'a, A: Allocator> InstructionSink<'a, A> {
         handlers: I,
     ) -> Result<InstructionSink<'a, A>, EncodeError>
         requires short { number < 0xfb }
-        requires exact { IsExact I.can_next I.next_gives I.remaining handlers }
+        requires can { I.can_next handlers }
         ensures* unchanged { sem 𝓛 (IsUnchangedAtErr A.row A.Allocator self.entry result) }
         ensures same { IsSameSink self.entry result }
         ensures wrote { WritesItems I.next_gives self.entry (without_prefix number) (λ xs. operands.ResumeThrow first second xs) handlers result }

@@ -1,7 +1,7 @@
 //! Instructions with memory arguments. An alignment of 64 or more is refused before anything grows.
 ghost use Rattle.std.specs.Prelude.{◌≤◌, ◌<◌, ◌↔◌, IsOk, IsErrOf};
 ghost use Rattle.std.specs.Borrow.{sem};
-ghost use Rattle.wasm_sink.specs.Sink.{IsUnchangedAtErr, IsSameSink, WritesText, HasRoom};
+ghost use Rattle.wasm_sink.specs.Sink.{IsUnchangedAtErr, IsSameSink, WritesBytes, HasRoom};
 ghost use Rattle.wasm_instructions.specs.Instructions.{IsShort};
 ghost use Rattle.wasm_instructions.specs.declared.table.call.Operands.TheVariants as operands;
 
@@ -22,7 +22,7 @@ impl<'a, A: Allocator> InstructionSink<'a, A> {
         requires { IsShort op }
         ensures* unchanged { sem 𝓛 (IsUnchangedAtErr A.row A.Allocator self.entry result) }
         ensures same { IsSameSink self.entry result }
-        ensures wrote { WritesText self.entry op (operands.Mem memarg) result }
+        ensures wrote { WritesBytes self.entry op (operands.Mem memarg) result }
         ensures alignment { IsErrOf result EncodeError.Alignment ↔ 64 ≤ memarg.align }
         ensures room { HasRoom self.entry → memarg.align < 64 → IsOk result }
     {
@@ -41,7 +41,7 @@ impl<'a, A: Allocator> InstructionSink<'a, A> {
         requires { IsShort op }
         ensures* unchanged { sem 𝓛 (IsUnchangedAtErr A.row A.Allocator self.entry result) }
         ensures same { IsSameSink self.entry result }
-        ensures wrote { WritesText self.entry op (operands.MemLane memarg lane) result }
+        ensures wrote { WritesBytes self.entry op (operands.MemLane memarg lane) result }
         ensures alignment { IsErrOf result EncodeError.Alignment ↔ 64 ≤ memarg.align }
         ensures room { HasRoom self.entry → memarg.align < 64 → IsOk result }
     {

@@ -1,4 +1,4 @@
-//! Conversions between numbers (Core 3.0, 5.4, numeric instructions).
+//! Conversions between numbers (Core 3.0, Numeric Instructions).
 ghost use Rattle.std.specs.Prelude.{IsOk};
 ghost use Rattle.std.specs.Borrow.{sem};
 ghost use Rattle.wasm_sink.specs.Sink.{IsUnchangedAtErr, IsSameSink, Writes, HasRoom};

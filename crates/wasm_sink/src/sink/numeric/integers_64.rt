@@ -1,4 +1,4 @@
-//! Operations on integers of 64 bits (Core 3.0, 5.4, numeric instructions). Those on 128 bits are of the proposal on
+//! Operations on integers of 64 bits (Core 3.0, Numeric Instructions). Those on 128 bits are of the proposal on
 //! wide arithmetic.
 ghost use Rattle.std.specs.Prelude.{IsOk};
 ghost use Rattle.std.specs.Borrow.{sem};

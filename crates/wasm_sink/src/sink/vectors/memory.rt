@@ -1,7 +1,7 @@
-//! Loads and stores of vectors and of their lanes (Core 3.0, 5.4, vector instructions).
+//! Loads and stores of vectors and of their lanes (Core 3.0, Vector Instructions).
 ghost use Rattle.std.specs.Prelude.{◌≤◌, ◌<◌, ◌↔◌, IsOk, IsErrOf};
 ghost use Rattle.std.specs.Borrow.{sem};
-ghost use Rattle.wasm_sink.specs.Sink.{IsUnchangedAtErr, IsSameSink, WritesText, HasRoom};
+ghost use Rattle.wasm_sink.specs.Sink.{IsUnchangedAtErr, IsSameSink, WritesBytes, HasRoom};
 ghost use Rattle.wasm_instructions.specs.Instructions.{after_fd};
 ghost use Rattle.wasm_instructions.specs.declared.table.call.Operands.TheVariants as operands;
 
@@ -16,7 +16,7 @@ impl<'a, A: Allocator> InstructionSink<'a, A> {
     pub fn v128_load(self, memarg: MemArg) -> Result<InstructionSink<'a, A>, EncodeError>
         ensures* unchanged { sem 𝓛 (IsUnchangedAtErr A.row A.Allocator self.entry result) }
         ensures same { IsSameSink self.entry result }
-        ensures wrote { WritesText self.entry (after_fd 0x00) (operands.Mem memarg) result }
+        ensures wrote { WritesBytes self.entry (after_fd 0x00) (operands.Mem memarg) result }
         ensures alignment { IsErrOf result EncodeError.Alignment ↔ 64 ≤ memarg.align }
         ensures room { HasRoom self.entry → memarg.align < 64 → IsOk result }
     {
@@ -27,7 +27,7 @@ impl<'a, A: Allocator> InstructionSink<'a, A> {
     pub fn v128_load8x8_s(self, memarg: MemArg) -> Result<InstructionSink<'a, A>, EncodeError>
         ensures* unchanged { sem 𝓛 (IsUnchangedAtErr A.row A.Allocator self.entry result) }
         ensures same { IsSameSink self.entry result }
-        ensures wrote { WritesText self.entry (after_fd 0x01) (operands.Mem memarg) result }
+        ensures wrote { WritesBytes self.entry (after_fd 0x01) (operands.Mem memarg) result }
         ensures alignment { IsErrOf result EncodeError.Alignment ↔ 64 ≤ memarg.align }
         ensures room { HasRoom self.entry → memarg.align < 64 → IsOk result }
     {
@@ -38,7 +38,7 @@ impl<'a, A: Allocator> InstructionSink<'a, A> {
     pub fn v128_load8x8_u(self, memarg: MemArg) -> Result<InstructionSink<'a, A>, EncodeError>
         ensures* unchanged { sem 𝓛 (IsUnchangedAtErr A.row A.Allocator self.entry result) }
         ensures same { IsSameSink self.entry result }
-        ensures wrote { WritesText self.entry (after_fd 0x02) (operands.Mem memarg) result }
+        ensures wrote { WritesBytes self.entry (after_fd 0x02) (operands.Mem memarg) result }
         ensures alignment { IsErrOf result EncodeError.Alignment ↔ 64 ≤ memarg.align }
         ensures room { HasRoom self.entry → memarg.align < 64 → IsOk result }
     {
@@ -49,7 +49,7 @@ impl<'a, A: Allocator> InstructionSink<'a, A> {
     pub fn v128_load16x4_s(self, memarg: MemArg) -> Result<InstructionSink<'a, A>, EncodeError>
         ensures* unchanged { sem 𝓛 (IsUnchangedAtErr A.row A.Allocator self.entry result) }
         ensures same { IsSameSink self.entry result }
-        ensures wrote { WritesText self.entry (after_fd 0x03) (operands.Mem memarg) result }
+        ensures wrote { WritesBytes self.entry (after_fd 0x03) (operands.Mem memarg) result }
         ensures alignment { IsErrOf result EncodeError.Alignment ↔ 64 ≤ memarg.align }
         ensures room { HasRoom self.entry → memarg.align < 64 → IsOk result }
     {
@@ -60,7 +60,7 @@ impl<'a, A: Allocator> InstructionSink<'a, A> {
     pub fn v128_load16x4_u(self, memarg: MemArg) -> Result<InstructionSink<'a, A>, EncodeError>
         ensures* unchanged { sem 𝓛 (IsUnchangedAtErr A.row A.Allocator self.entry result) }
         ensures same { IsSameSink self.entry result }
-        ensures wrote { WritesText self.entry (after_fd 0x04) (operands.Mem memarg) result }
+        ensures wrote { WritesBytes self.entry (after_fd 0x04) (operands.Mem memarg) result }
         ensures alignment { IsErrOf result EncodeError.Alignment ↔ 64 ≤ memarg.align }
         ensures room { HasRoom self.entry → memarg.align < 64 → IsOk result }
     {
@@ -71,7 +71,7 @@ impl<'a, A: Allocator> InstructionSink<'a, A> {
     pub fn v128_load32x2_s(self, memarg: MemArg) -> Result<InstructionSink<'a, A>, EncodeError>
         ensures* unchanged { sem 𝓛 (IsUnchangedAtErr A.row A.Allocator self.entry result) }
         ensures same { IsSameSink self.entry result }
-        ensures wrote { WritesText self.entry (after_fd 0x05) (operands.Mem memarg) result }
+        ensures wrote { WritesBytes self.entry (after_fd 0x05) (operands.Mem memarg) result }
         ensures alignment { IsErrOf result EncodeError.Alignment ↔ 64 ≤ memarg.align }
         ensures room { HasRoom self.entry → memarg.align < 64 → IsOk result }
     {
@@ -82,7 +82,7 @@ impl<'a, A: Allocator> InstructionSink<'a, A> {
     pub fn v128_load32x2_u(self, memarg: MemArg) -> Result<InstructionSink<'a, A>, EncodeError>
         ensures* unchanged { sem 𝓛 (IsUnchangedAtErr A.row A.Allocator self.entry result) }
         ensures same { IsSameSink self.entry result }
-        ensures wrote { WritesText self.entry (after_fd 0x06) (operands.Mem memarg) result }
+        ensures wrote { WritesBytes self.entry (after_fd 0x06) (operands.Mem memarg) result }
         ensures alignment { IsErrOf result EncodeError.Alignment ↔ 64 ≤ memarg.align }
         ensures room { HasRoom self.entry → memarg.align < 64 → IsOk result }
     {
@@ -93,7 +93,7 @@ impl<'a, A: Allocator> InstructionSink<'a, A> {
     pub fn v128_load8_splat(self, memarg: MemArg) -> Result<InstructionSink<'a, A>, EncodeError>
         ensures* unchanged { sem 𝓛 (IsUnchangedAtErr A.row A.Allocator self.entry result) }
         ensures same { IsSameSink self.entry result }
-        ensures wrote { WritesText self.entry (after_fd 0x07) (operands.Mem memarg) result }
+        ensures wrote { WritesBytes self.entry (after_fd 0x07) (operands.Mem memarg) result }
         ensures alignment { IsErrOf result EncodeError.Alignment ↔ 64 ≤ memarg.align }
         ensures room { HasRoom self.entry → memarg.align < 64 → IsOk result }
     {
@@ -104,7 +104,7 @@ impl<'a, A: Allocator> InstructionSink<'a, A> {
     pub fn v128_load16_splat(self, memarg: MemArg) -> Result<InstructionSink<'a, A>, EncodeError>
         ensures* unchanged { sem 𝓛 (IsUnchangedAtErr A.row A.Allocator self.entry result) }
         ensures same { IsSameSink self.entry result }
-        ensures wrote { WritesText self.entry (after_fd 0x08) (operands.Mem memarg) result }
+        ensures wrote { WritesBytes self.entry (after_fd 0x08) (operands.Mem memarg) result }
         ensures alignment { IsErrOf result EncodeError.Alignment ↔ 64 ≤ memarg.align }
         ensures room { HasRoom self.entry → memarg.align < 64 → IsOk result }
     {
@@ -115,7 +115,7 @@ impl<'a, A: Allocator> InstructionSink<'a, A> {
     pub fn v128_load32_splat(self, memarg: MemArg) -> Result<InstructionSink<'a, A>, EncodeError>
         ensures* unchanged { sem 𝓛 (IsUnchangedAtErr A.row A.Allocator self.entry result) }
         ensures same { IsSameSink self.entry result }
-        ensures wrote { WritesText self.entry (after_fd 0x09) (operands.Mem memarg) result }
+        ensures wrote { WritesBytes self.entry (after_fd 0x09) (operands.Mem memarg) result }
         ensures alignment { IsErrOf result EncodeError.Alignment ↔ 64 ≤ memarg.align }
         ensures room { HasRoom self.entry → memarg.align < 64 → IsOk result }
     {
@@ -126,7 +126,7 @@ impl<'a, A: Allocator> InstructionSink<'a, A> {
     pub fn v128_load64_splat(self, memarg: MemArg) -> Result<InstructionSink<'a, A>, EncodeError>
         ensures* unchanged { sem 𝓛 (IsUnchangedAtErr A.row A.Allocator self.entry result) }
         ensures same { IsSameSink self.entry result }
-        ensures wrote { WritesText self.entry (after_fd 0x0a) (operands.Mem memarg) result }
+        ensures wrote { WritesBytes self.entry (after_fd 0x0a) (operands.Mem memarg) result }
         ensures alignment { IsErrOf result EncodeError.Alignment ↔ 64 ≤ memarg.align }
         ensures room { HasRoom self.entry → memarg.align < 64 → IsOk result }
     {
@@ -137,7 +137,7 @@ impl<'a, A: Allocator> InstructionSink<'a, A> {
     pub fn v128_store(self, memarg: MemArg) -> Result<InstructionSink<'a, A>, EncodeError>
         ensures* unchanged { sem 𝓛 (IsUnchangedAtErr A.row A.Allocator self.entry result) }
         ensures same { IsSameSink self.entry result }
-        ensures wrote { WritesText self.entry (after_fd 0x0b) (operands.Mem memarg) result }
+        ensures wrote { WritesBytes self.entry (after_fd 0x0b) (operands.Mem memarg) result }
         ensures alignment { IsErrOf result EncodeError.Alignment ↔ 64 ≤ memarg.align }
         ensures room { HasRoom self.entry → memarg.align < 64 → IsOk result }
     {
@@ -152,7 +152,7 @@ impl<'a, A: Allocator> InstructionSink<'a, A> {
     ) -> Result<InstructionSink<'a, A>, EncodeError>
         ensures* unchanged { sem 𝓛 (IsUnchangedAtErr A.row A.Allocator self.entry result) }
         ensures same { IsSameSink self.entry result }
-        ensures wrote { WritesText self.entry (after_fd 0x54) (operands.MemLane memarg lane) result }
+        ensures wrote { WritesBytes self.entry (after_fd 0x54) (operands.MemLane memarg lane) result }
         ensures alignment { IsErrOf result EncodeError.Alignment ↔ 64 ≤ memarg.align }
         ensures room { HasRoom self.entry → memarg.align < 64 → IsOk result }
     {
@@ -167,7 +167,7 @@ impl<'a, A: Allocator> InstructionSink<'a, A> {
     ) -> Result<InstructionSink<'a, A>, EncodeError>
         ensures* unchanged { sem 𝓛 (IsUnchangedAtErr A.row A.Allocator self.entry result) }
         ensures same { IsSameSink self.entry result }
-        ensures wrote { WritesText self.entry (after_fd 0x55) (operands.MemLane memarg lane) result }
+        ensures wrote { WritesBytes self.entry (after_fd 0x55) (operands.MemLane memarg lane) result }
         ensures alignment { IsErrOf result EncodeError.Alignment ↔ 64 ≤ memarg.align }
         ensures room { HasRoom self.entry → memarg.align < 64 → IsOk result }
     {
@@ -182,7 +182,7 @@ impl<'a, A: Allocator> InstructionSink<'a, A> {
     ) -> Result<InstructionSink<'a, A>, EncodeError>
         ensures* unchanged { sem 𝓛 (IsUnchangedAtErr A.row A.Allocator self.entry result) }
         ensures same { IsSameSink self.entry result }
-        ensures wrote { WritesText self.entry (after_fd 0x56) (operands.MemLane memarg lane) result }
+        ensures wrote { WritesBytes self.entry (after_fd 0x56) (operands.MemLane memarg lane) result }
         ensures alignment { IsErrOf result EncodeError.Alignment ↔ 64 ≤ memarg.align }
         ensures room { HasRoom self.entry → memarg.align < 64 → IsOk result }
     {
@@ -197,7 +197,7 @@ impl<'a, A: Allocator> InstructionSink<'a, A> {
     ) -> Result<InstructionSink<'a, A>, EncodeError>
         ensures* unchanged { sem 𝓛 (IsUnchangedAtErr A.row A.Allocator self.entry result) }
         ensures same { IsSameSink self.entry result }
-        ensures wrote { WritesText self.entry (after_fd 0x57) (operands.MemLane memarg lane) result }
+        ensures wrote { WritesBytes self.entry (after_fd 0x57) (operands.MemLane memarg lane) result }
         ensures alignment { IsErrOf result EncodeError.Alignment ↔ 64 ≤ memarg.align }
         ensures room { HasRoom self.entry → memarg.align < 64 → IsOk result }
     {
@@ -212,7 +212,7 @@ impl<'a, A: Allocator> InstructionSink<'a, A> {
     ) -> Result<InstructionSink<'a, A>, EncodeError>
         ensures* unchanged { sem 𝓛 (IsUnchangedAtErr A.row A.Allocator self.entry result) }
         ensures same { IsSameSink self.entry result }
-        ensures wrote { WritesText self.entry (after_fd 0x58) (operands.MemLane memarg lane) result }
+        ensures wrote { WritesBytes self.entry (after_fd 0x58) (operands.MemLane memarg lane) result }
         ensures alignment { IsErrOf result EncodeError.Alignment ↔ 64 ≤ memarg.align }
         ensures room { HasRoom self.entry → memarg.align < 64 → IsOk result }
     {
@@ -227,7 +227,7 @@ impl<'a, A: Allocator> InstructionSink<'a, A> {
     ) -> Result<InstructionSink<'a, A>, EncodeError>
         ensures* unchanged { sem 𝓛 (IsUnchangedAtErr A.row A.Allocator self.entry result) }
         ensures same { IsSameSink self.entry result }
-        ensures wrote { WritesText self.entry (after_fd 0x59) (operands.MemLane memarg lane) result }
+        ensures wrote { WritesBytes self.entry (after_fd 0x59) (operands.MemLane memarg lane) result }
         ensures alignment { IsErrOf result EncodeError.Alignment ↔ 64 ≤ memarg.align }
         ensures room { HasRoom self.entry → memarg.align < 64 → IsOk result }
     {
@@ -242,7 +242,7 @@ impl<'a, A: Allocator> InstructionSink<'a, A> {
     ) -> Result<InstructionSink<'a, A>, EncodeError>
         ensures* unchanged { sem 𝓛 (IsUnchangedAtErr A.row A.Allocator self.entry result) }
         ensures same { IsSameSink self.entry result }
-        ensures wrote { WritesText self.entry (after_fd 0x5a) (operands.MemLane memarg lane) result }
+        ensures wrote { WritesBytes self.entry (after_fd 0x5a) (operands.MemLane memarg lane) result }
         ensures alignment { IsErrOf result EncodeError.Alignment ↔ 64 ≤ memarg.align }
         ensures room { HasRoom self.entry → memarg.align < 64 → IsOk result }
     {
@@ -257,7 +257,7 @@ impl<'a, A: Allocator> InstructionSink<'a, A> {
     ) -> Result<InstructionSink<'a, A>, EncodeError>
         ensures* unchanged { sem 𝓛 (IsUnchangedAtErr A.row A.Allocator self.entry result) }
         ensures same { IsSameSink self.entry result }
-        ensures wrote { WritesText self.entry (after_fd 0x5b) (operands.MemLane memarg lane) result }
+        ensures wrote { WritesBytes self.entry (after_fd 0x5b) (operands.MemLane memarg lane) result }
         ensures alignment { IsErrOf result EncodeError.Alignment ↔ 64 ≤ memarg.align }
         ensures room { HasRoom self.entry → memarg.align < 64 → IsOk result }
     {
@@ -268,7 +268,7 @@ impl<'a, A: Allocator> InstructionSink<'a, A> {
     pub fn v128_load32_zero(self, memarg: MemArg) -> Result<InstructionSink<'a, A>, EncodeError>
         ensures* unchanged { sem 𝓛 (IsUnchangedAtErr A.row A.Allocator self.entry result) }
         ensures same { IsSameSink self.entry result }
-        ensures wrote { WritesText self.entry (after_fd 0x5c) (operands.Mem memarg) result }
+        ensures wrote { WritesBytes self.entry (after_fd 0x5c) (operands.Mem memarg) result }
         ensures alignment { IsErrOf result EncodeError.Alignment ↔ 64 ≤ memarg.align }
         ensures room { HasRoom self.entry → memarg.align < 64 → IsOk result }
     {
@@ -279,7 +279,7 @@ impl<'a, A: Allocator> InstructionSink<'a, A> {
     pub fn v128_load64_zero(self, memarg: MemArg) -> Result<InstructionSink<'a, A>, EncodeError>
         ensures* unchanged { sem 𝓛 (IsUnchangedAtErr A.row A.Allocator self.entry result) }
         ensures same { IsSameSink self.entry result }
-        ensures wrote { WritesText self.entry (after_fd 0x5d) (operands.Mem memarg) result }
+        ensures wrote { WritesBytes self.entry (after_fd 0x5d) (operands.Mem memarg) result }
         ensures alignment { IsErrOf result EncodeError.Alignment ↔ 64 ≤ memarg.align }
         ensures room { HasRoom self.entry → memarg.align < 64 → IsOk result }
     {

@@ -9,4 +9,5 @@ invariant-loop-entry l = record {
   count : l.self.count ≡ l.fn.self.count + l.entry-index;
   bytes : l.self.bytes ≡ l.fn.self.bytes ++ flat_map recursive_type.bytes (take l.entry-index l.entries);
   can : All CountedEntry (take l.entry-index l.entries);
+  in_range : All recursive_type.InRange (take l.entry-index l.entries);
 }

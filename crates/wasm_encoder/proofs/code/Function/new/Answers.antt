@@ -1,0 +1,5 @@
+use Rattle.wasm_encoder.proofs.CodeSectionLaws.{locals_stand}
+use Rattle.wasm_encoder.proofs.code.Function.new.Goals as goal
+
+pub returns-clause-ok : goal.returns-clause-ok
+returns-clause-ok g c = locals_stand g.L.Iterator.next_gives (λ p. Unit {0} × Unit {0}) c.args.locals _ c.append_items.new.sink.items c.new-bytes.ensures.items c.in_ok-append_items.ensures.ok

@@ -1,0 +1,245 @@
+//! Functions and the code section (Core 3.0, Code Section).
+ghost use Rattle.std.specs.Prelude.{◌≡◌, ◌++◌, ◌+◌, ◌^◌, ◌↔◌, ℕ, List, [], IsTrue, OnOk, OnErr, IfOk, IfErr, length};
+ghost use Rattle.std.specs.List.{All};
+ghost use Rattle.std.specs.Borrow.{Lends, follows, sem};
+ghost use Rattle.std.specs.Iterator.{size};
+ghost use Rattle.wasm_codec.specs.Encoding.{byte_list_bytes, IsCount, IsRefusal, IsShortestOrLonger, OnlyTooLong, too_long_at_once};
+ghost use Rattle.wasm_codec.specs.declared.encode.EncodeError.TheVariants.{Memory};
+ghost use Rattle.wasm_instructions.specs.Appending.{IsRefusalOfOne};
+ghost use Rattle.wasm_modules.specs.declared.code.CodeBody.{CodeBody};
+ghost use Rattle.wasm_modules.specs.CodeCounts.{CountedBody};
+ghost use Rattle.wasm_modules.specs.formats.CodeBodies.{code_section_body};
+ghost use Rattle.wasm_encoder.specs.TypeSections.{Entries, CountedSection, HasRoom, OfItems, TooLongUnless, body_bytes};
+ghost use Rattle.wasm_encoder.specs.Rows.{bytes_row};
+ghost use Rattle.wasm_encoder.specs.CodeSections.{FunctionStandsFor, GainsBodies, GainsFunction, GoesOnWith, StandsForBodies, body_of};
+
+use crate::encoded_list::EncodedList;
+use crate::wasm_core::{Section, SectionId};
+use std::alloc::{Allocator, Global};
+use std::marker::Model;
+use wasm_codec::encode::{Encode, EncodeError, append_items, encode_bytes};
+use wasm_instructions::encode::append_calls;
+use wasm_instructions::table::Call;
+pub use wasm_modules::code::CodeBody;
+use wasm_sink::sink::InstructionSink;
+use wasm_types::types::ValType;
+
+/// The locals of a function, and instructions that are added to them.
+///
+/// In contracts it is its bytes: the list of locals, and then the instructions.
+#[derive(Debug, Drop)]
+pub struct Function {
+    bytes: Vec<u8>,
+}
+
+impl Model for Function {
+    ghost use Rattle.std.specs.Prelude.{ℕ, List};
+
+    ghost Value = { List ℕ };
+
+    ghost view = { λ function. function.bytes.items };
+}
+
+impl Function {
+    ghost use Rattle.wasm_encoder.specs.contracts.code.Function.{the_row};
+
+    /// A function with the locals that an iterator gives, as pairs of a number and the type of so many locals, and
+    /// without instructions.
+    ///
+    /// `TooLong` where there are more than 4,294,967,295 pairs, before one is asked for.
+    #[tactic(auto, using(crate::proofs::CodeSectionLaws::locals_stand, crate::proofs::CodeSectionLaws::locals_refused))]
+    pub fn new<L: ExactSizeIterator<Item = (u32, ValType)>>(
+        alloc: Global,
+        locals: L,
+    ) -> Result<Function, EncodeError>
+        requires { L.can_next locals }
+        ensures ok { IfOk result (λ function. OfItems L.next_gives locals (λ groups.
+            FunctionStandsFor function (body_of groups []))) }
+        ensures refused { IfErr result (TooLongUnless (IsCount (size (L.remaining locals)))) }
+    {
+        let mut bytes = Vec::new(alloc);
+        append_items(locals, &mut bytes)?;
+        Ok(Function { bytes })
+    }
+
+    /// A sink that appends to the function.
+    ///
+    /// What is appended to a sink over a list that is lent isn't known to its caller's contracts. Where it has to be,
+    /// [`Function::calls`] tells it, and so does a function over the list of [`Function::bytes_mut`].
+    pub fn instructions(&mut self) -> InstructionSink<'_, Global>
+        ensures* lends { sem 𝓛 (follows the_row bytes_row self.entry.ghost_name result.bytes.ghost_name (λ code. code.items)) }
+        ensures value { result.bytes.now.items ≡ self.old }
+    {
+        InstructionSink::new(&mut self.bytes)
+    }
+
+    /// The function's bytes, as the list that they are kept in. What is left there is the function's from then on.
+    pub fn bytes_mut(&mut self) -> &mut Vec<u8>
+        ensures* lends { sem 𝓛 (Lends the_row bytes_row self.entry result (λ code. code.items)) }
+        ensures value { result.now.items ≡ self.old }
+    {
+        &mut self.bytes
+    }
+
+    /// Adds the shortest encodings of calls, all of them or none.
+    ///
+    /// `TooLong` where a list in one of them has more than 4,294,967,295 items.
+    #[tactic(auto, using(crate::proofs::CodeSectionLaws::goes_on))]
+    pub fn calls(&mut self, calls: &[Call]) -> Result<(), EncodeError>
+        ensures ok { OnOk result (GoesOnWith self.old calls.now self.new) }
+        ensures err { OnErr result (self.new ≡ self.old) }
+        ensures refused { IfErr result (IsRefusalOfOne calls.now) }
+    {
+        append_calls(&mut self.bytes, calls)
+    }
+
+    /// How many bytes the function has, without its size.
+    pub fn byte_len(&self) -> usize
+        ensures { result ≡ length self.now }
+    {
+        self.bytes.len()
+    }
+
+    /// A function of the same bytes.
+    pub fn try_clone(&self) -> Result<Function, EncodeError>
+        ensures ok { IfOk result (λ function. function ≡ self.now) }
+        ensures err { IfErr result (λ e. e ≡ Memory) }
+    {
+        let bytes = Vec::from_slice(*self.bytes.allocator(), self.bytes.as_slice())?;
+        Ok(Function { bytes })
+    }
+}
+
+/// The number of the function's bytes, and the bytes.
+///
+/// `TooLong` where there are more than 4,294,967,295.
+impl Encode for Function {
+    ghost bytes = { byte_list_bytes };
+
+    ghost CanEncode = { λ function. IsCount (length function) };
+
+    ghost refuses = { OnlyTooLong };
+
+    ghost at_once = { λ function. too_long_at_once (length function) };
+
+    fn encode<A: Allocator>(&self, sink: &mut Vec<u8, A>) -> Result<(), EncodeError> {
+        encode_bytes(self.bytes.as_slice(), sink)
+    }
+}
+
+/// A code section that bodies are added to, one after the other.
+///
+/// In contracts it is the number of its bodies and their bytes.
+#[derive(Debug, Drop)]
+pub struct CodeSection {
+    bodies: EncodedList,
+}
+
+impl Model for CodeSection {
+    ghost use Rattle.wasm_encoder.specs.TypeSections.{Entries};
+
+    ghost Value = { Entries };
+
+    ghost view = { λ section. section.bodies };
+}
+
+impl CodeSection {
+    /// A section without bodies. It takes no memory.
+    #[tactic(auto, using(crate::proofs::CodeSectionLaws::stands_for_none))]
+    pub fn new(alloc: Global) -> CodeSection
+        ensures { StandsForBodies result [] }
+    {
+        CodeSection {
+            bodies: EncodedList::new(alloc),
+        }
+    }
+
+    /// How many bodies there are.
+    pub fn len(&self) -> u32
+        ensures { result ≡ self.now.count }
+    {
+        self.bodies.len()
+    }
+
+    /// Whether there are no bodies.
+    pub fn is_empty(&self) -> bool
+        ensures { IsTrue result ↔ (self.now.count ≡ 0) }
+    {
+        self.bodies.len() == 0
+    }
+
+    /// Adds the body of a function: its size and its bytes.
+    ///
+    /// `TooLong` where there are 4,294,967,295 bodies, or where the function has more bytes than that.
+    #[tactic(auto, using(crate::proofs::CodeSectionLaws::gains_function, crate::proofs::CodeSectionLaws::function_refused))]
+    pub fn function(&mut self, function: &Function) -> Result<(), EncodeError>
+        ensures ok { OnOk result (GainsFunction self.old function.now self.new) }
+        ensures err { OnErr result (self.new ≡ self.old) }
+        ensures refused { IfErr result (TooLongUnless (HasRoom self.old × IsCount (length function.now))) }
+    {
+        self.bodies.add(function)
+    }
+
+    /// Adds bodies, all of them or none.
+    ///
+    /// `TooLong` where there would be more than 4,294,967,295, or where a body or a list in it is too long.
+    #[tactic(auto, using(crate::proofs::CodeSectionLaws::gains_bodies, crate::proofs::CodeSectionLaws::bodies_refused))]
+    pub fn bodies(&mut self, bodies: &[CodeBody]) -> Result<(), EncodeError>
+        ensures ok { OnOk result (GainsBodies self.old bodies.now self.new) }
+        ensures err { OnErr result (self.new ≡ self.old) }
+        ensures refused { IfErr result (TooLongUnless (
+            IsCount (self.old.count + length bodies.now) × All CountedBody bodies.now)) }
+    {
+        self.bodies.add_all(bodies)
+    }
+
+    /// A section of the same bodies.
+    pub fn try_clone(&self) -> Result<CodeSection, EncodeError>
+        ensures ok { IfOk result (λ section. section ≡ self.now) }
+        ensures err { IfErr result (λ e. e ≡ Memory) }
+    {
+        let bodies = self.bodies.try_clone()?;
+        Ok(CodeSection { bodies })
+    }
+}
+
+/// The size of the body, the number of code bodies, and the code bodies (Core 3.0, Code Section).
+///
+/// `TooLong` where the body has more than 4,294,967,295 bytes.
+#[tactic(auto, using(crate::proofs::CodeSectionLaws::one_encoding, crate::proofs::CodeSectionLaws::section_is_body, crate::proofs::CodeSectionLaws::body_encodes, crate::proofs::CodeSectionLaws::body_shortest))]
+impl Encode for CodeSection {
+    ghost bytes = { λ section. byte_list_bytes (body_bytes section) };
+
+    ghost CanEncode = { CountedSection };
+
+    ghost refuses = { OnlyTooLong };
+
+    fn encode<A: Allocator>(&self, sink: &mut Vec<u8, A>) -> Result<(), EncodeError>
+        ensures ok { OnOk result (sink.new.items ≡ sink.old.items ++ byte_list_bytes (body_bytes self.now)) }
+        ensures can { OnOk result (CountedSection self.now) }
+        ensures refused { IfErr result (IsRefusal CountedSection OnlyTooLong self.now) }
+        ensures err { OnErr result (sink.new.items ≡ sink.old.items) }
+        // Sections that stand for the same bodies have the same bytes.
+        ensures one_encoding { (other : Entries) (bodies : List CodeBody) →
+            StandsForBodies self.now bodies → StandsForBodies other bodies → body_bytes other ≡ body_bytes self.now }
+        // The section's body is that of the code bodies.
+        ensures is_body { (bodies : List CodeBody) → StandsForBodies self.now bodies →
+            body_bytes self.now ≡ code_section_body.bytes bodies }
+        // It encodes the code bodies.
+        ensures encodes { (bodies : List CodeBody) → StandsForBodies self.now bodies →
+            code_section_body.Encodes (body_bytes self.now) bodies }
+        // Every other encoding of the code bodies is longer.
+        ensures shortest { (bodies : List CodeBody) (bytes : List ℕ) → StandsForBodies self.now bodies →
+            code_section_body.Encodes bytes bodies → IsShortestOrLonger bytes (body_bytes self.now) }
+    {
+        self.bodies.encode(sink)
+    }
+}
+
+impl Section for CodeSection {
+    ghost id = { λ _. 10 };
+
+    fn id(&self) -> u8 {
+        u8::from(SectionId::Code)
+    }
+}
