@@ -19,9 +19,9 @@ pub still_within : (bytes : List ℕ) (n m : ℕ) → n ≤ length bytes → m �
 still_within bytes n m within bound = omega (arith, length-drop n bytes, ap length (take_rest bytes n))
 
 -- fewer bytes than all are a prefix
-pub front_written : (a b : Option (List ℕ)) (bytes : List ℕ) (n : ℕ) → n < length bytes → Appends a b (take n bytes) → AppendsPrefix a b bytes
-front_written a b bytes n short written = record {
-  front = take n bytes;
+pub prefix_written : (a b : Option (List ℕ)) (bytes : List ℕ) (n : ℕ) → n < length bytes → Appends a b (take n bytes) → AppendsPrefix a b bytes
+prefix_written a b bytes n short written = record {
+  prefix = take n bytes;
   rest = drop n bytes;
   parts = sym (take-append-drop n bytes);
   left = omega (arith, length-drop n bytes);
@@ -29,6 +29,6 @@ front_written a b bytes n short written = record {
 }
 
 -- and still are after a write that failed
-pub front_kept : (a b c : Option (List ℕ)) (bytes : List ℕ) (n : ℕ) → n < length bytes → Appends a b (take n bytes) → Keeps b c
+pub prefix_kept : (a b c : Option (List ℕ)) (bytes : List ℕ) (n : ℕ) → n < length bytes → Appends a b (take n bytes) → Keeps b c
     → AppendsPrefix a c bytes
-front_kept a b c bytes n short written kept = front_written a c bytes n short (Appends-kept a b c (take n bytes) written kept)
+prefix_kept a b c bytes n short written kept = prefix_written a c bytes n short (Appends-kept a b c (take n bytes) written kept)

@@ -13,15 +13,15 @@ use Rattle.wasmnorm.specs.declared.run.RunError.TheVariants as errors
 
 -- The known contents of a writer grew by a normal form of the input.
 pub record AppendsNormalForm (mode : Mode) (input : List ℕ) (old new : Option (List ℕ)) : Type 0 where
-  pub text : List ℕ
-  pub normal : NormalForm mode input text
-  pub appended : Appends old new text
+  pub encoding : List ℕ
+  pub normal : NormalForm mode input encoding
+  pub appended : Appends old new encoding
 
 -- The known contents of a writer grew by a prefix of a normal form of the input, but not by all of it.
 pub record AppendsBeginning (mode : Mode) (input : List ℕ) (old new : Option (List ℕ)) : Type 0 where
-  pub text : List ℕ
-  pub normal : NormalForm mode input text
-  pub appended : AppendsPrefix old new text
+  pub encoding : List ℕ
+  pub normal : NormalForm mode input encoding
+  pub appended : AppendsPrefix old new encoding
 
 -- ---- answers
 

@@ -6,11 +6,11 @@ use Rattle.wasmnorm.specs.declared.run.RunError.TheVariants as errors
 
 -- The known contents of a writer grew by a prefix of these bytes, but not by all of them.
 pub record AppendsPrefix (old new : Option (List ℕ)) (bytes : List ℕ) : Type 0 where
-  pub front : List ℕ
+  pub prefix : List ℕ
   pub rest : List ℕ
-  pub parts : bytes ≡ front ++ rest
+  pub parts : bytes ≡ prefix ++ rest
   pub left : 0 < length rest
-  pub appended : Appends old new front
+  pub appended : Appends old new prefix
 
 -- the error is one of reading
 abbrev pub IsReadError : RunError → Type 0

@@ -1,9 +1,9 @@
 //! `wasmnorm` reads bytes of WebAssembly from standard input and writes their normal form to standard output.
 //!
 //! Its argument says what the bytes are read as: `calls`, a list of instructions, `types`, the body of a
-//! type section, or `module`, a module of which the type sections are read. The exit status is 0 where
-//! the normal bytes were written, 1 where the input was refused, 2 for other arguments, 3 where there
-//! was no memory, and 4 where reading or writing failed.
+//! type section, or `module`, a module of which the type sections and code sections are read. The exit
+//! status is 0 where the normal bytes were written, 1 where the input was refused, 2 for other arguments,
+//! 3 where there was no memory, and 4 where reading or writing failed.
 #![tactic(auto)]
 
 ghost use Rattle.std.specs.Prelude.{◌≡◌};

@@ -1,6 +1,6 @@
 //! What the program reads its input as, and the normal form in each mode.
 ghost use Rattle.std.specs.Prelude.{List, ℕ, IfOk};
-ghost use Rattle.wasm_codec.specs.Answers.{IsOrMemory, IfRefused, IsLongestFront};
+ghost use Rattle.wasm_codec.specs.Answers.{IsOrMemory, IfRefused, IsLongestPrefix};
 ghost use Rattle.wasmnorm.specs.Modes.{IsEncoded, NormalForm, IsWholePrefix};
 
 use std::alloc::Global;
@@ -16,21 +16,21 @@ pub enum Mode {
     Calls,
     /// The body of a type section.
     Types,
-    /// A module, of which the type sections are read.
+    /// A module, of which the type sections and code sections are read.
     Module,
 }
 
 /// The normal form of the input.
 pub fn normalise(alloc: Global, mode: Mode, input: &[u8]) -> Result<Vec<u8>, ReadError>
     // A normal form is given.
-    ensures given { IfOk result (λ text. NormalForm mode input.now text.items) }
+    ensures given { IfOk result (λ encoding. NormalForm mode input.now encoding.items) }
     // Where the input has one, it is given, unless memory ran out.
-    ensures complete { (text : List ℕ) → NormalForm mode input.now text →
-        IsOrMemory (λ given. given.items) text result }
+    ensures complete { (encoding : List ℕ) → NormalForm mode input.now encoding →
+        IsOrMemory (λ given. given.items) encoding result }
     // Only what encodes nothing is refused.
-    ensures unspelled { IfRefused result (λ _. IsEncoded mode input.now → ⊥) }
+    ensures unencoded { IfRefused result (λ _. IsEncoded mode input.now → ⊥) }
     // `at` is the length of the longest prefix that is whole.
-    ensures front { IfRefused result (IsLongestFront (IsWholePrefix mode) input.now) }
+    ensures prefix { IfRefused result (IsLongestPrefix (IsWholePrefix mode) input.now) }
 {
     match mode {
         Mode::Calls => normalise_instructions(alloc, input),

@@ -1,7 +1,7 @@
 //! One run of the program, over any reader and any writer.
 ghost use Rattle.std.specs.Prelude.{◌≡◌, List, ℕ, IfSome, OnOk};
 ghost use Rattle.std.specs.Io.KnownBytes.{IsAtEnd, Keeps, Appends};
-ghost use Rattle.wasm_codec.specs.Answers.{IsLongestFront};
+ghost use Rattle.wasm_codec.specs.Answers.{IsLongestPrefix};
 ghost use Rattle.wasmnorm.specs.Modes.{IsEncoded, NormalForm, IsWholePrefix};
 ghost use Rattle.wasmnorm.specs.Run.{AppendsNormalForm, AppendsBeginning, IfRefused, OnceAllIsRead, BeforeAnyWrite, IfWriteFailed, run_error};
 ghost use Rattle.wasmnorm.specs.declared.run.RunError.TheVariants.{Memory};
@@ -62,16 +62,16 @@ pub fn run<R: Read, W: Write>(
         AppendsNormalForm mode input (W.contents writer.old) (W.contents writer.new))) }
     // It is the shortest encoding of whatever the input encodes.
     ensures complete { OnOk result (IfSome (R.remaining reader.old) (λ input.
-        (text : List ℕ) → NormalForm mode input text →
-        Appends (W.contents writer.old) (W.contents writer.new) text)) }
+        (encoding : List ℕ) → NormalForm mode input encoding →
+        Appends (W.contents writer.old) (W.contents writer.new) encoding)) }
     // All of the input is read before it is judged or a byte is written.
     ensures read_to_end { OnceAllIsRead result (IsAtEnd (R.remaining reader.new)) }
     // Only what encodes nothing is refused.
-    ensures unspelled { IfRefused result (λ _. IfSome (R.remaining reader.old) (λ input.
+    ensures unencoded { IfRefused result (λ _. IfSome (R.remaining reader.old) (λ input.
         IsEncoded mode input → ⊥)) }
     // `at` is the length of the longest prefix that is whole.
     ensures refused { IfRefused result (λ at. IfSome (R.remaining reader.old) (λ input.
-        IsLongestFront (IsWholePrefix mode) input at)) }
+        IsLongestPrefix (IsWholePrefix mode) input at)) }
     // After any error but `Write` nothing is written.
     ensures nothing_written { BeforeAnyWrite result
         (Keeps (W.contents writer.old) (W.contents writer.new)) }
@@ -80,6 +80,6 @@ pub fn run<R: Read, W: Write>(
         AppendsBeginning mode input (W.contents writer.old) (W.contents writer.new))) }
 {
     let input = read_all(alloc, reader, u32::MAX)?;
-    let text = normalise(alloc, mode, &input)?;
-    write_all(writer, &text)
+    let encoding = normalise(alloc, mode, &input)?;
+    write_all(writer, &encoding)
 }

@@ -110,9 +110,9 @@ impl Write for FailWrite {
 
 #[test]
 fn runs_give_the_normal_form_or_the_place(rt: HostRuntime) {
-    for (mode, input, text) in samples() {
-        check_run(&rt, rt.alloc(), mode, input, Ok(()), text);
-        check_run(&rt, rt.alloc(), mode, text, Ok(()), text);
+    for (mode, input, encoding) in samples() {
+        check_run(&rt, rt.alloc(), mode, input, Ok(()), encoding);
+        check_run(&rt, rt.alloc(), mode, encoding, Ok(()), encoding);
     }
     let cases: [(Mode, &[u8], Result<(), RunError>, &[u8]); 7] = [
         (Mode::Calls, &[], Ok(()), &[]),
@@ -138,8 +138,8 @@ fn runs_give_the_normal_form_or_the_place(rt: HostRuntime) {
             &[],
         ),
     ];
-    for (mode, input, outcome, text) in cases {
-        check_run(&rt, rt.alloc(), mode, input, outcome, text);
+    for (mode, input, outcome, encoding) in cases {
+        check_run(&rt, rt.alloc(), mode, input, outcome, encoding);
     }
 }
 
@@ -149,12 +149,12 @@ fn check_run(
     mode: Mode,
     input: &[u8],
     outcome: Result<(), RunError>,
-    text: &[u8],
+    encoding: &[u8],
 ) {
     let (mut reader, mut writer) = (input, Vec::new(alloc));
     let got = run(alloc, mode, &mut reader, &mut writer);
     assert_eq!(rt; got, outcome, "at {input:?}");
-    assert_eq!(rt; writer.as_slice(), text);
+    assert_eq!(rt; writer.as_slice(), encoding);
 }
 
 #[test]
@@ -164,6 +164,25 @@ fn long_inputs_are_read_in_many_chunks(rt: HostRuntime) -> Result<(), Fail> {
     let got = run(rt.alloc(), Mode::Calls, &mut reader, &mut writer);
     assert_eq!(rt; got, Ok(()));
     assert!(rt; writer == input);
+    Ok(())
+}
+
+/// A reader may give one byte at a time, and as many bytes as there are.
+#[test]
+fn inputs_of_any_length_are_read(rt: HostRuntime) -> Result<(), Fail> {
+    for (len, step) in [(100_000, 1), (3_000_000, 1_000_000)] {
+        let input = vec![in rt.alloc(); 1u8; len]?;
+        let mut reader = FailRead {
+            rest: input.as_slice(),
+            step,
+            good_reads: usize::MAX,
+            kind: ErrorKind::BrokenPipe,
+        };
+        let mut writer = Vec::new(rt.alloc());
+        let got = run(rt.alloc(), Mode::Calls, &mut reader, &mut writer);
+        assert_eq!(rt; got, Ok(()));
+        assert!(rt; writer == input);
+    }
     Ok(())
 }
 
@@ -206,16 +225,16 @@ fn reads_are_bounded(rt: HostRuntime) {
 
 #[test]
 fn a_stopped_write_leaves_a_beginning(rt: HostRuntime) {
-    for (mode, input, text) in samples() {
+    for (mode, input, encoding) in samples() {
         for stop in STOPS {
-            for good_writes in 0..=text.len() {
+            for good_writes in 0..=encoding.len() {
                 let mut writer = FailWrite::new(rt.alloc(), 1, good_writes, stop);
                 let mut reader = input;
                 let got = run(rt.alloc(), mode, &mut reader, &mut writer);
-                let is_whole = good_writes == text.len();
+                let is_whole = good_writes == encoding.len();
                 assert_eq!(rt; got.is_ok(), is_whole, "at {good_writes}");
                 assert_eq!(rt; got == Err(RunError::Write), !is_whole);
-                assert_eq!(rt; writer.taken.as_slice(), &text[..good_writes]);
+                assert_eq!(rt; writer.taken.as_slice(), &encoding[..good_writes]);
             }
         }
     }
