@@ -1,0 +1,68 @@
+//! Instructions that are written, alone and as the body of a function.
+ghost use Rattle.std.specs.Prelude.{◌≡◌, ◌++◌, ◌∷◌, [], ◌+◌, OnOk};
+ghost use Rattle.wasm_encoder.specs.Encoding.{byte_list_bytes};
+
+use std::alloc::Global;
+use wasm_encoder::{CodeSection, Encode, EncodeError, Function, InstructionSink};
+
+/// Appends a function body that adds its two parameters, in these bytes.
+#[tactic(auto, unfolding(wasm_instructions::specs::formats::Instructions::instruction, wasm_instructions::specs::formats::Instructions::operands_format, wasm_instructions::specs::formats::Instructions::opcode, wasm_codec::specs::Numbers::unsigned_leb128, wasm_codec::specs::Numbers::digits_of))]
+pub fn add(code: &mut Vec<u8>) -> Result<(), EncodeError>
+    ensures written { OnOk result (code.new.items ≡
+        code.old.items ++ 0x20 ∷ 0x00 ∷ 0x20 ∷ 0x01 ∷ 0x6a ∷ 0x0b ∷ []) }
+{
+    InstructionSink::new(&mut *code)
+        .local_get(0)?
+        .local_get(1)?
+        .i32_add()?
+        .end()?;
+    Ok(())
+}
+
+/// Adds these instructions to a function, and the function to a section.
+pub fn add_function(code: &mut CodeSection, function: &mut Function) -> Result<(), EncodeError>
+    ensures bytes { OnOk result (code.new.bytes ≡ code.old.bytes ++
+        byte_list_bytes (function.old ++ 0x20 ∷ 0x00 ∷ 0x20 ∷ 0x01 ∷ 0x6a ∷ 0x0b ∷ [])) }
+    ensures count { OnOk result (code.new.count ≡ code.old.count + 1) }
+{
+    add(function.bytes_mut())?;
+    code.function(function)
+}
+
+/// A section of that function alone, where it has no locals.
+#[tactic(auto, unfolding(wasm_codec::specs::Numbers::unsigned_leb128, wasm_codec::specs::Numbers::digits_of))]
+pub fn add_alone(code: &mut CodeSection, function: &mut Function) -> Result<(), EncodeError>
+    requires none { (code.old.count ≡ 0) × (code.old.bytes ≡ []) }
+    requires no_locals { function.old ≡ 0x00 ∷ [] }
+    ensures bytes { OnOk result (code.new.bytes ≡
+        0x07 ∷ 0x00 ∷ 0x20 ∷ 0x00 ∷ 0x20 ∷ 0x01 ∷ 0x6a ∷ 0x0b ∷ []) }
+    ensures count { OnOk result (code.new.count ≡ 1) }
+{
+    add_function(code, function)
+}
+
+/// What is written of that section.
+#[tactic(auto, unfolding(wasm_codec::specs::Numbers::unsigned_leb128, wasm_codec::specs::Numbers::digits_of))]
+pub fn encoded(code: &CodeSection, sink: &mut Vec<u8>) -> Result<(), EncodeError>
+    requires bytes { code.now.bytes ≡ 0x07 ∷ 0x00 ∷ 0x20 ∷ 0x00 ∷ 0x20 ∷ 0x01 ∷ 0x6a ∷ 0x0b ∷ [] }
+    requires count { code.now.count ≡ 1 }
+    ensures { OnOk result (sink.new.items ≡ sink.old.items ++
+        0x09 ∷ 0x01 ∷ 0x07 ∷ 0x00 ∷ 0x20 ∷ 0x00 ∷ 0x20 ∷ 0x01 ∷ 0x6a ∷ 0x0b ∷ []) }
+{
+    code.encode(sink)
+}
+
+/// A new section of that function alone, in these bytes.
+pub fn section_of_add(
+    alloc: Global,
+    function: &mut Function,
+    sink: &mut Vec<u8>,
+) -> Result<(), EncodeError>
+    requires no_locals { function.old ≡ 0x00 ∷ [] }
+    ensures { OnOk result (sink.new.items ≡ sink.old.items ++
+        0x09 ∷ 0x01 ∷ 0x07 ∷ 0x00 ∷ 0x20 ∷ 0x00 ∷ 0x20 ∷ 0x01 ∷ 0x6a ∷ 0x0b ∷ []) }
+{
+    let mut code = CodeSection::new(alloc);
+    add_alone(&mut code, function)?;
+    encoded(&code, sink)
+}
