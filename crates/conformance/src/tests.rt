@@ -1,14 +1,21 @@
 //! Worked examples, each public function on its happy path, and what no contract says.
 
 mod calls;
+mod code;
+mod cuts;
 mod decoded_modules;
+mod functions;
 mod growths;
 mod instructions;
+mod iterators;
 mod lists;
 mod modules;
 mod operands;
+mod order;
 mod own;
 mod reading;
+mod readme;
+mod strict;
 mod table;
 mod type_sections;
 mod types;

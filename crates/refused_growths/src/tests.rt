@@ -1,9 +1,12 @@
 //! Each test makes a call. Where a request for memory is refused, the answer says so, the test prints `refused`, and
 //! the same call is made again, with memory. The answer is then the right one.
 
+mod code;
+mod code_sections;
 mod decoded_modules;
 mod lists;
 mod modules;
+mod strict;
 mod types;
 
 use std::process::Abort;

@@ -25,5 +25,6 @@ fn main(rt: HostRuntime) -> io::Result<()> {
     replay(&rt, Suite::Sink)?;
     replay(&rt, Suite::Types)?;
     replay(&rt, Suite::Answers)?;
+    replay(&rt, Suite::Strict)?;
     replay(&rt, Suite::Linked)
 }

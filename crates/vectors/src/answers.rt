@@ -5,8 +5,8 @@ use crate::columns::columns;
 use crate::mismatch::Mismatch;
 use std::alloc::Global;
 use wasm_encoder::{
-    ReadError, normalise_instructions, normalise_module, normalise_type_section, read_instructions,
-    read_type_section,
+    ReadError, normalise_code_section, normalise_instructions, normalise_module,
+    normalise_type_section, read_code_section, read_instructions, read_type_section,
 };
 
 /// What a reader is to answer.
@@ -33,6 +33,11 @@ pub fn check(alloc: Global, line: &str) -> Result<(), Mismatch> {
             let entries = read_type_section(alloc, input.as_slice());
             check_read(entries.map(|_| ()), &expected)?;
             check_normal(normalise_type_section(alloc, input.as_slice()), &expected)
+        }
+        "code" => {
+            let bodies = read_code_section(alloc, input.as_slice());
+            check_read(bodies.map(|_| ()), &expected)?;
+            check_normal(normalise_code_section(alloc, input.as_slice()), &expected)
         }
         "module" => {
             check_normal(normalise_module(alloc, input.as_slice()), &expected)?;

@@ -1,15 +1,20 @@
 //! Vectors of one encoded value: `encode`, the value's token, and its bytes.
 ghost use Rattle.std.specs.Prelude.{⊤};
-ghost use Rattle.wasm_encoder.specs.Numbers.{unsigned_text, signed_text};
+ghost use Rattle.wasm_encoder.specs.Numbers.{unsigned_leb128, signed_leb128};
 ghost use Rattle.wasm_encoder.specs.Encoding.{IsCount, OnlyTooLong};
 ghost use Rattle.vectors.specs.declared.columns.Token.TheVariants as tokens;
 
 use crate::columns::{Token, parse_token};
 use crate::mismatch::Mismatch;
-use crate::sink::arguments::{block_type, catch, handler, memarg};
-use crate::type_tokens::{abstract_heap_type, heap_type, ref_type, storage_type, val_type};
+use crate::sink::arguments::{block_type, catch, handler, memarg, ordering};
+use crate::type_tokens::{
+    abstract_heap_type, field_type, heap_type, ref_type, storage_type, val_type,
+};
+use crate::words::items as list_items;
 use std::alloc::{Allocator, Global};
-use wasm_encoder::{Encode, EncodeError, SectionId, encode_bytes, encode_list, encode_str};
+use wasm_encoder::{
+    Encode, EncodeError, RefType, SectionId, ValType, encode_bytes, encode_list, encode_str,
+};
 
 /// Holds `encode` to the vector.
 pub fn check(alloc: Global, token: &str, hex: &str) -> Result<(), Mismatch> {
@@ -35,7 +40,12 @@ pub fn encode<A: Allocator>(
     match kind {
         "list" | "bytes" | "str" => encode_items(alloc, kind, value, bytes),
         "absheap" | "heap" | "ref" | "val" | "storage" => encode_type(kind, value, bytes),
-        "block" | "memarg" | "catch" | "handle" => encode_operand(token, bytes),
+        "field" => {
+            known(field_type(value))?.encode(bytes)?;
+            Ok(())
+        }
+        "block" | "memarg" | "catch" | "handle" | "order" => encode_operand(token, bytes),
+        "some" => encode_some(value, bytes),
         _ => encode_number(token, bytes),
     }
 }
@@ -48,7 +58,13 @@ fn encode_items<A: Allocator>(
     bytes: &mut Vec<u8, A>,
 ) -> Result<(), Mismatch> {
     match kind {
-        "list" => encode_list(numbers(alloc, items)?.as_slice(), bytes)?,
+        "list" if items.starts_with("[val:") => {
+            encode_list(list_items(alloc, items, value_type)?.as_slice(), bytes)?
+        }
+        "list" if items.starts_with("[ref:") => {
+            encode_list(list_items(alloc, items, reference_type)?.as_slice(), bytes)?
+        }
+        "list" => encode_list(list_items(alloc, items, number)?.as_slice(), bytes)?,
         "bytes" => encode_bytes(hex::decode(alloc, items)?.as_slice(), bytes)?,
         _ => {
             let text = String::from_utf8(hex::decode(alloc, items)?);
@@ -80,16 +96,26 @@ fn encode_operand<A: Allocator>(token: &str, bytes: &mut Vec<u8, A>) -> Result<(
         Some(("block", text)) => known(block_type(text))?.encode(bytes)?,
         Some(("memarg", text)) => known(memarg(text))?.encode(bytes)?,
         Some(("catch", _)) => known(catch(token))?.encode(bytes)?,
+        Some(("order", text)) => known(ordering(text))?.encode(bytes)?,
         _ => known(handler(token))?.encode(bytes)?,
     }
     Ok(())
 }
 
-/// Encodes a number, one that may be missing, or a section's id.
+/// Encodes a value that is there, where another may be missing.
+fn encode_some<A: Allocator>(token: &str, bytes: &mut Vec<u8, A>) -> Result<(), Mismatch> {
+    match token.split_once(':') {
+        Some(("val", text)) => Some(known(val_type(text))?).encode(bytes)?,
+        Some(("ref", text)) => Some(known(ref_type(text))?).encode(bytes)?,
+        _ => Some(parse_token(token)?).encode(bytes)?,
+    }
+    Ok(())
+}
+
+/// Encodes a number, one that is missing, or a section's id.
 fn encode_number<A: Allocator>(token: &str, bytes: &mut Vec<u8, A>) -> Result<(), Mismatch> {
     match token.split_once(':') {
         None if token == "none" => None::<Token>.encode(bytes)?,
-        Some(("some", number)) => Some(parse_token(number)?).encode(bytes)?,
         Some(("sectionid", name)) => section_id(name)?.encode(bytes)?,
         _ => parse_token(token)?.encode(bytes)?,
     }
@@ -101,18 +127,19 @@ fn known<T>(value: Option<T>) -> Result<T, Mismatch> {
     value.ok_or(Mismatch::NotUnderstood)
 }
 
-/// The numbers of a list, as in `[u32:7;u32:8]`.
-fn numbers(alloc: Global, items: &str) -> Result<Vec<Token>, Mismatch> {
-    let items = items.strip_prefix('[').ok_or(Mismatch::NotUnderstood)?;
-    let items = items.strip_suffix(']').ok_or(Mismatch::NotUnderstood)?;
-    let mut numbers = Vec::new(alloc);
-    if items.is_empty() {
-        return Ok(numbers);
-    }
-    for item in items.split(';') {
-        numbers.push(parse_token(item)?)?;
-    }
-    Ok(numbers)
+/// The value type that a token stands for.
+fn value_type(token: &str) -> Option<ValType> {
+    val_type(token.strip_prefix("val:")?)
+}
+
+/// The reference type that a token stands for.
+fn reference_type(token: &str) -> Option<RefType> {
+    ref_type(token.strip_prefix("ref:")?)
+}
+
+/// The number that a token stands for.
+fn number(token: &str) -> Option<Token> {
+    parse_token(token).ok()
 }
 
 fn section_id(name: &str) -> Result<SectionId, Mismatch> {
@@ -138,11 +165,11 @@ fn section_id(name: &str) -> Result<SectionId, Mismatch> {
 /// The bytes of the number.
 impl Encode for Token {
     ghost bytes = { elim [
-      | tokens.U32 n ↦ unsigned_text n
-      | tokens.U64 n ↦ unsigned_text n
-      | tokens.I32 z ↦ signed_text z
-      | tokens.I64 z ↦ signed_text z
-      | tokens.Usize n ↦ unsigned_text n
+      | tokens.U32 n ↦ unsigned_leb128 n
+      | tokens.U64 n ↦ unsigned_leb128 n
+      | tokens.I32 z ↦ signed_leb128 z
+      | tokens.I64 z ↦ signed_leb128 z
+      | tokens.Usize n ↦ unsigned_leb128 n
     ] };
 
     ghost CanEncode = { elim [

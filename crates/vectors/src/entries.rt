@@ -1,5 +1,5 @@
-//! Vectors of type sections: `entry`, the words of one entry, its bytes, and the section of it; or `section`, the words of
-//! some entries, the section, and how many entries it has.
+//! Vectors of type sections: `entry`, the words of one entry, its bytes, and the section of it; or `section`, the words
+//! of some entries, the section, and how many entries it has.
 
 use crate::mismatch::Mismatch;
 use crate::type_tokens::{field_type, flag, storage_type, val_type};
@@ -40,13 +40,18 @@ fn check_types(
     if text(alloc, &again)? != section {
         return Err(Mismatch::Written);
     }
-    // An entry of these vectors has fewer than 127 bytes, so that its section's size is one byte.
-    let body = section.get(1..).ok_or(Mismatch::NotUnderstood)?;
-    if read_type_section(alloc, body)? == entries {
+    if read_type_section(alloc, after_size(&section)?)? == entries {
         Ok(())
     } else {
         Err(Mismatch::Read)
     }
+}
+
+/// The body of a section: the bytes after its size, whose last byte is the first below 128.
+fn after_size(section: &[u8]) -> Result<&[u8], Mismatch> {
+    let last = section.iter().position(|byte| *byte < 0x80);
+    let rest = last.and_then(|last| section.get(last.saturating_add(1)..));
+    rest.ok_or(Mismatch::NotUnderstood)
 }
 
 /// Holds a section of some entries to the vector.

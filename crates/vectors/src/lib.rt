@@ -9,6 +9,7 @@ mod entries;
 mod mismatch;
 mod sections;
 mod sink;
+mod strict;
 mod type_tokens;
 mod words;
 
@@ -27,6 +28,8 @@ pub enum Suite {
     Types,
     /// What a normaliser answers to some bytes.
     Answers,
+    /// What a strict reader answers to some bytes.
+    Strict,
     /// The normal forms of modules that a compiler and a linker made.
     Linked,
 }
@@ -38,6 +41,7 @@ impl Suite {
             Suite::Sink => "sink.tsv",
             Suite::Types => "types.tsv",
             Suite::Answers => "answers.tsv",
+            Suite::Strict => "strict.tsv",
             Suite::Linked => "linked.tsv",
         }
     }
@@ -47,6 +51,7 @@ impl Suite {
         match self {
             Suite::Sink => sink::check(alloc, line),
             Suite::Types => check_types(alloc, line),
+            Suite::Strict => strict::check(alloc, line),
             Suite::Answers | Suite::Linked => answers::check(alloc, line),
         }
     }

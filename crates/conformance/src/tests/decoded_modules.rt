@@ -1,4 +1,4 @@
-//! Modules whose type sections are read: the normal forms.
+//! Modules whose type sections and code sections are read: the normal forms.
 
 use super::bytes;
 use std::alloc::Global;
@@ -40,7 +40,9 @@ fn normal_forms(rt: HostRuntime) -> Result<(), Fail> {
             "6301FF010401600000000001010003028000",
         ),
         // The body of a section of another id is none of types.
-        ("0A86808000014F00600000", "0A06014F00600000"),
+        ("0B86808000014F00600000", "0B06014F00600000"),
+        // A code section, in which the size of a code body is padded.
+        ("0A05018200000B", "0A040102000B"),
     ] {
         let long = module(rt.alloc(), sections)?;
         let normal = module(rt.alloc(), normal)?;
@@ -78,6 +80,9 @@ fn refused_modules(rt: HostRuntime) -> Result<(), Fail> {
         ("0061736D02000000", 0),
         // A body that encodes no entries.
         ("0061736D010000000102000B", 8),
+        // A body that encodes no code bodies.
+        ("0061736D010000000A00", 8),
+        ("0061736D010000000A03010016", 8),
         ("0061736D01000000030100010101", 11),
         // A byte is left over after the entries.
         ("0061736D0100000003010001050160000000", 11),

@@ -138,6 +138,38 @@ fn growths_of_lists_are_refused(rt: HostRuntime) -> Result<(), Fail> {
     Ok(())
 }
 
+/// The token of a value of each type of the library that can be encoded alone, and its bytes.
+const VALUES: [(&str, &str); 19] = [
+    ("absheap:noextern", "72"),
+    ("heap:abs:1:any", "656E"),
+    ("heap:exact:4294967295", "62FFFFFFFF0F"),
+    ("ref:0:concrete:64", "64C000"),
+    ("ref:1:abs:0:func", "70"),
+    ("val:v128", "7B"),
+    ("val:ref:1:exact:0", "636200"),
+    ("storage:i8", "78"),
+    ("storage:ref:0:concrete:64", "64C000"),
+    ("field:1:i8", "7801"),
+    ("block:empty", "40"),
+    ("block:func:4294967295", "FFFFFFFF0F"),
+    ("block:val:i32", "7F"),
+    ("memarg:8,3,1", "430108"),
+    ("memarg:18446744073709551615,63,0", "3FFFFFFFFFFFFFFFFFFF01"),
+    ("catch:one:1,300", "0001AC02"),
+    ("handle:switch:300", "01AC02"),
+    ("order:seqcst", "00"),
+    ("order:acqrel", "01"),
+];
+
+#[test]
+fn growths_of_values_are_refused(rt: HostRuntime) -> Result<(), Fail> {
+    for (token, hex) in VALUES {
+        let hex = format!(in rt.alloc(); "2A{hex}")?;
+        refuse_each(&rt, rt.alloc(), &Text::Token(token), hex.as_str())?;
+    }
+    Ok(())
+}
+
 /// A method of each kind of operands without a list, its longest operands, and what it writes.
 const METHODS: [(&str, &str, &str); 21] = [
     ("nop", "", "01"),

@@ -1,10 +1,11 @@
 //! What stands after opcodes: written, read, refused, in normal form.
 
 use super::bytes;
+use rationed::Rationed;
 use std::test::Fail;
 use wasm_encoder::{
     BlockType, Catch, Encode, EncodeError, Handle, MemArg, Ordering, ReadError, RefType, ValType,
-    normalise_instructions, read_instructions,
+    encode_list, normalise_instructions, read_instructions,
 };
 
 #[test]
@@ -62,6 +63,38 @@ fn alignments_out_of_range(rt: HostRuntime) -> Result<(), Fail> {
         assert_eq!(rt; written, bytes(rt.alloc(), "2A")?);
     }
     Ok(())
+}
+
+/// A memory argument of this alignment.
+fn aligned(align: u32) -> MemArg {
+    MemArg {
+        offset: 8,
+        align,
+        memory_index: 0,
+    }
+}
+
+/// The list is as it was, though the first item could be written.
+#[test]
+fn an_alignment_out_of_range_in_a_list(rt: HostRuntime) -> Result<(), Fail> {
+    let mut written = bytes(rt.alloc(), "2A")?;
+    let refused = encode_list(&[aligned(3), aligned(64)], &mut written);
+    assert_eq!(rt; refused, Err(EncodeError::Alignment));
+    assert_eq!(rt; written, bytes(rt.alloc(), "2A")?);
+    encode_list(&[aligned(3), aligned(63)], &mut written)?;
+    assert_eq!(rt; written, bytes(rt.alloc(), "2A0203083F08")?);
+    Ok(())
+}
+
+#[test]
+fn an_alignment_is_refused_before_memory(rt: HostRuntime) {
+    let ration = Rationed::new(rt.alloc(), 0);
+    let mut written = Vec::new(&ration);
+    assert_eq!(rt;
+        aligned(64).encode(&mut written),
+        Err(EncodeError::Alignment)
+    );
+    assert_eq!(rt; aligned(63).encode(&mut written), Err(EncodeError::Memory));
 }
 
 #[test]

@@ -1,7 +1,7 @@
 //! Values and sections of a caller's own.
 ghost use Rattle.std.specs.Prelude.{[]};
 ghost use Rattle.wasm_encoder.specs.Encoding.{OnlyTooLong, too_long_at_once};
-ghost use Rattle.wasm_encoder.specs.Numbers.{unsigned_text};
+ghost use Rattle.wasm_encoder.specs.Numbers.{unsigned_leb128};
 
 use std::alloc::Allocator;
 use wasm_encoder::{Encode, EncodeError, Section};
@@ -69,7 +69,7 @@ impl<T: Encode> Section for Memories<T> {
 pub struct Unappended;
 
 impl Encode for Unappended {
-    ghost bytes = { λ _. unsigned_text 42 };
+    ghost bytes = { λ _. unsigned_leb128 42 };
 
     fn encode<A: Allocator>(&self, sink: &mut Vec<u8, A>) -> Result<(), EncodeError> {
         42u32.encode(sink)

@@ -7,8 +7,9 @@ use std::process::Abort;
 use std::test::Fail;
 use vectors::check_types;
 use wasm_encoder::{
-    ContType, Encode, EncodeError, FuncType, Items, Module, RawSection, ReadError, Section,
-    StorageType, TypeEntry, TypeSection, ValType, normalise_type_section, read_type_section,
+    CodeSection, ContType, Encode, EncodeError, FuncType, Function, Items, Module, RawSection,
+    ReadError, Section, StorageType, TypeEntry, TypeSection, ValType, normalise_type_section,
+    read_type_section,
 };
 
 /// Worked rows, as lines of vectors.
@@ -86,10 +87,19 @@ fn a_module_with_a_function(rt: HostRuntime) -> Result<(), Fail> {
     for (id, body) in [
         (3, b"\x01\x00".as_slice()),
         (7, b"\x01\x01f\x00\x00".as_slice()),
-        (10, b"\x01\x07\x00\x20\x00\x20\x01\x6a\x0b".as_slice()),
     ] {
         module.section(&RawSection { id, body })?;
     }
+    let mut function = Function::new(alloc, [].iter().copied())?;
+    function
+        .instructions()
+        .local_get(0)?
+        .local_get(1)?
+        .i32_add()?
+        .end()?;
+    let mut code = CodeSection::new(alloc);
+    code.function(&function)?;
+    module.section(&code)?;
     let expected = bytes(
         alloc,
         "0061736D0100000001070160027F7F017F03020100070501016600000A09010700200020016A0B",

@@ -81,7 +81,7 @@ pub fn memarg(text: &str) -> Option<MemArg> {
     })
 }
 
-fn ordering(name: &str) -> Option<Ordering> {
+pub fn ordering(name: &str) -> Option<Ordering> {
     match name {
         "seqcst" => Some(Ordering::SeqCst),
         "acqrel" => Some(Ordering::AcqRel),

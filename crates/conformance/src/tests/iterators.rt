@@ -1,0 +1,292 @@
+//! Iterators that tell of more items than they give, and what is refused before an item is asked for.
+ghost use Rattle.std.specs.Prelude.{◌≤◌, vec_len};
+ghost use Rattle.std.specs.Iterator.{at_most};
+
+use super::bytes;
+use std::alloc::Global;
+use std::cell::Cell;
+use std::process::Abort;
+use std::test::Fail;
+use wasm_encoder::{
+    ArrayType, CompositeInnerType, CompositeType, ContType, Encode, EncodeError, FieldType,
+    InstructionSink, Items, StorageType, SubType, TypeSection, ValType, encode_bytes,
+};
+
+/// Gives its items from the last on, tells how many are to come, and counts how often it was asked for one.
+#[derive(Drop)]
+struct Told<'a, T> {
+    items: Vec<T>,
+    told: usize,
+    asked: &'a Cell<u32>,
+    ghost told_enough: { vec_len items ≤ told },
+}
+
+impl<'a, T: Drop> Iterator for Told<'a, T> {
+    type Item = T;
+
+    ghost remaining = { λ s. at_most s.told };
+
+    fn next(&mut self) -> Option<T> {
+        self.asked.set(self.asked.get().saturating_add(1));
+        let item = self.items.pop()?;
+        self.told -= 1;
+        Some(item)
+    }
+}
+
+impl<'a, T: Drop> ExactSizeIterator for Told<'a, T> {
+    fn len(&self) -> usize {
+        self.told
+    }
+}
+
+/// Gives these items, and tells of so many more.
+fn telling<T: Drop>(items: Vec<T>, more: usize, asked: &Cell<u32>) -> Told<'_, T> {
+    let told = items.len().saturating_add(more);
+    Told { items, told, asked }
+}
+
+/// How many labels came, how many more were told of, and the opcode with the count of those that came.
+#[test]
+fn the_labels_that_come_are_counted(rt: HostRuntime) -> Result<(), Fail> {
+    for (came, more, head) in [
+        (0, 0, "2A0E00"),
+        (0, 1, "2A0E00"),
+        (0, 16384, "2A0E00"),
+        (3, 0, "2A0E03"),
+        (3, 1, "2A0E03"),
+        (3, 300, "2A0E03"),
+        (127, 1, "2A0E7F"),
+        (127, 16257, "2A0E7F"),
+        (127, 2097025, "2A0E7F"),
+        (128, 0, "2A0E8001"),
+        (128, 1, "2A0E8001"),
+        (128, 16256, "2A0E8001"),
+        (300, 2000000, "2A0EAC02"),
+        (16383, 1, "2A0EFF7F"),
+        (16384, 1, "2A0E808001"),
+    ] {
+        writes_labels(&rt, rt.alloc(), came, more, head)?;
+    }
+    Ok(())
+}
+
+/// A branch table with these labels has this head, the labels, and the label of all other numbers.
+fn writes_labels(
+    rt: &impl Abort,
+    alloc: Global,
+    came: usize,
+    more: usize,
+    head: &str,
+) -> Result<(), Fail> {
+    let asked = Cell::new(0);
+    let labels = telling(vec![in alloc; 5u32; came]?, more, &asked);
+    let mut code = vec![in alloc; 0x2a]?;
+    InstructionSink::new(&mut code).br_table(labels, 9)?.end()?;
+    let mut expected = bytes(alloc, head)?;
+    expected.extend_from_slice(vec![in alloc; 5u8; came]?.as_slice())?;
+    expected.extend_from_slice(&[9, 0x0b])?;
+    assert_eq!(rt; code, expected, "{came} labels and {more} more");
+    Ok(())
+}
+
+/// How many items came, how many more were told of, and the count of those that came.
+#[test]
+fn the_types_that_come_are_counted(rt: HostRuntime) -> Result<(), Fail> {
+    for (came, more, count) in [
+        (0, 0, "00"),
+        (0, 200, "00"),
+        (3, 1, "03"),
+        (3, 300, "03"),
+        (127, 1, "7F"),
+        (127, 16257, "7F"),
+        (128, 1, "8001"),
+        (128, 16256, "8001"),
+    ] {
+        adds_function(&rt, rt.alloc(), came, more, count)?;
+        adds_struct(&rt, rt.alloc(), came, more, count)?;
+        adds_group(&rt, rt.alloc(), came, more, count)?;
+    }
+    Ok(())
+}
+
+/// Parameters of this number, and one result.
+fn adds_function(
+    rt: &impl Abort,
+    alloc: Global,
+    came: usize,
+    more: usize,
+    count: &str,
+) -> Result<(), Fail> {
+    let asked = Cell::new(0);
+    let params = telling(vec![in alloc; ValType::I32; came]?, more, &asked);
+    let results = telling(vec![in alloc; ValType::I64; 1]?, more, &asked);
+    let mut types = TypeSection::new(alloc);
+    types.ty().function(params, results)?;
+    let mut body = repeated(alloc, "0160", count, "7F", came)?;
+    body.extend_from_slice(&[0x01, 0x7e])?;
+    is_body(rt, alloc, &types, body.as_slice())
+}
+
+/// Fields of this number.
+fn adds_struct(
+    rt: &impl Abort,
+    alloc: Global,
+    came: usize,
+    more: usize,
+    count: &str,
+) -> Result<(), Fail> {
+    let asked = Cell::new(0);
+    let fields = telling(vec![in alloc; BYTE; came]?, more, &asked);
+    let mut types = TypeSection::new(alloc);
+    types.ty().struct_(fields)?;
+    let body = repeated(alloc, "015F", count, "7801", came)?;
+    is_body(rt, alloc, &types, body.as_slice())
+}
+
+/// A group of this number of types.
+fn adds_group(
+    rt: &impl Abort,
+    alloc: Global,
+    came: usize,
+    more: usize,
+    count: &str,
+) -> Result<(), Fail> {
+    let asked = Cell::new(0);
+    let mut members = Vec::new(alloc);
+    for _ in 0..came {
+        members.push(array(alloc))?;
+    }
+    let mut types = TypeSection::new(alloc);
+    types.ty().rec(telling(members, more, &asked))?;
+    let body = repeated(alloc, "014E", count, "5E7801", came)?;
+    is_body(rt, alloc, &types, body.as_slice())
+}
+
+/// A field of a byte that can be changed.
+const BYTE: FieldType = FieldType {
+    element_type: StorageType::I8,
+    mutable: true,
+};
+
+/// The type of an array of such fields.
+fn array(alloc: Global) -> SubType {
+    SubType {
+        is_final: true,
+        supertype_idxs: Items::new(alloc),
+        composite_type: CompositeType {
+            inner: CompositeInnerType::Array(ArrayType(BYTE)),
+            shared: false,
+            descriptor: None,
+            describes: None,
+        },
+    }
+}
+
+/// A head, a count, and so often the same item.
+fn repeated(
+    alloc: Global,
+    head: &str,
+    count: &str,
+    item: &str,
+    times: usize,
+) -> Result<Vec<u8>, Fail> {
+    let mut body = bytes(alloc, head)?;
+    body.extend_from_slice(bytes(alloc, count)?.as_slice())?;
+    let item = bytes(alloc, item)?;
+    for _ in 0..times {
+        body.extend_from_slice(item.as_slice())?;
+    }
+    Ok(body)
+}
+
+/// The section has this body.
+fn is_body(rt: &impl Abort, alloc: Global, types: &TypeSection, body: &[u8]) -> Result<(), Fail> {
+    let mut expected = Vec::new(alloc);
+    encode_bytes(body, &mut expected)?;
+    let mut text = Vec::new(alloc);
+    types.encode(&mut text)?;
+    assert_eq!(rt; text, expected);
+    Ok(())
+}
+
+/// A section of one entry.
+fn one_entry(alloc: Global) -> Result<TypeSection, Fail> {
+    let mut types = TypeSection::new(alloc);
+    types.ty().cont(&ContType(0))?;
+    Ok(types)
+}
+
+/// What is too long is refused before an item is asked for, and the section is as it was.
+#[test]
+fn too_many_are_refused_before_one_is_asked_for(rt: HostRuntime) -> Result<(), Fail> {
+    for more in [4294967296, 5000000000] {
+        refuses_parameters(&rt, rt.alloc(), more, 0)?;
+        refuses_parameters(&rt, rt.alloc(), 0, more)?;
+        refuses_fields(&rt, rt.alloc(), more)?;
+        refuses_members(&rt, rt.alloc(), more)?;
+    }
+    Ok(())
+}
+
+/// A function type with so many more parameters and results than three.
+fn refuses_parameters(
+    rt: &impl Abort,
+    alloc: Global,
+    more_params: usize,
+    more_results: usize,
+) -> Result<(), Fail> {
+    let asked = Cell::new(0);
+    let params = telling(vec![in alloc; ValType::I32; 3]?, more_params, &asked);
+    let results = telling(vec![in alloc; ValType::I32; 3]?, more_results, &asked);
+    let mut types = one_entry(alloc)?;
+    let refused = types.ty().function(params, results);
+    assert_eq!(rt; refused, Err(EncodeError::TooLong));
+    assert_eq!(rt; asked.get(), 0);
+    is_body(rt, alloc, &types, &[0x01, 0x5d, 0x00])
+}
+
+/// A structure with so many more fields than three.
+fn refuses_fields(rt: &impl Abort, alloc: Global, more: usize) -> Result<(), Fail> {
+    let asked = Cell::new(0);
+    let mut types = one_entry(alloc)?;
+    let refused = types
+        .ty()
+        .struct_(telling(vec![in alloc; BYTE; 3]?, more, &asked));
+    assert_eq!(rt; refused, Err(EncodeError::TooLong));
+    assert_eq!(rt; asked.get(), 0);
+    is_body(rt, alloc, &types, &[0x01, 0x5d, 0x00])
+}
+
+/// A group of so many more types than one.
+fn refuses_members(rt: &impl Abort, alloc: Global, more: usize) -> Result<(), Fail> {
+    let asked = Cell::new(0);
+    let mut members = Vec::new(alloc);
+    members.push(array(alloc))?;
+    let mut types = one_entry(alloc)?;
+    let refused = types.ty().rec(telling(members, more, &asked));
+    assert_eq!(rt; refused, Err(EncodeError::TooLong));
+    assert_eq!(rt; asked.get(), 0);
+    is_body(rt, alloc, &types, &[0x01, 0x5d, 0x00])
+}
+
+/// Slices, arrays, vectors and repeated items are taken without a proof.
+#[test]
+fn iterators_of_the_library(rt: HostRuntime) -> Result<(), Fail> {
+    let alloc = rt.alloc();
+    let mut types = TypeSection::new(alloc);
+    types.ty().function(
+        [ValType::I32, ValType::I32].iter().copied(),
+        [ValType::I32].iter().copied(),
+    )?;
+    types.ty().function(
+        vec![in alloc; ValType::I64; 2]?.into_iter(),
+        [ValType::I64].into_iter(),
+    )?;
+    is_body(
+        &rt,
+        alloc,
+        &types,
+        bytes(alloc, "0260027F7F017F60027E7E017E")?.as_slice(),
+    )
+}

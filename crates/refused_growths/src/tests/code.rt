@@ -1,0 +1,155 @@
+//! Functions and code sections: made, added to, encoded and cloned.
+
+use super::call;
+use std::process::Abort;
+use std::test::Fail;
+use wasm_encoder::{
+    Call, CodeBody, CodeSection, Encode, EncodeError, Function, Items, Operands, ValType,
+};
+
+/// Two `i32`s and one `funcref`.
+const LOCALS: [(u32, ValType); 2] = [(2, ValType::I32), (1, ValType::FUNCREF)];
+
+/// The body of these locals, of `br_table [0, 1] 2` and of `end`, after its size.
+const BODY: [u8; 12] = [
+    0x0b, 0x02, 0x02, 0x7f, 0x01, 0x70, 0x0e, 0x02, 0x00, 0x01, 0x02, 0x0b,
+];
+
+/// A body, of which every list is made again where memory was refused.
+fn body(rt: &(impl AllocGlobal + Print)) -> Result<CodeBody, Fail> {
+    let labels = match Items::from_slice(rt.alloc(), &[0, 1]) {
+        Err(EncodeError::Memory) => {
+            println!(rt; "refused")?;
+            Items::from_slice(rt.alloc(), &[0, 1])?
+        }
+        answer => answer?,
+    };
+    let locals = match Items::from_slice(rt.alloc(), &LOCALS) {
+        Err(EncodeError::Memory) => {
+            println!(rt; "refused")?;
+            Items::from_slice(rt.alloc(), &LOCALS)?
+        }
+        answer => answer?,
+    };
+    let mut calls: Vec<Call> = match Vec::with_capacity(rt.alloc(), 2) {
+        Err(_) => {
+            println!(rt; "refused")?;
+            Vec::with_capacity(rt.alloc(), 2)?
+        }
+        Ok(calls) => calls,
+    };
+    calls.push(call(0x0e, Operands::BrTable(labels, 2))?)?;
+    calls.push(call(0x0b, Operands::None)?)?;
+    Ok(CodeBody {
+        locals,
+        calls: Items::from(calls),
+    })
+}
+
+/// The bytes of a value, which is encoded again where it was refused.
+fn encoded<T: Encode>(rt: &(impl AllocGlobal + Print + Abort), value: &T) -> Result<Vec<u8>, Fail> {
+    let mut bytes = Vec::new(rt.alloc());
+    if let Err(EncodeError::Memory) = value.encode(&mut bytes) {
+        println!(rt; "refused")?;
+        assert!(rt; bytes.is_empty());
+        value.encode(&mut bytes)?;
+    }
+    Ok(bytes)
+}
+
+/// A function of the locals, made again where memory was refused.
+fn function(rt: &(impl AllocGlobal + Print)) -> Result<Function, Fail> {
+    Ok(match Function::new(rt.alloc(), LOCALS.iter().copied()) {
+        Err(EncodeError::Memory) => {
+            println!(rt; "refused")?;
+            Function::new(rt.alloc(), LOCALS.iter().copied())?
+        }
+        answer => answer?,
+    })
+}
+
+#[test]
+fn functions_are_made_and_added(rt: HostRuntime) -> Result<(), Fail> {
+    let body = body(&rt)?;
+    let mut function = function(&rt)?;
+    assert_eq!(rt; function.byte_len(), 5);
+    if let Err(EncodeError::Memory) = function.calls(body.calls.as_slice()) {
+        println!(rt; "refused")?;
+        assert_eq!(rt; function.byte_len(), 5);
+        function.calls(body.calls.as_slice())?;
+    }
+    let mut code = CodeSection::new(rt.alloc());
+    if let Err(EncodeError::Memory) = code.function(&function) {
+        println!(rt; "refused")?;
+        assert_eq!(rt; code.len(), 0);
+        code.function(&function)?;
+    }
+    assert_eq!(rt; code.len(), 1);
+    let bytes = encoded(&rt, &code)?;
+    assert_eq!(rt; bytes.first(), Some(&13));
+    assert_eq!(rt; bytes.get(2..), Some(BODY.as_slice()));
+    assert_eq!(rt; encoded(&rt, &function)?.as_slice(), BODY.as_slice());
+    Ok(())
+}
+
+#[test]
+fn bodies_are_added(rt: HostRuntime) -> Result<(), Fail> {
+    let bodies = [body(&rt)?, body(&rt)?];
+    let mut code = CodeSection::new(rt.alloc());
+    if let Err(EncodeError::Memory) = code.bodies(bodies.as_slice()) {
+        println!(rt; "refused")?;
+        assert!(rt; code.is_empty());
+        let mut nothing = Vec::new(rt.alloc());
+        code.encode(&mut nothing)?;
+        assert_eq!(rt; nothing.as_slice(), [1, 0].as_slice());
+        code.bodies(bodies.as_slice())?;
+    }
+    assert_eq!(rt; code.len(), 2);
+    let bytes = encoded(&rt, &code)?;
+    assert_eq!(rt; bytes.get(2..14), Some(BODY.as_slice()));
+    assert_eq!(rt; bytes.get(14..), Some(BODY.as_slice()));
+    Ok(())
+}
+
+#[test]
+fn bodies_are_encoded_and_cloned(rt: HostRuntime) -> Result<(), Fail> {
+    let body = body(&rt)?;
+    assert_eq!(rt; encoded(&rt, &body)?.as_slice(), BODY.as_slice());
+    let same = match body.try_clone() {
+        Err(EncodeError::Memory) => {
+            println!(rt; "refused")?;
+            body.try_clone()?
+        }
+        answer => answer?,
+    };
+    assert_eq!(rt; same, body);
+    Ok(())
+}
+
+#[test]
+fn functions_and_sections_are_cloned(rt: HostRuntime) -> Result<(), Fail> {
+    let function = function(&rt)?;
+    let same = match function.try_clone() {
+        Err(EncodeError::Memory) => {
+            println!(rt; "refused")?;
+            function.try_clone()?
+        }
+        answer => answer?,
+    };
+    assert_eq!(rt; same.byte_len(), 5);
+    let mut code = CodeSection::new(rt.alloc());
+    if let Err(EncodeError::Memory) = code.function(&same) {
+        println!(rt; "refused")?;
+        code.function(&same)?;
+    }
+    let copy = match code.try_clone() {
+        Err(EncodeError::Memory) => {
+            println!(rt; "refused")?;
+            code.try_clone()?
+        }
+        answer => answer?,
+    };
+    assert_eq!(rt; copy.len(), 1);
+    assert_eq!(rt; encoded(&rt, &copy)?, encoded(&rt, &code)?);
+    Ok(())
+}
