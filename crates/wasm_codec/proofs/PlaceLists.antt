@@ -206,12 +206,16 @@ passed {V} {F} r bytes from before out p q v fits n e stands =
       shortest = stands;
     }
 
+pub passed_values : {V : Type 0} {F : Format V} (r : IsLawful F) (bytes : List ℕ) (from : ℕ) (before out : List ℕ) (p q : Place) (v : V) (fits : IsBytes p.left) (n : Normalised F bytes from before out p) (e : F.at p ≡ Some (v, q)) (stands : q.shortest ≡ true) → (passed r bytes from before out p q v fits n e stands).values ≡ n.values ++ v ∷ []
+unfolding passed
+passed_values r bytes from before out p q v fits n e stands = refl
+
 take_prefix : (a b : List ℕ) → take (length a) (a ++ b) ≡ a
 take_prefix [] b = refl
 take_prefix (x ∷ a) b = ap (λ (t : List ℕ). x ∷ t) (take_prefix a b)
 
 -- the slice that is copied
-run_is : (bytes prefix left : List ℕ) (from : ℕ) → bytes ≡ prefix ++ left → from ≤ length prefix → take (length bytes - length left - from) (drop from bytes) ≡ drop from prefix
+pub run_is : (bytes prefix left : List ℕ) (from : ℕ) → bytes ≡ prefix ++ left → from ≤ length prefix → take (length bytes - length left - from) (drop from bytes) ≡ drop from prefix
 run_is bytes prefix left from e le =
     let len : length bytes - length left - from ≡ length (drop from prefix) = omega (arith, ap (length {A = ℕ}) e, length-append prefix left, length-drop from prefix) in
     rw len (rw e (rw (drop_append from prefix left le) (take_prefix (drop from prefix) left)))
@@ -234,6 +238,11 @@ written {V} {F} r bytes from before out p q v run whole fits n e run-is whole-is
           ∙ ap (λ (t : List ℕ). (out ++ t) ++ F.bytes v) old ∙ ap (λ (t : List ℕ). t ++ F.bytes v) n.is_shortest ∙ flat_map_more F.bytes before n.values v;
       shortest = refl;
     }
+
+pub written_values : {V : Type 0} {F : Format V} (r : IsLawful F) (bytes : List ℕ) (from : ℕ) (before out : List ℕ) (p q : Place) (v : V) (run whole : List ℕ) (fits : IsBytes p.left) (n : Normalised F bytes from before out p) (e : F.at p ≡ Some (v, q))
+    (run-is : run ≡ take (length bytes - length p.left - from) (drop from bytes)) (whole-is : whole ≡ (out ++ run) ++ F.bytes v) → (written r bytes from before out p q v run whole fits n e run-is whole-is).values ≡ n.values ++ v ∷ []
+unfolding written
+written_values r bytes from before out p q v run whole fits n e run-is whole-is = refl
 
 take_whole : (a : List ℕ) → take (length a) a ≡ a
 take_whole [] = refl

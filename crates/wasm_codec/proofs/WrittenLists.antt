@@ -1,17 +1,18 @@
 -- Lists that are written item by item.
-use Rattle.std.proofs.Common.{◌≡◌, ℕ, ◌^◌, ◌<◌, List, [], ◌∷◌, ◌++◌, length, Option, ap, ◌∙◌, append_assoc, subst, inl, inr, arith}
-use Rattle.std.specs.Iterator.{Count, Yields}
+use Rattle.std.proofs.Common.{◌≡◌, ℕ, ◌^◌, ◌<◌, List, [], ◌∷◌, ◌++◌, length, Option, ap, ◌∙◌, append_assoc, subst, inl, inr, arith, ◌⊎◌}
+use Rattle.std.specs.Iterator.{Yields}
 use Rattle.std.proofs.lemmas.List.{flat_map_more}
 use Rattle.std.proofs.lemmas.List.Quantifiers.{Any-push}
 use Rattle.std.specs.List.{flat_map}
 use Rattle.wasm_codec.specs.declared.encode.EncodeError.{EncodeError}
+use Rattle.wasm_codec.specs.declared.encode.EncodeError.TheVariants.{Memory}
 use Rattle.wasm_codec.specs.Encoding.{Refuses, OnlyTooLong, IsRefusal, IsListRefusal, CanEncodeList}
-use Rattle.wasm_codec.specs.Iterators.{IsItemsRefusal}
+use Rattle.wasm_codec.specs.Iterators.{IsRefusalOfGiven}
 
 -- an item that the iterator gave is refused
-pub item_refused : {S A : Type 0} (Can : A → Type 0) (refuses : A → EncodeError → Type 0) (gives : S → Option A → S → Type 0) (left : S → Count) (s t : S) (xs : List A) (x : A) (e : EncodeError) → Yields gives s (xs ++ x ∷ []) t → IsRefusal Can refuses x e → IsItemsRefusal Can refuses gives left s e
-item_refused Can refuses gives left s t xs x e given (inl memory) = inl memory
-item_refused Can refuses gives left s t xs x e given (inr refused) = inr (inr (xs ++ x ∷ [], t, given, Any-push (λ y. Refuses Can refuses y e) xs x refused))
+pub item_refused : {S A : Type 0} (Can : A → Type 0) (refuses : A → EncodeError → Type 0) (gives : S → Option A → S → Type 0) (s t : S) (xs : List A) (x : A) (e : EncodeError) → Yields gives s (xs ++ x ∷ []) t → IsRefusal Can refuses x e → (e ≡ Memory) ⊎ IsRefusalOfGiven Can refuses gives s e
+item_refused Can refuses gives s t xs x e given (inl memory) = inl memory
+item_refused Can refuses gives s t xs x e given (inr refused) = inr (xs ++ x ∷ [], t, given, Any-push (λ y. Refuses Can refuses y e) xs x refused)
 
 -- a list that is refused for its number or for an item can't be written
 pub list_refused : {T : Type 0} (Can : T → Type 0) (xs : List T) (e : EncodeError) → IsListRefusal Can OnlyTooLong xs e → IsRefusal (CanEncodeList Can) OnlyTooLong xs e

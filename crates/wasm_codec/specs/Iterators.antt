@@ -1,6 +1,6 @@
 -- What is written of what iterators give.
-use Rattle.std.specs.Prelude.{◌≡◌, ℕ, ◌⊎◌, ◌++◌, List, Option}
-use Rattle.std.specs.List.{All, Any}
+use Rattle.std.specs.Prelude.{◌≡◌, ℕ, ◌⊎◌, ◌++◌, List, Option, length}
+use Rattle.std.specs.List.{All, Any, flat_map}
 use Rattle.std.specs.Iterator.{Count, size, Drains, Yields}
 use Rattle.wasm_codec.specs.declared.encode.EncodeError.{EncodeError}
 use Rattle.wasm_codec.specs.declared.encode.EncodeError.TheVariants.{Memory}
@@ -12,7 +12,15 @@ module _ {S A : Type 0} (encoding : A → List ℕ) (Can IsWritten : A → Type 
   abbrev pub AppendsItems : S → List ℕ → List ℕ → Type 0
   AppendsItems s old new = (xs : List A) × Drains gives s xs × (new ≡ old ++ items_bytes encoding xs) × CanEncodeList Can xs × All IsWritten xs
 
+  -- the same without their number, which is told
+  abbrev pub AppendsCounted : S → List ℕ → List ℕ → ℕ → Type 0
+  AppendsCounted s old new count = (xs : List A) × Drains gives s xs × (new ≡ old ++ flat_map encoding xs) × (count ≡ length xs) × All Can xs × All IsWritten xs
+
 module _ {S A : Type 0} (Can : A → Type 0) (refuses : A → EncodeError → Type 0) (gives : S → Option A → S → Type 0) where
+  -- an item that was given can't be written, and this is an error that is answered for it
+  abbrev pub IsRefusalOfGiven : S → EncodeError → Type 0
+  IsRefusalOfGiven s e = (xs : List A) × (t : S) × Yields gives s xs t × Any (λ x. Refuses Can refuses x e) xs
+
   -- why the items weren't written: memory ran out, there are too many, or one that was given can't be written
   abbrev pub IsItemsRefusal : (S → Count) → S → EncodeError → Type 0
-  IsItemsRefusal left s e = (e ≡ Memory) ⊎ (IsTooLong (size (left s)) e ⊎ ((xs : List A) × (t : S) × Yields gives s xs t × Any (λ x. Refuses Can refuses x e) xs))
+  IsItemsRefusal left s e = (e ≡ Memory) ⊎ (IsTooLong (size (left s)) e ⊎ IsRefusalOfGiven s e)

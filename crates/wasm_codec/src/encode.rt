@@ -14,7 +14,7 @@ mod undo;
 
 pub use iterators::append_items;
 use leb128::{put_i32, put_i64, put_u32, put_u64};
-pub use lists::{encode_bytes, encode_list, encode_str};
+pub use lists::{encode_bytes, encode_list, encode_list_after, encode_str};
 pub use sized::{mend_count, open_gap, put_size_before, put_size_into};
 use std::alloc::{AllocError, Allocator};
 use thiserror::Error;

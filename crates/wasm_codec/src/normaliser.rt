@@ -8,10 +8,13 @@ ghost use Rattle.wasm_codec.specs.Lawful.{IsLawful};
 ghost use Rattle.wasm_codec.specs.formats.Combinators.{items};
 ghost use Rattle.wasm_codec.specs.Rewriting.{AppendsNormalForm, PassesOrWrites, Appends};
 
+mod lists;
+
 use crate::reader::cursor::{Cursor, Fault};
 use crate::reader::passing::Passable;
 use crate::reader::{ReadError, read_error};
 use crate::rewriter::append_count;
+pub use lists::{normalise_list, normalise_list_to_end};
 use std::alloc::Global;
 
 /// What can be written anew, in its shortest encoding, as it is read.

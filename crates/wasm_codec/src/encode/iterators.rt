@@ -1,7 +1,9 @@
 //! Lists from iterators that tell how many items are to come (Core 3.0, Lists).
-ghost use Rattle.std.specs.Prelude.{◌≡◌, ◌^◌, ◌≤◌, OnOk, IfErr, IsErrOf, length, take};
-ghost use Rattle.std.specs.Iterator.{size};
-ghost use Rattle.wasm_codec.specs.Iterators.{AppendsItems, IsItemsRefusal};
+ghost use Rattle.std.specs.Prelude.{◌≡◌, ◌^◌, ◌≤◌, ◌⊎◌, OnOk, IfOk, IfErr, IsErrOf, length, take};
+ghost use Rattle.std.specs.Iterator.{IsFinite, size};
+ghost use Rattle.wasm_codec.specs.Encoding.{IsCount};
+ghost use Rattle.wasm_codec.specs.Iterators.{AppendsCounted, AppendsItems, IsItemsRefusal, IsRefusalOfGiven};
+ghost use Rattle.wasm_codec.specs.declared.encode.EncodeError.TheVariants.{Memory};
 
 use super::{Encode, EncodeError, mend_count};
 use std::alloc::Allocator;
@@ -25,14 +27,30 @@ pub fn append_items<T: Encode + Drop, I: ExactSizeIterator<Item = T>, A: Allocat
     };
     let start = sink.len();
     told.encode(sink)?;
+    let came = append_each(items, sink)?;
+    if came != told {
+        mend_count(sink, start, told, came)?;
+    }
+    Ok(())
+}
+
+/// Appends the bytes of the items that come, and counts them. An `Err` can leave a part of them.
+fn append_each<T: Encode + Drop, I: ExactSizeIterator<Item = T>, A: Allocator>(
+    items: I,
+    sink: &mut Vec<u8, A>,
+) -> Result<u32, EncodeError>
+    requires next { I.can_next items }
+    requires ends { IsFinite (I.remaining items) }
+    requires few { IsCount (size (I.remaining items)) }
+    ensures ok { IfOk result (λ came. AppendsCounted T.bytes T.CanEncode T.IsWritten I.next_gives items sink.old.items sink.new.items came) }
+    ensures few { IfOk result (λ came. came ≤ size (I.remaining items)) }
+    ensures refused { IfErr result (λ e. (e ≡ Memory) ⊎ IsRefusalOfGiven T.CanEncode T.refuses I.next_gives items e) }
+    ensures kept { take (length sink.old.items) sink.new.items ≡ sink.old.items }
+{
     let mut came = 0;
     for item in items {
         item.encode(sink)?;
         came += 1;
     }
-    if came == told {
-        return Ok(());
-    }
-    mend_count(sink, start, told, came)?;
-    Ok(())
+    Ok(came)
 }

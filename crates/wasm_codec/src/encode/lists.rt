@@ -1,8 +1,9 @@
 //! Lists, bytes and texts, after their number (Core 3.0, Lists and Names).
-ghost use Rattle.std.specs.Prelude.{◌≡◌, ◌++◌, ◌^◌, ◌≤◌, OnOk, OnErr, IfErr, IsErrOf, length, take};
-ghost use Rattle.std.specs.List.{All};
+ghost use Rattle.std.specs.Prelude.{◌≡◌, ◌++◌, ◌∷◌, ◌^◌, ◌≤◌, ◌⊎◌, OnOk, OnErr, IfErr, IsErrOf, length, take};
+ghost use Rattle.std.specs.List.{All, Any, flat_map};
 ghost use Rattle.wasm_codec.specs.Lists.{items_bytes};
-ghost use Rattle.wasm_codec.specs.Encoding.{byte_list_bytes, CanEncodeList, IsCount, IsCountRefusal, IsListRefusal};
+ghost use Rattle.wasm_codec.specs.Encoding.{byte_list_bytes, CanEncodeList, IsCount, IsCountRefusal, IsListRefusal, Refuses};
+ghost use Rattle.wasm_codec.specs.declared.encode.EncodeError.TheVariants.{Memory};
 
 use super::{Encode, EncodeError, keep_or_undo};
 use std::alloc::Allocator;
@@ -26,6 +27,27 @@ pub fn encode_list<T: Encode, A: Allocator>(
     keep_or_undo(sink, start, result)
 }
 
+/// Appends a byte, the number of items and then the bytes of each, or leaves `sink` as it was.
+///
+/// `TooLong` where there are more than 4,294,967,295 items, before the first is encoded; else an error of an item.
+pub fn encode_list_after<T: Encode, A: Allocator>(
+    byte: u8,
+    items: &[T],
+    sink: &mut Vec<u8, A>,
+) -> Result<(), EncodeError>
+    ensures ok { OnOk result (sink.new.items ≡ sink.old.items ++ byte ∷ items_bytes T.bytes items.now) }
+    ensures can { OnOk result (CanEncodeList T.CanEncode items.now) }
+    ensures written { OnOk result (All T.IsWritten items.now) }
+    ensures refused { IfErr result (IsListRefusal T.CanEncode T.refuses items.now) }
+    ensures err { OnErr result (sink.new.items ≡ sink.old.items) }
+{
+    let start = sink.len();
+    sink.reserve(1)?;
+    sink.push_reserved(byte);
+    let result = encode_list(items, sink);
+    keep_or_undo(sink, start, result)
+}
+
 /// Appends the number of items and then the bytes of each. An `Err` can leave a part of them.
 fn append_list<T: Encode, A: Allocator>(
     items: &[T],
@@ -39,6 +61,20 @@ fn append_list<T: Encode, A: Allocator>(
     ensures kept { take (length sink.old.items) sink.new.items ≡ sink.old.items }
 {
     items.len().encode(sink)?;
+    append_each(items, sink)
+}
+
+/// Appends the bytes of each item. An `Err` can leave a part of them.
+fn append_each<T: Encode, A: Allocator>(
+    items: &[T],
+    sink: &mut Vec<u8, A>,
+) -> Result<(), EncodeError>
+    ensures ok { OnOk result (sink.new.items ≡ sink.old.items ++ flat_map T.bytes items.now) }
+    ensures can { OnOk result (All T.CanEncode items.now) }
+    ensures written { OnOk result (All T.IsWritten items.now) }
+    ensures refused { IfErr result (λ e. (e ≡ Memory) ⊎ Any (λ x. Refuses T.CanEncode T.refuses x e) items.now) }
+    ensures kept { take (length sink.old.items) sink.new.items ≡ sink.old.items }
+{
     for item in items {
         item.encode(sink)?;
     }

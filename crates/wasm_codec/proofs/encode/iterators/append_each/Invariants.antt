@@ -1,8 +1,7 @@
 use Rattle.std.proofs.Common.{◌≡◌, ◌++◌, ◌+◌, ◌≤◌, length}
 use Rattle.std.specs.Iterator.{size}
 use Rattle.std.specs.List.{All, flat_map}
-use Rattle.wasm_codec.specs.Numbers.{unsigned_leb128}
-use Rattle.wasm_codec.proofs.encode.iterators.append_items.Given as goal
+use Rattle.wasm_codec.proofs.encode.iterators.append_each.Given as goal
 
 abbrev pub invariant-loop-item : goal.invariant-loop-item
 invariant-loop-item g l =
@@ -10,6 +9,6 @@ invariant-loop-item g l =
     (goal.iterator-loop-item g).is_finite l.item-iterator ×
     (l.came ≡ length l.yielded) ×
     (l.came + (goal.iterator-loop-item g).remaining l.item-iterator ≤ size (g.I.Iterator.remaining l.fn.items)) ×
-    (l.sink.items ≡ l.fn.sink.items ++ (unsigned_leb128 (size (g.I.Iterator.remaining l.fn.items)) ++ flat_map g.T.Encode.bytes l.yielded)) ×
+    (l.sink.items ≡ l.fn.sink.items ++ flat_map g.T.Encode.bytes l.yielded) ×
     All g.T.Encode.CanEncode l.yielded ×
     All g.T.Encode.IsWritten l.yielded
