@@ -1,4 +1,5 @@
-pub mod RewritingLaws
 pub mod TypeFormatLaws
-pub mod CountLaws
 pub mod WrittenTypes
+pub mod NormalLengths
+pub mod Passing
+pub mod Anew

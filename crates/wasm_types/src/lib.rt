@@ -3,5 +3,6 @@
 #![tactic(auto)]
 
 pub mod encode;
+mod normaliser;
 pub mod reader;
 pub mod types;

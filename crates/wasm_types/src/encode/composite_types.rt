@@ -16,11 +16,11 @@ use crate::types::{
 };
 use std::alloc::Allocator;
 use wasm_codec::encode::leb128::{put_index, put_u32};
-use wasm_codec::encode::{Encode, EncodeError, encode_list, keep_or_undo};
+use wasm_codec::encode::{Encode, EncodeError, encode_list, encode_list_after, keep_or_undo};
 
 /// Writes a field in 2 to 8 bytes.
 #[tactic(auto, unfolding(crate::specs::formats::Types::field_type, crate::specs::formats::Types::mutability))]
-fn put_field_type<A: Allocator>(bytes: &mut Vec<u8, A>, field: FieldType)
+pub(crate) fn put_field_type<A: Allocator>(bytes: &mut Vec<u8, A>, field: FieldType)
     requires { vec_len bytes.old + 8 ≤ vec_capacity bytes.old }
     ensures items { bytes.new.items ≡ bytes.old.items ++ field_type.bytes field }
     ensures fits { StorageTypeFits field.element_type }
@@ -53,9 +53,7 @@ fn append_func<A: Allocator>(ty: &FuncType, sink: &mut Vec<u8, A>) -> Result<(),
     ensures refused { IfErr result (IsRefusal CountedFunc OnlyTooLong ty.now) }
     ensures kept { take (length sink.old.items) sink.new.items ≡ sink.old.items }
 {
-    sink.reserve(1)?;
-    sink.push_reserved(0x60);
-    encode_list(ty.params(), sink)?;
+    encode_list_after(0x60, ty.params(), sink)?;
     encode_list(ty.results(), sink)
 }
 
@@ -88,11 +86,7 @@ impl Encode for StructType {
     ghost refuses = { OnlyTooLong };
 
     fn encode<A: Allocator>(&self, sink: &mut Vec<u8, A>) -> Result<(), EncodeError> {
-        let start = sink.len();
-        sink.reserve(1)?;
-        sink.push_reserved(0x5f);
-        let result = encode_list(self.fields.as_slice(), sink);
-        keep_or_undo(sink, start, result)
+        encode_list_after(0x5f, self.fields.as_slice(), sink)
     }
 }
 
@@ -202,13 +196,9 @@ fn append_supertypes<A: Allocator>(
     ensures refused { IfErr result (IsCountRefusal (length supertypes.now)) }
     ensures kept { take (length sink.old.items) sink.new.items ≡ sink.old.items }
 {
-    sink.reserve(1)?;
     match supertypes {
         [] if is_final => Ok(()),
-        _ => {
-            sink.push_reserved(if is_final { 0x4f } else { 0x50 });
-            encode_list(supertypes, sink)
-        }
+        _ => encode_list_after(if is_final { 0x4f } else { 0x50 }, supertypes, sink),
     }
 }
 
@@ -255,14 +245,9 @@ impl Encode for TypeEntry {
     ghost refuses = { OnlyTooLong };
 
     fn encode<A: Allocator>(&self, sink: &mut Vec<u8, A>) -> Result<(), EncodeError> {
-        let types = match self {
-            TypeEntry::Sub(ty) => return ty.encode(sink),
-            TypeEntry::Rec(types) => types,
-        };
-        let start = sink.len();
-        sink.reserve(1)?;
-        sink.push_reserved(0x4e);
-        let result = encode_list(types.as_slice(), sink);
-        keep_or_undo(sink, start, result)
+        match self {
+            TypeEntry::Sub(ty) => ty.encode(sink),
+            TypeEntry::Rec(types) => encode_list_after(0x4e, types.as_slice(), sink),
+        }
     }
 }

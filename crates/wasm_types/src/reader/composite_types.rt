@@ -14,17 +14,14 @@ ghost use Rattle.wasm_types.specs.declared.types.composite.SubType.{SubType};
 ghost use Rattle.wasm_types.specs.declared.types.composite.TypeEntry.{TypeEntry};
 
 use super::heap_types::{read_storage_type, read_val_type};
-use crate::encode::put_val_type;
 use crate::types::{
     ArrayType, CompositeInnerType, CompositeType, ContType, FieldType, FuncType, StructType,
     SubType, TypeEntry, ValType,
 };
 use std::alloc::Global;
 use wasm_codec::list::Items;
-use wasm_codec::normaliser::Normalisable;
 use wasm_codec::reader::cursor::{Cursor, Fault};
 use wasm_codec::reader::lists::read_list;
-use wasm_codec::reader::passing::Passable;
 use wasm_codec::reader::readable::Readable;
 
 impl<'a> Readable<'a> for ValType {
@@ -46,27 +43,6 @@ impl<'a> Readable<'a> for ValType {
     {
         let _ = alloc;
         read_val_type(cursor)
-    }
-}
-
-impl<'a> Passable<'a> for ValType {
-    fn pass(cursor: &mut Cursor<'a>) -> Result<(), Fault> {
-        read_val_type(cursor)?;
-        Ok(())
-    }
-}
-
-impl<'a> Normalisable<'a> for ValType {
-    fn write_anew(
-        alloc: Global,
-        cursor: &mut Cursor<'a>,
-        bytes: &mut Vec<u8>,
-    ) -> Result<(), Fault> {
-        let _ = alloc;
-        let ty = read_val_type(cursor)?;
-        bytes.reserve(7)?;
-        put_val_type(bytes, ty);
-        Ok(())
     }
 }
 
@@ -94,7 +70,7 @@ impl<'a> Readable<'a> for FieldType {
 
 /// A field.
 #[tactic(auto, unfolding(crate::specs::formats::Types::field_type, crate::specs::formats::Types::mutability))]
-fn read_field_type(cursor: &mut Cursor<'_>) -> Result<FieldType, Fault>
+pub(crate) fn read_field_type(cursor: &mut Cursor<'_>) -> Result<FieldType, Fault>
     ensures reads { Reads field_type.at cursor.old cursor.new result }
     ensures err { IfErr result (λ e. e ≡ Malformed) }
 {

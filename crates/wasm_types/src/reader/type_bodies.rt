@@ -1,21 +1,16 @@
 //! Bodies of type sections (Core 3.0, Type Section).
-ghost use Rattle.std.specs.Prelude.{◌≡◌, ◌↔◌, ◌++◌, List, IfOk, OnOk};
+ghost use Rattle.std.specs.Prelude.{◌≡◌, ◌↔◌, ◌≤◌, List, length, IfOk};
 ghost use Rattle.wasm_codec.specs.Answers.{IsOrMemory, IfRefused, IsLongestPrefix, IsNormalForm, EncodesSome};
 ghost use Rattle.wasm_codec.specs.Encoding.{IsShortestOrLonger};
-ghost use Rattle.wasm_codec.specs.Lawful.{plain, IsPrefixFree};
+ghost use Rattle.wasm_codec.specs.Lawful.{IsPrefixFree};
 ghost use Rattle.wasm_types.specs.formats.Types.{sub_type, recursive_type, type_body, IsTypeBodyPrefix, ShortestTypeBody, IsShortestTypeBodyPrefix, storage_type};
-ghost use Rattle.wasm_types.specs.declared.types.composite.SubType.{SubType};
 ghost use Rattle.wasm_types.specs.declared.types.composite.TypeEntry.{TypeEntry};
-ghost use Rattle.wasm_codec.specs.Rewriting.{Rewrites};
 
-use crate::types::{SubType, TypeEntry};
-use std::alloc::{AllocError, Global};
-use wasm_codec::encode::{Encode, EncodeError};
+use crate::types::TypeEntry;
+use std::alloc::Global;
+use wasm_codec::normaliser::normalise_list_to_end;
 use wasm_codec::reader::ReadError;
-use wasm_codec::reader::cursor::{Cursor, Fault};
 use wasm_codec::reader::lists::{read_list_to_end, read_list_to_end_as};
-use wasm_codec::reader::readable::Readable;
-use wasm_codec::rewriter::{Rewritable, rewrite_list, rewrite_list_to_end};
 
 /// The entries that the body of a type section encodes, in any encoding (Core 3.0, Type Section).
 ///
@@ -89,6 +84,11 @@ pub fn normalise_type_section(alloc: Global, body: &[u8]) -> Result<Vec<u8>, Rea
     // The result is normal: it is the shortest encoding of what it encodes.
     ensures normal { IfOk result (λ encoding. (entries : List TypeEntry) →
         type_body.Encodes encoding.items entries → encoding.items ≡ type_body.bytes entries) }
+    // Every other encoding of a list is longer than its shortest.
+    ensures shortest { (entries : List TypeEntry) → type_body.Encodes body.now entries →
+        IsShortestOrLonger body.now (type_body.bytes entries) }
+    // The result is no longer than the body.
+    ensures no_longer { IfOk result (λ encoding. length encoding.items ≤ length body.now) }
     // A shortest encoding stays as it is, unless memory ran out.
     ensures stays { (entries : List TypeEntry) → ShortestTypeBody body.now entries →
         IsOrMemory (λ encoding. encoding.items) body.now result }
@@ -99,7 +99,7 @@ pub fn normalise_type_section(alloc: Global, body: &[u8]) -> Result<Vec<u8>, Rea
     body_bytes_of(alloc, body)
 }
 
-/// The entries in their shortest encoding after their count, written one by one as they are read.
+/// The entries in their shortest encoding after their count: copied in runs, or written anew as they are read.
 #[tactic(auto, unfolding(crate::specs::formats::Types::type_body))]
 fn body_bytes_of(alloc: Global, body: &[u8]) -> Result<Vec<u8>, ReadError>
     ensures given { IfOk result (λ encoding.
@@ -108,78 +108,6 @@ fn body_bytes_of(alloc: Global, body: &[u8]) -> Result<Vec<u8>, ReadError>
     ensures none { IfRefused result (λ _. (entries : List TypeEntry) → type_body.Encodes body.now entries → ⊥) }
 {
     let mut encoding = Vec::new(alloc);
-    rewrite_list_to_end::<TypeEntry>(alloc, body, &mut encoding)?;
+    normalise_list_to_end::<TypeEntry>(alloc, body, &mut encoding)?;
     Ok(encoding)
-}
-
-/// Appends the shortest encoding of the entry that comes next. Of a group one member at a time is held.
-fn rewrite_entry(
-    alloc: Global,
-    cursor: &mut Cursor<'_>,
-    encoding: &mut Vec<u8>,
-) -> Result<(), Fault>
-    ensures rewrites { Rewrites (plain recursive_type.at) recursive_type.bytes cursor.old.left cursor.new.left encoding.old.items encoding.new.items result }
-{
-    let start = cursor.fork();
-    if start.peek()? == 0x4e {
-        cursor.byte()?;
-        encoding.push(0x4e)?;
-        return rewrite_list::<SubType>(alloc, cursor, encoding);
-    }
-    rewrite_sub_type(alloc, cursor, encoding)
-}
-
-/// Appends the shortest encoding of the subtype that comes next.
-fn rewrite_sub_type(
-    alloc: Global,
-    cursor: &mut Cursor<'_>,
-    encoding: &mut Vec<u8>,
-) -> Result<(), Fault>
-    ensures rewrites { Rewrites (plain sub_type.at) sub_type.bytes cursor.old.left cursor.new.left encoding.old.items encoding.new.items result }
-{
-    let _start = cursor.fork();
-    let ty = SubType::read(alloc, cursor)?;
-    append_sub_type(encoding, &ty)?;
-    Ok(())
-}
-
-/// Appends the shortest encoding of a subtype in range, so that only memory can be wanting.
-#[tactic(auto, using(crate::proofs::CountLaws::sub_counted))]
-fn append_sub_type(encoding: &mut Vec<u8>, ty: &SubType) -> Result<(), AllocError>
-    requires in_range { sub_type.InRange ty.now }
-    ensures ok { OnOk result (encoding.new.items ≡ encoding.old.items ++ sub_type.bytes ty.now) }
-{
-    match ty.encode(encoding) {
-        Ok(()) => Ok(()),
-        Err(EncodeError::Memory) => Err(AllocError),
-        Err(EncodeError::TooLong | EncodeError::Alignment) => unreachable!(),
-    }
-}
-
-impl<'a> Rewritable<'a> for SubType {
-    ghost Value = { SubType };
-
-    ghost format = { sub_type };
-
-    fn rewrite(
-        alloc: Global,
-        cursor: &mut Cursor<'a>,
-        encoding: &mut Vec<u8>,
-    ) -> Result<(), Fault> {
-        rewrite_sub_type(alloc, cursor, encoding)
-    }
-}
-
-impl<'a> Rewritable<'a> for TypeEntry {
-    ghost Value = { TypeEntry };
-
-    ghost format = { recursive_type };
-
-    fn rewrite(
-        alloc: Global,
-        cursor: &mut Cursor<'a>,
-        encoding: &mut Vec<u8>,
-    ) -> Result<(), Fault> {
-        rewrite_entry(alloc, cursor, encoding)
-    }
 }

@@ -1,6 +1,7 @@
 use Rattle.wasm_types.specs.formats.Types.{type_body, ShortestTypeBody}
 use Rattle.wasm_codec.proofs.ListReading.{gives_bytes, gives_same, gives_normal, gives_itself, was_shortest}
 use Rattle.wasm_types.proofs.TypeFormatLaws.{Lawful-type-body, AtMostOne-type-body, is_shortest_body}
+use Rattle.wasm_types.proofs.NormalLengths.{gives_no_longer}
 use Rattle.wasm_types.proofs.reader.type_bodies.normalise_type_section.Goals as goal
 
 pub returns-clause-complete : goal.returns-clause-complete
@@ -14,6 +15,12 @@ returns-clause-same c = gives_same AtMostOne-type-body Lawful-type-body.shortest
 
 pub returns-clause-normal : goal.returns-clause-normal
 returns-clause-normal c = gives_normal AtMostOne-type-body Lawful-type-body.shortest (λ encoding. encoding.items) c.args.body.now c.body_bytes_of.result c.body_bytes_of.ensures.given
+
+pub returns-clause-shortest : goal.returns-clause-shortest
+returns-clause-shortest c = Lawful-type-body.shortest.least c.args.body.now
+
+pub returns-clause-no_longer : goal.returns-clause-no_longer
+returns-clause-no_longer c = gives_no_longer Lawful-type-body.shortest (λ encoding. encoding.items) c.args.body.now c.body_bytes_of.result c.body_bytes_of.ensures.given
 
 pub returns-clause-stays : goal.returns-clause-stays
 returns-clause-stays c entries g =

@@ -1,5 +1,5 @@
 use Rattle.wasm_types.proofs.TypeFormatLaws.{Lawful-val-type, val_type_takes}
-use Rattle.wasm_types.proofs.reader.composite_types.ValTypePassable.pass.Goals as goal
+use Rattle.wasm_types.proofs.reader.passing.ValTypePassable.pass.Goals as goal
 
 pub returns-in_err-read_val_type-clause-lawful : goal.returns-in_err-read_val_type-clause-lawful
 returns-in_err-read_val_type-clause-lawful c = Lawful-val-type

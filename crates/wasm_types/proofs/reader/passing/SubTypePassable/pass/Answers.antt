@@ -1,5 +1,5 @@
 use Rattle.wasm_types.proofs.TypeFormatLaws.{Lawful-sub-type, sub_type_takes}
-use Rattle.wasm_types.proofs.reader.type_bodies.SubTypeRewritable.rewrite.Goals as goal
+use Rattle.wasm_types.proofs.reader.passing.SubTypePassable.pass.Goals as goal
 
 pub returns-clause-lawful : goal.returns-clause-lawful
 returns-clause-lawful c = Lawful-sub-type

@@ -1,5 +1,5 @@
 use Rattle.wasm_types.proofs.TypeFormatLaws.{Lawful-recursive-type, recursive_type_takes}
-use Rattle.wasm_types.proofs.reader.type_bodies.TypeEntryRewritable.rewrite.Goals as goal
+use Rattle.wasm_types.proofs.reader.passing.TypeEntryPassable.pass.Goals as goal
 
 pub returns-clause-lawful : goal.returns-clause-lawful
 returns-clause-lawful c = Lawful-recursive-type
