@@ -69,31 +69,24 @@ unfolding ordering
 ordering_in_range orderings.SeqCst = refl
 ordering_in_range o = refl
 
-operands_in_range : (o : Operands) → InRange o → ItemsInRange o → IsCounted o → (operands_format (kind_of o)).InRange o
+pub operands_in_range : (o : Operands) → InRange o → ItemsInRange o → IsCounted o → (operands_format (kind_of o)).InRange o
 unfolding operands_format little_endian vector lanes
 operands_in_range operands.None fits in_lists counted = refl
 operands_in_range (operands.Block ty) fits in_lists counted = (block_in_range ty fits, refl)
-operands_in_range (operands.Index index) fits in_lists counted = (fits, refl)
-operands_in_range (operands.TwoIndexes first second) fits in_lists counted = (fits, refl)
 operands_in_range (operands.BrTable labels default) fits in_lists counted = (((counted, in_lists), fits), refl)
 operands_in_range (operands.Types types) fits in_lists counted = ((counted, all_of ValTypeFits val_type.InRange types val_in_range in_lists), refl)
 operands_in_range (operands.TryTable ty clauses) fits in_lists counted = ((block_in_range ty fits, (counted, all_of CatchFits catch_clause.InRange clauses catch_in_range in_lists)), refl)
 operands_in_range (operands.Mem arg) fits in_lists counted = (mem_arg_in_range arg fits, refl)
-operands_in_range (operands.I32 value) fits in_lists counted = (fits, refl)
-operands_in_range (operands.I64 value) fits in_lists counted = (fits, refl)
-operands_in_range (operands.F32 value) fits in_lists counted = (fits, refl)
-operands_in_range (operands.F64 value) fits in_lists counted = (fits, refl)
 operands_in_range (operands.Heap ty) fits in_lists counted = (heap_in_range ty fits, refl)
 operands_in_range (operands.Resume index handlers) fits in_lists counted = ((fits, (counted, all_of HandleFits handle_clause.InRange handlers handle_in_range in_lists)), refl)
 operands_in_range (operands.ResumeThrow index tag handlers) fits in_lists counted = ((fits.0, (fits.1, (counted, all_of HandleFits handle_clause.InRange handlers handle_in_range in_lists))), refl)
 operands_in_range (operands.Cast label before after) fits in_lists counted = ((castop_in_range (before.nullable, after.nullable), (fits.0, (heap_in_range before.heap_type fits.1, heap_in_range after.heap_type fits.2))), refl)
-operands_in_range (operands.V128 value) fits in_lists counted = (fits, refl)
 operands_in_range (operands.Shuffle lanes) fits in_lists counted = ((fits.0, IsBytes-from lanes fits.1), refl)
-operands_in_range (operands.Lane lane) fits in_lists counted = (fits, refl)
 operands_in_range (operands.MemLane arg lane) fits in_lists counted = ((mem_arg_in_range arg fits.0, fits.1), refl)
 operands_in_range (operands.Order o) fits in_lists counted = (ordering_in_range o, refl)
 operands_in_range (operands.OrderIndex o index) fits in_lists counted = ((ordering_in_range o, fits), refl)
 operands_in_range (operands.OrderTwoIndexes o first second) fits in_lists counted = ((ordering_in_range o, fits), refl)
+operands_in_range o fits in_lists counted = (fits, refl)
 
 opcode_in_range : (op : Opcode) → IsShort op → opcode.InRange op
 unfolding opcode

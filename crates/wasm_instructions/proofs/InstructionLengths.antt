@@ -1,5 +1,5 @@
 -- How long the shortest encodings of instructions are at the most.
-use Rattle.std.proofs.Common.{◌≡◌, ℕ, ◌+◌, ◌*◌, ◌^◌, ◌<◌, ◌≤◌, suc, Bool, true, false, not, ◌&&◌, cond, eqb, List, [], ◌∷◌, ◌++◌, length, Some, Option, None, refl, ap, subst, length-append, append-nil, arith}
+use Rattle.std.proofs.Common.{◌≡◌, ℕ, ◌+◌, ◌*◌, ◌^◌, ◌<◌, ◌≤◌, suc, Bool, true, false, not, ◌&&◌, cond, eqb, List, [], ◌∷◌, ◌++◌, length, Some, refl, ap, length-append, append-nil, arith}
 use Rattle.std.specs.Prelude.{is_some}
 use Rattle.wasm_types.specs.declared.types.heap.HeapType.TheVariants.{Concrete, Exact}
 use Rattle.wasm_types.specs.declared.types.value.ValType.{ValType}
@@ -15,19 +15,19 @@ use Rattle.wasm_instructions.specs.declared.table.opcode.Kind.TheVariants as kin
 use Rattle.wasm_instructions.specs.declared.table.call.Operands.{Operands}
 use Rattle.wasm_instructions.specs.declared.table.call.Operands.TheVariants as operands
 use Rattle.wasm_codec.specs.Numbers.{unsigned_leb128}
-use Rattle.wasm_codec.specs.formats.Combinators.{flagged, items, by_kind}
+use Rattle.wasm_codec.specs.formats.Combinators.{flagged, items}
 use Rattle.wasm_codec.proofs.RawFormatLaws.{little_range}
 use Rattle.wasm_codec.proofs.FormatLengths.{AtMost, AtMost-more, AtMost-byte, AtMost-nothing, AtMost-one-byte, AtMost-raw, AtMost-u32, AtMost-u64, AtMost-s32, AtMost-s64, AtMost-index, length-number, AtMost-both, AtMost-made, AtMost-made-of, AtMost-little-endian, AtMost-any, AtMost-or-else, AtMost-either, AtMost-after, AtMost-after-long}
 use Rattle.wasm_types.specs.formats.Types.{abstract_byte, abstract_types, abstract_type, abstract_of, abstract_parts, concrete_part, exact_part, heap_type, reference, nullable_part, has_short_form, ref_type, number_byte, number_types, ref_part, val_type}
 use Rattle.wasm_instructions.specs.formats.Operands.{empty_byte, function_type_part, result_part, block_type, nullables_byte, all_nullables, castop, MemArgInRange, mem_arg, ordering_byte, ordering, to_halves, vector, lanes}
 use Rattle.wasm_instructions.specs.Operands.{ieee32, ieee64}
 use Rattle.wasm_instructions.specs.Opcodes.{ranges, kind_among, kind}
-use Rattle.wasm_instructions.specs.Instructions.{Instruction, IsShort}
+use Rattle.wasm_instructions.specs.Instructions.{InRange, IsCounted, IsShort, ItemsInRange, call, kind_of}
 use Rattle.wasm_instructions.specs.Lengths.{HasNoLongList, IsShortEncoding}
 use Rattle.wasm_instructions.specs.formats.Instructions.{opcode, block_part, index_part, two_indexes_part, mem_part, i32_part, i64_part, f32_part, f64_part, heap_part, cast_of, cast_part, v128_part, shuffle_part, lane_part, mem_lane_part, order_part, order_index_part, order_two_indexes_part, operands_format, instruction}
-use Rattle.wasm_instructions.proofs.OpcodeLaws.{in_table_short, cast_is_low}
+use Rattle.wasm_instructions.proofs.OpcodeLaws.{cast_is_low}
 use Rattle.wasm_instructions.proofs.OperandFormatLaws.{halves_back}
-use Rattle.wasm_instructions.proofs.InstructionFormatLaws.{of_kind}
+use Rattle.wasm_instructions.proofs.CallRanges.{operands_in_range}
 
 -- ---- types
 
@@ -119,51 +119,32 @@ AtMost-operands kinds.MemLane alone = AtMost-made (λ p. operands.MemLane p.0 p.
 AtMost-operands kinds.Order alone = AtMost-made operands.Order order_part (AtMost-more (omega arith) AtMost-ordering)
 AtMost-operands kinds.OrderIndex alone = AtMost-made (λ p. operands.OrderIndex p.0 p.1) order_index_part (AtMost-more (omega arith) (AtMost-both AtMost-ordering AtMost-u32))
 AtMost-operands kinds.OrderTwoIndexes alone = AtMost-made (λ p. operands.OrderTwoIndexes p.0 p.1.0 p.1.1) order_two_indexes_part (AtMost-more (omega arith) (AtMost-both AtMost-ordering (AtMost-both AtMost-u32 AtMost-u32)))
-AtMost-operands kinds.BrTable alone = absurd alone
-AtMost-operands kinds.Types alone = absurd alone
-AtMost-operands kinds.TryTable alone = absurd alone
-AtMost-operands kinds.Resume alone = absurd alone
-AtMost-operands kinds.ResumeThrow alone = absurd alone
-
-no_br_table : (o : Operands) → HasNoLongList o → (operands_format kinds.BrTable).InRange o → ⊥
-unfolding operands_format
-no_br_table (operands.BrTable labels default) short fits = short
-no_br_table o short fits = fits
-
-no_try_table : (o : Operands) → HasNoLongList o → (operands_format kinds.TryTable).InRange o → ⊥
-unfolding operands_format
-no_try_table (operands.TryTable ty clauses) short fits = short
-no_try_table o short fits = fits
-
-no_resume : (o : Operands) → HasNoLongList o → (operands_format kinds.Resume).InRange o → ⊥
-unfolding operands_format
-no_resume (operands.Resume index handlers) short fits = short
-no_resume o short fits = fits
-
-no_resume_throw : (o : Operands) → HasNoLongList o → (operands_format kinds.ResumeThrow).InRange o → ⊥
-unfolding operands_format
-no_resume_throw (operands.ResumeThrow index tag handlers) short fits = short
-no_resume_throw o short fits = fits
+AtMost-operands k alone = absurd alone
 
 one_type : (types : List ValType) → length types ≡ 1 → (items val_type).InRange types → length ((items val_type).bytes types) ≤ 17
 one_type [] one fits = absurd cc
 one_type (ty ∷ []) one fits = omega (arith, length-append (unsigned_leb128 1) (val_type.bytes ty ++ []), ap (length {A = ℕ}) (append-nil (val_type.bytes ty)), length-number 0 1 (omega arith), AtMost-val-type.bound ty fits.1.0)
 one_type (ty ∷ next ∷ types) one fits = absurd (omega arith)
 
-one_types : (o : Operands) → HasNoLongList o → (operands_format kinds.Types).InRange o → length ((operands_format kinds.Types).bytes o) ≤ 17
+operands_at_most : (o : Operands) → HasNoLongList o → (operands_format (kind_of o)).InRange o → length ((operands_format (kind_of o)).bytes o) ≤ most_of (kind_of o)
 unfolding operands_format
-one_types (operands.Types types) short fits = one_type types short fits.0
-one_types o short fits = absurd fits
+operands_at_most (operands.Types types) short fits = one_type types short fits.0
+operands_at_most o short fits = (AtMost-operands (kind_of o) short).bound o fits
 
-operands_at_most : (k : Kind) (o : Operands) → HasNoLongList o → (operands_format k).InRange o → length ((operands_format k).bytes o) ≤ most_of k
-operands_at_most kinds.BrTable o short fits = absurd (no_br_table o short fits)
-operands_at_most kinds.Types o short fits = one_types o short fits
-operands_at_most kinds.TryTable o short fits = absurd (no_try_table o short fits)
-operands_at_most kinds.Resume o short fits = absurd (no_resume o short fits)
-operands_at_most kinds.ResumeThrow o short fits = absurd (no_resume_throw o short fits)
-operands_at_most k o short fits = (AtMost-operands k tt).bound o fits
+counted_short : (o : Operands) → HasNoLongList o → IsCounted o
+counted_short (operands.BrTable labels default) short = absurd short
+counted_short (operands.Types types) short = omega (arith, short)
+counted_short (operands.TryTable ty clauses) short = absurd short
+counted_short (operands.Resume index handlers) short = absurd short
+counted_short (operands.ResumeThrow index tag handlers) short = absurd short
+counted_short o short = tt
 
 -- ---- opcodes
+
+-- the number of a branch on a cast has one byte
+abbrev pub IsLow : Kind → Opcode → Type 0
+IsLow kinds.Cast op = op.number < 128
+IsLow k op = Unit {0}
 
 cast_opcode : (op : Opcode) → kind op ≡ Some kinds.Cast → op.number < 128
 unfolding ranges
@@ -174,6 +155,10 @@ cast_opcode op e = by op.prefix op.number e where
   by prefixes.Fc n e = cast_is_low (ranges prefixes.Fc) n refl e
   by prefixes.Fd n e = cast_is_low (ranges prefixes.Fd) n refl e
   by prefixes.Fe n e = cast_is_low (ranges prefixes.Fe) n refl e
+
+pub in_table_low : (op : Opcode) (k : Kind) → kind op ≡ Some k → IsLow k op
+in_table_low op kinds.Cast is = cast_opcode op is
+in_table_low op k is = tt
 
 -- an opcode has a byte, and at most so many
 abbrev OneUpTo : ℕ → List ℕ → Type 0
@@ -207,10 +192,11 @@ length-low-opcode op low = by op.prefix op.number low where
 joined : (most more : ℕ) (s t : List ℕ) → most + more ≤ 20 → OneUpTo most s → length t ≤ more → IsShortEncoding (s ++ t)
 joined most more s t le opcode operands = (omega (arith, length-append s t, opcode.0), omega (arith, length-append s t, opcode.1))
 
-pub length-instruction : (i : Instruction) → instruction.InRange i → HasNoLongList i.operands → IsShortEncoding (instruction.bytes i)
+short_with : (op : Opcode) (k : Kind) (o : List ℕ) → IsShort op → IsLow k op → length o ≤ most_of k → IsShortEncoding (opcode.bytes op ++ o)
+short_with op kinds.Cast o short low at_most = joined 2 18 _ _ (omega arith) (length-low-opcode op low) at_most
+short_with op k o short low at_most = joined 3 17 _ _ (omega arith) (length-opcode op short) at_most
+
+-- an opcode and operands without a list, or with a list of one type, are written in 1 to 20 bytes
+pub short_call : (op : Opcode) (o : Operands) → IsShort op → IsLow (kind_of o) op → InRange o → ItemsInRange o → HasNoLongList o → IsShortEncoding (instruction.bytes (call op o))
 unfolding instruction
-length-instruction i fits short = subst IsShortEncoding (of_kind i (kind i.op) fits.0.1) (by (kind i.op) refl fits.0.1) where
-  by : (o : Option Kind) → kind i.op ≡ o → (by_kind operands_format o).InRange i.operands → IsShortEncoding (opcode.bytes i.op ++ (by_kind operands_format o).bytes i.operands)
-  by None is fits = absurd fits
-  by (Some kinds.Cast) is fits = joined 2 18 _ _ (omega arith) (length-low-opcode i.op (cast_opcode i.op is)) (operands_at_most kinds.Cast i.operands short fits)
-  by (Some k) is fits = joined 3 17 _ _ (omega arith) (length-opcode i.op (in_table_short i.op k is)) (operands_at_most k i.operands short fits)
+short_call op o short low fits in_lists alone = short_with op (kind_of o) _ short low (operands_at_most o alone (operands_in_range o fits in_lists (counted_short o alone)))

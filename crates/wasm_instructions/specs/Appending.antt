@@ -1,6 +1,6 @@
 -- What is appended for instructions, and why one is refused.
 use Rattle.std.specs.Prelude.{◌≡◌, ℕ, ◌^◌, ◌<◌, ◌≤◌, ◌++◌, List, [], length, Option, Some, None}
-use Rattle.std.specs.List.{AllByRecursion}
+use Rattle.std.specs.List.{AllByRecursion, flat_map}
 use Rattle.std.specs.Iterator.{Drains}
 use Rattle.wasm_codec.specs.declared.encode.EncodeError.{EncodeError}
 use Rattle.wasm_codec.specs.declared.encode.EncodeError.TheVariants as errors
@@ -62,3 +62,8 @@ module _ {S A : Type 0} (gives : S → Option A → S → Type 0) (InRange : A �
   -- numbers in it are in range.
   unfoldable pub AppendsAll : S → (List A → List ℕ) → List ℕ → List ℕ → Type 0
   AppendsAll items encoding old new = (xs : List A) × Drains gives items xs × (new ≡ old ++ encoding xs) × (length xs < 2 ^ 32) × AllByRecursion InRange xs
+
+  -- The new bytes are the old ones and then those of each item that the iterator gives, of which there are so many. The
+  -- numbers in them are in range.
+  abbrev pub AppendsCounted : S → (A → List ℕ) → List ℕ → List ℕ → ℕ → Type 0
+  AppendsCounted items encoding old new count = (xs : List A) × Drains gives items xs × (new ≡ old ++ flat_map encoding xs) × (count ≡ length xs) × AllByRecursion InRange xs

@@ -1,9 +1,9 @@
 //! The normaliser of lists of instructions (Core 3.0, Instructions).
-ghost use Rattle.std.specs.Prelude.{◌≡◌, ◌↔◌, ◌++◌, List, Some, IfOk, OnOk};
+ghost use Rattle.std.specs.Prelude.{◌≡◌, ◌↔◌, ◌++◌, ◌≤◌, List, length, IfOk, OnOk};
 ghost use Rattle.wasm_codec.specs.Answers.{IsOrMemory, IfRefused, IsLongestPrefix, EncodesSome, IsNormalForm};
-ghost use Rattle.wasm_instructions.specs.Instructions.{Instruction};
+ghost use Rattle.wasm_codec.specs.Encoding.{IsShortestOrLonger};
+ghost use Rattle.wasm_instructions.specs.Instructions.{Instruction, IsShort};
 ghost use Rattle.wasm_instructions.specs.formats.Instructions.{Instructions, ShortestInstructions, opcode, operands_format, instruction, instructions_bytes};
-ghost use Rattle.wasm_instructions.specs.Opcodes.{kind as kind_at};
 ghost use Rattle.wasm_instructions.specs.declared.table.opcode.Kind.TheVariants as kinds;
 ghost use Rattle.wasm_codec.specs.Grammar.{IsBytes};
 ghost use Rattle.wasm_codec.specs.Rewriting.{Appends};
@@ -40,6 +40,11 @@ pub fn normalise_instructions(alloc: Global, bytes: &[u8]) -> Result<Vec<u8>, Re
     // The result is normal: it is the shortest encoding of what it encodes.
     ensures normal { IfOk result (λ encoding. (calls : List Instruction) →
         Instructions encoding.items calls → encoding.items ≡ instructions_bytes calls) }
+    // Every other encoding of a list is longer than its shortest.
+    ensures shortest { (calls : List Instruction) → Instructions bytes.now calls →
+        IsShortestOrLonger bytes.now (instructions_bytes calls) }
+    // The result is no longer than the bytes.
+    ensures no_longer { IfOk result (λ encoding. length encoding.items ≤ length bytes.now) }
     // A shortest encoding stays as it is, unless memory ran out.
     ensures stays { (calls : List Instruction) → ShortestInstructions bytes.now calls →
         IsOrMemory (λ encoding. encoding.items) bytes.now result }
@@ -61,7 +66,7 @@ impl<'a> Normalisable<'a> for Call {
 }
 
 /// Appends the shortest encoding of the instruction that comes next. One with a list isn't held.
-#[tactic(auto, unfolding(crate::specs::formats::Instructions::instruction))]
+#[tactic(auto, using(crate::proofs::OpcodeLaws::in_table_short), unfolding(crate::specs::formats::Instructions::instruction))]
 fn write_call_anew(alloc: Global, cursor: &mut Cursor<'_>, bytes: &mut Vec<u8>) -> Result<(), Fault>
     ensures writes { Appends instruction cursor.old cursor.new bytes.old.items bytes.new.items result }
 {
@@ -72,23 +77,23 @@ fn write_call_anew(alloc: Global, cursor: &mut Cursor<'_>, bytes: &mut Vec<u8>) 
     };
     match kind {
         Kind::BrTable => {
-            append_opcode(bytes, op, kind)?;
+            append_opcode(bytes, op)?;
             write_br_table(alloc, cursor, bytes)
         }
         Kind::Types => {
-            append_opcode(bytes, op, kind)?;
+            append_opcode(bytes, op)?;
             write_types(alloc, cursor, bytes)
         }
         Kind::TryTable => {
-            append_opcode(bytes, op, kind)?;
+            append_opcode(bytes, op)?;
             write_try_table(alloc, cursor, bytes)
         }
         Kind::Resume => {
-            append_opcode(bytes, op, kind)?;
+            append_opcode(bytes, op)?;
             write_resume(alloc, cursor, bytes)
         }
         Kind::ResumeThrow => {
-            append_opcode(bytes, op, kind)?;
+            append_opcode(bytes, op)?;
             write_resume_throw(alloc, cursor, bytes)
         }
         _ => {
@@ -98,13 +103,11 @@ fn write_call_anew(alloc: Global, cursor: &mut Cursor<'_>, bytes: &mut Vec<u8>) 
     }
 }
 
-/// Appends the shortest encoding of an opcode of the table.
-#[tactic(auto, using(crate::proofs::OpcodeLaws::in_table_short))]
-fn append_opcode(bytes: &mut Vec<u8>, op: Opcode, kind: Kind) -> Result<(), AllocError>
-    requires { kind_at op ≡ Some kind }
+/// Appends the shortest encoding of an opcode.
+fn append_opcode(bytes: &mut Vec<u8>, op: Opcode) -> Result<(), AllocError>
+    requires { IsShort op }
     ensures { OnOk result (bytes.new.items ≡ bytes.old.items ++ opcode.bytes op) }
 {
-    let _ = kind;
     bytes.reserve(3)?;
     put_opcode(bytes, op);
     Ok(())

@@ -1,5 +1,6 @@
 use Rattle.wasm_instructions.specs.formats.Instructions.{Instructions, ShortestInstructions, instructions_bytes}
 use Rattle.wasm_codec.proofs.ListReading.{none_within, gives_bytes, gives_same, gives_normal, gives_itself, was_shortest}
+use Rattle.wasm_types.proofs.NormalLengths.{gives_no_longer}
 use Rattle.wasm_instructions.proofs.InstructionFormatLaws.{AtMostOne-instructions, Shortest-instructions, are_shortest}
 use Rattle.wasm_instructions.proofs.normaliser.normalise_instructions.Goals as goal
 
@@ -14,6 +15,12 @@ returns-clause-same c = gives_same AtMostOne-instructions Shortest-instructions 
 
 pub returns-clause-normal : goal.returns-clause-normal
 returns-clause-normal c = gives_normal AtMostOne-instructions Shortest-instructions (λ encoding. encoding.items) c.args.bytes.now c.normalise_joined.result c.normalise_joined.ensures.given
+
+pub returns-clause-shortest : goal.returns-clause-shortest
+returns-clause-shortest c = Shortest-instructions.least c.args.bytes.now
+
+pub returns-clause-no_longer : goal.returns-clause-no_longer
+returns-clause-no_longer c = gives_no_longer Shortest-instructions (λ encoding. encoding.items) c.args.bytes.now c.normalise_joined.result c.normalise_joined.ensures.given
 
 pub returns-clause-stays : goal.returns-clause-stays
 returns-clause-stays c calls g =

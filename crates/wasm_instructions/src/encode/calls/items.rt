@@ -1,7 +1,7 @@
 //! Lists of items, each with bytes of its own, after their number (Core 3.0, Lists).
-ghost use Rattle.std.specs.Prelude.{◌≡◌, ◌++◌, ◌+◌, ◌≤◌, ◌<◌, ◌^◌, ℕ, List, length, take, OnOk, IfOk, IfErr, vec_len, vec_capacity};
+ghost use Rattle.std.specs.Prelude.{◌≡◌, ◌++◌, ◌+◌, ◌*◌, ◌≤◌, ◌<◌, ◌^◌, ℕ, List, length, take, OnOk, IfOk, IfErr, IsTrue, vec_len, vec_capacity};
 ghost use Rattle.std.specs.Iterator.{IsFinite, size};
-ghost use Rattle.wasm_instructions.specs.Appending.{AppendsAll, IsRefusedList};
+ghost use Rattle.wasm_instructions.specs.Appending.{AppendsAll, AppendsCounted, IsRefusedList};
 ghost use Rattle.wasm_codec.specs.Numbers.{unsigned_leb128};
 ghost use Rattle.wasm_types.specs.formats.Types.{val_type};
 ghost use Rattle.wasm_codec.specs.Lists.{items_bytes};
@@ -20,6 +20,9 @@ use wasm_types::types::ValType;
 /// The room that every item fits into, in bytes.
 const ITEM_ROOM: usize = 11;
 
+/// The most items that a short list has: room for the longest encoding of each is made at once.
+const SHORT: u32 = 64;
+
 /// What lists of operands are made of. Each item has a shortest encoding.
 pub(in crate::encode) trait Item: Copy + Drop {
     /// The fewest bytes that an item is written in.
@@ -35,7 +38,9 @@ pub(in crate::encode) trait Item: Copy + Drop {
     fn put<A: Allocator>(self, bytes: &mut Vec<u8, A>)
         requires room { vec_len bytes.old + 11 ≤ vec_capacity bytes.old }
         ensures items { bytes.new.items ≡ bytes.old.items ++ encoding self }
-        ensures in_range { InRange self };
+        ensures in_range { InRange self }
+        ensures len { vec_len bytes.new ≤ vec_len bytes.old + 11 }
+        ensures capacity { vec_capacity bytes.new ≡ vec_capacity bytes.old };
 }
 
 impl Item for u32 {
@@ -87,7 +92,7 @@ impl Item for Handle {
 }
 
 /// Makes room at once for a call with so many items, and answers their number: 24 bytes, which all else of the call
-/// fits into, and the fewest that the items are written in.
+/// fits into, and the most that the items of a short list are written in, or the fewest that those of a longer one are.
 ///
 /// `TooLong` where there are more than 4,294,967,295 items.
 pub(super) fn reserve_list<T: Item, A: Allocator>(
@@ -96,18 +101,20 @@ pub(super) fn reserve_list<T: Item, A: Allocator>(
 ) -> Result<u32, EncodeError>
     ensures count { IfOk result (λ n. n ≡ count) }
     ensures room { OnOk result (vec_len bytes.new + 24 ≤ vec_capacity bytes.new) }
+    ensures room_if_short { OnOk result (count ≤ 64 → vec_len bytes.new + 24 + 11 * count ≤ vec_capacity bytes.new) }
     ensures err { IfErr result (IsRefusedList count) }
     ensures unchanged { bytes.new.items ≡ bytes.old.items }
 {
     let Ok(number) = u32::try_from(count) else {
         return Err(EncodeError::TooLong);
     };
-    bytes.reserve(count.saturating_mul(T::LEAST).saturating_add(ROOM))?;
+    let each = if number <= SHORT { ITEM_ROOM } else { T::LEAST };
+    bytes.reserve(count.saturating_mul(each).saturating_add(ROOM))?;
     Ok(number)
 }
 
-/// Appends the number of the items that come, into reserved room, and then the items. An `Err` can leave a part of
-/// them.
+/// Appends the number of the items that come, into reserved room, and then the items, into it as well where the list is
+/// short. An `Err` can leave a part of them.
 ///
 /// The number that the iterator tells is written before the items, and mended where fewer come.
 #[tactic(auto, unfolding(crate::specs::Appending::AppendsAll))]
@@ -120,19 +127,45 @@ pub(super) fn append_each<T: Item, I: ExactSizeIterator<Item = T>, A: Allocator>
     requires finite { IsFinite (I.remaining items) }
     requires told { told ≡ size (I.remaining items) }
     requires room { vec_len bytes.old + 5 ≤ vec_capacity bytes.old }
+    requires room_if_short { told ≤ 64 → vec_len bytes.old + 5 + 11 * told ≤ vec_capacity bytes.old }
     ensures ok { OnOk result (AppendsAll I.next_gives T.InRange items (items_bytes T.encoding) bytes.old.items bytes.new.items) }
     ensures kept { take (length bytes.old.items) bytes.new.items ≡ bytes.old.items }
 {
     let start = bytes.len();
     put_u32(bytes, told);
-    let mut came = 0;
-    for item in items {
-        bytes.reserve(ITEM_ROOM)?;
-        item.put(bytes);
-        came += 1;
-    }
+    let came = if told <= SHORT {
+        append_counted::<T, I, A, true>(bytes, items)?
+    } else {
+        append_counted::<T, I, A, false>(bytes, items)?
+    };
     if came == told {
         return Ok(());
     }
     mend_count(bytes, start, told, came)
+}
+
+/// Appends the items that come, and counts them. An `Err` can leave a part of them.
+///
+/// Where there is room for all that the iterator tells (`FITS`) it asks for none, and otherwise before each item.
+fn append_counted<T: Item, I: ExactSizeIterator<Item = T>, A: Allocator, const FITS: bool>(
+    bytes: &mut Vec<u8, A>,
+    items: I,
+) -> Result<u32, AllocError>
+    requires can { I.can_next items }
+    requires finite { IsFinite (I.remaining items) }
+    requires few { size (I.remaining items) < 2 ^ 32 }
+    requires room { IsTrue FITS → vec_len bytes.old + 11 * size (I.remaining items) ≤ vec_capacity bytes.old }
+    ensures ok { IfOk result (AppendsCounted I.next_gives T.InRange items T.encoding bytes.old.items bytes.new.items) }
+    ensures few { IfOk result (λ came. came ≤ size (I.remaining items)) }
+    ensures kept { take (length bytes.old.items) bytes.new.items ≡ bytes.old.items }
+{
+    let mut came = 0;
+    for item in items {
+        if !FITS {
+            bytes.reserve(ITEM_ROOM)?;
+        }
+        item.put(bytes);
+        came += 1;
+    }
+    Ok(came)
 }

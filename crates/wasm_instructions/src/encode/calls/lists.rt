@@ -139,6 +139,7 @@ pub(in crate::encode) enum Before {
 }
 
 /// Writes what stands before a list in up to 10 bytes, into reserved room.
+#[inline(always)]
 #[tactic(auto, unfolding(crate::specs::Appending::before_bytes))]
 fn put_before<A: Allocator>(bytes: &mut Vec<u8, A>, before: Before)
     requires room { vec_len bytes.old + 10 ≤ vec_capacity bytes.old }
