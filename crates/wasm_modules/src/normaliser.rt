@@ -2,15 +2,19 @@
 //! whose code sections as code bodies.
 ghost use Rattle.std.specs.Prelude.{◌≡◌, ◌↔◌, ◌<◌, ◌≤◌, ◌^◌, List, length, IfOk, IfErr, IsOk, OnOk};
 ghost use Rattle.wasm_codec.specs.Answers.{IsOrMemory, IfRefused, IsLongestPrefix, IsNormalForm, EncodesSome};
-ghost use Rattle.wasm_codec.specs.formats.Combinators.{narrow};
+ghost use Rattle.wasm_codec.specs.formats.Combinators.{Format, narrow};
 ghost use Rattle.wasm_codec.specs.Encoding.{IsShortestOrLonger};
-ghost use Rattle.wasm_codec.specs.Rewriting.{Rewrites};
+ghost use Rattle.wasm_codec.specs.Rewriting.{Rewrites, AppendsNormalForm};
 ghost use Rattle.wasm_codec.specs.Grammar.{IsBytes};
 ghost use Rattle.wasm_codec.specs.Lists.{EncodesList, items_bytes};
 ghost use Rattle.wasm_codec.specs.Lawful.{IsLawful, plain};
 ghost use Rattle.wasm_modules.specs.Sections.{DecodedSection, parts_of, section_of, type_section_id, code_section_id};
 ghost use Rattle.wasm_modules.specs.DecodedModules.{IsDecodedModulePrefix, AppendsSection, RewritesSection};
+ghost use Rattle.wasm_modules.specs.formats.CodeBodies.{code_body};
 ghost use Rattle.wasm_modules.specs.formats.Modules.{decoded_section, decoded_module};
+ghost use Rattle.wasm_modules.specs.declared.code.CodeBody.{CodeBody};
+ghost use Rattle.wasm_types.specs.declared.types.composite.TypeEntry.{TypeEntry};
+ghost use Rattle.wasm_types.specs.formats.Types.{recursive_type};
 ghost use Rattle.wasm_codec.specs.declared.reader.cursor.Fault.TheVariants as faults;
 ghost use Rattle.wasm_codec.specs.declared.encode.EncodeError.TheVariants.{Memory};
 
@@ -19,6 +23,7 @@ use crate::reader::{after_header, read_section};
 use crate::section::{CODE_SECTION_ID, HEADER, RawSection, TYPE_SECTION_ID, append_section};
 use std::alloc::Global;
 use wasm_codec::encode::{EncodeError, open_gap, put_size_into};
+use wasm_codec::normaliser::normalise_list_to_end;
 use wasm_codec::reader::ReadError;
 use wasm_codec::reader::cursor::{Cursor, Fault};
 use wasm_codec::rewriter::{Rewritable, rewrite_joined, rewrite_list_to_end};
@@ -150,10 +155,53 @@ fn append_code_section(alloc: Global, encoding: &mut Vec<u8>, body: &[u8]) -> Re
     append_list_section::<CodeBody>(alloc, encoding, CODE_SECTION_ID, body)
 }
 
+/// What stands in a list in the body of a section, and is normalised there.
+trait Listed<'a> {
+    /// What is read and written.
+    ghost Value: { Type 0 };
+
+    /// Which bytes encode which item.
+    ghost format: { Format Value };
+
+    /// Appends the shortest encoding of the list that the bytes encode, with nothing left over.
+    fn append_list(alloc: Global, bytes: &'a [u8], encoding: &mut Vec<u8>) -> Result<(), ReadError>
+        ensures given { OnOk result (AppendsNormalForm (EncodesList format.Encodes) (items_bytes format.bytes) bytes.now encoding.old.items encoding.new.items) }
+        ensures unencoded { IfRefused result (λ _.
+            (items : List Value) → EncodesList format.Encodes bytes.now items → ⊥) };
+}
+
+impl<'a> Listed<'a> for TypeEntry {
+    ghost Value = { TypeEntry };
+
+    ghost format = { recursive_type };
+
+    fn append_list(
+        alloc: Global,
+        bytes: &'a [u8],
+        encoding: &mut Vec<u8>,
+    ) -> Result<(), ReadError> {
+        normalise_list_to_end::<TypeEntry>(alloc, bytes, encoding)
+    }
+}
+
+impl<'a> Listed<'a> for CodeBody {
+    ghost Value = { CodeBody };
+
+    ghost format = { code_body };
+
+    fn append_list(
+        alloc: Global,
+        bytes: &'a [u8],
+        encoding: &mut Vec<u8>,
+    ) -> Result<(), ReadError> {
+        rewrite_list_to_end::<CodeBody>(alloc, bytes, encoding)
+    }
+}
+
 /// Appends a section of this id with the list that this body encodes, written where the section lies: the size is put
 /// into a gap before it, which is as long as the size of the bytes that were read, and so no shorter than what goes
 /// into it.
-fn append_list_section<'a, T: Rewritable<'a>>(
+fn append_list_section<'a, T: Listed<'a>>(
     alloc: Global,
     encoding: &mut Vec<u8>,
     id: u8,
@@ -168,7 +216,7 @@ fn append_list_section<'a, T: Rewritable<'a>>(
     encoding.push(id)?;
     let start = encoding.len();
     let gap = open_gap(encoding, body.len() as u32)?;
-    match rewrite_list_to_end::<T>(alloc, body, encoding) {
+    match T::append_list(alloc, body, encoding) {
         Ok(()) => {
             put_size_into(encoding, start, gap);
             Ok(())

@@ -46,6 +46,7 @@ pub fn append_section<S: Encode, A: Allocator>(
 ) -> Result<(), EncodeError>
     ensures ok { OnOk result (dst.new.items ≡ dst.old.items ++ id ∷ S.bytes section.now) }
     ensures can { OnOk result (S.CanEncode section.now) }
+    ensures written { OnOk result (S.IsWritten section.now) }
     ensures refused { IfErr result (IsRefusal S.CanEncode S.refuses section.now) }
     ensures err { OnErr result (dst.new.items ≡ dst.old.items) }
 {
