@@ -30,6 +30,10 @@ use wasm_instructions::encode::{append_call, append_calls};
 use wasm_instructions::table::Call;
 
 /// Appends instructions to a list of bytes.
+///
+/// Each method's documentation begins with the name of its instruction in the text format, the bytes of its opcode, and
+/// its operands in the order in which they are written. Any method answers `Memory` where the list can't grow, and those
+/// with other errors name them.
 #[derive(Drop)]
 pub struct InstructionSink<'a, A: Allocator> {
     bytes: &'a mut Vec<u8, A>,
@@ -48,14 +52,14 @@ impl<'a, A: Allocator> InstructionSink<'a, A> {
     ///
     /// `TooLong` where a list has more than 4,294,967,295 items.
     pub fn write_call(self, call: &Call) -> Result<InstructionSink<'a, A>, EncodeError>
-        ensures* unchanged { sem 𝓛 (IsUnchangedAtErr A.row A.Allocator self.entry result) }
-        ensures same { IsSameSink self.entry result }
         ensures wrote { AppendsCall self.entry call.now result }
+        ensures same { IsSameSink self.entry result }
         ensures room { HasRoom self.entry → HasNoList call.now.operands → IsOk result }
         // What is written encodes the call.
         ensures encodes { IfOk result (λ _. instruction.Encodes (instruction.bytes call.now) call.now) }
         // A call without a list, or with a list of one type, has from 1 to 20 bytes.
         ensures length { HasNoLongList call.now.operands → IsShortEncoding (instruction.bytes call.now) }
+        ensures* unchanged { sem 𝓛 (IsUnchangedAtErr A.row A.Allocator self.entry result) }
     {
         let InstructionSink { bytes } = self;
         append_call(bytes, call)?;
@@ -67,9 +71,8 @@ impl<'a, A: Allocator> InstructionSink<'a, A> {
     /// `TooLong` where a list in one of them has more than 4,294,967,295 items.
     #[tactic(auto, using(crate::proofs::ChainLaws::same_as_chain))]
     pub fn write_calls(self, calls: &[Call]) -> Result<InstructionSink<'a, A>, EncodeError>
-        ensures* unchanged { sem 𝓛 (IsUnchangedAtErr A.row A.Allocator self.entry result) }
-        ensures same { IsSameSink self.entry result }
         ensures wrote { AppendsCalls self.entry calls.now result }
+        ensures same { IsSameSink self.entry result }
         // After equal bytes, a chain of methods and `write_call`, one for each of the calls, writes the same.
         ensures one_by_one { (start finish : InstructionSink A) → written start ≡ written self.entry →
             Chain start calls.now finish → IfOk result (λ sink. written sink ≡ written finish) }
@@ -78,6 +81,7 @@ impl<'a, A: Allocator> InstructionSink<'a, A> {
         // Every other encoding of the calls is longer than what is written.
         ensures shortest { (bytes : List ℕ) → Instructions bytes calls.now →
             IsShortestOrLonger bytes (instructions_bytes calls.now) }
+        ensures* unchanged { sem 𝓛 (IsUnchangedAtErr A.row A.Allocator self.entry result) }
     {
         let InstructionSink { bytes } = self;
         append_calls(bytes, calls)?;

@@ -17,14 +17,15 @@ use wasm_codec::encode::EncodeError;
 use wasm_instructions::encode::{append_index, append_opcode, append_two_indexes};
 use wasm_instructions::table::Opcode;
 
+#[tactic(auto, using(wasm_instructions::proofs::InstructionLengths::short_call))]
 impl<'a, A: Allocator> InstructionSink<'a, A> {
     /// An instruction without operands.
     pub(super) fn emit(self, op: Opcode) -> Result<InstructionSink<'a, A>, EncodeError>
         requires { IsShort op }
-        ensures* unchanged { sem 𝓛 (IsUnchangedAtErr A.row A.Allocator self.entry result) }
-        ensures same { IsSameSink self.entry result }
         ensures wrote { Writes self.entry op operands.None result }
+        ensures same { IsSameSink self.entry result }
         ensures room { HasRoom self.entry → IsOk result }
+        ensures* unchanged { sem 𝓛 (IsUnchangedAtErr A.row A.Allocator self.entry result) }
     {
         let InstructionSink { bytes } = self;
         append_opcode(bytes, op)?;
@@ -38,10 +39,10 @@ impl<'a, A: Allocator> InstructionSink<'a, A> {
         index: u32,
     ) -> Result<InstructionSink<'a, A>, EncodeError>
         requires { IsShort op }
-        ensures* unchanged { sem 𝓛 (IsUnchangedAtErr A.row A.Allocator self.entry result) }
-        ensures same { IsSameSink self.entry result }
         ensures wrote { Writes self.entry op (operands.Index index) result }
+        ensures same { IsSameSink self.entry result }
         ensures room { HasRoom self.entry → IsOk result }
+        ensures* unchanged { sem 𝓛 (IsUnchangedAtErr A.row A.Allocator self.entry result) }
     {
         let InstructionSink { bytes } = self;
         append_index(bytes, op, index)?;
@@ -56,10 +57,10 @@ impl<'a, A: Allocator> InstructionSink<'a, A> {
         second: u32,
     ) -> Result<InstructionSink<'a, A>, EncodeError>
         requires { IsShort op }
-        ensures* unchanged { sem 𝓛 (IsUnchangedAtErr A.row A.Allocator self.entry result) }
-        ensures same { IsSameSink self.entry result }
         ensures wrote { Writes self.entry op (operands.TwoIndexes first second) result }
+        ensures same { IsSameSink self.entry result }
         ensures room { HasRoom self.entry → IsOk result }
+        ensures* unchanged { sem 𝓛 (IsUnchangedAtErr A.row A.Allocator self.entry result) }
     {
         let InstructionSink { bytes } = self;
         append_two_indexes(bytes, op, first, second)?;

@@ -12,333 +12,333 @@ use wasm_instructions::operands::MemArg;
 use wasm_instructions::table::Opcode;
 
 impl<'a, A: Allocator> InstructionSink<'a, A> {
-    /// `i32.load`: `0x28`.
+    /// `i32.load`: `0x28`, then a memory argument. `Alignment` where `memarg.align` is 64 or more.
     pub fn i32_load(self, memarg: MemArg) -> Result<InstructionSink<'a, A>, EncodeError>
-        ensures* unchanged { sem 𝓛 (IsUnchangedAtErr A.row A.Allocator self.entry result) }
-        ensures same { IsSameSink self.entry result }
         ensures wrote { WritesBytes self.entry (without_prefix 0x28) (operands.Mem memarg) result }
+        ensures same { IsSameSink self.entry result }
         ensures alignment { IsErrOf result EncodeError.Alignment ↔ 64 ≤ memarg.align }
         ensures room { HasRoom self.entry → memarg.align < 64 → IsOk result }
+        ensures* unchanged { sem 𝓛 (IsUnchangedAtErr A.row A.Allocator self.entry result) }
     {
         self.emit_mem(Opcode::without_prefix(0x28), memarg)
     }
 
-    /// `i64.load`: `0x29`.
+    /// `i64.load`: `0x29`, then a memory argument. `Alignment` where `memarg.align` is 64 or more.
     pub fn i64_load(self, memarg: MemArg) -> Result<InstructionSink<'a, A>, EncodeError>
-        ensures* unchanged { sem 𝓛 (IsUnchangedAtErr A.row A.Allocator self.entry result) }
-        ensures same { IsSameSink self.entry result }
         ensures wrote { WritesBytes self.entry (without_prefix 0x29) (operands.Mem memarg) result }
+        ensures same { IsSameSink self.entry result }
         ensures alignment { IsErrOf result EncodeError.Alignment ↔ 64 ≤ memarg.align }
         ensures room { HasRoom self.entry → memarg.align < 64 → IsOk result }
+        ensures* unchanged { sem 𝓛 (IsUnchangedAtErr A.row A.Allocator self.entry result) }
     {
         self.emit_mem(Opcode::without_prefix(0x29), memarg)
     }
 
-    /// `f32.load`: `0x2A`.
+    /// `f32.load`: `0x2A`, then a memory argument. `Alignment` where `memarg.align` is 64 or more.
     pub fn f32_load(self, memarg: MemArg) -> Result<InstructionSink<'a, A>, EncodeError>
-        ensures* unchanged { sem 𝓛 (IsUnchangedAtErr A.row A.Allocator self.entry result) }
-        ensures same { IsSameSink self.entry result }
         ensures wrote { WritesBytes self.entry (without_prefix 0x2a) (operands.Mem memarg) result }
+        ensures same { IsSameSink self.entry result }
         ensures alignment { IsErrOf result EncodeError.Alignment ↔ 64 ≤ memarg.align }
         ensures room { HasRoom self.entry → memarg.align < 64 → IsOk result }
+        ensures* unchanged { sem 𝓛 (IsUnchangedAtErr A.row A.Allocator self.entry result) }
     {
         self.emit_mem(Opcode::without_prefix(0x2a), memarg)
     }
 
-    /// `f64.load`: `0x2B`.
+    /// `f64.load`: `0x2B`, then a memory argument. `Alignment` where `memarg.align` is 64 or more.
     pub fn f64_load(self, memarg: MemArg) -> Result<InstructionSink<'a, A>, EncodeError>
-        ensures* unchanged { sem 𝓛 (IsUnchangedAtErr A.row A.Allocator self.entry result) }
-        ensures same { IsSameSink self.entry result }
         ensures wrote { WritesBytes self.entry (without_prefix 0x2b) (operands.Mem memarg) result }
+        ensures same { IsSameSink self.entry result }
         ensures alignment { IsErrOf result EncodeError.Alignment ↔ 64 ≤ memarg.align }
         ensures room { HasRoom self.entry → memarg.align < 64 → IsOk result }
+        ensures* unchanged { sem 𝓛 (IsUnchangedAtErr A.row A.Allocator self.entry result) }
     {
         self.emit_mem(Opcode::without_prefix(0x2b), memarg)
     }
 
-    /// `i32.load8_s`: `0x2C`.
+    /// `i32.load8_s`: `0x2C`, then a memory argument. `Alignment` where `memarg.align` is 64 or more.
     pub fn i32_load8_s(self, memarg: MemArg) -> Result<InstructionSink<'a, A>, EncodeError>
-        ensures* unchanged { sem 𝓛 (IsUnchangedAtErr A.row A.Allocator self.entry result) }
-        ensures same { IsSameSink self.entry result }
         ensures wrote { WritesBytes self.entry (without_prefix 0x2c) (operands.Mem memarg) result }
+        ensures same { IsSameSink self.entry result }
         ensures alignment { IsErrOf result EncodeError.Alignment ↔ 64 ≤ memarg.align }
         ensures room { HasRoom self.entry → memarg.align < 64 → IsOk result }
+        ensures* unchanged { sem 𝓛 (IsUnchangedAtErr A.row A.Allocator self.entry result) }
     {
         self.emit_mem(Opcode::without_prefix(0x2c), memarg)
     }
 
-    /// `i32.load8_u`: `0x2D`.
+    /// `i32.load8_u`: `0x2D`, then a memory argument. `Alignment` where `memarg.align` is 64 or more.
     pub fn i32_load8_u(self, memarg: MemArg) -> Result<InstructionSink<'a, A>, EncodeError>
-        ensures* unchanged { sem 𝓛 (IsUnchangedAtErr A.row A.Allocator self.entry result) }
-        ensures same { IsSameSink self.entry result }
         ensures wrote { WritesBytes self.entry (without_prefix 0x2d) (operands.Mem memarg) result }
+        ensures same { IsSameSink self.entry result }
         ensures alignment { IsErrOf result EncodeError.Alignment ↔ 64 ≤ memarg.align }
         ensures room { HasRoom self.entry → memarg.align < 64 → IsOk result }
+        ensures* unchanged { sem 𝓛 (IsUnchangedAtErr A.row A.Allocator self.entry result) }
     {
         self.emit_mem(Opcode::without_prefix(0x2d), memarg)
     }
 
-    /// `i32.load16_s`: `0x2E`.
+    /// `i32.load16_s`: `0x2E`, then a memory argument. `Alignment` where `memarg.align` is 64 or more.
     pub fn i32_load16_s(self, memarg: MemArg) -> Result<InstructionSink<'a, A>, EncodeError>
-        ensures* unchanged { sem 𝓛 (IsUnchangedAtErr A.row A.Allocator self.entry result) }
-        ensures same { IsSameSink self.entry result }
         ensures wrote { WritesBytes self.entry (without_prefix 0x2e) (operands.Mem memarg) result }
+        ensures same { IsSameSink self.entry result }
         ensures alignment { IsErrOf result EncodeError.Alignment ↔ 64 ≤ memarg.align }
         ensures room { HasRoom self.entry → memarg.align < 64 → IsOk result }
+        ensures* unchanged { sem 𝓛 (IsUnchangedAtErr A.row A.Allocator self.entry result) }
     {
         self.emit_mem(Opcode::without_prefix(0x2e), memarg)
     }
 
-    /// `i32.load16_u`: `0x2F`.
+    /// `i32.load16_u`: `0x2F`, then a memory argument. `Alignment` where `memarg.align` is 64 or more.
     pub fn i32_load16_u(self, memarg: MemArg) -> Result<InstructionSink<'a, A>, EncodeError>
-        ensures* unchanged { sem 𝓛 (IsUnchangedAtErr A.row A.Allocator self.entry result) }
-        ensures same { IsSameSink self.entry result }
         ensures wrote { WritesBytes self.entry (without_prefix 0x2f) (operands.Mem memarg) result }
+        ensures same { IsSameSink self.entry result }
         ensures alignment { IsErrOf result EncodeError.Alignment ↔ 64 ≤ memarg.align }
         ensures room { HasRoom self.entry → memarg.align < 64 → IsOk result }
+        ensures* unchanged { sem 𝓛 (IsUnchangedAtErr A.row A.Allocator self.entry result) }
     {
         self.emit_mem(Opcode::without_prefix(0x2f), memarg)
     }
 
-    /// `i64.load8_s`: `0x30`.
+    /// `i64.load8_s`: `0x30`, then a memory argument. `Alignment` where `memarg.align` is 64 or more.
     pub fn i64_load8_s(self, memarg: MemArg) -> Result<InstructionSink<'a, A>, EncodeError>
-        ensures* unchanged { sem 𝓛 (IsUnchangedAtErr A.row A.Allocator self.entry result) }
-        ensures same { IsSameSink self.entry result }
         ensures wrote { WritesBytes self.entry (without_prefix 0x30) (operands.Mem memarg) result }
+        ensures same { IsSameSink self.entry result }
         ensures alignment { IsErrOf result EncodeError.Alignment ↔ 64 ≤ memarg.align }
         ensures room { HasRoom self.entry → memarg.align < 64 → IsOk result }
+        ensures* unchanged { sem 𝓛 (IsUnchangedAtErr A.row A.Allocator self.entry result) }
     {
         self.emit_mem(Opcode::without_prefix(0x30), memarg)
     }
 
-    /// `i64.load8_u`: `0x31`.
+    /// `i64.load8_u`: `0x31`, then a memory argument. `Alignment` where `memarg.align` is 64 or more.
     pub fn i64_load8_u(self, memarg: MemArg) -> Result<InstructionSink<'a, A>, EncodeError>
-        ensures* unchanged { sem 𝓛 (IsUnchangedAtErr A.row A.Allocator self.entry result) }
-        ensures same { IsSameSink self.entry result }
         ensures wrote { WritesBytes self.entry (without_prefix 0x31) (operands.Mem memarg) result }
+        ensures same { IsSameSink self.entry result }
         ensures alignment { IsErrOf result EncodeError.Alignment ↔ 64 ≤ memarg.align }
         ensures room { HasRoom self.entry → memarg.align < 64 → IsOk result }
+        ensures* unchanged { sem 𝓛 (IsUnchangedAtErr A.row A.Allocator self.entry result) }
     {
         self.emit_mem(Opcode::without_prefix(0x31), memarg)
     }
 
-    /// `i64.load16_s`: `0x32`.
+    /// `i64.load16_s`: `0x32`, then a memory argument. `Alignment` where `memarg.align` is 64 or more.
     pub fn i64_load16_s(self, memarg: MemArg) -> Result<InstructionSink<'a, A>, EncodeError>
-        ensures* unchanged { sem 𝓛 (IsUnchangedAtErr A.row A.Allocator self.entry result) }
-        ensures same { IsSameSink self.entry result }
         ensures wrote { WritesBytes self.entry (without_prefix 0x32) (operands.Mem memarg) result }
+        ensures same { IsSameSink self.entry result }
         ensures alignment { IsErrOf result EncodeError.Alignment ↔ 64 ≤ memarg.align }
         ensures room { HasRoom self.entry → memarg.align < 64 → IsOk result }
+        ensures* unchanged { sem 𝓛 (IsUnchangedAtErr A.row A.Allocator self.entry result) }
     {
         self.emit_mem(Opcode::without_prefix(0x32), memarg)
     }
 
-    /// `i64.load16_u`: `0x33`.
+    /// `i64.load16_u`: `0x33`, then a memory argument. `Alignment` where `memarg.align` is 64 or more.
     pub fn i64_load16_u(self, memarg: MemArg) -> Result<InstructionSink<'a, A>, EncodeError>
-        ensures* unchanged { sem 𝓛 (IsUnchangedAtErr A.row A.Allocator self.entry result) }
-        ensures same { IsSameSink self.entry result }
         ensures wrote { WritesBytes self.entry (without_prefix 0x33) (operands.Mem memarg) result }
+        ensures same { IsSameSink self.entry result }
         ensures alignment { IsErrOf result EncodeError.Alignment ↔ 64 ≤ memarg.align }
         ensures room { HasRoom self.entry → memarg.align < 64 → IsOk result }
+        ensures* unchanged { sem 𝓛 (IsUnchangedAtErr A.row A.Allocator self.entry result) }
     {
         self.emit_mem(Opcode::without_prefix(0x33), memarg)
     }
 
-    /// `i64.load32_s`: `0x34`.
+    /// `i64.load32_s`: `0x34`, then a memory argument. `Alignment` where `memarg.align` is 64 or more.
     pub fn i64_load32_s(self, memarg: MemArg) -> Result<InstructionSink<'a, A>, EncodeError>
-        ensures* unchanged { sem 𝓛 (IsUnchangedAtErr A.row A.Allocator self.entry result) }
-        ensures same { IsSameSink self.entry result }
         ensures wrote { WritesBytes self.entry (without_prefix 0x34) (operands.Mem memarg) result }
+        ensures same { IsSameSink self.entry result }
         ensures alignment { IsErrOf result EncodeError.Alignment ↔ 64 ≤ memarg.align }
         ensures room { HasRoom self.entry → memarg.align < 64 → IsOk result }
+        ensures* unchanged { sem 𝓛 (IsUnchangedAtErr A.row A.Allocator self.entry result) }
     {
         self.emit_mem(Opcode::without_prefix(0x34), memarg)
     }
 
-    /// `i64.load32_u`: `0x35`.
+    /// `i64.load32_u`: `0x35`, then a memory argument. `Alignment` where `memarg.align` is 64 or more.
     pub fn i64_load32_u(self, memarg: MemArg) -> Result<InstructionSink<'a, A>, EncodeError>
-        ensures* unchanged { sem 𝓛 (IsUnchangedAtErr A.row A.Allocator self.entry result) }
-        ensures same { IsSameSink self.entry result }
         ensures wrote { WritesBytes self.entry (without_prefix 0x35) (operands.Mem memarg) result }
+        ensures same { IsSameSink self.entry result }
         ensures alignment { IsErrOf result EncodeError.Alignment ↔ 64 ≤ memarg.align }
         ensures room { HasRoom self.entry → memarg.align < 64 → IsOk result }
+        ensures* unchanged { sem 𝓛 (IsUnchangedAtErr A.row A.Allocator self.entry result) }
     {
         self.emit_mem(Opcode::without_prefix(0x35), memarg)
     }
 
-    /// `i32.store`: `0x36`.
+    /// `i32.store`: `0x36`, then a memory argument. `Alignment` where `memarg.align` is 64 or more.
     pub fn i32_store(self, memarg: MemArg) -> Result<InstructionSink<'a, A>, EncodeError>
-        ensures* unchanged { sem 𝓛 (IsUnchangedAtErr A.row A.Allocator self.entry result) }
-        ensures same { IsSameSink self.entry result }
         ensures wrote { WritesBytes self.entry (without_prefix 0x36) (operands.Mem memarg) result }
+        ensures same { IsSameSink self.entry result }
         ensures alignment { IsErrOf result EncodeError.Alignment ↔ 64 ≤ memarg.align }
         ensures room { HasRoom self.entry → memarg.align < 64 → IsOk result }
+        ensures* unchanged { sem 𝓛 (IsUnchangedAtErr A.row A.Allocator self.entry result) }
     {
         self.emit_mem(Opcode::without_prefix(0x36), memarg)
     }
 
-    /// `i64.store`: `0x37`.
+    /// `i64.store`: `0x37`, then a memory argument. `Alignment` where `memarg.align` is 64 or more.
     pub fn i64_store(self, memarg: MemArg) -> Result<InstructionSink<'a, A>, EncodeError>
-        ensures* unchanged { sem 𝓛 (IsUnchangedAtErr A.row A.Allocator self.entry result) }
-        ensures same { IsSameSink self.entry result }
         ensures wrote { WritesBytes self.entry (without_prefix 0x37) (operands.Mem memarg) result }
+        ensures same { IsSameSink self.entry result }
         ensures alignment { IsErrOf result EncodeError.Alignment ↔ 64 ≤ memarg.align }
         ensures room { HasRoom self.entry → memarg.align < 64 → IsOk result }
+        ensures* unchanged { sem 𝓛 (IsUnchangedAtErr A.row A.Allocator self.entry result) }
     {
         self.emit_mem(Opcode::without_prefix(0x37), memarg)
     }
 
-    /// `f32.store`: `0x38`.
+    /// `f32.store`: `0x38`, then a memory argument. `Alignment` where `memarg.align` is 64 or more.
     pub fn f32_store(self, memarg: MemArg) -> Result<InstructionSink<'a, A>, EncodeError>
-        ensures* unchanged { sem 𝓛 (IsUnchangedAtErr A.row A.Allocator self.entry result) }
-        ensures same { IsSameSink self.entry result }
         ensures wrote { WritesBytes self.entry (without_prefix 0x38) (operands.Mem memarg) result }
+        ensures same { IsSameSink self.entry result }
         ensures alignment { IsErrOf result EncodeError.Alignment ↔ 64 ≤ memarg.align }
         ensures room { HasRoom self.entry → memarg.align < 64 → IsOk result }
+        ensures* unchanged { sem 𝓛 (IsUnchangedAtErr A.row A.Allocator self.entry result) }
     {
         self.emit_mem(Opcode::without_prefix(0x38), memarg)
     }
 
-    /// `f64.store`: `0x39`.
+    /// `f64.store`: `0x39`, then a memory argument. `Alignment` where `memarg.align` is 64 or more.
     pub fn f64_store(self, memarg: MemArg) -> Result<InstructionSink<'a, A>, EncodeError>
-        ensures* unchanged { sem 𝓛 (IsUnchangedAtErr A.row A.Allocator self.entry result) }
-        ensures same { IsSameSink self.entry result }
         ensures wrote { WritesBytes self.entry (without_prefix 0x39) (operands.Mem memarg) result }
+        ensures same { IsSameSink self.entry result }
         ensures alignment { IsErrOf result EncodeError.Alignment ↔ 64 ≤ memarg.align }
         ensures room { HasRoom self.entry → memarg.align < 64 → IsOk result }
+        ensures* unchanged { sem 𝓛 (IsUnchangedAtErr A.row A.Allocator self.entry result) }
     {
         self.emit_mem(Opcode::without_prefix(0x39), memarg)
     }
 
-    /// `i32.store8`: `0x3A`.
+    /// `i32.store8`: `0x3A`, then a memory argument. `Alignment` where `memarg.align` is 64 or more.
     pub fn i32_store8(self, memarg: MemArg) -> Result<InstructionSink<'a, A>, EncodeError>
-        ensures* unchanged { sem 𝓛 (IsUnchangedAtErr A.row A.Allocator self.entry result) }
-        ensures same { IsSameSink self.entry result }
         ensures wrote { WritesBytes self.entry (without_prefix 0x3a) (operands.Mem memarg) result }
+        ensures same { IsSameSink self.entry result }
         ensures alignment { IsErrOf result EncodeError.Alignment ↔ 64 ≤ memarg.align }
         ensures room { HasRoom self.entry → memarg.align < 64 → IsOk result }
+        ensures* unchanged { sem 𝓛 (IsUnchangedAtErr A.row A.Allocator self.entry result) }
     {
         self.emit_mem(Opcode::without_prefix(0x3a), memarg)
     }
 
-    /// `i32.store16`: `0x3B`.
+    /// `i32.store16`: `0x3B`, then a memory argument. `Alignment` where `memarg.align` is 64 or more.
     pub fn i32_store16(self, memarg: MemArg) -> Result<InstructionSink<'a, A>, EncodeError>
-        ensures* unchanged { sem 𝓛 (IsUnchangedAtErr A.row A.Allocator self.entry result) }
-        ensures same { IsSameSink self.entry result }
         ensures wrote { WritesBytes self.entry (without_prefix 0x3b) (operands.Mem memarg) result }
+        ensures same { IsSameSink self.entry result }
         ensures alignment { IsErrOf result EncodeError.Alignment ↔ 64 ≤ memarg.align }
         ensures room { HasRoom self.entry → memarg.align < 64 → IsOk result }
+        ensures* unchanged { sem 𝓛 (IsUnchangedAtErr A.row A.Allocator self.entry result) }
     {
         self.emit_mem(Opcode::without_prefix(0x3b), memarg)
     }
 
-    /// `i64.store8`: `0x3C`.
+    /// `i64.store8`: `0x3C`, then a memory argument. `Alignment` where `memarg.align` is 64 or more.
     pub fn i64_store8(self, memarg: MemArg) -> Result<InstructionSink<'a, A>, EncodeError>
-        ensures* unchanged { sem 𝓛 (IsUnchangedAtErr A.row A.Allocator self.entry result) }
-        ensures same { IsSameSink self.entry result }
         ensures wrote { WritesBytes self.entry (without_prefix 0x3c) (operands.Mem memarg) result }
+        ensures same { IsSameSink self.entry result }
         ensures alignment { IsErrOf result EncodeError.Alignment ↔ 64 ≤ memarg.align }
         ensures room { HasRoom self.entry → memarg.align < 64 → IsOk result }
+        ensures* unchanged { sem 𝓛 (IsUnchangedAtErr A.row A.Allocator self.entry result) }
     {
         self.emit_mem(Opcode::without_prefix(0x3c), memarg)
     }
 
-    /// `i64.store16`: `0x3D`.
+    /// `i64.store16`: `0x3D`, then a memory argument. `Alignment` where `memarg.align` is 64 or more.
     pub fn i64_store16(self, memarg: MemArg) -> Result<InstructionSink<'a, A>, EncodeError>
-        ensures* unchanged { sem 𝓛 (IsUnchangedAtErr A.row A.Allocator self.entry result) }
-        ensures same { IsSameSink self.entry result }
         ensures wrote { WritesBytes self.entry (without_prefix 0x3d) (operands.Mem memarg) result }
+        ensures same { IsSameSink self.entry result }
         ensures alignment { IsErrOf result EncodeError.Alignment ↔ 64 ≤ memarg.align }
         ensures room { HasRoom self.entry → memarg.align < 64 → IsOk result }
+        ensures* unchanged { sem 𝓛 (IsUnchangedAtErr A.row A.Allocator self.entry result) }
     {
         self.emit_mem(Opcode::without_prefix(0x3d), memarg)
     }
 
-    /// `i64.store32`: `0x3E`.
+    /// `i64.store32`: `0x3E`, then a memory argument. `Alignment` where `memarg.align` is 64 or more.
     pub fn i64_store32(self, memarg: MemArg) -> Result<InstructionSink<'a, A>, EncodeError>
-        ensures* unchanged { sem 𝓛 (IsUnchangedAtErr A.row A.Allocator self.entry result) }
-        ensures same { IsSameSink self.entry result }
         ensures wrote { WritesBytes self.entry (without_prefix 0x3e) (operands.Mem memarg) result }
+        ensures same { IsSameSink self.entry result }
         ensures alignment { IsErrOf result EncodeError.Alignment ↔ 64 ≤ memarg.align }
         ensures room { HasRoom self.entry → memarg.align < 64 → IsOk result }
+        ensures* unchanged { sem 𝓛 (IsUnchangedAtErr A.row A.Allocator self.entry result) }
     {
         self.emit_mem(Opcode::without_prefix(0x3e), memarg)
     }
 
-    /// `memory.size`: `0x3F`.
+    /// `memory.size`: `0x3F`, then a memory index.
     pub fn memory_size(self, memory: u32) -> Result<InstructionSink<'a, A>, EncodeError>
-        ensures* unchanged { sem 𝓛 (IsUnchangedAtErr A.row A.Allocator self.entry result) }
-        ensures same { IsSameSink self.entry result }
         ensures wrote { Writes self.entry (without_prefix 0x3f) (operands.Index memory) result }
+        ensures same { IsSameSink self.entry result }
         ensures room { HasRoom self.entry → IsOk result }
+        ensures* unchanged { sem 𝓛 (IsUnchangedAtErr A.row A.Allocator self.entry result) }
     {
         self.emit_index(Opcode::without_prefix(0x3f), memory)
     }
 
-    /// `memory.grow`: `0x40`.
+    /// `memory.grow`: `0x40`, then a memory index.
     pub fn memory_grow(self, memory: u32) -> Result<InstructionSink<'a, A>, EncodeError>
-        ensures* unchanged { sem 𝓛 (IsUnchangedAtErr A.row A.Allocator self.entry result) }
-        ensures same { IsSameSink self.entry result }
         ensures wrote { Writes self.entry (without_prefix 0x40) (operands.Index memory) result }
+        ensures same { IsSameSink self.entry result }
         ensures room { HasRoom self.entry → IsOk result }
+        ensures* unchanged { sem 𝓛 (IsUnchangedAtErr A.row A.Allocator self.entry result) }
     {
         self.emit_index(Opcode::without_prefix(0x40), memory)
     }
 
-    /// `memory.init`: `0xFC 0x08`.
+    /// `memory.init`: `0xFC 0x08`, then a data index and a memory index.
     pub fn memory_init(
         self,
         memory: u32,
         segment: u32,
     ) -> Result<InstructionSink<'a, A>, EncodeError>
-        ensures* unchanged { sem 𝓛 (IsUnchangedAtErr A.row A.Allocator self.entry result) }
-        ensures same { IsSameSink self.entry result }
         ensures wrote { Writes self.entry (after_fc 0x08) (operands.TwoIndexes segment memory) result }
+        ensures same { IsSameSink self.entry result }
         ensures room { HasRoom self.entry → IsOk result }
+        ensures* unchanged { sem 𝓛 (IsUnchangedAtErr A.row A.Allocator self.entry result) }
     {
         self.emit_two_indexes(Opcode::after_fc(0x08), segment, memory)
     }
 
-    /// `data.drop`: `0xFC 0x09`.
+    /// `data.drop`: `0xFC 0x09`, then a data index.
     pub fn data_drop(self, segment: u32) -> Result<InstructionSink<'a, A>, EncodeError>
-        ensures* unchanged { sem 𝓛 (IsUnchangedAtErr A.row A.Allocator self.entry result) }
-        ensures same { IsSameSink self.entry result }
         ensures wrote { Writes self.entry (after_fc 0x09) (operands.Index segment) result }
+        ensures same { IsSameSink self.entry result }
         ensures room { HasRoom self.entry → IsOk result }
+        ensures* unchanged { sem 𝓛 (IsUnchangedAtErr A.row A.Allocator self.entry result) }
     {
         self.emit_index(Opcode::after_fc(0x09), segment)
     }
 
-    /// `memory.copy`: `0xFC 0x0A`.
+    /// `memory.copy`: `0xFC 0x0A`, then the destination's memory index and the source's memory index.
     pub fn memory_copy(
         self,
         destination: u32,
         source: u32,
     ) -> Result<InstructionSink<'a, A>, EncodeError>
-        ensures* unchanged { sem 𝓛 (IsUnchangedAtErr A.row A.Allocator self.entry result) }
-        ensures same { IsSameSink self.entry result }
         ensures wrote { Writes self.entry (after_fc 0x0a) (operands.TwoIndexes destination source) result }
+        ensures same { IsSameSink self.entry result }
         ensures room { HasRoom self.entry → IsOk result }
+        ensures* unchanged { sem 𝓛 (IsUnchangedAtErr A.row A.Allocator self.entry result) }
     {
         self.emit_two_indexes(Opcode::after_fc(0x0a), destination, source)
     }
 
-    /// `memory.fill`: `0xFC 0x0B`.
+    /// `memory.fill`: `0xFC 0x0B`, then a memory index.
     pub fn memory_fill(self, memory: u32) -> Result<InstructionSink<'a, A>, EncodeError>
-        ensures* unchanged { sem 𝓛 (IsUnchangedAtErr A.row A.Allocator self.entry result) }
-        ensures same { IsSameSink self.entry result }
         ensures wrote { Writes self.entry (after_fc 0x0b) (operands.Index memory) result }
+        ensures same { IsSameSink self.entry result }
         ensures room { HasRoom self.entry → IsOk result }
+        ensures* unchanged { sem 𝓛 (IsUnchangedAtErr A.row A.Allocator self.entry result) }
     {
         self.emit_index(Opcode::after_fc(0x0b), memory)
     }
 
-    /// `memory.discard`: `0xFC 0x12`.
+    /// `memory.discard`: `0xFC 0x12`, then a memory index.
     pub fn memory_discard(self, memory: u32) -> Result<InstructionSink<'a, A>, EncodeError>
-        ensures* unchanged { sem 𝓛 (IsUnchangedAtErr A.row A.Allocator self.entry result) }
-        ensures same { IsSameSink self.entry result }
         ensures wrote { Writes self.entry (after_fc 0x12) (operands.Index memory) result }
+        ensures same { IsSameSink self.entry result }
         ensures room { HasRoom self.entry → IsOk result }
+        ensures* unchanged { sem 𝓛 (IsUnchangedAtErr A.row A.Allocator self.entry result) }
     {
         self.emit_index(Opcode::after_fc(0x12), memory)
     }

@@ -15,42 +15,43 @@ use wasm_types::types::ValType;
 impl<'a, A: Allocator> InstructionSink<'a, A> {
     /// `drop`: `0x1A`.
     pub fn drop(self) -> Result<InstructionSink<'a, A>, EncodeError>
-        ensures* unchanged { sem 𝓛 (IsUnchangedAtErr A.row A.Allocator self.entry result) }
-        ensures same { IsSameSink self.entry result }
         ensures wrote { Writes self.entry (without_prefix 0x1a) operands.None result }
+        ensures same { IsSameSink self.entry result }
         ensures room { HasRoom self.entry → IsOk result }
+        ensures* unchanged { sem 𝓛 (IsUnchangedAtErr A.row A.Allocator self.entry result) }
     {
         self.emit(Opcode::without_prefix(0x1a))
     }
 
     /// `select`: `0x1B`.
     pub fn select(self) -> Result<InstructionSink<'a, A>, EncodeError>
-        ensures* unchanged { sem 𝓛 (IsUnchangedAtErr A.row A.Allocator self.entry result) }
-        ensures same { IsSameSink self.entry result }
         ensures wrote { Writes self.entry (without_prefix 0x1b) operands.None result }
+        ensures same { IsSameSink self.entry result }
         ensures room { HasRoom self.entry → IsOk result }
+        ensures* unchanged { sem 𝓛 (IsUnchangedAtErr A.row A.Allocator self.entry result) }
     {
         self.emit(Opcode::without_prefix(0x1b))
     }
 
-    /// `select` with one type: `0x1C`.
+    /// `select` with one type: `0x1C`, then a list of one value type.
     pub fn typed_select(self, ty: ValType) -> Result<InstructionSink<'a, A>, EncodeError>
-        ensures* unchanged { sem 𝓛 (IsUnchangedAtErr A.row A.Allocator self.entry result) }
-        ensures same { IsSameSink self.entry result }
         ensures wrote { Writes self.entry (without_prefix 0x1c) (operands.Types (ty ∷ [])) result }
+        ensures same { IsSameSink self.entry result }
         ensures room { HasRoom self.entry → IsOk result }
+        ensures* unchanged { sem 𝓛 (IsUnchangedAtErr A.row A.Allocator self.entry result) }
     {
         self.emit_type(Opcode::without_prefix(0x1c), ty)
     }
 
-    /// `select` with a list of types: `0x1C`.
+    /// `select` with a list of types: `0x1C`, then a list of value types.
+    /// `TooLong` where `types.len()` is above 4,294,967,295.
     pub fn typed_select_multi(
         self,
         types: &[ValType],
     ) -> Result<InstructionSink<'a, A>, EncodeError>
-        ensures* unchanged { sem 𝓛 (IsUnchangedAtErr A.row A.Allocator self.entry result) }
-        ensures same { IsSameSink self.entry result }
         ensures wrote { WritesList self.entry (without_prefix 0x1c) (operands.Types types.now) (length types.now) result }
+        ensures same { IsSameSink self.entry result }
+        ensures* unchanged { sem 𝓛 (IsUnchangedAtErr A.row A.Allocator self.entry result) }
     {
         self.emit_types(Opcode::without_prefix(0x1c), types)
     }

@@ -15,56 +15,58 @@ use wasm_instructions::operands::Handle;
 use wasm_instructions::table::Opcode;
 
 impl<'a, A: Allocator> InstructionSink<'a, A> {
-    /// `cont.new`: `0xE0`.
+    /// `cont.new`: `0xE0`, then a type index.
     pub fn cont_new(self, ty: u32) -> Result<InstructionSink<'a, A>, EncodeError>
-        ensures* unchanged { sem 𝓛 (IsUnchangedAtErr A.row A.Allocator self.entry result) }
-        ensures same { IsSameSink self.entry result }
         ensures wrote { Writes self.entry (without_prefix 0xe0) (operands.Index ty) result }
+        ensures same { IsSameSink self.entry result }
         ensures room { HasRoom self.entry → IsOk result }
+        ensures* unchanged { sem 𝓛 (IsUnchangedAtErr A.row A.Allocator self.entry result) }
     {
         self.emit_index(Opcode::without_prefix(0xe0), ty)
     }
 
-    /// `cont.bind`: `0xE1`.
+    /// `cont.bind`: `0xE1`, then the argument's type index and the result's type index.
     pub fn cont_bind(
         self,
         argument_type: u32,
         result_type: u32,
     ) -> Result<InstructionSink<'a, A>, EncodeError>
-        ensures* unchanged { sem 𝓛 (IsUnchangedAtErr A.row A.Allocator self.entry result) }
-        ensures same { IsSameSink self.entry result }
         ensures wrote { Writes self.entry (without_prefix 0xe1) (operands.TwoIndexes argument_type result_type) result }
+        ensures same { IsSameSink self.entry result }
         ensures room { HasRoom self.entry → IsOk result }
+        ensures* unchanged { sem 𝓛 (IsUnchangedAtErr A.row A.Allocator self.entry result) }
     {
         self.emit_two_indexes(Opcode::without_prefix(0xe1), argument_type, result_type)
     }
 
-    /// `suspend`: `0xE2`.
+    /// `suspend`: `0xE2`, then a tag index.
     pub fn suspend(self, tag: u32) -> Result<InstructionSink<'a, A>, EncodeError>
-        ensures* unchanged { sem 𝓛 (IsUnchangedAtErr A.row A.Allocator self.entry result) }
-        ensures same { IsSameSink self.entry result }
         ensures wrote { Writes self.entry (without_prefix 0xe2) (operands.Index tag) result }
+        ensures same { IsSameSink self.entry result }
         ensures room { HasRoom self.entry → IsOk result }
+        ensures* unchanged { sem 𝓛 (IsUnchangedAtErr A.row A.Allocator self.entry result) }
     {
         self.emit_index(Opcode::without_prefix(0xe2), tag)
     }
 
-    /// `resume`: `0xE3`.
+    /// `resume`: `0xE3`, then a type index and a list of handlers.
+    /// `TooLong` where `handlers.len()` is above 4,294,967,295.
     pub fn resume<I: ExactSizeIterator<Item = Handle>>(
         self,
         ty: u32,
         handlers: I,
     ) -> Result<InstructionSink<'a, A>, EncodeError>
         requires { I.can_next handlers }
-        ensures* unchanged { sem 𝓛 (IsUnchangedAtErr A.row A.Allocator self.entry result) }
-        ensures same { IsSameSink self.entry result }
         ensures wrote { WritesItems I.next_gives self.entry (without_prefix 0xe3) (λ xs. operands.Resume ty xs) handlers result }
+        ensures same { IsSameSink self.entry result }
         ensures err { IfErr result (IsRefusedList (size (I.remaining handlers))) }
+        ensures* unchanged { sem 𝓛 (IsUnchangedAtErr A.row A.Allocator self.entry result) }
     {
         self.emit_resume(0xe3, ty, handlers)
     }
 
-    /// `resume_throw`: `0xE4`.
+    /// `resume_throw`: `0xE4`, then a type index, a tag index and a list of handlers.
+    /// `TooLong` where `handlers.len()` is above 4,294,967,295.
     pub fn resume_throw<I: ExactSizeIterator<Item = Handle>>(
         self,
         ty: u32,
@@ -72,35 +74,36 @@ impl<'a, A: Allocator> InstructionSink<'a, A> {
         handlers: I,
     ) -> Result<InstructionSink<'a, A>, EncodeError>
         requires { I.can_next handlers }
-        ensures* unchanged { sem 𝓛 (IsUnchangedAtErr A.row A.Allocator self.entry result) }
-        ensures same { IsSameSink self.entry result }
         ensures wrote { WritesItems I.next_gives self.entry (without_prefix 0xe4) (λ xs. operands.ResumeThrow ty tag xs) handlers result }
+        ensures same { IsSameSink self.entry result }
         ensures err { IfErr result (IsRefusedList (size (I.remaining handlers))) }
+        ensures* unchanged { sem 𝓛 (IsUnchangedAtErr A.row A.Allocator self.entry result) }
     {
         self.emit_resume_throw(0xe4, ty, tag, handlers)
     }
 
-    /// `resume_throw_ref`: `0xE5`.
+    /// `resume_throw_ref`: `0xE5`, then a type index and a list of handlers.
+    /// `TooLong` where `handlers.len()` is above 4,294,967,295.
     pub fn resume_throw_ref<I: ExactSizeIterator<Item = Handle>>(
         self,
         ty: u32,
         handlers: I,
     ) -> Result<InstructionSink<'a, A>, EncodeError>
         requires { I.can_next handlers }
-        ensures* unchanged { sem 𝓛 (IsUnchangedAtErr A.row A.Allocator self.entry result) }
-        ensures same { IsSameSink self.entry result }
         ensures wrote { WritesItems I.next_gives self.entry (without_prefix 0xe5) (λ xs. operands.Resume ty xs) handlers result }
+        ensures same { IsSameSink self.entry result }
         ensures err { IfErr result (IsRefusedList (size (I.remaining handlers))) }
+        ensures* unchanged { sem 𝓛 (IsUnchangedAtErr A.row A.Allocator self.entry result) }
     {
         self.emit_resume(0xe5, ty, handlers)
     }
 
-    /// `switch`: `0xE6`.
+    /// `switch`: `0xE6`, then a type index and a tag index.
     pub fn switch(self, ty: u32, tag: u32) -> Result<InstructionSink<'a, A>, EncodeError>
-        ensures* unchanged { sem 𝓛 (IsUnchangedAtErr A.row A.Allocator self.entry result) }
-        ensures same { IsSameSink self.entry result }
         ensures wrote { Writes self.entry (without_prefix 0xe6) (operands.TwoIndexes ty tag) result }
+        ensures same { IsSameSink self.entry result }
         ensures room { HasRoom self.entry → IsOk result }
+        ensures* unchanged { sem 𝓛 (IsUnchangedAtErr A.row A.Allocator self.entry result) }
     {
         self.emit_two_indexes(Opcode::without_prefix(0xe6), ty, tag)
     }

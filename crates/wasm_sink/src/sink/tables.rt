@@ -11,86 +11,86 @@ use wasm_codec::encode::EncodeError;
 use wasm_instructions::table::Opcode;
 
 impl<'a, A: Allocator> InstructionSink<'a, A> {
-    /// `table.get`: `0x25`.
+    /// `table.get`: `0x25`, then a table index.
     pub fn table_get(self, table: u32) -> Result<InstructionSink<'a, A>, EncodeError>
-        ensures* unchanged { sem 𝓛 (IsUnchangedAtErr A.row A.Allocator self.entry result) }
-        ensures same { IsSameSink self.entry result }
         ensures wrote { Writes self.entry (without_prefix 0x25) (operands.Index table) result }
+        ensures same { IsSameSink self.entry result }
         ensures room { HasRoom self.entry → IsOk result }
+        ensures* unchanged { sem 𝓛 (IsUnchangedAtErr A.row A.Allocator self.entry result) }
     {
         self.emit_index(Opcode::without_prefix(0x25), table)
     }
 
-    /// `table.set`: `0x26`.
+    /// `table.set`: `0x26`, then a table index.
     pub fn table_set(self, table: u32) -> Result<InstructionSink<'a, A>, EncodeError>
-        ensures* unchanged { sem 𝓛 (IsUnchangedAtErr A.row A.Allocator self.entry result) }
-        ensures same { IsSameSink self.entry result }
         ensures wrote { Writes self.entry (without_prefix 0x26) (operands.Index table) result }
+        ensures same { IsSameSink self.entry result }
         ensures room { HasRoom self.entry → IsOk result }
+        ensures* unchanged { sem 𝓛 (IsUnchangedAtErr A.row A.Allocator self.entry result) }
     {
         self.emit_index(Opcode::without_prefix(0x26), table)
     }
 
-    /// `table.init`: `0xFC 0x0C`.
+    /// `table.init`: `0xFC 0x0C`, then an element index and a table index.
     pub fn table_init(self, table: u32, segment: u32) -> Result<InstructionSink<'a, A>, EncodeError>
-        ensures* unchanged { sem 𝓛 (IsUnchangedAtErr A.row A.Allocator self.entry result) }
-        ensures same { IsSameSink self.entry result }
         ensures wrote { Writes self.entry (after_fc 0x0c) (operands.TwoIndexes segment table) result }
+        ensures same { IsSameSink self.entry result }
         ensures room { HasRoom self.entry → IsOk result }
+        ensures* unchanged { sem 𝓛 (IsUnchangedAtErr A.row A.Allocator self.entry result) }
     {
         self.emit_two_indexes(Opcode::after_fc(0x0c), segment, table)
     }
 
-    /// `elem.drop`: `0xFC 0x0D`.
+    /// `elem.drop`: `0xFC 0x0D`, then an element index.
     pub fn elem_drop(self, segment: u32) -> Result<InstructionSink<'a, A>, EncodeError>
-        ensures* unchanged { sem 𝓛 (IsUnchangedAtErr A.row A.Allocator self.entry result) }
-        ensures same { IsSameSink self.entry result }
         ensures wrote { Writes self.entry (after_fc 0x0d) (operands.Index segment) result }
+        ensures same { IsSameSink self.entry result }
         ensures room { HasRoom self.entry → IsOk result }
+        ensures* unchanged { sem 𝓛 (IsUnchangedAtErr A.row A.Allocator self.entry result) }
     {
         self.emit_index(Opcode::after_fc(0x0d), segment)
     }
 
-    /// `table.copy`: `0xFC 0x0E`.
+    /// `table.copy`: `0xFC 0x0E`, then the destination's table index and the source's table index.
     pub fn table_copy(
         self,
         destination: u32,
         source: u32,
     ) -> Result<InstructionSink<'a, A>, EncodeError>
-        ensures* unchanged { sem 𝓛 (IsUnchangedAtErr A.row A.Allocator self.entry result) }
-        ensures same { IsSameSink self.entry result }
         ensures wrote { Writes self.entry (after_fc 0x0e) (operands.TwoIndexes destination source) result }
+        ensures same { IsSameSink self.entry result }
         ensures room { HasRoom self.entry → IsOk result }
+        ensures* unchanged { sem 𝓛 (IsUnchangedAtErr A.row A.Allocator self.entry result) }
     {
         self.emit_two_indexes(Opcode::after_fc(0x0e), destination, source)
     }
 
-    /// `table.grow`: `0xFC 0x0F`.
+    /// `table.grow`: `0xFC 0x0F`, then a table index.
     pub fn table_grow(self, table: u32) -> Result<InstructionSink<'a, A>, EncodeError>
-        ensures* unchanged { sem 𝓛 (IsUnchangedAtErr A.row A.Allocator self.entry result) }
-        ensures same { IsSameSink self.entry result }
         ensures wrote { Writes self.entry (after_fc 0x0f) (operands.Index table) result }
+        ensures same { IsSameSink self.entry result }
         ensures room { HasRoom self.entry → IsOk result }
+        ensures* unchanged { sem 𝓛 (IsUnchangedAtErr A.row A.Allocator self.entry result) }
     {
         self.emit_index(Opcode::after_fc(0x0f), table)
     }
 
-    /// `table.size`: `0xFC 0x10`.
+    /// `table.size`: `0xFC 0x10`, then a table index.
     pub fn table_size(self, table: u32) -> Result<InstructionSink<'a, A>, EncodeError>
-        ensures* unchanged { sem 𝓛 (IsUnchangedAtErr A.row A.Allocator self.entry result) }
-        ensures same { IsSameSink self.entry result }
         ensures wrote { Writes self.entry (after_fc 0x10) (operands.Index table) result }
+        ensures same { IsSameSink self.entry result }
         ensures room { HasRoom self.entry → IsOk result }
+        ensures* unchanged { sem 𝓛 (IsUnchangedAtErr A.row A.Allocator self.entry result) }
     {
         self.emit_index(Opcode::after_fc(0x10), table)
     }
 
-    /// `table.fill`: `0xFC 0x11`.
+    /// `table.fill`: `0xFC 0x11`, then a table index.
     pub fn table_fill(self, table: u32) -> Result<InstructionSink<'a, A>, EncodeError>
-        ensures* unchanged { sem 𝓛 (IsUnchangedAtErr A.row A.Allocator self.entry result) }
-        ensures same { IsSameSink self.entry result }
         ensures wrote { Writes self.entry (after_fc 0x11) (operands.Index table) result }
+        ensures same { IsSameSink self.entry result }
         ensures room { HasRoom self.entry → IsOk result }
+        ensures* unchanged { sem 𝓛 (IsUnchangedAtErr A.row A.Allocator self.entry result) }
     {
         self.emit_index(Opcode::after_fc(0x11), table)
     }

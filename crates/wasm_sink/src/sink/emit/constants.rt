@@ -14,6 +14,7 @@ use wasm_instructions::encode::{
 use wasm_instructions::operands::{Ieee32, Ieee64, Lane};
 use wasm_instructions::table::Opcode;
 
+#[tactic(auto, using(wasm_instructions::proofs::InstructionLengths::short_call))]
 impl<'a, A: Allocator> InstructionSink<'a, A> {
     /// An instruction with a signed number of 32 bits.
     pub(in crate::sink) fn emit_i32(
@@ -22,10 +23,10 @@ impl<'a, A: Allocator> InstructionSink<'a, A> {
         value: i32,
     ) -> Result<InstructionSink<'a, A>, EncodeError>
         requires { IsShort op }
-        ensures* unchanged { sem 𝓛 (IsUnchangedAtErr A.row A.Allocator self.entry result) }
-        ensures same { IsSameSink self.entry result }
         ensures wrote { Writes self.entry op (operands.I32 value) result }
+        ensures same { IsSameSink self.entry result }
         ensures room { HasRoom self.entry → IsOk result }
+        ensures* unchanged { sem 𝓛 (IsUnchangedAtErr A.row A.Allocator self.entry result) }
     {
         let InstructionSink { bytes } = self;
         append_i32(bytes, op, value)?;
@@ -39,10 +40,10 @@ impl<'a, A: Allocator> InstructionSink<'a, A> {
         value: i64,
     ) -> Result<InstructionSink<'a, A>, EncodeError>
         requires { IsShort op }
-        ensures* unchanged { sem 𝓛 (IsUnchangedAtErr A.row A.Allocator self.entry result) }
-        ensures same { IsSameSink self.entry result }
         ensures wrote { Writes self.entry op (operands.I64 value) result }
+        ensures same { IsSameSink self.entry result }
         ensures room { HasRoom self.entry → IsOk result }
+        ensures* unchanged { sem 𝓛 (IsUnchangedAtErr A.row A.Allocator self.entry result) }
     {
         let InstructionSink { bytes } = self;
         append_i64(bytes, op, value)?;
@@ -56,10 +57,10 @@ impl<'a, A: Allocator> InstructionSink<'a, A> {
         value: Ieee32,
     ) -> Result<InstructionSink<'a, A>, EncodeError>
         requires { IsShort op }
-        ensures* unchanged { sem 𝓛 (IsUnchangedAtErr A.row A.Allocator self.entry result) }
-        ensures same { IsSameSink self.entry result }
         ensures wrote { Writes self.entry op (operands.F32 value) result }
+        ensures same { IsSameSink self.entry result }
         ensures room { HasRoom self.entry → IsOk result }
+        ensures* unchanged { sem 𝓛 (IsUnchangedAtErr A.row A.Allocator self.entry result) }
     {
         let InstructionSink { bytes } = self;
         append_f32(bytes, op, value)?;
@@ -73,10 +74,10 @@ impl<'a, A: Allocator> InstructionSink<'a, A> {
         value: Ieee64,
     ) -> Result<InstructionSink<'a, A>, EncodeError>
         requires { IsShort op }
-        ensures* unchanged { sem 𝓛 (IsUnchangedAtErr A.row A.Allocator self.entry result) }
-        ensures same { IsSameSink self.entry result }
         ensures wrote { Writes self.entry op (operands.F64 value) result }
+        ensures same { IsSameSink self.entry result }
         ensures room { HasRoom self.entry → IsOk result }
+        ensures* unchanged { sem 𝓛 (IsUnchangedAtErr A.row A.Allocator self.entry result) }
     {
         let InstructionSink { bytes } = self;
         append_f64(bytes, op, value)?;
@@ -90,10 +91,10 @@ impl<'a, A: Allocator> InstructionSink<'a, A> {
         value: i128,
     ) -> Result<InstructionSink<'a, A>, EncodeError>
         requires { IsShort op }
-        ensures* unchanged { sem 𝓛 (IsUnchangedAtErr A.row A.Allocator self.entry result) }
-        ensures same { IsSameSink self.entry result }
         ensures wrote { Writes self.entry op (operands.V128 value) result }
+        ensures same { IsSameSink self.entry result }
         ensures room { HasRoom self.entry → IsOk result }
+        ensures* unchanged { sem 𝓛 (IsUnchangedAtErr A.row A.Allocator self.entry result) }
     {
         let InstructionSink { bytes } = self;
         append_v128(bytes, op, value)?;
@@ -107,10 +108,10 @@ impl<'a, A: Allocator> InstructionSink<'a, A> {
         lanes: [Lane; 16],
     ) -> Result<InstructionSink<'a, A>, EncodeError>
         requires { IsShort op }
-        ensures* unchanged { sem 𝓛 (IsUnchangedAtErr A.row A.Allocator self.entry result) }
-        ensures same { IsSameSink self.entry result }
         ensures wrote { Writes self.entry op (operands.Shuffle lanes) result }
+        ensures same { IsSameSink self.entry result }
         ensures room { HasRoom self.entry → IsOk result }
+        ensures* unchanged { sem 𝓛 (IsUnchangedAtErr A.row A.Allocator self.entry result) }
     {
         let InstructionSink { bytes } = self;
         append_shuffle(bytes, op, lanes)?;
@@ -124,10 +125,10 @@ impl<'a, A: Allocator> InstructionSink<'a, A> {
         lane: Lane,
     ) -> Result<InstructionSink<'a, A>, EncodeError>
         requires { IsShort op }
-        ensures* unchanged { sem 𝓛 (IsUnchangedAtErr A.row A.Allocator self.entry result) }
-        ensures same { IsSameSink self.entry result }
         ensures wrote { Writes self.entry op (operands.Lane lane) result }
+        ensures same { IsSameSink self.entry result }
         ensures room { HasRoom self.entry → IsOk result }
+        ensures* unchanged { sem 𝓛 (IsUnchangedAtErr A.row A.Allocator self.entry result) }
     {
         let InstructionSink { bytes } = self;
         append_lane(bytes, op, lane)?;

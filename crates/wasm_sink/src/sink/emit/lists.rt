@@ -27,9 +27,9 @@ impl<'a, A: Allocator> InstructionSink<'a, A> {
         types: &[ValType],
     ) -> Result<InstructionSink<'a, A>, EncodeError>
         requires { IsShort op }
-        ensures* unchanged { sem 𝓛 (IsUnchangedAtErr A.row A.Allocator self.entry result) }
-        ensures same { IsSameSink self.entry result }
         ensures wrote { WritesList self.entry op (operands.Types types.now) (length types.now) result }
+        ensures same { IsSameSink self.entry result }
+        ensures* unchanged { sem 𝓛 (IsUnchangedAtErr A.row A.Allocator self.entry result) }
     {
         let InstructionSink { bytes } = self;
         append_type_list(bytes, op, types)?;
@@ -45,10 +45,10 @@ impl<'a, A: Allocator> InstructionSink<'a, A> {
     ) -> Result<InstructionSink<'a, A>, EncodeError>
         requires short { number < 0xfb }
         requires can { I.can_next labels }
-        ensures* unchanged { sem 𝓛 (IsUnchangedAtErr A.row A.Allocator self.entry result) }
-        ensures same { IsSameSink self.entry result }
         ensures wrote { WritesItems I.next_gives self.entry (without_prefix number) (λ xs. operands.BrTable xs default) labels result }
+        ensures same { IsSameSink self.entry result }
         ensures err { IfErr result (IsRefusedList (size (I.remaining labels))) }
+        ensures* unchanged { sem 𝓛 (IsUnchangedAtErr A.row A.Allocator self.entry result) }
     {
         let InstructionSink { bytes } = self;
         let op = Opcode::without_prefix(number);
@@ -65,10 +65,10 @@ impl<'a, A: Allocator> InstructionSink<'a, A> {
     ) -> Result<InstructionSink<'a, A>, EncodeError>
         requires short { number < 0xfb }
         requires can { I.can_next clauses }
-        ensures* unchanged { sem 𝓛 (IsUnchangedAtErr A.row A.Allocator self.entry result) }
-        ensures same { IsSameSink self.entry result }
         ensures wrote { WritesItems I.next_gives self.entry (without_prefix number) (λ xs. operands.TryTable block_type xs) clauses result }
+        ensures same { IsSameSink self.entry result }
         ensures err { IfErr result (IsRefusedList (size (I.remaining clauses))) }
+        ensures* unchanged { sem 𝓛 (IsUnchangedAtErr A.row A.Allocator self.entry result) }
     {
         let InstructionSink { bytes } = self;
         let op = Opcode::without_prefix(number);
@@ -85,10 +85,10 @@ impl<'a, A: Allocator> InstructionSink<'a, A> {
     ) -> Result<InstructionSink<'a, A>, EncodeError>
         requires short { number < 0xfb }
         requires can { I.can_next handlers }
-        ensures* unchanged { sem 𝓛 (IsUnchangedAtErr A.row A.Allocator self.entry result) }
-        ensures same { IsSameSink self.entry result }
         ensures wrote { WritesItems I.next_gives self.entry (without_prefix number) (λ xs. operands.Resume index xs) handlers result }
+        ensures same { IsSameSink self.entry result }
         ensures err { IfErr result (IsRefusedList (size (I.remaining handlers))) }
+        ensures* unchanged { sem 𝓛 (IsUnchangedAtErr A.row A.Allocator self.entry result) }
     {
         let InstructionSink { bytes } = self;
         let op = Opcode::without_prefix(number);
@@ -106,10 +106,10 @@ impl<'a, A: Allocator> InstructionSink<'a, A> {
     ) -> Result<InstructionSink<'a, A>, EncodeError>
         requires short { number < 0xfb }
         requires can { I.can_next handlers }
-        ensures* unchanged { sem 𝓛 (IsUnchangedAtErr A.row A.Allocator self.entry result) }
-        ensures same { IsSameSink self.entry result }
         ensures wrote { WritesItems I.next_gives self.entry (without_prefix number) (λ xs. operands.ResumeThrow first second xs) handlers result }
+        ensures same { IsSameSink self.entry result }
         ensures err { IfErr result (IsRefusedList (size (I.remaining handlers))) }
+        ensures* unchanged { sem 𝓛 (IsUnchangedAtErr A.row A.Allocator self.entry result) }
     {
         let InstructionSink { bytes } = self;
         let op = Opcode::without_prefix(number);

@@ -12,6 +12,7 @@ use wasm_instructions::encode::{append_mem, append_mem_lane};
 use wasm_instructions::operands::{Lane, MemArg};
 use wasm_instructions::table::Opcode;
 
+#[tactic(auto, using(wasm_instructions::proofs::InstructionLengths::short_call))]
 impl<'a, A: Allocator> InstructionSink<'a, A> {
     /// An instruction with a memory argument.
     pub(in crate::sink) fn emit_mem(
@@ -20,11 +21,11 @@ impl<'a, A: Allocator> InstructionSink<'a, A> {
         memarg: MemArg,
     ) -> Result<InstructionSink<'a, A>, EncodeError>
         requires { IsShort op }
-        ensures* unchanged { sem 𝓛 (IsUnchangedAtErr A.row A.Allocator self.entry result) }
-        ensures same { IsSameSink self.entry result }
         ensures wrote { WritesBytes self.entry op (operands.Mem memarg) result }
+        ensures same { IsSameSink self.entry result }
         ensures alignment { IsErrOf result EncodeError.Alignment ↔ 64 ≤ memarg.align }
         ensures room { HasRoom self.entry → memarg.align < 64 → IsOk result }
+        ensures* unchanged { sem 𝓛 (IsUnchangedAtErr A.row A.Allocator self.entry result) }
     {
         let InstructionSink { bytes } = self;
         append_mem(bytes, op, memarg)?;
@@ -39,11 +40,11 @@ impl<'a, A: Allocator> InstructionSink<'a, A> {
         lane: Lane,
     ) -> Result<InstructionSink<'a, A>, EncodeError>
         requires { IsShort op }
-        ensures* unchanged { sem 𝓛 (IsUnchangedAtErr A.row A.Allocator self.entry result) }
-        ensures same { IsSameSink self.entry result }
         ensures wrote { WritesBytes self.entry op (operands.MemLane memarg lane) result }
+        ensures same { IsSameSink self.entry result }
         ensures alignment { IsErrOf result EncodeError.Alignment ↔ 64 ≤ memarg.align }
         ensures room { HasRoom self.entry → memarg.align < 64 → IsOk result }
+        ensures* unchanged { sem 𝓛 (IsUnchangedAtErr A.row A.Allocator self.entry result) }
     {
         let InstructionSink { bytes } = self;
         append_mem_lane(bytes, op, memarg, lane)?;

@@ -12,6 +12,7 @@ use wasm_instructions::encode::{append_order, append_order_index, append_order_t
 use wasm_instructions::operands::Ordering;
 use wasm_instructions::table::Opcode;
 
+#[tactic(auto, using(wasm_instructions::proofs::InstructionLengths::short_call))]
 impl<'a, A: Allocator> InstructionSink<'a, A> {
     /// An instruction with an ordering.
     pub(in crate::sink) fn emit_order(
@@ -20,10 +21,10 @@ impl<'a, A: Allocator> InstructionSink<'a, A> {
         ordering: Ordering,
     ) -> Result<InstructionSink<'a, A>, EncodeError>
         requires { IsShort op }
-        ensures* unchanged { sem 𝓛 (IsUnchangedAtErr A.row A.Allocator self.entry result) }
-        ensures same { IsSameSink self.entry result }
         ensures wrote { Writes self.entry op (operands.Order ordering) result }
+        ensures same { IsSameSink self.entry result }
         ensures room { HasRoom self.entry → IsOk result }
+        ensures* unchanged { sem 𝓛 (IsUnchangedAtErr A.row A.Allocator self.entry result) }
     {
         let InstructionSink { bytes } = self;
         append_order(bytes, op, ordering)?;
@@ -38,10 +39,10 @@ impl<'a, A: Allocator> InstructionSink<'a, A> {
         index: u32,
     ) -> Result<InstructionSink<'a, A>, EncodeError>
         requires { IsShort op }
-        ensures* unchanged { sem 𝓛 (IsUnchangedAtErr A.row A.Allocator self.entry result) }
-        ensures same { IsSameSink self.entry result }
         ensures wrote { Writes self.entry op (operands.OrderIndex ordering index) result }
+        ensures same { IsSameSink self.entry result }
         ensures room { HasRoom self.entry → IsOk result }
+        ensures* unchanged { sem 𝓛 (IsUnchangedAtErr A.row A.Allocator self.entry result) }
     {
         let InstructionSink { bytes } = self;
         append_order_index(bytes, op, ordering, index)?;
@@ -57,10 +58,10 @@ impl<'a, A: Allocator> InstructionSink<'a, A> {
         second: u32,
     ) -> Result<InstructionSink<'a, A>, EncodeError>
         requires { IsShort op }
-        ensures* unchanged { sem 𝓛 (IsUnchangedAtErr A.row A.Allocator self.entry result) }
-        ensures same { IsSameSink self.entry result }
         ensures wrote { Writes self.entry op (operands.OrderTwoIndexes ordering first second) result }
+        ensures same { IsSameSink self.entry result }
         ensures room { HasRoom self.entry → IsOk result }
+        ensures* unchanged { sem 𝓛 (IsUnchangedAtErr A.row A.Allocator self.entry result) }
     {
         let InstructionSink { bytes } = self;
         append_order_two_indexes(bytes, op, ordering, first, second)?;

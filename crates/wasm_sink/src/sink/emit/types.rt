@@ -1,5 +1,5 @@
 //! Instructions with block, heap, reference and value types.
-ghost use Rattle.std.specs.Prelude.{◌∷◌, [], IsOk};
+ghost use Rattle.std.specs.Prelude.{◌∷◌, [], ◌<◌, IsOk};
 ghost use Rattle.std.specs.Borrow.{sem};
 ghost use Rattle.wasm_sink.specs.Sink.{IsUnchangedAtErr, IsSameSink, Writes, HasRoom};
 ghost use Rattle.wasm_instructions.specs.Instructions.{IsShort};
@@ -13,6 +13,7 @@ use wasm_instructions::operands::BlockType;
 use wasm_instructions::table::Opcode;
 use wasm_types::types::{HeapType, RefType, ValType};
 
+#[tactic(auto, using(wasm_instructions::proofs::InstructionLengths::short_call))]
 impl<'a, A: Allocator> InstructionSink<'a, A> {
     /// An instruction with a block type.
     pub(in crate::sink) fn emit_block(
@@ -21,10 +22,10 @@ impl<'a, A: Allocator> InstructionSink<'a, A> {
         block_type: BlockType,
     ) -> Result<InstructionSink<'a, A>, EncodeError>
         requires { IsShort op }
-        ensures* unchanged { sem 𝓛 (IsUnchangedAtErr A.row A.Allocator self.entry result) }
-        ensures same { IsSameSink self.entry result }
         ensures wrote { Writes self.entry op (operands.Block block_type) result }
+        ensures same { IsSameSink self.entry result }
         ensures room { HasRoom self.entry → IsOk result }
+        ensures* unchanged { sem 𝓛 (IsUnchangedAtErr A.row A.Allocator self.entry result) }
     {
         let InstructionSink { bytes } = self;
         append_block(bytes, op, block_type)?;
@@ -38,10 +39,10 @@ impl<'a, A: Allocator> InstructionSink<'a, A> {
         heap_type: HeapType,
     ) -> Result<InstructionSink<'a, A>, EncodeError>
         requires { IsShort op }
-        ensures* unchanged { sem 𝓛 (IsUnchangedAtErr A.row A.Allocator self.entry result) }
-        ensures same { IsSameSink self.entry result }
         ensures wrote { Writes self.entry op (operands.Heap heap_type) result }
+        ensures same { IsSameSink self.entry result }
         ensures room { HasRoom self.entry → IsOk result }
+        ensures* unchanged { sem 𝓛 (IsUnchangedAtErr A.row A.Allocator self.entry result) }
     {
         let InstructionSink { bytes } = self;
         append_heap(bytes, op, heap_type)?;
@@ -55,10 +56,10 @@ impl<'a, A: Allocator> InstructionSink<'a, A> {
         ty: ValType,
     ) -> Result<InstructionSink<'a, A>, EncodeError>
         requires { IsShort op }
-        ensures* unchanged { sem 𝓛 (IsUnchangedAtErr A.row A.Allocator self.entry result) }
-        ensures same { IsSameSink self.entry result }
         ensures wrote { Writes self.entry op (operands.Types (ty ∷ [])) result }
+        ensures same { IsSameSink self.entry result }
         ensures room { HasRoom self.entry → IsOk result }
+        ensures* unchanged { sem 𝓛 (IsUnchangedAtErr A.row A.Allocator self.entry result) }
     {
         let InstructionSink { bytes } = self;
         append_type(bytes, op, ty)?;
@@ -73,11 +74,13 @@ impl<'a, A: Allocator> InstructionSink<'a, A> {
         from: RefType,
         to: RefType,
     ) -> Result<InstructionSink<'a, A>, EncodeError>
-        requires { IsShort op }
-        ensures* unchanged { sem 𝓛 (IsUnchangedAtErr A.row A.Allocator self.entry result) }
-        ensures same { IsSameSink self.entry result }
+        requires short { IsShort op }
+        // A branch on a cast has no more than 20 bytes since its opcode's number has one.
+        requires low { op.number < 128 }
         ensures wrote { Writes self.entry op (operands.Cast label from to) result }
+        ensures same { IsSameSink self.entry result }
         ensures room { HasRoom self.entry → IsOk result }
+        ensures* unchanged { sem 𝓛 (IsUnchangedAtErr A.row A.Allocator self.entry result) }
     {
         let InstructionSink { bytes } = self;
         append_cast(bytes, op, label, from, to)?;

@@ -11,322 +11,322 @@ use wasm_codec::encode::EncodeError;
 use wasm_instructions::table::Opcode;
 
 impl<'a, A: Allocator> InstructionSink<'a, A> {
-    /// `i32.const`: `0x41`.
+    /// `i32.const`: `0x41`, then a signed number of 32 bits.
     pub fn i32_const(self, value: i32) -> Result<InstructionSink<'a, A>, EncodeError>
-        ensures* unchanged { sem 𝓛 (IsUnchangedAtErr A.row A.Allocator self.entry result) }
-        ensures same { IsSameSink self.entry result }
         ensures wrote { Writes self.entry (without_prefix 0x41) (operands.I32 value) result }
+        ensures same { IsSameSink self.entry result }
         ensures room { HasRoom self.entry → IsOk result }
+        ensures* unchanged { sem 𝓛 (IsUnchangedAtErr A.row A.Allocator self.entry result) }
     {
         self.emit_i32(Opcode::without_prefix(0x41), value)
     }
 
     /// `i32.eqz`: `0x45`.
     pub fn i32_eqz(self) -> Result<InstructionSink<'a, A>, EncodeError>
-        ensures* unchanged { sem 𝓛 (IsUnchangedAtErr A.row A.Allocator self.entry result) }
-        ensures same { IsSameSink self.entry result }
         ensures wrote { Writes self.entry (without_prefix 0x45) operands.None result }
+        ensures same { IsSameSink self.entry result }
         ensures room { HasRoom self.entry → IsOk result }
+        ensures* unchanged { sem 𝓛 (IsUnchangedAtErr A.row A.Allocator self.entry result) }
     {
         self.emit(Opcode::without_prefix(0x45))
     }
 
     /// `i32.eq`: `0x46`.
     pub fn i32_eq(self) -> Result<InstructionSink<'a, A>, EncodeError>
-        ensures* unchanged { sem 𝓛 (IsUnchangedAtErr A.row A.Allocator self.entry result) }
-        ensures same { IsSameSink self.entry result }
         ensures wrote { Writes self.entry (without_prefix 0x46) operands.None result }
+        ensures same { IsSameSink self.entry result }
         ensures room { HasRoom self.entry → IsOk result }
+        ensures* unchanged { sem 𝓛 (IsUnchangedAtErr A.row A.Allocator self.entry result) }
     {
         self.emit(Opcode::without_prefix(0x46))
     }
 
     /// `i32.ne`: `0x47`.
     pub fn i32_ne(self) -> Result<InstructionSink<'a, A>, EncodeError>
-        ensures* unchanged { sem 𝓛 (IsUnchangedAtErr A.row A.Allocator self.entry result) }
-        ensures same { IsSameSink self.entry result }
         ensures wrote { Writes self.entry (without_prefix 0x47) operands.None result }
+        ensures same { IsSameSink self.entry result }
         ensures room { HasRoom self.entry → IsOk result }
+        ensures* unchanged { sem 𝓛 (IsUnchangedAtErr A.row A.Allocator self.entry result) }
     {
         self.emit(Opcode::without_prefix(0x47))
     }
 
     /// `i32.lt_s`: `0x48`.
     pub fn i32_lt_s(self) -> Result<InstructionSink<'a, A>, EncodeError>
-        ensures* unchanged { sem 𝓛 (IsUnchangedAtErr A.row A.Allocator self.entry result) }
-        ensures same { IsSameSink self.entry result }
         ensures wrote { Writes self.entry (without_prefix 0x48) operands.None result }
+        ensures same { IsSameSink self.entry result }
         ensures room { HasRoom self.entry → IsOk result }
+        ensures* unchanged { sem 𝓛 (IsUnchangedAtErr A.row A.Allocator self.entry result) }
     {
         self.emit(Opcode::without_prefix(0x48))
     }
 
     /// `i32.lt_u`: `0x49`.
     pub fn i32_lt_u(self) -> Result<InstructionSink<'a, A>, EncodeError>
-        ensures* unchanged { sem 𝓛 (IsUnchangedAtErr A.row A.Allocator self.entry result) }
-        ensures same { IsSameSink self.entry result }
         ensures wrote { Writes self.entry (without_prefix 0x49) operands.None result }
+        ensures same { IsSameSink self.entry result }
         ensures room { HasRoom self.entry → IsOk result }
+        ensures* unchanged { sem 𝓛 (IsUnchangedAtErr A.row A.Allocator self.entry result) }
     {
         self.emit(Opcode::without_prefix(0x49))
     }
 
     /// `i32.gt_s`: `0x4A`.
     pub fn i32_gt_s(self) -> Result<InstructionSink<'a, A>, EncodeError>
-        ensures* unchanged { sem 𝓛 (IsUnchangedAtErr A.row A.Allocator self.entry result) }
-        ensures same { IsSameSink self.entry result }
         ensures wrote { Writes self.entry (without_prefix 0x4a) operands.None result }
+        ensures same { IsSameSink self.entry result }
         ensures room { HasRoom self.entry → IsOk result }
+        ensures* unchanged { sem 𝓛 (IsUnchangedAtErr A.row A.Allocator self.entry result) }
     {
         self.emit(Opcode::without_prefix(0x4a))
     }
 
     /// `i32.gt_u`: `0x4B`.
     pub fn i32_gt_u(self) -> Result<InstructionSink<'a, A>, EncodeError>
-        ensures* unchanged { sem 𝓛 (IsUnchangedAtErr A.row A.Allocator self.entry result) }
-        ensures same { IsSameSink self.entry result }
         ensures wrote { Writes self.entry (without_prefix 0x4b) operands.None result }
+        ensures same { IsSameSink self.entry result }
         ensures room { HasRoom self.entry → IsOk result }
+        ensures* unchanged { sem 𝓛 (IsUnchangedAtErr A.row A.Allocator self.entry result) }
     {
         self.emit(Opcode::without_prefix(0x4b))
     }
 
     /// `i32.le_s`: `0x4C`.
     pub fn i32_le_s(self) -> Result<InstructionSink<'a, A>, EncodeError>
-        ensures* unchanged { sem 𝓛 (IsUnchangedAtErr A.row A.Allocator self.entry result) }
-        ensures same { IsSameSink self.entry result }
         ensures wrote { Writes self.entry (without_prefix 0x4c) operands.None result }
+        ensures same { IsSameSink self.entry result }
         ensures room { HasRoom self.entry → IsOk result }
+        ensures* unchanged { sem 𝓛 (IsUnchangedAtErr A.row A.Allocator self.entry result) }
     {
         self.emit(Opcode::without_prefix(0x4c))
     }
 
     /// `i32.le_u`: `0x4D`.
     pub fn i32_le_u(self) -> Result<InstructionSink<'a, A>, EncodeError>
-        ensures* unchanged { sem 𝓛 (IsUnchangedAtErr A.row A.Allocator self.entry result) }
-        ensures same { IsSameSink self.entry result }
         ensures wrote { Writes self.entry (without_prefix 0x4d) operands.None result }
+        ensures same { IsSameSink self.entry result }
         ensures room { HasRoom self.entry → IsOk result }
+        ensures* unchanged { sem 𝓛 (IsUnchangedAtErr A.row A.Allocator self.entry result) }
     {
         self.emit(Opcode::without_prefix(0x4d))
     }
 
     /// `i32.ge_s`: `0x4E`.
     pub fn i32_ge_s(self) -> Result<InstructionSink<'a, A>, EncodeError>
-        ensures* unchanged { sem 𝓛 (IsUnchangedAtErr A.row A.Allocator self.entry result) }
-        ensures same { IsSameSink self.entry result }
         ensures wrote { Writes self.entry (without_prefix 0x4e) operands.None result }
+        ensures same { IsSameSink self.entry result }
         ensures room { HasRoom self.entry → IsOk result }
+        ensures* unchanged { sem 𝓛 (IsUnchangedAtErr A.row A.Allocator self.entry result) }
     {
         self.emit(Opcode::without_prefix(0x4e))
     }
 
     /// `i32.ge_u`: `0x4F`.
     pub fn i32_ge_u(self) -> Result<InstructionSink<'a, A>, EncodeError>
-        ensures* unchanged { sem 𝓛 (IsUnchangedAtErr A.row A.Allocator self.entry result) }
-        ensures same { IsSameSink self.entry result }
         ensures wrote { Writes self.entry (without_prefix 0x4f) operands.None result }
+        ensures same { IsSameSink self.entry result }
         ensures room { HasRoom self.entry → IsOk result }
+        ensures* unchanged { sem 𝓛 (IsUnchangedAtErr A.row A.Allocator self.entry result) }
     {
         self.emit(Opcode::without_prefix(0x4f))
     }
 
     /// `i32.clz`: `0x67`.
     pub fn i32_clz(self) -> Result<InstructionSink<'a, A>, EncodeError>
-        ensures* unchanged { sem 𝓛 (IsUnchangedAtErr A.row A.Allocator self.entry result) }
-        ensures same { IsSameSink self.entry result }
         ensures wrote { Writes self.entry (without_prefix 0x67) operands.None result }
+        ensures same { IsSameSink self.entry result }
         ensures room { HasRoom self.entry → IsOk result }
+        ensures* unchanged { sem 𝓛 (IsUnchangedAtErr A.row A.Allocator self.entry result) }
     {
         self.emit(Opcode::without_prefix(0x67))
     }
 
     /// `i32.ctz`: `0x68`.
     pub fn i32_ctz(self) -> Result<InstructionSink<'a, A>, EncodeError>
-        ensures* unchanged { sem 𝓛 (IsUnchangedAtErr A.row A.Allocator self.entry result) }
-        ensures same { IsSameSink self.entry result }
         ensures wrote { Writes self.entry (without_prefix 0x68) operands.None result }
+        ensures same { IsSameSink self.entry result }
         ensures room { HasRoom self.entry → IsOk result }
+        ensures* unchanged { sem 𝓛 (IsUnchangedAtErr A.row A.Allocator self.entry result) }
     {
         self.emit(Opcode::without_prefix(0x68))
     }
 
     /// `i32.popcnt`: `0x69`.
     pub fn i32_popcnt(self) -> Result<InstructionSink<'a, A>, EncodeError>
-        ensures* unchanged { sem 𝓛 (IsUnchangedAtErr A.row A.Allocator self.entry result) }
-        ensures same { IsSameSink self.entry result }
         ensures wrote { Writes self.entry (without_prefix 0x69) operands.None result }
+        ensures same { IsSameSink self.entry result }
         ensures room { HasRoom self.entry → IsOk result }
+        ensures* unchanged { sem 𝓛 (IsUnchangedAtErr A.row A.Allocator self.entry result) }
     {
         self.emit(Opcode::without_prefix(0x69))
     }
 
     /// `i32.add`: `0x6A`.
     pub fn i32_add(self) -> Result<InstructionSink<'a, A>, EncodeError>
-        ensures* unchanged { sem 𝓛 (IsUnchangedAtErr A.row A.Allocator self.entry result) }
-        ensures same { IsSameSink self.entry result }
         ensures wrote { Writes self.entry (without_prefix 0x6a) operands.None result }
+        ensures same { IsSameSink self.entry result }
         ensures room { HasRoom self.entry → IsOk result }
+        ensures* unchanged { sem 𝓛 (IsUnchangedAtErr A.row A.Allocator self.entry result) }
     {
         self.emit(Opcode::without_prefix(0x6a))
     }
 
     /// `i32.sub`: `0x6B`.
     pub fn i32_sub(self) -> Result<InstructionSink<'a, A>, EncodeError>
-        ensures* unchanged { sem 𝓛 (IsUnchangedAtErr A.row A.Allocator self.entry result) }
-        ensures same { IsSameSink self.entry result }
         ensures wrote { Writes self.entry (without_prefix 0x6b) operands.None result }
+        ensures same { IsSameSink self.entry result }
         ensures room { HasRoom self.entry → IsOk result }
+        ensures* unchanged { sem 𝓛 (IsUnchangedAtErr A.row A.Allocator self.entry result) }
     {
         self.emit(Opcode::without_prefix(0x6b))
     }
 
     /// `i32.mul`: `0x6C`.
     pub fn i32_mul(self) -> Result<InstructionSink<'a, A>, EncodeError>
-        ensures* unchanged { sem 𝓛 (IsUnchangedAtErr A.row A.Allocator self.entry result) }
-        ensures same { IsSameSink self.entry result }
         ensures wrote { Writes self.entry (without_prefix 0x6c) operands.None result }
+        ensures same { IsSameSink self.entry result }
         ensures room { HasRoom self.entry → IsOk result }
+        ensures* unchanged { sem 𝓛 (IsUnchangedAtErr A.row A.Allocator self.entry result) }
     {
         self.emit(Opcode::without_prefix(0x6c))
     }
 
     /// `i32.div_s`: `0x6D`.
     pub fn i32_div_s(self) -> Result<InstructionSink<'a, A>, EncodeError>
-        ensures* unchanged { sem 𝓛 (IsUnchangedAtErr A.row A.Allocator self.entry result) }
-        ensures same { IsSameSink self.entry result }
         ensures wrote { Writes self.entry (without_prefix 0x6d) operands.None result }
+        ensures same { IsSameSink self.entry result }
         ensures room { HasRoom self.entry → IsOk result }
+        ensures* unchanged { sem 𝓛 (IsUnchangedAtErr A.row A.Allocator self.entry result) }
     {
         self.emit(Opcode::without_prefix(0x6d))
     }
 
     /// `i32.div_u`: `0x6E`.
     pub fn i32_div_u(self) -> Result<InstructionSink<'a, A>, EncodeError>
-        ensures* unchanged { sem 𝓛 (IsUnchangedAtErr A.row A.Allocator self.entry result) }
-        ensures same { IsSameSink self.entry result }
         ensures wrote { Writes self.entry (without_prefix 0x6e) operands.None result }
+        ensures same { IsSameSink self.entry result }
         ensures room { HasRoom self.entry → IsOk result }
+        ensures* unchanged { sem 𝓛 (IsUnchangedAtErr A.row A.Allocator self.entry result) }
     {
         self.emit(Opcode::without_prefix(0x6e))
     }
 
     /// `i32.rem_s`: `0x6F`.
     pub fn i32_rem_s(self) -> Result<InstructionSink<'a, A>, EncodeError>
-        ensures* unchanged { sem 𝓛 (IsUnchangedAtErr A.row A.Allocator self.entry result) }
-        ensures same { IsSameSink self.entry result }
         ensures wrote { Writes self.entry (without_prefix 0x6f) operands.None result }
+        ensures same { IsSameSink self.entry result }
         ensures room { HasRoom self.entry → IsOk result }
+        ensures* unchanged { sem 𝓛 (IsUnchangedAtErr A.row A.Allocator self.entry result) }
     {
         self.emit(Opcode::without_prefix(0x6f))
     }
 
     /// `i32.rem_u`: `0x70`.
     pub fn i32_rem_u(self) -> Result<InstructionSink<'a, A>, EncodeError>
-        ensures* unchanged { sem 𝓛 (IsUnchangedAtErr A.row A.Allocator self.entry result) }
-        ensures same { IsSameSink self.entry result }
         ensures wrote { Writes self.entry (without_prefix 0x70) operands.None result }
+        ensures same { IsSameSink self.entry result }
         ensures room { HasRoom self.entry → IsOk result }
+        ensures* unchanged { sem 𝓛 (IsUnchangedAtErr A.row A.Allocator self.entry result) }
     {
         self.emit(Opcode::without_prefix(0x70))
     }
 
     /// `i32.and`: `0x71`.
     pub fn i32_and(self) -> Result<InstructionSink<'a, A>, EncodeError>
-        ensures* unchanged { sem 𝓛 (IsUnchangedAtErr A.row A.Allocator self.entry result) }
-        ensures same { IsSameSink self.entry result }
         ensures wrote { Writes self.entry (without_prefix 0x71) operands.None result }
+        ensures same { IsSameSink self.entry result }
         ensures room { HasRoom self.entry → IsOk result }
+        ensures* unchanged { sem 𝓛 (IsUnchangedAtErr A.row A.Allocator self.entry result) }
     {
         self.emit(Opcode::without_prefix(0x71))
     }
 
     /// `i32.or`: `0x72`.
     pub fn i32_or(self) -> Result<InstructionSink<'a, A>, EncodeError>
-        ensures* unchanged { sem 𝓛 (IsUnchangedAtErr A.row A.Allocator self.entry result) }
-        ensures same { IsSameSink self.entry result }
         ensures wrote { Writes self.entry (without_prefix 0x72) operands.None result }
+        ensures same { IsSameSink self.entry result }
         ensures room { HasRoom self.entry → IsOk result }
+        ensures* unchanged { sem 𝓛 (IsUnchangedAtErr A.row A.Allocator self.entry result) }
     {
         self.emit(Opcode::without_prefix(0x72))
     }
 
     /// `i32.xor`: `0x73`.
     pub fn i32_xor(self) -> Result<InstructionSink<'a, A>, EncodeError>
-        ensures* unchanged { sem 𝓛 (IsUnchangedAtErr A.row A.Allocator self.entry result) }
-        ensures same { IsSameSink self.entry result }
         ensures wrote { Writes self.entry (without_prefix 0x73) operands.None result }
+        ensures same { IsSameSink self.entry result }
         ensures room { HasRoom self.entry → IsOk result }
+        ensures* unchanged { sem 𝓛 (IsUnchangedAtErr A.row A.Allocator self.entry result) }
     {
         self.emit(Opcode::without_prefix(0x73))
     }
 
     /// `i32.shl`: `0x74`.
     pub fn i32_shl(self) -> Result<InstructionSink<'a, A>, EncodeError>
-        ensures* unchanged { sem 𝓛 (IsUnchangedAtErr A.row A.Allocator self.entry result) }
-        ensures same { IsSameSink self.entry result }
         ensures wrote { Writes self.entry (without_prefix 0x74) operands.None result }
+        ensures same { IsSameSink self.entry result }
         ensures room { HasRoom self.entry → IsOk result }
+        ensures* unchanged { sem 𝓛 (IsUnchangedAtErr A.row A.Allocator self.entry result) }
     {
         self.emit(Opcode::without_prefix(0x74))
     }
 
     /// `i32.shr_s`: `0x75`.
     pub fn i32_shr_s(self) -> Result<InstructionSink<'a, A>, EncodeError>
-        ensures* unchanged { sem 𝓛 (IsUnchangedAtErr A.row A.Allocator self.entry result) }
-        ensures same { IsSameSink self.entry result }
         ensures wrote { Writes self.entry (without_prefix 0x75) operands.None result }
+        ensures same { IsSameSink self.entry result }
         ensures room { HasRoom self.entry → IsOk result }
+        ensures* unchanged { sem 𝓛 (IsUnchangedAtErr A.row A.Allocator self.entry result) }
     {
         self.emit(Opcode::without_prefix(0x75))
     }
 
     /// `i32.shr_u`: `0x76`.
     pub fn i32_shr_u(self) -> Result<InstructionSink<'a, A>, EncodeError>
-        ensures* unchanged { sem 𝓛 (IsUnchangedAtErr A.row A.Allocator self.entry result) }
-        ensures same { IsSameSink self.entry result }
         ensures wrote { Writes self.entry (without_prefix 0x76) operands.None result }
+        ensures same { IsSameSink self.entry result }
         ensures room { HasRoom self.entry → IsOk result }
+        ensures* unchanged { sem 𝓛 (IsUnchangedAtErr A.row A.Allocator self.entry result) }
     {
         self.emit(Opcode::without_prefix(0x76))
     }
 
     /// `i32.rotl`: `0x77`.
     pub fn i32_rotl(self) -> Result<InstructionSink<'a, A>, EncodeError>
-        ensures* unchanged { sem 𝓛 (IsUnchangedAtErr A.row A.Allocator self.entry result) }
-        ensures same { IsSameSink self.entry result }
         ensures wrote { Writes self.entry (without_prefix 0x77) operands.None result }
+        ensures same { IsSameSink self.entry result }
         ensures room { HasRoom self.entry → IsOk result }
+        ensures* unchanged { sem 𝓛 (IsUnchangedAtErr A.row A.Allocator self.entry result) }
     {
         self.emit(Opcode::without_prefix(0x77))
     }
 
     /// `i32.rotr`: `0x78`.
     pub fn i32_rotr(self) -> Result<InstructionSink<'a, A>, EncodeError>
-        ensures* unchanged { sem 𝓛 (IsUnchangedAtErr A.row A.Allocator self.entry result) }
-        ensures same { IsSameSink self.entry result }
         ensures wrote { Writes self.entry (without_prefix 0x78) operands.None result }
+        ensures same { IsSameSink self.entry result }
         ensures room { HasRoom self.entry → IsOk result }
+        ensures* unchanged { sem 𝓛 (IsUnchangedAtErr A.row A.Allocator self.entry result) }
     {
         self.emit(Opcode::without_prefix(0x78))
     }
 
     /// `i32.extend8_s`: `0xC0`.
     pub fn i32_extend8_s(self) -> Result<InstructionSink<'a, A>, EncodeError>
-        ensures* unchanged { sem 𝓛 (IsUnchangedAtErr A.row A.Allocator self.entry result) }
-        ensures same { IsSameSink self.entry result }
         ensures wrote { Writes self.entry (without_prefix 0xc0) operands.None result }
+        ensures same { IsSameSink self.entry result }
         ensures room { HasRoom self.entry → IsOk result }
+        ensures* unchanged { sem 𝓛 (IsUnchangedAtErr A.row A.Allocator self.entry result) }
     {
         self.emit(Opcode::without_prefix(0xc0))
     }
 
     /// `i32.extend16_s`: `0xC1`.
     pub fn i32_extend16_s(self) -> Result<InstructionSink<'a, A>, EncodeError>
-        ensures* unchanged { sem 𝓛 (IsUnchangedAtErr A.row A.Allocator self.entry result) }
-        ensures same { IsSameSink self.entry result }
         ensures wrote { Writes self.entry (without_prefix 0xc1) operands.None result }
+        ensures same { IsSameSink self.entry result }
         ensures room { HasRoom self.entry → IsOk result }
+        ensures* unchanged { sem 𝓛 (IsUnchangedAtErr A.row A.Allocator self.entry result) }
     {
         self.emit(Opcode::without_prefix(0xc1))
     }

@@ -13,70 +13,70 @@ use wasm_instructions::table::Opcode;
 impl<'a, A: Allocator> InstructionSink<'a, A> {
     /// `v128.not`: `0xFD 0x4D`.
     pub fn v128_not(self) -> Result<InstructionSink<'a, A>, EncodeError>
-        ensures* unchanged { sem 𝓛 (IsUnchangedAtErr A.row A.Allocator self.entry result) }
-        ensures same { IsSameSink self.entry result }
         ensures wrote { Writes self.entry (after_fd 0x4d) operands.None result }
+        ensures same { IsSameSink self.entry result }
         ensures room { HasRoom self.entry → IsOk result }
+        ensures* unchanged { sem 𝓛 (IsUnchangedAtErr A.row A.Allocator self.entry result) }
     {
         self.emit(Opcode::after_fd(0x4d))
     }
 
     /// `v128.and`: `0xFD 0x4E`.
     pub fn v128_and(self) -> Result<InstructionSink<'a, A>, EncodeError>
-        ensures* unchanged { sem 𝓛 (IsUnchangedAtErr A.row A.Allocator self.entry result) }
-        ensures same { IsSameSink self.entry result }
         ensures wrote { Writes self.entry (after_fd 0x4e) operands.None result }
+        ensures same { IsSameSink self.entry result }
         ensures room { HasRoom self.entry → IsOk result }
+        ensures* unchanged { sem 𝓛 (IsUnchangedAtErr A.row A.Allocator self.entry result) }
     {
         self.emit(Opcode::after_fd(0x4e))
     }
 
     /// `v128.andnot`: `0xFD 0x4F`.
     pub fn v128_andnot(self) -> Result<InstructionSink<'a, A>, EncodeError>
-        ensures* unchanged { sem 𝓛 (IsUnchangedAtErr A.row A.Allocator self.entry result) }
-        ensures same { IsSameSink self.entry result }
         ensures wrote { Writes self.entry (after_fd 0x4f) operands.None result }
+        ensures same { IsSameSink self.entry result }
         ensures room { HasRoom self.entry → IsOk result }
+        ensures* unchanged { sem 𝓛 (IsUnchangedAtErr A.row A.Allocator self.entry result) }
     {
         self.emit(Opcode::after_fd(0x4f))
     }
 
     /// `v128.or`: `0xFD 0x50`.
     pub fn v128_or(self) -> Result<InstructionSink<'a, A>, EncodeError>
-        ensures* unchanged { sem 𝓛 (IsUnchangedAtErr A.row A.Allocator self.entry result) }
-        ensures same { IsSameSink self.entry result }
         ensures wrote { Writes self.entry (after_fd 0x50) operands.None result }
+        ensures same { IsSameSink self.entry result }
         ensures room { HasRoom self.entry → IsOk result }
+        ensures* unchanged { sem 𝓛 (IsUnchangedAtErr A.row A.Allocator self.entry result) }
     {
         self.emit(Opcode::after_fd(0x50))
     }
 
     /// `v128.xor`: `0xFD 0x51`.
     pub fn v128_xor(self) -> Result<InstructionSink<'a, A>, EncodeError>
-        ensures* unchanged { sem 𝓛 (IsUnchangedAtErr A.row A.Allocator self.entry result) }
-        ensures same { IsSameSink self.entry result }
         ensures wrote { Writes self.entry (after_fd 0x51) operands.None result }
+        ensures same { IsSameSink self.entry result }
         ensures room { HasRoom self.entry → IsOk result }
+        ensures* unchanged { sem 𝓛 (IsUnchangedAtErr A.row A.Allocator self.entry result) }
     {
         self.emit(Opcode::after_fd(0x51))
     }
 
     /// `v128.bitselect`: `0xFD 0x52`.
     pub fn v128_bitselect(self) -> Result<InstructionSink<'a, A>, EncodeError>
-        ensures* unchanged { sem 𝓛 (IsUnchangedAtErr A.row A.Allocator self.entry result) }
-        ensures same { IsSameSink self.entry result }
         ensures wrote { Writes self.entry (after_fd 0x52) operands.None result }
+        ensures same { IsSameSink self.entry result }
         ensures room { HasRoom self.entry → IsOk result }
+        ensures* unchanged { sem 𝓛 (IsUnchangedAtErr A.row A.Allocator self.entry result) }
     {
         self.emit(Opcode::after_fd(0x52))
     }
 
     /// `v128.any_true`: `0xFD 0x53`.
     pub fn v128_any_true(self) -> Result<InstructionSink<'a, A>, EncodeError>
-        ensures* unchanged { sem 𝓛 (IsUnchangedAtErr A.row A.Allocator self.entry result) }
-        ensures same { IsSameSink self.entry result }
         ensures wrote { Writes self.entry (after_fd 0x53) operands.None result }
+        ensures same { IsSameSink self.entry result }
         ensures room { HasRoom self.entry → IsOk result }
+        ensures* unchanged { sem 𝓛 (IsUnchangedAtErr A.row A.Allocator self.entry result) }
     {
         self.emit(Opcode::after_fd(0x53))
     }

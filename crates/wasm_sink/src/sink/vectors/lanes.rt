@@ -12,232 +12,232 @@ use wasm_instructions::operands::Lane;
 use wasm_instructions::table::Opcode;
 
 impl<'a, A: Allocator> InstructionSink<'a, A> {
-    /// `v128.const`: `0xFD 0x0C`.
+    /// `v128.const`: `0xFD 0x0C`, then 16 bytes, the lowest first.
     pub fn v128_const(self, value: i128) -> Result<InstructionSink<'a, A>, EncodeError>
-        ensures* unchanged { sem 𝓛 (IsUnchangedAtErr A.row A.Allocator self.entry result) }
-        ensures same { IsSameSink self.entry result }
         ensures wrote { Writes self.entry (after_fd 0x0c) (operands.V128 value) result }
+        ensures same { IsSameSink self.entry result }
         ensures room { HasRoom self.entry → IsOk result }
+        ensures* unchanged { sem 𝓛 (IsUnchangedAtErr A.row A.Allocator self.entry result) }
     {
         self.emit_v128(Opcode::after_fd(0x0c), value)
     }
 
-    /// `i8x16.shuffle`: `0xFD 0x0D`.
+    /// `i8x16.shuffle`: `0xFD 0x0D`, then 16 lanes.
     pub fn i8x16_shuffle(self, lanes: [Lane; 16]) -> Result<InstructionSink<'a, A>, EncodeError>
-        ensures* unchanged { sem 𝓛 (IsUnchangedAtErr A.row A.Allocator self.entry result) }
-        ensures same { IsSameSink self.entry result }
         ensures wrote { Writes self.entry (after_fd 0x0d) (operands.Shuffle lanes) result }
+        ensures same { IsSameSink self.entry result }
         ensures room { HasRoom self.entry → IsOk result }
+        ensures* unchanged { sem 𝓛 (IsUnchangedAtErr A.row A.Allocator self.entry result) }
     {
         self.emit_shuffle(Opcode::after_fd(0x0d), lanes)
     }
 
     /// `i8x16.swizzle`: `0xFD 0x0E`.
     pub fn i8x16_swizzle(self) -> Result<InstructionSink<'a, A>, EncodeError>
-        ensures* unchanged { sem 𝓛 (IsUnchangedAtErr A.row A.Allocator self.entry result) }
-        ensures same { IsSameSink self.entry result }
         ensures wrote { Writes self.entry (after_fd 0x0e) operands.None result }
+        ensures same { IsSameSink self.entry result }
         ensures room { HasRoom self.entry → IsOk result }
+        ensures* unchanged { sem 𝓛 (IsUnchangedAtErr A.row A.Allocator self.entry result) }
     {
         self.emit(Opcode::after_fd(0x0e))
     }
 
     /// `i8x16.splat`: `0xFD 0x0F`.
     pub fn i8x16_splat(self) -> Result<InstructionSink<'a, A>, EncodeError>
-        ensures* unchanged { sem 𝓛 (IsUnchangedAtErr A.row A.Allocator self.entry result) }
-        ensures same { IsSameSink self.entry result }
         ensures wrote { Writes self.entry (after_fd 0x0f) operands.None result }
+        ensures same { IsSameSink self.entry result }
         ensures room { HasRoom self.entry → IsOk result }
+        ensures* unchanged { sem 𝓛 (IsUnchangedAtErr A.row A.Allocator self.entry result) }
     {
         self.emit(Opcode::after_fd(0x0f))
     }
 
     /// `i16x8.splat`: `0xFD 0x10`.
     pub fn i16x8_splat(self) -> Result<InstructionSink<'a, A>, EncodeError>
-        ensures* unchanged { sem 𝓛 (IsUnchangedAtErr A.row A.Allocator self.entry result) }
-        ensures same { IsSameSink self.entry result }
         ensures wrote { Writes self.entry (after_fd 0x10) operands.None result }
+        ensures same { IsSameSink self.entry result }
         ensures room { HasRoom self.entry → IsOk result }
+        ensures* unchanged { sem 𝓛 (IsUnchangedAtErr A.row A.Allocator self.entry result) }
     {
         self.emit(Opcode::after_fd(0x10))
     }
 
     /// `i32x4.splat`: `0xFD 0x11`.
     pub fn i32x4_splat(self) -> Result<InstructionSink<'a, A>, EncodeError>
-        ensures* unchanged { sem 𝓛 (IsUnchangedAtErr A.row A.Allocator self.entry result) }
-        ensures same { IsSameSink self.entry result }
         ensures wrote { Writes self.entry (after_fd 0x11) operands.None result }
+        ensures same { IsSameSink self.entry result }
         ensures room { HasRoom self.entry → IsOk result }
+        ensures* unchanged { sem 𝓛 (IsUnchangedAtErr A.row A.Allocator self.entry result) }
     {
         self.emit(Opcode::after_fd(0x11))
     }
 
     /// `i64x2.splat`: `0xFD 0x12`.
     pub fn i64x2_splat(self) -> Result<InstructionSink<'a, A>, EncodeError>
-        ensures* unchanged { sem 𝓛 (IsUnchangedAtErr A.row A.Allocator self.entry result) }
-        ensures same { IsSameSink self.entry result }
         ensures wrote { Writes self.entry (after_fd 0x12) operands.None result }
+        ensures same { IsSameSink self.entry result }
         ensures room { HasRoom self.entry → IsOk result }
+        ensures* unchanged { sem 𝓛 (IsUnchangedAtErr A.row A.Allocator self.entry result) }
     {
         self.emit(Opcode::after_fd(0x12))
     }
 
     /// `f32x4.splat`: `0xFD 0x13`.
     pub fn f32x4_splat(self) -> Result<InstructionSink<'a, A>, EncodeError>
-        ensures* unchanged { sem 𝓛 (IsUnchangedAtErr A.row A.Allocator self.entry result) }
-        ensures same { IsSameSink self.entry result }
         ensures wrote { Writes self.entry (after_fd 0x13) operands.None result }
+        ensures same { IsSameSink self.entry result }
         ensures room { HasRoom self.entry → IsOk result }
+        ensures* unchanged { sem 𝓛 (IsUnchangedAtErr A.row A.Allocator self.entry result) }
     {
         self.emit(Opcode::after_fd(0x13))
     }
 
     /// `f64x2.splat`: `0xFD 0x14`.
     pub fn f64x2_splat(self) -> Result<InstructionSink<'a, A>, EncodeError>
-        ensures* unchanged { sem 𝓛 (IsUnchangedAtErr A.row A.Allocator self.entry result) }
-        ensures same { IsSameSink self.entry result }
         ensures wrote { Writes self.entry (after_fd 0x14) operands.None result }
+        ensures same { IsSameSink self.entry result }
         ensures room { HasRoom self.entry → IsOk result }
+        ensures* unchanged { sem 𝓛 (IsUnchangedAtErr A.row A.Allocator self.entry result) }
     {
         self.emit(Opcode::after_fd(0x14))
     }
 
-    /// `i8x16.extract_lane_s`: `0xFD 0x15`.
+    /// `i8x16.extract_lane_s`: `0xFD 0x15`, then a lane.
     pub fn i8x16_extract_lane_s(self, lane: Lane) -> Result<InstructionSink<'a, A>, EncodeError>
-        ensures* unchanged { sem 𝓛 (IsUnchangedAtErr A.row A.Allocator self.entry result) }
-        ensures same { IsSameSink self.entry result }
         ensures wrote { Writes self.entry (after_fd 0x15) (operands.Lane lane) result }
+        ensures same { IsSameSink self.entry result }
         ensures room { HasRoom self.entry → IsOk result }
+        ensures* unchanged { sem 𝓛 (IsUnchangedAtErr A.row A.Allocator self.entry result) }
     {
         self.emit_lane(Opcode::after_fd(0x15), lane)
     }
 
-    /// `i8x16.extract_lane_u`: `0xFD 0x16`.
+    /// `i8x16.extract_lane_u`: `0xFD 0x16`, then a lane.
     pub fn i8x16_extract_lane_u(self, lane: Lane) -> Result<InstructionSink<'a, A>, EncodeError>
-        ensures* unchanged { sem 𝓛 (IsUnchangedAtErr A.row A.Allocator self.entry result) }
-        ensures same { IsSameSink self.entry result }
         ensures wrote { Writes self.entry (after_fd 0x16) (operands.Lane lane) result }
+        ensures same { IsSameSink self.entry result }
         ensures room { HasRoom self.entry → IsOk result }
+        ensures* unchanged { sem 𝓛 (IsUnchangedAtErr A.row A.Allocator self.entry result) }
     {
         self.emit_lane(Opcode::after_fd(0x16), lane)
     }
 
-    /// `i8x16.replace_lane`: `0xFD 0x17`.
+    /// `i8x16.replace_lane`: `0xFD 0x17`, then a lane.
     pub fn i8x16_replace_lane(self, lane: Lane) -> Result<InstructionSink<'a, A>, EncodeError>
-        ensures* unchanged { sem 𝓛 (IsUnchangedAtErr A.row A.Allocator self.entry result) }
-        ensures same { IsSameSink self.entry result }
         ensures wrote { Writes self.entry (after_fd 0x17) (operands.Lane lane) result }
+        ensures same { IsSameSink self.entry result }
         ensures room { HasRoom self.entry → IsOk result }
+        ensures* unchanged { sem 𝓛 (IsUnchangedAtErr A.row A.Allocator self.entry result) }
     {
         self.emit_lane(Opcode::after_fd(0x17), lane)
     }
 
-    /// `i16x8.extract_lane_s`: `0xFD 0x18`.
+    /// `i16x8.extract_lane_s`: `0xFD 0x18`, then a lane.
     pub fn i16x8_extract_lane_s(self, lane: Lane) -> Result<InstructionSink<'a, A>, EncodeError>
-        ensures* unchanged { sem 𝓛 (IsUnchangedAtErr A.row A.Allocator self.entry result) }
-        ensures same { IsSameSink self.entry result }
         ensures wrote { Writes self.entry (after_fd 0x18) (operands.Lane lane) result }
+        ensures same { IsSameSink self.entry result }
         ensures room { HasRoom self.entry → IsOk result }
+        ensures* unchanged { sem 𝓛 (IsUnchangedAtErr A.row A.Allocator self.entry result) }
     {
         self.emit_lane(Opcode::after_fd(0x18), lane)
     }
 
-    /// `i16x8.extract_lane_u`: `0xFD 0x19`.
+    /// `i16x8.extract_lane_u`: `0xFD 0x19`, then a lane.
     pub fn i16x8_extract_lane_u(self, lane: Lane) -> Result<InstructionSink<'a, A>, EncodeError>
-        ensures* unchanged { sem 𝓛 (IsUnchangedAtErr A.row A.Allocator self.entry result) }
-        ensures same { IsSameSink self.entry result }
         ensures wrote { Writes self.entry (after_fd 0x19) (operands.Lane lane) result }
+        ensures same { IsSameSink self.entry result }
         ensures room { HasRoom self.entry → IsOk result }
+        ensures* unchanged { sem 𝓛 (IsUnchangedAtErr A.row A.Allocator self.entry result) }
     {
         self.emit_lane(Opcode::after_fd(0x19), lane)
     }
 
-    /// `i16x8.replace_lane`: `0xFD 0x1A`.
+    /// `i16x8.replace_lane`: `0xFD 0x1A`, then a lane.
     pub fn i16x8_replace_lane(self, lane: Lane) -> Result<InstructionSink<'a, A>, EncodeError>
-        ensures* unchanged { sem 𝓛 (IsUnchangedAtErr A.row A.Allocator self.entry result) }
-        ensures same { IsSameSink self.entry result }
         ensures wrote { Writes self.entry (after_fd 0x1a) (operands.Lane lane) result }
+        ensures same { IsSameSink self.entry result }
         ensures room { HasRoom self.entry → IsOk result }
+        ensures* unchanged { sem 𝓛 (IsUnchangedAtErr A.row A.Allocator self.entry result) }
     {
         self.emit_lane(Opcode::after_fd(0x1a), lane)
     }
 
-    /// `i32x4.extract_lane`: `0xFD 0x1B`.
+    /// `i32x4.extract_lane`: `0xFD 0x1B`, then a lane.
     pub fn i32x4_extract_lane(self, lane: Lane) -> Result<InstructionSink<'a, A>, EncodeError>
-        ensures* unchanged { sem 𝓛 (IsUnchangedAtErr A.row A.Allocator self.entry result) }
-        ensures same { IsSameSink self.entry result }
         ensures wrote { Writes self.entry (after_fd 0x1b) (operands.Lane lane) result }
+        ensures same { IsSameSink self.entry result }
         ensures room { HasRoom self.entry → IsOk result }
+        ensures* unchanged { sem 𝓛 (IsUnchangedAtErr A.row A.Allocator self.entry result) }
     {
         self.emit_lane(Opcode::after_fd(0x1b), lane)
     }
 
-    /// `i32x4.replace_lane`: `0xFD 0x1C`.
+    /// `i32x4.replace_lane`: `0xFD 0x1C`, then a lane.
     pub fn i32x4_replace_lane(self, lane: Lane) -> Result<InstructionSink<'a, A>, EncodeError>
-        ensures* unchanged { sem 𝓛 (IsUnchangedAtErr A.row A.Allocator self.entry result) }
-        ensures same { IsSameSink self.entry result }
         ensures wrote { Writes self.entry (after_fd 0x1c) (operands.Lane lane) result }
+        ensures same { IsSameSink self.entry result }
         ensures room { HasRoom self.entry → IsOk result }
+        ensures* unchanged { sem 𝓛 (IsUnchangedAtErr A.row A.Allocator self.entry result) }
     {
         self.emit_lane(Opcode::after_fd(0x1c), lane)
     }
 
-    /// `i64x2.extract_lane`: `0xFD 0x1D`.
+    /// `i64x2.extract_lane`: `0xFD 0x1D`, then a lane.
     pub fn i64x2_extract_lane(self, lane: Lane) -> Result<InstructionSink<'a, A>, EncodeError>
-        ensures* unchanged { sem 𝓛 (IsUnchangedAtErr A.row A.Allocator self.entry result) }
-        ensures same { IsSameSink self.entry result }
         ensures wrote { Writes self.entry (after_fd 0x1d) (operands.Lane lane) result }
+        ensures same { IsSameSink self.entry result }
         ensures room { HasRoom self.entry → IsOk result }
+        ensures* unchanged { sem 𝓛 (IsUnchangedAtErr A.row A.Allocator self.entry result) }
     {
         self.emit_lane(Opcode::after_fd(0x1d), lane)
     }
 
-    /// `i64x2.replace_lane`: `0xFD 0x1E`.
+    /// `i64x2.replace_lane`: `0xFD 0x1E`, then a lane.
     pub fn i64x2_replace_lane(self, lane: Lane) -> Result<InstructionSink<'a, A>, EncodeError>
-        ensures* unchanged { sem 𝓛 (IsUnchangedAtErr A.row A.Allocator self.entry result) }
-        ensures same { IsSameSink self.entry result }
         ensures wrote { Writes self.entry (after_fd 0x1e) (operands.Lane lane) result }
+        ensures same { IsSameSink self.entry result }
         ensures room { HasRoom self.entry → IsOk result }
+        ensures* unchanged { sem 𝓛 (IsUnchangedAtErr A.row A.Allocator self.entry result) }
     {
         self.emit_lane(Opcode::after_fd(0x1e), lane)
     }
 
-    /// `f32x4.extract_lane`: `0xFD 0x1F`.
+    /// `f32x4.extract_lane`: `0xFD 0x1F`, then a lane.
     pub fn f32x4_extract_lane(self, lane: Lane) -> Result<InstructionSink<'a, A>, EncodeError>
-        ensures* unchanged { sem 𝓛 (IsUnchangedAtErr A.row A.Allocator self.entry result) }
-        ensures same { IsSameSink self.entry result }
         ensures wrote { Writes self.entry (after_fd 0x1f) (operands.Lane lane) result }
+        ensures same { IsSameSink self.entry result }
         ensures room { HasRoom self.entry → IsOk result }
+        ensures* unchanged { sem 𝓛 (IsUnchangedAtErr A.row A.Allocator self.entry result) }
     {
         self.emit_lane(Opcode::after_fd(0x1f), lane)
     }
 
-    /// `f32x4.replace_lane`: `0xFD 0x20`.
+    /// `f32x4.replace_lane`: `0xFD 0x20`, then a lane.
     pub fn f32x4_replace_lane(self, lane: Lane) -> Result<InstructionSink<'a, A>, EncodeError>
-        ensures* unchanged { sem 𝓛 (IsUnchangedAtErr A.row A.Allocator self.entry result) }
-        ensures same { IsSameSink self.entry result }
         ensures wrote { Writes self.entry (after_fd 0x20) (operands.Lane lane) result }
+        ensures same { IsSameSink self.entry result }
         ensures room { HasRoom self.entry → IsOk result }
+        ensures* unchanged { sem 𝓛 (IsUnchangedAtErr A.row A.Allocator self.entry result) }
     {
         self.emit_lane(Opcode::after_fd(0x20), lane)
     }
 
-    /// `f64x2.extract_lane`: `0xFD 0x21`.
+    /// `f64x2.extract_lane`: `0xFD 0x21`, then a lane.
     pub fn f64x2_extract_lane(self, lane: Lane) -> Result<InstructionSink<'a, A>, EncodeError>
-        ensures* unchanged { sem 𝓛 (IsUnchangedAtErr A.row A.Allocator self.entry result) }
-        ensures same { IsSameSink self.entry result }
         ensures wrote { Writes self.entry (after_fd 0x21) (operands.Lane lane) result }
+        ensures same { IsSameSink self.entry result }
         ensures room { HasRoom self.entry → IsOk result }
+        ensures* unchanged { sem 𝓛 (IsUnchangedAtErr A.row A.Allocator self.entry result) }
     {
         self.emit_lane(Opcode::after_fd(0x21), lane)
     }
 
-    /// `f64x2.replace_lane`: `0xFD 0x22`.
+    /// `f64x2.replace_lane`: `0xFD 0x22`, then a lane.
     pub fn f64x2_replace_lane(self, lane: Lane) -> Result<InstructionSink<'a, A>, EncodeError>
-        ensures* unchanged { sem 𝓛 (IsUnchangedAtErr A.row A.Allocator self.entry result) }
-        ensures same { IsSameSink self.entry result }
         ensures wrote { Writes self.entry (after_fd 0x22) (operands.Lane lane) result }
+        ensures same { IsSameSink self.entry result }
         ensures room { HasRoom self.entry → IsOk result }
+        ensures* unchanged { sem 𝓛 (IsUnchangedAtErr A.row A.Allocator self.entry result) }
     {
         self.emit_lane(Opcode::after_fd(0x22), lane)
     }
