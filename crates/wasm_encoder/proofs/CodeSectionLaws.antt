@@ -1,16 +1,13 @@
 -- The laws of functions and code sections that are being built.
-use Rattle.std.proofs.Common.{◌≡◌, ℕ, ◌+◌, ◌⊎◌, ◌^◌, ◌<◌, List, [], ◌∷◌, ◌++◌, length, Option, Result, Ok, Err, OnOk, append_assoc, sym, ap, ◌∙◌, subst, inl, inr, arith}
+use Rattle.std.proofs.Common.{◌≡◌, ℕ, ◌+◌, List, [], ◌∷◌, ◌++◌, length, Option, Result, Ok, Err, OnOk, append_assoc, refl, sym, ap, ◌∙◌, subst, lit≤}
 use Rattle.std.specs.List.{All, AllByRecursion, flat_map}
-use Rattle.std.specs.Iterator.{Count, size}
 use Rattle.std.proofs.lemmas.Grind.{flat_map-append}
 use Rattle.std.proofs.lemmas.List.{append-nil}
-use Rattle.std.proofs.lemmas.List.Elements.{All-nil, All-cons}
 use Rattle.wasm_types.specs.declared.types.value.ValType.{ValType}
-use Rattle.wasm_codec.specs.declared.encode.EncodeError.{EncodeError}
-use Rattle.wasm_codec.specs.Encoding.{byte_list_bytes, IsCount, IsShortest, IsShortestOrLonger, OnlyTooLong, Refuses}
+use Rattle.wasm_codec.specs.Encoding.{byte_list_bytes, IsCount, IsShortest, IsShortestOrLonger}
 use Rattle.wasm_codec.specs.Numbers.{EncodesU32, unsigned_leb128}
 use Rattle.wasm_types.specs.formats.Types.{val_type}
-use Rattle.wasm_codec.specs.Iterators.{AppendsItems, IsItemsRefusal}
+use Rattle.wasm_codec.specs.Iterators.{AppendsItems}
 use Rattle.wasm_codec.specs.formats.Combinators.{items}
 use Rattle.wasm_instructions.specs.Appending.{CountedCall}
 use Rattle.wasm_instructions.specs.Instructions.{Instruction}
@@ -20,10 +17,11 @@ use Rattle.wasm_modules.specs.CodeCounts.{CountedBody}
 use Rattle.wasm_modules.specs.formats.CodeBodies.{local_group, code_body, code_section_body}
 use Rattle.wasm_modules.proofs.CodeBodyLaws.{Lawful-code_body, Lawful-code-section-body}
 use Rattle.wasm_modules.proofs.CodeBodyWriting.{calls_counted, calls_in_range, locals_in_range, in_range_by_parts}
-use Rattle.wasm_encoder.specs.TypeSections.{Entries, HasRoom, OfItems, TooLongUnless, body_bytes}
-use Rattle.wasm_encoder.specs.EncodedLists.{IsAddRefusal}
-use Rattle.wasm_encoder.specs.CodeSections.{FunctionStandsFor, GainsBodies, GainsFunction, GoesOnWith, StandsForBodies, body_of, followed}
-use Rattle.wasm_encoder.proofs.EncodedListLaws.{stands_none, stands_more, body_is, values_in_range, all_in_range, add_refused}
+use Rattle.wasm_modules.specs.Sections.{decoded_section_of, code_bodies, code_section_id}
+use Rattle.wasm_modules.specs.DecodedModules.{IsDecodedSection}
+use Rattle.wasm_encoder.specs.EncodedLists.{Entries, CountedSection, OfItems, body_bytes}
+use Rattle.wasm_encoder.specs.CodeSections.{FunctionStandsFor, GainsBodies, GainsFunction, GoesOnWith, HoldsBodies, StandsForBodies, body_of, followed}
+use Rattle.wasm_encoder.proofs.EncodedListLaws.{stands_none, stands_one_more, gains_each, body_is, values_in_range, all_in_range}
 
 -- ---- functions
 
@@ -31,14 +29,6 @@ use Rattle.wasm_encoder.proofs.EncodedListLaws.{stands_none, stands_more, body_i
 pub locals_stand : {S : Type 0} (gives : S → Option (ℕ × ValType) → S → Type 0) (Can : ℕ × ValType → Type 0) (locals : S) (old new : List ℕ) → old ≡ [] → AppendsItems local_group.bytes Can (λ (p : ℕ × ValType). IsShortest EncodesU32 unsigned_leb128 p.0 × IsShortest val_type.Encodes val_type.bytes p.1) gives locals old new → OfItems gives locals (λ groups. FunctionStandsFor new (body_of groups []))
 locals_stand gives Can locals old new none given =
     (given.0, given.1, record { bytes = given.2 ∙ ap (λ (t : List ℕ). t ++ (items local_group).bytes given.0) none ∙ sym (append-nil ((items local_group).bytes given.0)); locals = given.3.0; calls = tt; locals_in_range = locals_in_range given.0 given.4; calls_in_range = tt })
-
-pub locals_refused : {S : Type 0} (gives : S → Option (ℕ × ValType) → S → Type 0) (left : S → Count) (locals : S) (e : EncodeError) → IsItemsRefusal (λ (p : ℕ × ValType). Unit {0} × Unit {0}) (λ p e. ⊥ ⊎ ⊥) gives left locals e → TooLongUnless (IsCount (size (left locals))) e
-locals_refused gives left locals e (inl memory) = inl memory
-locals_refused gives left locals e (inr (inl (is, long))) = inr (λ few. let under : size (left locals) < 2 ^ 32 = few in omega (arith, under, long), is)
-locals_refused gives left locals e (inr (inr none)) = none_of (none.3.4.1) where
-  none_of : {X : Type 0} → ⊥ ⊎ ⊥ → X
-  none_of (inl never) = absurd never
-  none_of (inr never) = absurd never
 
 all_more : (P : Instruction → Type 0) (calls more : List Instruction) → AllByRecursion P calls → AllByRecursion P more → AllByRecursion P (calls ++ more)
 all_more P [] more first second = second
@@ -76,26 +66,15 @@ function_in_range function body s few = in_range_by_parts body (body_counted fun
 
 function_stands : (old new : Entries) (function : List ℕ) (before : List CodeBody) (body : CodeBody) → new.count ≡ old.count + 1 → new.bytes ≡ old.bytes ++ byte_list_bytes function → IsCount (length function) → StandsForBodies old before → FunctionStandsFor function body → StandsForBodies new (before ++ body ∷ [])
 function_stands old new function before body count bytes few s f =
-    stands_more code_body CountedBody old new before (body ∷ []) s count
-    (bytes ∙ ap (λ (t : List ℕ). old.bytes ++ t) (function_is_body function body f ∙ sym (append-nil (code_body.bytes body))))
-    (All-cons CountedBody body [] (body_counted function body f few) (All-nil CountedBody))
-    (All-cons code_body.InRange body [] (function_in_range function body f few) (All-nil code_body.InRange))
+    stands_one_more code_body CountedBody old new before body s count (bytes ∙ ap (λ (t : List ℕ). old.bytes ++ t) (function_is_body function body f)) (body_counted function body f few) (function_in_range function body f few)
 
 pub gains_function : {T E : Type 0} (r : Result T E) (old new : Entries) (function : List ℕ) → OnOk r (new.count ≡ old.count + 1) → OnOk r (new.bytes ≡ old.bytes ++ byte_list_bytes function) → OnOk r (IsCount (length function)) → OnOk r (GainsFunction old function new)
 gains_function (Ok x) old new function count bytes few = record { count = count; bytes = bytes; stands = λ before body s f. function_stands old new function before body count bytes few s f }
 gains_function (Err e) old new function count bytes few = tt
 
-pub function_refused : (old : Entries) (function : List ℕ) (e : EncodeError) → TooLongUnless (HasRoom old) e ⊎ Refuses (λ (f : List ℕ). IsCount (length f)) OnlyTooLong function e → TooLongUnless (HasRoom old × IsCount (length function)) e
-function_refused old function e (inl (inl memory)) = inl memory
-function_refused old function e (inl (inr (full, is))) = inr (λ can. full can.0, is)
-function_refused old function e (inr (long, is)) = inr (λ can. long can.1, is)
-
 pub gains_bodies : {T E : Type 0} (r : Result T E) (old new : Entries) (more : List CodeBody) → OnOk r (new.count ≡ old.count + length more) → OnOk r (new.bytes ≡ old.bytes ++ flat_map code_body.bytes more) → OnOk r (All CountedBody more) → OnOk r (All (IsShortest code_body.Encodes code_body.bytes) more) → OnOk r (GainsBodies old more new)
-gains_bodies (Ok x) old new more count bytes can written = record { count = count; bytes = bytes; stands = λ before s. stands_more code_body CountedBody old new before more s count bytes can (all_in_range code_body Lawful-code_body more written) }
+gains_bodies (Ok x) old new more count bytes can written = gains_each code_body CountedBody old new more count bytes can (all_in_range code_body Lawful-code_body more written)
 gains_bodies (Err e) old new more count bytes can written = tt
-
-pub bodies_refused : (old : Entries) (bodies : List CodeBody) (e : EncodeError) → IsAddRefusal CountedBody OnlyTooLong old bodies e → TooLongUnless (IsCount (old.count + length bodies) × All CountedBody bodies) e
-bodies_refused old bodies e refused = add_refused CountedBody old bodies e refused
 
 -- ---- what a section that stands for bodies writes
 
@@ -115,3 +94,14 @@ body_encodes section bodies few s = rw (section_is_body section bodies s) (Lawfu
 
 pub body_shortest : (section : Entries) (bodies : List CodeBody) (bytes : List ℕ) → StandsForBodies section bodies → code_section_body.Encodes bytes bodies → IsShortestOrLonger bytes (body_bytes section)
 body_shortest section bodies bytes s g = rw (section_is_body section bodies s) (Lawful-code-section-body.shortest.least bytes bodies g)
+
+pub holds_bodies : {T E : Type 0} (r : Result T E) (section : Entries) → IsCount section.count → OnOk r (HoldsBodies section)
+holds_bodies (Ok x) section few = λ bodies s. body_encodes section bodies few s
+holds_bodies (Err e) section few = tt
+
+pub is_decoded : {T E : Type 0} (r : Result T E) (section : Entries) (bodies : List CodeBody) → IsCount section.count → OnOk r (CountedSection section) → StandsForBodies section bodies → OnOk r (IsDecodedSection (decoded_section_of (code_section_id, code_bodies bodies)))
+is_decoded (Ok x) section bodies few counted s = record {
+  content = (bodies_in_range section bodies few s, refl);
+  section = record { id = lit≤ tt; body = subst (λ (t : List ℕ). IsCount (length t)) (section_is_body section bodies s) counted };
+}
+is_decoded (Err e) section bodies few counted s = tt

@@ -1,15 +1,14 @@
 -- The laws of lists that are being encoded value by value.
-use Rattle.std.proofs.Common.{◌≡◌, ℕ, suc, ◌+◌, List, [], ◌∷◌, ◌++◌, length, length-append, refl, sym, ap, ◌∙◌, subst, inl, inr, arith}
+use Rattle.std.proofs.Common.{◌≡◌, ℕ, suc, ◌+◌, List, [], ◌∷◌, ◌++◌, length, length-append, refl, sym, ap, ◌∙◌, subst, arith}
 use Rattle.std.specs.List.{All, AllByRecursion, flat_map}
 use Rattle.std.proofs.lemmas.Grind.{flat_map-append}
-use Rattle.std.proofs.lemmas.List.Elements.{All-nil, All-append}
-use Rattle.wasm_codec.specs.declared.encode.EncodeError.{EncodeError}
-use Rattle.wasm_codec.specs.Encoding.{IsCount, IsShortest, OnlyTooLong}
+use Rattle.std.proofs.lemmas.List.{append-nil}
+use Rattle.std.proofs.lemmas.List.Elements.{All-nil, All-cons, All-append}
+use Rattle.wasm_codec.specs.Encoding.{IsCount, IsShortest}
 use Rattle.wasm_codec.specs.Lawful.{IsLawful}
 use Rattle.wasm_codec.specs.formats.Combinators.{Format, items}
 use Rattle.wasm_types.proofs.WrittenTypes.{in_range_of}
-use Rattle.wasm_encoder.specs.TypeSections.{Entries, TooLongUnless, body_bytes}
-use Rattle.wasm_encoder.specs.EncodedLists.{StandsForAll, IsAddRefusal}
+use Rattle.wasm_encoder.specs.EncodedLists.{Entries, StandsForAll, GainsOne, GainsEach, body_bytes}
 
 pub stands_none : {V : Type 0} (F : Format V) (Can : V → Type 0) (list : Entries) → list.count ≡ 0 → list.bytes ≡ [] → StandsForAll F Can list []
 stands_none F Can list count bytes = record { count = count; bytes = bytes; can = All-nil Can; in_range = All-nil F.InRange }
@@ -22,6 +21,17 @@ stands_more F Can old new before more s count bytes can fits = record {
   can = All-append Can before more s.can can;
   in_range = All-append F.InRange before more s.in_range fits;
 }
+
+pub gains_each : {V : Type 0} (F : Format V) (Can : V → Type 0) (old new : Entries) (more : List V) → new.count ≡ old.count + length more → new.bytes ≡ old.bytes ++ flat_map F.bytes more → All Can more → All F.InRange more → GainsEach F Can old more new
+gains_each F Can old new more count bytes can fits = record { count = count; bytes = bytes; can = can; in_range = fits; stands = λ before s. stands_more F Can old new before more s count bytes can fits }
+
+-- one value more
+pub stands_one_more : {V : Type 0} (F : Format V) (Can : V → Type 0) (old new : Entries) (before : List V) (value : V) → StandsForAll F Can old before → new.count ≡ old.count + 1 → new.bytes ≡ old.bytes ++ F.bytes value → Can value → F.InRange value → StandsForAll F Can new (before ++ value ∷ [])
+stands_one_more F Can old new before value s count bytes can fits =
+    stands_more F Can old new before (value ∷ []) s count (bytes ∙ ap (λ (t : List ℕ). old.bytes ++ t) (sym (append-nil (F.bytes value)))) (All-cons Can value [] can (All-nil Can)) (All-cons F.InRange value [] fits (All-nil F.InRange))
+
+pub gains_one : {V : Type 0} (F : Format V) (Can : V → Type 0) (old new : Entries) (value : V) → new.count ≡ old.count + 1 → new.bytes ≡ old.bytes ++ F.bytes value → Can value → F.InRange value → GainsOne F Can old value new
+gains_one F Can old new value count bytes can fits = record { count = count; bytes = bytes; can = can; in_range = fits; stands = λ before s. stands_one_more F Can old new before value s count bytes can fits }
 
 -- the body is the list of the values
 pub body_is : {V : Type 0} (F : Format V) (Can : V → Type 0) (list : Entries) (values : List V) → StandsForAll F Can list values → body_bytes list ≡ (items F).bytes values
@@ -38,9 +48,3 @@ values_in_range F Can list values few s = (subst IsCount s.count few, by_recursi
 -- values whose bytes were written as their shortest encodings are in range
 pub all_in_range : {V : Type 0} (F : Format V) → IsLawful F → (values : List V) → All (IsShortest F.Encodes F.bytes) values → All F.InRange values
 all_in_range F law values h = λ k d lt. in_range_of F law _ (h k d lt)
-
--- values that are refused by `TooLong` alone
-pub add_refused : {V : Type 0} (Can : V → Type 0) (old : Entries) (values : List V) (e : EncodeError) → IsAddRefusal Can OnlyTooLong old values e → TooLongUnless (IsCount (old.count + length values) × All Can values) e
-add_refused Can old values e (inl memory) = inl memory
-add_refused Can old values e (inr (inl (long, is))) = inr (λ can. long can.0, is)
-add_refused Can old values e (inr (inr (k, x, lt, at, (cannot, is)))) = inr (λ can. cannot (subst Can at (can.1 k x lt)), is)

@@ -1,19 +1,23 @@
 -- The laws of type sections that are being built.
-use Rattle.std.proofs.Common.{◌≡◌, ℕ, suc, ◌+◌, ◌^◌, ◌<◌, List, [], ◌∷◌, ◌++◌, length, length-append, Result, Ok, Err, OnOk, refl, sym, ap, ◌∙◌, arith}
-use Rattle.std.specs.List.{All, AllByRecursion, flat_map}
-use Rattle.std.proofs.lemmas.Grind.{flat_map-append}
-use Rattle.std.proofs.lemmas.List.{append-nil}
-use Rattle.std.proofs.lemmas.List.Elements.{All-nil, All-cons, All-append}
+use Rattle.std.proofs.Common.{◌≡◌, ℕ, ◌+◌, List, [], ◌++◌, length, Result, Ok, Err, OnOk, refl, sym, ap, ◌∙◌, subst, lit≤, arith}
+use Rattle.std.specs.List.{All, flat_map}
 use Rattle.wasm_types.specs.declared.types.composite.CompositeInnerType.{CompositeInnerType}
 use Rattle.wasm_types.specs.declared.types.composite.SubType.{SubType}
 use Rattle.wasm_types.specs.declared.types.composite.TypeEntry.{TypeEntry}
 use Rattle.wasm_types.specs.declared.types.composite.TypeEntry.TheVariants as entries
-use Rattle.wasm_codec.specs.Encoding.{byte_list_bytes, IsShortest, IsShortestOrLonger}
-use Rattle.wasm_encoder.specs.TypeSections.{Entries, StandsFor, Gains, GainsAll, body_bytes, type_section_bytes, final_entry}
+use Rattle.wasm_codec.specs.Encoding.{byte_list_bytes, IsCount, IsShortest, IsShortestOrLonger}
+use Rattle.wasm_modules.specs.Sections.{decoded_section_of, type_entries, type_section_id}
+use Rattle.wasm_modules.specs.DecodedModules.{IsDecodedSection}
+use Rattle.wasm_encoder.specs.EncodedLists.{Entries, CountedSection, body_bytes}
+use Rattle.wasm_encoder.specs.TypeSections.{StandsFor, Gains, GainsAll, HoldsEntries, type_section_bytes, final_entry}
 use Rattle.wasm_types.specs.formats.Types.{composite_type, inner_type, recursive_type, sub_type, type_body}
 use Rattle.wasm_types.specs.TypeCounts.{CountedInner, CountedSub, CountedEntry}
-use Rattle.wasm_types.proofs.TypeFormatLaws.{Lawful-inner-type, Lawful-sub-type, Lawful-type-body}
+use Rattle.wasm_types.proofs.TypeFormatLaws.{Lawful-inner-type, Lawful-sub-type, Lawful-recursive-type, Lawful-type-body}
 use Rattle.wasm_types.proofs.WrittenTypes.{in_range_of}
+use Rattle.wasm_encoder.proofs.EncodedListLaws.{stands_none, gains_one, gains_each, body_is, values_in_range, all_in_range}
+
+pub stands_for_none : (section : Entries) → section.count ≡ 0 → section.bytes ≡ [] → StandsFor section []
+stands_for_none section count bytes = stands_none recursive_type CountedEntry section count bytes
 
 -- ---- an entry of one type with nothing before what it is made of
 
@@ -32,25 +36,14 @@ sub_in_range : (s : SubType) → sub_type.InRange s → recursive_type.InRange (
 unfolding recursive_type
 sub_in_range s fits = (fits, refl)
 
--- ---- some entries more
+-- ---- entries more
 
-stands_more : (old new : Entries) (before more : List TypeEntry) → StandsFor old before → new.count ≡ old.count + length more → new.bytes ≡ old.bytes ++ flat_map recursive_type.bytes more → All CountedEntry more → All recursive_type.InRange more → StandsFor new (before ++ more)
-stands_more old new before more s count bytes can fits = record {
-  count = omega (arith, length-append before more, s.count, count);
-  bytes = bytes ∙ ap (λ (t : List ℕ). t ++ flat_map recursive_type.bytes more) s.bytes ∙ sym (flat_map-append recursive_type.bytes before more);
-  can = All-append CountedEntry before more s.can can;
-  in_range = All-append recursive_type.InRange before more s.in_range fits;
-}
-
-pub gains_all : (old new : Entries) (more : List TypeEntry) → new.count ≡ old.count + length more → new.bytes ≡ old.bytes ++ flat_map recursive_type.bytes more → All CountedEntry more → All recursive_type.InRange more → GainsAll old more new
-gains_all old new more count bytes can fits = record { count = count; bytes = bytes; can = can; in_range = fits; stands = λ before s. stands_more old new before more s count bytes can fits }
-
--- ---- one entry more
+pub gains_entries : {T E : Type 0} (r : Result T E) (old new : Entries) (more : List TypeEntry) → OnOk r (new.count ≡ old.count + length more) → OnOk r (new.bytes ≡ old.bytes ++ flat_map recursive_type.bytes more) → OnOk r (All CountedEntry more) → OnOk r (All (IsShortest recursive_type.Encodes recursive_type.bytes) more) → OnOk r (GainsAll old more new)
+gains_entries (Ok x) old new more count bytes can written = gains_each recursive_type CountedEntry old new more count bytes can (all_in_range recursive_type Lawful-recursive-type more written)
+gains_entries (Err e) old new more count bytes can written = tt
 
 pub gains : (old new : Entries) (entry : TypeEntry) → new.count ≡ old.count + 1 → new.bytes ≡ old.bytes ++ recursive_type.bytes entry → CountedEntry entry → recursive_type.InRange entry → Gains old entry new
-gains old new entry count bytes can fits =
-    let alone : new.bytes ≡ old.bytes ++ flat_map recursive_type.bytes (entry ∷ []) = bytes ∙ ap (λ (t : List ℕ). old.bytes ++ t) (sym (append-nil (recursive_type.bytes entry))) in
-    record { count = count; bytes = bytes; can = can; in_range = fits; stands = λ before s. stands_more old new before (entry ∷ []) s count alone (All-cons CountedEntry entry [] can (All-nil CountedEntry)) (All-cons recursive_type.InRange entry [] fits (All-nil recursive_type.InRange)) }
+gains old new entry count bytes can fits = gains_one recursive_type CountedEntry old new entry count bytes can fits
 
 pub gains_final : (old new : Entries) (i : CompositeInnerType) → new.count ≡ old.count + 1 → new.bytes ≡ old.bytes ++ inner_type.bytes i → CountedInner i → IsShortest inner_type.Encodes inner_type.bytes i → Gains old (final_entry i) new
 gains_final old new i count bytes can h = gains old new (final_entry i) count (rw (final_is i) bytes) (final_counted i can) (final_in_range i (in_range_of inner_type Lawful-inner-type i h))
@@ -70,7 +63,7 @@ gains_final_ok (Err e) old new i count bytes can h = tt
 
 is_shortest : (section : Entries) (entries : List TypeEntry) → StandsFor section entries → body_bytes section ≡ type_body.bytes entries
 unfolding type_body
-is_shortest section entries s = rw (s.count, s.bytes) refl
+is_shortest section entries s = body_is recursive_type CountedEntry section entries s
 
 pub one_encoding : (section other : Entries) (entries : List TypeEntry) → StandsFor section entries → StandsFor other entries → type_section_bytes other ≡ type_section_bytes section
 one_encoding section other entries s o = ap byte_list_bytes (is_shortest other entries o ∙ sym (is_shortest section entries s))
@@ -78,16 +71,23 @@ one_encoding section other entries s o = ap byte_list_bytes (is_shortest other e
 pub section_is_body : (section : Entries) (entries : List TypeEntry) → StandsFor section entries → type_section_bytes section ≡ byte_list_bytes (type_body.bytes entries)
 section_is_body section entries s = ap byte_list_bytes (is_shortest section entries s)
 
-by_recursion : {A : Type 0} (P : A → Type 0) (xs : List A) → All P xs → AllByRecursion P xs
-by_recursion P [] h = tt
-by_recursion P (x ∷ xs) h = (h 0 x (omega arith), by_recursion P xs (λ k d lt. h (suc k) d (omega (arith, lt))))
-
-entries_in_range : (section : Entries) (entries : List TypeEntry) → section.count < 2 ^ 32 → StandsFor section entries → type_body.InRange entries
+entries_in_range : (section : Entries) (entries : List TypeEntry) → IsCount section.count → StandsFor section entries → type_body.InRange entries
 unfolding type_body
-entries_in_range section entries few s = (omega (arith, few, s.count), by_recursion recursive_type.InRange entries s.in_range)
+entries_in_range section entries few s = values_in_range recursive_type CountedEntry section entries few s
 
-pub body_encodes : (section : Entries) (entries : List TypeEntry) → section.count < 2 ^ 32 → StandsFor section entries → type_body.Encodes (body_bytes section) entries
+pub body_encodes : (section : Entries) (entries : List TypeEntry) → IsCount section.count → StandsFor section entries → type_body.Encodes (body_bytes section) entries
 body_encodes section entries few s = rw (is_shortest section entries s) (Lawful-type-body.shortest.encodes entries (entries_in_range section entries few s))
 
 pub body_shortest : (section : Entries) (entries : List TypeEntry) (bytes : List ℕ) → StandsFor section entries → type_body.Encodes bytes entries → IsShortestOrLonger bytes (body_bytes section)
 body_shortest section entries bytes s g = rw (is_shortest section entries s) (Lawful-type-body.shortest.least bytes entries g)
+
+pub holds_entries : {T E : Type 0} (r : Result T E) (section : Entries) → IsCount section.count → OnOk r (HoldsEntries section)
+holds_entries (Ok x) section few = λ entries s. body_encodes section entries few s
+holds_entries (Err e) section few = tt
+
+pub is_decoded : {T E : Type 0} (r : Result T E) (section : Entries) (entries : List TypeEntry) → IsCount section.count → OnOk r (CountedSection section) → StandsFor section entries → OnOk r (IsDecodedSection (decoded_section_of (type_section_id, type_entries entries)))
+is_decoded (Ok x) section entries few counted s = record {
+  content = (entries_in_range section entries few s, refl);
+  section = record { id = lit≤ tt; body = subst (λ (t : List ℕ). IsCount (length t)) (is_shortest section entries s) counted };
+}
+is_decoded (Err e) section entries few counted s = tt

@@ -26,6 +26,7 @@ pub use Rattle.wasm_sink.specs.Sink
 pub use Rattle.wasm_sink.specs.ListCalls
 pub mod EncodedLists
 pub mod CodeSections
+pub mod RawSections
 pub mod Rows
 pub mod SectionIds
 pub mod TypeSections

@@ -1,74 +1,42 @@
 -- Type sections that are being built: how many entries were written, and their bytes (WebAssembly Core 3.0, Type
 -- Section).
-use Rattle.std.specs.Prelude.{◌≡◌, ℕ, ◌+◌, ◌^◌, ◌⊎◌, List, [], ◌∷◌, ◌++◌, length, Option, None, Bool, true, false}
-use Rattle.std.specs.List.{All, flat_map}
+use Rattle.std.specs.Prelude.{ℕ, ◌⊎◌, List, [], length, Option, None, Bool, true, false}
+use Rattle.std.specs.List.{Any}
 use Rattle.std.specs.Iterator.{Drains}
 use Rattle.wasm_types.specs.declared.types.value.ValType.{ValType}
 use Rattle.wasm_types.specs.declared.types.value.StorageType.{StorageType}
 use Rattle.wasm_types.specs.declared.types.composite.FieldType.{FieldType}
 use Rattle.wasm_types.specs.declared.types.composite.FuncType.{FuncType}
+use Rattle.wasm_types.specs.declared.types.composite.SubType.{SubType}
 use Rattle.wasm_types.specs.declared.types.composite.CompositeInnerType.{CompositeInnerType}
 use Rattle.wasm_types.specs.declared.types.composite.CompositeInnerType.TheVariants as inner
 use Rattle.wasm_types.specs.declared.types.composite.TypeEntry.{TypeEntry}
 use Rattle.wasm_types.specs.declared.types.composite.TypeEntry.TheVariants as entries
-use Rattle.wasm_codec.specs.Numbers.{unsigned_leb128}
-use Rattle.wasm_codec.specs.declared.encode.EncodeError.{EncodeError}
-use Rattle.wasm_codec.specs.declared.encode.EncodeError.TheVariants.{Memory, TooLong}
-use Rattle.wasm_codec.specs.Encoding.{byte_list_bytes, IsCount}
-use Rattle.wasm_types.specs.formats.Types.{recursive_type}
+use Rattle.wasm_codec.specs.Encoding.{byte_list_bytes}
+use Rattle.wasm_types.specs.formats.Types.{recursive_type, type_body}
 use Rattle.wasm_types.specs.TypeCounts.{CountedEntry}
-
--- the number of entries, and their bytes
-pub record Entries : Type 0 where
-  pub count : ℕ
-  pub bytes : List ℕ
+use Rattle.wasm_encoder.specs.EncodedLists.{Entries, StandsForAll, GainsOne, GainsEach, IsUncounted, body_bytes}
 
 -- The section stands for these entries: it has their number and their bytes, with nothing between, and they can be
 -- written, with their numbers in range.
-pub record StandsFor (section : Entries) (entries : List TypeEntry) : Type 0 where
-  pub count : section.count ≡ length entries
-  pub bytes : section.bytes ≡ flat_map recursive_type.bytes entries
-  pub can : All CountedEntry entries
-  pub in_range : All recursive_type.InRange entries
+abbrev pub StandsFor : Entries → List TypeEntry → Type 0
+StandsFor = StandsForAll recursive_type CountedEntry
 
--- The new section is the old one with one entry more.
-pub record Gains (old : Entries) (entry : TypeEntry) (new : Entries) : Type 0 where
-  pub count : new.count ≡ old.count + 1
-  pub bytes : new.bytes ≡ old.bytes ++ recursive_type.bytes entry
-  pub can : CountedEntry entry
-  pub in_range : recursive_type.InRange entry
-  pub stands : (before : List TypeEntry) → StandsFor old before → StandsFor new (before ++ entry ∷ [])
+-- the new section is the old one with one entry more
+abbrev pub Gains : Entries → TypeEntry → Entries → Type 0
+Gains = GainsOne recursive_type CountedEntry
 
--- The new section is the old one with these entries more.
-pub record GainsAll (old : Entries) (more : List TypeEntry) (new : Entries) : Type 0 where
-  pub count : new.count ≡ old.count + length more
-  pub bytes : new.bytes ≡ old.bytes ++ flat_map recursive_type.bytes more
-  pub can : All CountedEntry more
-  pub in_range : All recursive_type.InRange more
-  pub stands : (before : List TypeEntry) → StandsFor old before → StandsFor new (before ++ more)
+-- the new section is the old one with these entries more
+abbrev pub GainsAll : Entries → List TypeEntry → Entries → Type 0
+GainsAll = GainsEach recursive_type CountedEntry
 
--- no entry can be added: their number is the greatest that there is
-abbrev pub IsFull : Entries → Type 0
-IsFull section = section.count + 1 ≡ 2 ^ 32
-
-abbrev pub HasRoom : Entries → Type 0
-HasRoom section = IsFull section → ⊥
-
--- memory ran out, or the error is `TooLong`, which is answered only where this doesn't hold
-abbrev pub TooLongUnless : Type 0 → EncodeError → Type 0
-TooLongUnless Can e = (e ≡ Memory) ⊎ ((Can → ⊥) × (e ≡ TooLong))
-
--- the count and the entries (Type Section)
-abbrev pub body_bytes : Entries → List ℕ
-body_bytes section = unsigned_leb128 section.count ++ section.bytes
+-- its body encodes the entries that it stands for
+abbrev pub HoldsEntries : Entries → Type 0
+HoldsEntries section = (entries : List TypeEntry) → StandsFor section entries → type_body.Encodes (body_bytes section) entries
 
 -- the body, after the number of its bytes (Sections)
 abbrev pub type_section_bytes : Entries → List ℕ
 type_section_bytes section = byte_list_bytes (body_bytes section)
-
--- a section that can be written: a u32 counts the bytes of its body
-abbrev pub CountedSection : Entries → Type 0
-CountedSection section = IsCount (length (body_bytes section))
 
 -- ---- entries of one type: final, without supertypes, not shared, with no descriptor
 
@@ -88,7 +56,20 @@ module _ {P R : Type 0} (gives_params : P → Option ValType → P → Type 0) (
   abbrev pub OfBoth : P → R → (FuncType → Type 0) → Type 0
   OfBoth params results Holds = (ps : List ValType) × (rs : List ValType) × Drains gives_params params ps × Drains gives_results results rs × Holds (record { params = ps; results = rs })
 
-module _ {S A : Type 0} (gives : S → Option A → S → Type 0) where
-  -- this holds of the list that the iterator gives
-  abbrev pub OfItems : S → (List A → Type 0) → Type 0
-  OfItems items Holds = (xs : List A) × Drains gives items xs × Holds xs
+-- ---- types with a list that is too long
+
+abbrev pub UncountedFunc : FuncType → Type 0
+UncountedFunc f = IsUncounted (length f.params) ⊎ IsUncounted (length f.results)
+
+abbrev pub UncountedInner : CompositeInnerType → Type 0
+UncountedInner (inner.Func f) = UncountedFunc f
+UncountedInner (inner.Struct s) = IsUncounted (length s.fields)
+UncountedInner (inner.Array a) = ⊥
+UncountedInner (inner.Cont c) = ⊥
+
+abbrev pub UncountedSub : SubType → Type 0
+UncountedSub s = IsUncounted (length s.supertype_idxs) ⊎ UncountedInner s.composite_type.inner
+
+abbrev pub UncountedEntry : TypeEntry → Type 0
+UncountedEntry (entries.Sub s) = UncountedSub s
+UncountedEntry (entries.Rec types) = IsUncounted (length types) ⊎ Any UncountedSub types

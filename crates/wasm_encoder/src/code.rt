@@ -1,17 +1,18 @@
 //! Functions and the code section (Core 3.0, Code Section).
-ghost use Rattle.std.specs.Prelude.{◌≡◌, ◌++◌, ◌+◌, ◌^◌, ◌↔◌, ℕ, List, [], IsTrue, OnOk, OnErr, IfOk, IfErr, length};
-ghost use Rattle.std.specs.List.{All};
+ghost use Rattle.std.specs.Prelude.{◌≡◌, ◌++◌, ◌+◌, ◌^◌, ◌↔◌, ◌⊎◌, ℕ, List, [], IsTrue, OnOk, OnErr, IfOk, IfErr, length};
+ghost use Rattle.std.specs.List.{Any};
 ghost use Rattle.std.specs.Borrow.{Lends, follows, sem};
 ghost use Rattle.std.specs.Iterator.{size};
 ghost use Rattle.wasm_codec.specs.Encoding.{byte_list_bytes, IsCount, IsRefusal, IsShortestOrLonger, OnlyTooLong, too_long_at_once};
 ghost use Rattle.wasm_codec.specs.declared.encode.EncodeError.TheVariants.{Memory};
 ghost use Rattle.wasm_instructions.specs.Appending.{IsRefusalOfOne};
 ghost use Rattle.wasm_modules.specs.declared.code.CodeBody.{CodeBody};
-ghost use Rattle.wasm_modules.specs.CodeCounts.{CountedBody};
 ghost use Rattle.wasm_modules.specs.formats.CodeBodies.{code_section_body};
-ghost use Rattle.wasm_encoder.specs.TypeSections.{Entries, CountedSection, HasRoom, OfItems, TooLongUnless, body_bytes};
+ghost use Rattle.wasm_modules.specs.Sections.{decoded_section_of, code_bodies, code_section_id};
+ghost use Rattle.wasm_modules.specs.DecodedModules.{IsDecodedSection};
+ghost use Rattle.wasm_encoder.specs.EncodedLists.{Entries, CountedSection, IsFull, IsMemoryOrTooLong, IsUncounted, OfItems, body_bytes};
 ghost use Rattle.wasm_encoder.specs.Rows.{bytes_row};
-ghost use Rattle.wasm_encoder.specs.CodeSections.{FunctionStandsFor, GainsBodies, GainsFunction, GoesOnWith, StandsForBodies, body_of};
+ghost use Rattle.wasm_encoder.specs.CodeSections.{FunctionStandsFor, GainsBodies, GainsFunction, GoesOnWith, HoldsBodies, StandsForBodies, UncountedBody, body_of};
 
 use crate::encoded_list::EncodedList;
 use crate::wasm_core::{Section, SectionId};
@@ -47,7 +48,7 @@ impl Function {
     /// without instructions.
     ///
     /// `TooLong` where there are more than 4,294,967,295 pairs, before one is asked for.
-    #[tactic(auto, using(crate::proofs::CodeSectionLaws::locals_stand, crate::proofs::CodeSectionLaws::locals_refused))]
+    #[tactic(auto, using(crate::proofs::CodeSectionLaws::locals_stand, crate::proofs::RefusalLaws::locals_refused))]
     pub fn new<L: ExactSizeIterator<Item = (u32, ValType)>>(
         alloc: Global,
         locals: L,
@@ -55,7 +56,7 @@ impl Function {
         requires { L.can_next locals }
         ensures ok { IfOk result (λ function. OfItems L.next_gives locals (λ groups.
             FunctionStandsFor function (body_of groups []))) }
-        ensures refused { IfErr result (TooLongUnless (IsCount (size (L.remaining locals)))) }
+        ensures refused { IfErr result (IsMemoryOrTooLong (IsUncounted (size (L.remaining locals)))) }
     {
         let mut bytes = Vec::new(alloc);
         append_items(locals, &mut bytes)?;
@@ -136,7 +137,7 @@ pub struct CodeSection {
 }
 
 impl Model for CodeSection {
-    ghost use Rattle.wasm_encoder.specs.TypeSections.{Entries};
+    ghost use Rattle.wasm_encoder.specs.EncodedLists.{Entries};
 
     ghost Value = { Entries };
 
@@ -171,11 +172,11 @@ impl CodeSection {
     /// Adds the body of a function: its size and its bytes.
     ///
     /// `TooLong` where there are 4,294,967,295 bodies, or where the function has more bytes than that.
-    #[tactic(auto, using(crate::proofs::CodeSectionLaws::gains_function, crate::proofs::CodeSectionLaws::function_refused))]
+    #[tactic(auto, using(crate::proofs::CodeSectionLaws::gains_function, crate::proofs::RefusalLaws::function_refused))]
     pub fn function(&mut self, function: &Function) -> Result<(), EncodeError>
         ensures ok { OnOk result (GainsFunction self.old function.now self.new) }
         ensures err { OnErr result (self.new ≡ self.old) }
-        ensures refused { IfErr result (TooLongUnless (HasRoom self.old × IsCount (length function.now))) }
+        ensures refused { IfErr result (IsMemoryOrTooLong (IsFull self.old ⊎ IsUncounted (length function.now))) }
     {
         self.bodies.add(function)
     }
@@ -183,12 +184,12 @@ impl CodeSection {
     /// Adds bodies, all of them or none.
     ///
     /// `TooLong` where there would be more than 4,294,967,295, or where a body or a list in it is too long.
-    #[tactic(auto, using(crate::proofs::CodeSectionLaws::gains_bodies, crate::proofs::CodeSectionLaws::bodies_refused))]
+    #[tactic(auto, using(crate::proofs::CodeSectionLaws::gains_bodies))]
     pub fn bodies(&mut self, bodies: &[CodeBody]) -> Result<(), EncodeError>
         ensures ok { OnOk result (GainsBodies self.old bodies.now self.new) }
         ensures err { OnErr result (self.new ≡ self.old) }
-        ensures refused { IfErr result (TooLongUnless (
-            IsCount (self.old.count + length bodies.now) × All CountedBody bodies.now)) }
+        ensures refused { IfErr result (IsMemoryOrTooLong (
+            IsUncounted (self.old.count + length bodies.now) ⊎ Any UncountedBody bodies.now)) }
     {
         self.bodies.add_all(bodies)
     }
@@ -206,9 +207,11 @@ impl CodeSection {
 /// The size of the body, the number of code bodies, and the code bodies (Core 3.0, Code Section).
 ///
 /// `TooLong` where the body has more than 4,294,967,295 bytes.
-#[tactic(auto, using(crate::proofs::CodeSectionLaws::one_encoding, crate::proofs::CodeSectionLaws::section_is_body, crate::proofs::CodeSectionLaws::body_encodes, crate::proofs::CodeSectionLaws::body_shortest))]
+#[tactic(auto, using(crate::proofs::CodeSectionLaws::one_encoding, crate::proofs::CodeSectionLaws::section_is_body, crate::proofs::CodeSectionLaws::body_encodes, crate::proofs::CodeSectionLaws::body_shortest, crate::proofs::CodeSectionLaws::holds_bodies, crate::proofs::CodeSectionLaws::is_decoded))]
 impl Encode for CodeSection {
     ghost bytes = { λ section. byte_list_bytes (body_bytes section) };
+
+    ghost IsWritten = { HoldsBodies };
 
     ghost CanEncode = { CountedSection };
 
@@ -217,6 +220,7 @@ impl Encode for CodeSection {
     fn encode<A: Allocator>(&self, sink: &mut Vec<u8, A>) -> Result<(), EncodeError>
         ensures ok { OnOk result (sink.new.items ≡ sink.old.items ++ byte_list_bytes (body_bytes self.now)) }
         ensures can { OnOk result (CountedSection self.now) }
+        ensures written { OnOk result (HoldsBodies self.now) }
         ensures refused { IfErr result (IsRefusal CountedSection OnlyTooLong self.now) }
         ensures err { OnErr result (sink.new.items ≡ sink.old.items) }
         // Sections that stand for the same bodies have the same bytes.
@@ -231,6 +235,9 @@ impl Encode for CodeSection {
         // Every other encoding of the code bodies is longer.
         ensures shortest { (bodies : List CodeBody) (bytes : List ℕ) → StandsForBodies self.now bodies →
             code_section_body.Encodes bytes bodies → IsShortestOrLonger bytes (body_bytes self.now) }
+        // A section of the code bodies is in the range of decoded ones, so it is read back out of a module.
+        ensures decoded { (bodies : List CodeBody) → StandsForBodies self.now bodies →
+            OnOk result (IsDecodedSection (decoded_section_of (code_section_id, code_bodies bodies))) }
     {
         self.bodies.encode(sink)
     }

@@ -1,15 +1,16 @@
 //! What sections that are lists are built in: encodings one after the other, and their number (Core 3.0, Modules).
-ghost use Rattle.std.specs.Prelude.{◌≡◌, ◌++◌, ◌+◌, ◌⊎◌, [], OnOk, OnErr, IfOk, IfErr, length, take};
+ghost use Rattle.std.specs.Prelude.{◌≡◌, ◌++◌, ◌∷◌, ◌+◌, ◌⊎◌, [], OnOk, OnErr, IfOk, IfErr, length, take};
 ghost use Rattle.std.specs.List.{All, flat_map};
-ghost use Rattle.wasm_codec.specs.Encoding.{byte_list_bytes, IsCount, IsRefusal, OnlyTooLong, Refuses};
+ghost use Rattle.wasm_codec.specs.Encoding.{byte_list_bytes, CanEncodeList, IsCount, IsRefusal, OnlyTooLong};
+ghost use Rattle.wasm_codec.specs.Iterators.{IsItemsRefusal};
+ghost use Rattle.wasm_codec.specs.Lists.{items_bytes};
 ghost use Rattle.wasm_codec.specs.declared.encode.EncodeError.TheVariants.{Memory, TooLong};
-ghost use Rattle.wasm_encoder.specs.TypeSections.{Entries, CountedSection, HasRoom, IsFull, TooLongUnless, body_bytes};
-ghost use Rattle.wasm_encoder.specs.EncodedLists.{IsAddRefusal};
+ghost use Rattle.wasm_encoder.specs.EncodedLists.{Entries, CountedSection, IsFull, IsMemoryOrTooLong, IsRefusalOfOne, IsRefusalOfEach, OfItems, body_bytes};
 
 use std::alloc::{Allocator, Global};
 use std::marker::Model;
 use wasm_codec::encode::leb128::u32_len;
-use wasm_codec::encode::{Encode, EncodeError, keep_or_undo};
+use wasm_codec::encode::{Encode, EncodeError, append_items, keep_or_undo};
 
 /// Values that were encoded one after the other.
 ///
@@ -21,7 +22,7 @@ pub(crate) struct EncodedList {
 }
 
 impl Model for EncodedList {
-    ghost use Rattle.wasm_encoder.specs.TypeSections.{Entries};
+    ghost use Rattle.wasm_encoder.specs.EncodedLists.{Entries};
 
     ghost Value = { Entries };
 
@@ -74,8 +75,7 @@ impl EncodedList {
         ensures can { OnOk result (T.CanEncode value.now) }
         ensures written { OnOk result (T.IsWritten value.now) }
         ensures err { OnErr result (self.new ≡ self.old) }
-        ensures refused { IfErr result (λ e.
-            TooLongUnless (HasRoom self.old) e ⊎ Refuses T.CanEncode T.refuses value.now e) }
+        ensures refused { IfErr result (IsRefusalOfOne T.CanEncode T.refuses self.old value.now) }
     {
         let count = self.next_count()?;
         value.encode(&mut self.bytes)?;
@@ -90,7 +90,7 @@ impl EncodedList {
         ensures can { OnOk result (All T.CanEncode values.now) }
         ensures written { OnOk result (All T.IsWritten values.now) }
         ensures err { OnErr result (self.new ≡ self.old) }
-        ensures refused { IfErr result (IsAddRefusal T.CanEncode T.refuses self.old values.now) }
+        ensures refused { IfErr result (IsRefusalOfEach T.CanEncode T.refuses self.old values.now) }
     {
         let start = self.bytes.len();
         let count = self.count;
@@ -107,7 +107,7 @@ impl EncodedList {
         ensures bytes { OnOk result (self.new.bytes ≡ self.old.bytes ++ flat_map T.bytes values.now) }
         ensures can { OnOk result (All T.CanEncode values.now) }
         ensures written { OnOk result (All T.IsWritten values.now) }
-        ensures refused { IfErr result (IsAddRefusal T.CanEncode T.refuses self.old values.now) }
+        ensures refused { IfErr result (IsRefusalOfEach T.CanEncode T.refuses self.old values.now) }
         ensures kept { take (length self.old.bytes) self.new.bytes ≡ self.old.bytes }
     {
         for value in values {
@@ -115,6 +115,112 @@ impl EncodedList {
         }
         Ok(())
     }
+}
+
+/// Values that are made of what iterators give.
+impl EncodedList {
+    /// Adds a value that is a byte and the list that an iterator gives, or leaves the list of values as it was.
+    ///
+    /// `TooLong` for the iterator's `len` before an item is asked for.
+    pub(crate) fn add_tagged<T: Encode + Drop, I: ExactSizeIterator<Item = T>>(
+        &mut self,
+        tag: u8,
+        items: I,
+    ) -> Result<(), EncodeError>
+        requires { I.can_next items }
+        ensures count { OnOk result (self.new.count ≡ self.old.count + 1) }
+        ensures ok { OnOk result (OfItems I.next_gives items (λ xs.
+            (self.new.bytes ≡ self.old.bytes ++ tag ∷ items_bytes T.bytes xs) × (CanEncodeList T.CanEncode xs × All T.IsWritten xs))) }
+        ensures err { OnErr result (self.new ≡ self.old) }
+        ensures refused { IfErr result (λ e. IsMemoryOrTooLong (IsFull self.old) e ⊎
+            IsItemsRefusal T.CanEncode T.refuses I.next_gives I.remaining items e) }
+    {
+        let count = self.next_count()?;
+        let start = self.bytes.len();
+        let appended = append_tagged(tag, items, &mut self.bytes);
+        self.settle(start, count, appended)
+    }
+
+    /// Adds a value that is a byte and the lists that two iterators give, or leaves the list of values as it was.
+    ///
+    /// `TooLong` for an iterator's `len` before an item of either is asked for.
+    pub(crate) fn add_tagged_pair<
+        T: Encode + Drop,
+        I: ExactSizeIterator<Item = T>,
+        J: ExactSizeIterator<Item = T>,
+    >(&mut self, tag: u8, first: I, second: J) -> Result<(), EncodeError>
+        requires first { I.can_next first }
+        requires second { J.can_next second }
+        ensures count { OnOk result (self.new.count ≡ self.old.count + 1) }
+        ensures ok { OnOk result (OfItems I.next_gives first (λ xs. OfItems J.next_gives second (λ ys.
+            (self.new.bytes ≡ self.old.bytes ++ tag ∷ (items_bytes T.bytes xs ++ items_bytes T.bytes ys))
+            × ((CanEncodeList T.CanEncode xs × All T.IsWritten xs) × (CanEncodeList T.CanEncode ys × All T.IsWritten ys))))) }
+        ensures err { OnErr result (self.new ≡ self.old) }
+        ensures refused { IfErr result (λ e. IsMemoryOrTooLong (IsFull self.old) e ⊎
+            (IsItemsRefusal T.CanEncode T.refuses I.next_gives I.remaining first e ⊎
+            IsItemsRefusal T.CanEncode T.refuses J.next_gives J.remaining second e)) }
+    {
+        let count = self.next_count()?;
+        let start = self.bytes.len();
+        let appended = append_tagged_pair(tag, first, second, &mut self.bytes);
+        self.settle(start, count, appended)
+    }
+
+    /// Keeps what was appended since `start` as one value more, or takes it back.
+    fn settle(
+        &mut self,
+        start: usize,
+        count: u32,
+        appended: Result<(), EncodeError>,
+    ) -> Result<(), EncodeError>
+        ensures same { result ≡ appended }
+        ensures ok { OnOk result ((self.new.count ≡ count) × (self.new.bytes ≡ self.old.bytes)) }
+        ensures err { OnErr result ((self.new.count ≡ self.old.count) × (self.new.bytes ≡ take start self.old.bytes)) }
+    {
+        keep_or_undo(&mut self.bytes, start, appended)?;
+        self.count = count;
+        Ok(())
+    }
+}
+
+/// Appends a byte and the list that an iterator gives. An `Err` can leave a part of it.
+fn append_tagged<T: Encode + Drop, I: ExactSizeIterator<Item = T>>(
+    tag: u8,
+    items: I,
+    bytes: &mut Vec<u8>,
+) -> Result<(), EncodeError>
+    requires { I.can_next items }
+    ensures ok { OnOk result (OfItems I.next_gives items (λ xs.
+        (bytes.new.items ≡ bytes.old.items ++ tag ∷ items_bytes T.bytes xs) × (CanEncodeList T.CanEncode xs × All T.IsWritten xs))) }
+    ensures refused { IfErr result (IsItemsRefusal T.CanEncode T.refuses I.next_gives I.remaining items) }
+    ensures kept { take (length bytes.old.items) bytes.new.items ≡ bytes.old.items }
+{
+    bytes.reserve(1)?;
+    bytes.push_reserved(tag);
+    append_items(items, bytes)
+}
+
+/// Appends a byte and the lists that two iterators give. An `Err` can leave a part of them.
+fn append_tagged_pair<
+    T: Encode + Drop,
+    I: ExactSizeIterator<Item = T>,
+    J: ExactSizeIterator<Item = T>,
+>(tag: u8, first: I, second: J, bytes: &mut Vec<u8>) -> Result<(), EncodeError>
+    requires first { I.can_next first }
+    requires second { J.can_next second }
+    ensures ok { OnOk result (OfItems I.next_gives first (λ xs. OfItems J.next_gives second (λ ys.
+        (bytes.new.items ≡ bytes.old.items ++ tag ∷ (items_bytes T.bytes xs ++ items_bytes T.bytes ys))
+        × ((CanEncodeList T.CanEncode xs × All T.IsWritten xs) × (CanEncodeList T.CanEncode ys × All T.IsWritten ys))))) }
+    ensures refused { IfErr result (λ e.
+        IsItemsRefusal T.CanEncode T.refuses I.next_gives I.remaining first e ⊎
+        IsItemsRefusal T.CanEncode T.refuses J.next_gives J.remaining second e) }
+    ensures kept { take (length bytes.old.items) bytes.new.items ≡ bytes.old.items }
+{
+    if u32::try_from(second.len()).is_err() {
+        return Err(EncodeError::TooLong);
+    }
+    append_tagged(tag, first, bytes)?;
+    append_items(second, bytes)
 }
 
 /// The size of the body, the number of values, and their encodings (Core 3.0, Sections and Lists).

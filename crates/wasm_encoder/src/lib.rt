@@ -18,7 +18,7 @@ pub mod wasm_core;
 
 pub use code::{CodeBody, CodeSection, Function};
 pub use encode::{Encode, EncodeError, encode_bytes, encode_list, encode_str};
-pub use raw::RawSection;
+pub use raw::{RawSection, first_body};
 pub use reader::{
     ReadError, normalise_code_section, normalise_instructions, normalise_module,
     normalise_type_section, read_code_section, read_code_section_strict, read_instructions,

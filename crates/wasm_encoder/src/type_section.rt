@@ -1,23 +1,26 @@
 //! The type section (Core 3.0, Type Section).
-ghost use Rattle.std.specs.Prelude.{◌≡◌, ℕ, List, ◌++◌, ◌∷◌, ◌+◌, ◌⊎◌, [], OnOk, OnErr, IfOk, IfErr, IsTrue, ◌↔◌, length, take};
-ghost use Rattle.std.specs.List.{All};
-ghost use Rattle.wasm_encoder.specs.TypeSections.{Entries, StandsFor, Gains, GainsAll, IsFull, HasRoom, TooLongUnless, CountedSection, OfBoth, OfItems, type_section_bytes, body_bytes, final_entry, struct_entry, array_entry};
-ghost use Rattle.wasm_codec.specs.Iterators.{IsItemsRefusal};
-ghost use Rattle.wasm_codec.specs.Lists.{items_bytes};
-ghost use Rattle.wasm_codec.specs.Encoding.{byte_list_bytes, CanEncodeList, IsCount, IsRefusal, IsShortest, IsShortestOrLonger, OnlyTooLong, Refuses};
-ghost use Rattle.wasm_types.specs.formats.Types.{inner_type, type_body};
-ghost use Rattle.wasm_types.specs.TypeCounts.{CountedFunc, CountedSub, CountedEntry};
-ghost use Rattle.wasm_types.specs.declared.types.composite.TypeEntry.{TypeEntry};
+ghost use Rattle.std.specs.Prelude.{◌≡◌, ℕ, List, ◌++◌, ◌∷◌, ◌+◌, ◌⊎◌, [], OnOk, OnErr, IfOk, IfErr, IsTrue, ◌↔◌, length};
+ghost use Rattle.std.specs.List.{Any};
 ghost use Rattle.std.specs.Iterator.{size};
+ghost use Rattle.wasm_encoder.specs.EncodedLists.{Entries, CountedSection, GivesItems, GivesSome, IsFull, IsMemoryOrTooLong, IsUncounted, OfItems, body_bytes};
+ghost use Rattle.wasm_encoder.specs.TypeSections.{StandsFor, Gains, GainsAll, HoldsEntries, OfBoth, UncountedEntry, UncountedFunc, UncountedSub, type_section_bytes, final_entry, struct_entry, array_entry};
+ghost use Rattle.wasm_codec.specs.Encoding.{byte_list_bytes, IsRefusal, IsShortestOrLonger, OnlyTooLong};
+ghost use Rattle.wasm_types.specs.formats.Types.{type_body};
+ghost use Rattle.wasm_modules.specs.Sections.{decoded_section_of, type_entries, type_section_id};
+ghost use Rattle.wasm_modules.specs.DecodedModules.{IsDecodedSection};
+ghost use Rattle.wasm_types.specs.declared.types.value.ValType.{ValType};
+ghost use Rattle.wasm_types.specs.declared.types.composite.FieldType.{FieldType};
+ghost use Rattle.wasm_types.specs.declared.types.composite.SubType.{SubType};
+ghost use Rattle.wasm_types.specs.declared.types.composite.TypeEntry.{TypeEntry};
 ghost use Rattle.wasm_types.specs.declared.types.composite.CompositeInnerType.TheVariants as inner;
 ghost use Rattle.wasm_types.specs.declared.types.composite.TypeEntry.TheVariants as entries;
-ghost use Rattle.wasm_codec.specs.declared.encode.EncodeError.TheVariants.{Memory, TooLong};
+ghost use Rattle.wasm_codec.specs.declared.encode.EncodeError.TheVariants.{Memory};
 
+use crate::encoded_list::EncodedList;
 use crate::wasm_core::{Section, SectionId};
 use std::alloc::{Allocator, Global};
 use std::marker::Model;
-use wasm_codec::encode::leb128::u32_len;
-use wasm_codec::encode::{Encode, EncodeError, append_items, keep_or_undo};
+use wasm_codec::encode::{Encode, EncodeError};
 use wasm_types::types::{
     ArrayType, ContType, FieldType, FuncType, StorageType, SubType, TypeEntry, ValType,
 };
@@ -27,16 +30,15 @@ use wasm_types::types::{
 /// In contracts it is the number of its entries and their bytes.
 #[derive(Debug, Drop)]
 pub struct TypeSection {
-    bytes: Vec<u8>,
-    count: u32,
+    entries: EncodedList,
 }
 
 impl Model for TypeSection {
-    ghost use Rattle.wasm_encoder.specs.TypeSections.{Entries};
+    ghost use Rattle.wasm_encoder.specs.EncodedLists.{Entries};
 
     ghost Value = { Entries };
 
-    ghost view = { λ s. record { count = s.count; bytes = s.bytes.items } };
+    ghost view = { λ section. section.entries };
 }
 
 /// Adds one entry to a type section. One that isn't used leaves the section as it was.
@@ -47,12 +49,12 @@ pub struct CoreTypeEncoder<'a> {
 
 impl TypeSection {
     /// A section without entries. It takes no memory.
+    #[tactic(auto, using(crate::proofs::TypeSectionLaws::stands_for_none))]
     pub fn new(alloc: Global) -> TypeSection
         ensures { StandsFor result [] }
     {
         TypeSection {
-            bytes: Vec::new(alloc),
-            count: 0,
+            entries: EncodedList::new(alloc),
         }
     }
 
@@ -60,14 +62,14 @@ impl TypeSection {
     pub fn len(&self) -> u32
         ensures { result ≡ self.now.count }
     {
-        self.count
+        self.entries.len()
     }
 
     /// Whether there are no entries.
     pub fn is_empty(&self) -> bool
         ensures { IsTrue result ↔ (self.now.count ≡ 0) }
     {
-        self.count == 0
+        self.entries.len() == 0
     }
 
     /// An encoder for one entry.
@@ -83,93 +85,32 @@ impl TypeSection {
         ensures ok { IfOk result (λ section. section ≡ self.now) }
         ensures err { IfErr result (λ e. e ≡ Memory) }
     {
-        let bytes = Vec::from_slice(*self.bytes.allocator(), self.bytes.as_slice())?;
-        Ok(TypeSection {
-            bytes,
-            count: self.count,
-        })
+        let entries = self.entries.try_clone()?;
+        Ok(TypeSection { entries })
     }
 
     /// Adds entries, all of them or none.
     ///
     /// `TooLong` where there would be more than 4,294,967,295, or where a list in an entry is too long.
+    #[tactic(auto, using(crate::proofs::TypeSectionLaws::gains_entries))]
     pub fn entries(&mut self, entries: &[TypeEntry]) -> Result<(), EncodeError>
         ensures ok { OnOk result (GainsAll self.old entries.now self.new) }
         ensures err { OnErr result (self.new ≡ self.old) }
-        ensures refused { IfErr result (TooLongUnless (
-            IsCount (self.old.count + length entries.now) × All CountedEntry entries.now)) }
+        ensures refused { IfErr result (IsMemoryOrTooLong (
+            IsUncounted (self.old.count + length entries.now) ⊎ Any UncountedEntry entries.now)) }
     {
-        let start = self.bytes.len();
-        let count = self.count;
-        let added = self.add_each(entries);
-        if added.is_err() {
-            self.count = count;
-        }
-        keep_or_undo(&mut self.bytes, start, added)
-    }
-
-    /// Adds entries one by one. An `Err` can leave some of them.
-    fn add_each(&mut self, entries: &[TypeEntry]) -> Result<(), EncodeError>
-        ensures ok { OnOk result (GainsAll self.old entries.now self.new) }
-        ensures refused { IfErr result (TooLongUnless (
-            IsCount (self.old.count + length entries.now) × All CountedEntry entries.now)) }
-        ensures kept { take (length self.old.bytes) self.new.bytes ≡ self.old.bytes }
-    {
-        for entry in entries {
-            self.add(entry)?;
-        }
-        Ok(())
-    }
-
-    /// The number of entries after one more.
-    fn next_count(&self) -> Result<u32, EncodeError>
-        ensures ok { IfOk result (λ count. count ≡ self.now.count + 1) }
-        ensures err { IfErr result (λ e. (e ≡ TooLong) × IsFull self.now) }
-    {
-        self.count.checked_add(1).ok_or(EncodeError::TooLong)
-    }
-
-    /// Adds an entry by what encodes it, or leaves the section as it was.
-    fn add<T: Encode>(&mut self, entry: &T) -> Result<(), EncodeError>
-        ensures count { OnOk result (self.new.count ≡ self.old.count + 1) }
-        ensures bytes { OnOk result (self.new.bytes ≡ self.old.bytes ++ T.bytes entry.now) }
-        ensures can { OnOk result (T.CanEncode entry.now) }
-        ensures written { OnOk result (T.IsWritten entry.now) }
-        ensures err { OnErr result (self.new ≡ self.old) }
-        ensures refused { IfErr result (λ e.
-            TooLongUnless (HasRoom self.old) e ⊎ Refuses T.CanEncode T.refuses entry.now e) }
-    {
-        let count = self.next_count()?;
-        entry.encode(&mut self.bytes)?;
-        self.count = count;
-        Ok(())
-    }
-}
-
-impl TypeSection {
-    /// Keeps what was appended since `start` as one entry more, or takes it back.
-    fn settle(
-        &mut self,
-        start: usize,
-        count: u32,
-        appended: Result<(), EncodeError>,
-    ) -> Result<(), EncodeError>
-        ensures same { result ≡ appended }
-        ensures ok { OnOk result ((self.new.count ≡ count) × (self.new.bytes ≡ self.old.bytes)) }
-        ensures err { OnErr result ((self.new.count ≡ self.old.count) × (self.new.bytes ≡ take start self.old.bytes)) }
-    {
-        keep_or_undo(&mut self.bytes, start, appended)?;
-        self.count = count;
-        Ok(())
+        self.entries.add_all(entries)
     }
 }
 
 /// The size of the body, the number of entries, and the entries (Core 3.0, Sections and Type Section).
 ///
 /// `TooLong` where the body has more than 4,294,967,295 bytes.
-#[tactic(auto, using(crate::proofs::TypeSectionLaws::one_encoding, crate::proofs::TypeSectionLaws::section_is_body, crate::proofs::TypeSectionLaws::body_encodes, crate::proofs::TypeSectionLaws::body_shortest))]
+#[tactic(auto, using(crate::proofs::TypeSectionLaws::one_encoding, crate::proofs::TypeSectionLaws::section_is_body, crate::proofs::TypeSectionLaws::body_encodes, crate::proofs::TypeSectionLaws::body_shortest, crate::proofs::TypeSectionLaws::holds_entries, crate::proofs::TypeSectionLaws::is_decoded))]
 impl Encode for TypeSection {
     ghost bytes = { type_section_bytes };
+
+    ghost IsWritten = { HoldsEntries };
 
     ghost CanEncode = { CountedSection };
 
@@ -178,6 +119,7 @@ impl Encode for TypeSection {
     fn encode<A: Allocator>(&self, sink: &mut Vec<u8, A>) -> Result<(), EncodeError>
         ensures ok { OnOk result (sink.new.items ≡ sink.old.items ++ type_section_bytes self.now) }
         ensures can { OnOk result (CountedSection self.now) }
+        ensures written { OnOk result (HoldsEntries self.now) }
         ensures refused { IfErr result (IsRefusal CountedSection OnlyTooLong self.now) }
         ensures err { OnErr result (sink.new.items ≡ sink.old.items) }
         // Sections that stand for the same entries have the same bytes.
@@ -192,10 +134,11 @@ impl Encode for TypeSection {
         // Every other encoding of the entries is longer than the body.
         ensures shortest { (entries : List TypeEntry) (bytes : List ℕ) → StandsFor self.now entries →
             type_body.Encodes bytes entries → IsShortestOrLonger bytes (body_bytes self.now) }
+        // A section of the entries is in the range of decoded ones, so it is read back out of a module.
+        ensures decoded { (entries : List TypeEntry) → StandsFor self.now entries →
+            OnOk result (IsDecodedSection (decoded_section_of (type_section_id, type_entries entries))) }
     {
-        let start = sink.len();
-        let result = append_section(self, sink);
-        keep_or_undo(sink, start, result)
+        self.entries.encode(sink)
     }
 }
 
@@ -207,56 +150,57 @@ impl Section for TypeSection {
     }
 }
 
-#[tactic(auto, using(crate::proofs::TypeSectionLaws::gains_sub_ok, crate::proofs::TypeSectionLaws::gains_final_ok))]
+#[tactic(auto, using(crate::proofs::TypeSectionLaws::gains_sub_ok, crate::proofs::TypeSectionLaws::gains_final_ok, crate::proofs::RefusalLaws::func_refused, crate::proofs::RefusalLaws::sub_refused))]
 impl<'a> CoreTypeEncoder<'a> {
     /// Adds a function type: final, without supertypes, not shared.
     pub fn func_type(self, ty: &FuncType) -> Result<(), EncodeError>
         ensures ok { OnOk result (Gains self.entry.section.now (final_entry (inner.Func ty.now)) self.exit.0.now) }
         ensures err { OnErr result (self.exit.0.now ≡ self.entry.section.now) }
-        ensures refused { IfErr result (TooLongUnless (HasRoom self.entry.section.now × CountedFunc ty.now)) }
+        ensures refused { IfErr result (IsMemoryOrTooLong (IsFull self.entry.section.now ⊎ UncountedFunc ty.now)) }
     {
         let CoreTypeEncoder { section } = self;
-        section.add(ty)
+        section.entries.add(ty)
     }
 
     /// Adds an array type: final, without supertypes, not shared.
     pub fn array(self, ty: &StorageType, mutable: bool) -> Result<(), EncodeError>
         ensures ok { OnOk result (Gains self.entry.section.now (array_entry ty.now mutable) self.exit.0.now) }
         ensures err { OnErr result (self.exit.0.now ≡ self.entry.section.now) }
-        ensures refused { IfErr result (TooLongUnless (HasRoom self.entry.section.now)) }
+        ensures refused { IfErr result (IsMemoryOrTooLong (IsFull self.entry.section.now)) }
     {
         let CoreTypeEncoder { section } = self;
         let field = FieldType {
             element_type: *ty,
             mutable,
         };
-        section.add(&ArrayType(field))
+        section.entries.add(&ArrayType(field))
     }
 
     /// Adds a continuation type: final, without supertypes, not shared.
     pub fn cont(self, ty: &ContType) -> Result<(), EncodeError>
         ensures ok { OnOk result (Gains self.entry.section.now (final_entry (inner.Cont ty.now)) self.exit.0.now) }
         ensures err { OnErr result (self.exit.0.now ≡ self.entry.section.now) }
-        ensures refused { IfErr result (TooLongUnless (HasRoom self.entry.section.now)) }
+        ensures refused { IfErr result (IsMemoryOrTooLong (IsFull self.entry.section.now)) }
     {
         let CoreTypeEncoder { section } = self;
-        section.add(ty)
+        section.entries.add(ty)
     }
 
     /// Adds a subtype.
     pub fn subtype(self, ty: &SubType) -> Result<(), EncodeError>
         ensures ok { OnOk result (Gains self.entry.section.now (entries.Sub ty.now) self.exit.0.now) }
         ensures err { OnErr result (self.exit.0.now ≡ self.entry.section.now) }
-        ensures refused { IfErr result (TooLongUnless (HasRoom self.entry.section.now × CountedSub ty.now)) }
+        ensures refused { IfErr result (IsMemoryOrTooLong (IsFull self.entry.section.now ⊎ UncountedSub ty.now)) }
     {
         let CoreTypeEncoder { section } = self;
-        section.add(ty)
+        section.entries.add(ty)
     }
 
     /// Adds a function type of the parameters and results that two iterators give: final, without supertypes, not
     /// shared. Those that come are counted, whatever `len` tells.
     ///
     /// `TooLong` where there are 4,294,967,295 entries, or a `len` is more than that, before any is asked for.
+    #[tactic(auto, using(crate::proofs::RefusalLaws::both_refused))]
     pub fn function<P: ExactSizeIterator<Item = ValType>, R: ExactSizeIterator<Item = ValType>>(
         self,
         params: P,
@@ -266,21 +210,23 @@ impl<'a> CoreTypeEncoder<'a> {
         requires results { R.can_next results }
         ensures ok { OnOk result (OfBoth P.next_gives R.next_gives params results (λ ty.
             Gains self.entry.section.now (final_entry (inner.Func ty)) self.exit.0.now)) }
+        // Where it is known what the iterators give, as of `slice.iter().copied()`, these are the parameters and results.
+        ensures stands { (before : List TypeEntry) (ps rs : List ValType) → StandsFor self.entry.section.now before →
+            GivesItems P.next_gives params ps → GivesItems R.next_gives results rs → OnOk result (StandsFor self.exit.0.now
+            (before ++ final_entry (inner.Func (record { params = ps; results = rs })) ∷ [])) }
         ensures err { OnErr result (self.exit.0.now ≡ self.entry.section.now) }
-        ensures refused { IfErr result (TooLongUnless (HasRoom self.entry.section.now ×
-            IsCount (size (P.remaining params)) × IsCount (size (R.remaining results)))) }
+        ensures refused { IfErr result (IsMemoryOrTooLong (IsFull self.entry.section.now ⊎
+            (IsUncounted (size (P.remaining params)) ⊎ IsUncounted (size (R.remaining results))))) }
     {
         let CoreTypeEncoder { section } = self;
-        let count = section.next_count()?;
-        let start = section.bytes.len();
-        let appended = append_function(params, results, &mut section.bytes);
-        section.settle(start, count, appended)
+        section.entries.add_tagged_pair(0x60, params, results)
     }
 
     /// Adds a structure of the fields that an iterator gives: final, without supertypes, not shared. Those that come
     /// are counted, whatever `len` tells.
     ///
     /// `TooLong` where there are 4,294,967,295 entries, or `len` is more than that, before any is asked for.
+    #[tactic(auto, using(crate::proofs::RefusalLaws::fields_refused))]
     pub fn struct_<F: ExactSizeIterator<Item = FieldType>>(
         self,
         fields: F,
@@ -288,14 +234,15 @@ impl<'a> CoreTypeEncoder<'a> {
         requires { F.can_next fields }
         ensures ok { OnOk result (OfItems F.next_gives fields (λ fields.
             Gains self.entry.section.now (struct_entry fields) self.exit.0.now)) }
+        // Where it is known what the iterator gives, these are the fields.
+        ensures stands { (before : List TypeEntry) (given : List FieldType) → StandsFor self.entry.section.now before →
+            GivesItems F.next_gives fields given →
+            OnOk result (StandsFor self.exit.0.now (before ++ struct_entry given ∷ [])) }
         ensures err { OnErr result (self.exit.0.now ≡ self.entry.section.now) }
-        ensures refused { IfErr result (TooLongUnless (HasRoom self.entry.section.now × IsCount (size (F.remaining fields)))) }
+        ensures refused { IfErr result (IsMemoryOrTooLong (IsFull self.entry.section.now ⊎ IsUncounted (size (F.remaining fields)))) }
     {
         let CoreTypeEncoder { section } = self;
-        let count = section.next_count()?;
-        let start = section.bytes.len();
-        let appended = append_tagged(0x5f, fields, &mut section.bytes);
-        section.settle(start, count, appended)
+        section.entries.add_tagged(0x5f, fields)
     }
 
     /// Adds a group of the types that an iterator gives. It is one entry. Those that come are counted, whatever `len`
@@ -303,76 +250,20 @@ impl<'a> CoreTypeEncoder<'a> {
     ///
     /// `TooLong` where there are 4,294,967,295 entries, or `len` is more than that, before any is asked for, or where a
     /// list in a type is too long.
+    #[tactic(auto, using(crate::proofs::RefusalLaws::group_refused))]
     pub fn rec<S: ExactSizeIterator<Item = SubType>>(self, types: S) -> Result<(), EncodeError>
         requires { S.can_next types }
         ensures ok { OnOk result (OfItems S.next_gives types (λ types.
             Gains self.entry.section.now (entries.Rec types) self.exit.0.now)) }
+        // Where it is known what the iterator gives, as of `vec.into_iter()`, these are the types.
+        ensures stands { (before : List TypeEntry) (given : List SubType) → StandsFor self.entry.section.now before →
+            GivesItems S.next_gives types given →
+            OnOk result (StandsFor self.exit.0.now (before ++ entries.Rec given ∷ [])) }
         ensures err { OnErr result (self.exit.0.now ≡ self.entry.section.now) }
-        ensures refused { IfErr result (λ e. TooLongUnless (HasRoom self.entry.section.now) e ⊎
-            IsItemsRefusal CountedSub OnlyTooLong S.next_gives S.remaining types e) }
+        ensures refused { IfErr result (IsMemoryOrTooLong (IsFull self.entry.section.now ⊎
+            (IsUncounted (size (S.remaining types)) ⊎ GivesSome S.next_gives types UncountedSub))) }
     {
         let CoreTypeEncoder { section } = self;
-        let count = section.next_count()?;
-        let start = section.bytes.len();
-        let appended = append_tagged(0x4e, types, &mut section.bytes);
-        section.settle(start, count, appended)
+        section.entries.add_tagged(0x4e, types)
     }
-}
-
-/// Appends a byte and the list that an iterator gives. An `Err` can leave a part of it.
-fn append_tagged<T: Encode + Drop, I: ExactSizeIterator<Item = T>>(
-    tag: u8,
-    items: I,
-    bytes: &mut Vec<u8>,
-) -> Result<(), EncodeError>
-    requires { I.can_next items }
-    ensures ok { OnOk result (OfItems I.next_gives items (λ xs.
-        (bytes.new.items ≡ bytes.old.items ++ tag ∷ items_bytes T.bytes xs) × (CanEncodeList T.CanEncode xs × All T.IsWritten xs))) }
-    ensures refused { IfErr result (IsItemsRefusal T.CanEncode T.refuses I.next_gives I.remaining items) }
-    ensures kept { take (length bytes.old.items) bytes.new.items ≡ bytes.old.items }
-{
-    bytes.reserve(1)?;
-    bytes.push_reserved(tag);
-    append_items(items, bytes)
-}
-
-/// Appends a function type of what two iterators give. An `Err` can leave a part of it.
-#[tactic(auto, using(crate::proofs::IteratorLaws::only_too_many))]
-fn append_function<P: ExactSizeIterator<Item = ValType>, R: ExactSizeIterator<Item = ValType>>(
-    params: P,
-    results: R,
-    bytes: &mut Vec<u8>,
-) -> Result<(), EncodeError>
-    requires params { P.can_next params }
-    requires results { R.can_next results }
-    ensures ok { OnOk result (OfBoth P.next_gives R.next_gives params results (λ ty.
-        (bytes.new.items ≡ bytes.old.items ++ inner_type.bytes (inner.Func ty)) × CountedFunc ty × IsShortest inner_type.Encodes inner_type.bytes (inner.Func ty))) }
-    ensures refused { IfErr result (TooLongUnless (
-        IsCount (size (P.remaining params)) × IsCount (size (R.remaining results)))) }
-    ensures kept { take (length bytes.old.items) bytes.new.items ≡ bytes.old.items }
-{
-    if u32::try_from(results.len()).is_err() {
-        return Err(EncodeError::TooLong);
-    }
-    append_tagged(0x60, params, bytes)?;
-    append_items(results, bytes)
-}
-
-/// Appends the size, the count and the entries of a section. An `Err` can leave a part of them.
-fn append_section<A: Allocator>(
-    section: &TypeSection,
-    sink: &mut Vec<u8, A>,
-) -> Result<(), EncodeError>
-    ensures ok { OnOk result (sink.new.items ≡ sink.old.items ++ type_section_bytes section.now) }
-    ensures can { OnOk result (CountedSection section.now) }
-    ensures few { IsCount section.now.count }
-    ensures refused { IfErr result (IsRefusal CountedSection OnlyTooLong section.now) }
-    ensures kept { take (length sink.old.items) sink.new.items ≡ sink.old.items }
-{
-    let size = u32_len(section.count) + section.bytes.len();
-    sink.reserve(10)?;
-    size.encode(sink)?;
-    section.count.encode(sink)?;
-    sink.extend_from_slice(section.bytes.as_slice())?;
-    Ok(())
 }

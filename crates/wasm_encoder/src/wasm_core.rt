@@ -27,6 +27,7 @@ pub trait Section: Encode {
     fn append_to<A: Allocator>(&self, dst: &mut Vec<u8, A>) -> Result<(), EncodeError>
         ensures ok { OnOk result (dst.new.items ≡ dst.old.items ++ id self.now ∷ Self.bytes self.now) }
         ensures can { OnOk result (Self.CanEncode self.now) }
+        ensures written { OnOk result (Self.IsWritten self.now) }
         ensures refused { IfErr result (IsRefusal Self.CanEncode Self.refuses self.now) }
         ensures err { OnErr result (dst.new.items ≡ dst.old.items) }
     {
@@ -141,16 +142,21 @@ impl Module {
     /// Appends the id of a section and its bytes, or leaves the module as it was.
     ///
     /// The section's own `append_to` is never called.
-    #[tactic(auto, using(wasm_modules::proofs::ModuleLaws::goes_on, wasm_modules::proofs::ModuleLaws::raw_shortest))]
+    #[tactic(auto, using(wasm_modules::proofs::ModuleLaws::goes_on, wasm_modules::proofs::ModuleLaws::raw_shortest, crate::proofs::RawModuleLaws::first_section))]
     pub fn section<S: Section>(&mut self, section: &S) -> Result<(), EncodeError>
         ensures ok { OnOk result (self.new ≡ self.old ++ S.id section.now ∷ S.bytes section.now) }
         ensures can { OnOk result (S.CanEncode section.now) }
+        // Of a type section: that its body encodes the entries that it stands for. So of a code section.
+        ensures written { OnOk result (S.IsWritten section.now) }
         ensures refused { IfErr result (IsRefusal S.CanEncode S.refuses section.now) }
         ensures err { OnErr result (self.new ≡ self.old) }
         // Where the section's bytes are a body after its size, the module goes on with that section.
         ensures goes_on { (sections : List SectionParts) (body : List ℕ) → self.old ≡ raw_module.bytes sections →
             S.bytes section.now ≡ byte_list_bytes body →
             OnOk result (self.new ≡ raw_module.bytes (sections ++ section_of (S.id section.now, body) ∷ [])) }
+        // A new module is then one of that section alone.
+        ensures first { (body : List ℕ) → self.old ≡ header → S.bytes section.now ≡ byte_list_bytes body →
+            OnOk result (self.new ≡ raw_module.bytes (section_of (S.id section.now, body) ∷ [])) }
         // What is written of sections encodes them, and every other encoding of them is longer.
         ensures encodes { (sections : List SectionParts) → AllByRecursion raw_section.InRange sections →
             raw_module.Encodes (raw_module.bytes sections) sections }

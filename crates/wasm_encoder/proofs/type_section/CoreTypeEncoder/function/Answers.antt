@@ -1,7 +1,10 @@
-use Rattle.std.proofs.Common.{ap}
-use Rattle.wasm_encoder.specs.TypeSections.{Entries}
+use Rattle.wasm_encoder.proofs.GivenLists.{function_stands}
 use Rattle.wasm_encoder.proofs.IteratorLaws.{gains_function}
 use Rattle.wasm_encoder.proofs.type_section.CoreTypeEncoder.function.Goals as goal
 
 pub returns-clause-ok : goal.returns-clause-ok
-returns-clause-ok g c = gains_function g.P.Iterator.next_gives g.R.Iterator.next_gives c.args.params c.args.results c.settle.result c.append_function-appended.result c.args.self.section.now c.settle.new.self _ _ c.in_ok-count.count c.settle.ensures.same (ap (λ (e : Entries). e.bytes) c.section.view_is) c.in_ok-count.ensures.ok c.settle.ensures.ok c.append_function-appended.ensures.ok
+returns-clause-ok g c = gains_function g.P.Iterator.next_gives g.R.Iterator.next_gives c.args.params c.args.results c.add_tagged_pair.result c.section.inside.entries c.args.self.section.now c.add_tagged_pair.new.self c.section.view_is c.add_tagged_pair.ensures.count c.add_tagged_pair.ensures.ok
+
+pub returns-clause-stands : goal.returns-clause-stands
+returns-clause-stands g c = function_stands g.P.Iterator.next_gives g.R.Iterator.next_gives c.args.params c.args.results c.add_tagged_pair.result c.args.self.section.now c.add_tagged_pair.new.self
+    (gains_function g.P.Iterator.next_gives g.R.Iterator.next_gives c.args.params c.args.results c.add_tagged_pair.result c.section.inside.entries c.args.self.section.now c.add_tagged_pair.new.self c.section.view_is c.add_tagged_pair.ensures.count c.add_tagged_pair.ensures.ok)

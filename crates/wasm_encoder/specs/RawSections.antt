@@ -1,0 +1,8 @@
+-- Lists of sections with their bodies as bytes (WebAssembly Core 3.0, Sections).
+use Rattle.std.specs.Prelude.{ℕ, ◌==◌, List, [], ◌∷◌, Option, Some, None, if◌then◌else◌}
+use Rattle.wasm_modules.specs.Sections.{SectionParts}
+
+-- the body of the first section of this id
+abbrev pub first_body_of : ℕ → List SectionParts → Option (List ℕ)
+first_body_of id [] = None
+first_body_of id (section ∷ sections) = if section.id == id then Some section.body else first_body_of id sections
