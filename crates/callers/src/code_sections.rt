@@ -2,7 +2,7 @@
 ghost use Rattle.std.specs.Prelude.{◌≡◌, ◌++◌, ◌∷◌, [], List, OnOk};
 ghost use Rattle.wasm_encoder.specs.Answers.{IsOrMemory};
 ghost use Rattle.wasm_encoder.specs.CodeSections.{FunctionStandsFor, StandsForBodies, followed};
-ghost use Rattle.wasm_encoder.specs.TypeSections.{CountedSection, body_bytes};
+ghost use Rattle.wasm_encoder.specs.EncodedLists.{CountedSection, body_bytes};
 ghost use Rattle.wasm_encoder.specs.ModuleFormats.{raw_module};
 ghost use Rattle.wasm_encoder.specs.Sections.{SectionParts, all_parts_of, section_of};
 ghost use Rattle.wasm_modules.specs.declared.code.CodeBody.{CodeBody};

@@ -1,9 +1,9 @@
 //! Instructions that are written, alone and as the body of a function.
-ghost use Rattle.std.specs.Prelude.{◌≡◌, ◌++◌, ◌∷◌, [], ◌+◌, OnOk};
+ghost use Rattle.std.specs.Prelude.{◌≡◌, ◌++◌, ◌∷◌, [], ◌+◌, ◌≤◌, length, OnOk};
 ghost use Rattle.wasm_encoder.specs.Encoding.{byte_list_bytes};
 
 use std::alloc::Global;
-use wasm_encoder::{CodeSection, Encode, EncodeError, Function, InstructionSink};
+use wasm_encoder::{CodeSection, Encode, EncodeError, Function, InstructionSink, MemArg};
 
 /// Appends a function body that adds its two parameters, in these bytes.
 #[tactic(auto, unfolding(wasm_instructions::specs::formats::Instructions::instruction, wasm_instructions::specs::formats::Instructions::operands_format, wasm_instructions::specs::formats::Instructions::opcode, wasm_codec::specs::Numbers::unsigned_leb128, wasm_codec::specs::Numbers::digits_of))]
@@ -16,6 +16,15 @@ pub fn add(code: &mut Vec<u8>) -> Result<(), EncodeError>
         .local_get(1)?
         .i32_add()?
         .end()?;
+    Ok(())
+}
+
+/// A method without a list appends from 1 to 20 bytes, whatever its operands are.
+pub fn load(code: &mut Vec<u8>, memarg: MemArg) -> Result<(), EncodeError>
+    ensures at_least { OnOk result (length code.old.items + 1 ≤ length code.new.items) }
+    ensures at_most { OnOk result (length code.new.items ≤ length code.old.items + 20) }
+{
+    InstructionSink::new(&mut *code).i32_load(memarg)?;
     Ok(())
 }
 

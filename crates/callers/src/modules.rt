@@ -2,7 +2,7 @@
 ghost use Rattle.std.specs.Prelude.{◌≡◌, ◌++◌, ◌∷◌, [], List, OnOk};
 ghost use Rattle.wasm_encoder.specs.ModuleFormats.{raw_module};
 ghost use Rattle.wasm_encoder.specs.Sections.{SectionParts, section_of};
-ghost use Rattle.wasm_encoder.specs.TypeSections.{body_bytes};
+ghost use Rattle.wasm_encoder.specs.EncodedLists.{body_bytes};
 
 use wasm_encoder::{EncodeError, Module, TypeSection};
 

@@ -1,8 +1,9 @@
 //! Type sections that are filled, written and read back.
 ghost use Rattle.std.specs.Prelude.{◌≡◌, ◌++◌, ◌∷◌, [], List, OnOk};
 ghost use Rattle.wasm_encoder.specs.Answers.{IsOrMemory};
+ghost use Rattle.wasm_encoder.specs.EncodedLists.{body_bytes};
 ghost use Rattle.wasm_encoder.specs.TypeFormats.{type_body};
-ghost use Rattle.wasm_encoder.specs.TypeSections.{StandsFor, body_bytes, final_entry};
+ghost use Rattle.wasm_encoder.specs.TypeSections.{StandsFor, final_entry};
 ghost use Rattle.wasm_types.specs.declared.types.composite.CompositeInnerType.TheVariants as inner;
 ghost use Rattle.wasm_types.specs.declared.types.composite.TypeEntry.{TypeEntry};
 ghost use Rattle.wasm_types.specs.declared.types.composite.TypeEntry.TheVariants as entries;

@@ -2,7 +2,7 @@ use Rattle.std.proofs.Common.{◌≡◌, ◌++◌, ◌∷◌, [], ℕ, List, ref
 use Rattle.std.specs.Prelude.{OnOk}
 use Rattle.wasm_encoder.specs.Encoding.{byte_list_bytes}
 use Rattle.wasm_encoder.specs.Numbers.{unsigned_leb128, digits_of}
-use Rattle.wasm_encoder.specs.TypeSections.{Entries, body_bytes}
+use Rattle.wasm_encoder.specs.EncodedLists.{Entries, body_bytes}
 use Rattle.callers.proofs.instructions.encoded.Goals as goal
 
 section_bytes : (section : Entries) → section.count ≡ 1 → section.bytes ≡ 7 ∷ 0 ∷ 32 ∷ 0 ∷ 32 ∷ 1 ∷ 106 ∷ 11 ∷ []
