@@ -1,0 +1,156 @@
+/* Refuses each request for memory of each call in turn: the call answers NO_MEMORY, leaves the output and the count as
+ * they were, and gives all memory back. Once no request is refused it answers as it must. An output that is too short
+ * is left as it was too.
+ *
+ * It is linked with --wrap for malloc, realloc and free, so that the archive's requests come here. */
+#include "nosgrivel.h"
+#include <stdio.h>
+#include <stdlib.h>
+#include <string.h>
+
+void *__real_malloc(size_t size);
+void *__real_realloc(void *block, size_t size);
+void __real_free(void *block);
+
+static long left = -1; /* how many requests are granted before one is refused; below 0: all */
+static long held;      /* how many blocks are held */
+
+void *__wrap_malloc(size_t size) {
+    void *block = left >= 0 && left-- == 0 ? NULL : __real_malloc(size);
+    held += block != NULL;
+    return block;
+}
+
+void *__wrap_realloc(void *block, size_t size) {
+    return left >= 0 && left-- == 0 ? NULL : __real_realloc(block, size);
+}
+
+void __wrap_free(void *block) {
+    held -= block != NULL;
+    __real_free(block);
+}
+
+typedef uint32_t normalise(const uint8_t *, size_t, uint8_t *, size_t, size_t *);
+typedef uint32_t in_place(uint8_t *, size_t, size_t *);
+typedef uint32_t question(const uint8_t *, size_t, size_t *);
+
+/* An input, its normal form, how far its bytes are whole and shortest, and the calls of its kind. */
+struct row {
+    const char *name;
+    const uint8_t *input, *normal;
+    size_t input_len, normal_len, checked;
+    normalise *normalise;
+    in_place *in_place;
+    question *judge, *check;
+};
+
+#define ROOM 64
+
+static int swept, faults;
+
+static void expect(int holds, const char *name, const char *what, long at) {
+    if (!holds) {
+        faults++;
+        printf("%s: %s at %ld isn't as it must be\n", name, what, at);
+    }
+}
+
+/* One of the four calls. */
+static uint32_t answer(const struct row *row, int call, uint8_t *output, size_t *count) {
+    switch (call) {
+    case 0: return row->normalise(row->input, row->input_len, output, row->input_len, count);
+    case 1: return row->in_place(output, row->input_len, count);
+    case 2: return row->judge(row->input, row->input_len, count);
+    default: return row->check(row->input, row->input_len, count);
+    }
+}
+
+static void granted(const struct row *row, int call, uint32_t status, size_t count, const uint8_t *output,
+                    const uint8_t *before) {
+    static const uint32_t wanted[] = {NOSGRIVEL_NORMAL, NOSGRIVEL_NORMAL, NOSGRIVEL_NOT_NORMAL, NOSGRIVEL_REFUSED};
+    size_t written = call < 2 ? row->normal_len : 0;
+    expect(status == wanted[call], row->name, "status", call);
+    expect(count == (call < 3 ? row->normal_len : row->checked), row->name, "count", call);
+    expect(memcmp(output, row->normal, written) == 0, row->name, "normal form", call);
+    expect(memcmp(output + written, before + written, ROOM - written) == 0, row->name, "what follows", call);
+}
+
+/* Refuses the first request, then the second, .. until none is refused. */
+static void sweep(const struct row *row, int call) {
+    uint8_t output[ROOM], before[ROOM];
+    memset(before, 0xAA, sizeof before);
+    if (call == 1) memcpy(before, row->input, row->input_len);
+    for (long refused = 0; refused < 100; refused++) {
+        size_t count = 77;
+        memcpy(output, before, sizeof output);
+        left = refused;
+        uint32_t status = answer(row, call, output, &count);
+        int all_granted = left >= 0;
+        left = -1;
+        expect(held == 0, row->name, "memory that is held", refused);
+        if (all_granted) {
+            granted(row, call, status, count, output, before);
+            expect(refused > 0, row->name, "the number of requests", call);
+            swept++;
+            return;
+        }
+        expect(status == NOSGRIVEL_NO_MEMORY, row->name, "status", refused);
+        expect(count == 77, row->name, "count", refused);
+        expect(memcmp(output, before, sizeof output) == 0, row->name, "output", refused);
+    }
+    expect(0, row->name, "the end of the requests", call);
+}
+
+static void short_outputs(const struct row *row) {
+    uint8_t output[ROOM], before[ROOM];
+    memset(before, 0xAA, sizeof before);
+    for (size_t len = 0; len < row->normal_len; len++) {
+        size_t count = 77;
+        memcpy(output, before, sizeof output);
+        uint32_t status = row->normalise(row->input, row->input_len, output, len, &count);
+        expect(status == NOSGRIVEL_TOO_LONG, row->name, "status of a short output", (long)len);
+        expect(count == row->normal_len, row->name, "count of a short output", (long)len);
+        expect(memcmp(output, before, sizeof output) == 0, row->name, "short output", (long)len);
+    }
+}
+
+/* Modules: a custom section, and a type section, a code section and a custom section of padded numbers. */
+static const uint8_t module_input[] = {
+    0x00, 0x61, 0x73, 0x6D, 0x01, 0x00, 0x00, 0x00, /* the header */
+    0x00, 0x01, 0x00,                               /* in its shortest encoding */
+    0x01, 0x86, 0x00, 0x01, 0x4F, 0x00, 0x60, 0x00, 0x00,
+    0x0A, 0x88, 0x00, 0x01, 0x85, 0x00, 0x00, 0x20, 0x81, 0x00, 0x0B,
+    0x00, 0x81, 0x00, 0x00};
+static const uint8_t module_normal[] = {
+    0x00, 0x61, 0x73, 0x6D, 0x01, 0x00, 0x00, 0x00,
+    0x00, 0x01, 0x00,
+    0x01, 0x04, 0x01, 0x60, 0x00, 0x00,
+    0x0A, 0x06, 0x01, 0x04, 0x00, 0x20, 0x01, 0x0B,
+    0x00, 0x01, 0x00};
+
+/* nop, local.get 66, end */
+static const uint8_t instructions_input[] = {0x01, 0x20, 0xC2, 0x80, 0x00, 0x0B};
+static const uint8_t instructions_normal[] = {0x01, 0x20, 0x42, 0x0B};
+
+/* two function types without parameters and results, the second in the long encoding of a final subtype */
+static const uint8_t type_section_input[] = {0x02, 0x60, 0x00, 0x00, 0x4F, 0x00, 0x60, 0x00, 0x00};
+static const uint8_t type_section_normal[] = {0x02, 0x60, 0x00, 0x00, 0x60, 0x00, 0x00};
+
+/* two functions without locals: end, and local.get 1, end */
+static const uint8_t code_section_input[] = {0x02, 0x02, 0x00, 0x0B, 0x85, 0x00, 0x00, 0x20, 0x81, 0x00, 0x0B};
+static const uint8_t code_section_normal[] = {0x02, 0x02, 0x00, 0x0B, 0x04, 0x00, 0x20, 0x01, 0x0B};
+
+#define ROW(kind, checked)                                                                                             \
+    {#kind, kind##_input, kind##_normal, sizeof kind##_input, sizeof kind##_normal, checked,                           \
+     nosgrivel_normalise_##kind, nosgrivel_normalise_##kind##_in_place, nosgrivel_judge_##kind, nosgrivel_check_##kind}
+
+int main(void) {
+    static const struct row rows[] = {
+        ROW(module, 11), ROW(instructions, 1), ROW(type_section, 4), ROW(code_section, 4)};
+    for (size_t i = 0; i < sizeof rows / sizeof *rows; i++) {
+        for (int call = 0; call < 4; call++) sweep(&rows[i], call);
+        short_outputs(&rows[i]);
+    }
+    printf("%d calls swept, %d faults\n", swept, faults);
+    return faults != 0;
+}
