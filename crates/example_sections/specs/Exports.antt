@@ -1,0 +1,22 @@
+-- The exports of functions in the binary format (WebAssembly Core 3.0, Export Section).
+use Rattle.std.specs.Prelude.{ℕ, List, ◌∷◌, ◌++◌, length}
+use Rattle.wasm_encoder.specs.Encoding.{byte_list_bytes, CanEncodeList, IsCount}
+use Rattle.wasm_encoder.specs.Lists.{items_bytes}
+use Rattle.wasm_encoder.specs.Numbers.{unsigned_leb128}
+use Rattle.example_sections.specs.declared.exports.FunctionExport.{FunctionExport}
+
+-- export ::= nm:name xx:externidx, where externidx ::= 0x00 x:funcidx
+abbrev pub export_bytes : FunctionExport → List ℕ
+export_bytes export = byte_list_bytes export.name.now ++ 0x00 ∷ unsigned_leb128 export.function
+
+-- a u32 counts the bytes of the name
+abbrev pub HasShortName : FunctionExport → Type 0
+HasShortName export = IsCount (length export.name.now)
+
+-- exportsec ::= ex*:section_7(list(export)), without the id and the size
+abbrev pub body_of : List FunctionExport → List ℕ
+body_of exports = items_bytes export_bytes exports
+
+-- u32s count the exports, their names and all their bytes
+abbrev pub CanExport : List FunctionExport → Type 0
+CanExport exports = CanEncodeList HasShortName exports × IsCount (length (body_of exports))
