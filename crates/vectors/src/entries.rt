@@ -14,37 +14,39 @@ use wasm_encoder::{
 pub fn check_entry(alloc: Global, words: &str, hex: &str, section: &str) -> Result<(), Mismatch> {
     let mut types = TypeSection::new(alloc);
     let entry = add_entry(alloc, &mut Words::new(alloc, words)?, &mut types)?;
-    let mut bytes = Vec::new(alloc);
-    entry.encode(&mut bytes)?;
-    if bytes != hex::decode(alloc, hex)? {
-        return Err(Mismatch::Written);
-    }
-    check_types(alloc, &types, entry, section)
+    check_bytes(alloc, &entry, hex)?;
+    check_bytes(alloc, &types, section)?;
+    check_types(alloc, &[entry], section)
 }
 
-/// The section is the bytes, `entries` writes the same, and the reader gives the entry back.
-fn check_types(
-    alloc: Global,
-    types: &TypeSection,
-    entry: TypeEntry,
-    section: &str,
-) -> Result<(), Mismatch> {
+/// `entries` writes the section, and the reader gives the entries back.
+fn check_types(alloc: Global, entries: &[TypeEntry], section: &str) -> Result<(), Mismatch> {
+    check_bytes(alloc, &section_of(alloc, entries)?, section)?;
     let section = hex::decode(alloc, section)?;
-    if text(alloc, types)? != section {
-        return Err(Mismatch::Written);
-    }
-    let mut entries = Vec::new(alloc);
-    entries.push(entry)?;
-    let mut again = TypeSection::new(alloc);
-    again.entries(entries.as_slice())?;
-    if text(alloc, &again)? != section {
-        return Err(Mismatch::Written);
-    }
-    if read_type_section(alloc, after_size(&section)?)? == entries {
+    if read_type_section(alloc, after_size(&section)?)?.as_slice() == entries {
         Ok(())
     } else {
         Err(Mismatch::Read)
     }
+}
+
+/// The value is encoded as these bytes.
+fn check_bytes<T: Encode>(alloc: Global, value: &T, hex: &str) -> Result<(), Mismatch> {
+    let expected = hex::decode(alloc, hex)?;
+    let mut bytes = Vec::new(alloc);
+    value.encode(&mut bytes)?;
+    if bytes == expected {
+        Ok(())
+    } else {
+        Err(Mismatch::Written)
+    }
+}
+
+/// A section that `entries` filled.
+fn section_of(alloc: Global, entries: &[TypeEntry]) -> Result<TypeSection, Mismatch> {
+    let mut types = TypeSection::new(alloc);
+    types.entries(entries)?;
+    Ok(types)
 }
 
 /// The body of a section: the bytes after its size, whose last byte is the first below 128.
@@ -56,27 +58,26 @@ fn after_size(section: &[u8]) -> Result<&[u8], Mismatch> {
 
 /// Holds a section of some entries to the vector.
 pub fn check_section(alloc: Global, words: &str, hex: &str, len: &str) -> Result<(), Mismatch> {
-    let mut words = Words::new(alloc, words)?;
-    let Ok(count) = words.value("entries")?.parse::<u32>() else {
-        return Err(Mismatch::NotUnderstood);
-    };
-    let mut types = TypeSection::new(alloc);
-    for _ in 0..count {
-        add_entry(alloc, &mut words, &mut types)?;
+    let types = add_entries(alloc, &mut Words::new(alloc, words)?)?;
+    if number(len)? != types.len() {
+        return Err(Mismatch::Written);
     }
-    let expected = hex::decode(alloc, hex)?;
-    if text(alloc, &types)? == expected && len.parse() == Ok(types.len()) {
-        Ok(())
-    } else {
-        Err(Mismatch::Written)
-    }
+    check_bytes(alloc, &types, hex)
 }
 
-/// The bytes of a section.
-fn text(alloc: Global, types: &TypeSection) -> Result<Vec<u8>, Mismatch> {
-    let mut bytes = Vec::new(alloc);
-    types.encode(&mut bytes)?;
-    Ok(bytes)
+/// Makes the calls that the words give, after their number.
+fn add_entries(alloc: Global, words: &mut Words<'_>) -> Result<TypeSection, Mismatch> {
+    let count = number(words.value("entries")?)?;
+    let mut types = TypeSection::new(alloc);
+    for _ in 0..count {
+        add_entry(alloc, words, &mut types)?;
+    }
+    Ok(types)
+}
+
+/// The number that a text tells.
+fn number(text: &str) -> Result<u32, Mismatch> {
+    text.parse().map_err(|_| Mismatch::NotUnderstood)
 }
 
 /// Makes the call that the words give, and gives the entry that it adds.
@@ -183,10 +184,7 @@ fn field_types(alloc: Global, list: &str) -> Result<Vec<FieldType>, Mismatch> {
 fn indexes(alloc: Global, list: &str) -> Result<Vec<u32>, Mismatch> {
     let mut indexes = Vec::new(alloc);
     for token in list_tokens(alloc, list)?.as_slice() {
-        let Ok(index) = token.parse() else {
-            return Err(Mismatch::NotUnderstood);
-        };
-        indexes.push(index)?;
+        indexes.push(number(token)?)?;
     }
     Ok(indexes)
 }
@@ -209,17 +207,12 @@ fn array(words: &mut Words<'_>) -> Result<ArrayType, Mismatch> {
 }
 
 fn continuation(words: &mut Words<'_>) -> Result<ContType, Mismatch> {
-    match words.value("u32")?.parse() {
-        Ok(index) => Ok(ContType(index)),
-        Err(_) => Err(Mismatch::NotUnderstood),
-    }
+    Ok(ContType(number(words.value("u32")?)?))
 }
 
 /// The types of a group, after their number.
 fn group(alloc: Global, words: &mut Words<'_>) -> Result<Vec<SubType>, Mismatch> {
-    let Ok(count) = words.value("subs")?.parse::<u32>() else {
-        return Err(Mismatch::NotUnderstood);
-    };
+    let count = number(words.value("subs")?)?;
     let mut types = Vec::new(alloc);
     for _ in 0..count {
         types.push(sub_type(alloc, words)?)?;
@@ -255,10 +248,7 @@ fn optional_index(text: &str) -> Result<Option<u32>, Mismatch> {
     if text == "none" {
         return Ok(None);
     }
-    match text.parse() {
-        Ok(index) => Ok(Some(index)),
-        Err(_) => Err(Mismatch::NotUnderstood),
-    }
+    Ok(Some(number(text)?))
 }
 
 /// What a composite type is made of.

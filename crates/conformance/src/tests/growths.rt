@@ -351,20 +351,76 @@ const LONG_LISTS: [(&str, &str, &str, &str, usize); 6] = [
     ("resume_throw_ref", "u32:7 ", "handle:switch:7", "", 203),
 ];
 
-#[test]
-fn one_growth_is_enough_for_short_items(rt: HostRuntime) -> Result<(), Fail> {
-    for (method, before, item, after, len) in LONG_LISTS {
-        let mut operands = format!(in rt.alloc(); "{before}list:[{item}")?;
-        for _ in 1..100 {
+/// The methods with a list, the longest operands before it and after it, an item in the most bytes, and how many bytes a
+/// call with 64 of them is.
+const LONG_ITEMS: [(&str, &str, &str, &str, usize); 6] = [
+    ("br_table", "", "u32:4294967295", " u32:4294967295", 327),
+    (
+        "typed_select_multi",
+        "",
+        "val:ref:0:exact:4294967295",
+        "",
+        450,
+    ),
+    (
+        "try_table",
+        "block:func:4294967295 ",
+        "catch:one:4294967295,4294967295",
+        "",
+        711,
+    ),
+    (
+        "resume",
+        "u32:4294967295 ",
+        "handle:label:4294967295,4294967295",
+        "",
+        711,
+    ),
+    (
+        "resume_throw",
+        "u32:4294967295 u32:4294967295 ",
+        "handle:label:4294967295,4294967295",
+        "",
+        716,
+    ),
+    (
+        "resume_throw_ref",
+        "u32:4294967295 ",
+        "handle:label:4294967295,4294967295",
+        "",
+        711,
+    ),
+];
+
+/// Each method writes a call with so many of its items with one request for memory.
+fn grants_lists(
+    rt: &impl Abort,
+    alloc: Global,
+    rows: &[(&str, &str, &str, &str, usize)],
+    count: usize,
+) -> Result<(), Fail> {
+    for (method, before, item, after, len) in rows {
+        let mut operands = format!(in alloc; "{before}list:[{item}")?;
+        for _ in 1..count {
             operands.push_str(";")?;
             operands.push_str(item)?;
         }
         operands.push_str("]")?;
         operands.push_str(after)?;
-        let written = granted(rt.alloc(), &Text::Method(method, operands.as_str()), 0)?;
-        assert_eq!(rt; written.len(), len, "at {method}");
+        let written = granted(alloc, &Text::Method(method, operands.as_str()), 0)?;
+        assert_eq!(rt; written.len(), *len, "at {method}");
     }
     Ok(())
+}
+
+#[test]
+fn one_growth_is_enough_for_short_items(rt: HostRuntime) -> Result<(), Fail> {
+    grants_lists(&rt, rt.alloc(), &LONG_LISTS, 100)
+}
+
+#[test]
+fn one_growth_is_enough_for_short_lists(rt: HostRuntime) -> Result<(), Fail> {
+    grants_lists(&rt, rt.alloc(), &LONG_ITEMS, 64)
 }
 
 #[test]
