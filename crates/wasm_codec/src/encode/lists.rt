@@ -29,7 +29,8 @@ pub fn encode_list<T: Encode, A: Allocator>(
 
 /// Appends a byte, the number of items and then the bytes of each, or leaves `sink` as it was.
 ///
-/// `TooLong` where there are more than 4,294,967,295 items, before the first is encoded; else an error of an item.
+/// `Memory` where there is no room for the byte; else `TooLong` where there are more than 4,294,967,295 items, before the
+/// first is encoded; else an error of an item.
 pub fn encode_list_after<T: Encode, A: Allocator>(
     byte: u8,
     items: &[T],
