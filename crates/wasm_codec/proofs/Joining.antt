@@ -16,6 +16,12 @@ Joined-more G bytes [] last v g h = (last, [], rw g (sym (append-nil last)), h, 
 Joined-more G bytes (w ∷ ws) last v g h =
     (g.0, g.1 ++ last, ap (λ (t : List ℕ). t ++ last) g.2 ∙ append_assoc g.0 g.1 last, g.3, Joined-more G g.1 ws last v g.4 h)
 
+-- more items at the end
+pub Joined-append : {V : Type 0} (G : Grammar V) (a : List ℕ) (vs : List V) (b : List ℕ) (ws : List V) → Joined G a vs → Joined G b ws → Joined G (a ++ b) (vs ++ ws)
+Joined-append G a [] b ws g h = subst (λ (t : List ℕ). Joined G (t ++ b) ws) (sym g) h
+Joined-append G a (v ∷ vs) b ws g h =
+    (g.0, g.1 ++ b, ap (λ (t : List ℕ). t ++ b) g.2 ∙ append_assoc g.0 g.1 b, g.3, Joined-append G g.1 vs b ws g.4 h)
+
 -- what a longer list of encodings has past a shorter one
 pub record Longer {V : Type 0} (G : Grammar V) (a : List ℕ) (vs : List V) (b : List ℕ) (ws : List V) : Type 0 where
   pub back : List ℕ

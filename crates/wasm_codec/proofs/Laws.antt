@@ -1,11 +1,10 @@
 -- The laws of grammars, and how each way to put encodings together keeps them.
-use Rattle.std.proofs.Common.{◌≡◌, ℕ, ◌<◌, Bool, true, false, List, [], ◌∷◌, ◌++◌, Option, Some, None, eqb, refl, sym, ap, subst, ◌∙◌, append_assoc, length-append, inl, inr, arith}
+use Rattle.std.proofs.Common.{◌≡◌, ℕ, ◌<◌, List, [], ◌∷◌, ◌++◌, Option, Some, None, refl, sym, ap, subst, ◌∙◌, append_assoc, length-append, inl, inr, arith}
 use Rattle.std.proofs.lemmas.List.{append_cancel_right}
-use Rattle.std.proofs.lemmas.Bool.{eqb-true}
-use Rattle.wasm_codec.specs.Grammar.{Grammar, IsBytes, AByte, Then, Mapped, Nothing, Never, Either, Only}
+use Rattle.wasm_codec.specs.Grammar.{Grammar, IsBytes, AByte, Then, Mapped, Nothing, Never}
 use Rattle.wasm_codec.specs.Encoding.{IsShortestOrLonger}
 use Rattle.wasm_codec.specs.Lawful.{Shortest}
-use Rattle.wasm_codec.specs.Reading.{Reader, BeginsWith, IsReadBy, ◌>>=◌, byte_at, then_at, map_at, nothing_at, never_at, either_at, only_at}
+use Rattle.wasm_codec.specs.Reading.{Reader, BeginsWith, IsReadBy, ◌>>=◌}
 
 -- ---- options
 

@@ -1,6 +1,6 @@
 -- A loop that reads items as long as there are bytes left, over any grammar.
 use Rattle.std.proofs.Common.{◌≡◌, ℕ, suc, ◌-◌, ◌<◌, ◌≤◌, List, [], ◌∷◌, ◌++◌, length, get_or, take, drop, Some, None, Result, Ok, Err, IfOk, ◌↔◌, refl, sym, ap, subst, ◌∙◌, append_assoc, length-append, arith}
-use Rattle.std.proofs.lemmas.List.{append-nil, take-append-drop, flat_map_more}
+use Rattle.std.proofs.lemmas.List.{append-nil, take-append-drop}
 use Rattle.std.specs.List.{flat_map}
 use Rattle.wasm_codec.specs.Grammar.{Grammar, Joined, IsBytes, TakesBytes}
 use Rattle.wasm_codec.specs.declared.reader.cursor.Fault.{Fault}

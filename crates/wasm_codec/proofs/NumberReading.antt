@@ -324,13 +324,13 @@ unfolding u64_at
 u64_none old none = no_digits (below (2 ^ 64)) unsigned_leb128 10 old none
 
 -- two bytes are the digits of a number
-two_read : (p q : Place) (b c : ℕ) → 128 ≤ b → b < 256 → c < 128 → p ≡ place q.shortest (b ∷ c ∷ q.left) → Read 5 p q (b % 128 + 128 * c) 16384 c
+two_read : (most : ℕ) (p q : Place) (b c : ℕ) → 128 ≤ b → b < 256 → c < 128 → p ≡ place q.shortest (b ∷ c ∷ q.left) → Read (suc (suc most)) p q (b % 128 + 128 * c) 16384 c
 unfolding digits_at
-two_read p q b c high byte low e = record {
+two_read most p q b c high byte low e = record {
   digits = b ∷ c ∷ [];
-  reads = ap (λ (r : Place). digits_at 5 r.left) e ∙ rw (le-ltb b 128 high, lt-ltb c 128 low) refl;
+  reads = ap (λ (r : Place). digits_at (suc (suc most)) r.left) e ∙ rw (le-ltb b 128 high, lt-ltb c 128 low) refl;
   keeps = sym (ap (λ (r : Place). r.shortest) e);
-  short = lit≤ tt;
+  short = omega arith;
   value_is = omega arith;
   unit_is = refl;
   end_is = refl;
@@ -340,5 +340,18 @@ two_read p q b c high byte low e = record {
   high = λ le. omega arith;
 }
 
-pub u32_two : (p q : Place) (b c : ℕ) → 128 ≤ b → b < 256 → c < 128 → p ≡ place q.shortest (b ∷ c ∷ q.left) → u32_at p ≡ Some (b % 128 + 128 * c, place (q.shortest && fewest 128 16384 (b % 128 + 128 * c)) q.left)
-u32_two p q b c high byte low e = u32_is p q (b % 128 + 128 * c) 16384 c (two_read p q b c high byte low e) (omega arith)
+-- a number that needs two
+two_unsigned : (limit most : ℕ) (p q : Place) (b c : ℕ) → 128 ≤ b → b < 256 → 0 < c → c < 128 → suc (suc most) ≤ 10 → 16384 ≤ limit → p ≡ place q.shortest (b ∷ c ∷ q.left)
+    → number_at (suc (suc most)) (below limit) unsigned_leb128 p ≡ Some (b % 128 + 128 * c, q)
+two_unsigned limit most p q b c high byte some low few wide e =
+    let enough : fewest 128 16384 (b % 128 + 128 * c) ≡ true = le-leb (128 * 16384) ((b % 128 + 128 * c) * 16384) (omega arith) in
+    unsigned_is limit (suc (suc most)) p q (b % 128 + 128 * c) 16384 c (two_read most p q b c high byte low e) few (omega arith)
+    ∙ ap (λ (s : Bool). Some (b % 128 + 128 * c, place s q.left)) (ap (λ (s : Bool). q.shortest && s) enough ∙ and-true q.shortest)
+
+pub u32_two : (p q : Place) (b c : ℕ) → 128 ≤ b → b < 256 → 0 < c → c < 128 → p ≡ place q.shortest (b ∷ c ∷ q.left) → u32_at p ≡ Some (b % 128 + 128 * c, q)
+unfolding u32_at
+u32_two p q b c high byte some low e = two_unsigned (2 ^ 32) 3 p q b c high byte some low (lit≤ tt) (lit≤ tt) e
+
+pub u64_two : (p q : Place) (b c : ℕ) → 128 ≤ b → b < 256 → 0 < c → c < 128 → p ≡ place q.shortest (b ∷ c ∷ q.left) → u64_at p ≡ Some (b % 128 + 128 * c, q)
+unfolding u64_at
+u64_two p q b c high byte some low e = two_unsigned (2 ^ 64) 8 p q b c high byte some low (lit≤ tt) (lit≤ tt) e

@@ -1,15 +1,14 @@
 -- The laws of what is passed and not made, and of what is written anew as it is read.
-use Rattle.std.proofs.Common.{◌≡◌, ℕ, ◌+◌, ◌*◌, ◌%◌, ◌<◌, ◌≤◌, ◌&&◌, Bool, true, List, [], ◌∷◌, ◌++◌, Some, Err, length, append_assoc, length-append, refl, sym, ap, ◌∙◌, arith}
+use Rattle.std.proofs.Common.{◌≡◌, ℕ, ◌+◌, ◌*◌, ◌%◌, ◌<◌, ◌≤◌, true, List, [], ◌∷◌, ◌++◌, Some, Err, length, append_assoc, length-append, refl, sym, ap, ◌∙◌, inl, inr, arith, ℤ, pos, ◌-ℤ◌}
 use Rattle.wasm_codec.specs.declared.reader.cursor.Fault.{Fault}
 use Rattle.wasm_codec.specs.declared.reader.cursor.Fault.TheVariants as faults
-use Rattle.wasm_codec.specs.Places.{Place, place, Reader, Passes, place_after, u32_at}
+use Rattle.wasm_codec.specs.Places.{Place, place, Reader, Passes, PassesShort, place_after, u32_at}
+use Rattle.std.proofs.lemmas.Bool.{cases_lt}
 use Rattle.wasm_codec.specs.formats.Combinators.{Format, items}
 use Rattle.std.proofs.lemmas.List.{append-nil, flat_map_more}
 use Rattle.std.specs.List.{flat_map}
 use Rattle.wasm_codec.specs.Numbers.{unsigned_leb128}
 use Rattle.wasm_codec.specs.Rewriting.{IsPassed, IsWrittenAnew, Appends, appended_at}
-use Rattle.wasm_codec.specs.ReadDigits.{fewest}
-use Rattle.wasm_codec.proofs.NumberReading.{u32_two}
 use Rattle.wasm_codec.proofs.Laws.{bind_some, some_is}
 use Rattle.wasm_codec.proofs.PlaceLists.{Passed, passed_none, passed_more, passed_fault, passed_all}
 
@@ -32,17 +31,29 @@ is_passed F old new out e stands =
     let one = is_at F.at old new e in
     record { value = one.value; is_read = one.is_read; shortest = stands; same = refl }
 
--- a number of two bytes was passed
-pub two_passed : (p o q r : Place) (b c x y : ℕ) (k : Bool) → o ≡ p → 128 ≤ b → b < 256 → c < 128 → o ≡ place q.shortest (b ∷ c ∷ q.left)
-    → x ≡ b % 128 → y ≡ c → k ≡ fewest 128 16384 (x + 128 * y) → r ≡ place (q.shortest && k) q.left → place_after u32_at p ≡ Some r
-two_passed p o q r b c x y k same high byte low e x-is y-is k-is r-is =
-    let n : x + 128 * y ≡ b % 128 + 128 * c = cc in
-    let is : k ≡ fewest 128 16384 (b % 128 + 128 * c) = k-is ∙ ap (λ (m : ℕ). fewest 128 16384 m) n in
-    let reads : u32_at p ≡ Some (b % 128 + 128 * c, r) =
-    sym (ap u32_at same) ∙ u32_two o q b c high byte low e
-    ∙ ap (λ (s : Bool). Some (b % 128 + 128 * c, place (q.shortest && s) q.left)) (sym is)
-    ∙ ap (λ (s : Place). Some (b % 128 + 128 * c, s)) (sym r-is) in
-    passes_at u32_at p r (b % 128 + 128 * c) reads
+-- a value was passed, and the flag is as it was
+pub short_passed : {V : Type 0} (read : Reader V) (p q : Place) (v : V) (bytes : List ℕ) → read p ≡ Some (v, q) → p ≡ place q.shortest bytes → PassesShort read p q true
+short_passed read p q v bytes e from = (passes_at read p q v e, sym (ap (λ (r : Place). r.shortest) from))
+
+-- a number of one byte
+pub one_passed : (read : Reader ℕ) (p q : Place) (b : ℕ) → ((p q : Place) (b : ℕ) → b < 128 → p ≡ place q.shortest (b ∷ q.left) → read p ≡ Some (b, q)) → b < 128 → p ≡ place q.shortest (b ∷ q.left) → PassesShort read p q true
+one_passed read p q b one low e = short_passed read p q b (b ∷ q.left) (one p q b low e) e
+
+-- a number that needs two bytes
+pub two_passed : (read : Reader ℕ) (p o q : Place) (b c : ℕ)
+    → ((p q : Place) (b c : ℕ) → 128 ≤ b → b < 256 → 0 < c → c < 128 → p ≡ place q.shortest (b ∷ c ∷ q.left) → read p ≡ Some (b % 128 + 128 * c, q))
+    → o ≡ p → 128 ≤ b → b < 256 → 0 < c → c < 128 → o ≡ place q.shortest (b ∷ c ∷ q.left) → PassesShort read p q true
+two_passed read p o q b c two same high byte some low e =
+    let from : p ≡ place q.shortest (b ∷ c ∷ q.left) = sym same ∙ e in
+    short_passed read p q (b % 128 + 128 * c) (b ∷ c ∷ q.left) (two p q b c high byte some low from) from
+
+-- a signed number of one byte
+pub signed_passed : (read : Reader ℤ) (p q : Place) (b : ℕ) → ((p q : Place) (b : ℕ) → b < 64 → p ≡ place q.shortest (b ∷ q.left) → read p ≡ Some (pos b, q))
+    → ((p q : Place) (b : ℕ) → 64 ≤ b → b < 128 → p ≡ place q.shortest (b ∷ q.left) → read p ≡ Some (pos b -ℤ pos 128, q)) → b < 128 → p ≡ place q.shortest (b ∷ q.left) → PassesShort read p q true
+signed_passed read p q b is_low is_high lt e = elim (cases_lt b 64) [
+  | inl low ↦ short_passed read p q (pos b) (b ∷ q.left) (is_low p q b low e) e
+  | inr high ↦ short_passed read p q (pos b -ℤ pos 128) (b ∷ q.left) (is_high p q b high lt e) e
+]
 
 -- ---- items of a list
 

@@ -8,17 +8,17 @@ use Rattle.wasm_codec.specs.declared.reader.cursor.Fault.{Fault}
 use Rattle.wasm_codec.specs.declared.reader.cursor.Fault.TheVariants as faults
 use Rattle.wasm_codec.specs.declared.reader.ReadError.{ReadError}
 use Rattle.wasm_codec.specs.Grammar.{Grammar, IsBytes, Joined}
-use Rattle.wasm_codec.specs.Reading.{Reader as ListReader, Reads as ListReadsCode, ◌>>=◌}
+use Rattle.wasm_codec.specs.Reading.{Reads as ListReadsCode, ◌>>=◌}
 use Rattle.wasm_codec.specs.Answers.{answer_to, HoldsAtRefusal, IsLongestPrefix, EncodesSome}
 use Rattle.wasm_codec.specs.Encoding.{IsShortestOrLonger}
 use Rattle.wasm_codec.proofs.Laws.{BeginsWith-is, one_reading, bind_some, some, some_is}
 use Rattle.wasm_codec.specs.Reading.{BeginsWith, IsReadBy as ListReads}
-use Rattle.wasm_codec.proofs.Joining.{Joined-more}
+use Rattle.wasm_codec.proofs.Joining.{Joined-more, Joined-append}
 use Rattle.wasm_codec.specs.Grammar.{TakesBytes}
-use Rattle.wasm_codec.proofs.ListReading.{Progress, Next, next, stopped_by}
-use Rattle.wasm_codec.specs.Rewriting.{AppendsNormalForm, PassesOrWrites}
-use Rattle.wasm_codec.specs.Places.{Place, place, Reader, Reads, keeps, times_at, counted_at, PassedAsAsked}
-use Rattle.wasm_codec.specs.formats.Combinators.{Format, only_shortest, narrow, asked}
+use Rattle.wasm_codec.proofs.ListReading.{Progress, Next, next, stopped_by, progress_bytes}
+use Rattle.wasm_codec.specs.Rewriting.{AppendsNormalForm, PassesOrWrites, ArePassed}
+use Rattle.wasm_codec.specs.Places.{Place, place, Reader, Reads, place_after, keeps, times_at, counted_at}
+use Rattle.wasm_codec.specs.formats.Combinators.{Format, only_shortest, narrow}
 use Rattle.wasm_codec.proofs.FormatLaws.{BeginsWith-at, keeps_same}
 use Rattle.wasm_codec.specs.Lawful.{ReadsPlaces, IsLawful, plain, IsPrefixFree}
 
@@ -209,6 +209,61 @@ passed {V} {F} r bytes from before out p q v fits n e stands =
 pub passed_values : {V : Type 0} {F : Format V} (r : IsLawful F) (bytes : List ℕ) (from : ℕ) (before out : List ℕ) (p q : Place) (v : V) (fits : IsBytes p.left) (n : Normalised F bytes from before out p) (e : F.at p ≡ Some (v, q)) (stands : q.shortest ≡ true) → (passed r bytes from before out p q v fits n e stands).values ≡ n.values ++ v ∷ []
 unfolding passed
 passed_values r bytes from before out p q v fits n e stands = refl
+
+-- values in their shortest encodings, one after another
+pub none_passed : {V : Type 0} (F : Format V) (p : Place) → p.shortest ≡ true → ArePassed F p p
+none_passed F p stands = record { values = []; parts = refl; encodes = refl; shortest = stands }
+
+-- One value more was passed.
+pub record OneMore {V : Type 0} (F : Format V) (old p q : Place) : Type 0 where
+  pub passed : ArePassed F old q
+  pub fewer : length q.left < length p.left
+
+pub one_more : {V : Type 0} {F : Format V} → IsLawful F → TakesBytes F.Encodes → (old p q : Place) → IsBytes old.left → ArePassed F old p → place_after F.at p ≡ Some q → q.shortest ≡ p.shortest → OneMore F old p q
+one_more {V} {F} r some old p q fits w e same =
+    let x = bind_some (F.at p) (λ (x : V × Place). Some x.1) q e in
+    let read : F.at p ≡ Some (x.0.0, q) = x.1 ∙ ap (λ (t : Place). Some (x.0.0, t)) (some_is x.0.1 q x.2) in
+    let so_far : Progress F.Encodes old.left p.left w.values = record { prefix = flat_map F.bytes w.values; parts = w.parts; encodes = w.encodes } in
+    let left = progress_bytes old.left p.left fits so_far in
+    let one = step r p x.0.0 q left read in
+    let stands : q.shortest ≡ true = same ∙ w.shortest in
+    let is : one.prefix ≡ F.bytes x.0.0 = is_shortest one.prefix (F.bytes x.0.0) (r.shortest.least one.prefix x.0.0 one.encodes) (sym (ap (λ (s : Bool). keeps s one.prefix (F.bytes x.0.0)) w.shortest) ∙ sym one.tells ∙ stands) in
+    let whole : flat_map F.bytes w.values ++ one.prefix ≡ flat_map F.bytes (w.values ++ x.0.0 ∷ []) = ap (λ (t : List ℕ). flat_map F.bytes w.values ++ t) is ∙ flat_map_more F.bytes [] w.values x.0.0 in
+    record {
+      passed = record {
+        values = w.values ++ x.0.0 ∷ [];
+        parts = w.parts ∙ ap (λ (t : List ℕ). flat_map F.bytes w.values ++ t) one.parts ∙ sym (append_assoc (flat_map F.bytes w.values) one.prefix q.left) ∙ ap (λ (t : List ℕ). t ++ q.left) whole;
+        encodes = subst (λ (t : List ℕ). Joined F.Encodes t (w.values ++ x.0.0 ∷ [])) whole (Joined-more F.Encodes (flat_map F.bytes w.values) w.values one.prefix x.0.0 w.encodes one.encodes);
+        shortest = stands;
+      };
+      fewer = (place_next r some old.left p q w.values x.0.0 fits left so_far read).fewer;
+    }
+
+pub no_longer : {V : Type 0} {F : Format V} (p q : Place) → ArePassed F p q → length q.left ≤ length p.left
+no_longer {F = F} p q w = omega (arith, ap (length {A = ℕ}) w.parts, length-append (flat_map F.bytes w.values) q.left)
+
+flat_map_join : {V : Type 0} (f : V → List ℕ) (vs ws : List V) → flat_map f (vs ++ ws) ≡ flat_map f vs ++ flat_map f ws
+flat_map_join f [] ws = refl
+flat_map_join f (v ∷ vs) ws = ap (λ (t : List ℕ). f v ++ t) (flat_map_join f vs ws) ∙ sym (append_assoc (f v) (flat_map f vs) (flat_map f ws))
+
+-- the run grows by them
+pub all_passed : {V : Type 0} {F : Format V} (bytes : List ℕ) (from : ℕ) (before out : List ℕ) (p q : Place) → Normalised F bytes from before out p → ArePassed F p q → Normalised F bytes from before out q
+all_passed {V} {F} bytes from before out p q n w =
+    let run = flat_map F.bytes w.values in
+    record {
+      values = n.values ++ w.values;
+      progress = record {
+        prefix = n.progress.prefix ++ run;
+        parts = n.progress.parts ∙ ap (λ (t : List ℕ). n.progress.prefix ++ t) w.parts ∙ sym (append_assoc n.progress.prefix run q.left);
+        encodes = Joined-append F.Encodes n.progress.prefix n.values run w.values n.progress.encodes w.encodes;
+      };
+      within = omega (arith, n.within, length-append n.progress.prefix run);
+      is_shortest =
+          ap (λ (t : List ℕ). out ++ t) (drop_append from n.progress.prefix run n.within) ∙ sym (append_assoc out (drop from n.progress.prefix) run)
+          ∙ ap (λ (t : List ℕ). t ++ run) n.is_shortest ∙ append_assoc before (flat_map F.bytes n.values) run
+          ∙ ap (λ (t : List ℕ). before ++ t) (sym (flat_map_join F.bytes n.values w.values));
+      shortest = w.shortest;
+    }
 
 take_prefix : (a b : List ℕ) → take (length a) (a ++ b) ≡ a
 take_prefix [] b = refl

@@ -1,5 +1,5 @@
 -- What is read, and rewritten, of a body after its size.
-use Rattle.std.proofs.Common.{◌≡◌, ℕ, ◌+◌, ◌-◌, ◌^◌, ◌<◌, ◌≤◌, Bool, true, List, ◌++◌, [], length, take, drop, append_assoc, length-append, Option, Some, None, Err, refl, sym, ap, subst, ◌∙◌, arith}
+use Rattle.std.proofs.Common.{◌≡◌, ℕ, ◌+◌, ◌-◌, ◌≤◌, true, List, ◌++◌, [], length, take, drop, append_assoc, length-append, Option, Some, None, Err, refl, sym, ap, subst, ◌∙◌, arith}
 use Rattle.std.proofs.lemmas.List.{take_at, drop_at}
 use Rattle.wasm_codec.specs.declared.reader.cursor.Fault.{Fault}
 use Rattle.wasm_codec.specs.declared.reader.cursor.Fault.TheVariants as faults
@@ -11,11 +11,11 @@ use Rattle.wasm_codec.specs.Rewriting.{IsRewritten, AppendsNormalForm}
 use Rattle.wasm_codec.specs.Lawful.{Shortest, IsLawful, plain}
 use Rattle.wasm_codec.specs.Places.{Place, place, Reader, Reads, keeps}
 use Rattle.wasm_codec.specs.formats.Combinators.{Format, ◌⊗◌, made}
-use Rattle.wasm_codec.specs.formats.Bodies.{at_end, Sized, body_at, sized}
-use Rattle.wasm_codec.proofs.Laws.{some, some_is}
+use Rattle.wasm_codec.specs.formats.Bodies.{at_end, body_at, sized}
+use Rattle.wasm_codec.proofs.Laws.{some_is}
 use Rattle.wasm_codec.proofs.FormatLaws.{not_longer}
 use Rattle.wasm_codec.proofs.PlaceLists.{plain_reads}
-use Rattle.wasm_codec.proofs.BodyLaws.{IsLawfulBody, Body, body_sound, body_complete, unsigned_leb128-mono}
+use Rattle.wasm_codec.proofs.BodyLaws.{body_sound, body_complete, unsigned_leb128-mono}
 
 -- ---- reading
 

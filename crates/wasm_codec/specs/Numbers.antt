@@ -1,5 +1,5 @@
 -- Numbers in LEB128: digits of seven bits, the least first (WebAssembly Core 3.0, Integers).
-use Rattle.std.specs.Prelude.{◌≡◌, ℕ, zero, suc, ◌+◌, ◌-◌, ◌*◌, ◌%◌, ◌/◌, ◌^◌, ◌<◌, ◌≤◌, Bool, true, false, List, [], ◌∷◌, length, Option, Some, None, Result, Ok, Err, nat_lt, if◌then◌else◌, ℤ, pos, negsuc, ◌-ℤ◌}
+use Rattle.std.specs.Prelude.{◌≡◌, ℕ, zero, suc, ◌+◌, ◌-◌, ◌*◌, ◌%◌, ◌/◌, ◌^◌, ◌<◌, ◌≤◌, Bool, true, false, List, [], ◌∷◌, length, Option, Some, None, nat_lt, if◌then◌else◌, ℤ, pos, negsuc, ◌-ℤ◌}
 use Rattle.wasm_codec.specs.Grammar.{Grammar}
 use Rattle.wasm_codec.specs.Reading.{Reader, ◌>>=◌}
 

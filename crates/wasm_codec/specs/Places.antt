@@ -35,6 +35,11 @@ Passes read old new (Ok done) = place_after read old ≡ Some new
 Passes read old new (Err faults.Malformed) = read old ≡ None
 Passes read old new (Err faults.Memory) = ⊥
 
+-- The code passed what the reading function reads at the old place, in its shortest encoding, or answers that it did not.
+abbrev pub PassesShort : {V : Type 0} → Reader V → Place → Place → Bool → Type 0
+PassesShort read old new true = (place_after read old ≡ Some new) × (new.shortest ≡ old.shortest)
+PassesShort read old new false = Unit {0}
+
 -- as before, and what was passed since is as long as this
 abbrev pub keeps : Bool → List ℕ → List ℕ → Bool
 keeps shortest prefix bytes = shortest && (length prefix == length bytes)

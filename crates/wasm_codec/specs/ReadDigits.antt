@@ -36,9 +36,9 @@ abbrev pub ReadsOne : Place → Place → Option ℕ → Type 0
 ReadsOne old new (Some b) = (b < 128) × (old ≡ place new.shortest (b ∷ new.left))
 ReadsOne old new None = new ≡ old
 
--- two bytes were read, a digit and one that is the last, or nothing was
+-- two bytes were read, a digit and one that is the last and not 0, or nothing was
 abbrev pub ReadsTwo : Place → Place → Option (ℕ × ℕ) → Type 0
-ReadsTwo old new (Some digits) = (128 ≤ digits.0) × (digits.0 < 256) × (digits.1 < 128) × (old ≡ place new.shortest (digits.0 ∷ digits.1 ∷ new.left))
+ReadsTwo old new (Some digits) = (128 ≤ digits.0) × (digits.0 < 256) × (0 < digits.1) × (digits.1 < 128) × (old ≡ place new.shortest (digits.0 ∷ digits.1 ∷ new.left))
 ReadsTwo old new None = new ≡ old
 
 -- no fewer digits would do: the last stands for a number below top, and unit is 128 to their number

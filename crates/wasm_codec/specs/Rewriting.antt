@@ -1,8 +1,9 @@
 -- Rewriting: values are written in their shortest encodings as they are read, and are not kept.
+use Rattle.std.specs.List.{flat_map}
 use Rattle.std.specs.Prelude.{◌≡◌, List, ℕ, ◌++◌, Bool, true, false, Option, Some, None, Result, Ok, Err}
 use Rattle.wasm_codec.specs.declared.reader.cursor.Fault.{Fault}
 use Rattle.wasm_codec.specs.declared.reader.cursor.Fault.TheVariants as faults
-use Rattle.wasm_codec.specs.Grammar.{Grammar}
+use Rattle.wasm_codec.specs.Grammar.{Grammar, Joined}
 use Rattle.wasm_codec.specs.Reading.{Reader, ◌>>=◌}
 use Rattle.wasm_codec.specs.Answers.{IsNormalForm}
 use Rattle.wasm_codec.specs.Places.{Place, place}
@@ -50,6 +51,13 @@ PassesOrWrites F old new run before after (Ok false) = IsPassed F old new before
 PassesOrWrites F old new run before after (Ok true) = IsWrittenAnew F old new run before after
 PassesOrWrites F old new run before after (Err faults.Malformed) = F.at old ≡ None
 PassesOrWrites F old new run before after (Err faults.Memory) = Unit {0}
+
+-- Values were passed one after another, each in its shortest encoding.
+pub record ArePassed {V : Type 0} (F : Format V) (old new : Place) : Type 0 where
+  pub values : List V
+  pub parts : old.left ≡ flat_map F.bytes values ++ new.left
+  pub encodes : Joined F.Encodes (flat_map F.bytes values) values
+  pub shortest : new.shortest ≡ true
 
 -- ---- at a place
 

@@ -6,12 +6,12 @@ ghost use Rattle.wasm_codec.specs.Grammar.{IsBytes, TakesBytes, Joined};
 ghost use Rattle.wasm_codec.specs.Answers.{IfRefused, IsLongestPrefix, IsNormalForm, EncodesSome};
 ghost use Rattle.wasm_codec.specs.Lawful.{IsLawful};
 ghost use Rattle.wasm_codec.specs.formats.Combinators.{items};
-ghost use Rattle.wasm_codec.specs.Rewriting.{AppendsNormalForm, PassesOrWrites, Appends};
+ghost use Rattle.wasm_codec.specs.Rewriting.{AppendsNormalForm, PassesOrWrites, ArePassed, Appends};
 
 mod lists;
 
 use crate::reader::cursor::{Cursor, Fault};
-use crate::reader::passing::Passable;
+use crate::reader::passing::{Passable, PassableInRuns};
 use crate::reader::{ReadError, read_error};
 use crate::rewriter::append_count;
 pub use lists::{normalise_list, normalise_list_to_end};
@@ -56,7 +56,7 @@ pub fn write_list_anew<'a, T: Normalisable<'a>>(
 /// The shortest encoding of the items that the bytes encode one after another, with no count, read to the end.
 ///
 /// `Refused` carries the number of bytes of the items that are whole before the first that isn't.
-pub fn normalise_joined<'a, T: Normalisable<'a>>(
+pub fn normalise_joined<'a, T: Normalisable<'a> + PassableInRuns<'a>>(
     alloc: Global,
     bytes: &'a [u8],
 ) -> Result<Vec<u8>, ReadError>
@@ -72,7 +72,7 @@ pub fn normalise_joined<'a, T: Normalisable<'a>>(
 /// Appends the shortest encoding of the items that the bytes encode one after another, with no count, read to the end.
 ///
 /// `Refused` carries the number of bytes of the items that are whole before the first that isn't.
-pub fn append_joined<'a, T: Normalisable<'a>>(
+pub fn append_joined<'a, T: Normalisable<'a> + PassableInRuns<'a>>(
     alloc: Global,
     bytes: &'a [u8],
     out: &mut Vec<u8>,
@@ -86,13 +86,28 @@ pub fn append_joined<'a, T: Normalisable<'a>>(
     while cursor.len() > 0 {
         let at = bytes.len() - cursor.len();
         match pass_or_write::<T>(alloc, &mut cursor, &bytes[from..at], out) {
-            Ok(false) => {}
+            Ok(false) => pass_run::<T>(&mut cursor),
             Ok(true) => from = bytes.len() - cursor.len(),
             Err(fault) => return Err(read_error(fault, at)),
         }
     }
     out.extend_from_slice(&bytes[from..])?;
     Ok(())
+}
+
+/// Passes items for as long as the next is seen at once to be in its shortest encoding.
+#[inline(always)]
+fn pass_run<'a, T: PassableInRuns<'a>>(cursor: &mut Cursor<'a>)
+    requires shortest { cursor.old.shortest ≡ true }
+    requires bytes { IsBytes cursor.old.left }
+    ensures { ArePassed T.format cursor.old cursor.new }
+{
+    let mut ahead = cursor.fork();
+    let mut passed = cursor.fork();
+    while T::pass_short(&mut ahead) {
+        passed.go_to(ahead.fork());
+    }
+    cursor.go_to(passed);
 }
 
 /// Passes the item that comes next. Where it wasn't in its shortest encoding, the run of bytes before it and then its

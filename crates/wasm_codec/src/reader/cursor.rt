@@ -3,7 +3,7 @@ ghost use Rattle.std.specs.Prelude.{◌≡◌, ◌^◌, ◌<◌, ◌≤◌, ◌&
 ghost use Rattle.wasm_codec.specs.Grammar.{IsBytes};
 ghost use Rattle.wasm_codec.specs.Numbers.{signed, signed_leb128};
 ghost use Rattle.wasm_codec.specs.Reading.{map_ok};
-ghost use Rattle.wasm_codec.specs.Places.{Place, place, Reads, Passes, Sees, byte_at, number_at, u32_at, u64_at, s32_at, s64_at, index_at};
+ghost use Rattle.wasm_codec.specs.Places.{Place, place, Reads, Passes, PassesShort, Sees, byte_at, number_at, u32_at, u64_at, s32_at, s64_at, index_at};
 ghost use Rattle.wasm_codec.specs.formats.Bodies.{body_at};
 ghost use Rattle.wasm_codec.specs.ReadDigits.{ReadsDigits, ReadsManyDigits, ReadsOne, ReadsTwo, fewest};
 ghost use Rattle.wasm_codec.specs.declared.reader.cursor.Fault.TheVariants.{Malformed, Memory};
@@ -140,6 +140,21 @@ impl<'a> Cursor<'a> {
         Cursor::at(self.bytes, self.position, self.shortest)
     }
 
+    /// Goes to a place.
+    #[inline(always)]
+    pub fn go_to(&mut self, cursor: Cursor<'a>)
+        ensures { self.new ≡ cursor.entry }
+    {
+        let Cursor {
+            bytes,
+            position,
+            shortest,
+        } = cursor;
+        self.bytes = bytes;
+        self.position = position;
+        self.shortest = shortest;
+    }
+
     /// The place after so many of the bytes.
     fn at(bytes: &'a [u8], position: usize, shortest: bool) -> Cursor<'a>
         requires { position ≤ length bytes.now }
@@ -232,7 +247,7 @@ impl<'a> Cursor<'a> {
 
     /// A number of one byte, where one comes next.
     #[inline(always)]
-    fn one_digit(&mut self) -> Option<u8>
+    pub fn one_digit(&mut self) -> Option<u8>
         ensures { ReadsOne self.old self.new result }
     {
         if self.position == self.bytes.len() {
@@ -246,7 +261,7 @@ impl<'a> Cursor<'a> {
         Some(byte)
     }
 
-    /// The two bytes of a number of two bytes, where one comes next.
+    /// The two bytes of a number that needs two, where one comes next.
     #[inline(always)]
     fn two_digits(&mut self) -> Option<(u8, u8)>
         ensures { ReadsTwo self.old self.new result }
@@ -256,7 +271,7 @@ impl<'a> Cursor<'a> {
         }
         let first = self.bytes[self.position];
         let second = self.bytes[self.position + 1];
-        if first < 128 || second >= 128 {
+        if first < 128 || second == 0 || second >= 128 {
             return None;
         }
         self.position += 2;
@@ -384,16 +399,42 @@ impl<'a> Cursor<'a> {
     pub fn pass_u32(&mut self) -> Result<(), Fault>
         ensures { Passes u32_at self.old self.new result }
     {
-        if let Some(byte) = self.one_digit() {
-            let _ = byte;
-            return Ok(());
-        }
-        if let Some((first, second)) = self.two_digits() {
-            let value = u64::from(first % 128) + 128 * u64::from(second);
-            self.keep(is_fewest(128, 16384, value));
+        if self.pass_short_number() {
             return Ok(());
         }
         self.pass_long_u32()
+    }
+
+    /// Passes a number without sign, of one or two bytes, that is in its shortest encoding, and answers whether it did.
+    /// Where it didn't, the cursor stays where it is.
+    #[inline(always)]
+    pub fn pass_short_number(&mut self) -> bool
+        ensures u32 { PassesShort u32_at self.old self.new result }
+        ensures u64 { PassesShort u64_at self.old self.new result }
+        ensures stays { result ≡ false → self.new ≡ self.old }
+    {
+        if let Some(byte) = self.one_digit() {
+            let _ = byte;
+            return true;
+        }
+        if let Some(digits) = self.two_digits() {
+            let _ = digits;
+            return true;
+        }
+        false
+    }
+
+    /// Passes a signed number of one byte, and answers whether it did.
+    #[inline(always)]
+    pub fn pass_short_signed(&mut self) -> bool
+        ensures s32 { PassesShort s32_at self.old self.new result }
+        ensures s64 { PassesShort s64_at self.old self.new result }
+    {
+        if let Some(byte) = self.one_digit() {
+            let _ = byte;
+            return true;
+        }
+        false
     }
 
     /// Passes a u32 of any number of digits.

@@ -1,6 +1,6 @@
 //! What is passed and not made: where it ends, and whether it was in its shortest encoding.
 ghost use Rattle.wasm_codec.specs.Grammar.{TakesBytes};
-ghost use Rattle.wasm_codec.specs.Places.{Passes};
+ghost use Rattle.wasm_codec.specs.Places.{Passes, PassesShort};
 ghost use Rattle.wasm_codec.specs.Lawful.{IsLawful};
 ghost use Rattle.wasm_codec.specs.formats.Combinators.{items};
 
@@ -12,6 +12,18 @@ pub trait Passable<'a>: Readable<'a> {
     /// Passes the item that comes next. The cursor then tells whether it was in its shortest encoding.
     fn pass(cursor: &mut Cursor<'a>) -> Result<(), Fault>
         ensures passes { Passes Self.format.at cursor.old cursor.new result }
+        // What is passed is what is encoded, and the shortest encoding is known.
+        ensures lawful { IsLawful Self.format }
+        // No item is encoded by no bytes.
+        ensures some { TakesBytes Self.format.Encodes };
+}
+
+/// What is often seen at once to be in its shortest encoding, so that runs of such items are passed in a tight loop.
+pub trait PassableInRuns<'a>: Passable<'a> {
+    /// Passes the item that comes next where it is seen at once to be in its shortest encoding, and answers whether it did.
+    /// Where it didn't, the cursor may be anywhere.
+    fn pass_short(cursor: &mut Cursor<'a>) -> bool
+        ensures passes { PassesShort Self.format.at cursor.old cursor.new result }
         // What is passed is what is encoded, and the shortest encoding is known.
         ensures lawful { IsLawful Self.format }
         // No item is encoded by no bytes.

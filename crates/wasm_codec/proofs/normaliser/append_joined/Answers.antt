@@ -2,7 +2,7 @@ use Rattle.std.proofs.Common.{◌≡◌, ℕ, ◌-◌, length, take, drop, refl,
 use Rattle.wasm_codec.specs.Grammar.{IsBytes}
 use Rattle.wasm_codec.specs.Places.{Place}
 use Rattle.wasm_codec.proofs.ListReading.{IsBytes-from, progress_bytes}
-use Rattle.wasm_codec.proofs.PlaceLists.{none_yet, run_fits, passed, written, all_written, place_next, place_stopped, not_passed}
+use Rattle.wasm_codec.proofs.PlaceLists.{none_yet, run_fits, passed, written, all_written, all_passed, no_longer, place_next, place_stopped, not_passed}
 use Rattle.wasm_codec.proofs.normaliser.append_joined.Goals as goal
 
 pub loop-cursor-init : goal.loop-cursor-init
@@ -46,13 +46,24 @@ loop-cursor-preserved-in-Ok-true g c =
     rw (c.len-in-Ok-true.ensures, w.marked)
     (written h.lawful c.args.bytes.now c.loop-cursor.from c.args.out.now.items c.loop-cursor.out.items c.loop-cursor.cursor w.next w.value _ c.pass_or_write.new.out.items left c.loop-cursor.invariant w.is_read run w.appended)
 
+pub pass_run-requires : goal.pass_run-requires
+pass_run-requires g c κs =
+    let fits : IsBytes c.args.bytes.now = IsBytes-from c.args.bytes.now (λ i. omega (arith, c.type_inv.bytes i)) in
+    let left = progress_bytes c.args.bytes.now c.loop-cursor.cursor.left fits c.loop-cursor.invariant.progress in
+    let h = c.in-Ok-false.ensures in
+    let w = rw c.in-Ok-false.field-0-test at h.passes in
+    let n = passed h.lawful c.args.bytes.now c.loop-cursor.from c.args.out.now.items c.loop-cursor.out.items c.loop-cursor.cursor c.pass_or_write.new.cursor w.value left c.loop-cursor.invariant w.is_read w.shortest in
+    ((refl, tt), (w.shortest, progress_bytes c.args.bytes.now c.pass_or_write.new.cursor.left fits n.progress))
+
 pub loop-cursor-smaller : goal.loop-cursor-smaller
 loop-cursor-smaller g c =
     let fits : IsBytes c.args.bytes.now = IsBytes-from c.args.bytes.now (λ i. omega (arith, c.type_inv.bytes i)) in
     let left = progress_bytes c.args.bytes.now c.loop-cursor.cursor.left fits c.loop-cursor.invariant.progress in
     let h = c.in-Ok-false.ensures in
     let w = rw c.in-Ok-false.field-0-test at h.passes in
-    (place_next h.lawful h.some c.args.bytes.now c.loop-cursor.cursor c.pass_or_write.new.cursor c.loop-cursor.invariant.values w.value fits left c.loop-cursor.invariant.progress w.is_read).fewer
+    let one = (place_next h.lawful h.some c.args.bytes.now c.loop-cursor.cursor c.pass_or_write.new.cursor c.loop-cursor.invariant.values w.value fits left c.loop-cursor.invariant.progress w.is_read).fewer in
+    let more = no_longer c.pass_or_write.new.cursor c.pass_run.new.cursor c.pass_run.ensures in
+    omega arith
 
 pub loop-cursor-preserved : goal.loop-cursor-preserved
 loop-cursor-preserved g c =
@@ -60,7 +71,8 @@ loop-cursor-preserved g c =
     let left = progress_bytes c.args.bytes.now c.loop-cursor.cursor.left fits c.loop-cursor.invariant.progress in
     let h = c.in-Ok-false.ensures in
     let w = rw c.in-Ok-false.field-0-test at h.passes in
-    rw w.same (passed h.lawful c.args.bytes.now c.loop-cursor.from c.args.out.now.items c.loop-cursor.out.items c.loop-cursor.cursor c.pass_or_write.new.cursor w.value left c.loop-cursor.invariant w.is_read w.shortest)
+    let n = passed h.lawful c.args.bytes.now c.loop-cursor.from c.args.out.now.items c.loop-cursor.out.items c.loop-cursor.cursor c.pass_or_write.new.cursor w.value left c.loop-cursor.invariant w.is_read w.shortest in
+    rw w.same (all_passed c.args.bytes.now c.loop-cursor.from c.args.out.now.items c.loop-cursor.out.items c.pass_or_write.new.cursor c.pass_run.new.cursor n c.pass_run.ensures)
 
 pub returns-in-Err-clause-prefix : goal.returns-in-Err-clause-prefix
 returns-in-Err-clause-prefix g c =
