@@ -6,3 +6,4 @@ pub mod InstructionFormatLaws
 pub mod InstructionLengths
 pub mod CallRanges
 pub mod Anew
+mod PassingCalls

@@ -1,6 +1,7 @@
 //! Instructions that are passed and not made: where each ends, and whether it was in its shortest encoding.
-ghost use Rattle.wasm_codec.specs.Places.{Passes};
+ghost use Rattle.wasm_codec.specs.Places.{Passes, PassesShort};
 ghost use Rattle.wasm_instructions.specs.formats.Instructions.{operands_format, instruction};
+ghost use Rattle.wasm_instructions.specs.formats.Operands.{block_type, mem_arg};
 ghost use Rattle.wasm_instructions.specs.declared.table.opcode.Kind.TheVariants as kinds;
 
 use super::instructions::read_opcode;
@@ -11,7 +12,7 @@ use super::operands::{
 use crate::operands::{Catch, Handle};
 use crate::table::{Call, Kind, Opcode};
 use wasm_codec::reader::cursor::{Cursor, Fault};
-use wasm_codec::reader::passing::{Passable, pass_list};
+use wasm_codec::reader::passing::{Passable, PassableInRuns, pass_list};
 use wasm_types::reader::read_heap_type;
 use wasm_types::types::ValType;
 
@@ -30,6 +31,67 @@ pub fn pass_call(cursor: &mut Cursor<'_>) -> Result<(), Fault>
         return Err(Fault::Malformed);
     };
     pass_operands(cursor, kind)
+}
+
+/// Passes an instruction whose opcode is one byte, and whose operands are seen at once to be in their shortest encoding,
+/// and answers whether it did.
+#[inline(always)]
+fn pass_short_call(cursor: &mut Cursor<'_>) -> bool
+    ensures { PassesShort instruction.at cursor.old cursor.new result }
+{
+    let Ok(first) = cursor.byte() else {
+        return false;
+    };
+    let Some(kind) = Opcode::without_prefix(first).kind() else {
+        return false;
+    };
+    pass_short_operands(cursor, kind)
+}
+
+/// Passes operands that are seen at once to be in their shortest encoding, and answers whether it did. What most
+/// instructions have comes first.
+#[inline(always)]
+#[tactic(auto, unfolding(crate::specs::formats::Instructions::operands_format))]
+fn pass_short_operands(cursor: &mut Cursor<'_>, kind: Kind) -> bool
+    ensures { PassesShort (operands_format kind).at cursor.old cursor.new result }
+{
+    if let Kind::Index = kind {
+        return cursor.pass_short_number();
+    }
+    if let Kind::None = kind {
+        return true;
+    }
+    match kind {
+        Kind::Mem => pass_short_mem_arg(cursor),
+        Kind::Block => pass_empty_block_type(cursor),
+        Kind::I32 | Kind::I64 => cursor.pass_short_signed(),
+        _ => false,
+    }
+}
+
+/// Passes a memory argument of memory 0 whose alignment is one byte, and answers whether it did.
+#[inline(always)]
+fn pass_short_mem_arg(cursor: &mut Cursor<'_>) -> bool
+    ensures { PassesShort mem_arg.at cursor.old cursor.new result }
+{
+    let Some(align) = cursor.one_digit() else {
+        return false;
+    };
+    if align >= 64 {
+        return false;
+    }
+    cursor.pass_short_number()
+}
+
+/// Passes the block type without a result, and answers whether it did.
+#[inline(always)]
+fn pass_empty_block_type(cursor: &mut Cursor<'_>) -> bool
+    ensures { PassesShort block_type.at cursor.old cursor.new result }
+{
+    let Ok(first) = cursor.byte() else {
+        return false;
+    };
+    first == 0x40
 }
 
 /// Passes an instruction, of which the first byte may be a prefix.
@@ -193,6 +255,13 @@ impl<'a> Passable<'a> for Call {
     #[inline(always)]
     fn pass(cursor: &mut Cursor<'a>) -> Result<(), Fault> {
         pass_call(cursor)
+    }
+}
+
+impl<'a> PassableInRuns<'a> for Call {
+    #[inline(always)]
+    fn pass_short(cursor: &mut Cursor<'a>) -> bool {
+        pass_short_call(cursor)
     }
 }
 
