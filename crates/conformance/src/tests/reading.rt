@@ -45,6 +45,13 @@ fn normal_forms(rt: HostRuntime) -> Result<(), Fail> {
         ("20002001", "20002001"),
         ("200020016A", "200020016A"),
         ("200020016A0B", "200020016A0B"),
+        ("0120800101", "0120800101"),
+        ("012080000B", "0120000B"),
+        ("0128020401", "0128020401"),
+        ("012802800101", "012802800101"),
+        ("012802800001", "0128020001"),
+        ("012840000501", "0128000501"),
+        ("0102400B4100", "0102400B4100"),
     ] {
         let code = bytes(rt.alloc(), input)?;
         let text = normalise_instructions(rt.alloc(), code.as_slice())?;
@@ -66,6 +73,12 @@ fn refusals(rt: HostRuntime) -> Result<(), Fail> {
         ("41808080808000", 0),
         ("16", 0),
         ("FF", 0),
+        ("0120", 1),
+        ("012080", 1),
+        ("012802", 1),
+        ("0102", 1),
+        ("0141", 1),
+        ("01FB", 1),
     ] {
         let code = bytes(rt.alloc(), input)?;
         let read = read_instructions(rt.alloc(), code.as_slice());
