@@ -23,32 +23,23 @@ pub fn check(alloc: Global, line: &str) -> Result<(), Mismatch> {
     let (what, input, answer) = columns(line)?;
     let input = hex::decode(alloc, input)?;
     let expected = parse(alloc, answer)?;
+    check_read(alloc, what, input.as_slice(), &expected)?;
+    check_normal(normalise(alloc, what, input.as_slice()), &expected)?;
+    match &expected {
+        Answer::Normal(normal) if what == "module" => {
+            check_normal(normalise(alloc, what, normal.as_slice()), &expected)
+        }
+        _ => Ok(()),
+    }
+}
+
+/// What the normaliser answers.
+fn normalise(alloc: Global, what: &str, input: &[u8]) -> Result<Vec<u8>, ReadError> {
     match what {
-        "calls" => {
-            let calls = read_instructions(alloc, input.as_slice());
-            check_read(calls.map(|_| ()), &expected)?;
-            check_normal(normalise_instructions(alloc, input.as_slice()), &expected)
-        }
-        "types" => {
-            let entries = read_type_section(alloc, input.as_slice());
-            check_read(entries.map(|_| ()), &expected)?;
-            check_normal(normalise_type_section(alloc, input.as_slice()), &expected)
-        }
-        "code" => {
-            let bodies = read_code_section(alloc, input.as_slice());
-            check_read(bodies.map(|_| ()), &expected)?;
-            check_normal(normalise_code_section(alloc, input.as_slice()), &expected)
-        }
-        "module" => {
-            check_normal(normalise_module(alloc, input.as_slice()), &expected)?;
-            match &expected {
-                Answer::Normal(normal) => {
-                    check_normal(normalise_module(alloc, normal.as_slice()), &expected)
-                }
-                Answer::Refused(_) => Ok(()),
-            }
-        }
-        _ => Err(Mismatch::NotUnderstood),
+        "calls" => normalise_instructions(alloc, input),
+        "types" => normalise_type_section(alloc, input),
+        "code" => normalise_code_section(alloc, input),
+        _ => normalise_module(alloc, input),
     }
 }
 
@@ -64,11 +55,19 @@ fn parse(alloc: Global, answer: &str) -> Result<Answer, Mismatch> {
     }
 }
 
-fn check_read(read: Result<(), ReadError>, expected: &Answer) -> Result<(), Mismatch> {
-    match (read, expected) {
-        (Ok(()), Answer::Normal(_)) => Ok(()),
-        (Err(ReadError::Refused { at }), Answer::Refused(place)) if at == *place => Ok(()),
-        (Err(ReadError::Memory), _) => Err(Mismatch::Memory),
+/// The reader of the input, if it has one, takes it or refuses it at the same place.
+fn check_read(alloc: Global, what: &str, input: &[u8], expected: &Answer) -> Result<(), Mismatch> {
+    let refused = match what {
+        "calls" => read_instructions(alloc, input).err(),
+        "types" => read_type_section(alloc, input).err(),
+        "code" => read_code_section(alloc, input).err(),
+        "module" => return Ok(()),
+        _ => return Err(Mismatch::NotUnderstood),
+    };
+    match (refused, expected) {
+        (None, Answer::Normal(_)) => Ok(()),
+        (Some(ReadError::Refused { at }), Answer::Refused(place)) if at == *place => Ok(()),
+        (Some(ReadError::Memory), _) => Err(Mismatch::Memory),
         _ => Err(Mismatch::Read),
     }
 }

@@ -34,20 +34,26 @@ pub fn encode<A: Allocator>(
     token: &str,
     bytes: &mut Vec<u8, A>,
 ) -> Result<(), Mismatch> {
-    let Some((kind, value)) = token.split_once(':') else {
+    let Some((kind, text)) = token.split_once(':') else {
         return encode_number(token, bytes);
     };
     match kind {
-        "list" | "bytes" | "str" => encode_items(alloc, kind, value, bytes),
-        "absheap" | "heap" | "ref" | "val" | "storage" => encode_type(kind, value, bytes),
-        "field" => {
-            known(field_type(value))?.encode(bytes)?;
-            Ok(())
-        }
+        "list" | "bytes" | "str" => encode_items(alloc, kind, text, bytes),
+        "absheap" | "heap" | "ref" | "val" | "storage" => encode_type(kind, text, bytes),
+        "field" => encode_known(field_type(text), bytes),
         "block" | "memarg" | "catch" | "handle" | "order" => encode_operand(token, bytes),
-        "some" => encode_some(value, bytes),
+        "some" => encode_some(text, bytes),
         _ => encode_number(token, bytes),
     }
+}
+
+/// Encodes what a token stands for, if it does.
+fn encode_known<T: Encode + Drop, A: Allocator>(
+    value: Option<T>,
+    bytes: &mut Vec<u8, A>,
+) -> Result<(), Mismatch> {
+    let value = value.ok_or(Mismatch::NotUnderstood)?;
+    Ok(value.encode(bytes)?)
 }
 
 /// Encodes a list of numbers, bytes or a text.
@@ -58,20 +64,28 @@ fn encode_items<A: Allocator>(
     bytes: &mut Vec<u8, A>,
 ) -> Result<(), Mismatch> {
     match kind {
-        "list" if items.starts_with("[val:") => {
-            encode_list(list_items(alloc, items, value_type)?.as_slice(), bytes)?
-        }
-        "list" if items.starts_with("[ref:") => {
-            encode_list(list_items(alloc, items, reference_type)?.as_slice(), bytes)?
-        }
-        "list" => encode_list(list_items(alloc, items, number)?.as_slice(), bytes)?,
-        "bytes" => encode_bytes(hex::decode(alloc, items)?.as_slice(), bytes)?,
+        "list" if items.starts_with("[val:") => encode_each(alloc, items, value_type, bytes),
+        "list" if items.starts_with("[ref:") => encode_each(alloc, items, reference_type, bytes),
+        "list" => encode_each(alloc, items, number, bytes),
+        "bytes" => Ok(encode_bytes(hex::decode(alloc, items)?.as_slice(), bytes)?),
         _ => {
-            let text = String::from_utf8(hex::decode(alloc, items)?);
-            encode_str(text.map_err(|_| Mismatch::NotUnderstood)?.as_str(), bytes)?
+            let text = String::from_utf8(hex::decode(alloc, items)?).ok();
+            Ok(encode_str(text.ok_or(Mismatch::NotUnderstood)?.as_str(), bytes)?)
         }
     }
-    Ok(())
+}
+
+/// Encodes a list of what is read from its tokens.
+fn encode_each<T: Encode + Drop, Read: Fn(&str) -> Option<T>, A: Allocator>(
+    alloc: Global,
+    list: &str,
+    read: Read,
+    bytes: &mut Vec<u8, A>,
+) -> Result<(), Mismatch>
+    requires { Read.IsAlwaysCallable read }
+{
+    let items = list_items(alloc, list, read)?;
+    Ok(encode_list(items.as_slice(), bytes)?)
 }
 
 /// Encodes a type.
@@ -81,50 +95,41 @@ fn encode_type<A: Allocator>(
     bytes: &mut Vec<u8, A>,
 ) -> Result<(), Mismatch> {
     match kind {
-        "absheap" => known(abstract_heap_type(text))?.encode(bytes)?,
-        "heap" => known(heap_type(text))?.encode(bytes)?,
-        "ref" => known(ref_type(text))?.encode(bytes)?,
-        "val" => known(val_type(text))?.encode(bytes)?,
-        _ => known(storage_type(text))?.encode(bytes)?,
+        "absheap" => encode_known(abstract_heap_type(text), bytes),
+        "heap" => encode_known(heap_type(text), bytes),
+        "ref" => encode_known(ref_type(text), bytes),
+        "val" => encode_known(val_type(text), bytes),
+        _ => encode_known(storage_type(text), bytes),
     }
-    Ok(())
 }
 
 /// Encodes an operand of instructions.
 fn encode_operand<A: Allocator>(token: &str, bytes: &mut Vec<u8, A>) -> Result<(), Mismatch> {
     match token.split_once(':') {
-        Some(("block", text)) => known(block_type(text))?.encode(bytes)?,
-        Some(("memarg", text)) => known(memarg(text))?.encode(bytes)?,
-        Some(("catch", _)) => known(catch(token))?.encode(bytes)?,
-        Some(("order", text)) => known(ordering(text))?.encode(bytes)?,
-        _ => known(handler(token))?.encode(bytes)?,
+        Some(("block", text)) => encode_known(block_type(text), bytes),
+        Some(("memarg", text)) => encode_known(memarg(text), bytes),
+        Some(("catch", _)) => encode_known(catch(token), bytes),
+        Some(("order", text)) => encode_known(ordering(text), bytes),
+        _ => encode_known(handler(token), bytes),
     }
-    Ok(())
 }
 
 /// Encodes a value that is there, where another may be missing.
 fn encode_some<A: Allocator>(token: &str, bytes: &mut Vec<u8, A>) -> Result<(), Mismatch> {
     match token.split_once(':') {
-        Some(("val", text)) => Some(known(val_type(text))?).encode(bytes)?,
-        Some(("ref", text)) => Some(known(ref_type(text))?).encode(bytes)?,
-        _ => Some(parse_token(token)?).encode(bytes)?,
+        Some(("val", text)) => encode_known(val_type(text).map(Some), bytes),
+        Some(("ref", text)) => encode_known(ref_type(text).map(Some), bytes),
+        _ => encode_known(number(token).map(Some), bytes),
     }
-    Ok(())
 }
 
 /// Encodes a number, one that is missing, or a section's id.
 fn encode_number<A: Allocator>(token: &str, bytes: &mut Vec<u8, A>) -> Result<(), Mismatch> {
     match token.split_once(':') {
-        None if token == "none" => None::<Token>.encode(bytes)?,
-        Some(("sectionid", name)) => section_id(name)?.encode(bytes)?,
-        _ => parse_token(token)?.encode(bytes)?,
+        None if token == "none" => Ok(None::<Token>.encode(bytes)?),
+        Some(("sectionid", name)) => encode_known(section_id(name), bytes),
+        _ => encode_known(number(token), bytes),
     }
-    Ok(())
-}
-
-/// What a token stands for, if it does.
-fn known<T>(value: Option<T>) -> Result<T, Mismatch> {
-    value.ok_or(Mismatch::NotUnderstood)
 }
 
 /// The value type that a token stands for.
@@ -142,8 +147,8 @@ fn number(token: &str) -> Option<Token> {
     parse_token(token).ok()
 }
 
-fn section_id(name: &str) -> Result<SectionId, Mismatch> {
-    Ok(match name {
+fn section_id(name: &str) -> Option<SectionId> {
+    Some(match name {
         "custom" => SectionId::Custom,
         "types" => SectionId::Types,
         "import" => SectionId::Import,
@@ -158,7 +163,7 @@ fn section_id(name: &str) -> Result<SectionId, Mismatch> {
         "data" => SectionId::Data,
         "datacount" => SectionId::DataCount,
         "tag" => SectionId::Tag,
-        _ => return Err(Mismatch::NotUnderstood),
+        _ => return None,
     })
 }
 

@@ -2,12 +2,13 @@
 //! of some entries, the section, and how many entries it has.
 
 use crate::mismatch::Mismatch;
-use crate::type_tokens::{field_type, flag, storage_type, val_type};
-use crate::words::{Words, list_tokens};
+use crate::sink::arguments::value_type;
+use crate::type_tokens::{field_type, flag, storage_type};
+use crate::words::{Words, items, number};
 use std::alloc::Global;
 use wasm_encoder::{
-    ArrayType, CompositeInnerType, CompositeType, ContType, Encode, FieldType, FuncType, Items,
-    StructType, SubType, TypeEntry, TypeSection, ValType, read_type_section,
+    ArrayType, CompositeInnerType, CompositeType, ContType, CoreTypeEncoder, Encode, EncodeError,
+    FieldType, FuncType, Items, StructType, SubType, TypeEntry, TypeSection, read_type_section,
 };
 
 /// Holds an entry, the section of it, and the reader to the vector.
@@ -59,7 +60,7 @@ fn after_size(section: &[u8]) -> Result<&[u8], Mismatch> {
 /// Holds a section of some entries to the vector.
 pub fn check_section(alloc: Global, words: &str, hex: &str, len: &str) -> Result<(), Mismatch> {
     let types = add_entries(alloc, &mut Words::new(alloc, words)?)?;
-    if number(len)? != types.len() {
+    if number(len) != Some(types.len()) {
         return Err(Mismatch::Written);
     }
     check_bytes(alloc, &types, hex)
@@ -67,17 +68,12 @@ pub fn check_section(alloc: Global, words: &str, hex: &str, len: &str) -> Result
 
 /// Makes the calls that the words give, after their number.
 fn add_entries(alloc: Global, words: &mut Words<'_>) -> Result<TypeSection, Mismatch> {
-    let count = number(words.value("entries")?)?;
+    let count = words.read("entries", number)?;
     let mut types = TypeSection::new(alloc);
     for _ in 0..count {
         add_entry(alloc, words, &mut types)?;
     }
     Ok(types)
-}
-
-/// The number that a text tells.
-fn number(text: &str) -> Result<u32, Mismatch> {
-    text.parse().map_err(|_| Mismatch::NotUnderstood)
 }
 
 /// Makes the call that the words give, and gives the entry that it adds.
@@ -86,67 +82,51 @@ fn add_entry(
     words: &mut Words<'_>,
     types: &mut TypeSection,
 ) -> Result<TypeEntry, Mismatch> {
-    match words.next()? {
-        "function" => add_function(alloc, words, types),
-        "func_type" => {
-            let ty = function(alloc, words)?;
-            types.ty().func_type(&ty)?;
-            Ok(final_entry(alloc, CompositeInnerType::Func(ty)))
-        }
-        "array" => {
-            let ty = array(words)?;
-            types.ty().array(&ty.0.element_type, ty.0.mutable)?;
-            Ok(final_entry(alloc, CompositeInnerType::Array(ty)))
-        }
-        "struct_" => add_struct(alloc, words, types),
-        "cont" => {
-            let ty = continuation(words)?;
-            types.ty().cont(&ty)?;
-            Ok(final_entry(alloc, CompositeInnerType::Cont(ty)))
-        }
-        "subtype" => {
-            let ty = sub_type(alloc, words)?;
-            types.ty().subtype(&ty)?;
-            Ok(TypeEntry::Sub(ty))
-        }
-        "rec" => add_group(alloc, words, types),
-        _ => Err(Mismatch::NotUnderstood),
+    let call = words.next()?;
+    let entry = entry(alloc, call, words)?;
+    add(types.ty(), call, &entry)?;
+    Ok(entry)
+}
+
+/// The entry that a call of this name adds.
+fn entry(alloc: Global, call: &str, words: &mut Words<'_>) -> Result<TypeEntry, Mismatch> {
+    Ok(match call {
+        "subtype" => TypeEntry::Sub(sub_type(alloc, words)?),
+        "rec" => TypeEntry::Rec(Items::from(group(alloc, words)?)),
+        _ => final_entry(alloc, inner_type(alloc, call, words)?),
+    })
+}
+
+/// Makes the call of this name that adds the entry.
+fn add(types: CoreTypeEncoder<'_>, call: &str, entry: &TypeEntry) -> Result<(), EncodeError> {
+    match entry {
+        TypeEntry::Sub(ty) if call == "subtype" => types.subtype(ty),
+        TypeEntry::Sub(ty) => add_inner(types, call, &ty.composite_type.inner),
+        TypeEntry::Rec(_) => add_group(types, entry.try_clone()?),
     }
 }
 
-fn add_function(
-    alloc: Global,
-    words: &mut Words<'_>,
-    types: &mut TypeSection,
-) -> Result<TypeEntry, Mismatch> {
-    let ty = function(alloc, words)?;
-    let params = ty.params().iter().copied();
-    types.ty().function(params, ty.results().iter().copied())?;
-    Ok(final_entry(alloc, CompositeInnerType::Func(ty)))
+fn add_inner(
+    types: CoreTypeEncoder<'_>,
+    call: &str,
+    inner: &CompositeInnerType,
+) -> Result<(), EncodeError> {
+    match inner {
+        CompositeInnerType::Func(ty) if call == "func_type" => types.func_type(ty),
+        CompositeInnerType::Func(ty) => {
+            types.function(ty.params().iter().copied(), ty.results().iter().copied())
+        }
+        CompositeInnerType::Array(ty) => types.array(&ty.0.element_type, ty.0.mutable),
+        CompositeInnerType::Struct(ty) => types.struct_(ty.fields.as_slice().iter().copied()),
+        CompositeInnerType::Cont(ty) => types.cont(ty),
+    }
 }
 
-fn add_struct(
-    alloc: Global,
-    words: &mut Words<'_>,
-    types: &mut TypeSection,
-) -> Result<TypeEntry, Mismatch> {
-    let fields = field_types(alloc, words.value("list")?)?;
-    types.ty().struct_(fields.as_slice().iter().copied())?;
-    let ty = StructType::new(alloc, fields.as_slice())?;
-    Ok(final_entry(alloc, CompositeInnerType::Struct(ty)))
-}
-
-fn add_group(
-    alloc: Global,
-    words: &mut Words<'_>,
-    types: &mut TypeSection,
-) -> Result<TypeEntry, Mismatch> {
-    let group = TypeEntry::Rec(Items::from(group(alloc, words)?));
-    let TypeEntry::Rec(copies) = group.try_clone()? else {
-        return Err(Mismatch::NotUnderstood);
-    };
-    types.ty().rec(copies.into_vec().into_iter())?;
-    Ok(group)
+fn add_group(types: CoreTypeEncoder<'_>, group: TypeEntry) -> Result<(), EncodeError> {
+    match group {
+        TypeEntry::Sub(ty) => types.subtype(&ty),
+        TypeEntry::Rec(group) => types.rec(group.into_vec().into_iter()),
+    }
 }
 
 /// The entry of one type: final, without supertypes, not shared.
@@ -163,56 +143,31 @@ fn final_entry(alloc: Global, inner: CompositeInnerType) -> TypeEntry {
     })
 }
 
-fn val_types(alloc: Global, list: &str) -> Result<Vec<ValType>, Mismatch> {
-    let mut types = Vec::new(alloc);
-    for token in list_tokens(alloc, list)?.as_slice() {
-        let token = token.strip_prefix("val:").ok_or(Mismatch::NotUnderstood)?;
-        types.push(val_type(token).ok_or(Mismatch::NotUnderstood)?)?;
-    }
-    Ok(types)
-}
-
-fn field_types(alloc: Global, list: &str) -> Result<Vec<FieldType>, Mismatch> {
-    let mut fields = Vec::new(alloc);
-    for token in list_tokens(alloc, list)?.as_slice() {
-        let token = token.strip_prefix("field:").ok_or(Mismatch::NotUnderstood)?;
-        fields.push(field_type(token).ok_or(Mismatch::NotUnderstood)?)?;
-    }
-    Ok(fields)
-}
-
-fn indexes(alloc: Global, list: &str) -> Result<Vec<u32>, Mismatch> {
-    let mut indexes = Vec::new(alloc);
-    for token in list_tokens(alloc, list)?.as_slice() {
-        indexes.push(number(token)?)?;
-    }
-    Ok(indexes)
+/// A field, as `field:1:i8`.
+fn field(token: &str) -> Option<FieldType> {
+    field_type(token.strip_prefix("field:")?)
 }
 
 /// Two lists of value types.
 fn function(alloc: Global, words: &mut Words<'_>) -> Result<FuncType, Mismatch> {
-    let params = val_types(alloc, words.value("list")?)?;
-    let results = val_types(alloc, words.value("list")?)?;
+    let params = words.items(alloc, "list", value_type)?;
+    let results = words.items(alloc, "list", value_type)?;
     Ok(FuncType::new(alloc, params.into_iter(), results.into_iter())?)
 }
 
 /// A storage type, and whether it can be written.
 fn array(words: &mut Words<'_>) -> Result<ArrayType, Mismatch> {
-    let element = storage_type(words.value("storage")?).ok_or(Mismatch::NotUnderstood)?;
-    let mutable = flag(words.value("mut")?).ok_or(Mismatch::NotUnderstood)?;
+    let element_type = words.read("storage", storage_type)?;
+    let mutable = words.read("mut", flag)?;
     Ok(ArrayType(FieldType {
-        element_type: element,
+        element_type,
         mutable,
     }))
 }
 
-fn continuation(words: &mut Words<'_>) -> Result<ContType, Mismatch> {
-    Ok(ContType(number(words.value("u32")?)?))
-}
-
 /// The types of a group, after their number.
 fn group(alloc: Global, words: &mut Words<'_>) -> Result<Vec<SubType>, Mismatch> {
-    let count = number(words.value("subs")?)?;
+    let count = words.read("subs", number)?;
     let mut types = Vec::new(alloc);
     for _ in 0..count {
         types.push(sub_type(alloc, words)?)?;
@@ -225,15 +180,15 @@ fn sub_type(alloc: Global, words: &mut Words<'_>) -> Result<SubType, Mismatch> {
     if words.next()? != "sub" {
         return Err(Mismatch::NotUnderstood);
     }
-    let is_final = flag(words.value("final")?).ok_or(Mismatch::NotUnderstood)?;
-    let supertypes = indexes(alloc, words.value("supers")?)?;
-    let shared = flag(words.value("shared")?).ok_or(Mismatch::NotUnderstood)?;
-    let describes = optional_index(words.value("describes")?)?;
-    let descriptor = optional_index(words.value("descriptor")?)?;
-    let inner = inner_type(alloc, words)?;
+    let is_final = words.read("final", flag)?;
+    let supertypes = words.value("supers")?;
+    let shared = words.read("shared", flag)?;
+    let describes = words.read("describes", optional_index)?;
+    let descriptor = words.read("descriptor", optional_index)?;
+    let inner = inner_type(alloc, words.next()?, words)?;
     Ok(SubType {
         is_final,
-        supertype_idxs: Items::from(supertypes),
+        supertype_idxs: Items::from(items(alloc, supertypes, number)?),
         composite_type: CompositeType {
             inner,
             shared,
@@ -244,23 +199,27 @@ fn sub_type(alloc: Global, words: &mut Words<'_>) -> Result<SubType, Mismatch> {
 }
 
 /// `none` or an index.
-fn optional_index(text: &str) -> Result<Option<u32>, Mismatch> {
-    if text == "none" {
-        return Ok(None);
+fn optional_index(text: &str) -> Option<Option<u32>> {
+    match text {
+        "none" => Some(None),
+        index => Some(Some(number(index)?)),
     }
-    Ok(Some(number(text)?))
 }
 
-/// What a composite type is made of.
-fn inner_type(alloc: Global, words: &mut Words<'_>) -> Result<CompositeInnerType, Mismatch> {
-    Ok(match words.next()? {
-        "func" => CompositeInnerType::Func(function(alloc, words)?),
+/// What a composite type is made of, by its name or that of a call.
+fn inner_type(
+    alloc: Global,
+    name: &str,
+    words: &mut Words<'_>,
+) -> Result<CompositeInnerType, Mismatch> {
+    Ok(match name {
+        "func" | "function" | "func_type" => CompositeInnerType::Func(function(alloc, words)?),
         "array" => CompositeInnerType::Array(array(words)?),
-        "struct" => {
-            let fields = field_types(alloc, words.value("list")?)?;
+        "struct" | "struct_" => {
+            let fields = words.items(alloc, "list", field)?;
             CompositeInnerType::Struct(StructType::new(alloc, fields.as_slice())?)
         }
-        "cont" => CompositeInnerType::Cont(continuation(words)?),
+        "cont" => CompositeInnerType::Cont(ContType(words.read("u32", number)?)),
         _ => return Err(Mismatch::NotUnderstood),
     })
 }

@@ -25,18 +25,27 @@ impl OwnedSection {
 pub fn check(alloc: Global, row: &str, words: &str, hex: &str) -> Result<(), Mismatch> {
     let words: Vec<&str> = words.split(' ').collect(alloc)?;
     let expected = hex::decode(alloc, hex)?;
-    match (row, words.as_slice()) {
-        ("raw", [id, body]) => check_raw(alloc, &owned(alloc, id, body)?, expected.as_slice()),
+    check_row(alloc, row, words.as_slice(), expected.as_slice())
+}
+
+fn check_row(alloc: Global, row: &str, words: &[&str], expected: &[u8]) -> Result<(), Mismatch> {
+    match (row, words) {
+        ("raw", [id, body]) => check_raw(alloc, &owned(alloc, id, body)?, expected),
         ("module", [count, words @ ..]) => {
             let sections = sections(alloc, words)?;
             if parse_count(count) != Some(sections.len()) {
                 return Err(Mismatch::NotUnderstood);
             }
-            check_module(alloc, sections.as_slice(), expected.as_slice())?;
-            check_reader(alloc, sections.as_slice(), expected.as_slice())
+            check_sections(alloc, sections.as_slice(), expected)
         }
         _ => Err(Mismatch::NotUnderstood),
     }
+}
+
+/// The module of the sections is the bytes, which are read as them.
+fn check_sections(alloc: Global, sections: &[OwnedSection], bytes: &[u8]) -> Result<(), Mismatch> {
+    check_module(alloc, sections, bytes)?;
+    check_reader(alloc, sections, bytes)
 }
 
 /// How many sections a word announces, as `raws:2`.

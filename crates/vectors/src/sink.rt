@@ -14,7 +14,7 @@ use arguments::{Argument, arguments};
 use rationed::Rationed;
 use std::alloc::{Allocator, Global};
 use wasm_encoder::{
-    Call, InstructionSink, Items, Opcode, Operands, Prefix, normalise_instructions,
+    Call, EncodeError, InstructionSink, Items, Opcode, Operands, Prefix, normalise_instructions,
     read_instructions,
 };
 
@@ -22,35 +22,47 @@ use wasm_encoder::{
 pub fn check(alloc: Global, line: &str) -> Result<(), Mismatch> {
     let (method, operands, hex) = columns(line)?;
     let expected = hex::decode(alloc, hex)?;
-    let expected = expected.as_slice();
-    let mut code = Vec::new(alloc);
-    write(alloc, InstructionSink::new(&mut code), method, operands)?;
-    if code.as_slice() != expected {
-        return Err(Mismatch::Written);
-    }
-    if !operands.contains("list:") {
-        check_growth(alloc, 0, method, operands, expected)?;
-        check_growth(alloc, 24, method, operands, expected)?;
-    }
-    let call = Call::new(opcode(expected)?, operands_of(alloc, method, operands)?).map_err(
-        |_| Mismatch::NotUnderstood,
-    )?;
-    check_call(alloc, &call, expected)?;
-    check_readers(alloc, &call, expected)
+    check_method(alloc, method, operands, expected.as_slice())?;
+    let call = call_of(alloc, method, operands, expected.as_slice())?;
+    check_call(alloc, &call, expected.as_slice())?;
+    check_readers(alloc, &call, expected.as_slice())
 }
 
-/// Calls the method of this name, with the operands that the tokens stand for.
+/// The method writes the bytes into a list that can grow, and, if it has no list, into each of `check_growth`.
+fn check_method(
+    alloc: Global,
+    method: &str,
+    operands: &str,
+    expected: &[u8],
+) -> Result<(), Mismatch> {
+    check_list(alloc, &mut Vec::new(alloc), method, operands, expected)?;
+    if operands.contains("list:") {
+        return Ok(());
+    }
+    check_growth(alloc, 0, method, operands, expected)?;
+    check_growth(alloc, 24, method, operands, expected)
+}
+
+/// Calls the method of this name, with the operands that the tokens stand for. If there is none, nothing is written.
 pub fn write<'a, A: Allocator>(
     alloc: Global,
     sink: InstructionSink<'a, A>,
     method: &str,
     operands: &str,
 ) -> Result<InstructionSink<'a, A>, Mismatch> {
-    if let Some(listed) = lists::parse_listed(alloc, method, operands)? {
-        return lists::write(sink, method, &listed);
-    }
-    let arguments = arguments(alloc, operands)?;
-    match arguments.as_slice() {
+    let written = match lists::parse_listed(alloc, method, operands)? {
+        Some(listed) => lists::write(sink, method, &listed),
+        None => write_arguments(sink, method, arguments(alloc, operands)?.as_slice()),
+    };
+    Ok(written?)
+}
+
+fn write_arguments<'a, A: Allocator>(
+    sink: InstructionSink<'a, A>,
+    method: &str,
+    arguments: &[Argument],
+) -> Result<InstructionSink<'a, A>, EncodeError> {
+    match arguments {
         [] => without_operands::control(sink, method),
         [only] => write_one(sink, method, *only),
         [first, second] => write_two(sink, method, *first, *second),
@@ -64,7 +76,7 @@ pub fn write<'a, A: Allocator>(
             Argument::U32(first),
             Argument::U32(second),
         ] => { indexes::order_two_indexes(sink, method, *order, *first, *second) }
-        _ => Err(Mismatch::NotUnderstood),
+        _ => Ok(sink),
     }
 }
 
@@ -72,22 +84,14 @@ fn write_one<'a, A: Allocator>(
     sink: InstructionSink<'a, A>,
     method: &str,
     only: Argument,
-) -> Result<InstructionSink<'a, A>, Mismatch> {
+) -> Result<InstructionSink<'a, A>, EncodeError> {
     match only {
         Argument::U32(index) => indexes::index(sink, method, index),
-        Argument::I32(value) => values::int_32(sink, method, value),
-        Argument::I64(value) => values::int_64(sink, method, value),
-        Argument::I128(value) => values::vector(sink, method, value),
-        Argument::F32(value) => values::float_32(sink, method, value),
-        Argument::F64(value) => values::float_64(sink, method, value),
         Argument::Lane(lane) => memory::lane(sink, method, lane),
-        Argument::Lanes(lanes) => values::lanes(sink, method, lanes),
         Argument::Memory(memarg) => memory::memory(sink, method, memarg),
-        Argument::Order(ordering) => values::order(sink, method, ordering),
         Argument::Heap(ty) => values::heap(sink, method, ty),
-        Argument::Value(ty) => values::one_type(sink, method, ty),
         Argument::Block(ty) => values::block(sink, method, ty),
-        Argument::Reference(_) => Err(Mismatch::NotUnderstood),
+        operand => values::of_one_method(sink, method, operand),
     }
 }
 
@@ -96,7 +100,7 @@ fn write_two<'a, A: Allocator>(
     method: &str,
     first: Argument,
     second: Argument,
-) -> Result<InstructionSink<'a, A>, Mismatch> {
+) -> Result<InstructionSink<'a, A>, EncodeError> {
     match (first, second) {
         (Argument::U32(first), Argument::U32(second)) => {
             indexes::two_indexes(sink, method, first, second)
@@ -107,19 +111,24 @@ fn write_two<'a, A: Allocator>(
         (Argument::Order(ordering), Argument::U32(index)) => {
             indexes::order_index(sink, method, ordering, index)
         }
-        _ => Err(Mismatch::NotUnderstood),
+        _ => Ok(sink),
     }
 }
 
-/// Appends what the method of this name writes.
-fn append<A: Allocator>(
+/// The method writes the bytes into this list, which is empty.
+fn check_list<A: Allocator>(
     alloc: Global,
     code: &mut Vec<u8, A>,
     method: &str,
     operands: &str,
+    expected: &[u8],
 ) -> Result<(), Mismatch> {
     write(alloc, InstructionSink::new(code), method, operands)?;
-    Ok(())
+    if code.as_slice() == expected {
+        Ok(())
+    } else {
+        Err(Mismatch::Written)
+    }
 }
 
 /// The method writes the bytes into a list with so much room, where one request for memory is granted: the room, or a
@@ -133,12 +142,14 @@ fn check_growth(
 ) -> Result<(), Mismatch> {
     let ration = Rationed::new(alloc, 1);
     let mut code = Vec::with_capacity(&ration, room)?;
-    append(alloc, &mut code, method, operands)?;
-    if code.as_slice() == expected {
-        Ok(())
-    } else {
-        Err(Mismatch::Written)
-    }
+    check_list(alloc, &mut code, method, operands, expected)
+}
+
+/// The call of the method.
+fn call_of(alloc: Global, method: &str, operands: &str, bytes: &[u8]) -> Result<Call, Mismatch> {
+    let opcode = opcode(bytes)?;
+    let call = Call::new(opcode, operands_of(alloc, method, operands)?);
+    call.ok().ok_or(Mismatch::NotUnderstood)
 }
 
 /// The operands of the call, in written order.

@@ -32,6 +32,29 @@ impl<'a> Words<'a> {
         }
     }
 
+    /// What is read from a word of this key.
+    pub fn read<T, Read: Fn(&str) -> Option<T>>(
+        &mut self,
+        key: &str,
+        read: Read,
+    ) -> Result<T, Mismatch>
+        requires { Read.IsAlwaysCallable read }
+    {
+        read(self.value(key)?).ok_or(Mismatch::NotUnderstood)
+    }
+
+    /// The items of a list in a word of this key, each read from its token.
+    pub fn items<T: Drop, Read: Fn(&str) -> Option<T>>(
+        &mut self,
+        alloc: Global,
+        key: &str,
+        read: Read,
+    ) -> Result<Vec<T>, Mismatch>
+        requires { Read.IsAlwaysCallable read }
+    {
+        items(alloc, self.value(key)?, read)
+    }
+
     /// Whether no word is left.
     pub fn is_at_end(&self) -> bool {
         self.next >= self.words.len()
@@ -61,4 +84,9 @@ pub fn items<T: Drop, Read: Fn(&str) -> Option<T>>(
         items.push(read(token).ok_or(Mismatch::NotUnderstood)?)?;
     }
     Ok(items)
+}
+
+/// The number that a text tells.
+pub fn number(text: &str) -> Option<u32> {
+    text.parse().ok()
 }

@@ -1,16 +1,15 @@
 //! Methods with indexes, by name.
 
-use crate::mismatch::Mismatch;
 use std::alloc::Allocator;
-use wasm_encoder::{InstructionSink, Ordering};
+use wasm_encoder::{EncodeError, InstructionSink, Ordering};
 
 /// An index: branches, calls, locals, globals, tables, memories.
 pub(super) fn index<'a, A: Allocator>(
     sink: InstructionSink<'a, A>,
     method: &str,
     index: u32,
-) -> Result<InstructionSink<'a, A>, Mismatch> {
-    let written = match method {
+) -> Result<InstructionSink<'a, A>, EncodeError> {
+    match method {
         "catch" => sink.catch(index),
         "throw" => sink.throw(index),
         "rethrow" => sink.rethrow(index),
@@ -31,9 +30,8 @@ pub(super) fn index<'a, A: Allocator>(
         "memory_size" => sink.memory_size(index),
         "memory_grow" => sink.memory_grow(index),
         "ref_func" => sink.ref_func(index),
-        _ => return more_indexes(sink, method, index),
-    };
-    Ok(written?)
+        _ => more_indexes(sink, method, index),
+    }
 }
 
 /// An index: memories, references, structs and arrays.
@@ -41,8 +39,8 @@ fn more_indexes<'a, A: Allocator>(
     sink: InstructionSink<'a, A>,
     method: &str,
     index: u32,
-) -> Result<InstructionSink<'a, A>, Mismatch> {
-    let written = match method {
+) -> Result<InstructionSink<'a, A>, EncodeError> {
+    match method {
         "br_on_null" => sink.br_on_null(index),
         "br_on_non_null" => sink.br_on_non_null(index),
         "cont_new" => sink.cont_new(index),
@@ -63,9 +61,8 @@ fn more_indexes<'a, A: Allocator>(
         "memory_fill" => sink.memory_fill(index),
         "elem_drop" => sink.elem_drop(index),
         "table_grow" => sink.table_grow(index),
-        _ => return other_indexes(sink, method, index),
-    };
-    Ok(written?)
+        _ => other_indexes(sink, method, index),
+    }
 }
 
 /// An index: segments, memories and tables.
@@ -73,14 +70,13 @@ fn other_indexes<'a, A: Allocator>(
     sink: InstructionSink<'a, A>,
     method: &str,
     index: u32,
-) -> Result<InstructionSink<'a, A>, Mismatch> {
-    let written = match method {
+) -> Result<InstructionSink<'a, A>, EncodeError> {
+    match method {
         "table_size" => sink.table_size(index),
         "table_fill" => sink.table_fill(index),
         "memory_discard" => sink.memory_discard(index),
-        _ => return Err(Mismatch::NotUnderstood),
-    };
-    Ok(written?)
+        _ => Ok(sink),
+    }
 }
 
 /// Two indexes.
@@ -89,8 +85,8 @@ pub(super) fn two_indexes<'a, A: Allocator>(
     method: &str,
     first: u32,
     second: u32,
-) -> Result<InstructionSink<'a, A>, Mismatch> {
-    let written = match method {
+) -> Result<InstructionSink<'a, A>, EncodeError> {
+    match method {
         "call_indirect" => sink.call_indirect(first, second),
         "return_call_indirect" => sink.return_call_indirect(first, second),
         "cont_bind" => sink.cont_bind(first, second),
@@ -109,9 +105,8 @@ pub(super) fn two_indexes<'a, A: Allocator>(
         "memory_copy" => sink.memory_copy(first, second),
         "table_init" => sink.table_init(first, second),
         "table_copy" => sink.table_copy(first, second),
-        _ => return Err(Mismatch::NotUnderstood),
-    };
-    Ok(written?)
+        _ => Ok(sink),
+    }
 }
 
 /// An ordering and the index of a global, a table or an array.
@@ -120,8 +115,8 @@ pub(super) fn order_index<'a, A: Allocator>(
     method: &str,
     ordering: Ordering,
     index: u32,
-) -> Result<InstructionSink<'a, A>, Mismatch> {
-    let written = match method {
+) -> Result<InstructionSink<'a, A>, EncodeError> {
+    match method {
         "global_atomic_get" => sink.global_atomic_get(ordering, index),
         "global_atomic_set" => sink.global_atomic_set(ordering, index),
         "global_atomic_rmw_add" => sink.global_atomic_rmw_add(ordering, index),
@@ -142,9 +137,8 @@ pub(super) fn order_index<'a, A: Allocator>(
         "array_atomic_rmw_add" => sink.array_atomic_rmw_add(ordering, index),
         "array_atomic_rmw_sub" => sink.array_atomic_rmw_sub(ordering, index),
         "array_atomic_rmw_and" => sink.array_atomic_rmw_and(ordering, index),
-        _ => return more_order_indexes(sink, method, ordering, index),
-    };
-    Ok(written?)
+        _ => more_order_indexes(sink, method, ordering, index),
+    }
 }
 
 /// An ordering and the index of an array.
@@ -153,15 +147,14 @@ fn more_order_indexes<'a, A: Allocator>(
     method: &str,
     ordering: Ordering,
     index: u32,
-) -> Result<InstructionSink<'a, A>, Mismatch> {
-    let written = match method {
+) -> Result<InstructionSink<'a, A>, EncodeError> {
+    match method {
         "array_atomic_rmw_or" => sink.array_atomic_rmw_or(ordering, index),
         "array_atomic_rmw_xor" => sink.array_atomic_rmw_xor(ordering, index),
         "array_atomic_rmw_xchg" => sink.array_atomic_rmw_xchg(ordering, index),
         "array_atomic_rmw_cmpxchg" => sink.array_atomic_rmw_cmpxchg(ordering, index),
-        _ => return Err(Mismatch::NotUnderstood),
-    };
-    Ok(written?)
+        _ => Ok(sink),
+    }
 }
 
 /// An ordering and two indexes.
@@ -171,8 +164,8 @@ pub(super) fn order_two_indexes<'a, A: Allocator>(
     ordering: Ordering,
     first: u32,
     second: u32,
-) -> Result<InstructionSink<'a, A>, Mismatch> {
-    let written = match method {
+) -> Result<InstructionSink<'a, A>, EncodeError> {
+    match method {
         "struct_atomic_get" => sink.struct_atomic_get(ordering, first, second),
         "struct_atomic_get_s" => sink.struct_atomic_get_s(ordering, first, second),
         "struct_atomic_get_u" => sink.struct_atomic_get_u(ordering, first, second),
@@ -184,7 +177,6 @@ pub(super) fn order_two_indexes<'a, A: Allocator>(
         "struct_atomic_rmw_xor" => sink.struct_atomic_rmw_xor(ordering, first, second),
         "struct_atomic_rmw_xchg" => sink.struct_atomic_rmw_xchg(ordering, first, second),
         "struct_atomic_rmw_cmpxchg" => sink.struct_atomic_rmw_cmpxchg(ordering, first, second),
-        _ => return Err(Mismatch::NotUnderstood),
-    };
-    Ok(written?)
+        _ => Ok(sink),
+    }
 }

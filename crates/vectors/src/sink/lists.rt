@@ -2,9 +2,11 @@
 
 use super::arguments::{block_type, catch, handler, index, value_type};
 use crate::mismatch::Mismatch;
-use crate::words::{Words, items};
+use crate::words::{Words, number};
 use std::alloc::{Allocator, Global};
-use wasm_encoder::{BlockType, Catch, Handle, InstructionSink, Items, Operands, ValType};
+use wasm_encoder::{
+    BlockType, Catch, EncodeError, Handle, InstructionSink, Items, Operands, ValType,
+};
 
 /// The operands of a call with a list.
 #[derive(Drop)]
@@ -24,63 +26,65 @@ pub enum Listed {
 /// The operands of a method with a list, or `None` where it has none.
 pub fn parse_listed(alloc: Global, method: &str, column: &str) -> Result<Option<Listed>, Mismatch> {
     let mut words = Words::new(alloc, column)?;
-    let listed = match method {
-        "br_table" => {
-            let labels = items(alloc, words.value("list")?, index)?;
-            Listed::Labels(labels, number(&mut words)?)
-        }
-        "typed_select_multi" => Listed::Types(items(alloc, words.value("list")?, value_type)?),
-        "try_table" => {
-            let ty = block_type(words.value("block")?).ok_or(Mismatch::NotUnderstood)?;
-            Listed::Clauses(ty, items(alloc, words.value("list")?, catch)?)
-        }
-        "resume" | "resume_throw_ref" => {
-            let ty = number(&mut words)?;
-            Listed::Handlers(ty, items(alloc, words.value("list")?, handler)?)
-        }
-        "resume_throw" => {
-            let ty = number(&mut words)?;
-            let tag = number(&mut words)?;
-            Listed::HandlersAfterTwo(ty, tag, items(alloc, words.value("list")?, handler)?)
-        }
-        _ => return Ok(None),
-    };
-    if words.is_at_end() {
-        Ok(Some(listed))
+    let listed = read_listed(alloc, method, &mut words)?;
+    if listed.is_none() || words.is_at_end() {
+        Ok(listed)
     } else {
         Err(Mismatch::NotUnderstood)
     }
 }
 
-fn number(words: &mut Words<'_>) -> Result<u32, Mismatch> {
-    index(words.next()?).ok_or(Mismatch::NotUnderstood)
+fn read_listed(
+    alloc: Global,
+    method: &str,
+    words: &mut Words<'_>,
+) -> Result<Option<Listed>, Mismatch> {
+    Ok(Some(match method {
+        "br_table" => {
+            let labels = words.items(alloc, "list", index)?;
+            Listed::Labels(labels, words.read("u32", number)?)
+        }
+        "typed_select_multi" => Listed::Types(words.items(alloc, "list", value_type)?),
+        "try_table" => {
+            let ty = words.read("block", block_type)?;
+            Listed::Clauses(ty, words.items(alloc, "list", catch)?)
+        }
+        "resume" | "resume_throw_ref" => {
+            let ty = words.read("u32", number)?;
+            Listed::Handlers(ty, words.items(alloc, "list", handler)?)
+        }
+        "resume_throw" => {
+            let ty = words.read("u32", number)?;
+            let tag = words.read("u32", number)?;
+            Listed::HandlersAfterTwo(ty, tag, words.items(alloc, "list", handler)?)
+        }
+        _ => return Ok(None),
+    }))
 }
 
-/// Calls the method of this name.
+/// Calls the method of this name. If there is none, nothing is written.
 pub fn write<'a, A: Allocator>(
     sink: InstructionSink<'a, A>,
     method: &str,
     listed: &Listed,
-) -> Result<InstructionSink<'a, A>, Mismatch> {
-    Ok(match (method, listed) {
+) -> Result<InstructionSink<'a, A>, EncodeError> {
+    match (method, listed) {
         ("br_table", Listed::Labels(labels, default)) => {
-            sink.br_table(labels.iter().copied(), *default)?
+            sink.br_table(labels.iter().copied(), *default)
         }
-        ("typed_select_multi", Listed::Types(types)) => sink.typed_select_multi(types.as_slice())?,
+        ("typed_select_multi", Listed::Types(types)) => sink.typed_select_multi(types.as_slice()),
         ("try_table", Listed::Clauses(ty, clauses)) => {
-            sink.try_table(*ty, clauses.iter().copied())?
+            sink.try_table(*ty, clauses.iter().copied())
         }
-        ("resume", Listed::Handlers(ty, handlers)) => {
-            sink.resume(*ty, handlers.iter().copied())?
-        }
+        ("resume", Listed::Handlers(ty, handlers)) => sink.resume(*ty, handlers.iter().copied()),
         ("resume_throw_ref", Listed::Handlers(ty, handlers)) => {
-            sink.resume_throw_ref(*ty, handlers.iter().copied())?
+            sink.resume_throw_ref(*ty, handlers.iter().copied())
         }
         ("resume_throw", Listed::HandlersAfterTwo(ty, tag, handlers)) => {
-            sink.resume_throw(*ty, *tag, handlers.iter().copied())?
+            sink.resume_throw(*ty, *tag, handlers.iter().copied())
         }
-        _ => return Err(Mismatch::NotUnderstood),
-    })
+        _ => Ok(sink),
+    }
 }
 
 /// The operands of the call, in written order.

@@ -1,16 +1,15 @@
 //! Methods with memory arguments, by name.
 
-use crate::mismatch::Mismatch;
 use std::alloc::Allocator;
-use wasm_encoder::{InstructionSink, Lane, MemArg};
+use wasm_encoder::{EncodeError, InstructionSink, Lane, MemArg};
 
 /// Loads.
 pub(super) fn memory<'a, A: Allocator>(
     sink: InstructionSink<'a, A>,
     method: &str,
     memarg: MemArg,
-) -> Result<InstructionSink<'a, A>, Mismatch> {
-    let written = match method {
+) -> Result<InstructionSink<'a, A>, EncodeError> {
+    match method {
         "i32_load" => sink.i32_load(memarg),
         "i64_load" => sink.i64_load(memarg),
         "f32_load" => sink.f32_load(memarg),
@@ -31,9 +30,8 @@ pub(super) fn memory<'a, A: Allocator>(
         "f64_store" => sink.f64_store(memarg),
         "i32_store8" => sink.i32_store8(memarg),
         "i32_store16" => sink.i32_store16(memarg),
-        _ => return stores(sink, method, memarg),
-    };
-    Ok(written?)
+        _ => stores(sink, method, memarg),
+    }
 }
 
 /// Stores, and loads of vectors.
@@ -41,8 +39,8 @@ fn stores<'a, A: Allocator>(
     sink: InstructionSink<'a, A>,
     method: &str,
     memarg: MemArg,
-) -> Result<InstructionSink<'a, A>, Mismatch> {
-    let written = match method {
+) -> Result<InstructionSink<'a, A>, EncodeError> {
+    match method {
         "i64_store8" => sink.i64_store8(memarg),
         "i64_store16" => sink.i64_store16(memarg),
         "i64_store32" => sink.i64_store32(memarg),
@@ -63,9 +61,8 @@ fn stores<'a, A: Allocator>(
         "memory_atomic_notify" => sink.memory_atomic_notify(memarg),
         "memory_atomic_wait32" => sink.memory_atomic_wait32(memarg),
         "memory_atomic_wait64" => sink.memory_atomic_wait64(memarg),
-        _ => return atomic_accesses(sink, method, memarg),
-    };
-    Ok(written?)
+        _ => atomic_accesses(sink, method, memarg),
+    }
 }
 
 /// Other loads of vectors, atomic loads and stores.
@@ -73,8 +70,8 @@ fn atomic_accesses<'a, A: Allocator>(
     sink: InstructionSink<'a, A>,
     method: &str,
     memarg: MemArg,
-) -> Result<InstructionSink<'a, A>, Mismatch> {
-    let written = match method {
+) -> Result<InstructionSink<'a, A>, EncodeError> {
+    match method {
         "i32_atomic_load" => sink.i32_atomic_load(memarg),
         "i64_atomic_load" => sink.i64_atomic_load(memarg),
         "i32_atomic_load8_u" => sink.i32_atomic_load8_u(memarg),
@@ -95,9 +92,8 @@ fn atomic_accesses<'a, A: Allocator>(
         "i32_atomic_rmw16_add_u" => sink.i32_atomic_rmw16_add_u(memarg),
         "i64_atomic_rmw8_add_u" => sink.i64_atomic_rmw8_add_u(memarg),
         "i64_atomic_rmw16_add_u" => sink.i64_atomic_rmw16_add_u(memarg),
-        _ => return atomic_sums(sink, method, memarg),
-    };
-    Ok(written?)
+        _ => atomic_sums(sink, method, memarg),
+    }
 }
 
 /// Atomic sums.
@@ -105,8 +101,8 @@ fn atomic_sums<'a, A: Allocator>(
     sink: InstructionSink<'a, A>,
     method: &str,
     memarg: MemArg,
-) -> Result<InstructionSink<'a, A>, Mismatch> {
-    let written = match method {
+) -> Result<InstructionSink<'a, A>, EncodeError> {
+    match method {
         "i64_atomic_rmw32_add_u" => sink.i64_atomic_rmw32_add_u(memarg),
         "i32_atomic_rmw_sub" => sink.i32_atomic_rmw_sub(memarg),
         "i64_atomic_rmw_sub" => sink.i64_atomic_rmw_sub(memarg),
@@ -127,9 +123,8 @@ fn atomic_sums<'a, A: Allocator>(
         "i32_atomic_rmw8_or_u" => sink.i32_atomic_rmw8_or_u(memarg),
         "i32_atomic_rmw16_or_u" => sink.i32_atomic_rmw16_or_u(memarg),
         "i64_atomic_rmw8_or_u" => sink.i64_atomic_rmw8_or_u(memarg),
-        _ => return atomic_logic(sink, method, memarg),
-    };
-    Ok(written?)
+        _ => atomic_logic(sink, method, memarg),
+    }
 }
 
 /// Atomic bitwise operations.
@@ -137,8 +132,8 @@ fn atomic_logic<'a, A: Allocator>(
     sink: InstructionSink<'a, A>,
     method: &str,
     memarg: MemArg,
-) -> Result<InstructionSink<'a, A>, Mismatch> {
-    let written = match method {
+) -> Result<InstructionSink<'a, A>, EncodeError> {
+    match method {
         "i64_atomic_rmw16_or_u" => sink.i64_atomic_rmw16_or_u(memarg),
         "i64_atomic_rmw32_or_u" => sink.i64_atomic_rmw32_or_u(memarg),
         "i32_atomic_rmw_xor" => sink.i32_atomic_rmw_xor(memarg),
@@ -159,9 +154,8 @@ fn atomic_logic<'a, A: Allocator>(
         "i64_atomic_rmw_cmpxchg" => sink.i64_atomic_rmw_cmpxchg(memarg),
         "i32_atomic_rmw8_cmpxchg_u" => sink.i32_atomic_rmw8_cmpxchg_u(memarg),
         "i32_atomic_rmw16_cmpxchg_u" => sink.i32_atomic_rmw16_cmpxchg_u(memarg),
-        _ => return atomic_exchanges(sink, method, memarg),
-    };
-    Ok(written?)
+        _ => atomic_exchanges(sink, method, memarg),
+    }
 }
 
 /// Atomic exchanges.
@@ -169,14 +163,13 @@ fn atomic_exchanges<'a, A: Allocator>(
     sink: InstructionSink<'a, A>,
     method: &str,
     memarg: MemArg,
-) -> Result<InstructionSink<'a, A>, Mismatch> {
-    let written = match method {
+) -> Result<InstructionSink<'a, A>, EncodeError> {
+    match method {
         "i64_atomic_rmw8_cmpxchg_u" => sink.i64_atomic_rmw8_cmpxchg_u(memarg),
         "i64_atomic_rmw16_cmpxchg_u" => sink.i64_atomic_rmw16_cmpxchg_u(memarg),
         "i64_atomic_rmw32_cmpxchg_u" => sink.i64_atomic_rmw32_cmpxchg_u(memarg),
-        _ => return Err(Mismatch::NotUnderstood),
-    };
-    Ok(written?)
+        _ => Ok(sink),
+    }
 }
 
 /// A memory argument and a lane.
@@ -185,8 +178,8 @@ pub(super) fn memory_lane<'a, A: Allocator>(
     method: &str,
     memarg: MemArg,
     lane: Lane,
-) -> Result<InstructionSink<'a, A>, Mismatch> {
-    let written = match method {
+) -> Result<InstructionSink<'a, A>, EncodeError> {
+    match method {
         "v128_load8_lane" => sink.v128_load8_lane(memarg, lane),
         "v128_load16_lane" => sink.v128_load16_lane(memarg, lane),
         "v128_load32_lane" => sink.v128_load32_lane(memarg, lane),
@@ -195,9 +188,8 @@ pub(super) fn memory_lane<'a, A: Allocator>(
         "v128_store16_lane" => sink.v128_store16_lane(memarg, lane),
         "v128_store32_lane" => sink.v128_store32_lane(memarg, lane),
         "v128_store64_lane" => sink.v128_store64_lane(memarg, lane),
-        _ => return Err(Mismatch::NotUnderstood),
-    };
-    Ok(written?)
+        _ => Ok(sink),
+    }
 }
 
 /// A lane.
@@ -205,8 +197,8 @@ pub(super) fn lane<'a, A: Allocator>(
     sink: InstructionSink<'a, A>,
     method: &str,
     lane: Lane,
-) -> Result<InstructionSink<'a, A>, Mismatch> {
-    let written = match method {
+) -> Result<InstructionSink<'a, A>, EncodeError> {
+    match method {
         "i8x16_extract_lane_s" => sink.i8x16_extract_lane_s(lane),
         "i8x16_extract_lane_u" => sink.i8x16_extract_lane_u(lane),
         "i8x16_replace_lane" => sink.i8x16_replace_lane(lane),
@@ -221,7 +213,6 @@ pub(super) fn lane<'a, A: Allocator>(
         "f32x4_replace_lane" => sink.f32x4_replace_lane(lane),
         "f64x2_extract_lane" => sink.f64x2_extract_lane(lane),
         "f64x2_replace_lane" => sink.f64x2_replace_lane(lane),
-        _ => return Err(Mismatch::NotUnderstood),
-    };
-    Ok(written?)
+        _ => Ok(sink),
+    }
 }

@@ -1,15 +1,14 @@
 //! Methods on vectors without operands, by name.
 
-use crate::mismatch::Mismatch;
 use std::alloc::Allocator;
-use wasm_encoder::InstructionSink;
+use wasm_encoder::{EncodeError, InstructionSink};
 
 /// Comparisons of lanes of 8 bits.
 pub(super) fn i8x16_comparisons<'a, A: Allocator>(
     sink: InstructionSink<'a, A>,
     method: &str,
-) -> Result<InstructionSink<'a, A>, Mismatch> {
-    let written = match method {
+) -> Result<InstructionSink<'a, A>, EncodeError> {
+    match method {
         "i8x16_eq" => sink.i8x16_eq(),
         "i8x16_ne" => sink.i8x16_ne(),
         "i8x16_lt_s" => sink.i8x16_lt_s(),
@@ -20,17 +19,16 @@ pub(super) fn i8x16_comparisons<'a, A: Allocator>(
         "i8x16_le_u" => sink.i8x16_le_u(),
         "i8x16_ge_s" => sink.i8x16_ge_s(),
         "i8x16_ge_u" => sink.i8x16_ge_u(),
-        _ => return i16x8_comparisons(sink, method),
-    };
-    Ok(written?)
+        _ => i16x8_comparisons(sink, method),
+    }
 }
 
 /// Comparisons of lanes of 16 bits.
 fn i16x8_comparisons<'a, A: Allocator>(
     sink: InstructionSink<'a, A>,
     method: &str,
-) -> Result<InstructionSink<'a, A>, Mismatch> {
-    let written = match method {
+) -> Result<InstructionSink<'a, A>, EncodeError> {
+    match method {
         "i16x8_eq" => sink.i16x8_eq(),
         "i16x8_ne" => sink.i16x8_ne(),
         "i16x8_lt_s" => sink.i16x8_lt_s(),
@@ -41,17 +39,16 @@ fn i16x8_comparisons<'a, A: Allocator>(
         "i16x8_le_u" => sink.i16x8_le_u(),
         "i16x8_ge_s" => sink.i16x8_ge_s(),
         "i16x8_ge_u" => sink.i16x8_ge_u(),
-        _ => return i32x4_comparisons(sink, method),
-    };
-    Ok(written?)
+        _ => i32x4_comparisons(sink, method),
+    }
 }
 
 /// Comparisons of lanes of 32 bits.
 fn i32x4_comparisons<'a, A: Allocator>(
     sink: InstructionSink<'a, A>,
     method: &str,
-) -> Result<InstructionSink<'a, A>, Mismatch> {
-    let written = match method {
+) -> Result<InstructionSink<'a, A>, EncodeError> {
+    match method {
         "i32x4_eq" => sink.i32x4_eq(),
         "i32x4_ne" => sink.i32x4_ne(),
         "i32x4_lt_s" => sink.i32x4_lt_s(),
@@ -62,17 +59,16 @@ fn i32x4_comparisons<'a, A: Allocator>(
         "i32x4_le_u" => sink.i32x4_le_u(),
         "i32x4_ge_s" => sink.i32x4_ge_s(),
         "i32x4_ge_u" => sink.i32x4_ge_u(),
-        _ => return other_comparisons(sink, method),
-    };
-    Ok(written?)
+        _ => other_comparisons(sink, method),
+    }
 }
 
 /// Comparisons of other lanes.
 fn other_comparisons<'a, A: Allocator>(
     sink: InstructionSink<'a, A>,
     method: &str,
-) -> Result<InstructionSink<'a, A>, Mismatch> {
-    let written = match method {
+) -> Result<InstructionSink<'a, A>, EncodeError> {
+    match method {
         "f32x4_eq" => sink.f32x4_eq(),
         "f32x4_ne" => sink.f32x4_ne(),
         "f32x4_lt" => sink.f32x4_lt(),
@@ -91,17 +87,16 @@ fn other_comparisons<'a, A: Allocator>(
         "i64x2_gt_s" => sink.i64x2_gt_s(),
         "i64x2_le_s" => sink.i64x2_le_s(),
         "i64x2_ge_s" => sink.i64x2_ge_s(),
-        _ => return i8x16_sums(sink, method),
-    };
-    Ok(written?)
+        _ => i8x16_sums(sink, method),
+    }
 }
 
 /// Sums of lanes of 8 bits, their least and their greatest.
 fn i8x16_sums<'a, A: Allocator>(
     sink: InstructionSink<'a, A>,
     method: &str,
-) -> Result<InstructionSink<'a, A>, Mismatch> {
-    let written = match method {
+) -> Result<InstructionSink<'a, A>, EncodeError> {
+    match method {
         "i8x16_add" => sink.i8x16_add(),
         "i8x16_add_sat_s" => sink.i8x16_add_sat_s(),
         "i8x16_add_sat_u" => sink.i8x16_add_sat_u(),
@@ -112,17 +107,16 @@ fn i8x16_sums<'a, A: Allocator>(
         "i8x16_min_u" => sink.i8x16_min_u(),
         "i8x16_max_s" => sink.i8x16_max_s(),
         "i8x16_max_u" => sink.i8x16_max_u(),
-        _ => return i8x16_others(sink, method),
-    };
-    Ok(written?)
+        _ => i8x16_others(sink, method),
+    }
 }
 
 /// Other operations on lanes of 8 bits.
 fn i8x16_others<'a, A: Allocator>(
     sink: InstructionSink<'a, A>,
     method: &str,
-) -> Result<InstructionSink<'a, A>, Mismatch> {
-    let written = match method {
+) -> Result<InstructionSink<'a, A>, EncodeError> {
+    match method {
         "i8x16_abs" => sink.i8x16_abs(),
         "i8x16_neg" => sink.i8x16_neg(),
         "i8x16_popcnt" => sink.i8x16_popcnt(),
@@ -134,17 +128,16 @@ fn i8x16_others<'a, A: Allocator>(
         "i8x16_shr_s" => sink.i8x16_shr_s(),
         "i8x16_shr_u" => sink.i8x16_shr_u(),
         "i8x16_avgr_u" => sink.i8x16_avgr_u(),
-        _ => return i16x8_products(sink, method),
-    };
-    Ok(written?)
+        _ => i16x8_products(sink, method),
+    }
 }
 
 /// Extensions and products of lanes of 16 bits.
 fn i16x8_products<'a, A: Allocator>(
     sink: InstructionSink<'a, A>,
     method: &str,
-) -> Result<InstructionSink<'a, A>, Mismatch> {
-    let written = match method {
+) -> Result<InstructionSink<'a, A>, EncodeError> {
+    match method {
         "i16x8_extadd_pairwise_i8x16_s" => sink.i16x8_extadd_pairwise_i8x16_s(),
         "i16x8_extadd_pairwise_i8x16_u" => sink.i16x8_extadd_pairwise_i8x16_u(),
         "i16x8_q15mulr_sat_s" => sink.i16x8_q15mulr_sat_s(),
@@ -157,17 +150,16 @@ fn i16x8_products<'a, A: Allocator>(
         "i16x8_extmul_high_i8x16_s" => sink.i16x8_extmul_high_i8x16_s(),
         "i16x8_extmul_low_i8x16_u" => sink.i16x8_extmul_low_i8x16_u(),
         "i16x8_extmul_high_i8x16_u" => sink.i16x8_extmul_high_i8x16_u(),
-        _ => return i16x8_others(sink, method),
-    };
-    Ok(written?)
+        _ => i16x8_others(sink, method),
+    }
 }
 
 /// Other operations on lanes of 16 bits.
 fn i16x8_others<'a, A: Allocator>(
     sink: InstructionSink<'a, A>,
     method: &str,
-) -> Result<InstructionSink<'a, A>, Mismatch> {
-    let written = match method {
+) -> Result<InstructionSink<'a, A>, EncodeError> {
+    match method {
         "i16x8_abs" => sink.i16x8_abs(),
         "i16x8_neg" => sink.i16x8_neg(),
         "i16x8_all_true" => sink.i16x8_all_true(),
@@ -188,17 +180,16 @@ fn i16x8_others<'a, A: Allocator>(
         "i16x8_max_s" => sink.i16x8_max_s(),
         "i16x8_max_u" => sink.i16x8_max_u(),
         "i16x8_avgr_u" => sink.i16x8_avgr_u(),
-        _ => return i32x4_products(sink, method),
-    };
-    Ok(written?)
+        _ => i32x4_products(sink, method),
+    }
 }
 
 /// Extensions and products of lanes of 32 bits.
 fn i32x4_products<'a, A: Allocator>(
     sink: InstructionSink<'a, A>,
     method: &str,
-) -> Result<InstructionSink<'a, A>, Mismatch> {
-    let written = match method {
+) -> Result<InstructionSink<'a, A>, EncodeError> {
+    match method {
         "i32x4_extadd_pairwise_i16x8_s" => sink.i32x4_extadd_pairwise_i16x8_s(),
         "i32x4_extadd_pairwise_i16x8_u" => sink.i32x4_extadd_pairwise_i16x8_u(),
         "i32x4_extend_low_i16x8_s" => sink.i32x4_extend_low_i16x8_s(),
@@ -211,17 +202,16 @@ fn i32x4_products<'a, A: Allocator>(
         "i32x4_extmul_high_i16x8_s" => sink.i32x4_extmul_high_i16x8_s(),
         "i32x4_extmul_low_i16x8_u" => sink.i32x4_extmul_low_i16x8_u(),
         "i32x4_extmul_high_i16x8_u" => sink.i32x4_extmul_high_i16x8_u(),
-        _ => return i32x4_others(sink, method),
-    };
-    Ok(written?)
+        _ => i32x4_others(sink, method),
+    }
 }
 
 /// Other operations on lanes of 32 bits.
 fn i32x4_others<'a, A: Allocator>(
     sink: InstructionSink<'a, A>,
     method: &str,
-) -> Result<InstructionSink<'a, A>, Mismatch> {
-    let written = match method {
+) -> Result<InstructionSink<'a, A>, EncodeError> {
+    match method {
         "i32x4_abs" => sink.i32x4_abs(),
         "i32x4_neg" => sink.i32x4_neg(),
         "i32x4_all_true" => sink.i32x4_all_true(),
@@ -239,17 +229,16 @@ fn i32x4_others<'a, A: Allocator>(
         "i32x4_trunc_sat_f32x4_u" => sink.i32x4_trunc_sat_f32x4_u(),
         "i32x4_trunc_sat_f64x2_s_zero" => sink.i32x4_trunc_sat_f64x2_s_zero(),
         "i32x4_trunc_sat_f64x2_u_zero" => sink.i32x4_trunc_sat_f64x2_u_zero(),
-        _ => return i64x2_operations(sink, method),
-    };
-    Ok(written?)
+        _ => i64x2_operations(sink, method),
+    }
 }
 
 /// Operations on lanes of 64 bits.
 fn i64x2_operations<'a, A: Allocator>(
     sink: InstructionSink<'a, A>,
     method: &str,
-) -> Result<InstructionSink<'a, A>, Mismatch> {
-    let written = match method {
+) -> Result<InstructionSink<'a, A>, EncodeError> {
+    match method {
         "i64x2_abs" => sink.i64x2_abs(),
         "i64x2_neg" => sink.i64x2_neg(),
         "i64x2_all_true" => sink.i64x2_all_true(),
@@ -268,17 +257,16 @@ fn i64x2_operations<'a, A: Allocator>(
         "i64x2_extmul_high_i32x4_s" => sink.i64x2_extmul_high_i32x4_s(),
         "i64x2_extmul_low_i32x4_u" => sink.i64x2_extmul_low_i32x4_u(),
         "i64x2_extmul_high_i32x4_u" => sink.i64x2_extmul_high_i32x4_u(),
-        _ => return f32x4_operations(sink, method),
-    };
-    Ok(written?)
+        _ => f32x4_operations(sink, method),
+    }
 }
 
 /// Operations on floating-point lanes of 32 bits.
 fn f32x4_operations<'a, A: Allocator>(
     sink: InstructionSink<'a, A>,
     method: &str,
-) -> Result<InstructionSink<'a, A>, Mismatch> {
-    let written = match method {
+) -> Result<InstructionSink<'a, A>, EncodeError> {
+    match method {
         "f32x4_demote_f64x2_zero" => sink.f32x4_demote_f64x2_zero(),
         "f32x4_ceil" => sink.f32x4_ceil(),
         "f32x4_floor" => sink.f32x4_floor(),
@@ -297,17 +285,16 @@ fn f32x4_operations<'a, A: Allocator>(
         "f32x4_pmax" => sink.f32x4_pmax(),
         "f32x4_convert_i32x4_s" => sink.f32x4_convert_i32x4_s(),
         "f32x4_convert_i32x4_u" => sink.f32x4_convert_i32x4_u(),
-        _ => return f64x2_operations(sink, method),
-    };
-    Ok(written?)
+        _ => f64x2_operations(sink, method),
+    }
 }
 
 /// Operations on floating-point lanes of 64 bits.
 fn f64x2_operations<'a, A: Allocator>(
     sink: InstructionSink<'a, A>,
     method: &str,
-) -> Result<InstructionSink<'a, A>, Mismatch> {
-    let written = match method {
+) -> Result<InstructionSink<'a, A>, EncodeError> {
+    match method {
         "f64x2_promote_low_f32x4" => sink.f64x2_promote_low_f32x4(),
         "f64x2_ceil" => sink.f64x2_ceil(),
         "f64x2_floor" => sink.f64x2_floor(),
@@ -326,17 +313,16 @@ fn f64x2_operations<'a, A: Allocator>(
         "f64x2_pmax" => sink.f64x2_pmax(),
         "f64x2_convert_low_i32x4_s" => sink.f64x2_convert_low_i32x4_s(),
         "f64x2_convert_low_i32x4_u" => sink.f64x2_convert_low_i32x4_u(),
-        _ => return relaxed(sink, method),
-    };
-    Ok(written?)
+        _ => relaxed(sink, method),
+    }
 }
 
 /// Relaxed operations.
 fn relaxed<'a, A: Allocator>(
     sink: InstructionSink<'a, A>,
     method: &str,
-) -> Result<InstructionSink<'a, A>, Mismatch> {
-    let written = match method {
+) -> Result<InstructionSink<'a, A>, EncodeError> {
+    match method {
         "i8x16_relaxed_swizzle" => sink.i8x16_relaxed_swizzle(),
         "i32x4_relaxed_trunc_f32x4_s" => sink.i32x4_relaxed_trunc_f32x4_s(),
         "i32x4_relaxed_trunc_f32x4_u" => sink.i32x4_relaxed_trunc_f32x4_u(),
@@ -357,17 +343,16 @@ fn relaxed<'a, A: Allocator>(
         "i16x8_relaxed_q15mulr_s" => sink.i16x8_relaxed_q15mulr_s(),
         "i16x8_relaxed_dot_i8x16_i7x16_s" => sink.i16x8_relaxed_dot_i8x16_i7x16_s(),
         "i32x4_relaxed_dot_i8x16_i7x16_add_s" => sink.i32x4_relaxed_dot_i8x16_i7x16_add_s(),
-        _ => return whole_vectors(sink, method),
-    };
-    Ok(written?)
+        _ => whole_vectors(sink, method),
+    }
 }
 
 /// Splats, operations on whole vectors, and what is left.
 fn whole_vectors<'a, A: Allocator>(
     sink: InstructionSink<'a, A>,
     method: &str,
-) -> Result<InstructionSink<'a, A>, Mismatch> {
-    let written = match method {
+) -> Result<InstructionSink<'a, A>, EncodeError> {
+    match method {
         "i8x16_swizzle" => sink.i8x16_swizzle(),
         "i8x16_splat" => sink.i8x16_splat(),
         "i16x8_splat" => sink.i16x8_splat(),
@@ -384,7 +369,6 @@ fn whole_vectors<'a, A: Allocator>(
         "v128_any_true" => sink.v128_any_true(),
         "pause" => sink.pause(),
         "ref_i31_shared" => sink.ref_i31_shared(),
-        _ => return Err(Mismatch::NotUnderstood),
-    };
-    Ok(written?)
+        _ => Ok(sink),
+    }
 }

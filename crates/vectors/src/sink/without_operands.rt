@@ -1,16 +1,15 @@
 //! Methods without operands, by name.
 
 use super::vectors::i8x16_comparisons;
-use crate::mismatch::Mismatch;
 use std::alloc::Allocator;
-use wasm_encoder::InstructionSink;
+use wasm_encoder::{EncodeError, InstructionSink};
 
 /// Control instructions, `drop`, `select`, and those on references.
 pub(super) fn control<'a, A: Allocator>(
     sink: InstructionSink<'a, A>,
     method: &str,
-) -> Result<InstructionSink<'a, A>, Mismatch> {
-    let written = match method {
+) -> Result<InstructionSink<'a, A>, EncodeError> {
+    match method {
         "unreachable" => sink.unreachable(),
         "nop" => sink.nop(),
         "else_" => sink.else_(),
@@ -29,17 +28,16 @@ pub(super) fn control<'a, A: Allocator>(
         "ref_i31" => sink.ref_i31(),
         "i31_get_s" => sink.i31_get_s(),
         "i31_get_u" => sink.i31_get_u(),
-        _ => return i32_comparisons(sink, method),
-    };
-    Ok(written?)
+        _ => i32_comparisons(sink, method),
+    }
 }
 
 /// Comparisons of 32-bit integers.
 fn i32_comparisons<'a, A: Allocator>(
     sink: InstructionSink<'a, A>,
     method: &str,
-) -> Result<InstructionSink<'a, A>, Mismatch> {
-    let written = match method {
+) -> Result<InstructionSink<'a, A>, EncodeError> {
+    match method {
         "i32_eqz" => sink.i32_eqz(),
         "i32_eq" => sink.i32_eq(),
         "i32_ne" => sink.i32_ne(),
@@ -51,17 +49,16 @@ fn i32_comparisons<'a, A: Allocator>(
         "i32_le_u" => sink.i32_le_u(),
         "i32_ge_s" => sink.i32_ge_s(),
         "i32_ge_u" => sink.i32_ge_u(),
-        _ => return i32_arithmetic(sink, method),
-    };
-    Ok(written?)
+        _ => i32_arithmetic(sink, method),
+    }
 }
 
 /// Arithmetic of 32-bit integers.
 fn i32_arithmetic<'a, A: Allocator>(
     sink: InstructionSink<'a, A>,
     method: &str,
-) -> Result<InstructionSink<'a, A>, Mismatch> {
-    let written = match method {
+) -> Result<InstructionSink<'a, A>, EncodeError> {
+    match method {
         "i32_clz" => sink.i32_clz(),
         "i32_ctz" => sink.i32_ctz(),
         "i32_popcnt" => sink.i32_popcnt(),
@@ -82,17 +79,16 @@ fn i32_arithmetic<'a, A: Allocator>(
         "i32_rotr" => sink.i32_rotr(),
         "i32_extend8_s" => sink.i32_extend8_s(),
         "i32_extend16_s" => sink.i32_extend16_s(),
-        _ => return i64_comparisons(sink, method),
-    };
-    Ok(written?)
+        _ => i64_comparisons(sink, method),
+    }
 }
 
 /// Comparisons of 64-bit integers.
 fn i64_comparisons<'a, A: Allocator>(
     sink: InstructionSink<'a, A>,
     method: &str,
-) -> Result<InstructionSink<'a, A>, Mismatch> {
-    let written = match method {
+) -> Result<InstructionSink<'a, A>, EncodeError> {
+    match method {
         "i64_eqz" => sink.i64_eqz(),
         "i64_eq" => sink.i64_eq(),
         "i64_ne" => sink.i64_ne(),
@@ -104,17 +100,16 @@ fn i64_comparisons<'a, A: Allocator>(
         "i64_le_u" => sink.i64_le_u(),
         "i64_ge_s" => sink.i64_ge_s(),
         "i64_ge_u" => sink.i64_ge_u(),
-        _ => return i64_wide(sink, method),
-    };
-    Ok(written?)
+        _ => i64_wide(sink, method),
+    }
 }
 
 /// Sums and products of 128 bits, and sign extensions.
 fn i64_wide<'a, A: Allocator>(
     sink: InstructionSink<'a, A>,
     method: &str,
-) -> Result<InstructionSink<'a, A>, Mismatch> {
-    let written = match method {
+) -> Result<InstructionSink<'a, A>, EncodeError> {
+    match method {
         "i64_extend8_s" => sink.i64_extend8_s(),
         "i64_extend16_s" => sink.i64_extend16_s(),
         "i64_extend32_s" => sink.i64_extend32_s(),
@@ -122,17 +117,16 @@ fn i64_wide<'a, A: Allocator>(
         "i64_sub128" => sink.i64_sub128(),
         "i64_mul_wide_s" => sink.i64_mul_wide_s(),
         "i64_mul_wide_u" => sink.i64_mul_wide_u(),
-        _ => return i64_arithmetic(sink, method),
-    };
-    Ok(written?)
+        _ => i64_arithmetic(sink, method),
+    }
 }
 
 /// Arithmetic of 64-bit integers.
 fn i64_arithmetic<'a, A: Allocator>(
     sink: InstructionSink<'a, A>,
     method: &str,
-) -> Result<InstructionSink<'a, A>, Mismatch> {
-    let written = match method {
+) -> Result<InstructionSink<'a, A>, EncodeError> {
+    match method {
         "i64_clz" => sink.i64_clz(),
         "i64_ctz" => sink.i64_ctz(),
         "i64_popcnt" => sink.i64_popcnt(),
@@ -151,17 +145,16 @@ fn i64_arithmetic<'a, A: Allocator>(
         "i64_shr_u" => sink.i64_shr_u(),
         "i64_rotl" => sink.i64_rotl(),
         "i64_rotr" => sink.i64_rotr(),
-        _ => return float_comparisons(sink, method),
-    };
-    Ok(written?)
+        _ => float_comparisons(sink, method),
+    }
 }
 
 /// Comparisons of floating-point numbers.
 fn float_comparisons<'a, A: Allocator>(
     sink: InstructionSink<'a, A>,
     method: &str,
-) -> Result<InstructionSink<'a, A>, Mismatch> {
-    let written = match method {
+) -> Result<InstructionSink<'a, A>, EncodeError> {
+    match method {
         "f32_eq" => sink.f32_eq(),
         "f32_ne" => sink.f32_ne(),
         "f32_lt" => sink.f32_lt(),
@@ -174,17 +167,16 @@ fn float_comparisons<'a, A: Allocator>(
         "f64_gt" => sink.f64_gt(),
         "f64_le" => sink.f64_le(),
         "f64_ge" => sink.f64_ge(),
-        _ => return f32_arithmetic(sink, method),
-    };
-    Ok(written?)
+        _ => f32_arithmetic(sink, method),
+    }
 }
 
 /// Arithmetic of 32-bit floating-point numbers.
 fn f32_arithmetic<'a, A: Allocator>(
     sink: InstructionSink<'a, A>,
     method: &str,
-) -> Result<InstructionSink<'a, A>, Mismatch> {
-    let written = match method {
+) -> Result<InstructionSink<'a, A>, EncodeError> {
+    match method {
         "f32_abs" => sink.f32_abs(),
         "f32_neg" => sink.f32_neg(),
         "f32_ceil" => sink.f32_ceil(),
@@ -199,17 +191,16 @@ fn f32_arithmetic<'a, A: Allocator>(
         "f32_min" => sink.f32_min(),
         "f32_max" => sink.f32_max(),
         "f32_copysign" => sink.f32_copysign(),
-        _ => return f64_arithmetic(sink, method),
-    };
-    Ok(written?)
+        _ => f64_arithmetic(sink, method),
+    }
 }
 
 /// Arithmetic of 64-bit floating-point numbers.
 fn f64_arithmetic<'a, A: Allocator>(
     sink: InstructionSink<'a, A>,
     method: &str,
-) -> Result<InstructionSink<'a, A>, Mismatch> {
-    let written = match method {
+) -> Result<InstructionSink<'a, A>, EncodeError> {
+    match method {
         "f64_abs" => sink.f64_abs(),
         "f64_neg" => sink.f64_neg(),
         "f64_ceil" => sink.f64_ceil(),
@@ -224,17 +215,16 @@ fn f64_arithmetic<'a, A: Allocator>(
         "f64_min" => sink.f64_min(),
         "f64_max" => sink.f64_max(),
         "f64_copysign" => sink.f64_copysign(),
-        _ => return truncations(sink, method),
-    };
-    Ok(written?)
+        _ => truncations(sink, method),
+    }
 }
 
 /// Conversions of floating-point numbers to integers.
 fn truncations<'a, A: Allocator>(
     sink: InstructionSink<'a, A>,
     method: &str,
-) -> Result<InstructionSink<'a, A>, Mismatch> {
-    let written = match method {
+) -> Result<InstructionSink<'a, A>, EncodeError> {
+    match method {
         "i32_trunc_f32_s" => sink.i32_trunc_f32_s(),
         "i32_trunc_f32_u" => sink.i32_trunc_f32_u(),
         "i32_trunc_f64_s" => sink.i32_trunc_f64_s(),
@@ -251,17 +241,16 @@ fn truncations<'a, A: Allocator>(
         "i64_trunc_sat_f32_u" => sink.i64_trunc_sat_f32_u(),
         "i64_trunc_sat_f64_s" => sink.i64_trunc_sat_f64_s(),
         "i64_trunc_sat_f64_u" => sink.i64_trunc_sat_f64_u(),
-        _ => return conversions(sink, method),
-    };
-    Ok(written?)
+        _ => conversions(sink, method),
+    }
 }
 
 /// Other conversions.
 fn conversions<'a, A: Allocator>(
     sink: InstructionSink<'a, A>,
     method: &str,
-) -> Result<InstructionSink<'a, A>, Mismatch> {
-    let written = match method {
+) -> Result<InstructionSink<'a, A>, EncodeError> {
+    match method {
         "i32_wrap_i64" => sink.i32_wrap_i64(),
         "i64_extend_i32_s" => sink.i64_extend_i32_s(),
         "i64_extend_i32_u" => sink.i64_extend_i32_u(),
@@ -279,7 +268,6 @@ fn conversions<'a, A: Allocator>(
         "i64_reinterpret_f64" => sink.i64_reinterpret_f64(),
         "f32_reinterpret_i32" => sink.f32_reinterpret_i32(),
         "f64_reinterpret_i64" => sink.f64_reinterpret_i64(),
-        _ => return i8x16_comparisons(sink, method),
-    };
-    Ok(written?)
+        _ => i8x16_comparisons(sink, method),
+    }
 }
