@@ -157,28 +157,19 @@ fn pass_any_operands(cursor: &mut Cursor<'_>, kind: Kind) -> Result<(), Fault>
             read_block_type(cursor)?;
             Ok(())
         }
-        Kind::Index => {
-            cursor.u32()?;
-            Ok(())
-        }
+        Kind::Index => cursor.pass_u32(),
         Kind::TwoIndexes => {
             cursor.u32()?;
-            cursor.u32()?;
-            Ok(())
+            cursor.pass_u32()
         }
         Kind::BrTable => {
             pass_list::<u32>(cursor)?;
-            cursor.u32()?;
-            Ok(())
+            cursor.pass_u32()
         }
-        Kind::Types => {
-            pass_list::<ValType>(cursor)?;
-            Ok(())
-        }
+        Kind::Types => pass_list::<ValType>(cursor),
         Kind::TryTable => {
             read_block_type(cursor)?;
-            pass_list::<Catch>(cursor)?;
-            Ok(())
+            pass_list::<Catch>(cursor)
         }
         Kind::Mem => pass_mem(cursor),
         Kind::I32 => pass_i32(cursor),
@@ -200,14 +191,12 @@ fn pass_any_operands(cursor: &mut Cursor<'_>, kind: Kind) -> Result<(), Fault>
         }
         Kind::Resume => {
             cursor.u32()?;
-            pass_list::<Handle>(cursor)?;
-            Ok(())
+            pass_list::<Handle>(cursor)
         }
         Kind::ResumeThrow => {
             cursor.u32()?;
             cursor.u32()?;
-            pass_list::<Handle>(cursor)?;
-            Ok(())
+            pass_list::<Handle>(cursor)
         }
         Kind::Cast => {
             read_castop(cursor)?;
@@ -239,14 +228,12 @@ fn pass_any_operands(cursor: &mut Cursor<'_>, kind: Kind) -> Result<(), Fault>
         }
         Kind::OrderIndex => {
             read_ordering(cursor)?;
-            cursor.u32()?;
-            Ok(())
+            cursor.pass_u32()
         }
         Kind::OrderTwoIndexes => {
             read_ordering(cursor)?;
             cursor.u32()?;
-            cursor.u32()?;
-            Ok(())
+            cursor.pass_u32()
         }
     }
 }

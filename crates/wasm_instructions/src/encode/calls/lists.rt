@@ -2,7 +2,7 @@
 ghost use Rattle.std.specs.List.{AllByRecursion};
 ghost use Rattle.std.specs.Prelude.{◌≡◌, ◌++◌, ◌<◌, ◌+◌, ◌≤◌, ◌^◌, length, take, OnOk, OnErr, IfErr, vec_len, vec_capacity};
 ghost use Rattle.std.specs.Iterator.{size};
-ghost use Rattle.wasm_instructions.specs.Appending.{AppendsAll, IsRefusedList, before_bytes, list_bytes};
+ghost use Rattle.wasm_instructions.specs.Appending.{AppendsAll, IsRefusedList, after_bytes, before_bytes, list_bytes};
 ghost use Rattle.wasm_codec.specs.Lists.{items_bytes};
 ghost use Rattle.wasm_instructions.specs.Instructions.{HasEncoding, IsShort, ItemsInRange, call};
 ghost use Rattle.wasm_instructions.specs.formats.Instructions.{instruction};
@@ -15,7 +15,7 @@ use super::types::append_type;
 use crate::encode::put_block_type;
 use crate::operands::{BlockType, Catch, Handle};
 use crate::table::Opcode;
-use std::alloc::Allocator;
+use std::alloc::{AllocError, Allocator};
 use wasm_codec::encode::leb128::put_u32;
 use wasm_codec::encode::{EncodeError, keep_or_undo};
 use wasm_types::types::ValType;
@@ -196,7 +196,7 @@ fn append_list<T: Item, I: ExactSizeIterator<Item = T>, A: Allocator>(
 }
 
 /// Appends an instruction with a list, as [`append_list`] does. An `Err` can leave a part of it.
-#[tactic(auto, unfolding(crate::specs::Appending::AppendsAll, crate::specs::Appending::after_bytes))]
+#[tactic(auto, unfolding(crate::specs::Appending::AppendsAll))]
 fn write_list<T: Item, I: ExactSizeIterator<Item = T>, A: Allocator>(
     bytes: &mut Vec<u8, A>,
     op: Opcode,
@@ -210,10 +210,19 @@ fn write_list<T: Item, I: ExactSizeIterator<Item = T>, A: Allocator>(
     ensures refused { IfErr result (IsRefusedList (size (I.remaining items))) }
     ensures kept { take (length bytes.old.items) bytes.new.items ≡ bytes.old.items }
 {
-    let count = reserve_list::<T, A>(bytes, items.len())?;
+    let counted = reserve_list::<T, A>(bytes, items.len())?;
     put_opcode(bytes, op);
     put_before(bytes, before);
-    append_each(bytes, count, items)?;
+    append_each(bytes, counted, items)?;
+    Ok(append_after(bytes, after)?)
+}
+
+/// Appends what stands after a list: an index, or nothing.
+#[tactic(auto, unfolding(crate::specs::Appending::after_bytes))]
+fn append_after<A: Allocator>(bytes: &mut Vec<u8, A>, after: Option<u32>) -> Result<(), AllocError>
+    ensures ok { OnOk result (bytes.new.items ≡ bytes.old.items ++ after_bytes after) }
+    ensures kept { take (length bytes.old.items) bytes.new.items ≡ bytes.old.items }
+{
     if let Some(index) = after {
         bytes.reserve(5)?;
         put_u32(bytes, index);
