@@ -92,9 +92,8 @@ held_bytes id c = refl
 pub appends_raw : {X T E : Type 0} (id : ℕ) (body old new : List ℕ) (r : Result X Fault) (a : Result T E) → IsBytes body → (id ≡ 1 → ⊥) → (id ≡ 10 → ⊥) → (IsOk r ↔ IsOk a)
     → OnOk a (new ≡ old ++ section_bytes id body) → IfErr r (λ fault. fault ≡ faults.Memory) → RewritesSection (section_of (id, body)) old new r
 appends_raw {T = T} {E} id body old new r a fits type code same appended none =
-    let holds : HoldsContent (section_of (id, body)) (raw_bytes body) = rw (ne_eqb id 1 type, ne_eqb id 10 code) (body, (refl, fits), refl) in
-    let own : (held_by id).bytes (raw_bytes body) ≡ body = rw (ne_eqb id 1 type, ne_eqb id 10 code) refl in
-    appends_held (section_of (id, body)) (raw_bytes body) old new r holds (ok_through r a _ same (encoded own a appended)) none
+    let is : HoldsContent (section_of (id, body)) (raw_bytes body) × ((held_by id).bytes (raw_bytes body) ≡ body) = rw (ne_eqb id 1 type, ne_eqb id 10 code) ((body, (refl, fits), refl), refl) in
+    appends_held (section_of (id, body)) (raw_bytes body) old new r is.0 (ok_through r a _ same (encoded is.1 a appended)) none
   where
     encoded : (held_by id).bytes (raw_bytes body) ≡ body → (a : Result T E) → OnOk a (new ≡ old ++ section_bytes id body) → OnOk a (new ≡ old ++ decoded_section.bytes (decoded_section_of (id, raw_bytes body)))
     encoded own (Ok t) h = h ∙ ap (λ (t : List ℕ). old ++ section_bytes id t) (sym own) ∙ ap (λ (t : List ℕ). old ++ t) (sym (held_bytes id (raw_bytes body)))

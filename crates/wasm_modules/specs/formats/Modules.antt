@@ -21,18 +21,15 @@ raw_section = made section_of section_parts (a_byte ⊗ byte_list)
 
 abbrev pub entries_part : Content → Option (List TypeEntry)
 entries_part (type_entries entries) = Some entries
-entries_part (code_bodies bodies) = None
-entries_part (raw_bytes bytes) = None
+entries_part c = None
 
 abbrev pub bodies_part : Content → Option (List CodeBody)
 bodies_part (code_bodies bodies) = Some bodies
-bodies_part (type_entries entries) = None
-bodies_part (raw_bytes bytes) = None
+bodies_part c = None
 
 abbrev pub bytes_part : Content → Option (List ℕ)
 bytes_part (raw_bytes bytes) = Some bytes
-bytes_part (type_entries entries) = None
-bytes_part (code_bodies bodies) = None
+bytes_part c = None
 
 -- what the body of a section of this id holds
 abbrev pub held_by : ℕ → Format Content
