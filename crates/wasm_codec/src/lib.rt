@@ -6,4 +6,3 @@ pub mod encode;
 pub mod list;
 pub mod normaliser;
 pub mod reader;
-pub mod rewriter;

@@ -1,30 +1,65 @@
 //! Normal forms of items one after another: what is in its shortest encoding is copied in runs, the rest is written
 //! anew.
-ghost use Rattle.std.specs.Prelude.{◌≡◌, ◌<◌, length, true, IfOk, OnOk};
+ghost use Rattle.std.specs.Prelude.{◌≡◌, ◌++◌, ◌<◌, length, true, IfOk, OnOk};
 ghost use Rattle.std.specs.List.{flat_map};
 ghost use Rattle.wasm_codec.specs.Grammar.{IsBytes, TakesBytes, Joined};
 ghost use Rattle.wasm_codec.specs.Answers.{IfRefused, IsLongestPrefix, IsNormalForm, EncodesSome};
 ghost use Rattle.wasm_codec.specs.Lawful.{IsLawful};
-ghost use Rattle.wasm_codec.specs.formats.Combinators.{items};
+ghost use Rattle.wasm_codec.specs.Numbers.{unsigned_leb128};
+ghost use Rattle.wasm_codec.specs.formats.Combinators.{Format, items};
 ghost use Rattle.wasm_codec.specs.Rewriting.{AppendsNormalForm, PassesOrWrites, ArePassed, Appends};
 
 mod lists;
 
+use crate::encode::leb128::put_u32;
 use crate::reader::cursor::{Cursor, Fault};
 use crate::reader::passing::{Passable, PassableInRuns};
 use crate::reader::{ReadError, read_error};
-use crate::rewriter::append_count;
 pub use lists::{normalise_list, normalise_list_to_end};
-use std::alloc::Global;
+use std::alloc::{AllocError, Global};
+
+/// What is normalised among others of its kind: in a list, or one after another to the end.
+pub trait Normalisable<'a> {
+    /// What is read and written.
+    ghost Value: { Type 0 };
+
+    /// Which bytes encode which item.
+    ghost format: { Format Value };
+
+    /// Passes the item that comes next, or appends the run of bytes before it and then its shortest encoding, and
+    /// answers which: `true` where it was written.
+    fn normalise_next(
+        alloc: Global,
+        cursor: &mut Cursor<'a>,
+        run: &[u8],
+        out: &mut Vec<u8>,
+    ) -> Result<bool, Fault>
+        requires shortest { cursor.old.shortest ≡ true }
+        requires bytes { IsBytes cursor.old.left }
+        ensures passes { PassesOrWrites format cursor.old cursor.new run.now out.old.items out.new.items result }
+        // What is read is what is encoded, and the shortest encoding is known.
+        ensures lawful { IsLawful format }
+        // No item is encoded by no bytes.
+        ensures some { TakesBytes format.Encodes };
+}
+
+/// What is normalised one after another to the end, where several may be passed at a time.
+pub trait NormalisableInRuns<'a>: Normalisable<'a> {
+    /// Passes items for as long as the next is seen at once to be in its shortest encoding. It may pass none.
+    fn pass_run(cursor: &mut Cursor<'a>)
+        requires shortest { cursor.old.shortest ≡ true }
+        requires bytes { IsBytes cursor.old.left }
+        ensures passed { ArePassed Self.format cursor.old cursor.new };
+}
 
 /// What can be written anew, in its shortest encoding, as it is read.
-pub trait Normalisable<'a>: Passable<'a> {
+pub trait Rewritable<'a>: Passable<'a> {
     /// Appends the shortest encoding of the item that comes next. Of a list in it one item at a time is held.
     fn write_anew(alloc: Global, cursor: &mut Cursor<'a>, bytes: &mut Vec<u8>) -> Result<(), Fault>
         ensures writes { Appends Self.format cursor.old cursor.new bytes.old.items bytes.new.items result };
 }
 
-impl<'a> Normalisable<'a> for u32 {
+impl<'a> Rewritable<'a> for u32 {
     fn write_anew(
         alloc: Global,
         cursor: &mut Cursor<'a>,
@@ -38,7 +73,7 @@ impl<'a> Normalisable<'a> for u32 {
 }
 
 /// Appends the shortest encoding of the list that comes next: the count, and then each item as it is read.
-pub fn write_list_anew<'a, T: Normalisable<'a>>(
+pub fn write_list_anew<'a, T: Rewritable<'a>>(
     alloc: Global,
     cursor: &mut Cursor<'a>,
     bytes: &mut Vec<u8>,
@@ -53,10 +88,19 @@ pub fn write_list_anew<'a, T: Normalisable<'a>>(
     Ok(())
 }
 
+/// Appends the shortest encoding of a count.
+fn append_count(encoding: &mut Vec<u8>, count: u32) -> Result<(), AllocError>
+    ensures ok { OnOk result (encoding.new.items ≡ encoding.old.items ++ unsigned_leb128 count) }
+{
+    encoding.reserve(5)?;
+    put_u32(encoding, count);
+    Ok(())
+}
+
 /// The shortest encoding of the items that the bytes encode one after another, with no count, read to the end.
 ///
 /// `Refused` carries the number of bytes of the items that are whole before the first that isn't.
-pub fn normalise_joined<'a, T: Normalisable<'a> + PassableInRuns<'a>>(
+pub fn normalise_joined<'a, T: NormalisableInRuns<'a>>(
     alloc: Global,
     bytes: &'a [u8],
 ) -> Result<Vec<u8>, ReadError>
@@ -72,7 +116,7 @@ pub fn normalise_joined<'a, T: Normalisable<'a> + PassableInRuns<'a>>(
 /// Appends the shortest encoding of the items that the bytes encode one after another, with no count, read to the end.
 ///
 /// `Refused` carries the number of bytes of the items that are whole before the first that isn't.
-pub fn append_joined<'a, T: Normalisable<'a> + PassableInRuns<'a>>(
+pub fn append_joined<'a, T: NormalisableInRuns<'a>>(
     alloc: Global,
     bytes: &'a [u8],
     out: &mut Vec<u8>,
@@ -85,8 +129,8 @@ pub fn append_joined<'a, T: Normalisable<'a> + PassableInRuns<'a>>(
     let mut from = 0;
     while cursor.len() > 0 {
         let at = bytes.len() - cursor.len();
-        match pass_or_write::<T>(alloc, &mut cursor, &bytes[from..at], out) {
-            Ok(false) => pass_run::<T>(&mut cursor),
+        match T::normalise_next(alloc, &mut cursor, &bytes[from..at], out) {
+            Ok(false) => T::pass_run(&mut cursor),
             Ok(true) => from = bytes.len() - cursor.len(),
             Err(fault) => return Err(read_error(fault, at)),
         }
@@ -97,10 +141,10 @@ pub fn append_joined<'a, T: Normalisable<'a> + PassableInRuns<'a>>(
 
 /// Passes items for as long as the next is seen at once to be in its shortest encoding.
 #[inline(always)]
-fn pass_run<'a, T: PassableInRuns<'a>>(cursor: &mut Cursor<'a>)
+pub fn pass_run<'a, T: PassableInRuns<'a>>(cursor: &mut Cursor<'a>)
     requires shortest { cursor.old.shortest ≡ true }
     requires bytes { IsBytes cursor.old.left }
-    ensures { ArePassed T.format cursor.old cursor.new }
+    ensures passed { ArePassed T.format cursor.old cursor.new }
 {
     let mut ahead = cursor.fork();
     let mut passed = cursor.fork();
@@ -113,7 +157,7 @@ fn pass_run<'a, T: PassableInRuns<'a>>(cursor: &mut Cursor<'a>)
 /// Passes the item that comes next. Where it wasn't in its shortest encoding, the run of bytes before it and then its
 /// shortest encoding are appended, and `true` is answered.
 #[inline(always)]
-fn pass_or_write<'a, T: Normalisable<'a>>(
+pub fn pass_or_write<'a, T: Rewritable<'a>>(
     alloc: Global,
     cursor: &mut Cursor<'a>,
     run: &[u8],
@@ -136,7 +180,7 @@ fn pass_or_write<'a, T: Normalisable<'a>>(
 
 /// Appends the run of bytes and then the shortest encoding of the item that comes next, and answers `true`.
 #[inline(never)]
-fn write_after_run<'a, T: Normalisable<'a>>(
+fn write_after_run<'a, T: Rewritable<'a>>(
     alloc: Global,
     cursor: &mut Cursor<'a>,
     run: &[u8],

@@ -14,7 +14,10 @@ use crate::reader::{read_block_type, read_call, read_catch, read_handle, read_op
 use crate::table::{Call, Kind, Opcode};
 use std::alloc::{AllocError, Global};
 use wasm_codec::encode::EncodeError;
-use wasm_codec::normaliser::{Normalisable, normalise_joined, write_list_anew};
+use wasm_codec::normaliser::{
+    Normalisable, NormalisableInRuns, Rewritable, normalise_joined, pass_or_write, pass_run,
+    write_list_anew,
+};
 use wasm_codec::reader::ReadError;
 use wasm_codec::reader::cursor::{Cursor, Fault};
 use wasm_types::types::ValType;
@@ -55,13 +58,36 @@ pub fn normalise_instructions(alloc: Global, bytes: &[u8]) -> Result<Vec<u8>, Re
     normalise_joined::<Call>(alloc, bytes)
 }
 
-impl<'a> Normalisable<'a> for Call {
+impl<'a> Rewritable<'a> for Call {
     fn write_anew(
         alloc: Global,
         cursor: &mut Cursor<'a>,
         bytes: &mut Vec<u8>,
     ) -> Result<(), Fault> {
         write_call_anew(alloc, cursor, bytes)
+    }
+}
+
+impl<'a> Normalisable<'a> for Call {
+    ghost Value = { Instruction };
+
+    ghost format = { instruction };
+
+    #[inline(always)]
+    fn normalise_next(
+        alloc: Global,
+        cursor: &mut Cursor<'a>,
+        run: &[u8],
+        out: &mut Vec<u8>,
+    ) -> Result<bool, Fault> {
+        pass_or_write::<Call>(alloc, cursor, run, out)
+    }
+}
+
+impl<'a> NormalisableInRuns<'a> for Call {
+    #[inline(always)]
+    fn pass_run(cursor: &mut Cursor<'a>) {
+        pass_run::<Call>(cursor);
     }
 }
 
@@ -179,7 +205,7 @@ fn write_held(alloc: Global, cursor: &mut Cursor<'_>, bytes: &mut Vec<u8>) -> Re
     Ok(())
 }
 
-impl<'a> Normalisable<'a> for Catch {
+impl<'a> Rewritable<'a> for Catch {
     fn write_anew(
         alloc: Global,
         cursor: &mut Cursor<'a>,
@@ -193,7 +219,7 @@ impl<'a> Normalisable<'a> for Catch {
     }
 }
 
-impl<'a> Normalisable<'a> for Handle {
+impl<'a> Rewritable<'a> for Handle {
     fn write_anew(
         alloc: Global,
         cursor: &mut Cursor<'a>,

@@ -23,10 +23,11 @@ use crate::reader::{after_header, read_section};
 use crate::section::{CODE_SECTION_ID, HEADER, RawSection, TYPE_SECTION_ID, append_section};
 use std::alloc::Global;
 use wasm_codec::encode::{EncodeError, open_gap, put_size_into};
-use wasm_codec::normaliser::normalise_list_to_end;
+use wasm_codec::normaliser::{
+    Normalisable, NormalisableInRuns, append_joined, normalise_list_to_end,
+};
 use wasm_codec::reader::ReadError;
 use wasm_codec::reader::cursor::{Cursor, Fault};
-use wasm_codec::rewriter::{Rewritable, rewrite_joined, rewrite_list_to_end};
 use wasm_types::types::TypeEntry;
 
 /// The normal bytes of a module: each section's size and the body of each type section and code section in the fewest
@@ -80,7 +81,7 @@ fn decoded_bytes_of(alloc: Global, bytes: &[u8]) -> Result<Vec<u8>, ReadError>
         return Err(ReadError::Refused { at: 0 });
     };
     let mut encoding = Vec::from_slice(alloc, &HEADER)?;
-    match rewrite_joined::<RawSection<'_>>(alloc, rest, &mut encoding) {
+    match append_joined::<RawSection<'_>>(alloc, rest, &mut encoding) {
         Ok(()) => Ok(encoding),
         Err(ReadError::Memory) => Err(ReadError::Memory),
         Err(ReadError::Refused { at }) => Err(ReadError::Refused {
@@ -89,17 +90,28 @@ fn decoded_bytes_of(alloc: Global, bytes: &[u8]) -> Result<Vec<u8>, ReadError>
     }
 }
 
-impl<'a> Rewritable<'a> for RawSection<'a> {
+impl<'a> Normalisable<'a> for RawSection<'a> {
     ghost Value = { DecodedSection };
 
     ghost format = { decoded_section };
 
-    fn rewrite(
+    fn normalise_next(
         alloc: Global,
         cursor: &mut Cursor<'a>,
-        encoding: &mut Vec<u8>,
-    ) -> Result<(), Fault> {
-        rewrite_section(alloc, cursor, encoding)
+        run: &[u8],
+        out: &mut Vec<u8>,
+    ) -> Result<bool, Fault> {
+        out.extend_from_slice(run)?;
+        rewrite_section(alloc, cursor, out)?;
+        cursor.mark();
+        Ok(true)
+    }
+}
+
+impl<'a> NormalisableInRuns<'a> for RawSection<'a> {
+    /// Passes none: what a section holds is looked at first.
+    fn pass_run(cursor: &mut Cursor<'a>) {
+        let _ = cursor;
     }
 }
 
@@ -155,53 +167,10 @@ fn append_code_section(alloc: Global, encoding: &mut Vec<u8>, body: &[u8]) -> Re
     append_list_section::<CodeBody>(alloc, encoding, CODE_SECTION_ID, body)
 }
 
-/// What stands in a list in the body of a section, and is normalised there.
-trait Listed<'a> {
-    /// What is read and written.
-    ghost Value: { Type 0 };
-
-    /// Which bytes encode which item.
-    ghost format: { Format Value };
-
-    /// Appends the shortest encoding of the list that the bytes encode, with nothing left over.
-    fn append_list(alloc: Global, bytes: &'a [u8], encoding: &mut Vec<u8>) -> Result<(), ReadError>
-        ensures given { OnOk result (AppendsNormalForm (EncodesList format.Encodes) (items_bytes format.bytes) bytes.now encoding.old.items encoding.new.items) }
-        ensures unencoded { IfRefused result (λ _.
-            (items : List Value) → EncodesList format.Encodes bytes.now items → ⊥) };
-}
-
-impl<'a> Listed<'a> for TypeEntry {
-    ghost Value = { TypeEntry };
-
-    ghost format = { recursive_type };
-
-    fn append_list(
-        alloc: Global,
-        bytes: &'a [u8],
-        encoding: &mut Vec<u8>,
-    ) -> Result<(), ReadError> {
-        normalise_list_to_end::<TypeEntry>(alloc, bytes, encoding)
-    }
-}
-
-impl<'a> Listed<'a> for CodeBody {
-    ghost Value = { CodeBody };
-
-    ghost format = { code_body };
-
-    fn append_list(
-        alloc: Global,
-        bytes: &'a [u8],
-        encoding: &mut Vec<u8>,
-    ) -> Result<(), ReadError> {
-        rewrite_list_to_end::<CodeBody>(alloc, bytes, encoding)
-    }
-}
-
 /// Appends a section of this id with the list that this body encodes, written where the section lies: the size is put
 /// into a gap before it, which is as long as the size of the bytes that were read, and so no shorter than what goes
 /// into it.
-fn append_list_section<'a, T: Listed<'a>>(
+fn append_list_section<'a, T: Normalisable<'a>>(
     alloc: Global,
     encoding: &mut Vec<u8>,
     id: u8,
@@ -216,7 +185,7 @@ fn append_list_section<'a, T: Listed<'a>>(
     encoding.push(id)?;
     let start = encoding.len();
     let gap = open_gap(encoding, body.len() as u32)?;
-    match T::append_list(alloc, body, encoding) {
+    match normalise_list_to_end::<T>(alloc, body, encoding) {
         Ok(()) => {
             put_size_into(encoding, start, gap);
             Ok(())

@@ -3,6 +3,7 @@
 ghost use Rattle.wasm_codec.specs.Rewriting.{Appends};
 ghost use Rattle.wasm_codec.specs.formats.Combinators.{◌⊗◌, made, made_as, optional, items, u32};
 ghost use Rattle.std.specs.Prelude.{true, not};
+ghost use Rattle.wasm_types.specs.declared.types.composite.TypeEntry.{TypeEntry};
 ghost use Rattle.wasm_types.specs.formats.Types.{inner_type, composite_type, has_supertypes, sub_of, sub_parts, sub_type, recursive_type};
 
 use crate::encode::{put_field_type, put_val_type};
@@ -10,11 +11,11 @@ use crate::reader::{has_no_supertypes, read_field_type, read_val_type};
 use crate::types::{FieldType, SubType, TypeEntry, ValType};
 use std::alloc::Global;
 use wasm_codec::encode::leb128::put_index;
-use wasm_codec::normaliser::{Normalisable, write_list_anew};
+use wasm_codec::normaliser::{Normalisable, Rewritable, pass_or_write, write_list_anew};
 use wasm_codec::reader::cursor::{Cursor, Fault};
 use wasm_codec::reader::passing::pass_list;
 
-impl<'a> Normalisable<'a> for ValType {
+impl<'a> Rewritable<'a> for ValType {
     fn write_anew(
         alloc: Global,
         cursor: &mut Cursor<'a>,
@@ -28,7 +29,7 @@ impl<'a> Normalisable<'a> for ValType {
     }
 }
 
-impl<'a> Normalisable<'a> for FieldType {
+impl<'a> Rewritable<'a> for FieldType {
     fn write_anew(
         alloc: Global,
         cursor: &mut Cursor<'a>,
@@ -208,7 +209,7 @@ fn write_entry(alloc: Global, cursor: &mut Cursor<'_>, bytes: &mut Vec<u8>) -> R
     Ok(())
 }
 
-impl<'a> Normalisable<'a> for SubType {
+impl<'a> Rewritable<'a> for SubType {
     fn write_anew(
         alloc: Global,
         cursor: &mut Cursor<'a>,
@@ -218,12 +219,28 @@ impl<'a> Normalisable<'a> for SubType {
     }
 }
 
-impl<'a> Normalisable<'a> for TypeEntry {
+impl<'a> Rewritable<'a> for TypeEntry {
     fn write_anew(
         alloc: Global,
         cursor: &mut Cursor<'a>,
         bytes: &mut Vec<u8>,
     ) -> Result<(), Fault> {
         write_entry(alloc, cursor, bytes)
+    }
+}
+
+impl<'a> Normalisable<'a> for TypeEntry {
+    ghost Value = { TypeEntry };
+
+    ghost format = { recursive_type };
+
+    #[inline(always)]
+    fn normalise_next(
+        alloc: Global,
+        cursor: &mut Cursor<'a>,
+        run: &[u8],
+        out: &mut Vec<u8>,
+    ) -> Result<bool, Fault> {
+        pass_or_write::<TypeEntry>(alloc, cursor, run, out)
     }
 }

@@ -7,11 +7,10 @@ ghost use Rattle.wasm_codec.specs.Lawful.{IsLawful, plain};
 ghost use Rattle.wasm_codec.specs.Lists.{EncodesList, list_at, items_bytes, IsListPrefix};
 ghost use Rattle.wasm_codec.specs.Rewriting.{Rewrites, AppendsNormalForm, PassesOrWrites};
 
-use super::{Normalisable, pass_or_write};
+use super::{Normalisable, append_count};
 use crate::reader::ReadError;
 use crate::reader::cursor::{Cursor, Fault};
 use crate::reader::lists::read_or_stay;
-use crate::rewriter::append_count;
 use std::alloc::Global;
 
 /// Appends the shortest encoding of the list that comes next: the count, and then runs of items that are in their
@@ -36,7 +35,7 @@ pub fn normalise_list<'a, T: Normalisable<'a>>(
     let mut from = 0;
     for _ in 0..count {
         let at = bytes.len() - cursor.len();
-        let anew = pass_or_stay::<T>(alloc, cursor, &bytes[from..at], out)?;
+        let anew = normalise_or_stay::<T>(alloc, cursor, &bytes[from..at], out)?;
         if anew {
             from = bytes.len() - cursor.len();
         }
@@ -49,7 +48,7 @@ pub fn normalise_list<'a, T: Normalisable<'a>>(
 /// Passes the item that comes next, or writes it anew after the run of bytes before it, and answers which: `true` where
 /// it was written. At a fault the cursor stays where it is.
 #[inline(always)]
-fn pass_or_stay<'a, T: Normalisable<'a>>(
+fn normalise_or_stay<'a, T: Normalisable<'a>>(
     alloc: Global,
     cursor: &mut Cursor<'a>,
     run: &[u8],
@@ -63,7 +62,7 @@ fn pass_or_stay<'a, T: Normalisable<'a>>(
     ensures some { TakesBytes T.format.Encodes }
 {
     let start = cursor.fork();
-    match pass_or_write::<T>(alloc, cursor, run, out) {
+    match T::normalise_next(alloc, cursor, run, out) {
         Ok(anew) => Ok(anew),
         Err(fault) => {
             *cursor = start;

@@ -15,10 +15,9 @@ use super::reader::read_local_group;
 use std::alloc::{AllocError, Global};
 use wasm_codec::encode::leb128::put_u32;
 use wasm_codec::encode::{open_gap, put_size_into};
-use wasm_codec::normaliser::append_joined;
+use wasm_codec::normaliser::{Normalisable, append_joined, normalise_list, normalise_list_to_end};
 use wasm_codec::reader::ReadError;
 use wasm_codec::reader::cursor::{Cursor, Fault};
-use wasm_codec::rewriter::{Rewritable, rewrite_list, rewrite_list_to_end};
 use wasm_instructions::table::Call;
 use wasm_types::encode::put_val_type;
 use wasm_types::types::ValType;
@@ -70,21 +69,25 @@ fn bodies_bytes_of(alloc: Global, body: &[u8]) -> Result<Vec<u8>, ReadError>
     ensures none { IfRefused result (λ _. (bodies : List CodeBody) → code_section_body.Encodes body.now bodies → ⊥) }
 {
     let mut encoding = Vec::new(alloc);
-    rewrite_list_to_end::<CodeBody>(alloc, body, &mut encoding)?;
+    normalise_list_to_end::<CodeBody>(alloc, body, &mut encoding)?;
     Ok(encoding)
 }
 
-impl<'a> Rewritable<'a> for CodeBody {
+impl<'a> Normalisable<'a> for CodeBody {
     ghost Value = { CodeBody };
 
     ghost format = { code_body };
 
-    fn rewrite(
+    fn normalise_next(
         alloc: Global,
         cursor: &mut Cursor<'a>,
-        encoding: &mut Vec<u8>,
-    ) -> Result<(), Fault> {
-        rewrite_code_body(alloc, cursor, encoding)
+        run: &[u8],
+        out: &mut Vec<u8>,
+    ) -> Result<bool, Fault> {
+        out.extend_from_slice(run)?;
+        rewrite_code_body(alloc, cursor, out)?;
+        cursor.mark();
+        Ok(true)
     }
 }
 
@@ -114,7 +117,7 @@ fn rewrite_code(alloc: Global, code: &mut Cursor<'_>, encoding: &mut Vec<u8>) ->
     ensures none { IfErr result (λ fault. fault ≡ Malformed →
         (parts : List (ℕ × ValType) × List Instruction) → function_code.Encodes code.old.left parts → ⊥) }
 {
-    rewrite_list::<LocalGroup>(alloc, code, encoding)?;
+    normalise_list::<LocalGroup>(alloc, code, encoding)?;
     match append_joined::<Call>(alloc, code.rest(), encoding) {
         Ok(()) => Ok(()),
         Err(ReadError::Memory) => Err(Fault::Memory),
@@ -125,18 +128,22 @@ fn rewrite_code(alloc: Global, code: &mut Cursor<'_>, encoding: &mut Vec<u8>) ->
 /// What is rewritten as an item of the list of locals.
 struct LocalGroup;
 
-impl<'a> Rewritable<'a> for LocalGroup {
+impl<'a> Normalisable<'a> for LocalGroup {
     ghost Value = { ℕ × ValType };
 
     ghost format = { local_group };
 
-    fn rewrite(
+    fn normalise_next(
         alloc: Global,
         cursor: &mut Cursor<'a>,
-        encoding: &mut Vec<u8>,
-    ) -> Result<(), Fault> {
+        run: &[u8],
+        out: &mut Vec<u8>,
+    ) -> Result<bool, Fault> {
         let _ = alloc;
-        rewrite_local_group(cursor, encoding)
+        out.extend_from_slice(run)?;
+        rewrite_local_group(cursor, out)?;
+        cursor.mark();
+        Ok(true)
     }
 }
 

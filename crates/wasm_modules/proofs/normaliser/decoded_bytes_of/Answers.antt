@@ -3,7 +3,7 @@ use Rattle.wasm_modules.proofs.HeaderLaws.{headed_longest, headed_none_whole, he
 use Rattle.wasm_modules.proofs.normaliser.decoded_bytes_of.Goals as goal
 
 pub returns-in-Ok-clause-given : goal.returns-in-Ok-clause-given
-returns-in-Ok-clause-given c = headed_normal decoded_section.bytes c.args.bytes.now c.in-Some.rest.now c.in_ok-encoding.encoding.items c.rewrite_joined.new.encoding.items c.in-Some.ensures.found c.in_ok-encoding.ensures.items c.in-Ok.ensures.given
+returns-in-Ok-clause-given c = headed_normal decoded_section.bytes c.args.bytes.now c.in-Some.rest.now c.in_ok-encoding.encoding.items c.append_joined.new.out.items c.in-Some.ensures.found c.in_ok-encoding.ensures.items c.in-Ok.ensures.given
 
 pub returns-clause-prefix : goal.returns-clause-prefix
 returns-clause-prefix c =

@@ -4,4 +4,4 @@ use Rattle.wasm_modules.proofs.code.normaliser.bodies_bytes_of.Goals as goal
 
 pub returns-clause-given : goal.returns-clause-given
 unfolding code_section_body
-returns-clause-given c = normal_alone c.args.body.now c.new-encoding.result.items c.rewrite_list_to_end.new.encoding.items c.new-encoding.ensures.items c.in_ok-rewrite_list_to_end.ensures.given
+returns-clause-given c = normal_alone c.args.body.now c.new-encoding.result.items c.normalise_list_to_end.new.out.items c.new-encoding.ensures.items c.in_ok-normalise_list_to_end.ensures.given
