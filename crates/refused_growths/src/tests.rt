@@ -33,6 +33,19 @@ fn call(number: u32, operands: Operands) -> Result<Call, Fail> {
     Ok(Call::new(Opcode { prefix, number }, operands)?)
 }
 
+/// The call's clone, which is made again where memory was refused, is the call.
+fn is_cloned(rt: &(impl Print + Abort), call: &Call) -> Result<(), Fail> {
+    let same = match call.try_clone() {
+        Err(EncodeError::Memory) => {
+            println!(rt; "refused")?;
+            call.try_clone()?
+        }
+        answer => answer?,
+    };
+    assert_eq!(rt; same, *call);
+    Ok(())
+}
+
 /// The calls are the four that `CODE` repeats.
 fn are_expected(rt: &impl Abort, calls: &[Call]) -> Result<(), Fail> {
     let mut calls = calls.iter();
@@ -105,15 +118,7 @@ fn calls_are_cloned(rt: HostRuntime) -> Result<(), Fail> {
         (0x41, Operands::I32(-7)),
         (0x42, Operands::I64(-7)),
     ] {
-        let call = call(number, operands)?;
-        let same = match call.try_clone() {
-            Err(EncodeError::Memory) => {
-                println!(rt; "refused")?;
-                call.try_clone()?
-            }
-            answer => answer?,
-        };
-        assert_eq!(rt; same, call);
+        is_cloned(&rt, &call(number, operands)?)?;
     }
     Ok(())
 }

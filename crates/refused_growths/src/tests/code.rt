@@ -68,27 +68,51 @@ fn function(rt: &(impl AllocGlobal + Print)) -> Result<Function, Fail> {
     })
 }
 
+/// A function of the locals with these calls, which are added again where memory was refused.
+fn function_of(rt: &(impl AllocGlobal + Print + Abort), calls: &[Call]) -> Result<Function, Fail> {
+    let mut function = function(rt)?;
+    assert_eq!(rt; function.byte_len(), 5);
+    if let Err(EncodeError::Memory) = function.calls(calls) {
+        println!(rt; "refused")?;
+        assert_eq!(rt; function.byte_len(), 5);
+        function.calls(calls)?;
+    }
+    Ok(function)
+}
+
+/// A section with this function, which is added again where memory was refused.
+fn section_of(
+    rt: &(impl AllocGlobal + Print + Abort),
+    function: &Function,
+) -> Result<CodeSection, Fail> {
+    let mut code = CodeSection::new(rt.alloc());
+    if let Err(EncodeError::Memory) = code.function(function) {
+        println!(rt; "refused")?;
+        assert_eq!(rt; code.len(), 0);
+        code.function(function)?;
+    }
+    assert_eq!(rt; code.len(), 1);
+    Ok(code)
+}
+
 #[test]
 fn functions_are_made_and_added(rt: HostRuntime) -> Result<(), Fail> {
     let body = body(&rt)?;
-    let mut function = function(&rt)?;
-    assert_eq!(rt; function.byte_len(), 5);
-    if let Err(EncodeError::Memory) = function.calls(body.calls.as_slice()) {
-        println!(rt; "refused")?;
-        assert_eq!(rt; function.byte_len(), 5);
-        function.calls(body.calls.as_slice())?;
-    }
-    let mut code = CodeSection::new(rt.alloc());
-    if let Err(EncodeError::Memory) = code.function(&function) {
-        println!(rt; "refused")?;
-        assert_eq!(rt; code.len(), 0);
-        code.function(&function)?;
-    }
-    assert_eq!(rt; code.len(), 1);
+    let function = function_of(&rt, body.calls.as_slice())?;
+    let code = section_of(&rt, &function)?;
     let bytes = encoded(&rt, &code)?;
     assert_eq!(rt; bytes.first(), Some(&13));
     assert_eq!(rt; bytes.get(2..), Some(BODY.as_slice()));
     assert_eq!(rt; encoded(&rt, &function)?.as_slice(), BODY.as_slice());
+    Ok(())
+}
+
+/// The section is as it was made.
+fn is_empty(rt: &(impl AllocGlobal + Abort), code: &CodeSection) -> Result<(), Fail> {
+    assert!(rt; code.is_empty());
+    let mut nothing = Vec::new(rt.alloc());
+    code.encode(&mut nothing)?;
+    assert_eq!(rt; nothing.as_slice(), [1, 0].as_slice());
     Ok(())
 }
 
@@ -98,10 +122,7 @@ fn bodies_are_added(rt: HostRuntime) -> Result<(), Fail> {
     let mut code = CodeSection::new(rt.alloc());
     if let Err(EncodeError::Memory) = code.bodies(bodies.as_slice()) {
         println!(rt; "refused")?;
-        assert!(rt; code.is_empty());
-        let mut nothing = Vec::new(rt.alloc());
-        code.encode(&mut nothing)?;
-        assert_eq!(rt; nothing.as_slice(), [1, 0].as_slice());
+        is_empty(&rt, &code)?;
         code.bodies(bodies.as_slice())?;
     }
     assert_eq!(rt; code.len(), 2);
@@ -111,10 +132,8 @@ fn bodies_are_added(rt: HostRuntime) -> Result<(), Fail> {
     Ok(())
 }
 
-#[test]
-fn bodies_are_encoded_and_cloned(rt: HostRuntime) -> Result<(), Fail> {
-    let body = body(&rt)?;
-    assert_eq!(rt; encoded(&rt, &body)?.as_slice(), BODY.as_slice());
+/// The body's clone, which is made again where memory was refused, is the body.
+fn is_cloned(rt: &(impl Print + Abort), body: &CodeBody) -> Result<(), Fail> {
     let same = match body.try_clone() {
         Err(EncodeError::Memory) => {
             println!(rt; "refused")?;
@@ -122,8 +141,16 @@ fn bodies_are_encoded_and_cloned(rt: HostRuntime) -> Result<(), Fail> {
         }
         answer => answer?,
     };
-    assert_eq!(rt; same, body);
+    assert_eq!(rt; same, *body);
     Ok(())
+}
+
+#[test]
+fn bodies_are_encoded_and_cloned(rt: HostRuntime) -> Result<(), Fail> {
+    let body = body(&rt)?;
+    let bytes = encoded(&rt, &body)?;
+    assert_eq!(rt; bytes.as_slice(), BODY.as_slice());
+    is_cloned(&rt, &body)
 }
 
 #[test]
@@ -137,11 +164,7 @@ fn functions_and_sections_are_cloned(rt: HostRuntime) -> Result<(), Fail> {
         answer => answer?,
     };
     assert_eq!(rt; same.byte_len(), 5);
-    let mut code = CodeSection::new(rt.alloc());
-    if let Err(EncodeError::Memory) = code.function(&same) {
-        println!(rt; "refused")?;
-        code.function(&same)?;
-    }
+    let code = section_of(&rt, &same)?;
     let copy = match code.try_clone() {
         Err(EncodeError::Memory) => {
             println!(rt; "refused")?;

@@ -1,10 +1,11 @@
 //! Calls with lists: cloned, read, in normal form.
 
+use super::{call, is_cloned};
 use std::alloc::Global;
 use std::test::Fail;
 use wasm_encoder::{
-    BlockType, Call, Catch, EncodeError, Handle, Items, Opcode, Operands, Prefix, ReadError,
-    ValType, normalise_instructions, read_instructions,
+    BlockType, Call, Catch, EncodeError, Handle, Items, Operands, ReadError, ValType,
+    normalise_instructions, read_instructions,
 };
 
 /// `br_table`, `select`, `try_table`, `resume` and `resume_throw`, their counts in more bytes than are needed.
@@ -27,11 +28,6 @@ fn items<T: Copy>(alloc: Global, items: &[T]) -> Result<Items<T>, EncodeError> {
         Err(EncodeError::Memory) => Items::from_slice(alloc, items),
         list => list,
     }
-}
-
-fn call(number: u32, operands: Operands) -> Result<Call, Fail> {
-    let prefix = Prefix::None;
-    Ok(Call::new(Opcode { prefix, number }, operands)?)
 }
 
 /// The first calls of `CODE`.
@@ -65,14 +61,7 @@ fn resumptions(alloc: Global) -> Result<[Call; 3], Fail> {
 #[test]
 fn branches_are_cloned(rt: HostRuntime) -> Result<(), Fail> {
     for call in branches(rt.alloc())? {
-        let same = match call.try_clone() {
-            Err(EncodeError::Memory) => {
-                println!(rt; "refused")?;
-                call.try_clone()?
-            }
-            answer => answer?,
-        };
-        assert_eq!(rt; same, call);
+        is_cloned(&rt, &call)?;
     }
     Ok(())
 }
@@ -80,14 +69,7 @@ fn branches_are_cloned(rt: HostRuntime) -> Result<(), Fail> {
 #[test]
 fn resumptions_are_cloned(rt: HostRuntime) -> Result<(), Fail> {
     for call in resumptions(rt.alloc())? {
-        let same = match call.try_clone() {
-            Err(EncodeError::Memory) => {
-                println!(rt; "refused")?;
-                call.try_clone()?
-            }
-            answer => answer?,
-        };
-        assert_eq!(rt; same, call);
+        is_cloned(&rt, &call)?;
     }
     Ok(())
 }

@@ -131,8 +131,8 @@ fn group(rt: &(impl AllocGlobal + Print)) -> Result<Vec<SubType>, Fail> {
     Ok(group)
 }
 
-/// The last two entries of the body: a type with a supertype, and a group.
-fn add_other_types(
+/// The fifth entry of the body, a type with a supertype.
+fn add_subtype(
     rt: &(impl AllocGlobal + Print + Abort),
     types: &mut TypeSection,
 ) -> Result<(), Fail> {
@@ -141,6 +141,14 @@ fn add_other_types(
     if is_refused(rt, types, 4, added)? {
         types.ty().subtype(&sub)?;
     }
+    Ok(())
+}
+
+/// The last entry of the body, a group.
+fn add_last_group(
+    rt: &(impl AllocGlobal + Print + Abort),
+    types: &mut TypeSection,
+) -> Result<(), Fail> {
     let added = add_group(types, group(rt)?);
     if is_refused(rt, types, 5, added)? {
         add_group(types, group(rt)?)?;
@@ -162,7 +170,8 @@ fn text(rt: &(impl AllocGlobal + Print), types: &TypeSection) -> Result<Vec<u8>,
 fn types_are_added(rt: HostRuntime) -> Result<(), Fail> {
     let mut types = TypeSection::new(rt.alloc());
     add_plain_types(&rt, &mut types)?;
-    add_other_types(&rt, &mut types)?;
+    add_subtype(&rt, &mut types)?;
+    add_last_group(&rt, &mut types)?;
     let text = text(&rt, &types)?;
     assert_eq!(rt; text.first(), Some(&27));
     assert_eq!(rt; text.get(1..), Some(BODY.as_slice()));
@@ -213,20 +222,35 @@ fn entries_are_cloned(rt: HostRuntime) -> Result<(), Fail> {
     Ok(())
 }
 
-#[test]
-fn sections_are_cloned(rt: HostRuntime) -> Result<(), Fail> {
-    let mut types = TypeSection::new(rt.alloc());
-    add_plain_types(&rt, &mut types)?;
-    let same = match types.try_clone() {
+/// A clone of a section, made again where memory was refused.
+fn clone_of(rt: &impl Print, types: &TypeSection) -> Result<TypeSection, Fail> {
+    Ok(match types.try_clone() {
         Err(EncodeError::Memory) => {
             println!(rt; "refused")?;
             types.try_clone()?
         }
         answer => answer?,
-    };
-    assert_eq!(rt; text(&rt, &same)?, text(&rt, &types)?);
-    assert_eq!(rt; same.len(), types.len());
+    })
+}
+
+/// Both sections have the same bytes.
+fn have_same_bytes(
+    rt: &(impl AllocGlobal + Print + Abort),
+    one: &TypeSection,
+    other: &TypeSection,
+) -> Result<(), Fail> {
+    let bytes = text(rt, one)?;
+    assert_eq!(rt; bytes, text(rt, other)?);
     Ok(())
+}
+
+#[test]
+fn sections_are_cloned(rt: HostRuntime) -> Result<(), Fail> {
+    let mut types = TypeSection::new(rt.alloc());
+    add_plain_types(&rt, &mut types)?;
+    let same = clone_of(&rt, &types)?;
+    assert_eq!(rt; same.len(), types.len());
+    have_same_bytes(&rt, &same, &types)
 }
 
 #[test]
