@@ -4,7 +4,7 @@ use Rattle.wasm_codec.specs.declared.reader.cursor.Fault.{Fault}
 use Rattle.wasm_codec.specs.declared.reader.cursor.Fault.TheVariants as faults
 use Rattle.wasm_codec.specs.Places.{Place, Reader, map_at}
 use Rattle.wasm_codec.specs.Rewriting.{Appends}
-use Rattle.wasm_codec.specs.formats.Combinators.{◌⊗◌, items, u32}
+use Rattle.wasm_codec.specs.formats.Combinators.{◌⊗◌, items, u32, s32}
 use Rattle.wasm_codec.proofs.Laws.{bind_some, some_is}
 use Rattle.wasm_codec.proofs.Passing.{is_appended, appends_at}
 use Rattle.wasm_types.specs.declared.types.value.ValType.{ValType}
@@ -30,6 +30,14 @@ made_kind : {A : Type 0} (make : A → Operands) (k : Kind) (read : Reader A) (p
 made_kind {A} make k read p q o each e =
     let x = bind_some (read p) (λ (x : A × Place). Some (make x.0, x.1)) (o, q) e in
     sym (ap (λ (r : Operands × Place). kind_of r.0) (some_is (make x.0.0, x.0.1) (o, q) x.2)) ∙ each x.0.0
+
+pub of_index : (p : Place) → IsOfKind kinds.Index p
+unfolding operands_format
+of_index p o q e = made_kind operands.Index kinds.Index u32.at p q o (λ a. refl) e
+
+pub of_i32 : (p : Place) → IsOfKind kinds.I32 p
+unfolding operands_format
+of_i32 p o q e = made_kind operands.I32 kinds.I32 s32.at p q o (λ a. refl) e
 
 pub of_br_table : (p : Place) → IsOfKind kinds.BrTable p
 unfolding operands_format

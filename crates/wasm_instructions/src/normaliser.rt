@@ -14,6 +14,7 @@ use crate::reader::{read_block_type, read_call, read_catch, read_handle, read_op
 use crate::table::{Call, Kind, Opcode};
 use std::alloc::{AllocError, Global};
 use wasm_codec::encode::EncodeError;
+use wasm_codec::encode::leb128::put_i32;
 use wasm_codec::normaliser::{
     Normalisable, NormalisableInRuns, Rewritable, normalise_joined, pass_or_write, pass_run,
     write_list_anew,
@@ -122,6 +123,14 @@ fn write_call_anew(alloc: Global, cursor: &mut Cursor<'_>, bytes: &mut Vec<u8>) 
             append_opcode(bytes, op)?;
             write_resume_throw(alloc, cursor, bytes)
         }
+        Kind::Index => {
+            append_opcode(bytes, op)?;
+            write_index(alloc, cursor, bytes)
+        }
+        Kind::I32 => {
+            append_opcode(bytes, op)?;
+            write_i32(cursor, bytes)
+        }
         _ => {
             *cursor = start;
             write_held(alloc, cursor, bytes)
@@ -192,6 +201,26 @@ fn write_resume_throw(
     u32::write_anew(alloc, cursor, bytes)?;
     u32::write_anew(alloc, cursor, bytes)?;
     write_list_anew::<Handle>(alloc, cursor, bytes)?;
+    Ok(())
+}
+
+/// An index.
+#[tactic(auto, unfolding(crate::specs::formats::Instructions::operands_format))]
+fn write_index(alloc: Global, cursor: &mut Cursor<'_>, bytes: &mut Vec<u8>) -> Result<(), Fault>
+    ensures writes { Appends (operands_format kinds.Index) cursor.old cursor.new bytes.old.items bytes.new.items result }
+{
+    u32::write_anew(alloc, cursor, bytes)?;
+    Ok(())
+}
+
+/// A signed number of 32 bits.
+#[tactic(auto, unfolding(crate::specs::formats::Instructions::operands_format))]
+fn write_i32(cursor: &mut Cursor<'_>, bytes: &mut Vec<u8>) -> Result<(), Fault>
+    ensures writes { Appends (operands_format kinds.I32) cursor.old cursor.new bytes.old.items bytes.new.items result }
+{
+    let value = cursor.s32()?;
+    bytes.reserve(5)?;
+    put_i32(bytes, value);
     Ok(())
 }
 

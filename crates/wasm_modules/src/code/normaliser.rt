@@ -125,7 +125,7 @@ fn rewrite_code(alloc: Global, code: &mut Cursor<'_>, encoding: &mut Vec<u8>) ->
     }
 }
 
-/// What is rewritten as an item of the list of locals.
+/// A group of locals, as an item of the list that is normalised.
 struct LocalGroup;
 
 impl<'a> Normalisable<'a> for LocalGroup {
