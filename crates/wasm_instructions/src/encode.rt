@@ -14,6 +14,6 @@ pub use calls::{
 };
 pub use instructions::{append_call, append_calls};
 pub use operands::{
-    put_bits_32, put_bits_64, put_block_type, put_catch, put_handle, put_mem_arg, put_ordering,
-    put_vector,
+    put_bits_32, put_bits_64, put_block_type, put_castop, put_catch, put_handle, put_mem_arg,
+    put_ordering, put_vector,
 };

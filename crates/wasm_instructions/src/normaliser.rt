@@ -3,25 +3,21 @@ ghost use Rattle.std.specs.Prelude.{◌≡◌, ◌↔◌, ◌++◌, ◌≤◌, L
 ghost use Rattle.wasm_codec.specs.Answers.{IsOrMemory, IfRefused, IsLongestPrefix, EncodesSome, IsNormalForm};
 ghost use Rattle.wasm_codec.specs.Encoding.{IsShortestOrLonger};
 ghost use Rattle.wasm_instructions.specs.Instructions.{Instruction, IsShort};
-ghost use Rattle.wasm_instructions.specs.formats.Instructions.{Instructions, ShortestInstructions, opcode, operands_format, instruction, instructions_bytes};
-ghost use Rattle.wasm_instructions.specs.declared.table.opcode.Kind.TheVariants as kinds;
-ghost use Rattle.wasm_codec.specs.Grammar.{IsBytes};
+ghost use Rattle.wasm_instructions.specs.formats.Instructions.{Instructions, ShortestInstructions, opcode, instruction, instructions_bytes};
 ghost use Rattle.wasm_codec.specs.Rewriting.{Appends};
 
-use crate::encode::{append_call, put_block_type, put_catch, put_handle, put_opcode};
-use crate::operands::{Catch, Handle};
-use crate::reader::{read_block_type, read_call, read_catch, read_handle, read_opcode};
-use crate::table::{Call, Kind, Opcode};
+mod operands;
+
+use crate::encode::put_opcode;
+use crate::reader::read_opcode;
+use crate::table::{Call, Opcode};
+use operands::write_operands;
 use std::alloc::{AllocError, Global};
-use wasm_codec::encode::EncodeError;
-use wasm_codec::encode::leb128::put_i32;
 use wasm_codec::normaliser::{
     Normalisable, NormalisableInRuns, Rewritable, normalise_joined, pass_or_write, pass_run,
-    write_list_anew,
 };
 use wasm_codec::reader::ReadError;
 use wasm_codec::reader::cursor::{Cursor, Fault};
-use wasm_types::types::ValType;
 
 /// The shortest encoding of the instructions that the bytes encode.
 ///
@@ -97,45 +93,12 @@ impl<'a> NormalisableInRuns<'a> for Call {
 fn write_call_anew(alloc: Global, cursor: &mut Cursor<'_>, bytes: &mut Vec<u8>) -> Result<(), Fault>
     ensures writes { Appends instruction cursor.old cursor.new bytes.old.items bytes.new.items result }
 {
-    let start = cursor.fork();
     let op = read_opcode(cursor)?;
     let Some(kind) = op.kind() else {
         return Err(Fault::Malformed);
     };
-    match kind {
-        Kind::BrTable => {
-            append_opcode(bytes, op)?;
-            write_br_table(alloc, cursor, bytes)
-        }
-        Kind::Types => {
-            append_opcode(bytes, op)?;
-            write_types(alloc, cursor, bytes)
-        }
-        Kind::TryTable => {
-            append_opcode(bytes, op)?;
-            write_try_table(alloc, cursor, bytes)
-        }
-        Kind::Resume => {
-            append_opcode(bytes, op)?;
-            write_resume(alloc, cursor, bytes)
-        }
-        Kind::ResumeThrow => {
-            append_opcode(bytes, op)?;
-            write_resume_throw(alloc, cursor, bytes)
-        }
-        Kind::Index => {
-            append_opcode(bytes, op)?;
-            write_index(alloc, cursor, bytes)
-        }
-        Kind::I32 => {
-            append_opcode(bytes, op)?;
-            write_i32(cursor, bytes)
-        }
-        _ => {
-            *cursor = start;
-            write_held(alloc, cursor, bytes)
-        }
-    }
+    append_opcode(bytes, op)?;
+    write_operands(alloc, cursor, bytes, kind)
 }
 
 /// Appends the shortest encoding of an opcode.
@@ -146,131 +109,4 @@ fn append_opcode(bytes: &mut Vec<u8>, op: Opcode) -> Result<(), AllocError>
     bytes.reserve(3)?;
     put_opcode(bytes, op);
     Ok(())
-}
-
-/// The labels of a `br_table`.
-#[tactic(auto, using(std::proofs::Common::append_assoc), unfolding(crate::specs::formats::Instructions::operands_format))]
-fn write_br_table(alloc: Global, cursor: &mut Cursor<'_>, bytes: &mut Vec<u8>) -> Result<(), Fault>
-    ensures writes { Appends (operands_format kinds.BrTable) cursor.old cursor.new bytes.old.items bytes.new.items result }
-{
-    write_list_anew::<u32>(alloc, cursor, bytes)?;
-    u32::write_anew(alloc, cursor, bytes)?;
-    Ok(())
-}
-
-/// The types of a `select`.
-#[tactic(auto, unfolding(crate::specs::formats::Instructions::operands_format))]
-fn write_types(alloc: Global, cursor: &mut Cursor<'_>, bytes: &mut Vec<u8>) -> Result<(), Fault>
-    ensures writes { Appends (operands_format kinds.Types) cursor.old cursor.new bytes.old.items bytes.new.items result }
-{
-    write_list_anew::<ValType>(alloc, cursor, bytes)?;
-    Ok(())
-}
-
-/// The block type and the clauses of a `try_table`.
-#[tactic(auto, using(std::proofs::Common::append_assoc), unfolding(crate::specs::formats::Instructions::operands_format))]
-fn write_try_table(alloc: Global, cursor: &mut Cursor<'_>, bytes: &mut Vec<u8>) -> Result<(), Fault>
-    ensures writes { Appends (operands_format kinds.TryTable) cursor.old cursor.new bytes.old.items bytes.new.items result }
-{
-    let ty = read_block_type(cursor)?;
-    bytes.reserve(7)?;
-    put_block_type(bytes, ty);
-    write_list_anew::<Catch>(alloc, cursor, bytes)?;
-    Ok(())
-}
-
-/// The index and the handlers of a `resume`.
-#[tactic(auto, using(std::proofs::Common::append_assoc), unfolding(crate::specs::formats::Instructions::operands_format))]
-fn write_resume(alloc: Global, cursor: &mut Cursor<'_>, bytes: &mut Vec<u8>) -> Result<(), Fault>
-    ensures writes { Appends (operands_format kinds.Resume) cursor.old cursor.new bytes.old.items bytes.new.items result }
-{
-    u32::write_anew(alloc, cursor, bytes)?;
-    write_list_anew::<Handle>(alloc, cursor, bytes)?;
-    Ok(())
-}
-
-/// The two indexes and the handlers of a `resume_throw`.
-#[tactic(auto, using(std::proofs::Common::append_assoc), unfolding(crate::specs::formats::Instructions::operands_format))]
-fn write_resume_throw(
-    alloc: Global,
-    cursor: &mut Cursor<'_>,
-    bytes: &mut Vec<u8>,
-) -> Result<(), Fault>
-    ensures writes { Appends (operands_format kinds.ResumeThrow) cursor.old cursor.new bytes.old.items bytes.new.items result }
-{
-    u32::write_anew(alloc, cursor, bytes)?;
-    u32::write_anew(alloc, cursor, bytes)?;
-    write_list_anew::<Handle>(alloc, cursor, bytes)?;
-    Ok(())
-}
-
-/// An index.
-#[tactic(auto, unfolding(crate::specs::formats::Instructions::operands_format))]
-fn write_index(alloc: Global, cursor: &mut Cursor<'_>, bytes: &mut Vec<u8>) -> Result<(), Fault>
-    ensures writes { Appends (operands_format kinds.Index) cursor.old cursor.new bytes.old.items bytes.new.items result }
-{
-    u32::write_anew(alloc, cursor, bytes)?;
-    Ok(())
-}
-
-/// A signed number of 32 bits.
-#[tactic(auto, unfolding(crate::specs::formats::Instructions::operands_format))]
-fn write_i32(cursor: &mut Cursor<'_>, bytes: &mut Vec<u8>) -> Result<(), Fault>
-    ensures writes { Appends (operands_format kinds.I32) cursor.old cursor.new bytes.old.items bytes.new.items result }
-{
-    let value = cursor.s32()?;
-    bytes.reserve(5)?;
-    put_i32(bytes, value);
-    Ok(())
-}
-
-/// An instruction, by way of a `Call`.
-fn write_held(alloc: Global, cursor: &mut Cursor<'_>, bytes: &mut Vec<u8>) -> Result<(), Fault>
-    requires bytes { IsBytes cursor.old.left }
-    ensures writes { Appends instruction cursor.old cursor.new bytes.old.items bytes.new.items result }
-{
-    let call = read_call(alloc, cursor)?;
-    append_anew(&call, bytes)?;
-    Ok(())
-}
-
-impl<'a> Rewritable<'a> for Catch {
-    fn write_anew(
-        alloc: Global,
-        cursor: &mut Cursor<'a>,
-        bytes: &mut Vec<u8>,
-    ) -> Result<(), Fault> {
-        let _ = alloc;
-        let clause = read_catch(cursor)?;
-        bytes.reserve(11)?;
-        put_catch(bytes, clause);
-        Ok(())
-    }
-}
-
-impl<'a> Rewritable<'a> for Handle {
-    fn write_anew(
-        alloc: Global,
-        cursor: &mut Cursor<'a>,
-        bytes: &mut Vec<u8>,
-    ) -> Result<(), Fault> {
-        let _ = alloc;
-        let clause = read_handle(cursor)?;
-        bytes.reserve(11)?;
-        put_handle(bytes, clause);
-        Ok(())
-    }
-}
-
-/// Appends the shortest encoding of a call in range, so that only memory can be wanting.
-#[tactic(auto, using(crate::proofs::CallRanges::is_counted))]
-fn append_anew(call: &Call, bytes: &mut Vec<u8>) -> Result<(), AllocError>
-    requires in_range { instruction.InRange call.now }
-    ensures ok { OnOk result (bytes.new.items ≡ bytes.old.items ++ instruction.bytes call.now) }
-{
-    match append_call(bytes, call) {
-        Ok(()) => Ok(()),
-        Err(EncodeError::Memory) => Err(AllocError),
-        Err(EncodeError::TooLong | EncodeError::Alignment) => unreachable!(),
-    }
 }

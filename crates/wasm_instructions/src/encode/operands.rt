@@ -5,7 +5,7 @@ ghost use Rattle.wasm_codec.specs.declared.encode.EncodeError.TheVariants.{Align
 ghost use Rattle.wasm_codec.specs.Encoding.{IsShortest};
 ghost use Rattle.wasm_codec.specs.formats.Combinators.{little_endian};
 ghost use Rattle.wasm_instructions.specs.Operands.{BlockTypeFits, CatchFits, HandleFits};
-ghost use Rattle.wasm_instructions.specs.formats.Operands.{MemArgInRange, block_type, catch_clause, handle_clause, mem_arg, ordering as ordering_format, to_bits, vector};
+ghost use Rattle.wasm_instructions.specs.formats.Operands.{MemArgInRange, block_type, castop, catch_clause, handle_clause, mem_arg, ordering as ordering_format, to_bits, vector};
 
 use crate::operands::{BlockType, Catch, Handle, MemArg, Ordering};
 use std::alloc::Allocator;
@@ -112,6 +112,24 @@ pub fn put_ordering<A: Allocator>(bytes: &mut Vec<u8, A>, ordering: Ordering)
     match ordering {
         Ordering::SeqCst => bytes.push_reserved(0x00),
         Ordering::AcqRel => bytes.push_reserved(0x01),
+    }
+}
+
+/// Writes the flags of a branch on a cast in one byte: bit 0 where the type before is nullable, bit 1 where the type
+/// after is.
+#[inline]
+#[tactic(auto, unfolding(crate::specs::formats::Operands::castop))]
+pub fn put_castop<A: Allocator>(bytes: &mut Vec<u8, A>, before: bool, after: bool)
+    requires { vec_len bytes.old + 1 ≤ vec_capacity bytes.old }
+    ensures items { bytes.new.items ≡ bytes.old.items ++ castop.bytes (before, after) }
+    ensures len { vec_len bytes.new ≤ vec_len bytes.old + 1 }
+    ensures capacity { vec_capacity bytes.new ≡ vec_capacity bytes.old }
+{
+    match (before, after) {
+        (false, false) => bytes.push_reserved(0),
+        (true, false) => bytes.push_reserved(1),
+        (false, true) => bytes.push_reserved(2),
+        (true, true) => bytes.push_reserved(3),
     }
 }
 

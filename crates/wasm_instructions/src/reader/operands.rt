@@ -182,7 +182,7 @@ pub(crate) fn read_block_type(cursor: &mut Cursor<'_>) -> Result<BlockType, Faul
 /// A memory argument.
 #[inline(always)]
 #[tactic(auto, unfolding(crate::specs::formats::Operands::mem_arg))]
-pub(super) fn read_mem_arg(cursor: &mut Cursor<'_>) -> Result<MemArg, Fault>
+pub(crate) fn read_mem_arg(cursor: &mut Cursor<'_>) -> Result<MemArg, Fault>
     ensures reads { Reads mem_arg.at cursor.old cursor.new result }
     ensures err { IfErr result (λ e. e ≡ Malformed) }
     ensures aligned { IfOk result (λ arg. arg.align < 64) }
@@ -213,7 +213,7 @@ pub(super) fn read_mem_arg(cursor: &mut Cursor<'_>) -> Result<MemArg, Fault>
 
 /// An ordering.
 #[tactic(auto, unfolding(crate::specs::formats::Operands::ordering))]
-pub(super) fn read_ordering(cursor: &mut Cursor<'_>) -> Result<Ordering, Fault>
+pub(crate) fn read_ordering(cursor: &mut Cursor<'_>) -> Result<Ordering, Fault>
     ensures reads { Reads ordering.at cursor.old cursor.new result }
     ensures err { IfErr result (λ e. e ≡ Malformed) }
 {
@@ -226,7 +226,7 @@ pub(super) fn read_ordering(cursor: &mut Cursor<'_>) -> Result<Ordering, Fault>
 
 /// Whether the types before and after a cast are nullable.
 #[tactic(auto, unfolding(crate::specs::formats::Operands::castop))]
-pub(super) fn read_castop(cursor: &mut Cursor<'_>) -> Result<(bool, bool), Fault>
+pub(crate) fn read_castop(cursor: &mut Cursor<'_>) -> Result<(bool, bool), Fault>
     ensures reads { Reads castop.at cursor.old cursor.new result }
     ensures err { IfErr result (λ e. e ≡ Malformed) }
 {
@@ -278,7 +278,7 @@ pub(super) fn read_f64(cursor: &mut Cursor<'_>) -> Result<Ieee64, Fault>
 
 /// A number in 4 bytes, the least first.
 #[tactic(auto, unfolding(wasm_codec::specs::formats::Combinators::little_endian))]
-fn read_bits_32(cursor: &mut Cursor<'_>) -> Result<u32, Fault>
+pub(crate) fn read_bits_32(cursor: &mut Cursor<'_>) -> Result<u32, Fault>
     ensures reads { Reads (little_endian 4).at cursor.old cursor.new result }
     ensures err { IfErr result (λ e. e ≡ Malformed) }
 {
@@ -291,7 +291,7 @@ fn read_bits_32(cursor: &mut Cursor<'_>) -> Result<u32, Fault>
 
 /// A number in 8 bytes, the least first.
 #[tactic(auto, unfolding(wasm_codec::specs::formats::Combinators::little_endian))]
-fn read_bits_64(cursor: &mut Cursor<'_>) -> Result<u64, Fault>
+pub(crate) fn read_bits_64(cursor: &mut Cursor<'_>) -> Result<u64, Fault>
     ensures reads { Reads (little_endian 8).at cursor.old cursor.new result }
     ensures err { IfErr result (λ e. e ≡ Malformed) }
 {
@@ -309,7 +309,7 @@ fn read_bits_64(cursor: &mut Cursor<'_>) -> Result<u64, Fault>
 
 /// A vector: a number in 16 bytes, the least first, in two's complement.
 #[tactic(auto, unfolding(crate::specs::formats::Operands::vector))]
-pub(super) fn read_vector(cursor: &mut Cursor<'_>) -> Result<i128, Fault>
+pub(crate) fn read_vector(cursor: &mut Cursor<'_>) -> Result<i128, Fault>
     ensures reads { Reads vector.at cursor.old cursor.new result }
     ensures err { IfErr result (λ e. e ≡ Malformed) }
 {
@@ -320,7 +320,7 @@ pub(super) fn read_vector(cursor: &mut Cursor<'_>) -> Result<i128, Fault>
 
 /// Sixteen lanes.
 #[tactic(auto, unfolding(crate::specs::formats::Operands::lanes, wasm_codec::specs::Places::raw_at))]
-pub(super) fn read_lanes(cursor: &mut Cursor<'_>) -> Result<[Lane; 16], Fault>
+pub(crate) fn read_lanes(cursor: &mut Cursor<'_>) -> Result<[Lane; 16], Fault>
     ensures reads { Reads lanes.at cursor.old cursor.new result }
     ensures err { IfErr result (λ e. e ≡ Malformed) }
 {

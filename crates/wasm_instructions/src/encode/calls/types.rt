@@ -3,12 +3,11 @@ ghost use Rattle.std.specs.Prelude.{◌≡◌, ◌++◌, ◌∷◌, [], ◌+◌,
 ghost use Rattle.wasm_codec.specs.declared.encode.EncodeError.TheVariants.{Memory};
 ghost use Rattle.wasm_instructions.specs.Instructions.{IsShort, call};
 ghost use Rattle.wasm_instructions.specs.formats.Instructions.{instruction};
-ghost use Rattle.wasm_instructions.specs.formats.Operands.{castop};
 ghost use Rattle.wasm_instructions.specs.Operands.{ValTypeFits};
 ghost use Rattle.wasm_instructions.specs.declared.table.call.Operands.TheVariants as operands;
 
 use super::{ROOM, put_opcode};
-use crate::encode::put_block_type;
+use crate::encode::{put_block_type, put_castop};
 use crate::operands::BlockType;
 use crate::table::Opcode;
 use std::alloc::Allocator;
@@ -16,20 +15,6 @@ use wasm_codec::encode::EncodeError;
 use wasm_codec::encode::leb128::put_u32;
 use wasm_types::encode::{put_heap_type, put_val_type};
 use wasm_types::types::{HeapType, RefType, ValType};
-
-/// The flags of a branch on a cast: bit 0 where the first type is nullable, bit 1 where the second is.
-#[tactic(auto, unfolding(crate::specs::formats::Operands::castop))]
-#[inline]
-fn cast_flags(from: RefType, to: RefType) -> u8
-    ensures { castop.bytes (from.nullable, to.nullable) ≡ result ∷ [] }
-{
-    match (from.nullable, to.nullable) {
-        (false, false) => 0,
-        (true, false) => 1,
-        (false, true) => 2,
-        (true, true) => 3,
-    }
-}
 
 /// Appends an instruction with a block type.
 #[tactic(auto, unfolding(crate::specs::formats::Instructions::instruction, crate::specs::formats::Instructions::operands_format))]
@@ -107,7 +92,7 @@ pub fn append_cast<A: Allocator>(
 {
     bytes.reserve(ROOM)?;
     put_opcode(bytes, op);
-    bytes.push_reserved(cast_flags(from, to));
+    put_castop(bytes, from.nullable, to.nullable);
     put_u32(bytes, label);
     put_heap_type(bytes, from.heap_type);
     put_heap_type(bytes, to.heap_type);
