@@ -1,5 +1,5 @@
 //! LEB128 numbers, written into room that was reserved. `encode` and the instruction sink write them here alone.
-ghost use Rattle.std.specs.Prelude.{◌≡◌, ◌++◌, ◌+◌, ◌*◌, ◌^◌, ◌<◌, ◌≤◌, length, pos, vec_len, vec_capacity};
+ghost use Rattle.std.specs.Prelude.{◌≡◌, ◌++◌, ◌∷◌, [], ◌+◌, ◌%◌, ◌/◌, ◌*◌, ◌^◌, ◌<◌, ◌≤◌, length, pos, vec_len, vec_capacity};
 ghost use Rattle.wasm_codec.specs.Encoding.{IsShortest};
 ghost use Rattle.wasm_codec.specs.Numbers.{turned, digits_of, unsigned_leb128, signed_leb128, EncodesU32, EncodesU64, EncodesS32, EncodesS64, EncodesIndex};
 
@@ -12,6 +12,19 @@ fn turned(turn: bool, digit: u8) -> u8
     ensures below { result < 128 }
 {
     if turn { 127 - digit } else { digit }
+}
+
+/// Writes the lowest digit of a number that has more, and answers what the others stand for.
+#[inline(always)]
+fn put_digit<A: Allocator>(bytes: &mut Vec<u8, A>, turn: bool, n: u64) -> u64
+    requires { vec_len bytes.old + 1 ≤ vec_capacity bytes.old }
+    ensures items { bytes.new.items ≡ bytes.old.items ++ (128 + turned turn (n % 128)) ∷ [] }
+    ensures len { vec_len bytes.new ≡ vec_len bytes.old + 1 }
+    ensures capacity { vec_capacity bytes.new ≡ vec_capacity bytes.old }
+    ensures rest { result ≡ n / 128 }
+{
+    bytes.push_reserved(128 + turned(turn, (n % 128) as u8));
+    n / 128
 }
 
 /// Writes the fewest digits of a number that has at most five. The last stands for a number below `top`.
@@ -28,26 +41,23 @@ fn put_few<A: Allocator>(bytes: &mut Vec<u8, A>, turn: bool, top: u64, n: u64)
         bytes.push_reserved(turned(turn, n as u8));
         return;
     }
-    bytes.push_reserved(128 + turned(turn, (n % 128) as u8));
-    let second = n / 128;
+    let second = put_digit(bytes, turn, n);
     if second < top {
         bytes.push_reserved(turned(turn, second as u8));
         return;
     }
-    bytes.push_reserved(128 + turned(turn, (second % 128) as u8));
-    let third = second / 128;
+    let third = put_digit(bytes, turn, second);
     if third < top {
         bytes.push_reserved(turned(turn, third as u8));
         return;
     }
-    bytes.push_reserved(128 + turned(turn, (third % 128) as u8));
-    let fourth = third / 128;
+    let fourth = put_digit(bytes, turn, third);
     if fourth < top {
         bytes.push_reserved(turned(turn, fourth as u8));
         return;
     }
-    bytes.push_reserved(128 + turned(turn, (fourth % 128) as u8));
-    bytes.push_reserved(turned(turn, (fourth / 128) as u8));
+    let fifth = put_digit(bytes, turn, fourth);
+    bytes.push_reserved(turned(turn, fifth as u8));
 }
 
 /// Writes the fewest digits of a number that has at most ten.
@@ -65,16 +75,12 @@ fn put_many<A: Allocator>(bytes: &mut Vec<u8, A>, turn: bool, top: u64, n: u64)
         put_few(bytes, turn, top, n);
         return;
     }
-    let second = n / 128;
-    let third = second / 128;
-    let fourth = third / 128;
-    let fifth = fourth / 128;
-    bytes.push_reserved(128 + turned(turn, (n % 128) as u8));
-    bytes.push_reserved(128 + turned(turn, (second % 128) as u8));
-    bytes.push_reserved(128 + turned(turn, (third % 128) as u8));
-    bytes.push_reserved(128 + turned(turn, (fourth % 128) as u8));
-    bytes.push_reserved(128 + turned(turn, (fifth % 128) as u8));
-    put_few(bytes, turn, top, fifth / 128);
+    let second = put_digit(bytes, turn, n);
+    let third = put_digit(bytes, turn, second);
+    let fourth = put_digit(bytes, turn, third);
+    let fifth = put_digit(bytes, turn, fourth);
+    let sixth = put_digit(bytes, turn, fifth);
+    put_few(bytes, turn, top, sixth);
 }
 
 /// Writes a u32 in 1 to 5 bytes.
