@@ -1,18 +1,18 @@
 //! The normaliser of lists of instructions (Core 3.0, Instructions).
-ghost use Rattle.std.specs.Prelude.{◌≡◌, ◌↔◌, ◌++◌, ◌≤◌, List, length, IfOk, OnOk};
+ghost use Rattle.std.specs.Prelude.{◌≡◌, ◌↔◌, ◌≤◌, List, length, IfOk};
 ghost use Rattle.wasm_codec.specs.Answers.{IsOrMemory, IfRefused, IsLongestPrefix, EncodesSome, IsNormalForm};
 ghost use Rattle.wasm_codec.specs.Encoding.{IsShortestOrLonger};
-ghost use Rattle.wasm_instructions.specs.Instructions.{Instruction, IsShort};
-ghost use Rattle.wasm_instructions.specs.formats.Instructions.{Instructions, ShortestInstructions, opcode, instruction, instructions_bytes};
+ghost use Rattle.wasm_instructions.specs.Instructions.{Instruction};
+ghost use Rattle.wasm_instructions.specs.formats.Instructions.{Instructions, ShortestInstructions, instruction, instructions_bytes};
 ghost use Rattle.wasm_codec.specs.Rewriting.{Appends};
 
 mod operands;
 
 use crate::encode::put_opcode;
 use crate::reader::read_opcode;
-use crate::table::{Call, Opcode};
+use crate::table::Call;
 use operands::write_operands;
-use std::alloc::{AllocError, Global};
+use std::alloc::Global;
 use wasm_codec::normaliser::{
     Normalisable, NormalisableInRuns, Rewritable, normalise_joined, pass_or_write, pass_run,
 };
@@ -88,6 +88,9 @@ impl<'a> NormalisableInRuns<'a> for Call {
     }
 }
 
+/// The room that an opcode and operands without a list fit into, in bytes.
+const ROOM: usize = 21;
+
 /// Appends the shortest encoding of the instruction that comes next. One with a list isn't held.
 #[tactic(auto, using(crate::proofs::OpcodeLaws::in_table_short), unfolding(crate::specs::formats::Instructions::instruction))]
 fn write_call_anew(alloc: Global, cursor: &mut Cursor<'_>, bytes: &mut Vec<u8>) -> Result<(), Fault>
@@ -97,16 +100,7 @@ fn write_call_anew(alloc: Global, cursor: &mut Cursor<'_>, bytes: &mut Vec<u8>) 
     let Some(kind) = op.kind() else {
         return Err(Fault::Malformed);
     };
-    append_opcode(bytes, op)?;
-    write_operands(alloc, cursor, bytes, kind)
-}
-
-/// Appends the shortest encoding of an opcode.
-fn append_opcode(bytes: &mut Vec<u8>, op: Opcode) -> Result<(), AllocError>
-    requires { IsShort op }
-    ensures { OnOk result (bytes.new.items ≡ bytes.old.items ++ opcode.bytes op) }
-{
-    bytes.reserve(3)?;
+    bytes.reserve(ROOM)?;
     put_opcode(bytes, op);
-    Ok(())
+    write_operands(alloc, cursor, bytes, kind)
 }

@@ -1,5 +1,6 @@
 //! Operands that are written anew: in their shortest encoding, as they are read, with no list of them held (Core 3.0,
 //! Instructions).
+ghost use Rattle.std.specs.Prelude.{◌+◌, ◌≤◌, vec_len, vec_capacity};
 ghost use Rattle.wasm_codec.specs.Rewriting.{Appends};
 ghost use Rattle.wasm_instructions.specs.formats.Instructions.{operands_format};
 ghost use Rattle.wasm_instructions.specs.declared.table.opcode.Kind.TheVariants as kinds;
@@ -22,7 +23,8 @@ use wasm_types::encode::put_heap_type;
 use wasm_types::reader::read_heap_type;
 use wasm_types::types::ValType;
 
-/// Appends the shortest encoding of the operands of this kind that come next.
+/// Appends the shortest encoding of the operands of this kind that come next. Those without a list are put into room that
+/// was reserved.
 #[inline(always)]
 #[tactic(auto, unfolding(crate::specs::formats::Instructions::operands_format))]
 pub(super) fn write_operands(
@@ -31,12 +33,13 @@ pub(super) fn write_operands(
     bytes: &mut Vec<u8>,
     kind: Kind,
 ) -> Result<(), Fault>
+    requires { vec_len bytes.old + 18 ≤ vec_capacity bytes.old }
     ensures writes { Appends (operands_format kind) cursor.old cursor.new bytes.old.items bytes.new.items result }
 {
     match kind {
         Kind::None => Ok(()),
         Kind::Block => write_block(cursor, bytes),
-        Kind::Index => write_index(alloc, cursor, bytes),
+        Kind::Index => write_index(cursor, bytes),
         Kind::TwoIndexes => write_two_indexes(cursor, bytes),
         Kind::BrTable => write_br_table(alloc, cursor, bytes),
         Kind::Types => write_types(alloc, cursor, bytes),
@@ -63,31 +66,33 @@ pub(super) fn write_operands(
 /// A block type.
 #[tactic(auto, unfolding(crate::specs::formats::Instructions::operands_format))]
 fn write_block(cursor: &mut Cursor<'_>, bytes: &mut Vec<u8>) -> Result<(), Fault>
+    requires { vec_len bytes.old + 7 ≤ vec_capacity bytes.old }
     ensures writes { Appends (operands_format kinds.Block) cursor.old cursor.new bytes.old.items bytes.new.items result }
 {
     let ty = read_block_type(cursor)?;
-    bytes.reserve(7)?;
     put_block_type(bytes, ty);
     Ok(())
 }
 
 /// An index.
 #[tactic(auto, unfolding(crate::specs::formats::Instructions::operands_format))]
-fn write_index(alloc: Global, cursor: &mut Cursor<'_>, bytes: &mut Vec<u8>) -> Result<(), Fault>
+fn write_index(cursor: &mut Cursor<'_>, bytes: &mut Vec<u8>) -> Result<(), Fault>
+    requires { vec_len bytes.old + 5 ≤ vec_capacity bytes.old }
     ensures writes { Appends (operands_format kinds.Index) cursor.old cursor.new bytes.old.items bytes.new.items result }
 {
-    u32::write_anew(alloc, cursor, bytes)?;
+    let index = cursor.u32()?;
+    put_u32(bytes, index);
     Ok(())
 }
 
 /// Two indexes.
 #[tactic(auto, using(std::proofs::Common::append_assoc), unfolding(crate::specs::formats::Instructions::operands_format))]
 fn write_two_indexes(cursor: &mut Cursor<'_>, bytes: &mut Vec<u8>) -> Result<(), Fault>
+    requires { vec_len bytes.old + 10 ≤ vec_capacity bytes.old }
     ensures writes { Appends (operands_format kinds.TwoIndexes) cursor.old cursor.new bytes.old.items bytes.new.items result }
 {
     let first = cursor.u32()?;
     let second = cursor.u32()?;
-    bytes.reserve(10)?;
     put_u32(bytes, first);
     put_u32(bytes, second);
     Ok(())
@@ -115,10 +120,10 @@ fn write_types(alloc: Global, cursor: &mut Cursor<'_>, bytes: &mut Vec<u8>) -> R
 /// The block type and the clauses of a `try_table`.
 #[tactic(auto, using(std::proofs::Common::append_assoc), unfolding(crate::specs::formats::Instructions::operands_format))]
 fn write_try_table(alloc: Global, cursor: &mut Cursor<'_>, bytes: &mut Vec<u8>) -> Result<(), Fault>
+    requires { vec_len bytes.old + 7 ≤ vec_capacity bytes.old }
     ensures writes { Appends (operands_format kinds.TryTable) cursor.old cursor.new bytes.old.items bytes.new.items result }
 {
     let ty = read_block_type(cursor)?;
-    bytes.reserve(7)?;
     put_block_type(bytes, ty);
     write_list_anew::<Catch>(alloc, cursor, bytes)?;
     Ok(())
@@ -127,10 +132,10 @@ fn write_try_table(alloc: Global, cursor: &mut Cursor<'_>, bytes: &mut Vec<u8>) 
 /// A memory argument.
 #[tactic(auto, unfolding(crate::specs::formats::Instructions::operands_format))]
 fn write_mem(cursor: &mut Cursor<'_>, bytes: &mut Vec<u8>) -> Result<(), Fault>
+    requires { vec_len bytes.old + 16 ≤ vec_capacity bytes.old }
     ensures writes { Appends (operands_format kinds.Mem) cursor.old cursor.new bytes.old.items bytes.new.items result }
 {
     let arg = read_mem_arg(cursor)?;
-    bytes.reserve(16)?;
     put_mem_arg(bytes, arg);
     Ok(())
 }
@@ -138,10 +143,10 @@ fn write_mem(cursor: &mut Cursor<'_>, bytes: &mut Vec<u8>) -> Result<(), Fault>
 /// A signed number of 32 bits.
 #[tactic(auto, unfolding(crate::specs::formats::Instructions::operands_format))]
 fn write_i32(cursor: &mut Cursor<'_>, bytes: &mut Vec<u8>) -> Result<(), Fault>
+    requires { vec_len bytes.old + 5 ≤ vec_capacity bytes.old }
     ensures writes { Appends (operands_format kinds.I32) cursor.old cursor.new bytes.old.items bytes.new.items result }
 {
     let value = cursor.s32()?;
-    bytes.reserve(5)?;
     put_i32(bytes, value);
     Ok(())
 }
@@ -149,10 +154,10 @@ fn write_i32(cursor: &mut Cursor<'_>, bytes: &mut Vec<u8>) -> Result<(), Fault>
 /// A signed number of 64 bits.
 #[tactic(auto, unfolding(crate::specs::formats::Instructions::operands_format))]
 fn write_i64(cursor: &mut Cursor<'_>, bytes: &mut Vec<u8>) -> Result<(), Fault>
+    requires { vec_len bytes.old + 10 ≤ vec_capacity bytes.old }
     ensures writes { Appends (operands_format kinds.I64) cursor.old cursor.new bytes.old.items bytes.new.items result }
 {
     let value = cursor.s64()?;
-    bytes.reserve(10)?;
     put_i64(bytes, value);
     Ok(())
 }
@@ -160,10 +165,10 @@ fn write_i64(cursor: &mut Cursor<'_>, bytes: &mut Vec<u8>) -> Result<(), Fault>
 /// The bits of a floating-point number of 32 bits.
 #[tactic(auto, unfolding(crate::specs::formats::Instructions::operands_format))]
 fn write_f32(cursor: &mut Cursor<'_>, bytes: &mut Vec<u8>) -> Result<(), Fault>
+    requires { vec_len bytes.old + 4 ≤ vec_capacity bytes.old }
     ensures writes { Appends (operands_format kinds.F32) cursor.old cursor.new bytes.old.items bytes.new.items result }
 {
     let bits = read_bits_32(cursor)?;
-    bytes.reserve(4)?;
     put_bits_32(bytes, bits);
     Ok(())
 }
@@ -171,10 +176,10 @@ fn write_f32(cursor: &mut Cursor<'_>, bytes: &mut Vec<u8>) -> Result<(), Fault>
 /// The bits of a floating-point number of 64 bits.
 #[tactic(auto, unfolding(crate::specs::formats::Instructions::operands_format))]
 fn write_f64(cursor: &mut Cursor<'_>, bytes: &mut Vec<u8>) -> Result<(), Fault>
+    requires { vec_len bytes.old + 8 ≤ vec_capacity bytes.old }
     ensures writes { Appends (operands_format kinds.F64) cursor.old cursor.new bytes.old.items bytes.new.items result }
 {
     let bits = read_bits_64(cursor)?;
-    bytes.reserve(8)?;
     put_bits_64(bytes, bits);
     Ok(())
 }
@@ -182,10 +187,10 @@ fn write_f64(cursor: &mut Cursor<'_>, bytes: &mut Vec<u8>) -> Result<(), Fault>
 /// A heap type.
 #[tactic(auto, unfolding(crate::specs::formats::Instructions::operands_format))]
 fn write_heap(cursor: &mut Cursor<'_>, bytes: &mut Vec<u8>) -> Result<(), Fault>
+    requires { vec_len bytes.old + 6 ≤ vec_capacity bytes.old }
     ensures writes { Appends (operands_format kinds.Heap) cursor.old cursor.new bytes.old.items bytes.new.items result }
 {
     let ty = read_heap_type(cursor)?;
-    bytes.reserve(6)?;
     put_heap_type(bytes, ty);
     Ok(())
 }
@@ -218,13 +223,13 @@ fn write_resume_throw(
 /// The flags of a branch on a cast, its label and its two heap types.
 #[tactic(auto, using(std::proofs::Common::append_assoc), unfolding(crate::specs::formats::Instructions::operands_format))]
 fn write_cast(cursor: &mut Cursor<'_>, bytes: &mut Vec<u8>) -> Result<(), Fault>
+    requires { vec_len bytes.old + 18 ≤ vec_capacity bytes.old }
     ensures writes { Appends (operands_format kinds.Cast) cursor.old cursor.new bytes.old.items bytes.new.items result }
 {
     let (before_nullable, after_nullable) = read_castop(cursor)?;
     let label = cursor.u32()?;
     let before = read_heap_type(cursor)?;
     let after = read_heap_type(cursor)?;
-    bytes.reserve(18)?;
     put_castop(bytes, before_nullable, after_nullable);
     put_u32(bytes, label);
     put_heap_type(bytes, before);
@@ -235,10 +240,10 @@ fn write_cast(cursor: &mut Cursor<'_>, bytes: &mut Vec<u8>) -> Result<(), Fault>
 /// A vector.
 #[tactic(auto, unfolding(crate::specs::formats::Instructions::operands_format))]
 fn write_v128(cursor: &mut Cursor<'_>, bytes: &mut Vec<u8>) -> Result<(), Fault>
+    requires { vec_len bytes.old + 16 ≤ vec_capacity bytes.old }
     ensures writes { Appends (operands_format kinds.V128) cursor.old cursor.new bytes.old.items bytes.new.items result }
 {
     let value = read_vector(cursor)?;
-    bytes.reserve(16)?;
     put_vector(bytes, value);
     Ok(())
 }
@@ -256,21 +261,22 @@ fn write_shuffle(cursor: &mut Cursor<'_>, bytes: &mut Vec<u8>) -> Result<(), Fau
 /// A lane.
 #[tactic(auto, unfolding(crate::specs::formats::Instructions::operands_format))]
 fn write_lane(cursor: &mut Cursor<'_>, bytes: &mut Vec<u8>) -> Result<(), Fault>
+    requires { vec_len bytes.old + 1 ≤ vec_capacity bytes.old }
     ensures writes { Appends (operands_format kinds.Lane) cursor.old cursor.new bytes.old.items bytes.new.items result }
 {
     let lane = cursor.byte()?;
-    bytes.push(lane)?;
+    bytes.push_reserved(lane);
     Ok(())
 }
 
 /// A memory argument and a lane.
 #[tactic(auto, using(std::proofs::Common::append_assoc), unfolding(crate::specs::formats::Instructions::operands_format))]
 fn write_mem_lane(cursor: &mut Cursor<'_>, bytes: &mut Vec<u8>) -> Result<(), Fault>
+    requires { vec_len bytes.old + 17 ≤ vec_capacity bytes.old }
     ensures writes { Appends (operands_format kinds.MemLane) cursor.old cursor.new bytes.old.items bytes.new.items result }
 {
     let arg = read_mem_arg(cursor)?;
     let lane = cursor.byte()?;
-    bytes.reserve(17)?;
     put_mem_arg(bytes, arg);
     bytes.push_reserved(lane);
     Ok(())
@@ -279,10 +285,10 @@ fn write_mem_lane(cursor: &mut Cursor<'_>, bytes: &mut Vec<u8>) -> Result<(), Fa
 /// An ordering.
 #[tactic(auto, unfolding(crate::specs::formats::Instructions::operands_format))]
 fn write_order(cursor: &mut Cursor<'_>, bytes: &mut Vec<u8>) -> Result<(), Fault>
+    requires { vec_len bytes.old + 1 ≤ vec_capacity bytes.old }
     ensures writes { Appends (operands_format kinds.Order) cursor.old cursor.new bytes.old.items bytes.new.items result }
 {
     let ordering = read_ordering(cursor)?;
-    bytes.reserve(1)?;
     put_ordering(bytes, ordering);
     Ok(())
 }
@@ -290,11 +296,11 @@ fn write_order(cursor: &mut Cursor<'_>, bytes: &mut Vec<u8>) -> Result<(), Fault
 /// An ordering and an index.
 #[tactic(auto, using(std::proofs::Common::append_assoc), unfolding(crate::specs::formats::Instructions::operands_format))]
 fn write_order_index(cursor: &mut Cursor<'_>, bytes: &mut Vec<u8>) -> Result<(), Fault>
+    requires { vec_len bytes.old + 6 ≤ vec_capacity bytes.old }
     ensures writes { Appends (operands_format kinds.OrderIndex) cursor.old cursor.new bytes.old.items bytes.new.items result }
 {
     let ordering = read_ordering(cursor)?;
     let index = cursor.u32()?;
-    bytes.reserve(6)?;
     put_ordering(bytes, ordering);
     put_u32(bytes, index);
     Ok(())
@@ -303,12 +309,12 @@ fn write_order_index(cursor: &mut Cursor<'_>, bytes: &mut Vec<u8>) -> Result<(),
 /// An ordering and two indexes.
 #[tactic(auto, using(std::proofs::Common::append_assoc), unfolding(crate::specs::formats::Instructions::operands_format))]
 fn write_order_two_indexes(cursor: &mut Cursor<'_>, bytes: &mut Vec<u8>) -> Result<(), Fault>
+    requires { vec_len bytes.old + 11 ≤ vec_capacity bytes.old }
     ensures writes { Appends (operands_format kinds.OrderTwoIndexes) cursor.old cursor.new bytes.old.items bytes.new.items result }
 {
     let ordering = read_ordering(cursor)?;
     let first = cursor.u32()?;
     let second = cursor.u32()?;
-    bytes.reserve(11)?;
     put_ordering(bytes, ordering);
     put_u32(bytes, first);
     put_u32(bytes, second);
