@@ -52,26 +52,27 @@ fn write_inner_type(
 ) -> Result<(), Fault>
     ensures writes { Appends inner_type cursor.old cursor.new bytes.old.items bytes.new.items result }
 {
-    match cursor.byte()? {
+    let first = cursor.byte()?;
+    bytes.reserve(6)?;
+    match first {
         0x60 => {
-            bytes.push(0x60)?;
+            bytes.push_reserved(0x60);
             write_list_anew::<ValType>(alloc, cursor, bytes)?;
             write_list_anew::<ValType>(alloc, cursor, bytes)?;
             Ok(())
         }
         0x5f => {
-            bytes.push(0x5f)?;
+            bytes.push_reserved(0x5f);
             write_list_anew::<FieldType>(alloc, cursor, bytes)?;
             Ok(())
         }
         0x5e => {
-            bytes.push(0x5e)?;
+            bytes.push_reserved(0x5e);
             FieldType::write_anew(alloc, cursor, bytes)?;
             Ok(())
         }
         0x5d => {
             let index = cursor.index()?;
-            bytes.reserve(6)?;
             bytes.push_reserved(0x5d);
             put_index(bytes, index);
             Ok(())
