@@ -7,6 +7,7 @@ use Rattle.std.specs.contracts.vec.Vec as vec
 use Rattle.std.specs.declared.alloc.Allocator.{Ghosts}
 use Rattle.wasm_sink.specs.declared.sink.InstructionSink.{InstructionSink}
 use Rattle.wasm_instructions.specs.declared.table.opcode.Opcode.{Opcode}
+use Rattle.wasm_instructions.specs.declared.table.opcode.Prefix.{Prefix}
 use Rattle.wasm_instructions.specs.declared.table.call.Operands.{Operands}
 use Rattle.wasm_instructions.specs.Instructions.{Instruction, call, IsCounted, HasEncoding}
 use Rattle.wasm_instructions.specs.formats.Instructions.{instruction, instructions_bytes}
@@ -14,6 +15,10 @@ use Rattle.wasm_instructions.specs.Lengths.{IsShortEncoding}
 use Rattle.wasm_instructions.specs.Appending.{IsRefusal, IsCallRefusal, IsRefusalOfOne}
 use Rattle.wasm_codec.specs.declared.encode.EncodeError.{EncodeError}
 use Rattle.wasm_codec.specs.declared.encode.EncodeError.TheVariants as errors
+
+-- an opcode of a prefix byte, or of none, and a number
+abbrev pub opcode : Prefix → ℕ → Opcode
+opcode prefix number = record { prefix = prefix; number = number }
 
 module _ {Z : Type 0} where
   -- the bytes behind the sink

@@ -9,7 +9,7 @@ ghost use Rattle.wasm_instructions.specs.declared.table.call.Operands.TheVariant
 use crate::sink::InstructionSink;
 use std::alloc::Allocator;
 use wasm_codec::encode::EncodeError;
-use wasm_instructions::table::Opcode;
+use wasm_instructions::table::Prefix;
 
 impl<'a, A: Allocator> InstructionSink<'a, A> {
     /// `struct.new`: `0xFB 0x00`, then a type index.
@@ -19,7 +19,7 @@ impl<'a, A: Allocator> InstructionSink<'a, A> {
         ensures room { HasRoom self.entry → IsOk result }
         ensures* unchanged { sem 𝓛 (IsUnchangedAtErr A.row A.Allocator self.entry result) }
     {
-        self.emit_index(Opcode::after_fb(0x00), ty)
+        self.emit_index(Prefix::Fb, 0x00, ty)
     }
 
     /// `struct.new_default`: `0xFB 0x01`, then a type index.
@@ -29,7 +29,7 @@ impl<'a, A: Allocator> InstructionSink<'a, A> {
         ensures room { HasRoom self.entry → IsOk result }
         ensures* unchanged { sem 𝓛 (IsUnchangedAtErr A.row A.Allocator self.entry result) }
     {
-        self.emit_index(Opcode::after_fb(0x01), ty)
+        self.emit_index(Prefix::Fb, 0x01, ty)
     }
 
     /// `struct.get`: `0xFB 0x02`, then a type index and a field index.
@@ -39,7 +39,7 @@ impl<'a, A: Allocator> InstructionSink<'a, A> {
         ensures room { HasRoom self.entry → IsOk result }
         ensures* unchanged { sem 𝓛 (IsUnchangedAtErr A.row A.Allocator self.entry result) }
     {
-        self.emit_two_indexes(Opcode::after_fb(0x02), ty, field)
+        self.emit_two_indexes(Prefix::Fb, 0x02, ty, field)
     }
 
     /// `struct.get_s`: `0xFB 0x03`, then a type index and a field index.
@@ -49,7 +49,7 @@ impl<'a, A: Allocator> InstructionSink<'a, A> {
         ensures room { HasRoom self.entry → IsOk result }
         ensures* unchanged { sem 𝓛 (IsUnchangedAtErr A.row A.Allocator self.entry result) }
     {
-        self.emit_two_indexes(Opcode::after_fb(0x03), ty, field)
+        self.emit_two_indexes(Prefix::Fb, 0x03, ty, field)
     }
 
     /// `struct.get_u`: `0xFB 0x04`, then a type index and a field index.
@@ -59,7 +59,7 @@ impl<'a, A: Allocator> InstructionSink<'a, A> {
         ensures room { HasRoom self.entry → IsOk result }
         ensures* unchanged { sem 𝓛 (IsUnchangedAtErr A.row A.Allocator self.entry result) }
     {
-        self.emit_two_indexes(Opcode::after_fb(0x04), ty, field)
+        self.emit_two_indexes(Prefix::Fb, 0x04, ty, field)
     }
 
     /// `struct.set`: `0xFB 0x05`, then a type index and a field index.
@@ -69,7 +69,7 @@ impl<'a, A: Allocator> InstructionSink<'a, A> {
         ensures room { HasRoom self.entry → IsOk result }
         ensures* unchanged { sem 𝓛 (IsUnchangedAtErr A.row A.Allocator self.entry result) }
     {
-        self.emit_two_indexes(Opcode::after_fb(0x05), ty, field)
+        self.emit_two_indexes(Prefix::Fb, 0x05, ty, field)
     }
 
     /// `array.new`: `0xFB 0x06`, then a type index.
@@ -79,7 +79,7 @@ impl<'a, A: Allocator> InstructionSink<'a, A> {
         ensures room { HasRoom self.entry → IsOk result }
         ensures* unchanged { sem 𝓛 (IsUnchangedAtErr A.row A.Allocator self.entry result) }
     {
-        self.emit_index(Opcode::after_fb(0x06), ty)
+        self.emit_index(Prefix::Fb, 0x06, ty)
     }
 
     /// `array.new_default`: `0xFB 0x07`, then a type index.
@@ -89,7 +89,7 @@ impl<'a, A: Allocator> InstructionSink<'a, A> {
         ensures room { HasRoom self.entry → IsOk result }
         ensures* unchanged { sem 𝓛 (IsUnchangedAtErr A.row A.Allocator self.entry result) }
     {
-        self.emit_index(Opcode::after_fb(0x07), ty)
+        self.emit_index(Prefix::Fb, 0x07, ty)
     }
 
     /// `array.new_fixed`: `0xFB 0x08`, then a type index and a length.
@@ -103,7 +103,7 @@ impl<'a, A: Allocator> InstructionSink<'a, A> {
         ensures room { HasRoom self.entry → IsOk result }
         ensures* unchanged { sem 𝓛 (IsUnchangedAtErr A.row A.Allocator self.entry result) }
     {
-        self.emit_two_indexes(Opcode::after_fb(0x08), ty, length)
+        self.emit_two_indexes(Prefix::Fb, 0x08, ty, length)
     }
 
     /// `array.new_data`: `0xFB 0x09`, then a type index and a data index.
@@ -117,7 +117,7 @@ impl<'a, A: Allocator> InstructionSink<'a, A> {
         ensures room { HasRoom self.entry → IsOk result }
         ensures* unchanged { sem 𝓛 (IsUnchangedAtErr A.row A.Allocator self.entry result) }
     {
-        self.emit_two_indexes(Opcode::after_fb(0x09), ty, segment)
+        self.emit_two_indexes(Prefix::Fb, 0x09, ty, segment)
     }
 
     /// `array.new_elem`: `0xFB 0x0A`, then a type index and an element index.
@@ -131,7 +131,7 @@ impl<'a, A: Allocator> InstructionSink<'a, A> {
         ensures room { HasRoom self.entry → IsOk result }
         ensures* unchanged { sem 𝓛 (IsUnchangedAtErr A.row A.Allocator self.entry result) }
     {
-        self.emit_two_indexes(Opcode::after_fb(0x0a), ty, segment)
+        self.emit_two_indexes(Prefix::Fb, 0x0a, ty, segment)
     }
 
     /// `array.get`: `0xFB 0x0B`, then a type index.
@@ -141,7 +141,7 @@ impl<'a, A: Allocator> InstructionSink<'a, A> {
         ensures room { HasRoom self.entry → IsOk result }
         ensures* unchanged { sem 𝓛 (IsUnchangedAtErr A.row A.Allocator self.entry result) }
     {
-        self.emit_index(Opcode::after_fb(0x0b), ty)
+        self.emit_index(Prefix::Fb, 0x0b, ty)
     }
 
     /// `array.get_s`: `0xFB 0x0C`, then a type index.
@@ -151,7 +151,7 @@ impl<'a, A: Allocator> InstructionSink<'a, A> {
         ensures room { HasRoom self.entry → IsOk result }
         ensures* unchanged { sem 𝓛 (IsUnchangedAtErr A.row A.Allocator self.entry result) }
     {
-        self.emit_index(Opcode::after_fb(0x0c), ty)
+        self.emit_index(Prefix::Fb, 0x0c, ty)
     }
 
     /// `array.get_u`: `0xFB 0x0D`, then a type index.
@@ -161,7 +161,7 @@ impl<'a, A: Allocator> InstructionSink<'a, A> {
         ensures room { HasRoom self.entry → IsOk result }
         ensures* unchanged { sem 𝓛 (IsUnchangedAtErr A.row A.Allocator self.entry result) }
     {
-        self.emit_index(Opcode::after_fb(0x0d), ty)
+        self.emit_index(Prefix::Fb, 0x0d, ty)
     }
 
     /// `array.set`: `0xFB 0x0E`, then a type index.
@@ -171,7 +171,7 @@ impl<'a, A: Allocator> InstructionSink<'a, A> {
         ensures room { HasRoom self.entry → IsOk result }
         ensures* unchanged { sem 𝓛 (IsUnchangedAtErr A.row A.Allocator self.entry result) }
     {
-        self.emit_index(Opcode::after_fb(0x0e), ty)
+        self.emit_index(Prefix::Fb, 0x0e, ty)
     }
 
     /// `array.len`: `0xFB 0x0F`.
@@ -181,7 +181,7 @@ impl<'a, A: Allocator> InstructionSink<'a, A> {
         ensures room { HasRoom self.entry → IsOk result }
         ensures* unchanged { sem 𝓛 (IsUnchangedAtErr A.row A.Allocator self.entry result) }
     {
-        self.emit(Opcode::after_fb(0x0f))
+        self.emit(Prefix::Fb, 0x0f)
     }
 
     /// `array.fill`: `0xFB 0x10`, then a type index.
@@ -191,7 +191,7 @@ impl<'a, A: Allocator> InstructionSink<'a, A> {
         ensures room { HasRoom self.entry → IsOk result }
         ensures* unchanged { sem 𝓛 (IsUnchangedAtErr A.row A.Allocator self.entry result) }
     {
-        self.emit_index(Opcode::after_fb(0x10), ty)
+        self.emit_index(Prefix::Fb, 0x10, ty)
     }
 
     /// `array.copy`: `0xFB 0x11`, then the destination's type index and the source's type index.
@@ -205,7 +205,7 @@ impl<'a, A: Allocator> InstructionSink<'a, A> {
         ensures room { HasRoom self.entry → IsOk result }
         ensures* unchanged { sem 𝓛 (IsUnchangedAtErr A.row A.Allocator self.entry result) }
     {
-        self.emit_two_indexes(Opcode::after_fb(0x11), destination_type, source_type)
+        self.emit_two_indexes(Prefix::Fb, 0x11, destination_type, source_type)
     }
 
     /// `array.init_data`: `0xFB 0x12`, then a type index and a data index.
@@ -219,7 +219,7 @@ impl<'a, A: Allocator> InstructionSink<'a, A> {
         ensures room { HasRoom self.entry → IsOk result }
         ensures* unchanged { sem 𝓛 (IsUnchangedAtErr A.row A.Allocator self.entry result) }
     {
-        self.emit_two_indexes(Opcode::after_fb(0x12), ty, segment)
+        self.emit_two_indexes(Prefix::Fb, 0x12, ty, segment)
     }
 
     /// `array.init_elem`: `0xFB 0x13`, then a type index and an element index.
@@ -233,7 +233,7 @@ impl<'a, A: Allocator> InstructionSink<'a, A> {
         ensures room { HasRoom self.entry → IsOk result }
         ensures* unchanged { sem 𝓛 (IsUnchangedAtErr A.row A.Allocator self.entry result) }
     {
-        self.emit_two_indexes(Opcode::after_fb(0x13), ty, segment)
+        self.emit_two_indexes(Prefix::Fb, 0x13, ty, segment)
     }
 
     /// `struct.new_desc`: `0xFB 0x20`, then a type index.
@@ -243,7 +243,7 @@ impl<'a, A: Allocator> InstructionSink<'a, A> {
         ensures room { HasRoom self.entry → IsOk result }
         ensures* unchanged { sem 𝓛 (IsUnchangedAtErr A.row A.Allocator self.entry result) }
     {
-        self.emit_index(Opcode::after_fb(0x20), ty)
+        self.emit_index(Prefix::Fb, 0x20, ty)
     }
 
     /// `struct.new_default_desc`: `0xFB 0x21`, then a type index.
@@ -253,6 +253,6 @@ impl<'a, A: Allocator> InstructionSink<'a, A> {
         ensures room { HasRoom self.entry → IsOk result }
         ensures* unchanged { sem 𝓛 (IsUnchangedAtErr A.row A.Allocator self.entry result) }
     {
-        self.emit_index(Opcode::after_fb(0x21), ty)
+        self.emit_index(Prefix::Fb, 0x21, ty)
     }
 }

@@ -13,7 +13,7 @@ use crate::sink::InstructionSink;
 use std::alloc::Allocator;
 use wasm_codec::encode::EncodeError;
 use wasm_instructions::operands::{BlockType, Catch};
-use wasm_instructions::table::Opcode;
+use wasm_instructions::table::Prefix;
 
 impl<'a, A: Allocator> InstructionSink<'a, A> {
     /// `unreachable`: `0x00`.
@@ -23,7 +23,7 @@ impl<'a, A: Allocator> InstructionSink<'a, A> {
         ensures room { HasRoom self.entry → IsOk result }
         ensures* unchanged { sem 𝓛 (IsUnchangedAtErr A.row A.Allocator self.entry result) }
     {
-        self.emit(Opcode::without_prefix(0x00))
+        self.emit(Prefix::None, 0x00)
     }
 
     /// `nop`: `0x01`.
@@ -33,7 +33,7 @@ impl<'a, A: Allocator> InstructionSink<'a, A> {
         ensures room { HasRoom self.entry → IsOk result }
         ensures* unchanged { sem 𝓛 (IsUnchangedAtErr A.row A.Allocator self.entry result) }
     {
-        self.emit(Opcode::without_prefix(0x01))
+        self.emit(Prefix::None, 0x01)
     }
 
     /// `block`: `0x02`, then a block type.
@@ -43,7 +43,7 @@ impl<'a, A: Allocator> InstructionSink<'a, A> {
         ensures room { HasRoom self.entry → IsOk result }
         ensures* unchanged { sem 𝓛 (IsUnchangedAtErr A.row A.Allocator self.entry result) }
     {
-        self.emit_block(Opcode::without_prefix(0x02), block_type)
+        self.emit_block(0x02, block_type)
     }
 
     /// `loop`: `0x03`, then a block type.
@@ -53,7 +53,7 @@ impl<'a, A: Allocator> InstructionSink<'a, A> {
         ensures room { HasRoom self.entry → IsOk result }
         ensures* unchanged { sem 𝓛 (IsUnchangedAtErr A.row A.Allocator self.entry result) }
     {
-        self.emit_block(Opcode::without_prefix(0x03), block_type)
+        self.emit_block(0x03, block_type)
     }
 
     /// `if`: `0x04`, then a block type.
@@ -63,7 +63,7 @@ impl<'a, A: Allocator> InstructionSink<'a, A> {
         ensures room { HasRoom self.entry → IsOk result }
         ensures* unchanged { sem 𝓛 (IsUnchangedAtErr A.row A.Allocator self.entry result) }
     {
-        self.emit_block(Opcode::without_prefix(0x04), block_type)
+        self.emit_block(0x04, block_type)
     }
 
     /// `else`: `0x05`.
@@ -73,7 +73,7 @@ impl<'a, A: Allocator> InstructionSink<'a, A> {
         ensures room { HasRoom self.entry → IsOk result }
         ensures* unchanged { sem 𝓛 (IsUnchangedAtErr A.row A.Allocator self.entry result) }
     {
-        self.emit(Opcode::without_prefix(0x05))
+        self.emit(Prefix::None, 0x05)
     }
 
     /// `try`: `0x06`, then a block type.
@@ -83,7 +83,7 @@ impl<'a, A: Allocator> InstructionSink<'a, A> {
         ensures room { HasRoom self.entry → IsOk result }
         ensures* unchanged { sem 𝓛 (IsUnchangedAtErr A.row A.Allocator self.entry result) }
     {
-        self.emit_block(Opcode::without_prefix(0x06), block_type)
+        self.emit_block(0x06, block_type)
     }
 
     /// `catch`: `0x07`, then a tag index.
@@ -93,7 +93,7 @@ impl<'a, A: Allocator> InstructionSink<'a, A> {
         ensures room { HasRoom self.entry → IsOk result }
         ensures* unchanged { sem 𝓛 (IsUnchangedAtErr A.row A.Allocator self.entry result) }
     {
-        self.emit_index(Opcode::without_prefix(0x07), tag)
+        self.emit_index(Prefix::None, 0x07, tag)
     }
 
     /// `throw`: `0x08`, then a tag index.
@@ -103,7 +103,7 @@ impl<'a, A: Allocator> InstructionSink<'a, A> {
         ensures room { HasRoom self.entry → IsOk result }
         ensures* unchanged { sem 𝓛 (IsUnchangedAtErr A.row A.Allocator self.entry result) }
     {
-        self.emit_index(Opcode::without_prefix(0x08), tag)
+        self.emit_index(Prefix::None, 0x08, tag)
     }
 
     /// `rethrow`: `0x09`, then a label index.
@@ -113,7 +113,7 @@ impl<'a, A: Allocator> InstructionSink<'a, A> {
         ensures room { HasRoom self.entry → IsOk result }
         ensures* unchanged { sem 𝓛 (IsUnchangedAtErr A.row A.Allocator self.entry result) }
     {
-        self.emit_index(Opcode::without_prefix(0x09), label)
+        self.emit_index(Prefix::None, 0x09, label)
     }
 
     /// `throw_ref`: `0x0A`.
@@ -123,7 +123,7 @@ impl<'a, A: Allocator> InstructionSink<'a, A> {
         ensures room { HasRoom self.entry → IsOk result }
         ensures* unchanged { sem 𝓛 (IsUnchangedAtErr A.row A.Allocator self.entry result) }
     {
-        self.emit(Opcode::without_prefix(0x0a))
+        self.emit(Prefix::None, 0x0a)
     }
 
     /// `end`: `0x0B`.
@@ -133,7 +133,7 @@ impl<'a, A: Allocator> InstructionSink<'a, A> {
         ensures room { HasRoom self.entry → IsOk result }
         ensures* unchanged { sem 𝓛 (IsUnchangedAtErr A.row A.Allocator self.entry result) }
     {
-        self.emit(Opcode::without_prefix(0x0b))
+        self.emit(Prefix::None, 0x0b)
     }
 
     /// `br`: `0x0C`, then a label index.
@@ -143,7 +143,7 @@ impl<'a, A: Allocator> InstructionSink<'a, A> {
         ensures room { HasRoom self.entry → IsOk result }
         ensures* unchanged { sem 𝓛 (IsUnchangedAtErr A.row A.Allocator self.entry result) }
     {
-        self.emit_index(Opcode::without_prefix(0x0c), label)
+        self.emit_index(Prefix::None, 0x0c, label)
     }
 
     /// `br_if`: `0x0D`, then a label index.
@@ -153,7 +153,7 @@ impl<'a, A: Allocator> InstructionSink<'a, A> {
         ensures room { HasRoom self.entry → IsOk result }
         ensures* unchanged { sem 𝓛 (IsUnchangedAtErr A.row A.Allocator self.entry result) }
     {
-        self.emit_index(Opcode::without_prefix(0x0d), label)
+        self.emit_index(Prefix::None, 0x0d, label)
     }
 
     /// `br_table`: `0x0E`, then a list of label indexes and the default's label index.
@@ -179,7 +179,7 @@ impl<'a, A: Allocator> InstructionSink<'a, A> {
         ensures room { HasRoom self.entry → IsOk result }
         ensures* unchanged { sem 𝓛 (IsUnchangedAtErr A.row A.Allocator self.entry result) }
     {
-        self.emit(Opcode::without_prefix(0x0f))
+        self.emit(Prefix::None, 0x0f)
     }
 
     /// `call`: `0x10`, then a function index.
@@ -189,7 +189,7 @@ impl<'a, A: Allocator> InstructionSink<'a, A> {
         ensures room { HasRoom self.entry → IsOk result }
         ensures* unchanged { sem 𝓛 (IsUnchangedAtErr A.row A.Allocator self.entry result) }
     {
-        self.emit_index(Opcode::without_prefix(0x10), function)
+        self.emit_index(Prefix::None, 0x10, function)
     }
 
     /// `call_indirect`: `0x11`, then a type index and a table index.
@@ -199,7 +199,7 @@ impl<'a, A: Allocator> InstructionSink<'a, A> {
         ensures room { HasRoom self.entry → IsOk result }
         ensures* unchanged { sem 𝓛 (IsUnchangedAtErr A.row A.Allocator self.entry result) }
     {
-        self.emit_two_indexes(Opcode::without_prefix(0x11), ty, table)
+        self.emit_two_indexes(Prefix::None, 0x11, ty, table)
     }
 
     /// `return_call`: `0x12`, then a function index.
@@ -209,7 +209,7 @@ impl<'a, A: Allocator> InstructionSink<'a, A> {
         ensures room { HasRoom self.entry → IsOk result }
         ensures* unchanged { sem 𝓛 (IsUnchangedAtErr A.row A.Allocator self.entry result) }
     {
-        self.emit_index(Opcode::without_prefix(0x12), function)
+        self.emit_index(Prefix::None, 0x12, function)
     }
 
     /// `return_call_indirect`: `0x13`, then a type index and a table index.
@@ -223,7 +223,7 @@ impl<'a, A: Allocator> InstructionSink<'a, A> {
         ensures room { HasRoom self.entry → IsOk result }
         ensures* unchanged { sem 𝓛 (IsUnchangedAtErr A.row A.Allocator self.entry result) }
     {
-        self.emit_two_indexes(Opcode::without_prefix(0x13), ty, table)
+        self.emit_two_indexes(Prefix::None, 0x13, ty, table)
     }
 
     /// `call_ref`: `0x14`, then a type index.
@@ -233,7 +233,7 @@ impl<'a, A: Allocator> InstructionSink<'a, A> {
         ensures room { HasRoom self.entry → IsOk result }
         ensures* unchanged { sem 𝓛 (IsUnchangedAtErr A.row A.Allocator self.entry result) }
     {
-        self.emit_index(Opcode::without_prefix(0x14), ty)
+        self.emit_index(Prefix::None, 0x14, ty)
     }
 
     /// `return_call_ref`: `0x15`, then a type index.
@@ -243,7 +243,7 @@ impl<'a, A: Allocator> InstructionSink<'a, A> {
         ensures room { HasRoom self.entry → IsOk result }
         ensures* unchanged { sem 𝓛 (IsUnchangedAtErr A.row A.Allocator self.entry result) }
     {
-        self.emit_index(Opcode::without_prefix(0x15), ty)
+        self.emit_index(Prefix::None, 0x15, ty)
     }
 
     /// `delegate`: `0x18`, then a label index.
@@ -253,7 +253,7 @@ impl<'a, A: Allocator> InstructionSink<'a, A> {
         ensures room { HasRoom self.entry → IsOk result }
         ensures* unchanged { sem 𝓛 (IsUnchangedAtErr A.row A.Allocator self.entry result) }
     {
-        self.emit_index(Opcode::without_prefix(0x18), label)
+        self.emit_index(Prefix::None, 0x18, label)
     }
 
     /// `catch_all`: `0x19`.
@@ -263,7 +263,7 @@ impl<'a, A: Allocator> InstructionSink<'a, A> {
         ensures room { HasRoom self.entry → IsOk result }
         ensures* unchanged { sem 𝓛 (IsUnchangedAtErr A.row A.Allocator self.entry result) }
     {
-        self.emit(Opcode::without_prefix(0x19))
+        self.emit(Prefix::None, 0x19)
     }
 
     /// `try_table`: `0x1F`, then a block type and a list of catch clauses.

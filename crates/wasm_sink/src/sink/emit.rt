@@ -1,7 +1,8 @@
-//! One emitter for each kind of operands: the appender of the kind, over the sink's list of bytes.
+//! One emitter for each kind of operands: the appender of the kind, over the sink's list of bytes. It takes the opcode's
+//! number, and the prefix too where opcodes of the kind have different ones.
 ghost use Rattle.std.specs.Prelude.{IsOk};
 ghost use Rattle.std.specs.Borrow.{sem};
-ghost use Rattle.wasm_sink.specs.Sink.{IsUnchangedAtErr, IsSameSink, Writes, HasRoom};
+ghost use Rattle.wasm_sink.specs.Sink.{opcode, IsUnchangedAtErr, IsSameSink, Writes, HasRoom};
 ghost use Rattle.wasm_instructions.specs.Instructions.{IsShort};
 ghost use Rattle.wasm_instructions.specs.declared.table.call.Operands.TheVariants as operands;
 
@@ -15,55 +16,61 @@ use super::InstructionSink;
 use std::alloc::Allocator;
 use wasm_codec::encode::EncodeError;
 use wasm_instructions::encode::{append_index, append_opcode, append_two_indexes};
-use wasm_instructions::table::Opcode;
+use wasm_instructions::table::{Opcode, Prefix};
 
 #[tactic(auto, using(wasm_instructions::proofs::InstructionLengths::short_call))]
 impl<'a, A: Allocator> InstructionSink<'a, A> {
     /// An instruction without operands.
-    pub(super) fn emit(self, op: Opcode) -> Result<InstructionSink<'a, A>, EncodeError>
-        requires { IsShort op }
-        ensures wrote { Writes self.entry op operands.None result }
+    pub(super) fn emit(
+        self,
+        prefix: Prefix,
+        number: u32,
+    ) -> Result<InstructionSink<'a, A>, EncodeError>
+        requires { IsShort (opcode prefix number) }
+        ensures wrote { Writes self.entry (opcode prefix number) operands.None result }
         ensures same { IsSameSink self.entry result }
         ensures room { HasRoom self.entry → IsOk result }
         ensures* unchanged { sem 𝓛 (IsUnchangedAtErr A.row A.Allocator self.entry result) }
     {
         let InstructionSink { bytes } = self;
-        append_opcode(bytes, op)?;
+        append_opcode(bytes, Opcode { prefix, number })?;
         Ok(InstructionSink { bytes })
     }
 
     /// An instruction with an index.
     pub(super) fn emit_index(
         self,
-        op: Opcode,
+        prefix: Prefix,
+        number: u32,
         index: u32,
     ) -> Result<InstructionSink<'a, A>, EncodeError>
-        requires { IsShort op }
-        ensures wrote { Writes self.entry op (operands.Index index) result }
+        requires { IsShort (opcode prefix number) }
+        ensures wrote { Writes self.entry (opcode prefix number) (operands.Index index) result }
         ensures same { IsSameSink self.entry result }
         ensures room { HasRoom self.entry → IsOk result }
         ensures* unchanged { sem 𝓛 (IsUnchangedAtErr A.row A.Allocator self.entry result) }
     {
         let InstructionSink { bytes } = self;
-        append_index(bytes, op, index)?;
+        append_index(bytes, Opcode { prefix, number }, index)?;
         Ok(InstructionSink { bytes })
     }
 
     /// An instruction with two indexes, in the order in which they are written.
     pub(super) fn emit_two_indexes(
         self,
-        op: Opcode,
+        prefix: Prefix,
+        number: u32,
         first: u32,
         second: u32,
     ) -> Result<InstructionSink<'a, A>, EncodeError>
-        requires { IsShort op }
-        ensures wrote { Writes self.entry op (operands.TwoIndexes first second) result }
+        requires { IsShort (opcode prefix number) }
+        ensures wrote { Writes self.entry (opcode prefix number) (operands.TwoIndexes first second) result }
         ensures same { IsSameSink self.entry result }
         ensures room { HasRoom self.entry → IsOk result }
         ensures* unchanged { sem 𝓛 (IsUnchangedAtErr A.row A.Allocator self.entry result) }
     {
         let InstructionSink { bytes } = self;
-        append_two_indexes(bytes, op, first, second)?;
+        append_two_indexes(bytes, Opcode { prefix, number }, first, second)?;
         Ok(InstructionSink { bytes })
     }
 }

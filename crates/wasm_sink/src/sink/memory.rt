@@ -9,7 +9,7 @@ use crate::sink::InstructionSink;
 use std::alloc::Allocator;
 use wasm_codec::encode::EncodeError;
 use wasm_instructions::operands::MemArg;
-use wasm_instructions::table::Opcode;
+use wasm_instructions::table::Prefix;
 
 impl<'a, A: Allocator> InstructionSink<'a, A> {
     /// `i32.load`: `0x28`, then a memory argument. `Alignment` where `memarg.align` is 64 or more.
@@ -20,7 +20,7 @@ impl<'a, A: Allocator> InstructionSink<'a, A> {
         ensures room { HasRoom self.entry → memarg.align < 64 → IsOk result }
         ensures* unchanged { sem 𝓛 (IsUnchangedAtErr A.row A.Allocator self.entry result) }
     {
-        self.emit_mem(Opcode::without_prefix(0x28), memarg)
+        self.emit_mem(Prefix::None, 0x28, memarg)
     }
 
     /// `i64.load`: `0x29`, then a memory argument. `Alignment` where `memarg.align` is 64 or more.
@@ -31,7 +31,7 @@ impl<'a, A: Allocator> InstructionSink<'a, A> {
         ensures room { HasRoom self.entry → memarg.align < 64 → IsOk result }
         ensures* unchanged { sem 𝓛 (IsUnchangedAtErr A.row A.Allocator self.entry result) }
     {
-        self.emit_mem(Opcode::without_prefix(0x29), memarg)
+        self.emit_mem(Prefix::None, 0x29, memarg)
     }
 
     /// `f32.load`: `0x2A`, then a memory argument. `Alignment` where `memarg.align` is 64 or more.
@@ -42,7 +42,7 @@ impl<'a, A: Allocator> InstructionSink<'a, A> {
         ensures room { HasRoom self.entry → memarg.align < 64 → IsOk result }
         ensures* unchanged { sem 𝓛 (IsUnchangedAtErr A.row A.Allocator self.entry result) }
     {
-        self.emit_mem(Opcode::without_prefix(0x2a), memarg)
+        self.emit_mem(Prefix::None, 0x2a, memarg)
     }
 
     /// `f64.load`: `0x2B`, then a memory argument. `Alignment` where `memarg.align` is 64 or more.
@@ -53,7 +53,7 @@ impl<'a, A: Allocator> InstructionSink<'a, A> {
         ensures room { HasRoom self.entry → memarg.align < 64 → IsOk result }
         ensures* unchanged { sem 𝓛 (IsUnchangedAtErr A.row A.Allocator self.entry result) }
     {
-        self.emit_mem(Opcode::without_prefix(0x2b), memarg)
+        self.emit_mem(Prefix::None, 0x2b, memarg)
     }
 
     /// `i32.load8_s`: `0x2C`, then a memory argument. `Alignment` where `memarg.align` is 64 or more.
@@ -64,7 +64,7 @@ impl<'a, A: Allocator> InstructionSink<'a, A> {
         ensures room { HasRoom self.entry → memarg.align < 64 → IsOk result }
         ensures* unchanged { sem 𝓛 (IsUnchangedAtErr A.row A.Allocator self.entry result) }
     {
-        self.emit_mem(Opcode::without_prefix(0x2c), memarg)
+        self.emit_mem(Prefix::None, 0x2c, memarg)
     }
 
     /// `i32.load8_u`: `0x2D`, then a memory argument. `Alignment` where `memarg.align` is 64 or more.
@@ -75,7 +75,7 @@ impl<'a, A: Allocator> InstructionSink<'a, A> {
         ensures room { HasRoom self.entry → memarg.align < 64 → IsOk result }
         ensures* unchanged { sem 𝓛 (IsUnchangedAtErr A.row A.Allocator self.entry result) }
     {
-        self.emit_mem(Opcode::without_prefix(0x2d), memarg)
+        self.emit_mem(Prefix::None, 0x2d, memarg)
     }
 
     /// `i32.load16_s`: `0x2E`, then a memory argument. `Alignment` where `memarg.align` is 64 or more.
@@ -86,7 +86,7 @@ impl<'a, A: Allocator> InstructionSink<'a, A> {
         ensures room { HasRoom self.entry → memarg.align < 64 → IsOk result }
         ensures* unchanged { sem 𝓛 (IsUnchangedAtErr A.row A.Allocator self.entry result) }
     {
-        self.emit_mem(Opcode::without_prefix(0x2e), memarg)
+        self.emit_mem(Prefix::None, 0x2e, memarg)
     }
 
     /// `i32.load16_u`: `0x2F`, then a memory argument. `Alignment` where `memarg.align` is 64 or more.
@@ -97,7 +97,7 @@ impl<'a, A: Allocator> InstructionSink<'a, A> {
         ensures room { HasRoom self.entry → memarg.align < 64 → IsOk result }
         ensures* unchanged { sem 𝓛 (IsUnchangedAtErr A.row A.Allocator self.entry result) }
     {
-        self.emit_mem(Opcode::without_prefix(0x2f), memarg)
+        self.emit_mem(Prefix::None, 0x2f, memarg)
     }
 
     /// `i64.load8_s`: `0x30`, then a memory argument. `Alignment` where `memarg.align` is 64 or more.
@@ -108,7 +108,7 @@ impl<'a, A: Allocator> InstructionSink<'a, A> {
         ensures room { HasRoom self.entry → memarg.align < 64 → IsOk result }
         ensures* unchanged { sem 𝓛 (IsUnchangedAtErr A.row A.Allocator self.entry result) }
     {
-        self.emit_mem(Opcode::without_prefix(0x30), memarg)
+        self.emit_mem(Prefix::None, 0x30, memarg)
     }
 
     /// `i64.load8_u`: `0x31`, then a memory argument. `Alignment` where `memarg.align` is 64 or more.
@@ -119,7 +119,7 @@ impl<'a, A: Allocator> InstructionSink<'a, A> {
         ensures room { HasRoom self.entry → memarg.align < 64 → IsOk result }
         ensures* unchanged { sem 𝓛 (IsUnchangedAtErr A.row A.Allocator self.entry result) }
     {
-        self.emit_mem(Opcode::without_prefix(0x31), memarg)
+        self.emit_mem(Prefix::None, 0x31, memarg)
     }
 
     /// `i64.load16_s`: `0x32`, then a memory argument. `Alignment` where `memarg.align` is 64 or more.
@@ -130,7 +130,7 @@ impl<'a, A: Allocator> InstructionSink<'a, A> {
         ensures room { HasRoom self.entry → memarg.align < 64 → IsOk result }
         ensures* unchanged { sem 𝓛 (IsUnchangedAtErr A.row A.Allocator self.entry result) }
     {
-        self.emit_mem(Opcode::without_prefix(0x32), memarg)
+        self.emit_mem(Prefix::None, 0x32, memarg)
     }
 
     /// `i64.load16_u`: `0x33`, then a memory argument. `Alignment` where `memarg.align` is 64 or more.
@@ -141,7 +141,7 @@ impl<'a, A: Allocator> InstructionSink<'a, A> {
         ensures room { HasRoom self.entry → memarg.align < 64 → IsOk result }
         ensures* unchanged { sem 𝓛 (IsUnchangedAtErr A.row A.Allocator self.entry result) }
     {
-        self.emit_mem(Opcode::without_prefix(0x33), memarg)
+        self.emit_mem(Prefix::None, 0x33, memarg)
     }
 
     /// `i64.load32_s`: `0x34`, then a memory argument. `Alignment` where `memarg.align` is 64 or more.
@@ -152,7 +152,7 @@ impl<'a, A: Allocator> InstructionSink<'a, A> {
         ensures room { HasRoom self.entry → memarg.align < 64 → IsOk result }
         ensures* unchanged { sem 𝓛 (IsUnchangedAtErr A.row A.Allocator self.entry result) }
     {
-        self.emit_mem(Opcode::without_prefix(0x34), memarg)
+        self.emit_mem(Prefix::None, 0x34, memarg)
     }
 
     /// `i64.load32_u`: `0x35`, then a memory argument. `Alignment` where `memarg.align` is 64 or more.
@@ -163,7 +163,7 @@ impl<'a, A: Allocator> InstructionSink<'a, A> {
         ensures room { HasRoom self.entry → memarg.align < 64 → IsOk result }
         ensures* unchanged { sem 𝓛 (IsUnchangedAtErr A.row A.Allocator self.entry result) }
     {
-        self.emit_mem(Opcode::without_prefix(0x35), memarg)
+        self.emit_mem(Prefix::None, 0x35, memarg)
     }
 
     /// `i32.store`: `0x36`, then a memory argument. `Alignment` where `memarg.align` is 64 or more.
@@ -174,7 +174,7 @@ impl<'a, A: Allocator> InstructionSink<'a, A> {
         ensures room { HasRoom self.entry → memarg.align < 64 → IsOk result }
         ensures* unchanged { sem 𝓛 (IsUnchangedAtErr A.row A.Allocator self.entry result) }
     {
-        self.emit_mem(Opcode::without_prefix(0x36), memarg)
+        self.emit_mem(Prefix::None, 0x36, memarg)
     }
 
     /// `i64.store`: `0x37`, then a memory argument. `Alignment` where `memarg.align` is 64 or more.
@@ -185,7 +185,7 @@ impl<'a, A: Allocator> InstructionSink<'a, A> {
         ensures room { HasRoom self.entry → memarg.align < 64 → IsOk result }
         ensures* unchanged { sem 𝓛 (IsUnchangedAtErr A.row A.Allocator self.entry result) }
     {
-        self.emit_mem(Opcode::without_prefix(0x37), memarg)
+        self.emit_mem(Prefix::None, 0x37, memarg)
     }
 
     /// `f32.store`: `0x38`, then a memory argument. `Alignment` where `memarg.align` is 64 or more.
@@ -196,7 +196,7 @@ impl<'a, A: Allocator> InstructionSink<'a, A> {
         ensures room { HasRoom self.entry → memarg.align < 64 → IsOk result }
         ensures* unchanged { sem 𝓛 (IsUnchangedAtErr A.row A.Allocator self.entry result) }
     {
-        self.emit_mem(Opcode::without_prefix(0x38), memarg)
+        self.emit_mem(Prefix::None, 0x38, memarg)
     }
 
     /// `f64.store`: `0x39`, then a memory argument. `Alignment` where `memarg.align` is 64 or more.
@@ -207,7 +207,7 @@ impl<'a, A: Allocator> InstructionSink<'a, A> {
         ensures room { HasRoom self.entry → memarg.align < 64 → IsOk result }
         ensures* unchanged { sem 𝓛 (IsUnchangedAtErr A.row A.Allocator self.entry result) }
     {
-        self.emit_mem(Opcode::without_prefix(0x39), memarg)
+        self.emit_mem(Prefix::None, 0x39, memarg)
     }
 
     /// `i32.store8`: `0x3A`, then a memory argument. `Alignment` where `memarg.align` is 64 or more.
@@ -218,7 +218,7 @@ impl<'a, A: Allocator> InstructionSink<'a, A> {
         ensures room { HasRoom self.entry → memarg.align < 64 → IsOk result }
         ensures* unchanged { sem 𝓛 (IsUnchangedAtErr A.row A.Allocator self.entry result) }
     {
-        self.emit_mem(Opcode::without_prefix(0x3a), memarg)
+        self.emit_mem(Prefix::None, 0x3a, memarg)
     }
 
     /// `i32.store16`: `0x3B`, then a memory argument. `Alignment` where `memarg.align` is 64 or more.
@@ -229,7 +229,7 @@ impl<'a, A: Allocator> InstructionSink<'a, A> {
         ensures room { HasRoom self.entry → memarg.align < 64 → IsOk result }
         ensures* unchanged { sem 𝓛 (IsUnchangedAtErr A.row A.Allocator self.entry result) }
     {
-        self.emit_mem(Opcode::without_prefix(0x3b), memarg)
+        self.emit_mem(Prefix::None, 0x3b, memarg)
     }
 
     /// `i64.store8`: `0x3C`, then a memory argument. `Alignment` where `memarg.align` is 64 or more.
@@ -240,7 +240,7 @@ impl<'a, A: Allocator> InstructionSink<'a, A> {
         ensures room { HasRoom self.entry → memarg.align < 64 → IsOk result }
         ensures* unchanged { sem 𝓛 (IsUnchangedAtErr A.row A.Allocator self.entry result) }
     {
-        self.emit_mem(Opcode::without_prefix(0x3c), memarg)
+        self.emit_mem(Prefix::None, 0x3c, memarg)
     }
 
     /// `i64.store16`: `0x3D`, then a memory argument. `Alignment` where `memarg.align` is 64 or more.
@@ -251,7 +251,7 @@ impl<'a, A: Allocator> InstructionSink<'a, A> {
         ensures room { HasRoom self.entry → memarg.align < 64 → IsOk result }
         ensures* unchanged { sem 𝓛 (IsUnchangedAtErr A.row A.Allocator self.entry result) }
     {
-        self.emit_mem(Opcode::without_prefix(0x3d), memarg)
+        self.emit_mem(Prefix::None, 0x3d, memarg)
     }
 
     /// `i64.store32`: `0x3E`, then a memory argument. `Alignment` where `memarg.align` is 64 or more.
@@ -262,7 +262,7 @@ impl<'a, A: Allocator> InstructionSink<'a, A> {
         ensures room { HasRoom self.entry → memarg.align < 64 → IsOk result }
         ensures* unchanged { sem 𝓛 (IsUnchangedAtErr A.row A.Allocator self.entry result) }
     {
-        self.emit_mem(Opcode::without_prefix(0x3e), memarg)
+        self.emit_mem(Prefix::None, 0x3e, memarg)
     }
 
     /// `memory.size`: `0x3F`, then a memory index.
@@ -272,7 +272,7 @@ impl<'a, A: Allocator> InstructionSink<'a, A> {
         ensures room { HasRoom self.entry → IsOk result }
         ensures* unchanged { sem 𝓛 (IsUnchangedAtErr A.row A.Allocator self.entry result) }
     {
-        self.emit_index(Opcode::without_prefix(0x3f), memory)
+        self.emit_index(Prefix::None, 0x3f, memory)
     }
 
     /// `memory.grow`: `0x40`, then a memory index.
@@ -282,7 +282,7 @@ impl<'a, A: Allocator> InstructionSink<'a, A> {
         ensures room { HasRoom self.entry → IsOk result }
         ensures* unchanged { sem 𝓛 (IsUnchangedAtErr A.row A.Allocator self.entry result) }
     {
-        self.emit_index(Opcode::without_prefix(0x40), memory)
+        self.emit_index(Prefix::None, 0x40, memory)
     }
 
     /// `memory.init`: `0xFC 0x08`, then a data index and a memory index.
@@ -296,7 +296,7 @@ impl<'a, A: Allocator> InstructionSink<'a, A> {
         ensures room { HasRoom self.entry → IsOk result }
         ensures* unchanged { sem 𝓛 (IsUnchangedAtErr A.row A.Allocator self.entry result) }
     {
-        self.emit_two_indexes(Opcode::after_fc(0x08), segment, memory)
+        self.emit_two_indexes(Prefix::Fc, 0x08, segment, memory)
     }
 
     /// `data.drop`: `0xFC 0x09`, then a data index.
@@ -306,7 +306,7 @@ impl<'a, A: Allocator> InstructionSink<'a, A> {
         ensures room { HasRoom self.entry → IsOk result }
         ensures* unchanged { sem 𝓛 (IsUnchangedAtErr A.row A.Allocator self.entry result) }
     {
-        self.emit_index(Opcode::after_fc(0x09), segment)
+        self.emit_index(Prefix::Fc, 0x09, segment)
     }
 
     /// `memory.copy`: `0xFC 0x0A`, then the destination's memory index and the source's memory index.
@@ -320,7 +320,7 @@ impl<'a, A: Allocator> InstructionSink<'a, A> {
         ensures room { HasRoom self.entry → IsOk result }
         ensures* unchanged { sem 𝓛 (IsUnchangedAtErr A.row A.Allocator self.entry result) }
     {
-        self.emit_two_indexes(Opcode::after_fc(0x0a), destination, source)
+        self.emit_two_indexes(Prefix::Fc, 0x0a, destination, source)
     }
 
     /// `memory.fill`: `0xFC 0x0B`, then a memory index.
@@ -330,7 +330,7 @@ impl<'a, A: Allocator> InstructionSink<'a, A> {
         ensures room { HasRoom self.entry → IsOk result }
         ensures* unchanged { sem 𝓛 (IsUnchangedAtErr A.row A.Allocator self.entry result) }
     {
-        self.emit_index(Opcode::after_fc(0x0b), memory)
+        self.emit_index(Prefix::Fc, 0x0b, memory)
     }
 
     /// `memory.discard`: `0xFC 0x12`, then a memory index.
@@ -340,6 +340,6 @@ impl<'a, A: Allocator> InstructionSink<'a, A> {
         ensures room { HasRoom self.entry → IsOk result }
         ensures* unchanged { sem 𝓛 (IsUnchangedAtErr A.row A.Allocator self.entry result) }
     {
-        self.emit_index(Opcode::after_fc(0x12), memory)
+        self.emit_index(Prefix::Fc, 0x12, memory)
     }
 }

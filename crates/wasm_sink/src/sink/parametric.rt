@@ -9,7 +9,7 @@ ghost use Rattle.wasm_instructions.specs.declared.table.call.Operands.TheVariant
 use crate::sink::InstructionSink;
 use std::alloc::Allocator;
 use wasm_codec::encode::EncodeError;
-use wasm_instructions::table::Opcode;
+use wasm_instructions::table::Prefix;
 use wasm_types::types::ValType;
 
 impl<'a, A: Allocator> InstructionSink<'a, A> {
@@ -20,7 +20,7 @@ impl<'a, A: Allocator> InstructionSink<'a, A> {
         ensures room { HasRoom self.entry → IsOk result }
         ensures* unchanged { sem 𝓛 (IsUnchangedAtErr A.row A.Allocator self.entry result) }
     {
-        self.emit(Opcode::without_prefix(0x1a))
+        self.emit(Prefix::None, 0x1a)
     }
 
     /// `select`: `0x1B`.
@@ -30,7 +30,7 @@ impl<'a, A: Allocator> InstructionSink<'a, A> {
         ensures room { HasRoom self.entry → IsOk result }
         ensures* unchanged { sem 𝓛 (IsUnchangedAtErr A.row A.Allocator self.entry result) }
     {
-        self.emit(Opcode::without_prefix(0x1b))
+        self.emit(Prefix::None, 0x1b)
     }
 
     /// `select` with one type: `0x1C`, then a list of one value type.
@@ -40,7 +40,7 @@ impl<'a, A: Allocator> InstructionSink<'a, A> {
         ensures room { HasRoom self.entry → IsOk result }
         ensures* unchanged { sem 𝓛 (IsUnchangedAtErr A.row A.Allocator self.entry result) }
     {
-        self.emit_type(Opcode::without_prefix(0x1c), ty)
+        self.emit_type(0x1c, ty)
     }
 
     /// `select` with a list of types: `0x1C`, then a list of value types.
@@ -53,6 +53,6 @@ impl<'a, A: Allocator> InstructionSink<'a, A> {
         ensures same { IsSameSink self.entry result }
         ensures* unchanged { sem 𝓛 (IsUnchangedAtErr A.row A.Allocator self.entry result) }
     {
-        self.emit_types(Opcode::without_prefix(0x1c), types)
+        self.emit_types(0x1c, types)
     }
 }

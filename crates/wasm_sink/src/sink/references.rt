@@ -9,7 +9,7 @@ ghost use Rattle.wasm_instructions.specs.declared.table.call.Operands.TheVariant
 use crate::sink::InstructionSink;
 use std::alloc::Allocator;
 use wasm_codec::encode::EncodeError;
-use wasm_instructions::table::Opcode;
+use wasm_instructions::table::Prefix;
 use wasm_types::types::{HeapType, RefType};
 
 impl<'a, A: Allocator> InstructionSink<'a, A> {
@@ -20,7 +20,7 @@ impl<'a, A: Allocator> InstructionSink<'a, A> {
         ensures room { HasRoom self.entry → IsOk result }
         ensures* unchanged { sem 𝓛 (IsUnchangedAtErr A.row A.Allocator self.entry result) }
     {
-        self.emit_heap(Opcode::without_prefix(0xd0), heap_type)
+        self.emit_heap(Prefix::None, 0xd0, heap_type)
     }
 
     /// `ref.is_null`: `0xD1`.
@@ -30,7 +30,7 @@ impl<'a, A: Allocator> InstructionSink<'a, A> {
         ensures room { HasRoom self.entry → IsOk result }
         ensures* unchanged { sem 𝓛 (IsUnchangedAtErr A.row A.Allocator self.entry result) }
     {
-        self.emit(Opcode::without_prefix(0xd1))
+        self.emit(Prefix::None, 0xd1)
     }
 
     /// `ref.func`: `0xD2`, then a function index.
@@ -40,7 +40,7 @@ impl<'a, A: Allocator> InstructionSink<'a, A> {
         ensures room { HasRoom self.entry → IsOk result }
         ensures* unchanged { sem 𝓛 (IsUnchangedAtErr A.row A.Allocator self.entry result) }
     {
-        self.emit_index(Opcode::without_prefix(0xd2), function)
+        self.emit_index(Prefix::None, 0xd2, function)
     }
 
     /// `ref.eq`: `0xD3`.
@@ -50,7 +50,7 @@ impl<'a, A: Allocator> InstructionSink<'a, A> {
         ensures room { HasRoom self.entry → IsOk result }
         ensures* unchanged { sem 𝓛 (IsUnchangedAtErr A.row A.Allocator self.entry result) }
     {
-        self.emit(Opcode::without_prefix(0xd3))
+        self.emit(Prefix::None, 0xd3)
     }
 
     /// `ref.as_non_null`: `0xD4`.
@@ -60,7 +60,7 @@ impl<'a, A: Allocator> InstructionSink<'a, A> {
         ensures room { HasRoom self.entry → IsOk result }
         ensures* unchanged { sem 𝓛 (IsUnchangedAtErr A.row A.Allocator self.entry result) }
     {
-        self.emit(Opcode::without_prefix(0xd4))
+        self.emit(Prefix::None, 0xd4)
     }
 
     /// `br_on_null`: `0xD5`, then a label index.
@@ -70,7 +70,7 @@ impl<'a, A: Allocator> InstructionSink<'a, A> {
         ensures room { HasRoom self.entry → IsOk result }
         ensures* unchanged { sem 𝓛 (IsUnchangedAtErr A.row A.Allocator self.entry result) }
     {
-        self.emit_index(Opcode::without_prefix(0xd5), label)
+        self.emit_index(Prefix::None, 0xd5, label)
     }
 
     /// `br_on_non_null`: `0xD6`, then a label index.
@@ -80,7 +80,7 @@ impl<'a, A: Allocator> InstructionSink<'a, A> {
         ensures room { HasRoom self.entry → IsOk result }
         ensures* unchanged { sem 𝓛 (IsUnchangedAtErr A.row A.Allocator self.entry result) }
     {
-        self.emit_index(Opcode::without_prefix(0xd6), label)
+        self.emit_index(Prefix::None, 0xd6, label)
     }
 
     /// `ref.test` of a type without null: `0xFB 0x14`, then a heap type.
@@ -93,7 +93,7 @@ impl<'a, A: Allocator> InstructionSink<'a, A> {
         ensures room { HasRoom self.entry → IsOk result }
         ensures* unchanged { sem 𝓛 (IsUnchangedAtErr A.row A.Allocator self.entry result) }
     {
-        self.emit_heap(Opcode::after_fb(0x14), heap_type)
+        self.emit_heap(Prefix::Fb, 0x14, heap_type)
     }
 
     /// `ref.test` of a type with null: `0xFB 0x15`, then a heap type.
@@ -106,7 +106,7 @@ impl<'a, A: Allocator> InstructionSink<'a, A> {
         ensures room { HasRoom self.entry → IsOk result }
         ensures* unchanged { sem 𝓛 (IsUnchangedAtErr A.row A.Allocator self.entry result) }
     {
-        self.emit_heap(Opcode::after_fb(0x15), heap_type)
+        self.emit_heap(Prefix::Fb, 0x15, heap_type)
     }
 
     /// `ref.cast` to a type without null: `0xFB 0x16`, then a heap type.
@@ -119,7 +119,7 @@ impl<'a, A: Allocator> InstructionSink<'a, A> {
         ensures room { HasRoom self.entry → IsOk result }
         ensures* unchanged { sem 𝓛 (IsUnchangedAtErr A.row A.Allocator self.entry result) }
     {
-        self.emit_heap(Opcode::after_fb(0x16), heap_type)
+        self.emit_heap(Prefix::Fb, 0x16, heap_type)
     }
 
     /// `ref.cast` to a type with null: `0xFB 0x17`, then a heap type.
@@ -132,7 +132,7 @@ impl<'a, A: Allocator> InstructionSink<'a, A> {
         ensures room { HasRoom self.entry → IsOk result }
         ensures* unchanged { sem 𝓛 (IsUnchangedAtErr A.row A.Allocator self.entry result) }
     {
-        self.emit_heap(Opcode::after_fb(0x17), heap_type)
+        self.emit_heap(Prefix::Fb, 0x17, heap_type)
     }
 
     /// `br_on_cast`: `0xFB 0x18`, then a byte for nullability, a label index and the heap types of `from` and `to`.
@@ -147,7 +147,7 @@ impl<'a, A: Allocator> InstructionSink<'a, A> {
         ensures room { HasRoom self.entry → IsOk result }
         ensures* unchanged { sem 𝓛 (IsUnchangedAtErr A.row A.Allocator self.entry result) }
     {
-        self.emit_cast(Opcode::after_fb(0x18), label, from, to)
+        self.emit_cast(0x18, label, from, to)
     }
 
     /// `br_on_cast_fail`: `0xFB 0x19`, then a byte for nullability, a label index and the heap types of `from` and
@@ -163,7 +163,7 @@ impl<'a, A: Allocator> InstructionSink<'a, A> {
         ensures room { HasRoom self.entry → IsOk result }
         ensures* unchanged { sem 𝓛 (IsUnchangedAtErr A.row A.Allocator self.entry result) }
     {
-        self.emit_cast(Opcode::after_fb(0x19), label, from, to)
+        self.emit_cast(0x19, label, from, to)
     }
 
     /// `any.convert_extern`: `0xFB 0x1A`.
@@ -173,7 +173,7 @@ impl<'a, A: Allocator> InstructionSink<'a, A> {
         ensures room { HasRoom self.entry → IsOk result }
         ensures* unchanged { sem 𝓛 (IsUnchangedAtErr A.row A.Allocator self.entry result) }
     {
-        self.emit(Opcode::after_fb(0x1a))
+        self.emit(Prefix::Fb, 0x1a)
     }
 
     /// `extern.convert_any`: `0xFB 0x1B`.
@@ -183,7 +183,7 @@ impl<'a, A: Allocator> InstructionSink<'a, A> {
         ensures room { HasRoom self.entry → IsOk result }
         ensures* unchanged { sem 𝓛 (IsUnchangedAtErr A.row A.Allocator self.entry result) }
     {
-        self.emit(Opcode::after_fb(0x1b))
+        self.emit(Prefix::Fb, 0x1b)
     }
 
     /// `ref.i31`: `0xFB 0x1C`.
@@ -193,7 +193,7 @@ impl<'a, A: Allocator> InstructionSink<'a, A> {
         ensures room { HasRoom self.entry → IsOk result }
         ensures* unchanged { sem 𝓛 (IsUnchangedAtErr A.row A.Allocator self.entry result) }
     {
-        self.emit(Opcode::after_fb(0x1c))
+        self.emit(Prefix::Fb, 0x1c)
     }
 
     /// `i31.get_s`: `0xFB 0x1D`.
@@ -203,7 +203,7 @@ impl<'a, A: Allocator> InstructionSink<'a, A> {
         ensures room { HasRoom self.entry → IsOk result }
         ensures* unchanged { sem 𝓛 (IsUnchangedAtErr A.row A.Allocator self.entry result) }
     {
-        self.emit(Opcode::after_fb(0x1d))
+        self.emit(Prefix::Fb, 0x1d)
     }
 
     /// `i31.get_u`: `0xFB 0x1E`.
@@ -213,7 +213,7 @@ impl<'a, A: Allocator> InstructionSink<'a, A> {
         ensures room { HasRoom self.entry → IsOk result }
         ensures* unchanged { sem 𝓛 (IsUnchangedAtErr A.row A.Allocator self.entry result) }
     {
-        self.emit(Opcode::after_fb(0x1e))
+        self.emit(Prefix::Fb, 0x1e)
     }
 
     /// `ref.get_desc`: `0xFB 0x22`, then a type index.
@@ -223,7 +223,7 @@ impl<'a, A: Allocator> InstructionSink<'a, A> {
         ensures room { HasRoom self.entry → IsOk result }
         ensures* unchanged { sem 𝓛 (IsUnchangedAtErr A.row A.Allocator self.entry result) }
     {
-        self.emit_index(Opcode::after_fb(0x22), ty)
+        self.emit_index(Prefix::Fb, 0x22, ty)
     }
 
     /// `ref.cast_desc_eq` to a type without null: `0xFB 0x23`, then a heap type.
@@ -236,7 +236,7 @@ impl<'a, A: Allocator> InstructionSink<'a, A> {
         ensures room { HasRoom self.entry → IsOk result }
         ensures* unchanged { sem 𝓛 (IsUnchangedAtErr A.row A.Allocator self.entry result) }
     {
-        self.emit_heap(Opcode::after_fb(0x23), heap_type)
+        self.emit_heap(Prefix::Fb, 0x23, heap_type)
     }
 
     /// `ref.cast_desc_eq` to a type with null: `0xFB 0x24`, then a heap type.
@@ -249,7 +249,7 @@ impl<'a, A: Allocator> InstructionSink<'a, A> {
         ensures room { HasRoom self.entry → IsOk result }
         ensures* unchanged { sem 𝓛 (IsUnchangedAtErr A.row A.Allocator self.entry result) }
     {
-        self.emit_heap(Opcode::after_fb(0x24), heap_type)
+        self.emit_heap(Prefix::Fb, 0x24, heap_type)
     }
 
     /// `br_on_cast_desc_eq`: `0xFB 0x25`, then a byte for nullability, a label index and the heap types of `from` and
@@ -265,7 +265,7 @@ impl<'a, A: Allocator> InstructionSink<'a, A> {
         ensures room { HasRoom self.entry → IsOk result }
         ensures* unchanged { sem 𝓛 (IsUnchangedAtErr A.row A.Allocator self.entry result) }
     {
-        self.emit_cast(Opcode::after_fb(0x25), label, from, to)
+        self.emit_cast(0x25, label, from, to)
     }
 
     /// `br_on_cast_desc_eq_fail`: `0xFB 0x26`, then a byte for nullability, a label index and the heap types of `from`
@@ -281,6 +281,6 @@ impl<'a, A: Allocator> InstructionSink<'a, A> {
         ensures room { HasRoom self.entry → IsOk result }
         ensures* unchanged { sem 𝓛 (IsUnchangedAtErr A.row A.Allocator self.entry result) }
     {
-        self.emit_cast(Opcode::after_fb(0x26), label, from, to)
+        self.emit_cast(0x26, label, from, to)
     }
 }

@@ -12,7 +12,7 @@ use crate::sink::InstructionSink;
 use std::alloc::Allocator;
 use wasm_codec::encode::EncodeError;
 use wasm_instructions::operands::Handle;
-use wasm_instructions::table::Opcode;
+use wasm_instructions::table::Prefix;
 
 impl<'a, A: Allocator> InstructionSink<'a, A> {
     /// `cont.new`: `0xE0`, then a type index.
@@ -22,7 +22,7 @@ impl<'a, A: Allocator> InstructionSink<'a, A> {
         ensures room { HasRoom self.entry → IsOk result }
         ensures* unchanged { sem 𝓛 (IsUnchangedAtErr A.row A.Allocator self.entry result) }
     {
-        self.emit_index(Opcode::without_prefix(0xe0), ty)
+        self.emit_index(Prefix::None, 0xe0, ty)
     }
 
     /// `cont.bind`: `0xE1`, then the argument's type index and the result's type index.
@@ -36,7 +36,7 @@ impl<'a, A: Allocator> InstructionSink<'a, A> {
         ensures room { HasRoom self.entry → IsOk result }
         ensures* unchanged { sem 𝓛 (IsUnchangedAtErr A.row A.Allocator self.entry result) }
     {
-        self.emit_two_indexes(Opcode::without_prefix(0xe1), argument_type, result_type)
+        self.emit_two_indexes(Prefix::None, 0xe1, argument_type, result_type)
     }
 
     /// `suspend`: `0xE2`, then a tag index.
@@ -46,7 +46,7 @@ impl<'a, A: Allocator> InstructionSink<'a, A> {
         ensures room { HasRoom self.entry → IsOk result }
         ensures* unchanged { sem 𝓛 (IsUnchangedAtErr A.row A.Allocator self.entry result) }
     {
-        self.emit_index(Opcode::without_prefix(0xe2), tag)
+        self.emit_index(Prefix::None, 0xe2, tag)
     }
 
     /// `resume`: `0xE3`, then a type index and a list of handlers.
@@ -105,6 +105,6 @@ impl<'a, A: Allocator> InstructionSink<'a, A> {
         ensures room { HasRoom self.entry → IsOk result }
         ensures* unchanged { sem 𝓛 (IsUnchangedAtErr A.row A.Allocator self.entry result) }
     {
-        self.emit_two_indexes(Opcode::without_prefix(0xe6), ty, tag)
+        self.emit_two_indexes(Prefix::None, 0xe6, ty, tag)
     }
 }

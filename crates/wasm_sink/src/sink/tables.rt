@@ -8,7 +8,7 @@ ghost use Rattle.wasm_instructions.specs.declared.table.call.Operands.TheVariant
 use crate::sink::InstructionSink;
 use std::alloc::Allocator;
 use wasm_codec::encode::EncodeError;
-use wasm_instructions::table::Opcode;
+use wasm_instructions::table::Prefix;
 
 impl<'a, A: Allocator> InstructionSink<'a, A> {
     /// `table.get`: `0x25`, then a table index.
@@ -18,7 +18,7 @@ impl<'a, A: Allocator> InstructionSink<'a, A> {
         ensures room { HasRoom self.entry → IsOk result }
         ensures* unchanged { sem 𝓛 (IsUnchangedAtErr A.row A.Allocator self.entry result) }
     {
-        self.emit_index(Opcode::without_prefix(0x25), table)
+        self.emit_index(Prefix::None, 0x25, table)
     }
 
     /// `table.set`: `0x26`, then a table index.
@@ -28,7 +28,7 @@ impl<'a, A: Allocator> InstructionSink<'a, A> {
         ensures room { HasRoom self.entry → IsOk result }
         ensures* unchanged { sem 𝓛 (IsUnchangedAtErr A.row A.Allocator self.entry result) }
     {
-        self.emit_index(Opcode::without_prefix(0x26), table)
+        self.emit_index(Prefix::None, 0x26, table)
     }
 
     /// `table.init`: `0xFC 0x0C`, then an element index and a table index.
@@ -38,7 +38,7 @@ impl<'a, A: Allocator> InstructionSink<'a, A> {
         ensures room { HasRoom self.entry → IsOk result }
         ensures* unchanged { sem 𝓛 (IsUnchangedAtErr A.row A.Allocator self.entry result) }
     {
-        self.emit_two_indexes(Opcode::after_fc(0x0c), segment, table)
+        self.emit_two_indexes(Prefix::Fc, 0x0c, segment, table)
     }
 
     /// `elem.drop`: `0xFC 0x0D`, then an element index.
@@ -48,7 +48,7 @@ impl<'a, A: Allocator> InstructionSink<'a, A> {
         ensures room { HasRoom self.entry → IsOk result }
         ensures* unchanged { sem 𝓛 (IsUnchangedAtErr A.row A.Allocator self.entry result) }
     {
-        self.emit_index(Opcode::after_fc(0x0d), segment)
+        self.emit_index(Prefix::Fc, 0x0d, segment)
     }
 
     /// `table.copy`: `0xFC 0x0E`, then the destination's table index and the source's table index.
@@ -62,7 +62,7 @@ impl<'a, A: Allocator> InstructionSink<'a, A> {
         ensures room { HasRoom self.entry → IsOk result }
         ensures* unchanged { sem 𝓛 (IsUnchangedAtErr A.row A.Allocator self.entry result) }
     {
-        self.emit_two_indexes(Opcode::after_fc(0x0e), destination, source)
+        self.emit_two_indexes(Prefix::Fc, 0x0e, destination, source)
     }
 
     /// `table.grow`: `0xFC 0x0F`, then a table index.
@@ -72,7 +72,7 @@ impl<'a, A: Allocator> InstructionSink<'a, A> {
         ensures room { HasRoom self.entry → IsOk result }
         ensures* unchanged { sem 𝓛 (IsUnchangedAtErr A.row A.Allocator self.entry result) }
     {
-        self.emit_index(Opcode::after_fc(0x0f), table)
+        self.emit_index(Prefix::Fc, 0x0f, table)
     }
 
     /// `table.size`: `0xFC 0x10`, then a table index.
@@ -82,7 +82,7 @@ impl<'a, A: Allocator> InstructionSink<'a, A> {
         ensures room { HasRoom self.entry → IsOk result }
         ensures* unchanged { sem 𝓛 (IsUnchangedAtErr A.row A.Allocator self.entry result) }
     {
-        self.emit_index(Opcode::after_fc(0x10), table)
+        self.emit_index(Prefix::Fc, 0x10, table)
     }
 
     /// `table.fill`: `0xFC 0x11`, then a table index.
@@ -92,6 +92,6 @@ impl<'a, A: Allocator> InstructionSink<'a, A> {
         ensures room { HasRoom self.entry → IsOk result }
         ensures* unchanged { sem 𝓛 (IsUnchangedAtErr A.row A.Allocator self.entry result) }
     {
-        self.emit_index(Opcode::after_fc(0x11), table)
+        self.emit_index(Prefix::Fc, 0x11, table)
     }
 }

@@ -8,7 +8,7 @@ ghost use Rattle.wasm_instructions.specs.declared.table.call.Operands.TheVariant
 use crate::sink::InstructionSink;
 use std::alloc::Allocator;
 use wasm_codec::encode::EncodeError;
-use wasm_instructions::table::Opcode;
+use wasm_instructions::table::Prefix;
 
 impl<'a, A: Allocator> InstructionSink<'a, A> {
     /// `local.get`: `0x20`, then a local index.
@@ -18,7 +18,7 @@ impl<'a, A: Allocator> InstructionSink<'a, A> {
         ensures room { HasRoom self.entry → IsOk result }
         ensures* unchanged { sem 𝓛 (IsUnchangedAtErr A.row A.Allocator self.entry result) }
     {
-        self.emit_index(Opcode::without_prefix(0x20), local)
+        self.emit_index(Prefix::None, 0x20, local)
     }
 
     /// `local.set`: `0x21`, then a local index.
@@ -28,7 +28,7 @@ impl<'a, A: Allocator> InstructionSink<'a, A> {
         ensures room { HasRoom self.entry → IsOk result }
         ensures* unchanged { sem 𝓛 (IsUnchangedAtErr A.row A.Allocator self.entry result) }
     {
-        self.emit_index(Opcode::without_prefix(0x21), local)
+        self.emit_index(Prefix::None, 0x21, local)
     }
 
     /// `local.tee`: `0x22`, then a local index.
@@ -38,7 +38,7 @@ impl<'a, A: Allocator> InstructionSink<'a, A> {
         ensures room { HasRoom self.entry → IsOk result }
         ensures* unchanged { sem 𝓛 (IsUnchangedAtErr A.row A.Allocator self.entry result) }
     {
-        self.emit_index(Opcode::without_prefix(0x22), local)
+        self.emit_index(Prefix::None, 0x22, local)
     }
 
     /// `global.get`: `0x23`, then a global index.
@@ -48,7 +48,7 @@ impl<'a, A: Allocator> InstructionSink<'a, A> {
         ensures room { HasRoom self.entry → IsOk result }
         ensures* unchanged { sem 𝓛 (IsUnchangedAtErr A.row A.Allocator self.entry result) }
     {
-        self.emit_index(Opcode::without_prefix(0x23), global)
+        self.emit_index(Prefix::None, 0x23, global)
     }
 
     /// `global.set`: `0x24`, then a global index.
@@ -58,6 +58,6 @@ impl<'a, A: Allocator> InstructionSink<'a, A> {
         ensures room { HasRoom self.entry → IsOk result }
         ensures* unchanged { sem 𝓛 (IsUnchangedAtErr A.row A.Allocator self.entry result) }
     {
-        self.emit_index(Opcode::without_prefix(0x24), global)
+        self.emit_index(Prefix::None, 0x24, global)
     }
 }

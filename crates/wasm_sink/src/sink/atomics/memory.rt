@@ -9,7 +9,7 @@ use crate::sink::InstructionSink;
 use std::alloc::Allocator;
 use wasm_codec::encode::EncodeError;
 use wasm_instructions::operands::{MemArg, Ordering};
-use wasm_instructions::table::Opcode;
+use wasm_instructions::table::Prefix;
 
 impl<'a, A: Allocator> InstructionSink<'a, A> {
     /// `memory.atomic.notify`: `0xFE 0x00`, then a memory argument. `Alignment` where `memarg.align` is 64 or more.
@@ -20,7 +20,7 @@ impl<'a, A: Allocator> InstructionSink<'a, A> {
         ensures room { HasRoom self.entry → memarg.align < 64 → IsOk result }
         ensures* unchanged { sem 𝓛 (IsUnchangedAtErr A.row A.Allocator self.entry result) }
     {
-        self.emit_mem(Opcode::after_fe(0x00), memarg)
+        self.emit_mem(Prefix::Fe, 0x00, memarg)
     }
 
     /// `memory.atomic.wait32`: `0xFE 0x01`, then a memory argument. `Alignment` where `memarg.align` is 64 or more.
@@ -31,7 +31,7 @@ impl<'a, A: Allocator> InstructionSink<'a, A> {
         ensures room { HasRoom self.entry → memarg.align < 64 → IsOk result }
         ensures* unchanged { sem 𝓛 (IsUnchangedAtErr A.row A.Allocator self.entry result) }
     {
-        self.emit_mem(Opcode::after_fe(0x01), memarg)
+        self.emit_mem(Prefix::Fe, 0x01, memarg)
     }
 
     /// `memory.atomic.wait64`: `0xFE 0x02`, then a memory argument. `Alignment` where `memarg.align` is 64 or more.
@@ -42,7 +42,7 @@ impl<'a, A: Allocator> InstructionSink<'a, A> {
         ensures room { HasRoom self.entry → memarg.align < 64 → IsOk result }
         ensures* unchanged { sem 𝓛 (IsUnchangedAtErr A.row A.Allocator self.entry result) }
     {
-        self.emit_mem(Opcode::after_fe(0x02), memarg)
+        self.emit_mem(Prefix::Fe, 0x02, memarg)
     }
 
     /// `atomic.fence`: `0xFE 0x03`, then an ordering.
@@ -52,7 +52,7 @@ impl<'a, A: Allocator> InstructionSink<'a, A> {
         ensures room { HasRoom self.entry → IsOk result }
         ensures* unchanged { sem 𝓛 (IsUnchangedAtErr A.row A.Allocator self.entry result) }
     {
-        self.emit_order(Opcode::after_fe(0x03), ordering)
+        self.emit_order(0x03, ordering)
     }
 
     /// `pause`: `0xFE 0x04`.
@@ -62,7 +62,7 @@ impl<'a, A: Allocator> InstructionSink<'a, A> {
         ensures room { HasRoom self.entry → IsOk result }
         ensures* unchanged { sem 𝓛 (IsUnchangedAtErr A.row A.Allocator self.entry result) }
     {
-        self.emit(Opcode::after_fe(0x04))
+        self.emit(Prefix::Fe, 0x04)
     }
 
     /// `i32.atomic.load`: `0xFE 0x10`, then a memory argument. `Alignment` where `memarg.align` is 64 or more.
@@ -73,7 +73,7 @@ impl<'a, A: Allocator> InstructionSink<'a, A> {
         ensures room { HasRoom self.entry → memarg.align < 64 → IsOk result }
         ensures* unchanged { sem 𝓛 (IsUnchangedAtErr A.row A.Allocator self.entry result) }
     {
-        self.emit_mem(Opcode::after_fe(0x10), memarg)
+        self.emit_mem(Prefix::Fe, 0x10, memarg)
     }
 
     /// `i64.atomic.load`: `0xFE 0x11`, then a memory argument. `Alignment` where `memarg.align` is 64 or more.
@@ -84,7 +84,7 @@ impl<'a, A: Allocator> InstructionSink<'a, A> {
         ensures room { HasRoom self.entry → memarg.align < 64 → IsOk result }
         ensures* unchanged { sem 𝓛 (IsUnchangedAtErr A.row A.Allocator self.entry result) }
     {
-        self.emit_mem(Opcode::after_fe(0x11), memarg)
+        self.emit_mem(Prefix::Fe, 0x11, memarg)
     }
 
     /// `i32.atomic.load8_u`: `0xFE 0x12`, then a memory argument. `Alignment` where `memarg.align` is 64 or more.
@@ -95,7 +95,7 @@ impl<'a, A: Allocator> InstructionSink<'a, A> {
         ensures room { HasRoom self.entry → memarg.align < 64 → IsOk result }
         ensures* unchanged { sem 𝓛 (IsUnchangedAtErr A.row A.Allocator self.entry result) }
     {
-        self.emit_mem(Opcode::after_fe(0x12), memarg)
+        self.emit_mem(Prefix::Fe, 0x12, memarg)
     }
 
     /// `i32.atomic.load16_u`: `0xFE 0x13`, then a memory argument. `Alignment` where `memarg.align` is 64 or more.
@@ -106,7 +106,7 @@ impl<'a, A: Allocator> InstructionSink<'a, A> {
         ensures room { HasRoom self.entry → memarg.align < 64 → IsOk result }
         ensures* unchanged { sem 𝓛 (IsUnchangedAtErr A.row A.Allocator self.entry result) }
     {
-        self.emit_mem(Opcode::after_fe(0x13), memarg)
+        self.emit_mem(Prefix::Fe, 0x13, memarg)
     }
 
     /// `i64.atomic.load8_u`: `0xFE 0x14`, then a memory argument. `Alignment` where `memarg.align` is 64 or more.
@@ -117,7 +117,7 @@ impl<'a, A: Allocator> InstructionSink<'a, A> {
         ensures room { HasRoom self.entry → memarg.align < 64 → IsOk result }
         ensures* unchanged { sem 𝓛 (IsUnchangedAtErr A.row A.Allocator self.entry result) }
     {
-        self.emit_mem(Opcode::after_fe(0x14), memarg)
+        self.emit_mem(Prefix::Fe, 0x14, memarg)
     }
 
     /// `i64.atomic.load16_u`: `0xFE 0x15`, then a memory argument. `Alignment` where `memarg.align` is 64 or more.
@@ -128,7 +128,7 @@ impl<'a, A: Allocator> InstructionSink<'a, A> {
         ensures room { HasRoom self.entry → memarg.align < 64 → IsOk result }
         ensures* unchanged { sem 𝓛 (IsUnchangedAtErr A.row A.Allocator self.entry result) }
     {
-        self.emit_mem(Opcode::after_fe(0x15), memarg)
+        self.emit_mem(Prefix::Fe, 0x15, memarg)
     }
 
     /// `i64.atomic.load32_u`: `0xFE 0x16`, then a memory argument. `Alignment` where `memarg.align` is 64 or more.
@@ -139,7 +139,7 @@ impl<'a, A: Allocator> InstructionSink<'a, A> {
         ensures room { HasRoom self.entry → memarg.align < 64 → IsOk result }
         ensures* unchanged { sem 𝓛 (IsUnchangedAtErr A.row A.Allocator self.entry result) }
     {
-        self.emit_mem(Opcode::after_fe(0x16), memarg)
+        self.emit_mem(Prefix::Fe, 0x16, memarg)
     }
 
     /// `i32.atomic.store`: `0xFE 0x17`, then a memory argument. `Alignment` where `memarg.align` is 64 or more.
@@ -150,7 +150,7 @@ impl<'a, A: Allocator> InstructionSink<'a, A> {
         ensures room { HasRoom self.entry → memarg.align < 64 → IsOk result }
         ensures* unchanged { sem 𝓛 (IsUnchangedAtErr A.row A.Allocator self.entry result) }
     {
-        self.emit_mem(Opcode::after_fe(0x17), memarg)
+        self.emit_mem(Prefix::Fe, 0x17, memarg)
     }
 
     /// `i64.atomic.store`: `0xFE 0x18`, then a memory argument. `Alignment` where `memarg.align` is 64 or more.
@@ -161,7 +161,7 @@ impl<'a, A: Allocator> InstructionSink<'a, A> {
         ensures room { HasRoom self.entry → memarg.align < 64 → IsOk result }
         ensures* unchanged { sem 𝓛 (IsUnchangedAtErr A.row A.Allocator self.entry result) }
     {
-        self.emit_mem(Opcode::after_fe(0x18), memarg)
+        self.emit_mem(Prefix::Fe, 0x18, memarg)
     }
 
     /// `i32.atomic.store8`: `0xFE 0x19`, then a memory argument. `Alignment` where `memarg.align` is 64 or more.
@@ -172,7 +172,7 @@ impl<'a, A: Allocator> InstructionSink<'a, A> {
         ensures room { HasRoom self.entry → memarg.align < 64 → IsOk result }
         ensures* unchanged { sem 𝓛 (IsUnchangedAtErr A.row A.Allocator self.entry result) }
     {
-        self.emit_mem(Opcode::after_fe(0x19), memarg)
+        self.emit_mem(Prefix::Fe, 0x19, memarg)
     }
 
     /// `i32.atomic.store16`: `0xFE 0x1A`, then a memory argument. `Alignment` where `memarg.align` is 64 or more.
@@ -183,7 +183,7 @@ impl<'a, A: Allocator> InstructionSink<'a, A> {
         ensures room { HasRoom self.entry → memarg.align < 64 → IsOk result }
         ensures* unchanged { sem 𝓛 (IsUnchangedAtErr A.row A.Allocator self.entry result) }
     {
-        self.emit_mem(Opcode::after_fe(0x1a), memarg)
+        self.emit_mem(Prefix::Fe, 0x1a, memarg)
     }
 
     /// `i64.atomic.store8`: `0xFE 0x1B`, then a memory argument. `Alignment` where `memarg.align` is 64 or more.
@@ -194,7 +194,7 @@ impl<'a, A: Allocator> InstructionSink<'a, A> {
         ensures room { HasRoom self.entry → memarg.align < 64 → IsOk result }
         ensures* unchanged { sem 𝓛 (IsUnchangedAtErr A.row A.Allocator self.entry result) }
     {
-        self.emit_mem(Opcode::after_fe(0x1b), memarg)
+        self.emit_mem(Prefix::Fe, 0x1b, memarg)
     }
 
     /// `i64.atomic.store16`: `0xFE 0x1C`, then a memory argument. `Alignment` where `memarg.align` is 64 or more.
@@ -205,7 +205,7 @@ impl<'a, A: Allocator> InstructionSink<'a, A> {
         ensures room { HasRoom self.entry → memarg.align < 64 → IsOk result }
         ensures* unchanged { sem 𝓛 (IsUnchangedAtErr A.row A.Allocator self.entry result) }
     {
-        self.emit_mem(Opcode::after_fe(0x1c), memarg)
+        self.emit_mem(Prefix::Fe, 0x1c, memarg)
     }
 
     /// `i64.atomic.store32`: `0xFE 0x1D`, then a memory argument. `Alignment` where `memarg.align` is 64 or more.
@@ -216,6 +216,6 @@ impl<'a, A: Allocator> InstructionSink<'a, A> {
         ensures room { HasRoom self.entry → memarg.align < 64 → IsOk result }
         ensures* unchanged { sem 𝓛 (IsUnchangedAtErr A.row A.Allocator self.entry result) }
     {
-        self.emit_mem(Opcode::after_fe(0x1d), memarg)
+        self.emit_mem(Prefix::Fe, 0x1d, memarg)
     }
 }

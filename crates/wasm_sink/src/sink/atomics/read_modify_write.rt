@@ -9,7 +9,7 @@ use crate::sink::InstructionSink;
 use std::alloc::Allocator;
 use wasm_codec::encode::EncodeError;
 use wasm_instructions::operands::MemArg;
-use wasm_instructions::table::Opcode;
+use wasm_instructions::table::Prefix;
 
 impl<'a, A: Allocator> InstructionSink<'a, A> {
     /// `i32.atomic.rmw.add`: `0xFE 0x1E`, then a memory argument. `Alignment` where `memarg.align` is 64 or more.
@@ -20,7 +20,7 @@ impl<'a, A: Allocator> InstructionSink<'a, A> {
         ensures room { HasRoom self.entry → memarg.align < 64 → IsOk result }
         ensures* unchanged { sem 𝓛 (IsUnchangedAtErr A.row A.Allocator self.entry result) }
     {
-        self.emit_mem(Opcode::after_fe(0x1e), memarg)
+        self.emit_mem(Prefix::Fe, 0x1e, memarg)
     }
 
     /// `i64.atomic.rmw.add`: `0xFE 0x1F`, then a memory argument. `Alignment` where `memarg.align` is 64 or more.
@@ -31,7 +31,7 @@ impl<'a, A: Allocator> InstructionSink<'a, A> {
         ensures room { HasRoom self.entry → memarg.align < 64 → IsOk result }
         ensures* unchanged { sem 𝓛 (IsUnchangedAtErr A.row A.Allocator self.entry result) }
     {
-        self.emit_mem(Opcode::after_fe(0x1f), memarg)
+        self.emit_mem(Prefix::Fe, 0x1f, memarg)
     }
 
     /// `i32.atomic.rmw8.add_u`: `0xFE 0x20`, then a memory argument. `Alignment` where `memarg.align` is 64 or more.
@@ -45,7 +45,7 @@ impl<'a, A: Allocator> InstructionSink<'a, A> {
         ensures room { HasRoom self.entry → memarg.align < 64 → IsOk result }
         ensures* unchanged { sem 𝓛 (IsUnchangedAtErr A.row A.Allocator self.entry result) }
     {
-        self.emit_mem(Opcode::after_fe(0x20), memarg)
+        self.emit_mem(Prefix::Fe, 0x20, memarg)
     }
 
     /// `i32.atomic.rmw16.add_u`: `0xFE 0x21`, then a memory argument. `Alignment` where `memarg.align` is 64 or more.
@@ -59,7 +59,7 @@ impl<'a, A: Allocator> InstructionSink<'a, A> {
         ensures room { HasRoom self.entry → memarg.align < 64 → IsOk result }
         ensures* unchanged { sem 𝓛 (IsUnchangedAtErr A.row A.Allocator self.entry result) }
     {
-        self.emit_mem(Opcode::after_fe(0x21), memarg)
+        self.emit_mem(Prefix::Fe, 0x21, memarg)
     }
 
     /// `i64.atomic.rmw8.add_u`: `0xFE 0x22`, then a memory argument. `Alignment` where `memarg.align` is 64 or more.
@@ -73,7 +73,7 @@ impl<'a, A: Allocator> InstructionSink<'a, A> {
         ensures room { HasRoom self.entry → memarg.align < 64 → IsOk result }
         ensures* unchanged { sem 𝓛 (IsUnchangedAtErr A.row A.Allocator self.entry result) }
     {
-        self.emit_mem(Opcode::after_fe(0x22), memarg)
+        self.emit_mem(Prefix::Fe, 0x22, memarg)
     }
 
     /// `i64.atomic.rmw16.add_u`: `0xFE 0x23`, then a memory argument. `Alignment` where `memarg.align` is 64 or more.
@@ -87,7 +87,7 @@ impl<'a, A: Allocator> InstructionSink<'a, A> {
         ensures room { HasRoom self.entry → memarg.align < 64 → IsOk result }
         ensures* unchanged { sem 𝓛 (IsUnchangedAtErr A.row A.Allocator self.entry result) }
     {
-        self.emit_mem(Opcode::after_fe(0x23), memarg)
+        self.emit_mem(Prefix::Fe, 0x23, memarg)
     }
 
     /// `i64.atomic.rmw32.add_u`: `0xFE 0x24`, then a memory argument. `Alignment` where `memarg.align` is 64 or more.
@@ -101,7 +101,7 @@ impl<'a, A: Allocator> InstructionSink<'a, A> {
         ensures room { HasRoom self.entry → memarg.align < 64 → IsOk result }
         ensures* unchanged { sem 𝓛 (IsUnchangedAtErr A.row A.Allocator self.entry result) }
     {
-        self.emit_mem(Opcode::after_fe(0x24), memarg)
+        self.emit_mem(Prefix::Fe, 0x24, memarg)
     }
 
     /// `i32.atomic.rmw.sub`: `0xFE 0x25`, then a memory argument. `Alignment` where `memarg.align` is 64 or more.
@@ -112,7 +112,7 @@ impl<'a, A: Allocator> InstructionSink<'a, A> {
         ensures room { HasRoom self.entry → memarg.align < 64 → IsOk result }
         ensures* unchanged { sem 𝓛 (IsUnchangedAtErr A.row A.Allocator self.entry result) }
     {
-        self.emit_mem(Opcode::after_fe(0x25), memarg)
+        self.emit_mem(Prefix::Fe, 0x25, memarg)
     }
 
     /// `i64.atomic.rmw.sub`: `0xFE 0x26`, then a memory argument. `Alignment` where `memarg.align` is 64 or more.
@@ -123,7 +123,7 @@ impl<'a, A: Allocator> InstructionSink<'a, A> {
         ensures room { HasRoom self.entry → memarg.align < 64 → IsOk result }
         ensures* unchanged { sem 𝓛 (IsUnchangedAtErr A.row A.Allocator self.entry result) }
     {
-        self.emit_mem(Opcode::after_fe(0x26), memarg)
+        self.emit_mem(Prefix::Fe, 0x26, memarg)
     }
 
     /// `i32.atomic.rmw8.sub_u`: `0xFE 0x27`, then a memory argument. `Alignment` where `memarg.align` is 64 or more.
@@ -137,7 +137,7 @@ impl<'a, A: Allocator> InstructionSink<'a, A> {
         ensures room { HasRoom self.entry → memarg.align < 64 → IsOk result }
         ensures* unchanged { sem 𝓛 (IsUnchangedAtErr A.row A.Allocator self.entry result) }
     {
-        self.emit_mem(Opcode::after_fe(0x27), memarg)
+        self.emit_mem(Prefix::Fe, 0x27, memarg)
     }
 
     /// `i32.atomic.rmw16.sub_u`: `0xFE 0x28`, then a memory argument. `Alignment` where `memarg.align` is 64 or more.
@@ -151,7 +151,7 @@ impl<'a, A: Allocator> InstructionSink<'a, A> {
         ensures room { HasRoom self.entry → memarg.align < 64 → IsOk result }
         ensures* unchanged { sem 𝓛 (IsUnchangedAtErr A.row A.Allocator self.entry result) }
     {
-        self.emit_mem(Opcode::after_fe(0x28), memarg)
+        self.emit_mem(Prefix::Fe, 0x28, memarg)
     }
 
     /// `i64.atomic.rmw8.sub_u`: `0xFE 0x29`, then a memory argument. `Alignment` where `memarg.align` is 64 or more.
@@ -165,7 +165,7 @@ impl<'a, A: Allocator> InstructionSink<'a, A> {
         ensures room { HasRoom self.entry → memarg.align < 64 → IsOk result }
         ensures* unchanged { sem 𝓛 (IsUnchangedAtErr A.row A.Allocator self.entry result) }
     {
-        self.emit_mem(Opcode::after_fe(0x29), memarg)
+        self.emit_mem(Prefix::Fe, 0x29, memarg)
     }
 
     /// `i64.atomic.rmw16.sub_u`: `0xFE 0x2A`, then a memory argument. `Alignment` where `memarg.align` is 64 or more.
@@ -179,7 +179,7 @@ impl<'a, A: Allocator> InstructionSink<'a, A> {
         ensures room { HasRoom self.entry → memarg.align < 64 → IsOk result }
         ensures* unchanged { sem 𝓛 (IsUnchangedAtErr A.row A.Allocator self.entry result) }
     {
-        self.emit_mem(Opcode::after_fe(0x2a), memarg)
+        self.emit_mem(Prefix::Fe, 0x2a, memarg)
     }
 
     /// `i64.atomic.rmw32.sub_u`: `0xFE 0x2B`, then a memory argument. `Alignment` where `memarg.align` is 64 or more.
@@ -193,7 +193,7 @@ impl<'a, A: Allocator> InstructionSink<'a, A> {
         ensures room { HasRoom self.entry → memarg.align < 64 → IsOk result }
         ensures* unchanged { sem 𝓛 (IsUnchangedAtErr A.row A.Allocator self.entry result) }
     {
-        self.emit_mem(Opcode::after_fe(0x2b), memarg)
+        self.emit_mem(Prefix::Fe, 0x2b, memarg)
     }
 
     /// `i32.atomic.rmw.and`: `0xFE 0x2C`, then a memory argument. `Alignment` where `memarg.align` is 64 or more.
@@ -204,7 +204,7 @@ impl<'a, A: Allocator> InstructionSink<'a, A> {
         ensures room { HasRoom self.entry → memarg.align < 64 → IsOk result }
         ensures* unchanged { sem 𝓛 (IsUnchangedAtErr A.row A.Allocator self.entry result) }
     {
-        self.emit_mem(Opcode::after_fe(0x2c), memarg)
+        self.emit_mem(Prefix::Fe, 0x2c, memarg)
     }
 
     /// `i64.atomic.rmw.and`: `0xFE 0x2D`, then a memory argument. `Alignment` where `memarg.align` is 64 or more.
@@ -215,7 +215,7 @@ impl<'a, A: Allocator> InstructionSink<'a, A> {
         ensures room { HasRoom self.entry → memarg.align < 64 → IsOk result }
         ensures* unchanged { sem 𝓛 (IsUnchangedAtErr A.row A.Allocator self.entry result) }
     {
-        self.emit_mem(Opcode::after_fe(0x2d), memarg)
+        self.emit_mem(Prefix::Fe, 0x2d, memarg)
     }
 
     /// `i32.atomic.rmw8.and_u`: `0xFE 0x2E`, then a memory argument. `Alignment` where `memarg.align` is 64 or more.
@@ -229,7 +229,7 @@ impl<'a, A: Allocator> InstructionSink<'a, A> {
         ensures room { HasRoom self.entry → memarg.align < 64 → IsOk result }
         ensures* unchanged { sem 𝓛 (IsUnchangedAtErr A.row A.Allocator self.entry result) }
     {
-        self.emit_mem(Opcode::after_fe(0x2e), memarg)
+        self.emit_mem(Prefix::Fe, 0x2e, memarg)
     }
 
     /// `i32.atomic.rmw16.and_u`: `0xFE 0x2F`, then a memory argument. `Alignment` where `memarg.align` is 64 or more.
@@ -243,7 +243,7 @@ impl<'a, A: Allocator> InstructionSink<'a, A> {
         ensures room { HasRoom self.entry → memarg.align < 64 → IsOk result }
         ensures* unchanged { sem 𝓛 (IsUnchangedAtErr A.row A.Allocator self.entry result) }
     {
-        self.emit_mem(Opcode::after_fe(0x2f), memarg)
+        self.emit_mem(Prefix::Fe, 0x2f, memarg)
     }
 
     /// `i64.atomic.rmw8.and_u`: `0xFE 0x30`, then a memory argument. `Alignment` where `memarg.align` is 64 or more.
@@ -257,7 +257,7 @@ impl<'a, A: Allocator> InstructionSink<'a, A> {
         ensures room { HasRoom self.entry → memarg.align < 64 → IsOk result }
         ensures* unchanged { sem 𝓛 (IsUnchangedAtErr A.row A.Allocator self.entry result) }
     {
-        self.emit_mem(Opcode::after_fe(0x30), memarg)
+        self.emit_mem(Prefix::Fe, 0x30, memarg)
     }
 
     /// `i64.atomic.rmw16.and_u`: `0xFE 0x31`, then a memory argument. `Alignment` where `memarg.align` is 64 or more.
@@ -271,7 +271,7 @@ impl<'a, A: Allocator> InstructionSink<'a, A> {
         ensures room { HasRoom self.entry → memarg.align < 64 → IsOk result }
         ensures* unchanged { sem 𝓛 (IsUnchangedAtErr A.row A.Allocator self.entry result) }
     {
-        self.emit_mem(Opcode::after_fe(0x31), memarg)
+        self.emit_mem(Prefix::Fe, 0x31, memarg)
     }
 
     /// `i64.atomic.rmw32.and_u`: `0xFE 0x32`, then a memory argument. `Alignment` where `memarg.align` is 64 or more.
@@ -285,7 +285,7 @@ impl<'a, A: Allocator> InstructionSink<'a, A> {
         ensures room { HasRoom self.entry → memarg.align < 64 → IsOk result }
         ensures* unchanged { sem 𝓛 (IsUnchangedAtErr A.row A.Allocator self.entry result) }
     {
-        self.emit_mem(Opcode::after_fe(0x32), memarg)
+        self.emit_mem(Prefix::Fe, 0x32, memarg)
     }
 
     /// `i32.atomic.rmw.or`: `0xFE 0x33`, then a memory argument. `Alignment` where `memarg.align` is 64 or more.
@@ -296,7 +296,7 @@ impl<'a, A: Allocator> InstructionSink<'a, A> {
         ensures room { HasRoom self.entry → memarg.align < 64 → IsOk result }
         ensures* unchanged { sem 𝓛 (IsUnchangedAtErr A.row A.Allocator self.entry result) }
     {
-        self.emit_mem(Opcode::after_fe(0x33), memarg)
+        self.emit_mem(Prefix::Fe, 0x33, memarg)
     }
 
     /// `i64.atomic.rmw.or`: `0xFE 0x34`, then a memory argument. `Alignment` where `memarg.align` is 64 or more.
@@ -307,7 +307,7 @@ impl<'a, A: Allocator> InstructionSink<'a, A> {
         ensures room { HasRoom self.entry → memarg.align < 64 → IsOk result }
         ensures* unchanged { sem 𝓛 (IsUnchangedAtErr A.row A.Allocator self.entry result) }
     {
-        self.emit_mem(Opcode::after_fe(0x34), memarg)
+        self.emit_mem(Prefix::Fe, 0x34, memarg)
     }
 
     /// `i32.atomic.rmw8.or_u`: `0xFE 0x35`, then a memory argument. `Alignment` where `memarg.align` is 64 or more.
@@ -318,7 +318,7 @@ impl<'a, A: Allocator> InstructionSink<'a, A> {
         ensures room { HasRoom self.entry → memarg.align < 64 → IsOk result }
         ensures* unchanged { sem 𝓛 (IsUnchangedAtErr A.row A.Allocator self.entry result) }
     {
-        self.emit_mem(Opcode::after_fe(0x35), memarg)
+        self.emit_mem(Prefix::Fe, 0x35, memarg)
     }
 
     /// `i32.atomic.rmw16.or_u`: `0xFE 0x36`, then a memory argument. `Alignment` where `memarg.align` is 64 or more.
@@ -332,7 +332,7 @@ impl<'a, A: Allocator> InstructionSink<'a, A> {
         ensures room { HasRoom self.entry → memarg.align < 64 → IsOk result }
         ensures* unchanged { sem 𝓛 (IsUnchangedAtErr A.row A.Allocator self.entry result) }
     {
-        self.emit_mem(Opcode::after_fe(0x36), memarg)
+        self.emit_mem(Prefix::Fe, 0x36, memarg)
     }
 
     /// `i64.atomic.rmw8.or_u`: `0xFE 0x37`, then a memory argument. `Alignment` where `memarg.align` is 64 or more.
@@ -343,7 +343,7 @@ impl<'a, A: Allocator> InstructionSink<'a, A> {
         ensures room { HasRoom self.entry → memarg.align < 64 → IsOk result }
         ensures* unchanged { sem 𝓛 (IsUnchangedAtErr A.row A.Allocator self.entry result) }
     {
-        self.emit_mem(Opcode::after_fe(0x37), memarg)
+        self.emit_mem(Prefix::Fe, 0x37, memarg)
     }
 
     /// `i64.atomic.rmw16.or_u`: `0xFE 0x38`, then a memory argument. `Alignment` where `memarg.align` is 64 or more.
@@ -357,7 +357,7 @@ impl<'a, A: Allocator> InstructionSink<'a, A> {
         ensures room { HasRoom self.entry → memarg.align < 64 → IsOk result }
         ensures* unchanged { sem 𝓛 (IsUnchangedAtErr A.row A.Allocator self.entry result) }
     {
-        self.emit_mem(Opcode::after_fe(0x38), memarg)
+        self.emit_mem(Prefix::Fe, 0x38, memarg)
     }
 
     /// `i64.atomic.rmw32.or_u`: `0xFE 0x39`, then a memory argument. `Alignment` where `memarg.align` is 64 or more.
@@ -371,7 +371,7 @@ impl<'a, A: Allocator> InstructionSink<'a, A> {
         ensures room { HasRoom self.entry → memarg.align < 64 → IsOk result }
         ensures* unchanged { sem 𝓛 (IsUnchangedAtErr A.row A.Allocator self.entry result) }
     {
-        self.emit_mem(Opcode::after_fe(0x39), memarg)
+        self.emit_mem(Prefix::Fe, 0x39, memarg)
     }
 
     /// `i32.atomic.rmw.xor`: `0xFE 0x3A`, then a memory argument. `Alignment` where `memarg.align` is 64 or more.
@@ -382,7 +382,7 @@ impl<'a, A: Allocator> InstructionSink<'a, A> {
         ensures room { HasRoom self.entry → memarg.align < 64 → IsOk result }
         ensures* unchanged { sem 𝓛 (IsUnchangedAtErr A.row A.Allocator self.entry result) }
     {
-        self.emit_mem(Opcode::after_fe(0x3a), memarg)
+        self.emit_mem(Prefix::Fe, 0x3a, memarg)
     }
 
     /// `i64.atomic.rmw.xor`: `0xFE 0x3B`, then a memory argument. `Alignment` where `memarg.align` is 64 or more.
@@ -393,7 +393,7 @@ impl<'a, A: Allocator> InstructionSink<'a, A> {
         ensures room { HasRoom self.entry → memarg.align < 64 → IsOk result }
         ensures* unchanged { sem 𝓛 (IsUnchangedAtErr A.row A.Allocator self.entry result) }
     {
-        self.emit_mem(Opcode::after_fe(0x3b), memarg)
+        self.emit_mem(Prefix::Fe, 0x3b, memarg)
     }
 
     /// `i32.atomic.rmw8.xor_u`: `0xFE 0x3C`, then a memory argument. `Alignment` where `memarg.align` is 64 or more.
@@ -407,7 +407,7 @@ impl<'a, A: Allocator> InstructionSink<'a, A> {
         ensures room { HasRoom self.entry → memarg.align < 64 → IsOk result }
         ensures* unchanged { sem 𝓛 (IsUnchangedAtErr A.row A.Allocator self.entry result) }
     {
-        self.emit_mem(Opcode::after_fe(0x3c), memarg)
+        self.emit_mem(Prefix::Fe, 0x3c, memarg)
     }
 
     /// `i32.atomic.rmw16.xor_u`: `0xFE 0x3D`, then a memory argument. `Alignment` where `memarg.align` is 64 or more.
@@ -421,7 +421,7 @@ impl<'a, A: Allocator> InstructionSink<'a, A> {
         ensures room { HasRoom self.entry → memarg.align < 64 → IsOk result }
         ensures* unchanged { sem 𝓛 (IsUnchangedAtErr A.row A.Allocator self.entry result) }
     {
-        self.emit_mem(Opcode::after_fe(0x3d), memarg)
+        self.emit_mem(Prefix::Fe, 0x3d, memarg)
     }
 
     /// `i64.atomic.rmw8.xor_u`: `0xFE 0x3E`, then a memory argument. `Alignment` where `memarg.align` is 64 or more.
@@ -435,7 +435,7 @@ impl<'a, A: Allocator> InstructionSink<'a, A> {
         ensures room { HasRoom self.entry → memarg.align < 64 → IsOk result }
         ensures* unchanged { sem 𝓛 (IsUnchangedAtErr A.row A.Allocator self.entry result) }
     {
-        self.emit_mem(Opcode::after_fe(0x3e), memarg)
+        self.emit_mem(Prefix::Fe, 0x3e, memarg)
     }
 
     /// `i64.atomic.rmw16.xor_u`: `0xFE 0x3F`, then a memory argument. `Alignment` where `memarg.align` is 64 or more.
@@ -449,7 +449,7 @@ impl<'a, A: Allocator> InstructionSink<'a, A> {
         ensures room { HasRoom self.entry → memarg.align < 64 → IsOk result }
         ensures* unchanged { sem 𝓛 (IsUnchangedAtErr A.row A.Allocator self.entry result) }
     {
-        self.emit_mem(Opcode::after_fe(0x3f), memarg)
+        self.emit_mem(Prefix::Fe, 0x3f, memarg)
     }
 
     /// `i64.atomic.rmw32.xor_u`: `0xFE 0x40`, then a memory argument. `Alignment` where `memarg.align` is 64 or more.
@@ -463,7 +463,7 @@ impl<'a, A: Allocator> InstructionSink<'a, A> {
         ensures room { HasRoom self.entry → memarg.align < 64 → IsOk result }
         ensures* unchanged { sem 𝓛 (IsUnchangedAtErr A.row A.Allocator self.entry result) }
     {
-        self.emit_mem(Opcode::after_fe(0x40), memarg)
+        self.emit_mem(Prefix::Fe, 0x40, memarg)
     }
 
     /// `i32.atomic.rmw.xchg`: `0xFE 0x41`, then a memory argument. `Alignment` where `memarg.align` is 64 or more.
@@ -474,7 +474,7 @@ impl<'a, A: Allocator> InstructionSink<'a, A> {
         ensures room { HasRoom self.entry → memarg.align < 64 → IsOk result }
         ensures* unchanged { sem 𝓛 (IsUnchangedAtErr A.row A.Allocator self.entry result) }
     {
-        self.emit_mem(Opcode::after_fe(0x41), memarg)
+        self.emit_mem(Prefix::Fe, 0x41, memarg)
     }
 
     /// `i64.atomic.rmw.xchg`: `0xFE 0x42`, then a memory argument. `Alignment` where `memarg.align` is 64 or more.
@@ -485,7 +485,7 @@ impl<'a, A: Allocator> InstructionSink<'a, A> {
         ensures room { HasRoom self.entry → memarg.align < 64 → IsOk result }
         ensures* unchanged { sem 𝓛 (IsUnchangedAtErr A.row A.Allocator self.entry result) }
     {
-        self.emit_mem(Opcode::after_fe(0x42), memarg)
+        self.emit_mem(Prefix::Fe, 0x42, memarg)
     }
 
     /// `i32.atomic.rmw8.xchg_u`: `0xFE 0x43`, then a memory argument. `Alignment` where `memarg.align` is 64 or more.
@@ -499,7 +499,7 @@ impl<'a, A: Allocator> InstructionSink<'a, A> {
         ensures room { HasRoom self.entry → memarg.align < 64 → IsOk result }
         ensures* unchanged { sem 𝓛 (IsUnchangedAtErr A.row A.Allocator self.entry result) }
     {
-        self.emit_mem(Opcode::after_fe(0x43), memarg)
+        self.emit_mem(Prefix::Fe, 0x43, memarg)
     }
 
     /// `i32.atomic.rmw16.xchg_u`: `0xFE 0x44`, then a memory argument. `Alignment` where `memarg.align` is 64 or more.
@@ -513,7 +513,7 @@ impl<'a, A: Allocator> InstructionSink<'a, A> {
         ensures room { HasRoom self.entry → memarg.align < 64 → IsOk result }
         ensures* unchanged { sem 𝓛 (IsUnchangedAtErr A.row A.Allocator self.entry result) }
     {
-        self.emit_mem(Opcode::after_fe(0x44), memarg)
+        self.emit_mem(Prefix::Fe, 0x44, memarg)
     }
 
     /// `i64.atomic.rmw8.xchg_u`: `0xFE 0x45`, then a memory argument. `Alignment` where `memarg.align` is 64 or more.
@@ -527,7 +527,7 @@ impl<'a, A: Allocator> InstructionSink<'a, A> {
         ensures room { HasRoom self.entry → memarg.align < 64 → IsOk result }
         ensures* unchanged { sem 𝓛 (IsUnchangedAtErr A.row A.Allocator self.entry result) }
     {
-        self.emit_mem(Opcode::after_fe(0x45), memarg)
+        self.emit_mem(Prefix::Fe, 0x45, memarg)
     }
 
     /// `i64.atomic.rmw16.xchg_u`: `0xFE 0x46`, then a memory argument. `Alignment` where `memarg.align` is 64 or more.
@@ -541,7 +541,7 @@ impl<'a, A: Allocator> InstructionSink<'a, A> {
         ensures room { HasRoom self.entry → memarg.align < 64 → IsOk result }
         ensures* unchanged { sem 𝓛 (IsUnchangedAtErr A.row A.Allocator self.entry result) }
     {
-        self.emit_mem(Opcode::after_fe(0x46), memarg)
+        self.emit_mem(Prefix::Fe, 0x46, memarg)
     }
 
     /// `i64.atomic.rmw32.xchg_u`: `0xFE 0x47`, then a memory argument. `Alignment` where `memarg.align` is 64 or more.
@@ -555,7 +555,7 @@ impl<'a, A: Allocator> InstructionSink<'a, A> {
         ensures room { HasRoom self.entry → memarg.align < 64 → IsOk result }
         ensures* unchanged { sem 𝓛 (IsUnchangedAtErr A.row A.Allocator self.entry result) }
     {
-        self.emit_mem(Opcode::after_fe(0x47), memarg)
+        self.emit_mem(Prefix::Fe, 0x47, memarg)
     }
 
     /// `i32.atomic.rmw.cmpxchg`: `0xFE 0x48`, then a memory argument. `Alignment` where `memarg.align` is 64 or more.
@@ -569,7 +569,7 @@ impl<'a, A: Allocator> InstructionSink<'a, A> {
         ensures room { HasRoom self.entry → memarg.align < 64 → IsOk result }
         ensures* unchanged { sem 𝓛 (IsUnchangedAtErr A.row A.Allocator self.entry result) }
     {
-        self.emit_mem(Opcode::after_fe(0x48), memarg)
+        self.emit_mem(Prefix::Fe, 0x48, memarg)
     }
 
     /// `i64.atomic.rmw.cmpxchg`: `0xFE 0x49`, then a memory argument. `Alignment` where `memarg.align` is 64 or more.
@@ -583,7 +583,7 @@ impl<'a, A: Allocator> InstructionSink<'a, A> {
         ensures room { HasRoom self.entry → memarg.align < 64 → IsOk result }
         ensures* unchanged { sem 𝓛 (IsUnchangedAtErr A.row A.Allocator self.entry result) }
     {
-        self.emit_mem(Opcode::after_fe(0x49), memarg)
+        self.emit_mem(Prefix::Fe, 0x49, memarg)
     }
 
     /// `i32.atomic.rmw8.cmpxchg_u`: `0xFE 0x4A`, then a memory argument.
@@ -598,7 +598,7 @@ impl<'a, A: Allocator> InstructionSink<'a, A> {
         ensures room { HasRoom self.entry → memarg.align < 64 → IsOk result }
         ensures* unchanged { sem 𝓛 (IsUnchangedAtErr A.row A.Allocator self.entry result) }
     {
-        self.emit_mem(Opcode::after_fe(0x4a), memarg)
+        self.emit_mem(Prefix::Fe, 0x4a, memarg)
     }
 
     /// `i32.atomic.rmw16.cmpxchg_u`: `0xFE 0x4B`, then a memory argument.
@@ -613,7 +613,7 @@ impl<'a, A: Allocator> InstructionSink<'a, A> {
         ensures room { HasRoom self.entry → memarg.align < 64 → IsOk result }
         ensures* unchanged { sem 𝓛 (IsUnchangedAtErr A.row A.Allocator self.entry result) }
     {
-        self.emit_mem(Opcode::after_fe(0x4b), memarg)
+        self.emit_mem(Prefix::Fe, 0x4b, memarg)
     }
 
     /// `i64.atomic.rmw8.cmpxchg_u`: `0xFE 0x4C`, then a memory argument.
@@ -628,7 +628,7 @@ impl<'a, A: Allocator> InstructionSink<'a, A> {
         ensures room { HasRoom self.entry → memarg.align < 64 → IsOk result }
         ensures* unchanged { sem 𝓛 (IsUnchangedAtErr A.row A.Allocator self.entry result) }
     {
-        self.emit_mem(Opcode::after_fe(0x4c), memarg)
+        self.emit_mem(Prefix::Fe, 0x4c, memarg)
     }
 
     /// `i64.atomic.rmw16.cmpxchg_u`: `0xFE 0x4D`, then a memory argument.
@@ -643,7 +643,7 @@ impl<'a, A: Allocator> InstructionSink<'a, A> {
         ensures room { HasRoom self.entry → memarg.align < 64 → IsOk result }
         ensures* unchanged { sem 𝓛 (IsUnchangedAtErr A.row A.Allocator self.entry result) }
     {
-        self.emit_mem(Opcode::after_fe(0x4d), memarg)
+        self.emit_mem(Prefix::Fe, 0x4d, memarg)
     }
 
     /// `i64.atomic.rmw32.cmpxchg_u`: `0xFE 0x4E`, then a memory argument.
@@ -658,6 +658,6 @@ impl<'a, A: Allocator> InstructionSink<'a, A> {
         ensures room { HasRoom self.entry → memarg.align < 64 → IsOk result }
         ensures* unchanged { sem 𝓛 (IsUnchangedAtErr A.row A.Allocator self.entry result) }
     {
-        self.emit_mem(Opcode::after_fe(0x4e), memarg)
+        self.emit_mem(Prefix::Fe, 0x4e, memarg)
     }
 }

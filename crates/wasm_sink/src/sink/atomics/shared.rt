@@ -10,7 +10,7 @@ use crate::sink::InstructionSink;
 use std::alloc::Allocator;
 use wasm_codec::encode::EncodeError;
 use wasm_instructions::operands::Ordering;
-use wasm_instructions::table::Opcode;
+use wasm_instructions::table::Prefix;
 
 impl<'a, A: Allocator> InstructionSink<'a, A> {
     /// `global.atomic.get`: `0xFE 0x4F`, then an ordering and a global index.
@@ -24,7 +24,7 @@ impl<'a, A: Allocator> InstructionSink<'a, A> {
         ensures room { HasRoom self.entry → IsOk result }
         ensures* unchanged { sem 𝓛 (IsUnchangedAtErr A.row A.Allocator self.entry result) }
     {
-        self.emit_order_index(Opcode::after_fe(0x4f), ordering, global)
+        self.emit_order_index(0x4f, ordering, global)
     }
 
     /// `global.atomic.set`: `0xFE 0x50`, then an ordering and a global index.
@@ -38,7 +38,7 @@ impl<'a, A: Allocator> InstructionSink<'a, A> {
         ensures room { HasRoom self.entry → IsOk result }
         ensures* unchanged { sem 𝓛 (IsUnchangedAtErr A.row A.Allocator self.entry result) }
     {
-        self.emit_order_index(Opcode::after_fe(0x50), ordering, global)
+        self.emit_order_index(0x50, ordering, global)
     }
 
     /// `global.atomic.rmw.add`: `0xFE 0x51`, then an ordering and a global index.
@@ -52,7 +52,7 @@ impl<'a, A: Allocator> InstructionSink<'a, A> {
         ensures room { HasRoom self.entry → IsOk result }
         ensures* unchanged { sem 𝓛 (IsUnchangedAtErr A.row A.Allocator self.entry result) }
     {
-        self.emit_order_index(Opcode::after_fe(0x51), ordering, global)
+        self.emit_order_index(0x51, ordering, global)
     }
 
     /// `global.atomic.rmw.sub`: `0xFE 0x52`, then an ordering and a global index.
@@ -66,7 +66,7 @@ impl<'a, A: Allocator> InstructionSink<'a, A> {
         ensures room { HasRoom self.entry → IsOk result }
         ensures* unchanged { sem 𝓛 (IsUnchangedAtErr A.row A.Allocator self.entry result) }
     {
-        self.emit_order_index(Opcode::after_fe(0x52), ordering, global)
+        self.emit_order_index(0x52, ordering, global)
     }
 
     /// `global.atomic.rmw.and`: `0xFE 0x53`, then an ordering and a global index.
@@ -80,7 +80,7 @@ impl<'a, A: Allocator> InstructionSink<'a, A> {
         ensures room { HasRoom self.entry → IsOk result }
         ensures* unchanged { sem 𝓛 (IsUnchangedAtErr A.row A.Allocator self.entry result) }
     {
-        self.emit_order_index(Opcode::after_fe(0x53), ordering, global)
+        self.emit_order_index(0x53, ordering, global)
     }
 
     /// `global.atomic.rmw.or`: `0xFE 0x54`, then an ordering and a global index.
@@ -94,7 +94,7 @@ impl<'a, A: Allocator> InstructionSink<'a, A> {
         ensures room { HasRoom self.entry → IsOk result }
         ensures* unchanged { sem 𝓛 (IsUnchangedAtErr A.row A.Allocator self.entry result) }
     {
-        self.emit_order_index(Opcode::after_fe(0x54), ordering, global)
+        self.emit_order_index(0x54, ordering, global)
     }
 
     /// `global.atomic.rmw.xor`: `0xFE 0x55`, then an ordering and a global index.
@@ -108,7 +108,7 @@ impl<'a, A: Allocator> InstructionSink<'a, A> {
         ensures room { HasRoom self.entry → IsOk result }
         ensures* unchanged { sem 𝓛 (IsUnchangedAtErr A.row A.Allocator self.entry result) }
     {
-        self.emit_order_index(Opcode::after_fe(0x55), ordering, global)
+        self.emit_order_index(0x55, ordering, global)
     }
 
     /// `global.atomic.rmw.xchg`: `0xFE 0x56`, then an ordering and a global index.
@@ -122,7 +122,7 @@ impl<'a, A: Allocator> InstructionSink<'a, A> {
         ensures room { HasRoom self.entry → IsOk result }
         ensures* unchanged { sem 𝓛 (IsUnchangedAtErr A.row A.Allocator self.entry result) }
     {
-        self.emit_order_index(Opcode::after_fe(0x56), ordering, global)
+        self.emit_order_index(0x56, ordering, global)
     }
 
     /// `global.atomic.rmw.cmpxchg`: `0xFE 0x57`, then an ordering and a global index.
@@ -136,7 +136,7 @@ impl<'a, A: Allocator> InstructionSink<'a, A> {
         ensures room { HasRoom self.entry → IsOk result }
         ensures* unchanged { sem 𝓛 (IsUnchangedAtErr A.row A.Allocator self.entry result) }
     {
-        self.emit_order_index(Opcode::after_fe(0x57), ordering, global)
+        self.emit_order_index(0x57, ordering, global)
     }
 
     /// `table.atomic.get`: `0xFE 0x58`, then an ordering and a table index.
@@ -150,7 +150,7 @@ impl<'a, A: Allocator> InstructionSink<'a, A> {
         ensures room { HasRoom self.entry → IsOk result }
         ensures* unchanged { sem 𝓛 (IsUnchangedAtErr A.row A.Allocator self.entry result) }
     {
-        self.emit_order_index(Opcode::after_fe(0x58), ordering, table)
+        self.emit_order_index(0x58, ordering, table)
     }
 
     /// `table.atomic.set`: `0xFE 0x59`, then an ordering and a table index.
@@ -164,7 +164,7 @@ impl<'a, A: Allocator> InstructionSink<'a, A> {
         ensures room { HasRoom self.entry → IsOk result }
         ensures* unchanged { sem 𝓛 (IsUnchangedAtErr A.row A.Allocator self.entry result) }
     {
-        self.emit_order_index(Opcode::after_fe(0x59), ordering, table)
+        self.emit_order_index(0x59, ordering, table)
     }
 
     /// `table.atomic.rmw.xchg`: `0xFE 0x5A`, then an ordering and a table index.
@@ -178,7 +178,7 @@ impl<'a, A: Allocator> InstructionSink<'a, A> {
         ensures room { HasRoom self.entry → IsOk result }
         ensures* unchanged { sem 𝓛 (IsUnchangedAtErr A.row A.Allocator self.entry result) }
     {
-        self.emit_order_index(Opcode::after_fe(0x5a), ordering, table)
+        self.emit_order_index(0x5a, ordering, table)
     }
 
     /// `table.atomic.rmw.cmpxchg`: `0xFE 0x5B`, then an ordering and a table index.
@@ -192,7 +192,7 @@ impl<'a, A: Allocator> InstructionSink<'a, A> {
         ensures room { HasRoom self.entry → IsOk result }
         ensures* unchanged { sem 𝓛 (IsUnchangedAtErr A.row A.Allocator self.entry result) }
     {
-        self.emit_order_index(Opcode::after_fe(0x5b), ordering, table)
+        self.emit_order_index(0x5b, ordering, table)
     }
 
     /// `struct.atomic.get`: `0xFE 0x5C`, then an ordering, a type index and a field index.
@@ -207,7 +207,7 @@ impl<'a, A: Allocator> InstructionSink<'a, A> {
         ensures room { HasRoom self.entry → IsOk result }
         ensures* unchanged { sem 𝓛 (IsUnchangedAtErr A.row A.Allocator self.entry result) }
     {
-        self.emit_order_two_indexes(Opcode::after_fe(0x5c), ordering, ty, field)
+        self.emit_order_two_indexes(0x5c, ordering, ty, field)
     }
 
     /// `struct.atomic.get_s`: `0xFE 0x5D`, then an ordering, a type index and a field index.
@@ -222,7 +222,7 @@ impl<'a, A: Allocator> InstructionSink<'a, A> {
         ensures room { HasRoom self.entry → IsOk result }
         ensures* unchanged { sem 𝓛 (IsUnchangedAtErr A.row A.Allocator self.entry result) }
     {
-        self.emit_order_two_indexes(Opcode::after_fe(0x5d), ordering, ty, field)
+        self.emit_order_two_indexes(0x5d, ordering, ty, field)
     }
 
     /// `struct.atomic.get_u`: `0xFE 0x5E`, then an ordering, a type index and a field index.
@@ -237,7 +237,7 @@ impl<'a, A: Allocator> InstructionSink<'a, A> {
         ensures room { HasRoom self.entry → IsOk result }
         ensures* unchanged { sem 𝓛 (IsUnchangedAtErr A.row A.Allocator self.entry result) }
     {
-        self.emit_order_two_indexes(Opcode::after_fe(0x5e), ordering, ty, field)
+        self.emit_order_two_indexes(0x5e, ordering, ty, field)
     }
 
     /// `struct.atomic.set`: `0xFE 0x5F`, then an ordering, a type index and a field index.
@@ -252,7 +252,7 @@ impl<'a, A: Allocator> InstructionSink<'a, A> {
         ensures room { HasRoom self.entry → IsOk result }
         ensures* unchanged { sem 𝓛 (IsUnchangedAtErr A.row A.Allocator self.entry result) }
     {
-        self.emit_order_two_indexes(Opcode::after_fe(0x5f), ordering, ty, field)
+        self.emit_order_two_indexes(0x5f, ordering, ty, field)
     }
 
     /// `struct.atomic.rmw.add`: `0xFE 0x60`, then an ordering, a type index and a field index.
@@ -267,7 +267,7 @@ impl<'a, A: Allocator> InstructionSink<'a, A> {
         ensures room { HasRoom self.entry → IsOk result }
         ensures* unchanged { sem 𝓛 (IsUnchangedAtErr A.row A.Allocator self.entry result) }
     {
-        self.emit_order_two_indexes(Opcode::after_fe(0x60), ordering, ty, field)
+        self.emit_order_two_indexes(0x60, ordering, ty, field)
     }
 
     /// `struct.atomic.rmw.sub`: `0xFE 0x61`, then an ordering, a type index and a field index.
@@ -282,7 +282,7 @@ impl<'a, A: Allocator> InstructionSink<'a, A> {
         ensures room { HasRoom self.entry → IsOk result }
         ensures* unchanged { sem 𝓛 (IsUnchangedAtErr A.row A.Allocator self.entry result) }
     {
-        self.emit_order_two_indexes(Opcode::after_fe(0x61), ordering, ty, field)
+        self.emit_order_two_indexes(0x61, ordering, ty, field)
     }
 
     /// `struct.atomic.rmw.and`: `0xFE 0x62`, then an ordering, a type index and a field index.
@@ -297,7 +297,7 @@ impl<'a, A: Allocator> InstructionSink<'a, A> {
         ensures room { HasRoom self.entry → IsOk result }
         ensures* unchanged { sem 𝓛 (IsUnchangedAtErr A.row A.Allocator self.entry result) }
     {
-        self.emit_order_two_indexes(Opcode::after_fe(0x62), ordering, ty, field)
+        self.emit_order_two_indexes(0x62, ordering, ty, field)
     }
 
     /// `struct.atomic.rmw.or`: `0xFE 0x63`, then an ordering, a type index and a field index.
@@ -312,7 +312,7 @@ impl<'a, A: Allocator> InstructionSink<'a, A> {
         ensures room { HasRoom self.entry → IsOk result }
         ensures* unchanged { sem 𝓛 (IsUnchangedAtErr A.row A.Allocator self.entry result) }
     {
-        self.emit_order_two_indexes(Opcode::after_fe(0x63), ordering, ty, field)
+        self.emit_order_two_indexes(0x63, ordering, ty, field)
     }
 
     /// `struct.atomic.rmw.xor`: `0xFE 0x64`, then an ordering, a type index and a field index.
@@ -327,7 +327,7 @@ impl<'a, A: Allocator> InstructionSink<'a, A> {
         ensures room { HasRoom self.entry → IsOk result }
         ensures* unchanged { sem 𝓛 (IsUnchangedAtErr A.row A.Allocator self.entry result) }
     {
-        self.emit_order_two_indexes(Opcode::after_fe(0x64), ordering, ty, field)
+        self.emit_order_two_indexes(0x64, ordering, ty, field)
     }
 
     /// `struct.atomic.rmw.xchg`: `0xFE 0x65`, then an ordering, a type index and a field index.
@@ -342,7 +342,7 @@ impl<'a, A: Allocator> InstructionSink<'a, A> {
         ensures room { HasRoom self.entry → IsOk result }
         ensures* unchanged { sem 𝓛 (IsUnchangedAtErr A.row A.Allocator self.entry result) }
     {
-        self.emit_order_two_indexes(Opcode::after_fe(0x65), ordering, ty, field)
+        self.emit_order_two_indexes(0x65, ordering, ty, field)
     }
 
     /// `struct.atomic.rmw.cmpxchg`: `0xFE 0x66`, then an ordering, a type index and a field index.
@@ -357,7 +357,7 @@ impl<'a, A: Allocator> InstructionSink<'a, A> {
         ensures room { HasRoom self.entry → IsOk result }
         ensures* unchanged { sem 𝓛 (IsUnchangedAtErr A.row A.Allocator self.entry result) }
     {
-        self.emit_order_two_indexes(Opcode::after_fe(0x66), ordering, ty, field)
+        self.emit_order_two_indexes(0x66, ordering, ty, field)
     }
 
     /// `array.atomic.get`: `0xFE 0x67`, then an ordering and a type index.
@@ -371,7 +371,7 @@ impl<'a, A: Allocator> InstructionSink<'a, A> {
         ensures room { HasRoom self.entry → IsOk result }
         ensures* unchanged { sem 𝓛 (IsUnchangedAtErr A.row A.Allocator self.entry result) }
     {
-        self.emit_order_index(Opcode::after_fe(0x67), ordering, ty)
+        self.emit_order_index(0x67, ordering, ty)
     }
 
     /// `array.atomic.get_s`: `0xFE 0x68`, then an ordering and a type index.
@@ -385,7 +385,7 @@ impl<'a, A: Allocator> InstructionSink<'a, A> {
         ensures room { HasRoom self.entry → IsOk result }
         ensures* unchanged { sem 𝓛 (IsUnchangedAtErr A.row A.Allocator self.entry result) }
     {
-        self.emit_order_index(Opcode::after_fe(0x68), ordering, ty)
+        self.emit_order_index(0x68, ordering, ty)
     }
 
     /// `array.atomic.get_u`: `0xFE 0x69`, then an ordering and a type index.
@@ -399,7 +399,7 @@ impl<'a, A: Allocator> InstructionSink<'a, A> {
         ensures room { HasRoom self.entry → IsOk result }
         ensures* unchanged { sem 𝓛 (IsUnchangedAtErr A.row A.Allocator self.entry result) }
     {
-        self.emit_order_index(Opcode::after_fe(0x69), ordering, ty)
+        self.emit_order_index(0x69, ordering, ty)
     }
 
     /// `array.atomic.set`: `0xFE 0x6A`, then an ordering and a type index.
@@ -413,7 +413,7 @@ impl<'a, A: Allocator> InstructionSink<'a, A> {
         ensures room { HasRoom self.entry → IsOk result }
         ensures* unchanged { sem 𝓛 (IsUnchangedAtErr A.row A.Allocator self.entry result) }
     {
-        self.emit_order_index(Opcode::after_fe(0x6a), ordering, ty)
+        self.emit_order_index(0x6a, ordering, ty)
     }
 
     /// `array.atomic.rmw.add`: `0xFE 0x6B`, then an ordering and a type index.
@@ -427,7 +427,7 @@ impl<'a, A: Allocator> InstructionSink<'a, A> {
         ensures room { HasRoom self.entry → IsOk result }
         ensures* unchanged { sem 𝓛 (IsUnchangedAtErr A.row A.Allocator self.entry result) }
     {
-        self.emit_order_index(Opcode::after_fe(0x6b), ordering, ty)
+        self.emit_order_index(0x6b, ordering, ty)
     }
 
     /// `array.atomic.rmw.sub`: `0xFE 0x6C`, then an ordering and a type index.
@@ -441,7 +441,7 @@ impl<'a, A: Allocator> InstructionSink<'a, A> {
         ensures room { HasRoom self.entry → IsOk result }
         ensures* unchanged { sem 𝓛 (IsUnchangedAtErr A.row A.Allocator self.entry result) }
     {
-        self.emit_order_index(Opcode::after_fe(0x6c), ordering, ty)
+        self.emit_order_index(0x6c, ordering, ty)
     }
 
     /// `array.atomic.rmw.and`: `0xFE 0x6D`, then an ordering and a type index.
@@ -455,7 +455,7 @@ impl<'a, A: Allocator> InstructionSink<'a, A> {
         ensures room { HasRoom self.entry → IsOk result }
         ensures* unchanged { sem 𝓛 (IsUnchangedAtErr A.row A.Allocator self.entry result) }
     {
-        self.emit_order_index(Opcode::after_fe(0x6d), ordering, ty)
+        self.emit_order_index(0x6d, ordering, ty)
     }
 
     /// `array.atomic.rmw.or`: `0xFE 0x6E`, then an ordering and a type index.
@@ -469,7 +469,7 @@ impl<'a, A: Allocator> InstructionSink<'a, A> {
         ensures room { HasRoom self.entry → IsOk result }
         ensures* unchanged { sem 𝓛 (IsUnchangedAtErr A.row A.Allocator self.entry result) }
     {
-        self.emit_order_index(Opcode::after_fe(0x6e), ordering, ty)
+        self.emit_order_index(0x6e, ordering, ty)
     }
 
     /// `array.atomic.rmw.xor`: `0xFE 0x6F`, then an ordering and a type index.
@@ -483,7 +483,7 @@ impl<'a, A: Allocator> InstructionSink<'a, A> {
         ensures room { HasRoom self.entry → IsOk result }
         ensures* unchanged { sem 𝓛 (IsUnchangedAtErr A.row A.Allocator self.entry result) }
     {
-        self.emit_order_index(Opcode::after_fe(0x6f), ordering, ty)
+        self.emit_order_index(0x6f, ordering, ty)
     }
 
     /// `array.atomic.rmw.xchg`: `0xFE 0x70`, then an ordering and a type index.
@@ -497,7 +497,7 @@ impl<'a, A: Allocator> InstructionSink<'a, A> {
         ensures room { HasRoom self.entry → IsOk result }
         ensures* unchanged { sem 𝓛 (IsUnchangedAtErr A.row A.Allocator self.entry result) }
     {
-        self.emit_order_index(Opcode::after_fe(0x70), ordering, ty)
+        self.emit_order_index(0x70, ordering, ty)
     }
 
     /// `array.atomic.rmw.cmpxchg`: `0xFE 0x71`, then an ordering and a type index.
@@ -511,7 +511,7 @@ impl<'a, A: Allocator> InstructionSink<'a, A> {
         ensures room { HasRoom self.entry → IsOk result }
         ensures* unchanged { sem 𝓛 (IsUnchangedAtErr A.row A.Allocator self.entry result) }
     {
-        self.emit_order_index(Opcode::after_fe(0x71), ordering, ty)
+        self.emit_order_index(0x71, ordering, ty)
     }
 
     /// `ref.i31_shared`: `0xFE 0x72`.
@@ -521,6 +521,6 @@ impl<'a, A: Allocator> InstructionSink<'a, A> {
         ensures room { HasRoom self.entry → IsOk result }
         ensures* unchanged { sem 𝓛 (IsUnchangedAtErr A.row A.Allocator self.entry result) }
     {
-        self.emit(Opcode::after_fe(0x72))
+        self.emit(Prefix::Fe, 0x72)
     }
 }

@@ -2,7 +2,7 @@
 ghost use Rattle.std.specs.Prelude.{IsOk};
 ghost use Rattle.std.specs.Borrow.{sem};
 ghost use Rattle.wasm_sink.specs.Sink.{IsUnchangedAtErr, IsSameSink, Writes, HasRoom};
-ghost use Rattle.wasm_instructions.specs.Instructions.{IsShort};
+ghost use Rattle.wasm_instructions.specs.Instructions.{IsShort, after_fd, without_prefix};
 ghost use Rattle.wasm_instructions.specs.declared.table.call.Operands.TheVariants as operands;
 
 use crate::sink::InstructionSink;
@@ -16,122 +16,122 @@ use wasm_instructions::table::Opcode;
 
 #[tactic(auto, using(wasm_instructions::proofs::InstructionLengths::short_call))]
 impl<'a, A: Allocator> InstructionSink<'a, A> {
-    /// An instruction with a signed number of 32 bits.
+    /// An instruction without a prefix, with a signed number of 32 bits.
     pub(in crate::sink) fn emit_i32(
         self,
-        op: Opcode,
+        number: u8,
         value: i32,
     ) -> Result<InstructionSink<'a, A>, EncodeError>
-        requires { IsShort op }
-        ensures wrote { Writes self.entry op (operands.I32 value) result }
+        requires { IsShort (without_prefix number) }
+        ensures wrote { Writes self.entry (without_prefix number) (operands.I32 value) result }
         ensures same { IsSameSink self.entry result }
         ensures room { HasRoom self.entry → IsOk result }
         ensures* unchanged { sem 𝓛 (IsUnchangedAtErr A.row A.Allocator self.entry result) }
     {
         let InstructionSink { bytes } = self;
-        append_i32(bytes, op, value)?;
+        append_i32(bytes, Opcode::without_prefix(number), value)?;
         Ok(InstructionSink { bytes })
     }
 
-    /// An instruction with a signed number of 64 bits.
+    /// An instruction without a prefix, with a signed number of 64 bits.
     pub(in crate::sink) fn emit_i64(
         self,
-        op: Opcode,
+        number: u8,
         value: i64,
     ) -> Result<InstructionSink<'a, A>, EncodeError>
-        requires { IsShort op }
-        ensures wrote { Writes self.entry op (operands.I64 value) result }
+        requires { IsShort (without_prefix number) }
+        ensures wrote { Writes self.entry (without_prefix number) (operands.I64 value) result }
         ensures same { IsSameSink self.entry result }
         ensures room { HasRoom self.entry → IsOk result }
         ensures* unchanged { sem 𝓛 (IsUnchangedAtErr A.row A.Allocator self.entry result) }
     {
         let InstructionSink { bytes } = self;
-        append_i64(bytes, op, value)?;
+        append_i64(bytes, Opcode::without_prefix(number), value)?;
         Ok(InstructionSink { bytes })
     }
 
-    /// An instruction with the bits of a floating-point number of 32 bits.
+    /// An instruction without a prefix, with the bits of a floating-point number of 32 bits.
     pub(in crate::sink) fn emit_f32(
         self,
-        op: Opcode,
+        number: u8,
         value: Ieee32,
     ) -> Result<InstructionSink<'a, A>, EncodeError>
-        requires { IsShort op }
-        ensures wrote { Writes self.entry op (operands.F32 value) result }
+        requires { IsShort (without_prefix number) }
+        ensures wrote { Writes self.entry (without_prefix number) (operands.F32 value) result }
         ensures same { IsSameSink self.entry result }
         ensures room { HasRoom self.entry → IsOk result }
         ensures* unchanged { sem 𝓛 (IsUnchangedAtErr A.row A.Allocator self.entry result) }
     {
         let InstructionSink { bytes } = self;
-        append_f32(bytes, op, value)?;
+        append_f32(bytes, Opcode::without_prefix(number), value)?;
         Ok(InstructionSink { bytes })
     }
 
-    /// An instruction with the bits of a floating-point number of 64 bits.
+    /// An instruction without a prefix, with the bits of a floating-point number of 64 bits.
     pub(in crate::sink) fn emit_f64(
         self,
-        op: Opcode,
+        number: u8,
         value: Ieee64,
     ) -> Result<InstructionSink<'a, A>, EncodeError>
-        requires { IsShort op }
-        ensures wrote { Writes self.entry op (operands.F64 value) result }
+        requires { IsShort (without_prefix number) }
+        ensures wrote { Writes self.entry (without_prefix number) (operands.F64 value) result }
         ensures same { IsSameSink self.entry result }
         ensures room { HasRoom self.entry → IsOk result }
         ensures* unchanged { sem 𝓛 (IsUnchangedAtErr A.row A.Allocator self.entry result) }
     {
         let InstructionSink { bytes } = self;
-        append_f64(bytes, op, value)?;
+        append_f64(bytes, Opcode::without_prefix(number), value)?;
         Ok(InstructionSink { bytes })
     }
 
-    /// An instruction with a vector.
+    /// An instruction after `0xFD`, with a vector.
     pub(in crate::sink) fn emit_v128(
         self,
-        op: Opcode,
+        number: u32,
         value: i128,
     ) -> Result<InstructionSink<'a, A>, EncodeError>
-        requires { IsShort op }
-        ensures wrote { Writes self.entry op (operands.V128 value) result }
+        requires { IsShort (after_fd number) }
+        ensures wrote { Writes self.entry (after_fd number) (operands.V128 value) result }
         ensures same { IsSameSink self.entry result }
         ensures room { HasRoom self.entry → IsOk result }
         ensures* unchanged { sem 𝓛 (IsUnchangedAtErr A.row A.Allocator self.entry result) }
     {
         let InstructionSink { bytes } = self;
-        append_v128(bytes, op, value)?;
+        append_v128(bytes, Opcode::after_fd(number), value)?;
         Ok(InstructionSink { bytes })
     }
 
-    /// An instruction with sixteen lanes.
+    /// An instruction after `0xFD`, with sixteen lanes.
     pub(in crate::sink) fn emit_shuffle(
         self,
-        op: Opcode,
+        number: u32,
         lanes: [Lane; 16],
     ) -> Result<InstructionSink<'a, A>, EncodeError>
-        requires { IsShort op }
-        ensures wrote { Writes self.entry op (operands.Shuffle lanes) result }
+        requires { IsShort (after_fd number) }
+        ensures wrote { Writes self.entry (after_fd number) (operands.Shuffle lanes) result }
         ensures same { IsSameSink self.entry result }
         ensures room { HasRoom self.entry → IsOk result }
         ensures* unchanged { sem 𝓛 (IsUnchangedAtErr A.row A.Allocator self.entry result) }
     {
         let InstructionSink { bytes } = self;
-        append_shuffle(bytes, op, lanes)?;
+        append_shuffle(bytes, Opcode::after_fd(number), lanes)?;
         Ok(InstructionSink { bytes })
     }
 
-    /// An instruction with a lane.
+    /// An instruction after `0xFD`, with a lane.
     pub(in crate::sink) fn emit_lane(
         self,
-        op: Opcode,
+        number: u32,
         lane: Lane,
     ) -> Result<InstructionSink<'a, A>, EncodeError>
-        requires { IsShort op }
-        ensures wrote { Writes self.entry op (operands.Lane lane) result }
+        requires { IsShort (after_fd number) }
+        ensures wrote { Writes self.entry (after_fd number) (operands.Lane lane) result }
         ensures same { IsSameSink self.entry result }
         ensures room { HasRoom self.entry → IsOk result }
         ensures* unchanged { sem 𝓛 (IsUnchangedAtErr A.row A.Allocator self.entry result) }
     {
         let InstructionSink { bytes } = self;
-        append_lane(bytes, op, lane)?;
+        append_lane(bytes, Opcode::after_fd(number), lane)?;
         Ok(InstructionSink { bytes })
     }
 }

@@ -20,19 +20,19 @@ use wasm_types::types::ValType;
 
 #[tactic(auto, unfolding(wasm_instructions::specs::Appending::AppendsAll))]
 impl<'a, A: Allocator> InstructionSink<'a, A> {
-    /// An instruction with value types.
+    /// An instruction without a prefix, with value types.
     pub(in crate::sink) fn emit_types(
         self,
-        op: Opcode,
+        number: u8,
         types: &[ValType],
     ) -> Result<InstructionSink<'a, A>, EncodeError>
-        requires { IsShort op }
-        ensures wrote { WritesList self.entry op (operands.Types types.now) (length types.now) result }
+        requires { IsShort (without_prefix number) }
+        ensures wrote { WritesList self.entry (without_prefix number) (operands.Types types.now) (length types.now) result }
         ensures same { IsSameSink self.entry result }
         ensures* unchanged { sem 𝓛 (IsUnchangedAtErr A.row A.Allocator self.entry result) }
     {
         let InstructionSink { bytes } = self;
-        append_type_list(bytes, op, types)?;
+        append_type_list(bytes, Opcode::without_prefix(number), types)?;
         Ok(InstructionSink { bytes })
     }
 

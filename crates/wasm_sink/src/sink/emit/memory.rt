@@ -1,8 +1,8 @@
 //! Instructions with memory arguments. An alignment of 64 or more is refused before anything grows.
 ghost use Rattle.std.specs.Prelude.{◌≤◌, ◌<◌, ◌↔◌, IsOk, IsErrOf};
 ghost use Rattle.std.specs.Borrow.{sem};
-ghost use Rattle.wasm_sink.specs.Sink.{IsUnchangedAtErr, IsSameSink, WritesBytes, HasRoom};
-ghost use Rattle.wasm_instructions.specs.Instructions.{IsShort};
+ghost use Rattle.wasm_sink.specs.Sink.{opcode, IsUnchangedAtErr, IsSameSink, WritesBytes, HasRoom};
+ghost use Rattle.wasm_instructions.specs.Instructions.{IsShort, after_fd};
 ghost use Rattle.wasm_instructions.specs.declared.table.call.Operands.TheVariants as operands;
 
 use crate::sink::InstructionSink;
@@ -10,44 +10,45 @@ use std::alloc::Allocator;
 use wasm_codec::encode::EncodeError;
 use wasm_instructions::encode::{append_mem, append_mem_lane};
 use wasm_instructions::operands::{Lane, MemArg};
-use wasm_instructions::table::Opcode;
+use wasm_instructions::table::{Opcode, Prefix};
 
 #[tactic(auto, using(wasm_instructions::proofs::InstructionLengths::short_call))]
 impl<'a, A: Allocator> InstructionSink<'a, A> {
     /// An instruction with a memory argument.
     pub(in crate::sink) fn emit_mem(
         self,
-        op: Opcode,
+        prefix: Prefix,
+        number: u32,
         memarg: MemArg,
     ) -> Result<InstructionSink<'a, A>, EncodeError>
-        requires { IsShort op }
-        ensures wrote { WritesBytes self.entry op (operands.Mem memarg) result }
+        requires { IsShort (opcode prefix number) }
+        ensures wrote { WritesBytes self.entry (opcode prefix number) (operands.Mem memarg) result }
         ensures same { IsSameSink self.entry result }
         ensures alignment { IsErrOf result EncodeError.Alignment ↔ 64 ≤ memarg.align }
         ensures room { HasRoom self.entry → memarg.align < 64 → IsOk result }
         ensures* unchanged { sem 𝓛 (IsUnchangedAtErr A.row A.Allocator self.entry result) }
     {
         let InstructionSink { bytes } = self;
-        append_mem(bytes, op, memarg)?;
+        append_mem(bytes, Opcode { prefix, number }, memarg)?;
         Ok(InstructionSink { bytes })
     }
 
-    /// An instruction with a memory argument and a lane.
+    /// An instruction after `0xFD`, with a memory argument and a lane.
     pub(in crate::sink) fn emit_mem_lane(
         self,
-        op: Opcode,
+        number: u32,
         memarg: MemArg,
         lane: Lane,
     ) -> Result<InstructionSink<'a, A>, EncodeError>
-        requires { IsShort op }
-        ensures wrote { WritesBytes self.entry op (operands.MemLane memarg lane) result }
+        requires { IsShort (after_fd number) }
+        ensures wrote { WritesBytes self.entry (after_fd number) (operands.MemLane memarg lane) result }
         ensures same { IsSameSink self.entry result }
         ensures alignment { IsErrOf result EncodeError.Alignment ↔ 64 ≤ memarg.align }
         ensures room { HasRoom self.entry → memarg.align < 64 → IsOk result }
         ensures* unchanged { sem 𝓛 (IsUnchangedAtErr A.row A.Allocator self.entry result) }
     {
         let InstructionSink { bytes } = self;
-        append_mem_lane(bytes, op, memarg, lane)?;
+        append_mem_lane(bytes, Opcode::after_fd(number), memarg, lane)?;
         Ok(InstructionSink { bytes })
     }
 }

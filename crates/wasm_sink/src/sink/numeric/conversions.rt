@@ -8,7 +8,7 @@ ghost use Rattle.wasm_instructions.specs.declared.table.call.Operands.TheVariant
 use crate::sink::InstructionSink;
 use std::alloc::Allocator;
 use wasm_codec::encode::EncodeError;
-use wasm_instructions::table::Opcode;
+use wasm_instructions::table::Prefix;
 
 impl<'a, A: Allocator> InstructionSink<'a, A> {
     /// `i32.wrap_i64`: `0xA7`.
@@ -18,7 +18,7 @@ impl<'a, A: Allocator> InstructionSink<'a, A> {
         ensures room { HasRoom self.entry → IsOk result }
         ensures* unchanged { sem 𝓛 (IsUnchangedAtErr A.row A.Allocator self.entry result) }
     {
-        self.emit(Opcode::without_prefix(0xa7))
+        self.emit(Prefix::None, 0xa7)
     }
 
     /// `i32.trunc_f32_s`: `0xA8`.
@@ -28,7 +28,7 @@ impl<'a, A: Allocator> InstructionSink<'a, A> {
         ensures room { HasRoom self.entry → IsOk result }
         ensures* unchanged { sem 𝓛 (IsUnchangedAtErr A.row A.Allocator self.entry result) }
     {
-        self.emit(Opcode::without_prefix(0xa8))
+        self.emit(Prefix::None, 0xa8)
     }
 
     /// `i32.trunc_f32_u`: `0xA9`.
@@ -38,7 +38,7 @@ impl<'a, A: Allocator> InstructionSink<'a, A> {
         ensures room { HasRoom self.entry → IsOk result }
         ensures* unchanged { sem 𝓛 (IsUnchangedAtErr A.row A.Allocator self.entry result) }
     {
-        self.emit(Opcode::without_prefix(0xa9))
+        self.emit(Prefix::None, 0xa9)
     }
 
     /// `i32.trunc_f64_s`: `0xAA`.
@@ -48,7 +48,7 @@ impl<'a, A: Allocator> InstructionSink<'a, A> {
         ensures room { HasRoom self.entry → IsOk result }
         ensures* unchanged { sem 𝓛 (IsUnchangedAtErr A.row A.Allocator self.entry result) }
     {
-        self.emit(Opcode::without_prefix(0xaa))
+        self.emit(Prefix::None, 0xaa)
     }
 
     /// `i32.trunc_f64_u`: `0xAB`.
@@ -58,7 +58,7 @@ impl<'a, A: Allocator> InstructionSink<'a, A> {
         ensures room { HasRoom self.entry → IsOk result }
         ensures* unchanged { sem 𝓛 (IsUnchangedAtErr A.row A.Allocator self.entry result) }
     {
-        self.emit(Opcode::without_prefix(0xab))
+        self.emit(Prefix::None, 0xab)
     }
 
     /// `i64.extend_i32_s`: `0xAC`.
@@ -68,7 +68,7 @@ impl<'a, A: Allocator> InstructionSink<'a, A> {
         ensures room { HasRoom self.entry → IsOk result }
         ensures* unchanged { sem 𝓛 (IsUnchangedAtErr A.row A.Allocator self.entry result) }
     {
-        self.emit(Opcode::without_prefix(0xac))
+        self.emit(Prefix::None, 0xac)
     }
 
     /// `i64.extend_i32_u`: `0xAD`.
@@ -78,7 +78,7 @@ impl<'a, A: Allocator> InstructionSink<'a, A> {
         ensures room { HasRoom self.entry → IsOk result }
         ensures* unchanged { sem 𝓛 (IsUnchangedAtErr A.row A.Allocator self.entry result) }
     {
-        self.emit(Opcode::without_prefix(0xad))
+        self.emit(Prefix::None, 0xad)
     }
 
     /// `i64.trunc_f32_s`: `0xAE`.
@@ -88,7 +88,7 @@ impl<'a, A: Allocator> InstructionSink<'a, A> {
         ensures room { HasRoom self.entry → IsOk result }
         ensures* unchanged { sem 𝓛 (IsUnchangedAtErr A.row A.Allocator self.entry result) }
     {
-        self.emit(Opcode::without_prefix(0xae))
+        self.emit(Prefix::None, 0xae)
     }
 
     /// `i64.trunc_f32_u`: `0xAF`.
@@ -98,7 +98,7 @@ impl<'a, A: Allocator> InstructionSink<'a, A> {
         ensures room { HasRoom self.entry → IsOk result }
         ensures* unchanged { sem 𝓛 (IsUnchangedAtErr A.row A.Allocator self.entry result) }
     {
-        self.emit(Opcode::without_prefix(0xaf))
+        self.emit(Prefix::None, 0xaf)
     }
 
     /// `i64.trunc_f64_s`: `0xB0`.
@@ -108,7 +108,7 @@ impl<'a, A: Allocator> InstructionSink<'a, A> {
         ensures room { HasRoom self.entry → IsOk result }
         ensures* unchanged { sem 𝓛 (IsUnchangedAtErr A.row A.Allocator self.entry result) }
     {
-        self.emit(Opcode::without_prefix(0xb0))
+        self.emit(Prefix::None, 0xb0)
     }
 
     /// `i64.trunc_f64_u`: `0xB1`.
@@ -118,7 +118,7 @@ impl<'a, A: Allocator> InstructionSink<'a, A> {
         ensures room { HasRoom self.entry → IsOk result }
         ensures* unchanged { sem 𝓛 (IsUnchangedAtErr A.row A.Allocator self.entry result) }
     {
-        self.emit(Opcode::without_prefix(0xb1))
+        self.emit(Prefix::None, 0xb1)
     }
 
     /// `f32.convert_i32_s`: `0xB2`.
@@ -128,7 +128,7 @@ impl<'a, A: Allocator> InstructionSink<'a, A> {
         ensures room { HasRoom self.entry → IsOk result }
         ensures* unchanged { sem 𝓛 (IsUnchangedAtErr A.row A.Allocator self.entry result) }
     {
-        self.emit(Opcode::without_prefix(0xb2))
+        self.emit(Prefix::None, 0xb2)
     }
 
     /// `f32.convert_i32_u`: `0xB3`.
@@ -138,7 +138,7 @@ impl<'a, A: Allocator> InstructionSink<'a, A> {
         ensures room { HasRoom self.entry → IsOk result }
         ensures* unchanged { sem 𝓛 (IsUnchangedAtErr A.row A.Allocator self.entry result) }
     {
-        self.emit(Opcode::without_prefix(0xb3))
+        self.emit(Prefix::None, 0xb3)
     }
 
     /// `f32.convert_i64_s`: `0xB4`.
@@ -148,7 +148,7 @@ impl<'a, A: Allocator> InstructionSink<'a, A> {
         ensures room { HasRoom self.entry → IsOk result }
         ensures* unchanged { sem 𝓛 (IsUnchangedAtErr A.row A.Allocator self.entry result) }
     {
-        self.emit(Opcode::without_prefix(0xb4))
+        self.emit(Prefix::None, 0xb4)
     }
 
     /// `f32.convert_i64_u`: `0xB5`.
@@ -158,7 +158,7 @@ impl<'a, A: Allocator> InstructionSink<'a, A> {
         ensures room { HasRoom self.entry → IsOk result }
         ensures* unchanged { sem 𝓛 (IsUnchangedAtErr A.row A.Allocator self.entry result) }
     {
-        self.emit(Opcode::without_prefix(0xb5))
+        self.emit(Prefix::None, 0xb5)
     }
 
     /// `f32.demote_f64`: `0xB6`.
@@ -168,7 +168,7 @@ impl<'a, A: Allocator> InstructionSink<'a, A> {
         ensures room { HasRoom self.entry → IsOk result }
         ensures* unchanged { sem 𝓛 (IsUnchangedAtErr A.row A.Allocator self.entry result) }
     {
-        self.emit(Opcode::without_prefix(0xb6))
+        self.emit(Prefix::None, 0xb6)
     }
 
     /// `f64.convert_i32_s`: `0xB7`.
@@ -178,7 +178,7 @@ impl<'a, A: Allocator> InstructionSink<'a, A> {
         ensures room { HasRoom self.entry → IsOk result }
         ensures* unchanged { sem 𝓛 (IsUnchangedAtErr A.row A.Allocator self.entry result) }
     {
-        self.emit(Opcode::without_prefix(0xb7))
+        self.emit(Prefix::None, 0xb7)
     }
 
     /// `f64.convert_i32_u`: `0xB8`.
@@ -188,7 +188,7 @@ impl<'a, A: Allocator> InstructionSink<'a, A> {
         ensures room { HasRoom self.entry → IsOk result }
         ensures* unchanged { sem 𝓛 (IsUnchangedAtErr A.row A.Allocator self.entry result) }
     {
-        self.emit(Opcode::without_prefix(0xb8))
+        self.emit(Prefix::None, 0xb8)
     }
 
     /// `f64.convert_i64_s`: `0xB9`.
@@ -198,7 +198,7 @@ impl<'a, A: Allocator> InstructionSink<'a, A> {
         ensures room { HasRoom self.entry → IsOk result }
         ensures* unchanged { sem 𝓛 (IsUnchangedAtErr A.row A.Allocator self.entry result) }
     {
-        self.emit(Opcode::without_prefix(0xb9))
+        self.emit(Prefix::None, 0xb9)
     }
 
     /// `f64.convert_i64_u`: `0xBA`.
@@ -208,7 +208,7 @@ impl<'a, A: Allocator> InstructionSink<'a, A> {
         ensures room { HasRoom self.entry → IsOk result }
         ensures* unchanged { sem 𝓛 (IsUnchangedAtErr A.row A.Allocator self.entry result) }
     {
-        self.emit(Opcode::without_prefix(0xba))
+        self.emit(Prefix::None, 0xba)
     }
 
     /// `f64.promote_f32`: `0xBB`.
@@ -218,7 +218,7 @@ impl<'a, A: Allocator> InstructionSink<'a, A> {
         ensures room { HasRoom self.entry → IsOk result }
         ensures* unchanged { sem 𝓛 (IsUnchangedAtErr A.row A.Allocator self.entry result) }
     {
-        self.emit(Opcode::without_prefix(0xbb))
+        self.emit(Prefix::None, 0xbb)
     }
 
     /// `i32.reinterpret_f32`: `0xBC`.
@@ -228,7 +228,7 @@ impl<'a, A: Allocator> InstructionSink<'a, A> {
         ensures room { HasRoom self.entry → IsOk result }
         ensures* unchanged { sem 𝓛 (IsUnchangedAtErr A.row A.Allocator self.entry result) }
     {
-        self.emit(Opcode::without_prefix(0xbc))
+        self.emit(Prefix::None, 0xbc)
     }
 
     /// `i64.reinterpret_f64`: `0xBD`.
@@ -238,7 +238,7 @@ impl<'a, A: Allocator> InstructionSink<'a, A> {
         ensures room { HasRoom self.entry → IsOk result }
         ensures* unchanged { sem 𝓛 (IsUnchangedAtErr A.row A.Allocator self.entry result) }
     {
-        self.emit(Opcode::without_prefix(0xbd))
+        self.emit(Prefix::None, 0xbd)
     }
 
     /// `f32.reinterpret_i32`: `0xBE`.
@@ -248,7 +248,7 @@ impl<'a, A: Allocator> InstructionSink<'a, A> {
         ensures room { HasRoom self.entry → IsOk result }
         ensures* unchanged { sem 𝓛 (IsUnchangedAtErr A.row A.Allocator self.entry result) }
     {
-        self.emit(Opcode::without_prefix(0xbe))
+        self.emit(Prefix::None, 0xbe)
     }
 
     /// `f64.reinterpret_i64`: `0xBF`.
@@ -258,7 +258,7 @@ impl<'a, A: Allocator> InstructionSink<'a, A> {
         ensures room { HasRoom self.entry → IsOk result }
         ensures* unchanged { sem 𝓛 (IsUnchangedAtErr A.row A.Allocator self.entry result) }
     {
-        self.emit(Opcode::without_prefix(0xbf))
+        self.emit(Prefix::None, 0xbf)
     }
 
     /// `i32.trunc_sat_f32_s`: `0xFC 0x00`.
@@ -268,7 +268,7 @@ impl<'a, A: Allocator> InstructionSink<'a, A> {
         ensures room { HasRoom self.entry → IsOk result }
         ensures* unchanged { sem 𝓛 (IsUnchangedAtErr A.row A.Allocator self.entry result) }
     {
-        self.emit(Opcode::after_fc(0x00))
+        self.emit(Prefix::Fc, 0x00)
     }
 
     /// `i32.trunc_sat_f32_u`: `0xFC 0x01`.
@@ -278,7 +278,7 @@ impl<'a, A: Allocator> InstructionSink<'a, A> {
         ensures room { HasRoom self.entry → IsOk result }
         ensures* unchanged { sem 𝓛 (IsUnchangedAtErr A.row A.Allocator self.entry result) }
     {
-        self.emit(Opcode::after_fc(0x01))
+        self.emit(Prefix::Fc, 0x01)
     }
 
     /// `i32.trunc_sat_f64_s`: `0xFC 0x02`.
@@ -288,7 +288,7 @@ impl<'a, A: Allocator> InstructionSink<'a, A> {
         ensures room { HasRoom self.entry → IsOk result }
         ensures* unchanged { sem 𝓛 (IsUnchangedAtErr A.row A.Allocator self.entry result) }
     {
-        self.emit(Opcode::after_fc(0x02))
+        self.emit(Prefix::Fc, 0x02)
     }
 
     /// `i32.trunc_sat_f64_u`: `0xFC 0x03`.
@@ -298,7 +298,7 @@ impl<'a, A: Allocator> InstructionSink<'a, A> {
         ensures room { HasRoom self.entry → IsOk result }
         ensures* unchanged { sem 𝓛 (IsUnchangedAtErr A.row A.Allocator self.entry result) }
     {
-        self.emit(Opcode::after_fc(0x03))
+        self.emit(Prefix::Fc, 0x03)
     }
 
     /// `i64.trunc_sat_f32_s`: `0xFC 0x04`.
@@ -308,7 +308,7 @@ impl<'a, A: Allocator> InstructionSink<'a, A> {
         ensures room { HasRoom self.entry → IsOk result }
         ensures* unchanged { sem 𝓛 (IsUnchangedAtErr A.row A.Allocator self.entry result) }
     {
-        self.emit(Opcode::after_fc(0x04))
+        self.emit(Prefix::Fc, 0x04)
     }
 
     /// `i64.trunc_sat_f32_u`: `0xFC 0x05`.
@@ -318,7 +318,7 @@ impl<'a, A: Allocator> InstructionSink<'a, A> {
         ensures room { HasRoom self.entry → IsOk result }
         ensures* unchanged { sem 𝓛 (IsUnchangedAtErr A.row A.Allocator self.entry result) }
     {
-        self.emit(Opcode::after_fc(0x05))
+        self.emit(Prefix::Fc, 0x05)
     }
 
     /// `i64.trunc_sat_f64_s`: `0xFC 0x06`.
@@ -328,7 +328,7 @@ impl<'a, A: Allocator> InstructionSink<'a, A> {
         ensures room { HasRoom self.entry → IsOk result }
         ensures* unchanged { sem 𝓛 (IsUnchangedAtErr A.row A.Allocator self.entry result) }
     {
-        self.emit(Opcode::after_fc(0x06))
+        self.emit(Prefix::Fc, 0x06)
     }
 
     /// `i64.trunc_sat_f64_u`: `0xFC 0x07`.
@@ -338,6 +338,6 @@ impl<'a, A: Allocator> InstructionSink<'a, A> {
         ensures room { HasRoom self.entry → IsOk result }
         ensures* unchanged { sem 𝓛 (IsUnchangedAtErr A.row A.Allocator self.entry result) }
     {
-        self.emit(Opcode::after_fc(0x07))
+        self.emit(Prefix::Fc, 0x07)
     }
 }

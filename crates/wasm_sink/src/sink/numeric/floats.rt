@@ -9,7 +9,7 @@ use crate::sink::InstructionSink;
 use std::alloc::Allocator;
 use wasm_codec::encode::EncodeError;
 use wasm_instructions::operands::{Ieee32, Ieee64};
-use wasm_instructions::table::Opcode;
+use wasm_instructions::table::Prefix;
 
 impl<'a, A: Allocator> InstructionSink<'a, A> {
     /// `f32.const`: `0x43`, then 4 bytes, the lowest first.
@@ -19,7 +19,7 @@ impl<'a, A: Allocator> InstructionSink<'a, A> {
         ensures room { HasRoom self.entry → IsOk result }
         ensures* unchanged { sem 𝓛 (IsUnchangedAtErr A.row A.Allocator self.entry result) }
     {
-        self.emit_f32(Opcode::without_prefix(0x43), value)
+        self.emit_f32(0x43, value)
     }
 
     /// `f64.const`: `0x44`, then 8 bytes, the lowest first.
@@ -29,7 +29,7 @@ impl<'a, A: Allocator> InstructionSink<'a, A> {
         ensures room { HasRoom self.entry → IsOk result }
         ensures* unchanged { sem 𝓛 (IsUnchangedAtErr A.row A.Allocator self.entry result) }
     {
-        self.emit_f64(Opcode::without_prefix(0x44), value)
+        self.emit_f64(0x44, value)
     }
 
     /// `f32.eq`: `0x5B`.
@@ -39,7 +39,7 @@ impl<'a, A: Allocator> InstructionSink<'a, A> {
         ensures room { HasRoom self.entry → IsOk result }
         ensures* unchanged { sem 𝓛 (IsUnchangedAtErr A.row A.Allocator self.entry result) }
     {
-        self.emit(Opcode::without_prefix(0x5b))
+        self.emit(Prefix::None, 0x5b)
     }
 
     /// `f32.ne`: `0x5C`.
@@ -49,7 +49,7 @@ impl<'a, A: Allocator> InstructionSink<'a, A> {
         ensures room { HasRoom self.entry → IsOk result }
         ensures* unchanged { sem 𝓛 (IsUnchangedAtErr A.row A.Allocator self.entry result) }
     {
-        self.emit(Opcode::without_prefix(0x5c))
+        self.emit(Prefix::None, 0x5c)
     }
 
     /// `f32.lt`: `0x5D`.
@@ -59,7 +59,7 @@ impl<'a, A: Allocator> InstructionSink<'a, A> {
         ensures room { HasRoom self.entry → IsOk result }
         ensures* unchanged { sem 𝓛 (IsUnchangedAtErr A.row A.Allocator self.entry result) }
     {
-        self.emit(Opcode::without_prefix(0x5d))
+        self.emit(Prefix::None, 0x5d)
     }
 
     /// `f32.gt`: `0x5E`.
@@ -69,7 +69,7 @@ impl<'a, A: Allocator> InstructionSink<'a, A> {
         ensures room { HasRoom self.entry → IsOk result }
         ensures* unchanged { sem 𝓛 (IsUnchangedAtErr A.row A.Allocator self.entry result) }
     {
-        self.emit(Opcode::without_prefix(0x5e))
+        self.emit(Prefix::None, 0x5e)
     }
 
     /// `f32.le`: `0x5F`.
@@ -79,7 +79,7 @@ impl<'a, A: Allocator> InstructionSink<'a, A> {
         ensures room { HasRoom self.entry → IsOk result }
         ensures* unchanged { sem 𝓛 (IsUnchangedAtErr A.row A.Allocator self.entry result) }
     {
-        self.emit(Opcode::without_prefix(0x5f))
+        self.emit(Prefix::None, 0x5f)
     }
 
     /// `f32.ge`: `0x60`.
@@ -89,7 +89,7 @@ impl<'a, A: Allocator> InstructionSink<'a, A> {
         ensures room { HasRoom self.entry → IsOk result }
         ensures* unchanged { sem 𝓛 (IsUnchangedAtErr A.row A.Allocator self.entry result) }
     {
-        self.emit(Opcode::without_prefix(0x60))
+        self.emit(Prefix::None, 0x60)
     }
 
     /// `f64.eq`: `0x61`.
@@ -99,7 +99,7 @@ impl<'a, A: Allocator> InstructionSink<'a, A> {
         ensures room { HasRoom self.entry → IsOk result }
         ensures* unchanged { sem 𝓛 (IsUnchangedAtErr A.row A.Allocator self.entry result) }
     {
-        self.emit(Opcode::without_prefix(0x61))
+        self.emit(Prefix::None, 0x61)
     }
 
     /// `f64.ne`: `0x62`.
@@ -109,7 +109,7 @@ impl<'a, A: Allocator> InstructionSink<'a, A> {
         ensures room { HasRoom self.entry → IsOk result }
         ensures* unchanged { sem 𝓛 (IsUnchangedAtErr A.row A.Allocator self.entry result) }
     {
-        self.emit(Opcode::without_prefix(0x62))
+        self.emit(Prefix::None, 0x62)
     }
 
     /// `f64.lt`: `0x63`.
@@ -119,7 +119,7 @@ impl<'a, A: Allocator> InstructionSink<'a, A> {
         ensures room { HasRoom self.entry → IsOk result }
         ensures* unchanged { sem 𝓛 (IsUnchangedAtErr A.row A.Allocator self.entry result) }
     {
-        self.emit(Opcode::without_prefix(0x63))
+        self.emit(Prefix::None, 0x63)
     }
 
     /// `f64.gt`: `0x64`.
@@ -129,7 +129,7 @@ impl<'a, A: Allocator> InstructionSink<'a, A> {
         ensures room { HasRoom self.entry → IsOk result }
         ensures* unchanged { sem 𝓛 (IsUnchangedAtErr A.row A.Allocator self.entry result) }
     {
-        self.emit(Opcode::without_prefix(0x64))
+        self.emit(Prefix::None, 0x64)
     }
 
     /// `f64.le`: `0x65`.
@@ -139,7 +139,7 @@ impl<'a, A: Allocator> InstructionSink<'a, A> {
         ensures room { HasRoom self.entry → IsOk result }
         ensures* unchanged { sem 𝓛 (IsUnchangedAtErr A.row A.Allocator self.entry result) }
     {
-        self.emit(Opcode::without_prefix(0x65))
+        self.emit(Prefix::None, 0x65)
     }
 
     /// `f64.ge`: `0x66`.
@@ -149,7 +149,7 @@ impl<'a, A: Allocator> InstructionSink<'a, A> {
         ensures room { HasRoom self.entry → IsOk result }
         ensures* unchanged { sem 𝓛 (IsUnchangedAtErr A.row A.Allocator self.entry result) }
     {
-        self.emit(Opcode::without_prefix(0x66))
+        self.emit(Prefix::None, 0x66)
     }
 
     /// `f32.abs`: `0x8B`.
@@ -159,7 +159,7 @@ impl<'a, A: Allocator> InstructionSink<'a, A> {
         ensures room { HasRoom self.entry → IsOk result }
         ensures* unchanged { sem 𝓛 (IsUnchangedAtErr A.row A.Allocator self.entry result) }
     {
-        self.emit(Opcode::without_prefix(0x8b))
+        self.emit(Prefix::None, 0x8b)
     }
 
     /// `f32.neg`: `0x8C`.
@@ -169,7 +169,7 @@ impl<'a, A: Allocator> InstructionSink<'a, A> {
         ensures room { HasRoom self.entry → IsOk result }
         ensures* unchanged { sem 𝓛 (IsUnchangedAtErr A.row A.Allocator self.entry result) }
     {
-        self.emit(Opcode::without_prefix(0x8c))
+        self.emit(Prefix::None, 0x8c)
     }
 
     /// `f32.ceil`: `0x8D`.
@@ -179,7 +179,7 @@ impl<'a, A: Allocator> InstructionSink<'a, A> {
         ensures room { HasRoom self.entry → IsOk result }
         ensures* unchanged { sem 𝓛 (IsUnchangedAtErr A.row A.Allocator self.entry result) }
     {
-        self.emit(Opcode::without_prefix(0x8d))
+        self.emit(Prefix::None, 0x8d)
     }
 
     /// `f32.floor`: `0x8E`.
@@ -189,7 +189,7 @@ impl<'a, A: Allocator> InstructionSink<'a, A> {
         ensures room { HasRoom self.entry → IsOk result }
         ensures* unchanged { sem 𝓛 (IsUnchangedAtErr A.row A.Allocator self.entry result) }
     {
-        self.emit(Opcode::without_prefix(0x8e))
+        self.emit(Prefix::None, 0x8e)
     }
 
     /// `f32.trunc`: `0x8F`.
@@ -199,7 +199,7 @@ impl<'a, A: Allocator> InstructionSink<'a, A> {
         ensures room { HasRoom self.entry → IsOk result }
         ensures* unchanged { sem 𝓛 (IsUnchangedAtErr A.row A.Allocator self.entry result) }
     {
-        self.emit(Opcode::without_prefix(0x8f))
+        self.emit(Prefix::None, 0x8f)
     }
 
     /// `f32.nearest`: `0x90`.
@@ -209,7 +209,7 @@ impl<'a, A: Allocator> InstructionSink<'a, A> {
         ensures room { HasRoom self.entry → IsOk result }
         ensures* unchanged { sem 𝓛 (IsUnchangedAtErr A.row A.Allocator self.entry result) }
     {
-        self.emit(Opcode::without_prefix(0x90))
+        self.emit(Prefix::None, 0x90)
     }
 
     /// `f32.sqrt`: `0x91`.
@@ -219,7 +219,7 @@ impl<'a, A: Allocator> InstructionSink<'a, A> {
         ensures room { HasRoom self.entry → IsOk result }
         ensures* unchanged { sem 𝓛 (IsUnchangedAtErr A.row A.Allocator self.entry result) }
     {
-        self.emit(Opcode::without_prefix(0x91))
+        self.emit(Prefix::None, 0x91)
     }
 
     /// `f32.add`: `0x92`.
@@ -229,7 +229,7 @@ impl<'a, A: Allocator> InstructionSink<'a, A> {
         ensures room { HasRoom self.entry → IsOk result }
         ensures* unchanged { sem 𝓛 (IsUnchangedAtErr A.row A.Allocator self.entry result) }
     {
-        self.emit(Opcode::without_prefix(0x92))
+        self.emit(Prefix::None, 0x92)
     }
 
     /// `f32.sub`: `0x93`.
@@ -239,7 +239,7 @@ impl<'a, A: Allocator> InstructionSink<'a, A> {
         ensures room { HasRoom self.entry → IsOk result }
         ensures* unchanged { sem 𝓛 (IsUnchangedAtErr A.row A.Allocator self.entry result) }
     {
-        self.emit(Opcode::without_prefix(0x93))
+        self.emit(Prefix::None, 0x93)
     }
 
     /// `f32.mul`: `0x94`.
@@ -249,7 +249,7 @@ impl<'a, A: Allocator> InstructionSink<'a, A> {
         ensures room { HasRoom self.entry → IsOk result }
         ensures* unchanged { sem 𝓛 (IsUnchangedAtErr A.row A.Allocator self.entry result) }
     {
-        self.emit(Opcode::without_prefix(0x94))
+        self.emit(Prefix::None, 0x94)
     }
 
     /// `f32.div`: `0x95`.
@@ -259,7 +259,7 @@ impl<'a, A: Allocator> InstructionSink<'a, A> {
         ensures room { HasRoom self.entry → IsOk result }
         ensures* unchanged { sem 𝓛 (IsUnchangedAtErr A.row A.Allocator self.entry result) }
     {
-        self.emit(Opcode::without_prefix(0x95))
+        self.emit(Prefix::None, 0x95)
     }
 
     /// `f32.min`: `0x96`.
@@ -269,7 +269,7 @@ impl<'a, A: Allocator> InstructionSink<'a, A> {
         ensures room { HasRoom self.entry → IsOk result }
         ensures* unchanged { sem 𝓛 (IsUnchangedAtErr A.row A.Allocator self.entry result) }
     {
-        self.emit(Opcode::without_prefix(0x96))
+        self.emit(Prefix::None, 0x96)
     }
 
     /// `f32.max`: `0x97`.
@@ -279,7 +279,7 @@ impl<'a, A: Allocator> InstructionSink<'a, A> {
         ensures room { HasRoom self.entry → IsOk result }
         ensures* unchanged { sem 𝓛 (IsUnchangedAtErr A.row A.Allocator self.entry result) }
     {
-        self.emit(Opcode::without_prefix(0x97))
+        self.emit(Prefix::None, 0x97)
     }
 
     /// `f32.copysign`: `0x98`.
@@ -289,7 +289,7 @@ impl<'a, A: Allocator> InstructionSink<'a, A> {
         ensures room { HasRoom self.entry → IsOk result }
         ensures* unchanged { sem 𝓛 (IsUnchangedAtErr A.row A.Allocator self.entry result) }
     {
-        self.emit(Opcode::without_prefix(0x98))
+        self.emit(Prefix::None, 0x98)
     }
 
     /// `f64.abs`: `0x99`.
@@ -299,7 +299,7 @@ impl<'a, A: Allocator> InstructionSink<'a, A> {
         ensures room { HasRoom self.entry → IsOk result }
         ensures* unchanged { sem 𝓛 (IsUnchangedAtErr A.row A.Allocator self.entry result) }
     {
-        self.emit(Opcode::without_prefix(0x99))
+        self.emit(Prefix::None, 0x99)
     }
 
     /// `f64.neg`: `0x9A`.
@@ -309,7 +309,7 @@ impl<'a, A: Allocator> InstructionSink<'a, A> {
         ensures room { HasRoom self.entry → IsOk result }
         ensures* unchanged { sem 𝓛 (IsUnchangedAtErr A.row A.Allocator self.entry result) }
     {
-        self.emit(Opcode::without_prefix(0x9a))
+        self.emit(Prefix::None, 0x9a)
     }
 
     /// `f64.ceil`: `0x9B`.
@@ -319,7 +319,7 @@ impl<'a, A: Allocator> InstructionSink<'a, A> {
         ensures room { HasRoom self.entry → IsOk result }
         ensures* unchanged { sem 𝓛 (IsUnchangedAtErr A.row A.Allocator self.entry result) }
     {
-        self.emit(Opcode::without_prefix(0x9b))
+        self.emit(Prefix::None, 0x9b)
     }
 
     /// `f64.floor`: `0x9C`.
@@ -329,7 +329,7 @@ impl<'a, A: Allocator> InstructionSink<'a, A> {
         ensures room { HasRoom self.entry → IsOk result }
         ensures* unchanged { sem 𝓛 (IsUnchangedAtErr A.row A.Allocator self.entry result) }
     {
-        self.emit(Opcode::without_prefix(0x9c))
+        self.emit(Prefix::None, 0x9c)
     }
 
     /// `f64.trunc`: `0x9D`.
@@ -339,7 +339,7 @@ impl<'a, A: Allocator> InstructionSink<'a, A> {
         ensures room { HasRoom self.entry → IsOk result }
         ensures* unchanged { sem 𝓛 (IsUnchangedAtErr A.row A.Allocator self.entry result) }
     {
-        self.emit(Opcode::without_prefix(0x9d))
+        self.emit(Prefix::None, 0x9d)
     }
 
     /// `f64.nearest`: `0x9E`.
@@ -349,7 +349,7 @@ impl<'a, A: Allocator> InstructionSink<'a, A> {
         ensures room { HasRoom self.entry → IsOk result }
         ensures* unchanged { sem 𝓛 (IsUnchangedAtErr A.row A.Allocator self.entry result) }
     {
-        self.emit(Opcode::without_prefix(0x9e))
+        self.emit(Prefix::None, 0x9e)
     }
 
     /// `f64.sqrt`: `0x9F`.
@@ -359,7 +359,7 @@ impl<'a, A: Allocator> InstructionSink<'a, A> {
         ensures room { HasRoom self.entry → IsOk result }
         ensures* unchanged { sem 𝓛 (IsUnchangedAtErr A.row A.Allocator self.entry result) }
     {
-        self.emit(Opcode::without_prefix(0x9f))
+        self.emit(Prefix::None, 0x9f)
     }
 
     /// `f64.add`: `0xA0`.
@@ -369,7 +369,7 @@ impl<'a, A: Allocator> InstructionSink<'a, A> {
         ensures room { HasRoom self.entry → IsOk result }
         ensures* unchanged { sem 𝓛 (IsUnchangedAtErr A.row A.Allocator self.entry result) }
     {
-        self.emit(Opcode::without_prefix(0xa0))
+        self.emit(Prefix::None, 0xa0)
     }
 
     /// `f64.sub`: `0xA1`.
@@ -379,7 +379,7 @@ impl<'a, A: Allocator> InstructionSink<'a, A> {
         ensures room { HasRoom self.entry → IsOk result }
         ensures* unchanged { sem 𝓛 (IsUnchangedAtErr A.row A.Allocator self.entry result) }
     {
-        self.emit(Opcode::without_prefix(0xa1))
+        self.emit(Prefix::None, 0xa1)
     }
 
     /// `f64.mul`: `0xA2`.
@@ -389,7 +389,7 @@ impl<'a, A: Allocator> InstructionSink<'a, A> {
         ensures room { HasRoom self.entry → IsOk result }
         ensures* unchanged { sem 𝓛 (IsUnchangedAtErr A.row A.Allocator self.entry result) }
     {
-        self.emit(Opcode::without_prefix(0xa2))
+        self.emit(Prefix::None, 0xa2)
     }
 
     /// `f64.div`: `0xA3`.
@@ -399,7 +399,7 @@ impl<'a, A: Allocator> InstructionSink<'a, A> {
         ensures room { HasRoom self.entry → IsOk result }
         ensures* unchanged { sem 𝓛 (IsUnchangedAtErr A.row A.Allocator self.entry result) }
     {
-        self.emit(Opcode::without_prefix(0xa3))
+        self.emit(Prefix::None, 0xa3)
     }
 
     /// `f64.min`: `0xA4`.
@@ -409,7 +409,7 @@ impl<'a, A: Allocator> InstructionSink<'a, A> {
         ensures room { HasRoom self.entry → IsOk result }
         ensures* unchanged { sem 𝓛 (IsUnchangedAtErr A.row A.Allocator self.entry result) }
     {
-        self.emit(Opcode::without_prefix(0xa4))
+        self.emit(Prefix::None, 0xa4)
     }
 
     /// `f64.max`: `0xA5`.
@@ -419,7 +419,7 @@ impl<'a, A: Allocator> InstructionSink<'a, A> {
         ensures room { HasRoom self.entry → IsOk result }
         ensures* unchanged { sem 𝓛 (IsUnchangedAtErr A.row A.Allocator self.entry result) }
     {
-        self.emit(Opcode::without_prefix(0xa5))
+        self.emit(Prefix::None, 0xa5)
     }
 
     /// `f64.copysign`: `0xA6`.
@@ -429,6 +429,6 @@ impl<'a, A: Allocator> InstructionSink<'a, A> {
         ensures room { HasRoom self.entry → IsOk result }
         ensures* unchanged { sem 𝓛 (IsUnchangedAtErr A.row A.Allocator self.entry result) }
     {
-        self.emit(Opcode::without_prefix(0xa6))
+        self.emit(Prefix::None, 0xa6)
     }
 }

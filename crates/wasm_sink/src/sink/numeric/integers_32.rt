@@ -8,7 +8,7 @@ ghost use Rattle.wasm_instructions.specs.declared.table.call.Operands.TheVariant
 use crate::sink::InstructionSink;
 use std::alloc::Allocator;
 use wasm_codec::encode::EncodeError;
-use wasm_instructions::table::Opcode;
+use wasm_instructions::table::Prefix;
 
 impl<'a, A: Allocator> InstructionSink<'a, A> {
     /// `i32.const`: `0x41`, then a signed number of 32 bits.
@@ -18,7 +18,7 @@ impl<'a, A: Allocator> InstructionSink<'a, A> {
         ensures room { HasRoom self.entry → IsOk result }
         ensures* unchanged { sem 𝓛 (IsUnchangedAtErr A.row A.Allocator self.entry result) }
     {
-        self.emit_i32(Opcode::without_prefix(0x41), value)
+        self.emit_i32(0x41, value)
     }
 
     /// `i32.eqz`: `0x45`.
@@ -28,7 +28,7 @@ impl<'a, A: Allocator> InstructionSink<'a, A> {
         ensures room { HasRoom self.entry → IsOk result }
         ensures* unchanged { sem 𝓛 (IsUnchangedAtErr A.row A.Allocator self.entry result) }
     {
-        self.emit(Opcode::without_prefix(0x45))
+        self.emit(Prefix::None, 0x45)
     }
 
     /// `i32.eq`: `0x46`.
@@ -38,7 +38,7 @@ impl<'a, A: Allocator> InstructionSink<'a, A> {
         ensures room { HasRoom self.entry → IsOk result }
         ensures* unchanged { sem 𝓛 (IsUnchangedAtErr A.row A.Allocator self.entry result) }
     {
-        self.emit(Opcode::without_prefix(0x46))
+        self.emit(Prefix::None, 0x46)
     }
 
     /// `i32.ne`: `0x47`.
@@ -48,7 +48,7 @@ impl<'a, A: Allocator> InstructionSink<'a, A> {
         ensures room { HasRoom self.entry → IsOk result }
         ensures* unchanged { sem 𝓛 (IsUnchangedAtErr A.row A.Allocator self.entry result) }
     {
-        self.emit(Opcode::without_prefix(0x47))
+        self.emit(Prefix::None, 0x47)
     }
 
     /// `i32.lt_s`: `0x48`.
@@ -58,7 +58,7 @@ impl<'a, A: Allocator> InstructionSink<'a, A> {
         ensures room { HasRoom self.entry → IsOk result }
         ensures* unchanged { sem 𝓛 (IsUnchangedAtErr A.row A.Allocator self.entry result) }
     {
-        self.emit(Opcode::without_prefix(0x48))
+        self.emit(Prefix::None, 0x48)
     }
 
     /// `i32.lt_u`: `0x49`.
@@ -68,7 +68,7 @@ impl<'a, A: Allocator> InstructionSink<'a, A> {
         ensures room { HasRoom self.entry → IsOk result }
         ensures* unchanged { sem 𝓛 (IsUnchangedAtErr A.row A.Allocator self.entry result) }
     {
-        self.emit(Opcode::without_prefix(0x49))
+        self.emit(Prefix::None, 0x49)
     }
 
     /// `i32.gt_s`: `0x4A`.
@@ -78,7 +78,7 @@ impl<'a, A: Allocator> InstructionSink<'a, A> {
         ensures room { HasRoom self.entry → IsOk result }
         ensures* unchanged { sem 𝓛 (IsUnchangedAtErr A.row A.Allocator self.entry result) }
     {
-        self.emit(Opcode::without_prefix(0x4a))
+        self.emit(Prefix::None, 0x4a)
     }
 
     /// `i32.gt_u`: `0x4B`.
@@ -88,7 +88,7 @@ impl<'a, A: Allocator> InstructionSink<'a, A> {
         ensures room { HasRoom self.entry → IsOk result }
         ensures* unchanged { sem 𝓛 (IsUnchangedAtErr A.row A.Allocator self.entry result) }
     {
-        self.emit(Opcode::without_prefix(0x4b))
+        self.emit(Prefix::None, 0x4b)
     }
 
     /// `i32.le_s`: `0x4C`.
@@ -98,7 +98,7 @@ impl<'a, A: Allocator> InstructionSink<'a, A> {
         ensures room { HasRoom self.entry → IsOk result }
         ensures* unchanged { sem 𝓛 (IsUnchangedAtErr A.row A.Allocator self.entry result) }
     {
-        self.emit(Opcode::without_prefix(0x4c))
+        self.emit(Prefix::None, 0x4c)
     }
 
     /// `i32.le_u`: `0x4D`.
@@ -108,7 +108,7 @@ impl<'a, A: Allocator> InstructionSink<'a, A> {
         ensures room { HasRoom self.entry → IsOk result }
         ensures* unchanged { sem 𝓛 (IsUnchangedAtErr A.row A.Allocator self.entry result) }
     {
-        self.emit(Opcode::without_prefix(0x4d))
+        self.emit(Prefix::None, 0x4d)
     }
 
     /// `i32.ge_s`: `0x4E`.
@@ -118,7 +118,7 @@ impl<'a, A: Allocator> InstructionSink<'a, A> {
         ensures room { HasRoom self.entry → IsOk result }
         ensures* unchanged { sem 𝓛 (IsUnchangedAtErr A.row A.Allocator self.entry result) }
     {
-        self.emit(Opcode::without_prefix(0x4e))
+        self.emit(Prefix::None, 0x4e)
     }
 
     /// `i32.ge_u`: `0x4F`.
@@ -128,7 +128,7 @@ impl<'a, A: Allocator> InstructionSink<'a, A> {
         ensures room { HasRoom self.entry → IsOk result }
         ensures* unchanged { sem 𝓛 (IsUnchangedAtErr A.row A.Allocator self.entry result) }
     {
-        self.emit(Opcode::without_prefix(0x4f))
+        self.emit(Prefix::None, 0x4f)
     }
 
     /// `i32.clz`: `0x67`.
@@ -138,7 +138,7 @@ impl<'a, A: Allocator> InstructionSink<'a, A> {
         ensures room { HasRoom self.entry → IsOk result }
         ensures* unchanged { sem 𝓛 (IsUnchangedAtErr A.row A.Allocator self.entry result) }
     {
-        self.emit(Opcode::without_prefix(0x67))
+        self.emit(Prefix::None, 0x67)
     }
 
     /// `i32.ctz`: `0x68`.
@@ -148,7 +148,7 @@ impl<'a, A: Allocator> InstructionSink<'a, A> {
         ensures room { HasRoom self.entry → IsOk result }
         ensures* unchanged { sem 𝓛 (IsUnchangedAtErr A.row A.Allocator self.entry result) }
     {
-        self.emit(Opcode::without_prefix(0x68))
+        self.emit(Prefix::None, 0x68)
     }
 
     /// `i32.popcnt`: `0x69`.
@@ -158,7 +158,7 @@ impl<'a, A: Allocator> InstructionSink<'a, A> {
         ensures room { HasRoom self.entry → IsOk result }
         ensures* unchanged { sem 𝓛 (IsUnchangedAtErr A.row A.Allocator self.entry result) }
     {
-        self.emit(Opcode::without_prefix(0x69))
+        self.emit(Prefix::None, 0x69)
     }
 
     /// `i32.add`: `0x6A`.
@@ -168,7 +168,7 @@ impl<'a, A: Allocator> InstructionSink<'a, A> {
         ensures room { HasRoom self.entry → IsOk result }
         ensures* unchanged { sem 𝓛 (IsUnchangedAtErr A.row A.Allocator self.entry result) }
     {
-        self.emit(Opcode::without_prefix(0x6a))
+        self.emit(Prefix::None, 0x6a)
     }
 
     /// `i32.sub`: `0x6B`.
@@ -178,7 +178,7 @@ impl<'a, A: Allocator> InstructionSink<'a, A> {
         ensures room { HasRoom self.entry → IsOk result }
         ensures* unchanged { sem 𝓛 (IsUnchangedAtErr A.row A.Allocator self.entry result) }
     {
-        self.emit(Opcode::without_prefix(0x6b))
+        self.emit(Prefix::None, 0x6b)
     }
 
     /// `i32.mul`: `0x6C`.
@@ -188,7 +188,7 @@ impl<'a, A: Allocator> InstructionSink<'a, A> {
         ensures room { HasRoom self.entry → IsOk result }
         ensures* unchanged { sem 𝓛 (IsUnchangedAtErr A.row A.Allocator self.entry result) }
     {
-        self.emit(Opcode::without_prefix(0x6c))
+        self.emit(Prefix::None, 0x6c)
     }
 
     /// `i32.div_s`: `0x6D`.
@@ -198,7 +198,7 @@ impl<'a, A: Allocator> InstructionSink<'a, A> {
         ensures room { HasRoom self.entry → IsOk result }
         ensures* unchanged { sem 𝓛 (IsUnchangedAtErr A.row A.Allocator self.entry result) }
     {
-        self.emit(Opcode::without_prefix(0x6d))
+        self.emit(Prefix::None, 0x6d)
     }
 
     /// `i32.div_u`: `0x6E`.
@@ -208,7 +208,7 @@ impl<'a, A: Allocator> InstructionSink<'a, A> {
         ensures room { HasRoom self.entry → IsOk result }
         ensures* unchanged { sem 𝓛 (IsUnchangedAtErr A.row A.Allocator self.entry result) }
     {
-        self.emit(Opcode::without_prefix(0x6e))
+        self.emit(Prefix::None, 0x6e)
     }
 
     /// `i32.rem_s`: `0x6F`.
@@ -218,7 +218,7 @@ impl<'a, A: Allocator> InstructionSink<'a, A> {
         ensures room { HasRoom self.entry → IsOk result }
         ensures* unchanged { sem 𝓛 (IsUnchangedAtErr A.row A.Allocator self.entry result) }
     {
-        self.emit(Opcode::without_prefix(0x6f))
+        self.emit(Prefix::None, 0x6f)
     }
 
     /// `i32.rem_u`: `0x70`.
@@ -228,7 +228,7 @@ impl<'a, A: Allocator> InstructionSink<'a, A> {
         ensures room { HasRoom self.entry → IsOk result }
         ensures* unchanged { sem 𝓛 (IsUnchangedAtErr A.row A.Allocator self.entry result) }
     {
-        self.emit(Opcode::without_prefix(0x70))
+        self.emit(Prefix::None, 0x70)
     }
 
     /// `i32.and`: `0x71`.
@@ -238,7 +238,7 @@ impl<'a, A: Allocator> InstructionSink<'a, A> {
         ensures room { HasRoom self.entry → IsOk result }
         ensures* unchanged { sem 𝓛 (IsUnchangedAtErr A.row A.Allocator self.entry result) }
     {
-        self.emit(Opcode::without_prefix(0x71))
+        self.emit(Prefix::None, 0x71)
     }
 
     /// `i32.or`: `0x72`.
@@ -248,7 +248,7 @@ impl<'a, A: Allocator> InstructionSink<'a, A> {
         ensures room { HasRoom self.entry → IsOk result }
         ensures* unchanged { sem 𝓛 (IsUnchangedAtErr A.row A.Allocator self.entry result) }
     {
-        self.emit(Opcode::without_prefix(0x72))
+        self.emit(Prefix::None, 0x72)
     }
 
     /// `i32.xor`: `0x73`.
@@ -258,7 +258,7 @@ impl<'a, A: Allocator> InstructionSink<'a, A> {
         ensures room { HasRoom self.entry → IsOk result }
         ensures* unchanged { sem 𝓛 (IsUnchangedAtErr A.row A.Allocator self.entry result) }
     {
-        self.emit(Opcode::without_prefix(0x73))
+        self.emit(Prefix::None, 0x73)
     }
 
     /// `i32.shl`: `0x74`.
@@ -268,7 +268,7 @@ impl<'a, A: Allocator> InstructionSink<'a, A> {
         ensures room { HasRoom self.entry → IsOk result }
         ensures* unchanged { sem 𝓛 (IsUnchangedAtErr A.row A.Allocator self.entry result) }
     {
-        self.emit(Opcode::without_prefix(0x74))
+        self.emit(Prefix::None, 0x74)
     }
 
     /// `i32.shr_s`: `0x75`.
@@ -278,7 +278,7 @@ impl<'a, A: Allocator> InstructionSink<'a, A> {
         ensures room { HasRoom self.entry → IsOk result }
         ensures* unchanged { sem 𝓛 (IsUnchangedAtErr A.row A.Allocator self.entry result) }
     {
-        self.emit(Opcode::without_prefix(0x75))
+        self.emit(Prefix::None, 0x75)
     }
 
     /// `i32.shr_u`: `0x76`.
@@ -288,7 +288,7 @@ impl<'a, A: Allocator> InstructionSink<'a, A> {
         ensures room { HasRoom self.entry → IsOk result }
         ensures* unchanged { sem 𝓛 (IsUnchangedAtErr A.row A.Allocator self.entry result) }
     {
-        self.emit(Opcode::without_prefix(0x76))
+        self.emit(Prefix::None, 0x76)
     }
 
     /// `i32.rotl`: `0x77`.
@@ -298,7 +298,7 @@ impl<'a, A: Allocator> InstructionSink<'a, A> {
         ensures room { HasRoom self.entry → IsOk result }
         ensures* unchanged { sem 𝓛 (IsUnchangedAtErr A.row A.Allocator self.entry result) }
     {
-        self.emit(Opcode::without_prefix(0x77))
+        self.emit(Prefix::None, 0x77)
     }
 
     /// `i32.rotr`: `0x78`.
@@ -308,7 +308,7 @@ impl<'a, A: Allocator> InstructionSink<'a, A> {
         ensures room { HasRoom self.entry → IsOk result }
         ensures* unchanged { sem 𝓛 (IsUnchangedAtErr A.row A.Allocator self.entry result) }
     {
-        self.emit(Opcode::without_prefix(0x78))
+        self.emit(Prefix::None, 0x78)
     }
 
     /// `i32.extend8_s`: `0xC0`.
@@ -318,7 +318,7 @@ impl<'a, A: Allocator> InstructionSink<'a, A> {
         ensures room { HasRoom self.entry → IsOk result }
         ensures* unchanged { sem 𝓛 (IsUnchangedAtErr A.row A.Allocator self.entry result) }
     {
-        self.emit(Opcode::without_prefix(0xc0))
+        self.emit(Prefix::None, 0xc0)
     }
 
     /// `i32.extend16_s`: `0xC1`.
@@ -328,6 +328,6 @@ impl<'a, A: Allocator> InstructionSink<'a, A> {
         ensures room { HasRoom self.entry → IsOk result }
         ensures* unchanged { sem 𝓛 (IsUnchangedAtErr A.row A.Allocator self.entry result) }
     {
-        self.emit(Opcode::without_prefix(0xc1))
+        self.emit(Prefix::None, 0xc1)
     }
 }

@@ -9,7 +9,7 @@ ghost use Rattle.wasm_instructions.specs.declared.table.call.Operands.TheVariant
 use crate::sink::InstructionSink;
 use std::alloc::Allocator;
 use wasm_codec::encode::EncodeError;
-use wasm_instructions::table::Opcode;
+use wasm_instructions::table::Prefix;
 
 impl<'a, A: Allocator> InstructionSink<'a, A> {
     /// `i64.const`: `0x42`, then a signed number of 64 bits.
@@ -19,7 +19,7 @@ impl<'a, A: Allocator> InstructionSink<'a, A> {
         ensures room { HasRoom self.entry → IsOk result }
         ensures* unchanged { sem 𝓛 (IsUnchangedAtErr A.row A.Allocator self.entry result) }
     {
-        self.emit_i64(Opcode::without_prefix(0x42), value)
+        self.emit_i64(0x42, value)
     }
 
     /// `i64.eqz`: `0x50`.
@@ -29,7 +29,7 @@ impl<'a, A: Allocator> InstructionSink<'a, A> {
         ensures room { HasRoom self.entry → IsOk result }
         ensures* unchanged { sem 𝓛 (IsUnchangedAtErr A.row A.Allocator self.entry result) }
     {
-        self.emit(Opcode::without_prefix(0x50))
+        self.emit(Prefix::None, 0x50)
     }
 
     /// `i64.eq`: `0x51`.
@@ -39,7 +39,7 @@ impl<'a, A: Allocator> InstructionSink<'a, A> {
         ensures room { HasRoom self.entry → IsOk result }
         ensures* unchanged { sem 𝓛 (IsUnchangedAtErr A.row A.Allocator self.entry result) }
     {
-        self.emit(Opcode::without_prefix(0x51))
+        self.emit(Prefix::None, 0x51)
     }
 
     /// `i64.ne`: `0x52`.
@@ -49,7 +49,7 @@ impl<'a, A: Allocator> InstructionSink<'a, A> {
         ensures room { HasRoom self.entry → IsOk result }
         ensures* unchanged { sem 𝓛 (IsUnchangedAtErr A.row A.Allocator self.entry result) }
     {
-        self.emit(Opcode::without_prefix(0x52))
+        self.emit(Prefix::None, 0x52)
     }
 
     /// `i64.lt_s`: `0x53`.
@@ -59,7 +59,7 @@ impl<'a, A: Allocator> InstructionSink<'a, A> {
         ensures room { HasRoom self.entry → IsOk result }
         ensures* unchanged { sem 𝓛 (IsUnchangedAtErr A.row A.Allocator self.entry result) }
     {
-        self.emit(Opcode::without_prefix(0x53))
+        self.emit(Prefix::None, 0x53)
     }
 
     /// `i64.lt_u`: `0x54`.
@@ -69,7 +69,7 @@ impl<'a, A: Allocator> InstructionSink<'a, A> {
         ensures room { HasRoom self.entry → IsOk result }
         ensures* unchanged { sem 𝓛 (IsUnchangedAtErr A.row A.Allocator self.entry result) }
     {
-        self.emit(Opcode::without_prefix(0x54))
+        self.emit(Prefix::None, 0x54)
     }
 
     /// `i64.gt_s`: `0x55`.
@@ -79,7 +79,7 @@ impl<'a, A: Allocator> InstructionSink<'a, A> {
         ensures room { HasRoom self.entry → IsOk result }
         ensures* unchanged { sem 𝓛 (IsUnchangedAtErr A.row A.Allocator self.entry result) }
     {
-        self.emit(Opcode::without_prefix(0x55))
+        self.emit(Prefix::None, 0x55)
     }
 
     /// `i64.gt_u`: `0x56`.
@@ -89,7 +89,7 @@ impl<'a, A: Allocator> InstructionSink<'a, A> {
         ensures room { HasRoom self.entry → IsOk result }
         ensures* unchanged { sem 𝓛 (IsUnchangedAtErr A.row A.Allocator self.entry result) }
     {
-        self.emit(Opcode::without_prefix(0x56))
+        self.emit(Prefix::None, 0x56)
     }
 
     /// `i64.le_s`: `0x57`.
@@ -99,7 +99,7 @@ impl<'a, A: Allocator> InstructionSink<'a, A> {
         ensures room { HasRoom self.entry → IsOk result }
         ensures* unchanged { sem 𝓛 (IsUnchangedAtErr A.row A.Allocator self.entry result) }
     {
-        self.emit(Opcode::without_prefix(0x57))
+        self.emit(Prefix::None, 0x57)
     }
 
     /// `i64.le_u`: `0x58`.
@@ -109,7 +109,7 @@ impl<'a, A: Allocator> InstructionSink<'a, A> {
         ensures room { HasRoom self.entry → IsOk result }
         ensures* unchanged { sem 𝓛 (IsUnchangedAtErr A.row A.Allocator self.entry result) }
     {
-        self.emit(Opcode::without_prefix(0x58))
+        self.emit(Prefix::None, 0x58)
     }
 
     /// `i64.ge_s`: `0x59`.
@@ -119,7 +119,7 @@ impl<'a, A: Allocator> InstructionSink<'a, A> {
         ensures room { HasRoom self.entry → IsOk result }
         ensures* unchanged { sem 𝓛 (IsUnchangedAtErr A.row A.Allocator self.entry result) }
     {
-        self.emit(Opcode::without_prefix(0x59))
+        self.emit(Prefix::None, 0x59)
     }
 
     /// `i64.ge_u`: `0x5A`.
@@ -129,7 +129,7 @@ impl<'a, A: Allocator> InstructionSink<'a, A> {
         ensures room { HasRoom self.entry → IsOk result }
         ensures* unchanged { sem 𝓛 (IsUnchangedAtErr A.row A.Allocator self.entry result) }
     {
-        self.emit(Opcode::without_prefix(0x5a))
+        self.emit(Prefix::None, 0x5a)
     }
 
     /// `i64.clz`: `0x79`.
@@ -139,7 +139,7 @@ impl<'a, A: Allocator> InstructionSink<'a, A> {
         ensures room { HasRoom self.entry → IsOk result }
         ensures* unchanged { sem 𝓛 (IsUnchangedAtErr A.row A.Allocator self.entry result) }
     {
-        self.emit(Opcode::without_prefix(0x79))
+        self.emit(Prefix::None, 0x79)
     }
 
     /// `i64.ctz`: `0x7A`.
@@ -149,7 +149,7 @@ impl<'a, A: Allocator> InstructionSink<'a, A> {
         ensures room { HasRoom self.entry → IsOk result }
         ensures* unchanged { sem 𝓛 (IsUnchangedAtErr A.row A.Allocator self.entry result) }
     {
-        self.emit(Opcode::without_prefix(0x7a))
+        self.emit(Prefix::None, 0x7a)
     }
 
     /// `i64.popcnt`: `0x7B`.
@@ -159,7 +159,7 @@ impl<'a, A: Allocator> InstructionSink<'a, A> {
         ensures room { HasRoom self.entry → IsOk result }
         ensures* unchanged { sem 𝓛 (IsUnchangedAtErr A.row A.Allocator self.entry result) }
     {
-        self.emit(Opcode::without_prefix(0x7b))
+        self.emit(Prefix::None, 0x7b)
     }
 
     /// `i64.add`: `0x7C`.
@@ -169,7 +169,7 @@ impl<'a, A: Allocator> InstructionSink<'a, A> {
         ensures room { HasRoom self.entry → IsOk result }
         ensures* unchanged { sem 𝓛 (IsUnchangedAtErr A.row A.Allocator self.entry result) }
     {
-        self.emit(Opcode::without_prefix(0x7c))
+        self.emit(Prefix::None, 0x7c)
     }
 
     /// `i64.sub`: `0x7D`.
@@ -179,7 +179,7 @@ impl<'a, A: Allocator> InstructionSink<'a, A> {
         ensures room { HasRoom self.entry → IsOk result }
         ensures* unchanged { sem 𝓛 (IsUnchangedAtErr A.row A.Allocator self.entry result) }
     {
-        self.emit(Opcode::without_prefix(0x7d))
+        self.emit(Prefix::None, 0x7d)
     }
 
     /// `i64.mul`: `0x7E`.
@@ -189,7 +189,7 @@ impl<'a, A: Allocator> InstructionSink<'a, A> {
         ensures room { HasRoom self.entry → IsOk result }
         ensures* unchanged { sem 𝓛 (IsUnchangedAtErr A.row A.Allocator self.entry result) }
     {
-        self.emit(Opcode::without_prefix(0x7e))
+        self.emit(Prefix::None, 0x7e)
     }
 
     /// `i64.div_s`: `0x7F`.
@@ -199,7 +199,7 @@ impl<'a, A: Allocator> InstructionSink<'a, A> {
         ensures room { HasRoom self.entry → IsOk result }
         ensures* unchanged { sem 𝓛 (IsUnchangedAtErr A.row A.Allocator self.entry result) }
     {
-        self.emit(Opcode::without_prefix(0x7f))
+        self.emit(Prefix::None, 0x7f)
     }
 
     /// `i64.div_u`: `0x80`.
@@ -209,7 +209,7 @@ impl<'a, A: Allocator> InstructionSink<'a, A> {
         ensures room { HasRoom self.entry → IsOk result }
         ensures* unchanged { sem 𝓛 (IsUnchangedAtErr A.row A.Allocator self.entry result) }
     {
-        self.emit(Opcode::without_prefix(0x80))
+        self.emit(Prefix::None, 0x80)
     }
 
     /// `i64.rem_s`: `0x81`.
@@ -219,7 +219,7 @@ impl<'a, A: Allocator> InstructionSink<'a, A> {
         ensures room { HasRoom self.entry → IsOk result }
         ensures* unchanged { sem 𝓛 (IsUnchangedAtErr A.row A.Allocator self.entry result) }
     {
-        self.emit(Opcode::without_prefix(0x81))
+        self.emit(Prefix::None, 0x81)
     }
 
     /// `i64.rem_u`: `0x82`.
@@ -229,7 +229,7 @@ impl<'a, A: Allocator> InstructionSink<'a, A> {
         ensures room { HasRoom self.entry → IsOk result }
         ensures* unchanged { sem 𝓛 (IsUnchangedAtErr A.row A.Allocator self.entry result) }
     {
-        self.emit(Opcode::without_prefix(0x82))
+        self.emit(Prefix::None, 0x82)
     }
 
     /// `i64.and`: `0x83`.
@@ -239,7 +239,7 @@ impl<'a, A: Allocator> InstructionSink<'a, A> {
         ensures room { HasRoom self.entry → IsOk result }
         ensures* unchanged { sem 𝓛 (IsUnchangedAtErr A.row A.Allocator self.entry result) }
     {
-        self.emit(Opcode::without_prefix(0x83))
+        self.emit(Prefix::None, 0x83)
     }
 
     /// `i64.or`: `0x84`.
@@ -249,7 +249,7 @@ impl<'a, A: Allocator> InstructionSink<'a, A> {
         ensures room { HasRoom self.entry → IsOk result }
         ensures* unchanged { sem 𝓛 (IsUnchangedAtErr A.row A.Allocator self.entry result) }
     {
-        self.emit(Opcode::without_prefix(0x84))
+        self.emit(Prefix::None, 0x84)
     }
 
     /// `i64.xor`: `0x85`.
@@ -259,7 +259,7 @@ impl<'a, A: Allocator> InstructionSink<'a, A> {
         ensures room { HasRoom self.entry → IsOk result }
         ensures* unchanged { sem 𝓛 (IsUnchangedAtErr A.row A.Allocator self.entry result) }
     {
-        self.emit(Opcode::without_prefix(0x85))
+        self.emit(Prefix::None, 0x85)
     }
 
     /// `i64.shl`: `0x86`.
@@ -269,7 +269,7 @@ impl<'a, A: Allocator> InstructionSink<'a, A> {
         ensures room { HasRoom self.entry → IsOk result }
         ensures* unchanged { sem 𝓛 (IsUnchangedAtErr A.row A.Allocator self.entry result) }
     {
-        self.emit(Opcode::without_prefix(0x86))
+        self.emit(Prefix::None, 0x86)
     }
 
     /// `i64.shr_s`: `0x87`.
@@ -279,7 +279,7 @@ impl<'a, A: Allocator> InstructionSink<'a, A> {
         ensures room { HasRoom self.entry → IsOk result }
         ensures* unchanged { sem 𝓛 (IsUnchangedAtErr A.row A.Allocator self.entry result) }
     {
-        self.emit(Opcode::without_prefix(0x87))
+        self.emit(Prefix::None, 0x87)
     }
 
     /// `i64.shr_u`: `0x88`.
@@ -289,7 +289,7 @@ impl<'a, A: Allocator> InstructionSink<'a, A> {
         ensures room { HasRoom self.entry → IsOk result }
         ensures* unchanged { sem 𝓛 (IsUnchangedAtErr A.row A.Allocator self.entry result) }
     {
-        self.emit(Opcode::without_prefix(0x88))
+        self.emit(Prefix::None, 0x88)
     }
 
     /// `i64.rotl`: `0x89`.
@@ -299,7 +299,7 @@ impl<'a, A: Allocator> InstructionSink<'a, A> {
         ensures room { HasRoom self.entry → IsOk result }
         ensures* unchanged { sem 𝓛 (IsUnchangedAtErr A.row A.Allocator self.entry result) }
     {
-        self.emit(Opcode::without_prefix(0x89))
+        self.emit(Prefix::None, 0x89)
     }
 
     /// `i64.rotr`: `0x8A`.
@@ -309,7 +309,7 @@ impl<'a, A: Allocator> InstructionSink<'a, A> {
         ensures room { HasRoom self.entry → IsOk result }
         ensures* unchanged { sem 𝓛 (IsUnchangedAtErr A.row A.Allocator self.entry result) }
     {
-        self.emit(Opcode::without_prefix(0x8a))
+        self.emit(Prefix::None, 0x8a)
     }
 
     /// `i64.extend8_s`: `0xC2`.
@@ -319,7 +319,7 @@ impl<'a, A: Allocator> InstructionSink<'a, A> {
         ensures room { HasRoom self.entry → IsOk result }
         ensures* unchanged { sem 𝓛 (IsUnchangedAtErr A.row A.Allocator self.entry result) }
     {
-        self.emit(Opcode::without_prefix(0xc2))
+        self.emit(Prefix::None, 0xc2)
     }
 
     /// `i64.extend16_s`: `0xC3`.
@@ -329,7 +329,7 @@ impl<'a, A: Allocator> InstructionSink<'a, A> {
         ensures room { HasRoom self.entry → IsOk result }
         ensures* unchanged { sem 𝓛 (IsUnchangedAtErr A.row A.Allocator self.entry result) }
     {
-        self.emit(Opcode::without_prefix(0xc3))
+        self.emit(Prefix::None, 0xc3)
     }
 
     /// `i64.extend32_s`: `0xC4`.
@@ -339,7 +339,7 @@ impl<'a, A: Allocator> InstructionSink<'a, A> {
         ensures room { HasRoom self.entry → IsOk result }
         ensures* unchanged { sem 𝓛 (IsUnchangedAtErr A.row A.Allocator self.entry result) }
     {
-        self.emit(Opcode::without_prefix(0xc4))
+        self.emit(Prefix::None, 0xc4)
     }
 
     /// `i64.add128`: `0xFC 0x13`.
@@ -349,7 +349,7 @@ impl<'a, A: Allocator> InstructionSink<'a, A> {
         ensures room { HasRoom self.entry → IsOk result }
         ensures* unchanged { sem 𝓛 (IsUnchangedAtErr A.row A.Allocator self.entry result) }
     {
-        self.emit(Opcode::after_fc(0x13))
+        self.emit(Prefix::Fc, 0x13)
     }
 
     /// `i64.sub128`: `0xFC 0x14`.
@@ -359,7 +359,7 @@ impl<'a, A: Allocator> InstructionSink<'a, A> {
         ensures room { HasRoom self.entry → IsOk result }
         ensures* unchanged { sem 𝓛 (IsUnchangedAtErr A.row A.Allocator self.entry result) }
     {
-        self.emit(Opcode::after_fc(0x14))
+        self.emit(Prefix::Fc, 0x14)
     }
 
     /// `i64.mul_wide_s`: `0xFC 0x15`.
@@ -369,7 +369,7 @@ impl<'a, A: Allocator> InstructionSink<'a, A> {
         ensures room { HasRoom self.entry → IsOk result }
         ensures* unchanged { sem 𝓛 (IsUnchangedAtErr A.row A.Allocator self.entry result) }
     {
-        self.emit(Opcode::after_fc(0x15))
+        self.emit(Prefix::Fc, 0x15)
     }
 
     /// `i64.mul_wide_u`: `0xFC 0x16`.
@@ -379,6 +379,6 @@ impl<'a, A: Allocator> InstructionSink<'a, A> {
         ensures room { HasRoom self.entry → IsOk result }
         ensures* unchanged { sem 𝓛 (IsUnchangedAtErr A.row A.Allocator self.entry result) }
     {
-        self.emit(Opcode::after_fc(0x16))
+        self.emit(Prefix::Fc, 0x16)
     }
 }

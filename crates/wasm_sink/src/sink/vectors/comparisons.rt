@@ -8,7 +8,7 @@ ghost use Rattle.wasm_instructions.specs.declared.table.call.Operands.TheVariant
 use crate::sink::InstructionSink;
 use std::alloc::Allocator;
 use wasm_codec::encode::EncodeError;
-use wasm_instructions::table::Opcode;
+use wasm_instructions::table::Prefix;
 
 impl<'a, A: Allocator> InstructionSink<'a, A> {
     /// `i8x16.eq`: `0xFD 0x23`.
@@ -18,7 +18,7 @@ impl<'a, A: Allocator> InstructionSink<'a, A> {
         ensures room { HasRoom self.entry → IsOk result }
         ensures* unchanged { sem 𝓛 (IsUnchangedAtErr A.row A.Allocator self.entry result) }
     {
-        self.emit(Opcode::after_fd(0x23))
+        self.emit(Prefix::Fd, 0x23)
     }
 
     /// `i8x16.ne`: `0xFD 0x24`.
@@ -28,7 +28,7 @@ impl<'a, A: Allocator> InstructionSink<'a, A> {
         ensures room { HasRoom self.entry → IsOk result }
         ensures* unchanged { sem 𝓛 (IsUnchangedAtErr A.row A.Allocator self.entry result) }
     {
-        self.emit(Opcode::after_fd(0x24))
+        self.emit(Prefix::Fd, 0x24)
     }
 
     /// `i8x16.lt_s`: `0xFD 0x25`.
@@ -38,7 +38,7 @@ impl<'a, A: Allocator> InstructionSink<'a, A> {
         ensures room { HasRoom self.entry → IsOk result }
         ensures* unchanged { sem 𝓛 (IsUnchangedAtErr A.row A.Allocator self.entry result) }
     {
-        self.emit(Opcode::after_fd(0x25))
+        self.emit(Prefix::Fd, 0x25)
     }
 
     /// `i8x16.lt_u`: `0xFD 0x26`.
@@ -48,7 +48,7 @@ impl<'a, A: Allocator> InstructionSink<'a, A> {
         ensures room { HasRoom self.entry → IsOk result }
         ensures* unchanged { sem 𝓛 (IsUnchangedAtErr A.row A.Allocator self.entry result) }
     {
-        self.emit(Opcode::after_fd(0x26))
+        self.emit(Prefix::Fd, 0x26)
     }
 
     /// `i8x16.gt_s`: `0xFD 0x27`.
@@ -58,7 +58,7 @@ impl<'a, A: Allocator> InstructionSink<'a, A> {
         ensures room { HasRoom self.entry → IsOk result }
         ensures* unchanged { sem 𝓛 (IsUnchangedAtErr A.row A.Allocator self.entry result) }
     {
-        self.emit(Opcode::after_fd(0x27))
+        self.emit(Prefix::Fd, 0x27)
     }
 
     /// `i8x16.gt_u`: `0xFD 0x28`.
@@ -68,7 +68,7 @@ impl<'a, A: Allocator> InstructionSink<'a, A> {
         ensures room { HasRoom self.entry → IsOk result }
         ensures* unchanged { sem 𝓛 (IsUnchangedAtErr A.row A.Allocator self.entry result) }
     {
-        self.emit(Opcode::after_fd(0x28))
+        self.emit(Prefix::Fd, 0x28)
     }
 
     /// `i8x16.le_s`: `0xFD 0x29`.
@@ -78,7 +78,7 @@ impl<'a, A: Allocator> InstructionSink<'a, A> {
         ensures room { HasRoom self.entry → IsOk result }
         ensures* unchanged { sem 𝓛 (IsUnchangedAtErr A.row A.Allocator self.entry result) }
     {
-        self.emit(Opcode::after_fd(0x29))
+        self.emit(Prefix::Fd, 0x29)
     }
 
     /// `i8x16.le_u`: `0xFD 0x2A`.
@@ -88,7 +88,7 @@ impl<'a, A: Allocator> InstructionSink<'a, A> {
         ensures room { HasRoom self.entry → IsOk result }
         ensures* unchanged { sem 𝓛 (IsUnchangedAtErr A.row A.Allocator self.entry result) }
     {
-        self.emit(Opcode::after_fd(0x2a))
+        self.emit(Prefix::Fd, 0x2a)
     }
 
     /// `i8x16.ge_s`: `0xFD 0x2B`.
@@ -98,7 +98,7 @@ impl<'a, A: Allocator> InstructionSink<'a, A> {
         ensures room { HasRoom self.entry → IsOk result }
         ensures* unchanged { sem 𝓛 (IsUnchangedAtErr A.row A.Allocator self.entry result) }
     {
-        self.emit(Opcode::after_fd(0x2b))
+        self.emit(Prefix::Fd, 0x2b)
     }
 
     /// `i8x16.ge_u`: `0xFD 0x2C`.
@@ -108,7 +108,7 @@ impl<'a, A: Allocator> InstructionSink<'a, A> {
         ensures room { HasRoom self.entry → IsOk result }
         ensures* unchanged { sem 𝓛 (IsUnchangedAtErr A.row A.Allocator self.entry result) }
     {
-        self.emit(Opcode::after_fd(0x2c))
+        self.emit(Prefix::Fd, 0x2c)
     }
 
     /// `i16x8.eq`: `0xFD 0x2D`.
@@ -118,7 +118,7 @@ impl<'a, A: Allocator> InstructionSink<'a, A> {
         ensures room { HasRoom self.entry → IsOk result }
         ensures* unchanged { sem 𝓛 (IsUnchangedAtErr A.row A.Allocator self.entry result) }
     {
-        self.emit(Opcode::after_fd(0x2d))
+        self.emit(Prefix::Fd, 0x2d)
     }
 
     /// `i16x8.ne`: `0xFD 0x2E`.
@@ -128,7 +128,7 @@ impl<'a, A: Allocator> InstructionSink<'a, A> {
         ensures room { HasRoom self.entry → IsOk result }
         ensures* unchanged { sem 𝓛 (IsUnchangedAtErr A.row A.Allocator self.entry result) }
     {
-        self.emit(Opcode::after_fd(0x2e))
+        self.emit(Prefix::Fd, 0x2e)
     }
 
     /// `i16x8.lt_s`: `0xFD 0x2F`.
@@ -138,7 +138,7 @@ impl<'a, A: Allocator> InstructionSink<'a, A> {
         ensures room { HasRoom self.entry → IsOk result }
         ensures* unchanged { sem 𝓛 (IsUnchangedAtErr A.row A.Allocator self.entry result) }
     {
-        self.emit(Opcode::after_fd(0x2f))
+        self.emit(Prefix::Fd, 0x2f)
     }
 
     /// `i16x8.lt_u`: `0xFD 0x30`.
@@ -148,7 +148,7 @@ impl<'a, A: Allocator> InstructionSink<'a, A> {
         ensures room { HasRoom self.entry → IsOk result }
         ensures* unchanged { sem 𝓛 (IsUnchangedAtErr A.row A.Allocator self.entry result) }
     {
-        self.emit(Opcode::after_fd(0x30))
+        self.emit(Prefix::Fd, 0x30)
     }
 
     /// `i16x8.gt_s`: `0xFD 0x31`.
@@ -158,7 +158,7 @@ impl<'a, A: Allocator> InstructionSink<'a, A> {
         ensures room { HasRoom self.entry → IsOk result }
         ensures* unchanged { sem 𝓛 (IsUnchangedAtErr A.row A.Allocator self.entry result) }
     {
-        self.emit(Opcode::after_fd(0x31))
+        self.emit(Prefix::Fd, 0x31)
     }
 
     /// `i16x8.gt_u`: `0xFD 0x32`.
@@ -168,7 +168,7 @@ impl<'a, A: Allocator> InstructionSink<'a, A> {
         ensures room { HasRoom self.entry → IsOk result }
         ensures* unchanged { sem 𝓛 (IsUnchangedAtErr A.row A.Allocator self.entry result) }
     {
-        self.emit(Opcode::after_fd(0x32))
+        self.emit(Prefix::Fd, 0x32)
     }
 
     /// `i16x8.le_s`: `0xFD 0x33`.
@@ -178,7 +178,7 @@ impl<'a, A: Allocator> InstructionSink<'a, A> {
         ensures room { HasRoom self.entry → IsOk result }
         ensures* unchanged { sem 𝓛 (IsUnchangedAtErr A.row A.Allocator self.entry result) }
     {
-        self.emit(Opcode::after_fd(0x33))
+        self.emit(Prefix::Fd, 0x33)
     }
 
     /// `i16x8.le_u`: `0xFD 0x34`.
@@ -188,7 +188,7 @@ impl<'a, A: Allocator> InstructionSink<'a, A> {
         ensures room { HasRoom self.entry → IsOk result }
         ensures* unchanged { sem 𝓛 (IsUnchangedAtErr A.row A.Allocator self.entry result) }
     {
-        self.emit(Opcode::after_fd(0x34))
+        self.emit(Prefix::Fd, 0x34)
     }
 
     /// `i16x8.ge_s`: `0xFD 0x35`.
@@ -198,7 +198,7 @@ impl<'a, A: Allocator> InstructionSink<'a, A> {
         ensures room { HasRoom self.entry → IsOk result }
         ensures* unchanged { sem 𝓛 (IsUnchangedAtErr A.row A.Allocator self.entry result) }
     {
-        self.emit(Opcode::after_fd(0x35))
+        self.emit(Prefix::Fd, 0x35)
     }
 
     /// `i16x8.ge_u`: `0xFD 0x36`.
@@ -208,7 +208,7 @@ impl<'a, A: Allocator> InstructionSink<'a, A> {
         ensures room { HasRoom self.entry → IsOk result }
         ensures* unchanged { sem 𝓛 (IsUnchangedAtErr A.row A.Allocator self.entry result) }
     {
-        self.emit(Opcode::after_fd(0x36))
+        self.emit(Prefix::Fd, 0x36)
     }
 
     /// `i32x4.eq`: `0xFD 0x37`.
@@ -218,7 +218,7 @@ impl<'a, A: Allocator> InstructionSink<'a, A> {
         ensures room { HasRoom self.entry → IsOk result }
         ensures* unchanged { sem 𝓛 (IsUnchangedAtErr A.row A.Allocator self.entry result) }
     {
-        self.emit(Opcode::after_fd(0x37))
+        self.emit(Prefix::Fd, 0x37)
     }
 
     /// `i32x4.ne`: `0xFD 0x38`.
@@ -228,7 +228,7 @@ impl<'a, A: Allocator> InstructionSink<'a, A> {
         ensures room { HasRoom self.entry → IsOk result }
         ensures* unchanged { sem 𝓛 (IsUnchangedAtErr A.row A.Allocator self.entry result) }
     {
-        self.emit(Opcode::after_fd(0x38))
+        self.emit(Prefix::Fd, 0x38)
     }
 
     /// `i32x4.lt_s`: `0xFD 0x39`.
@@ -238,7 +238,7 @@ impl<'a, A: Allocator> InstructionSink<'a, A> {
         ensures room { HasRoom self.entry → IsOk result }
         ensures* unchanged { sem 𝓛 (IsUnchangedAtErr A.row A.Allocator self.entry result) }
     {
-        self.emit(Opcode::after_fd(0x39))
+        self.emit(Prefix::Fd, 0x39)
     }
 
     /// `i32x4.lt_u`: `0xFD 0x3A`.
@@ -248,7 +248,7 @@ impl<'a, A: Allocator> InstructionSink<'a, A> {
         ensures room { HasRoom self.entry → IsOk result }
         ensures* unchanged { sem 𝓛 (IsUnchangedAtErr A.row A.Allocator self.entry result) }
     {
-        self.emit(Opcode::after_fd(0x3a))
+        self.emit(Prefix::Fd, 0x3a)
     }
 
     /// `i32x4.gt_s`: `0xFD 0x3B`.
@@ -258,7 +258,7 @@ impl<'a, A: Allocator> InstructionSink<'a, A> {
         ensures room { HasRoom self.entry → IsOk result }
         ensures* unchanged { sem 𝓛 (IsUnchangedAtErr A.row A.Allocator self.entry result) }
     {
-        self.emit(Opcode::after_fd(0x3b))
+        self.emit(Prefix::Fd, 0x3b)
     }
 
     /// `i32x4.gt_u`: `0xFD 0x3C`.
@@ -268,7 +268,7 @@ impl<'a, A: Allocator> InstructionSink<'a, A> {
         ensures room { HasRoom self.entry → IsOk result }
         ensures* unchanged { sem 𝓛 (IsUnchangedAtErr A.row A.Allocator self.entry result) }
     {
-        self.emit(Opcode::after_fd(0x3c))
+        self.emit(Prefix::Fd, 0x3c)
     }
 
     /// `i32x4.le_s`: `0xFD 0x3D`.
@@ -278,7 +278,7 @@ impl<'a, A: Allocator> InstructionSink<'a, A> {
         ensures room { HasRoom self.entry → IsOk result }
         ensures* unchanged { sem 𝓛 (IsUnchangedAtErr A.row A.Allocator self.entry result) }
     {
-        self.emit(Opcode::after_fd(0x3d))
+        self.emit(Prefix::Fd, 0x3d)
     }
 
     /// `i32x4.le_u`: `0xFD 0x3E`.
@@ -288,7 +288,7 @@ impl<'a, A: Allocator> InstructionSink<'a, A> {
         ensures room { HasRoom self.entry → IsOk result }
         ensures* unchanged { sem 𝓛 (IsUnchangedAtErr A.row A.Allocator self.entry result) }
     {
-        self.emit(Opcode::after_fd(0x3e))
+        self.emit(Prefix::Fd, 0x3e)
     }
 
     /// `i32x4.ge_s`: `0xFD 0x3F`.
@@ -298,7 +298,7 @@ impl<'a, A: Allocator> InstructionSink<'a, A> {
         ensures room { HasRoom self.entry → IsOk result }
         ensures* unchanged { sem 𝓛 (IsUnchangedAtErr A.row A.Allocator self.entry result) }
     {
-        self.emit(Opcode::after_fd(0x3f))
+        self.emit(Prefix::Fd, 0x3f)
     }
 
     /// `i32x4.ge_u`: `0xFD 0x40`.
@@ -308,7 +308,7 @@ impl<'a, A: Allocator> InstructionSink<'a, A> {
         ensures room { HasRoom self.entry → IsOk result }
         ensures* unchanged { sem 𝓛 (IsUnchangedAtErr A.row A.Allocator self.entry result) }
     {
-        self.emit(Opcode::after_fd(0x40))
+        self.emit(Prefix::Fd, 0x40)
     }
 
     /// `f32x4.eq`: `0xFD 0x41`.
@@ -318,7 +318,7 @@ impl<'a, A: Allocator> InstructionSink<'a, A> {
         ensures room { HasRoom self.entry → IsOk result }
         ensures* unchanged { sem 𝓛 (IsUnchangedAtErr A.row A.Allocator self.entry result) }
     {
-        self.emit(Opcode::after_fd(0x41))
+        self.emit(Prefix::Fd, 0x41)
     }
 
     /// `f32x4.ne`: `0xFD 0x42`.
@@ -328,7 +328,7 @@ impl<'a, A: Allocator> InstructionSink<'a, A> {
         ensures room { HasRoom self.entry → IsOk result }
         ensures* unchanged { sem 𝓛 (IsUnchangedAtErr A.row A.Allocator self.entry result) }
     {
-        self.emit(Opcode::after_fd(0x42))
+        self.emit(Prefix::Fd, 0x42)
     }
 
     /// `f32x4.lt`: `0xFD 0x43`.
@@ -338,7 +338,7 @@ impl<'a, A: Allocator> InstructionSink<'a, A> {
         ensures room { HasRoom self.entry → IsOk result }
         ensures* unchanged { sem 𝓛 (IsUnchangedAtErr A.row A.Allocator self.entry result) }
     {
-        self.emit(Opcode::after_fd(0x43))
+        self.emit(Prefix::Fd, 0x43)
     }
 
     /// `f32x4.gt`: `0xFD 0x44`.
@@ -348,7 +348,7 @@ impl<'a, A: Allocator> InstructionSink<'a, A> {
         ensures room { HasRoom self.entry → IsOk result }
         ensures* unchanged { sem 𝓛 (IsUnchangedAtErr A.row A.Allocator self.entry result) }
     {
-        self.emit(Opcode::after_fd(0x44))
+        self.emit(Prefix::Fd, 0x44)
     }
 
     /// `f32x4.le`: `0xFD 0x45`.
@@ -358,7 +358,7 @@ impl<'a, A: Allocator> InstructionSink<'a, A> {
         ensures room { HasRoom self.entry → IsOk result }
         ensures* unchanged { sem 𝓛 (IsUnchangedAtErr A.row A.Allocator self.entry result) }
     {
-        self.emit(Opcode::after_fd(0x45))
+        self.emit(Prefix::Fd, 0x45)
     }
 
     /// `f32x4.ge`: `0xFD 0x46`.
@@ -368,7 +368,7 @@ impl<'a, A: Allocator> InstructionSink<'a, A> {
         ensures room { HasRoom self.entry → IsOk result }
         ensures* unchanged { sem 𝓛 (IsUnchangedAtErr A.row A.Allocator self.entry result) }
     {
-        self.emit(Opcode::after_fd(0x46))
+        self.emit(Prefix::Fd, 0x46)
     }
 
     /// `f64x2.eq`: `0xFD 0x47`.
@@ -378,7 +378,7 @@ impl<'a, A: Allocator> InstructionSink<'a, A> {
         ensures room { HasRoom self.entry → IsOk result }
         ensures* unchanged { sem 𝓛 (IsUnchangedAtErr A.row A.Allocator self.entry result) }
     {
-        self.emit(Opcode::after_fd(0x47))
+        self.emit(Prefix::Fd, 0x47)
     }
 
     /// `f64x2.ne`: `0xFD 0x48`.
@@ -388,7 +388,7 @@ impl<'a, A: Allocator> InstructionSink<'a, A> {
         ensures room { HasRoom self.entry → IsOk result }
         ensures* unchanged { sem 𝓛 (IsUnchangedAtErr A.row A.Allocator self.entry result) }
     {
-        self.emit(Opcode::after_fd(0x48))
+        self.emit(Prefix::Fd, 0x48)
     }
 
     /// `f64x2.lt`: `0xFD 0x49`.
@@ -398,7 +398,7 @@ impl<'a, A: Allocator> InstructionSink<'a, A> {
         ensures room { HasRoom self.entry → IsOk result }
         ensures* unchanged { sem 𝓛 (IsUnchangedAtErr A.row A.Allocator self.entry result) }
     {
-        self.emit(Opcode::after_fd(0x49))
+        self.emit(Prefix::Fd, 0x49)
     }
 
     /// `f64x2.gt`: `0xFD 0x4A`.
@@ -408,7 +408,7 @@ impl<'a, A: Allocator> InstructionSink<'a, A> {
         ensures room { HasRoom self.entry → IsOk result }
         ensures* unchanged { sem 𝓛 (IsUnchangedAtErr A.row A.Allocator self.entry result) }
     {
-        self.emit(Opcode::after_fd(0x4a))
+        self.emit(Prefix::Fd, 0x4a)
     }
 
     /// `f64x2.le`: `0xFD 0x4B`.
@@ -418,7 +418,7 @@ impl<'a, A: Allocator> InstructionSink<'a, A> {
         ensures room { HasRoom self.entry → IsOk result }
         ensures* unchanged { sem 𝓛 (IsUnchangedAtErr A.row A.Allocator self.entry result) }
     {
-        self.emit(Opcode::after_fd(0x4b))
+        self.emit(Prefix::Fd, 0x4b)
     }
 
     /// `f64x2.ge`: `0xFD 0x4C`.
@@ -428,7 +428,7 @@ impl<'a, A: Allocator> InstructionSink<'a, A> {
         ensures room { HasRoom self.entry → IsOk result }
         ensures* unchanged { sem 𝓛 (IsUnchangedAtErr A.row A.Allocator self.entry result) }
     {
-        self.emit(Opcode::after_fd(0x4c))
+        self.emit(Prefix::Fd, 0x4c)
     }
 
     /// `i64x2.eq`: `0xFD 0xD6 0x01`.
@@ -438,7 +438,7 @@ impl<'a, A: Allocator> InstructionSink<'a, A> {
         ensures room { HasRoom self.entry → IsOk result }
         ensures* unchanged { sem 𝓛 (IsUnchangedAtErr A.row A.Allocator self.entry result) }
     {
-        self.emit(Opcode::after_fd(0xd6))
+        self.emit(Prefix::Fd, 0xd6)
     }
 
     /// `i64x2.ne`: `0xFD 0xD7 0x01`.
@@ -448,7 +448,7 @@ impl<'a, A: Allocator> InstructionSink<'a, A> {
         ensures room { HasRoom self.entry → IsOk result }
         ensures* unchanged { sem 𝓛 (IsUnchangedAtErr A.row A.Allocator self.entry result) }
     {
-        self.emit(Opcode::after_fd(0xd7))
+        self.emit(Prefix::Fd, 0xd7)
     }
 
     /// `i64x2.lt_s`: `0xFD 0xD8 0x01`.
@@ -458,7 +458,7 @@ impl<'a, A: Allocator> InstructionSink<'a, A> {
         ensures room { HasRoom self.entry → IsOk result }
         ensures* unchanged { sem 𝓛 (IsUnchangedAtErr A.row A.Allocator self.entry result) }
     {
-        self.emit(Opcode::after_fd(0xd8))
+        self.emit(Prefix::Fd, 0xd8)
     }
 
     /// `i64x2.gt_s`: `0xFD 0xD9 0x01`.
@@ -468,7 +468,7 @@ impl<'a, A: Allocator> InstructionSink<'a, A> {
         ensures room { HasRoom self.entry → IsOk result }
         ensures* unchanged { sem 𝓛 (IsUnchangedAtErr A.row A.Allocator self.entry result) }
     {
-        self.emit(Opcode::after_fd(0xd9))
+        self.emit(Prefix::Fd, 0xd9)
     }
 
     /// `i64x2.le_s`: `0xFD 0xDA 0x01`.
@@ -478,7 +478,7 @@ impl<'a, A: Allocator> InstructionSink<'a, A> {
         ensures room { HasRoom self.entry → IsOk result }
         ensures* unchanged { sem 𝓛 (IsUnchangedAtErr A.row A.Allocator self.entry result) }
     {
-        self.emit(Opcode::after_fd(0xda))
+        self.emit(Prefix::Fd, 0xda)
     }
 
     /// `i64x2.ge_s`: `0xFD 0xDB 0x01`.
@@ -488,6 +488,6 @@ impl<'a, A: Allocator> InstructionSink<'a, A> {
         ensures room { HasRoom self.entry → IsOk result }
         ensures* unchanged { sem 𝓛 (IsUnchangedAtErr A.row A.Allocator self.entry result) }
     {
-        self.emit(Opcode::after_fd(0xdb))
+        self.emit(Prefix::Fd, 0xdb)
     }
 }

@@ -8,7 +8,7 @@ ghost use Rattle.wasm_instructions.specs.declared.table.call.Operands.TheVariant
 use crate::sink::InstructionSink;
 use std::alloc::Allocator;
 use wasm_codec::encode::EncodeError;
-use wasm_instructions::table::Opcode;
+use wasm_instructions::table::Prefix;
 
 impl<'a, A: Allocator> InstructionSink<'a, A> {
     /// `f32x4.demote_f64x2_zero`: `0xFD 0x5E`.
@@ -18,7 +18,7 @@ impl<'a, A: Allocator> InstructionSink<'a, A> {
         ensures room { HasRoom self.entry → IsOk result }
         ensures* unchanged { sem 𝓛 (IsUnchangedAtErr A.row A.Allocator self.entry result) }
     {
-        self.emit(Opcode::after_fd(0x5e))
+        self.emit(Prefix::Fd, 0x5e)
     }
 
     /// `f64x2.promote_low_f32x4`: `0xFD 0x5F`.
@@ -28,7 +28,7 @@ impl<'a, A: Allocator> InstructionSink<'a, A> {
         ensures room { HasRoom self.entry → IsOk result }
         ensures* unchanged { sem 𝓛 (IsUnchangedAtErr A.row A.Allocator self.entry result) }
     {
-        self.emit(Opcode::after_fd(0x5f))
+        self.emit(Prefix::Fd, 0x5f)
     }
 
     /// `f32x4.ceil`: `0xFD 0x67`.
@@ -38,7 +38,7 @@ impl<'a, A: Allocator> InstructionSink<'a, A> {
         ensures room { HasRoom self.entry → IsOk result }
         ensures* unchanged { sem 𝓛 (IsUnchangedAtErr A.row A.Allocator self.entry result) }
     {
-        self.emit(Opcode::after_fd(0x67))
+        self.emit(Prefix::Fd, 0x67)
     }
 
     /// `f32x4.floor`: `0xFD 0x68`.
@@ -48,7 +48,7 @@ impl<'a, A: Allocator> InstructionSink<'a, A> {
         ensures room { HasRoom self.entry → IsOk result }
         ensures* unchanged { sem 𝓛 (IsUnchangedAtErr A.row A.Allocator self.entry result) }
     {
-        self.emit(Opcode::after_fd(0x68))
+        self.emit(Prefix::Fd, 0x68)
     }
 
     /// `f32x4.trunc`: `0xFD 0x69`.
@@ -58,7 +58,7 @@ impl<'a, A: Allocator> InstructionSink<'a, A> {
         ensures room { HasRoom self.entry → IsOk result }
         ensures* unchanged { sem 𝓛 (IsUnchangedAtErr A.row A.Allocator self.entry result) }
     {
-        self.emit(Opcode::after_fd(0x69))
+        self.emit(Prefix::Fd, 0x69)
     }
 
     /// `f32x4.nearest`: `0xFD 0x6A`.
@@ -68,7 +68,7 @@ impl<'a, A: Allocator> InstructionSink<'a, A> {
         ensures room { HasRoom self.entry → IsOk result }
         ensures* unchanged { sem 𝓛 (IsUnchangedAtErr A.row A.Allocator self.entry result) }
     {
-        self.emit(Opcode::after_fd(0x6a))
+        self.emit(Prefix::Fd, 0x6a)
     }
 
     /// `f64x2.ceil`: `0xFD 0x74`.
@@ -78,7 +78,7 @@ impl<'a, A: Allocator> InstructionSink<'a, A> {
         ensures room { HasRoom self.entry → IsOk result }
         ensures* unchanged { sem 𝓛 (IsUnchangedAtErr A.row A.Allocator self.entry result) }
     {
-        self.emit(Opcode::after_fd(0x74))
+        self.emit(Prefix::Fd, 0x74)
     }
 
     /// `f64x2.floor`: `0xFD 0x75`.
@@ -88,7 +88,7 @@ impl<'a, A: Allocator> InstructionSink<'a, A> {
         ensures room { HasRoom self.entry → IsOk result }
         ensures* unchanged { sem 𝓛 (IsUnchangedAtErr A.row A.Allocator self.entry result) }
     {
-        self.emit(Opcode::after_fd(0x75))
+        self.emit(Prefix::Fd, 0x75)
     }
 
     /// `f64x2.trunc`: `0xFD 0x7A`.
@@ -98,7 +98,7 @@ impl<'a, A: Allocator> InstructionSink<'a, A> {
         ensures room { HasRoom self.entry → IsOk result }
         ensures* unchanged { sem 𝓛 (IsUnchangedAtErr A.row A.Allocator self.entry result) }
     {
-        self.emit(Opcode::after_fd(0x7a))
+        self.emit(Prefix::Fd, 0x7a)
     }
 
     /// `f64x2.nearest`: `0xFD 0x94 0x01`.
@@ -108,7 +108,7 @@ impl<'a, A: Allocator> InstructionSink<'a, A> {
         ensures room { HasRoom self.entry → IsOk result }
         ensures* unchanged { sem 𝓛 (IsUnchangedAtErr A.row A.Allocator self.entry result) }
     {
-        self.emit(Opcode::after_fd(0x94))
+        self.emit(Prefix::Fd, 0x94)
     }
 
     /// `f32x4.abs`: `0xFD 0xE0 0x01`.
@@ -118,7 +118,7 @@ impl<'a, A: Allocator> InstructionSink<'a, A> {
         ensures room { HasRoom self.entry → IsOk result }
         ensures* unchanged { sem 𝓛 (IsUnchangedAtErr A.row A.Allocator self.entry result) }
     {
-        self.emit(Opcode::after_fd(0xe0))
+        self.emit(Prefix::Fd, 0xe0)
     }
 
     /// `f32x4.neg`: `0xFD 0xE1 0x01`.
@@ -128,7 +128,7 @@ impl<'a, A: Allocator> InstructionSink<'a, A> {
         ensures room { HasRoom self.entry → IsOk result }
         ensures* unchanged { sem 𝓛 (IsUnchangedAtErr A.row A.Allocator self.entry result) }
     {
-        self.emit(Opcode::after_fd(0xe1))
+        self.emit(Prefix::Fd, 0xe1)
     }
 
     /// `f32x4.sqrt`: `0xFD 0xE3 0x01`.
@@ -138,7 +138,7 @@ impl<'a, A: Allocator> InstructionSink<'a, A> {
         ensures room { HasRoom self.entry → IsOk result }
         ensures* unchanged { sem 𝓛 (IsUnchangedAtErr A.row A.Allocator self.entry result) }
     {
-        self.emit(Opcode::after_fd(0xe3))
+        self.emit(Prefix::Fd, 0xe3)
     }
 
     /// `f32x4.add`: `0xFD 0xE4 0x01`.
@@ -148,7 +148,7 @@ impl<'a, A: Allocator> InstructionSink<'a, A> {
         ensures room { HasRoom self.entry → IsOk result }
         ensures* unchanged { sem 𝓛 (IsUnchangedAtErr A.row A.Allocator self.entry result) }
     {
-        self.emit(Opcode::after_fd(0xe4))
+        self.emit(Prefix::Fd, 0xe4)
     }
 
     /// `f32x4.sub`: `0xFD 0xE5 0x01`.
@@ -158,7 +158,7 @@ impl<'a, A: Allocator> InstructionSink<'a, A> {
         ensures room { HasRoom self.entry → IsOk result }
         ensures* unchanged { sem 𝓛 (IsUnchangedAtErr A.row A.Allocator self.entry result) }
     {
-        self.emit(Opcode::after_fd(0xe5))
+        self.emit(Prefix::Fd, 0xe5)
     }
 
     /// `f32x4.mul`: `0xFD 0xE6 0x01`.
@@ -168,7 +168,7 @@ impl<'a, A: Allocator> InstructionSink<'a, A> {
         ensures room { HasRoom self.entry → IsOk result }
         ensures* unchanged { sem 𝓛 (IsUnchangedAtErr A.row A.Allocator self.entry result) }
     {
-        self.emit(Opcode::after_fd(0xe6))
+        self.emit(Prefix::Fd, 0xe6)
     }
 
     /// `f32x4.div`: `0xFD 0xE7 0x01`.
@@ -178,7 +178,7 @@ impl<'a, A: Allocator> InstructionSink<'a, A> {
         ensures room { HasRoom self.entry → IsOk result }
         ensures* unchanged { sem 𝓛 (IsUnchangedAtErr A.row A.Allocator self.entry result) }
     {
-        self.emit(Opcode::after_fd(0xe7))
+        self.emit(Prefix::Fd, 0xe7)
     }
 
     /// `f32x4.min`: `0xFD 0xE8 0x01`.
@@ -188,7 +188,7 @@ impl<'a, A: Allocator> InstructionSink<'a, A> {
         ensures room { HasRoom self.entry → IsOk result }
         ensures* unchanged { sem 𝓛 (IsUnchangedAtErr A.row A.Allocator self.entry result) }
     {
-        self.emit(Opcode::after_fd(0xe8))
+        self.emit(Prefix::Fd, 0xe8)
     }
 
     /// `f32x4.max`: `0xFD 0xE9 0x01`.
@@ -198,7 +198,7 @@ impl<'a, A: Allocator> InstructionSink<'a, A> {
         ensures room { HasRoom self.entry → IsOk result }
         ensures* unchanged { sem 𝓛 (IsUnchangedAtErr A.row A.Allocator self.entry result) }
     {
-        self.emit(Opcode::after_fd(0xe9))
+        self.emit(Prefix::Fd, 0xe9)
     }
 
     /// `f32x4.pmin`: `0xFD 0xEA 0x01`.
@@ -208,7 +208,7 @@ impl<'a, A: Allocator> InstructionSink<'a, A> {
         ensures room { HasRoom self.entry → IsOk result }
         ensures* unchanged { sem 𝓛 (IsUnchangedAtErr A.row A.Allocator self.entry result) }
     {
-        self.emit(Opcode::after_fd(0xea))
+        self.emit(Prefix::Fd, 0xea)
     }
 
     /// `f32x4.pmax`: `0xFD 0xEB 0x01`.
@@ -218,7 +218,7 @@ impl<'a, A: Allocator> InstructionSink<'a, A> {
         ensures room { HasRoom self.entry → IsOk result }
         ensures* unchanged { sem 𝓛 (IsUnchangedAtErr A.row A.Allocator self.entry result) }
     {
-        self.emit(Opcode::after_fd(0xeb))
+        self.emit(Prefix::Fd, 0xeb)
     }
 
     /// `f64x2.abs`: `0xFD 0xEC 0x01`.
@@ -228,7 +228,7 @@ impl<'a, A: Allocator> InstructionSink<'a, A> {
         ensures room { HasRoom self.entry → IsOk result }
         ensures* unchanged { sem 𝓛 (IsUnchangedAtErr A.row A.Allocator self.entry result) }
     {
-        self.emit(Opcode::after_fd(0xec))
+        self.emit(Prefix::Fd, 0xec)
     }
 
     /// `f64x2.neg`: `0xFD 0xED 0x01`.
@@ -238,7 +238,7 @@ impl<'a, A: Allocator> InstructionSink<'a, A> {
         ensures room { HasRoom self.entry → IsOk result }
         ensures* unchanged { sem 𝓛 (IsUnchangedAtErr A.row A.Allocator self.entry result) }
     {
-        self.emit(Opcode::after_fd(0xed))
+        self.emit(Prefix::Fd, 0xed)
     }
 
     /// `f64x2.sqrt`: `0xFD 0xEF 0x01`.
@@ -248,7 +248,7 @@ impl<'a, A: Allocator> InstructionSink<'a, A> {
         ensures room { HasRoom self.entry → IsOk result }
         ensures* unchanged { sem 𝓛 (IsUnchangedAtErr A.row A.Allocator self.entry result) }
     {
-        self.emit(Opcode::after_fd(0xef))
+        self.emit(Prefix::Fd, 0xef)
     }
 
     /// `f64x2.add`: `0xFD 0xF0 0x01`.
@@ -258,7 +258,7 @@ impl<'a, A: Allocator> InstructionSink<'a, A> {
         ensures room { HasRoom self.entry → IsOk result }
         ensures* unchanged { sem 𝓛 (IsUnchangedAtErr A.row A.Allocator self.entry result) }
     {
-        self.emit(Opcode::after_fd(0xf0))
+        self.emit(Prefix::Fd, 0xf0)
     }
 
     /// `f64x2.sub`: `0xFD 0xF1 0x01`.
@@ -268,7 +268,7 @@ impl<'a, A: Allocator> InstructionSink<'a, A> {
         ensures room { HasRoom self.entry → IsOk result }
         ensures* unchanged { sem 𝓛 (IsUnchangedAtErr A.row A.Allocator self.entry result) }
     {
-        self.emit(Opcode::after_fd(0xf1))
+        self.emit(Prefix::Fd, 0xf1)
     }
 
     /// `f64x2.mul`: `0xFD 0xF2 0x01`.
@@ -278,7 +278,7 @@ impl<'a, A: Allocator> InstructionSink<'a, A> {
         ensures room { HasRoom self.entry → IsOk result }
         ensures* unchanged { sem 𝓛 (IsUnchangedAtErr A.row A.Allocator self.entry result) }
     {
-        self.emit(Opcode::after_fd(0xf2))
+        self.emit(Prefix::Fd, 0xf2)
     }
 
     /// `f64x2.div`: `0xFD 0xF3 0x01`.
@@ -288,7 +288,7 @@ impl<'a, A: Allocator> InstructionSink<'a, A> {
         ensures room { HasRoom self.entry → IsOk result }
         ensures* unchanged { sem 𝓛 (IsUnchangedAtErr A.row A.Allocator self.entry result) }
     {
-        self.emit(Opcode::after_fd(0xf3))
+        self.emit(Prefix::Fd, 0xf3)
     }
 
     /// `f64x2.min`: `0xFD 0xF4 0x01`.
@@ -298,7 +298,7 @@ impl<'a, A: Allocator> InstructionSink<'a, A> {
         ensures room { HasRoom self.entry → IsOk result }
         ensures* unchanged { sem 𝓛 (IsUnchangedAtErr A.row A.Allocator self.entry result) }
     {
-        self.emit(Opcode::after_fd(0xf4))
+        self.emit(Prefix::Fd, 0xf4)
     }
 
     /// `f64x2.max`: `0xFD 0xF5 0x01`.
@@ -308,7 +308,7 @@ impl<'a, A: Allocator> InstructionSink<'a, A> {
         ensures room { HasRoom self.entry → IsOk result }
         ensures* unchanged { sem 𝓛 (IsUnchangedAtErr A.row A.Allocator self.entry result) }
     {
-        self.emit(Opcode::after_fd(0xf5))
+        self.emit(Prefix::Fd, 0xf5)
     }
 
     /// `f64x2.pmin`: `0xFD 0xF6 0x01`.
@@ -318,7 +318,7 @@ impl<'a, A: Allocator> InstructionSink<'a, A> {
         ensures room { HasRoom self.entry → IsOk result }
         ensures* unchanged { sem 𝓛 (IsUnchangedAtErr A.row A.Allocator self.entry result) }
     {
-        self.emit(Opcode::after_fd(0xf6))
+        self.emit(Prefix::Fd, 0xf6)
     }
 
     /// `f64x2.pmax`: `0xFD 0xF7 0x01`.
@@ -328,7 +328,7 @@ impl<'a, A: Allocator> InstructionSink<'a, A> {
         ensures room { HasRoom self.entry → IsOk result }
         ensures* unchanged { sem 𝓛 (IsUnchangedAtErr A.row A.Allocator self.entry result) }
     {
-        self.emit(Opcode::after_fd(0xf7))
+        self.emit(Prefix::Fd, 0xf7)
     }
 
     /// `f32x4.convert_i32x4_s`: `0xFD 0xFA 0x01`.
@@ -338,7 +338,7 @@ impl<'a, A: Allocator> InstructionSink<'a, A> {
         ensures room { HasRoom self.entry → IsOk result }
         ensures* unchanged { sem 𝓛 (IsUnchangedAtErr A.row A.Allocator self.entry result) }
     {
-        self.emit(Opcode::after_fd(0xfa))
+        self.emit(Prefix::Fd, 0xfa)
     }
 
     /// `f32x4.convert_i32x4_u`: `0xFD 0xFB 0x01`.
@@ -348,7 +348,7 @@ impl<'a, A: Allocator> InstructionSink<'a, A> {
         ensures room { HasRoom self.entry → IsOk result }
         ensures* unchanged { sem 𝓛 (IsUnchangedAtErr A.row A.Allocator self.entry result) }
     {
-        self.emit(Opcode::after_fd(0xfb))
+        self.emit(Prefix::Fd, 0xfb)
     }
 
     /// `f64x2.convert_low_i32x4_s`: `0xFD 0xFE 0x01`.
@@ -358,7 +358,7 @@ impl<'a, A: Allocator> InstructionSink<'a, A> {
         ensures room { HasRoom self.entry → IsOk result }
         ensures* unchanged { sem 𝓛 (IsUnchangedAtErr A.row A.Allocator self.entry result) }
     {
-        self.emit(Opcode::after_fd(0xfe))
+        self.emit(Prefix::Fd, 0xfe)
     }
 
     /// `f64x2.convert_low_i32x4_u`: `0xFD 0xFF 0x01`.
@@ -368,6 +368,6 @@ impl<'a, A: Allocator> InstructionSink<'a, A> {
         ensures room { HasRoom self.entry → IsOk result }
         ensures* unchanged { sem 𝓛 (IsUnchangedAtErr A.row A.Allocator self.entry result) }
     {
-        self.emit(Opcode::after_fd(0xff))
+        self.emit(Prefix::Fd, 0xff)
     }
 }

@@ -8,7 +8,7 @@ ghost use Rattle.wasm_instructions.specs.declared.table.call.Operands.TheVariant
 use crate::sink::InstructionSink;
 use std::alloc::Allocator;
 use wasm_codec::encode::EncodeError;
-use wasm_instructions::table::Opcode;
+use wasm_instructions::table::Prefix;
 
 impl<'a, A: Allocator> InstructionSink<'a, A> {
     /// `i16x8.extadd_pairwise_i8x16_s`: `0xFD 0x7C`.
@@ -18,7 +18,7 @@ impl<'a, A: Allocator> InstructionSink<'a, A> {
         ensures room { HasRoom self.entry → IsOk result }
         ensures* unchanged { sem 𝓛 (IsUnchangedAtErr A.row A.Allocator self.entry result) }
     {
-        self.emit(Opcode::after_fd(0x7c))
+        self.emit(Prefix::Fd, 0x7c)
     }
 
     /// `i16x8.extadd_pairwise_i8x16_u`: `0xFD 0x7D`.
@@ -28,7 +28,7 @@ impl<'a, A: Allocator> InstructionSink<'a, A> {
         ensures room { HasRoom self.entry → IsOk result }
         ensures* unchanged { sem 𝓛 (IsUnchangedAtErr A.row A.Allocator self.entry result) }
     {
-        self.emit(Opcode::after_fd(0x7d))
+        self.emit(Prefix::Fd, 0x7d)
     }
 
     /// `i16x8.abs`: `0xFD 0x80 0x01`.
@@ -38,7 +38,7 @@ impl<'a, A: Allocator> InstructionSink<'a, A> {
         ensures room { HasRoom self.entry → IsOk result }
         ensures* unchanged { sem 𝓛 (IsUnchangedAtErr A.row A.Allocator self.entry result) }
     {
-        self.emit(Opcode::after_fd(0x80))
+        self.emit(Prefix::Fd, 0x80)
     }
 
     /// `i16x8.neg`: `0xFD 0x81 0x01`.
@@ -48,7 +48,7 @@ impl<'a, A: Allocator> InstructionSink<'a, A> {
         ensures room { HasRoom self.entry → IsOk result }
         ensures* unchanged { sem 𝓛 (IsUnchangedAtErr A.row A.Allocator self.entry result) }
     {
-        self.emit(Opcode::after_fd(0x81))
+        self.emit(Prefix::Fd, 0x81)
     }
 
     /// `i16x8.q15mulr_sat_s`: `0xFD 0x82 0x01`.
@@ -58,7 +58,7 @@ impl<'a, A: Allocator> InstructionSink<'a, A> {
         ensures room { HasRoom self.entry → IsOk result }
         ensures* unchanged { sem 𝓛 (IsUnchangedAtErr A.row A.Allocator self.entry result) }
     {
-        self.emit(Opcode::after_fd(0x82))
+        self.emit(Prefix::Fd, 0x82)
     }
 
     /// `i16x8.all_true`: `0xFD 0x83 0x01`.
@@ -68,7 +68,7 @@ impl<'a, A: Allocator> InstructionSink<'a, A> {
         ensures room { HasRoom self.entry → IsOk result }
         ensures* unchanged { sem 𝓛 (IsUnchangedAtErr A.row A.Allocator self.entry result) }
     {
-        self.emit(Opcode::after_fd(0x83))
+        self.emit(Prefix::Fd, 0x83)
     }
 
     /// `i16x8.bitmask`: `0xFD 0x84 0x01`.
@@ -78,7 +78,7 @@ impl<'a, A: Allocator> InstructionSink<'a, A> {
         ensures room { HasRoom self.entry → IsOk result }
         ensures* unchanged { sem 𝓛 (IsUnchangedAtErr A.row A.Allocator self.entry result) }
     {
-        self.emit(Opcode::after_fd(0x84))
+        self.emit(Prefix::Fd, 0x84)
     }
 
     /// `i16x8.narrow_i32x4_s`: `0xFD 0x85 0x01`.
@@ -88,7 +88,7 @@ impl<'a, A: Allocator> InstructionSink<'a, A> {
         ensures room { HasRoom self.entry → IsOk result }
         ensures* unchanged { sem 𝓛 (IsUnchangedAtErr A.row A.Allocator self.entry result) }
     {
-        self.emit(Opcode::after_fd(0x85))
+        self.emit(Prefix::Fd, 0x85)
     }
 
     /// `i16x8.narrow_i32x4_u`: `0xFD 0x86 0x01`.
@@ -98,7 +98,7 @@ impl<'a, A: Allocator> InstructionSink<'a, A> {
         ensures room { HasRoom self.entry → IsOk result }
         ensures* unchanged { sem 𝓛 (IsUnchangedAtErr A.row A.Allocator self.entry result) }
     {
-        self.emit(Opcode::after_fd(0x86))
+        self.emit(Prefix::Fd, 0x86)
     }
 
     /// `i16x8.extend_low_i8x16_s`: `0xFD 0x87 0x01`.
@@ -108,7 +108,7 @@ impl<'a, A: Allocator> InstructionSink<'a, A> {
         ensures room { HasRoom self.entry → IsOk result }
         ensures* unchanged { sem 𝓛 (IsUnchangedAtErr A.row A.Allocator self.entry result) }
     {
-        self.emit(Opcode::after_fd(0x87))
+        self.emit(Prefix::Fd, 0x87)
     }
 
     /// `i16x8.extend_high_i8x16_s`: `0xFD 0x88 0x01`.
@@ -118,7 +118,7 @@ impl<'a, A: Allocator> InstructionSink<'a, A> {
         ensures room { HasRoom self.entry → IsOk result }
         ensures* unchanged { sem 𝓛 (IsUnchangedAtErr A.row A.Allocator self.entry result) }
     {
-        self.emit(Opcode::after_fd(0x88))
+        self.emit(Prefix::Fd, 0x88)
     }
 
     /// `i16x8.extend_low_i8x16_u`: `0xFD 0x89 0x01`.
@@ -128,7 +128,7 @@ impl<'a, A: Allocator> InstructionSink<'a, A> {
         ensures room { HasRoom self.entry → IsOk result }
         ensures* unchanged { sem 𝓛 (IsUnchangedAtErr A.row A.Allocator self.entry result) }
     {
-        self.emit(Opcode::after_fd(0x89))
+        self.emit(Prefix::Fd, 0x89)
     }
 
     /// `i16x8.extend_high_i8x16_u`: `0xFD 0x8A 0x01`.
@@ -138,7 +138,7 @@ impl<'a, A: Allocator> InstructionSink<'a, A> {
         ensures room { HasRoom self.entry → IsOk result }
         ensures* unchanged { sem 𝓛 (IsUnchangedAtErr A.row A.Allocator self.entry result) }
     {
-        self.emit(Opcode::after_fd(0x8a))
+        self.emit(Prefix::Fd, 0x8a)
     }
 
     /// `i16x8.shl`: `0xFD 0x8B 0x01`.
@@ -148,7 +148,7 @@ impl<'a, A: Allocator> InstructionSink<'a, A> {
         ensures room { HasRoom self.entry → IsOk result }
         ensures* unchanged { sem 𝓛 (IsUnchangedAtErr A.row A.Allocator self.entry result) }
     {
-        self.emit(Opcode::after_fd(0x8b))
+        self.emit(Prefix::Fd, 0x8b)
     }
 
     /// `i16x8.shr_s`: `0xFD 0x8C 0x01`.
@@ -158,7 +158,7 @@ impl<'a, A: Allocator> InstructionSink<'a, A> {
         ensures room { HasRoom self.entry → IsOk result }
         ensures* unchanged { sem 𝓛 (IsUnchangedAtErr A.row A.Allocator self.entry result) }
     {
-        self.emit(Opcode::after_fd(0x8c))
+        self.emit(Prefix::Fd, 0x8c)
     }
 
     /// `i16x8.shr_u`: `0xFD 0x8D 0x01`.
@@ -168,7 +168,7 @@ impl<'a, A: Allocator> InstructionSink<'a, A> {
         ensures room { HasRoom self.entry → IsOk result }
         ensures* unchanged { sem 𝓛 (IsUnchangedAtErr A.row A.Allocator self.entry result) }
     {
-        self.emit(Opcode::after_fd(0x8d))
+        self.emit(Prefix::Fd, 0x8d)
     }
 
     /// `i16x8.add`: `0xFD 0x8E 0x01`.
@@ -178,7 +178,7 @@ impl<'a, A: Allocator> InstructionSink<'a, A> {
         ensures room { HasRoom self.entry → IsOk result }
         ensures* unchanged { sem 𝓛 (IsUnchangedAtErr A.row A.Allocator self.entry result) }
     {
-        self.emit(Opcode::after_fd(0x8e))
+        self.emit(Prefix::Fd, 0x8e)
     }
 
     /// `i16x8.add_sat_s`: `0xFD 0x8F 0x01`.
@@ -188,7 +188,7 @@ impl<'a, A: Allocator> InstructionSink<'a, A> {
         ensures room { HasRoom self.entry → IsOk result }
         ensures* unchanged { sem 𝓛 (IsUnchangedAtErr A.row A.Allocator self.entry result) }
     {
-        self.emit(Opcode::after_fd(0x8f))
+        self.emit(Prefix::Fd, 0x8f)
     }
 
     /// `i16x8.add_sat_u`: `0xFD 0x90 0x01`.
@@ -198,7 +198,7 @@ impl<'a, A: Allocator> InstructionSink<'a, A> {
         ensures room { HasRoom self.entry → IsOk result }
         ensures* unchanged { sem 𝓛 (IsUnchangedAtErr A.row A.Allocator self.entry result) }
     {
-        self.emit(Opcode::after_fd(0x90))
+        self.emit(Prefix::Fd, 0x90)
     }
 
     /// `i16x8.sub`: `0xFD 0x91 0x01`.
@@ -208,7 +208,7 @@ impl<'a, A: Allocator> InstructionSink<'a, A> {
         ensures room { HasRoom self.entry → IsOk result }
         ensures* unchanged { sem 𝓛 (IsUnchangedAtErr A.row A.Allocator self.entry result) }
     {
-        self.emit(Opcode::after_fd(0x91))
+        self.emit(Prefix::Fd, 0x91)
     }
 
     /// `i16x8.sub_sat_s`: `0xFD 0x92 0x01`.
@@ -218,7 +218,7 @@ impl<'a, A: Allocator> InstructionSink<'a, A> {
         ensures room { HasRoom self.entry → IsOk result }
         ensures* unchanged { sem 𝓛 (IsUnchangedAtErr A.row A.Allocator self.entry result) }
     {
-        self.emit(Opcode::after_fd(0x92))
+        self.emit(Prefix::Fd, 0x92)
     }
 
     /// `i16x8.sub_sat_u`: `0xFD 0x93 0x01`.
@@ -228,7 +228,7 @@ impl<'a, A: Allocator> InstructionSink<'a, A> {
         ensures room { HasRoom self.entry → IsOk result }
         ensures* unchanged { sem 𝓛 (IsUnchangedAtErr A.row A.Allocator self.entry result) }
     {
-        self.emit(Opcode::after_fd(0x93))
+        self.emit(Prefix::Fd, 0x93)
     }
 
     /// `i16x8.mul`: `0xFD 0x95 0x01`.
@@ -238,7 +238,7 @@ impl<'a, A: Allocator> InstructionSink<'a, A> {
         ensures room { HasRoom self.entry → IsOk result }
         ensures* unchanged { sem 𝓛 (IsUnchangedAtErr A.row A.Allocator self.entry result) }
     {
-        self.emit(Opcode::after_fd(0x95))
+        self.emit(Prefix::Fd, 0x95)
     }
 
     /// `i16x8.min_s`: `0xFD 0x96 0x01`.
@@ -248,7 +248,7 @@ impl<'a, A: Allocator> InstructionSink<'a, A> {
         ensures room { HasRoom self.entry → IsOk result }
         ensures* unchanged { sem 𝓛 (IsUnchangedAtErr A.row A.Allocator self.entry result) }
     {
-        self.emit(Opcode::after_fd(0x96))
+        self.emit(Prefix::Fd, 0x96)
     }
 
     /// `i16x8.min_u`: `0xFD 0x97 0x01`.
@@ -258,7 +258,7 @@ impl<'a, A: Allocator> InstructionSink<'a, A> {
         ensures room { HasRoom self.entry → IsOk result }
         ensures* unchanged { sem 𝓛 (IsUnchangedAtErr A.row A.Allocator self.entry result) }
     {
-        self.emit(Opcode::after_fd(0x97))
+        self.emit(Prefix::Fd, 0x97)
     }
 
     /// `i16x8.max_s`: `0xFD 0x98 0x01`.
@@ -268,7 +268,7 @@ impl<'a, A: Allocator> InstructionSink<'a, A> {
         ensures room { HasRoom self.entry → IsOk result }
         ensures* unchanged { sem 𝓛 (IsUnchangedAtErr A.row A.Allocator self.entry result) }
     {
-        self.emit(Opcode::after_fd(0x98))
+        self.emit(Prefix::Fd, 0x98)
     }
 
     /// `i16x8.max_u`: `0xFD 0x99 0x01`.
@@ -278,7 +278,7 @@ impl<'a, A: Allocator> InstructionSink<'a, A> {
         ensures room { HasRoom self.entry → IsOk result }
         ensures* unchanged { sem 𝓛 (IsUnchangedAtErr A.row A.Allocator self.entry result) }
     {
-        self.emit(Opcode::after_fd(0x99))
+        self.emit(Prefix::Fd, 0x99)
     }
 
     /// `i16x8.avgr_u`: `0xFD 0x9B 0x01`.
@@ -288,7 +288,7 @@ impl<'a, A: Allocator> InstructionSink<'a, A> {
         ensures room { HasRoom self.entry → IsOk result }
         ensures* unchanged { sem 𝓛 (IsUnchangedAtErr A.row A.Allocator self.entry result) }
     {
-        self.emit(Opcode::after_fd(0x9b))
+        self.emit(Prefix::Fd, 0x9b)
     }
 
     /// `i16x8.extmul_low_i8x16_s`: `0xFD 0x9C 0x01`.
@@ -298,7 +298,7 @@ impl<'a, A: Allocator> InstructionSink<'a, A> {
         ensures room { HasRoom self.entry → IsOk result }
         ensures* unchanged { sem 𝓛 (IsUnchangedAtErr A.row A.Allocator self.entry result) }
     {
-        self.emit(Opcode::after_fd(0x9c))
+        self.emit(Prefix::Fd, 0x9c)
     }
 
     /// `i16x8.extmul_high_i8x16_s`: `0xFD 0x9D 0x01`.
@@ -308,7 +308,7 @@ impl<'a, A: Allocator> InstructionSink<'a, A> {
         ensures room { HasRoom self.entry → IsOk result }
         ensures* unchanged { sem 𝓛 (IsUnchangedAtErr A.row A.Allocator self.entry result) }
     {
-        self.emit(Opcode::after_fd(0x9d))
+        self.emit(Prefix::Fd, 0x9d)
     }
 
     /// `i16x8.extmul_low_i8x16_u`: `0xFD 0x9E 0x01`.
@@ -318,7 +318,7 @@ impl<'a, A: Allocator> InstructionSink<'a, A> {
         ensures room { HasRoom self.entry → IsOk result }
         ensures* unchanged { sem 𝓛 (IsUnchangedAtErr A.row A.Allocator self.entry result) }
     {
-        self.emit(Opcode::after_fd(0x9e))
+        self.emit(Prefix::Fd, 0x9e)
     }
 
     /// `i16x8.extmul_high_i8x16_u`: `0xFD 0x9F 0x01`.
@@ -328,6 +328,6 @@ impl<'a, A: Allocator> InstructionSink<'a, A> {
         ensures room { HasRoom self.entry → IsOk result }
         ensures* unchanged { sem 𝓛 (IsUnchangedAtErr A.row A.Allocator self.entry result) }
     {
-        self.emit(Opcode::after_fd(0x9f))
+        self.emit(Prefix::Fd, 0x9f)
     }
 }

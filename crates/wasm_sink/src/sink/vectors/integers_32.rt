@@ -8,7 +8,7 @@ ghost use Rattle.wasm_instructions.specs.declared.table.call.Operands.TheVariant
 use crate::sink::InstructionSink;
 use std::alloc::Allocator;
 use wasm_codec::encode::EncodeError;
-use wasm_instructions::table::Opcode;
+use wasm_instructions::table::Prefix;
 
 impl<'a, A: Allocator> InstructionSink<'a, A> {
     /// `i32x4.extadd_pairwise_i16x8_s`: `0xFD 0x7E`.
@@ -18,7 +18,7 @@ impl<'a, A: Allocator> InstructionSink<'a, A> {
         ensures room { HasRoom self.entry → IsOk result }
         ensures* unchanged { sem 𝓛 (IsUnchangedAtErr A.row A.Allocator self.entry result) }
     {
-        self.emit(Opcode::after_fd(0x7e))
+        self.emit(Prefix::Fd, 0x7e)
     }
 
     /// `i32x4.extadd_pairwise_i16x8_u`: `0xFD 0x7F`.
@@ -28,7 +28,7 @@ impl<'a, A: Allocator> InstructionSink<'a, A> {
         ensures room { HasRoom self.entry → IsOk result }
         ensures* unchanged { sem 𝓛 (IsUnchangedAtErr A.row A.Allocator self.entry result) }
     {
-        self.emit(Opcode::after_fd(0x7f))
+        self.emit(Prefix::Fd, 0x7f)
     }
 
     /// `i32x4.abs`: `0xFD 0xA0 0x01`.
@@ -38,7 +38,7 @@ impl<'a, A: Allocator> InstructionSink<'a, A> {
         ensures room { HasRoom self.entry → IsOk result }
         ensures* unchanged { sem 𝓛 (IsUnchangedAtErr A.row A.Allocator self.entry result) }
     {
-        self.emit(Opcode::after_fd(0xa0))
+        self.emit(Prefix::Fd, 0xa0)
     }
 
     /// `i32x4.neg`: `0xFD 0xA1 0x01`.
@@ -48,7 +48,7 @@ impl<'a, A: Allocator> InstructionSink<'a, A> {
         ensures room { HasRoom self.entry → IsOk result }
         ensures* unchanged { sem 𝓛 (IsUnchangedAtErr A.row A.Allocator self.entry result) }
     {
-        self.emit(Opcode::after_fd(0xa1))
+        self.emit(Prefix::Fd, 0xa1)
     }
 
     /// `i32x4.all_true`: `0xFD 0xA3 0x01`.
@@ -58,7 +58,7 @@ impl<'a, A: Allocator> InstructionSink<'a, A> {
         ensures room { HasRoom self.entry → IsOk result }
         ensures* unchanged { sem 𝓛 (IsUnchangedAtErr A.row A.Allocator self.entry result) }
     {
-        self.emit(Opcode::after_fd(0xa3))
+        self.emit(Prefix::Fd, 0xa3)
     }
 
     /// `i32x4.bitmask`: `0xFD 0xA4 0x01`.
@@ -68,7 +68,7 @@ impl<'a, A: Allocator> InstructionSink<'a, A> {
         ensures room { HasRoom self.entry → IsOk result }
         ensures* unchanged { sem 𝓛 (IsUnchangedAtErr A.row A.Allocator self.entry result) }
     {
-        self.emit(Opcode::after_fd(0xa4))
+        self.emit(Prefix::Fd, 0xa4)
     }
 
     /// `i32x4.extend_low_i16x8_s`: `0xFD 0xA7 0x01`.
@@ -78,7 +78,7 @@ impl<'a, A: Allocator> InstructionSink<'a, A> {
         ensures room { HasRoom self.entry → IsOk result }
         ensures* unchanged { sem 𝓛 (IsUnchangedAtErr A.row A.Allocator self.entry result) }
     {
-        self.emit(Opcode::after_fd(0xa7))
+        self.emit(Prefix::Fd, 0xa7)
     }
 
     /// `i32x4.extend_high_i16x8_s`: `0xFD 0xA8 0x01`.
@@ -88,7 +88,7 @@ impl<'a, A: Allocator> InstructionSink<'a, A> {
         ensures room { HasRoom self.entry → IsOk result }
         ensures* unchanged { sem 𝓛 (IsUnchangedAtErr A.row A.Allocator self.entry result) }
     {
-        self.emit(Opcode::after_fd(0xa8))
+        self.emit(Prefix::Fd, 0xa8)
     }
 
     /// `i32x4.extend_low_i16x8_u`: `0xFD 0xA9 0x01`.
@@ -98,7 +98,7 @@ impl<'a, A: Allocator> InstructionSink<'a, A> {
         ensures room { HasRoom self.entry → IsOk result }
         ensures* unchanged { sem 𝓛 (IsUnchangedAtErr A.row A.Allocator self.entry result) }
     {
-        self.emit(Opcode::after_fd(0xa9))
+        self.emit(Prefix::Fd, 0xa9)
     }
 
     /// `i32x4.extend_high_i16x8_u`: `0xFD 0xAA 0x01`.
@@ -108,7 +108,7 @@ impl<'a, A: Allocator> InstructionSink<'a, A> {
         ensures room { HasRoom self.entry → IsOk result }
         ensures* unchanged { sem 𝓛 (IsUnchangedAtErr A.row A.Allocator self.entry result) }
     {
-        self.emit(Opcode::after_fd(0xaa))
+        self.emit(Prefix::Fd, 0xaa)
     }
 
     /// `i32x4.shl`: `0xFD 0xAB 0x01`.
@@ -118,7 +118,7 @@ impl<'a, A: Allocator> InstructionSink<'a, A> {
         ensures room { HasRoom self.entry → IsOk result }
         ensures* unchanged { sem 𝓛 (IsUnchangedAtErr A.row A.Allocator self.entry result) }
     {
-        self.emit(Opcode::after_fd(0xab))
+        self.emit(Prefix::Fd, 0xab)
     }
 
     /// `i32x4.shr_s`: `0xFD 0xAC 0x01`.
@@ -128,7 +128,7 @@ impl<'a, A: Allocator> InstructionSink<'a, A> {
         ensures room { HasRoom self.entry → IsOk result }
         ensures* unchanged { sem 𝓛 (IsUnchangedAtErr A.row A.Allocator self.entry result) }
     {
-        self.emit(Opcode::after_fd(0xac))
+        self.emit(Prefix::Fd, 0xac)
     }
 
     /// `i32x4.shr_u`: `0xFD 0xAD 0x01`.
@@ -138,7 +138,7 @@ impl<'a, A: Allocator> InstructionSink<'a, A> {
         ensures room { HasRoom self.entry → IsOk result }
         ensures* unchanged { sem 𝓛 (IsUnchangedAtErr A.row A.Allocator self.entry result) }
     {
-        self.emit(Opcode::after_fd(0xad))
+        self.emit(Prefix::Fd, 0xad)
     }
 
     /// `i32x4.add`: `0xFD 0xAE 0x01`.
@@ -148,7 +148,7 @@ impl<'a, A: Allocator> InstructionSink<'a, A> {
         ensures room { HasRoom self.entry → IsOk result }
         ensures* unchanged { sem 𝓛 (IsUnchangedAtErr A.row A.Allocator self.entry result) }
     {
-        self.emit(Opcode::after_fd(0xae))
+        self.emit(Prefix::Fd, 0xae)
     }
 
     /// `i32x4.sub`: `0xFD 0xB1 0x01`.
@@ -158,7 +158,7 @@ impl<'a, A: Allocator> InstructionSink<'a, A> {
         ensures room { HasRoom self.entry → IsOk result }
         ensures* unchanged { sem 𝓛 (IsUnchangedAtErr A.row A.Allocator self.entry result) }
     {
-        self.emit(Opcode::after_fd(0xb1))
+        self.emit(Prefix::Fd, 0xb1)
     }
 
     /// `i32x4.mul`: `0xFD 0xB5 0x01`.
@@ -168,7 +168,7 @@ impl<'a, A: Allocator> InstructionSink<'a, A> {
         ensures room { HasRoom self.entry → IsOk result }
         ensures* unchanged { sem 𝓛 (IsUnchangedAtErr A.row A.Allocator self.entry result) }
     {
-        self.emit(Opcode::after_fd(0xb5))
+        self.emit(Prefix::Fd, 0xb5)
     }
 
     /// `i32x4.min_s`: `0xFD 0xB6 0x01`.
@@ -178,7 +178,7 @@ impl<'a, A: Allocator> InstructionSink<'a, A> {
         ensures room { HasRoom self.entry → IsOk result }
         ensures* unchanged { sem 𝓛 (IsUnchangedAtErr A.row A.Allocator self.entry result) }
     {
-        self.emit(Opcode::after_fd(0xb6))
+        self.emit(Prefix::Fd, 0xb6)
     }
 
     /// `i32x4.min_u`: `0xFD 0xB7 0x01`.
@@ -188,7 +188,7 @@ impl<'a, A: Allocator> InstructionSink<'a, A> {
         ensures room { HasRoom self.entry → IsOk result }
         ensures* unchanged { sem 𝓛 (IsUnchangedAtErr A.row A.Allocator self.entry result) }
     {
-        self.emit(Opcode::after_fd(0xb7))
+        self.emit(Prefix::Fd, 0xb7)
     }
 
     /// `i32x4.max_s`: `0xFD 0xB8 0x01`.
@@ -198,7 +198,7 @@ impl<'a, A: Allocator> InstructionSink<'a, A> {
         ensures room { HasRoom self.entry → IsOk result }
         ensures* unchanged { sem 𝓛 (IsUnchangedAtErr A.row A.Allocator self.entry result) }
     {
-        self.emit(Opcode::after_fd(0xb8))
+        self.emit(Prefix::Fd, 0xb8)
     }
 
     /// `i32x4.max_u`: `0xFD 0xB9 0x01`.
@@ -208,7 +208,7 @@ impl<'a, A: Allocator> InstructionSink<'a, A> {
         ensures room { HasRoom self.entry → IsOk result }
         ensures* unchanged { sem 𝓛 (IsUnchangedAtErr A.row A.Allocator self.entry result) }
     {
-        self.emit(Opcode::after_fd(0xb9))
+        self.emit(Prefix::Fd, 0xb9)
     }
 
     /// `i32x4.dot_i16x8_s`: `0xFD 0xBA 0x01`.
@@ -218,7 +218,7 @@ impl<'a, A: Allocator> InstructionSink<'a, A> {
         ensures room { HasRoom self.entry → IsOk result }
         ensures* unchanged { sem 𝓛 (IsUnchangedAtErr A.row A.Allocator self.entry result) }
     {
-        self.emit(Opcode::after_fd(0xba))
+        self.emit(Prefix::Fd, 0xba)
     }
 
     /// `i32x4.extmul_low_i16x8_s`: `0xFD 0xBC 0x01`.
@@ -228,7 +228,7 @@ impl<'a, A: Allocator> InstructionSink<'a, A> {
         ensures room { HasRoom self.entry → IsOk result }
         ensures* unchanged { sem 𝓛 (IsUnchangedAtErr A.row A.Allocator self.entry result) }
     {
-        self.emit(Opcode::after_fd(0xbc))
+        self.emit(Prefix::Fd, 0xbc)
     }
 
     /// `i32x4.extmul_high_i16x8_s`: `0xFD 0xBD 0x01`.
@@ -238,7 +238,7 @@ impl<'a, A: Allocator> InstructionSink<'a, A> {
         ensures room { HasRoom self.entry → IsOk result }
         ensures* unchanged { sem 𝓛 (IsUnchangedAtErr A.row A.Allocator self.entry result) }
     {
-        self.emit(Opcode::after_fd(0xbd))
+        self.emit(Prefix::Fd, 0xbd)
     }
 
     /// `i32x4.extmul_low_i16x8_u`: `0xFD 0xBE 0x01`.
@@ -248,7 +248,7 @@ impl<'a, A: Allocator> InstructionSink<'a, A> {
         ensures room { HasRoom self.entry → IsOk result }
         ensures* unchanged { sem 𝓛 (IsUnchangedAtErr A.row A.Allocator self.entry result) }
     {
-        self.emit(Opcode::after_fd(0xbe))
+        self.emit(Prefix::Fd, 0xbe)
     }
 
     /// `i32x4.extmul_high_i16x8_u`: `0xFD 0xBF 0x01`.
@@ -258,7 +258,7 @@ impl<'a, A: Allocator> InstructionSink<'a, A> {
         ensures room { HasRoom self.entry → IsOk result }
         ensures* unchanged { sem 𝓛 (IsUnchangedAtErr A.row A.Allocator self.entry result) }
     {
-        self.emit(Opcode::after_fd(0xbf))
+        self.emit(Prefix::Fd, 0xbf)
     }
 
     /// `i32x4.trunc_sat_f32x4_s`: `0xFD 0xF8 0x01`.
@@ -268,7 +268,7 @@ impl<'a, A: Allocator> InstructionSink<'a, A> {
         ensures room { HasRoom self.entry → IsOk result }
         ensures* unchanged { sem 𝓛 (IsUnchangedAtErr A.row A.Allocator self.entry result) }
     {
-        self.emit(Opcode::after_fd(0xf8))
+        self.emit(Prefix::Fd, 0xf8)
     }
 
     /// `i32x4.trunc_sat_f32x4_u`: `0xFD 0xF9 0x01`.
@@ -278,7 +278,7 @@ impl<'a, A: Allocator> InstructionSink<'a, A> {
         ensures room { HasRoom self.entry → IsOk result }
         ensures* unchanged { sem 𝓛 (IsUnchangedAtErr A.row A.Allocator self.entry result) }
     {
-        self.emit(Opcode::after_fd(0xf9))
+        self.emit(Prefix::Fd, 0xf9)
     }
 
     /// `i32x4.trunc_sat_f64x2_s_zero`: `0xFD 0xFC 0x01`.
@@ -288,7 +288,7 @@ impl<'a, A: Allocator> InstructionSink<'a, A> {
         ensures room { HasRoom self.entry → IsOk result }
         ensures* unchanged { sem 𝓛 (IsUnchangedAtErr A.row A.Allocator self.entry result) }
     {
-        self.emit(Opcode::after_fd(0xfc))
+        self.emit(Prefix::Fd, 0xfc)
     }
 
     /// `i32x4.trunc_sat_f64x2_u_zero`: `0xFD 0xFD 0x01`.
@@ -298,6 +298,6 @@ impl<'a, A: Allocator> InstructionSink<'a, A> {
         ensures room { HasRoom self.entry → IsOk result }
         ensures* unchanged { sem 𝓛 (IsUnchangedAtErr A.row A.Allocator self.entry result) }
     {
-        self.emit(Opcode::after_fd(0xfd))
+        self.emit(Prefix::Fd, 0xfd)
     }
 }

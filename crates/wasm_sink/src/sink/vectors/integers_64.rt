@@ -8,7 +8,7 @@ ghost use Rattle.wasm_instructions.specs.declared.table.call.Operands.TheVariant
 use crate::sink::InstructionSink;
 use std::alloc::Allocator;
 use wasm_codec::encode::EncodeError;
-use wasm_instructions::table::Opcode;
+use wasm_instructions::table::Prefix;
 
 impl<'a, A: Allocator> InstructionSink<'a, A> {
     /// `i64x2.abs`: `0xFD 0xC0 0x01`.
@@ -18,7 +18,7 @@ impl<'a, A: Allocator> InstructionSink<'a, A> {
         ensures room { HasRoom self.entry → IsOk result }
         ensures* unchanged { sem 𝓛 (IsUnchangedAtErr A.row A.Allocator self.entry result) }
     {
-        self.emit(Opcode::after_fd(0xc0))
+        self.emit(Prefix::Fd, 0xc0)
     }
 
     /// `i64x2.neg`: `0xFD 0xC1 0x01`.
@@ -28,7 +28,7 @@ impl<'a, A: Allocator> InstructionSink<'a, A> {
         ensures room { HasRoom self.entry → IsOk result }
         ensures* unchanged { sem 𝓛 (IsUnchangedAtErr A.row A.Allocator self.entry result) }
     {
-        self.emit(Opcode::after_fd(0xc1))
+        self.emit(Prefix::Fd, 0xc1)
     }
 
     /// `i64x2.all_true`: `0xFD 0xC3 0x01`.
@@ -38,7 +38,7 @@ impl<'a, A: Allocator> InstructionSink<'a, A> {
         ensures room { HasRoom self.entry → IsOk result }
         ensures* unchanged { sem 𝓛 (IsUnchangedAtErr A.row A.Allocator self.entry result) }
     {
-        self.emit(Opcode::after_fd(0xc3))
+        self.emit(Prefix::Fd, 0xc3)
     }
 
     /// `i64x2.bitmask`: `0xFD 0xC4 0x01`.
@@ -48,7 +48,7 @@ impl<'a, A: Allocator> InstructionSink<'a, A> {
         ensures room { HasRoom self.entry → IsOk result }
         ensures* unchanged { sem 𝓛 (IsUnchangedAtErr A.row A.Allocator self.entry result) }
     {
-        self.emit(Opcode::after_fd(0xc4))
+        self.emit(Prefix::Fd, 0xc4)
     }
 
     /// `i64x2.extend_low_i32x4_s`: `0xFD 0xC7 0x01`.
@@ -58,7 +58,7 @@ impl<'a, A: Allocator> InstructionSink<'a, A> {
         ensures room { HasRoom self.entry → IsOk result }
         ensures* unchanged { sem 𝓛 (IsUnchangedAtErr A.row A.Allocator self.entry result) }
     {
-        self.emit(Opcode::after_fd(0xc7))
+        self.emit(Prefix::Fd, 0xc7)
     }
 
     /// `i64x2.extend_high_i32x4_s`: `0xFD 0xC8 0x01`.
@@ -68,7 +68,7 @@ impl<'a, A: Allocator> InstructionSink<'a, A> {
         ensures room { HasRoom self.entry → IsOk result }
         ensures* unchanged { sem 𝓛 (IsUnchangedAtErr A.row A.Allocator self.entry result) }
     {
-        self.emit(Opcode::after_fd(0xc8))
+        self.emit(Prefix::Fd, 0xc8)
     }
 
     /// `i64x2.extend_low_i32x4_u`: `0xFD 0xC9 0x01`.
@@ -78,7 +78,7 @@ impl<'a, A: Allocator> InstructionSink<'a, A> {
         ensures room { HasRoom self.entry → IsOk result }
         ensures* unchanged { sem 𝓛 (IsUnchangedAtErr A.row A.Allocator self.entry result) }
     {
-        self.emit(Opcode::after_fd(0xc9))
+        self.emit(Prefix::Fd, 0xc9)
     }
 
     /// `i64x2.extend_high_i32x4_u`: `0xFD 0xCA 0x01`.
@@ -88,7 +88,7 @@ impl<'a, A: Allocator> InstructionSink<'a, A> {
         ensures room { HasRoom self.entry → IsOk result }
         ensures* unchanged { sem 𝓛 (IsUnchangedAtErr A.row A.Allocator self.entry result) }
     {
-        self.emit(Opcode::after_fd(0xca))
+        self.emit(Prefix::Fd, 0xca)
     }
 
     /// `i64x2.shl`: `0xFD 0xCB 0x01`.
@@ -98,7 +98,7 @@ impl<'a, A: Allocator> InstructionSink<'a, A> {
         ensures room { HasRoom self.entry → IsOk result }
         ensures* unchanged { sem 𝓛 (IsUnchangedAtErr A.row A.Allocator self.entry result) }
     {
-        self.emit(Opcode::after_fd(0xcb))
+        self.emit(Prefix::Fd, 0xcb)
     }
 
     /// `i64x2.shr_s`: `0xFD 0xCC 0x01`.
@@ -108,7 +108,7 @@ impl<'a, A: Allocator> InstructionSink<'a, A> {
         ensures room { HasRoom self.entry → IsOk result }
         ensures* unchanged { sem 𝓛 (IsUnchangedAtErr A.row A.Allocator self.entry result) }
     {
-        self.emit(Opcode::after_fd(0xcc))
+        self.emit(Prefix::Fd, 0xcc)
     }
 
     /// `i64x2.shr_u`: `0xFD 0xCD 0x01`.
@@ -118,7 +118,7 @@ impl<'a, A: Allocator> InstructionSink<'a, A> {
         ensures room { HasRoom self.entry → IsOk result }
         ensures* unchanged { sem 𝓛 (IsUnchangedAtErr A.row A.Allocator self.entry result) }
     {
-        self.emit(Opcode::after_fd(0xcd))
+        self.emit(Prefix::Fd, 0xcd)
     }
 
     /// `i64x2.add`: `0xFD 0xCE 0x01`.
@@ -128,7 +128,7 @@ impl<'a, A: Allocator> InstructionSink<'a, A> {
         ensures room { HasRoom self.entry → IsOk result }
         ensures* unchanged { sem 𝓛 (IsUnchangedAtErr A.row A.Allocator self.entry result) }
     {
-        self.emit(Opcode::after_fd(0xce))
+        self.emit(Prefix::Fd, 0xce)
     }
 
     /// `i64x2.sub`: `0xFD 0xD1 0x01`.
@@ -138,7 +138,7 @@ impl<'a, A: Allocator> InstructionSink<'a, A> {
         ensures room { HasRoom self.entry → IsOk result }
         ensures* unchanged { sem 𝓛 (IsUnchangedAtErr A.row A.Allocator self.entry result) }
     {
-        self.emit(Opcode::after_fd(0xd1))
+        self.emit(Prefix::Fd, 0xd1)
     }
 
     /// `i64x2.mul`: `0xFD 0xD5 0x01`.
@@ -148,7 +148,7 @@ impl<'a, A: Allocator> InstructionSink<'a, A> {
         ensures room { HasRoom self.entry → IsOk result }
         ensures* unchanged { sem 𝓛 (IsUnchangedAtErr A.row A.Allocator self.entry result) }
     {
-        self.emit(Opcode::after_fd(0xd5))
+        self.emit(Prefix::Fd, 0xd5)
     }
 
     /// `i64x2.extmul_low_i32x4_s`: `0xFD 0xDC 0x01`.
@@ -158,7 +158,7 @@ impl<'a, A: Allocator> InstructionSink<'a, A> {
         ensures room { HasRoom self.entry → IsOk result }
         ensures* unchanged { sem 𝓛 (IsUnchangedAtErr A.row A.Allocator self.entry result) }
     {
-        self.emit(Opcode::after_fd(0xdc))
+        self.emit(Prefix::Fd, 0xdc)
     }
 
     /// `i64x2.extmul_high_i32x4_s`: `0xFD 0xDD 0x01`.
@@ -168,7 +168,7 @@ impl<'a, A: Allocator> InstructionSink<'a, A> {
         ensures room { HasRoom self.entry → IsOk result }
         ensures* unchanged { sem 𝓛 (IsUnchangedAtErr A.row A.Allocator self.entry result) }
     {
-        self.emit(Opcode::after_fd(0xdd))
+        self.emit(Prefix::Fd, 0xdd)
     }
 
     /// `i64x2.extmul_low_i32x4_u`: `0xFD 0xDE 0x01`.
@@ -178,7 +178,7 @@ impl<'a, A: Allocator> InstructionSink<'a, A> {
         ensures room { HasRoom self.entry → IsOk result }
         ensures* unchanged { sem 𝓛 (IsUnchangedAtErr A.row A.Allocator self.entry result) }
     {
-        self.emit(Opcode::after_fd(0xde))
+        self.emit(Prefix::Fd, 0xde)
     }
 
     /// `i64x2.extmul_high_i32x4_u`: `0xFD 0xDF 0x01`.
@@ -188,6 +188,6 @@ impl<'a, A: Allocator> InstructionSink<'a, A> {
         ensures room { HasRoom self.entry → IsOk result }
         ensures* unchanged { sem 𝓛 (IsUnchangedAtErr A.row A.Allocator self.entry result) }
     {
-        self.emit(Opcode::after_fd(0xdf))
+        self.emit(Prefix::Fd, 0xdf)
     }
 }

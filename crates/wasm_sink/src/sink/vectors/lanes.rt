@@ -9,7 +9,7 @@ use crate::sink::InstructionSink;
 use std::alloc::Allocator;
 use wasm_codec::encode::EncodeError;
 use wasm_instructions::operands::Lane;
-use wasm_instructions::table::Opcode;
+use wasm_instructions::table::Prefix;
 
 impl<'a, A: Allocator> InstructionSink<'a, A> {
     /// `v128.const`: `0xFD 0x0C`, then 16 bytes, the lowest first.
@@ -19,7 +19,7 @@ impl<'a, A: Allocator> InstructionSink<'a, A> {
         ensures room { HasRoom self.entry → IsOk result }
         ensures* unchanged { sem 𝓛 (IsUnchangedAtErr A.row A.Allocator self.entry result) }
     {
-        self.emit_v128(Opcode::after_fd(0x0c), value)
+        self.emit_v128(0x0c, value)
     }
 
     /// `i8x16.shuffle`: `0xFD 0x0D`, then 16 lanes.
@@ -29,7 +29,7 @@ impl<'a, A: Allocator> InstructionSink<'a, A> {
         ensures room { HasRoom self.entry → IsOk result }
         ensures* unchanged { sem 𝓛 (IsUnchangedAtErr A.row A.Allocator self.entry result) }
     {
-        self.emit_shuffle(Opcode::after_fd(0x0d), lanes)
+        self.emit_shuffle(0x0d, lanes)
     }
 
     /// `i8x16.swizzle`: `0xFD 0x0E`.
@@ -39,7 +39,7 @@ impl<'a, A: Allocator> InstructionSink<'a, A> {
         ensures room { HasRoom self.entry → IsOk result }
         ensures* unchanged { sem 𝓛 (IsUnchangedAtErr A.row A.Allocator self.entry result) }
     {
-        self.emit(Opcode::after_fd(0x0e))
+        self.emit(Prefix::Fd, 0x0e)
     }
 
     /// `i8x16.splat`: `0xFD 0x0F`.
@@ -49,7 +49,7 @@ impl<'a, A: Allocator> InstructionSink<'a, A> {
         ensures room { HasRoom self.entry → IsOk result }
         ensures* unchanged { sem 𝓛 (IsUnchangedAtErr A.row A.Allocator self.entry result) }
     {
-        self.emit(Opcode::after_fd(0x0f))
+        self.emit(Prefix::Fd, 0x0f)
     }
 
     /// `i16x8.splat`: `0xFD 0x10`.
@@ -59,7 +59,7 @@ impl<'a, A: Allocator> InstructionSink<'a, A> {
         ensures room { HasRoom self.entry → IsOk result }
         ensures* unchanged { sem 𝓛 (IsUnchangedAtErr A.row A.Allocator self.entry result) }
     {
-        self.emit(Opcode::after_fd(0x10))
+        self.emit(Prefix::Fd, 0x10)
     }
 
     /// `i32x4.splat`: `0xFD 0x11`.
@@ -69,7 +69,7 @@ impl<'a, A: Allocator> InstructionSink<'a, A> {
         ensures room { HasRoom self.entry → IsOk result }
         ensures* unchanged { sem 𝓛 (IsUnchangedAtErr A.row A.Allocator self.entry result) }
     {
-        self.emit(Opcode::after_fd(0x11))
+        self.emit(Prefix::Fd, 0x11)
     }
 
     /// `i64x2.splat`: `0xFD 0x12`.
@@ -79,7 +79,7 @@ impl<'a, A: Allocator> InstructionSink<'a, A> {
         ensures room { HasRoom self.entry → IsOk result }
         ensures* unchanged { sem 𝓛 (IsUnchangedAtErr A.row A.Allocator self.entry result) }
     {
-        self.emit(Opcode::after_fd(0x12))
+        self.emit(Prefix::Fd, 0x12)
     }
 
     /// `f32x4.splat`: `0xFD 0x13`.
@@ -89,7 +89,7 @@ impl<'a, A: Allocator> InstructionSink<'a, A> {
         ensures room { HasRoom self.entry → IsOk result }
         ensures* unchanged { sem 𝓛 (IsUnchangedAtErr A.row A.Allocator self.entry result) }
     {
-        self.emit(Opcode::after_fd(0x13))
+        self.emit(Prefix::Fd, 0x13)
     }
 
     /// `f64x2.splat`: `0xFD 0x14`.
@@ -99,7 +99,7 @@ impl<'a, A: Allocator> InstructionSink<'a, A> {
         ensures room { HasRoom self.entry → IsOk result }
         ensures* unchanged { sem 𝓛 (IsUnchangedAtErr A.row A.Allocator self.entry result) }
     {
-        self.emit(Opcode::after_fd(0x14))
+        self.emit(Prefix::Fd, 0x14)
     }
 
     /// `i8x16.extract_lane_s`: `0xFD 0x15`, then a lane.
@@ -109,7 +109,7 @@ impl<'a, A: Allocator> InstructionSink<'a, A> {
         ensures room { HasRoom self.entry → IsOk result }
         ensures* unchanged { sem 𝓛 (IsUnchangedAtErr A.row A.Allocator self.entry result) }
     {
-        self.emit_lane(Opcode::after_fd(0x15), lane)
+        self.emit_lane(0x15, lane)
     }
 
     /// `i8x16.extract_lane_u`: `0xFD 0x16`, then a lane.
@@ -119,7 +119,7 @@ impl<'a, A: Allocator> InstructionSink<'a, A> {
         ensures room { HasRoom self.entry → IsOk result }
         ensures* unchanged { sem 𝓛 (IsUnchangedAtErr A.row A.Allocator self.entry result) }
     {
-        self.emit_lane(Opcode::after_fd(0x16), lane)
+        self.emit_lane(0x16, lane)
     }
 
     /// `i8x16.replace_lane`: `0xFD 0x17`, then a lane.
@@ -129,7 +129,7 @@ impl<'a, A: Allocator> InstructionSink<'a, A> {
         ensures room { HasRoom self.entry → IsOk result }
         ensures* unchanged { sem 𝓛 (IsUnchangedAtErr A.row A.Allocator self.entry result) }
     {
-        self.emit_lane(Opcode::after_fd(0x17), lane)
+        self.emit_lane(0x17, lane)
     }
 
     /// `i16x8.extract_lane_s`: `0xFD 0x18`, then a lane.
@@ -139,7 +139,7 @@ impl<'a, A: Allocator> InstructionSink<'a, A> {
         ensures room { HasRoom self.entry → IsOk result }
         ensures* unchanged { sem 𝓛 (IsUnchangedAtErr A.row A.Allocator self.entry result) }
     {
-        self.emit_lane(Opcode::after_fd(0x18), lane)
+        self.emit_lane(0x18, lane)
     }
 
     /// `i16x8.extract_lane_u`: `0xFD 0x19`, then a lane.
@@ -149,7 +149,7 @@ impl<'a, A: Allocator> InstructionSink<'a, A> {
         ensures room { HasRoom self.entry → IsOk result }
         ensures* unchanged { sem 𝓛 (IsUnchangedAtErr A.row A.Allocator self.entry result) }
     {
-        self.emit_lane(Opcode::after_fd(0x19), lane)
+        self.emit_lane(0x19, lane)
     }
 
     /// `i16x8.replace_lane`: `0xFD 0x1A`, then a lane.
@@ -159,7 +159,7 @@ impl<'a, A: Allocator> InstructionSink<'a, A> {
         ensures room { HasRoom self.entry → IsOk result }
         ensures* unchanged { sem 𝓛 (IsUnchangedAtErr A.row A.Allocator self.entry result) }
     {
-        self.emit_lane(Opcode::after_fd(0x1a), lane)
+        self.emit_lane(0x1a, lane)
     }
 
     /// `i32x4.extract_lane`: `0xFD 0x1B`, then a lane.
@@ -169,7 +169,7 @@ impl<'a, A: Allocator> InstructionSink<'a, A> {
         ensures room { HasRoom self.entry → IsOk result }
         ensures* unchanged { sem 𝓛 (IsUnchangedAtErr A.row A.Allocator self.entry result) }
     {
-        self.emit_lane(Opcode::after_fd(0x1b), lane)
+        self.emit_lane(0x1b, lane)
     }
 
     /// `i32x4.replace_lane`: `0xFD 0x1C`, then a lane.
@@ -179,7 +179,7 @@ impl<'a, A: Allocator> InstructionSink<'a, A> {
         ensures room { HasRoom self.entry → IsOk result }
         ensures* unchanged { sem 𝓛 (IsUnchangedAtErr A.row A.Allocator self.entry result) }
     {
-        self.emit_lane(Opcode::after_fd(0x1c), lane)
+        self.emit_lane(0x1c, lane)
     }
 
     /// `i64x2.extract_lane`: `0xFD 0x1D`, then a lane.
@@ -189,7 +189,7 @@ impl<'a, A: Allocator> InstructionSink<'a, A> {
         ensures room { HasRoom self.entry → IsOk result }
         ensures* unchanged { sem 𝓛 (IsUnchangedAtErr A.row A.Allocator self.entry result) }
     {
-        self.emit_lane(Opcode::after_fd(0x1d), lane)
+        self.emit_lane(0x1d, lane)
     }
 
     /// `i64x2.replace_lane`: `0xFD 0x1E`, then a lane.
@@ -199,7 +199,7 @@ impl<'a, A: Allocator> InstructionSink<'a, A> {
         ensures room { HasRoom self.entry → IsOk result }
         ensures* unchanged { sem 𝓛 (IsUnchangedAtErr A.row A.Allocator self.entry result) }
     {
-        self.emit_lane(Opcode::after_fd(0x1e), lane)
+        self.emit_lane(0x1e, lane)
     }
 
     /// `f32x4.extract_lane`: `0xFD 0x1F`, then a lane.
@@ -209,7 +209,7 @@ impl<'a, A: Allocator> InstructionSink<'a, A> {
         ensures room { HasRoom self.entry → IsOk result }
         ensures* unchanged { sem 𝓛 (IsUnchangedAtErr A.row A.Allocator self.entry result) }
     {
-        self.emit_lane(Opcode::after_fd(0x1f), lane)
+        self.emit_lane(0x1f, lane)
     }
 
     /// `f32x4.replace_lane`: `0xFD 0x20`, then a lane.
@@ -219,7 +219,7 @@ impl<'a, A: Allocator> InstructionSink<'a, A> {
         ensures room { HasRoom self.entry → IsOk result }
         ensures* unchanged { sem 𝓛 (IsUnchangedAtErr A.row A.Allocator self.entry result) }
     {
-        self.emit_lane(Opcode::after_fd(0x20), lane)
+        self.emit_lane(0x20, lane)
     }
 
     /// `f64x2.extract_lane`: `0xFD 0x21`, then a lane.
@@ -229,7 +229,7 @@ impl<'a, A: Allocator> InstructionSink<'a, A> {
         ensures room { HasRoom self.entry → IsOk result }
         ensures* unchanged { sem 𝓛 (IsUnchangedAtErr A.row A.Allocator self.entry result) }
     {
-        self.emit_lane(Opcode::after_fd(0x21), lane)
+        self.emit_lane(0x21, lane)
     }
 
     /// `f64x2.replace_lane`: `0xFD 0x22`, then a lane.
@@ -239,6 +239,6 @@ impl<'a, A: Allocator> InstructionSink<'a, A> {
         ensures room { HasRoom self.entry → IsOk result }
         ensures* unchanged { sem 𝓛 (IsUnchangedAtErr A.row A.Allocator self.entry result) }
     {
-        self.emit_lane(Opcode::after_fd(0x22), lane)
+        self.emit_lane(0x22, lane)
     }
 }

@@ -9,7 +9,7 @@ use crate::sink::InstructionSink;
 use std::alloc::Allocator;
 use wasm_codec::encode::EncodeError;
 use wasm_instructions::operands::{Lane, MemArg};
-use wasm_instructions::table::Opcode;
+use wasm_instructions::table::Prefix;
 
 impl<'a, A: Allocator> InstructionSink<'a, A> {
     /// `v128.load`: `0xFD 0x00`, then a memory argument. `Alignment` where `memarg.align` is 64 or more.
@@ -20,7 +20,7 @@ impl<'a, A: Allocator> InstructionSink<'a, A> {
         ensures room { HasRoom self.entry → memarg.align < 64 → IsOk result }
         ensures* unchanged { sem 𝓛 (IsUnchangedAtErr A.row A.Allocator self.entry result) }
     {
-        self.emit_mem(Opcode::after_fd(0x00), memarg)
+        self.emit_mem(Prefix::Fd, 0x00, memarg)
     }
 
     /// `v128.load8x8_s`: `0xFD 0x01`, then a memory argument. `Alignment` where `memarg.align` is 64 or more.
@@ -31,7 +31,7 @@ impl<'a, A: Allocator> InstructionSink<'a, A> {
         ensures room { HasRoom self.entry → memarg.align < 64 → IsOk result }
         ensures* unchanged { sem 𝓛 (IsUnchangedAtErr A.row A.Allocator self.entry result) }
     {
-        self.emit_mem(Opcode::after_fd(0x01), memarg)
+        self.emit_mem(Prefix::Fd, 0x01, memarg)
     }
 
     /// `v128.load8x8_u`: `0xFD 0x02`, then a memory argument. `Alignment` where `memarg.align` is 64 or more.
@@ -42,7 +42,7 @@ impl<'a, A: Allocator> InstructionSink<'a, A> {
         ensures room { HasRoom self.entry → memarg.align < 64 → IsOk result }
         ensures* unchanged { sem 𝓛 (IsUnchangedAtErr A.row A.Allocator self.entry result) }
     {
-        self.emit_mem(Opcode::after_fd(0x02), memarg)
+        self.emit_mem(Prefix::Fd, 0x02, memarg)
     }
 
     /// `v128.load16x4_s`: `0xFD 0x03`, then a memory argument. `Alignment` where `memarg.align` is 64 or more.
@@ -53,7 +53,7 @@ impl<'a, A: Allocator> InstructionSink<'a, A> {
         ensures room { HasRoom self.entry → memarg.align < 64 → IsOk result }
         ensures* unchanged { sem 𝓛 (IsUnchangedAtErr A.row A.Allocator self.entry result) }
     {
-        self.emit_mem(Opcode::after_fd(0x03), memarg)
+        self.emit_mem(Prefix::Fd, 0x03, memarg)
     }
 
     /// `v128.load16x4_u`: `0xFD 0x04`, then a memory argument. `Alignment` where `memarg.align` is 64 or more.
@@ -64,7 +64,7 @@ impl<'a, A: Allocator> InstructionSink<'a, A> {
         ensures room { HasRoom self.entry → memarg.align < 64 → IsOk result }
         ensures* unchanged { sem 𝓛 (IsUnchangedAtErr A.row A.Allocator self.entry result) }
     {
-        self.emit_mem(Opcode::after_fd(0x04), memarg)
+        self.emit_mem(Prefix::Fd, 0x04, memarg)
     }
 
     /// `v128.load32x2_s`: `0xFD 0x05`, then a memory argument. `Alignment` where `memarg.align` is 64 or more.
@@ -75,7 +75,7 @@ impl<'a, A: Allocator> InstructionSink<'a, A> {
         ensures room { HasRoom self.entry → memarg.align < 64 → IsOk result }
         ensures* unchanged { sem 𝓛 (IsUnchangedAtErr A.row A.Allocator self.entry result) }
     {
-        self.emit_mem(Opcode::after_fd(0x05), memarg)
+        self.emit_mem(Prefix::Fd, 0x05, memarg)
     }
 
     /// `v128.load32x2_u`: `0xFD 0x06`, then a memory argument. `Alignment` where `memarg.align` is 64 or more.
@@ -86,7 +86,7 @@ impl<'a, A: Allocator> InstructionSink<'a, A> {
         ensures room { HasRoom self.entry → memarg.align < 64 → IsOk result }
         ensures* unchanged { sem 𝓛 (IsUnchangedAtErr A.row A.Allocator self.entry result) }
     {
-        self.emit_mem(Opcode::after_fd(0x06), memarg)
+        self.emit_mem(Prefix::Fd, 0x06, memarg)
     }
 
     /// `v128.load8_splat`: `0xFD 0x07`, then a memory argument. `Alignment` where `memarg.align` is 64 or more.
@@ -97,7 +97,7 @@ impl<'a, A: Allocator> InstructionSink<'a, A> {
         ensures room { HasRoom self.entry → memarg.align < 64 → IsOk result }
         ensures* unchanged { sem 𝓛 (IsUnchangedAtErr A.row A.Allocator self.entry result) }
     {
-        self.emit_mem(Opcode::after_fd(0x07), memarg)
+        self.emit_mem(Prefix::Fd, 0x07, memarg)
     }
 
     /// `v128.load16_splat`: `0xFD 0x08`, then a memory argument. `Alignment` where `memarg.align` is 64 or more.
@@ -108,7 +108,7 @@ impl<'a, A: Allocator> InstructionSink<'a, A> {
         ensures room { HasRoom self.entry → memarg.align < 64 → IsOk result }
         ensures* unchanged { sem 𝓛 (IsUnchangedAtErr A.row A.Allocator self.entry result) }
     {
-        self.emit_mem(Opcode::after_fd(0x08), memarg)
+        self.emit_mem(Prefix::Fd, 0x08, memarg)
     }
 
     /// `v128.load32_splat`: `0xFD 0x09`, then a memory argument. `Alignment` where `memarg.align` is 64 or more.
@@ -119,7 +119,7 @@ impl<'a, A: Allocator> InstructionSink<'a, A> {
         ensures room { HasRoom self.entry → memarg.align < 64 → IsOk result }
         ensures* unchanged { sem 𝓛 (IsUnchangedAtErr A.row A.Allocator self.entry result) }
     {
-        self.emit_mem(Opcode::after_fd(0x09), memarg)
+        self.emit_mem(Prefix::Fd, 0x09, memarg)
     }
 
     /// `v128.load64_splat`: `0xFD 0x0A`, then a memory argument. `Alignment` where `memarg.align` is 64 or more.
@@ -130,7 +130,7 @@ impl<'a, A: Allocator> InstructionSink<'a, A> {
         ensures room { HasRoom self.entry → memarg.align < 64 → IsOk result }
         ensures* unchanged { sem 𝓛 (IsUnchangedAtErr A.row A.Allocator self.entry result) }
     {
-        self.emit_mem(Opcode::after_fd(0x0a), memarg)
+        self.emit_mem(Prefix::Fd, 0x0a, memarg)
     }
 
     /// `v128.store`: `0xFD 0x0B`, then a memory argument. `Alignment` where `memarg.align` is 64 or more.
@@ -141,7 +141,7 @@ impl<'a, A: Allocator> InstructionSink<'a, A> {
         ensures room { HasRoom self.entry → memarg.align < 64 → IsOk result }
         ensures* unchanged { sem 𝓛 (IsUnchangedAtErr A.row A.Allocator self.entry result) }
     {
-        self.emit_mem(Opcode::after_fd(0x0b), memarg)
+        self.emit_mem(Prefix::Fd, 0x0b, memarg)
     }
 
     /// `v128.load8_lane`: `0xFD 0x54`, then a memory argument and a lane.
@@ -157,7 +157,7 @@ impl<'a, A: Allocator> InstructionSink<'a, A> {
         ensures room { HasRoom self.entry → memarg.align < 64 → IsOk result }
         ensures* unchanged { sem 𝓛 (IsUnchangedAtErr A.row A.Allocator self.entry result) }
     {
-        self.emit_mem_lane(Opcode::after_fd(0x54), memarg, lane)
+        self.emit_mem_lane(0x54, memarg, lane)
     }
 
     /// `v128.load16_lane`: `0xFD 0x55`, then a memory argument and a lane.
@@ -173,7 +173,7 @@ impl<'a, A: Allocator> InstructionSink<'a, A> {
         ensures room { HasRoom self.entry → memarg.align < 64 → IsOk result }
         ensures* unchanged { sem 𝓛 (IsUnchangedAtErr A.row A.Allocator self.entry result) }
     {
-        self.emit_mem_lane(Opcode::after_fd(0x55), memarg, lane)
+        self.emit_mem_lane(0x55, memarg, lane)
     }
 
     /// `v128.load32_lane`: `0xFD 0x56`, then a memory argument and a lane.
@@ -189,7 +189,7 @@ impl<'a, A: Allocator> InstructionSink<'a, A> {
         ensures room { HasRoom self.entry → memarg.align < 64 → IsOk result }
         ensures* unchanged { sem 𝓛 (IsUnchangedAtErr A.row A.Allocator self.entry result) }
     {
-        self.emit_mem_lane(Opcode::after_fd(0x56), memarg, lane)
+        self.emit_mem_lane(0x56, memarg, lane)
     }
 
     /// `v128.load64_lane`: `0xFD 0x57`, then a memory argument and a lane.
@@ -205,7 +205,7 @@ impl<'a, A: Allocator> InstructionSink<'a, A> {
         ensures room { HasRoom self.entry → memarg.align < 64 → IsOk result }
         ensures* unchanged { sem 𝓛 (IsUnchangedAtErr A.row A.Allocator self.entry result) }
     {
-        self.emit_mem_lane(Opcode::after_fd(0x57), memarg, lane)
+        self.emit_mem_lane(0x57, memarg, lane)
     }
 
     /// `v128.store8_lane`: `0xFD 0x58`, then a memory argument and a lane.
@@ -221,7 +221,7 @@ impl<'a, A: Allocator> InstructionSink<'a, A> {
         ensures room { HasRoom self.entry → memarg.align < 64 → IsOk result }
         ensures* unchanged { sem 𝓛 (IsUnchangedAtErr A.row A.Allocator self.entry result) }
     {
-        self.emit_mem_lane(Opcode::after_fd(0x58), memarg, lane)
+        self.emit_mem_lane(0x58, memarg, lane)
     }
 
     /// `v128.store16_lane`: `0xFD 0x59`, then a memory argument and a lane.
@@ -237,7 +237,7 @@ impl<'a, A: Allocator> InstructionSink<'a, A> {
         ensures room { HasRoom self.entry → memarg.align < 64 → IsOk result }
         ensures* unchanged { sem 𝓛 (IsUnchangedAtErr A.row A.Allocator self.entry result) }
     {
-        self.emit_mem_lane(Opcode::after_fd(0x59), memarg, lane)
+        self.emit_mem_lane(0x59, memarg, lane)
     }
 
     /// `v128.store32_lane`: `0xFD 0x5A`, then a memory argument and a lane.
@@ -253,7 +253,7 @@ impl<'a, A: Allocator> InstructionSink<'a, A> {
         ensures room { HasRoom self.entry → memarg.align < 64 → IsOk result }
         ensures* unchanged { sem 𝓛 (IsUnchangedAtErr A.row A.Allocator self.entry result) }
     {
-        self.emit_mem_lane(Opcode::after_fd(0x5a), memarg, lane)
+        self.emit_mem_lane(0x5a, memarg, lane)
     }
 
     /// `v128.store64_lane`: `0xFD 0x5B`, then a memory argument and a lane.
@@ -269,7 +269,7 @@ impl<'a, A: Allocator> InstructionSink<'a, A> {
         ensures room { HasRoom self.entry → memarg.align < 64 → IsOk result }
         ensures* unchanged { sem 𝓛 (IsUnchangedAtErr A.row A.Allocator self.entry result) }
     {
-        self.emit_mem_lane(Opcode::after_fd(0x5b), memarg, lane)
+        self.emit_mem_lane(0x5b, memarg, lane)
     }
 
     /// `v128.load32_zero`: `0xFD 0x5C`, then a memory argument. `Alignment` where `memarg.align` is 64 or more.
@@ -280,7 +280,7 @@ impl<'a, A: Allocator> InstructionSink<'a, A> {
         ensures room { HasRoom self.entry → memarg.align < 64 → IsOk result }
         ensures* unchanged { sem 𝓛 (IsUnchangedAtErr A.row A.Allocator self.entry result) }
     {
-        self.emit_mem(Opcode::after_fd(0x5c), memarg)
+        self.emit_mem(Prefix::Fd, 0x5c, memarg)
     }
 
     /// `v128.load64_zero`: `0xFD 0x5D`, then a memory argument. `Alignment` where `memarg.align` is 64 or more.
@@ -291,6 +291,6 @@ impl<'a, A: Allocator> InstructionSink<'a, A> {
         ensures room { HasRoom self.entry → memarg.align < 64 → IsOk result }
         ensures* unchanged { sem 𝓛 (IsUnchangedAtErr A.row A.Allocator self.entry result) }
     {
-        self.emit_mem(Opcode::after_fd(0x5d), memarg)
+        self.emit_mem(Prefix::Fd, 0x5d, memarg)
     }
 }

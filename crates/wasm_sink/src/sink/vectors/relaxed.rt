@@ -8,7 +8,7 @@ ghost use Rattle.wasm_instructions.specs.declared.table.call.Operands.TheVariant
 use crate::sink::InstructionSink;
 use std::alloc::Allocator;
 use wasm_codec::encode::EncodeError;
-use wasm_instructions::table::Opcode;
+use wasm_instructions::table::Prefix;
 
 impl<'a, A: Allocator> InstructionSink<'a, A> {
     /// `i8x16.relaxed_swizzle`: `0xFD 0x80 0x02`.
@@ -18,7 +18,7 @@ impl<'a, A: Allocator> InstructionSink<'a, A> {
         ensures room { HasRoom self.entry → IsOk result }
         ensures* unchanged { sem 𝓛 (IsUnchangedAtErr A.row A.Allocator self.entry result) }
     {
-        self.emit(Opcode::after_fd(0x100))
+        self.emit(Prefix::Fd, 0x100)
     }
 
     /// `i32x4.relaxed_trunc_f32x4_s`: `0xFD 0x81 0x02`.
@@ -28,7 +28,7 @@ impl<'a, A: Allocator> InstructionSink<'a, A> {
         ensures room { HasRoom self.entry → IsOk result }
         ensures* unchanged { sem 𝓛 (IsUnchangedAtErr A.row A.Allocator self.entry result) }
     {
-        self.emit(Opcode::after_fd(0x101))
+        self.emit(Prefix::Fd, 0x101)
     }
 
     /// `i32x4.relaxed_trunc_f32x4_u`: `0xFD 0x82 0x02`.
@@ -38,7 +38,7 @@ impl<'a, A: Allocator> InstructionSink<'a, A> {
         ensures room { HasRoom self.entry → IsOk result }
         ensures* unchanged { sem 𝓛 (IsUnchangedAtErr A.row A.Allocator self.entry result) }
     {
-        self.emit(Opcode::after_fd(0x102))
+        self.emit(Prefix::Fd, 0x102)
     }
 
     /// `i32x4.relaxed_trunc_f64x2_s_zero`: `0xFD 0x83 0x02`.
@@ -48,7 +48,7 @@ impl<'a, A: Allocator> InstructionSink<'a, A> {
         ensures room { HasRoom self.entry → IsOk result }
         ensures* unchanged { sem 𝓛 (IsUnchangedAtErr A.row A.Allocator self.entry result) }
     {
-        self.emit(Opcode::after_fd(0x103))
+        self.emit(Prefix::Fd, 0x103)
     }
 
     /// `i32x4.relaxed_trunc_f64x2_u_zero`: `0xFD 0x84 0x02`.
@@ -58,7 +58,7 @@ impl<'a, A: Allocator> InstructionSink<'a, A> {
         ensures room { HasRoom self.entry → IsOk result }
         ensures* unchanged { sem 𝓛 (IsUnchangedAtErr A.row A.Allocator self.entry result) }
     {
-        self.emit(Opcode::after_fd(0x104))
+        self.emit(Prefix::Fd, 0x104)
     }
 
     /// `f32x4.relaxed_madd`: `0xFD 0x85 0x02`.
@@ -68,7 +68,7 @@ impl<'a, A: Allocator> InstructionSink<'a, A> {
         ensures room { HasRoom self.entry → IsOk result }
         ensures* unchanged { sem 𝓛 (IsUnchangedAtErr A.row A.Allocator self.entry result) }
     {
-        self.emit(Opcode::after_fd(0x105))
+        self.emit(Prefix::Fd, 0x105)
     }
 
     /// `f32x4.relaxed_nmadd`: `0xFD 0x86 0x02`.
@@ -78,7 +78,7 @@ impl<'a, A: Allocator> InstructionSink<'a, A> {
         ensures room { HasRoom self.entry → IsOk result }
         ensures* unchanged { sem 𝓛 (IsUnchangedAtErr A.row A.Allocator self.entry result) }
     {
-        self.emit(Opcode::after_fd(0x106))
+        self.emit(Prefix::Fd, 0x106)
     }
 
     /// `f64x2.relaxed_madd`: `0xFD 0x87 0x02`.
@@ -88,7 +88,7 @@ impl<'a, A: Allocator> InstructionSink<'a, A> {
         ensures room { HasRoom self.entry → IsOk result }
         ensures* unchanged { sem 𝓛 (IsUnchangedAtErr A.row A.Allocator self.entry result) }
     {
-        self.emit(Opcode::after_fd(0x107))
+        self.emit(Prefix::Fd, 0x107)
     }
 
     /// `f64x2.relaxed_nmadd`: `0xFD 0x88 0x02`.
@@ -98,7 +98,7 @@ impl<'a, A: Allocator> InstructionSink<'a, A> {
         ensures room { HasRoom self.entry → IsOk result }
         ensures* unchanged { sem 𝓛 (IsUnchangedAtErr A.row A.Allocator self.entry result) }
     {
-        self.emit(Opcode::after_fd(0x108))
+        self.emit(Prefix::Fd, 0x108)
     }
 
     /// `i8x16.relaxed_laneselect`: `0xFD 0x89 0x02`.
@@ -108,7 +108,7 @@ impl<'a, A: Allocator> InstructionSink<'a, A> {
         ensures room { HasRoom self.entry → IsOk result }
         ensures* unchanged { sem 𝓛 (IsUnchangedAtErr A.row A.Allocator self.entry result) }
     {
-        self.emit(Opcode::after_fd(0x109))
+        self.emit(Prefix::Fd, 0x109)
     }
 
     /// `i16x8.relaxed_laneselect`: `0xFD 0x8A 0x02`.
@@ -118,7 +118,7 @@ impl<'a, A: Allocator> InstructionSink<'a, A> {
         ensures room { HasRoom self.entry → IsOk result }
         ensures* unchanged { sem 𝓛 (IsUnchangedAtErr A.row A.Allocator self.entry result) }
     {
-        self.emit(Opcode::after_fd(0x10a))
+        self.emit(Prefix::Fd, 0x10a)
     }
 
     /// `i32x4.relaxed_laneselect`: `0xFD 0x8B 0x02`.
@@ -128,7 +128,7 @@ impl<'a, A: Allocator> InstructionSink<'a, A> {
         ensures room { HasRoom self.entry → IsOk result }
         ensures* unchanged { sem 𝓛 (IsUnchangedAtErr A.row A.Allocator self.entry result) }
     {
-        self.emit(Opcode::after_fd(0x10b))
+        self.emit(Prefix::Fd, 0x10b)
     }
 
     /// `i64x2.relaxed_laneselect`: `0xFD 0x8C 0x02`.
@@ -138,7 +138,7 @@ impl<'a, A: Allocator> InstructionSink<'a, A> {
         ensures room { HasRoom self.entry → IsOk result }
         ensures* unchanged { sem 𝓛 (IsUnchangedAtErr A.row A.Allocator self.entry result) }
     {
-        self.emit(Opcode::after_fd(0x10c))
+        self.emit(Prefix::Fd, 0x10c)
     }
 
     /// `f32x4.relaxed_min`: `0xFD 0x8D 0x02`.
@@ -148,7 +148,7 @@ impl<'a, A: Allocator> InstructionSink<'a, A> {
         ensures room { HasRoom self.entry → IsOk result }
         ensures* unchanged { sem 𝓛 (IsUnchangedAtErr A.row A.Allocator self.entry result) }
     {
-        self.emit(Opcode::after_fd(0x10d))
+        self.emit(Prefix::Fd, 0x10d)
     }
 
     /// `f32x4.relaxed_max`: `0xFD 0x8E 0x02`.
@@ -158,7 +158,7 @@ impl<'a, A: Allocator> InstructionSink<'a, A> {
         ensures room { HasRoom self.entry → IsOk result }
         ensures* unchanged { sem 𝓛 (IsUnchangedAtErr A.row A.Allocator self.entry result) }
     {
-        self.emit(Opcode::after_fd(0x10e))
+        self.emit(Prefix::Fd, 0x10e)
     }
 
     /// `f64x2.relaxed_min`: `0xFD 0x8F 0x02`.
@@ -168,7 +168,7 @@ impl<'a, A: Allocator> InstructionSink<'a, A> {
         ensures room { HasRoom self.entry → IsOk result }
         ensures* unchanged { sem 𝓛 (IsUnchangedAtErr A.row A.Allocator self.entry result) }
     {
-        self.emit(Opcode::after_fd(0x10f))
+        self.emit(Prefix::Fd, 0x10f)
     }
 
     /// `f64x2.relaxed_max`: `0xFD 0x90 0x02`.
@@ -178,7 +178,7 @@ impl<'a, A: Allocator> InstructionSink<'a, A> {
         ensures room { HasRoom self.entry → IsOk result }
         ensures* unchanged { sem 𝓛 (IsUnchangedAtErr A.row A.Allocator self.entry result) }
     {
-        self.emit(Opcode::after_fd(0x110))
+        self.emit(Prefix::Fd, 0x110)
     }
 
     /// `i16x8.relaxed_q15mulr_s`: `0xFD 0x91 0x02`.
@@ -188,7 +188,7 @@ impl<'a, A: Allocator> InstructionSink<'a, A> {
         ensures room { HasRoom self.entry → IsOk result }
         ensures* unchanged { sem 𝓛 (IsUnchangedAtErr A.row A.Allocator self.entry result) }
     {
-        self.emit(Opcode::after_fd(0x111))
+        self.emit(Prefix::Fd, 0x111)
     }
 
     /// `i16x8.relaxed_dot_i8x16_i7x16_s`: `0xFD 0x92 0x02`.
@@ -198,7 +198,7 @@ impl<'a, A: Allocator> InstructionSink<'a, A> {
         ensures room { HasRoom self.entry → IsOk result }
         ensures* unchanged { sem 𝓛 (IsUnchangedAtErr A.row A.Allocator self.entry result) }
     {
-        self.emit(Opcode::after_fd(0x112))
+        self.emit(Prefix::Fd, 0x112)
     }
 
     /// `i32x4.relaxed_dot_i8x16_i7x16_add_s`: `0xFD 0x93 0x02`.
@@ -208,6 +208,6 @@ impl<'a, A: Allocator> InstructionSink<'a, A> {
         ensures room { HasRoom self.entry → IsOk result }
         ensures* unchanged { sem 𝓛 (IsUnchangedAtErr A.row A.Allocator self.entry result) }
     {
-        self.emit(Opcode::after_fd(0x113))
+        self.emit(Prefix::Fd, 0x113)
     }
 }
