@@ -8,7 +8,7 @@ ghost use Rattle.nosgrivel_c.specs.declared.delivery.TheConstants.{NORMAL, REFUS
 use crate::delivery::{check, deliver, judge};
 use std::alloc::Global;
 use wasm_modules::code::normaliser::normalise_code_section;
-use wasm_modules::code::reader::read_code_section_strict;
+use wasm_readers::code_sections::read_code_section_strict;
 
 /// Writes the normal form of the body of a code section: the same in the fewest bytes.
 ///

@@ -8,7 +8,7 @@ ghost use Rattle.nosgrivel_c.specs.declared.delivery.TheConstants.{NORMAL, REFUS
 use crate::delivery::{check, deliver, judge};
 use std::alloc::Global;
 use wasm_instructions::normaliser::normalise_instructions;
-use wasm_instructions::reader::read_instructions_strict;
+use wasm_readers::instructions::read_instructions_strict;
 
 /// Writes the normal form of a list of instructions: the same in the fewest bytes.
 ///

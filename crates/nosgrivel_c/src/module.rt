@@ -10,7 +10,7 @@ ghost use Rattle.nosgrivel_c.specs.declared.delivery.TheConstants.{NORMAL, REFUS
 use crate::delivery::{check, deliver, judge};
 use std::alloc::Global;
 use wasm_modules::normaliser::normalise_module;
-use wasm_modules::reader::read_module_strict;
+use wasm_readers::modules::read_module_strict;
 
 /// Writes the normal form of a module: the same in the fewest bytes.
 ///

@@ -7,7 +7,8 @@ ghost use Rattle.nosgrivel_c.specs.declared.delivery.TheConstants.{NORMAL, REFUS
 
 use crate::delivery::{check, deliver, judge};
 use std::alloc::Global;
-use wasm_types::reader::{normalise_type_section, read_type_section_strict};
+use wasm_readers::type_sections::read_type_section_strict;
+use wasm_types::normaliser::normalise_type_section;
 
 /// Writes the normal form of the body of a type section: the same in the fewest bytes.
 ///

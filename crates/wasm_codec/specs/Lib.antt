@@ -5,7 +5,6 @@ pub mod Lists
 pub mod Encoding
 pub mod Answers
 pub mod Rewriting
-pub mod Iterators
 pub mod Places
 pub mod ReadDigits
 pub mod formats

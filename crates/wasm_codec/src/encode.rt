@@ -1,22 +1,13 @@
-//! What can be written as bytes, and the errors of writing.
-ghost use Rattle.std.specs.Prelude.{◌≡◌, ◌++◌, ℕ, List, Option, None, OnOk, OnErr, IfErr, IsErrOf, IfSome, IsSomeAnd, ⊤};
-ghost use Rattle.wasm_codec.specs.Numbers.{unsigned_leb128, signed_leb128, EncodesU32, EncodesU64, EncodesS32, EncodesS64};
-ghost use Rattle.wasm_codec.specs.Encoding.{option_bytes, IsCount, IsRefusal, IsShortest, OnlyTooLong, too_long_at_once};
-ghost use Rattle.wasm_codec.specs.declared.encode.EncodeError.{EncodeError};
+//! What numbers, sizes and gaps are written by, and the errors of writing.
+ghost use Rattle.std.specs.Prelude.{◌≡◌};
 ghost use Rattle.wasm_codec.specs.declared.encode.EncodeError.TheVariants.{Memory};
 
-mod iterators;
 pub mod leb128;
-mod lists;
-mod pairs;
 mod sized;
 mod undo;
 
-pub use iterators::append_items;
-use leb128::{put_i32, put_i64, put_u32, put_u64};
-pub use lists::{encode_bytes, encode_list, encode_list_after, encode_str};
 pub use sized::{mend_count, open_gap, put_size_before, put_size_into};
-use std::alloc::{AllocError, Allocator};
+use std::alloc::AllocError;
 use thiserror::Error;
 pub use undo::keep_or_undo;
 
@@ -39,147 +30,5 @@ impl From<AllocError> for EncodeError {
 
     fn from(_error: AllocError) -> EncodeError {
         EncodeError::Memory
-    }
-}
-
-/// A value that can be written as bytes in the binary format.
-///
-/// Callers implement it for their own types under the same contract.
-pub trait Encode {
-    /// The bytes that are written for the value.
-    ghost bytes: { Self → List ℕ };
-
-    /// What is known of a value that was written, such as that its bytes are its shortest encoding. Nothing, unless
-    /// said.
-    ghost IsWritten: { Self → Type 0 } = { λ _. ⊤ };
-
-    /// Whether the value can be written. Any value can, unless said.
-    ghost CanEncode: { Self → Type 0 } = { λ _. ⊤ };
-
-    /// The errors, besides `Memory`, that may be answered for a value that can't be written. None, unless said.
-    ghost refuses: { Self → EncodeError → Type 0 } = { λ _ _. ⊥ };
-
-    /// The error that is answered for the value before anything grows, whatever memory there is. None, unless said.
-    ghost at_once: { Self → Option EncodeError } = { λ _. None };
-
-    /// Appends the bytes of the value to `sink`, or leaves `sink` as it was.
-    fn encode<A: Allocator>(&self, sink: &mut Vec<u8, A>) -> Result<(), EncodeError>
-        ensures ok { OnOk result (sink.new.items ≡ sink.old.items ++ bytes self.now) }
-        ensures can { OnOk result (CanEncode self.now) }
-        ensures written { OnOk result (IsWritten self.now) }
-        ensures refused { IfErr result (IsRefusal CanEncode refuses self.now) }
-        ensures at_once { IfSome (at_once self.now) (λ e. IsErrOf result e) }
-        ensures err { OnErr result (sink.new.items ≡ sink.old.items) };
-}
-
-/// An unsigned LEB128 number of 1 to 5 bytes (Core 3.0, Integers).
-impl Encode for u32 {
-    ghost bytes = { unsigned_leb128 };
-
-    ghost IsWritten = { IsShortest EncodesU32 unsigned_leb128 };
-
-    fn encode<A: Allocator>(&self, sink: &mut Vec<u8, A>) -> Result<(), EncodeError> {
-        sink.reserve(5)?;
-        put_u32(sink, *self);
-        Ok(())
-    }
-}
-
-/// An unsigned LEB128 number of 1 to 10 bytes (Core 3.0, Integers).
-impl Encode for u64 {
-    ghost bytes = { unsigned_leb128 };
-
-    ghost IsWritten = { IsShortest EncodesU64 unsigned_leb128 };
-
-    fn encode<A: Allocator>(&self, sink: &mut Vec<u8, A>) -> Result<(), EncodeError> {
-        sink.reserve(10)?;
-        put_u64(sink, *self);
-        Ok(())
-    }
-}
-
-/// A signed LEB128 number of 1 to 5 bytes (Core 3.0, Integers).
-impl Encode for i32 {
-    ghost bytes = { signed_leb128 };
-
-    ghost IsWritten = { IsShortest EncodesS32 signed_leb128 };
-
-    fn encode<A: Allocator>(&self, sink: &mut Vec<u8, A>) -> Result<(), EncodeError> {
-        sink.reserve(5)?;
-        put_i32(sink, *self);
-        Ok(())
-    }
-}
-
-/// A signed LEB128 number of 1 to 10 bytes (Core 3.0, Integers).
-impl Encode for i64 {
-    ghost bytes = { signed_leb128 };
-
-    ghost IsWritten = { IsShortest EncodesS64 signed_leb128 };
-
-    fn encode<A: Allocator>(&self, sink: &mut Vec<u8, A>) -> Result<(), EncodeError> {
-        sink.reserve(10)?;
-        put_i64(sink, *self);
-        Ok(())
-    }
-}
-
-/// A length or a count, as a `u32`; past 4,294,967,295 it is refused by [`EncodeError::TooLong`].
-impl Encode for usize {
-    ghost bytes = { unsigned_leb128 };
-
-    ghost IsWritten = { IsShortest EncodesU32 unsigned_leb128 };
-
-    ghost CanEncode = { IsCount };
-
-    ghost refuses = { OnlyTooLong };
-
-    ghost at_once = { too_long_at_once };
-
-    fn encode<A: Allocator>(&self, sink: &mut Vec<u8, A>) -> Result<(), EncodeError> {
-        let Ok(number) = u32::try_from(*self) else {
-            return Err(EncodeError::TooLong);
-        };
-        number.encode(sink)
-    }
-}
-
-/// The bytes of what is referred to.
-impl<T: Encode> Encode for &T {
-    ghost bytes = { λ value. T.bytes value.now };
-
-    ghost IsWritten = { λ value. T.IsWritten value.now };
-
-    ghost CanEncode = { λ value. T.CanEncode value.now };
-
-    ghost refuses = { λ value. T.refuses value.now };
-
-    ghost at_once = { λ value. T.at_once value.now };
-
-    fn encode<A: Allocator>(&self, sink: &mut Vec<u8, A>) -> Result<(), EncodeError> {
-        (**self).encode(sink)
-    }
-}
-
-/// A zero byte for `None`, and a one before the bytes of a value.
-impl<T: Encode> Encode for Option<T> {
-    ghost bytes = { option_bytes T.bytes };
-
-    ghost IsWritten = { λ option. IfSome option T.IsWritten };
-
-    ghost CanEncode = { λ option. IfSome option T.CanEncode };
-
-    ghost refuses = { λ option e. IsSomeAnd option (λ value. T.refuses value e) };
-
-    fn encode<A: Allocator>(&self, sink: &mut Vec<u8, A>) -> Result<(), EncodeError> {
-        sink.reserve(1)?;
-        let Some(value) = self else {
-            sink.push_reserved(0);
-            return Ok(());
-        };
-        let start = sink.len();
-        sink.push_reserved(1);
-        let result = value.encode(sink);
-        keep_or_undo(sink, start, result)
     }
 }

@@ -1,5 +1,5 @@
-//! Values of the WebAssembly binary format (Core 3.0, Conventions and Values): numbers, options, lists, bytes and
-//! texts, the trait by which things are written, and the place in bytes from which things are read.
+//! Values of the WebAssembly binary format (Core 3.0, Conventions and Values): numbers, sizes and lists, the place in
+//! bytes from which things are read, and the loops that normalise lists.
 #![tactic(auto)]
 
 pub mod encode;

@@ -1,4 +1,4 @@
-pub use Rattle.wasm_codec.proofs.DrainLaws
+pub use Rattle.wasm_calls.proofs.DrainLaws
 pub mod EncodedListLaws
 pub mod CodeSectionLaws
 pub mod TypeSectionLaws

@@ -15,13 +15,13 @@ use Rattle.wasm_types.specs.TypeCounts.{CountedFunc, CountedInner, CountedSub, C
 use Rattle.wasm_codec.specs.declared.encode.EncodeError.{EncodeError}
 use Rattle.wasm_codec.specs.declared.encode.EncodeError.TheVariants.{Memory, TooLong}
 use Rattle.wasm_codec.specs.Encoding.{IsCount, OnlyTooLong}
-use Rattle.wasm_codec.specs.Iterators.{IsItemsRefusal}
-use Rattle.wasm_instructions.specs.Appending.{CountedCall}
+use Rattle.wasm_writers.specs.Iterators.{IsItemsRefusal}
+use Rattle.wasm_calls.specs.Appending.{CountedCall}
 use Rattle.wasm_instructions.specs.Instructions.{Instruction, IsCounted}
 use Rattle.wasm_instructions.specs.declared.table.call.Operands.{Operands}
 use Rattle.wasm_instructions.specs.declared.table.call.Operands.TheVariants as operands
 use Rattle.wasm_modules.specs.declared.code.CodeBody.{CodeBody}
-use Rattle.wasm_modules.specs.CodeCounts.{CountedBody, func_bytes}
+use Rattle.wasm_writers.specs.CodeCounts.{CountedBody, func_bytes}
 use Rattle.wasm_encoder.specs.EncodedLists.{Entries, GivesSome, IsFull, IsMemoryOrTooLong, IsRefusalOfOne, IsRefusalOfEach, IsUncounted}
 use Rattle.wasm_encoder.specs.TypeSections.{UncountedFunc, UncountedInner, UncountedSub, UncountedEntry}
 use Rattle.wasm_encoder.specs.CodeSections.{UncountedList, UncountedCall, UncountedBody}

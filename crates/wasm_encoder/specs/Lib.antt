@@ -6,7 +6,7 @@ pub use Rattle.wasm_codec.specs.Lawful
 pub use Rattle.wasm_codec.specs.Numbers
 pub use Rattle.wasm_codec.specs.Encoding
 pub use Rattle.wasm_codec.specs.Answers
-pub use Rattle.wasm_codec.specs.Iterators
+pub use Rattle.wasm_writers.specs.Iterators
 pub use Rattle.wasm_codec.specs.Lists
 pub use Rattle.wasm_codec.specs.Rewriting
 pub use Rattle.wasm_types.specs.formats.Types as TypeFormats
@@ -15,9 +15,9 @@ pub use Rattle.wasm_types.specs.TypeCounts
 pub use Rattle.wasm_instructions.specs.formats.Operands as OperandFormats
 pub use Rattle.wasm_instructions.specs.formats.Instructions as InstructionFormats
 pub use Rattle.wasm_instructions.specs.Opcodes
-pub use Rattle.wasm_instructions.specs.Appending
+pub use Rattle.wasm_calls.specs.Appending
 pub use Rattle.wasm_modules.specs.formats.CodeBodies as CodeFormats
-pub use Rattle.wasm_modules.specs.CodeCounts
+pub use Rattle.wasm_writers.specs.CodeCounts
 pub use Rattle.wasm_modules.specs.formats.Modules as ModuleFormats
 pub use Rattle.wasm_modules.specs.Sections
 pub use Rattle.wasm_modules.specs.Modules

@@ -5,7 +5,7 @@ ghost use Rattle.std.specs.Borrow.{Lends, follows, sem};
 ghost use Rattle.std.specs.Iterator.{size};
 ghost use Rattle.wasm_codec.specs.Encoding.{byte_list_bytes, IsCount, IsRefusal, IsShortestOrLonger, OnlyTooLong, too_long_at_once};
 ghost use Rattle.wasm_codec.specs.declared.encode.EncodeError.TheVariants.{Memory};
-ghost use Rattle.wasm_instructions.specs.Appending.{IsRefusalOfOne};
+ghost use Rattle.wasm_calls.specs.Appending.{IsRefusalOfOne};
 ghost use Rattle.wasm_modules.specs.declared.code.CodeBody.{CodeBody};
 ghost use Rattle.wasm_modules.specs.formats.CodeBodies.{code_section_body};
 ghost use Rattle.wasm_modules.specs.Sections.{decoded_section_of, code_bodies, code_section_id};
@@ -18,12 +18,12 @@ use crate::encoded_list::EncodedList;
 use crate::wasm_core::{Section, SectionId};
 use std::alloc::{Allocator, Global};
 use std::marker::Model;
-use wasm_codec::encode::{Encode, EncodeError, append_items, encode_bytes};
-use wasm_instructions::encode::append_calls;
+use wasm_calls::calls::append_calls;
 use wasm_instructions::table::Call;
 pub use wasm_modules::code::CodeBody;
 use wasm_sink::sink::InstructionSink;
 use wasm_types::types::ValType;
+use wasm_writers::encode::{Encode, EncodeError, append_items, encode_bytes};
 
 /// The locals of a function, and instructions that are added to them.
 ///

@@ -1,3 +1,3 @@
 //! What can be written as bytes, and the errors of writing.
 
-pub use wasm_codec::encode::{Encode, EncodeError, encode_bytes, encode_list, encode_str};
+pub use wasm_writers::encode::{Encode, EncodeError, encode_bytes, encode_list, encode_str};

@@ -2,7 +2,7 @@
 ghost use Rattle.std.specs.Prelude.{◌≡◌, ◌++◌, ◌∷◌, ◌+◌, ◌⊎◌, [], OnOk, OnErr, IfOk, IfErr, length, take};
 ghost use Rattle.std.specs.List.{All, flat_map};
 ghost use Rattle.wasm_codec.specs.Encoding.{byte_list_bytes, CanEncodeList, IsCount, IsRefusal, OnlyTooLong};
-ghost use Rattle.wasm_codec.specs.Iterators.{IsItemsRefusal};
+ghost use Rattle.wasm_writers.specs.Iterators.{IsItemsRefusal};
 ghost use Rattle.wasm_codec.specs.Lists.{items_bytes};
 ghost use Rattle.wasm_codec.specs.declared.encode.EncodeError.TheVariants.{Memory, TooLong};
 ghost use Rattle.wasm_encoder.specs.EncodedLists.{Entries, CountedSection, IsFull, IsMemoryOrTooLong, IsRefusalOfOne, IsRefusalOfEach, OfItems, body_bytes};
@@ -10,7 +10,8 @@ ghost use Rattle.wasm_encoder.specs.EncodedLists.{Entries, CountedSection, IsFul
 use std::alloc::{Allocator, Global};
 use std::marker::Model;
 use wasm_codec::encode::leb128::u32_len;
-use wasm_codec::encode::{Encode, EncodeError, append_items, keep_or_undo};
+use wasm_codec::encode::{EncodeError, keep_or_undo};
+use wasm_writers::encode::{Encode, append_items};
 
 /// Values that were encoded one after the other.
 ///

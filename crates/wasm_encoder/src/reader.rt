@@ -5,9 +5,10 @@
 
 pub use wasm_codec::reader::ReadError;
 pub use wasm_instructions::normaliser::normalise_instructions;
-pub use wasm_instructions::reader::{read_instructions, read_instructions_strict};
 pub use wasm_modules::code::normaliser::normalise_code_section;
-pub use wasm_modules::code::reader::{read_code_section, read_code_section_strict};
 pub use wasm_modules::normaliser::normalise_module;
-pub use wasm_modules::reader::{read_module, read_module_strict};
-pub use wasm_types::reader::{normalise_type_section, read_type_section, read_type_section_strict};
+pub use wasm_readers::code_sections::{read_code_section, read_code_section_strict};
+pub use wasm_readers::instructions::{read_instructions, read_instructions_strict};
+pub use wasm_readers::modules::{read_module, read_module_strict};
+pub use wasm_readers::type_sections::{read_type_section, read_type_section_strict};
+pub use wasm_types::normaliser::normalise_type_section;

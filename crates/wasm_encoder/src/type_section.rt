@@ -20,10 +20,10 @@ use crate::encoded_list::EncodedList;
 use crate::wasm_core::{Section, SectionId};
 use std::alloc::{Allocator, Global};
 use std::marker::Model;
-use wasm_codec::encode::{Encode, EncodeError};
 use wasm_types::types::{
     ArrayType, ContType, FieldType, FuncType, StorageType, SubType, TypeEntry, ValType,
 };
+use wasm_writers::encode::{Encode, EncodeError};
 
 /// A type section that entries are added to, one after the other.
 ///

@@ -9,8 +9,9 @@ ghost use Rattle.wasm_codec.specs.declared.encode.EncodeError.TheVariants.{Memor
 
 use std::alloc::{Allocator, Global};
 use std::marker::Model;
-use wasm_codec::encode::{Encode, EncodeError};
-use wasm_modules::section::{HEADER, RawSection, TYPE_SECTION_ID, append_section};
+use wasm_modules::section::{HEADER, RawSection, TYPE_SECTION_ID};
+use wasm_writers::encode::{Encode, EncodeError};
+use wasm_writers::sections::append_section;
 
 /// A section of a module: an id, and bytes that are the section's size and its body.
 ///

@@ -74,12 +74,6 @@ appends_held s c old new (Ok x) h e none = record { content = c; holds = h; appe
 appends_held s c old new (Err faults.Memory) h none e = tt
 appends_held s c old new (Err faults.Malformed) h none e = absurd cc
 
--- what holds where something was appended holds where what is made of that answer says so too
-ok_through : {T U E F : Type 0} (r : Result T E) (a : Result U F) (P : Type 0) → (IsOk r ↔ IsOk a) → OnOk a P → OnOk r P
-ok_through (Ok t) (Ok u) P same p = p
-ok_through (Ok t) (Err f) P same p = let no = same.0 refl in absurd cc
-ok_through (Err e) a P same p = tt
-
 -- an id, and a body after its size
 abbrev section_bytes : ℕ → List ℕ → List ℕ
 section_bytes id body = id ∷ (unsigned_leb128 (length body) ++ body)
@@ -89,13 +83,13 @@ unfolding decoded_section
 held_bytes id c = refl
 
 -- a section with its bytes as they are was appended
-pub appends_raw : {X T E : Type 0} (id : ℕ) (body old new : List ℕ) (r : Result X Fault) (a : Result T E) → IsBytes body → (id ≡ 1 → ⊥) → (id ≡ 10 → ⊥) → (IsOk r ↔ IsOk a)
-    → OnOk a (new ≡ old ++ section_bytes id body) → IfErr r (λ fault. fault ≡ faults.Memory) → RewritesSection (section_of (id, body)) old new r
-appends_raw {T = T} {E} id body old new r a fits type code same appended none =
+pub appends_raw : {X : Type 0} (id : ℕ) (body old new : List ℕ) (r : Result X Fault) → IsBytes body → (id ≡ 1 → ⊥) → (id ≡ 10 → ⊥) → OnOk r (new ≡ old ++ section_bytes id body) → IfErr r (λ fault. fault ≡ faults.Memory)
+    → RewritesSection (section_of (id, body)) old new r
+appends_raw {X = X} id body old new r fits type code appended none =
     let is : HoldsContent (section_of (id, body)) (raw_bytes body) × ((held_by id).bytes (raw_bytes body) ≡ body) = rw (ne_eqb id 1 type, ne_eqb id 10 code) ((body, (refl, fits), refl), refl) in
-    appends_held (section_of (id, body)) (raw_bytes body) old new r is.0 (ok_through r a _ same (encoded is.1 a appended)) none
+    appends_held (section_of (id, body)) (raw_bytes body) old new r is.0 (encoded is.1 r appended) none
   where
-    encoded : (held_by id).bytes (raw_bytes body) ≡ body → (a : Result T E) → OnOk a (new ≡ old ++ section_bytes id body) → OnOk a (new ≡ old ++ decoded_section.bytes (decoded_section_of (id, raw_bytes body)))
+    encoded : (held_by id).bytes (raw_bytes body) ≡ body → (r : Result X Fault) → OnOk r (new ≡ old ++ section_bytes id body) → OnOk r (new ≡ old ++ decoded_section.bytes (decoded_section_of (id, raw_bytes body)))
     encoded own (Ok t) h = h ∙ ap (λ (t : List ℕ). old ++ section_bytes id t) (sym own) ∙ ap (λ (t : List ℕ). old ++ t) (sym (held_bytes id (raw_bytes body)))
     encoded own (Err e) h = tt
 

@@ -1,9 +1,6 @@
 pub mod CodeBodyLaws
-pub mod CodeBodyWriting
-pub mod CodeReading
 pub mod CodeRewriting
 pub mod HeaderLaws
 pub mod ModuleFormatLaws
 pub mod ModuleLaws
-pub mod SizeLaws
 pub mod DecodedModuleLaws

@@ -1,4 +1,3 @@
-pub mod CodeCounts
 pub mod Sections
 pub mod formats
 pub mod Modules

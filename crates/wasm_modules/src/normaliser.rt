@@ -1,9 +1,9 @@
 //! The normaliser of modules (Core 3.0, Modules): a decoded module is one whose type sections are read as entries, and
 //! whose code sections as code bodies.
-ghost use Rattle.std.specs.Prelude.{◌≡◌, ◌↔◌, ◌<◌, ◌≤◌, ◌^◌, List, length, IfOk, IfErr, IsOk, OnOk};
+ghost use Rattle.std.specs.Prelude.{◌≡◌, ◌↔◌, ◌<◌, ◌≤◌, ◌^◌, ◌∷◌, ◌++◌, List, length, IfOk, IfErr, OnOk};
 ghost use Rattle.wasm_codec.specs.Answers.{IsOrMemory, IfRefused, IsLongestPrefix, IsNormalForm, EncodesSome};
 ghost use Rattle.wasm_codec.specs.formats.Combinators.{Format, narrow};
-ghost use Rattle.wasm_codec.specs.Encoding.{IsShortestOrLonger};
+ghost use Rattle.wasm_codec.specs.Encoding.{byte_list_bytes, IsShortestOrLonger};
 ghost use Rattle.wasm_codec.specs.Rewriting.{Rewrites, AppendsNormalForm};
 ghost use Rattle.wasm_codec.specs.Grammar.{IsBytes};
 ghost use Rattle.wasm_codec.specs.Lists.{EncodesList, items_bytes};
@@ -16,13 +16,13 @@ ghost use Rattle.wasm_modules.specs.declared.code.CodeBody.{CodeBody};
 ghost use Rattle.wasm_types.specs.declared.types.composite.TypeEntry.{TypeEntry};
 ghost use Rattle.wasm_types.specs.formats.Types.{recursive_type};
 ghost use Rattle.wasm_codec.specs.declared.reader.cursor.Fault.TheVariants as faults;
-ghost use Rattle.wasm_codec.specs.declared.encode.EncodeError.TheVariants.{Memory};
 
 use crate::code::CodeBody;
 use crate::reader::{after_header, read_section};
-use crate::section::{CODE_SECTION_ID, HEADER, RawSection, TYPE_SECTION_ID, append_section};
+use crate::section::{CODE_SECTION_ID, HEADER, RawSection, TYPE_SECTION_ID};
 use std::alloc::Global;
-use wasm_codec::encode::{EncodeError, open_gap, put_size_into};
+use wasm_codec::encode::leb128::put_u32;
+use wasm_codec::encode::{open_gap, put_size_into};
 use wasm_codec::normaliser::{
     Normalisable, NormalisableInRuns, append_joined, normalise_list_to_end,
 };
@@ -148,7 +148,7 @@ fn append_normal(
     if section.id == CODE_SECTION_ID {
         return append_code_section(alloc, encoding, section.body);
     }
-    only_memory(append_section(section.id, section, encoding))
+    append_raw_section(encoding, section.id, section.body)
 }
 
 /// Appends a type section with the entries that this body encodes.
@@ -195,15 +195,15 @@ fn append_list_section<'a, T: Normalisable<'a>>(
     }
 }
 
-/// What was appended of what was read, which has nothing that is too long: only memory can be wanting.
-fn only_memory(appended: Result<(), EncodeError>) -> Result<(), Fault>
-    requires { IfErr appended (λ e. e ≡ Memory) }
-    ensures same { IsOk result ↔ IsOk appended }
+/// Appends a section with this body as it is.
+fn append_raw_section(encoding: &mut Vec<u8>, id: u8, body: &[u8]) -> Result<(), Fault>
+    requires { length body.now < 2 ^ 32 }
+    ensures ok { OnOk result (encoding.new.items ≡ encoding.old.items ++ id ∷ byte_list_bytes body.now) }
     ensures err { IfErr result (λ fault. fault ≡ faults.Memory) }
 {
-    match appended {
-        Ok(()) => Ok(()),
-        Err(EncodeError::Memory) => Err(Fault::Memory),
-        Err(EncodeError::TooLong | EncodeError::Alignment) => unreachable!(),
-    }
+    encoding.reserve(6)?;
+    encoding.push_reserved(id);
+    put_u32(encoding, body.len() as u32);
+    encoding.extend_from_slice(body)?;
+    Ok(())
 }

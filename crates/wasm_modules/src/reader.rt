@@ -1,139 +1,17 @@
-//! Modules: a header, and then sections (Core 3.0, Modules).
-ghost use Rattle.std.specs.Prelude.{◌≡◌, ◌↔◌, ◌++◌, ℕ, List, drop, map, IfOk, IfErr, IfSome, IfNone, refl};
-ghost use Rattle.std.proofs.lemmas.List.{map_push};
-ghost use Rattle.std.specs.List.{AllByRecursion};
+//! The header and the sections of a module, read (Core 3.0, Modules).
+ghost use Rattle.std.specs.Prelude.{◌≡◌, ◌++◌, List, ℕ, drop, IfErr, IfSome, IfNone};
 ghost use Rattle.wasm_codec.specs.Reading.{map_ok};
-ghost use Rattle.wasm_codec.specs.Lawful.{IsPrefixFree};
 ghost use Rattle.wasm_codec.specs.Places.{Reads};
 ghost use Rattle.wasm_codec.specs.formats.Bodies.{byte_list};
-ghost use Rattle.wasm_codec.specs.Answers.{IsOrMemory, IfRefused, IsLongestPrefix};
-ghost use Rattle.wasm_codec.specs.Encoding.{IsShortestOrLonger};
-ghost use Rattle.wasm_modules.specs.Sections.{header, SectionParts, DecodedSection, all_parts_of, parts_of};
-ghost use Rattle.wasm_modules.specs.Modules.{IsSection, IsModulePrefix, IsAskedModulePrefix, IsShortestModulePrefix};
-ghost use Rattle.wasm_modules.specs.formats.Modules.{raw_section, raw_module, asked_module, ShortestModule, decoded_section, decoded_module, HoldsContent};
-ghost use Rattle.wasm_modules.specs.DecodedModules.{IsDecodedSection, framed};
+ghost use Rattle.wasm_modules.specs.Sections.{header, parts_of};
+ghost use Rattle.wasm_modules.specs.formats.Modules.{raw_section};
 ghost use Rattle.wasm_codec.specs.declared.reader.cursor.Fault.TheVariants.{Malformed};
 
 use crate::section::{HEADER, RawSection};
-use std::alloc::Global;
-use wasm_codec::reader::ReadError;
 use wasm_codec::reader::cursor::{Cursor, Fault};
-use wasm_codec::reader::lists::read_joined_as;
-use wasm_codec::reader::readable::Readable;
-
-/// The sections of the module that the bytes encode, with their bodies as they lie in the bytes (Core 3.0, Modules).
-///
-/// No body is looked into. `Refused` carries the number of bytes of the header and of the sections that are whole
-/// before the first that isn't, or 0 where the header isn't there.
-pub fn read_module<'a>(alloc: Global, bytes: &'a [u8]) -> Result<Vec<RawSection<'a>>, ReadError>
-    // What is given, the bytes encode.
-    ensures given { IfOk result (λ sections. raw_module.Encodes bytes.now (all_parts_of sections.items)) }
-    // What the bytes encode is given, unless memory ran out.
-    ensures complete { (sections : List SectionParts) → raw_module.Encodes bytes.now sections →
-        IsOrMemory (λ given. all_parts_of given.items) sections result }
-    // `at` is the length of the longest prefix that is whole.
-    ensures prefix { IfRefused result (IsLongestPrefix IsModulePrefix bytes.now) }
-    // The bytes encode at most one list.
-    ensures one { (sections others : List SectionParts) →
-        raw_module.Encodes bytes.now sections → raw_module.Encodes bytes.now others → sections ≡ others }
-    // The shortest encoding of a list, as `Module` writes it, is read back.
-    ensures read_back { (sections : List SectionParts) → AllByRecursion IsSection sections →
-        bytes.now ≡ raw_module.bytes sections →
-        IsOrMemory (λ given. all_parts_of given.items) sections result }
-    // The shortest encoding of a list in range encodes it.
-    ensures encodes { (sections : List SectionParts) → AllByRecursion IsSection sections →
-        bytes.now ≡ raw_module.bytes sections → raw_module.Encodes bytes.now sections }
-    // The shortest encoding of a decoded module is read back as its sections, each with its body as bytes.
-    ensures decoded_read_back { (sections : List DecodedSection) → AllByRecursion IsDecodedSection sections →
-        bytes.now ≡ decoded_module.bytes sections →
-        IsOrMemory (λ given. all_parts_of given.items) (map framed sections) result }
-    // So does that of a decoded module, of its sections and of what they hold.
-    ensures decoded_encodes { (sections : List DecodedSection) → AllByRecursion IsDecodedSection sections →
-        bytes.now ≡ decoded_module.bytes sections → raw_module.Encodes bytes.now (map framed sections) }
-    // That body encodes what the section holds.
-    ensures entries_read_back { (section : DecodedSection) → IsDecodedSection section →
-        HoldsContent (framed section) section.content }
-    // Every other encoding of a list is longer than its shortest.
-    ensures shortest { (sections : List SectionParts) → raw_module.Encodes bytes.now sections →
-        IsShortestOrLonger bytes.now (raw_module.bytes sections) }
-    // No encoding of any of these is a proper prefix of another of its kind.
-    ensures prefix_free_sections { IsPrefixFree raw_section.Encodes }
-    ensures prefix_free_decoded_sections { IsPrefixFree decoded_section.Encodes }
-{
-    sections_of::<false>(alloc, bytes)
-}
-
-/// The sections of the module whose shortest encoding the bytes are, each section's size being in the fewest bytes,
-/// with their bodies as they lie in the bytes (Core 3.0, Modules).
-///
-/// No body is looked into. `Refused` carries the number of bytes of the header and of the sections that are whole, with
-/// their sizes in the fewest bytes, before the first that isn't, or 0 where the header isn't there.
-pub fn read_module_strict<'a>(
-    alloc: Global,
-    bytes: &'a [u8],
-) -> Result<Vec<RawSection<'a>>, ReadError>
-    // What is given, the bytes are the shortest encoding of.
-    ensures given { IfOk result (λ sections. ShortestModule bytes.now (all_parts_of sections.items)) }
-    // What the bytes are the shortest encoding of is given, unless memory ran out.
-    ensures complete { (sections : List SectionParts) → ShortestModule bytes.now sections →
-        IsOrMemory (λ given. all_parts_of given.items) sections result }
-    // `at` is the length of the longest prefix that is whole and in shortest encodings.
-    ensures prefix { IfRefused result (IsLongestPrefix IsShortestModulePrefix bytes.now) }
-    // The bytes are the shortest encoding of at most one list.
-    ensures one { (sections others : List SectionParts) →
-        ShortestModule bytes.now sections → ShortestModule bytes.now others → sections ≡ others }
-    // They are where they encode the list, as `read_module` tells, and are as `Module` writes it.
-    ensures shortest { (sections : List SectionParts) → ShortestModule bytes.now sections ↔
-        (raw_module.Encodes bytes.now sections × (bytes.now ≡ raw_module.bytes sections)) }
-    // The shortest encoding of a list, as `Module` writes it, is read back.
-    ensures read_back { (sections : List SectionParts) → AllByRecursion IsSection sections →
-        bytes.now ≡ raw_module.bytes sections →
-        IsOrMemory (λ given. all_parts_of given.items) sections result }
-{
-    sections_of::<true>(alloc, bytes)
-}
-
-/// The sections, read one by one to the end of the bytes, in their shortest encodings alone if it is `STRICT`.
-fn sections_of<'a, const STRICT: bool>(
-    alloc: Global,
-    bytes: &'a [u8],
-) -> Result<Vec<RawSection<'a>>, ReadError>
-    ensures given { IfOk result (λ sections. (asked_module STRICT).Encodes bytes.now (all_parts_of sections.items)) }
-    ensures prefix { IfRefused result (IsLongestPrefix (IsAskedModulePrefix STRICT) bytes.now) }
-    ensures none { IfRefused result (λ _.
-        (sections : List SectionParts) → (asked_module STRICT).Encodes bytes.now sections → ⊥) }
-{
-    let Some(rest) = after_header(bytes) else {
-        return Err(ReadError::Refused { at: 0 });
-    };
-    match read_joined_as::<RawSection<'a>, STRICT>(alloc, rest) {
-        Ok(sections) => Ok(sections),
-        Err(ReadError::Memory) => Err(ReadError::Memory),
-        Err(ReadError::Refused { at }) => Err(ReadError::Refused {
-            at: HEADER.len() + at,
-        }),
-    }
-}
-
-impl<'a> Readable<'a> for RawSection<'a> {
-    ghost Value = { SectionParts };
-
-    ghost view = { parts_of };
-
-    ghost views = { all_parts_of };
-
-    ghost views_each = { record { none = refl; more = λ sections section. map_push parts_of sections section } };
-
-    ghost format = { raw_section };
-
-    fn read(alloc: Global, cursor: &mut Cursor<'a>) -> Result<RawSection<'a>, Fault> {
-        let _ = alloc;
-        read_section(cursor)
-    }
-}
 
 /// The bytes after the header, if it is there.
-pub(crate) fn after_header(bytes: &[u8]) -> Option<&[u8]>
+pub fn after_header(bytes: &[u8]) -> Option<&[u8]>
     ensures found { IfSome result (λ rest. bytes.now ≡ header ++ rest.now) }
     ensures rest { IfSome result (λ rest. rest.now ≡ drop 8 bytes.now) }
     ensures missing { IfNone result ((rest : List ℕ) → bytes.now ≡ header ++ rest → ⊥) }

@@ -11,8 +11,8 @@ use Rattle.wasm_instructions.specs.declared.table.opcode.Prefix.{Prefix}
 use Rattle.wasm_instructions.specs.declared.table.call.Operands.{Operands}
 use Rattle.wasm_instructions.specs.Instructions.{Instruction, call, IsCounted, HasEncoding}
 use Rattle.wasm_instructions.specs.formats.Instructions.{instruction, instructions_bytes}
-use Rattle.wasm_instructions.specs.Lengths.{IsShortEncoding}
-use Rattle.wasm_instructions.specs.Appending.{IsRefusal, IsCallRefusal, IsRefusalOfOne}
+use Rattle.wasm_calls.specs.Lengths.{IsShortEncoding}
+use Rattle.wasm_calls.specs.Appending.{IsRefusal, IsCallRefusal, IsRefusalOfOne}
 use Rattle.wasm_codec.specs.declared.encode.EncodeError.{EncodeError}
 use Rattle.wasm_codec.specs.declared.encode.EncodeError.TheVariants as errors
 

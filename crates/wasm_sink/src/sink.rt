@@ -8,7 +8,7 @@ ghost use Rattle.std.specs.Borrow.{sem};
 ghost use Rattle.wasm_sink.specs.Sink.{IsUnchangedAtErr, IsSameSink, AppendsCall, AppendsCalls, Chain, written, HasRoom};
 ghost use Rattle.wasm_instructions.specs.Instructions.{HasNoList};
 ghost use Rattle.wasm_instructions.specs.formats.Instructions.{Instructions, instruction, instructions_bytes};
-ghost use Rattle.wasm_instructions.specs.Lengths.{HasNoLongList, IsShortEncoding};
+ghost use Rattle.wasm_calls.specs.Lengths.{HasNoLongList, IsShortEncoding};
 ghost use Rattle.wasm_codec.specs.Encoding.{IsShortestOrLonger};
 
 mod aggregates;
@@ -25,8 +25,8 @@ mod variables;
 mod vectors;
 
 use std::alloc::Allocator;
+use wasm_calls::calls::{append_call, append_calls};
 use wasm_codec::encode::EncodeError;
-use wasm_instructions::encode::{append_call, append_calls};
 use wasm_instructions::table::Call;
 
 /// Appends instructions to a list of bytes.

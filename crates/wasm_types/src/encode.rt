@@ -1,7 +1,7 @@
-//! Writers of types.
+//! Writers of types into room that was reserved.
 
-mod composite_types;
 mod heap_types;
 
-pub(crate) use composite_types::put_field_type;
-pub use heap_types::{put_heap_type, put_val_type};
+pub use heap_types::{
+    abstract_byte, put_field_type, put_heap_type, put_ref_type, put_storage_type, put_val_type,
+};

@@ -1,8 +1,8 @@
 //! Types of WebAssembly (Core 3.0, Types): heap, reference, value and storage types, composite types, subtypes and
-//! the entries of a type section, with their writers and readers.
+//! the entries of a type section, and the normaliser of type sections.
 #![tactic(auto)]
 
 pub mod encode;
-mod normaliser;
+pub mod normaliser;
 pub mod reader;
 pub mod types;

@@ -6,10 +6,13 @@ ghost use Rattle.std.specs.Prelude.{true, not};
 ghost use Rattle.wasm_types.specs.declared.types.composite.TypeEntry.{TypeEntry};
 ghost use Rattle.wasm_types.specs.formats.Types.{inner_type, composite_type, has_supertypes, sub_of, sub_parts, sub_type, recursive_type};
 
+mod type_sections;
+
 use crate::encode::{put_field_type, put_val_type};
 use crate::reader::{has_no_supertypes, read_field_type, read_val_type};
 use crate::types::{FieldType, SubType, TypeEntry, ValType};
 use std::alloc::Global;
+pub use type_sections::normalise_type_section;
 use wasm_codec::encode::leb128::put_index;
 use wasm_codec::normaliser::{Normalisable, Rewritable, pass_or_write, write_list_anew};
 use wasm_codec::reader::cursor::{Cursor, Fault};

@@ -7,7 +7,7 @@ use std::alloc::Global;
 use wasm_codec::reader::ReadError;
 use wasm_instructions::normaliser::normalise_instructions;
 use wasm_modules::normaliser::normalise_module;
-use wasm_types::reader::normalise_type_section;
+use wasm_types::normaliser::normalise_type_section;
 
 /// What the input is read as.
 #[derive(Clone, Copy, Debug, PartialEq, Eq)]

@@ -1,16 +1,16 @@
 //! Normal forms of lists: a count and then the items, of which those in their shortest encodings are copied in runs.
 ghost use Rattle.std.specs.Prelude.{◌≡◌, List, true, IfErr, OnOk};
 ghost use Rattle.wasm_codec.specs.Grammar.{IsBytes, TakesBytes};
-ghost use Rattle.wasm_codec.specs.Reading.{FindsAt};
+ghost use Rattle.wasm_codec.specs.Reading.{Reads as ListReads, FindsAt};
 ghost use Rattle.wasm_codec.specs.Answers.{IfRefused, IsLongestPrefix, IsAfterLongest, UnlessMemory};
 ghost use Rattle.wasm_codec.specs.Lawful.{IsLawful, plain};
+ghost use Rattle.wasm_codec.specs.formats.Combinators.{u32 as u32_format};
 ghost use Rattle.wasm_codec.specs.Lists.{EncodesList, list_at, items_bytes, IsListPrefix};
 ghost use Rattle.wasm_codec.specs.Rewriting.{Rewrites, AppendsNormalForm, PassesOrWrites};
 
 use super::{Normalisable, append_count};
 use crate::reader::ReadError;
 use crate::reader::cursor::{Cursor, Fault};
-use crate::reader::lists::read_or_stay;
 use std::alloc::Global;
 
 /// Appends the shortest encoding of the list that comes next: the count, and then runs of items that are in their
@@ -28,7 +28,7 @@ pub fn normalise_list<'a, T: Normalisable<'a>>(
     // The cursor is left after the longest prefix that is whole.
     ensures prefix { UnlessMemory result (IsAfterLongest (IsListPrefix T.format.Encodes) cursor.old.left cursor.new.left) }
 {
-    let count: u32 = read_or_stay::<u32, false>(alloc, cursor)?;
+    let count = count_or_stay(cursor)?;
     append_count(out, count)?;
     cursor.mark();
     let bytes = cursor.rest();
@@ -43,6 +43,22 @@ pub fn normalise_list<'a, T: Normalisable<'a>>(
     let end = bytes.len() - cursor.len();
     out.extend_from_slice(&bytes[from..end])?;
     Ok(())
+}
+
+/// The count of a list. Where there is none the cursor stays where it is.
+fn count_or_stay(cursor: &mut Cursor<'_>) -> Result<u32, Fault>
+    ensures left { ListReads (plain u32_format.at) cursor.old.left cursor.new.left result }
+    ensures stays { IfErr result (λ _. cursor.new ≡ cursor.old) }
+    ensures bytes { IsBytes cursor.old.left }
+{
+    let start = cursor.fork();
+    match cursor.u32() {
+        Ok(count) => Ok(count),
+        Err(fault) => {
+            *cursor = start;
+            Err(fault)
+        }
+    }
 }
 
 /// Passes the item that comes next, or writes it anew after the run of bytes before it, and answers which: `true` where

@@ -1,14 +1,20 @@
 //! What is passed and not made: where it ends, and whether it was in its shortest encoding.
+ghost use Rattle.std.specs.Prelude.{ℕ};
 ghost use Rattle.wasm_codec.specs.Grammar.{TakesBytes};
 ghost use Rattle.wasm_codec.specs.Places.{Passes, PassesShort};
 ghost use Rattle.wasm_codec.specs.Lawful.{IsLawful};
-ghost use Rattle.wasm_codec.specs.formats.Combinators.{items};
+ghost use Rattle.wasm_codec.specs.formats.Combinators.{Format, items, u32 as u32_format};
 
 use super::cursor::{Cursor, Fault};
-use super::readable::Readable;
 
 /// What can be passed without being made. It takes no memory.
-pub trait Passable<'a>: Readable<'a> {
+pub trait Passable<'a> {
+    /// What is passed.
+    ghost Value: { Type 0 };
+
+    /// Which bytes encode which item.
+    ghost format: { Format Value };
+
     /// Passes the item that comes next. The cursor then tells whether it was in its shortest encoding.
     fn pass(cursor: &mut Cursor<'a>) -> Result<(), Fault>
         ensures passes { Passes Self.format.at cursor.old cursor.new result }
@@ -42,6 +48,10 @@ pub fn pass_list<'a, T: Passable<'a>>(cursor: &mut Cursor<'a>) -> Result<(), Fau
 }
 
 impl<'a> Passable<'a> for u32 {
+    ghost Value = { ℕ };
+
+    ghost format = { u32_format };
+
     fn pass(cursor: &mut Cursor<'a>) -> Result<(), Fault> {
         cursor.pass_u32()
     }

@@ -1,10 +1,13 @@
 //! Instructions that are passed and not made: where each ends, and whether it was in its shortest encoding.
 ghost use Rattle.wasm_codec.specs.Places.{Passes, PassesShort};
 ghost use Rattle.wasm_instructions.specs.formats.Instructions.{operands_format, instruction};
-ghost use Rattle.wasm_instructions.specs.formats.Operands.{block_type, mem_arg};
+ghost use Rattle.wasm_instructions.specs.formats.Operands.{block_type, catch_clause, handle_clause, mem_arg};
+ghost use Rattle.wasm_instructions.specs.Instructions.{Instruction};
+ghost use Rattle.wasm_instructions.specs.declared.operands.control.Catch.{Catch};
+ghost use Rattle.wasm_instructions.specs.declared.operands.control.Handle.{Handle};
 ghost use Rattle.wasm_instructions.specs.declared.table.opcode.Kind.TheVariants as kinds;
 
-use super::instructions::read_opcode;
+use super::opcodes::read_opcode;
 use super::operands::{
     read_block_type, read_castop, read_catch, read_f32, read_f64, read_handle, read_lanes,
     read_mem_arg, read_ordering, read_vector,
@@ -239,6 +242,10 @@ fn pass_any_operands(cursor: &mut Cursor<'_>, kind: Kind) -> Result<(), Fault>
 }
 
 impl<'a> Passable<'a> for Call {
+    ghost Value = { Instruction };
+
+    ghost format = { instruction };
+
     #[inline(always)]
     fn pass(cursor: &mut Cursor<'a>) -> Result<(), Fault> {
         pass_call(cursor)
@@ -253,6 +260,10 @@ impl<'a> PassableInRuns<'a> for Call {
 }
 
 impl<'a> Passable<'a> for Catch {
+    ghost Value = { Catch };
+
+    ghost format = { catch_clause };
+
     fn pass(cursor: &mut Cursor<'a>) -> Result<(), Fault> {
         read_catch(cursor)?;
         Ok(())
@@ -260,6 +271,10 @@ impl<'a> Passable<'a> for Catch {
 }
 
 impl<'a> Passable<'a> for Handle {
+    ghost Value = { Handle };
+
+    ghost format = { handle_clause };
+
     fn pass(cursor: &mut Cursor<'a>) -> Result<(), Fault> {
         read_handle(cursor)?;
         Ok(())

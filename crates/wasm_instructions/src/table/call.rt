@@ -177,7 +177,7 @@ impl Call {
     }
 
     /// The call of an opcode of the table with operands of its kind, with alignments below 64.
-    pub(crate) fn from_parts(op: Opcode, operands: Operands) -> Call
+    pub fn from_parts(op: Opcode, operands: Operands) -> Call
         requires call { IsCall op operands }
         requires aligned { IsAligned operands }
         ensures { result ≡ call op operands }

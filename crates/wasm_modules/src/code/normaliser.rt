@@ -3,6 +3,7 @@ ghost use Rattle.std.specs.Prelude.{◌≡◌, ◌↔◌, ◌++◌, ◌≤◌, �
 ghost use Rattle.wasm_codec.specs.Answers.{IsOrMemory, IfRefused, IsLongestPrefix, IsNormalForm, EncodesSome};
 ghost use Rattle.wasm_codec.specs.Encoding.{IsShortestOrLonger};
 ghost use Rattle.wasm_codec.specs.Lawful.{plain};
+ghost use Rattle.wasm_codec.specs.Places.{Reads};
 ghost use Rattle.wasm_codec.specs.Rewriting.{Rewrites, AppendsNormalForm};
 ghost use Rattle.wasm_codec.specs.declared.reader.cursor.Fault.TheVariants.{Malformed};
 ghost use Rattle.wasm_types.specs.declared.types.value.ValType.{ValType};
@@ -11,7 +12,6 @@ ghost use Rattle.wasm_modules.specs.declared.code.CodeBody.{CodeBody};
 ghost use Rattle.wasm_modules.specs.formats.CodeBodies.{local_group, function_code, code_body, code_section_body, IsCodeSectionBodyPrefix, ShortestCodeSectionBody};
 
 use super::CodeBody;
-use super::reader::read_local_group;
 use std::alloc::{AllocError, Global};
 use wasm_codec::encode::leb128::put_u32;
 use wasm_codec::encode::{open_gap, put_size_into};
@@ -20,6 +20,7 @@ use wasm_codec::reader::ReadError;
 use wasm_codec::reader::cursor::{Cursor, Fault};
 use wasm_instructions::table::Call;
 use wasm_types::encode::put_val_type;
+use wasm_types::reader::read_val_type;
 use wasm_types::types::ValType;
 
 /// The normal bytes of the body of a code section: the same code bodies in the fewest bytes (Core 3.0, Code
@@ -155,6 +156,16 @@ fn rewrite_local_group(cursor: &mut Cursor<'_>, encoding: &mut Vec<u8>) -> Resul
     let group = read_local_group(cursor)?;
     append_local_group(encoding, group)?;
     Ok(())
+}
+
+/// A number, and the type of so many locals.
+pub fn read_local_group(cursor: &mut Cursor<'_>) -> Result<(u32, ValType), Fault>
+    ensures reads { Reads local_group.at cursor.old cursor.new result }
+    ensures err { IfErr result (λ e. e ≡ Malformed) }
+{
+    let count = cursor.u32()?;
+    let ty = read_val_type(cursor)?;
+    Ok((count, ty))
 }
 
 /// Appends the shortest encoding of a group of locals.

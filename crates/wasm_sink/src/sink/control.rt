@@ -5,7 +5,7 @@ ghost use Rattle.std.specs.Borrow.{sem};
 ghost use Rattle.std.specs.Iterator.{size};
 ghost use Rattle.wasm_sink.specs.Sink.{IsUnchangedAtErr, IsSameSink, Writes, HasRoom};
 ghost use Rattle.wasm_sink.specs.ListCalls.{WritesItems};
-ghost use Rattle.wasm_instructions.specs.Appending.{IsRefusedList};
+ghost use Rattle.wasm_calls.specs.Appending.{IsRefusedList};
 ghost use Rattle.wasm_instructions.specs.Instructions.{without_prefix};
 ghost use Rattle.wasm_instructions.specs.declared.table.call.Operands.TheVariants as operands;
 

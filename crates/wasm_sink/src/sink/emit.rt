@@ -14,11 +14,11 @@ mod types;
 
 use super::InstructionSink;
 use std::alloc::Allocator;
+use wasm_calls::appenders::{append_index, append_opcode, append_two_indexes};
 use wasm_codec::encode::EncodeError;
-use wasm_instructions::encode::{append_index, append_opcode, append_two_indexes};
 use wasm_instructions::table::{Opcode, Prefix};
 
-#[tactic(auto, using(wasm_instructions::proofs::InstructionLengths::short_call))]
+#[tactic(auto, using(wasm_calls::proofs::InstructionLengths::short_call))]
 impl<'a, A: Allocator> InstructionSink<'a, A> {
     /// An instruction without operands.
     pub(super) fn emit(

@@ -1,19 +1,17 @@
-//! Heap, reference, value and storage types, written into room that was reserved (Core 3.0, Heap Types to Composite
-//! Types).
+//! Heap, reference, value, storage and field types, written into room that was reserved (Core 3.0, Heap Types to
+//! Composite Types).
 ghost use Rattle.std.specs.Prelude.{◌≡◌, [], ◌∷◌, ◌++◌, ◌+◌, ◌≤◌, vec_len, vec_capacity};
 ghost use Rattle.wasm_codec.specs.formats.Combinators.{flagged};
-ghost use Rattle.wasm_codec.specs.Encoding.{IsShortest};
 ghost use Rattle.wasm_types.specs.TypeRanges.{HeapTypeFits, ValTypeFits, StorageTypeFits};
-ghost use Rattle.wasm_types.specs.formats.Types.{abstract_type, heap_type, ref_type, val_type, storage_type};
+ghost use Rattle.wasm_types.specs.formats.Types.{abstract_type, heap_type, ref_type, val_type, storage_type, field_type};
 
-use crate::types::{AbstractHeapType, HeapType, RefType, StorageType, ValType};
+use crate::types::{AbstractHeapType, FieldType, HeapType, RefType, StorageType, ValType};
 use std::alloc::Allocator;
 use wasm_codec::encode::leb128::{put_index, put_u32};
-use wasm_codec::encode::{Encode, EncodeError};
 
 /// The byte of an abstract heap type.
 #[tactic(auto, unfolding(crate::specs::formats::Types::abstract_type))]
-fn abstract_byte(ty: AbstractHeapType) -> u8
+pub fn abstract_byte(ty: AbstractHeapType) -> u8
     ensures { abstract_type.bytes ty ≡ result ∷ [] }
 {
     match ty {
@@ -124,72 +122,14 @@ pub fn put_storage_type<A: Allocator>(bytes: &mut Vec<u8, A>, ty: StorageType)
     }
 }
 
-/// One byte (Core 3.0, Heap Types).
-#[tactic(auto, using(crate::proofs::WrittenTypes::abstract_written))]
-impl Encode for AbstractHeapType {
-    ghost bytes = { abstract_type.bytes };
-
-    ghost IsWritten = { IsShortest abstract_type.Encodes abstract_type.bytes };
-
-    fn encode<A: Allocator>(&self, sink: &mut Vec<u8, A>) -> Result<(), EncodeError> {
-        sink.reserve(1)?;
-        sink.push_reserved(abstract_byte(*self));
-        Ok(())
-    }
-}
-
-/// A byte or two, or an index as an s33, or `0x62` and an index (Core 3.0, Heap Types).
-#[tactic(auto, using(crate::proofs::WrittenTypes::heap_written))]
-impl Encode for HeapType {
-    ghost bytes = { heap_type.bytes };
-
-    ghost IsWritten = { IsShortest heap_type.Encodes heap_type.bytes };
-
-    fn encode<A: Allocator>(&self, sink: &mut Vec<u8, A>) -> Result<(), EncodeError> {
-        sink.reserve(6)?;
-        put_heap_type(sink, *self);
-        Ok(())
-    }
-}
-
-/// The short form for a nullable abstract one, else `0x63` or `0x64` and the heap type (Core 3.0, Reference Types).
-#[tactic(auto, using(crate::proofs::WrittenTypes::ref_written))]
-impl Encode for RefType {
-    ghost bytes = { ref_type.bytes };
-
-    ghost IsWritten = { IsShortest ref_type.Encodes ref_type.bytes };
-
-    fn encode<A: Allocator>(&self, sink: &mut Vec<u8, A>) -> Result<(), EncodeError> {
-        sink.reserve(7)?;
-        put_ref_type(sink, *self);
-        Ok(())
-    }
-}
-
-/// One byte, or a reference type (Core 3.0, Value Types).
-#[tactic(auto, using(crate::proofs::WrittenTypes::val_written))]
-impl Encode for ValType {
-    ghost bytes = { val_type.bytes };
-
-    ghost IsWritten = { IsShortest val_type.Encodes val_type.bytes };
-
-    fn encode<A: Allocator>(&self, sink: &mut Vec<u8, A>) -> Result<(), EncodeError> {
-        sink.reserve(7)?;
-        put_val_type(sink, *self);
-        Ok(())
-    }
-}
-
-/// One byte where it is packed, else a value type (Core 3.0, Composite Types).
-#[tactic(auto, using(crate::proofs::WrittenTypes::storage_written))]
-impl Encode for StorageType {
-    ghost bytes = { storage_type.bytes };
-
-    ghost IsWritten = { IsShortest storage_type.Encodes storage_type.bytes };
-
-    fn encode<A: Allocator>(&self, sink: &mut Vec<u8, A>) -> Result<(), EncodeError> {
-        sink.reserve(7)?;
-        put_storage_type(sink, *self);
-        Ok(())
-    }
+/// Writes a field in 2 to 8 bytes.
+#[tactic(auto, unfolding(crate::specs::formats::Types::field_type, crate::specs::formats::Types::mutability))]
+pub fn put_field_type<A: Allocator>(bytes: &mut Vec<u8, A>, field: FieldType)
+    requires { vec_len bytes.old + 8 ≤ vec_capacity bytes.old }
+    ensures items { bytes.new.items ≡ bytes.old.items ++ field_type.bytes field }
+    ensures fits { StorageTypeFits field.element_type }
+    ensures capacity { vec_capacity bytes.new ≡ vec_capacity bytes.old }
+{
+    put_storage_type(bytes, field.element_type);
+    bytes.push_reserved(u8::from(field.mutable));
 }

@@ -1,11 +1,11 @@
-//! Heap, reference, value and storage types (Core 3.0, Heap Types to Composite Types).
+//! Heap, reference, value, storage and field types (Core 3.0, Heap Types to Composite Types).
 ghost use Rattle.std.specs.Prelude.{◌≡◌, IfErr};
 ghost use Rattle.wasm_codec.specs.Places.{Reads};
 ghost use Rattle.wasm_codec.specs.formats.Combinators.{flagged};
-ghost use Rattle.wasm_types.specs.formats.Types.{abstract_type, heap_type, ref_type, val_type, storage_type};
+ghost use Rattle.wasm_types.specs.formats.Types.{abstract_type, heap_type, ref_type, val_type, storage_type, field_type};
 ghost use Rattle.wasm_codec.specs.declared.reader.cursor.Fault.TheVariants.{Malformed};
 
-use crate::types::{AbstractHeapType, HeapType, RefType, StorageType, ValType};
+use crate::types::{AbstractHeapType, FieldType, HeapType, RefType, StorageType, ValType};
 use wasm_codec::reader::cursor::{Cursor, Fault};
 
 /// An abstract heap type that isn't shared.
@@ -124,4 +124,22 @@ pub fn read_storage_type(cursor: &mut Cursor<'_>) -> Result<StorageType, Fault>
     };
     cursor.byte()?;
     Ok(ty)
+}
+
+/// A field.
+#[tactic(auto, unfolding(crate::specs::formats::Types::field_type, crate::specs::formats::Types::mutability))]
+pub fn read_field_type(cursor: &mut Cursor<'_>) -> Result<FieldType, Fault>
+    ensures reads { Reads field_type.at cursor.old cursor.new result }
+    ensures err { IfErr result (λ e. e ≡ Malformed) }
+{
+    let element_type = read_storage_type(cursor)?;
+    let mutable = match cursor.byte()? {
+        0x00 => false,
+        0x01 => true,
+        _ => return Err(Fault::Malformed),
+    };
+    Ok(FieldType {
+        element_type,
+        mutable,
+    })
 }

@@ -2,10 +2,13 @@
 ghost use Rattle.std.specs.Prelude.{◌≡◌, ℕ, List, Some, not};
 ghost use Rattle.wasm_codec.specs.Places.{Place, Passes};
 ghost use Rattle.wasm_codec.specs.formats.Combinators.{◌⊗◌, optional, items, u32};
-ghost use Rattle.wasm_types.specs.formats.Types.{field_type, inner_type, composite_type, has_supertypes, sub_type, recursive_type};
+ghost use Rattle.wasm_types.specs.declared.types.value.ValType.{ValType};
+ghost use Rattle.wasm_types.specs.declared.types.composite.FieldType.{FieldType};
+ghost use Rattle.wasm_types.specs.declared.types.composite.SubType.{SubType};
+ghost use Rattle.wasm_types.specs.declared.types.composite.TypeEntry.{TypeEntry};
+ghost use Rattle.wasm_types.specs.formats.Types.{val_type, field_type, inner_type, composite_type, has_supertypes, sub_type, recursive_type};
 
-use super::composite_types::read_field_type;
-use super::heap_types::read_val_type;
+use super::heap_types::{read_field_type, read_val_type};
 use crate::types::{FieldType, SubType, TypeEntry, ValType};
 use wasm_codec::reader::cursor::{Cursor, Fault};
 use wasm_codec::reader::passing::{Passable, pass_list};
@@ -139,6 +142,10 @@ fn pass_entry(cursor: &mut Cursor<'_>) -> Result<(), Fault>
 }
 
 impl<'a> Passable<'a> for ValType {
+    ghost Value = { ValType };
+
+    ghost format = { val_type };
+
     fn pass(cursor: &mut Cursor<'a>) -> Result<(), Fault> {
         read_val_type(cursor)?;
         Ok(())
@@ -146,6 +153,10 @@ impl<'a> Passable<'a> for ValType {
 }
 
 impl<'a> Passable<'a> for FieldType {
+    ghost Value = { FieldType };
+
+    ghost format = { field_type };
+
     fn pass(cursor: &mut Cursor<'a>) -> Result<(), Fault> {
         read_field_type(cursor)?;
         Ok(())
@@ -153,12 +164,20 @@ impl<'a> Passable<'a> for FieldType {
 }
 
 impl<'a> Passable<'a> for SubType {
+    ghost Value = { SubType };
+
+    ghost format = { sub_type };
+
     fn pass(cursor: &mut Cursor<'a>) -> Result<(), Fault> {
         pass_sub_type(cursor)
     }
 }
 
 impl<'a> Passable<'a> for TypeEntry {
+    ghost Value = { TypeEntry };
+
+    ghost format = { recursive_type };
+
     fn pass(cursor: &mut Cursor<'a>) -> Result<(), Fault> {
         pass_entry(cursor)
     }

@@ -7,14 +7,14 @@ ghost use Rattle.wasm_instructions.specs.declared.table.call.Operands.TheVariant
 
 use crate::sink::InstructionSink;
 use std::alloc::Allocator;
-use wasm_codec::encode::EncodeError;
-use wasm_instructions::encode::{
+use wasm_calls::appenders::{
     append_f32, append_f64, append_i32, append_i64, append_lane, append_shuffle, append_v128,
 };
+use wasm_codec::encode::EncodeError;
 use wasm_instructions::operands::{Ieee32, Ieee64, Lane};
 use wasm_instructions::table::Opcode;
 
-#[tactic(auto, using(wasm_instructions::proofs::InstructionLengths::short_call))]
+#[tactic(auto, using(wasm_calls::proofs::InstructionLengths::short_call))]
 impl<'a, A: Allocator> InstructionSink<'a, A> {
     /// An instruction without a prefix, with a signed number of 32 bits.
     pub(in crate::sink) fn emit_i32(

@@ -6,19 +6,19 @@ ghost use Rattle.wasm_instructions.specs.Instructions.{IsShort, without_prefix};
 ghost use Rattle.wasm_instructions.specs.declared.table.call.Operands.TheVariants as operands;
 ghost use Rattle.std.specs.Iterator.{size};
 ghost use Rattle.wasm_sink.specs.ListCalls.{WritesItems, WritesList};
-ghost use Rattle.wasm_instructions.specs.Appending.{IsRefusedList};
+ghost use Rattle.wasm_calls.specs.Appending.{IsRefusedList};
 
 use crate::sink::InstructionSink;
 use std::alloc::Allocator;
-use wasm_codec::encode::EncodeError;
-use wasm_instructions::encode::{
+use wasm_calls::appenders::{
     append_branch_table, append_resume, append_resume_throw, append_try_table, append_type_list,
 };
+use wasm_codec::encode::EncodeError;
 use wasm_instructions::operands::{BlockType, Catch, Handle};
 use wasm_instructions::table::Opcode;
 use wasm_types::types::ValType;
 
-#[tactic(auto, unfolding(wasm_instructions::specs::Appending::AppendsAll))]
+#[tactic(auto, unfolding(wasm_calls::specs::Appending::AppendsAll))]
 impl<'a, A: Allocator> InstructionSink<'a, A> {
     /// An instruction without a prefix, with value types.
     pub(in crate::sink) fn emit_types(

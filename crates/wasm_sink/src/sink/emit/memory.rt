@@ -7,12 +7,12 @@ ghost use Rattle.wasm_instructions.specs.declared.table.call.Operands.TheVariant
 
 use crate::sink::InstructionSink;
 use std::alloc::Allocator;
+use wasm_calls::appenders::{append_mem, append_mem_lane};
 use wasm_codec::encode::EncodeError;
-use wasm_instructions::encode::{append_mem, append_mem_lane};
 use wasm_instructions::operands::{Lane, MemArg};
 use wasm_instructions::table::{Opcode, Prefix};
 
-#[tactic(auto, using(wasm_instructions::proofs::InstructionLengths::short_call))]
+#[tactic(auto, using(wasm_calls::proofs::InstructionLengths::short_call))]
 impl<'a, A: Allocator> InstructionSink<'a, A> {
     /// An instruction with a memory argument.
     pub(in crate::sink) fn emit_mem(

@@ -7,12 +7,12 @@ ghost use Rattle.wasm_instructions.specs.declared.table.call.Operands.TheVariant
 
 use crate::sink::InstructionSink;
 use std::alloc::Allocator;
+use wasm_calls::appenders::{append_order, append_order_index, append_order_two_indexes};
 use wasm_codec::encode::EncodeError;
-use wasm_instructions::encode::{append_order, append_order_index, append_order_two_indexes};
 use wasm_instructions::operands::Ordering;
 use wasm_instructions::table::Opcode;
 
-#[tactic(auto, using(wasm_instructions::proofs::InstructionLengths::short_call))]
+#[tactic(auto, using(wasm_calls::proofs::InstructionLengths::short_call))]
 impl<'a, A: Allocator> InstructionSink<'a, A> {
     /// An instruction after `0xFE`, with an ordering.
     pub(in crate::sink) fn emit_order(

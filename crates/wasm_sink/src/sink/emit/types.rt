@@ -7,13 +7,13 @@ ghost use Rattle.wasm_instructions.specs.declared.table.call.Operands.TheVariant
 
 use crate::sink::InstructionSink;
 use std::alloc::Allocator;
+use wasm_calls::appenders::{append_block, append_cast, append_heap, append_type};
 use wasm_codec::encode::EncodeError;
-use wasm_instructions::encode::{append_block, append_cast, append_heap, append_type};
 use wasm_instructions::operands::BlockType;
 use wasm_instructions::table::{Opcode, Prefix};
 use wasm_types::types::{HeapType, RefType, ValType};
 
-#[tactic(auto, using(wasm_instructions::proofs::InstructionLengths::short_call))]
+#[tactic(auto, using(wasm_calls::proofs::InstructionLengths::short_call))]
 impl<'a, A: Allocator> InstructionSink<'a, A> {
     /// An instruction without a prefix, with a block type.
     pub(in crate::sink) fn emit_block(

@@ -17,7 +17,7 @@ returns-in_err-count g c =
     let fault = c.in_err-count.field-0.0 in
     let h = c.in_err-count.ensures in
     let old = c.args.cursor.now.left in
-    let new = c.read_or_stay.new.cursor.left in
+    let new = c.count_or_stay.new.cursor.left in
     let a = count_wanting {X = Unit {0}} (plain_reads Lawful-u32.reads) g.T.Normalisable.format.Encodes (plain g.T.Normalisable.format.at) old new fault h.left (ap (λ (p : Place). p.left) h.stays) in
     rw (p.1, p.2) (record {
       rewrites = fails_to_rewrite (list_at (plain g.T.Normalisable.format.at)) (items_bytes g.T.Normalisable.format.bytes) old new c.args.out.now.items c.args.out.now.items fault
@@ -28,7 +28,7 @@ returns-in_err-count g c =
 
 pub loop-init : goal.loop-init
 loop-init g c =
-    let begun : c.read_or_stay.new.cursor.left ≡ c.rest-bytes.result.now = sym (c.rest-bytes.ensures ∙ ap (λ (p : Place). p.left) c.mark.ensures) in
+    let begun : c.count_or_stay.new.cursor.left ≡ c.rest-bytes.result.now = sym (c.rest-bytes.ensures ∙ ap (λ (p : Place). p.left) c.mark.ensures) in
     no_runs g.T.Normalisable.format c.args.cursor.now.left c.rest-bytes.result.now c.mark.new.self c.in_ok-count.count c.args.out.now.items c.append_count.new.encoding.items c.in_ok-count.ensures.bytes
     (c.in_ok-count.ensures.left ∙ ap (λ (l : List ℕ). Some (c.in_ok-count.count, l)) begun) (c.mark.ensures ∙ ap (λ (l : List ℕ). place true l) begun) c.in_ok-append_count.ensures.ok
 

@@ -1,0 +1,90 @@
+//! One appender for each kind of operands: it appends an instruction, or nothing. It asks once for room for 24 bytes,
+//! which every instruction without a list fits into, and writes the bytes there.
+ghost use Rattle.std.specs.Prelude.{◌≡◌, ◌++◌, ◌∷◌, ◌+◌, ◌^◌, ◌<◌, ◌≤◌, IsOk, IfErr, OnOk, OnErr, vec_len, vec_capacity};
+ghost use Rattle.wasm_codec.specs.declared.encode.EncodeError.TheVariants.{Memory};
+ghost use Rattle.wasm_instructions.specs.Instructions.{IsShort, call};
+ghost use Rattle.wasm_instructions.specs.formats.Instructions.{instruction};
+ghost use Rattle.wasm_instructions.specs.formats.Instructions.{opcode};
+ghost use Rattle.wasm_instructions.specs.declared.table.call.Operands.TheVariants as operands;
+ghost use Rattle.wasm_codec.specs.Numbers.{unsigned_leb128};
+
+mod constants;
+mod items;
+mod lists;
+mod memory;
+mod orders;
+mod types;
+
+pub use constants::{
+    append_f32, append_f64, append_i32, append_i64, append_lane, append_shuffle, append_v128,
+};
+pub(crate) use lists::{Before, append_held};
+pub use lists::{
+    append_branch_table, append_resume, append_resume_throw, append_try_table, append_type_list,
+    append_types,
+};
+pub use memory::{append_mem, append_mem_lane};
+pub use orders::{append_order, append_order_index, append_order_two_indexes};
+use std::alloc::Allocator;
+pub use types::{append_block, append_cast, append_heap, append_type};
+use wasm_codec::encode::EncodeError;
+use wasm_codec::encode::leb128::put_u32;
+use wasm_instructions::encode::put_opcode;
+use wasm_instructions::table::Opcode;
+
+/// The room that every instruction without a list fits into, in bytes.
+const ROOM: usize = 24;
+
+/// Appends an instruction without operands.
+#[tactic(auto, unfolding(wasm_instructions::specs::formats::Instructions::instruction, wasm_instructions::specs::formats::Instructions::operands_format))]
+pub fn append_opcode<A: Allocator>(bytes: &mut Vec<u8, A>, op: Opcode) -> Result<(), EncodeError>
+    requires short { IsShort op }
+    ensures ok { OnOk result (bytes.new.items ≡ bytes.old.items ++ instruction.bytes (call op operands.None)) }
+    ensures err { OnErr result (bytes.new.items ≡ bytes.old.items) }
+    ensures memory { IfErr result (λ e. e ≡ Memory) }
+    ensures room { vec_len bytes.old + 24 ≤ vec_capacity bytes.old → IsOk result }
+{
+    bytes.reserve(ROOM)?;
+    put_opcode(bytes, op);
+    Ok(())
+}
+
+/// Appends an instruction with an index.
+#[tactic(auto, unfolding(wasm_instructions::specs::formats::Instructions::instruction, wasm_instructions::specs::formats::Instructions::operands_format))]
+pub fn append_index<A: Allocator>(
+    bytes: &mut Vec<u8, A>,
+    op: Opcode,
+    index: u32,
+) -> Result<(), EncodeError>
+    requires short { IsShort op }
+    ensures ok { OnOk result (bytes.new.items ≡ bytes.old.items ++ instruction.bytes (call op (operands.Index index))) }
+    ensures err { OnErr result (bytes.new.items ≡ bytes.old.items) }
+    ensures memory { IfErr result (λ e. e ≡ Memory) }
+    ensures room { vec_len bytes.old + 24 ≤ vec_capacity bytes.old → IsOk result }
+{
+    bytes.reserve(ROOM)?;
+    put_opcode(bytes, op);
+    put_u32(bytes, index);
+    Ok(())
+}
+
+/// Appends an instruction with two indexes, in the order in which they are written.
+#[tactic(auto, unfolding(wasm_instructions::specs::formats::Instructions::instruction, wasm_instructions::specs::formats::Instructions::operands_format))]
+pub fn append_two_indexes<A: Allocator>(
+    bytes: &mut Vec<u8, A>,
+    op: Opcode,
+    first: u32,
+    second: u32,
+) -> Result<(), EncodeError>
+    requires short { IsShort op }
+    ensures ok { OnOk result (bytes.new.items ≡ bytes.old.items ++ instruction.bytes (call op (operands.TwoIndexes first second))) }
+    ensures err { OnErr result (bytes.new.items ≡ bytes.old.items) }
+    ensures memory { IfErr result (λ e. e ≡ Memory) }
+    ensures room { vec_len bytes.old + 24 ≤ vec_capacity bytes.old → IsOk result }
+{
+    bytes.reserve(ROOM)?;
+    put_opcode(bytes, op);
+    put_u32(bytes, first);
+    put_u32(bytes, second);
+    Ok(())
+}

@@ -1,0 +1,171 @@
+//! Lists of items, each with bytes of its own, after their number (Core 3.0, Lists).
+ghost use Rattle.std.specs.Prelude.{◌≡◌, ◌++◌, ◌+◌, ◌*◌, ◌≤◌, ◌<◌, ◌^◌, ℕ, List, length, take, OnOk, IfOk, IfErr, IsTrue, vec_len, vec_capacity};
+ghost use Rattle.std.specs.Iterator.{IsFinite, size};
+ghost use Rattle.wasm_calls.specs.Appending.{AppendsAll, AppendsCounted, IsRefusedList};
+ghost use Rattle.wasm_codec.specs.Numbers.{unsigned_leb128};
+ghost use Rattle.wasm_types.specs.formats.Types.{val_type};
+ghost use Rattle.wasm_codec.specs.Lists.{items_bytes};
+ghost use Rattle.wasm_instructions.specs.Operands.{ValTypeFits, CatchFits, HandleFits};
+ghost use Rattle.wasm_instructions.specs.formats.Operands.{catch_clause, handle_clause};
+
+use super::ROOM;
+use std::alloc::{AllocError, Allocator};
+use wasm_codec::encode::leb128::put_u32;
+use wasm_codec::encode::{EncodeError, mend_count};
+use wasm_instructions::encode::{put_catch, put_handle};
+use wasm_instructions::operands::{Catch, Handle};
+use wasm_types::encode::put_val_type;
+use wasm_types::types::ValType;
+
+/// The room that every item fits into, in bytes.
+const ITEM_ROOM: usize = 11;
+
+/// The most items that a short list has: room for the longest encoding of each is made at once.
+const SHORT: u32 = 64;
+
+/// What lists of operands are made of. Each item has a shortest encoding.
+pub(crate) trait Item: Copy + Drop {
+    /// The fewest bytes that an item is written in.
+    const LEAST: usize;
+
+    /// The item's shortest encoding.
+    ghost encoding: { Self → List ℕ };
+
+    /// Its numbers are in the ranges of their widths.
+    ghost InRange: { Self → Type 0 };
+
+    /// Writes the item in `LEAST` to 11 bytes, into reserved room.
+    fn put<A: Allocator>(self, bytes: &mut Vec<u8, A>)
+        requires room { vec_len bytes.old + 11 ≤ vec_capacity bytes.old }
+        ensures items { bytes.new.items ≡ bytes.old.items ++ encoding self }
+        ensures in_range { InRange self }
+        ensures len { vec_len bytes.new ≤ vec_len bytes.old + 11 }
+        ensures capacity { vec_capacity bytes.new ≡ vec_capacity bytes.old };
+}
+
+impl Item for u32 {
+    const LEAST: usize = 1;
+
+    ghost encoding = { unsigned_leb128 };
+
+    ghost InRange = { λ n. n < 2 ^ 32 };
+
+    fn put<A: Allocator>(self, bytes: &mut Vec<u8, A>) {
+        put_u32(bytes, self);
+    }
+}
+
+impl Item for ValType {
+    const LEAST: usize = 1;
+
+    ghost encoding = { val_type.bytes };
+
+    ghost InRange = { ValTypeFits };
+
+    fn put<A: Allocator>(self, bytes: &mut Vec<u8, A>) {
+        put_val_type(bytes, self);
+    }
+}
+
+impl Item for Catch {
+    const LEAST: usize = 2;
+
+    ghost encoding = { catch_clause.bytes };
+
+    ghost InRange = { CatchFits };
+
+    fn put<A: Allocator>(self, bytes: &mut Vec<u8, A>) {
+        put_catch(bytes, self);
+    }
+}
+
+impl Item for Handle {
+    const LEAST: usize = 2;
+
+    ghost encoding = { handle_clause.bytes };
+
+    ghost InRange = { HandleFits };
+
+    fn put<A: Allocator>(self, bytes: &mut Vec<u8, A>) {
+        put_handle(bytes, self);
+    }
+}
+
+/// Makes room at once for a call with so many items, and answers their number: 24 bytes, which all else of the call
+/// fits into, and the most that the items of a short list are written in, or the fewest that those of a longer one are.
+///
+/// `TooLong` where there are more than 4,294,967,295 items.
+pub(super) fn reserve_list<T: Item, A: Allocator>(
+    bytes: &mut Vec<u8, A>,
+    count: usize,
+) -> Result<u32, EncodeError>
+    ensures count { IfOk result (λ n. n ≡ count) }
+    ensures room { OnOk result (vec_len bytes.new + 24 ≤ vec_capacity bytes.new) }
+    ensures room_if_short { OnOk result (count ≤ 64 → vec_len bytes.new + 24 + 11 * count ≤ vec_capacity bytes.new) }
+    ensures err { IfErr result (IsRefusedList count) }
+    ensures unchanged { bytes.new.items ≡ bytes.old.items }
+{
+    let Ok(number) = u32::try_from(count) else {
+        return Err(EncodeError::TooLong);
+    };
+    let each = if number <= SHORT { ITEM_ROOM } else { T::LEAST };
+    bytes.reserve(count.saturating_mul(each).saturating_add(ROOM))?;
+    Ok(number)
+}
+
+/// Appends the number of the items that come, into reserved room, and then the items, into it as well where the list is
+/// short. An `Err` can leave a part of them.
+///
+/// The number that the iterator tells is written before the items, and mended where fewer come.
+#[tactic(auto, unfolding(crate::specs::Appending::AppendsAll))]
+pub(super) fn append_each<T: Item, I: ExactSizeIterator<Item = T>, A: Allocator>(
+    bytes: &mut Vec<u8, A>,
+    told: u32,
+    items: I,
+) -> Result<(), AllocError>
+    requires can { I.can_next items }
+    requires finite { IsFinite (I.remaining items) }
+    requires told { told ≡ size (I.remaining items) }
+    requires room { vec_len bytes.old + 5 ≤ vec_capacity bytes.old }
+    requires room_if_short { told ≤ 64 → vec_len bytes.old + 5 + 11 * told ≤ vec_capacity bytes.old }
+    ensures ok { OnOk result (AppendsAll I.next_gives T.InRange items (items_bytes T.encoding) bytes.old.items bytes.new.items) }
+    ensures kept { take (length bytes.old.items) bytes.new.items ≡ bytes.old.items }
+{
+    let start = bytes.len();
+    put_u32(bytes, told);
+    let came = if told <= SHORT {
+        append_counted::<T, I, A, true>(bytes, items)?
+    } else {
+        append_counted::<T, I, A, false>(bytes, items)?
+    };
+    if came == told {
+        return Ok(());
+    }
+    mend_count(bytes, start, told, came)
+}
+
+/// Appends the items that come, and counts them. An `Err` can leave a part of them.
+///
+/// Where there is room for all that the iterator tells (`FITS`) it asks for none, and otherwise before each item.
+fn append_counted<T: Item, I: ExactSizeIterator<Item = T>, A: Allocator, const FITS: bool>(
+    bytes: &mut Vec<u8, A>,
+    items: I,
+) -> Result<u32, AllocError>
+    requires can { I.can_next items }
+    requires finite { IsFinite (I.remaining items) }
+    requires few { size (I.remaining items) < 2 ^ 32 }
+    requires room { IsTrue FITS → vec_len bytes.old + 11 * size (I.remaining items) ≤ vec_capacity bytes.old }
+    ensures ok { IfOk result (AppendsCounted I.next_gives T.InRange items T.encoding bytes.old.items bytes.new.items) }
+    ensures few { IfOk result (λ came. came ≤ size (I.remaining items)) }
+    ensures kept { take (length bytes.old.items) bytes.new.items ≡ bytes.old.items }
+{
+    let mut came = 0;
+    for item in items {
+        if !FITS {
+            bytes.reserve(ITEM_ROOM)?;
+        }
+        item.put(bytes);
+        came += 1;
+    }
+    Ok(came)
+}

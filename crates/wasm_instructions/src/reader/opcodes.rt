@@ -1,0 +1,24 @@
+//! Opcodes, read (Core 3.0, Instructions).
+ghost use Rattle.std.specs.Prelude.{◌≡◌, IfErr};
+ghost use Rattle.wasm_codec.specs.Places.{Reads};
+ghost use Rattle.wasm_codec.specs.declared.reader.cursor.Fault.TheVariants.{Malformed};
+ghost use Rattle.wasm_instructions.specs.formats.Instructions.{opcode};
+
+use crate::table::Opcode;
+use wasm_codec::reader::cursor::{Cursor, Fault};
+
+/// An opcode: a prefix byte and a number, or one byte.
+#[inline(always)]
+#[tactic(auto, unfolding(crate::specs::formats::Instructions::opcode))]
+pub fn read_opcode(cursor: &mut Cursor<'_>) -> Result<Opcode, Fault>
+    ensures reads { Reads opcode.at cursor.old cursor.new result }
+    ensures err { IfErr result (λ e. e ≡ Malformed) }
+{
+    match cursor.byte()? {
+        0xfb => Ok(Opcode::after_fb(cursor.u32()?)),
+        0xfc => Ok(Opcode::after_fc(cursor.u32()?)),
+        0xfd => Ok(Opcode::after_fd(cursor.u32()?)),
+        0xfe => Ok(Opcode::after_fe(cursor.u32()?)),
+        byte => Ok(Opcode::without_prefix(byte)),
+    }
+}

@@ -1,0 +1,2 @@
+pub mod CodeReading
+pub mod EndLaws

@@ -1,0 +1,3 @@
+pub mod WrittenLists
+pub mod CodeBodyWriting
+pub mod SizeLaws

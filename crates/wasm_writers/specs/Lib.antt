@@ -1,0 +1,3 @@
+pub mod CodeCounts
+pub mod Iterators
+pub mod MemArgs

@@ -1,0 +1,10 @@
+//! Writers of values: the trait `Encode`, and what it writes of numbers, lists, types, instructions, code bodies and
+//! sections (Core 3.0, Binary Format).
+#![tactic(auto)]
+
+mod code_bodies;
+pub mod encode;
+mod instructions;
+mod operands;
+pub mod sections;
+mod types;

@@ -1,0 +1,89 @@
+//! Operands, written (Core 3.0, Instructions).
+ghost use Rattle.std.specs.Prelude.{◌≡◌};
+ghost use Rattle.wasm_codec.specs.declared.encode.EncodeError.TheVariants.{Alignment};
+ghost use Rattle.wasm_codec.specs.Encoding.{IsShortest};
+ghost use Rattle.wasm_instructions.specs.formats.Operands.{block_type, catch_clause, handle_clause, mem_arg, ordering as ordering_format};
+ghost use Rattle.wasm_writers.specs.MemArgs.{HasAlignment, misaligned_at_once};
+
+use crate::encode::{Encode, EncodeError};
+use std::alloc::Allocator;
+use wasm_instructions::encode::{put_block_type, put_catch, put_handle, put_mem_arg, put_ordering};
+use wasm_instructions::operands::{BlockType, Catch, Handle, MemArg, Ordering};
+
+/// One byte, a value type, or an index as an s33 (Core 3.0, Control Instructions).
+#[tactic(auto, using(wasm_calls::proofs::CallRanges::block_written))]
+impl Encode for BlockType {
+    ghost bytes = { block_type.bytes };
+
+    ghost IsWritten = { IsShortest block_type.Encodes block_type.bytes };
+
+    fn encode<A: Allocator>(&self, sink: &mut Vec<u8, A>) -> Result<(), EncodeError> {
+        sink.reserve(7)?;
+        put_block_type(sink, *self);
+        Ok(())
+    }
+}
+
+/// The alignment and the offset, with the memory's index between them where that isn't 0 (Core 3.0, Instructions,
+/// memory instructions). An alignment of 64 or more is refused by [`EncodeError::Alignment`], before anything grows.
+impl Encode for MemArg {
+    ghost bytes = { mem_arg.bytes };
+
+    ghost IsWritten = { IsShortest mem_arg.Encodes mem_arg.bytes };
+
+    ghost CanEncode = { HasAlignment };
+
+    ghost refuses = { λ _ e. e ≡ Alignment };
+
+    ghost at_once = { misaligned_at_once };
+
+    fn encode<A: Allocator>(&self, sink: &mut Vec<u8, A>) -> Result<(), EncodeError> {
+        if self.align >= 64 {
+            return Err(EncodeError::Alignment);
+        }
+        sink.reserve(16)?;
+        put_mem_arg(sink, *self);
+        Ok(())
+    }
+}
+
+/// The byte of the clause, its tag, if it has one, and its label (Core 3.0, Control Instructions).
+#[tactic(auto, using(wasm_calls::proofs::CallRanges::catch_written))]
+impl Encode for Catch {
+    ghost bytes = { catch_clause.bytes };
+
+    ghost IsWritten = { IsShortest catch_clause.Encodes catch_clause.bytes };
+
+    fn encode<A: Allocator>(&self, sink: &mut Vec<u8, A>) -> Result<(), EncodeError> {
+        sink.reserve(11)?;
+        put_catch(sink, *self);
+        Ok(())
+    }
+}
+
+/// The byte of the clause, its tag, and its label, if it has one.
+#[tactic(auto, using(wasm_calls::proofs::CallRanges::handle_written))]
+impl Encode for Handle {
+    ghost bytes = { handle_clause.bytes };
+
+    ghost IsWritten = { IsShortest handle_clause.Encodes handle_clause.bytes };
+
+    fn encode<A: Allocator>(&self, sink: &mut Vec<u8, A>) -> Result<(), EncodeError> {
+        sink.reserve(11)?;
+        put_handle(sink, *self);
+        Ok(())
+    }
+}
+
+/// One byte.
+impl Encode for Ordering {
+    ghost bytes = { ordering_format.bytes };
+
+    ghost IsWritten = { IsShortest ordering_format.Encodes ordering_format.bytes };
+
+    fn encode<A: Allocator>(&self, sink: &mut Vec<u8, A>) -> Result<(), EncodeError> {
+        sink.reserve(1)?;
+        put_ordering(sink, *self);
+        Ok(())
+    }
+}

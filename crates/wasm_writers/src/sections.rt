@@ -1,0 +1,42 @@
+//! Sections, written: an id, the size of the body, and the body (Core 3.0, Sections).
+ghost use Rattle.std.specs.Prelude.{◌≡◌, ◌++◌, ◌∷◌, OnOk, OnErr, IfErr, length};
+ghost use Rattle.wasm_codec.specs.Encoding.{byte_list_bytes, IsCount, IsRefusal, OnlyTooLong, too_long_at_once};
+
+use crate::encode::{Encode, EncodeError, encode_bytes};
+use std::alloc::Allocator;
+use wasm_codec::encode::keep_or_undo;
+use wasm_modules::section::RawSection;
+
+/// The size of the body and then the body (Core 3.0, Sections).
+impl<'a> Encode for RawSection<'a> {
+    ghost bytes = { λ section. byte_list_bytes section.body.now };
+
+    ghost CanEncode = { λ section. IsCount (length section.body.now) };
+
+    ghost refuses = { OnlyTooLong };
+
+    ghost at_once = { λ section. too_long_at_once (length section.body.now) };
+
+    fn encode<A: Allocator>(&self, sink: &mut Vec<u8, A>) -> Result<(), EncodeError> {
+        encode_bytes(self.body, sink)
+    }
+}
+
+/// Appends the id of a section and what encodes its size and its body, or leaves `dst` as it was.
+pub fn append_section<S: Encode, A: Allocator>(
+    id: u8,
+    section: &S,
+    dst: &mut Vec<u8, A>,
+) -> Result<(), EncodeError>
+    ensures ok { OnOk result (dst.new.items ≡ dst.old.items ++ id ∷ S.bytes section.now) }
+    ensures can { OnOk result (S.CanEncode section.now) }
+    ensures written { OnOk result (S.IsWritten section.now) }
+    ensures refused { IfErr result (IsRefusal S.CanEncode S.refuses section.now) }
+    ensures err { OnErr result (dst.new.items ≡ dst.old.items) }
+{
+    let start = dst.len();
+    dst.reserve(1)?;
+    dst.push_reserved(id);
+    let result = section.encode(dst);
+    keep_or_undo(dst, start, result)
+}
