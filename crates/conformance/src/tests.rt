@@ -1,53 +1,45 @@
-//! Worked examples, each public function on its happy path, and what no contract says.
+//! Worked examples, each public function on its happy path, and what no contract says. The rows of `replay` hold what is
+//! read, refused and normalised, and what is written in one call.
 
-mod calls;
-mod code;
-mod cuts;
-mod decoded_modules;
 mod functions;
-mod growths;
 mod instructions;
 mod iterators;
 mod lists;
 mod modules;
 mod operands;
-mod order;
 mod own;
-mod reading;
 mod readme;
-mod strict;
-mod table;
 mod type_sections;
 mod types;
 mod writing;
 
 use std::alloc::Global;
 use std::test::Fail;
-use wasm_encoder::{Call, Opcode, Operands, Prefix};
+use wasm_encoder::{Encode, EncodeError};
 
-/// The opcode of one byte.
-fn plain(number: u32) -> Opcode {
-    Opcode {
-        prefix: Prefix::None,
-        number,
+/// The bytes are these in hex.
+fn is(alloc: Global, bytes: &[u8], hex: &str) -> Result<(), Fail> {
+    if hex::decode(alloc, hex)?.as_slice() == bytes {
+        Ok(())
+    } else {
+        Err(Fail::from(hex))
     }
 }
 
-/// A call of the table.
-fn call(number: u32, operands: Operands) -> Result<Call, Fail> {
-    Ok(Call::new(plain(number), operands)?)
+/// The value is encoded as these bytes.
+fn is_encoded<T: Encode>(alloc: Global, value: &T, hex: &str) -> Result<(), Fail> {
+    let mut bytes = Vec::new(alloc);
+    value.encode(&mut bytes)?;
+    is(alloc, bytes.as_slice(), hex)
 }
 
-/// Such calls, one after the other.
-fn calls_of(alloc: Global, rows: &[(u32, Operands)]) -> Result<Vec<Call>, Fail> {
-    let mut calls = Vec::new(alloc);
-    for (number, operands) in rows {
-        calls.push(call(*number, operands.try_clone()?)?)?;
+/// The value is refused with this error, and the list to which it was to be appended is as it was.
+fn is_refused<T: Encode>(alloc: Global, value: &T, error: &EncodeError) -> Result<(), Fail> {
+    let mut list = vec![in alloc; 0x2a]?;
+    let refused = value.encode(&mut list).err();
+    if refused.as_ref() == Some(error) && list.as_slice() == [0x2a].as_slice() {
+        Ok(())
+    } else {
+        Err(Fail::from("another answer"))
     }
-    Ok(calls)
-}
-
-/// The bytes that a row gives in hex.
-fn bytes(alloc: Global, hex: &str) -> Result<Vec<u8>, Fail> {
-    Ok(hex::decode(alloc, hex)?)
 }

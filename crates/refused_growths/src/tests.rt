@@ -28,64 +28,87 @@ const NORMAL: [u8; 18] = [
     0x6a, 0x0b,
 ];
 
+/// What a reader answers, which is asked again where memory was refused.
+fn read_again<T, Read: Fn() -> Result<T, ReadError>>(rt: &impl Print, read: Read) -> Result<T, Fail>
+    requires { Read.IsAlwaysCallable read }
+{
+    match read() {
+        Err(ReadError::Memory) => {
+            println!(rt; "refused")?;
+            Ok(read()?)
+        }
+        answer => Ok(answer?),
+    }
+}
+
+/// What a call makes, which is called again where memory was refused.
+fn made_again<T, Make: Fn() -> Result<T, EncodeError>>(
+    rt: &impl Print,
+    make: Make,
+) -> Result<T, Fail>
+    requires { Make.IsAlwaysCallable make }
+{
+    match make() {
+        Err(EncodeError::Memory) => {
+            println!(rt; "refused")?;
+            Ok(make()?)
+        }
+        answer => Ok(answer?),
+    }
+}
+
+/// The opcode of one byte.
+fn plain(number: u32) -> Opcode {
+    Opcode {
+        prefix: Prefix::None,
+        number,
+    }
+}
+
 fn call(number: u32, operands: Operands) -> Result<Call, Fail> {
-    let prefix = Prefix::None;
-    Ok(Call::new(Opcode { prefix, number }, operands)?)
+    Ok(Call::new(plain(number), operands)?)
 }
 
 /// The call's clone, which is made again where memory was refused, is the call.
 fn is_cloned(rt: &(impl Print + Abort), call: &Call) -> Result<(), Fail> {
-    let same = match call.try_clone() {
-        Err(EncodeError::Memory) => {
-            println!(rt; "refused")?;
-            call.try_clone()?
-        }
-        answer => answer?,
-    };
+    let same = made_again(rt, || call.try_clone())?;
     assert_eq!(rt; same, *call);
     Ok(())
 }
 
 /// The calls are the four that `CODE` repeats.
-fn are_expected(rt: &impl Abort, calls: &[Call]) -> Result<(), Fail> {
-    let mut calls = calls.iter();
-    for (number, operands) in [
+fn are_expected(calls: &[Call]) -> bool {
+    let rows = [
         (0x20, Operands::Index(0)),
         (0x20, Operands::Index(1)),
         (0x6a, Operands::None),
         (0x0b, Operands::None),
-    ] {
-        assert!(rt; calls.next() == Some(&call(number, operands)?));
+    ];
+    let mut are_same = calls.len() == rows.len();
+    for (call, (number, operands)) in calls.iter().zip(&rows) {
+        are_same &= call.op() == plain(*number) && call.operands() == operands;
     }
-    assert!(rt; calls.next().is_none());
-    Ok(())
+    are_same
+}
+
+/// The calls are the twelve of `CODE`.
+fn are_twelve(rt: &impl Abort, calls: &[Call]) {
+    assert_eq!(rt; calls.len(), 12);
+    for four in calls.chunks(4) {
+        assert!(rt; are_expected(four));
+    }
 }
 
 #[test]
 fn calls_are_read(rt: HostRuntime) -> Result<(), Fail> {
-    let calls = match read_instructions(rt.alloc(), CODE.as_slice()) {
-        Err(ReadError::Memory) => {
-            println!(rt; "refused")?;
-            read_instructions(rt.alloc(), CODE.as_slice())?
-        }
-        answer => answer?,
-    };
-    assert_eq!(rt; calls.len(), 12);
-    for four in calls.as_slice().chunks(4) {
-        are_expected(&rt, four)?;
-    }
+    let calls = read_again(&rt, || read_instructions(rt.alloc(), CODE.as_slice()))?;
+    are_twelve(&rt, calls.as_slice());
     Ok(())
 }
 
 #[test]
 fn calls_are_normalised(rt: HostRuntime) -> Result<(), Fail> {
-    let text = match normalise_instructions(rt.alloc(), CODE.as_slice()) {
-        Err(ReadError::Memory) => {
-            println!(rt; "refused")?;
-            normalise_instructions(rt.alloc(), CODE.as_slice())?
-        }
-        answer => answer?,
-    };
+    let text = read_again(&rt, || normalise_instructions(rt.alloc(), CODE.as_slice()))?;
     assert_eq!(rt; text.as_slice(), NORMAL.as_slice());
     Ok(())
 }
@@ -98,13 +121,7 @@ fn operands_are_cloned(rt: HostRuntime) -> Result<(), Fail> {
         Operands::I32(-7),
         Operands::I64(-7),
     ] {
-        let same = match operands.try_clone() {
-            Err(EncodeError::Memory) => {
-                println!(rt; "refused")?;
-                operands.try_clone()?
-            }
-            answer => answer?,
-        };
+        let same = made_again(&rt, || operands.try_clone())?;
         assert_eq!(rt; same, operands);
     }
     Ok(())

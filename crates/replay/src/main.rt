@@ -1,13 +1,26 @@
-//! Replays vectors from outside: the lines of the files in `data/`. It prints a line for each vector that differs, and
-//! counts them.
+//! Replays vectors: the lines of the files in `data/`. It prints a line for each vector that differs, and counts them.
 #![tactic(auto)]
 
 use std::rt::Files;
 use std::{fs, io};
 use vectors::Suite;
 
-fn replay(rt: &(impl Files + Print + AllocGlobal), suite: Suite) -> io::Result<()> {
-    let name = suite.file();
+/// The files, and what their lines are.
+const FILES: [(&str, Suite); 11] = [
+    ("sink.tsv", Suite::Sink),
+    ("types.tsv", Suite::Types),
+    ("answers.tsv", Suite::Answers),
+    ("strict.tsv", Suite::Strict),
+    ("linked.tsv", Suite::Answers),
+    ("kinds.tsv", Suite::Kinds),
+    ("worked_sink.tsv", Suite::Sink),
+    ("worked_types.tsv", Suite::Types),
+    ("worked_answers.tsv", Suite::Answers),
+    ("worked_strict.tsv", Suite::Strict),
+    ("cuts.tsv", Suite::Cuts),
+];
+
+fn replay(rt: &(impl Files + Print + AllocGlobal), name: &str, suite: Suite) -> io::Result<()> {
     let text = fs::read_to_string(rt, name)?;
     let mut vectors: u64 = 0;
     let mut differ: u64 = 0;
@@ -22,9 +35,8 @@ fn replay(rt: &(impl Files + Print + AllocGlobal), suite: Suite) -> io::Result<(
 }
 
 fn main(rt: HostRuntime) -> io::Result<()> {
-    replay(&rt, Suite::Sink)?;
-    replay(&rt, Suite::Types)?;
-    replay(&rt, Suite::Answers)?;
-    replay(&rt, Suite::Strict)?;
-    replay(&rt, Suite::Linked)
+    for (name, suite) in FILES {
+        replay(&rt, name, suite)?;
+    }
+    Ok(())
 }

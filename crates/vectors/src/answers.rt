@@ -3,80 +3,72 @@
 
 use crate::columns::columns;
 use crate::mismatch::Mismatch;
+use crate::readers::{count, normalise, read};
+use crate::words::runs;
+use crate::written::{Written, check_list, check_written};
 use std::alloc::Global;
-use wasm_encoder::{
-    ReadError, normalise_code_section, normalise_instructions, normalise_module,
-    normalise_type_section, read_code_section, read_instructions, read_type_section,
-};
+use wasm_encoder::read_instructions;
 
-/// What a reader is to answer.
-#[derive(Drop)]
-enum Answer {
-    /// The normal form.
-    Normal(Vec<u8>),
-    /// Where the bytes are refused.
-    Refused(usize),
-}
-
-/// Holds a normaliser and its reader to the vector of a line, or a module's normaliser alone.
+/// Holds a normaliser and its reader to the vector of a line.
 pub fn check(alloc: Global, line: &str) -> Result<(), Mismatch> {
     let (what, input, answer) = columns(line)?;
-    let input = hex::decode(alloc, input)?;
-    let expected = parse(alloc, answer)?;
-    check_read(alloc, what, input.as_slice(), &expected)?;
-    check_normal(normalise(alloc, what, input.as_slice()), &expected)?;
-    match &expected {
-        Answer::Normal(normal) if what == "module" => {
-            check_normal(normalise(alloc, what, normal.as_slice()), &expected)
-        }
-        _ => Ok(()),
-    }
-}
-
-/// What the normaliser answers.
-fn normalise(alloc: Global, what: &str, input: &[u8]) -> Result<Vec<u8>, ReadError> {
-    match what {
-        "calls" => normalise_instructions(alloc, input),
-        "types" => normalise_type_section(alloc, input),
-        "code" => normalise_code_section(alloc, input),
-        _ => normalise_module(alloc, input),
-    }
-}
-
-fn parse(alloc: Global, answer: &str) -> Result<Answer, Mismatch> {
-    let (word, value) = answer.split_once(' ').ok_or(Mismatch::NotUnderstood)?;
-    match word {
-        "ok" => Ok(Answer::Normal(hex::decode(alloc, value)?)),
-        "refused" => match value.parse() {
-            Ok(at) => Ok(Answer::Refused(at)),
-            Err(_) => Err(Mismatch::NotUnderstood),
-        },
+    let input = runs(alloc, input)?;
+    let input = input.as_slice();
+    match answer.split_once(' ') {
+        Some(("ok", normal)) => check_taken(alloc, what, input, normal),
+        Some(("refused", at)) => check_refused(alloc, what, input, at.parse().ok()),
         _ => Err(Mismatch::NotUnderstood),
     }
 }
 
-/// The reader of the input, if it has one, takes it or refuses it at the same place.
-fn check_read(alloc: Global, what: &str, input: &[u8], expected: &Answer) -> Result<(), Mismatch> {
-    let refused = match what {
-        "calls" => read_instructions(alloc, input).err(),
-        "types" => read_type_section(alloc, input).err(),
-        "code" => read_code_section(alloc, input).err(),
-        "module" => return Ok(()),
-        _ => return Err(Mismatch::NotUnderstood),
-    };
-    match (refused, expected) {
-        (None, Answer::Normal(_)) => Ok(()),
-        (Some(ReadError::Refused { at }), Answer::Refused(place)) if at == *place => Ok(()),
-        (Some(ReadError::Memory), _) => Err(Mismatch::Memory),
-        _ => Err(Mismatch::Read),
+/// The reader takes the bytes, and they have this normal form, which is its own.
+fn check_taken(alloc: Global, what: &str, input: &[u8], normal: &str) -> Result<(), Mismatch> {
+    if read(alloc, what, input)?.is_err() {
+        return Err(Mismatch::Read);
+    }
+    let normal = runs(alloc, normal)?;
+    let normal = normal.as_slice();
+    check_normal(alloc, what, input, normal)?;
+    check_normal(alloc, what, normal, normal)?;
+    check_calls(alloc, what, input, normal)
+}
+
+fn check_normal(alloc: Global, what: &str, input: &[u8], normal: &[u8]) -> Result<(), Mismatch> {
+    match normalise(alloc, what, input) {
+        Ok(written) if written.as_slice() == normal => Ok(()),
+        Ok(_written) => Err(Mismatch::Normalised),
+        Err(_error) => Err(Mismatch::Normalised),
     }
 }
 
-fn check_normal(text: Result<Vec<u8>, ReadError>, expected: &Answer) -> Result<(), Mismatch> {
-    match (text, expected) {
-        (Ok(text), Answer::Normal(normal)) if text == *normal => Ok(()),
-        (Err(ReadError::Refused { at }), Answer::Refused(place)) if at == *place => Ok(()),
-        (Err(ReadError::Memory), _) => Err(Mismatch::Memory),
-        _ => Err(Mismatch::Normalised),
+/// Calls that are read are written as the normal form, also where requests for memory are refused. Of a long one those
+/// would be too many.
+fn check_calls(alloc: Global, what: &str, input: &[u8], normal: &[u8]) -> Result<(), Mismatch> {
+    if what != "calls" {
+        return Ok(());
     }
+    let calls = read_instructions(alloc, input)?;
+    let calls = Written::Calls(calls.as_slice());
+    if (1..1000).contains(&normal.len()) {
+        check_written(alloc, calls, normal)
+    } else {
+        check_list(alloc, &mut Vec::new(alloc), calls, normal)
+    }
+}
+
+/// The normaliser refuses the bytes at this place, and so does the reader, but for a module's, which looks into no body.
+fn check_refused(
+    alloc: Global,
+    what: &str,
+    input: &[u8],
+    at: Option<usize>,
+) -> Result<(), Mismatch> {
+    let at = at.ok_or(Mismatch::NotUnderstood)?;
+    if count(normalise(alloc, what, input))? != Err(at) {
+        return Err(Mismatch::Normalised);
+    }
+    if what != "module" && read(alloc, what, input)? != Err(at) {
+        return Err(Mismatch::Read);
+    }
+    Ok(())
 }

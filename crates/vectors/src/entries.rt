@@ -112,13 +112,18 @@ fn add_inner(
     inner: &CompositeInnerType,
 ) -> Result<(), EncodeError> {
     match inner {
-        CompositeInnerType::Func(ty) if call == "func_type" => types.func_type(ty),
-        CompositeInnerType::Func(ty) => {
-            types.function(ty.params().iter().copied(), ty.results().iter().copied())
-        }
+        CompositeInnerType::Func(ty) => add_function(types, call, ty),
         CompositeInnerType::Array(ty) => types.array(&ty.0.element_type, ty.0.mutable),
         CompositeInnerType::Struct(ty) => types.struct_(ty.fields.as_slice().iter().copied()),
         CompositeInnerType::Cont(ty) => types.cont(ty),
+    }
+}
+
+fn add_function(types: CoreTypeEncoder<'_>, call: &str, ty: &FuncType) -> Result<(), EncodeError> {
+    if call == "func_type" {
+        types.func_type(ty)
+    } else {
+        types.function(ty.params().iter().copied(), ty.results().iter().copied())
     }
 }
 

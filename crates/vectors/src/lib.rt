@@ -4,22 +4,23 @@
 
 mod answers;
 mod columns;
+mod cuts;
 mod encoded;
 mod entries;
+mod kinds;
 mod mismatch;
+mod readers;
 mod sections;
 mod sink;
 mod strict;
 mod type_tokens;
 mod words;
+mod written;
 
-pub use columns::Token;
-pub use encoded::encode;
 pub use mismatch::Mismatch;
-pub use sink::write;
 use std::alloc::Global;
 
-/// A file of vectors.
+/// The vectors of a file.
 #[derive(Clone, Copy)]
 pub enum Suite {
     /// One call of the sink each.
@@ -30,35 +31,28 @@ pub enum Suite {
     Answers,
     /// What a strict reader answers to some bytes.
     Strict,
-    /// The normal forms of modules that a compiler and a linker made.
-    Linked,
+    /// What readers and normalisers answer to some bytes and to each part of them.
+    Cuts,
+    /// The kind of an opcode.
+    Kinds,
 }
 
 impl Suite {
-    /// The name of its file.
-    pub fn file(self) -> &'static str {
-        match self {
-            Suite::Sink => "sink.tsv",
-            Suite::Types => "types.tsv",
-            Suite::Answers => "answers.tsv",
-            Suite::Strict => "strict.tsv",
-            Suite::Linked => "linked.tsv",
-        }
-    }
-
     /// Holds the encoder to the vector of a line.
     pub fn check(self, alloc: Global, line: &str) -> Result<(), Mismatch> {
         match self {
             Suite::Sink => sink::check(alloc, line),
             Suite::Types => check_types(alloc, line),
+            Suite::Answers => answers::check(alloc, line),
             Suite::Strict => strict::check(alloc, line),
-            Suite::Answers | Suite::Linked => answers::check(alloc, line),
+            Suite::Cuts => cuts::check(alloc, line),
+            Suite::Kinds => kinds::check(line),
         }
     }
 }
 
 /// Holds what the first column says to the others.
-pub fn check_types(alloc: Global, line: &str) -> Result<(), Mismatch> {
+fn check_types(alloc: Global, line: &str) -> Result<(), Mismatch> {
     let columns: Vec<&str> = line.split('\t').collect(alloc)?;
     match columns.as_slice() {
         ["encode", token, hex] => encoded::check(alloc, token, hex),

@@ -23,6 +23,15 @@ pub enum Mismatch {
     /// `write_call` does not write what the method writes.
     #[error("write_call writes other bytes")]
     WriteCall,
+    /// A list is another where memory is refused, or needs too much.
+    #[error("refused memory leaves another list, or too much is asked for")]
+    Growth,
+    /// An opcode has another kind.
+    #[error("the opcode has another kind")]
+    Kind,
+    /// A call has another opcode or other operands than it was made of.
+    #[error("a call of other parts is made")]
+    Made,
     /// The bytes are read as other calls or sections.
     #[error("other calls or sections are read")]
     Read,

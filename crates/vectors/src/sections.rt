@@ -1,9 +1,10 @@
-//! Vectors of sections: `raw`, a section's id and body, and its bytes, or `module`, the sections of a module, and the
-//! module.
+//! Vectors of sections: `raw`, a section's id and body, and its bytes; `module`, the sections of a module, and the
+//! module; or `read`, the same of a module in longer encodings.
 
 use crate::mismatch::Mismatch;
+use crate::written::{Written, check_written};
 use std::alloc::Global;
-use wasm_encoder::{Encode, Module, RawSection, read_module};
+use wasm_encoder::{Module, RawSection, read_module};
 
 /// A section that a vector gives.
 #[derive(Drop)]
@@ -32,20 +33,15 @@ fn check_row(alloc: Global, row: &str, words: &[&str], expected: &[u8]) -> Resul
     match (row, words) {
         ("raw", [id, body]) => check_raw(alloc, &owned(alloc, id, body)?, expected),
         ("module", [count, words @ ..]) => {
-            let sections = sections(alloc, words)?;
-            if parse_count(count) != Some(sections.len()) {
-                return Err(Mismatch::NotUnderstood);
-            }
-            check_sections(alloc, sections.as_slice(), expected)
+            let sections = sections(alloc, count, words)?;
+            check_module(alloc, sections.as_slice(), expected)?;
+            check_reader(alloc, sections.as_slice(), expected)
+        }
+        ("read", [count, words @ ..]) => {
+            check_reader(alloc, sections(alloc, count, words)?.as_slice(), expected)
         }
         _ => Err(Mismatch::NotUnderstood),
     }
-}
-
-/// The module of the sections is the bytes, which are read as them.
-fn check_sections(alloc: Global, sections: &[OwnedSection], bytes: &[u8]) -> Result<(), Mismatch> {
-    check_module(alloc, sections, bytes)?;
-    check_reader(alloc, sections, bytes)
 }
 
 /// How many sections a word announces, as `raws:2`.
@@ -53,8 +49,8 @@ fn parse_count(word: &str) -> Option<usize> {
     word.strip_prefix("raws:")?.parse().ok()
 }
 
-/// The sections, an id and a body each.
-fn sections(alloc: Global, words: &[&str]) -> Result<Vec<OwnedSection>, Mismatch> {
+/// So many sections, an id and a body each.
+fn sections(alloc: Global, count: &str, words: &[&str]) -> Result<Vec<OwnedSection>, Mismatch> {
     let mut sections = Vec::new(alloc);
     for section in words.chunks(2) {
         let [id, body] = section else {
@@ -62,7 +58,11 @@ fn sections(alloc: Global, words: &[&str]) -> Result<Vec<OwnedSection>, Mismatch
         };
         sections.push(owned(alloc, id, body)?)?;
     }
-    Ok(sections)
+    if parse_count(count) == Some(sections.len()) {
+        Ok(sections)
+    } else {
+        Err(Mismatch::NotUnderstood)
+    }
 }
 
 /// A section by its id and its body, which is `-` where it is empty.
@@ -75,15 +75,13 @@ fn owned(alloc: Global, id: &str, body: &str) -> Result<OwnedSection, Mismatch> 
     Ok(OwnedSection { id, body })
 }
 
-/// The section's bytes are the expected ones.
+/// The section's bytes are the expected ones, and with its id before them where it is added to a list.
 fn check_raw(alloc: Global, section: &OwnedSection, expected: &[u8]) -> Result<(), Mismatch> {
-    let mut bytes = Vec::new(alloc);
-    section.as_raw().encode(&mut bytes)?;
-    if bytes.as_slice() == expected {
-        Ok(())
-    } else {
-        Err(Mismatch::Written)
-    }
+    let section = section.as_raw();
+    check_written(alloc, Written::Body(section), expected)?;
+    let mut whole = vec![in alloc; section.id]?;
+    whole.extend_from_slice(expected)?;
+    check_written(alloc, Written::Section(section), whole.as_slice())
 }
 
 /// The module of the sections is the bytes.

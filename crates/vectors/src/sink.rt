@@ -10,8 +10,8 @@ mod without_operands;
 
 use crate::columns::columns;
 use crate::mismatch::Mismatch;
+use crate::written::{Written, check_growth, check_written};
 use arguments::{Argument, arguments};
-use rationed::Rationed;
 use std::alloc::{Allocator, Global};
 use wasm_encoder::{
     Call, EncodeError, InstructionSink, Items, Opcode, Operands, Prefix, normalise_instructions,
@@ -22,29 +22,29 @@ use wasm_encoder::{
 pub fn check(alloc: Global, line: &str) -> Result<(), Mismatch> {
     let (method, operands, hex) = columns(line)?;
     let expected = hex::decode(alloc, hex)?;
-    check_method(alloc, method, operands, expected.as_slice())?;
-    let call = call_of(alloc, method, operands, expected.as_slice())?;
-    check_call(alloc, &call, expected.as_slice())?;
-    check_readers(alloc, &call, expected.as_slice())
+    let expected = expected.as_slice();
+    let room = if operands.contains("list:") { 0 } else { 24 };
+    check_written(alloc, Written::Method(method, operands), expected)?;
+    check_growth(alloc, 0, Written::Method(method, operands), expected)?;
+    check_growth(alloc, room, Written::Method(method, operands), expected)?;
+    let calls = [call_of(alloc, method, operands, expected)?];
+    check_calls(alloc, room, &calls, expected)?;
+    check_readers(alloc, &calls, expected)
 }
 
-/// The method writes the bytes into a list that can grow, and, if it has no list, into each of `check_growth`.
-fn check_method(
+/// Calls the method of this name. If there is none, nothing is written.
+pub fn write_method<'a, A: Allocator>(
     alloc: Global,
+    sink: InstructionSink<'a, A>,
     method: &str,
     operands: &str,
-    expected: &[u8],
 ) -> Result<(), Mismatch> {
-    check_list(alloc, &mut Vec::new(alloc), method, operands, expected)?;
-    if operands.contains("list:") {
-        return Ok(());
-    }
-    check_growth(alloc, 0, method, operands, expected)?;
-    check_growth(alloc, 24, method, operands, expected)
+    write(alloc, sink, method, operands)?;
+    Ok(())
 }
 
 /// Calls the method of this name, with the operands that the tokens stand for. If there is none, nothing is written.
-pub fn write<'a, A: Allocator>(
+fn write<'a, A: Allocator>(
     alloc: Global,
     sink: InstructionSink<'a, A>,
     method: &str,
@@ -115,41 +115,18 @@ fn write_two<'a, A: Allocator>(
     }
 }
 
-/// The method writes the bytes into this list, which is empty.
-fn check_list<A: Allocator>(
-    alloc: Global,
-    code: &mut Vec<u8, A>,
-    method: &str,
-    operands: &str,
-    expected: &[u8],
-) -> Result<(), Mismatch> {
-    write(alloc, InstructionSink::new(code), method, operands)?;
-    if code.as_slice() == expected {
-        Ok(())
-    } else {
-        Err(Mismatch::Written)
-    }
-}
-
-/// The method writes the bytes into a list with so much room, where one request for memory is granted: the room, or a
-/// growth.
-fn check_growth(
-    alloc: Global,
-    room: usize,
-    method: &str,
-    operands: &str,
-    expected: &[u8],
-) -> Result<(), Mismatch> {
-    let ration = Rationed::new(alloc, 1);
-    let mut code = Vec::with_capacity(&ration, room)?;
-    check_list(alloc, &mut code, method, operands, expected)
-}
-
 /// The call of the method.
 fn call_of(alloc: Global, method: &str, operands: &str, bytes: &[u8]) -> Result<Call, Mismatch> {
     let opcode = opcode(bytes)?;
-    let call = Call::new(opcode, operands_of(alloc, method, operands)?);
-    call.ok().ok_or(Mismatch::NotUnderstood)
+    let operands = operands_of(alloc, method, operands)?;
+    let same = operands.try_clone()?;
+    let call = Call::new(opcode, operands).ok();
+    let call = call.ok_or(Mismatch::NotUnderstood)?;
+    if call.op() == opcode && *call.operands() == same && call.try_clone()? == call {
+        Ok(call)
+    } else {
+        Err(Mismatch::Made)
+    }
 }
 
 /// The operands of the call, in written order.
@@ -233,26 +210,29 @@ fn number(bytes: &[u8]) -> Result<u32, Mismatch> {
     }
 }
 
-/// `write_call` writes the bytes.
-fn check_call(alloc: Global, call: &Call, expected: &[u8]) -> Result<(), Mismatch> {
-    let mut code = Vec::new(alloc);
-    InstructionSink::new(&mut code).write_call(call)?;
-    if code.as_slice() == expected {
-        Ok(())
-    } else {
-        Err(Mismatch::WriteCall)
+/// `write_call` and `write_calls` write the bytes.
+fn check_calls(
+    alloc: Global,
+    room: usize,
+    calls: &[Call; 1],
+    expected: &[u8],
+) -> Result<(), Mismatch> {
+    let [call] = calls;
+    if Some(call.operands().kind()) != call.op().kind() {
+        return Err(Mismatch::Made);
     }
+    check_written(alloc, Written::Calls(calls), expected)?;
+    check_written(alloc, Written::Call(call), expected)?;
+    check_growth(alloc, 0, Written::Call(call), expected)?;
+    check_growth(alloc, room, Written::Call(call), expected)
 }
 
-/// The bytes are read as this call alone, and are their own normal form.
-fn check_readers(alloc: Global, call: &Call, bytes: &[u8]) -> Result<(), Mismatch> {
-    let calls = read_instructions(alloc, bytes)?;
-    match calls.as_slice() {
-        [only] if only == call => {}
-        _ => return Err(Mismatch::Read),
+/// The bytes are read as these calls, and are their own normal form.
+fn check_readers(alloc: Global, calls: &[Call], bytes: &[u8]) -> Result<(), Mismatch> {
+    if read_instructions(alloc, bytes)?.as_slice() != calls {
+        return Err(Mismatch::Read);
     }
-    let text = normalise_instructions(alloc, bytes)?;
-    if text.as_slice() == bytes {
+    if normalise_instructions(alloc, bytes)?.as_slice() == bytes {
         Ok(())
     } else {
         Err(Mismatch::Normalised)

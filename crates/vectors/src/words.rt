@@ -90,3 +90,21 @@ pub fn items<T: Drop, Read: Fn(&str) -> Option<T>>(
 pub fn number(text: &str) -> Option<u32> {
     text.parse().ok()
 }
+
+/// The bytes of a column: runs in hex that `+` splits, where `0B*100` is a run of a hundred.
+pub fn runs(alloc: Global, column: &str) -> Result<Vec<u8>, Mismatch> {
+    let mut bytes = Vec::new(alloc);
+    for run in column.split('+') {
+        let (hex, times) = run.split_once('*').unwrap_or((run, "1"));
+        append_run(hex::decode(alloc, hex)?.as_slice(), times, &mut bytes)?;
+    }
+    Ok(bytes)
+}
+
+/// Appends the bytes so many times.
+fn append_run(run: &[u8], times: &str, bytes: &mut Vec<u8>) -> Result<(), Mismatch> {
+    for _ in 0..number(times).ok_or(Mismatch::NotUnderstood)? {
+        bytes.extend_from_slice(run)?;
+    }
+    Ok(())
+}

@@ -1,12 +1,11 @@
 //! Functions and code sections.
 
-use super::{bytes, calls_of};
+use super::{is, is_encoded};
 use std::alloc::Global;
-use std::process::Abort;
 use std::test::Fail;
 use wasm_encoder::{
-    Call, CodeBody, CodeSection, Encode, EncodeError, Function, InstructionSink, Items, Operands,
-    Section, ValType,
+    Call, CodeBody, CodeSection, EncodeError, Function, InstructionSink, Items, Section, ValType,
+    read_instructions,
 };
 
 const NO_LOCALS: [(u32, ValType); 0] = [];
@@ -25,19 +24,11 @@ fn append_sum(code: &mut Vec<u8>) -> Result<(), EncodeError> {
 }
 
 /// The section has so many bodies, and these bytes.
-fn is_section(
-    rt: &impl Abort,
-    alloc: Global,
-    code: &CodeSection,
-    len: u32,
-    hex: &str,
-) -> Result<(), Fail> {
-    let mut encoded = Vec::new(alloc);
-    code.encode(&mut encoded)?;
-    assert_eq!(rt; encoded, bytes(alloc, hex)?);
-    assert_eq!(rt; code.len(), len);
-    assert_eq!(rt; code.is_empty(), len == 0);
-    Ok(())
+fn is_section(alloc: Global, code: &CodeSection, len: u32, hex: &str) -> Result<(), Fail> {
+    if code.len() != len || code.is_empty() != (len == 0) {
+        return Err(Fail::from(code.len()));
+    }
+    is_encoded(alloc, code, hex)
 }
 
 #[test]
@@ -47,72 +38,64 @@ fn a_function_in_a_section(rt: HostRuntime) -> Result<(), Fail> {
     assert_eq!(rt; function.byte_len(), 7);
     let mut code = CodeSection::new(rt.alloc());
     assert_eq!(rt; code.id(), 10);
-    is_section(&rt, rt.alloc(), &code, 0, "0100")?;
+    is_section(rt.alloc(), &code, 0, "0100")?;
     code.function(&function)?;
-    is_section(&rt, rt.alloc(), &code, 1, "09010700200020016A0B")
+    is_section(rt.alloc(), &code, 1, "09010700200020016A0B")
+}
+
+/// A function of the locals and an `end`.
+fn function_with_locals(alloc: Global) -> Result<Function, Fail> {
+    let mut function = Function::new(alloc, LOCALS.iter().copied())?;
+    function.instructions().end()?;
+    Ok(function)
 }
 
 #[test]
 fn a_function_with_locals(rt: HostRuntime) -> Result<(), Fail> {
-    let mut function = Function::new(rt.alloc(), LOCALS.iter().copied())?;
-    function.instructions().end()?;
-    let mut encoded = Vec::new(rt.alloc());
-    function.encode(&mut encoded)?;
-    assert_eq!(rt; encoded, bytes(rt.alloc(), "0602027F01700B")?);
+    let function = function_with_locals(rt.alloc())?;
+    is_encoded(rt.alloc(), &function, "0602027F01700B")?;
     let mut code = CodeSection::new(rt.alloc());
     code.function(&function)?;
-    is_section(&rt, rt.alloc(), &code, 1, "08010602027F01700B")?;
-    let copy = code.try_clone()?;
-    code.function(&function.try_clone()?)?;
-    is_section(&rt, rt.alloc(), &copy, 1, "08010602027F01700B")?;
-    is_section(
-        &rt,
-        rt.alloc(),
-        &code,
-        2,
-        "0F020602027F01700B0602027F01700B",
-    )
+    is_section(rt.alloc(), &code, 1, "08010602027F01700B")?;
+    is_apart(rt.alloc(), code, &function)
 }
 
-/// The calls of a sum of two parameters.
-fn sum_calls(alloc: Global) -> Result<Vec<Call>, Fail> {
-    calls_of(
-        alloc,
-        &[
-            (0x20, Operands::Index(0)),
-            (0x20, Operands::Index(1)),
-            (0x6a, Operands::None),
-            (0x0b, Operands::None),
-        ],
-    )
+/// The function is added to the section, and not to its copy.
+fn is_apart(alloc: Global, mut code: CodeSection, function: &Function) -> Result<(), Fail> {
+    let copy = code.try_clone()?;
+    code.function(&function.try_clone()?)?;
+    is_section(alloc, &copy, 1, "08010602027F01700B")?;
+    is_section(alloc, &code, 2, "0F020602027F01700B0602027F01700B")
+}
+
+/// A body of the locals and a sum of two parameters.
+fn body(alloc: Global) -> Result<CodeBody, Fail> {
+    let sum: Vec<Call> = read_instructions(alloc, b"\x20\x00\x20\x01\x6a\x0b")?;
+    Ok(CodeBody {
+        locals: Items::from_slice(alloc, &LOCALS)?,
+        calls: Items::from(sum),
+    })
 }
 
 /// A body is written as the function with its locals and its calls is.
 #[test]
 fn bodies_are_written_as_functions(rt: HostRuntime) -> Result<(), Fail> {
-    let body = CodeBody {
-        locals: Items::from_slice(rt.alloc(), &LOCALS)?,
-        calls: Items::from(sum_calls(rt.alloc())?),
-    };
-    let copy = body.try_clone()?;
-    assert_eq!(rt; copy, body);
     let hex = "0B02027F0170200020016A0B";
-    let mut encoded = Vec::new(rt.alloc());
-    body.encode(&mut encoded)?;
-    assert_eq!(rt; encoded, bytes(rt.alloc(), hex)?);
+    let body = body(rt.alloc())?;
+    is_encoded(rt.alloc(), &body, hex)?;
     let mut function = Function::new(rt.alloc(), LOCALS.iter().copied())?;
     function.calls(body.calls.as_slice())?;
-    encoded.clear();
-    function.encode(&mut encoded)?;
-    assert_eq!(rt; encoded, bytes(rt.alloc(), hex)?);
+    is_encoded(rt.alloc(), &function, hex)
+}
+
+#[test]
+fn a_body_and_its_copy_in_a_section(rt: HostRuntime) -> Result<(), Fail> {
+    let body = body(rt.alloc())?;
+    let copy = body.try_clone()?;
+    assert!(rt; copy == body);
     let bodies = [body, copy];
     let mut code = CodeSection::new(rt.alloc());
     code.bodies(bodies.as_slice())?;
-    is_section(
-        &rt,
-        rt.alloc(),
-        &code,
-        2,
-        "19020B02027F0170200020016A0B0B02027F0170200020016A0B",
-    )
+    let hex = "19020B02027F0170200020016A0B0B02027F0170200020016A0B";
+    is_section(rt.alloc(), &code, 2, hex)
 }

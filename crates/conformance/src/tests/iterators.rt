@@ -2,10 +2,9 @@
 ghost use Rattle.std.specs.Prelude.{◌≤◌, vec_len};
 ghost use Rattle.std.specs.Iterator.{at_most};
 
-use super::bytes;
+use super::{is, is_encoded};
 use std::alloc::Global;
 use std::cell::Cell;
-use std::process::Abort;
 use std::test::Fail;
 use wasm_encoder::{
     ArrayType, CompositeInnerType, CompositeType, ContType, Encode, EncodeError, FieldType,
@@ -66,28 +65,20 @@ fn the_labels_that_come_are_counted(rt: HostRuntime) -> Result<(), Fail> {
         (16383, 1, "2A0EFF7F"),
         (16384, 1, "2A0E808001"),
     ] {
-        writes_labels(&rt, rt.alloc(), came, more, head)?;
+        writes_labels(rt.alloc(), came, more, head)?;
     }
     Ok(())
 }
 
 /// A branch table with these labels has this head, the labels, and the label of all other numbers.
-fn writes_labels(
-    rt: &impl Abort,
-    alloc: Global,
-    came: usize,
-    more: usize,
-    head: &str,
-) -> Result<(), Fail> {
+fn writes_labels(alloc: Global, came: usize, more: usize, head: &str) -> Result<(), Fail> {
     let asked = Cell::new(0);
     let labels = telling(vec![in alloc; 5u32; came]?, more, &asked);
     let mut code = vec![in alloc; 0x2a]?;
     InstructionSink::new(&mut code).br_table(labels, 9)?.end()?;
-    let mut expected = bytes(alloc, head)?;
-    expected.extend_from_slice(vec![in alloc; 5u8; came]?.as_slice())?;
-    expected.extend_from_slice(&[9, 0x0b])?;
-    assert_eq!(rt; code, expected, "{came} labels and {more} more");
-    Ok(())
+    let expected = repeated(alloc, head, "", "05", came)?;
+    let rest = code.as_slice().strip_prefix(expected.as_slice());
+    is(alloc, rest.unwrap_or(&[]), "090B")
 }
 
 /// How many items came, how many more were told of, and the count of those that came.
@@ -103,21 +94,15 @@ fn the_types_that_come_are_counted(rt: HostRuntime) -> Result<(), Fail> {
         (128, 1, "8001"),
         (128, 16256, "8001"),
     ] {
-        adds_function(&rt, rt.alloc(), came, more, count)?;
-        adds_struct(&rt, rt.alloc(), came, more, count)?;
-        adds_group(&rt, rt.alloc(), came, more, count)?;
+        adds_function(rt.alloc(), came, more, count)?;
+        adds_struct(rt.alloc(), came, more, count)?;
+        adds_group(rt.alloc(), came, more, count)?;
     }
     Ok(())
 }
 
 /// Parameters of this number, and one result.
-fn adds_function(
-    rt: &impl Abort,
-    alloc: Global,
-    came: usize,
-    more: usize,
-    count: &str,
-) -> Result<(), Fail> {
+fn adds_function(alloc: Global, came: usize, more: usize, count: &str) -> Result<(), Fail> {
     let asked = Cell::new(0);
     let params = telling(vec![in alloc; ValType::I32; came]?, more, &asked);
     let results = telling(vec![in alloc; ValType::I64; 1]?, more, &asked);
@@ -125,42 +110,26 @@ fn adds_function(
     types.ty().function(params, results)?;
     let mut body = repeated(alloc, "0160", count, "7F", came)?;
     body.extend_from_slice(&[0x01, 0x7e])?;
-    is_body(rt, alloc, &types, body.as_slice())
+    is_body(alloc, &types, body.as_slice())
 }
 
 /// Fields of this number.
-fn adds_struct(
-    rt: &impl Abort,
-    alloc: Global,
-    came: usize,
-    more: usize,
-    count: &str,
-) -> Result<(), Fail> {
+fn adds_struct(alloc: Global, came: usize, more: usize, count: &str) -> Result<(), Fail> {
     let asked = Cell::new(0);
     let fields = telling(vec![in alloc; BYTE; came]?, more, &asked);
     let mut types = TypeSection::new(alloc);
     types.ty().struct_(fields)?;
     let body = repeated(alloc, "015F", count, "7801", came)?;
-    is_body(rt, alloc, &types, body.as_slice())
+    is_body(alloc, &types, body.as_slice())
 }
 
 /// A group of this number of types.
-fn adds_group(
-    rt: &impl Abort,
-    alloc: Global,
-    came: usize,
-    more: usize,
-    count: &str,
-) -> Result<(), Fail> {
+fn adds_group(alloc: Global, came: usize, more: usize, count: &str) -> Result<(), Fail> {
     let asked = Cell::new(0);
-    let mut members = Vec::new(alloc);
-    for _ in 0..came {
-        members.push(array(alloc))?;
-    }
     let mut types = TypeSection::new(alloc);
-    types.ty().rec(telling(members, more, &asked))?;
+    types.ty().rec(telling(arrays(alloc, came)?, more, &asked))?;
     let body = repeated(alloc, "014E", count, "5E7801", came)?;
-    is_body(rt, alloc, &types, body.as_slice())
+    is_body(alloc, &types, body.as_slice())
 }
 
 /// A field of a byte that can be changed.
@@ -183,6 +152,15 @@ fn array(alloc: Global) -> SubType {
     }
 }
 
+/// So many types of arrays.
+fn arrays(alloc: Global, count: usize) -> Result<Vec<SubType>, Fail> {
+    let mut types = Vec::new(alloc);
+    for _ in 0..count {
+        types.push(array(alloc))?;
+    }
+    Ok(types)
+}
+
 /// A head, a count, and so often the same item.
 fn repeated(
     alloc: Global,
@@ -191,23 +169,26 @@ fn repeated(
     item: &str,
     times: usize,
 ) -> Result<Vec<u8>, Fail> {
-    let mut body = bytes(alloc, head)?;
-    body.extend_from_slice(bytes(alloc, count)?.as_slice())?;
-    let item = bytes(alloc, item)?;
+    let mut bytes = hex::decode(alloc, head)?;
+    bytes.extend_from_slice(hex::decode(alloc, count)?.as_slice())?;
+    let item = hex::decode(alloc, item)?;
     for _ in 0..times {
-        body.extend_from_slice(item.as_slice())?;
+        bytes.extend_from_slice(item.as_slice())?;
     }
-    Ok(body)
+    Ok(bytes)
 }
 
 /// The section has this body.
-fn is_body(rt: &impl Abort, alloc: Global, types: &TypeSection, body: &[u8]) -> Result<(), Fail> {
+fn is_body(alloc: Global, types: &TypeSection, body: &[u8]) -> Result<(), Fail> {
     let mut expected = Vec::new(alloc);
     encode_bytes(body, &mut expected)?;
-    let mut text = Vec::new(alloc);
-    types.encode(&mut text)?;
-    assert_eq!(rt; text, expected);
-    Ok(())
+    let mut bytes = Vec::new(alloc);
+    types.encode(&mut bytes)?;
+    if bytes == expected {
+        Ok(())
+    } else {
+        Err(Fail::from("another body"))
+    }
 }
 
 /// A section of one entry.
@@ -221,72 +202,66 @@ fn one_entry(alloc: Global) -> Result<TypeSection, Fail> {
 #[test]
 fn too_many_are_refused_before_one_is_asked_for(rt: HostRuntime) -> Result<(), Fail> {
     for more in [4294967296, 5000000000] {
-        refuses_parameters(&rt, rt.alloc(), more, 0)?;
-        refuses_parameters(&rt, rt.alloc(), 0, more)?;
-        refuses_fields(&rt, rt.alloc(), more)?;
-        refuses_members(&rt, rt.alloc(), more)?;
+        refuses_parameters(rt.alloc(), more, 0)?;
+        refuses_parameters(rt.alloc(), 0, more)?;
+        refuses_fields(rt.alloc(), more)?;
+        refuses_members(rt.alloc(), more)?;
     }
     Ok(())
 }
 
-/// A function type with so many more parameters and results than three.
-fn refuses_parameters(
-    rt: &impl Abort,
+/// The section still has its one entry, and no item was asked for before it refused more.
+fn is_unchanged(
     alloc: Global,
-    more_params: usize,
-    more_results: usize,
+    types: &TypeSection,
+    refused: Result<(), EncodeError>,
+    asked: u32,
 ) -> Result<(), Fail> {
+    if refused != Err(EncodeError::TooLong) || asked != 0 {
+        return Err(Fail::from(asked));
+    }
+    is_encoded(alloc, types, "03015D00")
+}
+
+/// A function type with so many more parameters and results than three.
+fn refuses_parameters(alloc: Global, more_params: usize, more_results: usize) -> Result<(), Fail> {
     let asked = Cell::new(0);
     let params = telling(vec![in alloc; ValType::I32; 3]?, more_params, &asked);
     let results = telling(vec![in alloc; ValType::I32; 3]?, more_results, &asked);
     let mut types = one_entry(alloc)?;
     let refused = types.ty().function(params, results);
-    assert_eq!(rt; refused, Err(EncodeError::TooLong));
-    assert_eq!(rt; asked.get(), 0);
-    is_body(rt, alloc, &types, &[0x01, 0x5d, 0x00])
+    is_unchanged(alloc, &types, refused, asked.get())
 }
 
 /// A structure with so many more fields than three.
-fn refuses_fields(rt: &impl Abort, alloc: Global, more: usize) -> Result<(), Fail> {
+fn refuses_fields(alloc: Global, more: usize) -> Result<(), Fail> {
     let asked = Cell::new(0);
     let mut types = one_entry(alloc)?;
-    let refused = types
-        .ty()
-        .struct_(telling(vec![in alloc; BYTE; 3]?, more, &asked));
-    assert_eq!(rt; refused, Err(EncodeError::TooLong));
-    assert_eq!(rt; asked.get(), 0);
-    is_body(rt, alloc, &types, &[0x01, 0x5d, 0x00])
+    let fields = telling(vec![in alloc; BYTE; 3]?, more, &asked);
+    let refused = types.ty().struct_(fields);
+    is_unchanged(alloc, &types, refused, asked.get())
 }
 
 /// A group of so many more types than one.
-fn refuses_members(rt: &impl Abort, alloc: Global, more: usize) -> Result<(), Fail> {
+fn refuses_members(alloc: Global, more: usize) -> Result<(), Fail> {
     let asked = Cell::new(0);
-    let mut members = Vec::new(alloc);
-    members.push(array(alloc))?;
+    let members = telling(arrays(alloc, 1)?, more, &asked);
     let mut types = one_entry(alloc)?;
-    let refused = types.ty().rec(telling(members, more, &asked));
-    assert_eq!(rt; refused, Err(EncodeError::TooLong));
-    assert_eq!(rt; asked.get(), 0);
-    is_body(rt, alloc, &types, &[0x01, 0x5d, 0x00])
+    let refused = types.ty().rec(members);
+    is_unchanged(alloc, &types, refused, asked.get())
 }
 
 /// Slices, arrays, vectors and repeated items are taken without a proof.
 #[test]
 fn iterators_of_the_library(rt: HostRuntime) -> Result<(), Fail> {
-    let alloc = rt.alloc();
-    let mut types = TypeSection::new(alloc);
+    let mut types = TypeSection::new(rt.alloc());
     types.ty().function(
         [ValType::I32, ValType::I32].iter().copied(),
         [ValType::I32].iter().copied(),
     )?;
-    types.ty().function(
-        vec![in alloc; ValType::I64; 2]?.into_iter(),
-        [ValType::I64].into_iter(),
-    )?;
-    is_body(
-        &rt,
-        alloc,
-        &types,
-        bytes(alloc, "0260027F7F017F60027E7E017E")?.as_slice(),
-    )
+    let params = vec![in rt.alloc(); ValType::I64; 2]?;
+    types
+        .ty()
+        .function(params.into_iter(), [ValType::I64].into_iter())?;
+    is_encoded(rt.alloc(), &types, "0D0260027F7F017F60027E7E017E")
 }

@@ -1,8 +1,7 @@
 //! The examples of the README, as they stand there.
 
-use super::bytes;
+use super::is;
 use std::alloc::Global;
-use std::process::Abort;
 use std::test::Fail;
 use wasm_encoder::{
     CodeSection, EncodeError, Function, InstructionSink, Module, RawSection, SectionId,
@@ -41,15 +40,15 @@ fn add_module(alloc: Global) -> Result<Vec<u8>, EncodeError> {
 #[test]
 fn a_module_that_adds(rt: HostRuntime) -> Result<(), Fail> {
     let module = add_module(rt.alloc())?;
-    let expected = bytes(
+    let module = module.as_slice();
+    let hex = "0061736D0100000001070160027F7F017F030201000707010361646400000A09010700200020016A0B";
+    is(rt.alloc(), module, hex)?;
+    assert_eq!(rt; read_module(rt.alloc(), module)?.len(), 4);
+    is(
         rt.alloc(),
-        "0061736D0100000001070160027F7F017F030201000707010361646400000A09010700200020016A0B",
-    )?;
-    assert_eq!(rt; module, expected);
-    let sections = read_module(rt.alloc(), module.as_slice())?;
-    assert_eq!(rt; sections.len(), 4);
-    assert_eq!(rt; normalise_module(rt.alloc(), module.as_slice())?, module);
-    Ok(())
+        normalise_module(rt.alloc(), module)?.as_slice(),
+        hex,
+    )
 }
 
 /// Appends instructions that add two locals: 20 00 20 01 6A 0B.
@@ -66,6 +65,5 @@ fn add(code: &mut Vec<u8>) -> Result<(), EncodeError> {
 fn instructions_that_add(rt: HostRuntime) -> Result<(), Fail> {
     let mut code = Vec::new(rt.alloc());
     add(&mut code)?;
-    assert_eq!(rt; code, bytes(rt.alloc(), "200020016A0B")?);
-    Ok(())
+    is(rt.alloc(), code.as_slice(), "200020016A0B")
 }

@@ -1,6 +1,6 @@
 //! Functions and code sections: made, added to, encoded and cloned.
 
-use super::call;
+use super::{call, made_again};
 use std::process::Abort;
 use std::test::Fail;
 use wasm_encoder::{
@@ -17,20 +17,8 @@ const BODY: [u8; 12] = [
 
 /// A body, of which every list is made again where memory was refused.
 fn body(rt: &(impl AllocGlobal + Print)) -> Result<CodeBody, Fail> {
-    let labels = match Items::from_slice(rt.alloc(), &[0, 1]) {
-        Err(EncodeError::Memory) => {
-            println!(rt; "refused")?;
-            Items::from_slice(rt.alloc(), &[0, 1])?
-        }
-        answer => answer?,
-    };
-    let locals = match Items::from_slice(rt.alloc(), &LOCALS) {
-        Err(EncodeError::Memory) => {
-            println!(rt; "refused")?;
-            Items::from_slice(rt.alloc(), &LOCALS)?
-        }
-        answer => answer?,
-    };
+    let labels = made_again(rt, || Items::from_slice(rt.alloc(), &[0, 1]))?;
+    let locals = made_again(rt, || Items::from_slice(rt.alloc(), &LOCALS))?;
     let mut calls: Vec<Call> = match Vec::with_capacity(rt.alloc(), 2) {
         Err(_) => {
             println!(rt; "refused")?;
@@ -59,13 +47,7 @@ fn encoded<T: Encode>(rt: &(impl AllocGlobal + Print + Abort), value: &T) -> Res
 
 /// A function of the locals, made again where memory was refused.
 fn function(rt: &(impl AllocGlobal + Print)) -> Result<Function, Fail> {
-    Ok(match Function::new(rt.alloc(), LOCALS.iter().copied()) {
-        Err(EncodeError::Memory) => {
-            println!(rt; "refused")?;
-            Function::new(rt.alloc(), LOCALS.iter().copied())?
-        }
-        answer => answer?,
-    })
+    made_again(rt, || Function::new(rt.alloc(), LOCALS.iter().copied()))
 }
 
 /// A function of the locals with these calls, which are added again where memory was refused.
@@ -134,13 +116,7 @@ fn bodies_are_added(rt: HostRuntime) -> Result<(), Fail> {
 
 /// The body's clone, which is made again where memory was refused, is the body.
 fn is_cloned(rt: &(impl Print + Abort), body: &CodeBody) -> Result<(), Fail> {
-    let same = match body.try_clone() {
-        Err(EncodeError::Memory) => {
-            println!(rt; "refused")?;
-            body.try_clone()?
-        }
-        answer => answer?,
-    };
+    let same = made_again(rt, || body.try_clone())?;
     assert_eq!(rt; same, *body);
     Ok(())
 }
@@ -156,22 +132,10 @@ fn bodies_are_encoded_and_cloned(rt: HostRuntime) -> Result<(), Fail> {
 #[test]
 fn functions_and_sections_are_cloned(rt: HostRuntime) -> Result<(), Fail> {
     let function = function(&rt)?;
-    let same = match function.try_clone() {
-        Err(EncodeError::Memory) => {
-            println!(rt; "refused")?;
-            function.try_clone()?
-        }
-        answer => answer?,
-    };
+    let same = made_again(&rt, || function.try_clone())?;
     assert_eq!(rt; same.byte_len(), 5);
     let code = section_of(&rt, &same)?;
-    let copy = match code.try_clone() {
-        Err(EncodeError::Memory) => {
-            println!(rt; "refused")?;
-            code.try_clone()?
-        }
-        answer => answer?,
-    };
+    let copy = made_again(&rt, || code.try_clone())?;
     assert_eq!(rt; copy.len(), 1);
     assert_eq!(rt; encoded(&rt, &copy)?, encoded(&rt, &code)?);
     Ok(())

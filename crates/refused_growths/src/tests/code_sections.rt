@@ -1,5 +1,6 @@
 //! Code sections: read, read strictly and normalised, alone and in a module.
 
+use super::read_again;
 use std::process::Abort;
 use std::test::Fail;
 use wasm_encoder::{
@@ -33,52 +34,28 @@ fn are_expected(rt: &impl Abort, bodies: &[CodeBody]) {
 
 #[test]
 fn bodies_are_read(rt: HostRuntime) -> Result<(), Fail> {
-    let bodies = match read_code_section(rt.alloc(), LONG) {
-        Err(ReadError::Memory) => {
-            println!(rt; "refused")?;
-            read_code_section(rt.alloc(), LONG)?
-        }
-        answer => answer?,
-    };
+    let bodies = read_again(&rt, || read_code_section(rt.alloc(), LONG))?;
     are_expected(&rt, bodies.as_slice());
     Ok(())
 }
 
 #[test]
 fn bodies_are_read_strictly(rt: HostRuntime) -> Result<(), Fail> {
-    let bodies = match read_code_section_strict(rt.alloc(), NORMAL) {
-        Err(ReadError::Memory) => {
-            println!(rt; "refused")?;
-            read_code_section_strict(rt.alloc(), NORMAL)?
-        }
-        answer => answer?,
-    };
+    let bodies = read_again(&rt, || read_code_section_strict(rt.alloc(), NORMAL))?;
     are_expected(&rt, bodies.as_slice());
     Ok(())
 }
 
 #[test]
 fn bodies_are_normalised(rt: HostRuntime) -> Result<(), Fail> {
-    let normal = match normalise_code_section(rt.alloc(), LONG) {
-        Err(ReadError::Memory) => {
-            println!(rt; "refused")?;
-            normalise_code_section(rt.alloc(), LONG)?
-        }
-        answer => answer?,
-    };
+    let normal = read_again(&rt, || normalise_code_section(rt.alloc(), LONG))?;
     assert_eq!(rt; normal.as_slice(), NORMAL);
     Ok(())
 }
 
 #[test]
 fn modules_with_code_are_normalised(rt: HostRuntime) -> Result<(), Fail> {
-    let normal = match normalise_module(rt.alloc(), MODULE) {
-        Err(ReadError::Memory) => {
-            println!(rt; "refused")?;
-            normalise_module(rt.alloc(), MODULE)?
-        }
-        answer => answer?,
-    };
+    let normal = read_again(&rt, || normalise_module(rt.alloc(), MODULE))?;
     assert_eq!(rt; normal.as_slice(), NORMAL_MODULE);
     Ok(())
 }

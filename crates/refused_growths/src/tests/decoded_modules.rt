@@ -1,5 +1,6 @@
 //! Modules whose type sections are read: normalised.
 
+use super::read_again;
 use std::test::Fail;
 use wasm_encoder::{ReadError, normalise_module};
 
@@ -15,13 +16,7 @@ const NORMAL: &[u8] = b"\x00asm\x01\x00\x00\x00\x01\x08\x02\x60\x01\x7f\x00\x5e\
 
 #[test]
 fn modules_are_normalised(rt: HostRuntime) -> Result<(), Fail> {
-    let text = match normalise_module(rt.alloc(), MODULE) {
-        Err(ReadError::Memory) => {
-            println!(rt; "refused")?;
-            normalise_module(rt.alloc(), MODULE)?
-        }
-        answer => answer?,
-    };
+    let text = read_again(&rt, || normalise_module(rt.alloc(), MODULE))?;
     assert_eq!(rt; text.as_slice(), NORMAL);
     Ok(())
 }

@@ -1,6 +1,6 @@
 //! Calls with lists: cloned, read, in normal form.
 
-use super::{call, is_cloned};
+use super::{call, is_cloned, read_again};
 use std::alloc::Global;
 use std::test::Fail;
 use wasm_encoder::{
@@ -76,13 +76,7 @@ fn resumptions_are_cloned(rt: HostRuntime) -> Result<(), Fail> {
 
 #[test]
 fn lists_are_read(rt: HostRuntime) -> Result<(), Fail> {
-    let read = match read_instructions(rt.alloc(), CODE.as_slice()) {
-        Err(ReadError::Memory) => {
-            println!(rt; "refused")?;
-            read_instructions(rt.alloc(), CODE.as_slice())?
-        }
-        answer => answer?,
-    };
+    let read = read_again(&rt, || read_instructions(rt.alloc(), CODE.as_slice()))?;
     let branches = branches(rt.alloc())?;
     let resumptions = resumptions(rt.alloc())?;
     assert_eq!(rt; read.get(..3), Some(branches.as_slice()));
@@ -92,13 +86,7 @@ fn lists_are_read(rt: HostRuntime) -> Result<(), Fail> {
 
 #[test]
 fn lists_are_normalised(rt: HostRuntime) -> Result<(), Fail> {
-    let text = match normalise_instructions(rt.alloc(), CODE.as_slice()) {
-        Err(ReadError::Memory) => {
-            println!(rt; "refused")?;
-            normalise_instructions(rt.alloc(), CODE.as_slice())?
-        }
-        answer => answer?,
-    };
+    let text = read_again(&rt, || normalise_instructions(rt.alloc(), CODE.as_slice()))?;
     assert_eq!(rt; text.as_slice(), NORMAL.as_slice());
     Ok(())
 }

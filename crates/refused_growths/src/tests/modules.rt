@@ -1,5 +1,6 @@
 //! Modules: made, added to, cloned and read.
 
+use super::{made_again, read_again};
 use std::process::Abort;
 use std::test::Fail;
 use wasm_encoder::{EncodeError, Module, RawSection, ReadError, read_module};
@@ -22,13 +23,7 @@ const MODULE: &[u8] = b"\x00asm\x01\x00\x00\x00\x03\x01\x00\x01\x01\x01\
     \x00\x27a body for which the module has to grow\x63\x01\x07\x00\x00\x03\x01\x00";
 
 fn new_module(rt: &(impl AllocGlobal + Print)) -> Result<Module, Fail> {
-    Ok(match Module::new(rt.alloc()) {
-        Err(EncodeError::Memory) => {
-            println!(rt; "refused")?;
-            Module::new(rt.alloc())?
-        }
-        answer => answer?,
-    })
+    made_again(rt, || Module::new(rt.alloc()))
 }
 
 /// Adds a section. Where it is refused, the module is as it was.
@@ -62,13 +57,7 @@ fn modules_are_made(rt: HostRuntime) -> Result<(), Fail> {
 #[test]
 fn modules_are_cloned(rt: HostRuntime) -> Result<(), Fail> {
     let module = new_module(&rt)?;
-    let same = match module.try_clone() {
-        Err(EncodeError::Memory) => {
-            println!(rt; "refused")?;
-            module.try_clone()?
-        }
-        answer => answer?,
-    };
+    let same = made_again(&rt, || module.try_clone())?;
     assert_eq!(rt; same.as_slice(), module.as_slice());
     Ok(())
 }
@@ -79,13 +68,7 @@ fn is_read_as(
     module: &[u8],
     expected: &[RawSection<'_>],
 ) -> Result<(), Fail> {
-    let sections = match read_module(rt.alloc(), module) {
-        Err(ReadError::Memory) => {
-            println!(rt; "refused")?;
-            read_module(rt.alloc(), module)?
-        }
-        answer => answer?,
-    };
+    let sections = read_again(rt, || read_module(rt.alloc(), module))?;
     assert_eq!(rt; sections.len(), expected.len());
     for (section, other) in sections.iter().zip(expected) {
         assert_eq!(rt; section.id, other.id);

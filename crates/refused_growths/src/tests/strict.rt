@@ -1,6 +1,6 @@
 //! Strict readers.
 
-use super::{NORMAL, are_expected};
+use super::{NORMAL, are_twelve, read_again};
 use std::process::Abort;
 use std::test::Fail;
 use wasm_encoder::{
@@ -16,42 +16,24 @@ const MODULE: &[u8] = b"\x00asm\x01\x00\x00\x00\x03\x01\x00\x01\x01\x01\x00\x02h
 
 #[test]
 fn calls_are_read_strictly(rt: HostRuntime) -> Result<(), Fail> {
-    let calls = match read_instructions_strict(rt.alloc(), NORMAL.as_slice()) {
-        Err(ReadError::Memory) => {
-            println!(rt; "refused")?;
-            read_instructions_strict(rt.alloc(), NORMAL.as_slice())?
-        }
-        answer => answer?,
-    };
-    assert_eq!(rt; calls.len(), 12);
-    for four in calls.as_slice().chunks(4) {
-        are_expected(&rt, four)?;
-    }
+    let calls = read_again(
+        &rt,
+        || read_instructions_strict(rt.alloc(), NORMAL.as_slice()),
+    )?;
+    are_twelve(&rt, calls.as_slice());
     Ok(())
 }
 
 #[test]
 fn types_are_read_strictly(rt: HostRuntime) -> Result<(), Fail> {
-    let entries = match read_type_section_strict(rt.alloc(), TYPES) {
-        Err(ReadError::Memory) => {
-            println!(rt; "refused")?;
-            read_type_section_strict(rt.alloc(), TYPES)?
-        }
-        answer => answer?,
-    };
+    let entries = read_again(&rt, || read_type_section_strict(rt.alloc(), TYPES))?;
     assert_eq!(rt; entries.len(), 3);
     Ok(())
 }
 
 #[test]
 fn modules_are_read_strictly(rt: HostRuntime) -> Result<(), Fail> {
-    let sections = match read_module_strict(rt.alloc(), MODULE) {
-        Err(ReadError::Memory) => {
-            println!(rt; "refused")?;
-            read_module_strict(rt.alloc(), MODULE)?
-        }
-        answer => answer?,
-    };
+    let sections = read_again(&rt, || read_module_strict(rt.alloc(), MODULE))?;
     assert_eq!(rt; sections.len(), 6);
     for (section, id) in sections.iter().zip([3, 1, 0, 99, 0, 3]) {
         assert_eq!(rt; section.id, id);

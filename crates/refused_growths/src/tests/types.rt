@@ -1,5 +1,6 @@
 //! Types and type sections: made, added to, cloned, read and normalised.
 
+use super::{made_again, read_again};
 use std::process::Abort;
 use std::test::Fail;
 use wasm_encoder::{
@@ -27,13 +28,7 @@ const FIELD: FieldType = FieldType {
 
 /// A list of indexes, which is made again where memory was refused.
 fn indexes(rt: &(impl AllocGlobal + Print), indexes: &[u32]) -> Result<Items<u32>, Fail> {
-    Ok(match Items::from_slice(rt.alloc(), indexes) {
-        Err(EncodeError::Memory) => {
-            println!(rt; "refused")?;
-            Items::from_slice(rt.alloc(), indexes)?
-        }
-        answer => answer?,
-    })
+    made_again(rt, || Items::from_slice(rt.alloc(), indexes))
 }
 
 /// A continuation type with these supertypes.
@@ -210,13 +205,7 @@ fn entries_are_read_and_added(rt: HostRuntime) -> Result<(), Fail> {
 #[test]
 fn entries_are_cloned(rt: HostRuntime) -> Result<(), Fail> {
     for entry in &read(&rt)? {
-        let same = match entry.try_clone() {
-            Err(EncodeError::Memory) => {
-                println!(rt; "refused")?;
-                entry.try_clone()?
-            }
-            answer => answer?,
-        };
+        let same = made_again(&rt, || entry.try_clone())?;
         assert_eq!(rt; same, *entry);
     }
     Ok(())
@@ -224,13 +213,7 @@ fn entries_are_cloned(rt: HostRuntime) -> Result<(), Fail> {
 
 /// A clone of a section, made again where memory was refused.
 fn clone_of(rt: &impl Print, types: &TypeSection) -> Result<TypeSection, Fail> {
-    Ok(match types.try_clone() {
-        Err(EncodeError::Memory) => {
-            println!(rt; "refused")?;
-            types.try_clone()?
-        }
-        answer => answer?,
-    })
+    made_again(rt, || types.try_clone())
 }
 
 /// Both sections have the same bytes.
@@ -255,13 +238,7 @@ fn sections_are_cloned(rt: HostRuntime) -> Result<(), Fail> {
 
 #[test]
 fn bodies_are_normalised(rt: HostRuntime) -> Result<(), Fail> {
-    let text = match normalise_type_section(rt.alloc(), BODY.as_slice()) {
-        Err(ReadError::Memory) => {
-            println!(rt; "refused")?;
-            normalise_type_section(rt.alloc(), BODY.as_slice())?
-        }
-        answer => answer?,
-    };
+    let text = read_again(&rt, || normalise_type_section(rt.alloc(), BODY.as_slice()))?;
     assert_eq!(rt; text.as_slice(), BODY.as_slice());
     Ok(())
 }
@@ -269,23 +246,12 @@ fn bodies_are_normalised(rt: HostRuntime) -> Result<(), Fail> {
 #[test]
 fn types_are_made(rt: HostRuntime) -> Result<(), Fail> {
     let fields = [FIELD];
-    let ty = match StructType::new(rt.alloc(), &fields) {
-        Err(EncodeError::Memory) => {
-            println!(rt; "refused")?;
-            StructType::new(rt.alloc(), &fields)?
-        }
-        answer => answer?,
-    };
+    let ty = made_again(&rt, || StructType::new(rt.alloc(), &fields))?;
     assert_eq!(rt; ty.fields.as_slice(), fields.as_slice());
     let params = [ValType::I32, ValType::V128];
-    let made = FuncType::new(rt.alloc(), params.iter().copied(), [].iter().copied());
-    let ty = match made {
-        Err(EncodeError::Memory) => {
-            println!(rt; "refused")?;
-            FuncType::new(rt.alloc(), params.iter().copied(), [].iter().copied())?
-        }
-        answer => answer?,
-    };
+    let ty = made_again(&rt, || {
+        FuncType::new(rt.alloc(), params.iter().copied(), [].iter().copied())
+    })?;
     assert_eq!(rt; ty.params(), params.as_slice());
     assert_eq!(rt; ty.results(), [].as_slice());
     Ok(())

@@ -62,28 +62,34 @@ fn read_listed(
     }))
 }
 
-/// Calls the method of this name. If there is none, nothing is written.
+/// Calls the method of this name.
 pub fn write<'a, A: Allocator>(
     sink: InstructionSink<'a, A>,
     method: &str,
     listed: &Listed,
 ) -> Result<InstructionSink<'a, A>, EncodeError> {
-    match (method, listed) {
-        ("br_table", Listed::Labels(labels, default)) => {
-            sink.br_table(labels.iter().copied(), *default)
-        }
-        ("typed_select_multi", Listed::Types(types)) => sink.typed_select_multi(types.as_slice()),
-        ("try_table", Listed::Clauses(ty, clauses)) => {
-            sink.try_table(*ty, clauses.iter().copied())
-        }
-        ("resume", Listed::Handlers(ty, handlers)) => sink.resume(*ty, handlers.iter().copied()),
-        ("resume_throw_ref", Listed::Handlers(ty, handlers)) => {
-            sink.resume_throw_ref(*ty, handlers.iter().copied())
-        }
-        ("resume_throw", Listed::HandlersAfterTwo(ty, tag, handlers)) => {
+    match listed {
+        Listed::Labels(labels, default) => sink.br_table(labels.iter().copied(), *default),
+        Listed::Types(types) => sink.typed_select_multi(types.as_slice()),
+        Listed::Clauses(ty, clauses) => sink.try_table(*ty, clauses.iter().copied()),
+        Listed::Handlers(ty, handlers) => resume(sink, method, *ty, handlers.as_slice()),
+        Listed::HandlersAfterTwo(ty, tag, handlers) => {
             sink.resume_throw(*ty, *tag, handlers.iter().copied())
         }
-        _ => Ok(sink),
+    }
+}
+
+/// The two methods with an index and handlers.
+fn resume<'a, A: Allocator>(
+    sink: InstructionSink<'a, A>,
+    method: &str,
+    ty: u32,
+    handlers: &[Handle],
+) -> Result<InstructionSink<'a, A>, EncodeError> {
+    if method == "resume" {
+        sink.resume(ty, handlers.iter().copied())
+    } else {
+        sink.resume_throw_ref(ty, handlers.iter().copied())
     }
 }
 

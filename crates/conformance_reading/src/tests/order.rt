@@ -1,32 +1,23 @@
-//! The order of types and of the ids of sections: that of the declarations, variant by variant and field by field.
+//! The order of types: that of the declarations, variant by variant and field by field.
 
 use std::cmp::Ordering;
-use std::fmt::Debug;
-use std::process::Abort;
 use std::test::Fail;
-use wasm_encoder::{
-    AbstractHeapType, FieldType, HeapType, RefType, SectionId, StorageType, ValType,
-};
+use wasm_types::types::{AbstractHeapType, FieldType, HeapType, RefType, StorageType, ValType};
 
 /// Each item is less than the next, and the next greater than it.
-fn ascends<T: PartialOrd + Debug>(rt: &impl Abort, items: &[T]) -> Result<(), Fail> {
+fn ascends<T: PartialOrd>(items: &[T]) -> Result<(), Fail> {
     for (lower, higher) in items.iter().zip(items.iter().skip(1)) {
-        assert_eq!(rt;
-            lower.partial_cmp(higher),
-            Some(Ordering::Less),
-            "{lower:?}"
-        );
-        assert_eq!(rt;
-            higher.partial_cmp(lower),
-            Some(Ordering::Greater),
-            "{lower:?}"
-        );
+        let is_less = lower.partial_cmp(higher) == Some(Ordering::Less);
+        let is_greater = higher.partial_cmp(lower) == Some(Ordering::Greater);
+        if !is_less || !is_greater {
+            return Err(Fail::from("another order"));
+        }
     }
     Ok(())
 }
 
 #[test]
-fn heap_types_ascend(rt: HostRuntime) -> Result<(), Fail> {
+fn heap_types_ascend() -> Result<(), Fail> {
     let abstract_types = [
         AbstractHeapType::Func,
         AbstractHeapType::Extern,
@@ -43,7 +34,7 @@ fn heap_types_ascend(rt: HostRuntime) -> Result<(), Fail> {
         AbstractHeapType::Cont,
         AbstractHeapType::NoCont,
     ];
-    ascends(&rt, &abstract_types)?;
+    ascends(&abstract_types)?;
     let heap_types = [
         HeapType::FUNC,
         HeapType::EXTERN,
@@ -56,23 +47,23 @@ fn heap_types_ascend(rt: HostRuntime) -> Result<(), Fail> {
         HeapType::Exact(0),
         HeapType::Exact(1),
     ];
-    ascends(&rt, &heap_types)
+    ascends(&heap_types)
 }
 
 /// The first field decides, and then the second.
 #[test]
-fn reference_types_ascend(rt: HostRuntime) -> Result<(), Fail> {
+fn reference_types_ascend() -> Result<(), Fail> {
     let types = [
         RefType::FUNCREF.nullable(false),
         RefType::ANYREF.nullable(false),
         RefType::FUNCREF,
         RefType::ANYREF,
     ];
-    ascends(&rt, &types)
+    ascends(&types)
 }
 
 #[test]
-fn value_and_storage_types_ascend(rt: HostRuntime) -> Result<(), Fail> {
+fn value_and_storage_types_ascend() -> Result<(), Fail> {
     let value_types = [
         ValType::I32,
         ValType::I64,
@@ -83,14 +74,14 @@ fn value_and_storage_types_ascend(rt: HostRuntime) -> Result<(), Fail> {
         ValType::FUNCREF,
         ValType::EXTERNREF,
     ];
-    ascends(&rt, &value_types)?;
+    ascends(&value_types)?;
     let storage_types = [
         StorageType::I8,
         StorageType::I16,
         StorageType::Val(ValType::I32),
         StorageType::Val(ValType::I64),
     ];
-    ascends(&rt, &storage_types)
+    ascends(&storage_types)
 }
 
 /// A field that holds this.
@@ -103,33 +94,12 @@ fn field(element_type: StorageType, mutable: bool) -> FieldType {
 
 /// What a field holds decides before whether it can be written.
 #[test]
-fn fields_ascend(rt: HostRuntime) -> Result<(), Fail> {
+fn fields_ascend() -> Result<(), Fail> {
     let fields = [
         field(StorageType::I8, false),
         field(StorageType::I8, true),
         field(StorageType::I16, false),
         field(StorageType::I16, true),
     ];
-    ascends(&rt, &fields)
-}
-
-#[test]
-fn section_ids_ascend(rt: HostRuntime) -> Result<(), Fail> {
-    let ids = [
-        SectionId::Custom,
-        SectionId::Types,
-        SectionId::Import,
-        SectionId::Function,
-        SectionId::Table,
-        SectionId::Memory,
-        SectionId::Global,
-        SectionId::Export,
-        SectionId::Start,
-        SectionId::Element,
-        SectionId::Code,
-        SectionId::Data,
-        SectionId::DataCount,
-        SectionId::Tag,
-    ];
-    ascends(&rt, &ids)
+    ascends(&fields)
 }
