@@ -1,12 +1,10 @@
 //! One appender for each kind of operands: it appends an instruction, or nothing. It asks once for room for 24 bytes,
 //! which every instruction without a list fits into, and writes the bytes there.
-ghost use Rattle.std.specs.Prelude.{◌≡◌, ◌++◌, ◌∷◌, ◌+◌, ◌^◌, ◌<◌, ◌≤◌, IsOk, IfErr, OnOk, OnErr, vec_len, vec_capacity};
+ghost use Rattle.std.specs.Prelude.{◌≡◌, ◌++◌, ◌+◌, ◌<◌, ◌≤◌, IsOk, IfErr, OnOk, OnErr, vec_len, vec_capacity};
 ghost use Rattle.wasm_codec.specs.declared.encode.EncodeError.TheVariants.{Memory};
 ghost use Rattle.wasm_instructions.specs.Instructions.{IsShort, call};
 ghost use Rattle.wasm_instructions.specs.formats.Instructions.{instruction};
-ghost use Rattle.wasm_instructions.specs.formats.Instructions.{opcode};
 ghost use Rattle.wasm_instructions.specs.declared.table.call.Operands.TheVariants as operands;
-ghost use Rattle.wasm_codec.specs.Numbers.{unsigned_leb128};
 
 mod constants;
 mod items;

@@ -1,10 +1,7 @@
-//! What stands after opcodes (Core 3.0, Instructions).
-ghost use Rattle.std.specs.Prelude.{◌≡◌, ◌<◌, IfOk, IfErr, refl};
-ghost use Rattle.wasm_codec.specs.Places.{Reads, map_at};
-ghost use Rattle.wasm_codec.specs.formats.Combinators.{little_endian};
-ghost use Rattle.wasm_codec.specs.declared.reader.cursor.Fault.TheVariants.{Malformed};
-ghost use Rattle.wasm_instructions.specs.Operands.{ieee32, ieee64};
-ghost use Rattle.wasm_instructions.specs.formats.Operands.{block_type, catch_clause, handle_clause, castop, mem_arg, ordering, from_bits, vector, lanes};
+//! What stands after opcodes, read as operands (Core 3.0, Instructions).
+ghost use Rattle.std.specs.Prelude.{◌≡◌, ◌<◌, IfOk, refl};
+ghost use Rattle.wasm_codec.specs.Places.{Reads};
+ghost use Rattle.wasm_instructions.specs.formats.Operands.{catch_clause, handle_clause};
 ghost use Rattle.wasm_instructions.specs.formats.Instructions.{operands_format};
 ghost use Rattle.wasm_instructions.specs.declared.operands.control.Catch.{Catch};
 ghost use Rattle.wasm_instructions.specs.declared.operands.control.Handle.{Handle};

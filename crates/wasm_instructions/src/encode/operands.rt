@@ -1,5 +1,5 @@
 //! What stands after opcodes, written into room that was reserved (Core 3.0, Instructions).
-ghost use Rattle.std.specs.Prelude.{◌≡◌, ◌++◌, ◌∷◌, ◌+◌, ◌<◌, ◌≤◌, vec_len, vec_capacity};
+ghost use Rattle.std.specs.Prelude.{◌≡◌, ◌++◌, ◌+◌, ◌<◌, ◌≤◌, vec_len, vec_capacity};
 ghost use Rattle.wasm_codec.specs.formats.Combinators.{little_endian};
 ghost use Rattle.wasm_instructions.specs.Operands.{BlockTypeFits, CatchFits, HandleFits};
 ghost use Rattle.wasm_instructions.specs.formats.Operands.{MemArgInRange, block_type, castop, catch_clause, handle_clause, mem_arg, ordering as ordering_format, to_bits, vector};

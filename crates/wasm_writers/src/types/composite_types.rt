@@ -1,6 +1,6 @@
 //! Fields, composite types, subtypes and the entries of a type section, written (Core 3.0, Composite Types to Recursive
 //! Types).
-ghost use Rattle.std.specs.Prelude.{◌≡◌, ◌++◌, ◌+◌, ◌≤◌, OnOk, IfErr, length, take, vec_len, vec_capacity};
+ghost use Rattle.std.specs.Prelude.{◌≡◌, ◌++◌, ◌+◌, OnOk, IfErr, length, take};
 ghost use Rattle.wasm_codec.specs.Encoding.{IsCount, IsCountRefusal, IsRefusal, IsShortest, OnlyTooLong};
 ghost use Rattle.wasm_types.specs.declared.types.composite.CompositeInnerType.TheVariants as inner;
 ghost use Rattle.wasm_codec.specs.Numbers.{EncodesU32, unsigned_leb128};
