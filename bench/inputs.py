@@ -1,0 +1,97 @@
+#!/usr/bin/env python3
+"""bench/inputs.py FOLDER: writes a module of each kind that normalisers are measured with, as FOLDER/KIND.wasm.
+
+FOLDER/kinds has a line for each: the kind, how many things the module holds, and what one is called.
+Where plain_normaliser.rs doesn't know the kind, its normal form stands beside it, as KIND.normal.
+Every run writes the same bytes. All modules are well formed; none is valid.
+"""
+import sys
+from pathlib import Path
+
+HEAD = bytes.fromhex("00 61 73 6D 01 00 00 00")
+LINKED = (Path(__file__).parent / "linked_code.wasm").read_bytes()[len(HEAD):]
+LINKED_INSTRUCTIONS = 822029
+TYPES, CODE, DATA = 1, 10, 11
+
+END = b"\x0B"
+DROP = b"\x1A"
+I32_ADD = b"\x6A"
+LOCAL_GET_0 = b"\x20\x00"
+I32_CONST_0 = b"\x41\x00"
+I32_CONST_1 = b"\x41\x01"
+
+
+def number(n):
+    """The shortest encoding of an unsigned number."""
+    return bytes([n]) if n < 128 else bytes([n & 127 | 128]) + number(n >> 7)
+
+
+def section(kind, body):
+    return bytes([kind]) + number(len(body)) + body
+
+
+def types(count, entry):
+    """A type section that holds an entry so many times."""
+    return section(TYPES, number(count) + entry * count)
+
+
+def functions(count, code):
+    """A code section of equal functions without locals."""
+    body = b"\x00" + code + END
+    return section(CODE, number(count) + (number(len(body)) + body) * count)
+
+
+def repeated(count, times, *instructions):
+    """Functions that repeat these instructions; and how many instructions that is, each function's end among them."""
+    return functions(count, b"".join(instructions) * times), count * (len(instructions) * times + 1), "instruction"
+
+
+def br_tables(count, labels):
+    """Functions of one br_table each, with these labels and the default 0; and how many labels that is."""
+    code = b"\x0E" + number(len(labels)) + b"".join(map(number, labels)) + b"\x00"
+    return functions(count, code), count * (len(labels) + 1), "label"
+
+
+def kinds():
+    """Each kind: its name, its sections, how many things they hold, and what one is called."""
+    for times in 1, 2, 4, 8:
+        yield f"linked_{2 * times}MB", LINKED * times, LINKED_INSTRUCTIONS * times, "instruction"
+    yield "padded_indexes", *repeated(6000, 300, bytes.fromhex("20 81 80 80 80 00"))  # local.get 1
+    yield "memory_offsets", *repeated(5500, 300, LOCAL_GET_0, b"\x28\x02" + number(70000))  # i32.load
+    yield "i64_constants", *repeated(4200, 300, bytes.fromhex("42 FF FF FF FF FF 7E"), DROP)
+    yield "small_functions", *repeated(1200000, 1, LOCAL_GET_0, I32_CONST_1, I32_ADD)
+    yield "types", types(1500000, bytes.fromhex("60 03 7F 7F 7E 01 7F")), 1500000, "entry"
+    yield "padded_types", types(1000000, bytes.fromhex("60 83 00 7F 7F 7E 01 7F")), 1000000, "entry"
+    yield "br_table", *br_tables(150000, range(64))
+    yield "long_br_table", *br_tables(1200, [200] * 4000)
+    yield "FB_and_FC", *repeated(4000, 200, *map(bytes.fromhex, [
+        "FB 02 05 01",  # struct.get 5 1
+        "D0 6E",  # ref.null any
+        "FB 16 70",  # ref.cast func
+        "FC 0A 00 00",  # memory.copy 0 0
+    ]))
+    length = 10000000
+    segment = b"\x00" + I32_CONST_0 + END + number(length) + bytes(length)
+    yield "data", functions(1, b"") + section(DATA, number(1) + segment), length, "byte"
+
+
+# The normal forms of the kinds that plain_normaliser.rs doesn't know: it refuses 0xFB, and copies type sections.
+NORMAL = {
+    "FB_and_FC": lambda sections: sections,
+    "padded_types": lambda sections: types(1000000, bytes.fromhex("60 03 7F 7F 7E 01 7F")),
+}
+
+
+def main(folder):
+    with open(folder / "kinds", "w") as table:
+        for kind, sections, count, thing in kinds():
+            (folder / f"{kind}.wasm").write_bytes(HEAD + sections)
+            if kind in NORMAL:
+                (folder / f"{kind}.normal").write_bytes(HEAD + NORMAL[kind](sections))
+            print(kind, count, thing, file=table)
+
+
+if __name__ == "__main__":
+    if len(sys.argv) != 2:
+        sys.exit("usage: bench/inputs.py FOLDER")
+    main(Path(sys.argv[1]))
