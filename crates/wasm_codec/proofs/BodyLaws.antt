@@ -13,24 +13,12 @@ use Rattle.wasm_codec.specs.Reading.{BeginsWith}
 use Rattle.wasm_codec.proofs.Joining.{Shortest-joined}
 use Rattle.wasm_codec.specs.Grammar.{TakesBytes}
 use Rattle.wasm_codec.proofs.ListReading.{AtMostOne}
-use Rattle.wasm_codec.specs.Places.{Place, place, Reader, keeps, byte_at, u32_at}
+use Rattle.wasm_codec.specs.Places.{Place, place, keeps, byte_at, u32_at}
 use Rattle.wasm_codec.specs.formats.Combinators.{Format, ◌⊗>◌, made, bytes_of, choose}
 use Rattle.wasm_codec.specs.formats.Bodies.{at_end, bytes_to_end, until_end, to_end, Sized, body_at, if_all, sized_at, sized, byte_list, headed_at, headed}
 use Rattle.wasm_codec.proofs.NumberReading.{byte_took}
 use Rattle.wasm_codec.proofs.FormatLaws.{BeginsWith-at, keeps_then, keeps_cons, keeps_same, keeps_longer, not_longer, taken_fits, IsBytes-append, read_in_row, joined_in_range, joined_bytes, begins_counted, Lawful-u32}
-use Rattle.wasm_codec.specs.Lawful.{Shortest, IsLawful}
-
--- what is read to the end of the bytes is what they encode, and the place tells whether they were the shortest encoding
-pub record ReadsToEnd {V : Type 0} (G : Grammar V) (bytes : V → List ℕ) (read : Reader V) : Type 0 where
-  pub sound : (p : Place) (v : V) (q : Place) → IsBytes p.left → read p ≡ Some (v, q) → q.left ≡ [] → G p.left v
-  pub complete : (body : List ℕ) (v : V) (s : Bool) → G body v → read (place s body) ≡ Some (v, place (keeps s body (bytes v)) [])
-
--- the law of a format where nothing follows
-pub record IsLawfulBody {V : Type 0} (F : Format V) : Type 0 where
-  pub reads : ReadsToEnd F.Encodes F.bytes F.at
-  pub shortest : Shortest F.Encodes F.InRange F.bytes
-  pub in_range : (bytes : List ℕ) (v : V) → F.Encodes bytes v → F.InRange v
-  pub are_bytes : (bytes : List ℕ) (v : V) → F.Encodes bytes v → IsBytes bytes
+use Rattle.wasm_codec.specs.Lawful.{IsLawful, IsLawfulBody}
 
 -- bytes encode at most one value
 pub encodes_one : {V : Type 0} {F : Format V} → IsLawfulBody F → AtMostOne F.Encodes

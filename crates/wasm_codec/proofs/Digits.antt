@@ -6,6 +6,7 @@ use Rattle.wasm_codec.specs.Grammar.{IsBytes}
 use Rattle.wasm_codec.specs.Reading.{◌>>=◌, BeginsWith, IsReadBy}
 use Rattle.wasm_codec.specs.Numbers.{IsDigits, last, Number, digits_at, number_at, turned, digits_of}
 use Rattle.wasm_codec.specs.Encoding.{IsShortestOrLonger}
+use Rattle.wasm_codec.specs.Rewriter.{cut}
 use Rattle.wasm_codec.proofs.Laws.{bind_some, some_is}
 
 -- ---- reading
@@ -153,3 +154,54 @@ digits_least turn top (suc more) (b ∷ c ∷ bytes) n wide lt h =
       by again true = inr (omega arith)
       by (inl p) false = inl (rw (← p, (more-is turn top b c n bytes h).0) refl)
       by (inr p) false = inr (omega arith)
+
+-- ---- longer digits
+
+-- there is at least one
+pub some_digits : (turn : Bool) (top room n : ℕ) → 0 < length (digits_of turn top room n)
+unfolding digits_of
+some_digits turn top zero n = omega arith
+some_digits turn top (suc room) n = by (turned turn n) (128 + turned turn (n % 128)) (digits_of turn top room (n / 128)) (ltb n top) where
+  by : (a b : ℕ) (more : List ℕ) (t : Bool) → 0 < length (cond t (a ∷ []) (b ∷ more))
+  by a b more true = omega arith
+  by a b more false = omega arith
+
+-- the low bits of the first digit, where it stands for the whole number
+low-is : (turn : Bool) (top b : ℕ) (bytes : List ℕ) (n : ℕ) → n < 128 → Stands turn top (b ∷ bytes) n → b % 128 ≡ turned turn n
+unfolding magnitude
+low-is turn top b bytes n lt h =
+    let t = twice turn (b % 128) (omega arith) in
+    let v : turned turn (b % 128) + 128 * magnitude turn bytes ≡ n = h.value in
+    let n-is : n ≡ turned turn (b % 128) = omega arith in
+    rw n-is (sym t.1)
+
+-- digits are cut to the fewest by keeping as many, the last without its high bit
+pub digits_cut : (turn : Bool) (top : ℕ) → (more : ℕ) (bytes : List ℕ) (n : ℕ) → top ≤ 128 → n < top * 128 ^ more → Stands turn top bytes n → cut (length (digits_of turn top more n)) bytes ≡ digits_of turn top more n
+unfolding digits_of
+digits_cut turn top more [] n wide lt h = absurd h.are
+digits_cut turn top zero (b ∷ bytes) n wide lt h = ap (λ (k : ℕ). k ∷ []) (low-is turn top b bytes n (omega arith) h)
+digits_cut turn top (suc more) (b ∷ []) n wide lt h =
+    let p = one-is turn top b n h in rw (lt-ltb n top p.0) (ap (λ (k : ℕ). k ∷ []) (low-is turn top b [] n (omega arith) h))
+digits_cut turn top (suc more) (b ∷ c ∷ bytes) n wide lt h =
+    by (digits_cut turn top more (c ∷ bytes) (n / 128) wide (less_one top more n lt) (more-is turn top b c n bytes h).1) (some_digits turn top more (n / 128)) (ltb n top) refl where
+      by : cut (length (digits_of turn top more (n / 128))) (c ∷ bytes) ≡ digits_of turn top more (n / 128) → 0 < length (digits_of turn top more (n / 128)) → (t : Bool) → ltb n top ≡ t
+          → cut (length (cond t (turned turn n ∷ []) ((128 + turned turn (n % 128)) ∷ digits_of turn top more (n / 128)))) (b ∷ c ∷ bytes) ≡ cond t (turned turn n ∷ []) ((128 + turned turn (n % 128)) ∷ digits_of turn top more (n / 128))
+      by again some true test = ap (λ (k : ℕ). k ∷ []) (low-is turn top b (c ∷ bytes) n (omega (arith, ltb-true _ _ test)) h)
+      by again some false test = cut_more (digits_of turn top more (n / 128)) again some
+        where
+          cut_more : (digits : List ℕ) → cut (length digits) (c ∷ bytes) ≡ digits → 0 < length digits → cut (suc (length digits)) (b ∷ c ∷ bytes) ≡ (128 + turned turn (n % 128)) ∷ digits
+          cut_more [] e le = absurd (omega arith)
+          cut_more (d ∷ digits) e le = rw e (ap (λ (k : ℕ). k ∷ d ∷ digits) (more-is turn top b c n bytes h).0)
+
+pub one_left : (turn : Bool) (top more n : ℕ) → n < top → length (digits_of turn top more n) ≡ 1
+unfolding digits_of
+one_left turn top zero n lt = refl
+one_left turn top (suc more) n lt = rw (lt-ltb n top lt) refl
+
+pub more_left : (turn : Bool) (top more n : ℕ) → top ≤ n → length (digits_of turn top (suc more) n) ≡ suc (length (digits_of turn top more (n / 128)))
+unfolding digits_of
+more_left turn top more n le = rw (le-ltb n top le) refl
+
+pub last_left : (turn : Bool) (top n : ℕ) → length (digits_of turn top zero n) ≡ 1
+unfolding digits_of
+last_left turn top n = refl

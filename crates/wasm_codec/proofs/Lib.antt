@@ -6,7 +6,6 @@ pub mod DigitLoop
 pub mod NumberLaws
 pub mod Counting
 pub mod ListLaws
-pub mod RewritingLaws
 pub mod NumberReading
 pub mod FormatLaws
 pub mod RawFormatLaws
@@ -14,4 +13,10 @@ pub mod PlaceLists
 pub mod BodyLaws
 pub mod AskedLaws
 pub mod SizedLaws
-pub mod Passing
+pub mod Windows
+pub mod Shortening
+pub mod ShortNumbers
+pub mod RewriterLaws
+pub mod BodyRewriting
+pub mod ListRewriting
+pub mod RawRewriting

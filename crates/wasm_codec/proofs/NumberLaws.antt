@@ -7,8 +7,9 @@ use Rattle.wasm_codec.specs.Grammar.{Grammar}
 use Rattle.wasm_codec.specs.Encoding.{IsShortestOrLonger, IsShortest}
 use Rattle.wasm_codec.specs.Reading.{IsReadBy}
 use Rattle.wasm_codec.proofs.Laws.{some_is}
-use Rattle.wasm_codec.proofs.Digits.{IsReadBy-number, magnitude, Stands, digits_stand, digits_least, length-digits_of}
+use Rattle.wasm_codec.proofs.Digits.{IsReadBy-number, magnitude, Stands, digits_stand, digits_least, digits_cut, length-digits_of}
 use Rattle.wasm_codec.specs.Lawful.{Shortest}
+use Rattle.wasm_codec.specs.Rewriter.{cut}
 
 -- ---- reading
 
@@ -61,7 +62,7 @@ IsReadBy-index-below most limit = IsReadBy-number most (IndexBelow limit) (index
 
 -- ---- shortest encodings of unsigned numbers
 
-magnitude-unsigned : (digits : List ℕ) → magnitude false digits ≡ unsigned digits
+pub magnitude-unsigned : (digits : List ℕ) → magnitude false digits ≡ unsigned digits
 unfolding magnitude
 magnitude-unsigned [] = refl
 magnitude-unsigned (b ∷ digits) = ap (λ (k : ℕ). b % 128 + 128 * k) (magnitude-unsigned digits)
@@ -95,10 +96,10 @@ both (b ∷ digits) =
     let p : 128 ^ suc (length digits) ≡ 128 * 128 ^ length digits = omega arith in
     rw p (omega arith)
 
-signed_low : (digits : List ℕ) → last digits < 64 → signed digits ≡ pos (magnitude false digits)
+pub signed_low : (digits : List ℕ) → last digits < 64 → signed digits ≡ pos (magnitude false digits)
 signed_low digits lt = rw (lt-ltb (last digits) 64 lt) (ap pos (sym (magnitude-unsigned digits)))
 
-signed_high : (digits : List ℕ) → 64 ≤ last digits → signed digits ≡ negsuc (magnitude true digits)
+pub signed_high : (digits : List ℕ) → 64 ≤ last digits → signed digits ≡ negsuc (magnitude true digits)
 signed_high digits le = rw (le-ltb (last digits) 64 le) (omega (arith, ints, both digits))
 
 SignedStands : List ℕ → ℤ → Type 0
@@ -153,6 +154,45 @@ Shortest-index-below more limit wide room = record {
 } where
   encodes : (n : ℕ) → n < limit → Number (suc more) (IndexBelow limit) (signed_leb128 (pos n)) n
   encodes n lt = let p = signed_leb128_stands limit room (pos n) lt in (p.0, length-signed_leb128 more limit wide (pos n) lt, (signed_from (signed_leb128 (pos n)) (pos n) p.1, lt))
+
+-- ---- longer encodings are cut
+
+cut_unsigned : (most limit : ℕ) → limit ≤ 128 * 128 ^ 9 → (bytes : List ℕ) (n : ℕ) → Number most (Below limit) bytes n → cut (length (unsigned_leb128 n)) bytes ≡ unsigned_leb128 n
+unfolding unsigned_leb128
+cut_unsigned most limit room bytes n g =
+    digits_cut false 128 9 bytes n (omega arith) (omega (arith, g.2.1)) (record { are = g.0; ends = last_below bytes g.0; value = magnitude-unsigned bytes ∙ g.2.0 })
+
+cut_stands : (limit : ℕ) → limit ≤ 64 * 128 ^ 9 → (bytes : List ℕ) (z : ℤ) → Within limit z → SignedStands bytes z → cut (length (signed_leb128 z)) bytes ≡ signed_leb128 z
+unfolding signed_leb128 SignedStands
+cut_stands limit room bytes (pos n) lt h = digits_cut false 64 9 bytes n (omega arith) (omega arith) h
+cut_stands limit room bytes (negsuc n) lt h = digits_cut true 64 9 bytes n (omega arith) (omega arith) h
+
+cut_signed : (most limit : ℕ) → limit ≤ 64 * 128 ^ 9 → (bytes : List ℕ) (z : ℤ) → Number most (SignedWithin limit) bytes z → cut (length (signed_leb128 z)) bytes ≡ signed_leb128 z
+cut_signed most limit room bytes z g = cut_stands limit room bytes z g.2.1 (signed_to bytes g.0 z g.2.0)
+
+-- each longer encoding is cut to the shortest
+abbrev pub IsCut : {V : Type 0} → Grammar V → (V → List ℕ) → Type 0
+IsCut {V} G encoding = (bytes : List ℕ) (v : V) → G bytes v → cut (length (encoding v)) bytes ≡ encoding v
+
+pub cut_u32 : IsCut EncodesU32 unsigned_leb128
+unfolding EncodesU32
+cut_u32 = cut_unsigned 5 (2 ^ 32) (lit≤ tt)
+
+pub cut_u64 : IsCut EncodesU64 unsigned_leb128
+unfolding EncodesU64
+cut_u64 = cut_unsigned 10 (2 ^ 64) (lit≤ tt)
+
+pub cut_s32 : IsCut EncodesS32 signed_leb128
+unfolding EncodesS32
+cut_s32 = cut_signed 5 (2 ^ 31) (lit≤ tt)
+
+pub cut_s64 : IsCut EncodesS64 signed_leb128
+unfolding EncodesS64
+cut_s64 = cut_signed 10 (2 ^ 63) (lit≤ tt)
+
+pub cut_index : IsCut EncodesIndex (λ n. signed_leb128 (pos n))
+unfolding EncodesIndex
+cut_index bytes n g = cut_stands (2 ^ 32) (lit≤ tt) bytes (pos n) g.2.1 (signed_to bytes g.0 (pos n) g.2.0)
 
 -- ---- the five widths
 

@@ -6,9 +6,9 @@ use Rattle.std.proofs.lemmas.Int.{ints}
 use Rattle.std.proofs.Common.{◌≡◌, ℕ, zero, suc, ◌+◌, ◌-◌, ◌*◌, ◌%◌, ◌/◌, ◌^◌, ◌<◌, ◌≤◌, ◌&&◌, Bool, true, false, cond, eqb, ltb, List, [], ◌∷◌, ◌++◌, length, take, drop, leb, Option, Some, None, Err, refl, sym, ap, subst, ◌∙◌, inl, inr, arith, lit≤, ℤ, pos, negsuc, ◌-ℤ◌}
 use Rattle.std.proofs.lemmas.Bool.{lt-ltb, le-ltb, le-leb, lt-leb, eq-eqb, ne_eqb, cases_lt}
 use Rattle.wasm_codec.specs.Reading.{byte_at as list_byte_at, ◌>>=◌}
-use Rattle.wasm_codec.specs.Numbers.{digits_at, unsigned, last, signed, below, signed_within, index_below, turned, digits_of, unsigned_leb128, signed_leb128}
+use Rattle.wasm_codec.specs.Numbers.{digits_at, unsigned, last, signed, below, signed_within, index_below, digits_of, unsigned_leb128, signed_leb128}
 use Rattle.wasm_codec.proofs.Laws.{bind_some, some_is}
-use Rattle.wasm_codec.proofs.Digits.{length-digits_of}
+use Rattle.wasm_codec.proofs.Digits.{length-digits_of, some_digits}
 use Rattle.wasm_codec.proofs.DigitLoop.{reads_on, byte_is, digits_end, runs_out}
 use Rattle.wasm_codec.specs.declared.reader.cursor.Fault.{Fault}
 use Rattle.wasm_codec.specs.declared.reader.cursor.Fault.TheVariants as faults
@@ -44,15 +44,7 @@ no_list_byte p e = by p.left refl e where
 
 -- ---- how many digits are written
 
-some_digits : (turn : Bool) (top room n : ℕ) → 0 < length (digits_of turn top room n)
-unfolding digits_of
-some_digits turn top zero n = omega arith
-some_digits turn top (suc room) n = by (turned turn n) (128 + turned turn (n % 128)) (digits_of turn top room (n / 128)) (ltb n top) where
-  by : (a b : ℕ) (more : List ℕ) (t : Bool) → 0 < length (cond t (a ∷ []) (b ∷ more))
-  by a b more true = omega arith
-  by a b more false = omega arith
-
-longer_digits : (turn : Bool) (top room more n : ℕ) → top * 128 ^ more ≤ n → more < room → suc more < length (digits_of turn top room n)
+pub longer_digits : (turn : Bool) (top room more n : ℕ) → top * 128 ^ more ≤ n → more < room → suc more < length (digits_of turn top room n)
 unfolding digits_of
 longer_digits turn top zero more n le lt = absurd (omega arith)
 longer_digits turn top (suc room) zero n le lt =
@@ -322,36 +314,3 @@ u64_wide old new n unit end d le = unsigned_none (2 ^ 64) 10 old new n unit end 
 pub u64_none : (old : Place) → digits_at 10 old.left ≡ None → u64_at old ≡ None
 unfolding u64_at
 u64_none old none = no_digits (below (2 ^ 64)) unsigned_leb128 10 old none
-
--- two bytes are the digits of a number
-two_read : (most : ℕ) (p q : Place) (b c : ℕ) → 128 ≤ b → b < 256 → c < 128 → p ≡ place q.shortest (b ∷ c ∷ q.left) → Read (suc (suc most)) p q (b % 128 + 128 * c) 16384 c
-unfolding digits_at
-two_read most p q b c high byte low e = record {
-  digits = b ∷ c ∷ [];
-  reads = ap (λ (r : Place). digits_at (suc (suc most)) r.left) e ∙ rw (le-ltb b 128 high, lt-ltb c 128 low) refl;
-  keeps = sym (ap (λ (r : Place). r.shortest) e);
-  short = omega arith;
-  value_is = omega arith;
-  unit_is = refl;
-  end_is = refl;
-  some = lit≤ tt;
-  below = omega arith;
-  low = λ lt. omega arith;
-  high = λ le. omega arith;
-}
-
--- a number that needs two
-two_unsigned : (limit most : ℕ) (p q : Place) (b c : ℕ) → 128 ≤ b → b < 256 → 0 < c → c < 128 → suc (suc most) ≤ 10 → 16384 ≤ limit → p ≡ place q.shortest (b ∷ c ∷ q.left)
-    → number_at (suc (suc most)) (below limit) unsigned_leb128 p ≡ Some (b % 128 + 128 * c, q)
-two_unsigned limit most p q b c high byte some low few wide e =
-    let enough : fewest 128 16384 (b % 128 + 128 * c) ≡ true = le-leb (128 * 16384) ((b % 128 + 128 * c) * 16384) (omega arith) in
-    unsigned_is limit (suc (suc most)) p q (b % 128 + 128 * c) 16384 c (two_read most p q b c high byte low e) few (omega arith)
-    ∙ ap (λ (s : Bool). Some (b % 128 + 128 * c, place s q.left)) (ap (λ (s : Bool). q.shortest && s) enough ∙ and-true q.shortest)
-
-pub u32_two : (p q : Place) (b c : ℕ) → 128 ≤ b → b < 256 → 0 < c → c < 128 → p ≡ place q.shortest (b ∷ c ∷ q.left) → u32_at p ≡ Some (b % 128 + 128 * c, q)
-unfolding u32_at
-u32_two p q b c high byte some low e = two_unsigned (2 ^ 32) 3 p q b c high byte some low (lit≤ tt) (lit≤ tt) e
-
-pub u64_two : (p q : Place) (b c : ℕ) → 128 ≤ b → b < 256 → 0 < c → c < 128 → p ≡ place q.shortest (b ∷ c ∷ q.left) → u64_at p ≡ Some (b % 128 + 128 * c, q)
-unfolding u64_at
-u64_two p q b c high byte some low e = two_unsigned (2 ^ 64) 8 p q b c high byte some low (lit≤ tt) (lit≤ tt) e

@@ -1,9 +1,8 @@
 -- Loops that read at a place: so many items, items to the end, normal forms, and shortest encodings alone.
-use Rattle.std.proofs.Common.{◌≡◌, ℕ, zero, suc, ◌+◌, ◌-◌, ◌<◌, ◌≤◌, Bool, true, false, cond, List, [], ◌∷◌, ◌++◌, length, take, drop, Option, Some, None, Result, Ok, Err, refl, sym, ap, subst, ◌∙◌, append_assoc, length-append, inl, inr, arith}
-use Rattle.std.proofs.lemmas.List.{append-nil, flat_map_more, length-drop}
+use Rattle.std.proofs.Common.{◌≡◌, ℕ, suc, ◌+◌, ◌-◌, ◌<◌, ◌≤◌, Bool, true, false, cond, List, [], ◌∷◌, ◌++◌, length, Option, Some, None, Result, Ok, Err, refl, sym, ap, ◌∙◌, append_assoc, inl, inr, arith}
+use Rattle.std.proofs.lemmas.List.{append-nil}
 use Rattle.std.proofs.lemmas.Bool.{eqb-true}
 use Rattle.std.proofs.Math.Bool.{and-true}
-use Rattle.std.specs.List.{flat_map}
 use Rattle.wasm_codec.specs.declared.reader.cursor.Fault.{Fault}
 use Rattle.wasm_codec.specs.declared.reader.cursor.Fault.TheVariants as faults
 use Rattle.wasm_codec.specs.declared.reader.ReadError.{ReadError}
@@ -13,11 +12,9 @@ use Rattle.wasm_codec.specs.Answers.{answer_to, HoldsAtRefusal, IsLongestPrefix,
 use Rattle.wasm_codec.specs.Encoding.{IsShortestOrLonger}
 use Rattle.wasm_codec.proofs.Laws.{BeginsWith-is, one_reading, bind_some, some, some_is}
 use Rattle.wasm_codec.specs.Reading.{BeginsWith, IsReadBy as ListReads}
-use Rattle.wasm_codec.proofs.Joining.{Joined-more, Joined-append}
 use Rattle.wasm_codec.specs.Grammar.{TakesBytes}
-use Rattle.wasm_codec.proofs.ListReading.{Progress, Next, next, stopped_by, progress_bytes}
-use Rattle.wasm_codec.specs.Rewriting.{AppendsNormalForm, PassesOrWrites, ArePassed}
-use Rattle.wasm_codec.specs.Places.{Place, place, Reader, Reads, place_after, keeps, times_at, counted_at}
+use Rattle.wasm_codec.proofs.ListReading.{Progress, Next, next, stopped_by}
+use Rattle.wasm_codec.specs.Places.{Place, place, Reader, Reads, keeps, times_at, counted_at}
 use Rattle.wasm_codec.specs.formats.Combinators.{Format, only_shortest, narrow}
 use Rattle.wasm_codec.proofs.FormatLaws.{BeginsWith-at, keeps_same}
 use Rattle.wasm_codec.specs.Lawful.{ReadsPlaces, IsLawful, plain, IsPrefixFree}
@@ -154,173 +151,9 @@ place_stopped r some bytes p q vs left g faults.Malformed none e is = stopped_by
 both_true : (a b : Bool) → a ≡ true → a ≡ b → b ≡ true
 both_true a b e f = sym f ∙ e
 
-is_shortest : (prefix encoding : List ℕ) → IsShortestOrLonger prefix encoding → keeps true prefix encoding ≡ true → prefix ≡ encoding
+pub is_shortest : (prefix encoding : List ℕ) → IsShortestOrLonger prefix encoding → keeps true prefix encoding ≡ true → prefix ≡ encoding
 is_shortest prefix encoding (inl e) test = e
 is_shortest prefix encoding (inr lt) test = let e = eqb-true (length prefix) (length encoding) test in absurd (omega (arith, e))
-
--- what was passed so far: its values were written after what was there before, up to the run that begins at from, which
--- is in its shortest encoding
-pub record Normalised {V : Type 0} (F : Format V) (bytes : List ℕ) (from : ℕ) (before out : List ℕ) (p : Place) : Type 0 where
-  pub values : List V
-  pub progress : Progress F.Encodes bytes p.left values
-  pub within : from ≤ length progress.prefix
-  pub is_shortest : out ++ drop from progress.prefix ≡ before ++ flat_map F.bytes values
-  pub shortest : p.shortest ≡ true
-
-pub none_yet : {V : Type 0} (F : Format V) (bytes before : List ℕ) → Normalised F bytes 0 before before (place true bytes)
-none_yet F bytes before = record { values = []; progress = record { prefix = []; parts = refl; encodes = refl }; within = omega arith; is_shortest = refl; shortest = refl }
-
-drop_append : (n : ℕ) (a b : List ℕ) → n ≤ length a → drop n (a ++ b) ≡ drop n a ++ b
-drop_append zero a b le = refl
-drop_append (suc n) [] b le = absurd (omega arith)
-drop_append (suc n) (x ∷ a) b le = drop_append n a b (omega arith)
-
-drop_whole : (a : List ℕ) → drop (length a) a ≡ []
-drop_whole [] = refl
-drop_whole (x ∷ a) = drop_whole a
-
-pub run_fits : {V : Type 0} {F : Format V} (bytes : List ℕ) (from : ℕ) (before out : List ℕ) (p : Place) → Normalised F bytes from before out p → from + length p.left ≤ length bytes
-run_fits bytes from before out p n = omega (arith, n.within, ap (length {A = ℕ}) n.progress.parts, length-append n.progress.prefix p.left)
-
--- what wasn't passed isn't read
-pub not_passed : {V : Type 0} (F : Format V) (old new : Place) (run before after : List ℕ) (fault : Fault) → PassesOrWrites F old new run before after (Err fault) → Reads F.at old new (Err fault)
-not_passed F old new run before after faults.Memory h = tt
-not_passed F old new run before after faults.Malformed h = h
-
--- where the flag stands, the run grows
-pub passed : {V : Type 0} {F : Format V} → IsLawful F → (bytes : List ℕ) (from : ℕ) (before out : List ℕ) (p q : Place) (v : V) → IsBytes p.left → Normalised F bytes from before out p → F.at p ≡ Some (v, q) → q.shortest ≡ true → Normalised F bytes from before out q
-passed {V} {F} r bytes from before out p q v fits n e stands =
-    let one = step r p v q fits e in
-    let same : one.prefix ≡ F.bytes v = is_shortest one.prefix (F.bytes v) (r.shortest.least one.prefix v one.encodes) (sym (ap (λ (s : Bool). keeps s one.prefix (F.bytes v)) n.shortest) ∙ sym one.tells ∙ stands) in
-    record {
-      values = n.values ++ v ∷ [];
-      progress = record {
-        prefix = n.progress.prefix ++ one.prefix;
-        parts = n.progress.parts ∙ ap (λ (t : List ℕ). n.progress.prefix ++ t) one.parts ∙ sym (append_assoc n.progress.prefix one.prefix q.left);
-        encodes = Joined-more F.Encodes n.progress.prefix n.values one.prefix v n.progress.encodes one.encodes;
-      };
-      within = omega (arith, n.within, length-append n.progress.prefix one.prefix);
-      is_shortest =
-          ap (λ (t : List ℕ). out ++ t) (drop_append from n.progress.prefix one.prefix n.within) ∙ sym (append_assoc out (drop from n.progress.prefix) one.prefix)
-          ∙ ap (λ (t : List ℕ). t ++ one.prefix) n.is_shortest ∙ ap (λ (t : List ℕ). (before ++ flat_map F.bytes n.values) ++ t) same ∙ flat_map_more F.bytes before n.values v;
-      shortest = stands;
-    }
-
-pub passed_values : {V : Type 0} {F : Format V} (r : IsLawful F) (bytes : List ℕ) (from : ℕ) (before out : List ℕ) (p q : Place) (v : V) (fits : IsBytes p.left) (n : Normalised F bytes from before out p) (e : F.at p ≡ Some (v, q)) (stands : q.shortest ≡ true) → (passed r bytes from before out p q v fits n e stands).values ≡ n.values ++ v ∷ []
-unfolding passed
-passed_values r bytes from before out p q v fits n e stands = refl
-
--- values in their shortest encodings, one after another
-pub none_passed : {V : Type 0} (F : Format V) (p : Place) → p.shortest ≡ true → ArePassed F p p
-none_passed F p stands = record { values = []; parts = refl; encodes = refl; shortest = stands }
-
--- One value more was passed.
-pub record OneMore {V : Type 0} (F : Format V) (old p q : Place) : Type 0 where
-  pub passed : ArePassed F old q
-  pub fewer : length q.left < length p.left
-
-pub one_more : {V : Type 0} {F : Format V} → IsLawful F → TakesBytes F.Encodes → (old p q : Place) → IsBytes old.left → ArePassed F old p → place_after F.at p ≡ Some q → q.shortest ≡ p.shortest → OneMore F old p q
-one_more {V} {F} r some old p q fits w e same =
-    let x = bind_some (F.at p) (λ (x : V × Place). Some x.1) q e in
-    let read : F.at p ≡ Some (x.0.0, q) = x.1 ∙ ap (λ (t : Place). Some (x.0.0, t)) (some_is x.0.1 q x.2) in
-    let so_far : Progress F.Encodes old.left p.left w.values = record { prefix = flat_map F.bytes w.values; parts = w.parts; encodes = w.encodes } in
-    let left = progress_bytes old.left p.left fits so_far in
-    let one = step r p x.0.0 q left read in
-    let stands : q.shortest ≡ true = same ∙ w.shortest in
-    let is : one.prefix ≡ F.bytes x.0.0 = is_shortest one.prefix (F.bytes x.0.0) (r.shortest.least one.prefix x.0.0 one.encodes) (sym (ap (λ (s : Bool). keeps s one.prefix (F.bytes x.0.0)) w.shortest) ∙ sym one.tells ∙ stands) in
-    let whole : flat_map F.bytes w.values ++ one.prefix ≡ flat_map F.bytes (w.values ++ x.0.0 ∷ []) = ap (λ (t : List ℕ). flat_map F.bytes w.values ++ t) is ∙ flat_map_more F.bytes [] w.values x.0.0 in
-    record {
-      passed = record {
-        values = w.values ++ x.0.0 ∷ [];
-        parts = w.parts ∙ ap (λ (t : List ℕ). flat_map F.bytes w.values ++ t) one.parts ∙ sym (append_assoc (flat_map F.bytes w.values) one.prefix q.left) ∙ ap (λ (t : List ℕ). t ++ q.left) whole;
-        encodes = subst (λ (t : List ℕ). Joined F.Encodes t (w.values ++ x.0.0 ∷ [])) whole (Joined-more F.Encodes (flat_map F.bytes w.values) w.values one.prefix x.0.0 w.encodes one.encodes);
-        shortest = stands;
-      };
-      fewer = (place_next r some old.left p q w.values x.0.0 fits left so_far read).fewer;
-    }
-
-pub no_longer : {V : Type 0} {F : Format V} (p q : Place) → ArePassed F p q → length q.left ≤ length p.left
-no_longer {F = F} p q w = omega (arith, ap (length {A = ℕ}) w.parts, length-append (flat_map F.bytes w.values) q.left)
-
-flat_map_join : {V : Type 0} (f : V → List ℕ) (vs ws : List V) → flat_map f (vs ++ ws) ≡ flat_map f vs ++ flat_map f ws
-flat_map_join f [] ws = refl
-flat_map_join f (v ∷ vs) ws = ap (λ (t : List ℕ). f v ++ t) (flat_map_join f vs ws) ∙ sym (append_assoc (f v) (flat_map f vs) (flat_map f ws))
-
--- the run grows by them
-pub all_passed : {V : Type 0} {F : Format V} (bytes : List ℕ) (from : ℕ) (before out : List ℕ) (p q : Place) → Normalised F bytes from before out p → ArePassed F p q → Normalised F bytes from before out q
-all_passed {V} {F} bytes from before out p q n w =
-    let run = flat_map F.bytes w.values in
-    record {
-      values = n.values ++ w.values;
-      progress = record {
-        prefix = n.progress.prefix ++ run;
-        parts = n.progress.parts ∙ ap (λ (t : List ℕ). n.progress.prefix ++ t) w.parts ∙ sym (append_assoc n.progress.prefix run q.left);
-        encodes = Joined-append F.Encodes n.progress.prefix n.values run w.values n.progress.encodes w.encodes;
-      };
-      within = omega (arith, n.within, length-append n.progress.prefix run);
-      is_shortest =
-          ap (λ (t : List ℕ). out ++ t) (drop_append from n.progress.prefix run n.within) ∙ sym (append_assoc out (drop from n.progress.prefix) run)
-          ∙ ap (λ (t : List ℕ). t ++ run) n.is_shortest ∙ append_assoc before (flat_map F.bytes n.values) run
-          ∙ ap (λ (t : List ℕ). before ++ t) (sym (flat_map_join F.bytes n.values w.values));
-      shortest = w.shortest;
-    }
-
-take_prefix : (a b : List ℕ) → take (length a) (a ++ b) ≡ a
-take_prefix [] b = refl
-take_prefix (x ∷ a) b = ap (λ (t : List ℕ). x ∷ t) (take_prefix a b)
-
--- the slice that is copied
-pub run_is : (bytes prefix left : List ℕ) (from : ℕ) → bytes ≡ prefix ++ left → from ≤ length prefix → take (length bytes - length left - from) (drop from bytes) ≡ drop from prefix
-run_is bytes prefix left from e le =
-    let len : length bytes - length left - from ≡ length (drop from prefix) = omega (arith, ap (length {A = ℕ}) e, length-append prefix left, length-drop from prefix) in
-    rw len (rw e (rw (drop_append from prefix left le) (take_prefix (drop from prefix) left)))
-
--- where it fell, the run and the item were written
-pub written : {V : Type 0} {F : Format V} → IsLawful F → (bytes : List ℕ) (from : ℕ) (before out : List ℕ) (p q : Place) (v : V) (run whole : List ℕ) → IsBytes p.left → Normalised F bytes from before out p → F.at p ≡ Some (v, q)
-    → run ≡ take (length bytes - length p.left - from) (drop from bytes) → whole ≡ (out ++ run) ++ F.bytes v → Normalised F bytes (length bytes - length q.left) before whole (place true q.left)
-written {V} {F} r bytes from before out p q v run whole fits n e run-is whole-is =
-    let one = step r p v q fits e in
-    let prefix = n.progress.prefix ++ one.prefix in
-    let parts : bytes ≡ prefix ++ q.left = n.progress.parts ∙ ap (λ (t : List ℕ). n.progress.prefix ++ t) one.parts ∙ sym (append_assoc n.progress.prefix one.prefix q.left) in
-    let len : length bytes - length q.left ≡ length prefix = omega (arith, ap (length {A = ℕ}) parts, length-append prefix q.left) in
-    let old : run ≡ drop from n.progress.prefix = run-is ∙ run_is bytes n.progress.prefix p.left from n.progress.parts n.within in
-    record {
-      values = n.values ++ v ∷ [];
-      progress = record { prefix = prefix; parts = parts; encodes = Joined-more F.Encodes n.progress.prefix n.values one.prefix v n.progress.encodes one.encodes };
-      within = omega (arith, len);
-      is_shortest =
-          ap (λ (t : List ℕ). whole ++ t) (ap (λ (k : ℕ). drop k prefix) len ∙ drop_whole prefix) ∙ append-nil whole ∙ whole-is
-          ∙ ap (λ (t : List ℕ). (out ++ t) ++ F.bytes v) old ∙ ap (λ (t : List ℕ). t ++ F.bytes v) n.is_shortest ∙ flat_map_more F.bytes before n.values v;
-      shortest = refl;
-    }
-
-pub written_values : {V : Type 0} {F : Format V} (r : IsLawful F) (bytes : List ℕ) (from : ℕ) (before out : List ℕ) (p q : Place) (v : V) (run whole : List ℕ) (fits : IsBytes p.left) (n : Normalised F bytes from before out p) (e : F.at p ≡ Some (v, q))
-    (run-is : run ≡ take (length bytes - length p.left - from) (drop from bytes)) (whole-is : whole ≡ (out ++ run) ++ F.bytes v) → (written r bytes from before out p q v run whole fits n e run-is whole-is).values ≡ n.values ++ v ∷ []
-unfolding written
-written_values r bytes from before out p q v run whole fits n e run-is whole-is = refl
-
-take_whole : (a : List ℕ) → take (length a) a ≡ a
-take_whole [] = refl
-take_whole (x ∷ a) = ap (λ (t : List ℕ). x ∷ t) (take_whole a)
-
-rest_is : (bytes : List ℕ) (from : ℕ) → take (length bytes - from) (drop from bytes) ≡ drop from bytes
-rest_is bytes from =
-    let len : length bytes - from ≡ length (drop from bytes) = omega (arith, length-drop from bytes) in
-    rw len (take_whole (drop from bytes))
-
--- at the end the last run was written
-pub all_written : {V : Type 0} {F : Format V} (bytes : List ℕ) (from : ℕ) (before out : List ℕ) (p : Place) (whole : List ℕ) → Normalised F bytes from before out p → length p.left ≤ 0 → whole ≡ out ++ take (length bytes - from) (drop from bytes) → AppendsNormalForm (Joined F.Encodes) (flat_map F.bytes) bytes before whole
-all_written {V} {F} bytes from before out p whole n none e =
-    let same : bytes ≡ n.progress.prefix = n.progress.parts ∙ nothing p.left none in
-    record {
-      encoding = flat_map F.bytes n.values;
-      appended = e ∙ ap (λ (t : List ℕ). out ++ t) (rest_is bytes from) ∙ ap (λ (t : List ℕ). out ++ drop from t) same ∙ n.is_shortest;
-      normal = record { value = n.values; encoded = subst (λ (t : List ℕ). Joined F.Encodes t n.values) (sym same) n.progress.encodes; is_shortest = refl };
-    }
-  where
-    nothing : (l : List ℕ) → length l ≤ 0 → n.progress.prefix ++ l ≡ n.progress.prefix
-    nothing [] le = append-nil n.progress.prefix
-    nothing (x ∷ l) le = absurd (omega arith)
 
 -- ---- shortest encodings alone
 

@@ -122,7 +122,7 @@ one_more more low high lt below =
     let p : 256 ^ suc more ≡ 256 * 256 ^ more = omega arith in
     rw p (omega arith)
 
-low_and_high_are : (low high : ℕ) → low < 256 → low_and_high (low + 256 * high) ≡ (low, high)
+pub low_and_high_are : (low high : ℕ) → low < 256 → low_and_high (low + 256 * high) ≡ (low, high)
 low_and_high_are low high lt =
     let first : (low + 256 * high) % 256 ≡ low = omega arith in
     let back : (low + 256 * high) / 256 ≡ high = omega arith in

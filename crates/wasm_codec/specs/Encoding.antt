@@ -60,9 +60,3 @@ IsShortestOrLonger bytes encoding = (bytes ≡ encoding) ⊎ (length encoding < 
 pub record IsShortest {V : Type 0} (G : Grammar V) (encoding : V → List ℕ) (v : V) : Type 0 where
   pub encodes : G (encoding v) v
   pub least : (bytes : List ℕ) → G bytes v → IsShortestOrLonger bytes (encoding v)
-
--- A gap of so many bytes was appended.
-pub record OpensGap (gap : ℕ) (old new : List ℕ) : Type 0 where
-  pub filler : List ℕ
-  pub appended : new ≡ old ++ filler
-  pub len : length filler ≡ gap

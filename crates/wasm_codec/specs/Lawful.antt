@@ -40,3 +40,17 @@ plain read bytes = read (place true bytes) >>= λ x. Some (x.0, x.1.left)
 -- no encoding is a proper prefix of another
 abbrev pub IsPrefixFree : {V : Type 0} → Grammar V → Type 0
 IsPrefixFree {V} G = (a b rest : List ℕ) (v w : V) → G a v → G b w → a ≡ b ++ rest → rest ≡ []
+
+-- ---- formats that go on to the end of the bytes
+
+-- what is read to the end of the bytes is what they encode, and the place tells whether they were the shortest encoding
+pub record ReadsToEnd {V : Type 0} (G : Grammar V) (bytes : V → List ℕ) (read : Reader V) : Type 0 where
+  pub sound : (p : Place) (v : V) (q : Place) → IsBytes p.left → read p ≡ Some (v, q) → q.left ≡ [] → G p.left v
+  pub complete : (body : List ℕ) (v : V) (s : Bool) → G body v → read (place s body) ≡ Some (v, place (keeps s body (bytes v)) [])
+
+-- the law of a format where nothing follows
+pub record IsLawfulBody {V : Type 0} (F : Format V) : Type 0 where
+  pub reads : ReadsToEnd F.Encodes F.bytes F.at
+  pub shortest : Shortest F.Encodes F.InRange F.bytes
+  pub in_range : (bytes : List ℕ) (v : V) → F.Encodes bytes v → F.InRange v
+  pub are_bytes : (bytes : List ℕ) (v : V) → F.Encodes bytes v → IsBytes bytes

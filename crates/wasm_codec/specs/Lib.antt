@@ -4,8 +4,8 @@ pub mod Numbers
 pub mod Lists
 pub mod Encoding
 pub mod Answers
-pub mod Rewriting
 pub mod Places
 pub mod ReadDigits
 pub mod formats
 pub mod Lawful
+pub mod Rewriter

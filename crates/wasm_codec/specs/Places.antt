@@ -24,22 +24,6 @@ Reads read old new (Ok v) = read old ≡ Some (v, new)
 Reads read old new (Err faults.Malformed) = read old ≡ None
 Reads read old new (Err faults.Memory) = Unit {0}
 
--- the place after the value that stands there, or none
-abbrev pub place_after : {V : Type 0} → Reader V → Place → Option Place
-place_after read p = read p >>= λ x. Some x.1
-
--- What the code passed is what the reading function reads at the old place, and the new place is what it leaves; at a
--- fault it reads nothing. Memory isn't wanted.
-abbrev pub Passes : {V : Type 0} → Reader V → Place → Place → Result (Unit {0}) Fault → Type 0
-Passes read old new (Ok done) = place_after read old ≡ Some new
-Passes read old new (Err faults.Malformed) = read old ≡ None
-Passes read old new (Err faults.Memory) = ⊥
-
--- The code passed what the reading function reads at the old place, in its shortest encoding, or answers that it did not.
-abbrev pub PassesShort : {V : Type 0} → Reader V → Place → Place → Bool → Type 0
-PassesShort read old new true = (place_after read old ≡ Some new) × (new.shortest ≡ old.shortest)
-PassesShort read old new false = Unit {0}
-
 -- as before, and what was passed since is as long as this
 abbrev pub keeps : Bool → List ℕ → List ℕ → Bool
 keeps shortest prefix bytes = shortest && (length prefix == length bytes)

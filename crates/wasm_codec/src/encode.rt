@@ -1,4 +1,4 @@
-//! What numbers, sizes and gaps are written by, and the errors of writing.
+//! What numbers and sizes are written by, and the errors of writing.
 ghost use Rattle.std.specs.Prelude.{◌≡◌};
 ghost use Rattle.wasm_codec.specs.declared.encode.EncodeError.TheVariants.{Memory};
 
@@ -6,7 +6,8 @@ pub mod leb128;
 mod sized;
 mod undo;
 
-pub use sized::{mend_count, open_gap, put_size_before, put_size_into};
+pub(crate) use sized::write_u32;
+pub use sized::{mend_count, put_size_before};
 use std::alloc::AllocError;
 use thiserror::Error;
 pub use undo::keep_or_undo;

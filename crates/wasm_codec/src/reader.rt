@@ -1,4 +1,4 @@
-//! What readers answer, the place in bytes that they go by, and what is passed and not made.
+//! What readers answer, and the place in bytes that they go by.
 //!
 //! A reader takes all of its input: bytes that are left over are refused like any others that encode nothing.
 ghost use Rattle.std.specs.Prelude.{◌≡◌};
@@ -6,7 +6,6 @@ ghost use Rattle.wasm_codec.specs.declared.reader.ReadError.TheVariants.{Memory}
 ghost use Rattle.wasm_codec.specs.Answers.{answer_to};
 
 pub mod cursor;
-pub mod passing;
 
 use cursor::Fault;
 use std::alloc::{AllocError, AllocFailed};

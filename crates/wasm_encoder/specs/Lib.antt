@@ -8,7 +8,7 @@ pub use Rattle.wasm_codec.specs.Encoding
 pub use Rattle.wasm_codec.specs.Answers
 pub use Rattle.wasm_writers.specs.Iterators
 pub use Rattle.wasm_codec.specs.Lists
-pub use Rattle.wasm_codec.specs.Rewriting
+pub use Rattle.wasm_codec.specs.Rewriter
 pub use Rattle.wasm_types.specs.formats.Types as TypeFormats
 pub use Rattle.wasm_types.specs.Types
 pub use Rattle.wasm_types.specs.TypeCounts

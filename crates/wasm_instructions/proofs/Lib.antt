@@ -1,5 +1,6 @@
 pub mod OpcodeLaws
 pub mod OperandFormatLaws
 pub mod InstructionFormatLaws
-pub mod Anew
-mod PassingCalls
+pub mod CallRewriting
+pub mod OperandRewriting
+pub mod ShortCalls

@@ -109,7 +109,7 @@ halved k = (k % 2 ^ 64, k / 2 ^ 64)
 halves_are : (k low high : ℕ) → k % 2 ^ 64 ≡ low → k / 2 ^ 64 ≡ high → halved k ≡ (low, high)
 halves_are k low high e f = ap (λ (a : ℕ). (a, k / 2 ^ 64)) e ∙ ap (λ (b : ℕ). (low, b)) f
 
-halves_of : (p : ℕ × ℕ) → (p.0 < 256 ^ 8) × (p.1 < 256 ^ 8) → Within (2 ^ 127) (from_halves p) × (to_halves (from_halves p) ≡ p)
+pub halves_of : (p : ℕ × ℕ) → (p.0 < 256 ^ 8) × (p.1 < 256 ^ 8) → Within (2 ^ 127) (from_halves p) × (to_halves (from_halves p) ≡ p)
 halves_of p fits =
     let again = bits_again (p.0 + 2 ^ 64 * p.1) (omega (arith, fits.0, fits.1)) in
     (again.0, halves_are (to_bits (from_bits (p.0 + 2 ^ 64 * p.1))) p.0 p.1 (rw again.1 (omega (arith, fits.0))) (rw again.1 (omega (arith, fits.0))))

@@ -1,23 +1,21 @@
 //! The normaliser of lists of instructions (Core 3.0, Instructions).
-ghost use Rattle.std.specs.Prelude.{◌≡◌, ◌↔◌, ◌≤◌, List, length, IfOk};
+ghost use Rattle.std.specs.Prelude.{◌≡◌, ◌↔◌, ◌<◌, ◌≤◌, List, length, IfOk};
 ghost use Rattle.wasm_codec.specs.Answers.{IsOrMemory, IfRefused, IsLongestPrefix, EncodesSome, IsNormalForm};
 ghost use Rattle.wasm_codec.specs.Encoding.{IsShortestOrLonger};
 ghost use Rattle.wasm_instructions.specs.Instructions.{Instruction};
-ghost use Rattle.wasm_instructions.specs.formats.Instructions.{Instructions, ShortestInstructions, instruction, instructions_bytes};
-ghost use Rattle.wasm_codec.specs.Rewriting.{Appends};
+ghost use Rattle.wasm_instructions.specs.formats.Instructions.{Instructions, ShortestInstructions, opcode, instruction, instructions_bytes};
+ghost use Rattle.wasm_codec.specs.Rewriter.{Gives, Rewrites};
 
 mod operands;
+mod short;
 
-use crate::encode::put_opcode;
-use crate::reader::read_opcode;
-use crate::table::Call;
-use operands::write_operands;
+use crate::table::{Call, Opcode};
+use operands::rewrite_operands;
+use short::{short_call, short_call_near_end};
 use std::alloc::Global;
-use wasm_codec::normaliser::{
-    Normalisable, NormalisableInRuns, Rewritable, normalise_joined, pass_or_write, pass_run,
-};
 use wasm_codec::reader::ReadError;
-use wasm_codec::reader::cursor::{Cursor, Fault};
+use wasm_codec::reader::cursor::Fault;
+use wasm_codec::rewriter::{Joinable, Rewritable, Rewriter, normalise_joined};
 
 /// The shortest encoding of the instructions that the bytes encode.
 ///
@@ -52,55 +50,89 @@ pub fn normalise_instructions(alloc: Global, bytes: &[u8]) -> Result<Vec<u8>, Re
     ensures was_shortest { IfOk result (λ encoding.
         encoding.items ≡ bytes.now → EncodesSome ShortestInstructions bytes.now) }
 {
-    normalise_joined::<Call>(alloc, bytes)
+    call_bytes_of(alloc, bytes)
 }
 
-impl<'a> Rewritable<'a> for Call {
-    fn write_anew(
-        alloc: Global,
-        cursor: &mut Cursor<'a>,
-        bytes: &mut Vec<u8>,
-    ) -> Result<(), Fault> {
-        write_call_anew(alloc, cursor, bytes)
-    }
+/// The same, in the list itself, which is rewritten where it lies and given back. It takes no memory.
+pub fn rewrite_instructions(bytes: Vec<u8>) -> Result<Vec<u8>, ReadError>
+    // The result is the shortest encoding of a list that the bytes encode.
+    ensures given { IfOk result (λ encoding.
+        IsNormalForm Instructions instructions_bytes bytes.items encoding.items) }
+    // Where the bytes encode a list, its shortest encoding is given.
+    ensures complete { (calls : List Instruction) → Instructions bytes.items calls →
+        IsOrMemory (λ encoding. encoding.items) (instructions_bytes calls) result }
+    // `at` is the length of the longest prefix that encodes a list.
+    ensures prefix { IfRefused result (IsLongestPrefix (EncodesSome Instructions) bytes.items) }
+    // It is less than the number of the bytes.
+    ensures within { IfRefused result (λ at. at < length bytes.items) }
+{
+    normalise_joined::<Call>(bytes)
 }
 
-impl<'a> Normalisable<'a> for Call {
+/// The shortest encoding of the instructions, written over a copy of the bytes.
+fn call_bytes_of(alloc: Global, bytes: &[u8]) -> Result<Vec<u8>, ReadError>
+    ensures given { IfOk result (λ encoding.
+        IsNormalForm Instructions instructions_bytes bytes.now encoding.items) }
+    ensures prefix { IfRefused result (IsLongestPrefix (EncodesSome Instructions) bytes.now) }
+    ensures within { IfRefused result (λ at. at < length bytes.now) }
+{
+    rewrite_instructions(Vec::from_slice(alloc, bytes)?)
+}
+
+impl Rewritable for Call {
     ghost Value = { Instruction };
 
     ghost format = { instruction };
 
     #[inline(always)]
-    fn normalise_next(
-        alloc: Global,
-        cursor: &mut Cursor<'a>,
-        run: &[u8],
-        out: &mut Vec<u8>,
-    ) -> Result<bool, Fault> {
-        pass_or_write::<Call>(alloc, cursor, run, out)
+    fn is_lawful() {}
+
+    fn rewrite(rewriter: &mut Rewriter) -> Result<(), Fault> {
+        rewrite_call(rewriter)
     }
 }
 
-impl<'a> NormalisableInRuns<'a> for Call {
+impl Joinable for Call {
     #[inline(always)]
-    fn pass_run(cursor: &mut Cursor<'a>) {
-        pass_run::<Call>(cursor);
+    fn short(bytes: &[u8]) -> Option<usize> {
+        // Where there are as many, the compiler leaves out each later test that there are enough.
+        if bytes.len() >= 16 {
+            short_call(bytes)
+        } else {
+            short_call_near_end(bytes)
+        }
+    }
+
+    #[inline(never)]
+    fn rewrite_next(rewriter: Rewriter) -> Result<Rewriter, Fault> {
+        let mut rewriter = rewriter;
+        rewrite_call(&mut rewriter)?;
+        Ok(rewriter)
     }
 }
 
-/// The room that an opcode and operands without a list fit into, in bytes.
-const ROOM: usize = 21;
-
-/// Appends the shortest encoding of the instruction that comes next. One with a list isn't held.
-#[tactic(auto, using(crate::proofs::OpcodeLaws::in_table_short), unfolding(crate::specs::formats::Instructions::instruction))]
-fn write_call_anew(alloc: Global, cursor: &mut Cursor<'_>, bytes: &mut Vec<u8>) -> Result<(), Fault>
-    ensures writes { Appends instruction cursor.old cursor.new bytes.old.items bytes.new.items result }
+/// An opcode: a prefix byte and a number, or one byte.
+#[tactic(auto, using(std::proofs::Common::append_assoc), unfolding(crate::specs::formats::Instructions::opcode))]
+fn rewrite_opcode(rewriter: &mut Rewriter) -> Result<Opcode, Fault>
+    ensures gives { Gives opcode rewriter.old rewriter.new result }
 {
-    let op = read_opcode(cursor)?;
+    match rewriter.byte()? {
+        0xfb => Ok(Opcode::after_fb(rewriter.u32()?)),
+        0xfc => Ok(Opcode::after_fc(rewriter.u32()?)),
+        0xfd => Ok(Opcode::after_fd(rewriter.u32()?)),
+        0xfe => Ok(Opcode::after_fe(rewriter.u32()?)),
+        byte => Ok(Opcode::without_prefix(byte)),
+    }
+}
+
+/// An opcode and its operands.
+#[tactic(auto, unfolding(crate::specs::formats::Instructions::instruction))]
+fn rewrite_call(rewriter: &mut Rewriter) -> Result<(), Fault>
+    ensures rewrites { Rewrites instruction rewriter.old rewriter.new result }
+{
+    let op = rewrite_opcode(rewriter)?;
     let Some(kind) = op.kind() else {
         return Err(Fault::Malformed);
     };
-    bytes.reserve(ROOM)?;
-    put_opcode(bytes, op);
-    write_operands(alloc, cursor, bytes, kind)
+    rewrite_operands(rewriter, kind)
 }

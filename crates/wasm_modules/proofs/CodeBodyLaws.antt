@@ -9,7 +9,8 @@ use Rattle.wasm_codec.proofs.AskedLaws.{list_narrow}
 use Rattle.wasm_codec.specs.declared.reader.ReadError.{ReadError}
 use Rattle.wasm_codec.specs.Answers.{IsNormalForm}
 use Rattle.wasm_codec.proofs.FormatLaws.{not_longer, Lawful-u32, Lawful-both, Lawful-made, Lawful-items, takes_bytes}
-use Rattle.wasm_codec.proofs.BodyLaws.{IsLawfulBody, Lawful-sized, Lawful-to-end, Lawful-then-body}
+use Rattle.wasm_codec.specs.Lawful.{IsLawfulBody}
+use Rattle.wasm_codec.proofs.BodyLaws.{Lawful-sized, Lawful-to-end, Lawful-then-body}
 use Rattle.wasm_types.proofs.TypeFormatLaws.{Lawful-val-type}
 use Rattle.wasm_instructions.proofs.InstructionFormatLaws.{Lawful-instruction, instruction_takes}
 use Rattle.wasm_modules.specs.declared.code.CodeBody.{CodeBody}

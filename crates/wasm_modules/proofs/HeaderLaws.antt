@@ -1,12 +1,18 @@
 -- The laws of a header and then items with nothing between, over any grammar of the items.
-use Rattle.std.proofs.Common.{◌≡◌, ℕ, ◌+◌, ◌<◌, ◌≤◌, ◌⊎◌, true, false, List, [], ◌++◌, length, take, drop, Option, Some, None, eqb, refl, sym, ap, ◌∙◌, append_assoc, length-append, inl, inr, arith}
+use Rattle.std.proofs.Common.{◌≡◌, ℕ, ◌+◌, ◌-◌, ◌<◌, ◌≤◌, ◌⊎◌, true, false, List, [], ◌++◌, length, take, drop, Option, Some, None, eqb, refl, sym, ap, subst, ◌∙◌, append_assoc, length-append, inl, inr, arith}
 use Rattle.std.specs.Prelude.{MatchOption, IfSome, IfNone}
 use lib.Pointwise.{pointwise, bytes_decides}
-use Rattle.std.proofs.lemmas.List.{append-nil, append_cancel_left, take_at, take-append-drop}
+use Rattle.std.proofs.lemmas.List.{append-nil, append_cancel_left, take_at, drop_at, take-append-drop}
 use Rattle.std.specs.List.{flat_map}
 use Rattle.wasm_codec.specs.Grammar.{Grammar, After, Joined}
 use Rattle.wasm_codec.specs.Answers.{IsLongestPrefix, IsNormalForm, EncodesSome}
-use Rattle.wasm_codec.specs.Rewriting.{AppendsNormalForm}
+use Rattle.wasm_codec.specs.Grammar.{IsBytes, TakesBytes}
+use Rattle.wasm_codec.specs.Lawful.{IsLawful}
+use Rattle.wasm_codec.specs.Places.{place}
+use Rattle.wasm_codec.specs.formats.Combinators.{Format}
+use Rattle.wasm_codec.specs.formats.Bodies.{to_end}
+use Rattle.wasm_codec.specs.Rewriter.{Rewriting, rewriting, after_at, stayed, StopsAt}
+use Rattle.wasm_codec.proofs.BodyRewriting.{joined_done, joined_stopped, stopped_within}
 use Rattle.wasm_modules.specs.Sections.{header}
 
 -- ---- the header, and then items
@@ -72,10 +78,41 @@ header_missing now bytes None h = λ rest e.
     let there : pointwise eqb (take 8 bytes) header ≡ true = (bytes_decides (take 8 bytes) header).1 prefix in
     absurd cc
 
--- the shortest encoding of the items, after the header, is that of the whole
-pub headed_normal : {V : Type 0} {G : Grammar V} (encoding_of : V → List ℕ) (bytes body before after : List ℕ) → bytes ≡ header ++ body → before ≡ header → AppendsNormalForm (Joined G) (flat_map encoding_of) body before after → IsNormalForm (Headed G) (λ vs. header ++ flat_map encoding_of vs) bytes after
-headed_normal encoding_of bytes body before after e is n = record {
-  value = n.normal.value;
-  encoded = (body, e, n.normal.encoded);
-  is_shortest = n.appended ∙ ap (λ (t : List ℕ). t ++ n.encoding) is ∙ ap (λ (t : List ℕ). header ++ t) n.normal.is_shortest;
+-- ---- a module that is rewritten: its header stays, and then its sections are
+
+-- after the header
+pub record AfterHeader (bytes body : List ℕ) (start : Rewriting) : Type 0 where
+  pub done : start.done ≡ header
+  pub left : start.place.left ≡ body
+
+pub after_header_is : (bytes body : List ℕ) (start : Rewriting) → bytes ≡ header ++ body → start ≡ stayed 8 (rewriting [] (place true bytes) []) → AfterHeader bytes body start
+after_header_is bytes body start e is = record {
+  done = ap (λ (s : Rewriting). s.done) is ∙ ap (take 8) e ∙ take_at header body 8 refl;
+  left = ap (λ (s : Rewriting). s.place.left) is ∙ ap (drop 8) e ∙ drop_at header body 8 refl;
 }
+
+pub headed_normal : {V : Type 0} {F : Format V} → IsLawful F → TakesBytes F.Encodes → (bytes body : List ℕ) (start end : Rewriting) → bytes ≡ header ++ body → AfterHeader bytes body start → IsBytes start.place.left → after_at (to_end F) start ≡ Some end → end.place.left ≡ []
+    → IsNormalForm (Headed F.Encodes) (λ vs. header ++ flat_map F.bytes vs) bytes end.done
+headed_normal {V} {F} r some bytes body start end e h fits rest none =
+    let all = joined_done r some start end fits rest none in
+    record {
+      value = all.values;
+      encoded = (body, e, subst (λ (l : List ℕ). Joined F.Encodes l all.values) h.left all.encodes);
+      is_shortest = all.written ∙ ap (λ (t : List ℕ). t ++ flat_map F.bytes all.values) h.done;
+    }
+
+-- one section isn't whole
+pub record HeadedRefused {V : Type 0} (G : Grammar V) (bytes : List ℕ) (at : ℕ) : Type 0 where
+  pub prefix : IsLongestPrefix (IsHeadedPrefix G) bytes at
+  pub unencoded : (vs : List V) → Headed G bytes vs → ⊥
+
+pub headed_refused : {V : Type 0} {F : Format V} → IsLawful F → TakesBytes F.Encodes → (bytes body : List ℕ) (start : Rewriting) (left : ℕ) → bytes ≡ header ++ body → AfterHeader bytes body start → StopsAt F start.place.left left → HeadedRefused F.Encodes bytes (length bytes - left)
+headed_refused {V} {F} r some bytes body start left e h stop =
+    let stops : StopsAt F body left = subst (λ (l : List ℕ). StopsAt F l left) h.left stop in
+    let within = stopped_within F body left stops in
+    let longest = joined_stopped r some body left stops in
+    let at : 8 + (length body - left) ≡ length bytes - left = omega (arith, within, ap (length {A = ℕ}) e, length-append header body, stops.len, ap (length {A = ℕ}) stops.parts, length-append stops.prefix stops.rest) in
+    record {
+      prefix = subst (IsLongestPrefix (IsHeadedPrefix F.Encodes) bytes) at (headed_longest bytes body (length body - left) e longest);
+      unencoded = headed_none_whole bytes body (length body - left) e within longest;
+    }

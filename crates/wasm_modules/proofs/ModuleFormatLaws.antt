@@ -6,7 +6,8 @@ use Rattle.wasm_codec.specs.Grammar.{IsBytes}
 use Rattle.wasm_codec.specs.Grammar.{TakesBytes}
 use Rattle.wasm_codec.proofs.ListReading.{AtMostOne}
 use Rattle.wasm_codec.proofs.FormatLaws.{Lawful-byte, Lawful-both, Lawful-then, Lawful-made, takes_bytes}
-use Rattle.wasm_codec.proofs.BodyLaws.{IsLawfulBody, Lawful-body, Lawful-bytes_to_end, Lawful-made-body, Lawful-choose-body, Lawful-sized, Lawful-byte-list, Lawful-to-end, Lawful-headed-body, encodes_one}
+use Rattle.wasm_codec.specs.Lawful.{IsLawfulBody}
+use Rattle.wasm_codec.proofs.BodyLaws.{Lawful-body, Lawful-bytes_to_end, Lawful-made-body, Lawful-choose-body, Lawful-sized, Lawful-byte-list, Lawful-to-end, Lawful-headed-body, encodes_one}
 use Rattle.wasm_codec.specs.formats.Bodies.{sized, byte_list}
 use Rattle.wasm_codec.specs.Places.{Place, place, keeps}
 use Rattle.wasm_codec.proofs.PlaceLists.{step}

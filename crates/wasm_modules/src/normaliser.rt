@@ -1,33 +1,25 @@
 //! The normaliser of modules (Core 3.0, Modules): a decoded module is one whose type sections are read as entries, and
 //! whose code sections as code bodies.
-ghost use Rattle.std.specs.Prelude.{◌≡◌, ◌↔◌, ◌<◌, ◌≤◌, ◌^◌, ◌∷◌, ◌++◌, List, length, IfOk, IfErr, OnOk};
+ghost use Rattle.std.specs.Prelude.{◌≡◌, ◌↔◌, ◌≤◌, List, length, IfOk};
 ghost use Rattle.wasm_codec.specs.Answers.{IsOrMemory, IfRefused, IsLongestPrefix, IsNormalForm, EncodesSome};
-ghost use Rattle.wasm_codec.specs.formats.Combinators.{Format, narrow};
-ghost use Rattle.wasm_codec.specs.Encoding.{byte_list_bytes, IsShortestOrLonger};
-ghost use Rattle.wasm_codec.specs.Rewriting.{Rewrites, AppendsNormalForm};
-ghost use Rattle.wasm_codec.specs.Grammar.{IsBytes};
-ghost use Rattle.wasm_codec.specs.Lists.{EncodesList, items_bytes};
-ghost use Rattle.wasm_codec.specs.Lawful.{IsLawful, plain};
-ghost use Rattle.wasm_modules.specs.Sections.{DecodedSection, parts_of, section_of, type_section_id, code_section_id};
-ghost use Rattle.wasm_modules.specs.DecodedModules.{IsDecodedModulePrefix, AppendsSection, RewritesSection};
-ghost use Rattle.wasm_modules.specs.formats.CodeBodies.{code_body};
-ghost use Rattle.wasm_modules.specs.formats.Modules.{decoded_section, decoded_module};
-ghost use Rattle.wasm_modules.specs.declared.code.CodeBody.{CodeBody};
-ghost use Rattle.wasm_types.specs.declared.types.composite.TypeEntry.{TypeEntry};
-ghost use Rattle.wasm_types.specs.formats.Types.{recursive_type};
-ghost use Rattle.wasm_codec.specs.declared.reader.cursor.Fault.TheVariants as faults;
+ghost use Rattle.wasm_codec.specs.formats.Bodies.{bytes_to_end};
+ghost use Rattle.wasm_codec.specs.formats.Combinators.{made, narrow};
+ghost use Rattle.wasm_codec.specs.Encoding.{IsShortestOrLonger};
+ghost use Rattle.wasm_types.specs.formats.Types.{type_body};
+ghost use Rattle.wasm_modules.specs.Sections.{Content, DecodedSection, type_entries, code_bodies, raw_bytes};
+ghost use Rattle.wasm_modules.specs.DecodedModules.{IsDecodedModulePrefix};
+ghost use Rattle.wasm_modules.specs.formats.CodeBodies.{code_section_body};
+ghost use Rattle.wasm_modules.specs.formats.Modules.{entries_part, bodies_part, bytes_part, decoded_section, decoded_module};
 
 use crate::code::CodeBody;
-use crate::reader::{after_header, read_section};
-use crate::section::{CODE_SECTION_ID, HEADER, RawSection, TYPE_SECTION_ID};
+use crate::reader::after_header;
+use crate::section::{CODE_SECTION_ID, HEADER, TYPE_SECTION_ID};
 use std::alloc::Global;
-use wasm_codec::encode::leb128::put_u32;
-use wasm_codec::encode::{open_gap, put_size_into};
-use wasm_codec::normaliser::{
-    Normalisable, NormalisableInRuns, append_joined, normalise_list_to_end,
-};
 use wasm_codec::reader::ReadError;
-use wasm_codec::reader::cursor::{Cursor, Fault};
+use wasm_codec::reader::cursor::Fault;
+use wasm_codec::rewriter::{
+    Joinable, Rewritable, RewritableBody, Rewriter, rewrite_joined, rewrite_list, rewrite_sized,
+};
 use wasm_types::types::TypeEntry;
 
 /// The normal bytes of a module: each section's size and the body of each type section and code section in the fewest
@@ -69,7 +61,46 @@ pub fn normalise_module(alloc: Global, bytes: &[u8]) -> Result<Vec<u8>, ReadErro
     decoded_bytes_of(alloc, bytes)
 }
 
-/// The module's shortest encoding, written section by section as they are read.
+/// The same, in the list itself, which is rewritten where it lies and given back. It takes no memory.
+pub fn rewrite_module(bytes: Vec<u8>) -> Result<Vec<u8>, ReadError>
+    // The result is the shortest encoding of a decoded module that the bytes encode.
+    ensures given { IfOk result (λ encoding.
+        IsNormalForm decoded_module.Encodes decoded_module.bytes bytes.items encoding.items) }
+    // Where the bytes encode a decoded module, its shortest encoding is given.
+    ensures complete { (sections : List DecodedSection) → decoded_module.Encodes bytes.items sections →
+        IsOrMemory (λ encoding. encoding.items) (decoded_module.bytes sections) result }
+    // `at` is the length of the longest prefix that is whole.
+    ensures prefix { IfRefused result (IsLongestPrefix IsDecodedModulePrefix bytes.items) }
+    // Only what encodes no decoded module is refused.
+    ensures unencoded { IfRefused result (λ _.
+        (sections : List DecodedSection) → decoded_module.Encodes bytes.items sections → ⊥) }
+{
+    rewrite_sections(bytes)
+}
+
+/// The header, which stays, and the sections after it.
+fn rewrite_sections(bytes: Vec<u8>) -> Result<Vec<u8>, ReadError>
+    ensures given { IfOk result (λ encoding.
+        IsNormalForm decoded_module.Encodes decoded_module.bytes bytes.items encoding.items) }
+    ensures prefix { IfRefused result (IsLongestPrefix IsDecodedModulePrefix bytes.items) }
+    ensures unencoded { IfRefused result (λ _.
+        (sections : List DecodedSection) → decoded_module.Encodes bytes.items sections → ⊥) }
+{
+    Section::is_lawful();
+    let len = bytes.len();
+    let Some(_sections) = after_header(&bytes) else {
+        return Err(ReadError::Refused { at: 0 });
+    };
+    let mut rewriter = Rewriter::new(bytes);
+    rewriter.stay(HEADER.len());
+    rewriter.are_bytes();
+    match rewrite_joined::<Section>(rewriter) {
+        Ok(rewriter) => Ok(rewriter.finish()),
+        Err(left) => Err(ReadError::Refused { at: len - left }),
+    }
+}
+
+/// The shortest encoding of the module, written over a copy of the bytes.
 fn decoded_bytes_of(alloc: Global, bytes: &[u8]) -> Result<Vec<u8>, ReadError>
     ensures given { IfOk result (λ encoding.
         IsNormalForm decoded_module.Encodes decoded_module.bytes bytes.now encoding.items) }
@@ -77,133 +108,93 @@ fn decoded_bytes_of(alloc: Global, bytes: &[u8]) -> Result<Vec<u8>, ReadError>
     ensures none { IfRefused result (λ _.
         (sections : List DecodedSection) → decoded_module.Encodes bytes.now sections → ⊥) }
 {
-    let Some(rest) = after_header(bytes) else {
-        return Err(ReadError::Refused { at: 0 });
-    };
-    let mut encoding = Vec::from_slice(alloc, &HEADER)?;
-    match append_joined::<RawSection<'_>>(alloc, rest, &mut encoding) {
-        Ok(()) => Ok(encoding),
-        Err(ReadError::Memory) => Err(ReadError::Memory),
-        Err(ReadError::Refused { at }) => Err(ReadError::Refused {
-            at: HEADER.len() + at,
-        }),
-    }
+    rewrite_module(Vec::from_slice(alloc, bytes)?)
 }
 
-impl<'a> Normalisable<'a> for RawSection<'a> {
+/// A section with what it holds.
+struct Section;
+
+impl Rewritable for Section {
     ghost Value = { DecodedSection };
 
     ghost format = { decoded_section };
 
-    fn normalise_next(
-        alloc: Global,
-        cursor: &mut Cursor<'a>,
-        run: &[u8],
-        out: &mut Vec<u8>,
-    ) -> Result<bool, Fault> {
-        out.extend_from_slice(run)?;
-        rewrite_section(alloc, cursor, out)?;
-        cursor.mark();
-        Ok(true)
-    }
-}
+    #[inline(always)]
+    fn is_lawful() {}
 
-impl<'a> NormalisableInRuns<'a> for RawSection<'a> {
-    /// Passes none: what a section holds is looked at first.
-    fn pass_run(cursor: &mut Cursor<'a>) {
-        let _ = cursor;
-    }
-}
-
-/// Appends the shortest encoding of the next section.
-fn rewrite_section(
-    alloc: Global,
-    cursor: &mut Cursor<'_>,
-    encoding: &mut Vec<u8>,
-) -> Result<(), Fault>
-    ensures rewrites { Rewrites (plain decoded_section.at) decoded_section.bytes cursor.old.left cursor.new.left encoding.old.items encoding.new.items result }
-{
-    let mut after = cursor.fork();
-    let section = read_section(&mut after)?;
-    append_normal(alloc, encoding, &section)?;
-    *cursor = after;
-    Ok(())
-}
-
-/// Appends the shortest encoding of a section that was read: of a type section or a code section with what it holds.
-///
-/// `Malformed` where it is one whose body encodes no list of entries, or of code bodies.
-fn append_normal(
-    alloc: Global,
-    encoding: &mut Vec<u8>,
-    section: &RawSection<'_>,
-) -> Result<(), Fault>
-    requires size { length section.now.body.now < 2 ^ 32 }
-    requires bytes { IsBytes section.now.body.now }
-    ensures { RewritesSection (parts_of section.now) encoding.old.items encoding.new.items result }
-{
-    if section.id == TYPE_SECTION_ID {
-        return append_type_section(alloc, encoding, section.body);
-    }
-    if section.id == CODE_SECTION_ID {
-        return append_code_section(alloc, encoding, section.body);
-    }
-    append_raw_section(encoding, section.id, section.body)
-}
-
-/// Appends a type section with the entries that this body encodes.
-fn append_type_section(alloc: Global, encoding: &mut Vec<u8>, body: &[u8]) -> Result<(), Fault>
-    requires { length body.now < 2 ^ 32 }
-    ensures { RewritesSection (section_of (type_section_id, body.now)) encoding.old.items encoding.new.items result }
-{
-    append_list_section::<TypeEntry>(alloc, encoding, TYPE_SECTION_ID, body)
-}
-
-/// Appends a code section with the code bodies that this body encodes.
-fn append_code_section(alloc: Global, encoding: &mut Vec<u8>, body: &[u8]) -> Result<(), Fault>
-    requires { length body.now < 2 ^ 32 }
-    ensures { RewritesSection (section_of (code_section_id, body.now)) encoding.old.items encoding.new.items result }
-{
-    append_list_section::<CodeBody>(alloc, encoding, CODE_SECTION_ID, body)
-}
-
-/// Appends a section of this id with the list that this body encodes, written where the section lies: the size is put
-/// into a gap before it, which is as long as the size of the bytes that were read, and so no shorter than what goes
-/// into it.
-fn append_list_section<'a, T: Normalisable<'a>>(
-    alloc: Global,
-    encoding: &mut Vec<u8>,
-    id: u8,
-    body: &'a [u8],
-) -> Result<(), Fault>
-    requires size { length body.now < 2 ^ 32 }
-    requires lawful { IsLawful T.format }
-    ensures given { OnOk result (AppendsSection id (EncodesList T.format.Encodes) (items_bytes T.format.bytes) body.now encoding.old.items encoding.new.items) }
-    ensures none { IfErr result (λ fault. fault ≡ faults.Malformed →
-        (items : List T.Value) → EncodesList T.format.Encodes body.now items → ⊥) }
-{
-    encoding.push(id)?;
-    let start = encoding.len();
-    let gap = open_gap(encoding, body.len() as u32)?;
-    match normalise_list_to_end::<T>(alloc, body, encoding) {
-        Ok(()) => {
-            put_size_into(encoding, start, gap);
-            Ok(())
+    #[tactic(auto, using(std::proofs::Common::append_assoc), unfolding(crate::specs::formats::Modules::decoded_section))]
+    fn rewrite(rewriter: &mut Rewriter) -> Result<(), Fault> {
+        let id = rewriter.byte()?;
+        if id == TYPE_SECTION_ID {
+            return rewrite_sized::<TypeEntries>(rewriter);
         }
-        Err(ReadError::Memory) => Err(Fault::Memory),
-        Err(ReadError::Refused { .. }) => Err(Fault::Malformed),
+        if id == CODE_SECTION_ID {
+            return rewrite_sized::<CodeBodies>(rewriter);
+        }
+        rewrite_sized::<RawBytes>(rewriter)
     }
 }
 
-/// Appends a section with this body as it is.
-fn append_raw_section(encoding: &mut Vec<u8>, id: u8, body: &[u8]) -> Result<(), Fault>
-    requires { length body.now < 2 ^ 32 }
-    ensures ok { OnOk result (encoding.new.items ≡ encoding.old.items ++ id ∷ byte_list_bytes body.now) }
-    ensures err { IfErr result (λ fault. fault ≡ faults.Memory) }
-{
-    encoding.reserve(6)?;
-    encoding.push_reserved(id);
-    put_u32(encoding, body.len() as u32);
-    encoding.extend_from_slice(body)?;
-    Ok(())
+impl Joinable for Section {
+    #[inline(always)]
+    fn short(_bytes: &[u8]) -> Option<usize> {
+        None
+    }
+
+    fn rewrite_next(rewriter: Rewriter) -> Result<Rewriter, Fault> {
+        let mut rewriter = rewriter;
+        Section::rewrite(&mut rewriter)?;
+        Ok(rewriter)
+    }
+}
+
+/// What a type section holds.
+struct TypeEntries;
+
+impl RewritableBody for TypeEntries {
+    ghost Value = { Content };
+
+    ghost format = { made type_entries entries_part type_body };
+
+    #[inline(always)]
+    fn is_lawful() {}
+
+    #[tactic(auto, unfolding(wasm_types::specs::formats::Types::type_body))]
+    fn rewrite(rewriter: &mut Rewriter) -> Result<(), Fault> {
+        rewrite_list::<TypeEntry>(rewriter)
+    }
+}
+
+/// What a code section holds.
+struct CodeBodies;
+
+impl RewritableBody for CodeBodies {
+    ghost Value = { Content };
+
+    ghost format = { made code_bodies bodies_part code_section_body };
+
+    #[inline(always)]
+    fn is_lawful() {}
+
+    #[tactic(auto, unfolding(crate::specs::formats::CodeBodies::code_section_body))]
+    fn rewrite(rewriter: &mut Rewriter) -> Result<(), Fault> {
+        rewrite_list::<CodeBody>(rewriter)
+    }
+}
+
+/// What any other section holds.
+struct RawBytes;
+
+impl RewritableBody for RawBytes {
+    ghost Value = { Content };
+
+    ghost format = { made raw_bytes bytes_part bytes_to_end };
+
+    #[inline(always)]
+    fn is_lawful() {}
+
+    fn rewrite(rewriter: &mut Rewriter) -> Result<(), Fault> {
+        rewriter.rest();
+        Ok(())
+    }
 }

@@ -1,250 +1,195 @@
-//! Types that are written anew: in their shortest encoding, as they are read, with no list of them held (Core 3.0,
-//! Types).
-ghost use Rattle.wasm_codec.specs.Rewriting.{Appends};
-ghost use Rattle.wasm_codec.specs.formats.Combinators.{◌⊗◌, made, made_as, optional, items, u32};
-ghost use Rattle.std.specs.Prelude.{true, not};
+//! Types that are left in their shortest encodings, with no list of them held (Core 3.0, Types).
+ghost use Rattle.std.specs.Prelude.{◌≡◌, Some};
+ghost use Rattle.wasm_codec.specs.Places.{Place, byte_at};
+ghost use Rattle.wasm_codec.specs.Rewriter.{Rewrites};
+ghost use Rattle.wasm_codec.specs.formats.Combinators.{◌⊗◌, optional, items, u32};
+ghost use Rattle.wasm_types.specs.declared.types.value.ValType.{ValType};
+ghost use Rattle.wasm_types.specs.declared.types.composite.FieldType.{FieldType};
+ghost use Rattle.wasm_types.specs.declared.types.composite.SubType.{SubType};
 ghost use Rattle.wasm_types.specs.declared.types.composite.TypeEntry.{TypeEntry};
-ghost use Rattle.wasm_types.specs.formats.Types.{inner_type, composite_type, has_supertypes, sub_of, sub_parts, sub_type, recursive_type};
+ghost use Rattle.wasm_types.specs.formats.Types.{val_type, field_type, inner_type, composite_type, sub_type, recursive_type};
 
+mod heap_types;
 mod type_sections;
 
-use crate::encode::{put_field_type, put_val_type};
-use crate::reader::{has_no_supertypes, read_field_type, read_val_type};
 use crate::types::{FieldType, SubType, TypeEntry, ValType};
-use std::alloc::Global;
-pub use type_sections::normalise_type_section;
-use wasm_codec::encode::leb128::put_index;
-use wasm_codec::normaliser::{Normalisable, Rewritable, pass_or_write, write_list_anew};
-use wasm_codec::reader::cursor::{Cursor, Fault};
-use wasm_codec::reader::passing::pass_list;
+use heap_types::rewrite_field_type;
+pub use heap_types::{rewrite_heap_type, rewrite_val_type};
+pub use type_sections::{normalise_type_section, rewrite_type_section};
+use wasm_codec::reader::cursor::Fault;
+use wasm_codec::rewriter::{Rewritable, Rewriter, rewrite_list};
 
-impl<'a> Rewritable<'a> for ValType {
-    fn write_anew(
-        alloc: Global,
-        cursor: &mut Cursor<'a>,
-        bytes: &mut Vec<u8>,
-    ) -> Result<(), Fault> {
-        let _ = alloc;
-        let ty = read_val_type(cursor)?;
-        bytes.reserve(7)?;
-        put_val_type(bytes, ty);
-        Ok(())
-    }
-}
-
-impl<'a> Rewritable<'a> for FieldType {
-    fn write_anew(
-        alloc: Global,
-        cursor: &mut Cursor<'a>,
-        bytes: &mut Vec<u8>,
-    ) -> Result<(), Fault> {
-        let _ = alloc;
-        let field = read_field_type(cursor)?;
-        bytes.reserve(8)?;
-        put_field_type(bytes, field);
-        Ok(())
-    }
-}
-
-/// Appends the shortest encoding of what a composite type is made of.
+/// What a composite type is made of.
 #[tactic(auto, using(std::proofs::Common::append_assoc), unfolding(crate::specs::formats::Types::inner_type, crate::specs::formats::Types::result_type))]
-fn write_inner_type(
-    alloc: Global,
-    cursor: &mut Cursor<'_>,
-    bytes: &mut Vec<u8>,
-) -> Result<(), Fault>
-    ensures writes { Appends inner_type cursor.old cursor.new bytes.old.items bytes.new.items result }
+fn rewrite_inner_type(rewriter: &mut Rewriter) -> Result<(), Fault>
+    ensures rewrites { Rewrites inner_type rewriter.old rewriter.new result }
 {
-    let first = cursor.byte()?;
-    bytes.reserve(6)?;
-    match first {
+    match rewriter.byte()? {
         0x60 => {
-            bytes.push_reserved(0x60);
-            write_list_anew::<ValType>(alloc, cursor, bytes)?;
-            write_list_anew::<ValType>(alloc, cursor, bytes)?;
+            rewrite_list::<ValType>(rewriter)?;
+            rewrite_list::<ValType>(rewriter)?;
             Ok(())
         }
         0x5f => {
-            bytes.push_reserved(0x5f);
-            write_list_anew::<FieldType>(alloc, cursor, bytes)?;
+            rewrite_list::<FieldType>(rewriter)?;
             Ok(())
         }
         0x5e => {
-            bytes.push_reserved(0x5e);
-            FieldType::write_anew(alloc, cursor, bytes)?;
+            rewrite_field_type(rewriter)?;
             Ok(())
         }
         0x5d => {
-            let index = cursor.index()?;
-            bytes.push_reserved(0x5d);
-            put_index(bytes, index);
+            rewriter.index()?;
             Ok(())
         }
         _ => Err(Fault::Malformed),
     }
 }
 
-/// Appends the shortest encoding of a descriptor, if there is one, and of what the type is made of.
+/// A descriptor, if there is one, and what the type is made of.
+#[inline(always)]
 #[tactic(auto, using(std::proofs::Common::append_assoc))]
-fn write_described_type(
-    alloc: Global,
-    cursor: &mut Cursor<'_>,
-    bytes: &mut Vec<u8>,
-) -> Result<(), Fault>
-    ensures writes { Appends (optional 0x4d u32 inner_type) cursor.old cursor.new bytes.old.items bytes.new.items result }
+fn rewrite_described_type(rewriter: &mut Rewriter) -> Result<(), Fault>
+    ensures rewrites { Rewrites (optional 0x4d u32 inner_type) rewriter.old rewriter.new result }
 {
-    if cursor.peek()? == 0x4d {
-        cursor.byte()?;
-        bytes.push(0x4d)?;
-        u32::write_anew(alloc, cursor, bytes)?;
-        write_inner_type(alloc, cursor, bytes)?;
+    if rewriter.peek()? == 0x4d {
+        rewriter.byte()?;
+        rewriter.u32()?;
+        rewrite_inner_type(rewriter)?;
         return Ok(());
     }
-    write_inner_type(alloc, cursor, bytes)?;
+    rewrite_inner_type(rewriter)?;
     Ok(())
 }
 
-/// Appends the shortest encoding of the type that is described, if there is one, and of the rest of a composite type.
+/// The type that is described, if there is one, and the rest of a composite type.
+#[inline(always)]
 #[tactic(auto, using(std::proofs::Common::append_assoc))]
-fn write_describing_type(
-    alloc: Global,
-    cursor: &mut Cursor<'_>,
-    bytes: &mut Vec<u8>,
-) -> Result<(), Fault>
-    ensures writes { Appends (optional 0x4c u32 (optional 0x4d u32 inner_type)) cursor.old cursor.new bytes.old.items bytes.new.items result }
+fn rewrite_describing_type(rewriter: &mut Rewriter) -> Result<(), Fault>
+    ensures rewrites { Rewrites (optional 0x4c u32 (optional 0x4d u32 inner_type)) rewriter.old rewriter.new result }
 {
-    if cursor.peek()? == 0x4c {
-        cursor.byte()?;
-        bytes.push(0x4c)?;
-        u32::write_anew(alloc, cursor, bytes)?;
-        write_described_type(alloc, cursor, bytes)?;
+    if rewriter.peek()? == 0x4c {
+        rewriter.byte()?;
+        rewriter.u32()?;
+        rewrite_described_type(rewriter)?;
         return Ok(());
     }
-    write_described_type(alloc, cursor, bytes)?;
+    rewrite_described_type(rewriter)?;
     Ok(())
 }
 
-/// Appends the shortest encoding of a composite type.
+/// A composite type.
 #[tactic(auto, using(std::proofs::Common::append_assoc), unfolding(crate::specs::formats::Types::composite_type))]
-fn write_composite_type(
-    alloc: Global,
-    cursor: &mut Cursor<'_>,
-    bytes: &mut Vec<u8>,
-) -> Result<(), Fault>
-    ensures writes { Appends composite_type cursor.old cursor.new bytes.old.items bytes.new.items result }
+fn rewrite_composite_type(rewriter: &mut Rewriter) -> Result<(), Fault>
+    ensures rewrites { Rewrites composite_type rewriter.old rewriter.new result }
 {
-    if cursor.peek()? == 0x65 {
-        cursor.byte()?;
-        bytes.push(0x65)?;
-        write_describing_type(alloc, cursor, bytes)?;
+    if rewriter.peek()? == 0x65 {
+        rewriter.byte()?;
+        rewrite_describing_type(rewriter)?;
         return Ok(());
     }
-    write_describing_type(alloc, cursor, bytes)?;
+    rewrite_describing_type(rewriter)?;
     Ok(())
 }
 
-/// Appends the shortest encoding of supertypes and a composite type.
-#[tactic(auto, using(std::proofs::Common::append_assoc))]
-fn write_with_supertypes(
-    alloc: Global,
-    cursor: &mut Cursor<'_>,
-    bytes: &mut Vec<u8>,
-) -> Result<(), Fault>
-    ensures writes { Appends (items u32 ⊗ composite_type) cursor.old cursor.new bytes.old.items bytes.new.items result }
+/// A final subtype that begins with `0x4F`. Where its list of supertypes is empty, both are left out.
+#[tactic(auto, unfolding(crate::specs::formats::Types::sub_type))]
+fn rewrite_final_type(rewriter: &mut Rewriter) -> Result<(), Fault>
+    requires { (after : Place) × (byte_at rewriter.old.place ≡ Some (0x4f, after)) }
+    ensures rewrites { Rewrites sub_type rewriter.old rewriter.new result }
 {
-    write_list_anew::<u32>(alloc, cursor, bytes)?;
-    write_composite_type(alloc, cursor, bytes)?;
-    Ok(())
-}
-
-/// Appends the shortest encoding of a final subtype, of which the first byte was passed: where it has no supertypes,
-/// it is its composite type alone.
-fn write_final_type(
-    alloc: Global,
-    cursor: &mut Cursor<'_>,
-    bytes: &mut Vec<u8>,
-) -> Result<(), Fault>
-    ensures writes { Appends (made_as (λ s. not (has_supertypes s.supertype_idxs)) (λ s. s) sub_type.bytes sub_type.InRange (made (sub_of true) sub_parts (items u32 ⊗ composite_type))) cursor.old cursor.new bytes.old.items bytes.new.items result }
-{
-    if has_no_supertypes(cursor) {
-        pass_list::<u32>(cursor)?;
-        write_composite_type(alloc, cursor, bytes)?;
-        cursor.long_form();
-        return Ok(());
+    let mark = rewriter.mark();
+    rewriter.byte()?;
+    rewrite_list::<u32>(rewriter)?;
+    let is_alone = rewriter.mark() - mark == 2;
+    rewrite_composite_type(rewriter)?;
+    if is_alone {
+        rewriter.cut_out(mark, 2);
     }
-    bytes.push(0x4f)?;
-    write_with_supertypes(alloc, cursor, bytes)?;
     Ok(())
 }
 
-/// Appends the shortest encoding of a subtype.
+/// A subtype.
 #[tactic(auto, using(std::proofs::Common::append_assoc), unfolding(crate::specs::formats::Types::sub_type))]
-fn write_sub_type(alloc: Global, cursor: &mut Cursor<'_>, bytes: &mut Vec<u8>) -> Result<(), Fault>
-    ensures writes { Appends sub_type cursor.old cursor.new bytes.old.items bytes.new.items result }
+fn rewrite_sub_type(rewriter: &mut Rewriter) -> Result<(), Fault>
+    ensures rewrites { Rewrites sub_type rewriter.old rewriter.new result }
 {
-    let first = cursor.peek()?;
+    let first = rewriter.peek()?;
     if first == 0x50 {
-        cursor.byte()?;
-        bytes.push(0x50)?;
-        write_with_supertypes(alloc, cursor, bytes)?;
+        rewriter.byte()?;
+        rewrite_list::<u32>(rewriter)?;
+        rewrite_composite_type(rewriter)?;
         return Ok(());
     }
     if first == 0x4f {
-        cursor.byte()?;
-        write_final_type(alloc, cursor, bytes)?;
-        return Ok(());
+        return rewrite_final_type(rewriter);
     }
-    write_composite_type(alloc, cursor, bytes)?;
+    rewrite_composite_type(rewriter)?;
     Ok(())
 }
 
-/// Appends the shortest encoding of an entry of a type section.
+/// An entry of a type section.
 #[tactic(auto, using(std::proofs::Common::append_assoc), unfolding(crate::specs::formats::Types::recursive_type))]
-fn write_entry(alloc: Global, cursor: &mut Cursor<'_>, bytes: &mut Vec<u8>) -> Result<(), Fault>
-    ensures writes { Appends recursive_type cursor.old cursor.new bytes.old.items bytes.new.items result }
+fn rewrite_entry(rewriter: &mut Rewriter) -> Result<(), Fault>
+    ensures rewrites { Rewrites recursive_type rewriter.old rewriter.new result }
 {
-    if cursor.peek()? == 0x4e {
-        cursor.byte()?;
-        bytes.push(0x4e)?;
-        write_list_anew::<SubType>(alloc, cursor, bytes)?;
+    if rewriter.peek()? == 0x4e {
+        rewriter.byte()?;
+        rewrite_list::<SubType>(rewriter)?;
         return Ok(());
     }
-    write_sub_type(alloc, cursor, bytes)?;
+    rewrite_sub_type(rewriter)?;
     Ok(())
 }
 
-impl<'a> Rewritable<'a> for SubType {
-    fn write_anew(
-        alloc: Global,
-        cursor: &mut Cursor<'a>,
-        bytes: &mut Vec<u8>,
-    ) -> Result<(), Fault> {
-        write_sub_type(alloc, cursor, bytes)
+impl Rewritable for ValType {
+    ghost Value = { ValType };
+
+    ghost format = { val_type };
+
+    #[inline(always)]
+    fn is_lawful() {}
+
+    fn rewrite(rewriter: &mut Rewriter) -> Result<(), Fault> {
+        rewrite_val_type(rewriter)
     }
 }
 
-impl<'a> Rewritable<'a> for TypeEntry {
-    fn write_anew(
-        alloc: Global,
-        cursor: &mut Cursor<'a>,
-        bytes: &mut Vec<u8>,
-    ) -> Result<(), Fault> {
-        write_entry(alloc, cursor, bytes)
+impl Rewritable for FieldType {
+    ghost Value = { FieldType };
+
+    ghost format = { field_type };
+
+    #[inline(always)]
+    fn is_lawful() {}
+
+    fn rewrite(rewriter: &mut Rewriter) -> Result<(), Fault> {
+        rewrite_field_type(rewriter)
     }
 }
 
-impl<'a> Normalisable<'a> for TypeEntry {
+impl Rewritable for SubType {
+    ghost Value = { SubType };
+
+    ghost format = { sub_type };
+
+    #[inline(always)]
+    fn is_lawful() {}
+
+    fn rewrite(rewriter: &mut Rewriter) -> Result<(), Fault> {
+        rewrite_sub_type(rewriter)
+    }
+}
+
+impl Rewritable for TypeEntry {
     ghost Value = { TypeEntry };
 
     ghost format = { recursive_type };
 
     #[inline(always)]
-    fn normalise_next(
-        alloc: Global,
-        cursor: &mut Cursor<'a>,
-        run: &[u8],
-        out: &mut Vec<u8>,
-    ) -> Result<bool, Fault> {
-        pass_or_write::<TypeEntry>(alloc, cursor, run, out)
+    fn is_lawful() {}
+
+    fn rewrite(rewriter: &mut Rewriter) -> Result<(), Fault> {
+        rewrite_entry(rewriter)
     }
 }

@@ -3,11 +3,10 @@ ghost use Rattle.std.specs.Prelude.{List, ℕ, IfOk};
 ghost use Rattle.wasm_codec.specs.Answers.{IsOrMemory, IfRefused, IsLongestPrefix};
 ghost use Rattle.wasmnorm.specs.Modes.{IsEncoded, NormalForm, IsWholePrefix};
 
-use std::alloc::Global;
 use wasm_codec::reader::ReadError;
-use wasm_instructions::normaliser::normalise_instructions;
-use wasm_modules::normaliser::normalise_module;
-use wasm_types::normaliser::normalise_type_section;
+use wasm_instructions::normaliser::rewrite_instructions;
+use wasm_modules::normaliser::rewrite_module;
+use wasm_types::normaliser::rewrite_type_section;
 
 /// What the input is read as.
 #[derive(Clone, Copy, Debug, PartialEq, Eq)]
@@ -20,21 +19,21 @@ pub enum Mode {
     Module,
 }
 
-/// The normal form of the input.
-pub fn normalise(alloc: Global, mode: Mode, input: &[u8]) -> Result<Vec<u8>, ReadError>
+/// The normal form of the input, written where it lies.
+pub fn normalise(mode: Mode, input: Vec<u8>) -> Result<Vec<u8>, ReadError>
     // A normal form is given.
-    ensures given { IfOk result (λ encoding. NormalForm mode input.now encoding.items) }
+    ensures given { IfOk result (λ encoding. NormalForm mode input.items encoding.items) }
     // Where the input has one, it is given, unless memory ran out.
-    ensures complete { (encoding : List ℕ) → NormalForm mode input.now encoding →
+    ensures complete { (encoding : List ℕ) → NormalForm mode input.items encoding →
         IsOrMemory (λ given. given.items) encoding result }
     // Only what encodes nothing is refused.
-    ensures unencoded { IfRefused result (λ _. IsEncoded mode input.now → ⊥) }
+    ensures unencoded { IfRefused result (λ _. IsEncoded mode input.items → ⊥) }
     // `at` is the length of the longest prefix that is whole.
-    ensures prefix { IfRefused result (IsLongestPrefix (IsWholePrefix mode) input.now) }
+    ensures prefix { IfRefused result (IsLongestPrefix (IsWholePrefix mode) input.items) }
 {
     match mode {
-        Mode::Calls => normalise_instructions(alloc, input),
-        Mode::Types => normalise_type_section(alloc, input),
-        Mode::Module => normalise_module(alloc, input),
+        Mode::Calls => rewrite_instructions(input),
+        Mode::Types => rewrite_type_section(input),
+        Mode::Module => rewrite_module(input),
     }
 }

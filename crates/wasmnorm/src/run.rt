@@ -80,6 +80,6 @@ pub fn run<R: Read, W: Write>(
         AppendsBeginning mode input (W.contents writer.old) (W.contents writer.new))) }
 {
     let input = read_all(alloc, reader, u32::MAX)?;
-    let encoding = normalise(alloc, mode, &input)?;
+    let encoding = normalise(mode, input)?;
     write_all(writer, &encoding)
 }

@@ -1,6 +1,5 @@
 //! Numbers that are put before what they count (Core 3.0, Lists, Code Section and Sections).
 ghost use Rattle.std.specs.Prelude.{◌≡◌, ◌++◌, ◌+◌, ◌-◌, ◌^◌, ◌<◌, ◌≤◌, length, take, drop, vec_len, IfOk, IfErr, OnOk, OnErr};
-ghost use Rattle.wasm_codec.specs.Encoding.{OpensGap};
 ghost use Rattle.wasm_codec.specs.Numbers.{unsigned_leb128};
 ghost use Rattle.wasm_codec.specs.declared.encode.EncodeError.TheVariants.{Memory};
 
@@ -73,39 +72,9 @@ fn put_number_before<A: Allocator>(
     Ok(())
 }
 
-/// Appends a gap for the size of what comes next, which has at most so many bytes, and answers how many bytes it has.
-pub fn open_gap<A: Allocator>(bytes: &mut Vec<u8, A>, most: u32) -> Result<usize, AllocError>
-    ensures gap { IfOk result (λ gap. gap ≡ length (unsigned_leb128 most)) }
-    ensures opens { IfOk result (λ gap. OpensGap gap bytes.old.items bytes.new.items) }
-{
-    let gap = u32_len(most);
-    bytes.extend_from_slice(&[0; 5][..gap])?;
-    Ok(gap)
-}
-
-/// Puts the number of the bytes after a gap into the gap, in the fewest bytes, and closes what is left of it.
-///
-/// The gap has `gap` bytes from `start` on. It takes no memory, and where the number fills the gap no other byte moves.
-pub fn put_size_into<A: Allocator>(bytes: &mut Vec<u8, A>, start: usize, gap: usize)
-    requires within { start + gap ≤ vec_len bytes.old }
-    requires size { vec_len bytes.old - (start + gap) < 2 ^ 32 }
-    requires fits { length (unsigned_leb128 (vec_len bytes.old - (start + gap))) ≤ gap }
-    ensures { bytes.new.items ≡ take start bytes.old.items ++
-        (unsigned_leb128 (length bytes.old.items - (start + gap)) ++ drop (start + gap) bytes.old.items) }
-{
-    let end = start + gap;
-    let size = (bytes.len() - end) as u32;
-    let from = end - u32_len(size);
-    write_u32(&mut bytes[from..end], size);
-    let unused = from - start;
-    bytes[start..].rotate_left(unused);
-    let len = bytes.len() - unused;
-    bytes.truncate(len);
-}
-
 /// Writes the fewest digits of a number over as many bytes.
 #[tactic(auto, unfolding(crate::specs::Numbers::unsigned_leb128, crate::specs::Numbers::digits_of))]
-fn write_u32(digits: &mut [u8], value: u32)
+pub(crate) fn write_u32(digits: &mut [u8], value: u32)
     requires { length digits.old ≡ length (unsigned_leb128 value) }
     ensures { digits.new ≡ unsigned_leb128 value }
 {

@@ -3,9 +3,9 @@ ghost use Rattle.std.specs.Prelude.{◌≡◌, ◌^◌, ◌<◌, ◌≤◌, ◌&
 ghost use Rattle.wasm_codec.specs.Grammar.{IsBytes};
 ghost use Rattle.wasm_codec.specs.Numbers.{signed, signed_leb128};
 ghost use Rattle.wasm_codec.specs.Reading.{map_ok};
-ghost use Rattle.wasm_codec.specs.Places.{Place, place, Reads, Passes, PassesShort, Sees, byte_at, number_at, u32_at, u64_at, s32_at, s64_at, index_at};
+ghost use Rattle.wasm_codec.specs.Places.{Place, place, Reads, Sees, byte_at, number_at, u32_at, u64_at, s32_at, s64_at, index_at};
 ghost use Rattle.wasm_codec.specs.formats.Bodies.{body_at};
-ghost use Rattle.wasm_codec.specs.ReadDigits.{ReadsDigits, ReadsManyDigits, ReadsOne, ReadsTwo, fewest};
+ghost use Rattle.wasm_codec.specs.ReadDigits.{ReadsDigits, ReadsManyDigits, ReadsOne, fewest};
 ghost use Rattle.wasm_codec.specs.declared.reader.cursor.Fault.TheVariants.{Malformed, Memory};
 
 use std::alloc::{AllocError, AllocFailed};
@@ -111,18 +111,11 @@ impl<'a> Cursor<'a> {
         self.bytes.len() - self.position
     }
 
-    /// Whether all that was passed was in its shortest encoding, since the beginning or the last mark.
+    /// Whether all that was passed was in its shortest encoding, since the beginning.
     pub fn is_shortest(&self) -> bool
         ensures { result ≡ self.now.shortest }
     {
         self.shortest
-    }
-
-    /// What was passed before doesn't count from here on.
-    pub fn mark(&mut self)
-        ensures { self.new ≡ place true self.old.left }
-    {
-        self.shortest = true;
     }
 
     /// What was passed is a long form.
@@ -138,21 +131,6 @@ impl<'a> Cursor<'a> {
         ensures bytes { IsBytes self.now.left }
     {
         Cursor::at(self.bytes, self.position, self.shortest)
-    }
-
-    /// Goes to a place.
-    #[inline(always)]
-    pub fn go_to(&mut self, cursor: Cursor<'a>)
-        ensures { self.new ≡ cursor.entry }
-    {
-        let Cursor {
-            bytes,
-            position,
-            shortest,
-        } = cursor;
-        self.bytes = bytes;
-        self.position = position;
-        self.shortest = shortest;
     }
 
     /// The place after so many of the bytes.
@@ -211,13 +189,6 @@ impl<'a> Cursor<'a> {
         Ok(taken)
     }
 
-    /// The bytes that are left, which stay there.
-    pub fn rest(&self) -> &'a [u8]
-        ensures { result.now ≡ self.now.left }
-    {
-        &self.bytes[self.position..]
-    }
-
     /// Bytes after their number, as a place of their own: it tells of what was passed here, and goes on from there.
     pub fn body(&mut self) -> Result<Cursor<'a>, Fault>
         ensures reads { Reads body_at self.old self.new (map_ok (λ body. body.left) result) }
@@ -259,23 +230,6 @@ impl<'a> Cursor<'a> {
         }
         self.position += 1;
         Some(byte)
-    }
-
-    /// The two bytes of a number that needs two, where one comes next.
-    #[inline(always)]
-    fn two_digits(&mut self) -> Option<(u8, u8)>
-        ensures { ReadsTwo self.old self.new result }
-    {
-        if self.bytes.len() - self.position < 2 {
-            return None;
-        }
-        let first = self.bytes[self.position];
-        let second = self.bytes[self.position + 1];
-        if first < 128 || second == 0 || second >= 128 {
-            return None;
-        }
-        self.position += 2;
-        Some((first, second))
     }
 
     /// The digits of a number, at most so many.
@@ -392,58 +346,6 @@ impl<'a> Cursor<'a> {
         };
         self.keep(is_fewest(128, digits.unit, digits.unsigned));
         Ok(value)
-    }
-
-    /// Passes a u32.
-    #[inline(always)]
-    pub fn pass_u32(&mut self) -> Result<(), Fault>
-        ensures { Passes u32_at self.old self.new result }
-    {
-        if self.pass_short_number() {
-            return Ok(());
-        }
-        self.pass_long_u32()
-    }
-
-    /// Passes a number without sign, of one or two bytes, that is in its shortest encoding, and answers whether it did.
-    /// Where it didn't, the cursor stays where it is.
-    #[inline(always)]
-    pub fn pass_short_number(&mut self) -> bool
-        ensures u32 { PassesShort u32_at self.old self.new result }
-        ensures u64 { PassesShort u64_at self.old self.new result }
-        ensures stays { result ≡ false → self.new ≡ self.old }
-    {
-        if let Some(byte) = self.one_digit() {
-            let _ = byte;
-            return true;
-        }
-        if let Some(digits) = self.two_digits() {
-            let _ = digits;
-            return true;
-        }
-        false
-    }
-
-    /// Passes a signed number of one byte, and answers whether it did.
-    #[inline(always)]
-    pub fn pass_short_signed(&mut self) -> bool
-        ensures s32 { PassesShort s32_at self.old self.new result }
-        ensures s64 { PassesShort s64_at self.old self.new result }
-    {
-        if let Some(byte) = self.one_digit() {
-            let _ = byte;
-            return true;
-        }
-        false
-    }
-
-    /// Passes a u32 of any number of digits.
-    #[inline(never)]
-    fn pass_long_u32(&mut self) -> Result<(), Fault>
-        ensures { Passes u32_at self.old self.new result }
-    {
-        self.long_u32()?;
-        Ok(())
     }
 
     /// A u64 (Core 3.0, Integers).

@@ -1,350 +1,220 @@
-//! Operands that are written anew: in their shortest encoding, as they are read, with no list of them held (Core 3.0,
-//! Instructions).
-ghost use Rattle.std.specs.Prelude.{◌+◌, ◌≤◌, vec_len, vec_capacity};
-ghost use Rattle.wasm_codec.specs.Rewriting.{Appends};
+//! Operands, left in their shortest encodings, with no list of them held (Core 3.0, Instructions).
+ghost use Rattle.wasm_codec.specs.Rewriter.{Rewrites};
 ghost use Rattle.wasm_instructions.specs.formats.Instructions.{operands_format};
-ghost use Rattle.wasm_instructions.specs.declared.table.opcode.Kind.TheVariants as kinds;
+ghost use Rattle.wasm_instructions.specs.formats.Operands.{block_type, catch_clause, handle_clause, castop, mem_arg, ordering, vector};
+ghost use Rattle.wasm_instructions.specs.declared.operands.control.Catch.{Catch};
+ghost use Rattle.wasm_instructions.specs.declared.operands.control.Handle.{Handle};
 
-use crate::encode::{
-    put_bits_32, put_bits_64, put_block_type, put_castop, put_catch, put_handle, put_mem_arg,
-    put_ordering, put_vector,
-};
 use crate::operands::{Catch, Handle};
-use crate::reader::{
-    read_bits_32, read_bits_64, read_block_type, read_castop, read_catch, read_handle, read_lanes,
-    read_mem_arg, read_ordering, read_vector,
-};
 use crate::table::Kind;
-use std::alloc::Global;
-use wasm_codec::encode::leb128::{put_i32, put_i64, put_u32};
-use wasm_codec::normaliser::{Rewritable, write_list_anew};
-use wasm_codec::reader::cursor::{Cursor, Fault};
-use wasm_types::encode::put_heap_type;
-use wasm_types::reader::read_heap_type;
+use wasm_codec::reader::cursor::Fault;
+use wasm_codec::rewriter::{Rewritable, Rewriter, rewrite_list};
+use wasm_types::normaliser::{rewrite_heap_type, rewrite_val_type};
 use wasm_types::types::ValType;
 
-/// Appends the shortest encoding of the operands of this kind that come next. Those without a list are put into room that
-/// was reserved.
-#[inline(always)]
-#[tactic(auto, unfolding(crate::specs::formats::Instructions::operands_format))]
-pub(super) fn write_operands(
-    alloc: Global,
-    cursor: &mut Cursor<'_>,
-    bytes: &mut Vec<u8>,
-    kind: Kind,
-) -> Result<(), Fault>
-    requires { vec_len bytes.old + 18 ≤ vec_capacity bytes.old }
-    ensures writes { Appends (operands_format kind) cursor.old cursor.new bytes.old.items bytes.new.items result }
+/// Operands of a kind.
+#[tactic(auto, using(std::proofs::Common::append_assoc), unfolding(crate::specs::formats::Instructions::operands_format, crate::specs::formats::Operands::lanes))]
+pub(super) fn rewrite_operands(rewriter: &mut Rewriter, kind: Kind) -> Result<(), Fault>
+    ensures rewrites { Rewrites (operands_format kind) rewriter.old rewriter.new result }
 {
     match kind {
         Kind::None => Ok(()),
-        Kind::Block => write_block(cursor, bytes),
-        Kind::Index => write_index(cursor, bytes),
-        Kind::TwoIndexes => write_two_indexes(cursor, bytes),
-        Kind::BrTable => write_br_table(alloc, cursor, bytes),
-        Kind::Types => write_types(alloc, cursor, bytes),
-        Kind::TryTable => write_try_table(alloc, cursor, bytes),
-        Kind::Mem => write_mem(cursor, bytes),
-        Kind::I32 => write_i32(cursor, bytes),
-        Kind::I64 => write_i64(cursor, bytes),
-        Kind::F32 => write_f32(cursor, bytes),
-        Kind::F64 => write_f64(cursor, bytes),
-        Kind::Heap => write_heap(cursor, bytes),
-        Kind::Resume => write_resume(alloc, cursor, bytes),
-        Kind::ResumeThrow => write_resume_throw(alloc, cursor, bytes),
-        Kind::Cast => write_cast(cursor, bytes),
-        Kind::V128 => write_v128(cursor, bytes),
-        Kind::Shuffle => write_shuffle(cursor, bytes),
-        Kind::Lane => write_lane(cursor, bytes),
-        Kind::MemLane => write_mem_lane(cursor, bytes),
-        Kind::Order => write_order(cursor, bytes),
-        Kind::OrderIndex => write_order_index(cursor, bytes),
-        Kind::OrderTwoIndexes => write_order_two_indexes(cursor, bytes),
+        Kind::Block => rewrite_block_type(rewriter),
+        Kind::Index => {
+            rewriter.u32()?;
+            Ok(())
+        }
+        Kind::TwoIndexes => {
+            rewriter.u32()?;
+            rewriter.u32()?;
+            Ok(())
+        }
+        Kind::BrTable => {
+            rewrite_list::<u32>(rewriter)?;
+            rewriter.u32()?;
+            Ok(())
+        }
+        Kind::Types => rewrite_list::<ValType>(rewriter),
+        Kind::TryTable => {
+            rewrite_block_type(rewriter)?;
+            rewrite_list::<Catch>(rewriter)
+        }
+        Kind::Mem => rewrite_mem_arg(rewriter),
+        Kind::I32 => rewriter.s32(),
+        Kind::I64 => rewriter.s64(),
+        Kind::F32 => rewriter.number(4),
+        Kind::F64 => rewriter.number(8),
+        Kind::Heap => rewrite_heap_type(rewriter),
+        Kind::Resume => {
+            rewriter.u32()?;
+            rewrite_list::<Handle>(rewriter)
+        }
+        Kind::ResumeThrow => {
+            rewriter.u32()?;
+            rewriter.u32()?;
+            rewrite_list::<Handle>(rewriter)
+        }
+        Kind::Cast => {
+            rewrite_castop(rewriter)?;
+            rewriter.u32()?;
+            rewrite_heap_type(rewriter)?;
+            rewrite_heap_type(rewriter)
+        }
+        Kind::V128 => rewrite_vector(rewriter),
+        Kind::Shuffle => rewriter.bytes(16),
+        Kind::Lane => {
+            rewriter.byte()?;
+            Ok(())
+        }
+        Kind::MemLane => {
+            rewrite_mem_arg(rewriter)?;
+            rewriter.byte()?;
+            Ok(())
+        }
+        Kind::Order => rewrite_ordering(rewriter),
+        Kind::OrderIndex => {
+            rewrite_ordering(rewriter)?;
+            rewriter.u32()?;
+            Ok(())
+        }
+        Kind::OrderTwoIndexes => {
+            rewrite_ordering(rewriter)?;
+            rewriter.u32()?;
+            rewriter.u32()?;
+            Ok(())
+        }
     }
 }
 
 /// A block type.
-#[tactic(auto, unfolding(crate::specs::formats::Instructions::operands_format))]
-fn write_block(cursor: &mut Cursor<'_>, bytes: &mut Vec<u8>) -> Result<(), Fault>
-    requires { vec_len bytes.old + 7 ≤ vec_capacity bytes.old }
-    ensures writes { Appends (operands_format kinds.Block) cursor.old cursor.new bytes.old.items bytes.new.items result }
+#[tactic(auto, unfolding(crate::specs::formats::Operands::block_type))]
+pub(super) fn rewrite_block_type(rewriter: &mut Rewriter) -> Result<(), Fault>
+    ensures rewrites { Rewrites block_type rewriter.old rewriter.new result }
 {
-    let ty = read_block_type(cursor)?;
-    put_block_type(bytes, ty);
-    Ok(())
+    let first = rewriter.peek()?;
+    if first == 0x40 {
+        rewriter.byte()?;
+        return Ok(());
+    }
+    if !(0x40..0x80).contains(&first) {
+        return rewriter.index();
+    }
+    rewrite_val_type(rewriter)
 }
 
-/// An index.
-#[tactic(auto, unfolding(crate::specs::formats::Instructions::operands_format))]
-fn write_index(cursor: &mut Cursor<'_>, bytes: &mut Vec<u8>) -> Result<(), Fault>
-    requires { vec_len bytes.old + 5 ≤ vec_capacity bytes.old }
-    ensures writes { Appends (operands_format kinds.Index) cursor.old cursor.new bytes.old.items bytes.new.items result }
+/// A memory argument. Where it names memory 0, the index is left out.
+#[tactic(auto, unfolding(crate::specs::formats::Operands::mem_arg))]
+pub(super) fn rewrite_mem_arg(rewriter: &mut Rewriter) -> Result<(), Fault>
+    ensures rewrites { Rewrites mem_arg rewriter.old rewriter.new result }
 {
-    let index = cursor.u32()?;
-    put_u32(bytes, index);
-    Ok(())
-}
-
-/// Two indexes.
-#[tactic(auto, using(std::proofs::Common::append_assoc), unfolding(crate::specs::formats::Instructions::operands_format))]
-fn write_two_indexes(cursor: &mut Cursor<'_>, bytes: &mut Vec<u8>) -> Result<(), Fault>
-    requires { vec_len bytes.old + 10 ≤ vec_capacity bytes.old }
-    ensures writes { Appends (operands_format kinds.TwoIndexes) cursor.old cursor.new bytes.old.items bytes.new.items result }
-{
-    let first = cursor.u32()?;
-    let second = cursor.u32()?;
-    put_u32(bytes, first);
-    put_u32(bytes, second);
-    Ok(())
-}
-
-/// The labels of a `br_table`.
-#[tactic(auto, using(std::proofs::Common::append_assoc), unfolding(crate::specs::formats::Instructions::operands_format))]
-fn write_br_table(alloc: Global, cursor: &mut Cursor<'_>, bytes: &mut Vec<u8>) -> Result<(), Fault>
-    ensures writes { Appends (operands_format kinds.BrTable) cursor.old cursor.new bytes.old.items bytes.new.items result }
-{
-    write_list_anew::<u32>(alloc, cursor, bytes)?;
-    u32::write_anew(alloc, cursor, bytes)?;
-    Ok(())
-}
-
-/// The types of a `select`.
-#[tactic(auto, unfolding(crate::specs::formats::Instructions::operands_format))]
-fn write_types(alloc: Global, cursor: &mut Cursor<'_>, bytes: &mut Vec<u8>) -> Result<(), Fault>
-    ensures writes { Appends (operands_format kinds.Types) cursor.old cursor.new bytes.old.items bytes.new.items result }
-{
-    write_list_anew::<ValType>(alloc, cursor, bytes)?;
-    Ok(())
-}
-
-/// The block type and the clauses of a `try_table`.
-#[tactic(auto, using(std::proofs::Common::append_assoc), unfolding(crate::specs::formats::Instructions::operands_format))]
-fn write_try_table(alloc: Global, cursor: &mut Cursor<'_>, bytes: &mut Vec<u8>) -> Result<(), Fault>
-    requires { vec_len bytes.old + 7 ≤ vec_capacity bytes.old }
-    ensures writes { Appends (operands_format kinds.TryTable) cursor.old cursor.new bytes.old.items bytes.new.items result }
-{
-    let ty = read_block_type(cursor)?;
-    put_block_type(bytes, ty);
-    write_list_anew::<Catch>(alloc, cursor, bytes)?;
-    Ok(())
-}
-
-/// A memory argument.
-#[tactic(auto, unfolding(crate::specs::formats::Instructions::operands_format))]
-fn write_mem(cursor: &mut Cursor<'_>, bytes: &mut Vec<u8>) -> Result<(), Fault>
-    requires { vec_len bytes.old + 16 ≤ vec_capacity bytes.old }
-    ensures writes { Appends (operands_format kinds.Mem) cursor.old cursor.new bytes.old.items bytes.new.items result }
-{
-    let arg = read_mem_arg(cursor)?;
-    put_mem_arg(bytes, arg);
-    Ok(())
-}
-
-/// A signed number of 32 bits.
-#[tactic(auto, unfolding(crate::specs::formats::Instructions::operands_format))]
-fn write_i32(cursor: &mut Cursor<'_>, bytes: &mut Vec<u8>) -> Result<(), Fault>
-    requires { vec_len bytes.old + 5 ≤ vec_capacity bytes.old }
-    ensures writes { Appends (operands_format kinds.I32) cursor.old cursor.new bytes.old.items bytes.new.items result }
-{
-    let value = cursor.s32()?;
-    put_i32(bytes, value);
-    Ok(())
-}
-
-/// A signed number of 64 bits.
-#[tactic(auto, unfolding(crate::specs::formats::Instructions::operands_format))]
-fn write_i64(cursor: &mut Cursor<'_>, bytes: &mut Vec<u8>) -> Result<(), Fault>
-    requires { vec_len bytes.old + 10 ≤ vec_capacity bytes.old }
-    ensures writes { Appends (operands_format kinds.I64) cursor.old cursor.new bytes.old.items bytes.new.items result }
-{
-    let value = cursor.s64()?;
-    put_i64(bytes, value);
-    Ok(())
-}
-
-/// The bits of a floating-point number of 32 bits.
-#[tactic(auto, unfolding(crate::specs::formats::Instructions::operands_format))]
-fn write_f32(cursor: &mut Cursor<'_>, bytes: &mut Vec<u8>) -> Result<(), Fault>
-    requires { vec_len bytes.old + 4 ≤ vec_capacity bytes.old }
-    ensures writes { Appends (operands_format kinds.F32) cursor.old cursor.new bytes.old.items bytes.new.items result }
-{
-    let bits = read_bits_32(cursor)?;
-    put_bits_32(bytes, bits);
-    Ok(())
-}
-
-/// The bits of a floating-point number of 64 bits.
-#[tactic(auto, unfolding(crate::specs::formats::Instructions::operands_format))]
-fn write_f64(cursor: &mut Cursor<'_>, bytes: &mut Vec<u8>) -> Result<(), Fault>
-    requires { vec_len bytes.old + 8 ≤ vec_capacity bytes.old }
-    ensures writes { Appends (operands_format kinds.F64) cursor.old cursor.new bytes.old.items bytes.new.items result }
-{
-    let bits = read_bits_64(cursor)?;
-    put_bits_64(bytes, bits);
-    Ok(())
-}
-
-/// A heap type.
-#[tactic(auto, unfolding(crate::specs::formats::Instructions::operands_format))]
-fn write_heap(cursor: &mut Cursor<'_>, bytes: &mut Vec<u8>) -> Result<(), Fault>
-    requires { vec_len bytes.old + 6 ≤ vec_capacity bytes.old }
-    ensures writes { Appends (operands_format kinds.Heap) cursor.old cursor.new bytes.old.items bytes.new.items result }
-{
-    let ty = read_heap_type(cursor)?;
-    put_heap_type(bytes, ty);
-    Ok(())
-}
-
-/// The index and the handlers of a `resume`.
-#[tactic(auto, using(std::proofs::Common::append_assoc), unfolding(crate::specs::formats::Instructions::operands_format))]
-fn write_resume(alloc: Global, cursor: &mut Cursor<'_>, bytes: &mut Vec<u8>) -> Result<(), Fault>
-    ensures writes { Appends (operands_format kinds.Resume) cursor.old cursor.new bytes.old.items bytes.new.items result }
-{
-    u32::write_anew(alloc, cursor, bytes)?;
-    write_list_anew::<Handle>(alloc, cursor, bytes)?;
-    Ok(())
-}
-
-/// The two indexes and the handlers of a `resume_throw`.
-#[tactic(auto, using(std::proofs::Common::append_assoc), unfolding(crate::specs::formats::Instructions::operands_format))]
-fn write_resume_throw(
-    alloc: Global,
-    cursor: &mut Cursor<'_>,
-    bytes: &mut Vec<u8>,
-) -> Result<(), Fault>
-    ensures writes { Appends (operands_format kinds.ResumeThrow) cursor.old cursor.new bytes.old.items bytes.new.items result }
-{
-    u32::write_anew(alloc, cursor, bytes)?;
-    u32::write_anew(alloc, cursor, bytes)?;
-    write_list_anew::<Handle>(alloc, cursor, bytes)?;
-    Ok(())
-}
-
-/// The flags of a branch on a cast, its label and its two heap types.
-#[tactic(auto, using(std::proofs::Common::append_assoc), unfolding(crate::specs::formats::Instructions::operands_format))]
-fn write_cast(cursor: &mut Cursor<'_>, bytes: &mut Vec<u8>) -> Result<(), Fault>
-    requires { vec_len bytes.old + 18 ≤ vec_capacity bytes.old }
-    ensures writes { Appends (operands_format kinds.Cast) cursor.old cursor.new bytes.old.items bytes.new.items result }
-{
-    let (before_nullable, after_nullable) = read_castop(cursor)?;
-    let label = cursor.u32()?;
-    let before = read_heap_type(cursor)?;
-    let after = read_heap_type(cursor)?;
-    put_castop(bytes, before_nullable, after_nullable);
-    put_u32(bytes, label);
-    put_heap_type(bytes, before);
-    put_heap_type(bytes, after);
-    Ok(())
-}
-
-/// A vector.
-#[tactic(auto, unfolding(crate::specs::formats::Instructions::operands_format))]
-fn write_v128(cursor: &mut Cursor<'_>, bytes: &mut Vec<u8>) -> Result<(), Fault>
-    requires { vec_len bytes.old + 16 ≤ vec_capacity bytes.old }
-    ensures writes { Appends (operands_format kinds.V128) cursor.old cursor.new bytes.old.items bytes.new.items result }
-{
-    let value = read_vector(cursor)?;
-    put_vector(bytes, value);
-    Ok(())
-}
-
-/// Sixteen lanes.
-#[tactic(auto, unfolding(crate::specs::formats::Instructions::operands_format, crate::specs::formats::Operands::lanes))]
-fn write_shuffle(cursor: &mut Cursor<'_>, bytes: &mut Vec<u8>) -> Result<(), Fault>
-    ensures writes { Appends (operands_format kinds.Shuffle) cursor.old cursor.new bytes.old.items bytes.new.items result }
-{
-    let lanes = read_lanes(cursor)?;
-    bytes.extend_from_slice(&lanes)?;
-    Ok(())
-}
-
-/// A lane.
-#[tactic(auto, unfolding(crate::specs::formats::Instructions::operands_format))]
-fn write_lane(cursor: &mut Cursor<'_>, bytes: &mut Vec<u8>) -> Result<(), Fault>
-    requires { vec_len bytes.old + 1 ≤ vec_capacity bytes.old }
-    ensures writes { Appends (operands_format kinds.Lane) cursor.old cursor.new bytes.old.items bytes.new.items result }
-{
-    let lane = cursor.byte()?;
-    bytes.push_reserved(lane);
-    Ok(())
-}
-
-/// A memory argument and a lane.
-#[tactic(auto, using(std::proofs::Common::append_assoc), unfolding(crate::specs::formats::Instructions::operands_format))]
-fn write_mem_lane(cursor: &mut Cursor<'_>, bytes: &mut Vec<u8>) -> Result<(), Fault>
-    requires { vec_len bytes.old + 17 ≤ vec_capacity bytes.old }
-    ensures writes { Appends (operands_format kinds.MemLane) cursor.old cursor.new bytes.old.items bytes.new.items result }
-{
-    let arg = read_mem_arg(cursor)?;
-    let lane = cursor.byte()?;
-    put_mem_arg(bytes, arg);
-    bytes.push_reserved(lane);
+    let mark = rewriter.mark();
+    let align = rewriter.u32()?;
+    if align < 64 {
+        return rewriter.u64();
+    }
+    if align >= 128 {
+        return Err(Fault::Malformed);
+    }
+    let memory_index = rewriter.u32()?;
+    rewriter.u64()?;
+    if memory_index == 0 {
+        rewriter.cut_out(mark, 1);
+        rewriter.set_byte(mark, (align - 64) as u8);
+    }
     Ok(())
 }
 
 /// An ordering.
-#[tactic(auto, unfolding(crate::specs::formats::Instructions::operands_format))]
-fn write_order(cursor: &mut Cursor<'_>, bytes: &mut Vec<u8>) -> Result<(), Fault>
-    requires { vec_len bytes.old + 1 ≤ vec_capacity bytes.old }
-    ensures writes { Appends (operands_format kinds.Order) cursor.old cursor.new bytes.old.items bytes.new.items result }
+#[tactic(auto, unfolding(crate::specs::formats::Operands::ordering))]
+fn rewrite_ordering(rewriter: &mut Rewriter) -> Result<(), Fault>
+    ensures rewrites { Rewrites ordering rewriter.old rewriter.new result }
 {
-    let ordering = read_ordering(cursor)?;
-    put_ordering(bytes, ordering);
-    Ok(())
-}
-
-/// An ordering and an index.
-#[tactic(auto, using(std::proofs::Common::append_assoc), unfolding(crate::specs::formats::Instructions::operands_format))]
-fn write_order_index(cursor: &mut Cursor<'_>, bytes: &mut Vec<u8>) -> Result<(), Fault>
-    requires { vec_len bytes.old + 6 ≤ vec_capacity bytes.old }
-    ensures writes { Appends (operands_format kinds.OrderIndex) cursor.old cursor.new bytes.old.items bytes.new.items result }
-{
-    let ordering = read_ordering(cursor)?;
-    let index = cursor.u32()?;
-    put_ordering(bytes, ordering);
-    put_u32(bytes, index);
-    Ok(())
-}
-
-/// An ordering and two indexes.
-#[tactic(auto, using(std::proofs::Common::append_assoc), unfolding(crate::specs::formats::Instructions::operands_format))]
-fn write_order_two_indexes(cursor: &mut Cursor<'_>, bytes: &mut Vec<u8>) -> Result<(), Fault>
-    requires { vec_len bytes.old + 11 ≤ vec_capacity bytes.old }
-    ensures writes { Appends (operands_format kinds.OrderTwoIndexes) cursor.old cursor.new bytes.old.items bytes.new.items result }
-{
-    let ordering = read_ordering(cursor)?;
-    let first = cursor.u32()?;
-    let second = cursor.u32()?;
-    put_ordering(bytes, ordering);
-    put_u32(bytes, first);
-    put_u32(bytes, second);
-    Ok(())
-}
-
-impl<'a> Rewritable<'a> for Catch {
-    fn write_anew(
-        alloc: Global,
-        cursor: &mut Cursor<'a>,
-        bytes: &mut Vec<u8>,
-    ) -> Result<(), Fault> {
-        let _ = alloc;
-        let clause = read_catch(cursor)?;
-        bytes.reserve(11)?;
-        put_catch(bytes, clause);
-        Ok(())
+    match rewriter.byte()? {
+        0x00 => Ok(()),
+        0x01 => Ok(()),
+        _ => Err(Fault::Malformed),
     }
 }
 
-impl<'a> Rewritable<'a> for Handle {
-    fn write_anew(
-        alloc: Global,
-        cursor: &mut Cursor<'a>,
-        bytes: &mut Vec<u8>,
-    ) -> Result<(), Fault> {
-        let _ = alloc;
-        let clause = read_handle(cursor)?;
-        bytes.reserve(11)?;
-        put_handle(bytes, clause);
-        Ok(())
+/// Whether the types before and after a cast are nullable.
+#[tactic(auto, unfolding(crate::specs::formats::Operands::castop))]
+fn rewrite_castop(rewriter: &mut Rewriter) -> Result<(), Fault>
+    ensures rewrites { Rewrites castop rewriter.old rewriter.new result }
+{
+    match rewriter.byte()? {
+        0x00 => Ok(()),
+        0x01 => Ok(()),
+        0x02 => Ok(()),
+        0x03 => Ok(()),
+        _ => Err(Fault::Malformed),
+    }
+}
+
+/// A vector.
+fn rewrite_vector(rewriter: &mut Rewriter) -> Result<(), Fault>
+    ensures rewrites { Rewrites vector rewriter.old rewriter.new result }
+{
+    rewriter.are_bytes();
+    rewriter.number(8)?;
+    rewriter.number(8)?;
+    Ok(())
+}
+
+impl Rewritable for Catch {
+    ghost Value = { Catch };
+
+    ghost format = { catch_clause };
+
+    #[inline(always)]
+    fn is_lawful() {}
+
+    #[tactic(auto, using(std::proofs::Common::append_assoc), unfolding(crate::specs::formats::Operands::catch_clause))]
+    fn rewrite(rewriter: &mut Rewriter) -> Result<(), Fault> {
+        match rewriter.byte()? {
+            0x00 => {
+                rewriter.u32()?;
+                rewriter.u32()?;
+                Ok(())
+            }
+            0x01 => {
+                rewriter.u32()?;
+                rewriter.u32()?;
+                Ok(())
+            }
+            0x02 => {
+                rewriter.u32()?;
+                Ok(())
+            }
+            0x03 => {
+                rewriter.u32()?;
+                Ok(())
+            }
+            _ => Err(Fault::Malformed),
+        }
+    }
+}
+
+impl Rewritable for Handle {
+    ghost Value = { Handle };
+
+    ghost format = { handle_clause };
+
+    #[inline(always)]
+    fn is_lawful() {}
+
+    #[tactic(auto, using(std::proofs::Common::append_assoc), unfolding(crate::specs::formats::Operands::handle_clause))]
+    fn rewrite(rewriter: &mut Rewriter) -> Result<(), Fault> {
+        match rewriter.byte()? {
+            0x00 => {
+                rewriter.u32()?;
+                rewriter.u32()?;
+                Ok(())
+            }
+            0x01 => {
+                rewriter.u32()?;
+                Ok(())
+            }
+            _ => Err(Fault::Malformed),
+        }
     }
 }

@@ -7,8 +7,8 @@ ghost use Rattle.wasm_types.specs.declared.types.composite.TypeEntry.{TypeEntry}
 
 use crate::types::TypeEntry;
 use std::alloc::Global;
-use wasm_codec::normaliser::normalise_list_to_end;
 use wasm_codec::reader::ReadError;
+use wasm_codec::rewriter::normalise_list_to_end;
 
 /// The normal bytes of the body of a type section: the same entries in the fewest bytes (Core 3.0, Type Section).
 ///
@@ -47,15 +47,29 @@ pub fn normalise_type_section(alloc: Global, body: &[u8]) -> Result<Vec<u8>, Rea
     body_bytes_of(alloc, body)
 }
 
-/// The entries in their shortest encoding after their count: copied in runs, or written anew as they are read.
+/// The same, in the list itself, which is rewritten where it lies and given back. It takes no memory.
 #[tactic(auto, unfolding(crate::specs::formats::Types::type_body))]
+pub fn rewrite_type_section(body: Vec<u8>) -> Result<Vec<u8>, ReadError>
+    // The result is the shortest encoding of a list that the body encodes.
+    ensures given { IfOk result (λ encoding.
+        IsNormalForm type_body.Encodes type_body.bytes body.items encoding.items) }
+    // Where the body encodes a list, its shortest encoding is given.
+    ensures complete { (entries : List TypeEntry) → type_body.Encodes body.items entries →
+        IsOrMemory (λ encoding. encoding.items) (type_body.bytes entries) result }
+    // `at` is the length of the longest prefix that is whole.
+    ensures prefix { IfRefused result (IsLongestPrefix IsTypeBodyPrefix body.items) }
+    // Only what encodes no list is refused.
+    ensures unencoded { IfRefused result (λ _. (entries : List TypeEntry) → type_body.Encodes body.items entries → ⊥) }
+{
+    normalise_list_to_end::<TypeEntry>(body)
+}
+
+/// The shortest encoding of the entries, written over a copy of the body.
 fn body_bytes_of(alloc: Global, body: &[u8]) -> Result<Vec<u8>, ReadError>
     ensures given { IfOk result (λ encoding.
         IsNormalForm type_body.Encodes type_body.bytes body.now encoding.items) }
     ensures prefix { IfRefused result (IsLongestPrefix IsTypeBodyPrefix body.now) }
     ensures none { IfRefused result (λ _. (entries : List TypeEntry) → type_body.Encodes body.now entries → ⊥) }
 {
-    let mut encoding = Vec::new(alloc);
-    normalise_list_to_end::<TypeEntry>(alloc, body, &mut encoding)?;
-    Ok(encoding)
+    rewrite_type_section(Vec::from_slice(alloc, body)?)
 }

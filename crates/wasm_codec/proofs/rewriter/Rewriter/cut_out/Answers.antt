@@ -1,0 +1,13 @@
+use Rattle.std.proofs.Common.{ap, ◌∙◌, arith}
+use Rattle.wasm_codec.specs.Rewriter.{without}
+use Rattle.wasm_codec.proofs.Windows.{cuts_out, length_all}
+use Rattle.wasm_codec.proofs.rewriter.Rewriter.cut_out.Goals as goal
+
+pub returns : goal.returns
+returns c =
+    let r = c.self.inside in
+    let m = c.move_run-end in
+    let long = length_all r.bytes.items r.written r.from r.position r.end r.shortest c.self.invariant.0 c.self.invariant.1 (omega arith) c.args.self.now c.self.view_is in
+    rw c.copy_within.ensures.items
+    (cuts_out r.bytes.items m.new.bytes.items r.written r.from r.position r.end r.shortest m.result c.args.mark c.args.count c.self.invariant.2 (omega (arith, m.ensures.end)) (omega arith) m.ensures.done m.ensures.left (omega (arith, long, m.ensures.end))
+    ∙ ap (without c.args.mark c.args.count) c.self.view_is)

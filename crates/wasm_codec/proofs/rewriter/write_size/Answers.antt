@@ -1,0 +1,14 @@
+use Rattle.std.proofs.Common.{◌-◌, arith}
+use Rattle.wasm_codec.specs.Numbers.{unsigned_leb128}
+use Rattle.wasm_codec.proofs.Windows.{size_written}
+use Rattle.wasm_codec.proofs.rewriter.write_size.Goals as goal
+
+pub returns-clause-done : goal.returns-clause-done
+returns-clause-done c =
+    let o = c.overwrite in
+    (size_written c.args.bytes.now.items o.new.bytes.items c.move_down.new.bytes.items (unsigned_leb128 (c.args.end - c.args.begin)) c.args.start o.result c.args.begin c.args.end o.ensures.digits (omega arith) c.requires.begin (omega arith) o.ensures.items c.move_down.ensures.items).done
+
+pub returns-clause-left : goal.returns-clause-left
+returns-clause-left c =
+    let o = c.overwrite in
+    (size_written c.args.bytes.now.items o.new.bytes.items c.move_down.new.bytes.items (unsigned_leb128 (c.args.end - c.args.begin)) c.args.start o.result c.args.begin c.args.end o.ensures.digits (omega arith) c.requires.begin (omega arith) o.ensures.items c.move_down.ensures.items).left

@@ -1,0 +1,508 @@
+//! Bytes that are rewritten where they lie: what is in its shortest encoding stays, and the rest is shortened.
+ghost use Rattle.std.specs.Prelude.{◌≡◌, Bool, ◌++◌, ◌+◌, ◌-◌, ◌<◌, ◌≤◌, ◌^◌, [], length, take, drop, true, false, Some, vec_len, pos, if◌then◌else◌, IfOk, IfErr};
+ghost use lib.Seq.{paste};
+ghost use Rattle.wasm_codec.specs.Grammar.{IsBytes};
+ghost use Rattle.wasm_codec.specs.Places.{Place, place, Sees};
+ghost use Rattle.wasm_codec.specs.Numbers.{digits_of, unsigned_leb128, signed_leb128};
+ghost use Rattle.wasm_codec.specs.formats.Bodies.{bytes_to_end};
+ghost use Rattle.wasm_codec.specs.formats.Combinators.{a_byte, raw, little_endian, u32 as u32_format, u64 as u64_format, s32 as s32_format, s64 as s64_format, index as index_format};
+ghost use Rattle.wasm_codec.specs.declared.reader.cursor.Fault.TheVariants.{Malformed};
+ghost use Rattle.wasm_codec.specs.Rewriter.{after_at, Gives, Rewrites, OpensBody, without, with_byte, narrowed, widened, resized, rewriting, stayed, shortened, done_of};
+
+use std::marker::Model;
+use std::mem;
+
+mod loops;
+mod short;
+
+use crate::encode::leb128::u32_len;
+use crate::encode::write_u32;
+use crate::reader::cursor::{Cursor, Fault};
+pub use loops::{
+    Joinable, Rewritable, RewritableBody, normalise_joined, normalise_list_to_end, rewrite_joined,
+    rewrite_list, rewrite_sized, rewrite_to_end,
+};
+pub use short::{short_s32, short_s64, short_u32, short_u64};
+
+/// Where a body is that is rewritten.
+#[derive(Clone, Copy)]
+pub struct Body {
+    /// How many bytes were written before its size.
+    mark: usize,
+    /// How many bytes it had.
+    size: u32,
+    /// How many bytes are left after it.
+    behind: usize,
+}
+
+/// Bytes of which the first part was rewritten.
+///
+/// What was written lies at the beginning; then comes a gap, then the run of bytes that stay as they are, then what is
+/// left. The run is moved only where something after it has become shorter.
+#[derive(Drop)]
+pub struct Rewriter {
+    bytes: Vec<u8>,
+    written: usize,
+    from: usize,
+    position: usize,
+    end: usize,
+    shortest: bool,
+}
+
+impl Model for Rewriter {
+    ghost use Rattle.std.specs.Prelude.{◌≤◌, length};
+    ghost use Rattle.wasm_codec.specs.Rewriter.{Rewriting, seen};
+
+    ghost Value = { Rewriting };
+
+    ghost view = { λ r. seen r.bytes.items r.written r.from r.position r.end r.shortest };
+
+    ghost invariant = { λ r. (r.written ≤ r.from) × (r.from ≤ r.position) × (r.position ≤ r.end) × (r.end ≤ length r.bytes.items) };
+}
+
+impl Rewriter {
+    /// The beginning of the bytes.
+    pub fn new(bytes: Vec<u8>) -> Rewriter
+        ensures { result ≡ rewriting [] (place true bytes.items) [] }
+    {
+        let end = bytes.len();
+        Rewriter {
+            bytes,
+            written: 0,
+            from: 0,
+            position: 0,
+            end,
+            shortest: true,
+        }
+    }
+
+    /// What was written.
+    pub fn finish(self) -> Vec<u8>
+        ensures { result.items ≡ self.done }
+    {
+        let Rewriter {
+            mut bytes,
+            written,
+            from,
+            position,
+            end: _,
+            shortest: _,
+        } = self;
+        let end = move_run(&mut bytes, written, from, position);
+        bytes.truncate(end);
+        bytes
+    }
+
+    /// The same rewriter as a value of its own. One without bytes stays here.
+    pub fn take(&mut self) -> Rewriter
+        ensures { result ≡ self.old }
+    {
+        let empty = Rewriter::new(Vec::new(*self.bytes.allocator()));
+        mem::replace(self, empty)
+    }
+
+    /// How many bytes are left up to the end.
+    #[inline(always)]
+    pub fn len(&self) -> usize
+        ensures { result ≡ length self.now.place.left }
+    {
+        self.end - self.position
+    }
+
+    /// What is left are bytes. The call does nothing.
+    #[inline(always)]
+    pub fn are_bytes(&self)
+        ensures { IsBytes self.now.place.left }
+    {
+        let _place = self.cursor();
+    }
+
+    /// The bytes that are left up to the end.
+    #[inline(always)]
+    pub fn left(&self) -> &[u8]
+        ensures { result.now ≡ self.now.place.left }
+    {
+        &self.bytes[self.position..self.end]
+    }
+
+    /// The bytes that are left, as a place to read from.
+    #[inline(always)]
+    fn cursor(&self) -> Cursor<'_>
+        ensures place { result ≡ place true self.now.place.left }
+        ensures bytes { IsBytes self.now.place.left }
+    {
+        place_of(&self.bytes[self.position..self.end])
+    }
+
+    /// Passes so many bytes, which stay as they are.
+    #[inline(always)]
+    pub fn stay(&mut self, count: usize)
+        requires { count ≤ length self.old.place.left }
+        ensures { self.new ≡ stayed count self.old }
+    {
+        self.position += count;
+    }
+
+    /// Shortens what comes next to its first bytes, the last of them without its high bit.
+    fn shorten(&mut self, kept: usize, count: usize)
+        requires some { 0 < kept }
+        requires shorter { kept ≤ count }
+        requires within { count ≤ length self.old.place.left }
+        ensures { self.new ≡ shortened kept count self.old }
+    {
+        let next = self.position + count;
+        let run_end = self.position + kept;
+        self.written = move_run(&mut self.bytes, self.written, self.from, run_end);
+        let last = self.written - 1;
+        self.bytes[last] %= 128;
+        self.from = next;
+        self.position = next;
+        self.shortest = false;
+    }
+
+    /// How many bytes were written.
+    #[inline(always)]
+    pub fn mark(&self) -> usize
+        ensures { result ≡ length self.now.done }
+    {
+        self.written + (self.position - self.from)
+    }
+
+    /// Takes out so many bytes that were written at a mark: they were of a long form.
+    pub fn cut_out(&mut self, mark: usize, count: usize)
+        requires { mark + count ≤ length self.old.done }
+        ensures { self.new ≡ without mark count self.old }
+    {
+        let end = move_run(&mut self.bytes, self.written, self.from, self.position);
+        self.bytes.copy_within(mark + count..end, mark);
+        self.written = end - count;
+        self.from = self.position;
+        self.shortest = false;
+    }
+
+    /// Writes another byte in the place of one that was written.
+    pub fn set_byte(&mut self, mark: usize, byte: u8)
+        requires { mark < length self.old.done }
+        ensures { self.new ≡ with_byte mark byte self.old }
+    {
+        self.written = move_run(&mut self.bytes, self.written, self.from, self.position);
+        self.bytes[mark] = byte;
+        self.from = self.position;
+    }
+
+    /// Ends what is left after so many bytes.
+    fn narrow(&mut self, size: usize)
+        requires { size ≤ length self.old.place.left }
+        ensures { self.new ≡ narrowed size self.old }
+    {
+        self.end = self.position + size;
+    }
+
+    /// Where nothing is left, goes on with so many bytes after the end.
+    fn widen(&mut self, size: usize)
+        requires none { self.old.place.left ≡ [] }
+        requires within { size ≤ length self.old.rest }
+        ensures { self.new ≡ widened size self.old }
+    {
+        self.end += size;
+    }
+
+    /// Puts another size in the place of the one at a mark, in no more bytes: the number of the bytes after it.
+    fn put_size(&mut self, mark: usize, digits: usize)
+        requires begun { mark + digits ≤ length self.old.done }
+        requires size { length self.old.done - (mark + digits) < 2 ^ 32 }
+        requires fits { length (unsigned_leb128 (length self.old.done - (mark + digits))) ≤ digits }
+        ensures { self.new ≡ resized mark digits self.old }
+    {
+        let end = move_run(&mut self.bytes, self.written, self.from, self.position);
+        self.written = write_size(&mut self.bytes, mark, mark + digits, end);
+        self.from = self.position;
+    }
+
+    /// Reads the size of a body, and goes on within it.
+    pub fn open_body(&mut self) -> Result<Body, Fault>
+        ensures { OpensBody self.old self.new result }
+    {
+        let mark = self.mark();
+        let size = self.u32()?;
+        let len = self.len();
+        if len < size as usize {
+            return Err(Fault::Malformed);
+        }
+        self.narrow(size as usize);
+        Ok(Body {
+            mark,
+            size,
+            behind: len - size as usize,
+        })
+    }
+
+    /// Goes on after a body that was rewritten, and corrects its size where it has become shorter.
+    pub fn close_body(&mut self, body: Body)
+        requires none { self.old.place.left ≡ [] }
+        requires behind { body.behind ≤ length self.old.rest }
+        requires begun { body.mark + length (unsigned_leb128 body.size) ≤ length self.old.done }
+        requires sized { take (length (unsigned_leb128 body.size)) (drop body.mark self.old.done) ≡ unsigned_leb128 body.size }
+        requires shorter { length self.old.done - (body.mark + length (unsigned_leb128 body.size)) ≤ body.size }
+        ensures { self.new ≡ widened body.behind (resized body.mark (length (unsigned_leb128 body.size)) self.old) }
+    {
+        let digits = u32_len(body.size);
+        if self.mark() - (body.mark + digits) < body.size as usize {
+            self.put_size(body.mark, digits);
+        }
+        self.widen(body.behind);
+    }
+
+    /// A u32 (Core 3.0, Integers).
+    #[inline(always)]
+    pub fn u32(&mut self) -> Result<u32, Fault>
+        ensures { Gives u32_format self.old self.new result }
+    {
+        let mut cursor = self.cursor();
+        let value = cursor.u32()?;
+        let (shortest, left) = (cursor.is_shortest(), cursor.len());
+        if shortest {
+            self.stay(self.len() - left);
+        } else {
+            self.shorten(unsigned_digit_count(u64::from(value)), self.len() - left);
+        }
+        Ok(value)
+    }
+
+    /// A u64 (Core 3.0, Integers).
+    pub fn u64(&mut self) -> Result<(), Fault>
+        ensures { Rewrites u64_format self.old self.new result }
+    {
+        let mut cursor = self.cursor();
+        let value = cursor.u64()?;
+        let (shortest, left) = (cursor.is_shortest(), cursor.len());
+        if shortest {
+            self.stay(self.len() - left);
+        } else {
+            self.shorten(unsigned_digit_count(value), self.len() - left);
+        }
+        Ok(())
+    }
+
+    /// An s32 (Core 3.0, Integers).
+    pub fn s32(&mut self) -> Result<(), Fault>
+        ensures { Rewrites s32_format self.old self.new result }
+    {
+        let mut cursor = self.cursor();
+        let value = cursor.s32()?;
+        let (shortest, left) = (cursor.is_shortest(), cursor.len());
+        if shortest {
+            self.stay(self.len() - left);
+        } else {
+            self.shorten(s32_digit_count(value), self.len() - left);
+        }
+        Ok(())
+    }
+
+    /// An s64 (Core 3.0, Integers).
+    pub fn s64(&mut self) -> Result<(), Fault>
+        ensures { Rewrites s64_format self.old self.new result }
+    {
+        let mut cursor = self.cursor();
+        let value = cursor.s64()?;
+        let (shortest, left) = (cursor.is_shortest(), cursor.len());
+        if shortest {
+            self.stay(self.len() - left);
+        } else {
+            self.shorten(signed_digit_count(value), self.len() - left);
+        }
+        Ok(())
+    }
+
+    /// An index in the place of a negative type code: an s33 that isn't negative (Core 3.0, Heap Types).
+    pub fn index(&mut self) -> Result<(), Fault>
+        ensures { Rewrites index_format self.old self.new result }
+    {
+        let mut cursor = self.cursor();
+        let value = cursor.index()?;
+        let (shortest, left) = (cursor.is_shortest(), cursor.len());
+        if shortest {
+            self.stay(self.len() - left);
+        } else {
+            self.shorten(index_digit_count(value), self.len() - left);
+        }
+        Ok(())
+    }
+
+    /// One byte.
+    #[inline(always)]
+    pub fn byte(&mut self) -> Result<u8, Fault>
+        ensures { Gives a_byte self.old self.new result }
+    {
+        if self.position == self.end {
+            return Err(Fault::Malformed);
+        }
+        let byte = self.bytes[self.position];
+        self.position += 1;
+        Ok(byte)
+    }
+
+    /// So many bytes, which stay as they are.
+    #[tactic(auto, unfolding(crate::specs::Places::raw_at))]
+    pub fn bytes(&mut self, count: usize) -> Result<(), Fault>
+        ensures { Rewrites (raw count) self.old self.new result }
+    {
+        if self.len() < count {
+            return Err(Fault::Malformed);
+        }
+        self.stay(count);
+        Ok(())
+    }
+
+    /// All that is left, which stays as it is.
+    pub fn rest(&mut self)
+        ensures { after_at bytes_to_end self.old ≡ Some self.new }
+    {
+        self.stay(self.len());
+    }
+
+    /// A number in so many bytes, the least first, which stay as they are.
+    pub fn number(&mut self, count: usize) -> Result<(), Fault>
+        ensures { Rewrites (little_endian count) self.old self.new result }
+    {
+        self.are_bytes();
+        if self.len() < count {
+            return Err(Fault::Malformed);
+        }
+        self.stay(count);
+        Ok(())
+    }
+
+    /// The byte that comes next, which is left there.
+    #[inline(always)]
+    pub fn peek(&self) -> Result<u8, Fault>
+        ensures sees { Sees self.now.place result }
+        ensures err { IfErr result (λ e. e ≡ Malformed) }
+    {
+        if self.position == self.end {
+            return Err(Fault::Malformed);
+        }
+        Ok(self.bytes[self.position])
+    }
+}
+
+/// Moves the run to the end of what was written, and answers where it ends then.
+fn move_run(bytes: &mut Vec<u8>, written: usize, from: usize, position: usize) -> usize
+    requires gap { written ≤ from }
+    requires run { from ≤ position }
+    requires within { position ≤ vec_len bytes.old }
+    ensures end { result ≡ written + (position - from) }
+    ensures done { take result bytes.new.items ≡ done_of bytes.old.items written from position }
+    ensures left { drop position bytes.new.items ≡ drop position bytes.old.items }
+    ensures len { vec_len bytes.new ≡ vec_len bytes.old }
+{
+    move_down(bytes, from, position, written);
+    written + (position - from)
+}
+
+/// Moves the bytes from `start` up to `end` down to `dest`, where they aren't there already.
+#[inline(always)]
+#[tactic(auto, using(crate::proofs::Windows::already_there))]
+fn move_down(bytes: &mut Vec<u8>, start: usize, end: usize, dest: usize)
+    requires down { dest ≤ start }
+    requires order { start ≤ end }
+    requires within { end ≤ vec_len bytes.old }
+    ensures items { bytes.new.items ≡ paste bytes.old.items dest (drop start bytes.old.items) (end - start) }
+    ensures len { vec_len bytes.new ≡ vec_len bytes.old }
+{
+    if dest < start {
+        bytes.copy_within(start..end, dest);
+    }
+}
+
+/// The place at the beginning of bytes.
+#[inline(always)]
+fn place_of(bytes: &[u8]) -> Cursor<'_>
+    ensures place { result ≡ place true bytes.now }
+    ensures bytes { IsBytes bytes.now }
+{
+    Cursor::new(bytes)
+}
+
+/// How many digits the shortest encoding of a number has, of which the last stands for a number below `top`.
+pub fn digit_count(top: u64, number: u64) -> usize
+    requires { 0 < top }
+    ensures count { (turn : Bool) → result ≡ length (digits_of turn top 9 number) }
+    ensures some { 0 < result }
+{
+    let mut rest = number;
+    for count in 1..10 {
+        if rest < top {
+            return count;
+        }
+        rest /= 128;
+    }
+    10
+}
+
+/// How many digits the shortest encoding of an unsigned number has.
+#[tactic(auto, unfolding(crate::specs::Numbers::unsigned_leb128))]
+fn unsigned_digit_count(number: u64) -> usize
+    ensures count { result ≡ length (unsigned_leb128 number) }
+    ensures some { 0 < result }
+{
+    digit_count(128, number)
+}
+
+/// How many digits the shortest encoding of a signed number has.
+#[tactic(auto, unfolding(crate::specs::Numbers::signed_leb128))]
+fn signed_digit_count(number: i64) -> usize
+    ensures count { result ≡ length (signed_leb128 number) }
+    ensures some { 0 < result }
+{
+    if number < 0 {
+        digit_count(64, (-1 - number) as u64)
+    } else {
+        digit_count(64, number as u64)
+    }
+}
+
+/// The same of a signed number of 32 bits.
+fn s32_digit_count(number: i32) -> usize
+    ensures count { result ≡ length (signed_leb128 number) }
+    ensures some { 0 < result }
+{
+    signed_digit_count(i64::from(number))
+}
+
+/// The same of an index in the place of a negative type code.
+fn index_digit_count(index: u32) -> usize
+    ensures count { result ≡ length (signed_leb128 (pos index)) }
+    ensures some { 0 < result }
+{
+    signed_digit_count(i64::from(index))
+}
+
+/// Writes the number of the bytes from `begin` up to `end` at `start`, in no more bytes than up to `begin`, and moves them
+/// down to it. Answers where they end then.
+fn write_size(bytes: &mut Vec<u8>, start: usize, begin: usize, end: usize) -> usize
+    requires start { start ≤ begin }
+    requires begin { begin ≤ end }
+    requires end { end ≤ vec_len bytes.old }
+    requires size { end - begin < 2 ^ 32 }
+    requires fits { start + length (unsigned_leb128 (end - begin)) ≤ begin }
+    ensures end { result ≡ start + (length (unsigned_leb128 (end - begin)) + (end - begin)) }
+    ensures done { take result bytes.new.items ≡ take start bytes.old.items ++ (unsigned_leb128 (end - begin) ++ take (end - begin) (drop begin bytes.old.items)) }
+    ensures left { drop end bytes.new.items ≡ drop end bytes.old.items }
+    ensures len { vec_len bytes.new ≡ vec_len bytes.old }
+{
+    let digits = start + overwrite(bytes, start, (end - begin) as u32);
+    move_down(bytes, begin, end, digits);
+    digits + (end - begin)
+}
+
+/// Writes the shortest encoding of a number over the bytes at a place, and answers how many bytes it has.
+fn overwrite(bytes: &mut Vec<u8>, start: usize, number: u32) -> usize
+    requires { start + length (unsigned_leb128 number) ≤ vec_len bytes.old }
+    ensures digits { result ≡ length (unsigned_leb128 number) }
+    ensures items { bytes.new.items ≡ take start bytes.old.items ++ (unsigned_leb128 number ++ drop (start + result) bytes.old.items) }
+{
+    let digits = u32_len(number);
+    write_u32(&mut bytes[start..start + digits], number);
+    digits
+}

@@ -1,0 +1,50 @@
+-- The laws of instructions that are rewritten: an opcode, and then operands of its kind.
+use Rattle.std.proofs.Common.{◌≡◌, ℕ, List, ◌++◌, Option, Some, None, Result, Ok, Err, refl, sym, ap, ◌∙◌, append_assoc}
+use Rattle.wasm_codec.specs.declared.reader.cursor.Fault.{Fault}
+use Rattle.wasm_codec.specs.declared.reader.cursor.Fault.TheVariants as faults
+use Rattle.wasm_codec.specs.Places.{Place}
+use Rattle.wasm_codec.specs.Reading.{◌>>=◌}
+use Rattle.wasm_codec.specs.Rewriter.{Rewriting, rewritten_at, Rewrites}
+use Rattle.wasm_codec.proofs.Laws.{bind_some, some_is}
+use Rattle.wasm_codec.proofs.RewriterLaws.{is_given, is_after, after_is}
+use Rattle.wasm_instructions.specs.declared.table.opcode.Opcode.{Opcode}
+use Rattle.wasm_instructions.specs.declared.table.opcode.Kind.{Kind}
+use Rattle.wasm_instructions.specs.declared.table.opcode.Kind.TheVariants as kinds
+use Rattle.wasm_instructions.specs.declared.table.call.Operands.{Operands}
+use Rattle.wasm_instructions.specs.declared.table.call.Operands.TheVariants as operands
+use Rattle.wasm_instructions.specs.Opcodes.{kind}
+use Rattle.wasm_instructions.specs.Instructions.{call, kind_of}
+use Rattle.wasm_instructions.specs.formats.Instructions.{opcode, operands_format, instruction}
+
+made_kind : {A : Type 0} (k : Kind) (read : Option (A × Place)) (make : A × Place → Operands × Place) (o : Operands) (q : Place) → (read >>= λ a. Some (make a)) ≡ Some (o, q) → ((a : A × Place) → kind_of (make a).0 ≡ k) → kind_of o ≡ k
+made_kind k read make o q e each =
+    let x = bind_some read (λ a. Some (make a)) (o, q) e in
+    sym (ap (λ (r : Operands × Place). kind_of r.0) (some_is (make x.0) (o, q) x.2)) ∙ each x.0
+
+-- what is read as operands of a kind is of the kind
+of_kind : (k : Kind) (p : Place) (o : Operands) (q : Place) → (operands_format k).at p ≡ Some (o, q) → kind_of o ≡ k
+unfolding operands_format
+of_kind kinds.None p o q e = sym (ap (λ (r : Operands × Place). kind_of r.0) (some_is (operands.None, p) (o, q) e))
+of_kind k p o q e = made_kind k _ _ o q e (λ a. refl)
+
+pub after_opcode : (op : Opcode) (k : Kind) (old mid new : Rewriting) (result : Result (Unit {0}) Fault) → rewritten_at opcode old ≡ Some (op, mid) → kind op ≡ Some k → Rewrites (operands_format k) mid new result → Rewrites instruction old new result
+unfolding instruction
+after_opcode op k old mid new (Err faults.Memory) reads is none = none
+after_opcode op k old mid new (Err faults.Malformed) reads is none =
+    let g = is_given opcode old op mid reads in
+    rw (g.is_read, is, none) refl
+after_opcode op k old mid new (Ok done) reads is e =
+    let g = is_given opcode old op mid reads in
+    let one = is_after (operands_format k) mid new e in
+    let same : kind_of one.value ≡ k = of_kind k mid.place one.value new.place one.given.is_read in
+    let whole : new.done ≡ old.done ++ (opcode.bytes op ++ (operands_format (kind_of one.value)).bytes one.value) =
+    one.given.written ∙ ap (λ (t : List ℕ). t ++ (operands_format k).bytes one.value) g.written ∙ append_assoc old.done (opcode.bytes op) ((operands_format k).bytes one.value)
+    ∙ ap (λ (j : Kind). old.done ++ (opcode.bytes op ++ (operands_format j).bytes one.value)) (sym same) in
+    after_is instruction old new (call op one.value) (rw (g.is_read, is, one.given.is_read) refl) whole (one.given.rest ∙ g.rest)
+
+-- what is no opcode of the table
+pub no_opcode : (op : Opcode) (old mid new : Rewriting) → rewritten_at opcode old ≡ Some (op, mid) → kind op ≡ None → Rewrites instruction old new (Err faults.Malformed)
+unfolding instruction
+no_opcode op old mid new reads is =
+    let g = is_given opcode old op mid reads in
+    rw (g.is_read, is) refl

@@ -1,0 +1,150 @@
+//! Heap, reference, value, storage and field types, left in their shortest encodings (Core 3.0, Heap Types to Composite
+//! Types).
+ghost use Rattle.std.specs.Prelude.{◌≡◌, Some};
+ghost use Rattle.wasm_codec.specs.Places.{Place, byte_at};
+ghost use Rattle.wasm_codec.specs.Rewriter.{Rewrites};
+ghost use Rattle.wasm_codec.specs.formats.Combinators.{flagged};
+ghost use Rattle.wasm_types.specs.formats.Types.{abstract_type, heap_type, ref_type, val_type, storage_type, field_type};
+
+use wasm_codec::reader::cursor::Fault;
+use wasm_codec::rewriter::Rewriter;
+
+/// An abstract heap type that isn't shared.
+#[tactic(auto, unfolding(crate::specs::formats::Types::abstract_type))]
+fn rewrite_abstract_type(rewriter: &mut Rewriter) -> Result<(), Fault>
+    ensures rewrites { Rewrites abstract_type rewriter.old rewriter.new result }
+{
+    match rewriter.byte()? {
+        0x68 => Ok(()),
+        0x69 => Ok(()),
+        0x6a => Ok(()),
+        0x6b => Ok(()),
+        0x6c => Ok(()),
+        0x6d => Ok(()),
+        0x6e => Ok(()),
+        0x6f => Ok(()),
+        0x70 => Ok(()),
+        0x71 => Ok(()),
+        0x72 => Ok(()),
+        0x73 => Ok(()),
+        0x74 => Ok(()),
+        0x75 => Ok(()),
+        _ => Err(Fault::Malformed),
+    }
+}
+
+/// An abstract heap type, which may be shared.
+#[tactic(auto, using(std::proofs::Common::append_assoc))]
+fn rewrite_shared_type(rewriter: &mut Rewriter) -> Result<(), Fault>
+    ensures rewrites { Rewrites (flagged 0x65 abstract_type) rewriter.old rewriter.new result }
+{
+    if rewriter.peek()? == 0x65 {
+        rewriter.byte()?;
+        rewrite_abstract_type(rewriter)?;
+        return Ok(());
+    }
+    rewrite_abstract_type(rewriter)?;
+    Ok(())
+}
+
+/// A heap type.
+#[tactic(auto, using(std::proofs::Common::append_assoc), unfolding(crate::specs::formats::Types::heap_type))]
+pub fn rewrite_heap_type(rewriter: &mut Rewriter) -> Result<(), Fault>
+    ensures rewrites { Rewrites heap_type rewriter.old rewriter.new result }
+{
+    let first = rewriter.peek()?;
+    if !(0x40..0x80).contains(&first) {
+        rewriter.index()?;
+        return Ok(());
+    }
+    if first == 0x62 {
+        rewriter.byte()?;
+        rewriter.u32()?;
+        return Ok(());
+    }
+    rewrite_shared_type(rewriter)?;
+    Ok(())
+}
+
+/// A reference type. One that may be null and is of an abstract heap type is left in its short form.
+#[inline(never)]
+#[tactic(auto, using(std::proofs::Common::append_assoc), unfolding(crate::specs::formats::Types::ref_type))]
+fn rewrite_ref_type(rewriter: &mut Rewriter) -> Result<(), Fault>
+    ensures rewrites { Rewrites ref_type rewriter.old rewriter.new result }
+{
+    let first = rewriter.peek()?;
+    if first == 0x63 {
+        return rewrite_nullable_type(rewriter);
+    }
+    if first == 0x64 {
+        rewriter.byte()?;
+        rewrite_heap_type(rewriter)?;
+        return Ok(());
+    }
+    rewrite_shared_type(rewriter)?;
+    Ok(())
+}
+
+/// A reference type that begins with `0x63`, which is left out before an abstract heap type.
+#[tactic(auto, using(std::proofs::Common::append_assoc), unfolding(crate::specs::formats::Types::ref_type, crate::specs::formats::Types::heap_type))]
+fn rewrite_nullable_type(rewriter: &mut Rewriter) -> Result<(), Fault>
+    requires { (after : Place) × (byte_at rewriter.old.place ≡ Some (0x63, after)) }
+    ensures rewrites { Rewrites ref_type rewriter.old rewriter.new result }
+{
+    let mark = rewriter.mark();
+    rewriter.byte()?;
+    let next = rewriter.peek()?;
+    rewrite_heap_type(rewriter)?;
+    if (0x40..0x80).contains(&next) && next != 0x62 {
+        rewriter.cut_out(mark, 1);
+    }
+    Ok(())
+}
+
+/// A value type.
+#[inline(always)]
+#[tactic(auto, using(std::proofs::Common::append_assoc), unfolding(crate::specs::formats::Types::val_type))]
+pub fn rewrite_val_type(rewriter: &mut Rewriter) -> Result<(), Fault>
+    ensures rewrites { Rewrites val_type rewriter.old rewriter.new result }
+{
+    match rewriter.peek()? {
+        0x7f | 0x7e | 0x7d | 0x7c | 0x7b => {
+            rewriter.byte()?;
+            Ok(())
+        }
+        _ => {
+            rewrite_ref_type(rewriter)?;
+            Ok(())
+        }
+    }
+}
+
+/// A storage type.
+#[tactic(auto, using(std::proofs::Common::append_assoc), unfolding(crate::specs::formats::Types::storage_type))]
+fn rewrite_storage_type(rewriter: &mut Rewriter) -> Result<(), Fault>
+    ensures rewrites { Rewrites storage_type rewriter.old rewriter.new result }
+{
+    match rewriter.peek()? {
+        0x78 | 0x77 => {
+            rewriter.byte()?;
+            Ok(())
+        }
+        _ => {
+            rewrite_val_type(rewriter)?;
+            Ok(())
+        }
+    }
+}
+
+/// A field.
+#[tactic(auto, using(std::proofs::Common::append_assoc), unfolding(crate::specs::formats::Types::field_type, crate::specs::formats::Types::mutability))]
+pub(super) fn rewrite_field_type(rewriter: &mut Rewriter) -> Result<(), Fault>
+    ensures rewrites { Rewrites field_type rewriter.old rewriter.new result }
+{
+    rewrite_storage_type(rewriter)?;
+    match rewriter.byte()? {
+        0x00 => Ok(()),
+        0x01 => Ok(()),
+        _ => Err(Fault::Malformed),
+    }
+}
