@@ -23,7 +23,8 @@ pub use reader::{
     ReadError, normalise_code_section, normalise_instructions, normalise_module,
     normalise_type_section, read_code_section, read_code_section_strict, read_instructions,
     read_instructions_strict, read_module, read_module_strict, read_type_section,
-    read_type_section_strict,
+    read_type_section_strict, rewrite_code_section, rewrite_instructions, rewrite_module,
+    rewrite_type_section,
 };
 pub use types::{
     AbstractHeapType, ArrayType, CompositeInnerType, CompositeType, ContType, CoreTypeEncoder,
