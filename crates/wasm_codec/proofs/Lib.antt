@@ -15,7 +15,7 @@ pub mod AskedLaws
 pub mod SizedLaws
 pub mod Windows
 pub mod Shortening
-pub mod ShortNumbers
+pub mod ScannedNumbers
 pub mod RewriterLaws
 pub mod BodyRewriting
 pub mod ListRewriting

@@ -1,5 +1,5 @@
 -- The laws of the rewriter's loops.
-use Rattle.std.proofs.Common.{◌≡◌, ℕ, zero, suc, ◌+◌, ◌-◌, ◌<◌, ◌≤◌, List, [], ◌∷◌, ◌++◌, length, Some, None, Err, refl, sym, ap, ◌∙◌, append_assoc, length-append, arith}
+use Rattle.std.proofs.Common.{◌≡◌, ℕ, zero, suc, ◌+◌, ◌-◌, ◌<◌, ◌≤◌, true, List, [], ◌∷◌, ◌++◌, length, take, drop, take-add, drop-drop, length-drop, subst, Some, None, Err, refl, sym, ap, ◌∙◌, append_assoc, length-append, arith}
 use Rattle.std.proofs.lemmas.List.{append-nil, flat_map_more}
 use Rattle.std.specs.List.{flat_map}
 use Rattle.wasm_codec.specs.declared.reader.cursor.Fault.{Fault}
@@ -7,14 +7,17 @@ use Rattle.wasm_codec.specs.declared.reader.cursor.Fault.TheVariants as faults
 use Rattle.wasm_codec.specs.Grammar.{IsBytes, TakesBytes}
 use Rattle.wasm_codec.specs.Lawful.{IsLawful}
 use Rattle.wasm_codec.specs.Numbers.{unsigned_leb128}
-use Rattle.wasm_codec.specs.Places.{Place, Reader, u32_at}
+use Rattle.wasm_codec.specs.Places.{Place, Reader, place, u32_at}
 use Rattle.wasm_codec.specs.formats.Combinators.{Format, items, u32}
 use Rattle.wasm_codec.specs.formats.Bodies.{at_end, until_end, to_end}
-use Rattle.wasm_codec.specs.Rewriter.{Rewriting, rewriting, rewritten_at, after_at, Rewrites, Goes, RewritesAll}
+use Rattle.wasm_codec.specs.Rewriter.{Rewriting, rewriting, rewritten_at, after_at, Rewrites, RewritesAll, stayed}
+use Rattle.wasm_codec.specs.Scanning.{ReadsShort, BeginsShort}
+use Rattle.wasm_codec.proofs.Shortening.{kept_is, without_value, bytes_after, takes_some}
+use Rattle.std.proofs.lemmas.List.{drop_at}
 use Rattle.wasm_codec.proofs.Laws.{bind_some, some_is}
 use Rattle.wasm_codec.proofs.BodyLaws.{not_ended}
 use Rattle.wasm_codec.proofs.ListReading.{Progress, progress_bytes}
-use Rattle.wasm_codec.proofs.PlaceLists.{Passed, passed_none, passed_more, passed_fault, passed_all, after_items, regroup_items, after_no_items, place_next, plain_none}
+use Rattle.wasm_codec.proofs.PlaceLists.{Passed, passed_none, passed_more, passed_fault, passed_all, after_items, regroup_items, after_no_items, place_next, plain_none, step}
 
 -- a value was read, and its shortest encoding was written
 pub record IsGiven {V : Type 0} (F : Format V) (p : Rewriting) (v : V) (q : Rewriting) : Type 0 where
@@ -147,14 +150,55 @@ goes_on {V} {F} r some old here next fits w more e =
       fewer = n.fewer;
     }
 
+-- what stays of what is left after what stays
+stayed_on : (n m : ℕ) (p : Rewriting) → stayed m (stayed n p) ≡ stayed (n + m) p
+stayed_on n m p =
+    let done : (p.done ++ take n p.place.left) ++ take m (drop n p.place.left) ≡ p.done ++ take (n + m) p.place.left = append_assoc p.done (take n p.place.left) (take m (drop n p.place.left)) ∙ ap (λ (t : List ℕ). p.done ++ t) (sym (take-add n m p.place.left)) in
+    let left : drop m (drop n p.place.left) ≡ drop (n + m) p.place.left = drop-drop m n p.place.left in
+    rw (done, left) refl
+
+reads_shorter : {V : Type 0} {F : Format V} → IsLawful F → (values : List V) (bytes left : List ℕ) → IsBytes bytes → ReadsShort F values bytes left → length left ≤ length bytes
+reads_shorter law [] bytes left fits reads = omega (arith, ap (length {A = ℕ}) reads)
+reads_shorter {V} {F} law (v ∷ values) bytes left fits (next, (read, reads)) =
+    let one = step law (place true bytes) v (place true next) fits read in
+    let again = reads_shorter law values next left (bytes_after one.prefix next (subst IsBytes one.parts fits)) reads in
+    omega (arith, again, ap (length {A = ℕ}) one.parts, length-append one.prefix next)
+
+-- values that are read in their shortest encodings stay
+run_stays : {V : Type 0} {F : Format V} → IsLawful F → TakesBytes F.Encodes → (old here : Rewriting) (values : List V) (left : List ℕ) → IsBytes old.place.left → Going F old here → ReadsShort F values here.place.left left → Going F old (stayed (length here.place.left - length left) here)
+run_stays {V} {F} law some old here [] left fits going reads =
+    let none : length here.place.left - length left ≡ 0 = omega (arith, ap (length {A = ℕ}) reads) in
+    rw (none, append-nil here.done) going
+run_stays {V} {F} law some old here (v ∷ values) left fits going (next, (read, reads)) =
+    let bytes = going_bytes old here fits going in
+    let one = step law (place true here.place.left) v (place true next) bytes read in
+    let sizes : length here.place.left ≡ length one.prefix + length next = ap (length {A = ℕ}) one.parts ∙ length-append one.prefix next in
+    let count = length here.place.left - length next in
+    let passed = without_value F here v (stayed count here) (kept_is law here v (place true next) bytes read refl) in
+    let more = goes_on law some old here (stayed count here) fits going (omega (arith, sizes, takes_some F.Encodes some one.prefix v one.encodes)) passed in
+    let left_is : drop count here.place.left ≡ next = ap (drop count) one.parts ∙ drop_at one.prefix next count (omega (arith, sizes)) in
+    let again = run_stays law some old (stayed count here) values left fits more.going (rw left_is reads) in
+    let shorter = reads_shorter law values next left (subst IsBytes left_is (going_bytes old (stayed count here) fits more.going)) reads in
+    let rest : length (drop count here.place.left) - length left ≡ length next - length left = ap (λ (t : List ℕ). length t - length left) left_is in
+    let all : count + (length next - length left) ≡ length here.place.left - length left = omega (arith, sizes, shorter) in
+    subst (Going F old) (ap (λ (m : ℕ). stayed m (stayed count here)) rest ∙ stayed_on count (length next - length left) here ∙ ap (λ (m : ℕ). stayed m here) all) again
+
+-- a run of items is passed
+pub run_passed : {V : Type 0} {F : Format V} → IsLawful F → TakesBytes F.Encodes → (old here next : Rewriting) (bytes : List ℕ) (run : ℕ) → IsBytes old.place.left → Going F old here → bytes ≡ here.place.left → BeginsShort F bytes run → next ≡ stayed run here → Going F old next
+run_passed {V} {F} law some old here next bytes run fits going is begins next-is = by (subst (λ (l : List ℕ). BeginsShort F l run) is begins) where
+  by : BeginsShort F here.place.left run → Going F old next
+  by b =
+      let n : length here.place.left - length (drop run here.place.left) ≡ run = omega (arith, length-drop run here.place.left, b.within) in
+      rw next-is (rw n at (run_stays law some old here b.values (drop run here.place.left) fits going b.reads))
+
 pub all_gone : {V : Type 0} (F : Format V) (old here : Rewriting) → Going F old here → here.place.left ≡ [] → after_at (to_end F) old ≡ Some here
 all_gone F old here w none =
     after_is (to_end F) old here w.values (sym w.so_far ∙ until_all F.at (length old.place.left - length w.values) here.place w.values none) w.written w.rest
 
 -- one isn't whole
-pub stops : {V : Type 0} {F : Format V} → IsLawful F → (old here : Rewriting) (fault : Fault) (left : ℕ) → IsBytes old.place.left → Going F old here → 0 < length here.place.left → left ≡ length here.place.left → Goes F here (Err fault) → RewritesAll F old (Err left)
-stops r old here faults.Memory left fits w more len none = absurd none
-stops {V} {F} r old here faults.Malformed left fits w more len none =
+pub stops : {V : Type 0} {F : Format V} → IsLawful F → (old here new next : Rewriting) (fault : Fault) (left : ℕ) → IsBytes old.place.left → Going F old here → 0 < length here.place.left → left ≡ length here.place.left → Rewrites F here new (Err fault) → RewritesAll F old next (Err left)
+stops r old here new next faults.Memory left fits w more len none = absurd none
+stops {V} {F} r old here new next faults.Malformed left fits w more len none =
     let bytes = progress_bytes old.place.left here.place.left fits w.progress in (
       record { values = w.values; prefix = w.progress.prefix; rest = here.place.left; parts = w.progress.parts; encodes = w.progress.encodes; none = plain_none r here.place bytes none; len = sym len; some = omega (arith, len) },
       sym w.so_far ∙ until_none F.at (length old.place.left - length w.values) here.place w.values more none,

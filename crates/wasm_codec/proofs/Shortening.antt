@@ -1,14 +1,17 @@
 -- Numbers that are read and left in their shortest encodings.
-use Rattle.std.proofs.Common.{◌≡◌, ℕ, ◌-◌, ◌≤◌, Bool, true, false, ◌&&◌, List, ◌++◌, length, take, drop, Option, Some, None, Err, refl, sym, ap, if◌then◌else◌, ◌∙◌, length-append, length-drop, arith}
+use Rattle.std.proofs.Common.{◌≡◌, ℕ, ◌+◌, ◌-◌, ◌≤◌, Bool, true, false, ◌&&◌, List, ◌++◌, length, take, drop, Option, Some, None, Err, [], ◌∷◌, ◌<◌, take_all, take-append-drop, drop-drop, refl, sym, ap, subst, if◌then◌else◌, ◌∙◌, length-append, length-drop, arith}
 use Rattle.std.proofs.Math.Bool.{and-true, and-false}
 use Rattle.std.proofs.lemmas.List.{take_at, drop_at}
 use Rattle.wasm_codec.specs.declared.reader.cursor.Fault.{Fault}
 use Rattle.wasm_codec.specs.declared.reader.cursor.Fault.TheVariants.{Malformed, Memory}
-use Rattle.wasm_codec.specs.Grammar.{IsBytes}
+use Rattle.wasm_codec.specs.Grammar.{Grammar, IsBytes, TakesBytes}
 use Rattle.wasm_codec.specs.Lawful.{IsLawful}
 use Rattle.wasm_codec.specs.Places.{Place, place, Reads, keeps}
 use Rattle.wasm_codec.specs.formats.Combinators.{Format}
-use Rattle.wasm_codec.specs.Rewriter.{Rewriting, rewriting, rewritten_at, Gives, Rewrites, after_at, BeginsShort, stayed, shortened, cut}
+use Rattle.wasm_codec.specs.Rewriter.{Rewriting, rewriting, rewritten_at, Gives, Rewrites, after_at, stayed, shortened, cut}
+use Rattle.wasm_codec.specs.Scanning.{Scans, Passes, ReadsShort, BeginsShort}
+use Rattle.wasm_codec.specs.declared.rewriter.scan.Scanned.{Scanned}
+use Rattle.wasm_codec.specs.declared.rewriter.scan.Scanned.TheVariants as scanned
 use Rattle.wasm_codec.proofs.FormatLaws.{not_longer}
 use Rattle.wasm_codec.proofs.Laws.{bind_some, some_is}
 use Rattle.wasm_codec.proofs.NumberLaws.{IsCut}
@@ -99,10 +102,56 @@ pub nothing_rewritten : {V : Type 0} {F : Format V} → IsLawful F → (p new : 
 nothing_rewritten {V} {F} r p new here q Memory fits here-is e none = absurd cc
 nothing_rewritten {V} {F} r p new here q Malformed fits here-is e none = none_there r p.place.left true p.place.shortest fits (ap F.at (sym here-is) ∙ none)
 
--- bytes that are seen to be a shortest encoding stay
-pub stays_short : {V : Type 0} {F : Format V} → IsLawful F → (p : Rewriting) → IsBytes p.place.left → (count : ℕ) → BeginsShort F p.place.left (Some count) → after_at F p ≡ Some (stayed count p)
-stays_short {V} {F} r p fits count (le, x) =
-    let l = p.place.left in
-    let k : length l - length (drop count l) ≡ count = omega (arith, length-drop count l) in
-    let whole = kept_is r p x.0 (place true (drop count l)) fits x.1 refl in
-    without_value F p x.0 (stayed count p) (rw k at whole)
+-- an item that was scanned is left in its shortest encoding
+pub scanned_passes : {V : Type 0} {F : Format V} → IsLawful F → (p q : Rewriting) (left : List ℕ) → left ≡ p.place.left → IsBytes p.place.left → (s : Scanned) → Scans F left (Some s) → Passes s p q → after_at F p ≡ Some q
+scanned_passes {V} {F} r p q left is fits s seen = by s (subst (λ (l : List ℕ). Scans F l (Some s)) is seen) where
+  by : (s : Scanned) → Scans F p.place.left (Some s) → Passes s p q → after_at F p ≡ Some q
+  by (scanned.Shortest count) (le, x) passed =
+      let k : length p.place.left - length (drop count p.place.left) ≡ count = omega (arith, length-drop count p.place.left) in
+      let whole = kept_is r p x.0 (place true (drop count p.place.left)) fits x.1 refl in
+      rw passed (without_value F p x.0 (stayed count p) (rw k at whole))
+  by (scanned.Padded signed start more) (le, told) (kept, (k, passed)) =
+      let count = start + more + 1 in
+      let x = told kept k in
+      let one = step r (place true p.place.left) x.value (place false (drop count p.place.left)) fits x.read in
+      let flag : keeps p.place.shortest one.prefix (F.bytes x.value) ≡ false = ap (λ (t : Bool). p.place.shortest && t) (sym one.tells) ∙ and-false p.place.shortest in
+      let read : F.at p.place ≡ Some (x.value, place false (drop count p.place.left)) = ap (λ (k : List ℕ). F.at (place p.place.shortest k)) one.parts ∙ r.reads.complete one.prefix x.value (drop count p.place.left) p.place.shortest one.encodes ∙ ap (λ (t : Bool). Some (x.value, place t (drop count p.place.left))) flag in
+      rw passed (without_value F p x.value (shortened (start + kept) count p) (rw (read, x.shortest) refl))
+
+-- ---- runs of items
+
+pub bytes_after : (prefix bytes : List ℕ) → IsBytes (prefix ++ bytes) → IsBytes bytes
+bytes_after [] bytes fits = fits
+bytes_after (b ∷ prefix) bytes fits = bytes_after prefix bytes fits.1
+
+reads_more : {V : Type 0} (F : Format V) (values : List V) (bytes mid left : List ℕ) (v : V) → ReadsShort F values bytes mid → F.at (place true mid) ≡ Some (v, place true left) → ReadsShort F (values ++ v ∷ []) bytes left
+reads_more F [] bytes mid left v reads read = (left, (ap (λ (l : List ℕ). F.at (place true l)) reads ∙ read, refl))
+reads_more F (w ∷ values) bytes mid left v (next, (first, reads)) read = (next, (first, reads_more F values next mid left v reads read))
+
+pub no_run : {V : Type 0} (F : Format V) (bytes : List ℕ) → BeginsShort F bytes 0
+no_run F bytes = record { values = []; within = omega arith; reads = refl }
+
+pub takes_some : {V : Type 0} (G : Grammar V) → TakesBytes G → (prefix : List ℕ) (v : V) → G prefix v → 0 < length prefix
+takes_some G some [] v g = absurd (some v g)
+takes_some G some (b ∷ prefix) v g = omega arith
+
+-- one item more
+pub record LongerRun {V : Type 0} (F : Format V) (bytes : List ℕ) (run count : ℕ) : Type 0 where
+  pub begins : BeginsShort F bytes (run + count)
+  pub more : 0 < count
+
+pub longer_run : {V : Type 0} {F : Format V} → IsLawful F → TakesBytes F.Encodes → (bytes : List ℕ) (run count : ℕ) → IsBytes bytes → BeginsShort F bytes run → Scans F (take (length bytes - run) (drop run bytes)) (Some (scanned.Shortest count)) → LongerRun F bytes run count
+longer_run {V} {F} law some bytes run count fits b seen =
+    let here = drop run bytes in
+    let all : take (length bytes - run) here ≡ here = take_all (length bytes - run) here (omega (arith, length-drop run bytes)) in
+    let s : Scans F here (Some (scanned.Shortest count)) = subst (λ (l : List ℕ). Scans F l (Some (scanned.Shortest count))) all seen in
+    let one = step law (place true here) s.1.0 (place true (drop count here)) (bytes_after (take run bytes) here (subst IsBytes (sym (take-append-drop run bytes)) fits)) s.1.1 in
+    let left : drop count here ≡ drop (run + count) bytes = drop-drop count run bytes in
+    record {
+      begins = record {
+        values = b.values ++ s.1.0 ∷ [];
+        within = omega (arith, s.0, b.within, length-drop run bytes);
+        reads = reads_more F b.values bytes here (drop (run + count) bytes) s.1.0 b.reads (s.1.1 ∙ ap (λ (l : List ℕ). Some (s.1.0, place true l)) left);
+      };
+      more = omega (arith, takes_some F.Encodes some one.prefix s.1.0 one.encodes, ap (length {A = ℕ}) one.parts, length-append one.prefix (drop count here), length-drop count here);
+    }

@@ -199,26 +199,22 @@ length_all bytes written from position end s gap run fits r is = ap (λ (q : Rew
 
 -- ---- a size is written before what it counts
 
-pub record SizeWritten (old new digits : List ℕ) (start size begin end : ℕ) : Type 0 where
-  pub done : take (start + size + (end - begin)) new ≡ take start old ++ (digits ++ take (end - begin) (drop begin old))
+pub record SizeWritten (old new digits : List ℕ) (start begin end to : ℕ) : Type 0 where
+  pub done : take to new ≡ take start old ++ (digits ++ take (end - begin) (drop begin old))
   pub left : drop end new ≡ drop end old
 
-pub size_written : (old over new digits : List ℕ) (start size begin end : ℕ) → size ≡ length digits → start + size ≤ begin → begin ≤ end → end ≤ length old → over ≡ take start old ++ (digits ++ drop (start + size) old)
-    → new ≡ paste over (start + size) (drop begin over) (end - begin) → SizeWritten old new digits start size begin end
-size_written old over new digits start size begin end size-is le order fits over-is new-is =
+pub size_written : (old over new digits : List ℕ) (start size begin end to : ℕ) → size ≡ length digits → start + size ≤ begin → begin ≤ end → end ≤ length old → over ≡ take start old ++ (digits ++ drop (start + size) old)
+    → take to new ≡ done_of over (start + size) begin end → drop end new ≡ drop end over → SizeWritten old new digits start begin end to
+size_written old over new digits start size begin end to size-is le order fits over-is done left =
     let front = take start old ++ digits in
     let whole : over ≡ front ++ drop (start + size) old = over-is ∙ sym (append_assoc (take start old) digits (drop (start + size) old)) in
     let front-long : length front ≡ start + size = omega (arith, length-append (take start old) digits, length-take-le start old (omega arith), size-is) in
     let first : take (start + size) over ≡ front = ap (take (start + size)) whole ∙ take_at front (drop (start + size) old) (start + size) front-long in
     let behind : drop (start + size) over ≡ drop (start + size) old = ap (drop (start + size)) whole ∙ drop_at front (drop (start + size) old) (start + size) front-long in
     let on : drop begin over ≡ drop begin old = later over old (start + size) begin le behind in
-    let long : length over ≡ length old = omega (arith, ap (length {A = ℕ}) whole, length-append front (drop (start + size) old), length-drop (start + size) old, front-long) in
-    let some : end - begin ≤ length (drop begin over) = omega (arith, length-drop begin over, long) in
-    let within : start + size ≤ length over = omega arith in
     record {
-      done = ap (take (start + size + (end - begin))) new-is ∙ take-paste over (start + size) (drop begin over) (end - begin) within some
-          ∙ rw (first, on) (append_assoc (take start old) digits (take (end - begin) (drop begin old)));
-      left = ap (drop end) new-is ∙ later (paste over (start + size) (drop begin over) (end - begin)) over (start + size + (end - begin)) end (omega arith) (drop-paste over (start + size) (drop begin over) (end - begin) within some) ∙ later over old (start + size) end (omega arith) behind;
+      done = done ∙ rw (first, on) (append_assoc (take start old) digits (take (end - begin) (drop begin old)));
+      left = left ∙ later over old (start + size) end (omega arith) behind;
     }
 
 -- ---- bytes that are where they are to be

@@ -17,6 +17,12 @@ IsOrMemory view v (Ok x) = view x ≡ v
 IsOrMemory view v (Err errors.Memory) = Unit {0}
 IsOrMemory view v (Err (errors.Refused at)) = ⊥
 
+-- the answer isn't that memory ran out
+abbrev pub NeedsNoMemory : {X : Type 0} → Result X ReadError → Type 0
+NeedsNoMemory (Ok x) = Unit {0}
+NeedsNoMemory (Err errors.Memory) = ⊥
+NeedsNoMemory (Err (errors.Refused at)) = Unit {0}
+
 -- this holds of the place where it refused, if it did
 abbrev pub HoldsAtRefusal : ReadError → (ℕ → Type 0) → Type 0
 HoldsAtRefusal errors.Memory P = Unit {0}

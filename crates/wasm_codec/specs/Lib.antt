@@ -9,3 +9,4 @@ pub mod ReadDigits
 pub mod formats
 pub mod Lawful
 pub mod Rewriter
+pub mod Scanning

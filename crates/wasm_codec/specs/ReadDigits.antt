@@ -1,6 +1,5 @@
 -- What the code keeps of digits that it read.
-use Rattle.std.specs.Prelude.{◌≡◌, ℕ, ◌+◌, ◌*◌, ◌%◌, ◌<◌, ◌≤◌, ◌^◌, ◌⊎◌, Bool, false, ◌||◌, ◌==◌, nat_lt, nat_le, if◌then◌else◌, List, [], ◌∷◌, ◌++◌, length, drop, Option, Some, None, Result, Ok, Err}
-use Rattle.std.specs.List.{AllByRecursion}
+use Rattle.std.specs.Prelude.{◌≡◌, ℕ, ◌*◌, ◌<◌, ◌≤◌, ◌^◌, Bool, ◌||◌, ◌==◌, nat_le, List, ◌∷◌, length, Option, Some, None, Result, Ok, Err}
 use Rattle.wasm_codec.specs.declared.reader.cursor.Fault.{Fault}
 use Rattle.wasm_codec.specs.declared.reader.cursor.Fault.TheVariants as faults
 use Rattle.wasm_codec.specs.Numbers.{digits_at, unsigned, last}
@@ -40,32 +39,3 @@ ReadsOne old new None = new ≡ old
 -- no fewer digits would do: the last stands for a number below top, and unit is 128 to their number
 abbrev pub fewest : ℕ → ℕ → ℕ → Bool
 fewest top unit value = unit == 128 || nat_le (top * unit) (value * 16384)
-
--- ---- digits that are looked at
-
--- digits after which others come
-abbrev pub AreMore : List ℕ → Type 0
-AreMore = AllByRecursion (λ b. (128 ≤ b) × (b < 256))
-
--- the bytes begin with digits, so many
-pub record Begun (most : ℕ) (bytes : List ℕ) (count : ℕ) : Type 0 where
-  pub front : List ℕ
-  pub end : ℕ
-  pub parts : bytes ≡ (front ++ end ∷ []) ++ drop count bytes
-  pub more : AreMore front
-  pub small : end < 128
-  pub len : count ≡ length front + 1
-  pub few : count ≤ most
-
--- a last digit says no more than the sign of the one before it
-abbrev pub repeats_sign : ℕ → ℕ → Bool
-repeats_sign before last = if nat_lt (before % 128) 64 then last == 0 else last == 127
-
--- The bytes begin with so many digits, as few as there can be of the number; or that isn't seen.
-abbrev pub BeginsUnsigned : ℕ → List ℕ → Option ℕ → Type 0
-BeginsUnsigned most bytes None = Unit {0}
-BeginsUnsigned most bytes (Some count) = (d : Begun most bytes count) × ((d.front ≡ []) ⊎ (0 < d.end))
-
-abbrev pub BeginsSigned : ℕ → List ℕ → Option ℕ → Type 0
-BeginsSigned most bytes None = Unit {0}
-BeginsSigned most bytes (Some count) = (d : Begun most bytes count) × ((d.front ≡ []) ⊎ (repeats_sign (last d.front) d.end ≡ false))

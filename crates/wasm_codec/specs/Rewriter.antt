@@ -1,5 +1,5 @@
 -- Rewriting in place: what has been read is written in its shortest encoding, in front of what is left.
-use Rattle.std.specs.Prelude.{◌≡◌, ℕ, zero, suc, ◌+◌, ◌<◌, ◌≤◌, ◌%◌, ◌-◌, Bool, true, false, List, [], ◌∷◌, ◌++◌, length, take, drop, set, Option, Some, None, Result, Ok, Err}
+use Rattle.std.specs.Prelude.{◌≡◌, ℕ, zero, suc, ◌+◌, ◌<◌, ◌%◌, ◌-◌, Bool, false, List, [], ◌∷◌, ◌++◌, length, take, drop, set, Option, Some, None, Result, Ok, Err}
 use Rattle.wasm_codec.specs.declared.reader.cursor.Fault.{Fault}
 use Rattle.wasm_codec.specs.declared.reader.cursor.Fault.TheVariants as faults
 use Rattle.wasm_codec.specs.Reading.{◌>>=◌}
@@ -107,12 +107,6 @@ OpensBody old new (Err faults.Memory) = ⊥
 
 -- ---- loops
 
--- What the code read and wrote, where it is given the rewriter and gives it back.
-abbrev pub Goes : {V : Type 0} → Format V → Rewriting → Result Rewriting Fault → Type 0
-Goes F old (Ok new) = after_at F old ≡ Some new
-Goes F old (Err faults.Malformed) = F.at old.place ≡ None
-Goes F old (Err faults.Memory) = ⊥
-
 -- So many bytes are left from the first item on that isn't whole; those before it are.
 pub record StopsAt {V : Type 0} (F : Format V) (bytes : List ℕ) (left : ℕ) : Type 0 where
   pub values : List V
@@ -125,9 +119,9 @@ pub record StopsAt {V : Type 0} (F : Format V) (bytes : List ℕ) (left : ℕ) :
   pub some : 0 < left
 
 -- All items to the end were rewritten, or it tells how many bytes are left from the one on that isn't whole.
-abbrev pub RewritesAll : {V : Type 0} → Format V → Rewriting → Result Rewriting ℕ → Type 0
-RewritesAll F old (Ok new) = (after_at (to_end F) old ≡ Some new) × (new.place.left ≡ [])
-RewritesAll F old (Err left) = StopsAt F old.place.left left × ((to_end F).at old.place ≡ None)
+abbrev pub RewritesAll : {V : Type 0} → Format V → Rewriting → Rewriting → Result (Unit {0}) ℕ → Type 0
+RewritesAll F old new (Ok done) = (after_at (to_end F) old ≡ Some new) × (new.place.left ≡ [])
+RewritesAll F old new (Err left) = StopsAt F old.place.left left × ((to_end F).at old.place ≡ None)
 
 -- The bytes encode no list, and this is the length of their longest whole prefix.
 pub record RefusesList {V : Type 0} (F : Format V) (bytes : List ℕ) (at : ℕ) : Type 0 where
@@ -138,10 +132,3 @@ pub record RefusesList {V : Type 0} (F : Format V) (bytes : List ℕ) (at : ℕ)
 abbrev pub RewritesList : {V : Type 0} → Format V → List ℕ → Result (Vec ℕ) ℕ → Type 0
 RewritesList F bytes (Ok given) = IsNormalForm (EncodesList F.Encodes) (items_bytes F.bytes) bytes given.items
 RewritesList F bytes (Err at) = RefusesList F bytes at
-
--- ---- what is seen at once
-
--- The bytes begin with so many bytes that are the shortest encoding of a value; or that isn't seen.
-abbrev pub BeginsShort : {V : Type 0} → Format V → List ℕ → Option ℕ → Type 0
-BeginsShort F bytes None = Unit {0}
-BeginsShort {V} F bytes (Some count) = (count ≤ length bytes) × ((v : V) × (F.at (place true bytes) ≡ Some (v, place true (drop count bytes))))

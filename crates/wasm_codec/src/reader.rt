@@ -40,13 +40,3 @@ impl<T: Drop> From<AllocFailed<T>> for ReadError {
         ReadError::Memory
     }
 }
-
-/// What a reader answers to a fault in what begins at this place.
-pub fn read_error(fault: Fault, at: usize) -> ReadError
-    ensures { result ≡ answer_to fault at }
-{
-    match fault {
-        Fault::Memory => ReadError::Memory,
-        Fault::Malformed => ReadError::Refused { at },
-    }
-}

@@ -7,13 +7,13 @@ ghost use Rattle.wasm_codec.specs.Numbers.{digits_of, unsigned_leb128, signed_le
 ghost use Rattle.wasm_codec.specs.formats.Bodies.{bytes_to_end};
 ghost use Rattle.wasm_codec.specs.formats.Combinators.{a_byte, raw, little_endian, u32 as u32_format, u64 as u64_format, s32 as s32_format, s64 as s64_format, index as index_format};
 ghost use Rattle.wasm_codec.specs.declared.reader.cursor.Fault.TheVariants.{Malformed};
+ghost use Rattle.wasm_codec.specs.Scanning.{IsWithin, Passes};
 ghost use Rattle.wasm_codec.specs.Rewriter.{after_at, Gives, Rewrites, OpensBody, without, with_byte, narrowed, widened, resized, rewriting, stayed, shortened, done_of};
 
 use std::marker::Model;
-use std::mem;
 
 mod loops;
-mod short;
+mod scan;
 
 use crate::encode::leb128::u32_len;
 use crate::encode::write_u32;
@@ -22,7 +22,8 @@ pub use loops::{
     Joinable, Rewritable, RewritableBody, normalise_joined, normalise_list_to_end, rewrite_joined,
     rewrite_list, rewrite_sized, rewrite_to_end,
 };
-pub use short::{short_s32, short_s64, short_u32, short_u64};
+use scan::kept_digits;
+pub use scan::{Scanned, scan_s32, scan_s64, scan_u32, scan_u64};
 
 /// Where a body is that is rewritten.
 #[derive(Clone, Copy)]
@@ -93,14 +94,6 @@ impl Rewriter {
         bytes
     }
 
-    /// The same rewriter as a value of its own. One without bytes stays here.
-    pub fn take(&mut self) -> Rewriter
-        ensures { result ≡ self.old }
-    {
-        let empty = Rewriter::new(Vec::new(*self.bytes.allocator()));
-        mem::replace(self, empty)
-    }
-
     /// How many bytes are left up to the end.
     #[inline(always)]
     pub fn len(&self) -> usize
@@ -143,7 +136,27 @@ impl Rewriter {
         self.position += count;
     }
 
+    /// Passes an item that was scanned, and leaves it in its shortest encoding.
+    #[inline(always)]
+    pub fn pass(&mut self, scanned: Scanned)
+        requires { IsWithin scanned (length self.old.place.left) }
+        ensures { Passes scanned self.old self.new }
+    {
+        match scanned {
+            Scanned::Shortest(count) => self.stay(count),
+            Scanned::Padded {
+                signed,
+                start,
+                more,
+            } => {
+                let kept = kept_digits(&self.left()[start..], signed, more);
+                self.shorten(start + kept, start + more + 1);
+            }
+        }
+    }
+
     /// Shortens what comes next to its first bytes, the last of them without its high bit.
+    #[inline(always)]
     fn shorten(&mut self, kept: usize, count: usize)
         requires some { 0 < kept }
         requires shorter { kept ≤ count }
@@ -387,6 +400,7 @@ impl Rewriter {
 }
 
 /// Moves the run to the end of what was written, and answers where it ends then.
+#[inline(always)]
 fn move_run(bytes: &mut Vec<u8>, written: usize, from: usize, position: usize) -> usize
     requires gap { written ≤ from }
     requires run { from ≤ position }
@@ -396,23 +410,32 @@ fn move_run(bytes: &mut Vec<u8>, written: usize, from: usize, position: usize) -
     ensures left { drop position bytes.new.items ≡ drop position bytes.old.items }
     ensures len { vec_len bytes.new ≡ vec_len bytes.old }
 {
-    move_down(bytes, from, position, written);
+    move_down(bytes.as_mut_slice(), from, position, written);
     written + (position - from)
 }
 
 /// Moves the bytes from `start` up to `end` down to `dest`, where they aren't there already.
-#[inline(always)]
+#[cold]
+#[inline(never)]
 #[tactic(auto, using(crate::proofs::Windows::already_there))]
-fn move_down(bytes: &mut Vec<u8>, start: usize, end: usize, dest: usize)
+fn move_down(bytes: &mut [u8], start: usize, end: usize, dest: usize)
     requires down { dest ≤ start }
     requires order { start ≤ end }
-    requires within { end ≤ vec_len bytes.old }
-    ensures items { bytes.new.items ≡ paste bytes.old.items dest (drop start bytes.old.items) (end - start) }
-    ensures len { vec_len bytes.new ≡ vec_len bytes.old }
+    requires within { end ≤ length bytes.old }
+    ensures items { bytes.new ≡ paste bytes.old dest (drop start bytes.old) (end - start) }
+    ensures len { length bytes.new ≡ length bytes.old }
 {
     if dest < start {
         bytes.copy_within(start..end, dest);
     }
+}
+
+/// A slice of `u8` has bytes. The call does nothing.
+#[inline(always)]
+fn are_bytes(bytes: &[u8])
+    ensures { IsBytes bytes.now }
+{
+    let _place = place_of(bytes);
 }
 
 /// The place at the beginning of bytes.
@@ -492,8 +515,7 @@ fn write_size(bytes: &mut Vec<u8>, start: usize, begin: usize, end: usize) -> us
     ensures len { vec_len bytes.new ≡ vec_len bytes.old }
 {
     let digits = start + overwrite(bytes, start, (end - begin) as u32);
-    move_down(bytes, begin, end, digits);
-    digits + (end - begin)
+    move_run(bytes, digits, begin, end)
 }
 
 /// Writes the shortest encoding of a number over the bytes at a place, and answers how many bytes it has.

@@ -22,7 +22,7 @@ made_kind k read make o q e each =
     sym (ap (λ (r : Operands × Place). kind_of r.0) (some_is (make x.0) (o, q) x.2)) ∙ each x.0
 
 -- what is read as operands of a kind is of the kind
-of_kind : (k : Kind) (p : Place) (o : Operands) (q : Place) → (operands_format k).at p ≡ Some (o, q) → kind_of o ≡ k
+pub of_kind : (k : Kind) (p : Place) (o : Operands) (q : Place) → (operands_format k).at p ≡ Some (o, q) → kind_of o ≡ k
 unfolding operands_format
 of_kind kinds.None p o q e = sym (ap (λ (r : Operands × Place). kind_of r.0) (some_is (operands.None, p) (o, q) e))
 of_kind k p o q e = made_kind k _ _ o q e (λ a. refl)

@@ -3,4 +3,4 @@ pub mod OperandFormatLaws
 pub mod InstructionFormatLaws
 pub mod CallRewriting
 pub mod OperandRewriting
-pub mod ShortCalls
+pub mod ScannedCalls

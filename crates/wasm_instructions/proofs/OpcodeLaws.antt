@@ -34,7 +34,7 @@ pub no_place : (places : List (Option Kind)) (rs : List Range) (number : ℕ) �
 no_place places rs number h le = sym (past_end rs (length places) number h.end le)
 
 -- an opcode's number is below the end of its table
-in_table : (rs : List Range) (end number : ℕ) (k : Kind) → IsTrue (end_below rs end) → kind_among rs number ≡ Some k → number < end
+pub in_table : (rs : List Range) (end number : ℕ) (k : Kind) → IsTrue (end_below rs end) → kind_among rs number ≡ Some k → number < end
 in_table rs end number k h e = elim (cases_lt number end) [
   | inl lt ↦ lt
   | inr le ↦ let none = past_end rs end number h le in absurd cc

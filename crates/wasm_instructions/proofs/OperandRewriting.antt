@@ -48,7 +48,7 @@ no_high_half old mid end new faults.Malformed first none =
 
 -- ---- memory arguments that name memory 0
 
-one_digit : (n : ℕ) → n < 128 → unsigned_leb128 n ≡ n ∷ []
+pub one_digit : (n : ℕ) → n < 128 → unsigned_leb128 n ≡ n ∷ []
 unfolding unsigned_leb128 digits_of
 one_digit n lt = rw (lt-ltb n 128 lt) refl
 

@@ -1,21 +1,21 @@
 //! The normaliser of lists of instructions (Core 3.0, Instructions).
 ghost use Rattle.std.specs.Prelude.{◌≡◌, ◌↔◌, ◌<◌, ◌≤◌, List, length, IfOk};
-ghost use Rattle.wasm_codec.specs.Answers.{IsOrMemory, IfRefused, IsLongestPrefix, EncodesSome, IsNormalForm};
+ghost use Rattle.wasm_codec.specs.Answers.{IsOrMemory, NeedsNoMemory, IfRefused, IsLongestPrefix, EncodesSome, IsNormalForm};
 ghost use Rattle.wasm_codec.specs.Encoding.{IsShortestOrLonger};
 ghost use Rattle.wasm_instructions.specs.Instructions.{Instruction};
 ghost use Rattle.wasm_instructions.specs.formats.Instructions.{Instructions, ShortestInstructions, opcode, instruction, instructions_bytes};
 ghost use Rattle.wasm_codec.specs.Rewriter.{Gives, Rewrites};
 
 mod operands;
-mod short;
+mod scan;
 
 use crate::table::{Call, Opcode};
 use operands::rewrite_operands;
-use short::{short_call, short_call_near_end};
+use scan::scan_call;
 use std::alloc::Global;
 use wasm_codec::reader::ReadError;
 use wasm_codec::reader::cursor::Fault;
-use wasm_codec::rewriter::{Joinable, Rewritable, Rewriter, normalise_joined};
+use wasm_codec::rewriter::{Joinable, Rewritable, Rewriter, Scanned, normalise_joined};
 
 /// The shortest encoding of the instructions that the bytes encode.
 ///
@@ -65,6 +65,8 @@ pub fn rewrite_instructions(bytes: Vec<u8>) -> Result<Vec<u8>, ReadError>
     ensures prefix { IfRefused result (IsLongestPrefix (EncodesSome Instructions) bytes.items) }
     // It is less than the number of the bytes.
     ensures within { IfRefused result (λ at. at < length bytes.items) }
+    // `Memory` is never answered.
+    ensures memory { NeedsNoMemory result }
 {
     normalise_joined::<Call>(bytes)
 }
@@ -88,26 +90,22 @@ impl Rewritable for Call {
     fn is_lawful() {}
 
     fn rewrite(rewriter: &mut Rewriter) -> Result<(), Fault> {
+        rewriter.are_bytes();
+        // Where there are as many bytes, the compiler leaves out each later test that there are enough.
+        if rewriter.len() >= 16 {
+            if let Some(scanned) = scan_call(rewriter.left()) {
+                rewriter.pass(scanned);
+                return Ok(());
+            }
+        }
         rewrite_call(rewriter)
     }
 }
 
 impl Joinable for Call {
     #[inline(always)]
-    fn short(bytes: &[u8]) -> Option<usize> {
-        // Where there are as many, the compiler leaves out each later test that there are enough.
-        if bytes.len() >= 16 {
-            short_call(bytes)
-        } else {
-            short_call_near_end(bytes)
-        }
-    }
-
-    #[inline(never)]
-    fn rewrite_next(rewriter: Rewriter) -> Result<Rewriter, Fault> {
-        let mut rewriter = rewriter;
-        rewrite_call(&mut rewriter)?;
-        Ok(rewriter)
+    fn scan(bytes: &[u8]) -> Option<Scanned> {
+        scan_call(bytes)
     }
 }
 

@@ -7,7 +7,7 @@ use Rattle.wasm_codec.proofs.FormatLaws.{not_longer}
 use Rattle.wasm_modules.specs.Sections.{header, Content, DecodedSection, decoded_section_of}
 use Rattle.wasm_modules.specs.Modules.{IsSection}
 use Rattle.wasm_modules.specs.DecodedModules.{CanHold, IsDecodedSection, framed}
-use Rattle.wasm_modules.specs.formats.Modules.{held_by, raw_section, raw_module, decoded_section, decoded_module, HoldsContent}
+use Rattle.wasm_modules.specs.formats.Modules.{raw_section, raw_module, decoded_section, decoded_module, HoldsContent}
 use Rattle.wasm_modules.proofs.ModuleFormatLaws.{Lawful-held, Lawful-decoded-module}
 
 -- what is given is no longer than the bytes

@@ -1,7 +1,7 @@
 //! The normaliser of modules (Core 3.0, Modules): a decoded module is one whose type sections are read as entries, and
 //! whose code sections as code bodies.
 ghost use Rattle.std.specs.Prelude.{◌≡◌, ◌↔◌, ◌≤◌, List, length, IfOk};
-ghost use Rattle.wasm_codec.specs.Answers.{IsOrMemory, IfRefused, IsLongestPrefix, IsNormalForm, EncodesSome};
+ghost use Rattle.wasm_codec.specs.Answers.{NeedsNoMemory, IsOrMemory, IfRefused, IsLongestPrefix, IsNormalForm, EncodesSome};
 ghost use Rattle.wasm_codec.specs.formats.Bodies.{bytes_to_end};
 ghost use Rattle.wasm_codec.specs.formats.Combinators.{made, narrow};
 ghost use Rattle.wasm_codec.specs.Encoding.{IsShortestOrLonger};
@@ -18,7 +18,8 @@ use std::alloc::Global;
 use wasm_codec::reader::ReadError;
 use wasm_codec::reader::cursor::Fault;
 use wasm_codec::rewriter::{
-    Joinable, Rewritable, RewritableBody, Rewriter, rewrite_joined, rewrite_list, rewrite_sized,
+    Joinable, Rewritable, RewritableBody, Rewriter, Scanned, rewrite_joined, rewrite_list,
+    rewrite_sized,
 };
 use wasm_types::types::TypeEntry;
 
@@ -74,6 +75,8 @@ pub fn rewrite_module(bytes: Vec<u8>) -> Result<Vec<u8>, ReadError>
     // Only what encodes no decoded module is refused.
     ensures unencoded { IfRefused result (λ _.
         (sections : List DecodedSection) → decoded_module.Encodes bytes.items sections → ⊥) }
+    // `Memory` is never answered.
+    ensures memory { NeedsNoMemory result }
 {
     rewrite_sections(bytes)
 }
@@ -85,6 +88,7 @@ fn rewrite_sections(bytes: Vec<u8>) -> Result<Vec<u8>, ReadError>
     ensures prefix { IfRefused result (IsLongestPrefix IsDecodedModulePrefix bytes.items) }
     ensures unencoded { IfRefused result (λ _.
         (sections : List DecodedSection) → decoded_module.Encodes bytes.items sections → ⊥) }
+    ensures memory { NeedsNoMemory result }
 {
     Section::is_lawful();
     let len = bytes.len();
@@ -94,8 +98,8 @@ fn rewrite_sections(bytes: Vec<u8>) -> Result<Vec<u8>, ReadError>
     let mut rewriter = Rewriter::new(bytes);
     rewriter.stay(HEADER.len());
     rewriter.are_bytes();
-    match rewrite_joined::<Section>(rewriter) {
-        Ok(rewriter) => Ok(rewriter.finish()),
+    match rewrite_joined::<Section>(&mut rewriter) {
+        Ok(()) => Ok(rewriter.finish()),
         Err(left) => Err(ReadError::Refused { at: len - left }),
     }
 }
@@ -137,14 +141,8 @@ impl Rewritable for Section {
 
 impl Joinable for Section {
     #[inline(always)]
-    fn short(_bytes: &[u8]) -> Option<usize> {
+    fn scan(_bytes: &[u8]) -> Option<Scanned> {
         None
-    }
-
-    fn rewrite_next(rewriter: Rewriter) -> Result<Rewriter, Fault> {
-        let mut rewriter = rewriter;
-        Section::rewrite(&mut rewriter)?;
-        Ok(rewriter)
     }
 }
 

@@ -4,7 +4,7 @@ use Rattle.std.proofs.lemmas.List.{take_at, drop_at}
 use Rattle.std.specs.List.{flat_map}
 use Rattle.wasm_codec.specs.Numbers.{unsigned_leb128, digits_of}
 use Rattle.wasm_codec.specs.Places.{Place, place, byte_at, unless}
-use Rattle.wasm_codec.specs.Rewriter.{Rewriting, rewriting, rewritten_at, after_at, without}
+use Rattle.wasm_codec.specs.Rewriter.{Rewriting, rewritten_at, after_at, without}
 use Rattle.wasm_codec.specs.formats.Combinators.{a_byte, items, u32}
 use Rattle.wasm_codec.proofs.Laws.{some_is}
 use Rattle.wasm_codec.proofs.RewriterLaws.{is_given, is_after, after_is}

@@ -6,7 +6,8 @@ ghost use Rattle.wasm_codec.specs.Numbers.{turned, digits_of, unsigned_leb128, s
 use std::alloc::Allocator;
 
 /// The digit, or what is left of it to 127: the digits of -1 - n are those of n, each taken from 127.
-fn turned(turn: bool, digit: u8) -> u8
+#[inline(always)]
+pub(crate) fn turned(turn: bool, digit: u8) -> u8
     requires { digit < 128 }
     ensures value { result ≡ turned turn digit }
     ensures below { result < 128 }

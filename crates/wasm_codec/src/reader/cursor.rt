@@ -218,7 +218,7 @@ impl<'a> Cursor<'a> {
 
     /// A number of one byte, where one comes next.
     #[inline(always)]
-    pub fn one_digit(&mut self) -> Option<u8>
+    fn one_digit(&mut self) -> Option<u8>
         ensures { ReadsOne self.old self.new result }
     {
         if self.position == self.bytes.len() {

@@ -2,14 +2,15 @@
 ghost use Rattle.std.specs.Prelude.{◌≡◌, ◌<◌, List, ℕ, length, IfOk};
 ghost use Rattle.std.specs.List.{flat_map};
 ghost use Rattle.wasm_codec.specs.Grammar.{TakesBytes, Joined};
-ghost use Rattle.wasm_codec.specs.Answers.{IfRefused, IsLongestPrefix, IsNormalForm, EncodesSome};
+ghost use Rattle.wasm_codec.specs.Answers.{IfRefused, NeedsNoMemory, IsLongestPrefix, IsNormalForm, EncodesSome};
 ghost use Rattle.wasm_codec.specs.Lawful.{IsLawful, IsLawfulBody};
 ghost use Rattle.wasm_codec.specs.Lists.{EncodesList, items_bytes, IsListPrefix};
 ghost use Rattle.wasm_codec.specs.formats.Combinators.{Format, items, u32 as u32_format};
 ghost use Rattle.wasm_codec.specs.formats.Bodies.{sized, to_end};
-ghost use Rattle.wasm_codec.specs.Rewriter.{BeginsShort, Rewrites, RewritesAll, RewritesList, Goes};
+ghost use Rattle.wasm_codec.specs.Scanning.{BeginsShort, Scans};
+ghost use Rattle.wasm_codec.specs.Rewriter.{Rewrites, RewritesAll, RewritesList};
 
-use super::{Rewriter, short_u32};
+use super::{Rewriter, Scanned, are_bytes, scan_u32};
 use crate::reader::ReadError;
 use crate::reader::cursor::Fault;
 
@@ -33,14 +34,9 @@ pub trait Rewritable {
 
 /// What is rewritten one after another up to the end.
 pub trait Joinable: Rewritable {
-    /// How many bytes the item has that the bytes begin with, where it is seen at once to be in its shortest encoding.
-    fn short(bytes: &[u8]) -> Option<usize>
-        ensures short { BeginsShort Self.format bytes.now result };
-
-    /// The same as `rewrite`, with the rewriter as a value of its own, of which nobody else has the address: so the compiler
-    /// can keep the places in registers.
-    fn rewrite_next(rewriter: Rewriter) -> Result<Rewriter, Fault>
-        ensures rewrites { Goes Self.format rewriter result };
+    /// The item that the bytes begin with, where it is of those that are scanned.
+    fn scan(bytes: &[u8]) -> Option<Scanned>
+        ensures scans { Scans Self.format bytes.now result };
 }
 
 impl Rewritable for u32 {
@@ -54,8 +50,8 @@ impl Rewritable for u32 {
     #[inline(always)]
     fn rewrite(rewriter: &mut Rewriter) -> Result<(), Fault> {
         rewriter.are_bytes();
-        if let Some(count) = short_u32(rewriter.left()) {
-            rewriter.stay(count);
+        if let Some(scanned) = scan_u32(rewriter.left()) {
+            rewriter.pass(scanned);
             return Ok(());
         }
         rewriter.u32()?;
@@ -110,35 +106,59 @@ pub fn rewrite_sized<T: RewritableBody>(rewriter: &mut Rewriter) -> Result<(), F
 pub fn rewrite_to_end<T: Joinable>(rewriter: &mut Rewriter) -> Result<(), Fault>
     ensures rewrites { Rewrites (to_end T.format) rewriter.old rewriter.new result }
 {
-    match rewrite_joined::<T>(rewriter.take()) {
-        Ok(rewritten) => {
-            *rewriter = rewritten;
-            Ok(())
-        }
+    match rewrite_joined::<T>(rewriter) {
+        Ok(()) => Ok(()),
         Err(_) => Err(Fault::Malformed),
     }
 }
 
 /// Rewrites items one after another up to the end. Where one isn't whole, tells how many bytes are left from there on.
-#[inline(always)]
-pub fn rewrite_joined<T: Joinable>(rewriter: Rewriter) -> Result<Rewriter, usize>
-    ensures { RewritesAll T.format rewriter result }
+pub fn rewrite_joined<T: Joinable>(rewriter: &mut Rewriter) -> Result<(), usize>
+    ensures { RewritesAll T.format rewriter.old rewriter.new result }
 {
-    let mut rewriter = rewriter;
     T::is_lawful();
     rewriter.are_bytes();
     while rewriter.len() > 0 {
-        if let Some(count) = T::short(rewriter.left()) {
-            rewriter.stay(count);
+        let run = short_run::<T>(rewriter.left());
+        if run > 0 {
+            rewriter.stay(run);
         } else {
             let left = rewriter.len();
-            match T::rewrite_next(rewriter) {
-                Ok(next) => rewriter = next,
-                Err(_) => return Err(left),
+            if let Err(_) = T::rewrite(rewriter) {
+                return Err(left);
             }
         }
     }
-    Ok(rewriter)
+    Ok(())
+}
+
+/// How many bytes of a run of items the bytes begin with, each of which is seen to be in its shortest encoding.
+fn short_run<T: Joinable>(bytes: &[u8]) -> usize
+    ensures { BeginsShort T.format bytes.now result }
+{
+    // Where there are 16 bytes ahead, the compiler leaves out most tests that there are enough.
+    if bytes.len() >= 16 {
+        short_run_ahead::<T, 16>(bytes)
+    } else {
+        short_run_ahead::<T, 1>(bytes)
+    }
+}
+
+/// The same, as long as there are so many bytes ahead.
+#[inline(never)]
+fn short_run_ahead<T: Joinable, const AHEAD: usize>(bytes: &[u8]) -> usize
+    ensures { BeginsShort T.format bytes.now result }
+{
+    T::is_lawful();
+    are_bytes(bytes);
+    let mut run = 0;
+    while bytes.len() - run >= AHEAD {
+        let Some(Scanned::Shortest(count)) = T::scan(&bytes[run..]) else {
+            return run;
+        };
+        run += count;
+    }
+    run
 }
 
 /// The shortest encoding of the items that the bytes encode one after another, with no count, read to the end.
@@ -148,13 +168,14 @@ pub fn normalise_joined<T: Joinable>(bytes: Vec<u8>) -> Result<Vec<u8>, ReadErro
     ensures given { IfOk result (λ given. IsNormalForm (Joined T.format.Encodes) (flat_map T.format.bytes) bytes.items given.items) }
     ensures prefix { IfRefused result (IsLongestPrefix (EncodesSome (Joined T.format.Encodes)) bytes.items) }
     ensures within { IfRefused result (λ at. at < length bytes.items) }
+    ensures memory { NeedsNoMemory result }
 {
     T::is_lawful();
     let len = bytes.len();
-    let rewriter = Rewriter::new(bytes);
+    let mut rewriter = Rewriter::new(bytes);
     rewriter.are_bytes();
-    match rewrite_joined::<T>(rewriter) {
-        Ok(rewriter) => Ok(rewriter.finish()),
+    match rewrite_joined::<T>(&mut rewriter) {
+        Ok(()) => Ok(rewriter.finish()),
         Err(left) => Err(ReadError::Refused { at: len - left }),
     }
 }
@@ -167,6 +188,7 @@ pub fn normalise_list_to_end<T: Rewritable>(bytes: Vec<u8>) -> Result<Vec<u8>, R
     ensures given { IfOk result (λ given. IsNormalForm (EncodesList T.format.Encodes) (items_bytes T.format.bytes) bytes.items given.items) }
     ensures prefix { IfRefused result (IsLongestPrefix (IsListPrefix T.format.Encodes) bytes.items) }
     ensures unencoded { IfRefused result (λ _. (items : List T.Value) → EncodesList T.format.Encodes bytes.items items → ⊥) }
+    ensures memory { NeedsNoMemory result }
 {
     match rewrite_whole_list::<T>(bytes) {
         Ok(encoding) => Ok(encoding),

@@ -1,6 +1,6 @@
 //! The normaliser of bodies of type sections (Core 3.0, Type Section).
 ghost use Rattle.std.specs.Prelude.{◌≡◌, ◌↔◌, ◌≤◌, List, length, IfOk};
-ghost use Rattle.wasm_codec.specs.Answers.{IsOrMemory, IfRefused, IsLongestPrefix, IsNormalForm, EncodesSome};
+ghost use Rattle.wasm_codec.specs.Answers.{NeedsNoMemory, IsOrMemory, IfRefused, IsLongestPrefix, IsNormalForm, EncodesSome};
 ghost use Rattle.wasm_codec.specs.Encoding.{IsShortestOrLonger};
 ghost use Rattle.wasm_types.specs.formats.Types.{type_body, IsTypeBodyPrefix, ShortestTypeBody};
 ghost use Rattle.wasm_types.specs.declared.types.composite.TypeEntry.{TypeEntry};
@@ -60,6 +60,8 @@ pub fn rewrite_type_section(body: Vec<u8>) -> Result<Vec<u8>, ReadError>
     ensures prefix { IfRefused result (IsLongestPrefix IsTypeBodyPrefix body.items) }
     // Only what encodes no list is refused.
     ensures unencoded { IfRefused result (λ _. (entries : List TypeEntry) → type_body.Encodes body.items entries → ⊥) }
+    // `Memory` is never answered.
+    ensures memory { NeedsNoMemory result }
 {
     normalise_list_to_end::<TypeEntry>(body)
 }

@@ -1,5 +1,5 @@
-use Rattle.std.proofs.Common.{◌≡◌, ◌-◌, ◌++◌, ℕ, List, length, ap, ◌∙◌, subst, arith}
-use Rattle.wasm_codec.specs.Rewriter.{rewriting, stayed}
+use Rattle.std.proofs.Common.{◌≡◌, ◌-◌, ◌++◌, ℕ, length, ap, ◌∙◌, subst, arith}
+use Rattle.wasm_codec.specs.Rewriter.{stayed}
 use Rattle.wasm_modules.specs.Sections.{header}
 use Rattle.wasm_modules.specs.formats.Modules.{decoded_section}
 use Rattle.wasm_modules.proofs.HeaderLaws.{after_header_is, headed_normal, HeadedRefused, headed_refused}
@@ -11,7 +11,7 @@ returns-in-Ok-clause-given c =
     let body = c.in-Some._sections.now in
     let found : c.args.bytes.items ≡ header ++ body = rw (← c.deref.ensures.value) c.in-Some.ensures.found in
     let start = after_header_is c.args.bytes.items body c.stay.new.self found (c.stay.ensures ∙ ap (stayed 8) c.new-rewriter.ensures) in
-    rw c.finish.ensures (headed_normal law.lawful law.some c.args.bytes.items body c.stay.new.self c.in-Ok.rewriter found start c.are_bytes.ensures c.in-Ok.ensures.0 c.in-Ok.ensures.1)
+    rw c.finish.ensures (headed_normal law.lawful law.some c.args.bytes.items body c.stay.new.self c.rewrite_joined.new.rewriter found start c.are_bytes.ensures c.in-Ok.ensures.0 c.in-Ok.ensures.1)
 
 pub returns-in-Err-clause-prefix : goal.returns-in-Err-clause-prefix
 returns-in-Err-clause-prefix c =

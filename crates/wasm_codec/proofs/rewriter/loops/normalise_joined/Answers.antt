@@ -9,7 +9,7 @@ pub returns-in-Ok-clause-given : goal.returns-in-Ok-clause-given
 returns-in-Ok-clause-given g c =
     let law = c.is_lawful.ensures in
     let fits : IsBytes c.args.bytes.items = subst IsBytes (ap (λ (r : Rewriting). r.place.left) c.new-rewriter.ensures) c.are_bytes.ensures in
-    rw c.finish.ensures (joined_given law.lawful law.some c.new-rewriter.result c.in-Ok.rewriter c.args.bytes.items fits c.new-rewriter.ensures c.in-Ok.ensures.0 c.in-Ok.ensures.1)
+    rw c.finish.ensures (joined_given law.lawful law.some c.new-rewriter.result c.rewrite_joined.new.rewriter c.args.bytes.items fits c.new-rewriter.ensures c.in-Ok.ensures.0 c.in-Ok.ensures.1)
 
 pub returns-in-Err-clause-prefix : goal.returns-in-Err-clause-prefix
 returns-in-Err-clause-prefix g c =

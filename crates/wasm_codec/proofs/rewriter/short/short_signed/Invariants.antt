@@ -1,7 +1,0 @@
-use Rattle.std.proofs.Common.{◌≡◌, take}
-use Rattle.wasm_codec.specs.Numbers.{last}
-use Rattle.wasm_codec.specs.ReadDigits.{AreMore}
-use Rattle.wasm_codec.proofs.rewriter.short.short_signed.Given as goal
-
-abbrev pub invariant-loop-index : goal.invariant-loop-index
-invariant-loop-index l = AreMore (take l.index l.bytes) × (l.before ≡ last (take l.index l.bytes))

@@ -1,0 +1,84 @@
+//! Instructions that are scanned: where they end, and what of them their shortest encodings are, is seen without a value
+//! (Core 3.0, Instructions).
+ghost use Rattle.wasm_codec.specs.Scanning.{Scans};
+ghost use Rattle.wasm_codec.specs.formats.Combinators.{little_endian};
+ghost use Rattle.wasm_instructions.specs.formats.Instructions.{operands_format, instruction};
+ghost use Rattle.wasm_instructions.specs.formats.Operands.{block_type, mem_arg};
+
+use crate::table::{Kind, Opcode};
+use wasm_codec::rewriter::{Scanned, scan_s32, scan_s64, scan_u32, scan_u64};
+
+/// The instruction that the bytes begin with, where it is one of those that code has the most of.
+#[inline(always)]
+pub(super) fn scan_call(bytes: &[u8]) -> Option<Scanned>
+    ensures { Scans instruction bytes.now result }
+{
+    if bytes.len() == 0 {
+        return None;
+    }
+    let kind = Opcode::without_prefix(bytes[0]).kind()?;
+    let operands = scan_operands(kind, &bytes[1..])?;
+    Some(operands.behind_byte())
+}
+
+/// The operands of a kind that the bytes begin with.
+#[inline(always)]
+fn scan_operands(kind: Kind, bytes: &[u8]) -> Option<Scanned>
+    ensures { Scans (operands_format kind) bytes.now result }
+{
+    match kind {
+        Kind::None => Some(Scanned::Shortest(0)),
+        Kind::Block => scan_block_type(bytes),
+        Kind::Index => scan_u32(bytes),
+        Kind::Mem => scan_mem_arg(bytes),
+        Kind::I32 => scan_s32(bytes),
+        Kind::I64 => scan_s64(bytes),
+        Kind::F32 => scan_raw(bytes, 4),
+        Kind::F64 => scan_raw(bytes, 8),
+        _ => None,
+    }
+}
+
+/// The number in so many bytes, the least first, that the bytes begin with.
+#[inline(always)]
+fn scan_raw(bytes: &[u8], count: usize) -> Option<Scanned>
+    ensures { Scans (little_endian count) bytes.now result }
+{
+    if bytes.len() < count {
+        return None;
+    }
+    Some(Scanned::Shortest(count))
+}
+
+/// The block type that the bytes begin with, where it is none, or one value of a number type.
+#[inline(always)]
+fn scan_block_type(bytes: &[u8]) -> Option<Scanned>
+    ensures { Scans block_type bytes.now result }
+{
+    if bytes.len() == 0 {
+        return None;
+    }
+    match bytes[0] {
+        0x40 => Some(Scanned::Shortest(1)),
+        0x7c => Some(Scanned::Shortest(1)),
+        0x7d => Some(Scanned::Shortest(1)),
+        0x7e => Some(Scanned::Shortest(1)),
+        0x7f => Some(Scanned::Shortest(1)),
+        _ => None,
+    }
+}
+
+/// The memory argument that the bytes begin with, where it doesn't name its memory.
+#[inline(always)]
+fn scan_mem_arg(bytes: &[u8]) -> Option<Scanned>
+    ensures { Scans mem_arg bytes.now result }
+{
+    if bytes.len() == 0 {
+        return None;
+    }
+    if bytes[0] >= 64 {
+        return None;
+    }
+    let offset = scan_u64(&bytes[1..])?;
+    Some(offset.behind_byte())
+}
