@@ -156,9 +156,9 @@ u32_has_bytes [] n g = absurd g.0
 u32_has_bytes (b ∷ bytes) n g = omega arith
 
 -- a number below 128 is one byte
-one_byte : (n : ℕ) → n < 128 → unsigned_leb128 n ≡ n ∷ []
+pub one_digit : (n : ℕ) → n < 128 → unsigned_leb128 n ≡ n ∷ []
 unfolding unsigned_leb128 digits_of
-one_byte n lt = rw (lt-ltb n 128 lt) refl
+one_digit n lt = rw (lt-ltb n 128 lt) refl
 
 -- ---- the shortest encoding of a memory argument
 
@@ -196,7 +196,7 @@ in_first_is bytes prefix back n offset e g lt h =
 -- memory 0 with its index is longer
 named_first : (bytes prefix mid back : List ℕ) (n offset : ℕ) → bytes ≡ prefix ++ (mid ++ back) → EncodesU32 prefix n → 64 ≤ n → n < 128 → EncodesU32 mid 0 → EncodesU64 back offset → IsShortestOrLonger bytes (unsigned_leb128 (n - 64) ++ unsigned_leb128 offset)
 named_first bytes prefix mid back n offset e g le lt h o =
-    let one : length (unsigned_leb128 (n - 64)) ≡ 1 = ap (length {A = ℕ}) (one_byte (n - 64) (omega arith)) in
+    let one : length (unsigned_leb128 (n - 64)) ≡ 1 = ap (length {A = ℕ}) (one_digit (n - 64) (omega arith)) in
     inr (rw e (at_least (length back) (length (unsigned_leb128 offset)) one (shorter back (unsigned_leb128 offset) (Shortest-u64.least back offset o))))
   where
     shorter : (b t : List ℕ) → IsShortestOrLonger b t → length t ≤ length b
@@ -252,9 +252,9 @@ named_is_longer prefix p g = by (ltb p.0 64) refl (ltb p.0 128) refl g.4 where
   named : (m offset : ℕ) → 64 ≤ p.0 → p.0 < 128 → (z : Bool) → eqb m 0 ≡ z → IsShorter z (cond z (unsigned_leb128 (p.0 - 64) ++ unsigned_leb128 offset) (unsigned_leb128 (p.0 - 64 + 64) ++ (unsigned_leb128 m ++ unsigned_leb128 offset))) (unsigned_leb128 p.0 ++ (unsigned_leb128 m ++ unsigned_leb128 offset))
   named m offset le lt true is =
       let zero : m ≡ 0 = eqb-true m 0 is in
-      let a : length (unsigned_leb128 (p.0 - 64)) ≡ 1 = ap (length {A = ℕ}) (one_byte (p.0 - 64) (omega arith)) in
-      let b : length (unsigned_leb128 p.0) ≡ 1 = ap (length {A = ℕ}) (one_byte p.0 lt) in
-      let c : length (unsigned_leb128 m) ≡ 1 = ap (length {A = ℕ}) (one_byte m (omega arith)) in
+      let a : length (unsigned_leb128 (p.0 - 64)) ≡ 1 = ap (length {A = ℕ}) (one_digit (p.0 - 64) (omega arith)) in
+      let b : length (unsigned_leb128 p.0) ≡ 1 = ap (length {A = ℕ}) (one_digit p.0 lt) in
+      let c : length (unsigned_leb128 m) ≡ 1 = ap (length {A = ℕ}) (one_digit m (omega arith)) in
       omega (arith, a, b, c, length-append (unsigned_leb128 (p.0 - 64)) (unsigned_leb128 offset), length-append (unsigned_leb128 p.0) (unsigned_leb128 m ++ unsigned_leb128 offset), length-append (unsigned_leb128 m) (unsigned_leb128 offset))
   named m offset le lt false is =
       let same : p.0 - 64 + 64 ≡ p.0 = omega arith in

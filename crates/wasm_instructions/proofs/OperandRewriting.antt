@@ -14,7 +14,7 @@ use Rattle.wasm_codec.proofs.Laws.{IsBytes-after}
 use Rattle.wasm_codec.proofs.RawFormatLaws.{Lawful-little-endian, little_below}
 use Rattle.wasm_codec.proofs.RewriterLaws.{is_given, is_after, after_is}
 use Rattle.wasm_instructions.specs.formats.Operands.{in_memory, mem_arg, from_halves, vector}
-use Rattle.wasm_instructions.proofs.OperandFormatLaws.{halves_of}
+use Rattle.wasm_instructions.proofs.OperandFormatLaws.{halves_of, one_digit}
 
 -- ---- vectors
 
@@ -47,10 +47,6 @@ no_high_half old mid end new faults.Malformed first none =
     rw (a.given.is_read, none) refl
 
 -- ---- memory arguments that name memory 0
-
-pub one_digit : (n : ℕ) → n < 128 → unsigned_leb128 n ≡ n ∷ []
-unfolding unsigned_leb128 digits_of
-one_digit n lt = rw (lt-ltb n 128 lt) refl
 
 -- what was read and written of one
 record Named (old offset : Rewriting) (align : ℕ) : Type 0 where

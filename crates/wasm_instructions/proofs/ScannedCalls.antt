@@ -9,7 +9,7 @@ use Rattle.wasm_codec.specs.declared.rewriter.scan.Scanned.{Scanned}
 use Rattle.wasm_codec.specs.declared.rewriter.scan.Scanned.TheVariants as scanned
 use Rattle.wasm_codec.specs.Numbers.{unsigned_leb128}
 use Rattle.wasm_instructions.proofs.CallRewriting.{of_kind}
-use Rattle.wasm_instructions.proofs.OperandRewriting.{one_digit}
+use Rattle.wasm_instructions.proofs.OperandFormatLaws.{one_digit}
 use Rattle.wasm_codec.specs.formats.Combinators.{Format, made, u64, little_endian, with_low}
 use Rattle.wasm_codec.proofs.NumberReading.{u32_one}
 use Rattle.wasm_instructions.specs.declared.table.opcode.Kind.{Kind}
