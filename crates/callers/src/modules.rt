@@ -1,10 +1,14 @@
-//! Type sections that are put into a module.
+//! Type sections that are put into a module, and modules that are in their normal form.
 ghost use Rattle.std.specs.Prelude.{◌≡◌, ◌++◌, ◌∷◌, [], List, OnOk};
-ghost use Rattle.wasm_encoder.specs.ModuleFormats.{raw_module};
-ghost use Rattle.wasm_encoder.specs.Sections.{SectionParts, section_of};
+ghost use Rattle.std.specs.List.{AllByRecursion};
+ghost use Rattle.wasm_encoder.specs.Answers.{IsOrMemory};
+ghost use Rattle.wasm_encoder.specs.DecodedModules.{IsDecodedSection};
+ghost use Rattle.wasm_encoder.specs.ModuleFormats.{decoded_module, raw_module};
+ghost use Rattle.wasm_encoder.specs.Sections.{DecodedSection, SectionParts, section_of};
 ghost use Rattle.wasm_encoder.specs.EncodedLists.{body_bytes};
 
-use wasm_encoder::{EncodeError, Module, TypeSection};
+use std::alloc::Global;
+use wasm_encoder::{EncodeError, Module, ReadError, TypeSection, normalise_module};
 
 /// A module goes on with a type section, whose body is that of the section's entries.
 pub fn written(types: &TypeSection, built: &mut Module) -> Result<(), EncodeError>
@@ -12,4 +16,12 @@ pub fn written(types: &TypeSection, built: &mut Module) -> Result<(), EncodeErro
         OnOk result (built.new ≡ raw_module.bytes (sections ++ section_of (1, body_bytes types.now) ∷ [])) }
 {
     built.section(types)
+}
+
+/// The shortest encoding of sections in range is given back as it is.
+pub fn normalised(alloc: Global, bytes: &[u8]) -> Result<Vec<u8>, ReadError>
+    ensures { (sections : List DecodedSection) → AllByRecursion IsDecodedSection sections →
+        bytes.now ≡ decoded_module.bytes sections → IsOrMemory (λ given. given.items) bytes.now result }
+{
+    normalise_module(alloc, bytes)
 }

@@ -1,5 +1,5 @@
 -- The laws of decoded modules.
-use Rattle.std.proofs.Common.{◌≡◌, ℕ, ◌≤◌, List, [], ◌∷◌, ◌++◌, length, Result, Ok, Err, IfOk, map, refl, ap, ◌∙◌, arith}
+use Rattle.std.proofs.Common.{◌≡◌, ℕ, ◌≤◌, List, [], ◌∷◌, ◌++◌, length, Result, Ok, Err, IfOk, map, refl, sym, subst, ap, ◌∙◌, arith}
 use Rattle.std.specs.List.{flat_map, AllByRecursion}
 use Rattle.wasm_codec.specs.declared.reader.ReadError.{ReadError}
 use Rattle.wasm_codec.specs.Answers.{IsNormalForm}
@@ -15,6 +15,20 @@ pub no_longer_given : {X : Type 0} (view : X → List ℕ) (bytes : List ℕ) (r
     → IfOk result (λ x. IsNormalForm decoded_module.Encodes decoded_module.bytes bytes (view x)) → IfOk result (λ x. length (view x) ≤ length bytes)
 no_longer_given view bytes (Ok x) n = omega (arith, not_longer bytes (decoded_module.bytes n.value) (Lawful-decoded-module.shortest.least bytes n.value n.encoded), ap (length {A = ℕ}) n.is_shortest)
 no_longer_given view bytes (Err e) n = tt
+
+-- ---- sections in range
+
+section_in_range : (s : DecodedSection) → IsDecodedSection s → decoded_section.InRange s
+unfolding decoded_section
+section_in_range s fits = ((fits.section.id, (fits.content, fits.section.body)), refl)
+
+sections_in_range : (sections : List DecodedSection) → AllByRecursion IsDecodedSection sections → AllByRecursion decoded_section.InRange sections
+sections_in_range [] fits = tt
+sections_in_range (s ∷ sections) fits = (section_in_range s fits.0, sections_in_range sections fits.1)
+
+-- their shortest encoding encodes them
+pub all_encoded : (bytes : List ℕ) (sections : List DecodedSection) → AllByRecursion IsDecodedSection sections → bytes ≡ decoded_module.bytes sections → decoded_module.Encodes bytes sections
+all_encoded bytes sections fits e = subst (λ (t : List ℕ). decoded_module.Encodes t sections) (sym e) (Lawful-decoded-module.shortest.encodes sections (sections_in_range sections fits))
 
 -- ---- a decoded module as sections
 

@@ -1,13 +1,14 @@
 //! The normaliser of modules (Core 3.0, Modules): a decoded module is one whose type sections are read as entries, and
 //! whose code sections as code bodies.
 ghost use Rattle.std.specs.Prelude.{◌≡◌, ◌↔◌, ◌≤◌, List, length, IfOk};
+ghost use Rattle.std.specs.List.{AllByRecursion};
 ghost use Rattle.wasm_codec.specs.Answers.{NeedsNoMemory, IsOrMemory, IfRefused, IsLongestPrefix, IsNormalForm, EncodesSome};
 ghost use Rattle.wasm_codec.specs.formats.Bodies.{bytes_to_end};
 ghost use Rattle.wasm_codec.specs.formats.Combinators.{made, narrow};
 ghost use Rattle.wasm_codec.specs.Encoding.{IsShortestOrLonger};
 ghost use Rattle.wasm_types.specs.formats.Types.{type_body};
 ghost use Rattle.wasm_modules.specs.Sections.{Content, DecodedSection, type_entries, code_bodies, raw_bytes};
-ghost use Rattle.wasm_modules.specs.DecodedModules.{IsDecodedModulePrefix};
+ghost use Rattle.wasm_modules.specs.DecodedModules.{IsDecodedModulePrefix, IsDecodedSection};
 ghost use Rattle.wasm_modules.specs.formats.CodeBodies.{code_section_body};
 ghost use Rattle.wasm_modules.specs.formats.Modules.{entries_part, bodies_part, bytes_part, decoded_section, decoded_module};
 
@@ -58,6 +59,9 @@ pub fn normalise_module(alloc: Global, bytes: &[u8]) -> Result<Vec<u8>, ReadErro
         IsShortestOrLonger bytes.now (decoded_module.bytes sections) }
     // The result is no longer than the bytes.
     ensures no_longer { IfOk result (λ encoding. length encoding.items ≤ length bytes.now) }
+    // The shortest encoding of decoded sections in range encodes them.
+    ensures encodes { (sections : List DecodedSection) → AllByRecursion IsDecodedSection sections →
+        bytes.now ≡ decoded_module.bytes sections → decoded_module.Encodes bytes.now sections }
 {
     decoded_bytes_of(alloc, bytes)
 }

@@ -1,7 +1,7 @@
 use Rattle.wasm_modules.specs.formats.Modules.{decoded_module}
 use Rattle.wasm_codec.proofs.ListReading.{gives_bytes, gives_same, gives_normal, gives_itself}
 use Rattle.wasm_modules.proofs.ModuleFormatLaws.{Lawful-decoded-module, one_decoded_module}
-use Rattle.wasm_modules.proofs.DecodedModuleLaws.{no_longer_given}
+use Rattle.wasm_modules.proofs.DecodedModuleLaws.{all_encoded, no_longer_given}
 use Rattle.wasm_modules.proofs.normaliser.normalise_module.Goals as goal
 
 pub returns-clause-complete : goal.returns-clause-complete
@@ -24,3 +24,6 @@ returns-clause-no_longer c = no_longer_given (λ encoding. encoding.items) c.arg
 
 pub returns-clause-stays : goal.returns-clause-stays
 returns-clause-stays c sections g = gives_itself (λ encoding. encoding.items) c.args.bytes.now (decoded_module.bytes sections) c.decoded_bytes_of.result g.1 (gives_bytes one_decoded_module decoded_module.bytes (λ encoding. encoding.items) c.args.bytes.now c.decoded_bytes_of.result c.decoded_bytes_of.ensures.given c.decoded_bytes_of.ensures.none sections g.0)
+
+pub returns-clause-encodes : goal.returns-clause-encodes
+returns-clause-encodes c = all_encoded c.args.bytes.now
