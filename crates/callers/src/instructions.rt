@@ -1,6 +1,9 @@
 //! Instructions that are written, alone and as the body of a function.
 ghost use Rattle.std.specs.Prelude.{◌≡◌, ◌++◌, ◌∷◌, [], ◌+◌, ◌≤◌, length, OnOk};
 ghost use Rattle.wasm_encoder.specs.Encoding.{byte_list_bytes};
+ghost use Rattle.wasm_encoder.specs.Sink.{IsShortestCall};
+ghost use Rattle.wasm_instructions.specs.Instructions.{call, without_prefix};
+ghost use Rattle.wasm_instructions.specs.declared.table.call.Operands.TheVariants as operands;
 
 use std::alloc::Global;
 use wasm_encoder::{CodeSection, Encode, EncodeError, Function, InstructionSink, MemArg};
@@ -25,6 +28,14 @@ pub fn load(code: &mut Vec<u8>, memarg: MemArg) -> Result<(), EncodeError>
     ensures at_most { OnOk result (length code.new.items ≤ length code.old.items + 20) }
 {
     InstructionSink::new(&mut *code).i32_load(memarg)?;
+    Ok(())
+}
+
+/// What a method appends encodes its call, and every other encoding of the call is longer.
+pub fn local(code: &mut Vec<u8>, index: u32) -> Result<(), EncodeError>
+    ensures { OnOk result (IsShortestCall (call (without_prefix 0x20) (operands.Index index))) }
+{
+    InstructionSink::new(&mut *code).local_get(index)?;
     Ok(())
 }
 

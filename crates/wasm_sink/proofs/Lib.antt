@@ -1,1 +1,2 @@
+mod WrittenCalls
 pub mod ChainLaws

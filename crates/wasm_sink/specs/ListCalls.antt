@@ -1,20 +1,29 @@
 -- Calls with a list.
 use Rattle.std.specs.Prelude.{ℕ, ◌^◌, ◌<◌, List, length, Option, Result, IfOk, MatchResult}
 use Rattle.std.specs.Iterator.{Drains}
+use Rattle.std.proofs.lemmas.Iterator.{YieldsList}
 use Rattle.wasm_sink.specs.declared.sink.InstructionSink.{InstructionSink}
 use Rattle.wasm_instructions.specs.declared.table.opcode.Opcode.{Opcode}
 use Rattle.wasm_instructions.specs.declared.table.call.Operands.{Operands}
 use Rattle.wasm_codec.specs.declared.encode.EncodeError.{EncodeError}
 use Rattle.wasm_instructions.specs.Instructions.{call}
 use Rattle.wasm_calls.specs.Appending.{IsRefusedList}
-use Rattle.wasm_sink.specs.Sink.{GoesOn}
+use Rattle.wasm_sink.specs.Sink.{GoesOn, IsShortestCall}
 
 module _ {S A : Type 0} (gives : S → Option A → S → Type 0) where
-  -- the sink goes on with the bytes of the call with the list that the iterator gives
+  -- the sink goes on with the shortest encoding of the call with the list that the iterator gives
   abbrev pub WritesItems : {Z : Type 0} → InstructionSink Z → Opcode → (List A → Operands) → S → Result (InstructionSink Z) EncodeError → Type 0
-  WritesItems s op operands items r = IfOk r (λ t. (xs : List A) × Drains gives items xs × GoesOn s (call op (operands xs)) t × (length xs < 2 ^ 32))
+  WritesItems s op operands items r = IfOk r (λ t. (xs : List A) × Drains gives items xs × GoesOn s (call op (operands xs)) t × IsShortestCall (call op (operands xs)) × (length xs < 2 ^ 32))
+
+  -- these items are what the iterator gives until it ends, whenever it is asked
+  abbrev pub GivesItems : S → List A → Type 0
+  GivesItems items xs = YieldsList gives (λ x. x) items xs
+
+  -- where it is known what the iterator gives, the sink goes on with the bytes of the call with these items
+  abbrev pub WritesGiven : {Z : Type 0} → InstructionSink Z → Opcode → (List A → Operands) → S → Result (InstructionSink Z) EncodeError → Type 0
+  WritesGiven s op operands items r = (xs : List A) → GivesItems items xs → IfOk r (λ t. GoesOn s (call op (operands xs)) t)
 
 module _ {Z : Type 0} where
-  -- the sink goes on with the bytes of a call with a list of so many items, or tells why not
+  -- the sink goes on with the shortest encoding of a call with a list of so many items, or tells why not
   abbrev pub WritesList : InstructionSink Z → Opcode → Operands → ℕ → Result (InstructionSink Z) EncodeError → Type 0
-  WritesList s op operands count r = MatchResult r (λ t. GoesOn s (call op operands) t × (count < 2 ^ 32)) (IsRefusedList count)
+  WritesList s op operands count r = MatchResult r (λ t. GoesOn s (call op operands) t × IsShortestCall (call op operands) × (count < 2 ^ 32)) (IsRefusedList count)

@@ -12,6 +12,7 @@ use Rattle.wasm_instructions.specs.declared.table.call.Operands.{Operands}
 use Rattle.wasm_instructions.specs.Instructions.{Instruction, call, IsCounted, HasEncoding}
 use Rattle.wasm_instructions.specs.formats.Instructions.{instruction, instructions_bytes}
 use Rattle.wasm_calls.specs.Lengths.{IsShortEncoding}
+use Rattle.wasm_codec.specs.Encoding.{IsShortest}
 use Rattle.wasm_calls.specs.Appending.{IsRefusal, IsCallRefusal, IsRefusalOfOne}
 use Rattle.wasm_codec.specs.declared.encode.EncodeError.{EncodeError}
 use Rattle.wasm_codec.specs.declared.encode.EncodeError.TheVariants as errors
@@ -19,6 +20,10 @@ use Rattle.wasm_codec.specs.declared.encode.EncodeError.TheVariants as errors
 -- an opcode of a prefix byte, or of none, and a number
 abbrev pub opcode : Prefix → ℕ → Opcode
 opcode prefix number = record { prefix = prefix; number = number }
+
+-- the bytes of this call are its shortest encoding
+abbrev pub IsShortestCall : Instruction → Type 0
+IsShortestCall = IsShortest instruction.Encodes instruction.bytes
 
 module _ {Z : Type 0} where
   -- the bytes behind the sink
@@ -39,13 +44,14 @@ module _ {Z : Type 0} where
   Chain s [] t = written t ≡ written s
   Chain s (c ∷ calls) t = (next : InstructionSink Z) × GoesOn s c next × Chain next calls t
 
-  -- the sink goes on with the bytes of this call at its end, from 1 to 20 of them, or memory ran out
+  -- the sink goes on with the shortest encoding of this call at its end, from 1 to 20 bytes, or memory ran out
   abbrev pub Writes : InstructionSink Z → Opcode → Operands → Result (InstructionSink Z) EncodeError → Type 0
-  Writes s op operands r = MatchResult r (λ t. GoesOn s (call op operands) t × IsShortEncoding (instruction.bytes (call op operands))) (λ e. e ≡ errors.Memory)
+  Writes s op operands r = MatchResult r (λ t. GoesOn s (call op operands) t × IsShortestCall (call op operands) × IsShortEncoding (instruction.bytes (call op operands))) (λ e. e ≡ errors.Memory)
 
-  -- the sink goes on with the bytes of this call at its end, from 1 to 20 of them, where it has them, or tells why not
+  -- the sink goes on with the shortest encoding of this call at its end, from 1 to 20 bytes, where it has one, or tells
+  -- why not
   abbrev pub WritesBytes : InstructionSink Z → Opcode → Operands → Result (InstructionSink Z) EncodeError → Type 0
-  WritesBytes s op operands r = MatchResult r (λ t. GoesOn s (call op operands) t × IsShortEncoding (instruction.bytes (call op operands)) × HasEncoding operands) (IsRefusal operands)
+  WritesBytes s op operands r = MatchResult r (λ t. GoesOn s (call op operands) t × IsShortestCall (call op operands) × IsShortEncoding (instruction.bytes (call op operands)) × HasEncoding operands) (IsRefusal operands)
 
   -- the sink goes on with the bytes of this call at its end, or tells why not
   abbrev pub AppendsCall : InstructionSink Z → Instruction → Result (InstructionSink Z) EncodeError → Type 0

@@ -11,6 +11,7 @@ use std::alloc::Allocator;
 use wasm_codec::encode::EncodeError;
 use wasm_instructions::table::Prefix;
 
+#[tactic(auto, unfolding(wasm_instructions::specs::Opcodes::ranges))]
 impl<'a, A: Allocator> InstructionSink<'a, A> {
     /// `struct.new`: `0xFB 0x00`, then a type index.
     pub fn struct_new(self, ty: u32) -> Result<InstructionSink<'a, A>, EncodeError>

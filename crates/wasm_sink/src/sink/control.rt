@@ -4,7 +4,7 @@ ghost use Rattle.std.specs.Prelude.{IsOk, IfErr};
 ghost use Rattle.std.specs.Borrow.{sem};
 ghost use Rattle.std.specs.Iterator.{size};
 ghost use Rattle.wasm_sink.specs.Sink.{IsUnchangedAtErr, IsSameSink, Writes, HasRoom};
-ghost use Rattle.wasm_sink.specs.ListCalls.{WritesItems};
+ghost use Rattle.wasm_sink.specs.ListCalls.{WritesGiven, WritesItems};
 ghost use Rattle.wasm_calls.specs.Appending.{IsRefusedList};
 ghost use Rattle.wasm_instructions.specs.Instructions.{without_prefix};
 ghost use Rattle.wasm_instructions.specs.declared.table.call.Operands.TheVariants as operands;
@@ -15,6 +15,7 @@ use wasm_codec::encode::EncodeError;
 use wasm_instructions::operands::{BlockType, Catch};
 use wasm_instructions::table::Prefix;
 
+#[tactic(auto, unfolding(wasm_instructions::specs::Opcodes::ranges))]
 impl<'a, A: Allocator> InstructionSink<'a, A> {
     /// `unreachable`: `0x00`.
     pub fn unreachable(self) -> Result<InstructionSink<'a, A>, EncodeError>
@@ -165,6 +166,7 @@ impl<'a, A: Allocator> InstructionSink<'a, A> {
     ) -> Result<InstructionSink<'a, A>, EncodeError>
         requires { I.can_next labels }
         ensures wrote { WritesItems I.next_gives self.entry (without_prefix 0x0e) (λ xs. operands.BrTable xs default) labels result }
+        ensures stands { WritesGiven I.next_gives self.entry (without_prefix 0x0e) (λ xs. operands.BrTable xs default) labels result }
         ensures same { IsSameSink self.entry result }
         ensures err { IfErr result (IsRefusedList (size (I.remaining labels))) }
         ensures* unchanged { sem 𝓛 (IsUnchangedAtErr A.row A.Allocator self.entry result) }
@@ -275,6 +277,7 @@ impl<'a, A: Allocator> InstructionSink<'a, A> {
     ) -> Result<InstructionSink<'a, A>, EncodeError>
         requires { I.can_next clauses }
         ensures wrote { WritesItems I.next_gives self.entry (without_prefix 0x1f) (λ xs. operands.TryTable block_type xs) clauses result }
+        ensures stands { WritesGiven I.next_gives self.entry (without_prefix 0x1f) (λ xs. operands.TryTable block_type xs) clauses result }
         ensures same { IsSameSink self.entry result }
         ensures err { IfErr result (IsRefusedList (size (I.remaining clauses))) }
         ensures* unchanged { sem 𝓛 (IsUnchangedAtErr A.row A.Allocator self.entry result) }

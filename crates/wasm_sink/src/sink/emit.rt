@@ -3,7 +3,7 @@
 ghost use Rattle.std.specs.Prelude.{IsOk};
 ghost use Rattle.std.specs.Borrow.{sem};
 ghost use Rattle.wasm_sink.specs.Sink.{opcode, IsUnchangedAtErr, IsSameSink, Writes, HasRoom};
-ghost use Rattle.wasm_instructions.specs.Instructions.{IsShort};
+ghost use Rattle.wasm_instructions.specs.Instructions.{IsCall, IsShort};
 ghost use Rattle.wasm_instructions.specs.declared.table.call.Operands.TheVariants as operands;
 
 mod constants;
@@ -18,7 +18,7 @@ use wasm_calls::appenders::{append_index, append_opcode, append_two_indexes};
 use wasm_codec::encode::EncodeError;
 use wasm_instructions::table::{Opcode, Prefix};
 
-#[tactic(auto, using(wasm_calls::proofs::InstructionLengths::short_call))]
+#[tactic(auto, using(wasm_calls::proofs::InstructionLengths::short_call, crate::proofs::WrittenCalls::shortest_call))]
 impl<'a, A: Allocator> InstructionSink<'a, A> {
     /// An instruction without operands.
     pub(super) fn emit(
@@ -26,7 +26,8 @@ impl<'a, A: Allocator> InstructionSink<'a, A> {
         prefix: Prefix,
         number: u32,
     ) -> Result<InstructionSink<'a, A>, EncodeError>
-        requires { IsShort (opcode prefix number) }
+        requires short { IsShort (opcode prefix number) }
+        requires call { IsCall (opcode prefix number) operands.None }
         ensures wrote { Writes self.entry (opcode prefix number) operands.None result }
         ensures same { IsSameSink self.entry result }
         ensures room { HasRoom self.entry → IsOk result }
@@ -44,7 +45,8 @@ impl<'a, A: Allocator> InstructionSink<'a, A> {
         number: u32,
         index: u32,
     ) -> Result<InstructionSink<'a, A>, EncodeError>
-        requires { IsShort (opcode prefix number) }
+        requires short { IsShort (opcode prefix number) }
+        requires call { IsCall (opcode prefix number) (operands.Index index) }
         ensures wrote { Writes self.entry (opcode prefix number) (operands.Index index) result }
         ensures same { IsSameSink self.entry result }
         ensures room { HasRoom self.entry → IsOk result }
@@ -63,7 +65,8 @@ impl<'a, A: Allocator> InstructionSink<'a, A> {
         first: u32,
         second: u32,
     ) -> Result<InstructionSink<'a, A>, EncodeError>
-        requires { IsShort (opcode prefix number) }
+        requires short { IsShort (opcode prefix number) }
+        requires call { IsCall (opcode prefix number) (operands.TwoIndexes first second) }
         ensures wrote { Writes self.entry (opcode prefix number) (operands.TwoIndexes first second) result }
         ensures same { IsSameSink self.entry result }
         ensures room { HasRoom self.entry → IsOk result }

@@ -11,6 +11,7 @@ use wasm_codec::encode::EncodeError;
 use wasm_instructions::operands::MemArg;
 use wasm_instructions::table::Prefix;
 
+#[tactic(auto, unfolding(wasm_instructions::specs::Opcodes::ranges))]
 impl<'a, A: Allocator> InstructionSink<'a, A> {
     /// `i32.load`: `0x28`, then a memory argument. `Alignment` where `memarg.align` is 64 or more.
     pub fn i32_load(self, memarg: MemArg) -> Result<InstructionSink<'a, A>, EncodeError>

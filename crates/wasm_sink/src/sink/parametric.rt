@@ -12,6 +12,7 @@ use wasm_codec::encode::EncodeError;
 use wasm_instructions::table::Prefix;
 use wasm_types::types::ValType;
 
+#[tactic(auto, unfolding(wasm_instructions::specs::Opcodes::ranges))]
 impl<'a, A: Allocator> InstructionSink<'a, A> {
     /// `drop`: `0x1A`.
     pub fn drop(self) -> Result<InstructionSink<'a, A>, EncodeError>

@@ -12,6 +12,7 @@ use wasm_codec::encode::EncodeError;
 use wasm_instructions::table::Prefix;
 use wasm_types::types::{HeapType, RefType};
 
+#[tactic(auto, unfolding(wasm_instructions::specs::Opcodes::ranges))]
 impl<'a, A: Allocator> InstructionSink<'a, A> {
     /// `ref.null`: `0xD0`, then a heap type.
     pub fn ref_null(self, heap_type: HeapType) -> Result<InstructionSink<'a, A>, EncodeError>

@@ -3,7 +3,7 @@ ghost use Rattle.std.specs.Prelude.{IsOk, IfErr};
 ghost use Rattle.std.specs.Borrow.{sem};
 ghost use Rattle.std.specs.Iterator.{size};
 ghost use Rattle.wasm_sink.specs.Sink.{IsUnchangedAtErr, IsSameSink, Writes, HasRoom};
-ghost use Rattle.wasm_sink.specs.ListCalls.{WritesItems};
+ghost use Rattle.wasm_sink.specs.ListCalls.{WritesGiven, WritesItems};
 ghost use Rattle.wasm_calls.specs.Appending.{IsRefusedList};
 ghost use Rattle.wasm_instructions.specs.Instructions.{without_prefix};
 ghost use Rattle.wasm_instructions.specs.declared.table.call.Operands.TheVariants as operands;
@@ -14,6 +14,7 @@ use wasm_codec::encode::EncodeError;
 use wasm_instructions::operands::Handle;
 use wasm_instructions::table::Prefix;
 
+#[tactic(auto, unfolding(wasm_instructions::specs::Opcodes::ranges))]
 impl<'a, A: Allocator> InstructionSink<'a, A> {
     /// `cont.new`: `0xE0`, then a type index.
     pub fn cont_new(self, ty: u32) -> Result<InstructionSink<'a, A>, EncodeError>
@@ -58,6 +59,7 @@ impl<'a, A: Allocator> InstructionSink<'a, A> {
     ) -> Result<InstructionSink<'a, A>, EncodeError>
         requires { I.can_next handlers }
         ensures wrote { WritesItems I.next_gives self.entry (without_prefix 0xe3) (λ xs. operands.Resume ty xs) handlers result }
+        ensures stands { WritesGiven I.next_gives self.entry (without_prefix 0xe3) (λ xs. operands.Resume ty xs) handlers result }
         ensures same { IsSameSink self.entry result }
         ensures err { IfErr result (IsRefusedList (size (I.remaining handlers))) }
         ensures* unchanged { sem 𝓛 (IsUnchangedAtErr A.row A.Allocator self.entry result) }
@@ -75,6 +77,7 @@ impl<'a, A: Allocator> InstructionSink<'a, A> {
     ) -> Result<InstructionSink<'a, A>, EncodeError>
         requires { I.can_next handlers }
         ensures wrote { WritesItems I.next_gives self.entry (without_prefix 0xe4) (λ xs. operands.ResumeThrow ty tag xs) handlers result }
+        ensures stands { WritesGiven I.next_gives self.entry (without_prefix 0xe4) (λ xs. operands.ResumeThrow ty tag xs) handlers result }
         ensures same { IsSameSink self.entry result }
         ensures err { IfErr result (IsRefusedList (size (I.remaining handlers))) }
         ensures* unchanged { sem 𝓛 (IsUnchangedAtErr A.row A.Allocator self.entry result) }
@@ -91,6 +94,7 @@ impl<'a, A: Allocator> InstructionSink<'a, A> {
     ) -> Result<InstructionSink<'a, A>, EncodeError>
         requires { I.can_next handlers }
         ensures wrote { WritesItems I.next_gives self.entry (without_prefix 0xe5) (λ xs. operands.Resume ty xs) handlers result }
+        ensures stands { WritesGiven I.next_gives self.entry (without_prefix 0xe5) (λ xs. operands.Resume ty xs) handlers result }
         ensures same { IsSameSink self.entry result }
         ensures err { IfErr result (IsRefusedList (size (I.remaining handlers))) }
         ensures* unchanged { sem 𝓛 (IsUnchangedAtErr A.row A.Allocator self.entry result) }

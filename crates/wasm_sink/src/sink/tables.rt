@@ -10,6 +10,7 @@ use std::alloc::Allocator;
 use wasm_codec::encode::EncodeError;
 use wasm_instructions::table::Prefix;
 
+#[tactic(auto, unfolding(wasm_instructions::specs::Opcodes::ranges))]
 impl<'a, A: Allocator> InstructionSink<'a, A> {
     /// `table.get`: `0x25`, then a table index.
     pub fn table_get(self, table: u32) -> Result<InstructionSink<'a, A>, EncodeError>

@@ -11,6 +11,7 @@ use wasm_codec::encode::EncodeError;
 use wasm_instructions::operands::MemArg;
 use wasm_instructions::table::Prefix;
 
+#[tactic(auto, unfolding(wasm_instructions::specs::Opcodes::ranges))]
 impl<'a, A: Allocator> InstructionSink<'a, A> {
     /// `i32.atomic.rmw.add`: `0xFE 0x1E`, then a memory argument. `Alignment` where `memarg.align` is 64 or more.
     pub fn i32_atomic_rmw_add(self, memarg: MemArg) -> Result<InstructionSink<'a, A>, EncodeError>

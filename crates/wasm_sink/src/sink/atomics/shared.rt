@@ -12,6 +12,7 @@ use wasm_codec::encode::EncodeError;
 use wasm_instructions::operands::Ordering;
 use wasm_instructions::table::Prefix;
 
+#[tactic(auto, unfolding(wasm_instructions::specs::Opcodes::ranges))]
 impl<'a, A: Allocator> InstructionSink<'a, A> {
     /// `global.atomic.get`: `0xFE 0x4F`, then an ordering and a global index.
     pub fn global_atomic_get(

@@ -2,7 +2,7 @@
 ghost use Rattle.std.specs.Prelude.{IsOk};
 ghost use Rattle.std.specs.Borrow.{sem};
 ghost use Rattle.wasm_sink.specs.Sink.{IsUnchangedAtErr, IsSameSink, Writes, HasRoom};
-ghost use Rattle.wasm_instructions.specs.Instructions.{IsShort, after_fd, without_prefix};
+ghost use Rattle.wasm_instructions.specs.Instructions.{IsCall, IsShort, after_fd, without_prefix};
 ghost use Rattle.wasm_instructions.specs.declared.table.call.Operands.TheVariants as operands;
 
 use crate::sink::InstructionSink;
@@ -14,7 +14,7 @@ use wasm_codec::encode::EncodeError;
 use wasm_instructions::operands::{Ieee32, Ieee64, Lane};
 use wasm_instructions::table::Opcode;
 
-#[tactic(auto, using(wasm_calls::proofs::InstructionLengths::short_call))]
+#[tactic(auto, using(wasm_calls::proofs::InstructionLengths::short_call, crate::proofs::WrittenCalls::shortest_call))]
 impl<'a, A: Allocator> InstructionSink<'a, A> {
     /// An instruction without a prefix, with a signed number of 32 bits.
     pub(in crate::sink) fn emit_i32(
@@ -22,7 +22,8 @@ impl<'a, A: Allocator> InstructionSink<'a, A> {
         number: u8,
         value: i32,
     ) -> Result<InstructionSink<'a, A>, EncodeError>
-        requires { IsShort (without_prefix number) }
+        requires short { IsShort (without_prefix number) }
+        requires call { IsCall (without_prefix number) (operands.I32 value) }
         ensures wrote { Writes self.entry (without_prefix number) (operands.I32 value) result }
         ensures same { IsSameSink self.entry result }
         ensures room { HasRoom self.entry → IsOk result }
@@ -39,7 +40,8 @@ impl<'a, A: Allocator> InstructionSink<'a, A> {
         number: u8,
         value: i64,
     ) -> Result<InstructionSink<'a, A>, EncodeError>
-        requires { IsShort (without_prefix number) }
+        requires short { IsShort (without_prefix number) }
+        requires call { IsCall (without_prefix number) (operands.I64 value) }
         ensures wrote { Writes self.entry (without_prefix number) (operands.I64 value) result }
         ensures same { IsSameSink self.entry result }
         ensures room { HasRoom self.entry → IsOk result }
@@ -56,7 +58,8 @@ impl<'a, A: Allocator> InstructionSink<'a, A> {
         number: u8,
         value: Ieee32,
     ) -> Result<InstructionSink<'a, A>, EncodeError>
-        requires { IsShort (without_prefix number) }
+        requires short { IsShort (without_prefix number) }
+        requires call { IsCall (without_prefix number) (operands.F32 value) }
         ensures wrote { Writes self.entry (without_prefix number) (operands.F32 value) result }
         ensures same { IsSameSink self.entry result }
         ensures room { HasRoom self.entry → IsOk result }
@@ -73,7 +76,8 @@ impl<'a, A: Allocator> InstructionSink<'a, A> {
         number: u8,
         value: Ieee64,
     ) -> Result<InstructionSink<'a, A>, EncodeError>
-        requires { IsShort (without_prefix number) }
+        requires short { IsShort (without_prefix number) }
+        requires call { IsCall (without_prefix number) (operands.F64 value) }
         ensures wrote { Writes self.entry (without_prefix number) (operands.F64 value) result }
         ensures same { IsSameSink self.entry result }
         ensures room { HasRoom self.entry → IsOk result }
@@ -90,7 +94,8 @@ impl<'a, A: Allocator> InstructionSink<'a, A> {
         number: u32,
         value: i128,
     ) -> Result<InstructionSink<'a, A>, EncodeError>
-        requires { IsShort (after_fd number) }
+        requires short { IsShort (after_fd number) }
+        requires call { IsCall (after_fd number) (operands.V128 value) }
         ensures wrote { Writes self.entry (after_fd number) (operands.V128 value) result }
         ensures same { IsSameSink self.entry result }
         ensures room { HasRoom self.entry → IsOk result }
@@ -107,7 +112,8 @@ impl<'a, A: Allocator> InstructionSink<'a, A> {
         number: u32,
         lanes: [Lane; 16],
     ) -> Result<InstructionSink<'a, A>, EncodeError>
-        requires { IsShort (after_fd number) }
+        requires short { IsShort (after_fd number) }
+        requires call { IsCall (after_fd number) (operands.Shuffle lanes) }
         ensures wrote { Writes self.entry (after_fd number) (operands.Shuffle lanes) result }
         ensures same { IsSameSink self.entry result }
         ensures room { HasRoom self.entry → IsOk result }
@@ -124,7 +130,8 @@ impl<'a, A: Allocator> InstructionSink<'a, A> {
         number: u32,
         lane: Lane,
     ) -> Result<InstructionSink<'a, A>, EncodeError>
-        requires { IsShort (after_fd number) }
+        requires short { IsShort (after_fd number) }
+        requires call { IsCall (after_fd number) (operands.Lane lane) }
         ensures wrote { Writes self.entry (after_fd number) (operands.Lane lane) result }
         ensures same { IsSameSink self.entry result }
         ensures room { HasRoom self.entry → IsOk result }

@@ -1,11 +1,13 @@
 //! Instructions with a list.
-ghost use Rattle.std.specs.Prelude.{◌<◌, length, IfErr};
+ghost use Rattle.std.specs.Prelude.{◌≡◌, ◌<◌, Some, length, IfErr};
 ghost use Rattle.std.specs.Borrow.{sem};
 ghost use Rattle.wasm_sink.specs.Sink.{IsUnchangedAtErr, IsSameSink};
-ghost use Rattle.wasm_instructions.specs.Instructions.{IsShort, without_prefix};
+ghost use Rattle.wasm_instructions.specs.Instructions.{IsCall, IsShort, without_prefix};
+ghost use Rattle.wasm_instructions.specs.Opcodes.{kind};
+ghost use Rattle.wasm_instructions.specs.declared.table.opcode.Kind.TheVariants as kinds;
 ghost use Rattle.wasm_instructions.specs.declared.table.call.Operands.TheVariants as operands;
 ghost use Rattle.std.specs.Iterator.{size};
-ghost use Rattle.wasm_sink.specs.ListCalls.{WritesItems, WritesList};
+ghost use Rattle.wasm_sink.specs.ListCalls.{WritesGiven, WritesItems, WritesList};
 ghost use Rattle.wasm_calls.specs.Appending.{IsRefusedList};
 
 use crate::sink::InstructionSink;
@@ -18,7 +20,7 @@ use wasm_instructions::operands::{BlockType, Catch, Handle};
 use wasm_instructions::table::Opcode;
 use wasm_types::types::ValType;
 
-#[tactic(auto, unfolding(wasm_calls::specs::Appending::AppendsAll))]
+#[tactic(auto, using(crate::proofs::WrittenCalls::shortest_call), unfolding(wasm_calls::specs::Appending::AppendsAll))]
 impl<'a, A: Allocator> InstructionSink<'a, A> {
     /// An instruction without a prefix, with value types.
     pub(in crate::sink) fn emit_types(
@@ -26,7 +28,8 @@ impl<'a, A: Allocator> InstructionSink<'a, A> {
         number: u8,
         types: &[ValType],
     ) -> Result<InstructionSink<'a, A>, EncodeError>
-        requires { IsShort (without_prefix number) }
+        requires short { IsShort (without_prefix number) }
+        requires call { IsCall (without_prefix number) (operands.Types types.now) }
         ensures wrote { WritesList self.entry (without_prefix number) (operands.Types types.now) (length types.now) result }
         ensures same { IsSameSink self.entry result }
         ensures* unchanged { sem 𝓛 (IsUnchangedAtErr A.row A.Allocator self.entry result) }
@@ -44,8 +47,10 @@ impl<'a, A: Allocator> InstructionSink<'a, A> {
         default: u32,
     ) -> Result<InstructionSink<'a, A>, EncodeError>
         requires short { number < 0xfb }
+        requires call { kind (without_prefix number) ≡ Some kinds.BrTable }
         requires can { I.can_next labels }
         ensures wrote { WritesItems I.next_gives self.entry (without_prefix number) (λ xs. operands.BrTable xs default) labels result }
+        ensures stands { WritesGiven I.next_gives self.entry (without_prefix number) (λ xs. operands.BrTable xs default) labels result }
         ensures same { IsSameSink self.entry result }
         ensures err { IfErr result (IsRefusedList (size (I.remaining labels))) }
         ensures* unchanged { sem 𝓛 (IsUnchangedAtErr A.row A.Allocator self.entry result) }
@@ -64,8 +69,10 @@ impl<'a, A: Allocator> InstructionSink<'a, A> {
         clauses: I,
     ) -> Result<InstructionSink<'a, A>, EncodeError>
         requires short { number < 0xfb }
+        requires call { kind (without_prefix number) ≡ Some kinds.TryTable }
         requires can { I.can_next clauses }
         ensures wrote { WritesItems I.next_gives self.entry (without_prefix number) (λ xs. operands.TryTable block_type xs) clauses result }
+        ensures stands { WritesGiven I.next_gives self.entry (without_prefix number) (λ xs. operands.TryTable block_type xs) clauses result }
         ensures same { IsSameSink self.entry result }
         ensures err { IfErr result (IsRefusedList (size (I.remaining clauses))) }
         ensures* unchanged { sem 𝓛 (IsUnchangedAtErr A.row A.Allocator self.entry result) }
@@ -84,8 +91,10 @@ impl<'a, A: Allocator> InstructionSink<'a, A> {
         handlers: I,
     ) -> Result<InstructionSink<'a, A>, EncodeError>
         requires short { number < 0xfb }
+        requires call { kind (without_prefix number) ≡ Some kinds.Resume }
         requires can { I.can_next handlers }
         ensures wrote { WritesItems I.next_gives self.entry (without_prefix number) (λ xs. operands.Resume index xs) handlers result }
+        ensures stands { WritesGiven I.next_gives self.entry (without_prefix number) (λ xs. operands.Resume index xs) handlers result }
         ensures same { IsSameSink self.entry result }
         ensures err { IfErr result (IsRefusedList (size (I.remaining handlers))) }
         ensures* unchanged { sem 𝓛 (IsUnchangedAtErr A.row A.Allocator self.entry result) }
@@ -105,8 +114,10 @@ impl<'a, A: Allocator> InstructionSink<'a, A> {
         handlers: I,
     ) -> Result<InstructionSink<'a, A>, EncodeError>
         requires short { number < 0xfb }
+        requires call { kind (without_prefix number) ≡ Some kinds.ResumeThrow }
         requires can { I.can_next handlers }
         ensures wrote { WritesItems I.next_gives self.entry (without_prefix number) (λ xs. operands.ResumeThrow first second xs) handlers result }
+        ensures stands { WritesGiven I.next_gives self.entry (without_prefix number) (λ xs. operands.ResumeThrow first second xs) handlers result }
         ensures same { IsSameSink self.entry result }
         ensures err { IfErr result (IsRefusedList (size (I.remaining handlers))) }
         ensures* unchanged { sem 𝓛 (IsUnchangedAtErr A.row A.Allocator self.entry result) }

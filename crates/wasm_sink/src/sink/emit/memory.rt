@@ -2,7 +2,7 @@
 ghost use Rattle.std.specs.Prelude.{◌≤◌, ◌<◌, ◌↔◌, IsOk, IsErrOf};
 ghost use Rattle.std.specs.Borrow.{sem};
 ghost use Rattle.wasm_sink.specs.Sink.{opcode, IsUnchangedAtErr, IsSameSink, WritesBytes, HasRoom};
-ghost use Rattle.wasm_instructions.specs.Instructions.{IsShort, after_fd};
+ghost use Rattle.wasm_instructions.specs.Instructions.{IsCall, IsShort, after_fd};
 ghost use Rattle.wasm_instructions.specs.declared.table.call.Operands.TheVariants as operands;
 
 use crate::sink::InstructionSink;
@@ -12,7 +12,7 @@ use wasm_codec::encode::EncodeError;
 use wasm_instructions::operands::{Lane, MemArg};
 use wasm_instructions::table::{Opcode, Prefix};
 
-#[tactic(auto, using(wasm_calls::proofs::InstructionLengths::short_call))]
+#[tactic(auto, using(wasm_calls::proofs::InstructionLengths::short_call, crate::proofs::WrittenCalls::shortest_call))]
 impl<'a, A: Allocator> InstructionSink<'a, A> {
     /// An instruction with a memory argument.
     pub(in crate::sink) fn emit_mem(
@@ -21,7 +21,8 @@ impl<'a, A: Allocator> InstructionSink<'a, A> {
         number: u32,
         memarg: MemArg,
     ) -> Result<InstructionSink<'a, A>, EncodeError>
-        requires { IsShort (opcode prefix number) }
+        requires short { IsShort (opcode prefix number) }
+        requires call { IsCall (opcode prefix number) (operands.Mem memarg) }
         ensures wrote { WritesBytes self.entry (opcode prefix number) (operands.Mem memarg) result }
         ensures same { IsSameSink self.entry result }
         ensures alignment { IsErrOf result EncodeError.Alignment ↔ 64 ≤ memarg.align }
@@ -40,7 +41,8 @@ impl<'a, A: Allocator> InstructionSink<'a, A> {
         memarg: MemArg,
         lane: Lane,
     ) -> Result<InstructionSink<'a, A>, EncodeError>
-        requires { IsShort (after_fd number) }
+        requires short { IsShort (after_fd number) }
+        requires call { IsCall (after_fd number) (operands.MemLane memarg lane) }
         ensures wrote { WritesBytes self.entry (after_fd number) (operands.MemLane memarg lane) result }
         ensures same { IsSameSink self.entry result }
         ensures alignment { IsErrOf result EncodeError.Alignment ↔ 64 ≤ memarg.align }

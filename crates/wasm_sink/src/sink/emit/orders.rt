@@ -2,7 +2,7 @@
 ghost use Rattle.std.specs.Prelude.{IsOk};
 ghost use Rattle.std.specs.Borrow.{sem};
 ghost use Rattle.wasm_sink.specs.Sink.{IsUnchangedAtErr, IsSameSink, Writes, HasRoom};
-ghost use Rattle.wasm_instructions.specs.Instructions.{IsShort, after_fe};
+ghost use Rattle.wasm_instructions.specs.Instructions.{IsCall, IsShort, after_fe};
 ghost use Rattle.wasm_instructions.specs.declared.table.call.Operands.TheVariants as operands;
 
 use crate::sink::InstructionSink;
@@ -12,7 +12,7 @@ use wasm_codec::encode::EncodeError;
 use wasm_instructions::operands::Ordering;
 use wasm_instructions::table::Opcode;
 
-#[tactic(auto, using(wasm_calls::proofs::InstructionLengths::short_call))]
+#[tactic(auto, using(wasm_calls::proofs::InstructionLengths::short_call, crate::proofs::WrittenCalls::shortest_call))]
 impl<'a, A: Allocator> InstructionSink<'a, A> {
     /// An instruction after `0xFE`, with an ordering.
     pub(in crate::sink) fn emit_order(
@@ -20,7 +20,8 @@ impl<'a, A: Allocator> InstructionSink<'a, A> {
         number: u32,
         ordering: Ordering,
     ) -> Result<InstructionSink<'a, A>, EncodeError>
-        requires { IsShort (after_fe number) }
+        requires short { IsShort (after_fe number) }
+        requires call { IsCall (after_fe number) (operands.Order ordering) }
         ensures wrote { Writes self.entry (after_fe number) (operands.Order ordering) result }
         ensures same { IsSameSink self.entry result }
         ensures room { HasRoom self.entry → IsOk result }
@@ -38,7 +39,8 @@ impl<'a, A: Allocator> InstructionSink<'a, A> {
         ordering: Ordering,
         index: u32,
     ) -> Result<InstructionSink<'a, A>, EncodeError>
-        requires { IsShort (after_fe number) }
+        requires short { IsShort (after_fe number) }
+        requires call { IsCall (after_fe number) (operands.OrderIndex ordering index) }
         ensures wrote { Writes self.entry (after_fe number) (operands.OrderIndex ordering index) result }
         ensures same { IsSameSink self.entry result }
         ensures room { HasRoom self.entry → IsOk result }
@@ -57,7 +59,8 @@ impl<'a, A: Allocator> InstructionSink<'a, A> {
         first: u32,
         second: u32,
     ) -> Result<InstructionSink<'a, A>, EncodeError>
-        requires { IsShort (after_fe number) }
+        requires short { IsShort (after_fe number) }
+        requires call { IsCall (after_fe number) (operands.OrderTwoIndexes ordering first second) }
         ensures wrote { Writes self.entry (after_fe number) (operands.OrderTwoIndexes ordering first second) result }
         ensures same { IsSameSink self.entry result }
         ensures room { HasRoom self.entry → IsOk result }

@@ -2,7 +2,7 @@
 ghost use Rattle.std.specs.Prelude.{◌∷◌, [], ◌<◌, IsOk};
 ghost use Rattle.std.specs.Borrow.{sem};
 ghost use Rattle.wasm_sink.specs.Sink.{opcode, IsUnchangedAtErr, IsSameSink, Writes, HasRoom};
-ghost use Rattle.wasm_instructions.specs.Instructions.{IsShort, after_fb, without_prefix};
+ghost use Rattle.wasm_instructions.specs.Instructions.{IsCall, IsShort, after_fb, without_prefix};
 ghost use Rattle.wasm_instructions.specs.declared.table.call.Operands.TheVariants as operands;
 
 use crate::sink::InstructionSink;
@@ -13,7 +13,7 @@ use wasm_instructions::operands::BlockType;
 use wasm_instructions::table::{Opcode, Prefix};
 use wasm_types::types::{HeapType, RefType, ValType};
 
-#[tactic(auto, using(wasm_calls::proofs::InstructionLengths::short_call))]
+#[tactic(auto, using(wasm_calls::proofs::InstructionLengths::short_call, crate::proofs::WrittenCalls::shortest_call))]
 impl<'a, A: Allocator> InstructionSink<'a, A> {
     /// An instruction without a prefix, with a block type.
     pub(in crate::sink) fn emit_block(
@@ -21,7 +21,8 @@ impl<'a, A: Allocator> InstructionSink<'a, A> {
         number: u8,
         block_type: BlockType,
     ) -> Result<InstructionSink<'a, A>, EncodeError>
-        requires { IsShort (without_prefix number) }
+        requires short { IsShort (without_prefix number) }
+        requires call { IsCall (without_prefix number) (operands.Block block_type) }
         ensures wrote { Writes self.entry (without_prefix number) (operands.Block block_type) result }
         ensures same { IsSameSink self.entry result }
         ensures room { HasRoom self.entry → IsOk result }
@@ -39,7 +40,8 @@ impl<'a, A: Allocator> InstructionSink<'a, A> {
         number: u32,
         heap_type: HeapType,
     ) -> Result<InstructionSink<'a, A>, EncodeError>
-        requires { IsShort (opcode prefix number) }
+        requires short { IsShort (opcode prefix number) }
+        requires call { IsCall (opcode prefix number) (operands.Heap heap_type) }
         ensures wrote { Writes self.entry (opcode prefix number) (operands.Heap heap_type) result }
         ensures same { IsSameSink self.entry result }
         ensures room { HasRoom self.entry → IsOk result }
@@ -56,7 +58,8 @@ impl<'a, A: Allocator> InstructionSink<'a, A> {
         number: u8,
         ty: ValType,
     ) -> Result<InstructionSink<'a, A>, EncodeError>
-        requires { IsShort (without_prefix number) }
+        requires short { IsShort (without_prefix number) }
+        requires call { IsCall (without_prefix number) (operands.Types (ty ∷ [])) }
         ensures wrote { Writes self.entry (without_prefix number) (operands.Types (ty ∷ [])) result }
         ensures same { IsSameSink self.entry result }
         ensures room { HasRoom self.entry → IsOk result }
@@ -76,7 +79,8 @@ impl<'a, A: Allocator> InstructionSink<'a, A> {
         to: RefType,
     ) -> Result<InstructionSink<'a, A>, EncodeError>
         // A branch on a cast has no more than 20 bytes since its opcode's number has one.
-        requires { number < 128 }
+        requires short { number < 128 }
+        requires call { IsCall (after_fb number) (operands.Cast label from to) }
         ensures wrote { Writes self.entry (after_fb number) (operands.Cast label from to) result }
         ensures same { IsSameSink self.entry result }
         ensures room { HasRoom self.entry → IsOk result }

@@ -10,6 +10,7 @@ use std::alloc::Allocator;
 use wasm_codec::encode::EncodeError;
 use wasm_instructions::table::Prefix;
 
+#[tactic(auto, unfolding(wasm_instructions::specs::Opcodes::ranges))]
 impl<'a, A: Allocator> InstructionSink<'a, A> {
     /// `i32.wrap_i64`: `0xA7`.
     pub fn i32_wrap_i64(self) -> Result<InstructionSink<'a, A>, EncodeError>

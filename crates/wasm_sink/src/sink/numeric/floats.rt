@@ -11,6 +11,7 @@ use wasm_codec::encode::EncodeError;
 use wasm_instructions::operands::{Ieee32, Ieee64};
 use wasm_instructions::table::Prefix;
 
+#[tactic(auto, unfolding(wasm_instructions::specs::Opcodes::ranges))]
 impl<'a, A: Allocator> InstructionSink<'a, A> {
     /// `f32.const`: `0x43`, then 4 bytes, the lowest first.
     pub fn f32_const(self, value: Ieee32) -> Result<InstructionSink<'a, A>, EncodeError>

@@ -10,6 +10,7 @@ use std::alloc::Allocator;
 use wasm_codec::encode::EncodeError;
 use wasm_instructions::table::Prefix;
 
+#[tactic(auto, unfolding(wasm_instructions::specs::Opcodes::ranges))]
 impl<'a, A: Allocator> InstructionSink<'a, A> {
     /// `i32.const`: `0x41`, then a signed number of 32 bits.
     pub fn i32_const(self, value: i32) -> Result<InstructionSink<'a, A>, EncodeError>

@@ -11,6 +11,7 @@ use std::alloc::Allocator;
 use wasm_codec::encode::EncodeError;
 use wasm_instructions::table::Prefix;
 
+#[tactic(auto, unfolding(wasm_instructions::specs::Opcodes::ranges))]
 impl<'a, A: Allocator> InstructionSink<'a, A> {
     /// `i64.const`: `0x42`, then a signed number of 64 bits.
     pub fn i64_const(self, value: i64) -> Result<InstructionSink<'a, A>, EncodeError>

@@ -10,6 +10,7 @@ use std::alloc::Allocator;
 use wasm_codec::encode::EncodeError;
 use wasm_instructions::table::Prefix;
 
+#[tactic(auto, unfolding(wasm_instructions::specs::Opcodes::ranges))]
 impl<'a, A: Allocator> InstructionSink<'a, A> {
     /// `v128.not`: `0xFD 0x4D`.
     pub fn v128_not(self) -> Result<InstructionSink<'a, A>, EncodeError>

@@ -10,6 +10,7 @@ use std::alloc::Allocator;
 use wasm_codec::encode::EncodeError;
 use wasm_instructions::table::Prefix;
 
+#[tactic(auto, unfolding(wasm_instructions::specs::Opcodes::ranges))]
 impl<'a, A: Allocator> InstructionSink<'a, A> {
     /// `i8x16.eq`: `0xFD 0x23`.
     pub fn i8x16_eq(self) -> Result<InstructionSink<'a, A>, EncodeError>

@@ -10,6 +10,7 @@ use std::alloc::Allocator;
 use wasm_codec::encode::EncodeError;
 use wasm_instructions::table::Prefix;
 
+#[tactic(auto, unfolding(wasm_instructions::specs::Opcodes::ranges))]
 impl<'a, A: Allocator> InstructionSink<'a, A> {
     /// `f32x4.demote_f64x2_zero`: `0xFD 0x5E`.
     pub fn f32x4_demote_f64x2_zero(self) -> Result<InstructionSink<'a, A>, EncodeError>

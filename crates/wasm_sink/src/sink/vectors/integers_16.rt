@@ -10,6 +10,7 @@ use std::alloc::Allocator;
 use wasm_codec::encode::EncodeError;
 use wasm_instructions::table::Prefix;
 
+#[tactic(auto, unfolding(wasm_instructions::specs::Opcodes::ranges))]
 impl<'a, A: Allocator> InstructionSink<'a, A> {
     /// `i16x8.extadd_pairwise_i8x16_s`: `0xFD 0x7C`.
     pub fn i16x8_extadd_pairwise_i8x16_s(self) -> Result<InstructionSink<'a, A>, EncodeError>

@@ -10,6 +10,7 @@ use std::alloc::Allocator;
 use wasm_codec::encode::EncodeError;
 use wasm_instructions::table::Prefix;
 
+#[tactic(auto, unfolding(wasm_instructions::specs::Opcodes::ranges))]
 impl<'a, A: Allocator> InstructionSink<'a, A> {
     /// `i32x4.extadd_pairwise_i16x8_s`: `0xFD 0x7E`.
     pub fn i32x4_extadd_pairwise_i16x8_s(self) -> Result<InstructionSink<'a, A>, EncodeError>

@@ -10,6 +10,7 @@ use std::alloc::Allocator;
 use wasm_codec::encode::EncodeError;
 use wasm_instructions::table::Prefix;
 
+#[tactic(auto, unfolding(wasm_instructions::specs::Opcodes::ranges))]
 impl<'a, A: Allocator> InstructionSink<'a, A> {
     /// `i64x2.abs`: `0xFD 0xC0 0x01`.
     pub fn i64x2_abs(self) -> Result<InstructionSink<'a, A>, EncodeError>

@@ -10,6 +10,7 @@ use std::alloc::Allocator;
 use wasm_codec::encode::EncodeError;
 use wasm_instructions::table::Prefix;
 
+#[tactic(auto, unfolding(wasm_instructions::specs::Opcodes::ranges))]
 impl<'a, A: Allocator> InstructionSink<'a, A> {
     /// `i8x16.abs`: `0xFD 0x60`.
     pub fn i8x16_abs(self) -> Result<InstructionSink<'a, A>, EncodeError>

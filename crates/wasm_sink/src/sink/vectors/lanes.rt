@@ -11,6 +11,7 @@ use wasm_codec::encode::EncodeError;
 use wasm_instructions::operands::Lane;
 use wasm_instructions::table::Prefix;
 
+#[tactic(auto, unfolding(wasm_instructions::specs::Opcodes::ranges))]
 impl<'a, A: Allocator> InstructionSink<'a, A> {
     /// `v128.const`: `0xFD 0x0C`, then 16 bytes, the lowest first.
     pub fn v128_const(self, value: i128) -> Result<InstructionSink<'a, A>, EncodeError>

@@ -11,6 +11,7 @@ use wasm_codec::encode::EncodeError;
 use wasm_instructions::operands::{Lane, MemArg};
 use wasm_instructions::table::Prefix;
 
+#[tactic(auto, unfolding(wasm_instructions::specs::Opcodes::ranges))]
 impl<'a, A: Allocator> InstructionSink<'a, A> {
     /// `v128.load`: `0xFD 0x00`, then a memory argument. `Alignment` where `memarg.align` is 64 or more.
     pub fn v128_load(self, memarg: MemArg) -> Result<InstructionSink<'a, A>, EncodeError>

@@ -10,6 +10,7 @@ use std::alloc::Allocator;
 use wasm_codec::encode::EncodeError;
 use wasm_instructions::table::Prefix;
 
+#[tactic(auto, unfolding(wasm_instructions::specs::Opcodes::ranges))]
 impl<'a, A: Allocator> InstructionSink<'a, A> {
     /// `i8x16.relaxed_swizzle`: `0xFD 0x80 0x02`.
     pub fn i8x16_relaxed_swizzle(self) -> Result<InstructionSink<'a, A>, EncodeError>

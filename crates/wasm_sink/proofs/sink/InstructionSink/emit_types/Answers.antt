@@ -1,0 +1,15 @@
+use Rattle.std.proofs.Common.{rules, refl}
+use Rattle.wasm_instructions.specs.Instructions.{without_prefix}
+use Rattle.wasm_instructions.specs.declared.table.call.Operands.TheVariants as operands
+use Rattle.wasm_sink.proofs.WrittenCalls.{shortest_call}
+use Rattle.wasm_sink.proofs.sink.InstructionSink.emit_types.Goals as goal
+
+pub returns : goal.returns
+returns g c = (
+  search (rules),
+  record {
+    wrote = (search (rules), shortest_call (without_prefix c.args.number) (operands.Types c.args.types.now) c.requires.call tt c.in_ok-append_type_list.ensures.fits.1 c.in_ok-append_type_list.ensures.fits.0.1, search (rules));
+    same = refl;
+    unchanged = tt;
+  },
+)
