@@ -1,12 +1,19 @@
-//! Entries of lists that are held, by the iterators of the standard library.
-ghost use Rattle.std.specs.Prelude.{◌++◌, ◌∷◌, [], List, OnOk};
+//! Entries, locals and labels of lists that are held, by the iterators of the standard library.
+ghost use Rattle.std.specs.Prelude.{◌≡◌, ◌++◌, ◌∷◌, [], List, IfOk, OnOk};
+ghost use Rattle.wasm_encoder.specs.CodeSections.{FunctionStandsFor, body_of};
+ghost use Rattle.wasm_encoder.specs.InstructionFormats.{instruction};
 ghost use Rattle.wasm_encoder.specs.TypeSections.{StandsFor, final_entry};
+ghost use Rattle.wasm_instructions.specs.Instructions.{call, without_prefix};
+ghost use Rattle.wasm_instructions.specs.declared.table.call.Operands.TheVariants as operands;
 ghost use Rattle.wasm_types.specs.declared.types.composite.CompositeInnerType.TheVariants as inner;
 ghost use Rattle.wasm_types.specs.declared.types.composite.TypeEntry.{TypeEntry};
 ghost use Rattle.wasm_types.specs.declared.types.composite.TypeEntry.TheVariants as entries;
 
 use crate::whole_way::{function, group};
-use wasm_encoder::{EncodeError, SubType, TypeEntry, TypeSection, ValType};
+use std::alloc::Global;
+use wasm_encoder::{
+    EncodeError, Function, InstructionSink, SubType, TypeEntry, TypeSection, ValType,
+};
 
 /// Adds a function type of these parameters and results.
 pub fn function_of_slices(
@@ -27,4 +34,20 @@ pub fn group_of_vec(section: &mut TypeSection, types: Vec<SubType>) -> Result<()
         OnOk result (StandsFor section.new (before ++ entries.Rec types.items ∷ [])) }
 {
     group(section, types.into_iter())
+}
+
+/// A function with these locals, and without instructions.
+pub fn function_of_locals(alloc: Global, locals: &[(u32, ValType)]) -> Result<Function, EncodeError>
+    ensures { IfOk result (λ function. FunctionStandsFor function (body_of locals.now [])) }
+{
+    Function::new(alloc, locals.iter().copied())
+}
+
+/// Appends a branch to one of these labels.
+pub fn branch_table(code: &mut Vec<u8>, labels: &[u32]) -> Result<(), EncodeError>
+    ensures { OnOk result (code.new.items ≡
+        code.old.items ++ instruction.bytes (call (without_prefix 0x0e) (operands.BrTable labels.now 0))) }
+{
+    InstructionSink::new(&mut *code).br_table(labels.iter().copied(), 0)?;
+    Ok(())
 }

@@ -1,4 +1,4 @@
--- What a section stands for, where it is known what the iterators give that an entry is made of.
+-- What a section or a function stands for, where it is known what the iterators give that it is made of.
 use Rattle.std.proofs.Common.{◌≡◌, List, [], ◌∷◌, ◌++◌, Option, Result, Ok, Err, OnOk, sym, subst, ◌∙◌}
 use mathlib.Core.List.{map-id}
 use Rattle.std.specs.Iterator.{Drains}
@@ -11,6 +11,10 @@ use Rattle.wasm_encoder.specs.TypeSections.{Gains, OfBoth, StandsFor, final_entr
 
 given : {S A : Type 0} {steps : S → Option A → S → Type 0} {s : S} {all : List A} (xs : List A) → Drains steps s xs → YieldsList steps (λ x. x) s all → xs ≡ all
 given xs drains yields = sym (map-id xs) ∙ items_from_drains xs (drains.1.0, drains.1.1, λ w. (drains.0, drains.1.2)) yields
+
+-- what holds of the list that the iterator gives holds of these items
+pub holds_of_given : {S A : Type 0} (gives : S → Option A → S → Type 0) (s : S) (Holds : List A → Type 0) → OfItems gives s Holds → (all : List A) → GivesItems gives s all → Holds all
+holds_of_given gives s Holds ran all yields = subst Holds (given ran.0 ran.1 yields) ran.2
 
 pub items_stand : {S A T E : Type 0} (gives : S → Option A → S → Type 0) (s : S) (r : Result T E) (old new : Entries) (entry_of : List A → TypeEntry) → OnOk r (OfItems gives s (λ xs. Gains old (entry_of xs) new))
     → (before : List TypeEntry) (all : List A) → StandsFor old before → GivesItems gives s all → OnOk r (StandsFor new (before ++ entry_of all ∷ []))

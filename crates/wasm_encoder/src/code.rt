@@ -1,5 +1,5 @@
 //! Functions and the code section (Core 3.0, Code Section).
-ghost use Rattle.std.specs.Prelude.{◌≡◌, ◌++◌, ◌+◌, ◌^◌, ◌↔◌, ◌⊎◌, ℕ, List, [], IsTrue, OnOk, OnErr, IfOk, IfErr, length};
+ghost use Rattle.std.specs.Prelude.{◌≡◌, ◌++◌, ◌+◌, ◌^◌, ◌≤◌, ◌↔◌, ◌⊎◌, ℕ, List, [], IsTrue, OnOk, OnErr, IfOk, IfErr, IsErrOf, length};
 ghost use Rattle.std.specs.List.{Any};
 ghost use Rattle.std.specs.Borrow.{Lends, follows, sem};
 ghost use Rattle.std.specs.Iterator.{size};
@@ -7,10 +7,11 @@ ghost use Rattle.wasm_codec.specs.Encoding.{byte_list_bytes, IsCount, IsRefusal,
 ghost use Rattle.wasm_codec.specs.declared.encode.EncodeError.TheVariants.{Memory};
 ghost use Rattle.wasm_calls.specs.Appending.{IsRefusalOfOne};
 ghost use Rattle.wasm_modules.specs.declared.code.CodeBody.{CodeBody};
+ghost use Rattle.wasm_types.specs.declared.types.value.ValType.{ValType};
 ghost use Rattle.wasm_modules.specs.formats.CodeBodies.{code_section_body};
 ghost use Rattle.wasm_modules.specs.Sections.{decoded_section_of, code_bodies, code_section_id};
 ghost use Rattle.wasm_modules.specs.DecodedModules.{IsDecodedSection};
-ghost use Rattle.wasm_encoder.specs.EncodedLists.{Entries, CountedSection, IsFull, IsMemoryOrTooLong, IsUncounted, OfItems, body_bytes};
+ghost use Rattle.wasm_encoder.specs.EncodedLists.{Entries, CountedSection, GivesItems, IsFull, IsMemoryOrTooLong, IsUncounted, OfItems, body_bytes};
 ghost use Rattle.wasm_encoder.specs.Rows.{bytes_row};
 ghost use Rattle.wasm_encoder.specs.CodeSections.{FunctionStandsFor, GainsBodies, GainsFunction, GoesOnWith, HoldsBodies, StandsForBodies, UncountedBody, body_of};
 
@@ -56,7 +57,11 @@ impl Function {
         requires { L.can_next locals }
         ensures ok { IfOk result (λ function. OfItems L.next_gives locals (λ groups.
             FunctionStandsFor function (body_of groups []))) }
+        // Where it is known what the iterator gives, as of `slice.iter().copied()`, these are the locals.
+        ensures stands { (groups : List (ℕ × ValType)) → GivesItems L.next_gives locals groups →
+            IfOk result (λ function. FunctionStandsFor function (body_of groups [])) }
         ensures refused { IfErr result (IsMemoryOrTooLong (IsUncounted (size (L.remaining locals)))) }
+        ensures too_many { 2 ^ 32 ≤ size (L.remaining locals) → IsErrOf result EncodeError.TooLong }
     {
         let mut bytes = Vec::new(alloc);
         append_items(locals, &mut bytes)?;

@@ -2,6 +2,7 @@
 
 use super::{is, is_encoded};
 use std::alloc::Global;
+use std::iter::repeat_n;
 use std::test::Fail;
 use wasm_encoder::{
     Call, CodeBody, CodeSection, EncodeError, Function, InstructionSink, Items, Section, ValType,
@@ -98,4 +99,16 @@ fn a_body_and_its_copy_in_a_section(rt: HostRuntime) -> Result<(), Fail> {
     code.bodies(bodies.as_slice())?;
     let hex = "19020B02027F0170200020016A0B0B02027F0170200020016A0B";
     is_section(rt.alloc(), &code, 2, hex)
+}
+
+/// More locals than a u32 counts are refused, by what the iterator says of their number, before one is asked for: were
+/// they, the test would run out of time.
+#[test]
+fn too_many_locals_are_refused(rt: HostRuntime) -> Result<(), Fail> {
+    for count in [5_000_000_000, 4_294_967_296] {
+        let locals = repeat_n((1, ValType::I32), count);
+        let refused = Function::new(rt.alloc(), locals).err();
+        assert!(rt; refused == Some(EncodeError::TooLong));
+    }
+    Ok(())
 }
