@@ -1,12 +1,13 @@
 //! The named types are those of the standard: `any` and the other heap types, and nullable references to them
-//! (Core 3.0, Heap Types to Value Types).
+//! (Core 3.0, Heap Types to Value Types). So is the header of modules.
 ghost use Rattle.std.specs.Prelude.{◌≡◌, true, false};
+ghost use Rattle.wasm_encoder.specs.Sections.{header};
 ghost use Rattle.wasm_types.specs.formats.Types.{reference};
 ghost use Rattle.wasm_types.specs.declared.types.heap.AbstractHeapType.TheVariants as abstracts;
 ghost use Rattle.wasm_types.specs.declared.types.heap.HeapType.TheVariants.{Abstract};
 ghost use Rattle.wasm_types.specs.declared.types.value.ValType.TheVariants as values;
 
-use wasm_encoder::{HeapType, RefType, ValType};
+use wasm_encoder::{HeapType, Module, RefType, ValType};
 
 /// `ANY` of `HeapType`.
 pub fn any() -> HeapType
@@ -104,4 +105,11 @@ pub fn exnref_value() -> ValType
     ensures { result ≡ values.Ref (reference true (Abstract false abstracts.Exn)) }
 {
     ValType::EXNREF
+}
+
+/// `HEADER` of `Module`.
+pub fn module_header() -> [u8; 8]
+    ensures { result ≡ header }
+{
+    Module::HEADER
 }
