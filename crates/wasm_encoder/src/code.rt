@@ -188,13 +188,15 @@ impl CodeSection {
 
     /// Adds bodies, all of them or none.
     ///
-    /// `TooLong` where there would be more than 4,294,967,295, or where a body or a list in it is too long.
+    /// `TooLong` where there would be more than 4,294,967,295, before one is encoded, or where a body or a list in it is
+    /// too long.
     #[tactic(auto, using(crate::proofs::CodeSectionLaws::gains_bodies))]
     pub fn bodies(&mut self, bodies: &[CodeBody]) -> Result<(), EncodeError>
         ensures ok { OnOk result (GainsBodies self.old bodies.now self.new) }
         ensures err { OnErr result (self.new ≡ self.old) }
         ensures refused { IfErr result (IsMemoryOrTooLong (
             IsUncounted (self.old.count + length bodies.now) ⊎ Any UncountedBody bodies.now)) }
+        ensures too_many { 2 ^ 32 ≤ self.old.count + length bodies.now → IsErrOf result EncodeError.TooLong }
     {
         self.bodies.add_all(bodies)
     }

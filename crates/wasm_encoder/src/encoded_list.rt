@@ -1,5 +1,5 @@
 //! What sections that are lists are built in: encodings one after the other, and their number (Core 3.0, Modules).
-ghost use Rattle.std.specs.Prelude.{◌≡◌, ◌++◌, ◌∷◌, ◌+◌, ◌⊎◌, [], OnOk, OnErr, IfOk, IfErr, length, take};
+ghost use Rattle.std.specs.Prelude.{◌≡◌, ◌++◌, ◌∷◌, ◌+◌, ◌^◌, ◌≤◌, ◌⊎◌, [], OnOk, OnErr, IfOk, IfErr, IsErrOf, length, take};
 ghost use Rattle.std.specs.List.{All, flat_map};
 ghost use Rattle.wasm_codec.specs.Encoding.{byte_list_bytes, CanEncodeList, IsCount, IsRefusal, OnlyTooLong};
 ghost use Rattle.wasm_writers.specs.Iterators.{IsItemsRefusal};
@@ -11,7 +11,7 @@ use std::alloc::{Allocator, Global};
 use std::marker::Model;
 use wasm_codec::encode::leb128::u32_len;
 use wasm_codec::encode::{EncodeError, keep_or_undo};
-use wasm_writers::encode::{Encode, append_items};
+use wasm_writers::encode::{Encode, append_each, append_items};
 
 /// Values that were encoded one after the other.
 ///
@@ -85,6 +85,8 @@ impl EncodedList {
     }
 
     /// Adds values, all of them or none.
+    ///
+    /// `TooLong` where there would be more than 4,294,967,295, before one is encoded; else an error of a value.
     pub(crate) fn add_all<T: Encode>(&mut self, values: &[T]) -> Result<(), EncodeError>
         ensures count { OnOk result (self.new.count ≡ self.old.count + length values.now) }
         ensures bytes { OnOk result (self.new.bytes ≡ self.old.bytes ++ flat_map T.bytes values.now) }
@@ -92,29 +94,23 @@ impl EncodedList {
         ensures written { OnOk result (All T.IsWritten values.now) }
         ensures err { OnErr result (self.new ≡ self.old) }
         ensures refused { IfErr result (IsRefusalOfEach T.CanEncode T.refuses self.old values.now) }
+        ensures too_many { 2 ^ 32 ≤ self.old.count + length values.now → IsErrOf result EncodeError.TooLong }
     {
+        let count = self.count_after(values.len())?;
         let start = self.bytes.len();
-        let count = self.count;
-        let added = self.add_each(values);
-        if added.is_err() {
-            self.count = count;
-        }
-        keep_or_undo(&mut self.bytes, start, added)
+        let appended = append_each(values, &mut self.bytes);
+        self.settle(start, count, appended)
     }
 
-    /// Adds values one by one. An `Err` can leave some of them.
-    fn add_each<T: Encode>(&mut self, values: &[T]) -> Result<(), EncodeError>
-        ensures count { OnOk result (self.new.count ≡ self.old.count + length values.now) }
-        ensures bytes { OnOk result (self.new.bytes ≡ self.old.bytes ++ flat_map T.bytes values.now) }
-        ensures can { OnOk result (All T.CanEncode values.now) }
-        ensures written { OnOk result (All T.IsWritten values.now) }
-        ensures refused { IfErr result (IsRefusalOfEach T.CanEncode T.refuses self.old values.now) }
-        ensures kept { take (length self.old.bytes) self.new.bytes ≡ self.old.bytes }
+    /// The number of values after so many more.
+    fn count_after(&self, more: usize) -> Result<u32, EncodeError>
+        ensures ok { IfOk result (λ count. count ≡ self.now.count + more) }
+        ensures err { IfErr result (λ e. (e ≡ TooLong) × (2 ^ 32 ≤ self.now.count + more)) }
     {
-        for value in values {
-            self.add(value)?;
-        }
-        Ok(())
+        let Ok(more) = u32::try_from(more) else {
+            return Err(EncodeError::TooLong);
+        };
+        self.count.checked_add(more).ok_or(EncodeError::TooLong)
     }
 }
 

@@ -1,5 +1,5 @@
 //! The type section (Core 3.0, Type Section).
-ghost use Rattle.std.specs.Prelude.{◌≡◌, ℕ, List, ◌++◌, ◌∷◌, ◌+◌, ◌⊎◌, [], OnOk, OnErr, IfOk, IfErr, IsTrue, ◌↔◌, length};
+ghost use Rattle.std.specs.Prelude.{◌≡◌, ℕ, List, ◌++◌, ◌∷◌, ◌+◌, ◌⊎◌, [], OnOk, OnErr, IfOk, IfErr, IsTrue, ◌↔◌, length, ◌^◌, ◌≤◌, IsErrOf};
 ghost use Rattle.std.specs.List.{Any};
 ghost use Rattle.std.specs.Iterator.{size};
 ghost use Rattle.wasm_encoder.specs.EncodedLists.{Entries, CountedSection, GivesItems, GivesSome, IsFull, IsMemoryOrTooLong, IsUncounted, OfItems, body_bytes};
@@ -91,13 +91,15 @@ impl TypeSection {
 
     /// Adds entries, all of them or none.
     ///
-    /// `TooLong` where there would be more than 4,294,967,295, or where a list in an entry is too long.
+    /// `TooLong` where there would be more than 4,294,967,295, before one is encoded, or where a list in an entry is too
+    /// long.
     #[tactic(auto, using(crate::proofs::TypeSectionLaws::gains_entries))]
     pub fn entries(&mut self, entries: &[TypeEntry]) -> Result<(), EncodeError>
         ensures ok { OnOk result (GainsAll self.old entries.now self.new) }
         ensures err { OnErr result (self.new ≡ self.old) }
         ensures refused { IfErr result (IsMemoryOrTooLong (
             IsUncounted (self.old.count + length entries.now) ⊎ Any UncountedEntry entries.now)) }
+        ensures too_many { 2 ^ 32 ≤ self.old.count + length entries.now → IsErrOf result EncodeError.TooLong }
     {
         self.entries.add_all(entries)
     }

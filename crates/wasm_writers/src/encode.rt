@@ -9,7 +9,7 @@ mod lists;
 mod pairs;
 
 pub use iterators::append_items;
-pub use lists::{encode_bytes, encode_list, encode_list_after, encode_str};
+pub use lists::{append_each, encode_bytes, encode_list, encode_list_after, encode_str};
 use std::alloc::Allocator;
 pub use wasm_codec::encode::EncodeError;
 use wasm_codec::encode::keep_or_undo;

@@ -30,8 +30,7 @@ pub fn encode_list<T: Encode, A: Allocator>(
 
 /// Appends a byte, the number of items and then the bytes of each, or leaves `sink` as it was.
 ///
-/// `Memory` where there is no room for the byte; else `TooLong` where there are more than 4,294,967,295 items, before the
-/// first is encoded; else an error of an item.
+/// `TooLong` where there are more than 4,294,967,295 items, before anything grows; else an error of an item.
 pub fn encode_list_after<T: Encode, A: Allocator>(
     byte: u8,
     items: &[T],
@@ -41,8 +40,12 @@ pub fn encode_list_after<T: Encode, A: Allocator>(
     ensures can { OnOk result (CanEncodeList T.CanEncode items.now) }
     ensures written { OnOk result (All T.IsWritten items.now) }
     ensures refused { IfErr result (IsListRefusal T.CanEncode T.refuses items.now) }
+    ensures too_many { 2 ^ 32 ≤ length items.now → IsErrOf result EncodeError.TooLong }
     ensures err { OnErr result (sink.new.items ≡ sink.old.items) }
 {
+    if u32::try_from(items.len()).is_err() {
+        return Err(EncodeError::TooLong);
+    }
     let start = sink.len();
     sink.reserve(1)?;
     sink.push_reserved(byte);
@@ -67,7 +70,7 @@ fn append_list<T: Encode, A: Allocator>(
 }
 
 /// Appends the bytes of each item. An `Err` can leave a part of them.
-fn append_each<T: Encode, A: Allocator>(
+pub fn append_each<T: Encode, A: Allocator>(
     items: &[T],
     sink: &mut Vec<u8, A>,
 ) -> Result<(), EncodeError>
