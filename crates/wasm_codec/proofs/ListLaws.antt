@@ -195,7 +195,7 @@ pub record Answered {X V : Type 0} (Count : Grammar ℕ) (number : Reader ℕ) (
   pub finds : UnlessMemory r (FindsAt (Counted Count G) (counted_at number read) old)
   pub prefix : UnlessMemory r (IsAfterLongest (IsCountedPrefix Count G) old new)
 
--- the count is wanting
+-- the count is missing or malformed
 pub count_wanting : {X V : Type 0} {Count : Grammar ℕ} {number : Reader ℕ} → IsReadBy Count number → (G : Grammar V) (read : Reader V) (old new : List ℕ) (fault : Fault) → Reads number old new (Err fault) → new ≡ old → Answered {X = X} Count number G read old new (Err fault)
 count_wanting counts G read old new faults.Memory none stays = record { finds = tt; prefix = tt }
 count_wanting counts G read old new faults.Malformed none stays = record { finds = finds_none counts G read old none; prefix = rw stays (after_none counts G old none) }
@@ -204,7 +204,7 @@ pub unread_count : {V : Type 0} (number : Reader ℕ) (read : Reader V) (old new
 unread_count number read old new faults.Memory none = tt
 unread_count number read old new faults.Malformed none = rw none refl
 
--- an item is wanting
+-- an item is missing or malformed
 pub item_wanting : {X V : Type 0} {Count : Grammar ℕ} {number : Reader ℕ} {G : Grammar V} {read : Reader V} → IsReadBy G read → TakesBytes G → (old left new : List ℕ) (count i : ℕ) (vs : List V) (fault : Fault) → Gone Count number G read old left count i vs → i < count → Reads read left new (Err fault) → new ≡ left → Answered {X = X} Count number G read old new (Err fault)
 item_wanting finds some old left new count i vs faults.Memory w lt none stays = record { finds = tt; prefix = tt }
 item_wanting {G = G} {read} finds some old left new count i vs faults.Malformed w lt none stays =

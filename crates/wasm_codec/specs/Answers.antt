@@ -32,7 +32,7 @@ HoldsAtRefusal (errors.Refused at) P = P at
 abbrev pub IfRefused : {X : Type 0} → Result X ReadError → (ℕ → Type 0) → Type 0
 IfRefused r P = IfErr r (λ e. HoldsAtRefusal e P)
 
--- The bytes have a prefix of this length that is whole, and no longer prefix is.
+-- The longest prefix of the bytes that is whole has this length.
 pub record IsLongestPrefix (Whole : List ℕ → Type 0) (bytes : List ℕ) (len : ℕ) : Type 0 where
   pub prefix : List ℕ
   pub rest : List ℕ
@@ -59,7 +59,7 @@ UnlessMemory (Ok x) P = P
 UnlessMemory (Err faults.Malformed) P = P
 UnlessMemory (Err faults.Memory) P = Unit {0}
 
--- These bytes come after a prefix that is whole, and no longer prefix is.
+-- These bytes come after the longest prefix that is whole.
 pub record IsAfterLongest (Whole : List ℕ → Type 0) (bytes rest : List ℕ) : Type 0 where
   pub prefix : List ℕ
   pub parts : bytes ≡ prefix ++ rest

@@ -27,7 +27,7 @@ too_long_at_once n = if nat_lt n (2 ^ 32) then None else Some TooLong
 abbrev pub IsTooLong : ℕ → EncodeError → Type 0
 IsTooLong n e = (e ≡ TooLong) × (2 ^ 32 ≤ n)
 
--- values that are refused, besides for want of memory, by `TooLong` alone
+-- values that are refused, besides for lack of memory, by `TooLong` alone
 abbrev pub OnlyTooLong : {T : Type 0} → T → EncodeError → Type 0
 OnlyTooLong x e = e ≡ TooLong
 

@@ -142,7 +142,7 @@ uncounted_body b = none_of_three (not_both (length b.locals)) (uncounted_calls b
 
 -- ---- what is answered
 
--- an error that isn't for want of memory is for something that can't be: what is said why, is so only where it can't
+-- an error that isn't for lack of memory is for something that can't be: what is said why, is so only where it can't
 pub only_where : {Can Why : Type 0} (e : EncodeError) → (Why → Can → ⊥) → IsMemoryOrTooLong Why e → (e ≡ Memory) ⊎ ((Can → ⊥) × (e ≡ TooLong))
 only_where e never (inl memory) = inl memory
 only_where e never (inr (is, why)) = inr (never why, is)

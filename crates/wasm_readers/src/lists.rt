@@ -20,7 +20,7 @@ use wasm_codec::reader::cursor::{Cursor, Fault};
 
 /// A list: a count, and then the items.
 ///
-/// Where the count or an item is wanting, the cursor is left at the place where it would begin.
+/// If the count or an item is missing or malformed, the cursor stays at the start of that part.
 pub fn read_list<'a, T: Readable<'a>>(
     alloc: Global,
     cursor: &mut Cursor<'a>,
@@ -176,7 +176,7 @@ pub fn read_joined_as<'a, T: Readable<'a>, const STRICT: bool>(
 
 /// Items one after another, with no count, as long as there are bytes.
 ///
-/// Where an item is wanting, the cursor is left at the place where it would begin.
+/// If an item is missing or malformed, the cursor stays at its start.
 pub fn read_to_end<'a, T: Readable<'a>>(
     alloc: Global,
     cursor: &mut Cursor<'a>,

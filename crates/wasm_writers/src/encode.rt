@@ -22,7 +22,7 @@ pub trait Encode {
     /// The bytes that are written for the value.
     ghost bytes: { Self → List ℕ };
 
-    /// What is known of a value that was written, such as that its bytes are its shortest encoding. Nothing, unless
+    /// What holds of each value that was written, such as that its bytes are its shortest encoding. Nothing, unless
     /// said.
     ghost IsWritten: { Self → Type 0 } = { λ _. ⊤ };
 

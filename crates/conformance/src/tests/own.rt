@@ -10,7 +10,7 @@ use wasm_encoder::{Encode, EncodeError, Section};
 #[derive(Drop)]
 pub struct Never;
 
-/// Always refused for want of memory.
+/// Always refused for lack of memory.
 impl Encode for Never {
     ghost bytes = { λ _. [] };
 

@@ -116,7 +116,7 @@ pub(super) fn reserve_list<T: Item, A: Allocator>(
 /// Appends the number of the items that come, into reserved room, and then the items, into it as well where the list is
 /// short. An `Err` can leave a part of them.
 ///
-/// The number that the iterator tells is written before the items, and mended where fewer come.
+/// Writes the iterator's `len` as the count, and corrects it if the iterator yields fewer items.
 #[tactic(auto, unfolding(crate::specs::Appending::AppendsAll))]
 pub(super) fn append_each<T: Item, I: ExactSizeIterator<Item = T>, A: Allocator>(
     bytes: &mut Vec<u8, A>,

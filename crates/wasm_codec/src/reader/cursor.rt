@@ -202,7 +202,7 @@ impl<'a> Cursor<'a> {
         Ok(Cursor::at(bytes, 0, self.shortest))
     }
 
-    /// A body was passed, and its place tells this at its end.
+    /// Takes over, from the end of a body, whether all that was read is in its shortest encoding.
     pub fn body_passed(&mut self, shortest: bool)
         ensures { self.new ≡ place shortest self.old.left }
     {

@@ -11,7 +11,7 @@ use wasm_codec::encode::mend_count;
 
 /// Appends the number of the items that come and then the bytes of each. An `Err` can leave a part of them.
 ///
-/// The number that the iterator tells is written before the items, and mended where fewer come.
+/// Writes the iterator's `len` as the count, and corrects it if the iterator yields fewer items.
 /// `TooLong` where it tells more than 4,294,967,295, before an item is asked for; else an error of an item.
 pub fn append_items<T: Encode + Drop, I: ExactSizeIterator<Item = T>, A: Allocator>(
     items: I,
