@@ -8,7 +8,7 @@ mod undo;
 
 pub(crate) use sized::write_u32;
 pub use sized::{mend_count, put_size_before};
-use std::alloc::AllocError;
+use std::alloc::{AllocError, AllocFailed};
 use thiserror::Error;
 pub use undo::keep_or_undo;
 
@@ -30,6 +30,14 @@ impl From<AllocError> for EncodeError {
     ghost from_gives = { λ _ e. e ≡ Memory };
 
     fn from(_error: AllocError) -> EncodeError {
+        EncodeError::Memory
+    }
+}
+
+impl<T: Drop> From<AllocFailed<T>> for EncodeError {
+    ghost from_gives = { λ _ e. e ≡ Memory };
+
+    fn from(_error: AllocFailed<T>) -> EncodeError {
         EncodeError::Memory
     }
 }
