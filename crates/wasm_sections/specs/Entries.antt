@@ -1,0 +1,21 @@
+-- What entries that borrow from bytes stand for.
+use Rattle.std.specs.Prelude.{ℕ, List, map}
+use Rattle.wasm_sections.specs.declared.types.EntityType.{EntityType}
+use Rattle.wasm_sections.specs.declared.types.ExportKind.{ExportKind}
+use Rattle.wasm_sections.specs.declared.exports.Export.{Export}
+
+pub record ExportParts : Type 0 where
+  pub name : List ℕ
+  pub kind : ExportKind
+  pub index : ℕ
+
+abbrev pub export_parts : Export → ExportParts
+export_parts e = record { name = e.name.now; kind = e.kind; index = e.index }
+
+abbrev pub all_export_parts : List Export → List ExportParts
+all_export_parts = map export_parts
+
+pub record ImportParts : Type 0 where
+  pub module_name : List ℕ
+  pub field : List ℕ
+  pub ty : EntityType

@@ -1,0 +1,5 @@
+pub mod Parts
+pub mod Names
+pub mod Externals
+pub mod Entries
+pub mod Sections

@@ -1,0 +1,225 @@
+//! Export sections (Core 3.0, Export Section).
+ghost use Rattle.std.specs.Prelude.{◌≡◌, ◌↔◌, ◌≤◌, true, List, length, refl, IfOk, IfErr};
+ghost use Rattle.wasm_codec.specs.Answers.{IsOrMemory, IfRefused, IsLongestPrefix, IsNormalForm, EncodesSome};
+ghost use Rattle.wasm_codec.specs.Encoding.{IsShortestOrLonger};
+ghost use Rattle.wasm_codec.specs.Lists.{IsListPrefix, AskedList, IsAskedPrefix};
+ghost use Rattle.wasm_codec.specs.Places.{Reads};
+ghost use Rattle.wasm_codec.specs.Rewriter.{Rewrites, Gives};
+ghost use Rattle.wasm_codec.specs.declared.reader.cursor.Fault.TheVariants.{Malformed};
+ghost use Rattle.std.proofs.lemmas.List.{map_push};
+ghost use Rattle.wasm_codec.specs.Grammar.{TakesBytes};
+ghost use Rattle.wasm_codec.specs.Lawful.{IsLawful};
+ghost use Rattle.wasm_codec.specs.Reading.{map_ok};
+ghost use Rattle.wasm_sections.specs.Entries.{ExportParts, export_parts, all_export_parts};
+ghost use Rattle.wasm_sections.specs.formats.Externals.{export_kind};
+ghost use Rattle.wasm_sections.specs.formats.Entries.{export_entry};
+ghost use Rattle.wasm_sections.specs.formats.Sections.{export_body};
+
+use crate::lists::{normalise_items, read_items, read_items_strict, rewrite_items};
+use crate::names::{read_name, rewrite_name};
+use crate::types::ExportKind;
+use std::alloc::Global;
+use wasm_codec::reader::ReadError;
+use wasm_codec::reader::cursor::{Cursor, Fault};
+use wasm_codec::rewriter::{Rewritable, Rewriter};
+use wasm_readers::readable::Readable;
+
+/// An export: a name, and what it refers to.
+#[derive(Clone, Copy, Debug)]
+pub struct Export<'a> {
+    /// The name.
+    pub name: &'a str,
+    /// What kind of thing it refers to.
+    pub kind: ExportKind,
+    /// The index of that thing.
+    pub index: u32,
+}
+
+/// The exports that the body of an export section encodes, in any encoding (Core 3.0, Export Section).
+///
+/// `Refused` carries the number of bytes of the count and of the exports that are whole before the first that isn't, or
+/// before what is left over.
+#[tactic(auto, using(crate::proofs::EntryLaws::export_is_lawful), unfolding(crate::specs::formats::Sections::export_body))]
+pub fn read_export_section<'a>(alloc: Global, body: &'a [u8]) -> Result<Vec<Export<'a>>, ReadError>
+    // What is given, the body encodes.
+    ensures given { IfOk result (λ exports. export_body.Encodes body.now (all_export_parts exports.items)) }
+    // What the body encodes is given, unless memory ran out.
+    ensures complete { (exports : List ExportParts) → export_body.Encodes body.now exports →
+        IsOrMemory (λ given. all_export_parts given.items) exports result }
+    // `at` is the length of the longest prefix that is whole.
+    ensures prefix { IfRefused result (IsLongestPrefix (IsListPrefix export_entry.Encodes) body.now) }
+    // The body encodes at most one list.
+    ensures one { (exports others : List ExportParts) →
+        export_body.Encodes body.now exports → export_body.Encodes body.now others → exports ≡ others }
+    // Every other encoding of a list is longer than its shortest.
+    ensures shortest { (exports : List ExportParts) → export_body.Encodes body.now exports →
+        IsShortestOrLonger body.now (export_body.bytes exports) }
+{
+    read_items(alloc, body)
+}
+
+/// The exports whose shortest encoding the body of an export section is (Core 3.0, Export Section).
+///
+/// `Refused` carries the number of bytes of the count and of the exports that are whole and in their shortest
+/// encodings, before the first that isn't, or before what is left over; it is 0 where the count isn't in the fewest
+/// bytes.
+#[tactic(auto, using(crate::proofs::EntryLaws::export_is_lawful), unfolding(crate::specs::formats::Sections::export_body))]
+pub fn read_export_section_strict<'a>(
+    alloc: Global,
+    body: &'a [u8],
+) -> Result<Vec<Export<'a>>, ReadError>
+    // What is given, the body is the shortest encoding of.
+    ensures given { IfOk result (λ exports. AskedList true export_entry body.now (all_export_parts exports.items)) }
+    // What the body is the shortest encoding of is given, unless memory ran out.
+    ensures complete { (exports : List ExportParts) → AskedList true export_entry body.now exports →
+        IsOrMemory (λ given. all_export_parts given.items) exports result }
+    // `at` is the length of the longest prefix that is whole and in shortest encodings.
+    ensures prefix { IfRefused result (IsLongestPrefix (IsAskedPrefix true export_entry) body.now) }
+    // The body is the shortest encoding of at most one list.
+    ensures one { (exports others : List ExportParts) →
+        AskedList true export_entry body.now exports → AskedList true export_entry body.now others → exports ≡ others }
+    // That is so where it encodes the list, as `read_export_section` tells, and is as `normalise_export_section` leaves it.
+    ensures shortest { (exports : List ExportParts) → AskedList true export_entry body.now exports ↔
+        (export_body.Encodes body.now exports × (body.now ≡ export_body.bytes exports)) }
+{
+    read_items_strict(alloc, body)
+}
+
+/// The normal bytes of the body of an export section: the same exports in the fewest bytes (Core 3.0, Export Section).
+///
+/// `Refused` carries the number of bytes of the count and of the exports that are whole before the first that isn't, or
+/// before what is left over.
+#[tactic(auto, unfolding(crate::specs::formats::Sections::export_body))]
+pub fn normalise_export_section(alloc: Global, body: &[u8]) -> Result<Vec<u8>, ReadError>
+    // The result is the shortest encoding of a list that the body encodes.
+    ensures given { IfOk result (λ encoding.
+        IsNormalForm export_body.Encodes export_body.bytes body.now encoding.items) }
+    // Where the body encodes a list, its shortest encoding is given, unless memory ran out.
+    ensures complete { (exports : List ExportParts) → export_body.Encodes body.now exports →
+        IsOrMemory (λ encoding. encoding.items) (export_body.bytes exports) result }
+    // `at` is the length of the longest prefix that is whole.
+    ensures prefix { IfRefused result (IsLongestPrefix (IsListPrefix export_entry.Encodes) body.now) }
+    // The body encodes at most one list.
+    ensures one { (exports others : List ExportParts) →
+        export_body.Encodes body.now exports → export_body.Encodes body.now others → exports ≡ others }
+    // The result encodes a list exactly if the body does.
+    ensures same { IfOk result (λ encoding. (exports : List ExportParts) →
+        export_body.Encodes encoding.items exports ↔ export_body.Encodes body.now exports) }
+    // The result is normal: it is the shortest encoding of what it encodes.
+    ensures normal { IfOk result (λ encoding. (exports : List ExportParts) →
+        export_body.Encodes encoding.items exports → encoding.items ≡ export_body.bytes exports) }
+    // Every other encoding of a list is longer than its shortest.
+    ensures shortest { (exports : List ExportParts) → export_body.Encodes body.now exports →
+        IsShortestOrLonger body.now (export_body.bytes exports) }
+    // The result is no longer than the body.
+    ensures no_longer { IfOk result (λ encoding. length encoding.items ≤ length body.now) }
+    // A shortest encoding stays as it is, unless memory ran out.
+    ensures stays { (exports : List ExportParts) → AskedList true export_entry body.now exports →
+        IsOrMemory (λ encoding. encoding.items) body.now result }
+    // What stays as it is, is a shortest encoding.
+    ensures was_shortest { IfOk result (λ encoding.
+        encoding.items ≡ body.now → EncodesSome (AskedList true export_entry) body.now) }
+{
+    normalise_items::<Export<'_>>(alloc, body)
+}
+
+/// The same, in the list itself, which is rewritten where it lies and given back. It takes no memory.
+#[tactic(auto, unfolding(crate::specs::formats::Sections::export_body))]
+pub fn rewrite_export_section(body: Vec<u8>) -> Result<Vec<u8>, ReadError>
+    // The result is the shortest encoding of a list that the body encodes.
+    ensures given { IfOk result (λ encoding.
+        IsNormalForm export_body.Encodes export_body.bytes body.items encoding.items) }
+    // Where the body encodes a list, its shortest encoding is given.
+    ensures complete { (exports : List ExportParts) → export_body.Encodes body.items exports →
+        IsOrMemory (λ encoding. encoding.items) (export_body.bytes exports) result }
+    // `at` is the length of the longest prefix that is whole.
+    ensures prefix { IfRefused result (IsLongestPrefix (IsListPrefix export_entry.Encodes) body.items) }
+    // Only what encodes no list is refused.
+    ensures unencoded { IfRefused result (λ _. (exports : List ExportParts) → export_body.Encodes body.items exports → ⊥) }
+{
+    rewrite_items::<Export<'_>>(body)
+}
+
+/// What an export refers to.
+#[tactic(auto, unfolding(crate::specs::formats::Externals::export_kind))]
+fn read_export_kind(cursor: &mut Cursor<'_>) -> Result<ExportKind, Fault>
+    ensures reads { Reads export_kind.at cursor.old cursor.new result }
+    ensures err { IfErr result (λ e. e ≡ Malformed) }
+{
+    match cursor.byte()? {
+        0x00 => Ok(ExportKind::Func),
+        0x01 => Ok(ExportKind::Table),
+        0x02 => Ok(ExportKind::Memory),
+        0x03 => Ok(ExportKind::Global),
+        0x04 => Ok(ExportKind::Tag),
+        _ => Err(Fault::Malformed),
+    }
+}
+
+/// An export.
+#[tactic(auto, unfolding(crate::specs::formats::Entries::export_entry))]
+fn read_export<'a>(cursor: &mut Cursor<'a>) -> Result<Export<'a>, Fault>
+    ensures reads { Reads export_entry.at cursor.old cursor.new (map_ok export_parts result) }
+    ensures err { IfErr result (λ e. e ≡ Malformed) }
+{
+    let name = read_name(cursor)?;
+    let kind = read_export_kind(cursor)?;
+    let index = cursor.u32()?;
+    Ok(Export { name, kind, index })
+}
+
+impl<'a> Readable<'a> for Export<'a> {
+    ghost Value = { ExportParts };
+
+    ghost view = { export_parts };
+
+    ghost views = { all_export_parts };
+
+    ghost views_each = { record { none = refl; more = λ exports export. map_push export_parts exports export } };
+
+    ghost format = { export_entry };
+
+    #[tactic(auto, using(crate::proofs::EntryLaws::export_is_lawful, crate::proofs::EntryLaws::export_takes))]
+    fn read(alloc: Global, cursor: &mut Cursor<'a>) -> Result<Export<'a>, Fault> {
+        let _ = alloc;
+        read_export(cursor)
+    }
+}
+
+/// Leaves what an export refers to as it is.
+#[tactic(auto, unfolding(crate::specs::formats::Externals::export_kind))]
+fn rewrite_export_kind(rewriter: &mut Rewriter) -> Result<(), Fault>
+    ensures rewrites { Rewrites export_kind rewriter.old rewriter.new result }
+{
+    match rewriter.byte()? {
+        0x00 => Ok(()),
+        0x01 => Ok(()),
+        0x02 => Ok(()),
+        0x03 => Ok(()),
+        0x04 => Ok(()),
+        _ => Err(Fault::Malformed),
+    }
+}
+
+impl<'a> Rewritable for Export<'a> {
+    ghost Value = { ExportParts };
+
+    ghost format = { export_entry };
+
+    #[inline(always)]
+    #[tactic(auto, using(crate::proofs::EntryLaws::export_is_lawful, crate::proofs::EntryLaws::export_takes))]
+    fn is_lawful()
+        ensures lawful { IsLawful export_entry }
+        ensures some { TakesBytes export_entry.Encodes }
+    {}
+
+    #[tactic(auto, using(std::proofs::Common::append_assoc), unfolding(crate::specs::formats::Entries::export_entry))]
+    fn rewrite(rewriter: &mut Rewriter) -> Result<(), Fault>
+        ensures rewrites { Rewrites export_entry rewriter.old rewriter.new result }
+    {
+        rewrite_name(rewriter)?;
+        rewrite_export_kind(rewriter)?;
+        rewriter.u32()?;
+        Ok(())
+    }
+}

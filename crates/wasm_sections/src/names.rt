@@ -1,0 +1,54 @@
+//! Names: texts in UTF-8, after the number of their bytes (Core 3.0, Names).
+ghost use Rattle.std.specs.Prelude.{◌≡◌, List, ℕ, IfErr};
+ghost use Rattle.wasm_codec.specs.Places.{Reads};
+ghost use Rattle.wasm_codec.specs.Reading.{map_ok};
+ghost use Rattle.wasm_codec.specs.Rewriter.{Rewrites};
+ghost use Rattle.wasm_codec.specs.declared.reader.cursor.Fault.TheVariants.{Malformed};
+ghost use Rattle.wasm_sections.specs.formats.Names.{utf8_to_end, name};
+
+use wasm_codec::reader::cursor::{Cursor, Fault};
+use wasm_codec::rewriter::{RewritableBody, Rewriter, rewrite_sized};
+
+/// A name, with its text as it lies in the bytes.
+#[tactic(auto, using(crate::proofs::NameReading::name_read, crate::proofs::NameReading::name_refused, crate::proofs::NameReading::no_size, crate::proofs::NameReading::no_bytes))]
+pub(crate) fn read_name<'a>(cursor: &mut Cursor<'a>) -> Result<&'a str, Fault>
+    ensures reads { Reads name.at cursor.old cursor.new (map_ok (λ text. text.now) result) }
+    ensures err { IfErr result (λ e. e ≡ Malformed) }
+{
+    let size = cursor.u32()? as usize;
+    let bytes = cursor.take(size)?;
+    let Ok(text) = str::from_utf8(bytes) else {
+        return Err(Fault::Malformed);
+    };
+    Ok(text)
+}
+
+/// Leaves a name in its shortest encoding.
+#[tactic(auto, unfolding(crate::specs::formats::Names::name))]
+pub(crate) fn rewrite_name(rewriter: &mut Rewriter) -> Result<(), Fault>
+    ensures rewrites { Rewrites name rewriter.old rewriter.new result }
+{
+    rewrite_sized::<Text>(rewriter)
+}
+
+/// The text of a name, to its end.
+struct Text;
+
+impl RewritableBody for Text {
+    ghost Value = { List ℕ };
+
+    ghost format = { utf8_to_end };
+
+    #[inline(always)]
+    #[tactic(auto, using(crate::proofs::NameLaws::text_is_lawful))]
+    fn is_lawful() {}
+
+    #[tactic(auto, using(crate::proofs::NameReading::text_stays, crate::proofs::NameReading::text_refused))]
+    fn rewrite(rewriter: &mut Rewriter) -> Result<(), Fault> {
+        let Ok(_) = str::from_utf8(rewriter.left()) else {
+            return Err(Fault::Malformed);
+        };
+        rewriter.rest();
+        Ok(())
+    }
+}
