@@ -2,8 +2,7 @@
 use Rattle.std.proofs.Common.{◌≡◌, [], ◌∷◌, Bool, true, false, Some, refl, ap, ◌∙◌, lit≤}
 use Rattle.std.specs.Prelude.{is_some}
 use Rattle.wasm_types.proofs.TypeFormatLaws.{Lawful-ref-type, Lawful-val-type}
-use Rattle.wasm_types.specs.formats.Types.{ref_type}
-use Rattle.wasm_codec.specs.formats.Combinators.{◌⊗◌, ◌⊗>◌, u32, u64}
+use Rattle.wasm_codec.specs.formats.Combinators.{u32, u64}
 use Rattle.wasm_codec.specs.Lawful.{IsLawful}
 use Rattle.wasm_codec.proofs.FormatLaws.{IsFound, Every-made, Lawful-made, Lawful-then, Lawful-both, Lawful-one-byte, Lawful-u32, Lawful-u64, Tagged-or, Tagged-never}
 use Rattle.wasm_codec.proofs.RawFormatLaws.{Lawful-made-of}
@@ -14,8 +13,7 @@ use Rattle.wasm_sections.specs.declared.types.TagKind.TheVariants as tag_kinds
 use Rattle.wasm_sections.specs.declared.types.EntityType.TheVariants as entities
 use Rattle.wasm_sections.specs.declared.types.ExportKind.{ExportKind}
 use Rattle.wasm_sections.specs.declared.types.ExportKind.TheVariants as exports
-use Rattle.wasm_sections.specs.formats.Parts.{part_if}
-use Rattle.wasm_sections.specs.formats.Externals.{Flags, flags_byte, all_flags, limits_flags, paged_byte, all_paged, memory_flags, MemoryParts, memory_of, memory_parts, MemoryInRange, memory_type, TableParts, table_of, table_parts, TableInRange, table_type, global_byte, global_flags, global_of, global_type, tag_kind_byte, tag_of, tag_type, function_part, table_part, memory_part, global_part, tag_part, exact_part, entity_byte, entity_type, export_kind_byte, export_kind}
+use Rattle.wasm_sections.specs.formats.Externals.{Flags, flags_byte, all_flags, limits_flags, paged_byte, all_paged, memory_flags, MemoryParts, memory_of, memory_parts, MemoryInRange, memory_format, memory_type, TableParts, table_of, table_parts, TableInRange, table_format, table_type, global_byte, global_flags, global_of, global_type, tag_kind_byte, tag_of, tag_type, function_part, table_part, memory_part, global_part, tag_part, exact_part, entity_byte, entity_type, export_kind_byte, export_kind}
 use Rattle.wasm_sections.proofs.PartLaws.{Lawful-part-if, part_tells, part_range, part_in_range}
 
 -- ---- limits
@@ -86,7 +84,7 @@ Lawful-memory-flags = Lawful-one-byte paged_byte all_paged paged_found
 
 -- ---- memories and tables
 
-memory_back : (p : MemoryParts) → (memory_flags ⊗> λ f. u64 ⊗ (part_if f.0.0 u64 ⊗ part_if f.1 u32)).InRange p → MemoryInRange (memory_of p) × (memory_parts (memory_of p) ≡ p)
+pub memory_back : (p : MemoryParts) → memory_format.InRange p → MemoryInRange (memory_of p) × (memory_parts (memory_of p) ≡ p)
 memory_back p fits =
     let max = fits.1.1.0 in
     let page = fits.1.1.1 in (
@@ -94,26 +92,32 @@ memory_back p fits =
       ap (λ (b : Bool). (((b, p.0.0.1), is_some p.1.1.1), p.1)) (part_tells u64 p.0.0.0 p.1.1.0 max) ∙ ap (λ (b : Bool). ((p.0.0, b), p.1)) (part_tells u32 p.0.1 p.1.1.1 page),
     )
 
-memory_there : (m : MemoryType) → MemoryInRange m → (memory_flags ⊗> λ f. u64 ⊗ (part_if f.0.0 u64 ⊗ part_if f.1 u32)).InRange (memory_parts m) × (memory_of (memory_parts m) ≡ m)
+memory_there : (m : MemoryType) → MemoryInRange m → memory_format.InRange (memory_parts m) × (memory_of (memory_parts m) ≡ m)
 unfolding memory_flags
 memory_there m fits = ((paged_some ((is_some m.maximum, (m.shared, m.memory64)), is_some m.page_size_log2), (fits.minimum, (part_in_range u64 m.maximum fits.maximum, part_in_range u32 m.page_size_log2 fits.page_size_log2))), refl)
 
+pub Lawful-memory-format : IsLawful memory_format
+Lawful-memory-format = Lawful-then Lawful-memory-flags (λ f. Lawful-both Lawful-u64 (Lawful-both (Lawful-part-if f.0.0 Lawful-u64) (Lawful-part-if f.1 Lawful-u32)))
+
 pub Lawful-memory-type : IsLawful memory_type
 unfolding memory_type
-Lawful-memory-type = Lawful-made-of memory_of memory_parts MemoryInRange memory_back memory_there (Lawful-then Lawful-memory-flags (λ f. Lawful-both Lawful-u64 (Lawful-both (Lawful-part-if f.0.0 Lawful-u64) (Lawful-part-if f.1 Lawful-u32))))
+Lawful-memory-type = Lawful-made-of memory_of memory_parts MemoryInRange memory_back memory_there Lawful-memory-format
 
-table_back : (p : TableParts) → (ref_type ⊗ (limits_flags ⊗> λ f. u64 ⊗ part_if f.0 u64)).InRange p → TableInRange (table_of p) × (table_parts (table_of p) ≡ p)
+pub table_back : (p : TableParts) → table_format.InRange p → TableInRange (table_of p) × (table_parts (table_of p) ≡ p)
 table_back p fits =
     let max = fits.1.1.1 in
     (record { element_type = fits.0; minimum = fits.1.1.0; maximum = part_range u64 p.1.0.0 p.1.1.1 max }, ap (λ (b : Bool). (p.0, ((b, p.1.0.1), p.1.1))) (part_tells u64 p.1.0.0 p.1.1.1 max))
 
-table_there : (t : TableType) → TableInRange t → (ref_type ⊗ (limits_flags ⊗> λ f. u64 ⊗ part_if f.0 u64)).InRange (table_parts t) × (table_of (table_parts t) ≡ t)
+table_there : (t : TableType) → TableInRange t → table_format.InRange (table_parts t) × (table_of (table_parts t) ≡ t)
 unfolding limits_flags
 table_there t fits = ((fits.element_type, (flags_some (is_some t.maximum, (t.shared, t.table64)), (fits.minimum, part_in_range u64 t.maximum fits.maximum))), refl)
 
+pub Lawful-table-format : IsLawful table_format
+Lawful-table-format = Lawful-both Lawful-ref-type (Lawful-then Lawful-limits-flags (λ f. Lawful-both Lawful-u64 (Lawful-part-if f.0 Lawful-u64)))
+
 pub Lawful-table-type : IsLawful table_type
 unfolding table_type
-Lawful-table-type = Lawful-made-of table_of table_parts TableInRange table_back table_there (Lawful-both Lawful-ref-type (Lawful-then Lawful-limits-flags (λ f. Lawful-both Lawful-u64 (Lawful-part-if f.0 Lawful-u64))))
+Lawful-table-type = Lawful-made-of table_of table_parts TableInRange table_back table_there Lawful-table-format
 
 -- ---- globals and tags
 

@@ -4,3 +4,4 @@ pub mod NameLaws
 pub mod NameReading
 pub mod ExternalLaws
 pub mod EntryLaws
+pub mod LimitsRewriting

@@ -3,6 +3,7 @@ use Rattle.std.specs.Prelude.{ℕ, List, map}
 use Rattle.wasm_sections.specs.declared.types.EntityType.{EntityType}
 use Rattle.wasm_sections.specs.declared.types.ExportKind.{ExportKind}
 use Rattle.wasm_sections.specs.declared.exports.Export.{Export}
+use Rattle.wasm_sections.specs.declared.imports.Import.{Import}
 
 pub record ExportParts : Type 0 where
   pub name : List ℕ
@@ -19,3 +20,9 @@ pub record ImportParts : Type 0 where
   pub module_name : List ℕ
   pub field : List ℕ
   pub ty : EntityType
+
+abbrev pub import_parts : Import → ImportParts
+import_parts i = record { module_name = i.module.now; field = i.field.now; ty = i.ty }
+
+abbrev pub all_import_parts : List Import → List ImportParts
+all_import_parts = map import_parts

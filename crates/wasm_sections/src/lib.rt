@@ -2,7 +2,13 @@
 //! and what leaves it in its shortest encoding.
 #![tactic(auto)]
 
+mod entities;
 pub mod exports;
+pub mod functions;
+pub mod imports;
+mod limits;
 mod lists;
+pub mod memories;
 mod names;
+pub mod tags;
 pub mod types;

@@ -14,7 +14,7 @@ mod type_sections;
 
 use crate::types::{FieldType, SubType, TypeEntry, ValType};
 use heap_types::rewrite_field_type;
-pub use heap_types::{rewrite_heap_type, rewrite_val_type};
+pub use heap_types::{rewrite_heap_type, rewrite_ref_type, rewrite_val_type};
 pub use type_sections::{normalise_type_section, rewrite_type_section};
 use wasm_codec::reader::cursor::Fault;
 use wasm_codec::rewriter::{Rewritable, Rewriter, rewrite_list};

@@ -79,11 +79,14 @@ pub record MemoryInRange (m : MemoryType) : Type 0 where
   pub maximum : IfSome m.maximum (λ n. n < 2 ^ 64)
   pub page_size_log2 : IfSome m.page_size_log2 (λ n. n < 2 ^ 32)
 
+abbrev pub memory_format : Format MemoryParts
+memory_format = memory_flags ⊗> λ f. u64 ⊗ (part_if f.0.0 u64 ⊗ part_if f.1 u32)
+
 -- memtype ::= lim:limits ⇒ lim, limits ::= 0x00 n:u64 ⇒ (i32, [n..]) | 0x01 n:u64 m:u64 ⇒ (i32, [n..m])
 --          |  0x04 n:u64 ⇒ (i64, [n..]) | 0x05 n:u64 m:u64 ⇒ (i64, [n..m])
 -- and of proposals 2 more where it is shared, and 8 more where a u32 tells the size of a page
 unfoldable pub memory_type : Format MemoryType
-memory_type = made_of memory_of memory_parts MemoryInRange (memory_flags ⊗> λ f. u64 ⊗ (part_if f.0.0 u64 ⊗ part_if f.1 u32))
+memory_type = made_of memory_of memory_parts MemoryInRange memory_format
 
 -- ---- tables
 
@@ -101,9 +104,12 @@ pub record TableInRange (t : TableType) : Type 0 where
   pub minimum : t.minimum < 2 ^ 64
   pub maximum : IfSome t.maximum (λ n. n < 2 ^ 64)
 
+abbrev pub table_format : Format TableParts
+table_format = ref_type ⊗ (limits_flags ⊗> λ f. u64 ⊗ part_if f.0 u64)
+
 -- tabletype ::= et:reftype lim:limits ⇒ lim et
 unfoldable pub table_type : Format TableType
-table_type = made_of table_of table_parts TableInRange (ref_type ⊗ (limits_flags ⊗> λ f. u64 ⊗ part_if f.0 u64))
+table_type = made_of table_of table_parts TableInRange table_format
 
 -- ---- globals
 

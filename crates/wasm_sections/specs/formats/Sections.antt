@@ -1,7 +1,10 @@
 -- The bodies of sections, without the id and the size (WebAssembly Core 3.0, Modules). Over each stands the standard's
 -- production.
-use Rattle.std.specs.Prelude.{List}
-use Rattle.wasm_codec.specs.formats.Combinators.{Format, items}
+use Rattle.std.specs.Prelude.{ℕ, List}
+use Rattle.wasm_codec.specs.formats.Combinators.{Format, u32, items}
+use Rattle.wasm_sections.specs.declared.types.MemoryType.{MemoryType}
+use Rattle.wasm_sections.specs.declared.types.TagType.{TagType}
+use Rattle.wasm_sections.specs.formats.Externals.{memory_type, tag_type}
 use Rattle.wasm_sections.specs.Entries.{ExportParts, ImportParts}
 use Rattle.wasm_sections.specs.formats.Entries.{export_entry, import_entry}
 
@@ -9,6 +12,18 @@ use Rattle.wasm_sections.specs.formats.Entries.{export_entry, import_entry}
 unfoldable pub import_body : Format (List ImportParts)
 import_body = items import_entry
 
+-- funcsec ::= x*:section_3(list(typeidx)) ⇒ x*
+unfoldable pub function_body : Format (List ℕ)
+function_body = items u32
+
+-- memsec ::= mem*:section_5(list(mem)) ⇒ mem*, mem ::= mt:memtype ⇒ memory mt
+unfoldable pub memory_body : Format (List MemoryType)
+memory_body = items memory_type
+
 -- exportsec ::= ex*:section_7(list(export)) ⇒ ex*
 unfoldable pub export_body : Format (List ExportParts)
 export_body = items export_entry
+
+-- tagsec ::= tag*:section_13(list(tag)) ⇒ tag*, tag ::= jt:tagtype ⇒ tag jt
+unfoldable pub tag_body : Format (List TagType)
+tag_body = items tag_type

@@ -69,7 +69,7 @@ pub fn rewrite_heap_type(rewriter: &mut Rewriter) -> Result<(), Fault>
 /// A reference type. One that may be null and is of an abstract heap type is left in its short form.
 #[inline(never)]
 #[tactic(auto, using(std::proofs::Common::append_assoc), unfolding(crate::specs::formats::Types::ref_type))]
-fn rewrite_ref_type(rewriter: &mut Rewriter) -> Result<(), Fault>
+pub fn rewrite_ref_type(rewriter: &mut Rewriter) -> Result<(), Fault>
     ensures rewrites { Rewrites ref_type rewriter.old rewriter.new result }
 {
     let first = rewriter.peek()?;

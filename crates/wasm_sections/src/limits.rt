@@ -1,0 +1,230 @@
+//! Limits, and the types of memories and tables (Core 3.0, Limits, Memory Types and Table Types).
+ghost use Rattle.std.specs.Prelude.{◌≡◌, IfErr};
+ghost use Rattle.wasm_codec.specs.Places.{Reads};
+ghost use Rattle.wasm_codec.specs.Rewriter.{Gives, Rewrites};
+ghost use Rattle.wasm_codec.specs.formats.Combinators.{u32 as u32_format, u64 as u64_format};
+ghost use Rattle.wasm_codec.specs.declared.reader.cursor.Fault.TheVariants.{Malformed};
+ghost use Rattle.wasm_sections.specs.formats.Parts.{part_if};
+ghost use Rattle.wasm_sections.specs.formats.Externals.{limits_flags, memory_flags, memory_type, memory_format, table_type, table_format};
+
+use crate::types::{MemoryType, TableType};
+use wasm_codec::reader::cursor::{Cursor, Fault};
+use wasm_codec::rewriter::Rewriter;
+use wasm_types::normaliser::rewrite_ref_type;
+use wasm_types::reader::read_ref_type;
+
+/// What the flags of limits tell: whether there is a maximum, it is shared, and its addresses have 64 bits.
+#[tactic(auto, unfolding(crate::specs::formats::Externals::limits_flags))]
+fn read_limits_flags(cursor: &mut Cursor<'_>) -> Result<(bool, (bool, bool)), Fault>
+    ensures reads { Reads limits_flags.at cursor.old cursor.new result }
+    ensures err { IfErr result (λ e. e ≡ Malformed) }
+{
+    match cursor.byte()? {
+        0x00 => Ok((false, (false, false))),
+        0x01 => Ok((true, (false, false))),
+        0x02 => Ok((false, (true, false))),
+        0x03 => Ok((true, (true, false))),
+        0x04 => Ok((false, (false, true))),
+        0x05 => Ok((true, (false, true))),
+        0x06 => Ok((false, (true, true))),
+        0x07 => Ok((true, (true, true))),
+        _ => Err(Fault::Malformed),
+    }
+}
+
+/// The same of a memory, and whether the size of a page is told.
+#[tactic(auto, unfolding(crate::specs::formats::Externals::memory_flags))]
+fn read_memory_flags(cursor: &mut Cursor<'_>) -> Result<((bool, (bool, bool)), bool), Fault>
+    ensures reads { Reads memory_flags.at cursor.old cursor.new result }
+    ensures err { IfErr result (λ e. e ≡ Malformed) }
+{
+    match cursor.byte()? {
+        0x00 => Ok(((false, (false, false)), false)),
+        0x01 => Ok(((true, (false, false)), false)),
+        0x02 => Ok(((false, (true, false)), false)),
+        0x03 => Ok(((true, (true, false)), false)),
+        0x04 => Ok(((false, (false, true)), false)),
+        0x05 => Ok(((true, (false, true)), false)),
+        0x06 => Ok(((false, (true, true)), false)),
+        0x07 => Ok(((true, (true, true)), false)),
+        0x08 => Ok(((false, (false, false)), true)),
+        0x09 => Ok(((true, (false, false)), true)),
+        0x0a => Ok(((false, (true, false)), true)),
+        0x0b => Ok(((true, (true, false)), true)),
+        0x0c => Ok(((false, (false, true)), true)),
+        0x0d => Ok(((true, (false, true)), true)),
+        0x0e => Ok(((false, (true, true)), true)),
+        0x0f => Ok(((true, (true, true)), true)),
+        _ => Err(Fault::Malformed),
+    }
+}
+
+/// A u64 where a flag tells that there is one.
+#[tactic(auto, unfolding(crate::specs::formats::Parts::part_if))]
+fn read_u64_if(cursor: &mut Cursor<'_>, there: bool) -> Result<Option<u64>, Fault>
+    ensures reads { Reads (part_if there u64_format).at cursor.old cursor.new result }
+    ensures err { IfErr result (λ e. e ≡ Malformed) }
+{
+    if !there {
+        return Ok(None);
+    }
+    Ok(Some(cursor.u64()?))
+}
+
+/// A u32 where a flag tells that there is one.
+#[tactic(auto, unfolding(crate::specs::formats::Parts::part_if))]
+fn read_u32_if(cursor: &mut Cursor<'_>, there: bool) -> Result<Option<u32>, Fault>
+    ensures reads { Reads (part_if there u32_format).at cursor.old cursor.new result }
+    ensures err { IfErr result (λ e. e ≡ Malformed) }
+{
+    if !there {
+        return Ok(None);
+    }
+    Ok(Some(cursor.u32()?))
+}
+
+/// The type of a memory.
+#[tactic(auto, unfolding(crate::specs::formats::Externals::memory_type))]
+pub(crate) fn read_memory_type(cursor: &mut Cursor<'_>) -> Result<MemoryType, Fault>
+    ensures reads { Reads memory_type.at cursor.old cursor.new result }
+    ensures err { IfErr result (λ e. e ≡ Malformed) }
+{
+    let ((has_maximum, (shared, memory64)), has_page_size) = read_memory_flags(cursor)?;
+    let minimum = cursor.u64()?;
+    let maximum = read_u64_if(cursor, has_maximum)?;
+    let page_size_log2 = read_u32_if(cursor, has_page_size)?;
+    Ok(MemoryType {
+        minimum,
+        maximum,
+        memory64,
+        shared,
+        page_size_log2,
+    })
+}
+
+/// The type of a table.
+#[tactic(auto, unfolding(crate::specs::formats::Externals::table_type))]
+pub(crate) fn read_table_type(cursor: &mut Cursor<'_>) -> Result<TableType, Fault>
+    ensures reads { Reads table_type.at cursor.old cursor.new result }
+    ensures err { IfErr result (λ e. e ≡ Malformed) }
+{
+    let element_type = read_ref_type(cursor)?;
+    let (has_maximum, (shared, table64)) = read_limits_flags(cursor)?;
+    let minimum = cursor.u64()?;
+    let maximum = read_u64_if(cursor, has_maximum)?;
+    Ok(TableType {
+        element_type,
+        table64,
+        minimum,
+        maximum,
+        shared,
+    })
+}
+
+/// What the flags of limits tell, which stay as they are.
+#[tactic(auto, unfolding(crate::specs::formats::Externals::limits_flags))]
+fn rewrite_limits_flags(rewriter: &mut Rewriter) -> Result<(bool, (bool, bool)), Fault>
+    ensures gives { Gives limits_flags rewriter.old rewriter.new result }
+{
+    match rewriter.byte()? {
+        0x00 => Ok((false, (false, false))),
+        0x01 => Ok((true, (false, false))),
+        0x02 => Ok((false, (true, false))),
+        0x03 => Ok((true, (true, false))),
+        0x04 => Ok((false, (false, true))),
+        0x05 => Ok((true, (false, true))),
+        0x06 => Ok((false, (true, true))),
+        0x07 => Ok((true, (true, true))),
+        _ => Err(Fault::Malformed),
+    }
+}
+
+/// The same of a memory, and whether the size of a page is told.
+#[tactic(auto, unfolding(crate::specs::formats::Externals::memory_flags))]
+fn rewrite_memory_flags(rewriter: &mut Rewriter) -> Result<((bool, (bool, bool)), bool), Fault>
+    ensures gives { Gives memory_flags rewriter.old rewriter.new result }
+{
+    match rewriter.byte()? {
+        0x00 => Ok(((false, (false, false)), false)),
+        0x01 => Ok(((true, (false, false)), false)),
+        0x02 => Ok(((false, (true, false)), false)),
+        0x03 => Ok(((true, (true, false)), false)),
+        0x04 => Ok(((false, (false, true)), false)),
+        0x05 => Ok(((true, (false, true)), false)),
+        0x06 => Ok(((false, (true, true)), false)),
+        0x07 => Ok(((true, (true, true)), false)),
+        0x08 => Ok(((false, (false, false)), true)),
+        0x09 => Ok(((true, (false, false)), true)),
+        0x0a => Ok(((false, (true, false)), true)),
+        0x0b => Ok(((true, (true, false)), true)),
+        0x0c => Ok(((false, (false, true)), true)),
+        0x0d => Ok(((true, (false, true)), true)),
+        0x0e => Ok(((false, (true, true)), true)),
+        0x0f => Ok(((true, (true, true)), true)),
+        _ => Err(Fault::Malformed),
+    }
+}
+
+/// Leaves a u64 in its shortest encoding, where a flag tells that there is one.
+#[tactic(auto, using(crate::proofs::LimitsRewriting::none_there), unfolding(crate::specs::formats::Parts::part_if))]
+fn rewrite_u64_if(rewriter: &mut Rewriter, there: bool) -> Result<(), Fault>
+    ensures rewrites { Rewrites (part_if there u64_format) rewriter.old rewriter.new result }
+{
+    if there {
+        rewriter.u64()?;
+    }
+    Ok(())
+}
+
+/// Leaves a u32 in its shortest encoding, where a flag tells that there is one.
+#[tactic(auto, using(crate::proofs::LimitsRewriting::none_there), unfolding(crate::specs::formats::Parts::part_if))]
+fn rewrite_u32_if(rewriter: &mut Rewriter, there: bool) -> Result<(), Fault>
+    ensures rewrites { Rewrites (part_if there u32_format) rewriter.old rewriter.new result }
+{
+    if there {
+        rewriter.u32()?;
+    }
+    Ok(())
+}
+
+/// Leaves the parts of a memory type in their shortest encodings.
+#[tactic(auto, using(std::proofs::Common::append_assoc))]
+fn rewrite_memory_parts(rewriter: &mut Rewriter) -> Result<(), Fault>
+    ensures rewrites { Rewrites memory_format rewriter.old rewriter.new result }
+{
+    let ((has_maximum, _), has_page_size) = rewrite_memory_flags(rewriter)?;
+    rewriter.u64()?;
+    rewrite_u64_if(rewriter, has_maximum)?;
+    rewrite_u32_if(rewriter, has_page_size)?;
+    Ok(())
+}
+
+/// Leaves the type of a memory in its shortest encoding.
+#[tactic(auto, using(crate::proofs::LimitsRewriting::memory_rewritten, crate::proofs::LimitsRewriting::memory_refused))]
+pub(crate) fn rewrite_memory_type(rewriter: &mut Rewriter) -> Result<(), Fault>
+    ensures rewrites { Rewrites memory_type rewriter.old rewriter.new result }
+{
+    rewriter.are_bytes();
+    rewrite_memory_parts(rewriter)
+}
+
+/// Leaves the parts of a table type in their shortest encodings.
+#[tactic(auto, using(std::proofs::Common::append_assoc))]
+fn rewrite_table_parts(rewriter: &mut Rewriter) -> Result<(), Fault>
+    ensures rewrites { Rewrites table_format rewriter.old rewriter.new result }
+{
+    rewrite_ref_type(rewriter)?;
+    let (has_maximum, _) = rewrite_limits_flags(rewriter)?;
+    rewriter.u64()?;
+    rewrite_u64_if(rewriter, has_maximum)?;
+    Ok(())
+}
+
+/// Leaves the type of a table in its shortest encoding.
+#[tactic(auto, using(crate::proofs::LimitsRewriting::table_rewritten, crate::proofs::LimitsRewriting::table_refused))]
+pub(crate) fn rewrite_table_type(rewriter: &mut Rewriter) -> Result<(), Fault>
+    ensures rewrites { Rewrites table_type rewriter.old rewriter.new result }
+{
+    rewriter.are_bytes();
+    rewrite_table_parts(rewriter)
+}

@@ -1,0 +1,154 @@
+//! Memory sections (Core 3.0, Memory Section).
+ghost use Rattle.std.specs.Prelude.{◌≡◌, ◌↔◌, ◌≤◌, true, List, length, refl, IfOk, IfErr};
+ghost use Rattle.wasm_codec.specs.Answers.{IsOrMemory, IfRefused, IsLongestPrefix, IsNormalForm, EncodesSome};
+ghost use Rattle.wasm_codec.specs.Encoding.{IsShortestOrLonger};
+ghost use Rattle.wasm_codec.specs.Lists.{IsListPrefix, AskedList, IsAskedPrefix};
+ghost use Rattle.wasm_codec.specs.Places.{Reads};
+ghost use Rattle.wasm_codec.specs.Rewriter.{Rewrites, Gives};
+ghost use Rattle.wasm_codec.specs.declared.reader.cursor.Fault.TheVariants.{Malformed};
+ghost use Rattle.wasm_sections.specs.declared.types.MemoryType.{MemoryType};
+ghost use Rattle.wasm_sections.specs.formats.Externals.{memory_type};
+ghost use Rattle.wasm_sections.specs.formats.Sections.{memory_body};
+
+use crate::limits::{read_memory_type, rewrite_memory_type};
+use crate::lists::{normalise_items, read_items, read_items_strict, rewrite_items};
+use crate::types::MemoryType;
+use std::alloc::Global;
+use wasm_codec::reader::ReadError;
+use wasm_codec::reader::cursor::{Cursor, Fault};
+use wasm_codec::rewriter::{Rewritable, Rewriter};
+use wasm_readers::readable::Readable;
+
+/// The memories that the body of a memory section encodes, in any encoding (Core 3.0, Memory Section).
+///
+/// `Refused` carries the number of bytes of the count and of the memories that are whole before the first that isn't,
+/// or before what is left over.
+#[tactic(auto, using(crate::proofs::EntryLaws::memory_is_lawful), unfolding(crate::specs::formats::Sections::memory_body))]
+pub fn read_memory_section(alloc: Global, body: &[u8]) -> Result<Vec<MemoryType>, ReadError>
+    // What is given, the body encodes.
+    ensures given { IfOk result (λ memories. memory_body.Encodes body.now (memories.items)) }
+    // What the body encodes is given, unless memory ran out.
+    ensures complete { (memories : List MemoryType) → memory_body.Encodes body.now memories →
+        IsOrMemory (λ given. given.items) memories result }
+    // `at` is the length of the longest prefix that is whole.
+    ensures prefix { IfRefused result (IsLongestPrefix (IsListPrefix memory_type.Encodes) body.now) }
+    // The body encodes at most one list.
+    ensures one { (memories others : List MemoryType) →
+        memory_body.Encodes body.now memories → memory_body.Encodes body.now others → memories ≡ others }
+    // Every other encoding of a list is longer than its shortest.
+    ensures shortest { (memories : List MemoryType) → memory_body.Encodes body.now memories →
+        IsShortestOrLonger body.now (memory_body.bytes memories) }
+{
+    read_items(alloc, body)
+}
+
+/// The memories whose shortest encoding the body of a memory section is (Core 3.0, Memory Section).
+///
+/// `Refused` carries the number of bytes of the count and of the memories that are whole and in their shortest
+/// encodings, before the first that isn't, or before what is left over; it is 0 where the count isn't in the fewest
+/// bytes.
+#[tactic(auto, using(crate::proofs::EntryLaws::memory_is_lawful), unfolding(crate::specs::formats::Sections::memory_body))]
+pub fn read_memory_section_strict(alloc: Global, body: &[u8]) -> Result<Vec<MemoryType>, ReadError>
+    // What is given, the body is the shortest encoding of.
+    ensures given { IfOk result (λ memories. AskedList true memory_type body.now (memories.items)) }
+    // What the body is the shortest encoding of is given, unless memory ran out.
+    ensures complete { (memories : List MemoryType) → AskedList true memory_type body.now memories →
+        IsOrMemory (λ given. given.items) memories result }
+    // `at` is the length of the longest prefix that is whole and in shortest encodings.
+    ensures prefix { IfRefused result (IsLongestPrefix (IsAskedPrefix true memory_type) body.now) }
+    // The body is the shortest encoding of at most one list.
+    ensures one { (memories others : List MemoryType) →
+        AskedList true memory_type body.now memories → AskedList true memory_type body.now others → memories ≡ others }
+    // That is so where it encodes the list, as `read_memory_section` tells, and is as `normalise_memory_section` leaves it.
+    ensures shortest { (memories : List MemoryType) → AskedList true memory_type body.now memories ↔
+        (memory_body.Encodes body.now memories × (body.now ≡ memory_body.bytes memories)) }
+{
+    read_items_strict(alloc, body)
+}
+
+/// The normal bytes of the body of a memory section: the same memories in the fewest bytes (Core 3.0, Memory Section).
+///
+/// `Refused` carries the number of bytes of the count and of the memories that are whole before the first that isn't,
+/// or before what is left over.
+#[tactic(auto, unfolding(crate::specs::formats::Sections::memory_body))]
+pub fn normalise_memory_section(alloc: Global, body: &[u8]) -> Result<Vec<u8>, ReadError>
+    // The result is the shortest encoding of a list that the body encodes.
+    ensures given { IfOk result (λ encoding.
+        IsNormalForm memory_body.Encodes memory_body.bytes body.now encoding.items) }
+    // Where the body encodes a list, its shortest encoding is given, unless memory ran out.
+    ensures complete { (memories : List MemoryType) → memory_body.Encodes body.now memories →
+        IsOrMemory (λ encoding. encoding.items) (memory_body.bytes memories) result }
+    // `at` is the length of the longest prefix that is whole.
+    ensures prefix { IfRefused result (IsLongestPrefix (IsListPrefix memory_type.Encodes) body.now) }
+    // The body encodes at most one list.
+    ensures one { (memories others : List MemoryType) →
+        memory_body.Encodes body.now memories → memory_body.Encodes body.now others → memories ≡ others }
+    // The result encodes a list exactly if the body does.
+    ensures same { IfOk result (λ encoding. (memories : List MemoryType) →
+        memory_body.Encodes encoding.items memories ↔ memory_body.Encodes body.now memories) }
+    // The result is normal: it is the shortest encoding of what it encodes.
+    ensures normal { IfOk result (λ encoding. (memories : List MemoryType) →
+        memory_body.Encodes encoding.items memories → encoding.items ≡ memory_body.bytes memories) }
+    // Every other encoding of a list is longer than its shortest.
+    ensures shortest { (memories : List MemoryType) → memory_body.Encodes body.now memories →
+        IsShortestOrLonger body.now (memory_body.bytes memories) }
+    // The result is no longer than the body.
+    ensures no_longer { IfOk result (λ encoding. length encoding.items ≤ length body.now) }
+    // A shortest encoding stays as it is, unless memory ran out.
+    ensures stays { (memories : List MemoryType) → AskedList true memory_type body.now memories →
+        IsOrMemory (λ encoding. encoding.items) body.now result }
+    // What stays as it is, is a shortest encoding.
+    ensures was_shortest { IfOk result (λ encoding.
+        encoding.items ≡ body.now → EncodesSome (AskedList true memory_type) body.now) }
+{
+    normalise_items::<MemoryType>(alloc, body)
+}
+
+/// The same, in the list itself, which is rewritten where it lies and given back. It takes no memory.
+#[tactic(auto, unfolding(crate::specs::formats::Sections::memory_body))]
+pub fn rewrite_memory_section(body: Vec<u8>) -> Result<Vec<u8>, ReadError>
+    // The result is the shortest encoding of a list that the body encodes.
+    ensures given { IfOk result (λ encoding.
+        IsNormalForm memory_body.Encodes memory_body.bytes body.items encoding.items) }
+    // Where the body encodes a list, its shortest encoding is given.
+    ensures complete { (memories : List MemoryType) → memory_body.Encodes body.items memories →
+        IsOrMemory (λ encoding. encoding.items) (memory_body.bytes memories) result }
+    // `at` is the length of the longest prefix that is whole.
+    ensures prefix { IfRefused result (IsLongestPrefix (IsListPrefix memory_type.Encodes) body.items) }
+    // Only what encodes no list is refused.
+    ensures unencoded { IfRefused result (λ _. (memories : List MemoryType) → memory_body.Encodes body.items memories → ⊥) }
+{
+    rewrite_items::<MemoryType>(body)
+}
+
+impl<'a> Readable<'a> for MemoryType {
+    ghost Value = { MemoryType };
+
+    ghost view = { λ memory. memory };
+
+    ghost views = { λ memories. memories };
+
+    ghost views_each = { record { none = refl; more = λ memories memory. refl } };
+
+    ghost format = { memory_type };
+
+    #[tactic(auto, using(crate::proofs::EntryLaws::memory_is_lawful, crate::proofs::EntryLaws::memory_takes))]
+    fn read(alloc: Global, cursor: &mut Cursor<'a>) -> Result<MemoryType, Fault> {
+        let _ = alloc;
+        read_memory_type(cursor)
+    }
+}
+
+impl Rewritable for MemoryType {
+    ghost Value = { MemoryType };
+
+    ghost format = { memory_type };
+
+    #[inline(always)]
+    #[tactic(auto, using(crate::proofs::EntryLaws::memory_is_lawful, crate::proofs::EntryLaws::memory_takes))]
+    fn is_lawful() {}
+
+    fn rewrite(rewriter: &mut Rewriter) -> Result<(), Fault> {
+        rewrite_memory_type(rewriter)
+    }
+}
