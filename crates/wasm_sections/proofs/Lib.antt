@@ -5,3 +5,6 @@ pub mod NameReading
 pub mod ExternalLaws
 pub mod EntryLaws
 pub mod LimitsRewriting
+pub mod UntilReading
+pub mod ExpressionLaws
+pub mod ExpressionRewriting

@@ -1,5 +1,6 @@
 pub mod Parts
 pub mod Names
 pub mod Externals
+pub mod Expressions
 pub mod Entries
 pub mod Sections

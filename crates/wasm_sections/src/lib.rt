@@ -4,6 +4,7 @@
 
 mod entities;
 pub mod exports;
+mod expressions;
 pub mod functions;
 pub mod imports;
 mod limits;
