@@ -6,7 +6,9 @@ use Rattle.wasm_sections.specs.declared.types.MemoryType.{MemoryType}
 use Rattle.wasm_sections.specs.declared.types.TagType.{TagType}
 use Rattle.wasm_sections.specs.formats.Externals.{memory_type, tag_type}
 use Rattle.wasm_sections.specs.Entries.{ExportParts, ImportParts}
-use Rattle.wasm_sections.specs.formats.Entries.{export_entry, import_entry}
+use Rattle.wasm_sections.specs.declared.globals.Global.{Global}
+use Rattle.wasm_sections.specs.declared.tables.Table.{Table}
+use Rattle.wasm_sections.specs.formats.Entries.{export_entry, import_entry, table_entry, global_entry}
 
 -- importsec ::= im*:section_2(list(import)) ⇒ im*
 unfoldable pub import_body : Format (List ImportParts)
@@ -16,9 +18,17 @@ import_body = items import_entry
 unfoldable pub function_body : Format (List ℕ)
 function_body = items u32
 
+-- tablesec ::= tab*:section_4(list(table)) ⇒ tab*
+unfoldable pub table_body : Format (List Table)
+table_body = items table_entry
+
 -- memsec ::= mem*:section_5(list(mem)) ⇒ mem*, mem ::= mt:memtype ⇒ memory mt
 unfoldable pub memory_body : Format (List MemoryType)
 memory_body = items memory_type
+
+-- globalsec ::= glob*:section_6(list(global)) ⇒ glob*
+unfoldable pub global_body : Format (List Global)
+global_body = items global_entry
 
 -- exportsec ::= ex*:section_7(list(export)) ⇒ ex*
 unfoldable pub export_body : Format (List ExportParts)

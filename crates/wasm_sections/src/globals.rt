@@ -1,0 +1,181 @@
+//! Global sections (Core 3.0, Global Section).
+ghost use Rattle.std.specs.Prelude.{◌≡◌, ◌↔◌, ◌≤◌, true, List, length, refl, IfOk, IfErr};
+ghost use Rattle.wasm_codec.specs.Answers.{IsOrMemory, IfRefused, IsLongestPrefix, IsNormalForm, EncodesSome};
+ghost use Rattle.wasm_codec.specs.Encoding.{IsShortestOrLonger};
+ghost use Rattle.wasm_codec.specs.Lists.{IsListPrefix, AskedList, IsAskedPrefix};
+ghost use Rattle.wasm_codec.specs.Places.{Reads};
+ghost use Rattle.wasm_codec.specs.Rewriter.{Rewrites, Gives};
+ghost use Rattle.wasm_codec.specs.declared.reader.cursor.Fault.TheVariants.{Malformed};
+ghost use Rattle.wasm_sections.specs.declared.globals.Global.{Global};
+ghost use Rattle.wasm_sections.specs.formats.Entries.{global_entry};
+ghost use Rattle.wasm_sections.specs.formats.Sections.{global_body};
+
+use crate::entities::{read_global_type, rewrite_global_type};
+use crate::expressions::{read_expr, rewrite_expr};
+use crate::lists::{normalise_items, read_items, read_items_strict, rewrite_items};
+use crate::types::GlobalType;
+use std::alloc::Global as Heap;
+use wasm_codec::list::Items;
+use wasm_codec::reader::ReadError;
+use wasm_codec::reader::cursor::{Cursor, Fault};
+use wasm_codec::rewriter::{Rewritable, Rewriter};
+use wasm_instructions::table::Call;
+use wasm_readers::readable::Readable;
+
+/// A global, and the value that it has at first.
+#[derive(Debug, PartialEq, Eq, Drop)]
+pub struct Global {
+    /// Its type.
+    pub ty: GlobalType,
+    /// The instructions that make the value, without the end.
+    pub init: Items<Call>,
+}
+
+/// The globals that the body of a global section encodes, in any encoding (Core 3.0, Global Section).
+///
+/// `Refused` carries the number of bytes of the count and of the globals that are whole before the first that isn't, or
+/// before what is left over.
+#[tactic(auto, using(crate::proofs::EntryLaws::global_is_lawful), unfolding(crate::specs::formats::Sections::global_body))]
+pub fn read_global_section(alloc: Heap, body: &[u8]) -> Result<Vec<Global>, ReadError>
+    // What is given, the body encodes.
+    ensures given { IfOk result (λ globals. global_body.Encodes body.now (globals.items)) }
+    // What the body encodes is given, unless memory ran out.
+    ensures complete { (globals : List Global) → global_body.Encodes body.now globals →
+        IsOrMemory (λ given. given.items) globals result }
+    // `at` is the length of the longest prefix that is whole.
+    ensures prefix { IfRefused result (IsLongestPrefix (IsListPrefix global_entry.Encodes) body.now) }
+    // The body encodes at most one list.
+    ensures one { (globals others : List Global) →
+        global_body.Encodes body.now globals → global_body.Encodes body.now others → globals ≡ others }
+    // Every other encoding of a list is longer than its shortest.
+    ensures shortest { (globals : List Global) → global_body.Encodes body.now globals →
+        IsShortestOrLonger body.now (global_body.bytes globals) }
+{
+    read_items(alloc, body)
+}
+
+/// The globals whose shortest encoding the body of a global section is (Core 3.0, Global Section).
+///
+/// `Refused` carries the number of bytes of the count and of the globals that are whole and in their shortest
+/// encodings, before the first that isn't, or before what is left over; it is 0 where the count isn't in the fewest
+/// bytes.
+#[tactic(auto, using(crate::proofs::EntryLaws::global_is_lawful), unfolding(crate::specs::formats::Sections::global_body))]
+pub fn read_global_section_strict(
+    alloc: Heap,
+    body: &[u8],
+) -> Result<Vec<Global>, ReadError>
+    // What is given, the body is the shortest encoding of.
+    ensures given { IfOk result (λ globals. AskedList true global_entry body.now (globals.items)) }
+    // What the body is the shortest encoding of is given, unless memory ran out.
+    ensures complete { (globals : List Global) → AskedList true global_entry body.now globals →
+        IsOrMemory (λ given. given.items) globals result }
+    // `at` is the length of the longest prefix that is whole and in shortest encodings.
+    ensures prefix { IfRefused result (IsLongestPrefix (IsAskedPrefix true global_entry) body.now) }
+    // The body is the shortest encoding of at most one list.
+    ensures one { (globals others : List Global) →
+        AskedList true global_entry body.now globals → AskedList true global_entry body.now others → globals ≡ others }
+    // That is so where it encodes the list, as `read_global_section` tells, and is as `normalise_global_section` leaves it.
+    ensures shortest { (globals : List Global) → AskedList true global_entry body.now globals ↔
+        (global_body.Encodes body.now globals × (body.now ≡ global_body.bytes globals)) }
+{
+    read_items_strict(alloc, body)
+}
+
+/// The normal bytes of the body of a global section: the same globals in the fewest bytes (Core 3.0, Global Section).
+///
+/// `Refused` carries the number of bytes of the count and of the globals that are whole before the first that isn't, or
+/// before what is left over.
+#[tactic(auto, unfolding(crate::specs::formats::Sections::global_body))]
+pub fn normalise_global_section(alloc: Heap, body: &[u8]) -> Result<Vec<u8>, ReadError>
+    // The result is the shortest encoding of a list that the body encodes.
+    ensures given { IfOk result (λ encoding.
+        IsNormalForm global_body.Encodes global_body.bytes body.now encoding.items) }
+    // Where the body encodes a list, its shortest encoding is given, unless memory ran out.
+    ensures complete { (globals : List Global) → global_body.Encodes body.now globals →
+        IsOrMemory (λ encoding. encoding.items) (global_body.bytes globals) result }
+    // `at` is the length of the longest prefix that is whole.
+    ensures prefix { IfRefused result (IsLongestPrefix (IsListPrefix global_entry.Encodes) body.now) }
+    // The body encodes at most one list.
+    ensures one { (globals others : List Global) →
+        global_body.Encodes body.now globals → global_body.Encodes body.now others → globals ≡ others }
+    // The result encodes a list exactly if the body does.
+    ensures same { IfOk result (λ encoding. (globals : List Global) →
+        global_body.Encodes encoding.items globals ↔ global_body.Encodes body.now globals) }
+    // The result is normal: it is the shortest encoding of what it encodes.
+    ensures normal { IfOk result (λ encoding. (globals : List Global) →
+        global_body.Encodes encoding.items globals → encoding.items ≡ global_body.bytes globals) }
+    // Every other encoding of a list is longer than its shortest.
+    ensures shortest { (globals : List Global) → global_body.Encodes body.now globals →
+        IsShortestOrLonger body.now (global_body.bytes globals) }
+    // The result is no longer than the body.
+    ensures no_longer { IfOk result (λ encoding. length encoding.items ≤ length body.now) }
+    // A shortest encoding stays as it is, unless memory ran out.
+    ensures stays { (globals : List Global) → AskedList true global_entry body.now globals →
+        IsOrMemory (λ encoding. encoding.items) body.now result }
+    // What stays as it is, is a shortest encoding.
+    ensures was_shortest { IfOk result (λ encoding.
+        encoding.items ≡ body.now → EncodesSome (AskedList true global_entry) body.now) }
+{
+    normalise_items::<Global>(alloc, body)
+}
+
+/// The same, in the list itself, which is rewritten where it lies and given back. It takes no memory.
+#[tactic(auto, unfolding(crate::specs::formats::Sections::global_body))]
+pub fn rewrite_global_section(body: Vec<u8>) -> Result<Vec<u8>, ReadError>
+    // The result is the shortest encoding of a list that the body encodes.
+    ensures given { IfOk result (λ encoding.
+        IsNormalForm global_body.Encodes global_body.bytes body.items encoding.items) }
+    // Where the body encodes a list, its shortest encoding is given.
+    ensures complete { (globals : List Global) → global_body.Encodes body.items globals →
+        IsOrMemory (λ encoding. encoding.items) (global_body.bytes globals) result }
+    // `at` is the length of the longest prefix that is whole.
+    ensures prefix { IfRefused result (IsLongestPrefix (IsListPrefix global_entry.Encodes) body.items) }
+    // Only what encodes no list is refused.
+    ensures unencoded { IfRefused result (λ _. (globals : List Global) → global_body.Encodes body.items globals → ⊥) }
+{
+    rewrite_items::<Global>(body)
+}
+
+/// A global.
+#[tactic(auto, unfolding(crate::specs::formats::Entries::global_entry))]
+fn read_global(alloc: Heap, cursor: &mut Cursor<'_>) -> Result<Global, Fault>
+    ensures reads { Reads global_entry.at cursor.old cursor.new result }
+{
+    let ty = read_global_type(cursor)?;
+    let init = read_expr(alloc, cursor)?;
+    Ok(Global { ty, init })
+}
+
+impl<'a> Readable<'a> for Global {
+    ghost Value = { Global };
+
+    ghost view = { λ global. global };
+
+    ghost views = { λ globals. globals };
+
+    ghost views_each = { record { none = refl; more = λ globals global. refl } };
+
+    ghost format = { global_entry };
+
+    #[tactic(auto, using(crate::proofs::EntryLaws::global_is_lawful, crate::proofs::EntryLaws::global_takes))]
+    fn read(alloc: Heap, cursor: &mut Cursor<'a>) -> Result<Global, Fault> {
+        read_global(alloc, cursor)
+    }
+}
+
+impl Rewritable for Global {
+    ghost Value = { Global };
+
+    ghost format = { global_entry };
+
+    #[inline(always)]
+    #[tactic(auto, using(crate::proofs::EntryLaws::global_is_lawful, crate::proofs::EntryLaws::global_takes))]
+    fn is_lawful() {}
+
+    #[tactic(auto, using(std::proofs::Common::append_assoc), unfolding(crate::specs::formats::Entries::global_entry))]
+    fn rewrite(rewriter: &mut Rewriter) -> Result<(), Fault> {
+        rewrite_global_type(rewriter)?;
+        rewrite_expr(rewriter)?;
+        Ok(())
+    }
+}
