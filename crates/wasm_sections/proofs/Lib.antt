@@ -8,3 +8,5 @@ pub mod LimitsRewriting
 pub mod UntilReading
 pub mod ExpressionLaws
 pub mod ExpressionRewriting
+pub mod SegmentLaws
+pub mod SegmentRewriting

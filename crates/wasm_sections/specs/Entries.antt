@@ -3,6 +3,8 @@ use Rattle.std.specs.Prelude.{ℕ, List, map}
 use Rattle.wasm_sections.specs.declared.types.EntityType.{EntityType}
 use Rattle.wasm_sections.specs.declared.types.ExportKind.{ExportKind}
 use Rattle.wasm_sections.specs.declared.exports.Export.{Export}
+use Rattle.wasm_sections.specs.declared.data.DataSegment.{DataSegment}
+use Rattle.wasm_sections.specs.declared.data.DataSegmentMode.{DataSegmentMode}
 use Rattle.wasm_sections.specs.declared.imports.Import.{Import}
 
 pub record ExportParts : Type 0 where
@@ -26,3 +28,13 @@ import_parts i = record { module_name = i.module.now; field = i.field.now; ty = 
 
 abbrev pub all_import_parts : List Import → List ImportParts
 all_import_parts = map import_parts
+
+pub record DataParts : Type 0 where
+  pub mode : DataSegmentMode
+  pub data_bytes : List ℕ
+
+abbrev pub data_parts : DataSegment → DataParts
+data_parts d = record { mode = d.mode; data_bytes = d.bytes.now }
+
+abbrev pub all_data_parts : List DataSegment → List DataParts
+all_data_parts = map data_parts

@@ -3,4 +3,5 @@ pub mod Names
 pub mod Externals
 pub mod Expressions
 pub mod Entries
+pub mod Segments
 pub mod Sections

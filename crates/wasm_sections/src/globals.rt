@@ -60,10 +60,7 @@ pub fn read_global_section(alloc: Heap, body: &[u8]) -> Result<Vec<Global>, Read
 /// encodings, before the first that isn't, or before what is left over; it is 0 where the count isn't in the fewest
 /// bytes.
 #[tactic(auto, using(crate::proofs::EntryLaws::global_is_lawful), unfolding(crate::specs::formats::Sections::global_body))]
-pub fn read_global_section_strict(
-    alloc: Heap,
-    body: &[u8],
-) -> Result<Vec<Global>, ReadError>
+pub fn read_global_section_strict(alloc: Heap, body: &[u8]) -> Result<Vec<Global>, ReadError>
     // What is given, the body is the shortest encoding of.
     ensures given { IfOk result (λ globals. AskedList true global_entry body.now (globals.items)) }
     // What the body is the shortest encoding of is given, unless memory ran out.

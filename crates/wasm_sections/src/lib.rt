@@ -2,6 +2,7 @@
 //! and what leaves it in its shortest encoding.
 #![tactic(auto)]
 
+pub mod data;
 mod entities;
 pub mod exports;
 mod expressions;

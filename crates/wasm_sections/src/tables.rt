@@ -59,10 +59,7 @@ pub fn read_table_section(alloc: Global, body: &[u8]) -> Result<Vec<Table>, Read
 /// `Refused` carries the number of bytes of the count and of the tables that are whole and in their shortest encodings,
 /// before the first that isn't, or before what is left over; it is 0 where the count isn't in the fewest bytes.
 #[tactic(auto, using(crate::proofs::EntryLaws::table_is_lawful), unfolding(crate::specs::formats::Sections::table_body))]
-pub fn read_table_section_strict(
-    alloc: Global,
-    body: &[u8],
-) -> Result<Vec<Table>, ReadError>
+pub fn read_table_section_strict(alloc: Global, body: &[u8]) -> Result<Vec<Table>, ReadError>
     // What is given, the body is the shortest encoding of.
     ensures given { IfOk result (λ tables. AskedList true table_entry body.now (tables.items)) }
     // What the body is the shortest encoding of is given, unless memory ran out.

@@ -5,7 +5,8 @@ use Rattle.wasm_codec.specs.formats.Combinators.{Format, u32, items}
 use Rattle.wasm_sections.specs.declared.types.MemoryType.{MemoryType}
 use Rattle.wasm_sections.specs.declared.types.TagType.{TagType}
 use Rattle.wasm_sections.specs.formats.Externals.{memory_type, tag_type}
-use Rattle.wasm_sections.specs.Entries.{ExportParts, ImportParts}
+use Rattle.wasm_sections.specs.Entries.{ExportParts, ImportParts, DataParts}
+use Rattle.wasm_sections.specs.formats.Segments.{data_segment}
 use Rattle.wasm_sections.specs.declared.globals.Global.{Global}
 use Rattle.wasm_sections.specs.declared.tables.Table.{Table}
 use Rattle.wasm_sections.specs.formats.Entries.{export_entry, import_entry, table_entry, global_entry}
@@ -33,6 +34,10 @@ global_body = items global_entry
 -- exportsec ::= ex*:section_7(list(export)) ⇒ ex*
 unfoldable pub export_body : Format (List ExportParts)
 export_body = items export_entry
+
+-- datasec ::= data*:section_11(list(data)) ⇒ data*
+unfoldable pub data_body : Format (List DataParts)
+data_body = items data_segment
 
 -- tagsec ::= tag*:section_13(list(tag)) ⇒ tag*, tag ::= jt:tagtype ⇒ tag jt
 unfoldable pub tag_body : Format (List TagType)

@@ -1,0 +1,300 @@
+//! Data sections (Core 3.0, Data Section).
+ghost use Rattle.std.specs.Prelude.{◌≡◌, ◌↔◌, ◌≤◌, true, List, length, refl, IfOk, IfErr};
+ghost use Rattle.wasm_codec.specs.Answers.{IsOrMemory, IfRefused, IsLongestPrefix, IsNormalForm, EncodesSome};
+ghost use Rattle.wasm_codec.specs.Encoding.{IsShortestOrLonger};
+ghost use Rattle.wasm_codec.specs.Lists.{IsListPrefix, AskedList, IsAskedPrefix};
+ghost use Rattle.wasm_codec.specs.Places.{Reads};
+ghost use Rattle.wasm_codec.specs.Rewriter.{Rewrites, Gives};
+ghost use Rattle.wasm_codec.specs.declared.reader.cursor.Fault.TheVariants.{Malformed};
+ghost use Rattle.std.specs.Prelude.{ℕ};
+ghost use Rattle.std.proofs.lemmas.List.{map_push};
+ghost use Rattle.wasm_codec.specs.Grammar.{TakesBytes};
+ghost use Rattle.wasm_codec.specs.Lawful.{IsLawful};
+ghost use Rattle.wasm_codec.specs.Reading.{map_ok};
+ghost use Rattle.wasm_codec.specs.formats.Bodies.{byte_list, bytes_to_end};
+ghost use Rattle.wasm_codec.specs.formats.Combinators.{◌⊗◌};
+ghost use Rattle.wasm_sections.specs.Entries.{DataParts, data_parts, all_data_parts};
+ghost use Rattle.wasm_sections.specs.formats.Expressions.{expr};
+ghost use Rattle.wasm_sections.specs.formats.Segments.{data_segment};
+ghost use Rattle.wasm_sections.specs.formats.Sections.{data_body};
+
+use crate::expressions::{read_expr, rewrite_expr};
+use crate::lists::{normalise_items, read_items, read_items_strict, rewrite_items};
+use std::alloc::Global;
+use wasm_codec::list::Items;
+use wasm_codec::reader::ReadError;
+use wasm_codec::reader::cursor::{Cursor, Fault};
+use wasm_codec::rewriter::{Rewritable, RewritableBody, Rewriter, rewrite_sized};
+use wasm_instructions::table::Call;
+use wasm_readers::readable::Readable;
+
+/// When the bytes of a data segment are copied.
+#[derive(Debug, PartialEq, Eq, Drop)]
+pub enum DataSegmentMode {
+    /// Into a memory, when the module is instantiated.
+    Active {
+        /// The index of the memory.
+        memory_index: u32,
+        /// The instructions that make the place in it, without the end.
+        offset: Items<Call>,
+    },
+    /// When an instruction asks for it.
+    Passive,
+}
+
+/// A data segment.
+#[derive(Debug, Drop)]
+pub struct DataSegment<'a> {
+    /// When its bytes are copied.
+    pub mode: DataSegmentMode,
+    /// Its bytes.
+    pub bytes: &'a [u8],
+}
+
+/// The segments that the body of a data section encodes, in any encoding (Core 3.0, Data Section).
+///
+/// `Refused` carries the number of bytes of the count and of the segments that are whole before the first that isn't,
+/// or before what is left over.
+#[tactic(auto, using(crate::proofs::SegmentLaws::data_is_lawful), unfolding(crate::specs::formats::Sections::data_body))]
+pub fn read_data_section<'a>(
+    alloc: Global,
+    body: &'a [u8],
+) -> Result<Vec<DataSegment<'a>>, ReadError>
+    // What is given, the body encodes.
+    ensures given { IfOk result (λ segments. data_body.Encodes body.now (all_data_parts segments.items)) }
+    // What the body encodes is given, unless memory ran out.
+    ensures complete { (segments : List DataParts) → data_body.Encodes body.now segments →
+        IsOrMemory (λ given. all_data_parts given.items) segments result }
+    // `at` is the length of the longest prefix that is whole.
+    ensures prefix { IfRefused result (IsLongestPrefix (IsListPrefix data_segment.Encodes) body.now) }
+    // The body encodes at most one list.
+    ensures one { (segments others : List DataParts) →
+        data_body.Encodes body.now segments → data_body.Encodes body.now others → segments ≡ others }
+    // Every other encoding of a list is longer than its shortest.
+    ensures shortest { (segments : List DataParts) → data_body.Encodes body.now segments →
+        IsShortestOrLonger body.now (data_body.bytes segments) }
+{
+    read_items(alloc, body)
+}
+
+/// The segments whose shortest encoding the body of a data section is (Core 3.0, Data Section).
+///
+/// `Refused` carries the number of bytes of the count and of the segments that are whole and in their shortest
+/// encodings, before the first that isn't, or before what is left over; it is 0 where the count isn't in the fewest
+/// bytes.
+#[tactic(auto, using(crate::proofs::SegmentLaws::data_is_lawful), unfolding(crate::specs::formats::Sections::data_body))]
+pub fn read_data_section_strict<'a>(
+    alloc: Global,
+    body: &'a [u8],
+) -> Result<Vec<DataSegment<'a>>, ReadError>
+    // What is given, the body is the shortest encoding of.
+    ensures given { IfOk result (λ segments. AskedList true data_segment body.now (all_data_parts segments.items)) }
+    // What the body is the shortest encoding of is given, unless memory ran out.
+    ensures complete { (segments : List DataParts) → AskedList true data_segment body.now segments →
+        IsOrMemory (λ given. all_data_parts given.items) segments result }
+    // `at` is the length of the longest prefix that is whole and in shortest encodings.
+    ensures prefix { IfRefused result (IsLongestPrefix (IsAskedPrefix true data_segment) body.now) }
+    // The body is the shortest encoding of at most one list.
+    ensures one { (segments others : List DataParts) →
+        AskedList true data_segment body.now segments → AskedList true data_segment body.now others → segments ≡ others }
+    // That is so where it encodes the list, as `read_data_section` tells, and is as `normalise_data_section` leaves it.
+    ensures shortest { (segments : List DataParts) → AskedList true data_segment body.now segments ↔
+        (data_body.Encodes body.now segments × (body.now ≡ data_body.bytes segments)) }
+{
+    read_items_strict(alloc, body)
+}
+
+/// The normal bytes of the body of a data section: the same segments in the fewest bytes (Core 3.0, Data Section).
+///
+/// `Refused` carries the number of bytes of the count and of the segments that are whole before the first that isn't,
+/// or before what is left over.
+#[tactic(auto, unfolding(crate::specs::formats::Sections::data_body))]
+pub fn normalise_data_section(alloc: Global, body: &[u8]) -> Result<Vec<u8>, ReadError>
+    // The result is the shortest encoding of a list that the body encodes.
+    ensures given { IfOk result (λ encoding.
+        IsNormalForm data_body.Encodes data_body.bytes body.now encoding.items) }
+    // Where the body encodes a list, its shortest encoding is given, unless memory ran out.
+    ensures complete { (segments : List DataParts) → data_body.Encodes body.now segments →
+        IsOrMemory (λ encoding. encoding.items) (data_body.bytes segments) result }
+    // `at` is the length of the longest prefix that is whole.
+    ensures prefix { IfRefused result (IsLongestPrefix (IsListPrefix data_segment.Encodes) body.now) }
+    // The body encodes at most one list.
+    ensures one { (segments others : List DataParts) →
+        data_body.Encodes body.now segments → data_body.Encodes body.now others → segments ≡ others }
+    // The result encodes a list exactly if the body does.
+    ensures same { IfOk result (λ encoding. (segments : List DataParts) →
+        data_body.Encodes encoding.items segments ↔ data_body.Encodes body.now segments) }
+    // The result is normal: it is the shortest encoding of what it encodes.
+    ensures normal { IfOk result (λ encoding. (segments : List DataParts) →
+        data_body.Encodes encoding.items segments → encoding.items ≡ data_body.bytes segments) }
+    // Every other encoding of a list is longer than its shortest.
+    ensures shortest { (segments : List DataParts) → data_body.Encodes body.now segments →
+        IsShortestOrLonger body.now (data_body.bytes segments) }
+    // The result is no longer than the body.
+    ensures no_longer { IfOk result (λ encoding. length encoding.items ≤ length body.now) }
+    // A shortest encoding stays as it is, unless memory ran out.
+    ensures stays { (segments : List DataParts) → AskedList true data_segment body.now segments →
+        IsOrMemory (λ encoding. encoding.items) body.now result }
+    // What stays as it is, is a shortest encoding.
+    ensures was_shortest { IfOk result (λ encoding.
+        encoding.items ≡ body.now → EncodesSome (AskedList true data_segment) body.now) }
+{
+    normalise_items::<DataSegment<'_>>(alloc, body)
+}
+
+/// The same, in the list itself, which is rewritten where it lies and given back. It takes no memory.
+#[tactic(auto, unfolding(crate::specs::formats::Sections::data_body))]
+pub fn rewrite_data_section(body: Vec<u8>) -> Result<Vec<u8>, ReadError>
+    // The result is the shortest encoding of a list that the body encodes.
+    ensures given { IfOk result (λ encoding.
+        IsNormalForm data_body.Encodes data_body.bytes body.items encoding.items) }
+    // Where the body encodes a list, its shortest encoding is given.
+    ensures complete { (segments : List DataParts) → data_body.Encodes body.items segments →
+        IsOrMemory (λ encoding. encoding.items) (data_body.bytes segments) result }
+    // `at` is the length of the longest prefix that is whole.
+    ensures prefix { IfRefused result (IsLongestPrefix (IsListPrefix data_segment.Encodes) body.items) }
+    // Only what encodes no list is refused.
+    ensures unencoded { IfRefused result (λ _. (segments : List DataParts) → data_body.Encodes body.items segments → ⊥) }
+{
+    rewrite_items::<DataSegment<'_>>(body)
+}
+
+/// Bytes after their number.
+fn read_byte_list<'a>(cursor: &mut Cursor<'a>) -> Result<&'a [u8], Fault>
+    ensures reads { Reads byte_list.at cursor.old cursor.new (map_ok (λ bytes. bytes.now) result) }
+    ensures err { IfErr result (λ e. e ≡ Malformed) }
+{
+    let size = cursor.u32()? as usize;
+    cursor.take(size)
+}
+
+/// A data segment. One for memory 0 that names it is a long form.
+#[tactic(auto, using(crate::proofs::SegmentRewriting::no_data_form), unfolding(crate::specs::formats::Segments::data_segment))]
+fn read_data_segment<'a>(alloc: Global, cursor: &mut Cursor<'a>) -> Result<DataSegment<'a>, Fault>
+    ensures reads { Reads data_segment.at cursor.old cursor.new (map_ok data_parts result) }
+{
+    match cursor.u32()? {
+        0 => {
+            let offset = read_expr(alloc, cursor)?;
+            let bytes = read_byte_list(cursor)?;
+            let mode = DataSegmentMode::Active {
+                memory_index: 0,
+                offset,
+            };
+            Ok(DataSegment { mode, bytes })
+        }
+        1 => {
+            let bytes = read_byte_list(cursor)?;
+            Ok(DataSegment {
+                mode: DataSegmentMode::Passive,
+                bytes,
+            })
+        }
+        2 => {
+            let memory_index = cursor.u32()?;
+            let offset = read_expr(alloc, cursor)?;
+            let bytes = read_byte_list(cursor)?;
+            if memory_index == 0 {
+                cursor.long_form();
+            }
+            let mode = DataSegmentMode::Active {
+                memory_index,
+                offset,
+            };
+            Ok(DataSegment { mode, bytes })
+        }
+        _ => Err(Fault::Malformed),
+    }
+}
+
+impl<'a> Readable<'a> for DataSegment<'a> {
+    ghost Value = { DataParts };
+
+    ghost view = { data_parts };
+
+    ghost views = { all_data_parts };
+
+    ghost views_each = { record { none = refl; more = λ segments segment. map_push data_parts segments segment } };
+
+    ghost format = { data_segment };
+
+    #[tactic(auto, using(crate::proofs::SegmentLaws::data_is_lawful, crate::proofs::SegmentLaws::data_takes))]
+    fn read(alloc: Global, cursor: &mut Cursor<'a>) -> Result<DataSegment<'a>, Fault> {
+        read_data_segment(alloc, cursor)
+    }
+}
+
+/// Bytes to the end, which stay as they are.
+struct RawBytes;
+
+impl RewritableBody for RawBytes {
+    ghost Value = { List ℕ };
+
+    ghost format = { bytes_to_end };
+
+    #[inline(always)]
+    #[tactic(auto, using(crate::proofs::SegmentLaws::raw_bytes_are_lawful))]
+    fn is_lawful() {}
+
+    fn rewrite(rewriter: &mut Rewriter) -> Result<(), Fault> {
+        rewriter.rest();
+        Ok(())
+    }
+}
+
+/// Leaves the place of an active data segment and its bytes in their shortest encodings.
+#[tactic(auto, using(std::proofs::Common::append_assoc))]
+fn rewrite_placed(rewriter: &mut Rewriter) -> Result<(), Fault>
+    ensures rewrites { Rewrites (expr ⊗ byte_list) rewriter.old rewriter.new result }
+{
+    rewrite_expr(rewriter)?;
+    rewrite_sized::<RawBytes>(rewriter)?;
+    Ok(())
+}
+
+/// Leaves a data segment in its shortest encoding. Where one for memory 0 names it, the number of that form is cut out, and
+/// the index is the number of the form that doesn't.
+#[tactic(auto, using(crate::proofs::SegmentRewriting::no_data_form, crate::proofs::SegmentRewriting::placed_rewritten, crate::proofs::SegmentRewriting::passive_rewritten, crate::proofs::SegmentRewriting::memory_left_out, crate::proofs::SegmentRewriting::memory_kept), unfolding(crate::specs::formats::Segments::data_segment))]
+fn rewrite_data_segment(rewriter: &mut Rewriter) -> Result<(), Fault>
+    ensures rewrites { Rewrites data_segment rewriter.old rewriter.new result }
+{
+    let mark = rewriter.mark();
+    match rewriter.u32()? {
+        0 => {
+            rewrite_placed(rewriter)?;
+            Ok(())
+        }
+        1 => {
+            rewrite_sized::<RawBytes>(rewriter)?;
+            Ok(())
+        }
+        2 => {
+            let memory = rewriter.u32()?;
+            rewrite_placed(rewriter)?;
+            if memory == 0 {
+                rewriter.cut_out(mark, 1);
+            }
+            Ok(())
+        }
+        _ => Err(Fault::Malformed),
+    }
+}
+
+impl<'a> Rewritable for DataSegment<'a> {
+    ghost Value = { DataParts };
+
+    ghost format = { data_segment };
+
+    #[inline(always)]
+    #[tactic(auto, using(crate::proofs::SegmentLaws::data_is_lawful, crate::proofs::SegmentLaws::data_takes))]
+    fn is_lawful()
+        ensures lawful { IsLawful data_segment }
+        ensures some { TakesBytes data_segment.Encodes }
+    {}
+
+    fn rewrite(rewriter: &mut Rewriter) -> Result<(), Fault>
+        ensures rewrites { Rewrites data_segment rewriter.old rewriter.new result }
+    {
+        rewrite_data_segment(rewriter)
+    }
+}
