@@ -10,3 +10,4 @@ pub mod ExpressionLaws
 pub mod ExpressionRewriting
 pub mod SegmentLaws
 pub mod SegmentRewriting
+pub mod ElementLaws

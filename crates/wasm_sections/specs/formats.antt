@@ -4,4 +4,5 @@ pub mod Externals
 pub mod Expressions
 pub mod Entries
 pub mod Segments
+pub mod Elements
 pub mod Sections

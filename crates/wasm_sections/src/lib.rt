@@ -3,6 +3,7 @@
 #![tactic(auto)]
 
 pub mod data;
+pub mod elements;
 mod entities;
 pub mod exports;
 mod expressions;

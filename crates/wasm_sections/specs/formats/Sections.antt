@@ -6,6 +6,8 @@ use Rattle.wasm_sections.specs.declared.types.MemoryType.{MemoryType}
 use Rattle.wasm_sections.specs.declared.types.TagType.{TagType}
 use Rattle.wasm_sections.specs.formats.Externals.{memory_type, tag_type}
 use Rattle.wasm_sections.specs.Entries.{ExportParts, ImportParts, DataParts}
+use Rattle.wasm_sections.specs.declared.elements.Element.{Element}
+use Rattle.wasm_sections.specs.formats.Elements.{element_segment}
 use Rattle.wasm_sections.specs.formats.Segments.{data_segment}
 use Rattle.wasm_sections.specs.declared.globals.Global.{Global}
 use Rattle.wasm_sections.specs.declared.tables.Table.{Table}
@@ -34,6 +36,10 @@ global_body = items global_entry
 -- exportsec ::= ex*:section_7(list(export)) ⇒ ex*
 unfoldable pub export_body : Format (List ExportParts)
 export_body = items export_entry
+
+-- elemsec ::= elem*:section_9(list(elem)) ⇒ elem*
+unfoldable pub element_body : Format (List Element)
+element_body = items element_segment
 
 -- datasec ::= data*:section_11(list(data)) ⇒ data*
 unfoldable pub data_body : Format (List DataParts)

@@ -1,0 +1,271 @@
+//! Element sections (Core 3.0, Element Section).
+ghost use Rattle.std.specs.Prelude.{◌≡◌, ◌↔◌, ◌≤◌, true, List, length, refl, IfOk, IfErr};
+ghost use Rattle.wasm_codec.specs.Answers.{IsOrMemory, IfRefused, IsLongestPrefix, IsNormalForm, EncodesSome};
+ghost use Rattle.wasm_codec.specs.Encoding.{IsShortestOrLonger};
+ghost use Rattle.wasm_codec.specs.Lists.{IsListPrefix, AskedList, IsAskedPrefix};
+ghost use Rattle.wasm_codec.specs.Places.{Reads};
+ghost use Rattle.wasm_codec.specs.Rewriter.{Rewrites, Gives};
+ghost use Rattle.wasm_codec.specs.declared.reader.cursor.Fault.TheVariants.{Malformed};
+ghost use Rattle.std.specs.Prelude.{ℕ, Bool};
+ghost use Rattle.wasm_codec.specs.formats.Combinators.{◌⊗◌, made, items};
+ghost use Rattle.wasm_sections.specs.declared.elements.Element.{Element};
+ghost use Rattle.wasm_sections.specs.formats.Elements.{is_funcref, element, typed_of, typed_part, element_number, element_form, kind_and_functions, element_segment};
+ghost use Rattle.wasm_types.specs.formats.Types.{ref_type};
+ghost use Rattle.wasm_sections.specs.declared.elements.ElementMode.TheVariants as modes;
+ghost use Rattle.wasm_sections.specs.formats.Expressions.{expr};
+ghost use Rattle.wasm_sections.specs.formats.Sections.{element_body};
+
+use crate::expressions::read_expr;
+use crate::lists::{read_items, read_items_strict};
+use std::alloc::Global;
+use wasm_codec::list::Items;
+use wasm_codec::reader::ReadError;
+use wasm_codec::reader::cursor::{Cursor, Fault};
+use wasm_instructions::table::Call;
+use wasm_readers::lists::read_list;
+use wasm_readers::readable::Readable;
+use wasm_types::reader::read_ref_type;
+use wasm_types::types::{AbstractHeapType, HeapType, RefType};
+
+/// When the elements of a segment are copied.
+#[derive(Debug, PartialEq, Eq, Drop)]
+pub enum ElementMode {
+    /// When an instruction asks for it.
+    Passive,
+    /// Into a table, when the module is instantiated.
+    Active {
+        /// The index of the table.
+        table_index: u32,
+        /// The instructions that make the place in it, without the end.
+        offset: Items<Call>,
+    },
+    /// Never: it declares references to functions.
+    Declared,
+}
+
+/// What an element segment holds.
+#[derive(Debug, PartialEq, Eq, Drop)]
+pub enum Elements {
+    /// Functions, by their indexes.
+    Functions(Items<u32>),
+    /// Expressions of a type, each without its end.
+    Expressions(RefType, Items<Items<Call>>),
+}
+
+/// An element segment.
+#[derive(Debug, PartialEq, Eq, Drop)]
+pub struct Element {
+    /// When its elements are copied.
+    pub mode: ElementMode,
+    /// What it holds.
+    pub elements: Elements,
+}
+
+/// The segments that the body of an element section encodes, in any encoding (Core 3.0, Element Section).
+///
+/// `Refused` carries the number of bytes of the count and of the segments that are whole before the first that isn't,
+/// or before what is left over.
+#[tactic(auto, using(crate::proofs::ElementLaws::element_is_lawful), unfolding(crate::specs::formats::Sections::element_body))]
+pub fn read_element_section(alloc: Global, body: &[u8]) -> Result<Vec<Element>, ReadError>
+    // What is given, the body encodes.
+    ensures given { IfOk result (λ segments. element_body.Encodes body.now (segments.items)) }
+    // What the body encodes is given, unless memory ran out.
+    ensures complete { (segments : List Element) → element_body.Encodes body.now segments →
+        IsOrMemory (λ given. given.items) segments result }
+    // `at` is the length of the longest prefix that is whole.
+    ensures prefix { IfRefused result (IsLongestPrefix (IsListPrefix element_segment.Encodes) body.now) }
+    // The body encodes at most one list.
+    ensures one { (segments others : List Element) →
+        element_body.Encodes body.now segments → element_body.Encodes body.now others → segments ≡ others }
+    // Every other encoding of a list is longer than its shortest.
+    ensures shortest { (segments : List Element) → element_body.Encodes body.now segments →
+        IsShortestOrLonger body.now (element_body.bytes segments) }
+{
+    read_items(alloc, body)
+}
+
+/// The segments whose shortest encoding the body of an element section is (Core 3.0, Element Section).
+///
+/// `Refused` carries the number of bytes of the count and of the segments that are whole and in their shortest
+/// encodings, before the first that isn't, or before what is left over; it is 0 where the count isn't in the fewest
+/// bytes.
+#[tactic(auto, using(crate::proofs::ElementLaws::element_is_lawful), unfolding(crate::specs::formats::Sections::element_body))]
+pub fn read_element_section_strict(alloc: Global, body: &[u8]) -> Result<Vec<Element>, ReadError>
+    // What is given, the body is the shortest encoding of.
+    ensures given { IfOk result (λ segments. AskedList true element_segment body.now (segments.items)) }
+    // What the body is the shortest encoding of is given, unless memory ran out.
+    ensures complete { (segments : List Element) → AskedList true element_segment body.now segments →
+        IsOrMemory (λ given. given.items) segments result }
+    // `at` is the length of the longest prefix that is whole and in shortest encodings.
+    ensures prefix { IfRefused result (IsLongestPrefix (IsAskedPrefix true element_segment) body.now) }
+    // The body is the shortest encoding of at most one list.
+    ensures one { (segments others : List Element) →
+        AskedList true element_segment body.now segments → AskedList true element_segment body.now others → segments ≡ others }
+    // That is so where it encodes the list, as `read_element_section` tells in the fewest bytes.
+    ensures shortest { (segments : List Element) → AskedList true element_segment body.now segments ↔
+        (element_body.Encodes body.now segments × (body.now ≡ element_body.bytes segments)) }
+{
+    read_items_strict(alloc, body)
+}
+
+/// Whether a type is that of elements where none is told: `funcref`.
+fn is_funcref(ty: RefType) -> bool
+    ensures { result ≡ is_funcref ty }
+{
+    match ty.heap_type {
+        HeapType::Abstract {
+            shared,
+            ty: heap_type,
+        } => { !shared && ty.nullable && matches!(heap_type, AbstractHeapType::Func) }
+        HeapType::Concrete(_) | HeapType::Exact(_) => false,
+    }
+}
+
+/// The number of the form that a segment is written in.
+fn number_of(element: &Element) -> u32
+    ensures { result ≡ element_number element.now }
+{
+    match &element.elements {
+        Elements::Functions(_) => match &element.mode {
+            ElementMode::Passive => 1,
+            ElementMode::Active { table_index, .. } => if *table_index == 0 { 0 } else { 2 },
+            ElementMode::Declared => 3,
+        },
+        Elements::Expressions(ty, _) => match &element.mode {
+            ElementMode::Passive => 5,
+            ElementMode::Active { table_index, .. } => {
+                if *table_index == 0 && is_funcref(*ty) {
+                    4
+                } else {
+                    6
+                }
+            }
+            ElementMode::Declared => 7,
+        },
+    }
+}
+
+/// The byte of a kind, which is that of functions, and their indexes.
+fn read_functions(alloc: Global, cursor: &mut Cursor<'_>) -> Result<Items<u32>, Fault>
+    ensures reads { Reads kind_and_functions.at cursor.old cursor.new result }
+{
+    if cursor.byte()? != 0x00 {
+        return Err(Fault::Malformed);
+    }
+    read_list(alloc, cursor)
+}
+
+/// A list of expressions. A list of instructions isn't a type of this crate, so it can't be `Readable` here.
+fn read_expressions(alloc: Global, cursor: &mut Cursor<'_>) -> Result<Items<Items<Call>>, Fault>
+    ensures reads { Reads (items expr).at cursor.old cursor.new result }
+{
+    let count = cursor.u32()?;
+    let mut groups = Vec::new(alloc);
+    for _ in 0..count {
+        let group = read_expr(alloc, cursor)?;
+        groups.push(group)?;
+    }
+    Ok(Items::from(groups))
+}
+
+/// A type, and expressions of it.
+fn read_typed(alloc: Global, cursor: &mut Cursor<'_>) -> Result<Elements, Fault>
+    ensures reads { Reads (made typed_of typed_part (ref_type ⊗ items expr)).at cursor.old cursor.new result }
+{
+    let ty = read_ref_type(cursor)?;
+    let expressions = read_expressions(alloc, cursor)?;
+    Ok(Elements::Expressions(ty, expressions))
+}
+
+/// A segment that is copied into a table.
+fn active(table_index: u32, offset: Items<Call>, elements: Elements) -> Element
+    ensures { result ≡ element (modes.Active table_index offset) elements }
+{
+    let mode = ElementMode::Active {
+        table_index,
+        offset,
+    };
+    Element { mode, elements }
+}
+
+/// A segment that an instruction copies.
+fn passive(elements: Elements) -> Element
+    ensures { result ≡ element modes.Passive elements }
+{
+    let mode = ElementMode::Passive;
+    Element { mode, elements }
+}
+
+/// A segment that declares references.
+fn declared(elements: Elements) -> Element
+    ensures { result ≡ element modes.Declared elements }
+{
+    let mode = ElementMode::Declared;
+    Element { mode, elements }
+}
+
+/// What comes after the number of a form.
+#[tactic(auto, using(crate::proofs::ElementLaws::no_element_form))]
+fn read_form(alloc: Global, cursor: &mut Cursor<'_>, form: u32) -> Result<Element, Fault>
+    ensures reads { Reads (element_form form).at cursor.old cursor.new result }
+{
+    match form {
+        0 => {
+            let offset = read_expr(alloc, cursor)?;
+            let functions = Elements::Functions(read_list(alloc, cursor)?);
+            Ok(active(0, offset, functions))
+        }
+        1 => Ok(passive(Elements::Functions(read_functions(alloc, cursor)?))),
+        2 => {
+            let table_index = cursor.u32()?;
+            let offset = read_expr(alloc, cursor)?;
+            let functions = Elements::Functions(read_functions(alloc, cursor)?);
+            Ok(active(table_index, offset, functions))
+        }
+        3 => Ok(declared(Elements::Functions(read_functions(alloc, cursor)?))),
+        4 => {
+            let offset = read_expr(alloc, cursor)?;
+            let funcref = RefType::new_abstract(AbstractHeapType::Func, true, false);
+            let expressions = Elements::Expressions(funcref, read_expressions(alloc, cursor)?);
+            Ok(active(0, offset, expressions))
+        }
+        5 => Ok(passive(read_typed(alloc, cursor)?)),
+        6 => {
+            let table_index = cursor.u32()?;
+            let offset = read_expr(alloc, cursor)?;
+            Ok(active(table_index, offset, read_typed(alloc, cursor)?))
+        }
+        7 => Ok(declared(read_typed(alloc, cursor)?)),
+        _ => Err(Fault::Malformed),
+    }
+}
+
+/// An element segment. In any form but its own it is a long form.
+#[tactic(auto, unfolding(crate::specs::formats::Elements::element_segment))]
+fn read_element(alloc: Global, cursor: &mut Cursor<'_>) -> Result<Element, Fault>
+    ensures reads { Reads element_segment.at cursor.old cursor.new result }
+{
+    let form = cursor.u32()?;
+    let element = read_form(alloc, cursor, form)?;
+    if form != number_of(&element) {
+        cursor.long_form();
+    }
+    Ok(element)
+}
+
+impl<'a> Readable<'a> for Element {
+    ghost Value = { Element };
+
+    ghost view = { λ element. element };
+
+    ghost views = { λ elements. elements };
+
+    ghost views_each = { record { none = refl; more = λ elements element. refl } };
+
+    ghost format = { element_segment };
+
+    #[tactic(auto, using(crate::proofs::ElementLaws::element_is_lawful, crate::proofs::ElementLaws::element_takes))]
+    fn read(alloc: Global, cursor: &mut Cursor<'a>) -> Result<Element, Fault> {
+        read_element(alloc, cursor)
+    }
+}
