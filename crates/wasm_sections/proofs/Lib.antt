@@ -11,3 +11,4 @@ pub mod ExpressionRewriting
 pub mod SegmentLaws
 pub mod SegmentRewriting
 pub mod ElementLaws
+pub mod ValueReading

@@ -1,3 +1,4 @@
 pub mod Entries
 pub mod Nesting
+pub mod Prefixes
 pub mod formats

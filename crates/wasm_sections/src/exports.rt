@@ -201,6 +201,17 @@ fn rewrite_export_kind(rewriter: &mut Rewriter) -> Result<(), Fault>
     }
 }
 
+/// Leaves an export in its shortest encoding.
+#[tactic(auto, using(std::proofs::Common::append_assoc), unfolding(crate::specs::formats::Entries::export_entry))]
+fn rewrite_export(rewriter: &mut Rewriter) -> Result<(), Fault>
+    ensures rewrites { Rewrites export_entry rewriter.old rewriter.new result }
+{
+    rewrite_name(rewriter)?;
+    rewrite_export_kind(rewriter)?;
+    rewriter.u32()?;
+    Ok(())
+}
+
 impl<'a> Rewritable for Export<'a> {
     ghost Value = { ExportParts };
 
@@ -213,13 +224,9 @@ impl<'a> Rewritable for Export<'a> {
         ensures some { TakesBytes export_entry.Encodes }
     {}
 
-    #[tactic(auto, using(std::proofs::Common::append_assoc), unfolding(crate::specs::formats::Entries::export_entry))]
     fn rewrite(rewriter: &mut Rewriter) -> Result<(), Fault>
         ensures rewrites { Rewrites export_entry rewriter.old rewriter.new result }
     {
-        rewrite_name(rewriter)?;
-        rewrite_export_kind(rewriter)?;
-        rewriter.u32()?;
-        Ok(())
+        rewrite_export(rewriter)
     }
 }

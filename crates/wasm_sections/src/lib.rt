@@ -3,6 +3,7 @@
 #![tactic(auto)]
 
 pub mod data;
+pub mod data_count;
 pub mod elements;
 mod entities;
 pub mod exports;
@@ -14,6 +15,8 @@ mod limits;
 mod lists;
 pub mod memories;
 mod names;
+mod numbers;
+pub mod start;
 pub mod tables;
 pub mod tags;
 pub mod types;

@@ -37,6 +37,10 @@ global_body = items global_entry
 unfoldable pub export_body : Format (List ExportParts)
 export_body = items export_entry
 
+-- startsec ::= st?:section_8(start) ⇒ st?, start ::= x:funcidx ⇒ start x
+unfoldable pub start_body : Format ℕ
+start_body = u32
+
 -- elemsec ::= elem*:section_9(list(elem)) ⇒ elem*
 unfoldable pub element_body : Format (List Element)
 element_body = items element_segment
@@ -44,6 +48,10 @@ element_body = items element_segment
 -- datasec ::= data*:section_11(list(data)) ⇒ data*
 unfoldable pub data_body : Format (List DataParts)
 data_body = items data_segment
+
+-- datacntsec ::= n?:section_12(u32) ⇒ n?
+unfoldable pub data_count_body : Format ℕ
+data_count_body = u32
 
 -- tagsec ::= tag*:section_13(list(tag)) ⇒ tag*, tag ::= jt:tagtype ⇒ tag jt
 unfoldable pub tag_body : Format (List TagType)

@@ -1,0 +1,126 @@
+-- What is read of a value that is all of the bytes.
+use Rattle.std.proofs.Common.{◌≡◌, ℕ, ◌-◌, ◌<◌, ◌≤◌, Bool, true, false, List, [], ◌∷◌, ◌++◌, length, Option, Some, None, Result, Ok, Err, IfOk, refl, sym, ap, subst, ◌∙◌, length-append, inl, inr, arith}
+use Rattle.std.proofs.lemmas.List.{append-nil}
+use Rattle.wasm_codec.specs.Answers.{IsLongestPrefix, IfRefused}
+use Rattle.wasm_codec.specs.Grammar.{IsBytes}
+use Rattle.wasm_codec.specs.Lawful.{IsLawful}
+use Rattle.wasm_codec.specs.Places.{Place, place, keeps, u32_at, Reads}
+use Rattle.wasm_codec.specs.declared.reader.cursor.Fault.{Fault}
+use Rattle.wasm_codec.specs.declared.reader.cursor.Fault.TheVariants as faults
+use Rattle.wasm_codec.specs.formats.Combinators.{Format, u32, narrow}
+use Rattle.wasm_codec.proofs.Laws.{some_is}
+use Rattle.wasm_codec.proofs.FormatLaws.{Lawful-u32}
+use Rattle.wasm_codec.proofs.PlaceLists.{Lawful-narrow}
+use Rattle.wasm_codec.specs.declared.reader.ReadError.{ReadError}
+use Rattle.wasm_codec.specs.declared.reader.ReadError.TheVariants as errors
+use Rattle.wasm_codec.proofs.ListReading.{AtMostOne}
+use Rattle.wasm_codec.proofs.BodyLaws.{Lawful-body, encodes_one}
+use Rattle.wasm_sections.specs.Prefixes.{IsNothingOr, IsRefusedAt, ReadsWhole}
+
+module _ {V : Type 0} {F : Format V} (r : IsLawful F) where
+  -- what stands first is read
+  first_read : (bytes other after : List ℕ) (v : V) → bytes ≡ other ++ after → F.Encodes other v → F.at (place true bytes) ≡ Some (v, place (keeps true other (F.bytes v)) after)
+  first_read bytes other after v e g = ap (λ (l : List ℕ). F.at (place true l)) e ∙ r.reads.complete other v after true g
+
+  clash : {A : Type 0} (o : Option A) (x : A) → o ≡ None → o ≡ Some x → ⊥
+  clash o x e f = absurd cc
+
+  pub nothing_there : (bytes : List ℕ) → F.at (place true bytes) ≡ None → IsRefusedAt F bytes 0
+  nothing_there bytes none = record {
+    prefix = record { prefix = []; rest = bytes; parts = refl; len_is = refl; whole = inl refl; longest = longest };
+    unencoded = λ v g. clash (F.at (place true bytes)) (v, place (keeps true bytes (F.bytes v)) []) none (first_read bytes bytes [] v (sym (append-nil bytes)) g);
+  } where
+    longest : (other after : List ℕ) → bytes ≡ other ++ after → IsNothingOr F other → length other ≤ 0
+    longest other after e (inl nothing) = omega (arith, ap (length {A = ℕ}) nothing)
+    longest other after e (inr g) = absurd (clash (F.at (place true bytes)) (g.0, place (keeps true other (F.bytes g.0)) after) none (first_read bytes other after g.0 e g.1))
+
+  same_left : (bytes other after : List ℕ) (v w : V) (q : Place) → F.at (place true bytes) ≡ Some (v, q) → bytes ≡ other ++ after → F.Encodes other w → q.left ≡ after
+  same_left bytes other after v w q read e g = ap (λ (x : V × Place). x.1.left) (some_is (v, q) (w, place (keeps true other (F.bytes w)) after) (sym read ∙ first_read bytes other after w e g))
+
+  pub left_over : (bytes : List ℕ) (v : V) (q : Place) → IsBytes bytes → F.at (place true bytes) ≡ Some (v, q) → 0 < length q.left → IsRefusedAt F bytes (length bytes - length q.left)
+  left_over bytes v q fits read some =
+      let one = r.reads.sound (place true bytes) v q fits read in
+      record {
+        prefix = record { prefix = one.prefix; rest = q.left; parts = one.parts; len_is = omega (arith, ap (length {A = ℕ}) one.parts, length-append one.prefix q.left); whole = inr (v, one.encodes); longest = longest };
+        unencoded = λ w g. absurd (omega (arith, some, ap (length {A = ℕ}) (same_left bytes bytes [] v w q read (sym (append-nil bytes)) g)));
+      }
+    where
+      longest : (other after : List ℕ) → bytes ≡ other ++ after → IsNothingOr F other → length other ≤ length bytes - length q.left
+      longest other after e (inl nothing) = omega (arith, ap (length {A = ℕ}) nothing)
+      longest other after e (inr g) = omega (arith, ap (length {A = ℕ}) (same_left bytes other after v g.0 q read e g.1), ap (length {A = ℕ}) e, length-append other after)
+
+  pub all_there : (bytes : List ℕ) (v : V) (q : Place) → IsBytes bytes → F.at (place true bytes) ≡ Some (v, q) → length q.left ≤ 0 → F.Encodes bytes v
+  all_there bytes v q fits read none =
+      let one = r.reads.sound (place true bytes) v q fits read in
+      subst (λ (l : List ℕ). F.Encodes l v) (sym (one.parts ∙ ap (λ (l : List ℕ). one.prefix ++ l) (empty q.left none) ∙ append-nil one.prefix)) one.encodes
+    where
+      empty : (l : List ℕ) → length l ≤ 0 → l ≡ []
+      empty [] le = refl
+      empty (b ∷ l) le = absurd (omega arith)
+
+  pub one_value : AtMostOne F.Encodes
+  one_value = encodes_one (Lawful-body r)
+
+  pub given_whole : (bytes : List ℕ) (result : Result V ReadError) → ReadsWhole F bytes result → IfOk result (F.Encodes bytes)
+  given_whole bytes (Ok v) g = g
+  given_whole bytes (Err e) g = tt
+
+  pub refused_whole : (bytes : List ℕ) (result : Result V ReadError) → ReadsWhole F bytes result → IfRefused result (IsLongestPrefix (IsNothingOr F) bytes)
+  refused_whole bytes (Ok v) g = tt
+  refused_whole bytes (Err errors.Memory) g = tt
+  refused_whole bytes (Err (errors.Refused at)) g = g.prefix
+
+  pub complete_whole : (bytes : List ℕ) (result : Result V ReadError) → ReadsWhole F bytes result → (v : V) → F.Encodes bytes v → result ≡ Ok v
+  complete_whole bytes (Ok w) g v h = ap Ok (one_value bytes w v g h)
+  complete_whole bytes (Err errors.Memory) g v h = absurd g
+  complete_whole bytes (Err (errors.Refused at)) g v h = absurd (g.unencoded v h)
+
+-- ---- numbers in their shortest encodings
+
+pub narrow_read : (bytes : List ℕ) (n : ℕ) (q : Place) → u32_at (place true bytes) ≡ Some (n, q) → q.shortest ≡ true → (narrow u32).at (place true bytes) ≡ Some (n, q)
+narrow_read bytes n q read short = rw (read, short) refl
+
+pub narrow_long : (bytes : List ℕ) (n : ℕ) (q : Place) → u32_at (place true bytes) ≡ Some (n, q) → q.shortest ≡ false → (narrow u32).at (place true bytes) ≡ None
+narrow_long bytes n q read long = rw (read, long) refl
+
+pub narrow_none : (bytes : List ℕ) → u32_at (place true bytes) ≡ None → (narrow u32).at (place true bytes) ≡ None
+narrow_none bytes none = rw none refl
+
+-- ---- as the code has them
+
+no_u32 : (p new : Place) (fault : Fault) → Reads u32_at p new (Err fault) → fault ≡ faults.Malformed → u32_at p ≡ None
+no_u32 p new faults.Malformed none is = none
+no_u32 p new faults.Memory none is = absurd cc
+
+module _ (bytes : List ℕ) (p : Place) (start : p ≡ place true bytes) where
+  read_there : (n : ℕ) (q : Place) → u32_at p ≡ Some (n, q) → u32_at (place true bytes) ≡ Some (n, q)
+  read_there n q read = ap u32_at (sym start) ∙ read
+
+  are_bytes : IsBytes p.left → IsBytes bytes
+  are_bytes fits = subst (λ (t : Place). IsBytes t.left) start fits
+
+  pub number_wanting : (new : Place) (fault : Fault) → Reads u32_at p new (Err fault) → fault ≡ faults.Malformed → IsRefusedAt u32 bytes 0
+  number_wanting new fault none is = nothing_there Lawful-u32 bytes (ap u32_at (sym start) ∙ no_u32 p new fault none is)
+
+  pub fewer_left : (n : ℕ) (q : Place) → IsBytes p.left → u32_at p ≡ Some (n, q) → length q.left ≤ length bytes
+  fewer_left n q fits read =
+      let one = Lawful-u32.reads.sound (place true bytes) n q (are_bytes fits) (read_there n q read) in
+      omega (arith, ap (length {A = ℕ}) one.parts, length-append one.prefix q.left)
+
+  pub number_left_over : (n at : ℕ) (q : Place) → IsBytes p.left → u32_at p ≡ Some (n, q) → 0 < length q.left → at ≡ length bytes - length q.left → IsRefusedAt u32 bytes at
+  number_left_over n at q fits read some is = subst (IsRefusedAt u32 bytes) (sym is) (left_over Lawful-u32 bytes n q (are_bytes fits) (read_there n q read) some)
+
+  pub number_there : (n : ℕ) (q : Place) → IsBytes p.left → u32_at p ≡ Some (n, q) → length q.left ≤ 0 → u32.Encodes bytes n
+  number_there n q fits read none = all_there Lawful-u32 bytes n q (are_bytes fits) (read_there n q read) none
+
+  pub short_wanting : (new : Place) (fault : Fault) → Reads u32_at p new (Err fault) → fault ≡ faults.Malformed → IsRefusedAt (narrow u32) bytes 0
+  short_wanting new fault none is = nothing_there (Lawful-narrow Lawful-u32) bytes (narrow_none bytes (ap u32_at (sym start) ∙ no_u32 p new fault none is))
+
+  pub short_long : (n : ℕ) (q : Place) → u32_at p ≡ Some (n, q) → q.shortest ≡ false → IsRefusedAt (narrow u32) bytes 0
+  short_long n q read long = nothing_there (Lawful-narrow Lawful-u32) bytes (narrow_long bytes n q (read_there n q read) long)
+
+  pub short_left_over : (n at : ℕ) (q : Place) → IsBytes p.left → u32_at p ≡ Some (n, q) → q.shortest ≡ true → 0 < length q.left → at ≡ length bytes - length q.left → IsRefusedAt (narrow u32) bytes at
+  short_left_over n at q fits read short some is = subst (IsRefusedAt (narrow u32) bytes) (sym is) (left_over (Lawful-narrow Lawful-u32) bytes n q (are_bytes fits) (narrow_read bytes n q (read_there n q read) short) some)
+
+  pub short_there : (n : ℕ) (q : Place) → IsBytes p.left → u32_at p ≡ Some (n, q) → q.shortest ≡ true → length q.left ≤ 0 → (narrow u32).Encodes bytes n
+  short_there n q fits read short none = all_there (Lawful-narrow Lawful-u32) bytes n q (are_bytes fits) (narrow_read bytes n q (read_there n q read) short) none

@@ -1,0 +1,22 @@
+use Rattle.std.proofs.Common.{◌≡◌, ◌-◌, ◌≤◌, ◌<◌, true, false, length, sym, ap, ◌∙◌, arith}
+use Rattle.wasm_sections.proofs.ValueReading.{fewer_left, short_wanting, short_left_over, short_there, short_long}
+use Rattle.wasm_sections.proofs.numbers.only_number_strict.Goals as goal
+
+pub returns-in_default : goal.returns-in_default
+returns-in_default c = short_wanting c.args.body.now c.new-cursor.result c.new-cursor.ensures c.u32.new.self c.in_default.field-0 c.in_default.ensures.reads c.in_default.ensures.err
+
+pub returns-then-not-is_shortest : goal.returns-then-not-is_shortest
+returns-then-not-is_shortest c = short_long c.args.body.now c.new-cursor.result c.new-cursor.ensures c.in-Ok.number c.u32.new.self c.in-Ok.ensures.reads (sym c.is_shortest.ensures ∙ c.if-not-is_shortest.true)
+
+pub overflow_sub-result : goal.overflow_sub-result
+overflow_sub-result c = omega (arith, fewer_left c.args.body.now c.new-cursor.result c.new-cursor.ensures c.in-Ok.number c.u32.new.self c.fork-start.ensures.bytes c.in-Ok.ensures.reads, c.len-then-len-gt0.ensures)
+
+pub returns-then-len-gt0 : goal.returns-then-len-gt0
+returns-then-len-gt0 c =
+    let short : c.u32.new.self.shortest ≡ true = sym c.is_shortest.ensures ∙ c.if-not-is_shortest.false in
+    short_left_over c.args.body.now c.new-cursor.result c.new-cursor.ensures c.in-Ok.number (length c.args.body.now - c.len-then-len-gt0.result) c.u32.new.self c.fork-start.ensures.bytes c.in-Ok.ensures.reads short (omega (arith, c.if-len-gt0.true, c.len.ensures)) (omega (arith, c.len-then-len-gt0.ensures))
+
+pub returns : goal.returns
+returns c =
+    let short : c.u32.new.self.shortest ≡ true = sym c.is_shortest.ensures ∙ c.if-not-is_shortest.false in
+    short_there c.args.body.now c.new-cursor.result c.new-cursor.ensures c.in-Ok.number c.u32.new.self c.fork-start.ensures.bytes c.in-Ok.ensures.reads short (omega (arith, c.if-len-gt0.false, c.len.ensures))

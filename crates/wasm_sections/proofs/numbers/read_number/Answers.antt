@@ -1,0 +1,18 @@
+use Rattle.wasm_codec.proofs.FormatLaws.{Lawful-u32}
+use Rattle.wasm_sections.proofs.ValueReading.{one_value, given_whole, refused_whole, complete_whole}
+use Rattle.wasm_sections.proofs.numbers.read_number.Goals as goal
+
+pub returns-clause-given : goal.returns-clause-given
+returns-clause-given c = given_whole Lawful-u32 c.args.body.now c.only_number.result c.only_number.ensures
+
+pub returns-clause-complete : goal.returns-clause-complete
+returns-clause-complete c = complete_whole Lawful-u32 c.args.body.now c.only_number.result c.only_number.ensures
+
+pub returns-clause-prefix : goal.returns-clause-prefix
+returns-clause-prefix c = refused_whole Lawful-u32 c.args.body.now c.only_number.result c.only_number.ensures
+
+pub returns-clause-one : goal.returns-clause-one
+returns-clause-one c = one_value Lawful-u32 c.args.body.now
+
+pub returns-clause-shortest : goal.returns-clause-shortest
+returns-clause-shortest c = Lawful-u32.shortest.least c.args.body.now

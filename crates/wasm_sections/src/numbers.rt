@@ -1,0 +1,69 @@
+//! Bodies of sections that are one number (Core 3.0, Start Section and Data Count Section).
+ghost use Rattle.std.specs.Prelude.{◌≡◌, ℕ, Ok, IfOk};
+ghost use Rattle.wasm_codec.specs.Answers.{IfRefused, IsLongestPrefix};
+ghost use Rattle.wasm_codec.specs.Encoding.{IsShortestOrLonger};
+ghost use Rattle.wasm_codec.specs.formats.Combinators.{narrow};
+ghost use Rattle.wasm_sections.specs.Prefixes.{IsNothingOr, ReadsWhole};
+ghost use Rattle.wasm_codec.specs.formats.Combinators.{u32 as u32_format};
+
+use wasm_codec::reader::ReadError;
+use wasm_codec::reader::cursor::Cursor;
+
+/// The number that bytes encode, with nothing left over.
+pub(crate) fn read_number(body: &[u8]) -> Result<u32, ReadError>
+    ensures given { IfOk result (λ number. u32_format.Encodes body.now number) }
+    ensures complete { (number : ℕ) → u32_format.Encodes body.now number → result ≡ Ok number }
+    ensures prefix { IfRefused result (IsLongestPrefix (IsNothingOr u32_format) body.now) }
+    ensures one { (number other : ℕ) → u32_format.Encodes body.now number → u32_format.Encodes body.now other → number ≡ other }
+    ensures shortest { (number : ℕ) → u32_format.Encodes body.now number →
+        IsShortestOrLonger body.now (u32_format.bytes number) }
+{
+    only_number(body)
+}
+
+/// The same, said at once.
+fn only_number(body: &[u8]) -> Result<u32, ReadError>
+    ensures { ReadsWhole u32_format body.now result }
+{
+    let mut cursor = Cursor::new(body);
+    let _start = cursor.fork();
+    let Ok(number) = cursor.u32() else {
+        return Err(ReadError::Refused { at: 0 });
+    };
+    if cursor.len() > 0 {
+        return Err(ReadError::Refused {
+            at: body.len() - cursor.len(),
+        });
+    }
+    Ok(number)
+}
+
+/// The number whose shortest encoding bytes are.
+pub(crate) fn read_number_strict(body: &[u8]) -> Result<u32, ReadError>
+    ensures given { IfOk result (λ number. (narrow u32_format).Encodes body.now number) }
+    ensures complete { (number : ℕ) → (narrow u32_format).Encodes body.now number → result ≡ Ok number }
+    ensures prefix { IfRefused result (IsLongestPrefix (IsNothingOr (narrow u32_format)) body.now) }
+    ensures one { (number other : ℕ) → (narrow u32_format).Encodes body.now number → (narrow u32_format).Encodes body.now other → number ≡ other }
+{
+    only_number_strict(body)
+}
+
+/// The same, said at once.
+fn only_number_strict(body: &[u8]) -> Result<u32, ReadError>
+    ensures { ReadsWhole (narrow u32_format) body.now result }
+{
+    let mut cursor = Cursor::new(body);
+    let _start = cursor.fork();
+    let Ok(number) = cursor.u32() else {
+        return Err(ReadError::Refused { at: 0 });
+    };
+    if !cursor.is_shortest() {
+        return Err(ReadError::Refused { at: 0 });
+    }
+    if cursor.len() > 0 {
+        return Err(ReadError::Refused {
+            at: body.len() - cursor.len(),
+        });
+    }
+    Ok(number)
+}
