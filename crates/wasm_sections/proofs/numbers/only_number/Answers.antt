@@ -1,4 +1,4 @@
-use Rattle.std.proofs.Common.{◌≡◌, ◌-◌, ◌≤◌, ◌<◌, true, false, length, sym, ap, ◌∙◌, arith}
+use Rattle.std.proofs.Common.{◌-◌, length, arith}
 use Rattle.wasm_sections.proofs.ValueReading.{fewer_left, number_wanting, number_left_over, number_there}
 use Rattle.wasm_sections.proofs.numbers.only_number.Goals as goal
 

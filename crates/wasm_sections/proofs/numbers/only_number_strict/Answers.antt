@@ -1,4 +1,4 @@
-use Rattle.std.proofs.Common.{◌≡◌, ◌-◌, ◌≤◌, ◌<◌, true, false, length, sym, ap, ◌∙◌, arith}
+use Rattle.std.proofs.Common.{◌≡◌, ◌-◌, true, length, sym, ◌∙◌, arith}
 use Rattle.wasm_sections.proofs.ValueReading.{fewer_left, short_wanting, short_left_over, short_there, short_long}
 use Rattle.wasm_sections.proofs.numbers.only_number_strict.Goals as goal
 
