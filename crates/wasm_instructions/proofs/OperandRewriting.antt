@@ -6,7 +6,7 @@ use Rattle.std.proofs.lemmas.List.{take_at, drop_at, set_at, length-take-le, len
 use Rattle.wasm_codec.specs.declared.reader.cursor.Fault.{Fault}
 use Rattle.wasm_codec.specs.declared.reader.cursor.Fault.TheVariants as faults
 use Rattle.wasm_codec.specs.Grammar.{IsBytes}
-use Rattle.wasm_codec.specs.Numbers.{digits_of, unsigned_leb128}
+use Rattle.wasm_codec.specs.Numbers.{unsigned_leb128}
 use Rattle.wasm_codec.specs.Places.{place}
 use Rattle.wasm_codec.specs.Rewriter.{Rewriting, rewritten_at, after_at, Rewrites, without, with_byte}
 use Rattle.wasm_codec.specs.formats.Combinators.{little_endian, u32, u64}

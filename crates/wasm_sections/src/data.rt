@@ -1,6 +1,6 @@
 //! Data sections (Core 3.0, Data Section).
 ghost use Rattle.std.specs.Prelude.{◌≡◌, ◌↔◌, ◌≤◌, true, List, length, refl, IfOk, IfErr};
-ghost use Rattle.wasm_codec.specs.Answers.{IsOrMemory, IfRefused, IsLongestPrefix, IsNormalForm, EncodesSome};
+ghost use Rattle.wasm_codec.specs.Answers.{NeedsNoMemory, IsOrMemory, IfRefused, IsLongestPrefix, IsNormalForm, EncodesSome};
 ghost use Rattle.wasm_codec.specs.Encoding.{IsShortestOrLonger};
 ghost use Rattle.wasm_codec.specs.Lists.{IsListPrefix, AskedList, IsAskedPrefix};
 ghost use Rattle.wasm_codec.specs.Places.{Reads};
@@ -155,6 +155,8 @@ pub fn rewrite_data_section(body: Vec<u8>) -> Result<Vec<u8>, ReadError>
     ensures prefix { IfRefused result (IsLongestPrefix (IsListPrefix data_segment.Encodes) body.items) }
     // Only what encodes no list is refused.
     ensures unencoded { IfRefused result (λ _. (segments : List DataParts) → data_body.Encodes body.items segments → ⊥) }
+    // `Memory` is never answered.
+    ensures memory { NeedsNoMemory result }
 {
     rewrite_items::<DataSegment<'_>>(body)
 }

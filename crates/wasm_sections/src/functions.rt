@@ -1,6 +1,6 @@
 //! Function sections (Core 3.0, Function Section).
 ghost use Rattle.std.specs.Prelude.{◌≡◌, ◌↔◌, ◌≤◌, true, List, length, refl, IfOk, IfErr};
-ghost use Rattle.wasm_codec.specs.Answers.{IsOrMemory, IfRefused, IsLongestPrefix, IsNormalForm, EncodesSome};
+ghost use Rattle.wasm_codec.specs.Answers.{NeedsNoMemory, IsOrMemory, IfRefused, IsLongestPrefix, IsNormalForm, EncodesSome};
 ghost use Rattle.wasm_codec.specs.Encoding.{IsShortestOrLonger};
 ghost use Rattle.wasm_codec.specs.Lists.{IsListPrefix, AskedList, IsAskedPrefix};
 ghost use Rattle.wasm_codec.specs.Places.{Reads};
@@ -113,6 +113,8 @@ pub fn rewrite_function_section(body: Vec<u8>) -> Result<Vec<u8>, ReadError>
     ensures prefix { IfRefused result (IsLongestPrefix (IsListPrefix u32_format.Encodes) body.items) }
     // Only what encodes no list is refused.
     ensures unencoded { IfRefused result (λ _. (indexes : List ℕ) → function_body.Encodes body.items indexes → ⊥) }
+    // `Memory` is never answered.
+    ensures memory { NeedsNoMemory result }
 {
     rewrite_items::<u32>(body)
 }

@@ -1,6 +1,6 @@
 //! Bodies of sections that are lists (Core 3.0, Modules), whatever their items are.
 ghost use Rattle.std.specs.Prelude.{◌≡◌, ◌↔◌, ◌≤◌, true, List, length, IfOk};
-ghost use Rattle.wasm_codec.specs.Answers.{IsOrMemory, IfRefused, IsLongestPrefix, IsNormalForm, EncodesSome};
+ghost use Rattle.wasm_codec.specs.Answers.{NeedsNoMemory, IsOrMemory, IfRefused, IsLongestPrefix, IsNormalForm, EncodesSome};
 ghost use Rattle.wasm_codec.specs.Encoding.{IsShortestOrLonger};
 ghost use Rattle.wasm_codec.specs.Lawful.{IsLawful};
 ghost use Rattle.wasm_codec.specs.Lists.{IsListPrefix, AskedList, IsAskedPrefix};
@@ -57,6 +57,7 @@ pub(crate) fn rewrite_items<T: Rewritable>(body: Vec<u8>) -> Result<Vec<u8>, Rea
     ensures prefix { IfRefused result (IsLongestPrefix (IsListPrefix T.format.Encodes) body.items) }
     ensures unencoded { IfRefused result (λ _.
         (values : List T.Value) → (items T.format).Encodes body.items values → ⊥) }
+    ensures memory { NeedsNoMemory result }
 {
     T::is_lawful();
     normalise_list_to_end::<T>(body)

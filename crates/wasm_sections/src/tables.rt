@@ -1,6 +1,6 @@
 //! Table sections (Core 3.0, Table Section).
 ghost use Rattle.std.specs.Prelude.{◌≡◌, ◌↔◌, ◌≤◌, true, List, length, refl, IfOk, IfErr};
-ghost use Rattle.wasm_codec.specs.Answers.{IsOrMemory, IfRefused, IsLongestPrefix, IsNormalForm, EncodesSome};
+ghost use Rattle.wasm_codec.specs.Answers.{NeedsNoMemory, IsOrMemory, IfRefused, IsLongestPrefix, IsNormalForm, EncodesSome};
 ghost use Rattle.wasm_codec.specs.Encoding.{IsShortestOrLonger};
 ghost use Rattle.wasm_codec.specs.Lists.{IsListPrefix, AskedList, IsAskedPrefix};
 ghost use Rattle.wasm_codec.specs.Places.{Reads};
@@ -128,6 +128,8 @@ pub fn rewrite_table_section(body: Vec<u8>) -> Result<Vec<u8>, ReadError>
     ensures prefix { IfRefused result (IsLongestPrefix (IsListPrefix table_entry.Encodes) body.items) }
     // Only what encodes no list is refused.
     ensures unencoded { IfRefused result (λ _. (tables : List Table) → table_body.Encodes body.items tables → ⊥) }
+    // `Memory` is never answered.
+    ensures memory { NeedsNoMemory result }
 {
     rewrite_items::<Table>(body)
 }
