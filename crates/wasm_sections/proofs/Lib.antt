@@ -12,3 +12,4 @@ pub mod SegmentLaws
 pub mod SegmentRewriting
 pub mod ElementLaws
 pub mod ValueReading
+pub mod WholeBodies

@@ -3,7 +3,7 @@ use Rattle.std.proofs.Common.{◌≡◌, ℕ, ◌-◌, ◌<◌, ◌≤◌, true,
 use Rattle.std.proofs.lemmas.List.{append-nil}
 use Rattle.wasm_codec.specs.Answers.{IsLongestPrefix, IfRefused}
 use Rattle.wasm_codec.specs.Grammar.{IsBytes}
-use Rattle.wasm_codec.specs.Lawful.{IsLawful}
+use Rattle.wasm_codec.specs.Lawful.{IsLawful, IsLawfulBody}
 use Rattle.wasm_codec.specs.Places.{Place, place, keeps, u32_at, Reads}
 use Rattle.wasm_codec.specs.declared.reader.cursor.Fault.{Fault}
 use Rattle.wasm_codec.specs.declared.reader.cursor.Fault.TheVariants as faults
@@ -15,7 +15,7 @@ use Rattle.wasm_codec.specs.declared.reader.ReadError.{ReadError}
 use Rattle.wasm_codec.specs.declared.reader.ReadError.TheVariants as errors
 use Rattle.wasm_codec.proofs.ListReading.{AtMostOne}
 use Rattle.wasm_codec.proofs.BodyLaws.{Lawful-body, encodes_one}
-use Rattle.wasm_sections.specs.Prefixes.{IsNothingOr, IsRefusedAt, ReadsWhole}
+use Rattle.wasm_sections.specs.Prefixes.{IsNothingOr, IsRefusedAt, ReadsWhole, TellsPrefixes}
 
 module _ {V : Type 0} {F : Format V} (r : IsLawful F) where
   -- what stands first is read
@@ -74,6 +74,21 @@ module _ {V : Type 0} {F : Format V} (r : IsLawful F) where
   complete_whole bytes (Ok w) g v h = ap Ok (one_value bytes w v g h)
   complete_whole bytes (Err errors.Memory) g v h = absurd g
   complete_whole bytes (Err (errors.Refused at)) g v h = absurd (g.unencoded v h)
+
+pub prefixes_told : {V : Type 0} {F : Format V} → IsLawful F → TellsPrefixes F
+prefixes_told r = record {
+  none = λ bytes none. (nothing_there r bytes none).prefix;
+  more = λ bytes v q fits read some. (left_over r bytes v q fits read some).prefix;
+  within = λ bytes v q fits read.
+      let one = r.reads.sound (place true bytes) v q fits read in
+      omega (arith, ap (length {A = ℕ}) one.parts, length-append one.prefix q.left);
+}
+
+pub number_prefixes : TellsPrefixes u32
+number_prefixes = prefixes_told Lawful-u32
+
+pub number_is_lawful : IsLawfulBody u32
+number_is_lawful = Lawful-body Lawful-u32
 
 -- ---- numbers in their shortest encodings
 

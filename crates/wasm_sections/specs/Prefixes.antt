@@ -1,8 +1,11 @@
 -- Bodies that are one value, with nothing left over.
-use Rattle.std.specs.Prelude.{◌≡◌, ◌⊎◌, ℕ, List, [], Result, Ok, Err}
+use Rattle.std.specs.Prelude.{◌≡◌, ◌⊎◌, ◌-◌, ◌<◌, ◌≤◌, ℕ, List, [], true, length, Some, None, Result, Ok, Err}
+use Rattle.std.specs.Global.{Vec}
 use Rattle.wasm_codec.specs.declared.reader.ReadError.{ReadError}
 use Rattle.wasm_codec.specs.declared.reader.ReadError.TheVariants as errors
-use Rattle.wasm_codec.specs.Answers.{EncodesSome, IsLongestPrefix}
+use Rattle.wasm_codec.specs.Answers.{EncodesSome, IsLongestPrefix, IsNormalForm}
+use Rattle.wasm_codec.specs.Grammar.{IsBytes}
+use Rattle.wasm_codec.specs.Places.{Place, place}
 use Rattle.wasm_codec.specs.formats.Combinators.{Format}
 
 -- a prefix that is whole: nothing, or the value
@@ -19,3 +22,15 @@ abbrev pub ReadsWhole : {V : Type 0} → Format V → List ℕ → Result V Read
 ReadsWhole F bytes (Ok v) = F.Encodes bytes v
 ReadsWhole F bytes (Err errors.Memory) = ⊥
 ReadsWhole F bytes (Err (errors.Refused at)) = IsRefusedAt F bytes at
+
+-- The shortest encoding of the value that the bytes encode was given, or it is told where they are refused. It needs no memory.
+abbrev pub RewritesWhole : {V : Type 0} → Format V → List ℕ → Result (Vec ℕ) ReadError → Type 0
+RewritesWhole F bytes (Ok given) = IsNormalForm F.Encodes F.bytes bytes given.items
+RewritesWhole F bytes (Err errors.Memory) = ⊥
+RewritesWhole F bytes (Err (errors.Refused at)) = IsRefusedAt F bytes at
+
+-- What is read of bytes tells how long their longest whole prefix is, where they encode no value.
+pub record TellsPrefixes {V : Type 0} (F : Format V) : Type 0 where
+  pub none : (bytes : List ℕ) → F.at (place true bytes) ≡ None → IsLongestPrefix (IsNothingOr F) bytes 0
+  pub more : (bytes : List ℕ) (v : V) (q : Place) → IsBytes bytes → F.at (place true bytes) ≡ Some (v, q) → 0 < length q.left → IsLongestPrefix (IsNothingOr F) bytes (length bytes - length q.left)
+  pub within : (bytes : List ℕ) (v : V) (q : Place) → IsBytes bytes → F.at (place true bytes) ≡ Some (v, q) → length q.left ≤ length bytes

@@ -2,6 +2,7 @@
 //! and what leaves it in its shortest encoding.
 #![tactic(auto)]
 
+mod bodies;
 pub mod data;
 pub mod data_count;
 pub mod elements;

@@ -1,13 +1,15 @@
 //! Bodies of sections that are one number (Core 3.0, Start Section and Data Count Section).
-ghost use Rattle.std.specs.Prelude.{◌≡◌, ℕ, Ok, IfOk};
+ghost use Rattle.std.specs.Prelude.{◌≡◌, ◌↔◌, ℕ, Ok, IfOk};
 ghost use Rattle.wasm_codec.specs.Answers.{IfRefused, IsLongestPrefix};
 ghost use Rattle.wasm_codec.specs.Encoding.{IsShortestOrLonger};
 ghost use Rattle.wasm_codec.specs.formats.Combinators.{narrow};
 ghost use Rattle.wasm_sections.specs.Prefixes.{IsNothingOr, ReadsWhole};
 ghost use Rattle.wasm_codec.specs.formats.Combinators.{u32 as u32_format};
 
+use crate::bodies::WholeBody;
 use wasm_codec::reader::ReadError;
-use wasm_codec::reader::cursor::Cursor;
+use wasm_codec::reader::cursor::{Cursor, Fault};
+use wasm_codec::rewriter::{RewritableBody, Rewriter};
 
 /// The number that bytes encode, with nothing left over.
 pub(crate) fn read_number(body: &[u8]) -> Result<u32, ReadError>
@@ -44,6 +46,8 @@ pub(crate) fn read_number_strict(body: &[u8]) -> Result<u32, ReadError>
     ensures complete { (number : ℕ) → (narrow u32_format).Encodes body.now number → result ≡ Ok number }
     ensures prefix { IfRefused result (IsLongestPrefix (IsNothingOr (narrow u32_format)) body.now) }
     ensures one { (number other : ℕ) → (narrow u32_format).Encodes body.now number → (narrow u32_format).Encodes body.now other → number ≡ other }
+    ensures shortest { (number : ℕ) → (narrow u32_format).Encodes body.now number ↔
+        (u32_format.Encodes body.now number × (body.now ≡ u32_format.bytes number)) }
 {
     only_number_strict(body)
 }
@@ -66,4 +70,28 @@ fn only_number_strict(body: &[u8]) -> Result<u32, ReadError>
         });
     }
     Ok(number)
+}
+
+/// A number, of which a body is all.
+pub(crate) struct Number;
+
+impl RewritableBody for Number {
+    ghost Value = { ℕ };
+
+    ghost format = { u32_format };
+
+    #[inline(always)]
+    #[tactic(auto, using(crate::proofs::ValueReading::number_is_lawful))]
+    fn is_lawful() {}
+
+    fn rewrite(rewriter: &mut Rewriter) -> Result<(), Fault> {
+        rewriter.u32()?;
+        Ok(())
+    }
+}
+
+impl WholeBody for Number {
+    #[inline(always)]
+    #[tactic(auto, using(crate::proofs::ValueReading::number_prefixes))]
+    fn tells_prefixes() {}
 }

@@ -1,0 +1,20 @@
+use Rattle.std.proofs.Common.{◌≡◌, ◌-◌, length, subst, arith}
+use Rattle.wasm_sections.specs.Prefixes.{IsRefusedAt}
+use Rattle.wasm_sections.proofs.WholeBodies.{whole_none, whole_within, whole_left_over, whole_given}
+use Rattle.wasm_sections.proofs.bodies.rewrite_whole.Goals as goal
+
+pub returns-in-Err : goal.returns-in-Err
+returns-in-Err g c = whole_none c.is_lawful.ensures c.tells_prefixes.ensures c.args.body.items c.new-rewriter.result c.rewrite.new.rewriter c.new-rewriter.ensures c.in-Err.field-0 c.in-Err.ensures.rewrites
+
+pub overflow_sub-result : goal.overflow_sub-result
+overflow_sub-result g c =
+    let within = whole_within c.is_lawful.ensures c.tells_prefixes.ensures c.args.body.items c.new-rewriter.result c.rewrite.new.rewriter c.new-rewriter.ensures c.are_bytes.ensures c.in_default.ensures.rewrites in
+    omega (arith, within, c.len-left.ensures)
+
+pub returns-then-left-gt0 : goal.returns-then-left-gt0
+returns-then-left-gt0 g c =
+    let at : length c.args.body.items - length c.rewrite.new.rewriter.place.left ≡ c.len-len.result - c.len-left.result = omega (arith, c.len-left.ensures) in
+    subst (IsRefusedAt g.T.RewritableBody.format c.args.body.items) at (whole_left_over c.is_lawful.ensures c.tells_prefixes.ensures c.args.body.items c.new-rewriter.result c.rewrite.new.rewriter c.new-rewriter.ensures c.are_bytes.ensures c.in_default.ensures.rewrites (omega (arith, c.if-left-gt0.true, c.len-left.ensures)))
+
+pub returns : goal.returns
+returns g c = rw c.finish.ensures (whole_given c.is_lawful.ensures c.tells_prefixes.ensures c.args.body.items c.new-rewriter.result c.rewrite.new.rewriter c.new-rewriter.ensures c.are_bytes.ensures c.in_default.ensures.rewrites (omega (arith, c.if-left-gt0.false, c.len-left.ensures)))
