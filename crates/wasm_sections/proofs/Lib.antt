@@ -13,3 +13,4 @@ pub mod SegmentRewriting
 pub mod ElementLaws
 pub mod ValueReading
 pub mod WholeBodies
+pub mod CustomLaws

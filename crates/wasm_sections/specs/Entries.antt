@@ -3,6 +3,7 @@ use Rattle.std.specs.Prelude.{ℕ, List, map}
 use Rattle.wasm_sections.specs.declared.types.EntityType.{EntityType}
 use Rattle.wasm_sections.specs.declared.types.ExportKind.{ExportKind}
 use Rattle.wasm_sections.specs.declared.exports.Export.{Export}
+use Rattle.wasm_sections.specs.declared.custom.CustomSection.{CustomSection}
 use Rattle.wasm_sections.specs.declared.data.DataSegment.{DataSegment}
 use Rattle.wasm_sections.specs.declared.data.DataSegmentMode.{DataSegmentMode}
 use Rattle.wasm_sections.specs.declared.imports.Import.{Import}
@@ -38,3 +39,10 @@ data_parts d = record { mode = d.mode; data_bytes = d.bytes.now }
 
 abbrev pub all_data_parts : List DataSegment → List DataParts
 all_data_parts = map data_parts
+
+pub record CustomParts : Type 0 where
+  pub name : List ℕ
+  pub data_bytes : List ℕ
+
+abbrev pub custom_parts : CustomSection → CustomParts
+custom_parts c = record { name = c.name.now; data_bytes = c.bytes.now }

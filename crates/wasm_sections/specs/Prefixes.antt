@@ -23,6 +23,12 @@ ReadsWhole F bytes (Ok v) = F.Encodes bytes v
 ReadsWhole F bytes (Err errors.Memory) = ⊥
 ReadsWhole F bytes (Err (errors.Refused at)) = IsRefusedAt F bytes at
 
+-- the same, of a value that what was given stands for
+abbrev pub ReadsWholeAs : {X V : Type 0} → (X → V) → Format V → List ℕ → Result X ReadError → Type 0
+ReadsWholeAs view F bytes (Ok x) = F.Encodes bytes (view x)
+ReadsWholeAs view F bytes (Err errors.Memory) = ⊥
+ReadsWholeAs view F bytes (Err (errors.Refused at)) = IsRefusedAt F bytes at
+
 -- The shortest encoding of the value that the bytes encode was given, or it is told where they are refused. It needs no memory.
 abbrev pub RewritesWhole : {V : Type 0} → Format V → List ℕ → Result (Vec ℕ) ReadError → Type 0
 RewritesWhole F bytes (Ok given) = IsNormalForm F.Encodes F.bytes bytes given.items

@@ -3,6 +3,7 @@
 #![tactic(auto)]
 
 mod bodies;
+pub mod custom;
 pub mod data;
 pub mod data_count;
 pub mod elements;

@@ -1,17 +1,29 @@
 -- The bodies of sections, without the id and the size (WebAssembly Core 3.0, Modules). Over each stands the standard's
 -- production.
-use Rattle.std.specs.Prelude.{ℕ, List}
-use Rattle.wasm_codec.specs.formats.Combinators.{Format, u32, items}
+use Rattle.std.specs.Prelude.{ℕ, List, Option, Some}
+use Rattle.wasm_codec.specs.formats.Combinators.{Format, ◌⊗◌, made, u32, items}
+use Rattle.wasm_codec.specs.formats.Bodies.{bytes_to_end}
 use Rattle.wasm_sections.specs.declared.types.MemoryType.{MemoryType}
 use Rattle.wasm_sections.specs.declared.types.TagType.{TagType}
 use Rattle.wasm_sections.specs.formats.Externals.{memory_type, tag_type}
-use Rattle.wasm_sections.specs.Entries.{ExportParts, ImportParts, DataParts}
+use Rattle.wasm_sections.specs.Entries.{CustomParts, ExportParts, ImportParts, DataParts}
+use Rattle.wasm_sections.specs.formats.Names.{name}
 use Rattle.wasm_sections.specs.declared.elements.Element.{Element}
 use Rattle.wasm_sections.specs.formats.Elements.{element_segment}
 use Rattle.wasm_sections.specs.formats.Segments.{data_segment}
 use Rattle.wasm_sections.specs.declared.globals.Global.{Global}
 use Rattle.wasm_sections.specs.declared.tables.Table.{Table}
 use Rattle.wasm_sections.specs.formats.Entries.{export_entry, import_entry, table_entry, global_entry}
+
+abbrev pub custom_of : List ℕ × List ℕ → CustomParts
+custom_of p = record { name = p.0; data_bytes = p.1 }
+
+abbrev pub parts_of_custom : CustomParts → Option (List ℕ × List ℕ)
+parts_of_custom c = Some (c.name, c.data_bytes)
+
+-- customsec ::= section_0(custom), custom ::= name byte*
+unfoldable pub custom_body : Format CustomParts
+custom_body = made custom_of parts_of_custom (name ⊗ bytes_to_end)
 
 -- importsec ::= im*:section_2(list(import)) ⇒ im*
 unfoldable pub import_body : Format (List ImportParts)
