@@ -3,7 +3,13 @@
 use crate::answers::Mismatch;
 use std::alloc::Global;
 use wasm_codec::reader::ReadError;
+use wasm_sections::custom::{
+    normalise_custom_section, read_custom_section, read_custom_section_strict,
+};
 use wasm_sections::data::{normalise_data_section, read_data_section, read_data_section_strict};
+use wasm_sections::data_count::{
+    normalise_data_count_section, read_data_count_section, read_data_count_section_strict,
+};
 use wasm_sections::exports::{
     normalise_export_section, read_export_section, read_export_section_strict,
 };
@@ -18,6 +24,9 @@ use wasm_sections::imports::{
 };
 use wasm_sections::memories::{
     normalise_memory_section, read_memory_section, read_memory_section_strict,
+};
+use wasm_sections::start::{
+    normalise_start_section, read_start_section, read_start_section_strict,
 };
 use wasm_sections::tables::{
     normalise_table_section, read_table_section, read_table_section_strict,
@@ -42,6 +51,15 @@ fn counted<T: Drop>(items: Result<Vec<T>, ReadError>) -> Result<Answer, Mismatch
     }
 }
 
+/// What a reader of one value answers.
+fn one<T: Drop>(value: Result<T, ReadError>) -> Result<Answer, Mismatch> {
+    match value {
+        Ok(_value) => Ok(Answer::Given(1)),
+        Err(ReadError::Refused { at }) => Ok(Answer::Refused(at)),
+        Err(ReadError::Memory) => Err(Mismatch::Memory),
+    }
+}
+
 /// What the reader answers.
 pub fn read(alloc: Global, section: &str, body: &[u8]) -> Result<Answer, Mismatch> {
     match section {
@@ -53,6 +71,9 @@ pub fn read(alloc: Global, section: &str, body: &[u8]) -> Result<Answer, Mismatc
         "export" => counted(read_export_section(alloc, body)),
         "data" => counted(read_data_section(alloc, body)),
         "tag" => counted(read_tag_section(alloc, body)),
+        "start" => one(read_start_section(body)),
+        "data count" => one(read_data_count_section(body)),
+        "custom" => one(read_custom_section(body)),
         _ => Err(Mismatch::NotUnderstood),
     }
 }
@@ -67,7 +88,10 @@ pub fn read_strictly(alloc: Global, section: &str, body: &[u8]) -> Result<Answer
         "global" => counted(read_global_section_strict(alloc, body)),
         "export" => counted(read_export_section_strict(alloc, body)),
         "data" => counted(read_data_section_strict(alloc, body)),
-        _ => counted(read_tag_section_strict(alloc, body)),
+        "tag" => counted(read_tag_section_strict(alloc, body)),
+        "start" => one(read_start_section_strict(body)),
+        "data count" => one(read_data_count_section_strict(body)),
+        _ => one(read_custom_section_strict(body)),
     }
 }
 
@@ -81,6 +105,9 @@ pub fn normalise(alloc: Global, section: &str, body: &[u8]) -> Result<Vec<u8>, R
         "global" => normalise_global_section(alloc, body),
         "export" => normalise_export_section(alloc, body),
         "data" => normalise_data_section(alloc, body),
-        _ => normalise_tag_section(alloc, body),
+        "tag" => normalise_tag_section(alloc, body),
+        "start" => normalise_start_section(alloc, body),
+        "data count" => normalise_data_count_section(alloc, body),
+        _ => normalise_custom_section(alloc, body),
     }
 }
