@@ -28,6 +28,8 @@ pub fn read_data_count_section(body: &[u8]) -> Result<u32, ReadError>
     // Every other encoding of a number is longer than its shortest.
     ensures shortest { (number : ℕ) → data_count_body.Encodes body.now number →
         IsShortestOrLonger body.now (data_count_body.bytes number) }
+    // `Memory` is never answered.
+    ensures memory { NeedsNoMemory result }
 {
     read_number(body)
 }
@@ -50,6 +52,8 @@ pub fn read_data_count_section_strict(body: &[u8]) -> Result<u32, ReadError>
     // That is so where it encodes the number, as `read_data_count_section` tells, and is as `normalise_data_count_section` leaves it.
     ensures shortest { (number : ℕ) → (narrow data_count_body).Encodes body.now number ↔
         (data_count_body.Encodes body.now number × (body.now ≡ data_count_body.bytes number)) }
+    // `Memory` is never answered.
+    ensures memory { NeedsNoMemory result }
 {
     read_number_strict(body)
 }

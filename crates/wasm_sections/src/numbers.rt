@@ -1,6 +1,6 @@
 //! Bodies of sections that are one number (Core 3.0, Start Section and Data Count Section).
 ghost use Rattle.std.specs.Prelude.{◌≡◌, ◌↔◌, ℕ, Ok, IfOk};
-ghost use Rattle.wasm_codec.specs.Answers.{IfRefused, IsLongestPrefix};
+ghost use Rattle.wasm_codec.specs.Answers.{NeedsNoMemory, IfRefused, IsLongestPrefix};
 ghost use Rattle.wasm_codec.specs.Encoding.{IsShortestOrLonger};
 ghost use Rattle.wasm_codec.specs.formats.Combinators.{narrow};
 ghost use Rattle.wasm_sections.specs.Prefixes.{IsNothingOr, ReadsWhole};
@@ -19,6 +19,7 @@ pub(crate) fn read_number(body: &[u8]) -> Result<u32, ReadError>
     ensures one { (number other : ℕ) → u32_format.Encodes body.now number → u32_format.Encodes body.now other → number ≡ other }
     ensures shortest { (number : ℕ) → u32_format.Encodes body.now number →
         IsShortestOrLonger body.now (u32_format.bytes number) }
+    ensures memory { NeedsNoMemory result }
 {
     only_number(body)
 }
@@ -48,6 +49,7 @@ pub(crate) fn read_number_strict(body: &[u8]) -> Result<u32, ReadError>
     ensures one { (number other : ℕ) → (narrow u32_format).Encodes body.now number → (narrow u32_format).Encodes body.now other → number ≡ other }
     ensures shortest { (number : ℕ) → (narrow u32_format).Encodes body.now number ↔
         (u32_format.Encodes body.now number × (body.now ≡ u32_format.bytes number)) }
+    ensures memory { NeedsNoMemory result }
 {
     only_number_strict(body)
 }
