@@ -10,11 +10,13 @@ ghost use Rattle.wasm_types.specs.declared.types.composite.TypeEntry.{TypeEntry}
 ghost use Rattle.wasm_types.specs.formats.Types.{val_type, field_type, inner_type, composite_type, sub_type, recursive_type};
 
 mod heap_types;
+mod scan;
 mod type_sections;
 
 use crate::types::{FieldType, SubType, TypeEntry, ValType};
 use heap_types::rewrite_field_type;
 pub use heap_types::{rewrite_heap_type, rewrite_ref_type, rewrite_val_type};
+use scan::scan_function_type;
 pub use type_sections::{normalise_type_section, rewrite_type_section};
 use wasm_codec::reader::cursor::Fault;
 use wasm_codec::rewriter::{Rewritable, Rewriter, rewrite_list};
@@ -190,6 +192,11 @@ impl Rewritable for TypeEntry {
     fn is_lawful() {}
 
     fn rewrite(rewriter: &mut Rewriter) -> Result<(), Fault> {
+        rewriter.are_bytes();
+        if let Some(scanned) = scan_function_type(rewriter.left()) {
+            rewriter.pass(scanned);
+            return Ok(());
+        }
         rewrite_entry(rewriter)
     }
 }
