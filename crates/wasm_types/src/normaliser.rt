@@ -131,13 +131,19 @@ fn rewrite_sub_type(rewriter: &mut Rewriter) -> Result<(), Fault>
 }
 
 /// An entry of a type section.
-#[tactic(auto, using(std::proofs::Common::append_assoc), unfolding(crate::specs::formats::Types::recursive_type))]
+#[inline(never)]
+#[tactic(auto, using(std::proofs::Common::append_assoc), unfolding(crate::specs::formats::Types::recursive_type, crate::specs::formats::Types::sub_type, crate::specs::formats::Types::composite_type))]
 fn rewrite_entry(rewriter: &mut Rewriter) -> Result<(), Fault>
     ensures rewrites { Rewrites recursive_type rewriter.old rewriter.new result }
 {
-    if rewriter.peek()? == 0x4e {
+    let first = rewriter.peek()?;
+    if first == 0x4e {
         rewriter.byte()?;
         rewrite_list::<SubType>(rewriter)?;
+        return Ok(());
+    }
+    if first == 0x60 {
+        rewrite_inner_type(rewriter)?;
         return Ok(());
     }
     rewrite_sub_type(rewriter)?;

@@ -4,7 +4,7 @@ use Rattle.wasm_types.proofs.ScannedTypes.{is_whole}
 use Rattle.wasm_types.proofs.normaliser.scan.is_whole_type.Goals as goal
 
 pub returns-then-byte-lt118 : goal.returns-then-byte-lt118
-returns-then-byte-lt118 c is = is_whole c.args.byte (omega (arith, c.if-byte-lt104.false)) (omega (arith, c.if-byte-ge128.false)) (inl (omega (arith, c.if-byte-lt118.true)))
+returns-then-byte-lt118 c is = is_whole c.args.byte (omega arith) (omega arith) (inl (omega arith))
 
 pub returns-else-byte-lt118 : goal.returns-else-byte-lt118
-returns-else-byte-lt118 c is = is_whole c.args.byte (omega (arith, c.if-byte-lt104.false)) (omega (arith, c.if-byte-ge128.false)) (inr (leb-true 0x7b c.args.byte is))
+returns-else-byte-lt118 c is = is_whole c.args.byte (omega arith) (omega arith) (inr (leb-true 0x7b c.args.byte is))

@@ -7,4 +7,4 @@ pub returns : goal.returns
 returns c =
     let bytes = c.args.bytes.now in
     let params = c.in_ok-params.params in
-    function_scanned bytes params c.in_ok-results.results (omega arith) c.if-bytes-ne96.false (from_start result_type bytes 1 params c.in_ok-params.ensures) (from_start result_type bytes (1 + params) c.in_ok-results.results c.in_ok-results.ensures)
+    function_scanned bytes params c.in_ok-results.results (omega arith) (omega arith) (from_start result_type bytes 1 params c.in_ok-params.ensures) (from_start result_type bytes (1 + params) c.in_ok-results.results c.in_ok-results.ensures)

@@ -8,4 +8,4 @@ loop-index-preserved c = whole_taken c.args.bytes.now c.loop-index.index (omega 
 pub returns : goal.returns
 returns c =
     let full : c.loop-index.index ≡ slice_index_or c.args.bytes.now 0 0 = omega arith in
-    result_scanned c.args.bytes.now (slice_index_or c.args.bytes.now 0 0) (omega arith) refl (omega (arith, c.if-bytes-ge128.false)) (omega arith) (subst (λ k. AreWhole (take k (drop 1 c.args.bytes.now))) full c.loop-index.invariant)
+    result_scanned c.args.bytes.now (slice_index_or c.args.bytes.now 0 0) (omega arith) refl (omega arith) (omega arith) (subst (λ k. AreWhole (take k (drop 1 c.args.bytes.now))) full c.loop-index.invariant)
