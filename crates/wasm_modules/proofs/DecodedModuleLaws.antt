@@ -1,20 +1,11 @@
 -- The laws of decoded modules.
-use Rattle.std.proofs.Common.{◌≡◌, ℕ, ◌≤◌, List, [], ◌∷◌, ◌++◌, length, Result, Ok, Err, IfOk, map, refl, sym, subst, ap, ◌∙◌, arith}
+use Rattle.std.proofs.Common.{◌≡◌, ℕ, List, [], ◌∷◌, ◌++◌, map, refl, sym, subst, ap, ◌∙◌}
 use Rattle.std.specs.List.{flat_map, AllByRecursion}
-use Rattle.wasm_codec.specs.declared.reader.ReadError.{ReadError}
-use Rattle.wasm_codec.specs.Answers.{IsNormalForm}
-use Rattle.wasm_codec.proofs.FormatLaws.{not_longer}
 use Rattle.wasm_modules.specs.Sections.{header, Content, DecodedSection, decoded_section_of}
 use Rattle.wasm_modules.specs.Modules.{IsSection}
 use Rattle.wasm_modules.specs.DecodedModules.{CanHold, IsDecodedSection, framed}
 use Rattle.wasm_modules.specs.formats.Modules.{raw_section, raw_module, decoded_section, decoded_module, HoldsContent}
 use Rattle.wasm_modules.proofs.ModuleFormatLaws.{Lawful-held, Lawful-decoded-module}
-
--- what is given is no longer than the bytes
-pub no_longer_given : {X : Type 0} (view : X → List ℕ) (bytes : List ℕ) (result : Result X ReadError)
-    → IfOk result (λ x. IsNormalForm decoded_module.Encodes decoded_module.bytes bytes (view x)) → IfOk result (λ x. length (view x) ≤ length bytes)
-no_longer_given view bytes (Ok x) n = omega (arith, not_longer bytes (decoded_module.bytes n.value) (Lawful-decoded-module.shortest.least bytes n.value n.encoded), ap (length {A = ℕ}) n.is_shortest)
-no_longer_given view bytes (Err e) n = tt
 
 -- ---- sections in range
 

@@ -14,7 +14,8 @@ use Rattle.wasm_codec.proofs.PlaceLists.{step}
 use Rattle.wasm_codec.proofs.AskedLaws.{joined_narrow}
 use Rattle.wasm_types.proofs.TypeFormatLaws.{Lawful-type-body}
 use Rattle.wasm_modules.specs.Sections.{header, SectionParts, section_of, Content, DecodedSection, type_entries, code_bodies, raw_bytes, decoded_section_of}
-use Rattle.wasm_modules.specs.formats.Modules.{section_parts, raw_section, entries_part, bodies_part, bytes_part, held_by, content_parts, decoded_section, HoldsContent, raw_module, ShortestModule, decoded_module}
+use Rattle.wasm_modules.specs.formats.Modules.{section_parts, raw_section, entries_part, bodies_part, bytes_part, held_by, content_parts, decoded_section, HoldsContent, module_of, raw_module, ShortestModule, decoded_module}
+use Rattle.wasm_codec.specs.formats.Combinators.{Format, narrow}
 use Rattle.wasm_codec.specs.Lawful.{IsLawful}
 use Rattle.wasm_modules.proofs.CodeBodyLaws.{Lawful-code-section-body}
 
@@ -90,11 +91,17 @@ decoded_read p q s c fits e h =
 header_bytes : IsBytes header
 header_bytes = (lit≤ tt, (lit≤ tt, (lit≤ tt, (lit≤ tt, (lit≤ tt, (lit≤ tt, (lit≤ tt, (lit≤ tt, tt))))))))
 
+pub Lawful-module-of : {V : Type 0} {F : Format V} → IsLawful F → TakesBytes F.Encodes → IsLawfulBody (module_of F)
+Lawful-module-of r some = Lawful-headed-body header header_bytes (Lawful-to-end r some)
+
+pub one_module_of : {V : Type 0} {F : Format V} → IsLawful F → TakesBytes F.Encodes → AtMostOne (module_of F).Encodes
+one_module_of r some = encodes_one (Lawful-module-of r some)
+
 pub Lawful-raw-module : IsLawfulBody raw_module
-Lawful-raw-module = Lawful-headed-body header header_bytes (Lawful-to-end Lawful-raw-section raw_section_takes)
+Lawful-raw-module = Lawful-module-of Lawful-raw-section raw_section_takes
 
 pub Lawful-decoded-module : IsLawfulBody decoded_module
-Lawful-decoded-module = Lawful-headed-body header header_bytes (Lawful-to-end Lawful-decoded-section decoded_section_takes)
+Lawful-decoded-module = Lawful-module-of Lawful-decoded-section decoded_section_takes
 
 pub one_raw_module : AtMostOne raw_module.Encodes
 one_raw_module = encodes_one Lawful-raw-module
@@ -103,17 +110,24 @@ pub one_decoded_module : AtMostOne decoded_module.Encodes
 one_decoded_module = encodes_one Lawful-decoded-module
 
 -- a module of sections in their shortest encodings is the shortest encoding of its list
-pub is_shortest_module : (bytes : List ℕ) (sections : List SectionParts) → ShortestModule bytes sections ↔ (raw_module.Encodes bytes sections × (bytes ≡ raw_module.bytes sections))
-is_shortest_module bytes sections = (λ g. whole g, λ g. parts g.0 g.1) where
-  whole : ShortestModule bytes sections → raw_module.Encodes bytes sections × (bytes ≡ raw_module.bytes sections)
-  whole g =
-      let j = (joined_narrow Lawful-raw-section g.0 sections).0 g.2 in
-      ((g.0, g.1, j.0), g.1 ∙ ap (λ (t : List ℕ). header ++ t) j.1)
+module _ {V : Type 0} {F : Format V} (r : IsLawful F) where
+  pub is_shortest_module_of : (bytes : List ℕ) (sections : List V) → (module_of (narrow F)).Encodes bytes sections ↔ ((module_of F).Encodes bytes sections × (bytes ≡ (module_of F).bytes sections))
+  is_shortest_module_of bytes sections = (λ g. whole g, λ g. parts g.0 g.1) where
+    whole : (module_of (narrow F)).Encodes bytes sections → (module_of F).Encodes bytes sections × (bytes ≡ (module_of F).bytes sections)
+    whole g =
+        let j = (joined_narrow r g.0 sections).0 g.2 in
+        ((g.0, g.1, j.0), g.1 ∙ ap (λ (t : List ℕ). header ++ t) j.1)
 
-  parts : raw_module.Encodes bytes sections → bytes ≡ raw_module.bytes sections → ShortestModule bytes sections
-  parts g e =
-      let same : g.0 ≡ flat_map raw_section.bytes sections = append_cancel_left header g.0 (flat_map raw_section.bytes sections) (sym g.1 ∙ e) in
-      (g.0, g.1, (joined_narrow Lawful-raw-section g.0 sections).1 (g.2, same))
+    parts : (module_of F).Encodes bytes sections → bytes ≡ (module_of F).bytes sections → (module_of (narrow F)).Encodes bytes sections
+    parts g e =
+        let same : g.0 ≡ flat_map F.bytes sections = append_cancel_left header g.0 (flat_map F.bytes sections) (sym g.1 ∙ e) in
+        (g.0, g.1, (joined_narrow r g.0 sections).1 (g.2, same))
+
+  pub one_shortest_module_of : TakesBytes F.Encodes → AtMostOne (module_of (narrow F)).Encodes
+  one_shortest_module_of some bytes v w g h = one_module_of r some bytes v w ((is_shortest_module_of bytes v).0 g).0 ((is_shortest_module_of bytes w).0 h).0
+
+pub is_shortest_module : (bytes : List ℕ) (sections : List SectionParts) → ShortestModule bytes sections ↔ (raw_module.Encodes bytes sections × (bytes ≡ raw_module.bytes sections))
+is_shortest_module = is_shortest_module_of Lawful-raw-section
 
 pub one_shortest_module : AtMostOne ShortestModule
-one_shortest_module bytes v w g h = one_raw_module bytes v w ((is_shortest_module bytes v).0 g).0 ((is_shortest_module bytes w).0 h).0
+one_shortest_module = one_shortest_module_of Lawful-raw-section raw_section_takes

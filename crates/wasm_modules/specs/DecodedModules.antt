@@ -1,10 +1,9 @@
 -- Decoded modules: modules whose type sections are entries, whose code sections are code bodies, and whose other
 -- sections are bytes (WebAssembly Core 3.0, Modules).
-use Rattle.std.specs.Prelude.{◌≡◌, ℕ, ◌⊎◌, List, []}
-use Rattle.wasm_codec.specs.Answers.{EncodesSome}
+use Rattle.std.specs.Prelude.{ℕ, List}
 use Rattle.wasm_modules.specs.Sections.{SectionParts, Content, DecodedSection}
-use Rattle.wasm_modules.specs.Modules.{IsSection}
-use Rattle.wasm_modules.specs.formats.Modules.{held_by, decoded_module}
+use Rattle.wasm_modules.specs.Modules.{IsSection, IsModulePrefixOf}
+use Rattle.wasm_modules.specs.formats.Modules.{held_by, decoded_section}
 
 -- the section with its body as bytes
 abbrev pub framed : DecodedSection → SectionParts
@@ -21,4 +20,4 @@ pub record IsDecodedSection (s : DecodedSection) : Type 0 where
 
 -- a prefix of a decoded module that is whole: nothing, or the header and sections
 abbrev pub IsDecodedModulePrefix : List ℕ → Type 0
-IsDecodedModulePrefix prefix = (prefix ≡ []) ⊎ EncodesSome decoded_module.Encodes prefix
+IsDecodedModulePrefix = IsModulePrefixOf decoded_section

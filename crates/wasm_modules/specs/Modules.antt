@@ -1,8 +1,9 @@
 -- Modules as sections with their bodies as bytes (WebAssembly Core 3.0, Modules).
 use Rattle.std.specs.Prelude.{◌≡◌, ℕ, ◌^◌, ◌<◌, ◌⊎◌, Bool, true, List, [], length}
 use Rattle.wasm_codec.specs.Answers.{EncodesSome}
+use Rattle.wasm_codec.specs.formats.Combinators.{Format, asked}
 use Rattle.wasm_modules.specs.Sections.{SectionParts}
-use Rattle.wasm_modules.specs.formats.Modules.{raw_module, asked_module}
+use Rattle.wasm_modules.specs.formats.Modules.{module_of, raw_section}
 
 -- an id is a byte, and a body's size a u32
 pub record IsSection (s : SectionParts) : Type 0 where
@@ -10,12 +11,15 @@ pub record IsSection (s : SectionParts) : Type 0 where
   pub body : length s.body < 2 ^ 32
 
 -- a prefix of a module that is whole: nothing, or the header and sections
+abbrev pub IsModulePrefixOf : {V : Type 0} → Format V → List ℕ → Type 0
+IsModulePrefixOf F prefix = (prefix ≡ []) ⊎ EncodesSome (module_of F).Encodes prefix
+
 abbrev pub IsModulePrefix : List ℕ → Type 0
-IsModulePrefix prefix = (prefix ≡ []) ⊎ EncodesSome raw_module.Encodes prefix
+IsModulePrefix = IsModulePrefixOf raw_section
 
 -- the same, where shortest encodings alone may be asked for
 abbrev pub IsAskedModulePrefix : Bool → List ℕ → Type 0
-IsAskedModulePrefix strict prefix = (prefix ≡ []) ⊎ EncodesSome (asked_module strict).Encodes prefix
+IsAskedModulePrefix strict = IsModulePrefixOf (asked strict raw_section)
 
 abbrev pub IsShortestModulePrefix : List ℕ → Type 0
 IsShortestModulePrefix = IsAskedModulePrefix true

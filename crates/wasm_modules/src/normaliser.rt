@@ -12,15 +12,16 @@ ghost use Rattle.wasm_modules.specs.DecodedModules.{IsDecodedModulePrefix, IsDec
 ghost use Rattle.wasm_modules.specs.formats.CodeBodies.{code_section_body};
 ghost use Rattle.wasm_modules.specs.formats.Modules.{entries_part, bodies_part, bytes_part, decoded_section, decoded_module};
 
+pub mod framing;
+
 use crate::code::CodeBody;
-use crate::reader::after_header;
-use crate::section::{CODE_SECTION_ID, HEADER, TYPE_SECTION_ID};
+use crate::section::{CODE_SECTION_ID, TYPE_SECTION_ID};
+use framing::{normalise_module_of, rewrite_module_of};
 use std::alloc::Global;
 use wasm_codec::reader::ReadError;
 use wasm_codec::reader::cursor::Fault;
 use wasm_codec::rewriter::{
-    Joinable, Rewritable, RewritableBody, Rewriter, Scanned, rewrite_joined, rewrite_list,
-    rewrite_sized,
+    Joinable, Rewritable, RewritableBody, Rewriter, Scanned, rewrite_list, rewrite_sized,
 };
 use wasm_types::types::TypeEntry;
 
@@ -63,7 +64,7 @@ pub fn normalise_module(alloc: Global, bytes: &[u8]) -> Result<Vec<u8>, ReadErro
     ensures encodes { (sections : List DecodedSection) → AllByRecursion IsDecodedSection sections →
         bytes.now ≡ decoded_module.bytes sections → decoded_module.Encodes bytes.now sections }
 {
-    decoded_bytes_of(alloc, bytes)
+    normalise_module_of::<Section>(alloc, bytes)
 }
 
 /// The same, in the list itself, which is rewritten where it lies and given back. It takes no memory.
@@ -82,41 +83,7 @@ pub fn rewrite_module(bytes: Vec<u8>) -> Result<Vec<u8>, ReadError>
     // `Memory` is never answered.
     ensures memory { NeedsNoMemory result }
 {
-    rewrite_sections(bytes)
-}
-
-/// The header, which stays, and the sections after it.
-fn rewrite_sections(bytes: Vec<u8>) -> Result<Vec<u8>, ReadError>
-    ensures given { IfOk result (λ encoding.
-        IsNormalForm decoded_module.Encodes decoded_module.bytes bytes.items encoding.items) }
-    ensures prefix { IfRefused result (IsLongestPrefix IsDecodedModulePrefix bytes.items) }
-    ensures unencoded { IfRefused result (λ _.
-        (sections : List DecodedSection) → decoded_module.Encodes bytes.items sections → ⊥) }
-    ensures memory { NeedsNoMemory result }
-{
-    Section::is_lawful();
-    let len = bytes.len();
-    let Some(_sections) = after_header(&bytes) else {
-        return Err(ReadError::Refused { at: 0 });
-    };
-    let mut rewriter = Rewriter::new(bytes);
-    rewriter.stay(HEADER.len());
-    rewriter.are_bytes();
-    match rewrite_joined::<Section>(&mut rewriter) {
-        Ok(()) => Ok(rewriter.finish()),
-        Err(left) => Err(ReadError::Refused { at: len - left }),
-    }
-}
-
-/// The shortest encoding of the module, written over a copy of the bytes.
-fn decoded_bytes_of(alloc: Global, bytes: &[u8]) -> Result<Vec<u8>, ReadError>
-    ensures given { IfOk result (λ encoding.
-        IsNormalForm decoded_module.Encodes decoded_module.bytes bytes.now encoding.items) }
-    ensures prefix { IfRefused result (IsLongestPrefix IsDecodedModulePrefix bytes.now) }
-    ensures none { IfRefused result (λ _.
-        (sections : List DecodedSection) → decoded_module.Encodes bytes.now sections → ⊥) }
-{
-    rewrite_module(Vec::from_slice(alloc, bytes)?)
+    rewrite_module_of::<Section>(bytes)
 }
 
 /// A section with what it holds.

@@ -7,8 +7,9 @@ ghost use Rattle.wasm_codec.specs.Lawful.{IsPrefixFree};
 ghost use Rattle.wasm_codec.specs.Answers.{IsOrMemory, IfRefused, IsLongestPrefix};
 ghost use Rattle.wasm_codec.specs.Encoding.{IsShortestOrLonger};
 ghost use Rattle.wasm_modules.specs.Sections.{SectionParts, DecodedSection, all_parts_of, parts_of};
-ghost use Rattle.wasm_modules.specs.Modules.{IsSection, IsModulePrefix, IsAskedModulePrefix, IsShortestModulePrefix};
-ghost use Rattle.wasm_modules.specs.formats.Modules.{raw_section, raw_module, asked_module, ShortestModule, decoded_section, decoded_module, HoldsContent};
+ghost use Rattle.wasm_codec.specs.formats.Combinators.{asked};
+ghost use Rattle.wasm_modules.specs.Modules.{IsSection, IsModulePrefix, IsModulePrefixOf, IsShortestModulePrefix};
+ghost use Rattle.wasm_modules.specs.formats.Modules.{raw_section, module_of, raw_module, ShortestModule, decoded_section, decoded_module, HoldsContent};
 ghost use Rattle.wasm_modules.specs.DecodedModules.{IsDecodedSection, framed};
 
 use crate::lists::read_joined_as;
@@ -58,7 +59,7 @@ pub fn read_module<'a>(alloc: Global, bytes: &'a [u8]) -> Result<Vec<RawSection<
     ensures prefix_free_sections { IsPrefixFree raw_section.Encodes }
     ensures prefix_free_decoded_sections { IsPrefixFree decoded_section.Encodes }
 {
-    sections_of::<false>(alloc, bytes)
+    read_module_of::<RawSection<'_>, false>(alloc, bytes)
 }
 
 /// The sections of the module whose shortest encoding the bytes are, each section's size being in the fewest bytes,
@@ -88,23 +89,26 @@ pub fn read_module_strict<'a>(
         bytes.now ≡ raw_module.bytes sections →
         IsOrMemory (λ given. all_parts_of given.items) sections result }
 {
-    sections_of::<true>(alloc, bytes)
+    read_module_of::<RawSection<'_>, true>(alloc, bytes)
 }
 
-/// The sections, read one by one to the end of the bytes, in their shortest encodings alone if it is `STRICT`.
-fn sections_of<'a, const STRICT: bool>(
+/// The sections of a module, whatever of each is decoded, in their shortest encodings alone if it is `STRICT`.
+///
+/// `Refused` carries the number of bytes of the header and of the sections that are whole before the first that isn't,
+/// or 0 where the header isn't there.
+pub fn read_module_of<'a, T: Readable<'a>, const STRICT: bool>(
     alloc: Global,
     bytes: &'a [u8],
-) -> Result<Vec<RawSection<'a>>, ReadError>
-    ensures given { IfOk result (λ sections. (asked_module STRICT).Encodes bytes.now (all_parts_of sections.items)) }
-    ensures prefix { IfRefused result (IsLongestPrefix (IsAskedModulePrefix STRICT) bytes.now) }
-    ensures none { IfRefused result (λ _.
-        (sections : List SectionParts) → (asked_module STRICT).Encodes bytes.now sections → ⊥) }
+) -> Result<Vec<T>, ReadError>
+    ensures given { IfOk result (λ sections. (module_of (asked STRICT T.format)).Encodes bytes.now (T.views sections.items)) }
+    ensures prefix { IfRefused result (IsLongestPrefix (IsModulePrefixOf (asked STRICT T.format)) bytes.now) }
+    ensures unencoded { IfRefused result (λ _.
+        (sections : List T.Value) → (module_of (asked STRICT T.format)).Encodes bytes.now sections → ⊥) }
 {
     let Some(rest) = after_header(bytes) else {
         return Err(ReadError::Refused { at: 0 });
     };
-    match read_joined_as::<RawSection<'a>, STRICT>(alloc, rest) {
+    match read_joined_as::<T, STRICT>(alloc, rest) {
         Ok(sections) => Ok(sections),
         Err(ReadError::Memory) => Err(ReadError::Memory),
         Err(ReadError::Refused { at }) => Err(ReadError::Refused {

@@ -53,16 +53,19 @@ HoldsContent s c = (held_by s.id).Encodes s.body c
 -- ---- modules
 
 -- magic ::= 0x00 0x61 0x73 0x6D, version ::= 0x01 0x00 0x00 0x00
--- module ::= magic version section*, with nothing left over
+-- module ::= magic version section*, with nothing left over, whatever of a section is decoded
+abbrev pub module_of : {V : Type 0} → Format V → Format (List V)
+module_of F = headed header (to_end F)
+
 abbrev pub raw_module : Format (List SectionParts)
-raw_module = headed header (to_end raw_section)
+raw_module = module_of raw_section
 
 -- the same, with each section in its shortest encoding where that is asked for: its size in the fewest bytes
 abbrev pub asked_module : Bool → Format (List SectionParts)
-asked_module strict = headed header (to_end (asked strict raw_section))
+asked_module strict = module_of (asked strict raw_section)
 
 abbrev pub ShortestModule : Grammar (List SectionParts)
 ShortestModule = (asked_module true).Encodes
 
 abbrev pub decoded_module : Format (List DecodedSection)
-decoded_module = headed header (to_end decoded_section)
+decoded_module = module_of decoded_section

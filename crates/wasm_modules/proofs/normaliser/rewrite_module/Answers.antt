@@ -4,4 +4,4 @@ use Rattle.wasm_modules.proofs.ModuleFormatLaws.{one_decoded_module}
 use Rattle.wasm_modules.proofs.normaliser.rewrite_module.Goals as goal
 
 pub returns-clause-complete : goal.returns-clause-complete
-returns-clause-complete c = gives_bytes one_decoded_module decoded_module.bytes (λ encoding. encoding.items) c.args.bytes.items c.rewrite_sections.result c.rewrite_sections.ensures.given c.rewrite_sections.ensures.unencoded
+returns-clause-complete c = gives_bytes one_decoded_module decoded_module.bytes (λ encoding. encoding.items) c.args.bytes.items c.rewrite_module_of.result c.rewrite_module_of.ensures.given c.rewrite_module_of.ensures.unencoded

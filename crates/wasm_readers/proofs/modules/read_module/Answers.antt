@@ -10,7 +10,7 @@ use Rattle.wasm_modules.proofs.DecodedModuleLaws.{module_framed, all_framed, is_
 use Rattle.wasm_readers.proofs.modules.read_module.Goals as goal
 
 pub returns-clause-complete : goal.returns-clause-complete
-returns-clause-complete c = gives_all one_raw_module (λ given. all_parts_of given.items) c.args.bytes.now c.sections_of.result c.sections_of.ensures.given c.sections_of.ensures.none
+returns-clause-complete c = gives_all one_raw_module (λ given. all_parts_of given.items) c.args.bytes.now c.read_module_of.result c.read_module_of.ensures.given c.read_module_of.ensures.unencoded
 
 pub returns-clause-one : goal.returns-clause-one
 returns-clause-one c = one_raw_module c.args.bytes.now
@@ -21,7 +21,7 @@ returns-clause-shortest c = Lawful-raw-module.shortest.least c.args.bytes.now
 pub returns-clause-read_back : goal.returns-clause-read_back
 returns-clause-read_back c sections fits e =
     let are : IsBytes c.args.bytes.now = IsBytes-from c.args.bytes.now (λ i. omega (arith, c.type_inv.bytes i)) in
-    gives_all one_raw_module (λ given. all_parts_of given.items) c.args.bytes.now c.sections_of.result c.sections_of.ensures.given c.sections_of.ensures.none sections (all_encoded c.args.bytes.now sections are fits e)
+    gives_all one_raw_module (λ given. all_parts_of given.items) c.args.bytes.now c.read_module_of.result c.read_module_of.ensures.given c.read_module_of.ensures.unencoded sections (all_encoded c.args.bytes.now sections are fits e)
 
 pub returns-clause-encodes : goal.returns-clause-encodes
 returns-clause-encodes c sections fits e =
@@ -35,7 +35,7 @@ pub returns-clause-decoded_read_back : goal.returns-clause-decoded_read_back
 returns-clause-decoded_read_back c sections fits e =
     let are : IsBytes c.args.bytes.now = IsBytes-from c.args.bytes.now (λ i. omega (arith, c.type_inv.bytes i)) in
     let encoded = all_encoded c.args.bytes.now (map framed sections) are (all_framed sections fits) (e ∙ module_framed sections fits) in
-    gives_all one_raw_module (λ given. all_parts_of given.items) c.args.bytes.now c.sections_of.result c.sections_of.ensures.given c.sections_of.ensures.none (map framed sections) encoded
+    gives_all one_raw_module (λ given. all_parts_of given.items) c.args.bytes.now c.read_module_of.result c.read_module_of.ensures.given c.read_module_of.ensures.unencoded (map framed sections) encoded
 
 pub returns-clause-entries_read_back : goal.returns-clause-entries_read_back
 returns-clause-entries_read_back c section fits = is_held section.id section.content fits.content

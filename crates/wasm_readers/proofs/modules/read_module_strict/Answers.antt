@@ -7,7 +7,7 @@ use Rattle.wasm_modules.proofs.ModuleLaws.{all_encoded}
 use Rattle.wasm_readers.proofs.modules.read_module_strict.Goals as goal
 
 pub returns-clause-complete : goal.returns-clause-complete
-returns-clause-complete c = gives_all one_shortest_module (λ given. all_parts_of given.items) c.args.bytes.now c.sections_of.result c.sections_of.ensures.given c.sections_of.ensures.none
+returns-clause-complete c = gives_all one_shortest_module (λ given. all_parts_of given.items) c.args.bytes.now c.read_module_of.result c.read_module_of.ensures.given c.read_module_of.ensures.unencoded
 
 pub returns-clause-one : goal.returns-clause-one
 returns-clause-one c = one_shortest_module c.args.bytes.now
@@ -19,4 +19,4 @@ pub returns-clause-read_back : goal.returns-clause-read_back
 returns-clause-read_back c sections fits e =
     let are : IsBytes c.args.bytes.now = IsBytes-from c.args.bytes.now (λ i. omega (arith, c.type_inv.bytes i)) in
     let encoded = (is_shortest_module c.args.bytes.now sections).1 (all_encoded c.args.bytes.now sections are fits e, e) in
-    gives_all one_shortest_module (λ given. all_parts_of given.items) c.args.bytes.now c.sections_of.result c.sections_of.ensures.given c.sections_of.ensures.none sections encoded
+    gives_all one_shortest_module (λ given. all_parts_of given.items) c.args.bytes.now c.read_module_of.result c.read_module_of.ensures.given c.read_module_of.ensures.unencoded sections encoded
