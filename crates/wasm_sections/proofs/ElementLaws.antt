@@ -65,7 +65,7 @@ func_is : (ty : AbstractHeapType) → is_func ty ≡ true → ty ≡ abstracts.F
 func_is abstracts.Func e = refl
 func_is ty e = absurd cc
 
-funcref_of : (nullable : Bool) (heap : HeapType) → is_funcref (record { nullable = nullable; heap_type = heap }) ≡ true → record { nullable = nullable; heap_type = heap } ≡ funcref
+pub funcref_of : (nullable : Bool) (heap : HeapType) → is_funcref (record { nullable = nullable; heap_type = heap }) ≡ true → record { nullable = nullable; heap_type = heap } ≡ funcref
 funcref_of true (Abstract false ty) e = ap (λ (a : AbstractHeapType). record { nullable = true; heap_type = Abstract false a }) (func_is ty e)
 funcref_of false (Abstract false ty) e = absurd cc
 funcref_of nullable (Abstract true ty) e = absurd cc

@@ -1,6 +1,6 @@
 //! Element sections (Core 3.0, Element Section).
 ghost use Rattle.std.specs.Prelude.{◌≡◌, ◌↔◌, ◌≤◌, true, List, length, refl, IfOk, IfErr};
-ghost use Rattle.wasm_codec.specs.Answers.{IsOrMemory, IfRefused, IsLongestPrefix, IsNormalForm, EncodesSome};
+ghost use Rattle.wasm_codec.specs.Answers.{NeedsNoMemory, IsOrMemory, IfRefused, IsLongestPrefix, IsNormalForm, EncodesSome};
 ghost use Rattle.wasm_codec.specs.Encoding.{IsShortestOrLonger};
 ghost use Rattle.wasm_codec.specs.Lists.{IsListPrefix, AskedList, IsAskedPrefix};
 ghost use Rattle.wasm_codec.specs.Places.{Reads};
@@ -11,19 +11,22 @@ ghost use Rattle.wasm_codec.specs.formats.Combinators.{◌⊗◌, made, items};
 ghost use Rattle.wasm_sections.specs.declared.elements.Element.{Element};
 ghost use Rattle.wasm_sections.specs.formats.Elements.{is_funcref, element, typed_of, typed_part, element_number, element_form, kind_and_functions, element_segment};
 ghost use Rattle.wasm_types.specs.formats.Types.{ref_type};
+ghost use Rattle.wasm_instructions.specs.Instructions.{Instruction};
 ghost use Rattle.wasm_sections.specs.declared.elements.ElementMode.TheVariants as modes;
 ghost use Rattle.wasm_sections.specs.formats.Expressions.{expr};
 ghost use Rattle.wasm_sections.specs.formats.Sections.{element_body};
 
-use crate::expressions::read_expr;
-use crate::lists::{read_items, read_items_strict};
+use crate::expressions::{read_expr, rewrite_expr};
+use crate::lists::{normalise_items, read_items, read_items_strict, rewrite_items};
 use std::alloc::Global;
 use wasm_codec::list::Items;
 use wasm_codec::reader::ReadError;
 use wasm_codec::reader::cursor::{Cursor, Fault};
+use wasm_codec::rewriter::{Rewritable, Rewriter, rewrite_list};
 use wasm_instructions::table::Call;
 use wasm_readers::lists::read_list;
 use wasm_readers::readable::Readable;
+use wasm_types::normaliser::rewrite_ref_type;
 use wasm_types::reader::read_ref_type;
 use wasm_types::types::{AbstractHeapType, HeapType, RefType};
 
@@ -101,11 +104,69 @@ pub fn read_element_section_strict(alloc: Global, body: &[u8]) -> Result<Vec<Ele
     // The body is the shortest encoding of at most one list.
     ensures one { (segments others : List Element) →
         AskedList true element_segment body.now segments → AskedList true element_segment body.now others → segments ≡ others }
-    // That is so where it encodes the list, as `read_element_section` tells in the fewest bytes.
+    // That is so where it encodes the list, as `read_element_section` tells, and is as `normalise_element_section` leaves
+    // it.
     ensures shortest { (segments : List Element) → AskedList true element_segment body.now segments ↔
         (element_body.Encodes body.now segments × (body.now ≡ element_body.bytes segments)) }
 {
     read_items_strict(alloc, body)
+}
+
+/// The normal bytes of the body of an element section: the same segments in the fewest bytes (Core 3.0, Element Section).
+///
+/// `Refused` carries the number of bytes of the count and of the segments that are whole before the first that isn't,
+/// or before what is left over.
+#[tactic(auto, unfolding(crate::specs::formats::Sections::element_body))]
+pub fn normalise_element_section(alloc: Global, body: &[u8]) -> Result<Vec<u8>, ReadError>
+    // The result is the shortest encoding of a list that the body encodes.
+    ensures given { IfOk result (λ encoding.
+        IsNormalForm element_body.Encodes element_body.bytes body.now encoding.items) }
+    // Where the body encodes a list, its shortest encoding is given, unless memory ran out.
+    ensures complete { (segments : List Element) → element_body.Encodes body.now segments →
+        IsOrMemory (λ encoding. encoding.items) (element_body.bytes segments) result }
+    // `at` is the length of the longest prefix that is whole.
+    ensures prefix { IfRefused result (IsLongestPrefix (IsListPrefix element_segment.Encodes) body.now) }
+    // The body encodes at most one list.
+    ensures one { (segments others : List Element) →
+        element_body.Encodes body.now segments → element_body.Encodes body.now others → segments ≡ others }
+    // The result encodes a list exactly if the body does.
+    ensures same { IfOk result (λ encoding. (segments : List Element) →
+        element_body.Encodes encoding.items segments ↔ element_body.Encodes body.now segments) }
+    // The result is normal: it is the shortest encoding of what it encodes.
+    ensures normal { IfOk result (λ encoding. (segments : List Element) →
+        element_body.Encodes encoding.items segments → encoding.items ≡ element_body.bytes segments) }
+    // Every other encoding of a list is longer than its shortest.
+    ensures shortest { (segments : List Element) → element_body.Encodes body.now segments →
+        IsShortestOrLonger body.now (element_body.bytes segments) }
+    // The result is no longer than the body.
+    ensures no_longer { IfOk result (λ encoding. length encoding.items ≤ length body.now) }
+    // A shortest encoding stays as it is, unless memory ran out.
+    ensures stays { (segments : List Element) → AskedList true element_segment body.now segments →
+        IsOrMemory (λ encoding. encoding.items) body.now result }
+    // What stays as it is, is a shortest encoding.
+    ensures was_shortest { IfOk result (λ encoding.
+        encoding.items ≡ body.now → EncodesSome (AskedList true element_segment) body.now) }
+{
+    normalise_items::<Element>(alloc, body)
+}
+
+/// The same, in the list itself, which is rewritten where it lies and given back. It takes no memory.
+#[tactic(auto, unfolding(crate::specs::formats::Sections::element_body))]
+pub fn rewrite_element_section(body: Vec<u8>) -> Result<Vec<u8>, ReadError>
+    // The result is the shortest encoding of a list that the body encodes.
+    ensures given { IfOk result (λ encoding.
+        IsNormalForm element_body.Encodes element_body.bytes body.items encoding.items) }
+    // Where the body encodes a list, its shortest encoding is given.
+    ensures complete { (segments : List Element) → element_body.Encodes body.items segments →
+        IsOrMemory (λ encoding. encoding.items) (element_body.bytes segments) result }
+    // `at` is the length of the longest prefix that is whole.
+    ensures prefix { IfRefused result (IsLongestPrefix (IsListPrefix element_segment.Encodes) body.items) }
+    // Only what encodes no list is refused.
+    ensures unencoded { IfRefused result (λ _. (segments : List Element) → element_body.Encodes body.items segments → ⊥) }
+    // `Memory` is never answered.
+    ensures memory { NeedsNoMemory result }
+{
+    rewrite_items::<Element>(body)
 }
 
 /// Whether a type is that of elements where none is told: `funcref`.
@@ -267,5 +328,121 @@ impl<'a> Readable<'a> for Element {
     #[tactic(auto, using(crate::proofs::ElementLaws::element_is_lawful, crate::proofs::ElementLaws::element_takes))]
     fn read(alloc: Global, cursor: &mut Cursor<'a>) -> Result<Element, Fault> {
         read_element(alloc, cursor)
+    }
+}
+
+/// An expression that an element is made by.
+struct Expression;
+
+impl Rewritable for Expression {
+    ghost Value = { List Instruction };
+
+    ghost format = { expr };
+
+    #[inline(always)]
+    #[tactic(auto, using(crate::proofs::ExpressionLaws::expr_is_lawful, crate::proofs::ElementRewriting::expr_takes))]
+    fn is_lawful() {}
+
+    fn rewrite(rewriter: &mut Rewriter) -> Result<(), Fault> {
+        rewrite_expr(rewriter)
+    }
+}
+
+/// Leaves the place in a table and a list of elements in their shortest encodings.
+#[tactic(auto, using(std::proofs::Common::append_assoc))]
+fn rewrite_placed<T: Rewritable>(rewriter: &mut Rewriter) -> Result<(), Fault>
+    ensures rewrites { Rewrites (expr ⊗ items T.format) rewriter.old rewriter.new result }
+{
+    rewrite_expr(rewriter)?;
+    rewrite_list::<T>(rewriter)?;
+    Ok(())
+}
+
+/// Leaves the byte of a kind, which is that of functions, and their indexes in the shortest encoding.
+#[tactic(auto, using(std::proofs::Common::append_assoc))]
+fn rewrite_functions(rewriter: &mut Rewriter) -> Result<(), Fault>
+    ensures rewrites { Rewrites kind_and_functions rewriter.old rewriter.new result }
+{
+    if rewriter.byte()? != 0x00 {
+        return Err(Fault::Malformed);
+    }
+    rewrite_list::<u32>(rewriter)?;
+    Ok(())
+}
+
+/// Leaves a type in its shortest encoding, and gives it.
+fn rewrite_told_type(rewriter: &mut Rewriter) -> Result<RefType, Fault>
+    ensures gives { Gives ref_type rewriter.old rewriter.new result }
+{
+    rewriter.are_bytes();
+    let mut cursor = Cursor::new(rewriter.left());
+    let ty = read_ref_type(&mut cursor)?;
+    rewrite_ref_type(rewriter)?;
+    Ok(ty)
+}
+
+/// Leaves a type and expressions of it in their shortest encodings.
+#[tactic(auto, using(std::proofs::Common::append_assoc))]
+fn rewrite_typed(rewriter: &mut Rewriter) -> Result<(), Fault>
+    ensures rewrites { Rewrites (ref_type ⊗ items expr) rewriter.old rewriter.new result }
+{
+    rewrite_ref_type(rewriter)?;
+    rewrite_list::<Expression>(rewriter)?;
+    Ok(())
+}
+
+/// Leaves an element segment in its shortest encoding. Where it names table 0 and holds functions, or expressions of
+/// `funcref`, its shorter form has neither the index nor the byte of the kind or type.
+#[tactic(auto, using(crate::proofs::ElementLaws::no_element_form), unfolding(crate::specs::formats::Elements::element_segment))]
+fn rewrite_element(rewriter: &mut Rewriter) -> Result<(), Fault>
+    ensures rewrites { Rewrites element_segment rewriter.old rewriter.new result }
+{
+    let mark = rewriter.mark();
+    match rewriter.u32()? {
+        0 => rewrite_placed::<u32>(rewriter),
+        1 => rewrite_functions(rewriter),
+        2 => {
+            let table = rewriter.u32()?;
+            rewrite_expr(rewriter)?;
+            let kind = rewriter.mark();
+            rewrite_functions(rewriter)?;
+            if table == 0 {
+                rewriter.cut_out(kind, 1);
+                rewriter.cut_out(mark, 1);
+            }
+            Ok(())
+        }
+        3 => rewrite_functions(rewriter),
+        4 => rewrite_placed::<Expression>(rewriter),
+        5 => rewrite_typed(rewriter),
+        6 => {
+            let table = rewriter.u32()?;
+            rewrite_expr(rewriter)?;
+            let kind = rewriter.mark();
+            let ty = rewrite_told_type(rewriter)?;
+            rewrite_list::<Expression>(rewriter)?;
+            if table == 0 && is_funcref(ty) {
+                rewriter.cut_out(kind, 1);
+                rewriter.cut_out(mark, 1);
+                rewriter.set_byte(mark, 4);
+            }
+            Ok(())
+        }
+        7 => rewrite_typed(rewriter),
+        _ => Err(Fault::Malformed),
+    }
+}
+
+impl Rewritable for Element {
+    ghost Value = { Element };
+
+    ghost format = { element_segment };
+
+    #[inline(always)]
+    #[tactic(auto, using(crate::proofs::ElementLaws::element_is_lawful, crate::proofs::ElementLaws::element_takes))]
+    fn is_lawful() {}
+
+    fn rewrite(rewriter: &mut Rewriter) -> Result<(), Fault> {
+        rewrite_element(rewriter)
     }
 }
