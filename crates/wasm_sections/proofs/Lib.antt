@@ -15,3 +15,6 @@ pub mod ElementRewriting
 pub mod ValueReading
 pub mod WholeBodies
 pub mod CustomLaws
+pub mod ModuleSectionLaws
+pub mod ModuleSectionReading
+pub mod ModuleOrderLaws

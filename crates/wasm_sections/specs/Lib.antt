@@ -1,4 +1,6 @@
 pub mod Entries
+pub mod ModuleSections
+pub mod ModuleOrder
 pub mod Nesting
 pub mod Prefixes
 pub mod formats

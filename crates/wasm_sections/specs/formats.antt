@@ -6,3 +6,4 @@ pub mod Entries
 pub mod Segments
 pub mod Elements
 pub mod Sections
+pub mod ModuleSections

@@ -162,7 +162,7 @@ pub fn rewrite_custom_section(body: Vec<u8>) -> Result<Vec<u8>, ReadError>
 }
 
 /// A name, and the bytes to the end.
-struct Custom;
+pub(crate) struct Custom;
 
 impl RewritableBody for Custom {
     ghost Value = { CustomParts };

@@ -16,6 +16,7 @@ pub mod imports;
 mod limits;
 mod lists;
 pub mod memories;
+pub mod modules;
 mod names;
 mod numbers;
 pub mod start;

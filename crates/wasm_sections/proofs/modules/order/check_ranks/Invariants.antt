@@ -1,0 +1,8 @@
+use Rattle.wasm_sections.specs.ModuleSections.{all_module_section_parts}
+use Rattle.wasm_sections.proofs.ModuleOrderLaws.{GoOn}
+use Rattle.wasm_sections.proofs.modules.order.check_ranks.Given as goal
+
+abbrev pub invariant-loop-index : goal.invariant-loop-index
+invariant-loop-index l = record {
+  go_on : GoOn (all_module_section_parts l.sections) l.index l.last;
+}

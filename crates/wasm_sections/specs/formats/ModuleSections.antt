@@ -1,0 +1,114 @@
+-- Sections with what they hold, and modules of such sections (WebAssembly Core 3.0, Modules).
+use Rattle.std.specs.Prelude.{ℕ, List, Option, Some, None}
+use Rattle.wasm_codec.specs.formats.Bodies.{sized}
+use Rattle.wasm_codec.specs.formats.Combinators.{Format, made, any_of, no_other, tagged}
+use Rattle.wasm_types.specs.declared.types.composite.TypeEntry.{TypeEntry}
+use Rattle.wasm_sections.specs.ModuleSections.{ModuleSectionParts, custom, types, imports, functions, tables, memories, globals, exports, start, elements, code, data_segments, data_count, tags}
+use Rattle.wasm_types.specs.formats.Types.{type_body}
+use Rattle.wasm_modules.specs.declared.code.CodeBody.{CodeBody}
+use Rattle.wasm_modules.specs.formats.CodeBodies.{code_section_body}
+use Rattle.wasm_modules.specs.formats.Modules.{module_of}
+use Rattle.wasm_sections.specs.declared.elements.Element.{Element}
+use Rattle.wasm_sections.specs.declared.globals.Global.{Global}
+use Rattle.wasm_sections.specs.declared.tables.Table.{Table}
+use Rattle.wasm_sections.specs.declared.types.MemoryType.{MemoryType}
+use Rattle.wasm_sections.specs.declared.types.TagType.{TagType}
+use Rattle.wasm_sections.specs.Entries.{CustomParts, ExportParts, ImportParts, DataParts}
+use Rattle.wasm_sections.specs.formats.Sections.{custom_body, import_body, function_body, table_body, memory_body, global_body, export_body, start_body, element_body, data_body, data_count_body, tag_body}
+
+-- the id of a section that holds this
+abbrev pub section_id : ModuleSectionParts → ℕ
+section_id (custom c) = 0
+section_id (types ts) = 1
+section_id (imports is) = 2
+section_id (functions fs) = 3
+section_id (tables ts) = 4
+section_id (memories ms) = 5
+section_id (globals gs) = 6
+section_id (exports es) = 7
+section_id (start f) = 8
+section_id (elements es) = 9
+section_id (code bs) = 10
+section_id (data_segments ds) = 11
+section_id (data_count n) = 12
+section_id (tags ts) = 13
+
+abbrev pub custom_part : ModuleSectionParts → Option CustomParts
+custom_part (custom c) = Some c
+custom_part s = None
+
+abbrev pub types_part : ModuleSectionParts → Option (List TypeEntry)
+types_part (types ts) = Some ts
+types_part s = None
+
+abbrev pub imports_part : ModuleSectionParts → Option (List ImportParts)
+imports_part (imports is) = Some is
+imports_part s = None
+
+abbrev pub functions_part : ModuleSectionParts → Option (List ℕ)
+functions_part (functions fs) = Some fs
+functions_part s = None
+
+abbrev pub tables_part : ModuleSectionParts → Option (List Table)
+tables_part (tables ts) = Some ts
+tables_part s = None
+
+abbrev pub memories_part : ModuleSectionParts → Option (List MemoryType)
+memories_part (memories ms) = Some ms
+memories_part s = None
+
+abbrev pub globals_part : ModuleSectionParts → Option (List Global)
+globals_part (globals gs) = Some gs
+globals_part s = None
+
+abbrev pub exports_part : ModuleSectionParts → Option (List ExportParts)
+exports_part (exports es) = Some es
+exports_part s = None
+
+abbrev pub start_part : ModuleSectionParts → Option ℕ
+start_part (start f) = Some f
+start_part s = None
+
+abbrev pub elements_part : ModuleSectionParts → Option (List Element)
+elements_part (elements es) = Some es
+elements_part s = None
+
+abbrev pub code_part : ModuleSectionParts → Option (List CodeBody)
+code_part (code bs) = Some bs
+code_part s = None
+
+abbrev pub data_segments_part : ModuleSectionParts → Option (List DataParts)
+data_segments_part (data_segments ds) = Some ds
+data_segments_part s = None
+
+abbrev pub data_count_part : ModuleSectionParts → Option ℕ
+data_count_part (data_count n) = Some n
+data_count_part s = None
+
+abbrev pub tags_part : ModuleSectionParts → Option (List TagType)
+tags_part (tags ts) = Some ts
+tags_part s = None
+
+-- section_N(X) ::= N:byte len:u32 x:X ⇒ x (if len = ||X||), for each N and X of the standard
+unfoldable pub module_section : Format ModuleSectionParts
+module_section = any_of
+    (tagged section_id 0 (made custom custom_part (sized custom_body))
+    (tagged section_id 1 (made types types_part (sized type_body))
+    (tagged section_id 2 (made imports imports_part (sized import_body))
+    (tagged section_id 3 (made functions functions_part (sized function_body))
+    (tagged section_id 4 (made tables tables_part (sized table_body))
+    (tagged section_id 5 (made memories memories_part (sized memory_body))
+    (tagged section_id 6 (made globals globals_part (sized global_body))
+    (tagged section_id 7 (made exports exports_part (sized export_body))
+    (tagged section_id 8 (made start start_part (sized start_body))
+    (tagged section_id 9 (made elements elements_part (sized element_body))
+    (tagged section_id 10 (made code code_part (sized code_section_body))
+    (tagged section_id 11 (made data_segments data_segments_part (sized data_body))
+    (tagged section_id 12 (made data_count data_count_part (sized data_count_body))
+    (tagged section_id 13 (made tags tags_part (sized tag_body))
+    no_other))))))))))))))
+
+-- module ::= magic version section*, with nothing left over. That each section but the custom ones comes once at most, in
+-- the standard's order, and that counts agree, is asked of the list, not here.
+abbrev pub whole_module : Format (List ModuleSectionParts)
+whole_module = module_of module_section

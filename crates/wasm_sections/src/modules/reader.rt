@@ -1,0 +1,110 @@
+//! Sections with what they hold, read one by one.
+ghost use Rattle.std.specs.Prelude.{IfErr, refl};
+ghost use Rattle.std.proofs.lemmas.List.{map_push};
+ghost use Rattle.wasm_codec.specs.Grammar.{TakesBytes};
+ghost use Rattle.wasm_codec.specs.Lawful.{IsLawful};
+ghost use Rattle.wasm_codec.specs.Places.{Reads};
+ghost use Rattle.wasm_codec.specs.Reading.{map_ok};
+ghost use Rattle.wasm_codec.specs.formats.Bodies.{sized};
+ghost use Rattle.wasm_codec.specs.formats.Combinators.{items, u32 as u32_format};
+ghost use Rattle.wasm_sections.specs.Entries.{custom_parts};
+ghost use Rattle.wasm_sections.specs.ModuleSections.{ModuleSectionParts, module_section_parts, all_module_section_parts};
+ghost use Rattle.wasm_sections.specs.formats.ModuleSections.{module_section};
+ghost use Rattle.wasm_sections.specs.formats.Sections.{custom_body};
+
+use super::ModuleSection;
+use crate::custom::CustomSection;
+use crate::names::read_name;
+use std::alloc::Global;
+use wasm_codec::list::Items;
+use wasm_codec::reader::cursor::{Cursor, Fault};
+use wasm_readers::lists::read_list;
+use wasm_readers::readable::Readable;
+
+impl<'a> Readable<'a> for ModuleSection<'a> {
+    ghost Value = { ModuleSectionParts };
+
+    ghost view = { module_section_parts };
+
+    ghost views = { all_module_section_parts };
+
+    ghost views_each = { record { none = refl; more = λ sections section. map_push module_section_parts sections section } };
+
+    ghost format = { module_section };
+
+    #[tactic(auto, using(crate::proofs::ModuleSectionLaws::module_section_is_lawful, crate::proofs::ModuleSectionLaws::module_section_takes))]
+    fn read(alloc: Global, cursor: &mut Cursor<'a>) -> Result<ModuleSection<'a>, Fault>
+        ensures reads { Reads module_section.at cursor.old cursor.new (map_ok module_section_parts result) }
+        ensures lawful { IsLawful module_section }
+        ensures some { TakesBytes module_section.Encodes }
+    {
+        read_module_section(alloc, cursor)
+    }
+}
+
+/// A size, and a list that is all of the body.
+fn read_sized_list<'a, T: Readable<'a>>(
+    alloc: Global,
+    cursor: &mut Cursor<'a>,
+) -> Result<Items<T>, Fault>
+    ensures reads { Reads (sized (items T.format)).at cursor.old cursor.new (map_ok T.views result) }
+{
+    let mut body = cursor.body()?;
+    let items = read_list(alloc, &mut body)?;
+    if body.len() > 0 {
+        return Err(Fault::Malformed);
+    }
+    cursor.body_passed(body.is_shortest());
+    Ok(items)
+}
+
+/// A size, and a number that is all of the body.
+fn read_sized_number(cursor: &mut Cursor<'_>) -> Result<u32, Fault>
+    ensures reads { Reads (sized u32_format).at cursor.old cursor.new result }
+{
+    let mut body = cursor.body()?;
+    let number = body.u32()?;
+    if body.len() > 0 {
+        return Err(Fault::Malformed);
+    }
+    cursor.body_passed(body.is_shortest());
+    Ok(number)
+}
+
+/// A size, and a name and the bytes after it.
+fn read_sized_custom<'a>(cursor: &mut Cursor<'a>) -> Result<CustomSection<'a>, Fault>
+    ensures reads { Reads (sized custom_body).at cursor.old cursor.new (map_ok custom_parts result) }
+{
+    let mut body = cursor.body()?;
+    let name = read_name(&mut body)?;
+    let bytes = body.take(body.len())?;
+    cursor.body_passed(body.is_shortest());
+    Ok(CustomSection { name, bytes })
+}
+
+/// A section.
+#[tactic(auto, unfolding(crate::specs::formats::ModuleSections::module_section))]
+fn read_module_section<'a>(
+    alloc: Global,
+    cursor: &mut Cursor<'a>,
+) -> Result<ModuleSection<'a>, Fault>
+    ensures reads { Reads module_section.at cursor.old cursor.new (map_ok module_section_parts result) }
+{
+    match cursor.byte()? {
+        0 => Ok(ModuleSection::Custom(read_sized_custom(cursor)?)),
+        1 => Ok(ModuleSection::Types(read_sized_list(alloc, cursor)?)),
+        2 => Ok(ModuleSection::Imports(read_sized_list(alloc, cursor)?)),
+        3 => Ok(ModuleSection::Functions(read_sized_list(alloc, cursor)?)),
+        4 => Ok(ModuleSection::Tables(read_sized_list(alloc, cursor)?)),
+        5 => Ok(ModuleSection::Memories(read_sized_list(alloc, cursor)?)),
+        6 => Ok(ModuleSection::Globals(read_sized_list(alloc, cursor)?)),
+        7 => Ok(ModuleSection::Exports(read_sized_list(alloc, cursor)?)),
+        8 => Ok(ModuleSection::Start(read_sized_number(cursor)?)),
+        9 => Ok(ModuleSection::Elements(read_sized_list(alloc, cursor)?)),
+        10 => Ok(ModuleSection::Code(read_sized_list(alloc, cursor)?)),
+        11 => Ok(ModuleSection::Data(read_sized_list(alloc, cursor)?)),
+        12 => Ok(ModuleSection::DataCount(read_sized_number(cursor)?)),
+        13 => Ok(ModuleSection::Tags(read_sized_list(alloc, cursor)?)),
+        _ => Err(Fault::Malformed),
+    }
+}
