@@ -66,8 +66,7 @@ uint32_t nosgrivel_judge_code_section(const uint8_t *input, size_t input_len, si
  * first that isn't.
  *
  * Of a module the header and the sections' sizes are asked alone, and no body; nosgrivel_judge_module asks of those of
- * type sections and code sections too. The whole list is held while it is read, which takes many times the memory of
- * its bytes; judge holds bytes alone. */
+ * type sections and code sections too. */
 uint32_t nosgrivel_check_module(const uint8_t *input, size_t input_len, size_t *count);
 uint32_t nosgrivel_check_instructions(const uint8_t *input, size_t input_len, size_t *count);
 uint32_t nosgrivel_check_type_section(const uint8_t *input, size_t input_len, size_t *count);

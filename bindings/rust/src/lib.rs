@@ -267,9 +267,6 @@ pub fn check_module(module: &[u8]) -> Result<(), Error> {
 
 /// Asks that each instruction is whole and in its shortest encoding.
 ///
-/// The list of instructions is held meanwhile, which takes many times the memory of its bytes;
-/// [`is_normal_instructions`] holds bytes alone.
-///
 /// ```
 /// use nosgrivel::Error;
 ///
@@ -288,9 +285,6 @@ pub fn check_instructions(instructions: &[u8]) -> Result<(), Error> {
 
 /// Asks that the count and each entry of the body of a type section is whole and in its shortest encoding.
 ///
-/// The list of entries is held meanwhile, which takes many times the memory of its bytes; [`is_normal_type_section`]
-/// holds bytes alone.
-///
 /// ```
 /// use nosgrivel::Error;
 ///
@@ -308,9 +302,6 @@ pub fn check_type_section(body: &[u8]) -> Result<(), Error> {
 }
 
 /// Asks that the count and each code body of the body of a code section is whole and in its shortest encoding.
-///
-/// The list of code bodies is held meanwhile, which takes many times the memory of its bytes;
-/// [`is_normal_code_section`] holds bytes alone.
 ///
 /// ```
 /// use nosgrivel::Error;

@@ -1,9 +1,9 @@
--- A refusal says that nothing is encoded, since the normaliser or the strict reader gives what is.
+-- A refusal says that nothing is encoded, since the normaliser gives what is, and the check takes it.
 use Rattle.std.proofs.Common.{◌≡◌, ℕ, List, length, Result, Ok, Err, inl, inr, arith}
 use Rattle.wasm_codec.specs.declared.reader.ReadError.{ReadError}
 use Rattle.wasm_codec.specs.declared.reader.ReadError.TheVariants as errors
 use Rattle.wasm_codec.specs.Grammar.{Grammar}
-use Rattle.wasm_codec.specs.Answers.{IsOrMemory, EncodesSome}
+use Rattle.wasm_codec.specs.Answers.{IsOrMemory, EncodesSome, IfRefused}
 use Rattle.nosgrivel_c.specs.declared.delivery.TheConstants.{REFUSED}
 use Rattle.nosgrivel_c.specs.Delivery.{IsRefusal, IsDelivered, IsJudged, IsChecked}
 
@@ -26,7 +26,8 @@ judged_none G encoding_of view bytes (Ok x) before count status complete d s som
 judged_none G encoding_of view bytes (Err error) before count status complete d s some = refuses_none G encoding_of view bytes error before count status complete d s some
 
 -- by one that checks
-pub checked_none : {X V : Type 0} (G : Grammar V) (view : X → V) (bytes : List ℕ) (result : Result X ReadError) (before count status : ℕ)
-    → ((v : V) → G bytes v → IsOrMemory view v result) → IsChecked result (length bytes) before count status → status ≡ REFUSED → EncodesSome G bytes → ⊥
-checked_none G view bytes (Ok x) before count status complete d s some = omega (arith, d.0, s)
-checked_none G view bytes (Err error) before count status complete d s some = refuses_none G (λ v. v) view bytes error before count status complete d s some
+pub checked_none : {X V : Type 0} (G : Grammar V) (bytes : List ℕ) (result : Result X ReadError) (before count status : ℕ)
+    → IfRefused result (λ _. (v : V) → G bytes v → ⊥) → IsChecked result (length bytes) before count status → status ≡ REFUSED → EncodesSome G bytes → ⊥
+checked_none G bytes (Ok x) before count status none d s some = absurd (omega (arith, d.0, s))
+checked_none G bytes (Err (errors.Refused at)) before count status none d s some = none some.0 some.1
+checked_none G bytes (Err errors.Memory) before count status none d s some = absurd (omega (arith, d.0, s))

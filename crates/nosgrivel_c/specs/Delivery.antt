@@ -78,7 +78,7 @@ IsJudged view (Ok x) len before count status = (count ≡ length (view x)) × (
     ((status ≡ c_normal) × (count ≡ len)) ⊎ ((status ≡ c_not_normal) × (count ≡ len → ⊥)))
 IsJudged view (Err error) len before count status = IsRefusal error before count status
 
--- what a strict reader gave of so many bytes was answered
+-- what a check found of so many bytes was answered
 abbrev pub IsChecked : {X : Type 0} → Result X ReadError → ℕ → ℕ → ℕ → ℕ → Type 0
 IsChecked (Ok x) len before count status = (status ≡ c_normal) × (count ≡ len)
 IsChecked (Err error) len before count status = IsRefusal error before count status

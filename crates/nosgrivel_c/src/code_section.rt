@@ -5,10 +5,10 @@ ghost use Rattle.wasm_modules.specs.formats.CodeBodies.{code_section_body, IsCod
 ghost use Rattle.nosgrivel_c.specs.Delivery.{IsWritten, IsTooLong, IsShorter, IsDelivery, IsAnswer, IsJudgement};
 ghost use Rattle.nosgrivel_c.specs.declared.delivery.TheConstants.{NORMAL, REFUSED, NOT_NORMAL, NO_MEMORY, TOO_LONG};
 
-use crate::delivery::{check, deliver, judge};
+use crate::delivery::{answer, deliver, judge};
 use std::alloc::Global;
 use wasm_modules::code::normaliser::normalise_code_section;
-use wasm_readers::code_sections::read_code_section_strict;
+use wasm_readers::checks::check_code_section;
 
 /// Writes the normal form of the body of a code section: the same in the fewest bytes.
 ///
@@ -92,8 +92,7 @@ pub extern "C" fn nosgrivel_judge_code_section(
     judge(normalise_code_section(alloc, input), input, count)
 }
 
-/// Whether the count and each code body is whole and in its shortest encoding. The list of code bodies is held while
-/// it is read, which takes many times the memory of its bytes; `nosgrivel_judge_code_section` holds bytes alone.
+/// Whether the count and each code body is whole and in its shortest encoding. Meanwhile a copy of the bytes is held.
 #[unsafe(no_mangle)]
 pub extern "C" fn nosgrivel_check_code_section(
     alloc: Global,
@@ -111,5 +110,5 @@ pub extern "C" fn nosgrivel_check_code_section(
     // There is no other status.
     ensures status { IsAnswer result }
 {
-    check(read_code_section_strict(alloc, input), input, count)
+    answer(check_code_section(alloc, input), input, count)
 }

@@ -57,16 +57,12 @@ pub(crate) fn judge(normal: Result<Vec<u8>, ReadError>, input: &[u8], count: &mu
     }
 }
 
-/// Answers for what a strict reader gave: all of the input is in its shortest encoding, or where that ends.
-pub(crate) fn check<T: Drop>(
-    read: Result<Vec<T>, ReadError>,
-    input: &[u8],
-    count: &mut usize,
-) -> u32
-    ensures { IsChecked read (length input.now) count.old count.new result }
+/// Answers for what a check found: all of the input is in its shortest encoding, or where that ends.
+pub(crate) fn answer(checked: Result<(), ReadError>, input: &[u8], count: &mut usize) -> u32
+    ensures { IsChecked checked (length input.now) count.old count.new result }
 {
-    match read {
-        Ok(_) => {
+    match checked {
+        Ok(()) => {
             *count = input.len();
             NORMAL
         }

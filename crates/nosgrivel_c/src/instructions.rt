@@ -5,10 +5,10 @@ ghost use Rattle.wasm_instructions.specs.formats.Instructions.{Instructions, Sho
 ghost use Rattle.nosgrivel_c.specs.Delivery.{IsWritten, IsTooLong, IsShorter, IsDelivery, IsAnswer, IsJudgement};
 ghost use Rattle.nosgrivel_c.specs.declared.delivery.TheConstants.{NORMAL, REFUSED, NOT_NORMAL, NO_MEMORY, TOO_LONG};
 
-use crate::delivery::{check, deliver, judge};
+use crate::delivery::{answer, deliver, judge};
 use std::alloc::Global;
 use wasm_instructions::normaliser::normalise_instructions;
-use wasm_readers::instructions::read_instructions_strict;
+use wasm_readers::checks::check_instructions;
 
 /// Writes the normal form of a list of instructions: the same in the fewest bytes.
 ///
@@ -91,8 +91,7 @@ pub extern "C" fn nosgrivel_judge_instructions(
     judge(normalise_instructions(alloc, input), input, count)
 }
 
-/// Whether each instruction is whole and in its shortest encoding. The list of instructions is held while it is read,
-/// which takes many times the memory of its bytes; `nosgrivel_judge_instructions` holds bytes alone.
+/// Whether each instruction is whole and in its shortest encoding. Meanwhile a copy of the bytes is held.
 #[unsafe(no_mangle)]
 pub extern "C" fn nosgrivel_check_instructions(
     alloc: Global,
@@ -110,5 +109,5 @@ pub extern "C" fn nosgrivel_check_instructions(
     // There is no other status.
     ensures status { IsAnswer result }
 {
-    check(read_instructions_strict(alloc, input), input, count)
+    answer(check_instructions(alloc, input), input, count)
 }

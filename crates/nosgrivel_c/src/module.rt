@@ -7,10 +7,10 @@ ghost use Rattle.wasm_modules.specs.Modules.{IsShortestModulePrefix};
 ghost use Rattle.nosgrivel_c.specs.Delivery.{IsWritten, IsTooLong, IsShorter, IsDelivery, IsAnswer, IsJudgement};
 ghost use Rattle.nosgrivel_c.specs.declared.delivery.TheConstants.{NORMAL, REFUSED, NOT_NORMAL, NO_MEMORY, TOO_LONG};
 
-use crate::delivery::{check, deliver, judge};
+use crate::delivery::{answer, deliver, judge};
 use std::alloc::Global;
 use wasm_modules::normaliser::normalise_module;
-use wasm_readers::modules::read_module_strict;
+use wasm_readers::checks::check_module;
 
 /// Writes the normal form of a module: the same in the fewest bytes.
 ///
@@ -94,8 +94,8 @@ pub extern "C" fn nosgrivel_judge_module(alloc: Global, input: &[u8], count: &mu
 
 /// Whether the header and the sections of a module are whole, each section's size in the fewest bytes.
 ///
-/// No body is looked into: `nosgrivel_judge_module` asks of those of type sections and code sections as well. The list
-/// of sections is held while it is read.
+/// No body is looked into: `nosgrivel_judge_module` asks of those of type sections and code sections as well. Meanwhile
+/// a copy of the bytes is held.
 #[unsafe(no_mangle)]
 pub extern "C" fn nosgrivel_check_module(alloc: Global, input: &[u8], count: &mut usize) -> u32
     // The input is the shortest encoding of a list of sections, and the count is its length.
@@ -109,5 +109,5 @@ pub extern "C" fn nosgrivel_check_module(alloc: Global, input: &[u8], count: &mu
     // There is no other status.
     ensures status { IsAnswer result }
 {
-    check(read_module_strict(alloc, input), input, count)
+    answer(check_module(alloc, input), input, count)
 }

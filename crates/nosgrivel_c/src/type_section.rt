@@ -5,9 +5,9 @@ ghost use Rattle.wasm_types.specs.formats.Types.{type_body, IsTypeBodyPrefix, Sh
 ghost use Rattle.nosgrivel_c.specs.Delivery.{IsWritten, IsTooLong, IsShorter, IsDelivery, IsAnswer, IsJudgement};
 ghost use Rattle.nosgrivel_c.specs.declared.delivery.TheConstants.{NORMAL, REFUSED, NOT_NORMAL, NO_MEMORY, TOO_LONG};
 
-use crate::delivery::{check, deliver, judge};
+use crate::delivery::{answer, deliver, judge};
 use std::alloc::Global;
-use wasm_readers::type_sections::read_type_section_strict;
+use wasm_readers::checks::check_type_section;
 use wasm_types::normaliser::normalise_type_section;
 
 /// Writes the normal form of the body of a type section: the same in the fewest bytes.
@@ -91,8 +91,7 @@ pub extern "C" fn nosgrivel_judge_type_section(
     judge(normalise_type_section(alloc, input), input, count)
 }
 
-/// Whether the count and each entry is whole and in its shortest encoding. The list of entries is held while it is
-/// read, which takes many times the memory of its bytes; `nosgrivel_judge_type_section` holds bytes alone.
+/// Whether the count and each entry is whole and in its shortest encoding. Meanwhile a copy of the bytes is held.
 #[unsafe(no_mangle)]
 pub extern "C" fn nosgrivel_check_type_section(
     alloc: Global,
@@ -110,5 +109,5 @@ pub extern "C" fn nosgrivel_check_type_section(
     // There is no other status.
     ensures status { IsAnswer result }
 {
-    check(read_type_section_strict(alloc, input), input, count)
+    answer(check_type_section(alloc, input), input, count)
 }

@@ -1,2 +1,3 @@
 pub mod CodeReading
 pub mod EndLaws
+pub mod CheckLaws

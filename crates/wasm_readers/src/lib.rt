@@ -4,6 +4,7 @@
 //! one takes shortest encodings alone.
 #![tactic(auto)]
 
+pub mod checks;
 pub mod code_sections;
 pub mod instructions;
 pub mod lists;

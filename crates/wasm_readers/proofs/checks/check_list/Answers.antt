@@ -1,0 +1,37 @@
+use Rattle.std.proofs.Common.{◌≡◌, true, false, arith}
+use Rattle.std.specs.Prelude.{is_some}
+use Rattle.std.proofs.lemmas.Result.{err_from_is_err_and}
+use Rattle.wasm_codec.specs.Grammar.{IsBytes}
+use Rattle.wasm_codec.specs.Places.{place}
+use Rattle.wasm_codec.specs.formats.Combinators.{narrow, u32}
+use Rattle.wasm_codec.proofs.ListReading.{IsBytes-from}
+use Rattle.wasm_readers.proofs.CheckLaws.{list_taken, refused_prefix, refused_unencoded, no_list, no_list_prefix}
+use Rattle.wasm_readers.proofs.checks.check_list.Goals as goal
+
+pub returns-then-not-begins_with_count-clause-prefix : goal.returns-then-not-begins_with_count-clause-prefix
+returns-then-not-begins_with_count-clause-prefix g c =
+    let none : is_some ((narrow u32).at (place true c.args.bytes.now)) ≡ false = grind arith in
+    no_list_prefix g.T.Rewritable.format c.args.bytes.now none
+
+pub returns-then-not-begins_with_count-clause-unencoded : goal.returns-then-not-begins_with_count-clause-unencoded
+returns-then-not-begins_with_count-clause-unencoded g c =
+    let none : is_some ((narrow u32).at (place true c.args.bytes.now)) ≡ false = grind arith in
+    no_list g.T.Rewritable.format c.args.bytes.now none
+
+pub returns-in_err-_list-clause-prefix : goal.returns-in_err-_list-clause-prefix
+returns-in_err-_list-clause-prefix g c =
+    let there : is_some ((narrow u32).at (place true c.args.bytes.now)) ≡ true = grind arith in
+    let fits : IsBytes c.args.bytes.now = IsBytes-from c.args.bytes.now (λ i. omega (arith, c.type_inv.bytes i)) in
+    let p = err_from_is_err_and c.from_residual-in_err-_list.result c.from_residual-in_err-_list.ensures.1 in
+    rw (p.1, p.2, ← c.in_ok-from_slice.ensures.items) (refused_prefix g.T.Rewritable.format c.in_ok-from_slice.field-0.items c.in_err-_list.field-0.0 (rw c.in_ok-from_slice.ensures.items fits) (rw c.in_ok-from_slice.ensures.items there) c.in_err-_list.ensures.prefix)
+
+pub returns-in_err-_list-clause-unencoded : goal.returns-in_err-_list-clause-unencoded
+returns-in_err-_list-clause-unencoded g c =
+    let p = err_from_is_err_and c.from_residual-in_err-_list.result c.from_residual-in_err-_list.ensures.1 in
+    rw (p.1, p.2, ← c.in_ok-from_slice.ensures.items) (refused_unencoded g.T.Rewritable.format c.in_ok-from_slice.field-0.items c.in_err-_list.field-0.0 c.in_err-_list.ensures.unencoded)
+
+pub returns-clause-given : goal.returns-clause-given
+returns-clause-given g c =
+    let there : is_some ((narrow u32).at (place true c.args.bytes.now)) ≡ true = grind arith in
+    let fits : IsBytes c.args.bytes.now = IsBytes-from c.args.bytes.now (λ i. omega (arith, c.type_inv.bytes i)) in
+    rw (← c.in_ok-from_slice.ensures.items) (list_taken g.T.Rewritable.format c.in_ok-from_slice.field-0.items c.in_ok-_list._list.items (rw c.in_ok-from_slice.ensures.items fits) (rw c.in_ok-from_slice.ensures.items there) c.in_ok-_list.ensures.given)
