@@ -21,7 +21,7 @@ use Rattle.wasm_modules.specs.Sections.{decoded_section_of, code_bodies, code_se
 use Rattle.wasm_modules.specs.DecodedModules.{IsDecodedSection}
 use Rattle.wasm_encoder.specs.EncodedLists.{Entries, CountedSection, OfItems, body_bytes}
 use Rattle.wasm_encoder.specs.CodeSections.{FunctionStandsFor, GainsBodies, GainsFunction, GoesOnWith, HoldsBodies, StandsForBodies, body_of, followed}
-use Rattle.wasm_encoder.proofs.EncodedListLaws.{stands_none, stands_one_more, gains_each, body_is, values_in_range, all_in_range}
+use Rattle.wasm_writers.proofs.EncodedListLaws.{stands_none, stands_one_more, gains_each, body_is, values_in_range, all_in_range}
 
 -- ---- functions
 

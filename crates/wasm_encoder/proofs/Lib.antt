@@ -1,5 +1,4 @@
 pub use Rattle.wasm_calls.proofs.DrainLaws
-pub mod EncodedListLaws
 pub mod CodeSectionLaws
 pub mod TypeSectionLaws
 pub mod IteratorLaws

@@ -14,7 +14,7 @@ use Rattle.wasm_types.specs.formats.Types.{composite_type, inner_type, recursive
 use Rattle.wasm_types.specs.TypeCounts.{CountedInner, CountedSub, CountedEntry}
 use Rattle.wasm_types.proofs.TypeFormatLaws.{Lawful-inner-type, Lawful-sub-type, Lawful-recursive-type, Lawful-type-body}
 use Rattle.wasm_types.proofs.WrittenTypes.{in_range_of}
-use Rattle.wasm_encoder.proofs.EncodedListLaws.{stands_none, gains_one, gains_each, body_is, values_in_range, all_in_range}
+use Rattle.wasm_writers.proofs.EncodedListLaws.{stands_none, gains_one, gains_each, body_is, values_in_range, all_in_range}
 
 pub stands_for_none : (section : Entries) → section.count ≡ 0 → section.bytes ≡ [] → StandsFor section []
 stands_for_none section count bytes = stands_none recursive_type CountedEntry section count bytes

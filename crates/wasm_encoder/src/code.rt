@@ -15,7 +15,6 @@ ghost use Rattle.wasm_encoder.specs.EncodedLists.{Entries, CountedSection, Gives
 ghost use Rattle.wasm_encoder.specs.Rows.{bytes_row};
 ghost use Rattle.wasm_encoder.specs.CodeSections.{FunctionStandsFor, GainsBodies, GainsFunction, GoesOnWith, HoldsBodies, StandsForBodies, UncountedBody, body_of};
 
-use crate::encoded_list::EncodedList;
 use crate::wasm_core::{Section, SectionId};
 use std::alloc::{Allocator, Global};
 use std::marker::Model;
@@ -24,6 +23,7 @@ use wasm_instructions::table::Call;
 pub use wasm_modules::code::CodeBody;
 use wasm_sink::sink::InstructionSink;
 use wasm_types::types::ValType;
+use wasm_writers::encoded_list::EncodedList;
 use wasm_writers::encode::{Encode, EncodeError, append_items, encode_bytes};
 
 /// The locals of a function, and instructions that are added to them.

@@ -9,7 +9,6 @@
 
 pub mod code;
 pub mod encode;
-mod encoded_list;
 pub mod raw;
 pub mod reader;
 mod type_section;

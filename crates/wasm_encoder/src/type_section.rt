@@ -16,13 +16,13 @@ ghost use Rattle.wasm_types.specs.declared.types.composite.CompositeInnerType.Th
 ghost use Rattle.wasm_types.specs.declared.types.composite.TypeEntry.TheVariants as entries;
 ghost use Rattle.wasm_codec.specs.declared.encode.EncodeError.TheVariants.{Memory};
 
-use crate::encoded_list::EncodedList;
 use crate::wasm_core::{Section, SectionId};
 use std::alloc::{Allocator, Global};
 use std::marker::Model;
 use wasm_types::types::{
     ArrayType, ContType, FieldType, FuncType, StorageType, SubType, TypeEntry, ValType,
 };
+use wasm_writers::encoded_list::EncodedList;
 use wasm_writers::encode::{Encode, EncodeError};
 
 /// A type section that entries are added to, one after the other.

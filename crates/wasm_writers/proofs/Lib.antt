@@ -1,3 +1,4 @@
 pub mod WrittenLists
 pub mod CodeBodyWriting
 pub mod SizeLaws
+pub mod EncodedListLaws

@@ -1,3 +1,4 @@
 pub mod CodeCounts
 pub mod Iterators
 pub mod MemArgs
+pub mod EncodedLists

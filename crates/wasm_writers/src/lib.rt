@@ -4,6 +4,7 @@
 
 mod code_bodies;
 pub mod encode;
+pub mod encoded_list;
 mod instructions;
 mod operands;
 pub mod sections;

@@ -5,25 +5,25 @@ ghost use Rattle.wasm_codec.specs.Encoding.{byte_list_bytes, CanEncodeList, IsCo
 ghost use Rattle.wasm_writers.specs.Iterators.{IsItemsRefusal};
 ghost use Rattle.wasm_codec.specs.Lists.{items_bytes};
 ghost use Rattle.wasm_codec.specs.declared.encode.EncodeError.TheVariants.{Memory, TooLong};
-ghost use Rattle.wasm_encoder.specs.EncodedLists.{Entries, CountedSection, IsFull, IsMemoryOrTooLong, IsRefusalOfOne, IsRefusalOfEach, OfItems, body_bytes};
+ghost use Rattle.wasm_writers.specs.EncodedLists.{Entries, CountedSection, IsFull, IsMemoryOrTooLong, IsRefusalOfOne, IsRefusalOfEach, OfItems, body_bytes};
 
+use crate::encode::{Encode, append_each, append_items};
 use std::alloc::{Allocator, Global};
 use std::marker::Model;
 use wasm_codec::encode::leb128::u32_len;
 use wasm_codec::encode::{EncodeError, keep_or_undo};
-use wasm_writers::encode::{Encode, append_each, append_items};
 
 /// Values that were encoded one after the other.
 ///
 /// In contracts it is their number and their bytes.
 #[derive(Debug, Drop)]
-pub(crate) struct EncodedList {
+pub struct EncodedList {
     bytes: Vec<u8>,
     count: u32,
 }
 
 impl Model for EncodedList {
-    ghost use Rattle.wasm_encoder.specs.EncodedLists.{Entries};
+    ghost use Rattle.wasm_writers.specs.EncodedLists.{Entries};
 
     ghost Value = { Entries };
 
@@ -32,7 +32,7 @@ impl Model for EncodedList {
 
 impl EncodedList {
     /// A list without values. It takes no memory.
-    pub(crate) fn new(alloc: Global) -> EncodedList
+    pub fn new(alloc: Global) -> EncodedList
         ensures count { result.count ≡ 0 }
         ensures bytes { result.bytes ≡ [] }
     {
@@ -43,14 +43,14 @@ impl EncodedList {
     }
 
     /// How many values there are.
-    pub(crate) fn len(&self) -> u32
+    pub fn len(&self) -> u32
         ensures { result ≡ self.now.count }
     {
         self.count
     }
 
     /// A list of the same encodings.
-    pub(crate) fn try_clone(&self) -> Result<EncodedList, EncodeError>
+    pub fn try_clone(&self) -> Result<EncodedList, EncodeError>
         ensures ok { IfOk result (λ list. list ≡ self.now) }
         ensures err { IfErr result (λ e. e ≡ Memory) }
     {
@@ -70,7 +70,7 @@ impl EncodedList {
     }
 
     /// Adds a value, or leaves the list as it was.
-    pub(crate) fn add<T: Encode>(&mut self, value: &T) -> Result<(), EncodeError>
+    pub fn add<T: Encode>(&mut self, value: &T) -> Result<(), EncodeError>
         ensures count { OnOk result (self.new.count ≡ self.old.count + 1) }
         ensures bytes { OnOk result (self.new.bytes ≡ self.old.bytes ++ T.bytes value.now) }
         ensures can { OnOk result (T.CanEncode value.now) }
@@ -87,7 +87,7 @@ impl EncodedList {
     /// Adds values, all of them or none.
     ///
     /// `TooLong` where there would be more than 4,294,967,295, before one is encoded; else an error of a value.
-    pub(crate) fn add_all<T: Encode>(&mut self, values: &[T]) -> Result<(), EncodeError>
+    pub fn add_all<T: Encode>(&mut self, values: &[T]) -> Result<(), EncodeError>
         ensures count { OnOk result (self.new.count ≡ self.old.count + length values.now) }
         ensures bytes { OnOk result (self.new.bytes ≡ self.old.bytes ++ flat_map T.bytes values.now) }
         ensures can { OnOk result (All T.CanEncode values.now) }
@@ -119,7 +119,7 @@ impl EncodedList {
     /// Adds a value that is a byte and the list that an iterator gives, or leaves the list of values as it was.
     ///
     /// `TooLong` for the iterator's `len` before an item is asked for.
-    pub(crate) fn add_tagged<T: Encode + Drop, I: ExactSizeIterator<Item = T>>(
+    pub fn add_tagged<T: Encode + Drop, I: ExactSizeIterator<Item = T>>(
         &mut self,
         tag: u8,
         items: I,
@@ -141,7 +141,7 @@ impl EncodedList {
     /// Adds a value that is a byte and the lists that two iterators give, or leaves the list of values as it was.
     ///
     /// `TooLong` for an iterator's `len` before an item of either is asked for.
-    pub(crate) fn add_tagged_pair<
+    pub fn add_tagged_pair<
         T: Encode + Drop,
         I: ExactSizeIterator<Item = T>,
         J: ExactSizeIterator<Item = T>,

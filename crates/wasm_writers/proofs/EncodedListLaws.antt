@@ -8,7 +8,7 @@ use Rattle.wasm_codec.specs.Encoding.{IsCount, IsShortest}
 use Rattle.wasm_codec.specs.Lawful.{IsLawful}
 use Rattle.wasm_codec.specs.formats.Combinators.{Format, items}
 use Rattle.wasm_types.proofs.WrittenTypes.{in_range_of}
-use Rattle.wasm_encoder.specs.EncodedLists.{Entries, StandsForAll, GainsOne, GainsEach, body_bytes}
+use Rattle.wasm_writers.specs.EncodedLists.{Entries, StandsForAll, GainsOne, GainsEach, body_bytes}
 
 pub stands_none : {V : Type 0} (F : Format V) (Can : V → Type 0) (list : Entries) → list.count ≡ 0 → list.bytes ≡ [] → StandsForAll F Can list []
 stands_none F Can list count bytes = record { count = count; bytes = bytes; can = All-nil Can; in_range = All-nil F.InRange }

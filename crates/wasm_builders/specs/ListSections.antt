@@ -1,0 +1,22 @@
+-- Sections that are lists and are being built (WebAssembly Core 3.0, Lists).
+use Rattle.std.specs.Prelude.{List}
+use Rattle.wasm_codec.specs.formats.Combinators.{Format, items}
+use Rattle.wasm_writers.specs.EncodedLists.{Entries, StandsForAll, GainsOne, GainsEach, body_bytes}
+
+module _ {V : Type 0} (F : Format V) where
+  -- The section stands for these items: it has their number and their encodings, with nothing between, and they are in
+  -- range.
+  abbrev pub StandsForItems : Entries → List V → Type 0
+  StandsForItems = StandsForAll F (λ item. Unit {0})
+
+  -- the new section is the old one with one item more
+  abbrev pub GainsItem : Entries → V → Entries → Type 0
+  GainsItem = GainsOne F (λ item. Unit {0})
+
+  -- the new section is the old one with these items more
+  abbrev pub GainsItems : Entries → List V → Entries → Type 0
+  GainsItems = GainsEach F (λ item. Unit {0})
+
+  -- its body encodes the items that it stands for
+  abbrev pub HoldsItems : Entries → Type 0
+  HoldsItems section = (values : List V) → StandsForItems section values → (items F).Encodes (body_bytes section) values
