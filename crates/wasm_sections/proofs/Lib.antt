@@ -18,3 +18,4 @@ pub mod CustomLaws
 pub mod ModuleSectionLaws
 pub mod ModuleSectionReading
 pub mod ModuleOrderLaws
+pub mod TypeWriting

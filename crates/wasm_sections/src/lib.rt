@@ -7,6 +7,7 @@ pub mod custom;
 pub mod data;
 pub mod data_count;
 pub mod elements;
+mod encode;
 mod entities;
 pub mod exports;
 mod expressions;
