@@ -10,6 +10,9 @@ use wasm_sections::data::{normalise_data_section, read_data_section, read_data_s
 use wasm_sections::data_count::{
     normalise_data_count_section, read_data_count_section, read_data_count_section_strict,
 };
+use wasm_sections::elements::{
+    normalise_element_section, read_element_section, read_element_section_strict,
+};
 use wasm_sections::exports::{
     normalise_export_section, read_export_section, read_export_section_strict,
 };
@@ -69,6 +72,7 @@ pub fn read(alloc: Global, section: &str, body: &[u8]) -> Result<Answer, Mismatc
         "memory" => counted(read_memory_section(alloc, body)),
         "global" => counted(read_global_section(alloc, body)),
         "export" => counted(read_export_section(alloc, body)),
+        "element" => counted(read_element_section(alloc, body)),
         "data" => counted(read_data_section(alloc, body)),
         "tag" => counted(read_tag_section(alloc, body)),
         "start" => one(read_start_section(body)),
@@ -87,6 +91,7 @@ pub fn read_strictly(alloc: Global, section: &str, body: &[u8]) -> Result<Answer
         "memory" => counted(read_memory_section_strict(alloc, body)),
         "global" => counted(read_global_section_strict(alloc, body)),
         "export" => counted(read_export_section_strict(alloc, body)),
+        "element" => counted(read_element_section_strict(alloc, body)),
         "data" => counted(read_data_section_strict(alloc, body)),
         "tag" => counted(read_tag_section_strict(alloc, body)),
         "start" => one(read_start_section_strict(body)),
@@ -104,6 +109,7 @@ pub fn normalise(alloc: Global, section: &str, body: &[u8]) -> Result<Vec<u8>, R
         "memory" => normalise_memory_section(alloc, body),
         "global" => normalise_global_section(alloc, body),
         "export" => normalise_export_section(alloc, body),
+        "element" => normalise_element_section(alloc, body),
         "data" => normalise_data_section(alloc, body),
         "tag" => normalise_tag_section(alloc, body),
         "start" => normalise_start_section(alloc, body),
