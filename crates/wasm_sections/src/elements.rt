@@ -404,10 +404,10 @@ fn rewrite_element(rewriter: &mut Rewriter) -> Result<(), Fault>
         2 => {
             let table = rewriter.u32()?;
             rewrite_expr(rewriter)?;
-            let kind = rewriter.mark();
+            let kind_mark = rewriter.mark();
             rewrite_functions(rewriter)?;
             if table == 0 {
-                rewriter.cut_out(kind, 1);
+                rewriter.cut_out(kind_mark, 1);
                 rewriter.cut_out(mark, 1);
             }
             Ok(())
@@ -418,11 +418,11 @@ fn rewrite_element(rewriter: &mut Rewriter) -> Result<(), Fault>
         6 => {
             let table = rewriter.u32()?;
             rewrite_expr(rewriter)?;
-            let kind = rewriter.mark();
+            let type_mark = rewriter.mark();
             let ty = rewrite_told_type(rewriter)?;
             rewrite_list::<Expression>(rewriter)?;
             if table == 0 && is_funcref(ty) {
-                rewriter.cut_out(kind, 1);
+                rewriter.cut_out(type_mark, 1);
                 rewriter.cut_out(mark, 1);
                 rewriter.set_byte(mark, 4);
             }
