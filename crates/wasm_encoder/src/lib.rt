@@ -16,12 +16,13 @@ pub mod types;
 pub mod wasm_core;
 
 pub use code::{CodeBody, CodeSection, Function};
-pub use encode::{Encode, EncodeError, encode_bytes, encode_list, encode_str};
+pub use encode::{Encode, EncodeError, encode_bytes, encode_list, encode_str, keep_or_undo};
 pub use raw::{RawSection, first_body};
 pub use reader::{
-    ReadError, normalise_code_section, normalise_instructions, normalise_module,
+    Cursor, Fault, ReadError, Readable, check_code_section, check_instructions, check_module,
+    check_type_section, normalise_code_section, normalise_instructions, normalise_module,
     normalise_type_section, read_code_section, read_code_section_strict, read_instructions,
-    read_instructions_strict, read_module, read_module_strict, read_type_section,
+    read_instructions_strict, read_list_to_end, read_module, read_module_strict, read_type_section,
     read_type_section_strict, rewrite_code_section, rewrite_instructions, rewrite_module,
     rewrite_type_section,
 };
@@ -38,5 +39,6 @@ pub use wasm_instructions::operands::{
 };
 pub use wasm_instructions::table::{Call, Kind, Opcode, Operands, Prefix};
 pub use wasm_instructions::{operands, table};
+pub use wasm_readers::names::opcode_name;
 pub use wasm_sink::sink;
 pub use wasm_sink::sink::InstructionSink;

@@ -1,3 +1,4 @@
 pub mod CodeReading
 pub mod EndLaws
 pub mod CheckLaws
+pub mod NameLaws

@@ -9,6 +9,7 @@ pub mod code_sections;
 pub mod instructions;
 pub mod lists;
 pub mod modules;
+pub mod names;
 pub mod operands;
 pub mod readable;
 pub mod type_sections;

@@ -11,6 +11,9 @@ use wasm_codec::encode::keep_or_undo;
 
 /// Appends the number of items and then the bytes of each, or leaves `sink` as it was.
 ///
+/// A number without a type is an `i32`, which is signed: write `&[0u32, 64]` for indexes. `&[0, 64]` has other bytes, since
+/// a signed 64 takes two.
+///
 /// `TooLong` where there are more than 4,294,967,295 items, before the first is encoded; else an error of an item.
 pub fn encode_list<T: Encode, A: Allocator>(
     items: &[T],
