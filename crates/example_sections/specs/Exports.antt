@@ -1,13 +1,26 @@
 -- The exports of functions in the binary format (WebAssembly Core 3.0, Export Section).
-use Rattle.std.specs.Prelude.{ℕ, List, ◌∷◌, ◌++◌, length}
+use Rattle.std.specs.Prelude.{ℕ, List, ◌∷◌, ◌++◌, length, map}
+use Rattle.wasm_encoder.specs.Bodies.{byte_list}
+use Rattle.wasm_encoder.specs.Combinators.{Format, ◌▷◌, ◌⊗◌, u32}
 use Rattle.wasm_encoder.specs.Encoding.{byte_list_bytes, CanEncodeList, IsCount}
 use Rattle.wasm_encoder.specs.Lists.{items_bytes}
 use Rattle.wasm_encoder.specs.Numbers.{unsigned_leb128}
 use Rattle.example_sections.specs.declared.exports.FunctionExport.{FunctionExport}
+use Rattle.example_sections.specs.declared.read.ReadExport.{ReadExport}
 
 -- export ::= nm:name xx:externidx, where externidx ::= 0x00 x:funcidx
 abbrev pub export_bytes : FunctionExport → List ℕ
 export_bytes export = byte_list_bytes export.name.now ++ 0x00 ∷ unsigned_leb128 export.function
+
+-- the same as a format, by which it is read: a name and an index
+abbrev pub export : Format (List ℕ × ℕ)
+export = byte_list ⊗ (0x00 ▷ u32)
+
+abbrev pub parts_of : ReadExport → List ℕ × ℕ
+parts_of e = (e.name.now, e.function)
+
+abbrev pub all_parts_of : List ReadExport → List (List ℕ × ℕ)
+all_parts_of = map parts_of
 
 -- a u32 counts the bytes of the name
 abbrev pub HasShortName : FunctionExport → Type 0

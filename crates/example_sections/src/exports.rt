@@ -9,7 +9,7 @@ use wasm_encoder::{
 };
 
 /// The byte that says that an export is a function.
-const FUNCTION: u8 = 0x00;
+pub const FUNCTION: u8 = 0x00;
 
 /// The export of a function: its name and its index.
 #[derive(Clone, Copy, Debug)]

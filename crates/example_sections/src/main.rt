@@ -3,15 +3,22 @@
 //! It shows how a type of one's own is written: `FunctionExport` implements `Encode` and says by its ghosts which bytes it
 //! has, which values have any, and which error the others get (`exports`); `ExportSection` is a `Section`, so a `Module`
 //! takes it like those of the library, and a contract tells all bytes of the module (`module`). The program prints them.
+//!
+//! And how it is read back: `ReadExport` is `Readable`, by one format that tells which bytes encode which export, and
+//! `read_list_to_end` reads a list of them (`read`). The program prints the exports that it reads in the module.
 #![tactic(auto)]
 
 mod exports;
 mod module;
+mod read;
 
 use anyhow::Result;
 use exports::{ExportSection, FunctionExport};
+use read::ReadExport;
 use std::io;
-use wasm_encoder::{CodeSection, Function, TypeSection, ValType};
+use wasm_encoder::{
+    CodeSection, Function, SectionId, TypeSection, ValType, first_body, read_module,
+};
 
 fn main(rt: HostRuntime) -> Result<()> {
     let none: [ValType; 0] = [];
@@ -39,7 +46,21 @@ fn main(rt: HostRuntime) -> Result<()> {
     };
     let module = module::module_of(rt.alloc(), &types, &exports, &code)?;
     print_hex(&rt, module.as_slice())?;
+    let sections = read_module(rt.alloc(), module.as_slice())?;
+    if let Some(body) = first_body(&sections, SectionId::Export.into()) {
+        for export in &read::read_exports(rt.alloc(), body)? {
+            print_export(&rt, export)?;
+        }
+    }
     Ok(())
+}
+
+/// Prints a line of an export.
+fn print_export(rt: &impl Print, export: &ReadExport) -> io::Result<()> {
+    for byte in export.name {
+        print!(rt; "{}", char::from(*byte))?;
+    }
+    println!(rt; " is function {}", export.function)
 }
 
 /// Prints a line of bytes.

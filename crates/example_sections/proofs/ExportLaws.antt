@@ -1,0 +1,13 @@
+-- The law of an export's format.
+use Rattle.std.proofs.Common.{refl, arith}
+use Rattle.wasm_codec.specs.Grammar.{TakesBytes}
+use Rattle.wasm_codec.specs.Lawful.{IsLawful}
+use Rattle.wasm_codec.proofs.BodyLaws.{Lawful-byte-list}
+use Rattle.wasm_codec.proofs.FormatLaws.{Lawful-after, Lawful-both, Lawful-u32, takes_bytes}
+use Rattle.example_sections.specs.Exports.{export}
+
+pub Lawful-export : IsLawful export
+Lawful-export = Lawful-both Lawful-byte-list (Lawful-after 0x00 (omega arith) Lawful-u32)
+
+pub export_takes : TakesBytes export.Encodes
+export_takes = takes_bytes Lawful-export refl
