@@ -19,3 +19,4 @@ pub mod ModuleSectionLaws
 pub mod ModuleSectionReading
 pub mod ModuleOrderLaws
 pub mod TypeWriting
+pub mod EntryWriting

@@ -34,13 +34,13 @@ paged_is (true, (true, true)) b e = ap (λ (n : ℕ). Some (n + 8)) (some_is 7 b
 
 -- ---- parts one after the other
 
-two : (old a b one new : List ℕ) → one ≡ old ++ a → new ≡ one ++ b → new ≡ old ++ (a ++ b)
+pub two : (old a b one new : List ℕ) → one ≡ old ++ a → new ≡ one ++ b → new ≡ old ++ (a ++ b)
 two old a b one new p q = q ∙ ap (λ (l : List ℕ). l ++ b) p ∙ append_assoc old a b
 
-three : (old a b c one more new : List ℕ) → one ≡ old ++ a → more ≡ one ++ b → new ≡ more ++ c → new ≡ old ++ (a ++ (b ++ c))
+pub three : (old a b c one more new : List ℕ) → one ≡ old ++ a → more ≡ one ++ b → new ≡ more ++ c → new ≡ old ++ (a ++ (b ++ c))
 three old a b c one more new p q r = two old a (b ++ c) one new p (two one b c more new q r)
 
-four : (old a b c d one more most new : List ℕ) → one ≡ old ++ a → more ≡ one ++ b → most ≡ more ++ c → new ≡ most ++ d → new ≡ old ++ (a ++ (b ++ (c ++ d)))
+pub four : (old a b c d one more most new : List ℕ) → one ≡ old ++ a → more ≡ one ++ b → most ≡ more ++ c → new ≡ most ++ d → new ≡ old ++ (a ++ (b ++ (c ++ d)))
 four old a b c d one more most new p q r s = two old a (b ++ (c ++ d)) one new p (three one b c d more most new q r s)
 
 -- ---- memories and tables

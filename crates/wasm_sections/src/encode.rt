@@ -1,3 +1,4 @@
 //! What readers of sections give, written (Core 3.0, Modules).
 
+mod entries;
 pub(crate) mod types;
