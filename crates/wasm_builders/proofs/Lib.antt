@@ -1,1 +1,2 @@
 pub mod ListSectionLaws
+pub mod ItemLaws

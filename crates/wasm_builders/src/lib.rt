@@ -1,4 +1,10 @@
 //! Builders of sections (Core 3.0, Modules): what callers fill and then write as a whole.
 #![tactic(auto)]
 
+pub mod exports;
+pub mod functions;
+pub mod imports;
 pub mod list_section;
+pub mod memories;
+pub mod numbers;
+pub mod tags;

@@ -46,7 +46,7 @@ pub trait SectionItem: Encode {
 /// In contracts it is the number of its items and their bytes.
 #[derive(Debug, Drop)]
 pub struct ListSection<T: SectionItem> {
-    items: EncodedList,
+    pub(crate) items: EncodedList,
     _item: PhantomData<T>,
 }
 
@@ -103,8 +103,7 @@ impl<T: SectionItem> ListSection<T> {
         ensures err { OnErr result (self.new ≡ self.old) }
         ensures refused { IfErr result (IsRefusalOfOne T.CanEncode T.refuses self.old item.now) }
     {
-        T::is_lawful();
-        self.items.add(item)
+        add(&mut self.items, item)
     }
 
     /// Adds items, all of them or none.
@@ -119,6 +118,16 @@ impl<T: SectionItem> ListSection<T> {
         T::is_lawful();
         self.items.add_all(items)
     }
+}
+
+/// Adds an item to a list of encodings, or leaves it as it was.
+pub(crate) fn add<T: SectionItem>(list: &mut EncodedList, item: &T) -> Result<(), EncodeError>
+    ensures ok { OnOk result (T.Fits item.now → GainsItem T.format list.old (T.view item.now) list.new) }
+    ensures err { OnErr result (list.new ≡ list.old) }
+    ensures refused { IfErr result (IsRefusalOfOne T.CanEncode T.refuses list.old item.now) }
+{
+    T::is_lawful();
+    list.add(item)
 }
 
 /// The size of the body, the number of items, and the items (Core 3.0, Sections and Lists).

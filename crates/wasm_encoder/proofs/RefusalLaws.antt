@@ -23,19 +23,11 @@ use Rattle.wasm_instructions.specs.declared.table.call.Operands.TheVariants as o
 use Rattle.wasm_modules.specs.declared.code.CodeBody.{CodeBody}
 use Rattle.wasm_writers.specs.CodeCounts.{CountedBody, func_bytes}
 use Rattle.wasm_encoder.specs.EncodedLists.{Entries, GivesSome, IsFull, IsMemoryOrTooLong, IsRefusalOfOne, IsRefusalOfEach, IsUncounted}
+use Rattle.wasm_writers.proofs.EncodedListLaws.{both_or, counted_or, of_one, of_each}
 use Rattle.wasm_encoder.specs.TypeSections.{UncountedFunc, UncountedInner, UncountedSub, UncountedEntry}
 use Rattle.wasm_encoder.specs.CodeSections.{UncountedList, UncountedCall, UncountedBody}
 
 -- ---- either it can be written, or a list is too long
-
-which : {A B : Type 0} → A ⊎ B → (A → ⊥) → B
-which (inl a) cannot = absurd (cannot a)
-which (inr b) cannot = b
-
-both_or : {A B C D : Type 0} → A ⊎ C → B ⊎ D → (A × B) ⊎ (C ⊎ D)
-both_or (inl a) (inl b) = inl (a, b)
-both_or (inl a) (inr d) = inr (inr d)
-both_or (inr c) second = inr (inl c)
 
 three_or : {A B C D E F : Type 0} → A ⊎ D → B ⊎ E → C ⊎ F → (A × B × C) ⊎ (D ⊎ (E ⊎ F))
 three_or (inl a) (inl b) (inl c) = inl (a, b, c)
@@ -50,9 +42,6 @@ all_or P Q decide (x ∷ xs) = more (decide x) (all_or P Q decide xs) where
   more (inr q) rest = inr (0, x, omega arith, refl, q)
   more (inl p) (inl ps) = inl (All-cons P x xs p ps)
   more (inl p) (inr (k, y, lt, at, q)) = inr (suc k, y, omega (arith, lt), at, q)
-
-counted_or : (n : ℕ) → IsCount n ⊎ IsUncounted n
-counted_or n = cases_lt n (2 ^ 32)
 
 func_or : (f : FuncType) → CountedFunc f ⊎ UncountedFunc f
 func_or f = both_or (counted_or (length f.params)) (counted_or (length f.results))
@@ -146,16 +135,6 @@ uncounted_body b = none_of_three (not_both (length b.locals)) (uncounted_calls b
 pub only_where : {Can Why : Type 0} (e : EncodeError) → (Why → Can → ⊥) → IsMemoryOrTooLong Why e → (e ≡ Memory) ⊎ ((Can → ⊥) × (e ≡ TooLong))
 only_where e never (inl memory) = inl memory
 only_where e never (inr (is, why)) = inr (never why, is)
-
-of_one : {T Not : Type 0} (Can : T → Type 0) (old : Entries) (value : T) (e : EncodeError) → Can value ⊎ Not → IsRefusalOfOne Can OnlyTooLong old value e → IsMemoryOrTooLong (IsFull old ⊎ Not) e
-of_one Can old value e decided (inl (inl memory)) = inl memory
-of_one Can old value e decided (inl (inr (is, full))) = inr (is, inl full)
-of_one Can old value e decided (inr (cannot, is)) = inr (is, inr (which decided cannot))
-
-of_each : {T : Type 0} (Can Not : T → Type 0) (old : Entries) (values : List T) (e : EncodeError) → ((x : T) → Can x ⊎ Not x) → IsRefusalOfEach Can OnlyTooLong old values e → IsMemoryOrTooLong (IsUncounted (old.count + length values) ⊎ Any Not values) e
-of_each Can Not old values e decide (inl (inl memory)) = inl memory
-of_each Can Not old values e decide (inl (inr (is, long))) = inr (is, inl long)
-of_each Can Not old values e decide (inr (k, x, lt, at, (cannot, is))) = inr (is, inr (k, x, lt, at, which (decide x) cannot))
 
 pub func_refused : (old : Entries) (f : FuncType) (e : EncodeError) → IsRefusalOfOne CountedFunc OnlyTooLong old f e → IsMemoryOrTooLong (IsFull old ⊎ UncountedFunc f) e
 func_refused old f e refused = of_one CountedFunc old f e (func_or f) refused

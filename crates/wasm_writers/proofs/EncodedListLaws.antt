@@ -1,14 +1,16 @@
 -- The laws of lists that are being encoded value by value.
-use Rattle.std.proofs.Common.{◌≡◌, ℕ, suc, ◌+◌, List, [], ◌∷◌, ◌++◌, length, length-append, refl, sym, ap, ◌∙◌, subst, arith}
-use Rattle.std.specs.List.{All, AllByRecursion, flat_map}
+use Rattle.std.proofs.Common.{◌≡◌, ℕ, suc, ◌+◌, ◌^◌, ◌⊎◌, inl, inr, List, [], ◌∷◌, ◌++◌, length, length-append, refl, sym, ap, ◌∙◌, subst, arith}
+use Rattle.std.specs.List.{All, AllByRecursion, Any, flat_map}
+use Rattle.std.proofs.lemmas.Bool.{cases_lt}
+use Rattle.wasm_codec.specs.declared.encode.EncodeError.{EncodeError}
 use Rattle.std.proofs.lemmas.Grind.{flat_map-append}
 use Rattle.std.proofs.lemmas.List.{append-nil}
 use Rattle.std.proofs.lemmas.List.Elements.{All-nil, All-cons, All-append}
-use Rattle.wasm_codec.specs.Encoding.{IsCount, IsShortest}
+use Rattle.wasm_codec.specs.Encoding.{IsCount, IsShortest, OnlyTooLong}
 use Rattle.wasm_codec.specs.Lawful.{IsLawful}
 use Rattle.wasm_codec.specs.formats.Combinators.{Format, items}
 use Rattle.wasm_types.proofs.WrittenTypes.{in_range_of}
-use Rattle.wasm_writers.specs.EncodedLists.{Entries, StandsForAll, GainsOne, GainsEach, body_bytes}
+use Rattle.wasm_writers.specs.EncodedLists.{Entries, StandsForAll, GainsOne, GainsEach, IsFull, IsMemoryOrTooLong, IsRefusalOfOne, IsRefusalOfEach, IsUncounted, body_bytes}
 
 pub stands_none : {V : Type 0} (F : Format V) (Can : V → Type 0) (list : Entries) → list.count ≡ 0 → list.bytes ≡ [] → StandsForAll F Can list []
 stands_none F Can list count bytes = record { count = count; bytes = bytes; can = All-nil Can; in_range = All-nil F.InRange }
@@ -48,3 +50,27 @@ values_in_range F Can list values few s = (subst IsCount s.count few, by_recursi
 -- values whose bytes were written as their shortest encodings are in range
 pub all_in_range : {V : Type 0} (F : Format V) → IsLawful F → (values : List V) → All (IsShortest F.Encodes F.bytes) values → All F.InRange values
 all_in_range F law values h = λ k d lt. in_range_of F law _ (h k d lt)
+
+-- ---- why a value isn't added: it can be written, or a part of it is too long
+
+which : {A B : Type 0} → A ⊎ B → (A → ⊥) → B
+which (inl a) cannot = absurd (cannot a)
+which (inr b) cannot = b
+
+pub both_or : {A B C D : Type 0} → A ⊎ C → B ⊎ D → (A × B) ⊎ (C ⊎ D)
+both_or (inl a) (inl b) = inl (a, b)
+both_or (inl a) (inr d) = inr (inr d)
+both_or (inr c) second = inr (inl c)
+
+pub counted_or : (n : ℕ) → IsCount n ⊎ IsUncounted n
+counted_or n = cases_lt n (2 ^ 32)
+
+pub of_one : {T Not : Type 0} (Can : T → Type 0) (old : Entries) (value : T) (e : EncodeError) → Can value ⊎ Not → IsRefusalOfOne Can OnlyTooLong old value e → IsMemoryOrTooLong (IsFull old ⊎ Not) e
+of_one Can old value e decided (inl (inl memory)) = inl memory
+of_one Can old value e decided (inl (inr (is, full))) = inr (is, inl full)
+of_one Can old value e decided (inr (cannot, is)) = inr (is, inr (which decided cannot))
+
+pub of_each : {T : Type 0} (Can Not : T → Type 0) (old : Entries) (values : List T) (e : EncodeError) → ((x : T) → Can x ⊎ Not x) → IsRefusalOfEach Can OnlyTooLong old values e → IsMemoryOrTooLong (IsUncounted (old.count + length values) ⊎ Any Not values) e
+of_each Can Not old values e decide (inl (inl memory)) = inl memory
+of_each Can Not old values e decide (inl (inr (is, long))) = inr (is, inl long)
+of_each Can Not old values e decide (inr (k, x, lt, at, (cannot, is))) = inr (is, inr (k, x, lt, at, which (decide x) cannot))

@@ -1,0 +1,26 @@
+-- The laws of items of sections.
+use Rattle.std.proofs.Common.{ℕ, ◌<◌, ◌^◌, ◌⊎◌, List, length}
+use Rattle.wasm_codec.specs.declared.encode.EncodeError.{EncodeError}
+use Rattle.wasm_codec.specs.Encoding.{IsCount, IsShortest, OnlyTooLong}
+use Rattle.wasm_codec.specs.Lawful.{IsLawful}
+use Rattle.wasm_codec.specs.formats.Combinators.{u32}
+use Rattle.wasm_codec.proofs.FormatLaws.{Lawful-u32}
+use Rattle.wasm_codec.proofs.NumberLaws.{written}
+use Rattle.wasm_writers.specs.EncodedLists.{Entries, IsFull, IsMemoryOrTooLong, IsRefusalOfOne, IsUncounted}
+use Rattle.wasm_writers.proofs.EncodedListLaws.{both_or, counted_or, of_one}
+
+pub index_is_lawful : IsLawful u32
+index_is_lawful = Lawful-u32
+
+pub number_written : (n : ℕ) → n < 2 ^ 32 → IsShortest u32.Encodes u32.bytes n
+number_written n fits = written Lawful-u32.shortest n fits
+
+-- ---- why an item isn't added
+
+pub named_refused : {T : Type 0} (name : T → List ℕ) (old : Entries) (value : T) (e : EncodeError) → IsRefusalOfOne (λ v. IsCount (length (name v))) OnlyTooLong old value e → IsMemoryOrTooLong (IsFull old ⊎ IsUncounted (length (name value))) e
+named_refused name old value e refused = of_one (λ v. IsCount (length (name v))) old value e (counted_or (length (name value))) refused
+
+pub twice_named_refused : {T : Type 0} (first second : T → List ℕ) (old : Entries) (value : T) (e : EncodeError) → IsRefusalOfOne (λ v. IsCount (length (first v)) × IsCount (length (second v))) OnlyTooLong old value e
+    → IsMemoryOrTooLong (IsFull old ⊎ (IsUncounted (length (first value)) ⊎ IsUncounted (length (second value)))) e
+twice_named_refused first second old value e refused =
+    of_one (λ v. IsCount (length (first v)) × IsCount (length (second v))) old value e (both_or (counted_or (length (first value))) (counted_or (length (second value)))) refused

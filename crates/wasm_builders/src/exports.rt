@@ -1,0 +1,57 @@
+//! Export sections (Core 3.0, Export Section).
+ghost use Rattle.std.specs.Prelude.{◌≡◌, ⊤, OnOk, OnErr, IfErr};
+ghost use Rattle.wasm_codec.specs.Encoding.{IsShortest};
+ghost use Rattle.wasm_codec.specs.Lawful.{IsLawful};
+ghost use Rattle.wasm_sections.specs.declared.exports.Export.{Export};
+ghost use Rattle.std.specs.Prelude.{◌⊎◌, length};
+ghost use Rattle.wasm_sections.specs.Entries.{ExportParts, export_parts};
+ghost use Rattle.wasm_sections.specs.formats.Entries.{export_of, export_entry};
+ghost use Rattle.wasm_writers.specs.EncodedLists.{IsFull, IsMemoryOrTooLong, IsUncounted};
+ghost use Rattle.wasm_builders.specs.ListSections.{GainsItem};
+
+use crate::list_section::{ListSection, SectionItem, add};
+use wasm_sections::exports::Export;
+use wasm_sections::types::ExportKind;
+use wasm_writers::encode::EncodeError;
+
+/// An export section: names, and what each refers to.
+pub type ExportSection<'a> = ListSection<Export<'a>>;
+
+impl<'a> SectionItem for Export<'a> {
+    ghost Value = { ExportParts };
+
+    ghost view = { export_parts };
+
+    ghost format = { export_entry };
+
+    ghost id = { 7 };
+
+    fn section_id() -> u8
+        ensures { result ≡ 7 }
+    {
+        7
+    }
+
+    #[inline(always)]
+    #[tactic(auto, using(wasm_sections::proofs::EntryLaws::export_is_lawful))]
+    fn is_lawful()
+        ensures lawful { IsLawful export_entry }
+        ensures bytes { (item : Export) → export_entry.bytes (export_parts item) ≡ export_entry.bytes (export_parts item) }
+        ensures written { (item : Export) → IsShortest export_entry.Encodes export_entry.bytes (export_parts item) → ⊤ →
+            IsShortest export_entry.Encodes export_entry.bytes (export_parts item) }
+    {}
+}
+
+impl<'a> ListSection<Export<'a>> {
+    /// Exports what has this index among those of its kind, under a name.
+    ///
+    /// `TooLong` where there are 4,294,967,295 exports, or where the name has more bytes than that.
+    #[tactic(auto, using(crate::proofs::ItemLaws::named_refused))]
+    pub fn export(&mut self, name: &str, kind: ExportKind, index: u32) -> Result<(), EncodeError>
+        ensures ok { OnOk result (GainsItem export_entry self.old (export_of (name.now, (kind, index))) self.new) }
+        ensures err { OnErr result (self.new ≡ self.old) }
+        ensures refused { IfErr result (IsMemoryOrTooLong (IsFull self.old ⊎ IsUncounted (length name.now))) }
+    {
+        add(&mut self.items, &Export { name, kind, index })
+    }
+}

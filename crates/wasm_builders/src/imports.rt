@@ -1,0 +1,58 @@
+//! Import sections (Core 3.0, Import Section).
+ghost use Rattle.std.specs.Prelude.{◌≡◌, ⊤, OnOk, OnErr, IfErr};
+ghost use Rattle.wasm_codec.specs.Encoding.{IsShortest};
+ghost use Rattle.wasm_codec.specs.Lawful.{IsLawful};
+ghost use Rattle.wasm_sections.specs.declared.imports.Import.{Import};
+ghost use Rattle.std.specs.Prelude.{◌⊎◌, length};
+ghost use Rattle.wasm_sections.specs.Entries.{ImportParts, import_parts};
+ghost use Rattle.wasm_sections.specs.formats.Entries.{import_of, import_entry};
+ghost use Rattle.wasm_writers.specs.EncodedLists.{IsFull, IsMemoryOrTooLong, IsUncounted};
+ghost use Rattle.wasm_builders.specs.ListSections.{GainsItem};
+
+use crate::list_section::{ListSection, SectionItem, add};
+use wasm_sections::imports::Import;
+use wasm_sections::types::EntityType;
+use wasm_writers::encode::EncodeError;
+
+/// An import section: what the module takes from others.
+pub type ImportSection<'a> = ListSection<Import<'a>>;
+
+impl<'a> SectionItem for Import<'a> {
+    ghost Value = { ImportParts };
+
+    ghost view = { import_parts };
+
+    ghost format = { import_entry };
+
+    ghost id = { 2 };
+
+    fn section_id() -> u8
+        ensures { result ≡ 2 }
+    {
+        2
+    }
+
+    #[inline(always)]
+    #[tactic(auto, using(wasm_sections::proofs::EntryLaws::import_is_lawful))]
+    fn is_lawful()
+        ensures lawful { IsLawful import_entry }
+        ensures bytes { (item : Import) → import_entry.bytes (import_parts item) ≡ import_entry.bytes (import_parts item) }
+        ensures written { (item : Import) → IsShortest import_entry.Encodes import_entry.bytes (import_parts item) → ⊤ →
+            IsShortest import_entry.Encodes import_entry.bytes (import_parts item) }
+    {}
+}
+
+impl<'a> ListSection<Import<'a>> {
+    /// Imports what has this name in the module of that name, and is of this type.
+    ///
+    /// `TooLong` where there are 4,294,967,295 imports, or where a name has more bytes than that.
+    #[tactic(auto, using(crate::proofs::ItemLaws::twice_named_refused))]
+    pub fn import(&mut self, module: &str, field: &str, ty: EntityType) -> Result<(), EncodeError>
+        ensures ok { OnOk result (GainsItem import_entry self.old (import_of (module.now, (field.now, ty))) self.new) }
+        ensures err { OnErr result (self.new ≡ self.old) }
+        ensures refused { IfErr result (IsMemoryOrTooLong (IsFull self.old ⊎
+            (IsUncounted (length module.now) ⊎ IsUncounted (length field.now)))) }
+    {
+        add(&mut self.items, &Import { module, field, ty })
+    }
+}

@@ -1,0 +1,44 @@
+//! Memory sections (Core 3.0, Memory Section).
+ghost use Rattle.std.specs.Prelude.{◌≡◌, OnOk, OnErr, IfErr};
+ghost use Rattle.wasm_sections.specs.declared.types.MemoryType.{MemoryType};
+ghost use Rattle.wasm_sections.specs.formats.Externals.{memory_type};
+ghost use Rattle.wasm_writers.specs.EncodedLists.{IsFull, IsMemoryOrTooLong};
+ghost use Rattle.wasm_builders.specs.ListSections.{GainsItem};
+
+use crate::list_section::{ListSection, SectionItem};
+use wasm_sections::types::MemoryType;
+use wasm_writers::encode::EncodeError;
+
+/// A memory section: the type of each memory that the module defines.
+pub type MemorySection = ListSection<MemoryType>;
+
+impl SectionItem for MemoryType {
+    ghost Value = { MemoryType };
+
+    ghost view = { λ ty. ty };
+
+    ghost format = { memory_type };
+
+    ghost id = { 5 };
+
+    fn section_id() -> u8 {
+        5
+    }
+
+    #[inline(always)]
+    #[tactic(auto, using(wasm_sections::proofs::EntryLaws::memory_is_lawful))]
+    fn is_lawful() {}
+}
+
+impl ListSection<MemoryType> {
+    /// Adds a memory.
+    ///
+    /// `TooLong` where there are 4,294,967,295 memories.
+    pub fn memory(&mut self, ty: MemoryType) -> Result<(), EncodeError>
+        ensures ok { OnOk result (GainsItem memory_type self.old ty self.new) }
+        ensures err { OnErr result (self.new ≡ self.old) }
+        ensures refused { IfErr result (IsMemoryOrTooLong (IsFull self.old)) }
+    {
+        self.push(&ty)
+    }
+}

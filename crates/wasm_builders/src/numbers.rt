@@ -1,0 +1,60 @@
+//! Sections that are one number (Core 3.0, Start Section and Data Count Section).
+ghost use Rattle.std.specs.Prelude.{◌≡◌, ◌++◌, OnOk, IfErr, OnErr};
+ghost use Rattle.wasm_codec.specs.Encoding.{byte_list_bytes, IsShortest};
+ghost use Rattle.wasm_codec.specs.Numbers.{unsigned_leb128};
+ghost use Rattle.wasm_codec.specs.declared.encode.EncodeError.TheVariants.{Memory};
+ghost use Rattle.wasm_sections.specs.formats.Sections.{start_body, data_count_body};
+
+use std::alloc::Allocator;
+use wasm_codec::encode::leb128::{put_u32, u32_len};
+use wasm_writers::encode::{Encode, EncodeError};
+
+/// A start section: the function that is called when the module is instantiated.
+#[derive(Clone, Copy, Debug, PartialEq, Eq)]
+pub struct StartSection {
+    /// The index of the function.
+    pub function_index: u32,
+}
+
+/// A data count section: how many data segments the module has.
+#[derive(Clone, Copy, Debug, PartialEq, Eq)]
+pub struct DataCountSection {
+    /// The number of data segments.
+    pub count: u32,
+}
+
+/// The size of the body, and the index (Core 3.0, Sections and Start Section).
+#[tactic(auto, using(crate::proofs::ItemLaws::number_written), unfolding(wasm_sections::specs::formats::Sections::start_body))]
+impl Encode for StartSection {
+    ghost bytes = { λ section. byte_list_bytes (start_body.bytes section.function_index) };
+
+    ghost IsWritten = { λ section. IsShortest start_body.Encodes start_body.bytes section.function_index };
+
+    fn encode<A: Allocator>(&self, sink: &mut Vec<u8, A>) -> Result<(), EncodeError> {
+        append_number(self.function_index, sink)
+    }
+}
+
+/// The size of the body, and the number (Core 3.0, Sections and Data Count Section).
+#[tactic(auto, using(crate::proofs::ItemLaws::number_written), unfolding(wasm_sections::specs::formats::Sections::data_count_body))]
+impl Encode for DataCountSection {
+    ghost bytes = { λ section. byte_list_bytes (data_count_body.bytes section.count) };
+
+    ghost IsWritten = { λ section. IsShortest data_count_body.Encodes data_count_body.bytes section.count };
+
+    fn encode<A: Allocator>(&self, sink: &mut Vec<u8, A>) -> Result<(), EncodeError> {
+        append_number(self.count, sink)
+    }
+}
+
+/// Appends the size of a number and the number, or nothing.
+fn append_number<A: Allocator>(number: u32, sink: &mut Vec<u8, A>) -> Result<(), EncodeError>
+    ensures ok { OnOk result (sink.new.items ≡ sink.old.items ++ byte_list_bytes (unsigned_leb128 number)) }
+    ensures err { OnErr result (sink.new.items ≡ sink.old.items) }
+    ensures refused { IfErr result (λ e. e ≡ Memory) }
+{
+    sink.reserve(10)?;
+    put_u32(sink, u32_len(number) as u32);
+    put_u32(sink, number);
+    Ok(())
+}

@@ -1,0 +1,44 @@
+//! Tag sections (Core 3.0, Tag Section).
+ghost use Rattle.std.specs.Prelude.{◌≡◌, OnOk, OnErr, IfErr};
+ghost use Rattle.wasm_sections.specs.declared.types.TagType.{TagType};
+ghost use Rattle.wasm_sections.specs.formats.Externals.{tag_type};
+ghost use Rattle.wasm_writers.specs.EncodedLists.{IsFull, IsMemoryOrTooLong};
+ghost use Rattle.wasm_builders.specs.ListSections.{GainsItem};
+
+use crate::list_section::{ListSection, SectionItem};
+use wasm_sections::types::TagType;
+use wasm_writers::encode::EncodeError;
+
+/// A tag section: the type of each tag that the module defines.
+pub type TagSection = ListSection<TagType>;
+
+impl SectionItem for TagType {
+    ghost Value = { TagType };
+
+    ghost view = { λ ty. ty };
+
+    ghost format = { tag_type };
+
+    ghost id = { 13 };
+
+    fn section_id() -> u8 {
+        13
+    }
+
+    #[inline(always)]
+    #[tactic(auto, using(wasm_sections::proofs::EntryLaws::tag_is_lawful))]
+    fn is_lawful() {}
+}
+
+impl ListSection<TagType> {
+    /// Adds a tag.
+    ///
+    /// `TooLong` where there are 4,294,967,295 tags.
+    pub fn tag(&mut self, ty: TagType) -> Result<(), EncodeError>
+        ensures ok { OnOk result (GainsItem tag_type self.old ty self.new) }
+        ensures err { OnErr result (self.new ≡ self.old) }
+        ensures refused { IfErr result (IsMemoryOrTooLong (IsFull self.old)) }
+    {
+        self.push(&ty)
+    }
+}
