@@ -3,7 +3,7 @@
 use anyhow::Result;
 use std::io;
 use wasm_encoder::{
-    Call, CodeBody, CompositeInnerType, Operands, RawSection, SectionId, TypeEntry,
+    Call, CodeBody, CompositeInnerType, Operands, RawSection, SectionId, TypeEntry, opcode_name,
     read_code_section, read_module, read_type_section,
 };
 
@@ -61,7 +61,7 @@ fn print_type(rt: &impl Print, entry: &TypeEntry) -> io::Result<()> {
     Ok(())
 }
 
-/// Prints the instructions of a function, each by the number of its opcode and its operands.
+/// Prints the instructions of a function, each by its name and its operands.
 fn print_body(rt: &impl Print, body: &CodeBody) -> io::Result<()> {
     println!(rt; "  locals: {:?}", body.locals)?;
     for call in body.calls.as_slice() {
@@ -70,12 +70,12 @@ fn print_body(rt: &impl Print, body: &CodeBody) -> io::Result<()> {
     Ok(())
 }
 
-/// Prints an instruction. None that the compiler writes has a prefix byte.
+/// Prints an instruction.
 fn print_call(rt: &impl Print, call: &Call) -> io::Result<()> {
-    let number = call.op().number;
+    let name = opcode_name(call.op()).unwrap_or("?");
     match call.operands() {
-        Operands::None => println!(rt; "  {number:02x}"),
-        operands => println!(rt; "  {number:02x} {operands:?}"),
+        Operands::None => println!(rt; "  {name}"),
+        operands => println!(rt; "  {name} {operands:?}"),
     }
 }
 

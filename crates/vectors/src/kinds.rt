@@ -3,16 +3,26 @@
 
 use crate::columns::columns;
 use crate::mismatch::Mismatch;
-use wasm_encoder::{Kind, Opcode, Prefix};
+use wasm_encoder::{Kind, Opcode, Prefix, opcode_name};
 
 /// Holds the table to the vector of a line.
 pub fn check(line: &str) -> Result<(), Mismatch> {
-    let (opcode, kind, _) = columns(line)?;
+    let (opcode, kind, name) = columns(line)?;
     let opcode = parse(opcode).ok_or(Mismatch::NotUnderstood)?;
-    if opcode.kind().map_or("-", kind_name) == kind {
-        Ok(())
-    } else {
-        Err(Mismatch::Kind)
+    if opcode.kind().map_or("-", kind_name) != kind {
+        return Err(Mismatch::Kind);
+    }
+    if opcode_name(opcode).unwrap_or("") != first_word(name) {
+        return Err(Mismatch::Name);
+    }
+    Ok(())
+}
+
+/// The first word, as of `select with one type`.
+fn first_word(name: &str) -> &str {
+    match name.split_once(' ') {
+        Some((word, _)) => word,
+        None => name,
     }
 }
 

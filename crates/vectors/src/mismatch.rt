@@ -29,6 +29,9 @@ pub enum Mismatch {
     /// An opcode has another kind.
     #[error("the opcode has another kind")]
     Kind,
+    /// An opcode has another name.
+    #[error("the opcode has another name")]
+    Name,
     /// A call has another opcode or other operands than it was made of.
     #[error("a call of other parts is made")]
     Made,
