@@ -42,9 +42,17 @@ impl Model for TypeSection {
 }
 
 /// Adds one entry to a type section. One that isn't used leaves the section as it was.
-#[derive(Drop)]
 pub struct CoreTypeEncoder<'a> {
     section: &'a mut TypeSection,
+}
+
+impl Drop for CoreTypeEncoder<'_> {
+    fn drop(self)
+        // One that isn't used adds nothing.
+        ensures { self.exit.0.now ≡ self.entry.section.now }
+    {
+        let CoreTypeEncoder { section: _ } = self;
+    }
 }
 
 impl TypeSection {
