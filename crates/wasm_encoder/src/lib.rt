@@ -11,6 +11,7 @@ pub mod code;
 pub mod encode;
 pub mod raw;
 pub mod reader;
+mod sections;
 mod type_section;
 pub mod types;
 pub mod wasm_core;
