@@ -23,7 +23,7 @@ use Rattle.wasm_instructions.specs.declared.table.call.Operands.TheVariants as o
 use Rattle.wasm_modules.specs.declared.code.CodeBody.{CodeBody}
 use Rattle.wasm_writers.specs.CodeCounts.{CountedBody, func_bytes}
 use Rattle.wasm_encoder.specs.EncodedLists.{Entries, GivesSome, IsFull, IsMemoryOrTooLong, IsRefusalOfOne, IsRefusalOfEach, IsUncounted}
-use Rattle.wasm_writers.proofs.EncodedListLaws.{both_or, counted_or, of_one, of_each}
+use Rattle.wasm_writers.proofs.EncodedListLaws.{which, both_or, counted_or, of_one, of_each}
 use Rattle.wasm_encoder.specs.TypeSections.{UncountedFunc, UncountedInner, UncountedSub, UncountedEntry}
 use Rattle.wasm_encoder.specs.CodeSections.{UncountedList, UncountedCall, UncountedBody}
 

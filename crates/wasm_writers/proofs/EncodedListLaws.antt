@@ -53,7 +53,7 @@ all_in_range F law values h = λ k d lt. in_range_of F law _ (h k d lt)
 
 -- ---- why a value isn't added: it can be written, or a part of it is too long
 
-which : {A B : Type 0} → A ⊎ B → (A → ⊥) → B
+pub which : {A B : Type 0} → A ⊎ B → (A → ⊥) → B
 which (inl a) cannot = absurd (cannot a)
 which (inr b) cannot = b
 
