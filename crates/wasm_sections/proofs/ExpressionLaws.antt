@@ -37,7 +37,7 @@ none_of : (o : Operands) → Some kinds.None ≡ Some (kind_of o) → o ≡ oper
 none_of operands.None e = refl
 none_of o e = absurd cc
 
-end_kind : kind (without_prefix 0x0b) ≡ Some kinds.None
+pub end_kind : kind (without_prefix 0x0b) ≡ Some kinds.None
 unfolding ranges
 end_kind = refl
 

@@ -19,4 +19,5 @@ pub mod ModuleSectionLaws
 pub mod ModuleSectionReading
 pub mod ModuleOrderLaws
 pub mod TypeWriting
+pub mod ExpressionWriting
 pub mod EntryWriting

@@ -1,3 +1,4 @@
+pub mod Closed
 pub mod Entries
 pub mod ModuleSections
 pub mod ModuleOrder

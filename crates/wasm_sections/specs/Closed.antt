@@ -1,0 +1,15 @@
+-- What can be written of expressions and of what holds them, and which of it is closed (WebAssembly Core 3.0, Expressions).
+use Rattle.std.specs.Prelude.{List}
+use Rattle.std.specs.List.{AllByRecursion}
+use Rattle.wasm_calls.specs.Appending.{CountedCall}
+use Rattle.wasm_instructions.specs.Instructions.{Instruction}
+use Rattle.wasm_sections.specs.formats.Parts.{AreEnded}
+use Rattle.wasm_sections.specs.formats.Expressions.{nested, end_call}
+
+-- each block is closed, and no instruction closes more
+abbrev pub IsClosed : List Instruction → Type 0
+IsClosed calls = AreEnded (λ depth i. nested depth i.op) end_call 0 calls
+
+-- a u32 counts the items of each list in the instructions
+abbrev pub IsCountedExpr : List Instruction → Type 0
+IsCountedExpr calls = AllByRecursion CountedCall calls
