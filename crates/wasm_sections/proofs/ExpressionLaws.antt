@@ -1,5 +1,5 @@
 -- The law of expressions.
-use Rattle.std.proofs.Common.{◌≡◌, ℕ, zero, suc, Bool, true, false, eqb, cond, Some, refl, sym, ap, ◌∙◌}
+use Rattle.std.proofs.Common.{◌≡◌, ℕ, zero, suc, List, Bool, true, false, eqb, cond, Some, refl, sym, ap, ◌∙◌}
 use Rattle.std.proofs.lemmas.Bool.{eqb-true}
 use Rattle.wasm_codec.specs.Lawful.{IsLawful}
 use Rattle.wasm_instructions.specs.declared.table.opcode.Prefix.{Prefix}
@@ -12,7 +12,7 @@ use Rattle.wasm_instructions.specs.Opcodes.{kind, ranges}
 use Rattle.wasm_instructions.specs.Instructions.{Instruction, call, without_prefix, kind_of, IsCall}
 use Rattle.wasm_instructions.specs.formats.Instructions.{instruction}
 use Rattle.wasm_instructions.proofs.InstructionFormatLaws.{Lawful-instruction, instruction_takes, encodes_call}
-use Rattle.wasm_sections.specs.formats.Parts.{goes_on, ends}
+use Rattle.wasm_sections.specs.formats.Parts.{goes_on, ends, AreEnded}
 use Rattle.wasm_sections.specs.formats.Expressions.{opens, closed, delegated, nested_by, nested, end_call, expr}
 use Rattle.wasm_sections.proofs.PartLaws.{Lawful-until}
 
@@ -52,3 +52,7 @@ only_end depth i fits e = is_end i.op i.operands (opcode_ends depth i.op.prefix 
 pub expr_is_lawful : IsLawful expr
 unfolding expr
 expr_is_lawful = Lawful-until (λ depth i. nested depth i.op) end_call Lawful-instruction instruction_takes only_end 0
+
+-- the blocks that are open before instructions are closed by them
+abbrev pub IsClosedFrom : ℕ → List Instruction → Type 0
+IsClosedFrom depth calls = AreEnded (λ depth i. nested depth i.op) end_call depth calls

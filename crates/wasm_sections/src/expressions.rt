@@ -1,5 +1,6 @@
 //! Expressions: instructions up to the end that closes none of them (Core 3.0, Expressions).
-ghost use Rattle.std.specs.Prelude.{◌≡◌, ◌+◌, ◌^◌, ◌<◌};
+ghost use Rattle.std.specs.Prelude.{◌≡◌, ◌+◌, ◌^◌, ◌<◌, IsTrue, IsFalse};
+ghost use Rattle.wasm_sections.specs.Closed.{IsClosed};
 ghost use Rattle.wasm_codec.specs.Places.{Reads};
 ghost use Rattle.wasm_codec.specs.Rewriter.{Rewrites};
 ghost use Rattle.wasm_sections.specs.Nesting.{as_move};
@@ -57,6 +58,21 @@ fn nested_by(depth: usize, byte: u32) -> Step
         }
         _ => Step::GoesOn(depth),
     }
+}
+
+/// Whether each block in instructions is closed, and none closes more: then they are those of an expression.
+pub fn is_closed(calls: &[Call]) -> bool
+    ensures closed { IsTrue result → IsClosed calls.now }
+    ensures open { IsFalse result → IsClosed calls.now → ⊥ }
+{
+    let mut depth = 0;
+    for call in calls {
+        match nested(depth, call.op()) {
+            Step::GoesOn(after) => depth = after,
+            Step::Ends | Step::Fails => return false,
+        }
+    }
+    depth == 0
 }
 
 /// The instructions of an expression, without its end.

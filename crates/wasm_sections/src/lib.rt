@@ -10,7 +10,7 @@ pub mod elements;
 mod encode;
 mod entities;
 pub mod exports;
-mod expressions;
+pub mod expressions;
 pub mod functions;
 pub mod globals;
 pub mod imports;
