@@ -1,2 +1,3 @@
 pub mod ListSectionLaws
 pub mod ItemLaws
+pub mod ExprLaws

@@ -1,6 +1,7 @@
 //! Builders of sections (Core 3.0, Modules): what callers fill and then write as a whole.
 #![tactic(auto)]
 
+pub mod const_expr;
 pub mod exports;
 pub mod functions;
 pub mod imports;
