@@ -23,8 +23,8 @@ use wasm_instructions::table::Call;
 pub use wasm_modules::code::CodeBody;
 use wasm_sink::sink::InstructionSink;
 use wasm_types::types::ValType;
-use wasm_writers::encoded_list::EncodedList;
 use wasm_writers::encode::{Encode, EncodeError, append_items, encode_bytes};
+use wasm_writers::encoded_list::EncodedList;
 
 /// The locals of a function, and instructions that are added to them.
 ///

@@ -3,15 +3,15 @@
 //! strict readers, which take the shortest alone.
 //!
 //! Modules and their sections (Core 3.0, Modules) stand here. What they are made of comes from the crates below, which
-//! follow the chapters of the binary format: `wasm_codec`, `wasm_types`, `wasm_instructions` and `wasm_sink`. Callers
-//! name this crate alone.
+//! follow the chapters of the binary format: `wasm_codec`, `wasm_types`, `wasm_instructions`, `wasm_sections` and
+//! `wasm_sink`. Callers name this crate alone.
 #![tactic(auto)]
 
 pub mod code;
 pub mod encode;
 pub mod raw;
 pub mod reader;
-mod sections;
+pub mod sections;
 mod type_section;
 pub mod types;
 pub mod wasm_core;
@@ -26,6 +26,12 @@ pub use reader::{
     read_instructions_strict, read_list_to_end, read_module, read_module_strict, read_type_section,
     read_type_section_strict, rewrite_code_section, rewrite_instructions, rewrite_module,
     rewrite_type_section,
+};
+pub use sections::{
+    ConstExpr, CustomSection, DataCountSection, EntityType, ExportKind, ExportSection,
+    FunctionSection, GlobalType, ImportSection, MemorySection, MemoryType, ModuleError,
+    ModuleSection, StartSection, TableType, TagKind, TagSection, TagType, check_order,
+    normalise_whole_module, read_whole_module, read_whole_module_strict, rewrite_whole_module,
 };
 pub use types::{
     AbstractHeapType, ArrayType, CompositeInnerType, CompositeType, ContType, CoreTypeEncoder,

@@ -1,10 +1,73 @@
-//! Builders of sections, as sections of a module (Core 3.0, Modules).
+//! Sections other than those of types and code: what they hold, their builders, and what reads and normalises their bodies
+//! (Core 3.0, Modules).
+//!
+//! A builder of a list is a `ListSection` of its items: `ExportSection` of `Export`s, and so on. All of them have `new`, `len`,
+//! `push`, `entries` and `try_clone`, and each has a method that is named after what it adds.
 ghost use Rattle.std.specs.Prelude.{◌≡◌};
 ghost use Rattle.wasm_writers.specs.EncodedLists.{Entries};
 
 use crate::wasm_core::Section;
-use wasm_builders::list_section::{ListSection, SectionItem};
-use wasm_builders::numbers::{DataCountSection, StartSection};
+pub use wasm_builders::const_expr::ConstExpr;
+pub use wasm_builders::exports::ExportSection;
+pub use wasm_builders::functions::FunctionSection;
+pub use wasm_builders::imports::ImportSection;
+pub use wasm_builders::list_section::{ListSection, SectionItem};
+pub use wasm_builders::memories::MemorySection;
+pub use wasm_builders::numbers::{DataCountSection, StartSection};
+pub use wasm_builders::tags::TagSection;
+pub use wasm_sections::custom::{
+    CustomSection, normalise_custom_section, read_custom_section, read_custom_section_strict,
+    rewrite_custom_section,
+};
+pub use wasm_sections::data::{
+    DataSegment, DataSegmentMode, normalise_data_section, read_data_section,
+    read_data_section_strict, rewrite_data_section,
+};
+pub use wasm_sections::data_count::{
+    normalise_data_count_section, read_data_count_section, read_data_count_section_strict,
+    rewrite_data_count_section,
+};
+pub use wasm_sections::elements::{
+    Element, ElementMode, Elements, normalise_element_section, read_element_section,
+    read_element_section_strict, rewrite_element_section,
+};
+pub use wasm_sections::exports::{
+    Export, normalise_export_section, read_export_section, read_export_section_strict,
+    rewrite_export_section,
+};
+pub use wasm_sections::functions::{
+    normalise_function_section, read_function_section, read_function_section_strict,
+    rewrite_function_section,
+};
+pub use wasm_sections::globals::{
+    Global, normalise_global_section, read_global_section, read_global_section_strict,
+    rewrite_global_section,
+};
+pub use wasm_sections::imports::{
+    Import, normalise_import_section, read_import_section, read_import_section_strict,
+    rewrite_import_section,
+};
+pub use wasm_sections::memories::{
+    normalise_memory_section, read_memory_section, read_memory_section_strict,
+    rewrite_memory_section,
+};
+pub use wasm_sections::modules::{
+    ModuleError, ModuleSection, check_order, normalise_whole_module, read_whole_module,
+    read_whole_module_strict, rewrite_whole_module,
+};
+pub use wasm_sections::start::{
+    normalise_start_section, read_start_section, read_start_section_strict, rewrite_start_section,
+};
+pub use wasm_sections::tables::{
+    Table, normalise_table_section, read_table_section, read_table_section_strict,
+    rewrite_table_section,
+};
+pub use wasm_sections::tags::{
+    normalise_tag_section, read_tag_section, read_tag_section_strict, rewrite_tag_section,
+};
+pub use wasm_sections::types::{
+    EntityType, ExportKind, GlobalType, MemoryType, TableType, TagKind, TagType,
+};
 
 impl<T: SectionItem> Section for ListSection<T> {
     ghost id = { λ _. T.id };

@@ -22,8 +22,8 @@ use std::marker::Model;
 use wasm_types::types::{
     ArrayType, ContType, FieldType, FuncType, StorageType, SubType, TypeEntry, ValType,
 };
-use wasm_writers::encoded_list::EncodedList;
 use wasm_writers::encode::{Encode, EncodeError};
+use wasm_writers::encoded_list::EncodedList;
 
 /// A type section that entries are added to, one after the other.
 ///
