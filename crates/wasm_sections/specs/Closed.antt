@@ -1,8 +1,10 @@
 -- What can be written of expressions and of what holds them, and which of it is closed (WebAssembly Core 3.0, Expressions).
-use Rattle.std.specs.Prelude.{List}
+use Rattle.std.specs.Prelude.{List, IfSome}
 use Rattle.std.specs.List.{AllByRecursion}
 use Rattle.wasm_calls.specs.Appending.{CountedCall}
 use Rattle.wasm_instructions.specs.Instructions.{Instruction}
+use Rattle.wasm_sections.specs.declared.globals.Global.{Global}
+use Rattle.wasm_sections.specs.declared.tables.Table.{Table}
 use Rattle.wasm_sections.specs.formats.Parts.{AreEnded}
 use Rattle.wasm_sections.specs.formats.Expressions.{nested, end_call}
 
@@ -13,3 +15,15 @@ IsClosed calls = AreEnded (λ depth i. nested depth i.op) end_call 0 calls
 -- a u32 counts the items of each list in the instructions
 abbrev pub IsCountedExpr : List Instruction → Type 0
 IsCountedExpr calls = AllByRecursion CountedCall calls
+
+abbrev pub IsClosedGlobal : Global → Type 0
+IsClosedGlobal g = IsClosed g.init
+
+abbrev pub IsCountedGlobal : Global → Type 0
+IsCountedGlobal g = IsCountedExpr g.init
+
+abbrev pub IsClosedTable : Table → Type 0
+IsClosedTable t = IfSome t.init IsClosed
+
+abbrev pub IsCountedTable : Table → Type 0
+IsCountedTable t = IfSome t.init IsCountedExpr
