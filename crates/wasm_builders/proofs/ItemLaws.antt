@@ -1,5 +1,5 @@
 -- The laws of items of sections.
-use Rattle.std.proofs.Common.{ℕ, ◌<◌, ◌^◌, ◌⊎◌, List, length}
+use Rattle.std.proofs.Common.{◌≡◌, ℕ, ◌<◌, ◌^◌, ◌⊎◌, List, length, inl, inr, Result, Ok, Err, OnOk, subst, sym}
 use Rattle.wasm_codec.specs.declared.encode.EncodeError.{EncodeError}
 use Rattle.wasm_codec.specs.Encoding.{IsCount, IsShortest, OnlyTooLong}
 use Rattle.wasm_codec.specs.Lawful.{IsLawful}
@@ -20,7 +20,23 @@ number_written n fits = written Lawful-u32.shortest n fits
 pub named_refused : {T : Type 0} (name : T → List ℕ) (old : Entries) (value : T) (e : EncodeError) → IsRefusalOfOne (λ v. IsCount (length (name v))) OnlyTooLong old value e → IsMemoryOrTooLong (IsFull old ⊎ IsUncounted (length (name value))) e
 named_refused name old value e refused = of_one (λ v. IsCount (length (name v))) old value e (counted_or (length (name value))) refused
 
+-- what can always be written isn't too long
+pub always_counted : {T : Type 0} (Can : T → Type 0) (old : Entries) (value : T) (e : EncodeError) → Can value → IsRefusalOfOne Can OnlyTooLong old value e → IsMemoryOrTooLong (IsFull old) e
+always_counted Can old value e can (inl refused) = refused
+always_counted Can old value e can (inr (cannot, is)) = absurd (cannot can)
+
+-- it can't be written
+pub cannot_be_written : {T : Type 0} (Can : T → Type 0) (old : Entries) (value : T) (e : EncodeError) → IsRefusalOfOne Can OnlyTooLong old value e → IsMemoryOrTooLong (IsFull old ⊎ (Can value → ⊥)) e
+cannot_be_written Can old value e (inl (inl memory)) = inl memory
+cannot_be_written Can old value e (inl (inr (is, full))) = inr (is, inl full)
+cannot_be_written Can old value e (inr (cannot, is)) = inr (is, inr cannot)
+
 pub twice_named_refused : {T : Type 0} (first second : T → List ℕ) (old : Entries) (value : T) (e : EncodeError) → IsRefusalOfOne (λ v. IsCount (length (first v)) × IsCount (length (second v))) OnlyTooLong old value e
     → IsMemoryOrTooLong (IsFull old ⊎ (IsUncounted (length (first value)) ⊎ IsUncounted (length (second value)))) e
 twice_named_refused first second old value e refused =
     of_one (λ v. IsCount (length (first v)) × IsCount (length (second v))) old value e (both_or (counted_or (length (first value))) (counted_or (length (second value)))) refused
+
+-- what is gained where the value fits, which is equal to one that does
+pub gains_fitting : {T E V : Type 0} (r : Result T E) (Fits Gains : V → Type 0) (made wanted : V) → made ≡ wanted → Fits wanted → OnOk r (Fits made → Gains made) → OnOk r (Gains wanted)
+gains_fitting (Ok x) Fits Gains made wanted e fits gains = subst Gains e (gains (subst Fits (sym e) fits))
+gains_fitting (Err x) Fits Gains made wanted e fits gains = tt

@@ -4,8 +4,10 @@
 pub mod const_expr;
 pub mod exports;
 pub mod functions;
+pub mod globals;
 pub mod imports;
 pub mod list_section;
 pub mod memories;
 pub mod numbers;
+pub mod tables;
 pub mod tags;
