@@ -48,7 +48,7 @@ pub expr_written : (calls : List Instruction) → Instructions (instructions_byt
 unfolding expr
 expr_written calls encoded closed = written expr_is_lawful.shortest calls (and_end calls (calls_in_range calls encoded), closed)
 
-in_expr : (calls : List Instruction) → IsShortest expr.Encodes expr.bytes calls → expr.InRange calls
+pub in_expr : (calls : List Instruction) → IsShortest expr.Encodes expr.bytes calls → expr.InRange calls
 in_expr calls h = in_range_of expr expr_is_lawful calls h
 
 -- ---- globals and tables

@@ -20,4 +20,5 @@ pub mod ModuleSectionReading
 pub mod ModuleOrderLaws
 pub mod TypeWriting
 pub mod ExpressionWriting
+pub mod SegmentWriting
 pub mod EntryWriting

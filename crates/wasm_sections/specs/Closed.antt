@@ -1,8 +1,12 @@
 -- What can be written of expressions and of what holds them, and which of it is closed (WebAssembly Core 3.0, Expressions).
-use Rattle.std.specs.Prelude.{List, IfSome}
+use Rattle.std.specs.Prelude.{List, length, IfSome}
 use Rattle.std.specs.List.{AllByRecursion}
+use Rattle.wasm_codec.specs.Encoding.{IsCount}
 use Rattle.wasm_calls.specs.Appending.{CountedCall}
 use Rattle.wasm_instructions.specs.Instructions.{Instruction}
+use Rattle.wasm_sections.specs.declared.data.DataSegmentMode.{DataSegmentMode}
+use Rattle.wasm_sections.specs.declared.data.DataSegmentMode.TheVariants as data_modes
+use Rattle.wasm_sections.specs.Entries.{DataParts}
 use Rattle.wasm_sections.specs.declared.globals.Global.{Global}
 use Rattle.wasm_sections.specs.declared.tables.Table.{Table}
 use Rattle.wasm_sections.specs.formats.Parts.{AreEnded}
@@ -27,3 +31,15 @@ IsClosedTable t = IfSome t.init IsClosed
 
 abbrev pub IsCountedTable : Table → Type 0
 IsCountedTable t = IfSome t.init IsCountedExpr
+
+abbrev pub IsClosedData : DataSegmentMode → Type 0
+IsClosedData data_modes.Passive = Unit
+IsClosedData (data_modes.Active memory offset) = IsClosed offset
+
+abbrev pub IsCountedDataMode : DataSegmentMode → Type 0
+IsCountedDataMode data_modes.Passive = Unit
+IsCountedDataMode (data_modes.Active memory offset) = IsCountedExpr offset
+
+-- a u32 counts its bytes too
+abbrev pub IsCountedData : DataParts → Type 0
+IsCountedData d = IsCountedDataMode d.mode × IsCount (length d.data_bytes)

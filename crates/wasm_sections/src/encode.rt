@@ -2,4 +2,5 @@
 
 mod entries;
 mod expressions;
+mod segments;
 pub(crate) mod types;

@@ -53,7 +53,7 @@ fn put_u64_if<A: Allocator>(bytes: &mut Vec<u8, A>, value: Option<u64>)
 
 /// A u32, where there is one, in at most 5 bytes.
 #[tactic(auto, unfolding(crate::specs::formats::Parts::part_if))]
-fn put_u32_if<A: Allocator>(bytes: &mut Vec<u8, A>, value: Option<u32>)
+pub(crate) fn put_u32_if<A: Allocator>(bytes: &mut Vec<u8, A>, value: Option<u32>)
     requires { vec_len bytes.old + 5 ≤ vec_capacity bytes.old }
     ensures items { bytes.new.items ≡ bytes.old.items ++ (part_if (is_some value) u32_format).bytes value }
     ensures shortest { IfSome value (IsShortest EncodesU32 unsigned_leb128) }
