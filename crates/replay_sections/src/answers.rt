@@ -2,9 +2,11 @@
 //! it has, or `refused` with the place.
 
 use crate::bodies::{Answer, normalise, read, read_strictly};
+use crate::built::{build, check_module, check_refused_module, sized};
 use hex::FromHexError;
 use std::alloc::Global;
 use thiserror::Error;
+use wasm_codec::reader::ReadError;
 
 /// Why a vector does not hold.
 #[derive(Debug, Drop, Error)]
@@ -24,6 +26,12 @@ pub enum Mismatch {
     /// The normal form is another, or the place of a refusal.
     #[error("the normaliser answers otherwise")]
     Normalised,
+    /// The builder writes other bytes of what the reader gives.
+    #[error("the builder writes otherwise")]
+    Written,
+    /// The module of that section is read or normalised otherwise.
+    #[error("the module is answered otherwise")]
+    Module,
 }
 
 impl From<FromHexError> for Mismatch {
@@ -56,7 +64,18 @@ fn check_taken(alloc: Global, section: &str, body: &[u8], expected: &str) -> Res
     check_strict(alloc, section, body, count, body == normal)?;
     check_strict(alloc, section, normal, count, true)?;
     check_normal(alloc, section, body, normal)?;
-    check_normal(alloc, section, normal, normal)
+    check_normal(alloc, section, normal, normal)?;
+    check_built(alloc, section, body, normal)?;
+    check_module(alloc, section, body, normal)
+}
+
+/// Where there is a builder, it writes this body of what the reader gives.
+fn check_built(alloc: Global, section: &str, body: &[u8], normal: &[u8]) -> Result<(), Mismatch> {
+    let expected = sized(alloc, normal)?;
+    match build(alloc, section, body)? {
+        Some(built) if built.as_slice() != expected.as_slice() => Err(Mismatch::Written),
+        _ => Ok(()),
+    }
 }
 
 /// The strict reader gives so many items, or refuses the body.
@@ -97,7 +116,8 @@ fn check_refused(
         return Err(Mismatch::ReadStrictly);
     }
     match normalise(alloc, section, body) {
-        Err(wasm_codec::reader::ReadError::Refused { at: place }) if place == at => Ok(()),
-        _ => Err(Mismatch::Normalised),
+        Err(ReadError::Refused { at: place }) if place == at => {}
+        _ => return Err(Mismatch::Normalised),
     }
+    check_refused_module(alloc, section, body)
 }

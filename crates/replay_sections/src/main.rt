@@ -1,9 +1,10 @@
-//! Replays vectors of the bodies of sections: the lines of the files in `data/`. It prints a line for each vector that
+//! Replays vectors of the bodies of sections, and of modules of one section: the lines of the files in `data/`. It prints a line for each vector that
 //! differs, and counts them.
 #![tactic(auto)]
 
 mod answers;
 mod bodies;
+mod built;
 
 use std::rt::Files;
 use std::{fs, io};

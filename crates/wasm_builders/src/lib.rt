@@ -2,6 +2,7 @@
 #![tactic(auto)]
 
 pub mod const_expr;
+pub mod data;
 pub mod exports;
 pub mod functions;
 pub mod globals;

@@ -1,0 +1,86 @@
+//! Data sections (Core 3.0, Data Section).
+ghost use Rattle.std.specs.Prelude.{◌≡◌, ◌⊎◌, ⊤, OnOk, OnErr, IfErr, length};
+ghost use Rattle.wasm_codec.specs.Encoding.{IsShortest};
+ghost use Rattle.wasm_codec.specs.Lawful.{IsLawful};
+ghost use Rattle.wasm_sections.specs.declared.data.DataSegment.{DataSegment};
+ghost use Rattle.wasm_sections.specs.Closed.{IsClosedData, IsCountedData};
+ghost use Rattle.wasm_sections.specs.Entries.{DataParts, data_parts};
+ghost use Rattle.wasm_sections.specs.formats.Segments.{active_data, passive_data, data_segment};
+ghost use Rattle.wasm_writers.specs.EncodedLists.{IsFull, IsMemoryOrTooLong};
+ghost use Rattle.wasm_builders.specs.ListSections.{GainsItem};
+
+use crate::const_expr::ConstExpr;
+use crate::list_section::{ListSection, SectionItem, add};
+use wasm_sections::data::{DataSegment, DataSegmentMode};
+use wasm_writers::encode::EncodeError;
+
+/// A data section: bytes that are copied into memories.
+pub type DataSection<'a> = ListSection<DataSegment<'a>>;
+
+impl<'a> SectionItem for DataSegment<'a> {
+    ghost Value = { DataParts };
+
+    ghost view = { data_parts };
+
+    ghost format = { data_segment };
+
+    ghost Fits = { λ segment. IsClosedData segment.mode };
+
+    ghost id = { 11 };
+
+    fn section_id() -> u8
+        ensures { result ≡ 11 }
+    {
+        11
+    }
+
+    #[inline(always)]
+    #[tactic(auto, using(wasm_sections::proofs::SegmentLaws::data_is_lawful))]
+    fn is_lawful()
+        ensures lawful { IsLawful data_segment }
+        ensures bytes { (item : DataSegment) → data_segment.bytes (data_parts item) ≡ data_segment.bytes (data_parts item) }
+        ensures written { (item : DataSegment) →
+            (IsClosedData item.mode → IsShortest data_segment.Encodes data_segment.bytes (data_parts item)) →
+            IsClosedData item.mode → IsShortest data_segment.Encodes data_segment.bytes (data_parts item) }
+    {}
+}
+
+impl<'a> ListSection<DataSegment<'a>> {
+    /// Adds bytes that are copied into the memory of this index when the module is instantiated, to the place that the
+    /// expression makes. Memory 0 isn't named, which is shorter.
+    ///
+    /// `TooLong` where there are 4,294,967,295 segments, or where there are more bytes than that, or more items of a list in
+    /// an instruction of the expression.
+    #[tactic(auto, using(crate::proofs::ItemLaws::cannot_be_written))]
+    pub fn active(
+        &mut self,
+        memory_index: u32,
+        offset: ConstExpr,
+        bytes: &[u8],
+    ) -> Result<(), EncodeError>
+        ensures ok { OnOk result (GainsItem data_segment self.old (active_data memory_index (offset, bytes.now)) self.new) }
+        ensures err { OnErr result (self.new ≡ self.old) }
+        ensures refused { IfErr result (IsMemoryOrTooLong (IsFull self.old ⊎
+            (IsCountedData (active_data memory_index (offset, bytes.now)) → ⊥))) }
+    {
+        let mode = DataSegmentMode::Active {
+            memory_index,
+            offset: offset.into_calls(),
+        };
+        add(&mut self.items, &DataSegment { mode, bytes })
+    }
+
+    /// Adds bytes that an instruction copies.
+    ///
+    /// `TooLong` where there are 4,294,967,295 segments, or where there are more bytes than that.
+    #[tactic(auto, using(crate::proofs::ItemLaws::cannot_be_written))]
+    pub fn passive(&mut self, bytes: &[u8]) -> Result<(), EncodeError>
+        ensures ok { OnOk result (GainsItem data_segment self.old (passive_data bytes.now) self.new) }
+        ensures err { OnErr result (self.new ≡ self.old) }
+        ensures refused { IfErr result (IsMemoryOrTooLong (IsFull self.old ⊎
+            (IsCountedData (passive_data bytes.now) → ⊥))) }
+    {
+        let mode = DataSegmentMode::Passive;
+        add(&mut self.items, &DataSegment { mode, bytes })
+    }
+}
