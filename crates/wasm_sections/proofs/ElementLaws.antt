@@ -72,7 +72,7 @@ funcref_of nullable (Abstract true ty) e = absurd cc
 funcref_of nullable (Concrete n) e = absurd cc
 funcref_of nullable (Exact n) e = absurd cc
 
-both_true : (a b : Bool) → a && b ≡ true → (a ≡ true) × (b ≡ true)
+pub both_true : (a b : Bool) → a && b ≡ true → (a ≡ true) × (b ≡ true)
 both_true true b e = (refl, e)
 both_true false b e = absurd cc
 

@@ -21,4 +21,5 @@ pub mod ModuleOrderLaws
 pub mod TypeWriting
 pub mod ExpressionWriting
 pub mod SegmentWriting
+pub mod ElementWriting
 pub mod EntryWriting

@@ -1,16 +1,21 @@
 -- What can be written of expressions and of what holds them, and which of it is closed (WebAssembly Core 3.0, Expressions).
 use Rattle.std.specs.Prelude.{List, length, IfSome}
-use Rattle.std.specs.List.{AllByRecursion}
-use Rattle.wasm_codec.specs.Encoding.{IsCount}
+use Rattle.std.specs.List.{All, AllByRecursion}
+use Rattle.wasm_codec.specs.Encoding.{IsCount, IsShortest}
 use Rattle.wasm_calls.specs.Appending.{CountedCall}
 use Rattle.wasm_instructions.specs.Instructions.{Instruction}
 use Rattle.wasm_sections.specs.declared.data.DataSegmentMode.{DataSegmentMode}
 use Rattle.wasm_sections.specs.declared.data.DataSegmentMode.TheVariants as data_modes
+use Rattle.wasm_sections.specs.declared.elements.ElementMode.{ElementMode}
+use Rattle.wasm_sections.specs.declared.elements.ElementMode.TheVariants as modes
+use Rattle.wasm_sections.specs.declared.elements.Elements.{Elements}
+use Rattle.wasm_sections.specs.declared.elements.Elements.TheVariants as held
+use Rattle.wasm_sections.specs.declared.elements.Element.{Element}
 use Rattle.wasm_sections.specs.Entries.{DataParts}
 use Rattle.wasm_sections.specs.declared.globals.Global.{Global}
 use Rattle.wasm_sections.specs.declared.tables.Table.{Table}
 use Rattle.wasm_sections.specs.formats.Parts.{AreEnded}
-use Rattle.wasm_sections.specs.formats.Expressions.{nested, end_call}
+use Rattle.wasm_sections.specs.formats.Expressions.{nested, end_call, expr}
 
 -- each block is closed, and no instruction closes more
 abbrev pub IsClosed : List Instruction → Type 0
@@ -43,3 +48,30 @@ IsCountedDataMode (data_modes.Active memory offset) = IsCountedExpr offset
 -- a u32 counts its bytes too
 abbrev pub IsCountedData : DataParts → Type 0
 IsCountedData d = IsCountedDataMode d.mode × IsCount (length d.data_bytes)
+
+-- where it is closed, every other encoding of it is longer
+abbrev pub IsWrittenExpr : List Instruction → Type 0
+IsWrittenExpr calls = IsClosed calls → IsShortest expr.Encodes expr.bytes calls
+
+abbrev pub IsClosedPlace : ElementMode → Type 0
+IsClosedPlace (modes.Active table offset) = IsClosed offset
+IsClosedPlace mode = Unit
+
+abbrev pub IsCountedPlace : ElementMode → Type 0
+IsCountedPlace (modes.Active table offset) = IsCountedExpr offset
+IsCountedPlace mode = Unit
+
+abbrev pub AreClosed : Elements → Type 0
+AreClosed (held.Functions fs) = Unit
+AreClosed (held.Expressions ty es) = All IsClosed es
+
+-- a u32 counts them
+abbrev pub AreCounted : Elements → Type 0
+AreCounted (held.Functions fs) = IsCount (length fs)
+AreCounted (held.Expressions ty es) = IsCount (length es) × All IsCountedExpr es
+
+abbrev pub IsClosedElement : Element → Type 0
+IsClosedElement e = IsClosedPlace e.mode × AreClosed e.elements
+
+abbrev pub IsCountedElement : Element → Type 0
+IsCountedElement e = IsCountedPlace e.mode × AreCounted e.elements

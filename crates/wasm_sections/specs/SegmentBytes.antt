@@ -1,12 +1,18 @@
 -- The bytes of segments by the parts that are written one after the other.
-use Rattle.std.specs.Prelude.{ℕ, ◌==◌, ◌<◌, ◌^◌, List, ◌++◌, Option, Some, None, is_some, if◌then◌else◌}
+use Rattle.std.specs.Prelude.{◌≡◌, ℕ, ◌==◌, ◌||◌, ◌<◌, ◌^◌, Bool, false, List, ◌++◌, Option, Some, None, is_some, if◌then◌else◌}
 use Rattle.wasm_codec.specs.Numbers.{unsigned_leb128}
-use Rattle.wasm_codec.specs.formats.Combinators.{u32}
+use Rattle.wasm_codec.specs.formats.Combinators.{u32, items}
+use Rattle.wasm_types.specs.formats.Types.{ref_type}
 use Rattle.wasm_instructions.specs.Instructions.{Instruction}
 use Rattle.wasm_sections.specs.declared.data.DataSegmentMode.{DataSegmentMode}
 use Rattle.wasm_sections.specs.declared.data.DataSegmentMode.TheVariants as data_modes
+use Rattle.wasm_sections.specs.declared.elements.ElementMode.{ElementMode}
+use Rattle.wasm_sections.specs.declared.elements.ElementMode.TheVariants as modes
+use Rattle.wasm_sections.specs.declared.elements.Elements.{Elements}
+use Rattle.wasm_sections.specs.declared.elements.Elements.TheVariants as held
 use Rattle.wasm_sections.specs.formats.Parts.{part_if}
 use Rattle.wasm_sections.specs.formats.Expressions.{expr}
+use Rattle.wasm_sections.specs.formats.Elements.{kind_and_functions}
 
 -- the number of a form, the index of a memory or table where it is told, and the place in it
 abbrev pub place_bytes : ℕ → Option ℕ → List Instruction → List ℕ
@@ -20,3 +26,25 @@ data_mode_bytes (data_modes.Active memory offset) = if memory == 0 then place_by
 abbrev pub DataModeFits : DataSegmentMode → Type 0
 DataModeFits data_modes.Passive = Unit
 DataModeFits (data_modes.Active memory offset) = (memory < 2 ^ 32) × expr.InRange offset
+
+-- the forms that tell neither a table nor the kind or type of the elements
+abbrev pub is_short : ℕ → Bool
+is_short form = form == 0 || form == 4
+
+-- what stands before the elements of a segment in this form
+abbrev pub element_mode_bytes : ℕ → ElementMode → List ℕ
+element_mode_bytes form (modes.Active table offset) = if is_short form then place_bytes form None offset else place_bytes form (Some table) offset
+element_mode_bytes form mode = unsigned_leb128 form
+
+abbrev pub ElementModeFits : ℕ → ElementMode → Type 0
+ElementModeFits form (modes.Active table offset) = (is_short form ≡ false → table < 2 ^ 32) × expr.InRange offset
+ElementModeFits form mode = Unit
+
+-- the elements, after their kind or type where the form isn't short
+abbrev pub elements_bytes : Bool → Elements → List ℕ
+elements_bytes short (held.Functions fs) = if short then (items u32).bytes fs else kind_and_functions.bytes fs
+elements_bytes short (held.Expressions ty es) = if short then (items expr).bytes es else ref_type.bytes ty ++ (items expr).bytes es
+
+abbrev pub ElementsFit : Bool → Elements → Type 0
+ElementsFit short (held.Functions fs) = (items u32).InRange fs
+ElementsFit short (held.Expressions ty es) = (short ≡ false → ref_type.InRange ty) × (items expr).InRange es

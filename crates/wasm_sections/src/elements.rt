@@ -183,7 +183,7 @@ fn is_funcref(ty: RefType) -> bool
 }
 
 /// The number of the form that a segment is written in.
-fn number_of(element: &Element) -> u32
+pub(crate) fn number_of(element: &Element) -> u32
     ensures { result ≡ element_number element.now }
 {
     match &element.elements {

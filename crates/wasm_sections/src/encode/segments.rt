@@ -8,16 +8,27 @@ ghost use Rattle.wasm_sections.specs.Entries.{data_parts};
 ghost use Rattle.wasm_sections.specs.SegmentBytes.{place_bytes, data_mode_bytes, DataModeFits};
 ghost use Rattle.wasm_sections.specs.formats.Expressions.{expr};
 ghost use Rattle.wasm_sections.specs.formats.Segments.{data_segment};
+ghost use Rattle.std.specs.Prelude.{◌⊎◌};
+ghost use Rattle.std.specs.List.{All, Any, flat_map};
+ghost use Rattle.wasm_codec.specs.Encoding.{CanEncodeList, IsListRefusal, Refuses};
+ghost use Rattle.wasm_codec.specs.declared.encode.EncodeError.TheVariants.{Memory};
+ghost use Rattle.wasm_codec.specs.formats.Combinators.{items};
+ghost use Rattle.wasm_sections.specs.Closed.{AreClosed, AreCounted, IsClosedElement, IsClosedPlace, IsCountedElement, IsCountedPlace, IsWrittenExpr};
+ghost use Rattle.wasm_sections.specs.SegmentBytes.{is_short, element_mode_bytes, elements_bytes, ElementModeFits, ElementsFit};
+ghost use Rattle.wasm_sections.specs.formats.Elements.{element_segment};
 
 use super::expressions::encode_expr;
 use super::types::put_u32_if;
 use crate::data::{DataSegment, DataSegmentMode};
+use crate::elements::{Element, ElementMode, Elements, number_of};
 use std::alloc::Allocator;
 use wasm_codec::encode::keep_or_undo;
 use wasm_codec::encode::leb128::put_u32;
+use wasm_codec::list::Items;
 use wasm_codec::reader::cursor::Cursor;
 use wasm_instructions::table::Call;
-use wasm_writers::encode::{Encode, EncodeError, encode_bytes};
+use wasm_types::encode::put_ref_type;
+use wasm_writers::encode::{Encode, EncodeError, encode_bytes, encode_list, encode_list_after};
 
 /// Appends the number of a form, the index of a memory or table where it is told, and the place in it. An `Err` can leave
 /// a part of them.
@@ -116,6 +127,164 @@ impl<'a> Encode for DataSegment<'a> {
     fn encode<A: Allocator>(&self, sink: &mut Vec<u8, A>) -> Result<(), EncodeError> {
         let start = sink.len();
         let result = append_data_segment(self, sink);
+        keep_or_undo(sink, start, result)
+    }
+}
+
+/// Whether a form tells neither a table nor the kind or type of the elements.
+fn is_short(form: u32) -> bool
+    ensures { result ≡ is_short form }
+{
+    form == 0 || form == 4
+}
+
+/// Appends what stands before the elements of a segment in this form. An `Err` can leave a part of it.
+fn append_element_mode<A: Allocator>(
+    form: u32,
+    mode: &ElementMode,
+    sink: &mut Vec<u8, A>,
+) -> Result<(), EncodeError>
+    ensures ok { OnOk result (sink.new.items ≡ sink.old.items ++ element_mode_bytes form mode.now) }
+    ensures can { OnOk result (IsCountedPlace mode.now) }
+    ensures fits { OnOk result (IsClosedPlace mode.now → ElementModeFits form mode.now) }
+    ensures refused { IfErr result (IsRefusal IsCountedPlace OnlyTooLong mode.now) }
+    ensures kept { take (length sink.old.items) sink.new.items ≡ sink.old.items }
+{
+    match mode {
+        ElementMode::Active {
+            table_index,
+            offset,
+        } => {
+            if is_short(form) {
+                append_place(form, None, offset.as_slice(), sink)?;
+                return Ok(());
+            }
+            append_place(form, Some(*table_index), offset.as_slice(), sink)?;
+            Ok(())
+        }
+        ElementMode::Passive | ElementMode::Declared => {
+            sink.reserve(5)?;
+            put_u32(sink, form);
+            Ok(())
+        }
+    }
+}
+
+/// Appends expressions, one after the other. An `Err` can leave a part of them.
+fn append_each_expression<A: Allocator>(
+    expressions: &[Items<Call>],
+    sink: &mut Vec<u8, A>,
+) -> Result<(), EncodeError>
+    ensures ok { OnOk result (sink.new.items ≡ sink.old.items ++ flat_map expr.bytes expressions.now) }
+    ensures can { OnOk result (All IsCountedExpr expressions.now) }
+    ensures written { OnOk result (All IsWrittenExpr expressions.now) }
+    ensures refused { IfErr result (λ e. (e ≡ Memory) ⊎ Any (λ x. Refuses IsCountedExpr OnlyTooLong x e) expressions.now) }
+    ensures kept { take (length sink.old.items) sink.new.items ≡ sink.old.items }
+{
+    for expression in expressions {
+        encode_expr(expression.as_slice(), sink)?;
+    }
+    Ok(())
+}
+
+/// Appends the number of expressions and each of them, or nothing.
+fn encode_expressions<A: Allocator>(
+    expressions: &[Items<Call>],
+    sink: &mut Vec<u8, A>,
+) -> Result<(), EncodeError>
+    ensures ok { OnOk result (sink.new.items ≡ sink.old.items ++ (items expr).bytes expressions.now) }
+    ensures can { OnOk result (CanEncodeList IsCountedExpr expressions.now) }
+    ensures written { OnOk result (All IsWrittenExpr expressions.now) }
+    ensures refused { IfErr result (IsListRefusal IsCountedExpr OnlyTooLong expressions.now) }
+    ensures err { OnErr result (sink.new.items ≡ sink.old.items) }
+{
+    let start = sink.len();
+    let result = append_expressions(expressions, sink);
+    keep_or_undo(sink, start, result)
+}
+
+/// Appends the number of expressions and each of them. An `Err` can leave a part of them.
+fn append_expressions<A: Allocator>(
+    expressions: &[Items<Call>],
+    sink: &mut Vec<u8, A>,
+) -> Result<(), EncodeError>
+    ensures ok { OnOk result (sink.new.items ≡ sink.old.items ++ (items expr).bytes expressions.now) }
+    ensures can { OnOk result (CanEncodeList IsCountedExpr expressions.now) }
+    ensures written { OnOk result (All IsWrittenExpr expressions.now) }
+    ensures refused { IfErr result (IsListRefusal IsCountedExpr OnlyTooLong expressions.now) }
+    ensures kept { take (length sink.old.items) sink.new.items ≡ sink.old.items }
+{
+    expressions.len().encode(sink)?;
+    append_each_expression(expressions, sink)
+}
+
+/// Appends the elements of a segment, after their kind or type where the form isn't short. An `Err` can leave a part of
+/// them.
+fn append_elements<A: Allocator>(
+    short: bool,
+    elements: &Elements,
+    sink: &mut Vec<u8, A>,
+) -> Result<(), EncodeError>
+    ensures ok { OnOk result (sink.new.items ≡ sink.old.items ++ elements_bytes short elements.now) }
+    ensures can { OnOk result (AreCounted elements.now) }
+    ensures fits { OnOk result (AreClosed elements.now → ElementsFit short elements.now) }
+    ensures refused { IfErr result (IsRefusal AreCounted OnlyTooLong elements.now) }
+    ensures kept { take (length sink.old.items) sink.new.items ≡ sink.old.items }
+{
+    match elements {
+        Elements::Functions(functions) => {
+            if short {
+                encode_list(functions.as_slice(), sink)?;
+                return Ok(());
+            }
+            encode_list_after(0x00, functions.as_slice(), sink)?;
+            Ok(())
+        }
+        Elements::Expressions(ty, expressions) => {
+            if short {
+                encode_expressions(expressions.as_slice(), sink)?;
+                return Ok(());
+            }
+            sink.reserve(7)?;
+            put_ref_type(sink, *ty);
+            encode_expressions(expressions.as_slice(), sink)?;
+            Ok(())
+        }
+    }
+}
+
+/// Appends an element segment. An `Err` can leave a part of it.
+fn append_element<A: Allocator>(element: &Element, sink: &mut Vec<u8, A>) -> Result<(), EncodeError>
+    ensures ok { OnOk result (sink.new.items ≡ sink.old.items ++ element_segment.bytes element.now) }
+    ensures can { OnOk result (IsCountedElement element.now) }
+    ensures written { OnOk result (IsClosedElement element.now →
+        IsShortest element_segment.Encodes element_segment.bytes element.now) }
+    ensures refused { IfErr result (IsRefusal IsCountedElement OnlyTooLong element.now) }
+    ensures kept { take (length sink.old.items) sink.new.items ≡ sink.old.items }
+{
+    let form = number_of(element);
+    append_element_mode(form, &element.mode, sink)?;
+    append_elements(is_short(form), &element.elements, sink)?;
+    Ok(())
+}
+
+/// One of eight forms: its number; of an active segment the table and the place in it; the kind or type of the elements;
+/// and the elements (Core 3.0, Element Section). Table 0 isn't told with functions, or with expressions of `funcref`, nor
+/// is their kind or type then.
+///
+/// `TooLong` where there are more than 4,294,967,295 elements, or a list in an instruction is longer than that.
+impl Encode for Element {
+    ghost bytes = { element_segment.bytes };
+
+    ghost IsWritten = { λ element. IsClosedElement element → IsShortest element_segment.Encodes element_segment.bytes element };
+
+    ghost CanEncode = { IsCountedElement };
+
+    ghost refuses = { OnlyTooLong };
+
+    fn encode<A: Allocator>(&self, sink: &mut Vec<u8, A>) -> Result<(), EncodeError> {
+        let start = sink.len();
+        let result = append_element(self, sink);
         keep_or_undo(sink, start, result)
     }
 }

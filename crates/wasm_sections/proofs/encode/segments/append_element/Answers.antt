@@ -1,0 +1,8 @@
+use Rattle.wasm_sections.proofs.ElementWriting.{element_appended, element_written}
+use Rattle.wasm_sections.proofs.encode.segments.append_element.Goals as goal
+
+pub returns-clause-ok : goal.returns-clause-ok
+returns-clause-ok g c = element_appended c.args.element.now c.number_of-form.result c.is_short.result c.args.sink.now.items c.append_element_mode.new.sink.items c.append_elements.new.sink.items c.number_of-form.ensures c.is_short.ensures c.in_ok-append_element_mode.ensures.ok c.in_ok-append_elements.ensures.ok
+
+pub returns-clause-written : goal.returns-clause-written
+returns-clause-written g c = element_written c.args.element.now c.number_of-form.result c.is_short.result c.number_of-form.ensures c.is_short.ensures c.in_ok-append_element_mode.ensures.fits c.in_ok-append_elements.ensures.fits

@@ -1,0 +1,12 @@
+use Rattle.std.proofs.Common.{sym, ◌∙◌}
+use Rattle.wasm_codec.specs.formats.Combinators.{u32}
+use Rattle.wasm_codec.proofs.FormatLaws.{Lawful-u32}
+use Rattle.wasm_types.proofs.WrittenTypes.{in_range_of}
+use Rattle.wasm_sections.proofs.ElementWriting.{element_mode_fits, not_both}
+use Rattle.wasm_sections.proofs.encode.segments.append_element_mode.Goals as goal
+
+pub returns-then-is_short-clause-fits : goal.returns-then-is_short-clause-fits
+returns-then-is_short-clause-fits g c = element_mode_fits c.args.form c.args.mode.now c.in-Active.table_index c.in-Active.offset c.as_slice.result.now c.in-Active.is c.as_slice.ensures.value (λ no. absurd (not_both c.is_short.result c.if-is_short.true (c.is_short.ensures ∙ no))) c.in_ok-append_place-in-Active.ensures.written
+
+pub returns-in_ok-append_place-in-Active-2-clause-fits : goal.returns-in_ok-append_place-in-Active-2-clause-fits
+returns-in_ok-append_place-in-Active-2-clause-fits g c = element_mode_fits c.args.form c.args.mode.now c.in-Active.table_index c.in-Active.offset c.as_slice-in-Active.result.now c.in-Active.is c.as_slice-in-Active.ensures.value (λ no. in_range_of u32 Lawful-u32 c.in-Active.table_index c.in_ok-append_place-in-Active-2.ensures.index) c.in_ok-append_place-in-Active-2.ensures.written
