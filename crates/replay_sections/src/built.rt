@@ -8,6 +8,7 @@ use wasm_codec::reader::ReadError;
 use wasm_modules::section::HEADER;
 use wasm_sections::data::read_data_section;
 use wasm_sections::data_count::read_data_count_section;
+use wasm_sections::elements::read_element_section;
 use wasm_sections::exports::read_export_section;
 use wasm_sections::functions::read_function_section;
 use wasm_sections::globals::read_global_section;
@@ -29,7 +30,7 @@ fn bytes_of(alloc: Global, value: &impl Encode) -> Result<Vec<u8>, Mismatch> {
 }
 
 /// What the builder writes of entries.
-fn listed<T: SectionItem>(
+fn listed<T: SectionItem + Drop>(
     alloc: Global,
     entries: Result<Vec<T>, ReadError>,
 ) -> Result<Vec<u8>, Mismatch> {
@@ -43,7 +44,7 @@ fn listed<T: SectionItem>(
     }
 }
 
-/// The size and the body that a builder writes of what the reader gives; nothing of a custom or element section.
+/// The size and the body that a builder writes of what the reader gives; nothing of a custom section.
 pub fn build(alloc: Global, section: &str, body: &[u8]) -> Result<Option<Vec<u8>>, Mismatch> {
     let built = match section {
         "import" => listed(alloc, read_import_section(alloc, body))?,
@@ -52,6 +53,7 @@ pub fn build(alloc: Global, section: &str, body: &[u8]) -> Result<Option<Vec<u8>
         "memory" => listed(alloc, read_memory_section(alloc, body))?,
         "global" => listed(alloc, read_global_section(alloc, body))?,
         "export" => listed(alloc, read_export_section(alloc, body))?,
+        "element" => listed(alloc, read_element_section(alloc, body))?,
         "data" => listed(alloc, read_data_section(alloc, body))?,
         "tag" => listed(alloc, read_tag_section(alloc, body))?,
         "start" => start(alloc, body)?,

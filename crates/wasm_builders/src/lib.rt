@@ -3,6 +3,7 @@
 
 pub mod const_expr;
 pub mod data;
+pub mod elements;
 pub mod exports;
 pub mod functions;
 pub mod globals;

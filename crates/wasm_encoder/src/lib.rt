@@ -28,10 +28,11 @@ pub use reader::{
     rewrite_type_section,
 };
 pub use sections::{
-    ConstExpr, CustomSection, DataCountSection, EntityType, ExportKind, ExportSection,
-    FunctionSection, GlobalType, ImportSection, MemorySection, MemoryType, ModuleError,
-    ModuleSection, StartSection, TableType, TagKind, TagSection, TagType, check_order,
-    normalise_whole_module, read_whole_module, read_whole_module_strict, rewrite_whole_module,
+    ConstExpr, CustomSection, DataCountSection, DataSection, ElementSection, Elements, EntityType,
+    ExportKind, ExportSection, FunctionSection, GlobalSection, GlobalType, ImportSection,
+    MemorySection, MemoryType, ModuleError, ModuleSection, StartSection, TableSection, TableType,
+    TagKind, TagSection, TagType, check_order, normalise_whole_module, read_whole_module,
+    read_whole_module_strict, rewrite_whole_module,
 };
 pub use types::{
     AbstractHeapType, ArrayType, CompositeInnerType, CompositeType, ContType, CoreTypeEncoder,

@@ -8,12 +8,16 @@ ghost use Rattle.wasm_writers.specs.EncodedLists.{Entries};
 
 use crate::wasm_core::Section;
 pub use wasm_builders::const_expr::ConstExpr;
+pub use wasm_builders::data::DataSection;
+pub use wasm_builders::elements::ElementSection;
 pub use wasm_builders::exports::ExportSection;
 pub use wasm_builders::functions::FunctionSection;
+pub use wasm_builders::globals::GlobalSection;
 pub use wasm_builders::imports::ImportSection;
 pub use wasm_builders::list_section::{ListSection, SectionItem};
 pub use wasm_builders::memories::MemorySection;
 pub use wasm_builders::numbers::{DataCountSection, StartSection};
+pub use wasm_builders::tables::TableSection;
 pub use wasm_builders::tags::TagSection;
 pub use wasm_sections::custom::{
     CustomSection, normalise_custom_section, read_custom_section, read_custom_section_strict,

@@ -1,4 +1,4 @@
-use Rattle.std.proofs.Common.{sym, ◌∙◌}
+use Rattle.std.proofs.Common.{◌∙◌}
 use Rattle.wasm_codec.specs.formats.Combinators.{u32}
 use Rattle.wasm_codec.proofs.FormatLaws.{Lawful-u32}
 use Rattle.wasm_types.proofs.WrittenTypes.{in_range_of}

@@ -1,4 +1,3 @@
-use Rattle.std.proofs.Common.{◌≡◌, true, false, sym, ◌∙◌}
 use Rattle.wasm_sections.proofs.ElementWriting.{functions_fit, expressions_fit, type_fits, not_both}
 use Rattle.wasm_sections.proofs.encode.segments.append_elements.Goals as goal
 
