@@ -2,28 +2,23 @@
 
 use std::alloc::Global;
 use wasm_encoder::{
-    CodeSection, Encode, EncodeError, Function, Module, RawSection, SectionId, TypeSection,
-    ValType, encode_list, encode_str,
+    CodeSection, EncodeError, ExportKind, ExportSection, Function, FunctionSection, Module,
+    TypeSection, ValType,
 };
 
 /// The name by which the module exports the function.
 pub const EXPORT_NAME: &str = "compute";
 
-/// The byte that says that an export is a function (Core 3.0, Export Section).
-const FUNCTION_EXPORT: u8 = 0x00;
-
 /// The bytes of a module that exports a function of two parameters and one result.
 pub fn module_of(alloc: Global, function: &Function) -> Result<Vec<u8>, EncodeError> {
+    let mut functions = FunctionSection::new(alloc);
+    functions.function(0)?;
+    let mut exports = ExportSection::new(alloc);
+    exports.export(EXPORT_NAME, ExportKind::Func, 0)?;
     let mut module = Module::new(alloc)?;
     module.section(&types(alloc)?)?;
-    module.section(&RawSection {
-        id: SectionId::Function.into(),
-        body: &function_types(alloc)?,
-    })?;
-    module.section(&RawSection {
-        id: SectionId::Export.into(),
-        body: &exports(alloc)?,
-    })?;
+    module.section(&functions)?;
+    module.section(&exports)?;
     module.section(&code_of(alloc, function)?)?;
     Ok(module.finish())
 }
@@ -44,21 +39,4 @@ fn code_of(alloc: Global, function: &Function) -> Result<CodeSection, EncodeErro
     let mut code = CodeSection::new(alloc);
     code.function(function)?;
     Ok(code)
-}
-
-/// The body of the function section: the type of each function, by its index.
-fn function_types(alloc: Global) -> Result<Vec<u8>, EncodeError> {
-    let mut body = Vec::new(alloc);
-    encode_list(&[0u32], &mut body)?;
-    Ok(body)
-}
-
-/// The body of the export section: one function, the first.
-fn exports(alloc: Global) -> Result<Vec<u8>, EncodeError> {
-    let mut body = Vec::new(alloc);
-    1u32.encode(&mut body)?;
-    encode_str(EXPORT_NAME, &mut body)?;
-    body.extend_from_slice(&[FUNCTION_EXPORT])?;
-    0u32.encode(&mut body)?;
-    Ok(body)
 }

@@ -47,12 +47,24 @@ impl<'a> ListSection<Import<'a>> {
     ///
     /// `TooLong` where there are 4,294,967,295 imports, or where a name has more bytes than that.
     #[tactic(auto, using(crate::proofs::ItemLaws::twice_named_refused))]
-    pub fn import(&mut self, module: &str, field: &str, ty: EntityType) -> Result<(), EncodeError>
-        ensures ok { OnOk result (GainsItem import_entry self.old (import_of (module.now, (field.now, ty))) self.new) }
+    pub fn import(
+        &mut self,
+        module_name: &str,
+        field: &str,
+        ty: EntityType,
+    ) -> Result<(), EncodeError>
+        ensures ok { OnOk result (GainsItem import_entry self.old (import_of (module_name.now, (field.now, ty))) self.new) }
         ensures err { OnErr result (self.new ≡ self.old) }
         ensures refused { IfErr result (IsMemoryOrTooLong (IsFull self.old ⊎
-            (IsUncounted (length module.now) ⊎ IsUncounted (length field.now)))) }
+            (IsUncounted (length module_name.now) ⊎ IsUncounted (length field.now)))) }
     {
-        add(&mut self.items, &Import { module, field, ty })
+        add(
+            &mut self.items,
+            &Import {
+                module: module_name,
+                field,
+                ty,
+            },
+        )
     }
 }

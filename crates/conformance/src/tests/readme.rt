@@ -4,17 +4,25 @@ use super::is;
 use std::alloc::Global;
 use std::test::Fail;
 use wasm_encoder::{
-    CodeSection, EncodeError, Function, InstructionSink, Module, RawSection, SectionId,
-    TypeSection, ValType, normalise_module, read_module,
+    CodeSection, ConstExpr, DataSection, EncodeError, ExportKind, ExportSection, Function,
+    FunctionSection, InstructionSink, MemorySection, MemoryType, Module, TypeSection, ValType,
+    check_order, normalise_whole_module, read_whole_module,
 };
 
-/// A module that exports `add`, a function that adds its two parameters.
+/// A module that exports `add`, a function that adds its two parameters, and a memory that holds a text from 16 on.
 fn add_module(alloc: Global) -> Result<Vec<u8>, EncodeError> {
     let numbers = [ValType::I32, ValType::I32];
     let mut types = TypeSection::new(alloc);
     types
         .ty()
         .function(numbers.iter().copied(), [ValType::I32].iter().copied())?;
+    let mut functions = FunctionSection::new(alloc);
+    functions.function(0)?;
+    let mut memories = MemorySection::new(alloc);
+    memories.memory(ONE_PAGE)?;
+    let mut exports = ExportSection::new(alloc);
+    exports.export("add", ExportKind::Func, 0)?;
+    exports.export("memory", ExportKind::Memory, 0)?;
     let mut add = Function::new(alloc, [].iter().copied())?;
     add.instructions()
         .local_get(0)?
@@ -23,30 +31,40 @@ fn add_module(alloc: Global) -> Result<Vec<u8>, EncodeError> {
         .end()?;
     let mut code = CodeSection::new(alloc);
     code.function(&add)?;
+    let mut data = DataSection::new(alloc);
+    data.active(0, ConstExpr::i32_const(alloc, 16)?, b"hello")?;
     let mut module = Module::new(alloc)?;
     module.section(&types)?;
-    module.section(&RawSection {
-        id: SectionId::Function.into(),
-        body: b"\x01\x00",
-    })?;
-    module.section(&RawSection {
-        id: SectionId::Export.into(),
-        body: b"\x01\x03add\x00\x00",
-    })?;
+    module.section(&functions)?;
+    module.section(&memories)?;
+    module.section(&exports)?;
     module.section(&code)?;
+    module.section(&data)?;
     Ok(module.finish())
 }
+
+/// A memory of one page, which can grow.
+const ONE_PAGE: MemoryType = MemoryType {
+    minimum: 1,
+    maximum: None,
+    memory64: false,
+    shared: false,
+    page_size_log2: None,
+};
 
 #[test]
 fn a_module_that_adds(rt: HostRuntime) -> Result<(), Fail> {
     let module = add_module(rt.alloc())?;
     let module = module.as_slice();
-    let hex = "0061736D0100000001070160027F7F017F030201000707010361646400000A09010700200020016A0B";
+    let hex =
+        "0061736D0100000001070160027F7F017F030201000503010001071002036164640000066D656D6F727902000A09010700200020016A0B0B0B010041100B0568656C6C6F";
     is(rt.alloc(), module, hex)?;
-    assert_eq!(rt; read_module(rt.alloc(), module)?.len(), 4);
+    let sections = read_whole_module(rt.alloc(), module)?;
+    assert_eq!(rt; sections.len(), 6);
+    assert!(rt; check_order(sections.as_slice()).is_ok());
     is(
         rt.alloc(),
-        normalise_module(rt.alloc(), module)?.as_slice(),
+        normalise_whole_module(rt.alloc(), module)?.as_slice(),
         hex,
     )
 }

@@ -25,7 +25,7 @@ fn a_group_is_one_entry(rt: HostRuntime) -> Result<(), Fail> {
     let empty = [TypeEntry::Rec(Items::new(rt.alloc()))];
     types.entries(empty.as_slice())?;
     is_section(rt.alloc(), &types, 1, "03014E00")?;
-    let _unused = types.ty();
+    drop(types.ty());
     is_section(rt.alloc(), &types, 1, "03014E00")
 }
 
