@@ -7,5 +7,6 @@ pub mod constants;
 pub mod held_lists;
 pub mod instructions;
 pub mod modules;
+pub mod sections;
 pub mod type_sections;
 pub mod whole_way;
