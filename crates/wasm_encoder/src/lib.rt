@@ -30,9 +30,8 @@ pub use reader::{
 pub use sections::{
     ConstExpr, CustomSection, DataCountSection, DataSection, ElementSection, Elements, EntityType,
     ExportKind, ExportSection, FunctionSection, GlobalSection, GlobalType, ImportSection,
-    MemorySection, MemoryType, ModuleError, ModuleSection, StartSection, TableSection, TableType,
-    TagKind, TagSection, TagType, check_order, normalise_whole_module, read_whole_module,
-    read_whole_module_strict, rewrite_whole_module,
+    MemorySection, MemoryType, ModuleSection, StartSection, TableSection, TableType, TagSection,
+    TagType, check_order, normalise_whole_module, read_whole_module, read_whole_module_strict,
 };
 pub use types::{
     AbstractHeapType, ArrayType, CompositeInnerType, CompositeType, ContType, CoreTypeEncoder,
