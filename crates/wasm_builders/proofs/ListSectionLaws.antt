@@ -45,6 +45,13 @@ module _ {X V : Type 0} (view : X → V) (F : Format V) (bytes : X → List ℕ)
   all_bytes [] = refl
   all_bytes (x ∷ xs) = ap (λ (t : List ℕ). t ++ flat_map bytes xs) (are x) ∙ ap (λ (t : List ℕ). F.bytes (view x) ++ t) (all_bytes xs)
 
+  more_bytes : (was old : Entries) (after : List ℕ) (xs : List X) → was ≡ old → after ≡ was.bytes ++ flat_map bytes xs → after ≡ old.bytes ++ flat_map F.bytes (map view xs)
+  more_bytes was old after xs same more = more ∙ ap (λ (list : Entries). list.bytes ++ flat_map bytes xs) same ∙ ap (λ (t : List ℕ). old.bytes ++ t) (all_bytes xs)
+
+  pub bytes_viewed : {T E : Type 0} (r : Result T E) (was old : Entries) (after : List ℕ) (xs : List X) → was ≡ old → OnOk r (after ≡ was.bytes ++ flat_map bytes xs) → OnOk r (after ≡ old.bytes ++ flat_map F.bytes (map view xs))
+  bytes_viewed (Ok x) was old after xs same more = more_bytes was old after xs same more
+  bytes_viewed (Err e) was old after xs same more = tt
+
   module _ (law : IsLawful F) (IsWritten Fits : X → Type 0) (written : (x : X) → IsWritten x → Fits x → IsShortest F.Encodes F.bytes (view x)) where
     all_written : (xs : List X) → All IsWritten xs → All Fits xs → All (IsShortest F.Encodes F.bytes) (map view xs)
     all_written [] are fit = All-nil (IsShortest F.Encodes F.bytes)
@@ -54,6 +61,6 @@ module _ {X V : Type 0} (view : X → V) (F : Format V) (bytes : X → List ℕ)
     gains_viewed (Ok x) was old new xs same count more are = λ fit.
         gains_items F law old new (map view xs)
         (count ∙ ap (λ (list : Entries). list.count + length xs) same ∙ ap (λ (n : ℕ). old.count + n) (sym (length-map xs view)))
-        (more ∙ ap (λ (list : Entries). list.bytes ++ flat_map bytes xs) same ∙ ap (λ (t : List ℕ). old.bytes ++ t) (all_bytes xs))
+        (more_bytes was old new.bytes xs same more)
         (all_written xs are fit)
     gains_viewed (Err e) was old new xs same count more are = tt

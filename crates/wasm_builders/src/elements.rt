@@ -1,5 +1,5 @@
 //! Element sections (Core 3.0, Element Section).
-ghost use Rattle.std.specs.Prelude.{◌≡◌, ◌⊎◌, OnOk, OnErr, IfErr};
+ghost use Rattle.std.specs.Prelude.{◌≡◌, ◌++◌, ◌+◌, ◌⊎◌, OnOk, OnErr, IfErr};
 ghost use Rattle.wasm_sections.specs.declared.elements.Element.{Element};
 ghost use Rattle.wasm_sections.specs.declared.elements.ElementMode.TheVariants as modes;
 ghost use Rattle.wasm_sections.specs.Closed.{AreClosed, IsClosedElement, IsCountedElement};
@@ -48,6 +48,9 @@ impl ListSection<Element> {
         offset: ConstExpr,
         elements: Elements,
     ) -> Result<(), EncodeError>
+        ensures count { OnOk result (self.new.count ≡ self.old.count + 1) }
+        ensures bytes { OnOk result (self.new.bytes ≡ self.old.bytes ++ element_segment.bytes (element (modes.Active table_index offset) elements)) }
+        // Where the expressions among the elements close their blocks, the section stands for the segment too.
         ensures ok { OnOk result (AreClosed elements →
             GainsItem element_segment self.old (element (modes.Active table_index offset) elements) self.new) }
         ensures err { OnErr result (self.new ≡ self.old) }
@@ -64,6 +67,9 @@ impl ListSection<Element> {
     /// Adds elements that an instruction copies.
     #[tactic(auto, using(crate::proofs::ItemLaws::cannot_be_written))]
     pub fn passive(&mut self, elements: Elements) -> Result<(), EncodeError>
+        ensures count { OnOk result (self.new.count ≡ self.old.count + 1) }
+        ensures bytes { OnOk result (self.new.bytes ≡ self.old.bytes ++ element_segment.bytes (element modes.Passive elements)) }
+        // Where the expressions among the elements close their blocks, the section stands for the segment too.
         ensures ok { OnOk result (AreClosed elements →
             GainsItem element_segment self.old (element modes.Passive elements) self.new) }
         ensures err { OnErr result (self.new ≡ self.old) }
@@ -77,6 +83,9 @@ impl ListSection<Element> {
     /// Adds elements that are never copied: they declare references to functions.
     #[tactic(auto, using(crate::proofs::ItemLaws::cannot_be_written))]
     pub fn declared(&mut self, elements: Elements) -> Result<(), EncodeError>
+        ensures count { OnOk result (self.new.count ≡ self.old.count + 1) }
+        ensures bytes { OnOk result (self.new.bytes ≡ self.old.bytes ++ element_segment.bytes (element modes.Declared elements)) }
+        // Where the expressions among the elements close their blocks, the section stands for the segment too.
         ensures ok { OnOk result (AreClosed elements →
             GainsItem element_segment self.old (element modes.Declared elements) self.new) }
         ensures err { OnErr result (self.new ≡ self.old) }

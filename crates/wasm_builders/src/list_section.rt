@@ -1,6 +1,6 @@
 //! Sections that are lists (Core 3.0, Lists), whatever their items are.
 ghost use Rattle.std.specs.Prelude.{◌≡◌, ◌++◌, ◌+◌, ◌^◌, ◌≤◌, ◌↔◌, ℕ, List, [], OnOk, OnErr, IfOk, IfErr, IsErrOf, IsTrue, ⊤, length, map};
-ghost use Rattle.std.specs.List.{All};
+ghost use Rattle.std.specs.List.{All, flat_map};
 ghost use Rattle.wasm_codec.specs.Encoding.{byte_list_bytes, IsCount, IsRefusal, IsShortest, IsShortestOrLonger, OnlyTooLong};
 ghost use Rattle.wasm_codec.specs.Lawful.{IsLawful};
 ghost use Rattle.wasm_codec.specs.formats.Combinators.{Format, items};
@@ -99,6 +99,9 @@ impl<T: SectionItem> ListSection<T> {
     ///
     /// `TooLong` where there are 4,294,967,295 items, or where a part of the item is too long.
     pub fn push(&mut self, item: &T) -> Result<(), EncodeError>
+        ensures count { OnOk result (self.new.count ≡ self.old.count + 1) }
+        ensures bytes { OnOk result (self.new.bytes ≡ self.old.bytes ++ T.format.bytes (T.view item.now)) }
+        // Where the item has an encoding, the section stands for it too.
         ensures ok { OnOk result (T.Fits item.now → GainsItem T.format self.old (T.view item.now) self.new) }
         ensures err { OnErr result (self.new ≡ self.old) }
         ensures refused { IfErr result (IsRefusalOfOne T.CanEncode T.refuses self.old item.now) }
@@ -110,6 +113,9 @@ impl<T: SectionItem> ListSection<T> {
     ///
     /// `TooLong` where there would be more than 4,294,967,295, before one is encoded, or where a part of an item is too long.
     pub fn entries(&mut self, items: &[T]) -> Result<(), EncodeError>
+        ensures count { OnOk result (self.new.count ≡ self.old.count + length items.now) }
+        ensures bytes { OnOk result (self.new.bytes ≡ self.old.bytes ++ flat_map T.format.bytes (map T.view items.now)) }
+        // Where the items have encodings, the section stands for them too.
         ensures ok { OnOk result (All T.Fits items.now → GainsItems T.format self.old (map T.view items.now) self.new) }
         ensures err { OnErr result (self.new ≡ self.old) }
         ensures refused { IfErr result (IsRefusalOfEach T.CanEncode T.refuses self.old items.now) }
@@ -122,6 +128,8 @@ impl<T: SectionItem> ListSection<T> {
 
 /// Adds an item to a list of encodings, or leaves it as it was.
 pub(crate) fn add<T: SectionItem>(list: &mut EncodedList, item: &T) -> Result<(), EncodeError>
+    ensures count { OnOk result (list.new.count ≡ list.old.count + 1) }
+    ensures bytes { OnOk result (list.new.bytes ≡ list.old.bytes ++ T.format.bytes (T.view item.now)) }
     ensures ok { OnOk result (T.Fits item.now → GainsItem T.format list.old (T.view item.now) list.new) }
     ensures err { OnErr result (list.new ≡ list.old) }
     ensures refused { IfErr result (IsRefusalOfOne T.CanEncode T.refuses list.old item.now) }
