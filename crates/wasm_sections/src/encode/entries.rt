@@ -1,7 +1,6 @@
-//! Exports, imports and custom sections, written.
-ghost use Rattle.std.specs.Prelude.{◌≡◌, ◌++◌, OnOk, IfErr, length, take};
+//! Exports and imports, written (Core 3.0, Import Section and Export Section).
+ghost use Rattle.std.specs.Prelude.{◌≡◌, ◌++◌, true, OnOk, IfErr, length, take};
 ghost use Rattle.std.specs.Str.{is_utf8};
-ghost use Rattle.std.specs.Prelude.{true};
 ghost use Rattle.wasm_codec.specs.Encoding.{IsCount, IsCountRefusal, IsRefusal, IsShortest, OnlyTooLong};
 ghost use Rattle.wasm_codec.specs.Grammar.{IsBytes};
 ghost use Rattle.wasm_sections.specs.Entries.{export_parts, import_parts};

@@ -1,21 +1,17 @@
 //! Data segments and element segments, written (Core 3.0, Data Section and Element Section).
-ghost use Rattle.std.specs.Prelude.{◌≡◌, ◌++◌, OnOk, OnErr, IfErr, IfSome, length, take};
-ghost use Rattle.wasm_codec.specs.Numbers.{unsigned_leb128, EncodesU32};
-ghost use Rattle.wasm_codec.specs.Encoding.{IsRefusal, IsShortest, OnlyTooLong};
-ghost use Rattle.wasm_codec.specs.Grammar.{IsBytes};
-ghost use Rattle.wasm_sections.specs.Closed.{IsClosed, IsClosedData, IsCountedExpr, IsCountedData, IsCountedDataMode};
-ghost use Rattle.wasm_sections.specs.Entries.{data_parts};
-ghost use Rattle.wasm_sections.specs.SegmentBytes.{place_bytes, data_mode_bytes, DataModeFits};
-ghost use Rattle.wasm_sections.specs.formats.Expressions.{expr};
-ghost use Rattle.wasm_sections.specs.formats.Segments.{data_segment};
-ghost use Rattle.std.specs.Prelude.{◌⊎◌};
+ghost use Rattle.std.specs.Prelude.{◌≡◌, ◌++◌, ◌⊎◌, OnOk, OnErr, IfErr, IfSome, length, take};
 ghost use Rattle.std.specs.List.{All, Any, flat_map};
-ghost use Rattle.wasm_codec.specs.Encoding.{CanEncodeList, IsListRefusal, Refuses};
+ghost use Rattle.wasm_codec.specs.Numbers.{unsigned_leb128, EncodesU32};
+ghost use Rattle.wasm_codec.specs.Encoding.{CanEncodeList, IsListRefusal, IsRefusal, IsShortest, OnlyTooLong, Refuses};
+ghost use Rattle.wasm_codec.specs.Grammar.{IsBytes};
 ghost use Rattle.wasm_codec.specs.declared.encode.EncodeError.TheVariants.{Memory};
 ghost use Rattle.wasm_codec.specs.formats.Combinators.{items};
-ghost use Rattle.wasm_sections.specs.Closed.{AreClosed, AreCounted, IsClosedElement, IsClosedPlace, IsCountedElement, IsCountedPlace, IsWrittenExpr};
-ghost use Rattle.wasm_sections.specs.SegmentBytes.{is_short, element_mode_bytes, elements_bytes, ElementModeFits, ElementsFit};
+ghost use Rattle.wasm_sections.specs.Closed.{AreClosed, AreCounted, IsClosed, IsClosedData, IsClosedElement, IsClosedPlace, IsCountedData, IsCountedDataMode, IsCountedElement, IsCountedExpr, IsCountedPlace, IsWrittenExpr};
+ghost use Rattle.wasm_sections.specs.Entries.{data_parts};
+ghost use Rattle.wasm_sections.specs.SegmentBytes.{DataModeFits, ElementModeFits, ElementsFit, data_mode_bytes, element_mode_bytes, elements_bytes, is_short, place_bytes};
 ghost use Rattle.wasm_sections.specs.formats.Elements.{element_segment};
+ghost use Rattle.wasm_sections.specs.formats.Expressions.{expr};
+ghost use Rattle.wasm_sections.specs.formats.Segments.{data_segment};
 
 use super::expressions::encode_expr;
 use super::types::put_u32_if;
