@@ -14,10 +14,10 @@ use Rattle.wasm_instructions.specs.formats.Instructions.{opcode}
 use Rattle.wasm_codec.specs.Numbers.{unsigned_leb128}
 
 -- why operands weren't written: memory ran out, an alignment is out of range, or a list is too long
-abbrev pub IsRefusal : Operands → EncodeError → Type 0
-IsRefusal o errors.Memory = Unit {0}
-IsRefusal o errors.Alignment = IsAligned o → ⊥
-IsRefusal o errors.TooLong = IsCounted o → ⊥
+abbrev pub IsOperandsRefusal : Operands → EncodeError → Type 0
+IsOperandsRefusal o errors.Memory = Unit {0}
+IsOperandsRefusal o errors.Alignment = IsAligned o → ⊥
+IsOperandsRefusal o errors.TooLong = IsCounted o → ⊥
 
 -- a call that can be written: a u32 counts the items of its list
 abbrev pub CountedCall : Instruction → Type 0
@@ -30,10 +30,10 @@ IsCallRefusal c errors.Alignment = ⊥
 IsCallRefusal c errors.TooLong = IsCounted c.operands → ⊥
 
 -- why one of several wasn't written
-abbrev pub IsRefusalOfOne : List Instruction → EncodeError → Type 0
-IsRefusalOfOne calls errors.Memory = Unit {0}
-IsRefusalOfOne calls errors.Alignment = ⊥
-IsRefusalOfOne calls errors.TooLong = AllByRecursion (λ c. IsCounted c.operands) calls → ⊥
+abbrev pub IsCallsRefusal : List Instruction → EncodeError → Type 0
+IsCallsRefusal calls errors.Memory = Unit {0}
+IsCallsRefusal calls errors.Alignment = ⊥
+IsCallsRefusal calls errors.TooLong = AllByRecursion (λ c. IsCounted c.operands) calls → ⊥
 
 -- what stands before a list
 unfoldable pub before_bytes : Before → List ℕ
@@ -65,5 +65,5 @@ module _ {S A : Type 0} (gives : S → Option A → S → Type 0) (InRange : A �
 
   -- The new bytes are the old ones and then those of each item that the iterator gives, of which there are so many. The
   -- numbers in them are in range.
-  abbrev pub AppendsCounted : S → (A → List ℕ) → List ℕ → List ℕ → ℕ → Type 0
-  AppendsCounted items encoding old new count = (xs : List A) × Drains gives items xs × (new ≡ old ++ flat_map encoding xs) × (count ≡ length xs) × AllByRecursion InRange xs
+  abbrev pub PutsItems : S → (A → List ℕ) → List ℕ → List ℕ → ℕ → Type 0
+  PutsItems items encoding old new count = (xs : List A) × Drains gives items xs × (new ≡ old ++ flat_map encoding xs) × (count ≡ length xs) × AllByRecursion InRange xs

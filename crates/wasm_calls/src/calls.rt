@@ -1,7 +1,7 @@
 //! Instructions, written.
 ghost use Rattle.std.specs.Prelude.{◌≡◌, ◌++◌, ◌+◌, ◌≤◌, List, ℕ, length, take, IsOk, IfErr, OnOk, OnErr, vec_len, vec_capacity};
 ghost use Rattle.wasm_codec.specs.Encoding.{IsShortestOrLonger};
-ghost use Rattle.wasm_calls.specs.Appending.{IsRefusal, IsCallRefusal, IsRefusalOfOne};
+ghost use Rattle.wasm_calls.specs.Appending.{IsOperandsRefusal, IsCallRefusal, IsCallsRefusal};
 ghost use Rattle.wasm_instructions.specs.Instructions.{HasNoList, HasEncoding, IsAligned, IsCounted, IsShort, ItemsInRange, call};
 ghost use Rattle.wasm_instructions.specs.formats.Instructions.{Instructions, instruction, instructions_bytes};
 ghost use Rattle.wasm_calls.specs.Lengths.{HasNoLongList, IsShortEncoding};
@@ -22,7 +22,7 @@ use wasm_instructions::table::{Call, Opcode, Operands};
 pub fn append_calls<A: Allocator>(bytes: &mut Vec<u8, A>, calls: &[Call]) -> Result<(), EncodeError>
     ensures ok { OnOk result (bytes.new.items ≡ bytes.old.items ++ instructions_bytes calls.now) }
     ensures err { OnErr result (bytes.new.items ≡ bytes.old.items) }
-    ensures refused { IfErr result (IsRefusalOfOne calls.now) }
+    ensures refused { IfErr result (IsCallsRefusal calls.now) }
     ensures encodes { OnOk result (Instructions (instructions_bytes calls.now) calls.now) }
     ensures shortest { (bytes : List ℕ) → Instructions bytes calls.now →
         IsShortestOrLonger bytes (instructions_bytes calls.now) }
@@ -39,7 +39,7 @@ fn append_one_by_one<A: Allocator>(
 ) -> Result<(), EncodeError>
     ensures ok { OnOk result (bytes.new.items ≡ bytes.old.items ++ instructions_bytes calls.now) }
     ensures kept { take (length bytes.old.items) bytes.new.items ≡ bytes.old.items }
-    ensures refused { IfErr result (IsRefusalOfOne calls.now) }
+    ensures refused { IfErr result (IsCallsRefusal calls.now) }
     ensures encodes { OnOk result (Instructions (instructions_bytes calls.now) calls.now) }
 {
     for call in calls {
@@ -76,7 +76,7 @@ fn append_operands<A: Allocator>(
     ensures ok { OnOk result (bytes.new.items ≡ bytes.old.items ++ instruction.bytes (call op operands.now)) }
     ensures err { OnErr result (bytes.new.items ≡ bytes.old.items) }
     ensures fits { OnOk result (HasEncoding operands.now × ItemsInRange operands.now) }
-    ensures refused { IfErr result (IsRefusal operands.now) }
+    ensures refused { IfErr result (IsOperandsRefusal operands.now) }
     ensures room { vec_len bytes.old + 24 ≤ vec_capacity bytes.old → HasNoList operands.now → IsAligned operands.now → IsOk result }
     ensures in_range { HasNoLongList operands.now → ItemsInRange operands.now }
 {

@@ -5,3 +5,4 @@ pub mod IteratorLaws
 pub mod RefusalLaws
 pub mod GivenLists
 pub mod RawModuleLaws
+pub mod OnLiterals

@@ -5,7 +5,7 @@ ghost use Rattle.std.specs.Borrow.{Lends, follows, sem};
 ghost use Rattle.std.specs.Iterator.{size};
 ghost use Rattle.wasm_codec.specs.Encoding.{byte_list_bytes, IsCount, IsRefusal, IsShortestOrLonger, OnlyTooLong, too_long_at_once};
 ghost use Rattle.wasm_codec.specs.declared.encode.EncodeError.TheVariants.{Memory};
-ghost use Rattle.wasm_calls.specs.Appending.{IsRefusalOfOne};
+ghost use Rattle.wasm_calls.specs.Appending.{IsCallsRefusal};
 ghost use Rattle.wasm_modules.specs.declared.code.CodeBody.{CodeBody};
 ghost use Rattle.wasm_types.specs.declared.types.value.ValType.{ValType};
 ghost use Rattle.wasm_modules.specs.formats.CodeBodies.{code_section_body};
@@ -94,7 +94,7 @@ impl Function {
     pub fn calls(&mut self, calls: &[Call]) -> Result<(), EncodeError>
         ensures ok { OnOk result (GoesOnWith self.old calls.now self.new) }
         ensures err { OnErr result (self.new ≡ self.old) }
-        ensures refused { IfErr result (IsRefusalOfOne calls.now) }
+        ensures refused { IfErr result (IsCallsRefusal calls.now) }
     {
         append_calls(&mut self.bytes, calls)
     }

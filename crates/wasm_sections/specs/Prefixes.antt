@@ -17,17 +17,15 @@ pub record IsRefusedAt {V : Type 0} (F : Format V) (bytes : List ℕ) (at : ℕ)
   pub prefix : IsLongestPrefix (IsNothingOr F) bytes at
   pub unencoded : (v : V) → F.Encodes bytes v → ⊥
 
--- The value that the bytes encode was given, or it is told where they are refused. It needs no memory.
-abbrev pub ReadsWhole : {V : Type 0} → Format V → List ℕ → Result V ReadError → Type 0
-ReadsWhole F bytes (Ok v) = F.Encodes bytes v
-ReadsWhole F bytes (Err errors.Memory) = ⊥
-ReadsWhole F bytes (Err (errors.Refused at)) = IsRefusedAt F bytes at
-
--- the same, of a value that what was given stands for
+-- What was given stands for the value that the bytes encode, or it is told where they are refused. It needs no memory.
 abbrev pub ReadsWholeAs : {X V : Type 0} → (X → V) → Format V → List ℕ → Result X ReadError → Type 0
 ReadsWholeAs view F bytes (Ok x) = F.Encodes bytes (view x)
 ReadsWholeAs view F bytes (Err errors.Memory) = ⊥
 ReadsWholeAs view F bytes (Err (errors.Refused at)) = IsRefusedAt F bytes at
+
+-- the same, where the value itself was given
+abbrev pub ReadsWhole : {V : Type 0} → Format V → List ℕ → Result V ReadError → Type 0
+ReadsWhole F = ReadsWholeAs (λ v. v) F
 
 -- The shortest encoding of the value that the bytes encode was given, or it is told where they are refused. It needs no memory.
 abbrev pub RewritesWhole : {V : Type 0} → Format V → List ℕ → Result (Vec ℕ) ReadError → Type 0

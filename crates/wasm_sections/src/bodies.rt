@@ -72,11 +72,11 @@ pub(crate) fn normalise_body<T: WholeBody>(alloc: Global, body: &[u8]) -> Result
         encoding.items ≡ body.now → EncodesSome (narrow T.RewritableBody.format).Encodes body.now) }
 {
     T::is_lawful();
-    copied_and_rewritten::<T>(alloc, body)
+    rewrite_body_copy::<T>(alloc, body)
 }
 
 /// The same, with the clauses from which the others follow.
-fn copied_and_rewritten<T: WholeBody>(alloc: Global, body: &[u8]) -> Result<Vec<u8>, ReadError>
+fn rewrite_body_copy<T: WholeBody>(alloc: Global, body: &[u8]) -> Result<Vec<u8>, ReadError>
     ensures given { IfOk result (λ encoding.
         IsNormalForm T.RewritableBody.format.Encodes T.RewritableBody.format.bytes body.now encoding.items) }
     ensures prefix { IfRefused result (IsLongestPrefix (IsNothingOr T.RewritableBody.format) body.now) }

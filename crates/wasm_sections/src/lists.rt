@@ -88,11 +88,11 @@ pub(crate) fn normalise_items<T: Rewritable>(
         encoding.items ≡ body.now → EncodesSome (AskedList true T.format) body.now) }
 {
     T::is_lawful();
-    copied_and_rewritten::<T>(alloc, body)
+    rewrite_list_copy::<T>(alloc, body)
 }
 
 /// The same, with the clauses from which the others follow.
-fn copied_and_rewritten<T: Rewritable>(alloc: Global, body: &[u8]) -> Result<Vec<u8>, ReadError>
+fn rewrite_list_copy<T: Rewritable>(alloc: Global, body: &[u8]) -> Result<Vec<u8>, ReadError>
     ensures given { IfOk result (λ encoding.
         IsNormalForm (items T.format).Encodes (items T.format).bytes body.now encoding.items) }
     ensures prefix { IfRefused result (IsLongestPrefix (IsListPrefix T.format.Encodes) body.now) }

@@ -29,6 +29,7 @@ fn only_number(body: &[u8]) -> Result<u32, ReadError>
     ensures { ReadsWhole u32_format body.now result }
 {
     let mut cursor = Cursor::new(body);
+    // What is known of a place that is kept is that its bytes are bytes.
     let _start = cursor.fork();
     let Ok(number) = cursor.u32() else {
         return Err(ReadError::Refused { at: 0 });
@@ -59,6 +60,7 @@ fn only_number_strict(body: &[u8]) -> Result<u32, ReadError>
     ensures { ReadsWhole (narrow u32_format) body.now result }
 {
     let mut cursor = Cursor::new(body);
+    // What is known of a place that is kept is that its bytes are bytes.
     let _start = cursor.fork();
     let Ok(number) = cursor.u32() else {
         return Err(ReadError::Refused { at: 0 });

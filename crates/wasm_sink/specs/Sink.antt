@@ -13,7 +13,7 @@ use Rattle.wasm_instructions.specs.Instructions.{Instruction, call, IsCounted, H
 use Rattle.wasm_instructions.specs.formats.Instructions.{instruction, instructions_bytes}
 use Rattle.wasm_calls.specs.Lengths.{IsShortEncoding}
 use Rattle.wasm_codec.specs.Encoding.{IsShortest}
-use Rattle.wasm_calls.specs.Appending.{IsRefusal, IsCallRefusal, IsRefusalOfOne}
+use Rattle.wasm_calls.specs.Appending.{IsOperandsRefusal, IsCallRefusal, IsCallsRefusal}
 use Rattle.wasm_codec.specs.declared.encode.EncodeError.{EncodeError}
 use Rattle.wasm_codec.specs.declared.encode.EncodeError.TheVariants as errors
 
@@ -27,8 +27,8 @@ IsShortestCall = IsShortest instruction.Encodes instruction.bytes
 
 module _ {Z : Type 0} where
   -- the bytes behind the sink
-  abbrev pub written : InstructionSink Z → List ℕ
-  written s = s.bytes.now.items
+  abbrev pub bytes_behind : InstructionSink Z → List ℕ
+  bytes_behind s = s.bytes.now.items
 
   -- the sink that comes back is over the same list
   abbrev pub IsSameSink : InstructionSink Z → Result (InstructionSink Z) EncodeError → Type 0
@@ -36,12 +36,12 @@ module _ {Z : Type 0} where
 
   -- the sink goes on with the bytes of this call at its end
   abbrev pub GoesOn : InstructionSink Z → Instruction → InstructionSink Z → Type 0
-  GoesOn s c t = written t ≡ written s ++ instruction.bytes c
+  GoesOn s c t = bytes_behind t ≡ bytes_behind s ++ instruction.bytes c
 
   -- A chain of calls: the sink goes on with the first, the sink that comes back with the second, and so on. The clause
   -- `wrote` of a method or of `write_call` gives such a step at `Ok`.
   abbrev pub Chain : InstructionSink Z → List Instruction → InstructionSink Z → Type 0
-  Chain s [] t = written t ≡ written s
+  Chain s [] t = bytes_behind t ≡ bytes_behind s
   Chain s (c ∷ calls) t = (next : InstructionSink Z) × GoesOn s c next × Chain next calls t
 
   -- the sink goes on with the shortest encoding of this call at its end, from 1 to 20 bytes, or memory ran out
@@ -51,7 +51,7 @@ module _ {Z : Type 0} where
   -- the sink goes on with the shortest encoding of this call at its end, from 1 to 20 bytes, where it has one, or tells
   -- why not
   abbrev pub WritesBytes : InstructionSink Z → Opcode → Operands → Result (InstructionSink Z) EncodeError → Type 0
-  WritesBytes s op operands r = MatchResult r (λ t. GoesOn s (call op operands) t × IsShortestCall (call op operands) × IsShortEncoding (instruction.bytes (call op operands)) × HasEncoding operands) (IsRefusal operands)
+  WritesBytes s op operands r = MatchResult r (λ t. GoesOn s (call op operands) t × IsShortestCall (call op operands) × IsShortEncoding (instruction.bytes (call op operands)) × HasEncoding operands) (IsOperandsRefusal operands)
 
   -- the sink goes on with the bytes of this call at its end, or tells why not
   abbrev pub AppendsCall : InstructionSink Z → Instruction → Result (InstructionSink Z) EncodeError → Type 0
@@ -59,7 +59,7 @@ module _ {Z : Type 0} where
 
   -- the sink goes on with the bytes of these calls at its end, or tells why not
   abbrev pub AppendsCalls : InstructionSink Z → List Instruction → Result (InstructionSink Z) EncodeError → Type 0
-  AppendsCalls s calls r = MatchResult r (λ t. written t ≡ written s ++ instructions_bytes calls) (IsRefusalOfOne calls)
+  AppendsCalls s calls r = MatchResult r (λ t. bytes_behind t ≡ bytes_behind s ++ instructions_bytes calls) (IsCallsRefusal calls)
 
   -- there is room for any call without a list
   abbrev pub HasRoom : InstructionSink Z → Type 0

@@ -5,7 +5,7 @@
 //! as it was before the call.
 ghost use Rattle.std.specs.Prelude.{◌≡◌, ℕ, List, IsOk, IfOk};
 ghost use Rattle.std.specs.Borrow.{sem};
-ghost use Rattle.wasm_sink.specs.Sink.{IsUnchangedAtErr, IsSameSink, AppendsCall, AppendsCalls, Chain, written, HasRoom};
+ghost use Rattle.wasm_sink.specs.Sink.{IsUnchangedAtErr, IsSameSink, AppendsCall, AppendsCalls, Chain, bytes_behind, HasRoom};
 ghost use Rattle.wasm_instructions.specs.Instructions.{HasNoList};
 ghost use Rattle.wasm_instructions.specs.formats.Instructions.{Instructions, instruction, instructions_bytes};
 ghost use Rattle.wasm_calls.specs.Lengths.{HasNoLongList, IsShortEncoding};
@@ -32,7 +32,7 @@ use wasm_instructions::table::Call;
 /// Appends instructions to a list of bytes.
 ///
 /// Each method's documentation begins with the name of its instruction in the text format, the bytes of its opcode, and
-/// its operands in the order in which they are written. Any method answers `Memory` where the list can't grow, and those
+/// its operands in the order in which they are bytes_behind. Any method answers `Memory` where the list can't grow, and those
 /// with other errors name them.
 #[derive(Drop)]
 pub struct InstructionSink<'a, A: Allocator> {
@@ -55,7 +55,7 @@ impl<'a, A: Allocator> InstructionSink<'a, A> {
         ensures wrote { AppendsCall self.entry call.now result }
         ensures same { IsSameSink self.entry result }
         ensures room { HasRoom self.entry → HasNoList call.now.operands → IsOk result }
-        // What is written encodes the call.
+        // What is bytes_behind encodes the call.
         ensures encodes { IfOk result (λ _. instruction.Encodes (instruction.bytes call.now) call.now) }
         // A call without a list, or with a list of one type, has from 1 to 20 bytes.
         ensures length { HasNoLongList call.now.operands → IsShortEncoding (instruction.bytes call.now) }
@@ -74,11 +74,11 @@ impl<'a, A: Allocator> InstructionSink<'a, A> {
         ensures wrote { AppendsCalls self.entry calls.now result }
         ensures same { IsSameSink self.entry result }
         // After equal bytes, a chain of methods and `write_call`, one for each of the calls, writes the same.
-        ensures one_by_one { (start finish : InstructionSink A) → written start ≡ written self.entry →
-            Chain start calls.now finish → IfOk result (λ sink. written sink ≡ written finish) }
-        // What is written encodes the calls.
+        ensures one_by_one { (start finish : InstructionSink A) → bytes_behind start ≡ bytes_behind self.entry →
+            Chain start calls.now finish → IfOk result (λ sink. bytes_behind sink ≡ bytes_behind finish) }
+        // What is bytes_behind encodes the calls.
         ensures encodes { IfOk result (λ _. Instructions (instructions_bytes calls.now) calls.now) }
-        // Every other encoding of the calls is longer than what is written.
+        // Every other encoding of the calls is longer than what is bytes_behind.
         ensures shortest { (bytes : List ℕ) → Instructions bytes calls.now →
             IsShortestOrLonger bytes (instructions_bytes calls.now) }
         ensures* unchanged { sem 𝓛 (IsUnchangedAtErr A.row A.Allocator self.entry result) }

@@ -13,8 +13,8 @@ module _ {S A : Type 0} (encoding : A → List ℕ) (Can IsWritten : A → Type 
   AppendsItems s old new = (xs : List A) × Drains gives s xs × (new ≡ old ++ items_bytes encoding xs) × CanEncodeList Can xs × All IsWritten xs
 
   -- the same without their number, which is told
-  abbrev pub AppendsCounted : S → List ℕ → List ℕ → ℕ → Type 0
-  AppendsCounted s old new count = (xs : List A) × Drains gives s xs × (new ≡ old ++ flat_map encoding xs) × (count ≡ length xs) × All Can xs × All IsWritten xs
+  abbrev pub AppendsJoined : S → List ℕ → List ℕ → ℕ → Type 0
+  AppendsJoined s old new count = (xs : List A) × Drains gives s xs × (new ≡ old ++ flat_map encoding xs) × (count ≡ length xs) × All Can xs × All IsWritten xs
 
 module _ {S A : Type 0} (Can : A → Type 0) (refuses : A → EncodeError → Type 0) (gives : S → Option A → S → Type 0) where
   -- an item that was given can't be written, and this is an error that is answered for it

@@ -239,16 +239,13 @@ impl Encode for EncodedList {
         ensures few { IsCount self.now.count }
     {
         let start = sink.len();
-        let result = append_section(self, sink);
+        let result = append_sized(self, sink);
         keep_or_undo(sink, start, result)
     }
 }
 
 /// Appends the size, the number and the values of a list. An `Err` can leave a part of them.
-fn append_section<A: Allocator>(
-    list: &EncodedList,
-    sink: &mut Vec<u8, A>,
-) -> Result<(), EncodeError>
+fn append_sized<A: Allocator>(list: &EncodedList, sink: &mut Vec<u8, A>) -> Result<(), EncodeError>
     ensures ok { OnOk result (sink.new.items ≡ sink.old.items ++ byte_list_bytes (body_bytes list.now)) }
     ensures can { OnOk result (CountedSection list.now) }
     ensures refused { IfErr result (IsRefusal CountedSection OnlyTooLong list.now) }

@@ -1,7 +1,7 @@
 //! Lists of items, each with bytes of its own, after their number (Core 3.0, Lists).
 ghost use Rattle.std.specs.Prelude.{◌≡◌, ◌++◌, ◌+◌, ◌*◌, ◌≤◌, ◌<◌, ◌^◌, ℕ, List, length, take, OnOk, IfOk, IfErr, IsTrue, vec_len, vec_capacity};
 ghost use Rattle.std.specs.Iterator.{IsFinite, size};
-ghost use Rattle.wasm_calls.specs.Appending.{AppendsAll, AppendsCounted, IsRefusedList};
+ghost use Rattle.wasm_calls.specs.Appending.{AppendsAll, PutsItems, IsRefusedList};
 ghost use Rattle.wasm_codec.specs.Numbers.{unsigned_leb128};
 ghost use Rattle.wasm_types.specs.formats.Types.{val_type};
 ghost use Rattle.wasm_codec.specs.Lists.{items_bytes};
@@ -118,7 +118,7 @@ pub(super) fn reserve_list<T: Item, A: Allocator>(
 ///
 /// Writes the iterator's `len` as the count, and corrects it if the iterator yields fewer items.
 #[tactic(auto, unfolding(crate::specs::Appending::AppendsAll))]
-pub(super) fn append_each<T: Item, I: ExactSizeIterator<Item = T>, A: Allocator>(
+pub(super) fn put_list<T: Item, I: ExactSizeIterator<Item = T>, A: Allocator>(
     bytes: &mut Vec<u8, A>,
     told: u32,
     items: I,
@@ -134,9 +134,9 @@ pub(super) fn append_each<T: Item, I: ExactSizeIterator<Item = T>, A: Allocator>
     let start = bytes.len();
     put_u32(bytes, told);
     let came = if told <= SHORT {
-        append_counted::<T, I, A, true>(bytes, items)?
+        put_items::<T, I, A, true>(bytes, items)?
     } else {
-        append_counted::<T, I, A, false>(bytes, items)?
+        put_items::<T, I, A, false>(bytes, items)?
     };
     if came == told {
         return Ok(());
@@ -147,7 +147,7 @@ pub(super) fn append_each<T: Item, I: ExactSizeIterator<Item = T>, A: Allocator>
 /// Appends the items that come, and counts them. An `Err` can leave a part of them.
 ///
 /// Where there is room for all that the iterator tells (`FITS`) it asks for none, and otherwise before each item.
-fn append_counted<T: Item, I: ExactSizeIterator<Item = T>, A: Allocator, const FITS: bool>(
+fn put_items<T: Item, I: ExactSizeIterator<Item = T>, A: Allocator, const FITS: bool>(
     bytes: &mut Vec<u8, A>,
     items: I,
 ) -> Result<u32, AllocError>
@@ -155,7 +155,7 @@ fn append_counted<T: Item, I: ExactSizeIterator<Item = T>, A: Allocator, const F
     requires finite { IsFinite (I.remaining items) }
     requires few { size (I.remaining items) < 2 ^ 32 }
     requires room { IsTrue FITS → vec_len bytes.old + 11 * size (I.remaining items) ≤ vec_capacity bytes.old }
-    ensures ok { IfOk result (AppendsCounted I.next_gives T.InRange items T.encoding bytes.old.items bytes.new.items) }
+    ensures ok { IfOk result (PutsItems I.next_gives T.InRange items T.encoding bytes.old.items bytes.new.items) }
     ensures few { IfOk result (λ came. came ≤ size (I.remaining items)) }
     ensures kept { take (length bytes.old.items) bytes.new.items ≡ bytes.old.items }
 {

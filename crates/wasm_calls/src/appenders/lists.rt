@@ -9,7 +9,7 @@ ghost use Rattle.wasm_instructions.specs.formats.Instructions.{instruction};
 ghost use Rattle.wasm_instructions.specs.Operands.{ValTypeFits, CatchFits, HandleFits};
 ghost use Rattle.wasm_instructions.specs.declared.table.call.Operands.TheVariants as operands;
 
-use super::items::{Item, append_each, reserve_list};
+use super::items::{Item, put_list, reserve_list};
 use super::types::append_type;
 use std::alloc::{AllocError, Allocator};
 use wasm_codec::encode::leb128::put_u32;
@@ -33,7 +33,7 @@ pub fn append_branch_table<I: ExactSizeIterator<Item = u32>, A: Allocator>(
     ensures refused { IfErr result (IsRefusedList (size (I.remaining labels))) }
     ensures err { OnErr result (bytes.new.items ≡ bytes.old.items) }
 {
-    append_list(bytes, op, Before::Nothing, labels, Some(default))
+    append_list_call(bytes, op, Before::Nothing, labels, Some(default))
 }
 
 /// Appends an instruction with a list of types. One type is written in one growth.
@@ -69,7 +69,7 @@ pub fn append_types<I: ExactSizeIterator<Item = ValType>, A: Allocator>(
     ensures refused { IfErr result (IsRefusedList (size (I.remaining types))) }
     ensures err { OnErr result (bytes.new.items ≡ bytes.old.items) }
 {
-    append_list(bytes, op, Before::Nothing, types, None)
+    append_list_call(bytes, op, Before::Nothing, types, None)
 }
 
 /// Appends an instruction with a block type and clauses that catch exceptions.
@@ -86,7 +86,7 @@ pub fn append_try_table<I: ExactSizeIterator<Item = Catch>, A: Allocator>(
     ensures refused { IfErr result (IsRefusedList (size (I.remaining clauses))) }
     ensures err { OnErr result (bytes.new.items ≡ bytes.old.items) }
 {
-    append_list(bytes, op, Before::Block(block_type), clauses, None)
+    append_list_call(bytes, op, Before::Block(block_type), clauses, None)
 }
 
 /// Appends an instruction with an index and handlers.
@@ -103,7 +103,7 @@ pub fn append_resume<I: ExactSizeIterator<Item = Handle>, A: Allocator>(
     ensures refused { IfErr result (IsRefusedList (size (I.remaining handlers))) }
     ensures err { OnErr result (bytes.new.items ≡ bytes.old.items) }
 {
-    append_list(bytes, op, Before::Index(index), handlers, None)
+    append_list_call(bytes, op, Before::Index(index), handlers, None)
 }
 
 /// Appends an instruction with two indexes and handlers.
@@ -121,7 +121,7 @@ pub fn append_resume_throw<I: ExactSizeIterator<Item = Handle>, A: Allocator>(
     ensures refused { IfErr result (IsRefusedList (size (I.remaining handlers))) }
     ensures err { OnErr result (bytes.new.items ≡ bytes.old.items) }
 {
-    append_list(bytes, op, Before::TwoIndexes(first, second), handlers, None)
+    append_list_call(bytes, op, Before::TwoIndexes(first, second), handlers, None)
 }
 
 /// What stands between an opcode and a list.
@@ -157,7 +157,7 @@ fn put_before<A: Allocator>(bytes: &mut Vec<u8, A>, before: Before)
     }
 }
 
-/// Appends an instruction with a list that is held, as [`append_list`] does.
+/// Appends an instruction with a list that is held, as [`append_list_call`] does.
 pub(crate) fn append_held<T: Item, A: Allocator>(
     bytes: &mut Vec<u8, A>,
     op: Opcode,
@@ -172,11 +172,11 @@ pub(crate) fn append_held<T: Item, A: Allocator>(
     ensures fits { OnOk result (AllByRecursion T.InRange items.now) }
     ensures refused { IfErr result (IsRefusedList (length items.now)) }
 {
-    append_list(bytes, op, before, items.iter().copied(), after)
+    append_list_call(bytes, op, before, items.iter().copied(), after)
 }
 
 /// Appends an opcode, what stands before a list, the list, and the index after it, if there is one: all or nothing.
-fn append_list<T: Item, I: ExactSizeIterator<Item = T>, A: Allocator>(
+fn append_list_call<T: Item, I: ExactSizeIterator<Item = T>, A: Allocator>(
     bytes: &mut Vec<u8, A>,
     op: Opcode,
     before: Before,
@@ -194,7 +194,7 @@ fn append_list<T: Item, I: ExactSizeIterator<Item = T>, A: Allocator>(
     keep_or_undo(bytes, start, appended)
 }
 
-/// Appends an instruction with a list, as [`append_list`] does. An `Err` can leave a part of it.
+/// Appends an instruction with a list, as [`append_list_call`] does. An `Err` can leave a part of it.
 #[tactic(auto, unfolding(crate::specs::Appending::AppendsAll))]
 fn write_list<T: Item, I: ExactSizeIterator<Item = T>, A: Allocator>(
     bytes: &mut Vec<u8, A>,
@@ -212,7 +212,7 @@ fn write_list<T: Item, I: ExactSizeIterator<Item = T>, A: Allocator>(
     let counted = reserve_list::<T, A>(bytes, items.len())?;
     put_opcode(bytes, op);
     put_before(bytes, before);
-    append_each(bytes, counted, items)?;
+    put_list(bytes, counted, items)?;
     Ok(append_after(bytes, after)?)
 }
 

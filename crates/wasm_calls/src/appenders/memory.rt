@@ -1,6 +1,6 @@
 //! Instructions with memory arguments. An alignment of 64 or more is refused before anything grows.
 ghost use Rattle.std.specs.Prelude.{◌≡◌, ◌++◌, ◌+◌, ◌≤◌, ◌<◌, ◌↔◌, IsOk, IfErr, IsErrOf, OnOk, OnErr, vec_len, vec_capacity};
-ghost use Rattle.wasm_calls.specs.Appending.{IsRefusal};
+ghost use Rattle.wasm_calls.specs.Appending.{IsOperandsRefusal};
 ghost use Rattle.wasm_instructions.specs.Instructions.{IsShort, call};
 ghost use Rattle.wasm_instructions.specs.formats.Instructions.{instruction};
 ghost use Rattle.wasm_instructions.specs.declared.table.call.Operands.TheVariants as operands;
@@ -22,7 +22,7 @@ pub fn append_mem<A: Allocator>(
     requires short { IsShort op }
     ensures ok { OnOk result (bytes.new.items ≡ bytes.old.items ++ instruction.bytes (call op (operands.Mem memarg))) }
     ensures err { OnErr result (bytes.new.items ≡ bytes.old.items) }
-    ensures refused { IfErr result (IsRefusal (operands.Mem memarg)) }
+    ensures refused { IfErr result (IsOperandsRefusal (operands.Mem memarg)) }
     ensures aligned { OnOk result (memarg.align < 64) }
     ensures alignment { IsErrOf result EncodeError.Alignment ↔ 64 ≤ memarg.align }
     ensures room { vec_len bytes.old + 24 ≤ vec_capacity bytes.old → memarg.align < 64 → IsOk result }
@@ -47,7 +47,7 @@ pub fn append_mem_lane<A: Allocator>(
     requires short { IsShort op }
     ensures ok { OnOk result (bytes.new.items ≡ bytes.old.items ++ instruction.bytes (call op (operands.MemLane memarg lane))) }
     ensures err { OnErr result (bytes.new.items ≡ bytes.old.items) }
-    ensures refused { IfErr result (IsRefusal (operands.MemLane memarg lane)) }
+    ensures refused { IfErr result (IsOperandsRefusal (operands.MemLane memarg lane)) }
     ensures aligned { OnOk result (memarg.align < 64) }
     ensures alignment { IsErrOf result EncodeError.Alignment ↔ 64 ≤ memarg.align }
     ensures room { vec_len bytes.old + 24 ≤ vec_capacity bytes.old → memarg.align < 64 → IsOk result }

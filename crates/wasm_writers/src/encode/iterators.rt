@@ -2,7 +2,7 @@
 ghost use Rattle.std.specs.Prelude.{◌≡◌, ◌^◌, ◌≤◌, ◌⊎◌, OnOk, IfOk, IfErr, IsErrOf, length, take};
 ghost use Rattle.std.specs.Iterator.{IsFinite, size};
 ghost use Rattle.wasm_codec.specs.Encoding.{IsCount};
-ghost use Rattle.wasm_writers.specs.Iterators.{AppendsCounted, AppendsItems, IsItemsRefusal, IsRefusalOfGiven};
+ghost use Rattle.wasm_writers.specs.Iterators.{AppendsJoined, AppendsItems, IsItemsRefusal, IsRefusalOfGiven};
 ghost use Rattle.wasm_codec.specs.declared.encode.EncodeError.TheVariants.{Memory};
 
 use super::{Encode, EncodeError};
@@ -28,7 +28,7 @@ pub fn append_items<T: Encode + Drop, I: ExactSizeIterator<Item = T>, A: Allocat
     };
     let start = sink.len();
     told.encode(sink)?;
-    let came = append_each(items, sink)?;
+    let came = append_given(items, sink)?;
     if came != told {
         mend_count(sink, start, told, came)?;
     }
@@ -36,14 +36,14 @@ pub fn append_items<T: Encode + Drop, I: ExactSizeIterator<Item = T>, A: Allocat
 }
 
 /// Appends the bytes of the items that come, and counts them. An `Err` can leave a part of them.
-fn append_each<T: Encode + Drop, I: ExactSizeIterator<Item = T>, A: Allocator>(
+fn append_given<T: Encode + Drop, I: ExactSizeIterator<Item = T>, A: Allocator>(
     items: I,
     sink: &mut Vec<u8, A>,
 ) -> Result<u32, EncodeError>
     requires next { I.can_next items }
     requires ends { IsFinite (I.remaining items) }
     requires few { IsCount (size (I.remaining items)) }
-    ensures ok { IfOk result (λ came. AppendsCounted T.bytes T.CanEncode T.IsWritten I.next_gives items sink.old.items sink.new.items came) }
+    ensures ok { IfOk result (λ came. AppendsJoined T.bytes T.CanEncode T.IsWritten I.next_gives items sink.old.items sink.new.items came) }
     ensures few { IfOk result (λ came. came ≤ size (I.remaining items)) }
     ensures refused { IfErr result (λ e. (e ≡ Memory) ⊎ IsRefusalOfGiven T.CanEncode T.refuses I.next_gives items e) }
     ensures kept { take (length sink.old.items) sink.new.items ≡ sink.old.items }

@@ -7,15 +7,15 @@ use Rattle.wasm_calls.proofs.appenders.lists.append_held.Goals as goal
 
 pub returns-clause-ok : goal.returns-clause-ok
 returns-clause-ok g c =
-    (held g.T.Item.InRange (λ xs. list_bytes c.args.op c.args.before (items_bytes g.T.Item.encoding xs) c.args.after) c.copied.result c.args.items.now c.args.bytes.now.items c.append_list.new.bytes.items c.append_list.result
-    (ap iter_rest c.copied.ensures.source ∙ c.iter.ensures.rest) c.append_list.ensures.ok).ok
+    (held g.T.Item.InRange (λ xs. list_bytes c.args.op c.args.before (items_bytes g.T.Item.encoding xs) c.args.after) c.copied.result c.args.items.now c.args.bytes.now.items c.append_list_call.new.bytes.items c.append_list_call.result
+    (ap iter_rest c.copied.ensures.source ∙ c.iter.ensures.rest) c.append_list_call.ensures.ok).ok
 
 pub returns-clause-counted : goal.returns-clause-counted
 returns-clause-counted g c =
-    (held g.T.Item.InRange (λ xs. list_bytes c.args.op c.args.before (items_bytes g.T.Item.encoding xs) c.args.after) c.copied.result c.args.items.now c.args.bytes.now.items c.append_list.new.bytes.items c.append_list.result
-    (ap iter_rest c.copied.ensures.source ∙ c.iter.ensures.rest) c.append_list.ensures.ok).counted
+    (held g.T.Item.InRange (λ xs. list_bytes c.args.op c.args.before (items_bytes g.T.Item.encoding xs) c.args.after) c.copied.result c.args.items.now c.args.bytes.now.items c.append_list_call.new.bytes.items c.append_list_call.result
+    (ap iter_rest c.copied.ensures.source ∙ c.iter.ensures.rest) c.append_list_call.ensures.ok).counted
 
 pub returns-clause-fits : goal.returns-clause-fits
 returns-clause-fits g c =
-    (held g.T.Item.InRange (λ xs. list_bytes c.args.op c.args.before (items_bytes g.T.Item.encoding xs) c.args.after) c.copied.result c.args.items.now c.args.bytes.now.items c.append_list.new.bytes.items c.append_list.result
-    (ap iter_rest c.copied.ensures.source ∙ c.iter.ensures.rest) c.append_list.ensures.ok).fits
+    (held g.T.Item.InRange (λ xs. list_bytes c.args.op c.args.before (items_bytes g.T.Item.encoding xs) c.args.after) c.copied.result c.args.items.now c.args.bytes.now.items c.append_list_call.new.bytes.items c.append_list_call.result
+    (ap iter_rest c.copied.ensures.source ∙ c.iter.ensures.rest) c.append_list_call.ensures.ok).fits

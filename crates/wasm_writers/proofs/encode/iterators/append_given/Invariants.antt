@@ -1,7 +1,7 @@
 use Rattle.std.proofs.Common.{◌≡◌, ◌++◌, ◌+◌, ◌≤◌, length}
 use Rattle.std.specs.Iterator.{size}
 use Rattle.std.specs.List.{All, flat_map}
-use Rattle.wasm_writers.proofs.encode.iterators.append_each.Given as goal
+use Rattle.wasm_writers.proofs.encode.iterators.append_given.Given as goal
 
 abbrev pub invariant-loop-item : goal.invariant-loop-item
 invariant-loop-item g l =

@@ -2,7 +2,7 @@ use Rattle.std.proofs.Common.{sym}
 use Rattle.std.proofs.iter.Next.{Yields-more}
 use Rattle.std.proofs.lemmas.Result.{err_from_is_err_and}
 use Rattle.wasm_writers.proofs.WrittenLists.{item_refused}
-use Rattle.wasm_writers.proofs.encode.iterators.append_each.Goals as goal
+use Rattle.wasm_writers.proofs.encode.iterators.append_given.Goals as goal
 
 pub returns-in_err-encode-clause-refused : goal.returns-in_err-encode-clause-refused
 returns-in_err-encode-clause-refused g c =

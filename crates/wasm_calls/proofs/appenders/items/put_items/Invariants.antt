@@ -2,7 +2,7 @@ use Rattle.std.proofs.Common.{◌≡◌, ◌++◌, ◌+◌, ◌*◌, ◌≤◌, 
 use Rattle.std.specs.List.{AllByRecursion, flat_map}
 use Rattle.std.specs.Iterator.{size}
 use Rattle.wasm_codec.proofs.AskedLaws.{flag}
-use Rattle.wasm_calls.proofs.appenders.items.append_counted.Given as goal
+use Rattle.wasm_calls.proofs.appenders.items.put_items.Given as goal
 
 abbrev pub invariant-loop-item : goal.invariant-loop-item
 invariant-loop-item g l =
