@@ -9,7 +9,7 @@ use std::alloc::Global;
 use wasm_encoder::{CodeSection, Encode, EncodeError, Function, InstructionSink, MemArg};
 
 /// Appends a function body that adds its two parameters, in these bytes.
-#[tactic(auto, unfolding(wasm_instructions::specs::formats::Instructions::instruction, wasm_instructions::specs::formats::Instructions::operands_format, wasm_instructions::specs::formats::Instructions::opcode, wasm_codec::specs::Numbers::unsigned_leb128, wasm_codec::specs::Numbers::digits_of))]
+#[tactic(auto, unfolding(wasm_encoder::proofs::OnLiterals::wasm_encoder_on_literals))]
 pub fn add(code: &mut Vec<u8>) -> Result<(), EncodeError>
     ensures written { OnOk result (code.new.items ≡
         code.old.items ++ 0x20 ∷ 0x00 ∷ 0x20 ∷ 0x01 ∷ 0x6a ∷ 0x0b ∷ []) }
@@ -50,7 +50,7 @@ pub fn add_function(code: &mut CodeSection, function: &mut Function) -> Result<(
 }
 
 /// A section of that function alone, where it has no locals.
-#[tactic(auto, unfolding(wasm_codec::specs::Numbers::unsigned_leb128, wasm_codec::specs::Numbers::digits_of))]
+#[tactic(auto, unfolding(wasm_encoder::proofs::OnLiterals::wasm_encoder_on_literals))]
 pub fn add_alone(code: &mut CodeSection, function: &mut Function) -> Result<(), EncodeError>
     requires none { (code.old.count ≡ 0) × (code.old.bytes ≡ []) }
     requires no_locals { function.old ≡ 0x00 ∷ [] }
@@ -62,7 +62,7 @@ pub fn add_alone(code: &mut CodeSection, function: &mut Function) -> Result<(), 
 }
 
 /// What is written of that section.
-#[tactic(auto, unfolding(wasm_codec::specs::Numbers::unsigned_leb128, wasm_codec::specs::Numbers::digits_of))]
+#[tactic(auto, unfolding(wasm_encoder::proofs::OnLiterals::wasm_encoder_on_literals))]
 pub fn encoded(code: &CodeSection, sink: &mut Vec<u8>) -> Result<(), EncodeError>
     requires bytes { code.now.bytes ≡ 0x07 ∷ 0x00 ∷ 0x20 ∷ 0x00 ∷ 0x20 ∷ 0x01 ∷ 0x6a ∷ 0x0b ∷ [] }
     requires count { code.now.count ≡ 1 }
