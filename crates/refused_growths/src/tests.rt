@@ -108,8 +108,8 @@ fn calls_are_read(rt: HostRuntime) -> Result<(), Fail> {
 
 #[test]
 fn calls_are_normalised(rt: HostRuntime) -> Result<(), Fail> {
-    let text = read_again(&rt, || normalise_instructions(rt.alloc(), CODE.as_slice()))?;
-    assert_eq!(rt; text.as_slice(), NORMAL.as_slice());
+    let encoding = read_again(&rt, || normalise_instructions(rt.alloc(), CODE.as_slice()))?;
+    assert_eq!(rt; encoding.as_slice(), NORMAL.as_slice());
     Ok(())
 }
 

@@ -16,7 +16,7 @@ const NORMAL: &[u8] = b"\x00asm\x01\x00\x00\x00\x01\x08\x02\x60\x01\x7f\x00\x5e\
 
 #[test]
 fn modules_are_normalised(rt: HostRuntime) -> Result<(), Fail> {
-    let text = read_again(&rt, || normalise_module(rt.alloc(), MODULE))?;
-    assert_eq!(rt; text.as_slice(), NORMAL);
+    let encoding = read_again(&rt, || normalise_module(rt.alloc(), MODULE))?;
+    assert_eq!(rt; encoding.as_slice(), NORMAL);
     Ok(())
 }

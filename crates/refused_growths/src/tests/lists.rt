@@ -86,7 +86,7 @@ fn lists_are_read(rt: HostRuntime) -> Result<(), Fail> {
 
 #[test]
 fn lists_are_normalised(rt: HostRuntime) -> Result<(), Fail> {
-    let text = read_again(&rt, || normalise_instructions(rt.alloc(), CODE.as_slice()))?;
-    assert_eq!(rt; text.as_slice(), NORMAL.as_slice());
+    let encoding = read_again(&rt, || normalise_instructions(rt.alloc(), CODE.as_slice()))?;
+    assert_eq!(rt; encoding.as_slice(), NORMAL.as_slice());
     Ok(())
 }

@@ -152,13 +152,13 @@ fn add_last_group(
 }
 
 /// The bytes of a section, which is encoded again where it was refused.
-fn text(rt: &(impl AllocGlobal + Print), types: &TypeSection) -> Result<Vec<u8>, Fail> {
-    let mut text = Vec::new(rt.alloc());
-    if let Err(EncodeError::Memory) = types.encode(&mut text) {
+fn encoding_of(rt: &(impl AllocGlobal + Print), types: &TypeSection) -> Result<Vec<u8>, Fail> {
+    let mut encoding = Vec::new(rt.alloc());
+    if let Err(EncodeError::Memory) = types.encode(&mut encoding) {
         println!(rt; "refused")?;
-        types.encode(&mut text)?;
+        types.encode(&mut encoding)?;
     }
-    Ok(text)
+    Ok(encoding)
 }
 
 #[test]
@@ -167,9 +167,9 @@ fn types_are_added(rt: HostRuntime) -> Result<(), Fail> {
     add_plain_types(&rt, &mut types)?;
     add_subtype(&rt, &mut types)?;
     add_last_group(&rt, &mut types)?;
-    let text = text(&rt, &types)?;
-    assert_eq!(rt; text.first(), Some(&27));
-    assert_eq!(rt; text.get(1..), Some(BODY.as_slice()));
+    let encoding = encoding_of(&rt, &types)?;
+    assert_eq!(rt; encoding.first(), Some(&27));
+    assert_eq!(rt; encoding.get(1..), Some(BODY.as_slice()));
     Ok(())
 }
 
@@ -197,8 +197,8 @@ fn entries_are_read_and_added(rt: HostRuntime) -> Result<(), Fail> {
         assert_eq!(rt; nothing.as_slice(), [1, 0].as_slice());
         types.entries(entries.as_slice())?;
     }
-    let text = text(&rt, &types)?;
-    assert_eq!(rt; text.get(1..), Some(SHORT_BODY.as_slice()));
+    let encoding = encoding_of(&rt, &types)?;
+    assert_eq!(rt; encoding.get(1..), Some(SHORT_BODY.as_slice()));
     Ok(())
 }
 
@@ -222,8 +222,8 @@ fn have_same_bytes(
     one: &TypeSection,
     other: &TypeSection,
 ) -> Result<(), Fail> {
-    let bytes = text(rt, one)?;
-    assert_eq!(rt; bytes, text(rt, other)?);
+    let bytes = encoding_of(rt, one)?;
+    assert_eq!(rt; bytes, encoding_of(rt, other)?);
     Ok(())
 }
 
@@ -238,8 +238,8 @@ fn sections_are_cloned(rt: HostRuntime) -> Result<(), Fail> {
 
 #[test]
 fn bodies_are_normalised(rt: HostRuntime) -> Result<(), Fail> {
-    let text = read_again(&rt, || normalise_type_section(rt.alloc(), BODY.as_slice()))?;
-    assert_eq!(rt; text.as_slice(), BODY.as_slice());
+    let encoding = read_again(&rt, || normalise_type_section(rt.alloc(), BODY.as_slice()))?;
+    assert_eq!(rt; encoding.as_slice(), BODY.as_slice());
     Ok(())
 }
 
