@@ -5,11 +5,11 @@ use Rattle.wasm_codec.specs.declared.reader.ReadError.TheVariants as errors
 use Rattle.wasm_codec.specs.Grammar.{Grammar}
 use Rattle.wasm_codec.specs.Answers.{IsOrMemory, EncodesSome, IfRefused}
 use Rattle.nosgrivel_c.specs.declared.delivery.TheConstants.{REFUSED}
-use Rattle.nosgrivel_c.specs.Delivery.{IsRefusal, IsDelivered, IsJudged, IsChecked}
+use Rattle.nosgrivel_c.specs.Delivery.{TellsRefusal, IsDelivered, IsJudged, IsChecked}
 
 -- an error that is answered by a refusal
 refuses_none : {X V A : Type 0} (G : Grammar V) (given : V → A) (view : X → A) (bytes : List ℕ) (error : ReadError) (old new status : ℕ)
-    → ((v : V) → G bytes v → IsOrMemory view (given v) (Err error)) → IsRefusal error old new status → status ≡ REFUSED → EncodesSome G bytes → ⊥
+    → ((v : V) → G bytes v → IsOrMemory view (given v) (Err error)) → TellsRefusal error old new status → status ≡ REFUSED → EncodesSome G bytes → ⊥
 refuses_none G given view bytes (errors.Refused at) old new status complete r s some = complete some.0 some.1
 refuses_none G given view bytes errors.Memory old new status complete r s some = absurd (omega (arith, r.0, s))
 

@@ -6,7 +6,7 @@ use Rattle.wasm_codec.specs.declared.reader.ReadError.TheVariants as errors
 -- ---- the caller's memory
 
 -- The output begins with such an encoding of this length, and is otherwise as it was.
-pub record IsWritten (Normal : List ℕ → Type 0) (old new : List ℕ) (count : ℕ) : Type 0 where
+pub record BeginsWithNormal (Normal : List ℕ → Type 0) (old new : List ℕ) (count : ℕ) : Type 0 where
   pub encoding : List ℕ
   pub normal : Normal encoding
   pub len : count ≡ length encoding
@@ -14,7 +14,7 @@ pub record IsWritten (Normal : List ℕ → Type 0) (old new : List ℕ) (count 
   pub output : new ≡ encoding ++ drop count old
 
 -- There is such an encoding of this length, for which the output is too short.
-pub record IsTooLong (Normal : List ℕ → Type 0) (old : List ℕ) (count : ℕ) : Type 0 where
+pub record IsOutputTooShort (Normal : List ℕ → Type 0) (old : List ℕ) (count : ℕ) : Type 0 where
   pub encoding : List ℕ
   pub normal : Normal encoding
   pub len : count ≡ length encoding
@@ -61,24 +61,24 @@ IsJudgement status = (status ≡ c_normal) ⊎ (status ≡ c_refused) ⊎ (statu
 -- ---- what follows what a normaliser or a reader gave
 
 -- an error is answered so
-abbrev pub IsRefusal : ReadError → ℕ → ℕ → ℕ → Type 0
-IsRefusal (errors.Refused at) old new status = (status ≡ c_refused) × (new ≡ at)
-IsRefusal errors.Memory old new status = (status ≡ c_no_memory) × (new ≡ old)
+abbrev pub TellsRefusal : ReadError → ℕ → ℕ → ℕ → Type 0
+TellsRefusal (errors.Refused at) old new status = (status ≡ c_refused) × (new ≡ at)
+TellsRefusal errors.Memory old new status = (status ≡ c_no_memory) × (new ≡ old)
 
 -- what a normaliser gave, seen by view, was written, or the output is too short for it
 abbrev pub IsDelivered : {X : Type 0} → (X → List ℕ) → Result X ReadError → List ℕ → List ℕ → ℕ → ℕ → ℕ → Type 0
 IsDelivered view (Ok x) old new before count status = (count ≡ length (view x)) × (
     ((status ≡ c_normal) × (count ≤ length old) × (new ≡ view x ++ drop count old))
     ⊎ ((status ≡ c_too_long) × (length old < count) × (new ≡ old)))
-IsDelivered view (Err error) old new before count status = IsRefusal error before count status × (new ≡ old)
+IsDelivered view (Err error) old new before count status = TellsRefusal error before count status × (new ≡ old)
 
 -- what a normaliser gave, seen by view, was held against the length of the input
 abbrev pub IsJudged : {X : Type 0} → (X → List ℕ) → Result X ReadError → ℕ → ℕ → ℕ → ℕ → Type 0
 IsJudged view (Ok x) len before count status = (count ≡ length (view x)) × (
     ((status ≡ c_normal) × (count ≡ len)) ⊎ ((status ≡ c_not_normal) × (count ≡ len → ⊥)))
-IsJudged view (Err error) len before count status = IsRefusal error before count status
+IsJudged view (Err error) len before count status = TellsRefusal error before count status
 
 -- what a check found of so many bytes was answered
 abbrev pub IsChecked : {X : Type 0} → Result X ReadError → ℕ → ℕ → ℕ → ℕ → Type 0
 IsChecked (Ok x) len before count status = (status ≡ c_normal) × (count ≡ len)
-IsChecked (Err error) len before count status = IsRefusal error before count status
+IsChecked (Err error) len before count status = TellsRefusal error before count status

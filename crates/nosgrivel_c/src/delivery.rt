@@ -1,6 +1,6 @@
 //! What the calls answer, and how a result gets into the caller's memory.
 ghost use Rattle.std.specs.Prelude.{length};
-ghost use Rattle.nosgrivel_c.specs.Delivery.{IsDelivered, IsJudged, IsChecked, IsRefusal};
+ghost use Rattle.nosgrivel_c.specs.Delivery.{IsDelivered, IsJudged, IsChecked, TellsRefusal};
 
 use wasm_codec::reader::ReadError;
 
@@ -72,7 +72,7 @@ pub(crate) fn answer(checked: Result<(), ReadError>, input: &[u8], count: &mut u
 
 /// Says why there is no result.
 fn refuse(error: ReadError, count: &mut usize) -> u32
-    ensures { IsRefusal error count.old count.new result }
+    ensures { TellsRefusal error count.old count.new result }
 {
     match error {
         ReadError::Refused { at } => {

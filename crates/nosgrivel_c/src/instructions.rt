@@ -2,7 +2,7 @@
 ghost use Rattle.std.specs.Prelude.{◌≡◌, ◌≤◌, ◌≢◌, length};
 ghost use Rattle.wasm_codec.specs.Answers.{IsLongestPrefix, IsNormalForm, EncodesSome};
 ghost use Rattle.wasm_instructions.specs.formats.Instructions.{Instructions, ShortestInstructions, instructions_bytes};
-ghost use Rattle.nosgrivel_c.specs.Delivery.{IsWritten, IsTooLong, IsShorter, IsDelivery, IsAnswer, IsJudgement};
+ghost use Rattle.nosgrivel_c.specs.Delivery.{BeginsWithNormal, IsOutputTooShort, IsShorter, IsDelivery, IsAnswer, IsJudgement};
 ghost use Rattle.nosgrivel_c.specs.declared.delivery.TheConstants.{NORMAL, REFUSED, NOT_NORMAL, NO_MEMORY, TOO_LONG};
 
 use crate::delivery::{answer, deliver, judge};
@@ -22,13 +22,13 @@ pub extern "C" fn nosgrivel_normalise_instructions(
 ) -> u32
     // A normal form of the input stands at the beginning of the output, and the count is its length.
     ensures written { result ≡ NORMAL →
-        IsWritten (IsNormalForm Instructions instructions_bytes input.now) output.old output.new count.new }
+        BeginsWithNormal (IsNormalForm Instructions instructions_bytes input.now) output.old output.new count.new }
     // Only what encodes nothing is refused, and the count is the length of the longest prefix that is whole.
     ensures refused { result ≡ REFUSED → IsLongestPrefix (EncodesSome Instructions) input.now count.new }
     ensures encodes_none { result ≡ REFUSED → EncodesSome Instructions input.now → ⊥ }
     // A normal form is longer than the output, and the count is its length.
     ensures too_long { result ≡ TOO_LONG →
-        IsTooLong (IsNormalForm Instructions instructions_bytes input.now) output.old count.new }
+        IsOutputTooShort (IsNormalForm Instructions instructions_bytes input.now) output.old count.new }
     // That can't be where the output is as long as the input.
     ensures room { length input.now ≤ length output.old → result ≢ TOO_LONG }
     // Unless it was written, the output is as it was.
@@ -52,7 +52,7 @@ pub extern "C" fn nosgrivel_normalise_instructions_in_place(
 ) -> u32
     // A normal form of the bytes stands at their beginning, and the count is its length.
     ensures written { result ≡ NORMAL →
-        IsWritten (IsNormalForm Instructions instructions_bytes bytes.old) bytes.old bytes.new count.new }
+        BeginsWithNormal (IsNormalForm Instructions instructions_bytes bytes.old) bytes.old bytes.new count.new }
     // Only what encodes nothing is refused, and the count is the length of the longest prefix that is whole.
     ensures refused { result ≡ REFUSED → IsLongestPrefix (EncodesSome Instructions) bytes.old count.new }
     ensures encodes_none { result ≡ REFUSED → EncodesSome Instructions bytes.old → ⊥ }

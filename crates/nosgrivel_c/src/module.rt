@@ -4,7 +4,7 @@ ghost use Rattle.wasm_codec.specs.Answers.{IsLongestPrefix, IsNormalForm, Encode
 ghost use Rattle.wasm_modules.specs.formats.Modules.{decoded_module, ShortestModule};
 ghost use Rattle.wasm_modules.specs.DecodedModules.{IsDecodedModulePrefix};
 ghost use Rattle.wasm_modules.specs.Modules.{IsShortestModulePrefix};
-ghost use Rattle.nosgrivel_c.specs.Delivery.{IsWritten, IsTooLong, IsShorter, IsDelivery, IsAnswer, IsJudgement};
+ghost use Rattle.nosgrivel_c.specs.Delivery.{BeginsWithNormal, IsOutputTooShort, IsShorter, IsDelivery, IsAnswer, IsJudgement};
 ghost use Rattle.nosgrivel_c.specs.declared.delivery.TheConstants.{NORMAL, REFUSED, NOT_NORMAL, NO_MEMORY, TOO_LONG};
 
 use crate::delivery::{answer, deliver, judge};
@@ -27,13 +27,13 @@ pub extern "C" fn nosgrivel_normalise_module(
 ) -> u32
     // A normal form of the input stands at the beginning of the output, and the count is its length.
     ensures written { result ≡ NORMAL →
-        IsWritten (IsNormalForm decoded_module.Encodes decoded_module.bytes input.now) output.old output.new count.new }
+        BeginsWithNormal (IsNormalForm decoded_module.Encodes decoded_module.bytes input.now) output.old output.new count.new }
     // Only what encodes nothing is refused, and the count is the length of the longest prefix that is whole.
     ensures refused { result ≡ REFUSED → IsLongestPrefix IsDecodedModulePrefix input.now count.new }
     ensures encodes_none { result ≡ REFUSED → EncodesSome decoded_module.Encodes input.now → ⊥ }
     // A normal form is longer than the output, and the count is its length.
     ensures too_long { result ≡ TOO_LONG →
-        IsTooLong (IsNormalForm decoded_module.Encodes decoded_module.bytes input.now) output.old count.new }
+        IsOutputTooShort (IsNormalForm decoded_module.Encodes decoded_module.bytes input.now) output.old count.new }
     // That can't be where the output is as long as the input.
     ensures room { length input.now ≤ length output.old → result ≢ TOO_LONG }
     // Unless it was written, the output is as it was.
@@ -57,7 +57,7 @@ pub extern "C" fn nosgrivel_normalise_module_in_place(
 ) -> u32
     // A normal form of the bytes stands at their beginning, and the count is its length.
     ensures written { result ≡ NORMAL →
-        IsWritten (IsNormalForm decoded_module.Encodes decoded_module.bytes bytes.old) bytes.old bytes.new count.new }
+        BeginsWithNormal (IsNormalForm decoded_module.Encodes decoded_module.bytes bytes.old) bytes.old bytes.new count.new }
     // Only what encodes nothing is refused, and the count is the length of the longest prefix that is whole.
     ensures refused { result ≡ REFUSED → IsLongestPrefix IsDecodedModulePrefix bytes.old count.new }
     ensures encodes_none { result ≡ REFUSED → EncodesSome decoded_module.Encodes bytes.old → ⊥ }
