@@ -52,7 +52,7 @@ fn only_custom<'a>(body: &'a [u8]) -> Result<CustomSection<'a>, ReadError>
     ensures { ReadsWholeAs custom_parts custom_body body.now result }
 {
     let mut cursor = Cursor::new(body);
-    // What is known of a place that is kept is that its bytes are bytes.
+    // `fork` tells the proof that all that is left are bytes.
     let _start = cursor.fork();
     let Ok(name) = read_name(&mut cursor) else {
         return Err(ReadError::Refused { at: 0 });
@@ -93,7 +93,7 @@ fn only_custom_strict<'a>(body: &'a [u8]) -> Result<CustomSection<'a>, ReadError
     ensures { ReadsWholeAs custom_parts (narrow custom_body) body.now result }
 {
     let mut cursor = Cursor::new(body);
-    // What is known of a place that is kept is that its bytes are bytes.
+    // `fork` tells the proof that all that is left are bytes.
     let _start = cursor.fork();
     let Ok(name) = read_name(&mut cursor) else {
         return Err(ReadError::Refused { at: 0 });

@@ -29,7 +29,7 @@ fn only_number(body: &[u8]) -> Result<u32, ReadError>
     ensures { ReadsWhole u32_format body.now result }
 {
     let mut cursor = Cursor::new(body);
-    // What is known of a place that is kept is that its bytes are bytes.
+    // `fork` tells the proof that all that is left are bytes.
     let _start = cursor.fork();
     let Ok(number) = cursor.u32() else {
         return Err(ReadError::Refused { at: 0 });
@@ -60,7 +60,7 @@ fn only_number_strict(body: &[u8]) -> Result<u32, ReadError>
     ensures { ReadsWhole (narrow u32_format) body.now result }
 {
     let mut cursor = Cursor::new(body);
-    // What is known of a place that is kept is that its bytes are bytes.
+    // `fork` tells the proof that all that is left are bytes.
     let _start = cursor.fork();
     let Ok(number) = cursor.u32() else {
         return Err(ReadError::Refused { at: 0 });
