@@ -58,7 +58,7 @@ impl ConstExpr {
     }
 
     /// `i32.const`
-    #[tactic(auto, using(crate::proofs::ExprLaws::i32_const_closed))]
+    #[tactic(auto, using(crate::proofs::ExprLaws::alone_closed))]
     pub fn i32_const(alloc: Global, value: i32) -> Result<ConstExpr, EncodeError>
         ensures ok { IfOk result (λ expr. expr ≡ call (without_prefix 0x41) (operands.I32 value) ∷ []) }
         ensures err { IfErr result (λ e. e ≡ Memory) }
@@ -70,7 +70,7 @@ impl ConstExpr {
     }
 
     /// `i64.const`
-    #[tactic(auto, using(crate::proofs::ExprLaws::i64_const_closed))]
+    #[tactic(auto, using(crate::proofs::ExprLaws::alone_closed))]
     pub fn i64_const(alloc: Global, value: i64) -> Result<ConstExpr, EncodeError>
         ensures ok { IfOk result (λ expr. expr ≡ call (without_prefix 0x42) (operands.I64 value) ∷ []) }
         ensures err { IfErr result (λ e. e ≡ Memory) }
@@ -82,7 +82,7 @@ impl ConstExpr {
     }
 
     /// `f32.const`
-    #[tactic(auto, using(crate::proofs::ExprLaws::f32_const_closed))]
+    #[tactic(auto, using(crate::proofs::ExprLaws::alone_closed))]
     pub fn f32_const(alloc: Global, value: Ieee32) -> Result<ConstExpr, EncodeError>
         ensures ok { IfOk result (λ expr. expr ≡ call (without_prefix 0x43) (operands.F32 value) ∷ []) }
         ensures err { IfErr result (λ e. e ≡ Memory) }
@@ -94,7 +94,7 @@ impl ConstExpr {
     }
 
     /// `f64.const`
-    #[tactic(auto, using(crate::proofs::ExprLaws::f64_const_closed))]
+    #[tactic(auto, using(crate::proofs::ExprLaws::alone_closed))]
     pub fn f64_const(alloc: Global, value: Ieee64) -> Result<ConstExpr, EncodeError>
         ensures ok { IfOk result (λ expr. expr ≡ call (without_prefix 0x44) (operands.F64 value) ∷ []) }
         ensures err { IfErr result (λ e. e ≡ Memory) }
@@ -106,7 +106,7 @@ impl ConstExpr {
     }
 
     /// `global.get`
-    #[tactic(auto, using(crate::proofs::ExprLaws::global_get_closed))]
+    #[tactic(auto, using(crate::proofs::ExprLaws::alone_closed))]
     pub fn global_get(alloc: Global, index: u32) -> Result<ConstExpr, EncodeError>
         ensures ok { IfOk result (λ expr. expr ≡ call (without_prefix 0x23) (operands.Index index) ∷ []) }
         ensures err { IfErr result (λ e. e ≡ Memory) }
@@ -118,7 +118,7 @@ impl ConstExpr {
     }
 
     /// `ref.null`
-    #[tactic(auto, using(crate::proofs::ExprLaws::ref_null_closed))]
+    #[tactic(auto, using(crate::proofs::ExprLaws::alone_closed))]
     pub fn ref_null(alloc: Global, ty: HeapType) -> Result<ConstExpr, EncodeError>
         ensures ok { IfOk result (λ expr. expr ≡ call (without_prefix 0xd0) (operands.Heap ty) ∷ []) }
         ensures err { IfErr result (λ e. e ≡ Memory) }
@@ -130,7 +130,7 @@ impl ConstExpr {
     }
 
     /// `ref.func`
-    #[tactic(auto, using(crate::proofs::ExprLaws::ref_func_closed))]
+    #[tactic(auto, using(crate::proofs::ExprLaws::alone_closed))]
     pub fn ref_func(alloc: Global, index: u32) -> Result<ConstExpr, EncodeError>
         ensures ok { IfOk result (λ expr. expr ≡ call (without_prefix 0xd2) (operands.Index index) ∷ []) }
         ensures err { IfErr result (λ e. e ≡ Memory) }
