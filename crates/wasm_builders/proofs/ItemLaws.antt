@@ -1,11 +1,15 @@
 -- The laws of items of sections.
-use Rattle.std.proofs.Common.{◌≡◌, ℕ, ◌<◌, ◌^◌, ◌⊎◌, List, length, inl, inr, Result, Ok, Err, OnOk, subst, sym}
+use Rattle.std.proofs.Common.{◌≡◌, ℕ, ◌<◌, ◌^◌, ◌⊎◌, List, length, inl, inr, Result, Ok, Err, OnOk, refl, subst, sym, arith}
 use Rattle.wasm_codec.specs.declared.encode.EncodeError.{EncodeError}
-use Rattle.wasm_codec.specs.Encoding.{IsCount, IsShortest, OnlyTooLong}
+use Rattle.wasm_codec.specs.Encoding.{byte_list_bytes, IsCount, IsShortest, OnlyTooLong}
+use Rattle.wasm_codec.specs.Numbers.{unsigned_leb128, EncodesU32}
 use Rattle.wasm_codec.specs.Lawful.{IsLawful}
 use Rattle.wasm_codec.specs.formats.Combinators.{u32}
 use Rattle.wasm_codec.proofs.FormatLaws.{Lawful-u32}
 use Rattle.wasm_codec.proofs.NumberLaws.{written}
+use Rattle.wasm_sections.specs.ModuleSections.{ModuleSectionParts, data_count, start}
+use Rattle.wasm_sections.specs.SectionBytes.{IsBodyOf, IsSectionAfter}
+use Rattle.wasm_sections.proofs.SectionWriting.{data_count_section, section_written, start_section}
 use Rattle.wasm_writers.specs.EncodedLists.{Entries, IsFull, IsMemoryOrTooLong, IsRefusalOfOne, IsUncounted}
 use Rattle.wasm_writers.proofs.EncodedListLaws.{both_or, counted_or, of_one}
 
@@ -14,6 +18,19 @@ index_is_lawful = Lawful-u32
 
 pub number_written : (n : ℕ) → n < 2 ^ 32 → IsShortest u32.Encodes u32.bytes n
 number_written n fits = written Lawful-u32.shortest n fits
+
+short_number : (n : ℕ) → n < 2 ^ 32 → IsCount (length (unsigned_leb128 n))
+unfolding EncodesU32
+short_number n fits = omega (arith, (number_written n fits).encodes.1)
+
+number_section : (id : ℕ) (section : ℕ → ModuleSectionParts) → IsBodyOf id section u32 → (n : ℕ) → n < 2 ^ 32 → IsSectionAfter id (byte_list_bytes (unsigned_leb128 n)) (section n)
+number_section id section of n fits = section_written section u32 of n (unsigned_leb128 n) (short_number n fits) (number_written n fits).encodes refl
+
+pub start_written : (n : ℕ) → n < 2 ^ 32 → IsSectionAfter 8 (byte_list_bytes (unsigned_leb128 n)) (start n)
+start_written n fits = number_section 8 start start_section n fits
+
+pub data_count_written : (n : ℕ) → n < 2 ^ 32 → IsSectionAfter 12 (byte_list_bytes (unsigned_leb128 n)) (data_count n)
+data_count_written n fits = number_section 12 data_count data_count_section n fits
 
 -- ---- why an item isn't added
 

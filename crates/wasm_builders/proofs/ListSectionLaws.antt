@@ -7,10 +7,13 @@ use Rattle.wasm_codec.specs.Encoding.{IsCount, IsShortest, IsShortestOrLonger}
 use Rattle.wasm_codec.specs.Lawful.{IsLawful}
 use Rattle.wasm_codec.specs.formats.Combinators.{Format, items}
 use Rattle.wasm_codec.proofs.FormatLaws.{Lawful-items}
+use Rattle.wasm_sections.specs.ModuleSections.{ModuleSectionParts}
+use Rattle.wasm_sections.specs.SectionBytes.{IsBodyOf}
+use Rattle.wasm_sections.proofs.SectionWriting.{section_written}
 use Rattle.wasm_types.proofs.WrittenTypes.{in_range_of}
-use Rattle.wasm_writers.specs.EncodedLists.{Entries, body_bytes}
+use Rattle.wasm_writers.specs.EncodedLists.{Entries, CountedSection, body_bytes}
 use Rattle.wasm_writers.proofs.EncodedListLaws.{stands_none, gains_one, gains_each, body_is, values_in_range, all_in_range}
-use Rattle.wasm_builders.specs.ListSections.{StandsForItems, GainsItem, GainsItems, HoldsItems}
+use Rattle.wasm_builders.specs.ListSections.{StandsForItems, GainsItem, GainsItems, HoldsItems, IsSectionOfItems}
 
 module _ {V : Type 0} (F : Format V) where
   pub stands_for_none : (section : Entries) → section.count ≡ 0 → section.bytes ≡ [] → StandsForItems F section []
@@ -35,9 +38,10 @@ module _ {V : Type 0} (F : Format V) where
     pub body_shortest : (section : Entries) (values : List V) (bytes : List ℕ) → StandsForItems F section values → (items F).Encodes bytes values → IsShortestOrLonger bytes (body_bytes section)
     body_shortest section values bytes s g = rw (section_is_body section values s) ((Lawful-items law).shortest.least bytes values g)
 
-    pub holds_items : {T E : Type 0} (r : Result T E) (section : Entries) → IsCount section.count → OnOk r (HoldsItems F section)
-    holds_items (Ok x) section few = λ values s. body_encodes section values few s
-    holds_items (Err e) section few = tt
+    pub list_written : {T E : Type 0} (r : Result T E) (section : Entries) (id : ℕ) (holding : List V → ModuleSectionParts) → IsBodyOf id holding (items F) → IsCount section.count → OnOk r (CountedSection section) → OnOk r (HoldsItems F section × IsSectionOfItems F id holding section)
+    list_written (Ok x) section id holding body few counted =
+        (λ values s. body_encodes section values few s, λ values s. section_written holding (items F) body values (body_bytes section) counted (body_encodes section values few s) (section_is_body section values s))
+    list_written (Err e) section id holding body few counted = tt
 
 -- what is seen of several items
 module _ {X V : Type 0} (view : X → V) (F : Format V) (bytes : X → List ℕ) (are : (x : X) → bytes x ≡ F.bytes (view x)) where

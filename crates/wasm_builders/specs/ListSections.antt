@@ -1,6 +1,9 @@
 -- Sections that are lists and are being built (WebAssembly Core 3.0, Lists).
-use Rattle.std.specs.Prelude.{List}
+use Rattle.std.specs.Prelude.{ℕ, List}
+use Rattle.wasm_codec.specs.Encoding.{byte_list_bytes}
 use Rattle.wasm_codec.specs.formats.Combinators.{Format, items}
+use Rattle.wasm_sections.specs.ModuleSections.{ModuleSectionParts}
+use Rattle.wasm_sections.specs.SectionBytes.{IsSectionAfter}
 use Rattle.wasm_writers.specs.EncodedLists.{Entries, StandsForAll, GainsOne, GainsEach, body_bytes}
 
 module _ {V : Type 0} (F : Format V) where
@@ -20,3 +23,7 @@ module _ {V : Type 0} (F : Format V) where
   -- its body encodes the items that it stands for
   abbrev pub HoldsItems : Entries → Type 0
   HoldsItems section = (values : List V) → StandsForItems section values → (items F).Encodes (body_bytes section) values
+
+  -- after this id, its size and its body are the section of a module that holds the items
+  abbrev pub IsSectionOfItems : ℕ → (List V → ModuleSectionParts) → Entries → Type 0
+  IsSectionOfItems id holding section = (values : List V) → StandsForItems section values → IsSectionAfter id (byte_list_bytes (body_bytes section)) (holding values)

@@ -2,9 +2,12 @@
 ghost use Rattle.std.specs.Prelude.{◌≡◌, ◌⊎◌, ⊤, OnOk, OnErr, IfErr, length};
 ghost use Rattle.wasm_codec.specs.Encoding.{IsShortest};
 ghost use Rattle.wasm_codec.specs.Lawful.{IsLawful};
+ghost use Rattle.wasm_sections.specs.ModuleSections.{data_segments};
 ghost use Rattle.wasm_sections.specs.declared.data.DataSegment.{DataSegment};
 ghost use Rattle.wasm_sections.specs.Closed.{IsClosedData, IsCountedData};
 ghost use Rattle.wasm_sections.specs.Entries.{DataParts, data_parts};
+ghost use Rattle.wasm_codec.specs.formats.Combinators.{items};
+ghost use Rattle.wasm_sections.specs.SectionBytes.{IsBodyOf};
 ghost use Rattle.wasm_sections.specs.formats.Segments.{active_data, passive_data, data_segment};
 ghost use Rattle.wasm_writers.specs.EncodedLists.{IsFull, IsMemoryOrTooLong};
 ghost use Rattle.wasm_builders.specs.ListSections.{GainsItem};
@@ -28,6 +31,8 @@ impl<'a> SectionItem for DataSegment<'a> {
 
     ghost id = { 11 };
 
+    ghost holding = { data_segments };
+
     fn section_id() -> u8
         ensures { result ≡ 11 }
     {
@@ -42,6 +47,7 @@ impl<'a> SectionItem for DataSegment<'a> {
         ensures written { (item : DataSegment) →
             (IsClosedData item.mode → IsShortest data_segment.Encodes data_segment.bytes (data_parts item)) →
             IsClosedData item.mode → IsShortest data_segment.Encodes data_segment.bytes (data_parts item) }
+        ensures body { IsBodyOf 11 data_segments (items data_segment) }
     {}
 }
 

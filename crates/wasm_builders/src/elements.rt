@@ -1,5 +1,6 @@
 //! Element sections (Core 3.0, Element Section).
 ghost use Rattle.std.specs.Prelude.{◌≡◌, ◌++◌, ◌+◌, ◌⊎◌, OnOk, OnErr, IfErr};
+ghost use Rattle.wasm_sections.specs.ModuleSections.{elements};
 ghost use Rattle.wasm_sections.specs.declared.elements.Element.{Element};
 ghost use Rattle.wasm_sections.specs.declared.elements.ElementMode.TheVariants as modes;
 ghost use Rattle.wasm_sections.specs.Closed.{AreClosed, IsClosedElement, IsCountedElement};
@@ -25,6 +26,8 @@ impl SectionItem for Element {
     ghost Fits = { IsClosedElement };
 
     ghost id = { 9 };
+
+    ghost holding = { elements };
 
     fn section_id() -> u8 {
         9

@@ -2,9 +2,12 @@
 ghost use Rattle.std.specs.Prelude.{◌≡◌, ⊤, OnOk, OnErr, IfErr};
 ghost use Rattle.wasm_codec.specs.Encoding.{IsShortest};
 ghost use Rattle.wasm_codec.specs.Lawful.{IsLawful};
+ghost use Rattle.wasm_sections.specs.ModuleSections.{exports};
 ghost use Rattle.wasm_sections.specs.declared.exports.Export.{Export};
 ghost use Rattle.std.specs.Prelude.{◌⊎◌, length};
 ghost use Rattle.wasm_sections.specs.Entries.{ExportParts, export_parts};
+ghost use Rattle.wasm_codec.specs.formats.Combinators.{items};
+ghost use Rattle.wasm_sections.specs.SectionBytes.{IsBodyOf};
 ghost use Rattle.wasm_sections.specs.formats.Entries.{export_of, export_entry};
 ghost use Rattle.wasm_writers.specs.EncodedLists.{IsFull, IsMemoryOrTooLong, IsUncounted};
 ghost use Rattle.wasm_builders.specs.ListSections.{GainsItem};
@@ -26,6 +29,8 @@ impl<'a> SectionItem for Export<'a> {
 
     ghost id = { 7 };
 
+    ghost holding = { exports };
+
     fn section_id() -> u8
         ensures { result ≡ 7 }
     {
@@ -39,6 +44,7 @@ impl<'a> SectionItem for Export<'a> {
         ensures bytes { (item : Export) → export_entry.bytes (export_parts item) ≡ export_entry.bytes (export_parts item) }
         ensures written { (item : Export) → IsShortest export_entry.Encodes export_entry.bytes (export_parts item) → ⊤ →
             IsShortest export_entry.Encodes export_entry.bytes (export_parts item) }
+        ensures body { IsBodyOf 7 exports (items export_entry) }
     {}
 }
 

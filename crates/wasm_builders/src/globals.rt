@@ -1,5 +1,6 @@
 //! Global sections (Core 3.0, Global Section).
 ghost use Rattle.std.specs.Prelude.{◌≡◌, ◌⊎◌, OnOk, OnErr, IfErr};
+ghost use Rattle.wasm_sections.specs.ModuleSections.{globals};
 ghost use Rattle.wasm_sections.specs.declared.globals.Global.{Global};
 ghost use Rattle.wasm_sections.specs.Closed.{IsClosedGlobal, IsCountedExpr};
 ghost use Rattle.wasm_sections.specs.formats.Entries.{global_of, global_entry};
@@ -25,6 +26,8 @@ impl SectionItem for Global {
     ghost Fits = { IsClosedGlobal };
 
     ghost id = { 6 };
+
+    ghost holding = { globals };
 
     fn section_id() -> u8 {
         6

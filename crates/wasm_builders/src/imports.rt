@@ -2,9 +2,12 @@
 ghost use Rattle.std.specs.Prelude.{◌≡◌, ⊤, OnOk, OnErr, IfErr};
 ghost use Rattle.wasm_codec.specs.Encoding.{IsShortest};
 ghost use Rattle.wasm_codec.specs.Lawful.{IsLawful};
+ghost use Rattle.wasm_sections.specs.ModuleSections.{imports};
 ghost use Rattle.wasm_sections.specs.declared.imports.Import.{Import};
 ghost use Rattle.std.specs.Prelude.{◌⊎◌, length};
 ghost use Rattle.wasm_sections.specs.Entries.{ImportParts, import_parts};
+ghost use Rattle.wasm_codec.specs.formats.Combinators.{items};
+ghost use Rattle.wasm_sections.specs.SectionBytes.{IsBodyOf};
 ghost use Rattle.wasm_sections.specs.formats.Entries.{import_of, import_entry};
 ghost use Rattle.wasm_writers.specs.EncodedLists.{IsFull, IsMemoryOrTooLong, IsUncounted};
 ghost use Rattle.wasm_builders.specs.ListSections.{GainsItem};
@@ -26,6 +29,8 @@ impl<'a> SectionItem for Import<'a> {
 
     ghost id = { 2 };
 
+    ghost holding = { imports };
+
     fn section_id() -> u8
         ensures { result ≡ 2 }
     {
@@ -39,6 +44,7 @@ impl<'a> SectionItem for Import<'a> {
         ensures bytes { (item : Import) → import_entry.bytes (import_parts item) ≡ import_entry.bytes (import_parts item) }
         ensures written { (item : Import) → IsShortest import_entry.Encodes import_entry.bytes (import_parts item) → ⊤ →
             IsShortest import_entry.Encodes import_entry.bytes (import_parts item) }
+        ensures body { IsBodyOf 2 imports (items import_entry) }
     {}
 }
 

@@ -5,8 +5,10 @@ ghost use Rattle.wasm_codec.specs.Encoding.{byte_list_bytes, IsCount, IsRefusal,
 ghost use Rattle.wasm_codec.specs.Lawful.{IsLawful};
 ghost use Rattle.wasm_codec.specs.formats.Combinators.{Format, items};
 ghost use Rattle.wasm_codec.specs.declared.encode.EncodeError.TheVariants.{Memory, TooLong};
+ghost use Rattle.wasm_sections.specs.ModuleSections.{ModuleSectionParts};
+ghost use Rattle.wasm_sections.specs.SectionBytes.{IsBodyOf};
 ghost use Rattle.wasm_writers.specs.EncodedLists.{Entries, CountedSection, IsRefusalOfOne, IsRefusalOfEach, body_bytes};
-ghost use Rattle.wasm_builders.specs.ListSections.{StandsForItems, GainsItem, GainsItems, HoldsItems};
+ghost use Rattle.wasm_builders.specs.ListSections.{StandsForItems, GainsItem, GainsItems, HoldsItems, IsSectionOfItems};
 
 use std::alloc::{Allocator, Global};
 use std::marker::{Model, PhantomData};
@@ -30,15 +32,20 @@ pub trait SectionItem: Encode {
     /// The id of the section.
     ghost id: { ℕ };
 
+    /// The section of a module that holds these items.
+    ghost holding: { List Value → ModuleSectionParts };
+
     /// The id of the section.
     fn section_id() -> u8
         ensures { result ≡ id };
 
-    /// What is written of an item is its shortest encoding. The call does nothing.
+    /// What is written of an item is its shortest encoding, and a section of this id holds a list of items. The call does
+    /// nothing.
     fn is_lawful()
         ensures lawful { IsLawful format }
         ensures bytes { (item : Self) → Self.bytes item ≡ format.bytes (view item) }
-        ensures written { (item : Self) → Self.IsWritten item → Fits item → IsShortest format.Encodes format.bytes (view item) };
+        ensures written { (item : Self) → Self.IsWritten item → Fits item → IsShortest format.Encodes format.bytes (view item) }
+        ensures body { IsBodyOf id holding (items format) };
 }
 
 /// A section that is a list, to which items are added one after the other.
@@ -144,7 +151,7 @@ pub(crate) fn add<T: SectionItem>(list: &mut EncodedList, item: &T) -> Result<()
 impl<T: SectionItem> Encode for ListSection<T> {
     ghost bytes = { λ section. byte_list_bytes (body_bytes section) };
 
-    ghost IsWritten = { HoldsItems T.format };
+    ghost IsWritten = { λ section. HoldsItems T.format section × IsSectionOfItems T.format T.id T.holding section };
 
     ghost CanEncode = { CountedSection };
 
@@ -153,7 +160,8 @@ impl<T: SectionItem> Encode for ListSection<T> {
     fn encode<A: Allocator>(&self, sink: &mut Vec<u8, A>) -> Result<(), EncodeError>
         ensures ok { OnOk result (sink.new.items ≡ sink.old.items ++ byte_list_bytes (body_bytes self.now)) }
         ensures can { OnOk result (CountedSection self.now) }
-        ensures written { OnOk result (HoldsItems T.format self.now) }
+        // The body encodes the items; with the id it is the section of a module that holds them, in its shortest encoding.
+        ensures written { OnOk result (HoldsItems T.format self.now × IsSectionOfItems T.format T.id T.holding self.now) }
         ensures refused { IfErr result (IsRefusal CountedSection OnlyTooLong self.now) }
         ensures err { OnErr result (sink.new.items ≡ sink.old.items) }
         // The section's body is that of the items.

@@ -3,6 +3,8 @@ ghost use Rattle.std.specs.Prelude.{◌≡◌, ◌++◌, OnOk, IfErr, OnErr};
 ghost use Rattle.wasm_codec.specs.Encoding.{byte_list_bytes, IsShortest};
 ghost use Rattle.wasm_codec.specs.Numbers.{unsigned_leb128};
 ghost use Rattle.wasm_codec.specs.declared.encode.EncodeError.TheVariants.{Memory};
+ghost use Rattle.wasm_sections.specs.ModuleSections.{data_count, start};
+ghost use Rattle.wasm_sections.specs.SectionBytes.{IsSectionAfter};
 ghost use Rattle.wasm_sections.specs.formats.Sections.{start_body, data_count_body};
 
 use std::alloc::Allocator;
@@ -24,11 +26,12 @@ pub struct DataCountSection {
 }
 
 /// The size of the body, and the index (Core 3.0, Sections and Start Section).
-#[tactic(auto, using(crate::proofs::ItemLaws::number_written), unfolding(wasm_sections::specs::formats::Sections::start_body))]
+#[tactic(auto, using(crate::proofs::ItemLaws::number_written, crate::proofs::ItemLaws::start_written), unfolding(wasm_sections::specs::formats::Sections::start_body))]
 impl Encode for StartSection {
     ghost bytes = { λ section. byte_list_bytes (start_body.bytes section.function_index) };
 
-    ghost IsWritten = { λ section. IsShortest start_body.Encodes start_body.bytes section.function_index };
+    ghost IsWritten = { λ section. IsShortest start_body.Encodes start_body.bytes section.function_index ×
+        IsSectionAfter 8 (byte_list_bytes (start_body.bytes section.function_index)) (start section.function_index) };
 
     fn encode<A: Allocator>(&self, sink: &mut Vec<u8, A>) -> Result<(), EncodeError> {
         append_number(self.function_index, sink)
@@ -36,11 +39,12 @@ impl Encode for StartSection {
 }
 
 /// The size of the body, and the number (Core 3.0, Sections and Data Count Section).
-#[tactic(auto, using(crate::proofs::ItemLaws::number_written), unfolding(wasm_sections::specs::formats::Sections::data_count_body))]
+#[tactic(auto, using(crate::proofs::ItemLaws::number_written, crate::proofs::ItemLaws::data_count_written), unfolding(wasm_sections::specs::formats::Sections::data_count_body))]
 impl Encode for DataCountSection {
     ghost bytes = { λ section. byte_list_bytes (data_count_body.bytes section.count) };
 
-    ghost IsWritten = { λ section. IsShortest data_count_body.Encodes data_count_body.bytes section.count };
+    ghost IsWritten = { λ section. IsShortest data_count_body.Encodes data_count_body.bytes section.count ×
+        IsSectionAfter 12 (byte_list_bytes (data_count_body.bytes section.count)) (data_count section.count) };
 
     fn encode<A: Allocator>(&self, sink: &mut Vec<u8, A>) -> Result<(), EncodeError> {
         append_number(self.count, sink)

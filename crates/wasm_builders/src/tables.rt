@@ -1,5 +1,6 @@
 //! Table sections (Core 3.0, Table Section).
 ghost use Rattle.std.specs.Prelude.{◌≡◌, ◌⊎◌, OnOk, OnErr, IfErr};
+ghost use Rattle.wasm_sections.specs.ModuleSections.{tables};
 ghost use Rattle.wasm_sections.specs.declared.tables.Table.{Table};
 ghost use Rattle.wasm_sections.specs.Closed.{IsClosedTable, IsCountedExpr};
 ghost use Rattle.wasm_sections.specs.formats.Entries.{filled_of, unfilled, table_entry};
@@ -25,6 +26,8 @@ impl SectionItem for Table {
     ghost Fits = { IsClosedTable };
 
     ghost id = { 4 };
+
+    ghost holding = { tables };
 
     fn section_id() -> u8 {
         4

@@ -1,5 +1,6 @@
 //! Tag sections (Core 3.0, Tag Section).
 ghost use Rattle.std.specs.Prelude.{◌≡◌, OnOk, OnErr, IfErr};
+ghost use Rattle.wasm_sections.specs.ModuleSections.{tags};
 ghost use Rattle.wasm_sections.specs.declared.types.TagType.{TagType};
 ghost use Rattle.wasm_sections.specs.formats.Externals.{tag_type};
 ghost use Rattle.wasm_writers.specs.EncodedLists.{IsFull, IsMemoryOrTooLong};
@@ -20,6 +21,8 @@ impl SectionItem for TagType {
     ghost format = { tag_type };
 
     ghost id = { 13 };
+
+    ghost holding = { tags };
 
     fn section_id() -> u8 {
         13

@@ -23,3 +23,5 @@ pub mod ExpressionWriting
 pub mod SegmentWriting
 pub mod ElementWriting
 pub mod EntryWriting
+pub mod SectionWriting
+pub mod CustomWriting

@@ -1,4 +1,5 @@
 pub mod Closed
+pub mod SectionBytes
 pub mod SegmentBytes
 pub mod Entries
 pub mod ModuleSections

@@ -1,7 +1,8 @@
 -- Sections with what they hold, and modules of such sections (WebAssembly Core 3.0, Modules).
 use Rattle.std.specs.Prelude.{ℕ, List, Option, Some, None}
 use Rattle.wasm_codec.specs.formats.Bodies.{sized}
-use Rattle.wasm_codec.specs.formats.Combinators.{Format, made, any_of, no_other, tagged}
+use Rattle.wasm_codec.specs.Grammar.{Grammar}
+use Rattle.wasm_codec.specs.formats.Combinators.{Format, made, any_of, no_other, tagged, narrow}
 use Rattle.wasm_types.specs.declared.types.composite.TypeEntry.{TypeEntry}
 use Rattle.wasm_sections.specs.ModuleSections.{ModuleSectionParts, custom, types, imports, functions, tables, memories, globals, exports, start, elements, code, data_segments, data_count, tags}
 use Rattle.wasm_types.specs.formats.Types.{type_body}
@@ -112,3 +113,7 @@ module_section = any_of
 -- the standard's order, and that counts agree, is asked of the list, not here.
 abbrev pub whole_module : Format (List ModuleSectionParts)
 whole_module = module_of module_section
+
+-- the same, with each section in its shortest encoding
+abbrev pub ShortestWholeModule : Grammar (List ModuleSectionParts)
+ShortestWholeModule = (module_of (narrow module_section)).Encodes

@@ -18,7 +18,10 @@ use wasm_writers::encode::{Encode, EncodeError, encode_str};
 
 /// Appends a name, or nothing.
 #[tactic(auto, using(crate::proofs::EntryWriting::name_written), unfolding(crate::specs::formats::Names::name))]
-fn append_name<A: Allocator>(text: &str, sink: &mut Vec<u8, A>) -> Result<(), EncodeError>
+pub(super) fn append_name<A: Allocator>(
+    text: &str,
+    sink: &mut Vec<u8, A>,
+) -> Result<(), EncodeError>
     ensures ok { OnOk result (sink.new.items ≡ sink.old.items ++ name.bytes text.now) }
     ensures written { OnOk result (IsShortest name.Encodes name.bytes text.now) }
     ensures can { OnOk result (IsCount (length text.now)) }

@@ -50,7 +50,7 @@ fn append_place<A: Allocator>(
 }
 
 /// They are bytes. The call does nothing.
-fn are_bytes(bytes: &[u8])
+pub(super) fn are_bytes(bytes: &[u8])
     ensures { IsBytes bytes.now }
 {
     // What is known of a cursor's bytes is known of these.
