@@ -6,3 +6,4 @@ pub mod RefusalLaws
 pub mod GivenLists
 pub mod RawModuleLaws
 pub mod OnLiterals
+pub mod WholeModuleLaws

@@ -11,6 +11,8 @@ use Rattle.wasm_instructions.specs.formats.Instructions.{instruction, instructio
 use Rattle.wasm_modules.specs.declared.code.CodeBody.{CodeBody}
 use Rattle.wasm_writers.specs.CodeCounts.{CountedBody, func_bytes}
 use Rattle.wasm_modules.specs.formats.CodeBodies.{local_group, code_body, code_section_body}
+use Rattle.wasm_sections.specs.ModuleSections.{code}
+use Rattle.wasm_sections.specs.SectionBytes.{IsSectionAfter}
 use Rattle.wasm_encoder.specs.EncodedLists.{Entries, StandsForAll, GainsEach, IsUncounted, body_bytes}
 
 abbrev pub body_of : List (ℕ × ValType) → List Instruction → CodeBody
@@ -41,6 +43,10 @@ StandsForBodies = StandsForAll code_body CountedBody
 -- its body encodes the code bodies that it stands for
 abbrev pub HoldsBodies : Entries → Type 0
 HoldsBodies section = (bodies : List CodeBody) → StandsForBodies section bodies → code_section_body.Encodes (body_bytes section) bodies
+
+-- after the id, its size and its body are the section of a module that holds the code bodies
+abbrev pub IsCodeSection : Entries → Type 0
+IsCodeSection section = (bodies : List CodeBody) → StandsForBodies section bodies → IsSectionAfter 10 (byte_list_bytes (body_bytes section)) (code bodies)
 
 -- The new section is the old one with the body of this function more.
 pub record GainsFunction (old : Entries) (function : List ℕ) (new : Entries) : Type 0 where

@@ -15,6 +15,8 @@ use Rattle.wasm_types.specs.declared.types.composite.TypeEntry.TheVariants as en
 use Rattle.wasm_codec.specs.Encoding.{byte_list_bytes}
 use Rattle.wasm_types.specs.formats.Types.{recursive_type, type_body}
 use Rattle.wasm_types.specs.TypeCounts.{CountedEntry}
+use Rattle.wasm_sections.specs.ModuleSections.{types as holding_types}
+use Rattle.wasm_sections.specs.SectionBytes.{IsSectionAfter}
 use Rattle.wasm_encoder.specs.EncodedLists.{Entries, StandsForAll, GainsOne, GainsEach, IsUncounted, body_bytes}
 
 -- The section stands for these entries: it has their number and their bytes, with nothing between, and they can be
@@ -37,6 +39,10 @@ HoldsEntries section = (entries : List TypeEntry) → StandsFor section entries 
 -- the body, after the number of its bytes (Sections)
 abbrev pub type_section_bytes : Entries → List ℕ
 type_section_bytes section = byte_list_bytes (body_bytes section)
+
+-- after the id they are the section of a module that holds the entries
+abbrev pub IsTypeSection : Entries → Type 0
+IsTypeSection section = (entries : List TypeEntry) → StandsFor section entries → IsSectionAfter 1 (type_section_bytes section) (holding_types entries)
 
 -- ---- entries of one type: final, without supertypes, not shared, with no descriptor
 

@@ -13,7 +13,7 @@ ghost use Rattle.wasm_modules.specs.Sections.{decoded_section_of, code_bodies, c
 ghost use Rattle.wasm_modules.specs.DecodedModules.{IsDecodedSection};
 ghost use Rattle.wasm_encoder.specs.EncodedLists.{Entries, CountedSection, GivesItems, IsFull, IsMemoryOrTooLong, IsUncounted, OfItems, body_bytes};
 ghost use Rattle.wasm_encoder.specs.Rows.{bytes_row};
-ghost use Rattle.wasm_encoder.specs.CodeSections.{FunctionStandsFor, GainsBodies, GainsFunction, GoesOnWith, HoldsBodies, StandsForBodies, UncountedBody, body_of};
+ghost use Rattle.wasm_encoder.specs.CodeSections.{FunctionStandsFor, GainsBodies, GainsFunction, GoesOnWith, HoldsBodies, IsCodeSection, StandsForBodies, UncountedBody, body_of};
 
 use crate::wasm_core::{Section, SectionId};
 use std::alloc::{Allocator, Global};
@@ -214,11 +214,11 @@ impl CodeSection {
 /// The size of the body, the number of code bodies, and the code bodies (Core 3.0, Code Section).
 ///
 /// `TooLong` where the body has more than 4,294,967,295 bytes.
-#[tactic(auto, using(crate::proofs::CodeSectionLaws::one_encoding, crate::proofs::CodeSectionLaws::section_is_body, crate::proofs::CodeSectionLaws::body_encodes, crate::proofs::CodeSectionLaws::body_shortest, crate::proofs::CodeSectionLaws::holds_bodies, crate::proofs::CodeSectionLaws::is_decoded))]
+#[tactic(auto, using(crate::proofs::CodeSectionLaws::one_encoding, crate::proofs::CodeSectionLaws::section_is_body, crate::proofs::CodeSectionLaws::body_encodes, crate::proofs::CodeSectionLaws::body_shortest, crate::proofs::CodeSectionLaws::bodies_written, crate::proofs::CodeSectionLaws::is_decoded))]
 impl Encode for CodeSection {
     ghost bytes = { λ section. byte_list_bytes (body_bytes section) };
 
-    ghost IsWritten = { HoldsBodies };
+    ghost IsWritten = { λ section. HoldsBodies section × IsCodeSection section };
 
     ghost CanEncode = { CountedSection };
 
@@ -227,7 +227,8 @@ impl Encode for CodeSection {
     fn encode<A: Allocator>(&self, sink: &mut Vec<u8, A>) -> Result<(), EncodeError>
         ensures ok { OnOk result (sink.new.items ≡ sink.old.items ++ byte_list_bytes (body_bytes self.now)) }
         ensures can { OnOk result (CountedSection self.now) }
-        ensures written { OnOk result (HoldsBodies self.now) }
+        // The body encodes the code bodies; with the id it is the section of a module that holds them, in its shortest encoding.
+        ensures written { OnOk result (HoldsBodies self.now × IsCodeSection self.now) }
         ensures refused { IfErr result (IsRefusal CountedSection OnlyTooLong self.now) }
         ensures err { OnErr result (sink.new.items ≡ sink.old.items) }
         // Sections that stand for the same bodies have the same bytes.

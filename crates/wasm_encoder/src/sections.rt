@@ -96,3 +96,11 @@ impl Section for DataCountSection {
         12
     }
 }
+
+impl<'a> Section for CustomSection<'a> {
+    ghost id = { λ _. 0 };
+
+    fn id(&self) -> u8 {
+        0
+    }
+}

@@ -3,7 +3,7 @@ ghost use Rattle.std.specs.Prelude.{◌≡◌, ℕ, List, ◌++◌, ◌∷◌, �
 ghost use Rattle.std.specs.List.{Any};
 ghost use Rattle.std.specs.Iterator.{size};
 ghost use Rattle.wasm_encoder.specs.EncodedLists.{Entries, CountedSection, GivesItems, GivesSome, IsFull, IsMemoryOrTooLong, IsUncounted, OfItems, body_bytes};
-ghost use Rattle.wasm_encoder.specs.TypeSections.{StandsFor, Gains, GainsAll, HoldsEntries, OfBoth, UncountedEntry, UncountedFunc, UncountedSub, type_section_bytes, final_entry, struct_entry, array_entry};
+ghost use Rattle.wasm_encoder.specs.TypeSections.{StandsFor, Gains, GainsAll, HoldsEntries, IsTypeSection, OfBoth, UncountedEntry, UncountedFunc, UncountedSub, type_section_bytes, final_entry, struct_entry, array_entry};
 ghost use Rattle.wasm_codec.specs.Encoding.{byte_list_bytes, IsRefusal, IsShortestOrLonger, OnlyTooLong};
 ghost use Rattle.wasm_types.specs.formats.Types.{type_body};
 ghost use Rattle.wasm_modules.specs.Sections.{decoded_section_of, type_entries, type_section_id};
@@ -116,11 +116,11 @@ impl TypeSection {
 /// The size of the body, the number of entries, and the entries (Core 3.0, Sections and Type Section).
 ///
 /// `TooLong` where the body has more than 4,294,967,295 bytes.
-#[tactic(auto, using(crate::proofs::TypeSectionLaws::one_encoding, crate::proofs::TypeSectionLaws::section_is_body, crate::proofs::TypeSectionLaws::body_encodes, crate::proofs::TypeSectionLaws::body_shortest, crate::proofs::TypeSectionLaws::holds_entries, crate::proofs::TypeSectionLaws::is_decoded))]
+#[tactic(auto, using(crate::proofs::TypeSectionLaws::one_encoding, crate::proofs::TypeSectionLaws::section_is_body, crate::proofs::TypeSectionLaws::body_encodes, crate::proofs::TypeSectionLaws::body_shortest, crate::proofs::TypeSectionLaws::entries_written, crate::proofs::TypeSectionLaws::is_decoded))]
 impl Encode for TypeSection {
     ghost bytes = { type_section_bytes };
 
-    ghost IsWritten = { HoldsEntries };
+    ghost IsWritten = { λ section. HoldsEntries section × IsTypeSection section };
 
     ghost CanEncode = { CountedSection };
 
@@ -129,7 +129,8 @@ impl Encode for TypeSection {
     fn encode<A: Allocator>(&self, sink: &mut Vec<u8, A>) -> Result<(), EncodeError>
         ensures ok { OnOk result (sink.new.items ≡ sink.old.items ++ type_section_bytes self.now) }
         ensures can { OnOk result (CountedSection self.now) }
-        ensures written { OnOk result (HoldsEntries self.now) }
+        // The body encodes the entries; with the id it is the section of a module that holds them, in its shortest encoding.
+        ensures written { OnOk result (HoldsEntries self.now × IsTypeSection self.now) }
         ensures refused { IfErr result (IsRefusal CountedSection OnlyTooLong self.now) }
         ensures err { OnErr result (sink.new.items ≡ sink.old.items) }
         // Sections that stand for the same entries have the same bytes.

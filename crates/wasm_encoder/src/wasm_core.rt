@@ -4,6 +4,9 @@ ghost use Rattle.std.specs.List.{AllByRecursion};
 ghost use Rattle.wasm_codec.specs.Encoding.{byte_list_bytes, IsRefusal, IsShortestOrLonger};
 ghost use Rattle.wasm_modules.specs.Sections.{header, SectionParts, section_of};
 ghost use Rattle.wasm_modules.specs.formats.Modules.{raw_module, raw_section};
+ghost use Rattle.wasm_sections.specs.ModuleSections.{ModuleSectionParts};
+ghost use Rattle.wasm_sections.specs.SectionBytes.{IsSectionAfter};
+ghost use Rattle.wasm_sections.specs.formats.ModuleSections.{ShortestWholeModule};
 ghost use Rattle.wasm_encoder.specs.SectionIds.{section_id};
 ghost use Rattle.wasm_codec.specs.declared.encode.EncodeError.TheVariants.{Memory};
 
@@ -132,8 +135,11 @@ impl Module {
     pub const HEADER: [u8; 8] = HEADER;
 
     /// A module without sections.
+    #[tactic(auto, using(crate::proofs::WholeModuleLaws::no_sections))]
     pub fn new(alloc: Global) -> Result<Module, EncodeError>
         ensures ok { IfOk result (λ m. m ≡ header) }
+        // It is the shortest encoding of no sections.
+        ensures whole { IfOk result (λ m. ShortestWholeModule m []) }
         ensures err { IfErr result (λ e. e ≡ Memory) }
     {
         let bytes = Vec::from_slice(alloc, &Module::HEADER)?;
@@ -143,11 +149,12 @@ impl Module {
     /// Appends the id of a section and its bytes, or leaves the module as it was.
     ///
     /// The section's own `append_to` is never called.
-    #[tactic(auto, using(wasm_modules::proofs::ModuleLaws::goes_on, wasm_modules::proofs::ModuleLaws::raw_shortest, crate::proofs::RawModuleLaws::first_section))]
+    #[tactic(auto, using(wasm_modules::proofs::ModuleLaws::goes_on, wasm_modules::proofs::ModuleLaws::raw_shortest, crate::proofs::RawModuleLaws::first_section, crate::proofs::WholeModuleLaws::section_added))]
     pub fn section<S: Section>(&mut self, section: &S) -> Result<(), EncodeError>
         ensures ok { OnOk result (self.new ≡ self.old ++ S.id section.now ∷ S.bytes section.now) }
         ensures can { OnOk result (S.CanEncode section.now) }
-        // Of a type section: that its body encodes the entries that it stands for. So of a code section.
+        // Of a builder: that its body encodes the entries that it stands for, and that with the id it is the section of a
+        // module that holds them, in its shortest encoding.
         ensures written { OnOk result (S.IsWritten section.now) }
         ensures refused { IfErr result (IsRefusal S.CanEncode S.refuses section.now) }
         ensures err { OnErr result (self.new ≡ self.old) }
@@ -158,6 +165,11 @@ impl Module {
         // A new module is then one of that section alone.
         ensures first { (body : List ℕ) → self.old ≡ header → S.bytes section.now ≡ byte_list_bytes body →
             OnOk result (self.new ≡ raw_module.bytes (section_of (S.id section.now, body) ∷ [])) }
+        // Where the module is the shortest encoding of sections, each with what it holds, and the id and bytes of the new section
+        // are that of a section, the module goes on with it.
+        ensures whole { (sections : List ModuleSectionParts) (added : ModuleSectionParts) →
+            ShortestWholeModule self.old sections → IsSectionAfter (S.id section.now) (S.bytes section.now) added →
+            OnOk result (ShortestWholeModule self.new (sections ++ added ∷ [])) }
         // What is written of sections encodes them, and every other encoding of them is longer.
         ensures encodes { (sections : List SectionParts) → AllByRecursion raw_section.InRange sections →
             raw_module.Encodes (raw_module.bytes sections) sections }

@@ -1,0 +1,24 @@
+-- The laws of modules that are being built of sections with what they hold.
+use Rattle.std.proofs.Common.{◌≡◌, ℕ, List, [], ◌∷◌, ◌++◌, Result, Ok, Err, OnOk, append_assoc, refl, sym, ap, ◌∙◌}
+use Rattle.std.proofs.lemmas.List.{append-nil}
+use Rattle.wasm_codec.specs.Grammar.{Grammar, Joined}
+use Rattle.wasm_codec.specs.formats.Combinators.{narrow}
+use Rattle.wasm_modules.specs.Sections.{header}
+use Rattle.wasm_sections.specs.ModuleSections.{ModuleSectionParts}
+use Rattle.wasm_sections.specs.SectionBytes.{IsSectionAfter}
+use Rattle.wasm_sections.specs.formats.ModuleSections.{ShortestWholeModule, module_section}
+
+pub no_sections : (m : List ℕ) → m ≡ header → ShortestWholeModule m []
+no_sections m is = ([], is ∙ sym (append-nil header), refl)
+
+-- encodings of values, and then one of one value more
+one_more : {V : Type 0} (G : Grammar V) (bytes more : List ℕ) (values : List V) (added : V) → Joined G bytes values → G more added → Joined G (bytes ++ more) (values ++ added ∷ [])
+one_more G bytes more [] added none g = (more, [], ap (λ (t : List ℕ). t ++ more) none ∙ sym (append-nil more), g, refl)
+one_more G bytes more (v ∷ values) added j g =
+    (j.0, j.1 ++ more, ap (λ (t : List ℕ). t ++ more) j.2 ∙ append_assoc j.0 j.1 more, j.3, one_more G j.1 more values added j.4 g)
+
+pub section_added : {T E : Type 0} (r : Result T E) (old new bytes : List ℕ) (id : ℕ) (sections : List ModuleSectionParts) (added : ModuleSectionParts) → OnOk r (new ≡ old ++ id ∷ bytes) → ShortestWholeModule old sections → IsSectionAfter id bytes added
+    → OnOk r (ShortestWholeModule new (sections ++ added ∷ []))
+section_added (Ok x) old new bytes id sections added is j more =
+    (j.0 ++ id ∷ bytes, is ∙ ap (λ (t : List ℕ). t ++ id ∷ bytes) j.1 ∙ append_assoc header j.0 (id ∷ bytes), one_more (narrow module_section).Encodes j.0 (id ∷ bytes) sections added j.2 more)
+section_added (Err e) old new bytes id sections added is j more = tt
