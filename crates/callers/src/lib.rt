@@ -9,4 +9,5 @@ pub mod instructions;
 pub mod modules;
 pub mod sections;
 pub mod type_sections;
+pub mod whole_modules;
 pub mod whole_way;

@@ -1,0 +1,68 @@
+//! Modules that are built of sections by name, and read back with what their sections hold.
+ghost use Rattle.std.specs.Prelude.{◌≡◌, ◌++◌, ◌∷◌, [], ℕ, List, IfOk, OnOk};
+ghost use Rattle.wasm_codec.specs.formats.Combinators.{u32 as u32_format};
+ghost use Rattle.wasm_encoder.specs.Answers.{IsOrMemory};
+ghost use Rattle.wasm_builders.specs.ListSections.{StandsForItems};
+ghost use Rattle.wasm_sections.specs.Entries.{ExportParts, custom_parts};
+ghost use Rattle.wasm_sections.specs.ModuleSections.{ModuleSectionParts, all_module_section_parts, custom, exports as holding_exports, functions as holding_functions};
+ghost use Rattle.wasm_sections.specs.formats.Entries.{export_entry};
+ghost use Rattle.wasm_sections.specs.formats.ModuleSections.{ShortestWholeModule};
+
+use std::alloc::Global;
+use wasm_encoder::{
+    CustomSection, EncodeError, ExportSection, FunctionSection, Module, ModuleSection, ReadError,
+    read_whole_module_strict,
+};
+
+/// A module goes on with functions.
+pub fn functions(built: &mut Module, section: &FunctionSection) -> Result<(), EncodeError>
+    ensures { (sections : List ModuleSectionParts) (indexes : List ℕ) → ShortestWholeModule built.old sections →
+        StandsForItems u32_format section.now indexes →
+        OnOk result (ShortestWholeModule built.new (sections ++ holding_functions indexes ∷ [])) }
+{
+    built.section(section)?;
+    Ok(())
+}
+
+/// A module goes on with exports.
+pub fn exports(built: &mut Module, section: &ExportSection<'_>) -> Result<(), EncodeError>
+    ensures { (sections : List ModuleSectionParts) (entries : List ExportParts) → ShortestWholeModule built.old sections →
+        StandsForItems export_entry section.now entries →
+        OnOk result (ShortestWholeModule built.new (sections ++ holding_exports entries ∷ [])) }
+{
+    built.section(section)?;
+    Ok(())
+}
+
+/// A module goes on with a custom section.
+pub fn custom(built: &mut Module, section: &CustomSection<'_>) -> Result<(), EncodeError>
+    ensures { (sections : List ModuleSectionParts) → ShortestWholeModule built.old sections →
+        OnOk result (ShortestWholeModule built.new (sections ++ custom (custom_parts section.now) ∷ [])) }
+{
+    built.section(section)?;
+    Ok(())
+}
+
+/// A module of these sections.
+pub fn module_of(
+    alloc: Global,
+    indexes: &FunctionSection,
+    names: &ExportSection<'_>,
+) -> Result<Module, EncodeError>
+    ensures { (types : List ℕ) (entries : List ExportParts) → StandsForItems u32_format indexes.now types →
+        StandsForItems export_entry names.now entries →
+        IfOk result (λ m. ShortestWholeModule m (holding_functions types ∷ holding_exports entries ∷ [])) }
+{
+    let mut built = Module::new(alloc)?;
+    functions(&mut built, indexes)?;
+    exports(&mut built, names)?;
+    Ok(built)
+}
+
+/// The bytes of such a module are read back as its sections.
+pub fn read_back<'a>(alloc: Global, module: &'a Module) -> Result<Vec<ModuleSection<'a>>, ReadError>
+    ensures { (sections : List ModuleSectionParts) → ShortestWholeModule module.now sections →
+        IsOrMemory (λ given. all_module_section_parts given.items) sections result }
+{
+    read_whole_module_strict(alloc, module.as_slice())
+}
