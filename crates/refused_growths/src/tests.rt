@@ -6,6 +6,7 @@ mod code_sections;
 mod decoded_modules;
 mod lists;
 mod modules;
+mod sections;
 mod strict;
 mod types;
 

@@ -75,6 +75,12 @@ fn resumptions_are_cloned(rt: HostRuntime) -> Result<(), Fail> {
 }
 
 #[test]
+fn long_lists_are_cloned(rt: HostRuntime) -> Result<(), Fail> {
+    let labels = items(rt.alloc(), &[7; 100_000])?;
+    is_cloned(&rt, &call(0x0e, Operands::BrTable(labels, 3))?)
+}
+
+#[test]
 fn lists_are_read(rt: HostRuntime) -> Result<(), Fail> {
     let read = read_again(&rt, || read_instructions(rt.alloc(), CODE.as_slice()))?;
     let branches = branches(rt.alloc())?;
