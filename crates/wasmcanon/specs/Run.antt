@@ -1,0 +1,83 @@
+-- What a run reads, writes and answers.
+use Rattle.std.specs.Prelude.{ℕ, List, Option, Result, Ok, Err}
+use Rattle.std.specs.Io.KnownBytes.{Appends}
+use Rattle.wasm_codec.specs.Answers.{EncodesSome, IsNormalForm, IsLongestPrefix}
+use Rattle.wasm_sections.specs.ModuleSections.{ModuleSectionParts}
+use Rattle.wasm_sections.specs.formats.ModuleSections.{module_section, whole_module}
+use Rattle.wasm_codec.specs.declared.reader.ReadError.{ReadError}
+use Rattle.wasm_codec.specs.declared.reader.ReadError.TheVariants as read_errors
+use Rattle.wasm_codec.specs.formats.Combinators.{narrow}
+use Rattle.wasm_modules.specs.Modules.{IsModulePrefixOf}
+use Rattle.wasmcanon.specs.declared.run.Verdict.{Verdict}
+use Rattle.wasmcanon.specs.declared.run.Verdict.TheVariants as verdicts
+use Rattle.wasmcanon.specs.declared.run.Failure.{Failure}
+use Rattle.wasmcanon.specs.declared.run.Failure.TheVariants as failures
+
+-- the bytes encode a list of sections, each with what it holds
+abbrev pub IsModule : List ℕ → Type 0
+IsModule bytes = EncodesSome whole_module.Encodes bytes
+
+-- The bytes encode no list of sections.
+pub record IsNoModule (bytes : List ℕ) : Type 0 where
+  pub none : (sections : List ModuleSectionParts) → whole_module.Encodes bytes sections → ⊥
+
+-- this is the shortest encoding of the sections that the input encodes
+abbrev pub IsCanonicalForm : List ℕ → List ℕ → Type 0
+IsCanonicalForm input encoding = IsNormalForm whole_module.Encodes whole_module.bytes input encoding
+
+-- The known contents of a writer grew by the canonical form of the input.
+pub record AppendsCanonicalForm (input : List ℕ) (old new : Option (List ℕ)) : Type 0 where
+  pub encoding : List ℕ
+  pub canonical : IsCanonicalForm input encoding
+  pub appended : Appends old new encoding
+
+-- what a verdict says of the input
+abbrev pub Judges : List ℕ → Verdict → Type 0
+Judges input verdicts.Canonical = IsCanonicalForm input input
+Judges input (verdicts.Longer at) =
+    IsModule input × (IsCanonicalForm input input → ⊥) × IsLongestPrefix (IsModulePrefixOf (narrow module_section)) input at
+
+-- ---- answers
+
+-- where the input was refused, this holds of the place
+abbrev pub IfRefused : {X : Type 0} → Result X Failure → (ℕ → Type 0) → Type 0
+IfRefused (Ok x) P = Unit {0}
+IfRefused (Err (failures.Refused at)) P = P at
+IfRefused (Err failures.Memory) P = Unit {0}
+IfRefused (Err (failures.Read error)) P = Unit {0}
+IfRefused (Err (failures.Write error)) P = Unit {0}
+
+-- this holds at each answer that is given once all the input is read
+abbrev pub OnceAllIsRead : {X : Type 0} → Result X Failure → Type 0 → Type 0
+OnceAllIsRead (Ok x) P = P
+OnceAllIsRead (Err (failures.Refused at)) P = P
+OnceAllIsRead (Err failures.Memory) P = Unit {0}
+OnceAllIsRead (Err (failures.Read error)) P = Unit {0}
+OnceAllIsRead (Err (failures.Write error)) P = P
+
+-- this holds at each failure but that of a write
+abbrev pub BeforeAnyWrite : {X : Type 0} → Result X Failure → Type 0 → Type 0
+BeforeAnyWrite (Ok x) P = Unit {0}
+BeforeAnyWrite (Err (failures.Refused at)) P = P
+BeforeAnyWrite (Err failures.Memory) P = P
+BeforeAnyWrite (Err (failures.Read error)) P = P
+BeforeAnyWrite (Err (failures.Write error)) P = Unit {0}
+
+-- the failure is one of reading
+abbrev pub IsReadFailure : Failure → Type 0
+IsReadFailure (failures.Refused at) = ⊥
+IsReadFailure failures.Memory = Unit {0}
+IsReadFailure (failures.Read error) = Unit {0}
+IsReadFailure (failures.Write error) = ⊥
+
+-- the failure of a run whose reader or normaliser gave this error
+abbrev pub failure_of : ReadError → Failure
+failure_of read_errors.Memory = failures.Memory
+failure_of (read_errors.Refused at) = failures.Refused at
+
+-- the exit status of a run that failed so
+abbrev pub status_of : Failure → ℕ
+status_of (failures.Refused at) = 1
+status_of failures.Memory = 3
+status_of (failures.Read error) = 4
+status_of (failures.Write error) = 4

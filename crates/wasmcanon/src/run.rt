@@ -1,0 +1,157 @@
+//! One run of the program, over any reader and any writer.
+ghost use Rattle.std.specs.Prelude.{◌≡◌, ℕ, List, IfOk, IfErr, IfSome, OnOk};
+ghost use Rattle.std.specs.Io.KnownBytes.{IsAtEnd, Keeps, Appends};
+ghost use Rattle.wasm_codec.specs.Answers.{IsLongestPrefix};
+ghost use Rattle.wasm_codec.specs.formats.Combinators.{narrow};
+ghost use Rattle.wasm_modules.specs.Modules.{IsModulePrefixOf};
+ghost use Rattle.wasm_sections.specs.formats.ModuleSections.{module_section};
+ghost use Rattle.wasmcanon.specs.Run.{IsNoModule, IsCanonicalForm, AppendsCanonicalForm, IfRefused, OnceAllIsRead, BeforeAnyWrite, IsReadFailure, Judges, failure_of, status_of};
+ghost use Rattle.wasmcanon.specs.declared.run.Failure.TheVariants.{Memory};
+
+use std::alloc::{AllocError, Global};
+use std::io;
+use std::io::{ErrorKind, Read, Write};
+use wasm_codec::reader::ReadError;
+use wasm_sections::modules::{read_whole_module_strict, rewrite_whole_module};
+
+/// Why a run ended without its answer.
+#[derive(Debug, Drop)]
+pub enum Failure {
+    /// The input isn't a module.
+    Refused {
+        /// How many bytes the header and the sections before the first that isn't whole have.
+        at: usize,
+    },
+    /// There was no memory.
+    Memory,
+    /// A read failed.
+    Read(io::Error),
+    /// A write failed.
+    Write(io::Error),
+}
+
+impl Failure {
+    /// The exit status of the program: 1 for an input that is no module, 3 where there was no memory, and 4 where reading or
+    /// writing failed.
+    pub fn status(&self) -> u8
+        ensures { result ≡ status_of self.now }
+    {
+        match self {
+            Failure::Refused { .. } => 1,
+            Failure::Memory => 3,
+            Failure::Read(_) | Failure::Write(_) => 4,
+        }
+    }
+}
+
+impl From<AllocError> for Failure {
+    ghost from_gives = { λ _ failure. failure ≡ Memory };
+
+    fn from(_error: AllocError) -> Failure {
+        Failure::Memory
+    }
+}
+
+impl From<ReadError> for Failure {
+    ghost from_gives = { λ error failure. failure ≡ failure_of error };
+
+    fn from(error: ReadError) -> Failure {
+        match error {
+            ReadError::Memory => Failure::Memory,
+            ReadError::Refused { at } => Failure::Refused { at },
+        }
+    }
+}
+
+/// Whether a module is its own canonical form.
+#[derive(Clone, Copy, Debug, PartialEq, Eq)]
+pub enum Verdict {
+    /// It is.
+    Canonical,
+    /// It isn't.
+    Longer {
+        /// How many bytes the header and the sections before the first that isn't in its shortest encoding have.
+        at: usize,
+    },
+}
+
+/// Reads all of the input, and writes its canonical form.
+pub fn canonicalise<R: Read, W: Write>(
+    alloc: Global,
+    reader: &mut R,
+    writer: &mut W,
+) -> Result<(), Failure>
+    // The canonical form of the input is written, and nothing else.
+    ensures ok { OnOk result (IfSome (R.remaining reader.old) (λ input.
+        AppendsCanonicalForm input (W.contents writer.old) (W.contents writer.new))) }
+    // All of the input is read before it is judged or a byte is written.
+    ensures read_to_end { OnceAllIsRead result (IsAtEnd (R.remaining reader.new)) }
+    // Only what is no module is refused.
+    ensures unencoded { IfRefused result (λ _. IfSome (R.remaining reader.old) IsNoModule) }
+    // `at` is the length of the longest prefix that is whole.
+    ensures refused { IfRefused result (λ at. IfSome (R.remaining reader.old) (λ input.
+        IsLongestPrefix (IsModulePrefixOf module_section) input at)) }
+    // After any failure but `Write` nothing is written.
+    ensures nothing_written { BeforeAnyWrite result (Keeps (W.contents writer.old) (W.contents writer.new)) }
+{
+    let input = read_all(alloc, reader)?;
+    let canonical = canonical_form(input)?;
+    writer.write_all(&canonical).map_err(Failure::Write)
+}
+
+/// Reads all of the input, and tells whether it is its own canonical form.
+pub fn check<R: Read>(alloc: Global, reader: &mut R) -> Result<Verdict, Failure>
+    // The verdict is right.
+    ensures ok { IfOk result (λ verdict. IfSome (R.remaining reader.old) (λ input. Judges input verdict)) }
+    // Only what is no module is refused.
+    ensures unencoded { IfRefused result (λ _. IfSome (R.remaining reader.old) IsNoModule) }
+    // `at` is the length of the longest prefix that is whole.
+    ensures refused { IfRefused result (λ at. IfSome (R.remaining reader.old) (λ input.
+        IsLongestPrefix (IsModulePrefixOf module_section) input at)) }
+{
+    let input = read_all(alloc, reader)?;
+    judge(alloc, &input)
+}
+
+/// Whether the bytes of a module are its canonical form.
+fn judge(alloc: Global, input: &[u8]) -> Result<Verdict, Failure>
+    ensures ok { IfOk result (Judges input.now) }
+    ensures unencoded { IfRefused result (λ _. IsNoModule input.now) }
+    ensures refused { IfRefused result (IsLongestPrefix (IsModulePrefixOf module_section) input.now) }
+{
+    let canonical = canonical_form(Vec::from_slice(alloc, input)?)?;
+    if canonical.as_slice() == input {
+        return Ok(Verdict::Canonical);
+    }
+    match read_whole_module_strict(alloc, input) {
+        Ok(_) => Ok(Verdict::Canonical),
+        Err(ReadError::Memory) => Err(Failure::Memory),
+        Err(ReadError::Refused { at }) => Ok(Verdict::Longer { at }),
+    }
+}
+
+/// The canonical form of a module, in the list that it is read from.
+fn canonical_form(bytes: Vec<u8>) -> Result<Vec<u8>, Failure>
+    ensures ok { IfOk result (λ canonical. IsCanonicalForm bytes.items canonical.items) }
+    ensures unencoded { IfRefused result (λ _. IsNoModule bytes.items) }
+    ensures refused { IfRefused result (IsLongestPrefix (IsModulePrefixOf module_section) bytes.items) }
+{
+    Ok(rewrite_whole_module(bytes)?)
+}
+
+/// All that is left to read.
+fn read_all<R: Read>(alloc: Global, reader: &mut R) -> Result<Vec<u8>, Failure>
+    // All known bytes are given.
+    ensures all { IfOk result (λ bytes. IfSome (R.remaining reader.old) (λ input. bytes.items ≡ input)) }
+    // None is left.
+    ensures end { OnOk result (IsAtEnd (R.remaining reader.new)) }
+    // Otherwise there was no memory, or reading failed.
+    ensures failure { IfErr result IsReadFailure }
+{
+    let mut bytes = Vec::new(alloc);
+    match reader.read_to_end(&mut bytes) {
+        Ok(_) => Ok(bytes),
+        Err(error) if error.kind() == ErrorKind::OutOfMemory => Err(Failure::Memory),
+        Err(error) => Err(Failure::Read(error)),
+    }
+}
