@@ -29,6 +29,9 @@ pub enum Mismatch {
     /// The builder writes other bytes of what the reader gives.
     #[error("the builder writes otherwise")]
     Written,
+    /// A part of the body is taken, or refused elsewhere by the normaliser than by the reader.
+    #[error("a part of the body is answered otherwise")]
+    Cut,
     /// The module of that section is read or normalised otherwise.
     #[error("the module is answered otherwise")]
     Module,
@@ -66,16 +69,44 @@ fn check_taken(alloc: Global, section: &str, body: &[u8], expected: &str) -> Res
     check_normal(alloc, section, body, normal)?;
     check_normal(alloc, section, normal, normal)?;
     check_built(alloc, section, body, normal)?;
+    check_cuts(alloc, section, body)?;
     check_module(alloc, section, body, normal)
 }
 
-/// Where there is a builder, it writes this body of what the reader gives.
+/// Each part of the body from its beginning is refused, but for a custom section, which may hold any bytes after its name.
+fn check_cuts(alloc: Global, section: &str, body: &[u8]) -> Result<(), Mismatch> {
+    if section == "custom" {
+        return Ok(());
+    }
+    for len in 0..body.len() {
+        check_cut(alloc, section, &body[..len])?;
+    }
+    Ok(())
+}
+
+/// The reader and the normaliser refuse the part at the same place, and the strict reader no later.
+fn check_cut(alloc: Global, section: &str, cut: &[u8]) -> Result<(), Mismatch> {
+    let Answer::Refused(at) = read(alloc, section, cut)? else {
+        return Err(Mismatch::Cut);
+    };
+    match normalise(alloc, section, cut) {
+        Err(ReadError::Refused { at: place }) if place == at && at <= cut.len() => {}
+        _ => return Err(Mismatch::Cut),
+    }
+    match read_strictly(alloc, section, cut)? {
+        Answer::Refused(place) if place <= at => Ok(()),
+        _ => Err(Mismatch::Cut),
+    }
+}
+
+/// The builder writes this body of what the reader gives.
 fn check_built(alloc: Global, section: &str, body: &[u8], normal: &[u8]) -> Result<(), Mismatch> {
     let expected = sized(alloc, normal)?;
-    match build(alloc, section, body)? {
-        Some(built) if built.as_slice() != expected.as_slice() => Err(Mismatch::Written),
-        _ => Ok(()),
+    let built = build(alloc, section, body)?;
+    if built.as_slice() != expected.as_slice() {
+        return Err(Mismatch::Written);
     }
+    Ok(())
 }
 
 /// The strict reader gives so many items, or refuses the body.

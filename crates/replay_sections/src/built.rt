@@ -6,6 +6,7 @@ use wasm_builders::list_section::{ListSection, SectionItem};
 use wasm_builders::numbers::{DataCountSection, StartSection};
 use wasm_codec::reader::ReadError;
 use wasm_modules::section::HEADER;
+use wasm_sections::custom::read_custom_section;
 use wasm_sections::data::read_data_section;
 use wasm_sections::data_count::read_data_count_section;
 use wasm_sections::elements::read_element_section;
@@ -44,23 +45,22 @@ fn listed<T: SectionItem + Drop>(
     }
 }
 
-/// The size and the body that a builder writes of what the reader gives; nothing of a custom section.
-pub fn build(alloc: Global, section: &str, body: &[u8]) -> Result<Option<Vec<u8>>, Mismatch> {
-    let built = match section {
-        "import" => listed(alloc, read_import_section(alloc, body))?,
-        "function" => listed(alloc, read_function_section(alloc, body))?,
-        "table" => listed(alloc, read_table_section(alloc, body))?,
-        "memory" => listed(alloc, read_memory_section(alloc, body))?,
-        "global" => listed(alloc, read_global_section(alloc, body))?,
-        "export" => listed(alloc, read_export_section(alloc, body))?,
-        "element" => listed(alloc, read_element_section(alloc, body))?,
-        "data" => listed(alloc, read_data_section(alloc, body))?,
-        "tag" => listed(alloc, read_tag_section(alloc, body))?,
-        "start" => start(alloc, body)?,
-        "data count" => data_count(alloc, body)?,
-        _ => return Ok(None),
-    };
-    Ok(Some(built))
+/// The size and the body that a builder writes of what the reader gives.
+pub fn build(alloc: Global, section: &str, body: &[u8]) -> Result<Vec<u8>, Mismatch> {
+    match section {
+        "import" => listed(alloc, read_import_section(alloc, body)),
+        "function" => listed(alloc, read_function_section(alloc, body)),
+        "table" => listed(alloc, read_table_section(alloc, body)),
+        "memory" => listed(alloc, read_memory_section(alloc, body)),
+        "global" => listed(alloc, read_global_section(alloc, body)),
+        "export" => listed(alloc, read_export_section(alloc, body)),
+        "element" => listed(alloc, read_element_section(alloc, body)),
+        "data" => listed(alloc, read_data_section(alloc, body)),
+        "tag" => listed(alloc, read_tag_section(alloc, body)),
+        "start" => start(alloc, body),
+        "data count" => data_count(alloc, body),
+        _ => custom(alloc, body),
+    }
 }
 
 /// What is written of a start section.
@@ -75,6 +75,14 @@ fn start(alloc: Global, body: &[u8]) -> Result<Vec<u8>, Mismatch> {
 fn data_count(alloc: Global, body: &[u8]) -> Result<Vec<u8>, Mismatch> {
     match read_data_count_section(body) {
         Ok(count) => bytes_of(alloc, &DataCountSection { count }),
+        Err(_) => Err(Mismatch::Read),
+    }
+}
+
+/// What is written of a custom section.
+fn custom(alloc: Global, body: &[u8]) -> Result<Vec<u8>, Mismatch> {
+    match read_custom_section(body) {
+        Ok(section) => bytes_of(alloc, &section),
         Err(_) => Err(Mismatch::Read),
     }
 }
