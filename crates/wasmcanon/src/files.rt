@@ -52,16 +52,25 @@ fn canonicalise_to_file<R: Read>(
     path: &str,
 ) -> Result<(), Failure> {
     if is_special(rt, path) {
-        let mut file = fs::create(rt, path).map_err(Failure::Write)?;
+        let mut file = fs::create(rt, path).map_err(write_failure)?;
         return canonicalise(rt.alloc(), reader, &mut file);
     }
-    let mut replacement = Replacement::create(rt, path).map_err(Failure::Write)?;
+    let mut replacement = Replacement::create(rt, path).map_err(write_failure)?;
     match canonicalise(rt.alloc(), reader, &mut replacement.file) {
-        Ok(()) => replacement.put(rt).map_err(Failure::Write),
+        Ok(()) => replacement.put(rt).map_err(write_failure),
         Err(failure) => {
             replacement.remove(rt);
             Err(failure)
         }
+    }
+}
+
+/// The failure of a file that can't be made or put in its place, for which there may have been no memory.
+fn write_failure(error: io::Error) -> Failure {
+    if error.kind() == io::ErrorKind::OutOfMemory {
+        Failure::Memory
+    } else {
+        Failure::Write(error)
     }
 }
 
