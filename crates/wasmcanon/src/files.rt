@@ -2,7 +2,7 @@
 use crate::options::Location;
 use crate::run::{Failure, Verdict, canonicalise, check};
 use std::fs::File;
-use std::io::{IsTerminal, Read, Write};
+use std::io::{Read, Write};
 use std::{fs, io};
 
 /// Writes the canonical form of the module that is at one location to another.

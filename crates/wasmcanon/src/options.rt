@@ -1,7 +1,6 @@
 //! What the words of a command line ask for.
 use clap::{Arg, ArgAction, ArgMatches, Command};
 use std::alloc::{AllocError, Global};
-use std::fmt;
 
 /// Where bytes are read from or written to.
 #[derive(Clone, Copy, Debug, PartialEq, Eq)]
