@@ -3,17 +3,24 @@ use Rattle.std.proofs.Common.{◌≡◌, ℕ, suc, ◌+◌, List, [], ◌∷◌,
 use Rattle.std.specs.List.{All, flat_map}
 use Rattle.std.proofs.lemmas.List.{length-map}
 use Rattle.std.proofs.lemmas.List.Elements.{All-nil, All-cons}
-use Rattle.wasm_codec.specs.Encoding.{IsCount, IsShortest, IsShortestOrLonger}
+use Rattle.wasm_codec.specs.Encoding.{byte_list_bytes, IsCount, IsShortest, IsShortestOrLonger}
 use Rattle.wasm_codec.specs.Lawful.{IsLawful}
 use Rattle.wasm_codec.specs.formats.Combinators.{Format, items}
 use Rattle.wasm_codec.proofs.FormatLaws.{Lawful-items}
 use Rattle.wasm_sections.specs.ModuleSections.{ModuleSectionParts}
-use Rattle.wasm_sections.specs.SectionBytes.{IsBodyOf}
+use Rattle.wasm_sections.specs.SectionBytes.{IsBodyOf, IsSectionAfter}
 use Rattle.wasm_sections.proofs.SectionWriting.{section_written}
 use Rattle.wasm_types.proofs.WrittenTypes.{in_range_of}
 use Rattle.wasm_writers.specs.EncodedLists.{Entries, CountedSection, body_bytes}
 use Rattle.wasm_writers.proofs.EncodedListLaws.{stands_none, gains_one, gains_each, body_is, values_in_range, all_in_range}
 use Rattle.wasm_builders.specs.ListSections.{StandsForItems, GainsItem, GainsItems, HoldsItems, IsSectionOfItems}
+
+-- what is written of a section that stands for values is their body, and with the id the section of a module that holds them
+pub both_written : {T E V : Type 0} (r : Result T E) (section : Entries) (Stands : List V → Type 0) (F : Format (List V)) (id : ℕ) (holding : List V → ModuleSectionParts) → IsBodyOf id holding F
+    → ((values : List V) → Stands values → F.Encodes (body_bytes section) values) → ((values : List V) → Stands values → body_bytes section ≡ F.bytes values) → OnOk r (CountedSection section)
+    → OnOk r (((values : List V) → Stands values → F.Encodes (body_bytes section) values) × ((values : List V) → Stands values → IsSectionAfter id (byte_list_bytes (body_bytes section)) (holding values)))
+both_written (Ok x) section Stands F id holding of encodes is counted = (encodes, λ values s. section_written holding F of values (body_bytes section) counted (encodes values s) (is values s))
+both_written (Err e) section Stands F id holding of encodes is counted = tt
 
 module _ {V : Type 0} (F : Format V) where
   pub stands_for_none : (section : Entries) → section.count ≡ 0 → section.bytes ≡ [] → StandsForItems F section []
@@ -39,9 +46,7 @@ module _ {V : Type 0} (F : Format V) where
     body_shortest section values bytes s g = rw (section_is_body section values s) ((Lawful-items law).shortest.least bytes values g)
 
     pub list_written : {T E : Type 0} (r : Result T E) (section : Entries) (id : ℕ) (holding : List V → ModuleSectionParts) → IsBodyOf id holding (items F) → IsCount section.count → OnOk r (CountedSection section) → OnOk r (HoldsItems F section × IsSectionOfItems F id holding section)
-    list_written (Ok x) section id holding body few counted =
-        (λ values s. body_encodes section values few s, λ values s. section_written holding (items F) body values (body_bytes section) counted (body_encodes section values few s) (section_is_body section values s))
-    list_written (Err e) section id holding body few counted = tt
+    list_written r section id holding body few counted = both_written r section (StandsForItems F section) (items F) id holding body (λ values s. body_encodes section values few s) (section_is_body section) counted
 
 -- what is seen of several items
 module _ {X V : Type 0} (view : X → V) (F : Format V) (bytes : X → List ℕ) (are : (x : X) → bytes x ≡ F.bytes (view x)) where

@@ -22,7 +22,8 @@ use Rattle.wasm_modules.specs.DecodedModules.{IsDecodedSection}
 use Rattle.wasm_encoder.specs.EncodedLists.{Entries, CountedSection, OfItems, body_bytes}
 use Rattle.wasm_encoder.specs.CodeSections.{FunctionStandsFor, GainsBodies, GainsFunction, GoesOnWith, HoldsBodies, IsCodeSection, StandsForBodies, body_of, followed}
 use Rattle.wasm_sections.specs.ModuleSections.{code}
-use Rattle.wasm_sections.proofs.SectionWriting.{code_section, section_written}
+use Rattle.wasm_sections.proofs.SectionWriting.{code_section}
+use Rattle.wasm_builders.proofs.ListSectionLaws.{both_written}
 use Rattle.wasm_writers.proofs.EncodedListLaws.{stands_none, stands_one_more, gains_each, body_is, values_in_range, all_in_range}
 
 -- ---- functions
@@ -97,13 +98,9 @@ body_encodes section bodies few s = rw (section_is_body section bodies s) (Lawfu
 pub body_shortest : (section : Entries) (bodies : List CodeBody) (bytes : List ℕ) → StandsForBodies section bodies → code_section_body.Encodes bytes bodies → IsShortestOrLonger bytes (body_bytes section)
 body_shortest section bodies bytes s g = rw (section_is_body section bodies s) (Lawful-code-section-body.shortest.least bytes bodies g)
 
-is_code_section : (section : Entries) → IsCount section.count → CountedSection section → IsCodeSection section
-unfolding code_section_body
-is_code_section section few counted = λ bodies s. section_written code code_section_body code_section bodies (body_bytes section) counted (body_encodes section bodies few s) (section_is_body section bodies s)
-
 pub bodies_written : {T E : Type 0} (r : Result T E) (section : Entries) → IsCount section.count → OnOk r (CountedSection section) → OnOk r (HoldsBodies section × IsCodeSection section)
-bodies_written (Ok x) section few counted = (λ bodies s. body_encodes section bodies few s, is_code_section section few counted)
-bodies_written (Err e) section few counted = tt
+unfolding code_section_body
+bodies_written r section few counted = both_written r section (StandsForBodies section) code_section_body 10 code code_section (λ bodies s. body_encodes section bodies few s) (section_is_body section) counted
 
 pub is_decoded : {T E : Type 0} (r : Result T E) (section : Entries) (bodies : List CodeBody) → IsCount section.count → OnOk r (CountedSection section) → StandsForBodies section bodies → OnOk r (IsDecodedSection (decoded_section_of (code_section_id, code_bodies bodies)))
 is_decoded (Ok x) section bodies few counted s = record {

@@ -15,7 +15,8 @@ use Rattle.wasm_types.specs.TypeCounts.{CountedInner, CountedSub, CountedEntry}
 use Rattle.wasm_types.proofs.TypeFormatLaws.{Lawful-inner-type, Lawful-sub-type, Lawful-recursive-type, Lawful-type-body}
 use Rattle.wasm_types.proofs.WrittenTypes.{in_range_of}
 use Rattle.wasm_sections.specs.ModuleSections.{types}
-use Rattle.wasm_sections.proofs.SectionWriting.{section_written, types_section}
+use Rattle.wasm_sections.proofs.SectionWriting.{types_section}
+use Rattle.wasm_builders.proofs.ListSectionLaws.{both_written}
 use Rattle.wasm_writers.proofs.EncodedListLaws.{stands_none, gains_one, gains_each, body_is, values_in_range, all_in_range}
 
 pub stands_for_none : (section : Entries) → section.count ≡ 0 → section.bytes ≡ [] → StandsFor section []
@@ -83,13 +84,9 @@ body_encodes section entries few s = rw (is_shortest section entries s) (Lawful-
 pub body_shortest : (section : Entries) (entries : List TypeEntry) (bytes : List ℕ) → StandsFor section entries → type_body.Encodes bytes entries → IsShortestOrLonger bytes (body_bytes section)
 body_shortest section entries bytes s g = rw (is_shortest section entries s) (Lawful-type-body.shortest.least bytes entries g)
 
-is_type_section : (section : Entries) → IsCount section.count → CountedSection section → IsTypeSection section
-unfolding type_body
-is_type_section section few counted = λ entries s. section_written types type_body types_section entries (body_bytes section) counted (body_encodes section entries few s) (is_shortest section entries s)
-
 pub entries_written : {T E : Type 0} (r : Result T E) (section : Entries) → IsCount section.count → OnOk r (CountedSection section) → OnOk r (HoldsEntries section × IsTypeSection section)
-entries_written (Ok x) section few counted = (λ entries s. body_encodes section entries few s, is_type_section section few counted)
-entries_written (Err e) section few counted = tt
+unfolding type_body
+entries_written r section few counted = both_written r section (StandsFor section) type_body 1 types types_section (λ entries s. body_encodes section entries few s) (is_shortest section) counted
 
 pub is_decoded : {T E : Type 0} (r : Result T E) (section : Entries) (entries : List TypeEntry) → IsCount section.count → OnOk r (CountedSection section) → StandsFor section entries → OnOk r (IsDecodedSection (decoded_section_of (type_section_id, type_entries entries)))
 is_decoded (Ok x) section entries few counted s = record {
