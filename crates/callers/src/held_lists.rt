@@ -3,7 +3,8 @@ ghost use Rattle.std.specs.Prelude.{◌≡◌, ◌++◌, ◌∷◌, [], List, If
 ghost use Rattle.wasm_encoder.specs.CodeSections.{FunctionStandsFor, body_of};
 ghost use Rattle.wasm_encoder.specs.InstructionFormats.{instruction};
 ghost use Rattle.wasm_encoder.specs.TypeSections.{StandsFor, final_entry};
-ghost use Rattle.wasm_instructions.specs.Instructions.{call, without_prefix};
+ghost use Rattle.wasm_instructions.specs.formats.Instructions.{call};
+ghost use Rattle.wasm_instructions.specs.formats.Opcodes.{without_prefix};
 ghost use Rattle.wasm_instructions.specs.declared.table.call.Operands.TheVariants as operands;
 ghost use Rattle.wasm_types.specs.declared.types.composite.CompositeInnerType.TheVariants as inner;
 ghost use Rattle.wasm_types.specs.declared.types.composite.TypeEntry.{TypeEntry};

@@ -2,7 +2,8 @@
 ghost use Rattle.std.specs.Prelude.{◌≡◌, ◌++◌, ◌∷◌, [], ◌+◌, ◌≤◌, length, OnOk};
 ghost use Rattle.wasm_encoder.specs.Encoding.{byte_list_bytes};
 ghost use Rattle.wasm_encoder.specs.Sink.{IsShortestCall};
-ghost use Rattle.wasm_instructions.specs.Instructions.{call, without_prefix};
+ghost use Rattle.wasm_instructions.specs.formats.Instructions.{call};
+ghost use Rattle.wasm_instructions.specs.formats.Opcodes.{without_prefix};
 ghost use Rattle.wasm_instructions.specs.declared.table.call.Operands.TheVariants as operands;
 
 use std::alloc::Global;

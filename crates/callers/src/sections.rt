@@ -1,7 +1,7 @@
 //! Sections other than those of types and code, filled and written.
 ghost use Rattle.std.specs.Prelude.{◌≡◌, ◌++◌, ◌∷◌, [], List, OnOk};
 ghost use Rattle.wasm_codec.specs.Encoding.{byte_list_bytes};
-ghost use Rattle.wasm_sections.specs.Entries.{ExportParts};
+ghost use Rattle.wasm_sections.specs.formats.EntryParts.{ExportParts};
 ghost use Rattle.wasm_sections.specs.declared.types.ExportKind.TheVariants as kinds;
 ghost use Rattle.wasm_sections.specs.formats.Entries.{export_of, export_entry};
 ghost use Rattle.wasm_codec.specs.formats.Combinators.{items};

@@ -3,8 +3,8 @@ ghost use Rattle.std.specs.Prelude.{◌≡◌, ◌++◌, ◌∷◌, [], ℕ, Lis
 ghost use Rattle.wasm_codec.specs.formats.Combinators.{u32 as u32_format};
 ghost use Rattle.wasm_encoder.specs.Answers.{IsOrMemory};
 ghost use Rattle.wasm_builders.specs.ListSections.{StandsForItems};
-ghost use Rattle.wasm_sections.specs.Entries.{ExportParts, custom_parts};
-ghost use Rattle.wasm_sections.specs.ModuleSections.{ModuleSectionParts, all_module_section_parts, custom, exports as holding_exports, functions as holding_functions};
+ghost use Rattle.wasm_sections.specs.formats.EntryParts.{ExportParts, custom_parts};
+ghost use Rattle.wasm_sections.specs.formats.ModuleSectionParts.{ModuleSectionParts, all_module_section_parts, custom, exports as holding_exports, functions as holding_functions};
 ghost use Rattle.wasm_sections.specs.formats.Entries.{export_entry};
 ghost use Rattle.wasm_sections.specs.formats.ModuleSections.{ShortestWholeModule};
 

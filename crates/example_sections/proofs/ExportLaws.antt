@@ -1,6 +1,6 @@
 -- The law of an export's format.
 use Rattle.std.proofs.Common.{refl, arith}
-use Rattle.wasm_codec.specs.Grammar.{TakesBytes}
+use Rattle.wasm_codec.specs.formats.Grammar.{TakesBytes}
 use Rattle.wasm_codec.specs.Lawful.{IsLawful}
 use Rattle.wasm_codec.proofs.BodyLaws.{Lawful-byte-list}
 use Rattle.wasm_codec.proofs.FormatLaws.{Lawful-after, Lawful-both, Lawful-u32, takes_bytes}

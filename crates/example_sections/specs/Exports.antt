@@ -4,7 +4,7 @@ use Rattle.wasm_encoder.specs.Bodies.{byte_list}
 use Rattle.wasm_encoder.specs.Combinators.{Format, ◌▷◌, ◌⊗◌, u32}
 use Rattle.wasm_encoder.specs.Encoding.{byte_list_bytes, CanEncodeList, IsCount}
 use Rattle.wasm_encoder.specs.Lists.{items_bytes}
-use Rattle.wasm_encoder.specs.Numbers.{unsigned_leb128}
+use Rattle.wasm_encoder.specs.Leb128.{unsigned_leb128}
 use Rattle.example_sections.specs.declared.exports.FunctionExport.{FunctionExport}
 use Rattle.example_sections.specs.declared.read.ReadExport.{ReadExport}
 

@@ -43,8 +43,7 @@ impl<'a> Readable<'a> for ReadExport<'a> {
 
     ghost format = { export };
 
-    fn read(alloc: Global, cursor: &mut Cursor<'a>) -> Result<ReadExport<'a>, Fault> {
-        let _ = alloc;
+    fn read(_alloc: Global, cursor: &mut Cursor<'a>) -> Result<ReadExport<'a>, Fault> {
         read_export(cursor)
     }
 }

@@ -1,6 +1,6 @@
 //! Vectors of one encoded value: `encode`, the value's token, and its bytes.
 ghost use Rattle.std.specs.Prelude.{⊤};
-ghost use Rattle.wasm_encoder.specs.Numbers.{unsigned_leb128, signed_leb128};
+ghost use Rattle.wasm_encoder.specs.Leb128.{unsigned_leb128, signed_leb128};
 ghost use Rattle.wasm_encoder.specs.Encoding.{IsCount, OnlyTooLong};
 ghost use Rattle.vectors.specs.declared.columns.Token.TheVariants as tokens;
 

@@ -2,12 +2,13 @@
 use Rattle.std.proofs.Common.{◌≡◌, ℕ, ◌<◌, ◌^◌, ◌⊎◌, List, length, inl, inr, Result, Ok, Err, OnOk, refl, subst, sym, arith}
 use Rattle.wasm_codec.specs.declared.encode.EncodeError.{EncodeError}
 use Rattle.wasm_codec.specs.Encoding.{byte_list_bytes, IsCount, IsShortest, OnlyTooLong}
-use Rattle.wasm_codec.specs.Numbers.{unsigned_leb128, EncodesU32}
+use Rattle.wasm_codec.specs.Leb128.{unsigned_leb128}
+use Rattle.wasm_codec.specs.formats.Numbers.{EncodesU32}
 use Rattle.wasm_codec.specs.Lawful.{IsLawful}
 use Rattle.wasm_codec.specs.formats.Combinators.{u32}
 use Rattle.wasm_codec.proofs.FormatLaws.{Lawful-u32}
 use Rattle.wasm_codec.proofs.NumberLaws.{written}
-use Rattle.wasm_sections.specs.ModuleSections.{ModuleSectionParts, data_count, start}
+use Rattle.wasm_sections.specs.formats.ModuleSectionParts.{ModuleSectionParts, data_count, start}
 use Rattle.wasm_sections.specs.SectionBytes.{IsBodyOf, IsSectionAfter}
 use Rattle.wasm_sections.proofs.SectionWriting.{data_count_section, section_written, start_section}
 use Rattle.wasm_writers.specs.EncodedLists.{Entries, IsFull, IsMemoryOrTooLong, IsRefusalOfOne, IsUncounted}

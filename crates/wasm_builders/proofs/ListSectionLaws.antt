@@ -7,7 +7,7 @@ use Rattle.wasm_codec.specs.Encoding.{byte_list_bytes, IsCount, IsShortest, IsSh
 use Rattle.wasm_codec.specs.Lawful.{IsLawful}
 use Rattle.wasm_codec.specs.formats.Combinators.{Format, items}
 use Rattle.wasm_codec.proofs.FormatLaws.{Lawful-items}
-use Rattle.wasm_sections.specs.ModuleSections.{ModuleSectionParts}
+use Rattle.wasm_sections.specs.formats.ModuleSectionParts.{ModuleSectionParts}
 use Rattle.wasm_sections.specs.SectionBytes.{IsBodyOf, IsSectionAfter}
 use Rattle.wasm_sections.proofs.SectionWriting.{section_written}
 use Rattle.wasm_types.proofs.WrittenTypes.{in_range_of}

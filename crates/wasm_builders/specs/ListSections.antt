@@ -2,7 +2,7 @@
 use Rattle.std.specs.Prelude.{ℕ, List}
 use Rattle.wasm_codec.specs.Encoding.{byte_list_bytes}
 use Rattle.wasm_codec.specs.formats.Combinators.{Format, items}
-use Rattle.wasm_sections.specs.ModuleSections.{ModuleSectionParts}
+use Rattle.wasm_sections.specs.formats.ModuleSectionParts.{ModuleSectionParts}
 use Rattle.wasm_sections.specs.SectionBytes.{IsSectionAfter}
 use Rattle.wasm_writers.specs.EncodedLists.{Entries, StandsForAll, GainsOne, GainsEach, body_bytes}
 

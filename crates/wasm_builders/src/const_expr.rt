@@ -1,7 +1,9 @@
 //! Constant expressions (Core 3.0, Expressions).
 ghost use Rattle.std.specs.Prelude.{◌≡◌, ◌∷◌, [], IfOk, IfErr, IsOk, ◌↔◌};
 ghost use Rattle.wasm_codec.specs.declared.encode.EncodeError.TheVariants.{Memory};
-ghost use Rattle.wasm_instructions.specs.Instructions.{call, without_prefix, IsCall, IsAligned};
+ghost use Rattle.wasm_instructions.specs.formats.Instructions.{call};
+ghost use Rattle.wasm_instructions.specs.formats.Opcodes.{without_prefix};
+ghost use Rattle.wasm_instructions.specs.Instructions.{IsCall, IsAligned};
 ghost use Rattle.wasm_instructions.specs.declared.table.call.Operands.TheVariants as operands;
 ghost use Rattle.wasm_sections.specs.Closed.{IsClosed};
 
@@ -24,7 +26,7 @@ pub struct ConstExpr {
 
 impl Model for ConstExpr {
     ghost use Rattle.std.specs.Prelude.{List};
-    ghost use Rattle.wasm_instructions.specs.Instructions.{Instruction};
+    ghost use Rattle.wasm_instructions.specs.formats.Instructions.{Instruction};
     ghost use Rattle.wasm_sections.specs.Closed.{IsClosed};
 
     ghost Value = { List Instruction };

@@ -2,10 +2,10 @@
 ghost use Rattle.std.specs.Prelude.{◌≡◌, ◌⊎◌, ⊤, OnOk, OnErr, IfErr, length};
 ghost use Rattle.wasm_codec.specs.Encoding.{IsShortest};
 ghost use Rattle.wasm_codec.specs.Lawful.{IsLawful};
-ghost use Rattle.wasm_sections.specs.ModuleSections.{data_segments};
+ghost use Rattle.wasm_sections.specs.formats.ModuleSectionParts.{data_segments};
 ghost use Rattle.wasm_sections.specs.declared.data.DataSegment.{DataSegment};
 ghost use Rattle.wasm_sections.specs.Closed.{IsClosedData, IsCountedData};
-ghost use Rattle.wasm_sections.specs.Entries.{DataParts, data_parts};
+ghost use Rattle.wasm_sections.specs.formats.EntryParts.{DataParts, data_parts};
 ghost use Rattle.wasm_codec.specs.formats.Combinators.{items};
 ghost use Rattle.wasm_sections.specs.SectionBytes.{IsBodyOf};
 ghost use Rattle.wasm_sections.specs.formats.Segments.{active_data, passive_data, data_segment};

@@ -1,6 +1,6 @@
 //! Element sections (Core 3.0, Element Section).
 ghost use Rattle.std.specs.Prelude.{◌≡◌, ◌++◌, ◌+◌, ◌⊎◌, OnOk, OnErr, IfErr};
-ghost use Rattle.wasm_sections.specs.ModuleSections.{elements};
+ghost use Rattle.wasm_sections.specs.formats.ModuleSectionParts.{elements};
 ghost use Rattle.wasm_sections.specs.declared.elements.Element.{Element};
 ghost use Rattle.wasm_sections.specs.declared.elements.ElementMode.TheVariants as modes;
 ghost use Rattle.wasm_sections.specs.Closed.{AreClosed, IsClosedElement, IsCountedElement};

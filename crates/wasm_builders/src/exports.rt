@@ -2,10 +2,10 @@
 ghost use Rattle.std.specs.Prelude.{◌≡◌, ⊤, OnOk, OnErr, IfErr};
 ghost use Rattle.wasm_codec.specs.Encoding.{IsShortest};
 ghost use Rattle.wasm_codec.specs.Lawful.{IsLawful};
-ghost use Rattle.wasm_sections.specs.ModuleSections.{exports};
+ghost use Rattle.wasm_sections.specs.formats.ModuleSectionParts.{exports};
 ghost use Rattle.wasm_sections.specs.declared.exports.Export.{Export};
 ghost use Rattle.std.specs.Prelude.{◌⊎◌, length};
-ghost use Rattle.wasm_sections.specs.Entries.{ExportParts, export_parts};
+ghost use Rattle.wasm_sections.specs.formats.EntryParts.{ExportParts, export_parts};
 ghost use Rattle.wasm_codec.specs.formats.Combinators.{items};
 ghost use Rattle.wasm_sections.specs.SectionBytes.{IsBodyOf};
 ghost use Rattle.wasm_sections.specs.formats.Entries.{export_of, export_entry};

@@ -1,7 +1,7 @@
 //! Function sections (Core 3.0, Function Section).
 ghost use Rattle.std.specs.Prelude.{◌≡◌, ℕ, OnOk, OnErr, IfErr, refl};
 ghost use Rattle.wasm_codec.specs.formats.Combinators.{u32 as u32_format};
-ghost use Rattle.wasm_sections.specs.ModuleSections.{functions};
+ghost use Rattle.wasm_sections.specs.formats.ModuleSectionParts.{functions};
 ghost use Rattle.wasm_writers.specs.EncodedLists.{IsFull, IsMemoryOrTooLong};
 ghost use Rattle.wasm_builders.specs.ListSections.{GainsItem};
 

@@ -1,6 +1,6 @@
 //! Global sections (Core 3.0, Global Section).
 ghost use Rattle.std.specs.Prelude.{◌≡◌, ◌⊎◌, OnOk, OnErr, IfErr};
-ghost use Rattle.wasm_sections.specs.ModuleSections.{globals};
+ghost use Rattle.wasm_sections.specs.formats.ModuleSectionParts.{globals};
 ghost use Rattle.wasm_sections.specs.declared.globals.Global.{Global};
 ghost use Rattle.wasm_sections.specs.Closed.{IsClosedGlobal, IsCountedExpr};
 ghost use Rattle.wasm_sections.specs.formats.Entries.{global_of, global_entry};

@@ -2,10 +2,10 @@
 ghost use Rattle.std.specs.Prelude.{◌≡◌, ⊤, OnOk, OnErr, IfErr};
 ghost use Rattle.wasm_codec.specs.Encoding.{IsShortest};
 ghost use Rattle.wasm_codec.specs.Lawful.{IsLawful};
-ghost use Rattle.wasm_sections.specs.ModuleSections.{imports};
+ghost use Rattle.wasm_sections.specs.formats.ModuleSectionParts.{imports};
 ghost use Rattle.wasm_sections.specs.declared.imports.Import.{Import};
 ghost use Rattle.std.specs.Prelude.{◌⊎◌, length};
-ghost use Rattle.wasm_sections.specs.Entries.{ImportParts, import_parts};
+ghost use Rattle.wasm_sections.specs.formats.EntryParts.{ImportParts, import_parts};
 ghost use Rattle.wasm_codec.specs.formats.Combinators.{items};
 ghost use Rattle.wasm_sections.specs.SectionBytes.{IsBodyOf};
 ghost use Rattle.wasm_sections.specs.formats.Entries.{import_of, import_entry};

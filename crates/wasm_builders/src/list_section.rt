@@ -5,7 +5,7 @@ ghost use Rattle.wasm_codec.specs.Encoding.{byte_list_bytes, IsCount, IsRefusal,
 ghost use Rattle.wasm_codec.specs.Lawful.{IsLawful};
 ghost use Rattle.wasm_codec.specs.formats.Combinators.{Format, items};
 ghost use Rattle.wasm_codec.specs.declared.encode.EncodeError.TheVariants.{Memory, TooLong};
-ghost use Rattle.wasm_sections.specs.ModuleSections.{ModuleSectionParts};
+ghost use Rattle.wasm_sections.specs.formats.ModuleSectionParts.{ModuleSectionParts};
 ghost use Rattle.wasm_sections.specs.SectionBytes.{IsBodyOf};
 ghost use Rattle.wasm_writers.specs.EncodedLists.{Entries, CountedSection, IsRefusalOfOne, IsRefusalOfEach, body_bytes};
 ghost use Rattle.wasm_builders.specs.ListSections.{StandsForItems, GainsItem, GainsItems, HoldsItems, IsSectionOfItems};

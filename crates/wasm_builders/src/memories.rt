@@ -1,6 +1,6 @@
 //! Memory sections (Core 3.0, Memory Section).
 ghost use Rattle.std.specs.Prelude.{◌≡◌, OnOk, OnErr, IfErr};
-ghost use Rattle.wasm_sections.specs.ModuleSections.{memories};
+ghost use Rattle.wasm_sections.specs.formats.ModuleSectionParts.{memories};
 ghost use Rattle.wasm_sections.specs.declared.types.MemoryType.{MemoryType};
 ghost use Rattle.wasm_sections.specs.formats.Externals.{memory_type};
 ghost use Rattle.wasm_writers.specs.EncodedLists.{IsFull, IsMemoryOrTooLong};

@@ -1,9 +1,9 @@
 //! Sections that are one number (Core 3.0, Start Section and Data Count Section).
 ghost use Rattle.std.specs.Prelude.{◌≡◌, ◌++◌, OnOk, IfErr, OnErr};
 ghost use Rattle.wasm_codec.specs.Encoding.{byte_list_bytes, IsShortest};
-ghost use Rattle.wasm_codec.specs.Numbers.{unsigned_leb128};
+ghost use Rattle.wasm_codec.specs.Leb128.{unsigned_leb128};
 ghost use Rattle.wasm_codec.specs.declared.encode.EncodeError.TheVariants.{Memory};
-ghost use Rattle.wasm_sections.specs.ModuleSections.{data_count, start};
+ghost use Rattle.wasm_sections.specs.formats.ModuleSectionParts.{data_count, start};
 ghost use Rattle.wasm_sections.specs.SectionBytes.{IsSectionAfter};
 ghost use Rattle.wasm_sections.specs.formats.Sections.{start_body, data_count_body};
 

@@ -1,6 +1,6 @@
 //! Table sections (Core 3.0, Table Section).
 ghost use Rattle.std.specs.Prelude.{◌≡◌, ◌⊎◌, OnOk, OnErr, IfErr};
-ghost use Rattle.wasm_sections.specs.ModuleSections.{tables};
+ghost use Rattle.wasm_sections.specs.formats.ModuleSectionParts.{tables};
 ghost use Rattle.wasm_sections.specs.declared.tables.Table.{Table};
 ghost use Rattle.wasm_sections.specs.Closed.{IsClosedTable, IsCountedExpr};
 ghost use Rattle.wasm_sections.specs.formats.Entries.{filled_of, unfilled, table_entry};

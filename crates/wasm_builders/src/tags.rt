@@ -1,6 +1,6 @@
 //! Tag sections (Core 3.0, Tag Section).
 ghost use Rattle.std.specs.Prelude.{◌≡◌, OnOk, OnErr, IfErr};
-ghost use Rattle.wasm_sections.specs.ModuleSections.{tags};
+ghost use Rattle.wasm_sections.specs.formats.ModuleSectionParts.{tags};
 ghost use Rattle.wasm_sections.specs.declared.types.TagType.{TagType};
 ghost use Rattle.wasm_sections.specs.formats.Externals.{tag_type};
 ghost use Rattle.wasm_writers.specs.EncodedLists.{IsFull, IsMemoryOrTooLong};

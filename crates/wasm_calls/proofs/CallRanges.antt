@@ -23,7 +23,8 @@ use Rattle.wasm_instructions.specs.declared.table.opcode.Kind.{Kind}
 use Rattle.wasm_instructions.specs.declared.table.call.Operands.{Operands}
 use Rattle.wasm_instructions.specs.declared.table.call.Operands.TheVariants as operands
 use Rattle.wasm_instructions.specs.Operands.{ValTypeFits, BlockTypeFits, CatchFits, HandleFits}
-use Rattle.wasm_instructions.specs.Instructions.{Instruction, call, InRange, ItemsInRange, IsCounted, IsCall, IsShort, kind_of}
+use Rattle.wasm_instructions.specs.formats.Instructions.{Instruction, call}
+use Rattle.wasm_instructions.specs.Instructions.{NumbersInRange, ItemsInRange, IsCounted, IsCall, IsShort, kind_of}
 use Rattle.wasm_codec.specs.formats.Combinators.{little_endian, by_kind}
 use Rattle.wasm_instructions.specs.formats.Operands.{MemArgInRange, block_type, catch_clause, handle_clause, castop, mem_arg, ordering, vector, lanes}
 use Rattle.wasm_instructions.specs.formats.Instructions.{opcode, operands_format, instruction}
@@ -69,7 +70,7 @@ unfolding ordering
 ordering_in_range orderings.SeqCst = refl
 ordering_in_range o = refl
 
-pub operands_in_range : (o : Operands) → InRange o → ItemsInRange o → IsCounted o → (operands_format (kind_of o)).InRange o
+pub operands_in_range : (o : Operands) → NumbersInRange o → ItemsInRange o → IsCounted o → (operands_format (kind_of o)).InRange o
 unfolding operands_format little_endian vector lanes
 operands_in_range operands.None fits in_lists counted = refl
 operands_in_range (operands.Block ty) fits in_lists counted = (block_in_range ty fits, refl)
@@ -98,7 +99,7 @@ opcode_in_range op short = by op.prefix op.number short where
   by prefixes.Fd n short = (omega arith, refl)
   by prefixes.Fe n short = (omega arith, refl)
 
-pub call_in_range : (op : Opcode) (o : Operands) → IsCall op o → InRange o → ItemsInRange o → IsCounted o → instruction.InRange (call op o)
+pub call_in_range : (op : Opcode) (o : Operands) → IsCall op o → NumbersInRange o → ItemsInRange o → IsCounted o → instruction.InRange (call op o)
 unfolding instruction
 call_in_range op o is fits in_lists counted = ((opcode_in_range op (in_table_short op (kind_of o) is), rw is (operands_in_range o fits in_lists counted)), refl)
 

@@ -1,7 +1,8 @@
 -- How long shortest encodings are at the most.
 use Rattle.std.proofs.Common.{◌≡◌, ℕ, zero, suc, ◌+◌, ◌*◌, ◌/◌, ◌^◌, ◌<◌, ◌≤◌, Bool, true, false, cond, List, [], ◌∷◌, length, Option, Some, None, refl, length-append, arith}
 use Rattle.std.specs.Prelude.{IsSomeAnd}
-use Rattle.wasm_codec.specs.Numbers.{EncodesU32, EncodesU64, EncodesS32, EncodesS64, EncodesIndex, unsigned_leb128}
+use Rattle.wasm_codec.specs.formats.Numbers.{EncodesU32, EncodesU64, EncodesS32, EncodesS64, EncodesIndex}
+use Rattle.wasm_codec.specs.Leb128.{unsigned_leb128}
 use Rattle.wasm_codec.proofs.Digits.{length-digits_of}
 use Rattle.wasm_codec.specs.formats.Combinators.{Format, a_byte, nothing, ◌⊗◌, bytes_of, made, made_of, either_range, Choice, any_of, or_else, either, after, after_long, one_byte, u32, u64, s32, s64, index, raw, little_endian}
 use Rattle.wasm_codec.proofs.NumberLaws.{Shortest-u32, Shortest-u64, Shortest-s32, Shortest-s64, Shortest-index}

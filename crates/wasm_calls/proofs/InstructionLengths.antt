@@ -14,15 +14,16 @@ use Rattle.wasm_instructions.specs.declared.table.opcode.Kind.{Kind}
 use Rattle.wasm_instructions.specs.declared.table.opcode.Kind.TheVariants as kinds
 use Rattle.wasm_instructions.specs.declared.table.call.Operands.{Operands}
 use Rattle.wasm_instructions.specs.declared.table.call.Operands.TheVariants as operands
-use Rattle.wasm_codec.specs.Numbers.{unsigned_leb128}
+use Rattle.wasm_codec.specs.Leb128.{unsigned_leb128}
 use Rattle.wasm_codec.specs.formats.Combinators.{flagged, items}
 use Rattle.wasm_codec.proofs.RawFormatLaws.{little_range}
 use Rattle.wasm_calls.proofs.FormatLengths.{AtMost, AtMost-more, AtMost-byte, AtMost-nothing, AtMost-one-byte, AtMost-raw, AtMost-u32, AtMost-u64, AtMost-s32, AtMost-s64, AtMost-index, length-number, AtMost-both, AtMost-made, AtMost-made-of, AtMost-little-endian, AtMost-any, AtMost-or-else, AtMost-either, AtMost-after, AtMost-after-long}
 use Rattle.wasm_types.specs.formats.Types.{abstract_byte, abstract_types, abstract_type, abstract_of, abstract_parts, concrete_part, exact_part, heap_type, reference, nullable_part, has_short_form, ref_type, number_byte, number_types, ref_part, val_type}
 use Rattle.wasm_instructions.specs.formats.Operands.{empty_byte, function_type_part, result_part, block_type, nullables_byte, all_nullables, castop, MemArgInRange, mem_arg, ordering_byte, ordering, to_halves, vector, lanes}
-use Rattle.wasm_instructions.specs.Operands.{ieee32, ieee64}
-use Rattle.wasm_instructions.specs.Opcodes.{ranges, kind_among, kind}
-use Rattle.wasm_instructions.specs.Instructions.{InRange, IsCounted, IsShort, ItemsInRange, call, kind_of}
+use Rattle.wasm_instructions.specs.formats.Operands.{ieee32, ieee64}
+use Rattle.wasm_instructions.specs.formats.Opcodes.{ranges, kind_among, opcode_kind}
+use Rattle.wasm_instructions.specs.Instructions.{NumbersInRange, IsCounted, IsShort, ItemsInRange, kind_of}
+use Rattle.wasm_instructions.specs.formats.Instructions.{call}
 use Rattle.wasm_calls.specs.Lengths.{HasNoLongList, IsShortEncoding}
 use Rattle.wasm_instructions.specs.formats.Instructions.{opcode, block_part, index_part, two_indexes_part, mem_part, i32_part, i64_part, f32_part, f64_part, heap_part, cast_of, cast_part, v128_part, shuffle_part, lane_part, mem_lane_part, order_part, order_index_part, order_two_indexes_part, operands_format, instruction}
 use Rattle.wasm_instructions.proofs.OpcodeLaws.{cast_is_low}
@@ -146,7 +147,7 @@ abbrev pub IsLow : Kind → Opcode → Type 0
 IsLow kinds.Cast op = op.number < 128
 IsLow k op = Unit {0}
 
-cast_opcode : (op : Opcode) → kind op ≡ Some kinds.Cast → op.number < 128
+cast_opcode : (op : Opcode) → opcode_kind op ≡ Some kinds.Cast → op.number < 128
 unfolding ranges
 cast_opcode op e = by op.prefix op.number e where
   by : (p : Prefix) (n : ℕ) → kind_among (ranges p) n ≡ Some kinds.Cast → n < 128
@@ -156,7 +157,7 @@ cast_opcode op e = by op.prefix op.number e where
   by prefixes.Fd n e = cast_is_low (ranges prefixes.Fd) n refl e
   by prefixes.Fe n e = cast_is_low (ranges prefixes.Fe) n refl e
 
-pub in_table_low : (op : Opcode) (k : Kind) → kind op ≡ Some k → IsLow k op
+pub in_table_low : (op : Opcode) (k : Kind) → opcode_kind op ≡ Some k → IsLow k op
 in_table_low op kinds.Cast is = cast_opcode op is
 in_table_low op k is = tt
 
@@ -197,6 +198,6 @@ short_with op kinds.Cast o short low at_most = joined 2 18 _ _ (omega arith) (le
 short_with op k o short low at_most = joined 3 17 _ _ (omega arith) (length-opcode op short) at_most
 
 -- an opcode and operands without a list, or with a list of one type, are written in 1 to 20 bytes
-pub short_call : (op : Opcode) (o : Operands) → IsShort op → IsLow (kind_of o) op → InRange o → ItemsInRange o → HasNoLongList o → IsShortEncoding (instruction.bytes (call op o))
+pub short_call : (op : Opcode) (o : Operands) → IsShort op → IsLow (kind_of o) op → NumbersInRange o → ItemsInRange o → HasNoLongList o → IsShortEncoding (instruction.bytes (call op o))
 unfolding instruction
 short_call op o short low fits in_lists alone = short_with op (kind_of o) _ short low (operands_at_most o alone (operands_in_range o fits in_lists (counted_short o alone)))

@@ -2,7 +2,8 @@
 ghost use Rattle.std.specs.Prelude.{◌≡◌, ◌++◌, ◌+◌, ◌≤◌, List, ℕ, length, take, IsOk, IfErr, OnOk, OnErr, vec_len, vec_capacity};
 ghost use Rattle.wasm_codec.specs.Encoding.{IsShortestOrLonger};
 ghost use Rattle.wasm_calls.specs.Appending.{IsOperandsRefusal, IsCallRefusal, IsCallsRefusal};
-ghost use Rattle.wasm_instructions.specs.Instructions.{HasNoList, HasEncoding, IsAligned, IsCounted, IsShort, ItemsInRange, call};
+ghost use Rattle.wasm_instructions.specs.Instructions.{HasNoList, HasEncoding, IsAligned, IsCounted, IsShort, ItemsInRange};
+ghost use Rattle.wasm_instructions.specs.formats.Instructions.{call};
 ghost use Rattle.wasm_instructions.specs.formats.Instructions.{Instructions, instruction, instructions_bytes};
 ghost use Rattle.wasm_calls.specs.Lengths.{HasNoLongList, IsShortEncoding};
 

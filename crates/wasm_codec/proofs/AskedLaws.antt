@@ -2,7 +2,7 @@
 use Rattle.std.proofs.Common.{◌≡◌, ℕ, Bool, true, false, not, nat_eq, List, [], ◌∷◌, ◌++◌, length, ◌↔◌, refl, sym, ap, ◌∙◌, length-append, inl, inr, arith}
 use Rattle.std.proofs.lemmas.List.{append_cancel_left}
 use Rattle.std.specs.List.{flat_map}
-use Rattle.wasm_codec.specs.Grammar.{TakesBytes, Joined}
+use Rattle.wasm_codec.specs.formats.Grammar.{TakesBytes, Joined}
 use Rattle.wasm_codec.specs.Encoding.{IsShortestOrLonger}
 use Rattle.wasm_codec.specs.Lists.{AskedList}
 use Rattle.wasm_codec.specs.formats.Combinators.{Format, u32, items, narrow, asked}

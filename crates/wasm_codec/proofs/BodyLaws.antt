@@ -4,14 +4,15 @@ use Rattle.std.proofs.lemmas.List.{append-nil, take_at, drop_at, take-append-dro
 use Rattle.std.proofs.lemmas.Bool.{eqb-true, eq-eqb, ltb-true, ltb-false, le-ltb}
 use Rattle.std.specs.Prelude.{IsSomeAnd}
 use Rattle.std.specs.List.{flat_map}
-use Rattle.wasm_codec.specs.Grammar.{Grammar, IsBytes, After, Joined}
+use Rattle.wasm_codec.specs.formats.Grammar.{Grammar, IsBytes, After, Joined}
 use Rattle.wasm_codec.specs.Reading.{◌>>=◌}
 use Rattle.wasm_codec.specs.Encoding.{IsShortestOrLonger}
-use Rattle.wasm_codec.specs.Numbers.{EncodesU32, turned, digits_of, unsigned_leb128}
+use Rattle.wasm_codec.specs.formats.Numbers.{EncodesU32}
+use Rattle.wasm_codec.specs.Leb128.{turned, digits_of, unsigned_leb128}
 use Rattle.wasm_codec.proofs.Laws.{bind_some, some, some_is, in_a_row, least_then, IsBytes-after, Shortest-then, Shortest-map, Shortest-for}
 use Rattle.wasm_codec.specs.Reading.{BeginsWith}
 use Rattle.wasm_codec.proofs.Joining.{Shortest-joined}
-use Rattle.wasm_codec.specs.Grammar.{TakesBytes}
+use Rattle.wasm_codec.specs.formats.Grammar.{TakesBytes}
 use Rattle.wasm_codec.proofs.ListReading.{AtMostOne}
 use Rattle.wasm_codec.specs.Places.{Place, place, keeps, byte_at, u32_at}
 use Rattle.wasm_codec.specs.formats.Combinators.{Format, ◌⊗>◌, made, bytes_of, choose}

@@ -3,14 +3,14 @@ use Rattle.std.proofs.Common.{◌≡◌, ℕ, ◌+◌, ◌-◌, ◌<◌, ◌≤�
 use Rattle.std.proofs.lemmas.Bool.{lt-ltb, le-ltb}
 use Rattle.std.proofs.lemmas.List.{take_at, drop_at, length-take-le, length-drop, take-append-drop, drop-drop}
 use Rattle.std.specs.List.{flat_map}
-use Rattle.wasm_codec.specs.Grammar.{IsBytes, TakesBytes, Joined}
+use Rattle.wasm_codec.specs.formats.Grammar.{IsBytes, TakesBytes, Joined}
 use Rattle.wasm_codec.specs.Answers.{IsLongestPrefix, IsNormalForm, EncodesSome}
 use Rattle.wasm_codec.specs.Lawful.{IsLawful, IsLawfulBody}
-use Rattle.wasm_codec.specs.Numbers.{unsigned_leb128}
+use Rattle.wasm_codec.specs.Leb128.{unsigned_leb128}
 use Rattle.wasm_codec.specs.Places.{place}
 use Rattle.wasm_codec.specs.formats.Combinators.{Format, u32}
 use Rattle.wasm_codec.specs.formats.Bodies.{body_at, sized, to_end}
-use Rattle.wasm_codec.specs.Rewriter.{Rewriting, rewriting, rewritten_at, after_at, narrowed, widened, resized, IsOpen, StopsAt}
+use Rattle.wasm_codec.specs.Rewriter.{Rewriting, rewriting, rewritten_at, rewriting_after, narrowed, widened, resized, IsOpen, StopsAt}
 use Rattle.wasm_codec.proofs.FormatLaws.{not_longer}
 use Rattle.wasm_codec.proofs.Laws.{IsBytes-back}
 use Rattle.wasm_codec.proofs.BodyLaws.{Lawful-to-end, IsBytes-prefix, body_sound, unsigned_leb128-mono}
@@ -59,9 +59,9 @@ pub record BodyDone {A : Type 0} (F : Format A) (old end : Rewriting) (mark size
   pub there : take (length (unsigned_leb128 size)) (drop mark end.done) ≡ unsigned_leb128 size
   pub shorter : length end.done - (mark + length (unsigned_leb128 size)) ≤ size
   pub within : behind ≤ length end.rest
-  pub rewrites : after_at (sized F) old ≡ Some (widened behind (resized mark (length (unsigned_leb128 size)) end))
+  pub rewrites : rewriting_after (sized F) old ≡ Some (widened behind (resized mark (length (unsigned_leb128 size)) end))
 
-pub body_done : {A : Type 0} {F : Format A} → IsLawfulBody F → (old mid end : Rewriting) (mark size behind : ℕ) → IsBytes old.place.left → IsOpen old mid mark size behind → after_at F mid ≡ Some end → end.place.left ≡ [] → BodyDone F old end mark size behind
+pub body_done : {A : Type 0} {F : Format A} → IsLawfulBody F → (old mid end : Rewriting) (mark size behind : ℕ) → IsBytes old.place.left → IsOpen old mid mark size behind → rewriting_after F mid ≡ Some end → end.place.left ≡ [] → BodyDone F old end mark size behind
 body_done {A} {F} r old mid end mark size behind bytes o e none =
     let one = is_after F mid end e in
     let v = one.value in
@@ -101,13 +101,13 @@ pub record JoinedDone {V : Type 0} (F : Format V) (start end : Rewriting) : Type
   pub encodes : Joined F.Encodes start.place.left values
   pub written : end.done ≡ start.done ++ flat_map F.bytes values
 
-pub joined_done : {V : Type 0} {F : Format V} → IsLawful F → TakesBytes F.Encodes → (start end : Rewriting) → IsBytes start.place.left → after_at (to_end F) start ≡ Some end → end.place.left ≡ [] → JoinedDone F start end
+pub joined_done : {V : Type 0} {F : Format V} → IsLawful F → TakesBytes F.Encodes → (start end : Rewriting) → IsBytes start.place.left → rewriting_after (to_end F) start ≡ Some end → end.place.left ≡ [] → JoinedDone F start end
 joined_done {V} {F} r some start end fits e none =
     let one = is_after (to_end F) start end e in
     record { values = one.value; encodes = (Lawful-to-end r some).reads.sound start.place one.value end.place fits one.given.is_read none; written = one.given.written }
 
 -- from the beginning they are the normal form
-pub joined_given : {V : Type 0} {F : Format V} → IsLawful F → TakesBytes F.Encodes → (start end : Rewriting) (bytes : List ℕ) → IsBytes bytes → start ≡ rewriting [] (place true bytes) [] → after_at (to_end F) start ≡ Some end → end.place.left ≡ []
+pub joined_given : {V : Type 0} {F : Format V} → IsLawful F → TakesBytes F.Encodes → (start end : Rewriting) (bytes : List ℕ) → IsBytes bytes → start ≡ rewriting [] (place true bytes) [] → rewriting_after (to_end F) start ≡ Some end → end.place.left ≡ []
     → IsNormalForm (Joined F.Encodes) (flat_map F.bytes) bytes end.done
 joined_given {V} {F} r some start end bytes fits start-is e none =
     let all = joined_done r some start end (subst IsBytes (sym (ap (λ (s : Rewriting). s.place.left) start-is)) fits) e none in

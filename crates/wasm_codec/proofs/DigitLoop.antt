@@ -3,8 +3,9 @@ use Rattle.std.proofs.Common.{◌≡◌, ℕ, zero, suc, ◌+◌, ◌-◌, ◌*�
 use Rattle.std.proofs.lemmas.Bool.{lt-ltb, le-ltb, cases_lt}
 use Rattle.std.proofs.lemmas.List.{take_more, drop_more, drop_all, length-take}
 use Rattle.std.proofs.Math.Nat.{pow-suc}
-use Rattle.wasm_codec.specs.Reading.{◌>>=◌, byte_at}
-use Rattle.wasm_codec.specs.Numbers.{digits_at, unsigned, last}
+use Rattle.wasm_codec.specs.Reading.{◌>>=◌, plain_byte_at}
+use Rattle.wasm_codec.specs.Leb128.{digits_at}
+use Rattle.wasm_codec.specs.formats.Numbers.{unsigned, last}
 use Rattle.wasm_codec.proofs.Laws.{some, some_is}
 
 -- digits that were passed, and those that are still read
@@ -25,14 +26,14 @@ pub record ByteAt (bytes : List ℕ) (i b : ℕ) (rest : List ℕ) : Type 0 wher
   pub byte : get_or bytes i 0 ≡ b
   pub after : rest ≡ drop (i + 1) bytes
 
-pub byte_is : (bytes : List ℕ) (i b : ℕ) (rest : List ℕ) → byte_at (drop i bytes) ≡ Some (b, rest) → ByteAt bytes i b rest
+pub byte_is : (bytes : List ℕ) (i b : ℕ) (rest : List ℕ) → plain_byte_at (drop i bytes) ≡ Some (b, rest) → ByteAt bytes i b rest
 byte_is bytes i b rest e = elim (cases_lt i (length bytes)) [
   | inl lt ↦
-      let same : some (get_or bytes i 0, drop (i + 1) bytes) ≡ some (b, rest) = sym (ap byte_at (drop_more bytes i 0 lt)) ∙ e in
+      let same : some (get_or bytes i 0, drop (i + 1) bytes) ≡ some (b, rest) = sym (ap plain_byte_at (drop_more bytes i 0 lt)) ∙ e in
       let pair = some_is (get_or bytes i 0, drop (i + 1) bytes) (b, rest) same in
       record { within = lt; byte = ap (λ (x : ℕ × List ℕ). x.0) pair; after = sym (ap (λ (x : ℕ × List ℕ). x.1) pair) }
   | inr le ↦
-      let none : byte_at (drop i bytes) ≡ None = ap byte_at (drop_all i bytes le) in
+      let none : plain_byte_at (drop i bytes) ≡ None = ap plain_byte_at (drop_all i bytes le) in
       absurd cc
 ]
 
@@ -58,11 +59,11 @@ unfolding digits_at
 none_left zero = refl
 none_left (suc n) = refl
 
-no_byte : (bytes : List ℕ) → byte_at bytes ≡ None → bytes ≡ []
+no_byte : (bytes : List ℕ) → plain_byte_at bytes ≡ None → bytes ≡ []
 no_byte [] e = refl
 no_byte (b ∷ bytes) e = absurd cc
 
-pub runs_out : (most : ℕ) (bytes : List ℕ) (i : ℕ) → byte_at (drop i bytes) ≡ None → reads_on most bytes i ≡ None
+pub runs_out : (most : ℕ) (bytes : List ℕ) (i : ℕ) → plain_byte_at (drop i bytes) ≡ None → reads_on most bytes i ≡ None
 runs_out most bytes i e = rw (no_byte (drop i bytes) e, none_left (most - i)) refl
 
 -- a byte was wanting

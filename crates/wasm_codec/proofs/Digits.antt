@@ -2,9 +2,10 @@
 use Rattle.std.proofs.Common.{◌≡◌, ℕ, zero, suc, ◌+◌, ◌*◌, ◌%◌, ◌/◌, ◌^◌, ◌<◌, ◌≤◌, Bool, true, false, cond, ltb, List, [], ◌∷◌, ◌++◌, length, Option, Some, refl, sym, ap, subst, inl, inr, arith}
 use Rattle.std.proofs.lemmas.Bool.{ltb-true, lt-ltb, ltb-false, le-ltb}
 use Rattle.std.proofs.lemmas.Nat.{div_below}
-use Rattle.wasm_codec.specs.Grammar.{IsBytes}
+use Rattle.wasm_codec.specs.formats.Grammar.{IsBytes}
 use Rattle.wasm_codec.specs.Reading.{◌>>=◌, BeginsWith, IsReadBy}
-use Rattle.wasm_codec.specs.Numbers.{IsDigits, last, Number, digits_at, number_at, turned, digits_of}
+use Rattle.wasm_codec.specs.formats.Numbers.{IsDigits, last, Number}
+use Rattle.wasm_codec.specs.Leb128.{digits_at, plain_number_at, turned, digits_of}
 use Rattle.wasm_codec.specs.Encoding.{IsShortestOrLonger}
 use Rattle.wasm_codec.specs.Rewriter.{cut}
 use Rattle.wasm_codec.proofs.Laws.{bind_some, some_is}
@@ -46,7 +47,7 @@ digits_complete (suc most) (b ∷ c ∷ digits) rest d le =
 
 -- a number is read where its value is found in its digits
 pub IsReadBy-number : {V : Type 0} (most : ℕ) (Means : List ℕ → V → Type 0) (value : List ℕ → Option V)
-    → ((digits : List ℕ) (v : V) → value digits ≡ Some v → Means digits v) → ((digits : List ℕ) (v : V) → IsDigits digits → Means digits v → value digits ≡ Some v) → IsReadBy (Number most Means) (number_at most value)
+    → ((digits : List ℕ) (v : V) → value digits ≡ Some v → Means digits v) → ((digits : List ℕ) (v : V) → IsDigits digits → Means digits v → value digits ≡ Some v) → IsReadBy (Number most Means) (plain_number_at most value)
 IsReadBy-number {V} most Means value means finds = record {
   sound = λ bytes v rest fits e.
       let p = bind_some (digits_at most bytes) (λ digits. value digits.0 >>= λ v. Some (v, digits.1)) (v, rest) e in

@@ -7,16 +7,17 @@ use Rattle.std.proofs.lemmas.Bool.Decides.{eqb_tells}
 use Rattle.std.proofs.lemmas.Int.{ints}
 use Rattle.std.proofs.Math.Bool.{or-true, and-true, and-false}
 use Rattle.std.specs.List.{flat_map, AllByRecursion}
-use Rattle.wasm_codec.specs.Grammar.{Grammar, IsBytes, Mapped, After, Joined, Nothing}
+use Rattle.wasm_codec.specs.formats.Grammar.{Grammar, IsBytes, Mapped, After, Joined, Nothing}
 use Rattle.wasm_codec.specs.Reading.{◌>>=◌}
-use Rattle.wasm_codec.specs.Numbers.{IsDigits, Number, unsigned, signed, digits_at, unsigned_leb128, signed_leb128, EncodesU32, EncodesU64, EncodesS32, EncodesIndex, number_at as list_number_at, u32_at as list_u32_at, u64_at as list_u64_at, s32_at as list_s32_at, index_at as list_index_at, below, signed_within, index_below}
+use Rattle.wasm_codec.specs.formats.Numbers.{IsDigits, Number, unsigned, signed, EncodesU32, EncodesU64, EncodesS32, EncodesIndex}
+use Rattle.wasm_codec.specs.Leb128.{digits_at, unsigned_leb128, signed_leb128, plain_number_at, plain_u32_at, plain_u64_at, plain_s32_at, plain_index_at, below, signed_within, index_below}
 use Rattle.wasm_codec.specs.Encoding.{IsShortestOrLonger}
 use Rattle.wasm_codec.proofs.Laws.{bind_some, bind_is, some, some_is, in_a_row, IsBytes-after, Shortest-byte, Shortest-nothing, Shortest-never, Shortest-then, Shortest-map, Shortest-for}
 use Rattle.wasm_codec.specs.Reading.{BeginsWith, IsReadBy as ListReads}
 use Rattle.wasm_codec.proofs.NumberLaws.{IsReadBy-u32, Shortest-u32, IsReadBy-u64, Shortest-u64, IsReadBy-s32, Shortest-s32, IsReadBy-index, Shortest-index}
 use Rattle.wasm_codec.proofs.Counting.{Shortest-counted}
 use Rattle.wasm_codec.proofs.Joining.{Shortest-joined}
-use Rattle.wasm_codec.specs.Grammar.{TakesBytes}
+use Rattle.wasm_codec.specs.formats.Grammar.{TakesBytes}
 use Rattle.wasm_codec.specs.Places.{Place, place, Reader, keeps, unless, byte_at, map_unless, only_at, times_at, number_at, u32_at, u64_at, s32_at, index_at}
 use Rattle.wasm_codec.specs.formats.Combinators.{Format, any_byte, just, a_byte, nothing, never, ◌▷◌, first_of, ◌⊗>◌, ◌⊗◌, bytes_of, made, made_as, either_range, Choice, any_of, or_else, no_other, alternative, either, after, after_long, tagged, variant, variant_after, flagged, with_value, optional, choose, is_byte, find, one_byte, byte_or, u32, u64, s32, begins_index, index, items, by_kind}
 use Rattle.wasm_codec.proofs.NumberReading.{byte_took, digits_parts}
@@ -544,13 +545,13 @@ same_number : {V : Type 0} (bytes : V → List ℕ) (s : Bool) (digits prefix le
 same_number bytes s digits prefix left rest w v p q r = rw (p, q, r) refl
 
 -- numbers are read as lists of bytes are
-pub Reads-number : {V : Type 0} {most : ℕ} {Means : List ℕ → V → Type 0} (value : List ℕ → Option V) (bytes : V → List ℕ) → ListReads (Number most Means) (list_number_at most value) → ReadsPlaces (Number most Means) bytes (number_at most value bytes)
+pub Reads-number : {V : Type 0} {most : ℕ} {Means : List ℕ → V → Type 0} (value : List ℕ → Option V) (bytes : V → List ℕ) → ListReads (Number most Means) (plain_number_at most value) → ReadsPlaces (Number most Means) bytes (number_at most value bytes)
 Reads-number {V} {most} {Means} value bytes r = record { sound = sound; complete = complete } where
   sound : (p : Place) (v : V) (q : Place) → IsBytes p.left → number_at most value bytes p ≡ Some (v, q) → BeginsWith (Number most Means) p.left v q.left
   sound p v q fits e =
       let d = bind_some (digits_at most p.left) (λ digits. value digits.0 >>= λ v. Some (v, place (keeps p.shortest digits.0 (bytes v)) digits.1)) (v, q) e in
       let w = bind_some (value d.0.0) (λ v. Some (v, place (keeps p.shortest d.0.0 (bytes v)) d.0.1)) (v, q) d.2 in
-      let read : list_number_at most value p.left ≡ Some (w.0, d.0.1) =
+      let read : plain_number_at most value p.left ≡ Some (w.0, d.0.1) =
       bind_is (digits_at most p.left) (λ digits. value digits.0 >>= λ v. Some (v, digits.1)) d.0 (Some (w.0, d.0.1)) d.1
       (bind_is (value d.0.0) (λ v. Some (v, d.0.1)) w.0 (Some (w.0, d.0.1)) w.1 refl) in
       BeginsWith-at (Number most Means) p.left w.0 v (place (keeps p.shortest d.0.0 (bytes w.0)) d.0.1) q w.2 (r.sound p.left w.0 d.0.1 fits read)
@@ -568,15 +569,15 @@ Reads-number {V} {most} {Means} value bytes r = record { sound = sound; complete
       (bind_is (value d.0.0) (λ v. Some (v, place (keeps s d.0.0 (bytes v)) d.0.1)) w.0 (Some (v, place (keeps s prefix (bytes v)) rest)) w.1 result)
 
 pub Lawful-u32 : IsLawful u32
-unfolding EncodesU32 u32_at list_u32_at
+unfolding EncodesU32 u32_at plain_u32_at
 Lawful-u32 = record { reads = Reads-number (below (2 ^ 32)) unsigned_leb128 IsReadBy-u32; shortest = Shortest-u32; in_range = λ bytes n g. g.2.1; are_bytes = λ bytes n g. digits_bytes bytes g.0; begins = λ bytes n g. digits_some bytes g.0 }
 
 pub Lawful-u64 : IsLawful u64
-unfolding EncodesU64 u64_at list_u64_at
+unfolding EncodesU64 u64_at plain_u64_at
 Lawful-u64 = record { reads = Reads-number (below (2 ^ 64)) unsigned_leb128 IsReadBy-u64; shortest = Shortest-u64; in_range = λ bytes n g. g.2.1; are_bytes = λ bytes n g. digits_bytes bytes g.0; begins = λ bytes n g. digits_some bytes g.0 }
 
 pub Lawful-s32 : IsLawful s32
-unfolding EncodesS32 s32_at list_s32_at
+unfolding EncodesS32 s32_at plain_s32_at
 Lawful-s32 = record { reads = Reads-number (signed_within (2 ^ 31)) signed_leb128 IsReadBy-s32; shortest = Shortest-s32; in_range = λ bytes n g. g.2.1; are_bytes = λ bytes n g. digits_bytes bytes g.0; begins = λ bytes n g. digits_some bytes g.0 }
 
 index_begins : (bytes : List ℕ) (n : ℕ) → EncodesIndex bytes n → begins_index (head_of bytes) ≡ true
@@ -594,7 +595,7 @@ index_begins (b ∷ []) n g = elim (cases_lt b 64) [
 ]
 
 pub Lawful-index : IsLawful index
-unfolding EncodesIndex index_at list_index_at
+unfolding EncodesIndex index_at plain_index_at
 Lawful-index = record { reads = Reads-number (index_below (2 ^ 32)) (λ n. signed_leb128 (pos n)) IsReadBy-index; shortest = Shortest-index; in_range = λ bytes n g. g.2.1; are_bytes = λ bytes n g. digits_bytes bytes g.0; begins = index_begins }
 
 -- ---- lists

@@ -3,8 +3,8 @@ use Rattle.std.proofs.Common.{◌≡◌, ℕ, ◌<◌, ◌≤◌, List, [], ◌�
 use Rattle.std.proofs.lemmas.List.{append-nil, append_cancel_left}
 use Rattle.std.proofs.lemmas.Bool.{cases_lt}
 use Rattle.std.specs.List.{flat_map, AllByRecursion}
-use Rattle.wasm_codec.specs.Grammar.{Grammar, TakesBytes, Joined}
-use Rattle.wasm_codec.specs.Reading.{Reader, IsReadBy}
+use Rattle.wasm_codec.specs.formats.Grammar.{Grammar, TakesBytes, Joined}
+use Rattle.wasm_codec.specs.Reading.{PlainReader, IsReadBy}
 use Rattle.wasm_codec.specs.Answers.{IsLongestPrefix}
 use Rattle.wasm_codec.specs.Encoding.{IsShortestOrLonger}
 use Rattle.wasm_codec.proofs.Laws.{least_then, one_reading}
@@ -53,7 +53,7 @@ empty [] le = refl
 empty (c ∷ a) le = absurd (omega arith)
 
 -- the longer begins with the shorter
-pub Joined-split : {V : Type 0} {G : Grammar V} {read : Reader V} → IsReadBy G read → TakesBytes G → (a b x y : List ℕ) (vs ws : List V) → Joined G a vs → Joined G b ws → a ++ x ≡ b ++ y → length a ≤ length b → Longer G a vs b ws
+pub Joined-split : {V : Type 0} {G : Grammar V} {read : PlainReader V} → IsReadBy G read → TakesBytes G → (a b x y : List ℕ) (vs ws : List V) → Joined G a vs → Joined G b ws → a ++ x ≡ b ++ y → length a ≤ length b → Longer G a vs b ws
 Joined-split r some a b x y [] ws g h e le = record { back = b; more = ws; bytes = rw g refl; items = refl; encodes = h }
 Joined-split {V} {G} r some a b x y (v ∷ vs) [] g h e le =
     let none : a ≡ [] = empty a (subst (λ (t : List ℕ). length a ≤ length t) h le) in
@@ -79,14 +79,14 @@ Joined-none {V} G some back (v ∷ vs) e g =
     absurd (some v (subst (λ (t : List ℕ). G t v) (empty_prefix g.0 g.1 (sym g.2 ∙ e)) g.3))
 
 -- bytes encode at most one list
-pub Joined-one : {V : Type 0} {G : Grammar V} {read : Reader V} → IsReadBy G read → TakesBytes G → (bytes : List ℕ) (vs ws : List V) → Joined G bytes vs → Joined G bytes ws → vs ≡ ws
+pub Joined-one : {V : Type 0} {G : Grammar V} {read : PlainReader V} → IsReadBy G read → TakesBytes G → (bytes : List ℕ) (vs ws : List V) → Joined G bytes vs → Joined G bytes ws → vs ≡ ws
 Joined-one {V} {G} r some bytes vs ws g h =
     let s = Joined-split r some bytes bytes [] [] vs ws g h refl (omega arith) in
     let none : s.more ≡ [] = Joined-none G some s.back s.more (none_left bytes s.back s.bytes) s.encodes in
     sym (s.items ∙ ap (λ (t : List V). vs ++ t) none ∙ append-nil vs)
 
 -- an encoding comes next, where a longer list is encoded
-pub next : {V : Type 0} {G : Grammar V} {read : Reader V} → IsReadBy G read → (back y : List ℕ) (more : List V) → Joined G back more → 0 < length back → read (back ++ y) ≡ None → ⊥
+pub next : {V : Type 0} {G : Grammar V} {read : PlainReader V} → IsReadBy G read → (back y : List ℕ) (more : List V) → Joined G back more → 0 < length back → read (back ++ y) ≡ None → ⊥
 next r back y [] g some none = absurd (omega (arith, ap (length {A = ℕ}) g))
 next {read = read} r back y (v ∷ more) g some none =
     let p = r.complete g.0 v (g.1 ++ y) g.3 in
@@ -97,7 +97,7 @@ next {read = read} r back y (v ∷ more) g some none =
     clash o x e f = absurd cc
 
 -- where nothing more is read, what was read is the longest prefix
-pub Joined-longest : {V : Type 0} {G : Grammar V} {read : Reader V} → IsReadBy G read → TakesBytes G → (bytes prefix left : List ℕ) (vs : List V) → bytes ≡ prefix ++ left → Joined G prefix vs → read left ≡ None
+pub Joined-longest : {V : Type 0} {G : Grammar V} {read : PlainReader V} → IsReadBy G read → TakesBytes G → (bytes prefix left : List ℕ) (vs : List V) → bytes ≡ prefix ++ left → Joined G prefix vs → read left ≡ None
     → IsLongestPrefix (λ whole. (ws : List V) × Joined G whole ws) bytes (length prefix)
 Joined-longest {V} {G} {read} r some bytes prefix left vs e g none = record {
   prefix = prefix;

@@ -1,10 +1,10 @@
 -- The laws of grammars, and how each way to put encodings together keeps them.
 use Rattle.std.proofs.Common.{◌≡◌, ℕ, ◌<◌, List, [], ◌∷◌, ◌++◌, Option, Some, None, refl, sym, ap, subst, ◌∙◌, append_assoc, length-append, inl, inr, arith}
 use Rattle.std.proofs.lemmas.List.{append_cancel_right}
-use Rattle.wasm_codec.specs.Grammar.{Grammar, IsBytes, AByte, Then, Mapped, Nothing, Never}
+use Rattle.wasm_codec.specs.formats.Grammar.{Grammar, IsBytes, AByte, Then, Mapped, Nothing, Never}
 use Rattle.wasm_codec.specs.Encoding.{IsShortestOrLonger}
 use Rattle.wasm_codec.specs.Lawful.{Shortest}
-use Rattle.wasm_codec.specs.Reading.{Reader, BeginsWith, IsReadBy, ◌>>=◌}
+use Rattle.wasm_codec.specs.Reading.{PlainReader, BeginsWith, IsReadBy, ◌>>=◌}
 
 -- ---- options
 
@@ -35,12 +35,12 @@ pub in_a_row : (bytes a middle b rest : List ℕ) → bytes ≡ a ++ middle → 
 in_a_row bytes a middle b rest p q = p ∙ ap (λ (t : List ℕ). a ++ t) q ∙ sym (append_assoc a b rest)
 
 -- reading two prefixes in a row
-pub read_in_row : {V : Type 0} (read : Reader V) (bytes a b rest : List ℕ) (v : V) → bytes ≡ a ++ b → read (a ++ (b ++ rest)) ≡ Some (v, b ++ rest) → read (bytes ++ rest) ≡ Some (v, b ++ rest)
+pub read_in_row : {V : Type 0} (read : PlainReader V) (bytes a b rest : List ℕ) (v : V) → bytes ≡ a ++ b → read (a ++ (b ++ rest)) ≡ Some (v, b ++ rest) → read (bytes ++ rest) ≡ Some (v, b ++ rest)
 read_in_row read bytes a b rest v e p = ap (λ (t : List ℕ). read (t ++ rest)) e ∙ ap read (append_assoc a b rest) ∙ p
 
 -- ---- once and for all: no encoding is a proper prefix of another, and bytes encode at most one value
 
-pub one_reading : {V : Type 0} {G : Grammar V} {read : Reader V} → IsReadBy G read → (a b x y : List ℕ) (v w : V) → G a v → G b w → a ++ x ≡ b ++ y → (a ≡ b) × (v ≡ w) × (x ≡ y)
+pub one_reading : {V : Type 0} {G : Grammar V} {read : PlainReader V} → IsReadBy G read → (a b x y : List ℕ) (v w : V) → G a v → G b w → a ++ x ≡ b ++ y → (a ≡ b) × (v ≡ w) × (x ≡ y)
 one_reading {V} {G} {read} r a b x y v w g h e =
     let p : read (a ++ x) ≡ Some (v, x) = r.complete a v x g in
     let q : read (b ++ y) ≡ Some (w, y) = r.complete b w y h in

@@ -4,8 +4,8 @@ use Rattle.std.proofs.lemmas.List.{append-nil, append_cancel_left}
 use Rattle.std.proofs.lemmas.Bool.{cases_lt}
 use Rattle.wasm_codec.specs.declared.reader.cursor.Fault.{Fault}
 use Rattle.wasm_codec.specs.declared.reader.cursor.Fault.TheVariants as faults
-use Rattle.wasm_codec.specs.Grammar.{Grammar, IsBytes, TakesBytes, Joined, Counted}
-use Rattle.wasm_codec.specs.Reading.{Reader, times_at, counted_at, Reads, BeginsWith, IsReadBy, FindsAt}
+use Rattle.wasm_codec.specs.formats.Grammar.{Grammar, IsBytes, TakesBytes, Joined, Counted}
+use Rattle.wasm_codec.specs.Reading.{PlainReader, plain_times_at, plain_counted_at, ReadsPlain, BeginsWith, IsReadBy, FindsAt}
 use Rattle.wasm_codec.specs.Answers.{UnlessMemory, IsAfterLongest}
 use Rattle.wasm_codec.specs.Lists.{EncodesList, list_at, IsCountedPrefix}
 use Rattle.wasm_codec.proofs.Laws.{BeginsWith-is, IsBytes-back, one_reading, some, some_is}
@@ -15,28 +15,28 @@ use Rattle.wasm_codec.proofs.ListReading.{AtMostOne, Progress, begin, next}
 use Rattle.wasm_codec.proofs.FormatLaws.{Lawful-u32}
 use Rattle.wasm_codec.proofs.PlaceLists.{plain_reads}
 
-pub IsReadBy-list : {V : Type 0} {G : Grammar V} {read : Reader V} → IsReadBy G read → IsReadBy (EncodesList G) (list_at read)
+pub IsReadBy-list : {V : Type 0} {G : Grammar V} {read : PlainReader V} → IsReadBy G read → IsReadBy (EncodesList G) (list_at read)
 IsReadBy-list r = IsReadBy-counted (plain_reads Lawful-u32.reads) r
 
-pub AtMostOne-list : {V : Type 0} {G : Grammar V} {read : Reader V} → IsReadBy G read → AtMostOne (EncodesList G)
+pub AtMostOne-list : {V : Type 0} {G : Grammar V} {read : PlainReader V} → IsReadBy G read → AtMostOne (EncodesList G)
 AtMostOne-list r bytes v w g h = (one_reading (IsReadBy-list r) bytes bytes [] [] v w g h refl).1
 
 -- What is read of items is what is encoded, and each takes bytes.
-pub record ItemLaws {V : Type 0} (G : Grammar V) (read : Reader V) : Type 0 where
+pub record ItemLaws {V : Type 0} (G : Grammar V) (read : PlainReader V) : Type 0 where
   pub finds : IsReadBy G read
   pub some : TakesBytes G
 
 -- The laws are known of the items, if there are any.
-abbrev pub KnownOf : {V : Type 0} → Grammar V → Reader V → ℕ → Type 0
+abbrev pub KnownOf : {V : Type 0} → Grammar V → PlainReader V → ℕ → Type 0
 KnownOf G read count = (count ≡ 0) ⊎ ItemLaws G read
 
 -- ---- what is read of a list is what is encoded
 
 -- without a count there is no list
-pub finds_none : {V : Type 0} {Count : Grammar ℕ} {number : Reader ℕ} → IsReadBy Count number → (G : Grammar V) (read : Reader V) (bytes : List ℕ) → number bytes ≡ None → FindsAt (Counted Count G) (counted_at number read) bytes
+pub finds_none : {V : Type 0} {Count : Grammar ℕ} {number : PlainReader ℕ} → IsReadBy Count number → (G : Grammar V) (read : PlainReader V) (bytes : List ℕ) → number bytes ≡ None → FindsAt (Counted Count G) (plain_counted_at number read) bytes
 finds_none {V} {Count} {number} counts G read bytes none = record { sound = λ v rest e. absurd (clash v rest e); complete = λ v rest one. absurd (unread v rest one) } where
-  clash : (v : List V) (rest : List ℕ) → counted_at number read bytes ≡ Some (v, rest) → ⊥
-  clash v rest e = let wanting : counted_at number read bytes ≡ None = rw none refl in absurd cc
+  clash : (v : List V) (rest : List ℕ) → plain_counted_at number read bytes ≡ Some (v, rest) → ⊥
+  clash v rest e = let wanting : plain_counted_at number read bytes ≡ None = rw none refl in absurd cc
 
   unread : (v : List V) (rest : List ℕ) → BeginsWith (Counted Count G) bytes v rest → ⊥
   unread v rest one =
@@ -46,13 +46,13 @@ finds_none {V} {Count} {number} counts G read bytes none = record { sound = λ v
       absurd cc
 
 -- no items, whatever encodes them
-no_items_found : {V : Type 0} {Count : Grammar ℕ} {number : Reader ℕ} → IsReadBy Count number → (G : Grammar V) (read : Reader V) (bytes left : List ℕ) → IsBytes bytes → number bytes ≡ Some (0, left) → FindsAt (Counted Count G) (counted_at number read) bytes
-unfolding times_at
+no_items_found : {V : Type 0} {Count : Grammar ℕ} {number : PlainReader ℕ} → IsReadBy Count number → (G : Grammar V) (read : PlainReader V) (bytes left : List ℕ) → IsBytes bytes → number bytes ≡ Some (0, left) → FindsAt (Counted Count G) (plain_counted_at number read) bytes
+unfolding plain_times_at
 no_items_found {V} {Count} {number} counts G read bytes left fits count = record { sound = λ v rest e. found v rest e; complete = λ v rest one. read_back v rest one } where
-  here : counted_at number read bytes ≡ Some ([], left)
+  here : plain_counted_at number read bytes ≡ Some ([], left)
   here = rw count refl
 
-  found : (v : List V) (rest : List ℕ) → counted_at number read bytes ≡ Some (v, rest) → BeginsWith (Counted Count G) bytes v rest
+  found : (v : List V) (rest : List ℕ) → plain_counted_at number read bytes ≡ Some (v, rest) → BeginsWith (Counted Count G) bytes v rest
   found v rest e =
       let one = counts.sound bytes 0 left fits count in
       let whole : BeginsWith (Counted Count G) bytes [] left = record { prefix = one.prefix; encodes = (one.prefix, [], sym (append-nil one.prefix), one.encodes, refl); parts = one.parts } in
@@ -65,7 +65,7 @@ no_items_found {V} {Count} {number} counts G read bytes left fits count = record
   is_empty (w ∷ v) back rest e g =
       let same : 0 ≡ suc (length v) = ap (λ (p : ℕ × List ℕ). p.0) (some_is (0, left) (suc (length v), back ++ rest) e) in absurd (omega arith)
 
-  read_back : (v : List V) (rest : List ℕ) → BeginsWith (Counted Count G) bytes v rest → counted_at number read bytes ≡ Some (v, rest)
+  read_back : (v : List V) (rest : List ℕ) → BeginsWith (Counted Count G) bytes v rest → plain_counted_at number read bytes ≡ Some (v, rest)
   read_back v rest one =
       let g = one.encodes in
       let row : bytes ≡ g.0 ++ (g.1 ++ rest) = one.parts ∙ ap (λ (t : List ℕ). t ++ rest) g.2 ∙ append_assoc g.0 g.1 rest in
@@ -73,11 +73,11 @@ no_items_found {V} {Count} {number} counts G read bytes left fits count = record
       here ∙ is_empty v g.1 rest (sym count ∙ counted) g.4
 
 -- what is read at bytes that begin with a count
-pub finds_list : {V : Type 0} {Count : Grammar ℕ} {number : Reader ℕ} {G : Grammar V} {read : Reader V} → IsReadBy Count number → (bytes left : List ℕ) (count : ℕ) → IsBytes bytes → number bytes ≡ Some (count, left) → KnownOf G read count → FindsAt (Counted Count G) (counted_at number read) bytes
+pub finds_list : {V : Type 0} {Count : Grammar ℕ} {number : PlainReader ℕ} {G : Grammar V} {read : PlainReader V} → IsReadBy Count number → (bytes left : List ℕ) (count : ℕ) → IsBytes bytes → number bytes ≡ Some (count, left) → KnownOf G read count → FindsAt (Counted Count G) (plain_counted_at number read) bytes
 finds_list {G = G} {read} counts bytes left count fits e (inl none) = no_items_found counts G read bytes left fits (e ∙ ap (λ (n : ℕ). Some (n, left)) none)
 finds_list {number = number} {G} {read} counts bytes left count fits e (inr laws) = record {
   sound = λ v rest h. (IsReadBy-counted counts laws.finds).sound bytes v rest fits h;
-  complete = λ v rest one. ap (counted_at number read) one.parts ∙ (IsReadBy-counted counts laws.finds).complete one.prefix v rest one.encodes;
+  complete = λ v rest one. ap (plain_counted_at number read) one.parts ∙ (IsReadBy-counted counts laws.finds).complete one.prefix v rest one.encodes;
 }
 
 -- ---- the longest whole prefix of a list
@@ -91,26 +91,26 @@ pub record Taken {V : Type 0} (Count : Grammar ℕ) (G : Grammar V) (bytes left 
   pub progress : Progress G after left vs
   pub few : length vs ≤ count
 
-taken_none : {V : Type 0} {Count : Grammar ℕ} {number : Reader ℕ} → IsReadBy Count number → (G : Grammar V) (bytes left : List ℕ) (count : ℕ) → IsBytes bytes → number bytes ≡ Some (count, left) → Taken Count G bytes left count []
+taken_none : {V : Type 0} {Count : Grammar ℕ} {number : PlainReader ℕ} → IsReadBy Count number → (G : Grammar V) (bytes left : List ℕ) (count : ℕ) → IsBytes bytes → number bytes ≡ Some (count, left) → Taken Count G bytes left count []
 taken_none counts G bytes left count fits e =
     let one = counts.sound bytes count left fits e in
     record { head = one.prefix; after = left; counted = one.encodes; parts = one.parts; progress = begin G left; few = omega arith }
 
 -- one item more was read
-taken_more : {V : Type 0} {Count : Grammar ℕ} {G : Grammar V} {read : Reader V} → ItemLaws G read → (bytes left rest : List ℕ) (count : ℕ) (vs : List V) (v : V) → IsBytes bytes → Taken Count G bytes left count vs → length vs < count → read left ≡ Some (v, rest) → Taken Count G bytes rest count (vs ++ v ∷ [])
+taken_more : {V : Type 0} {Count : Grammar ℕ} {G : Grammar V} {read : PlainReader V} → ItemLaws G read → (bytes left rest : List ℕ) (count : ℕ) (vs : List V) (v : V) → IsBytes bytes → Taken Count G bytes left count vs → length vs < count → read left ≡ Some (v, rest) → Taken Count G bytes rest count (vs ++ v ∷ [])
 taken_more {V} laws bytes left rest count vs v fits t lt e =
     let after : IsBytes t.after = IsBytes-back t.head t.after (rw t.parts at fits) in
     record { head = t.head; after = t.after; counted = t.counted; parts = t.parts; progress = (next laws.finds laws.some t.after left rest vs v after t.progress e).progress; few = omega (arith, length-append vs (v ∷ [])) }
 
 -- nothing longer is whole: no item comes next, or there are as many as the count says
-abbrev IsStopped : {V : Type 0} → Reader V → List ℕ → ℕ → List V → Type 0
+abbrev IsStopped : {V : Type 0} → PlainReader V → List ℕ → ℕ → List V → Type 0
 IsStopped read left count vs = (read left ≡ None) ⊎ (length vs ≡ count)
 
 no_items : {V : Type 0} (G : Grammar V) (back : List ℕ) (more : List V) → length more ≤ 0 → Joined G back more → length back ≤ 0
 no_items G back [] le g = rw g (omega arith)
 no_items G back (v ∷ more) le g = absurd (omega arith)
 
-no_longer : {V : Type 0} {G : Grammar V} {read : Reader V} (left prefix back rest : List ℕ) (count : ℕ) (vs others : List V) → KnownOf G read count → IsStopped read left count vs → Joined G prefix vs → Joined G back others → prefix ++ left ≡ back ++ rest → length others ≤ count → length back ≤ length prefix
+no_longer : {V : Type 0} {G : Grammar V} {read : PlainReader V} (left prefix back rest : List ℕ) (count : ℕ) (vs others : List V) → KnownOf G read count → IsStopped read left count vs → Joined G prefix vs → Joined G back others → prefix ++ left ≡ back ++ rest → length others ≤ count → length back ≤ length prefix
 no_longer {G = G} left prefix back rest count vs others (inl none) stop g h e few = let z = no_items G back others (omega (arith, none)) h in omega arith
 no_longer {V} {G} {read} left prefix back rest count vs others (inr laws) stop g h e few = elim (cases_lt (length prefix) (length back)) [
   | inr le ↦ le
@@ -124,7 +124,7 @@ no_longer {V} {G} {read} left prefix back rest count vs others (inr laws) stop g
   clash longer more k some row items (inl none) = comes_next laws.finds longer rest more k some (sym (ap read row) ∙ none)
   clash longer more k some row items (inr full) = let z = no_items G longer more (omega (arith, ap (length {A = V}) items, length-append vs more)) k in absurd (omega arith)
 
-after_taken : {V : Type 0} {Count : Grammar ℕ} {number : Reader ℕ} {G : Grammar V} {read : Reader V} → IsReadBy Count number → (bytes left : List ℕ) (count : ℕ) (vs : List V) → KnownOf G read count → Taken Count G bytes left count vs → IsStopped read left count vs → IsAfterLongest (IsCountedPrefix Count G) bytes left
+after_taken : {V : Type 0} {Count : Grammar ℕ} {number : PlainReader ℕ} {G : Grammar V} {read : PlainReader V} → IsReadBy Count number → (bytes left : List ℕ) (count : ℕ) (vs : List V) → KnownOf G read count → Taken Count G bytes left count vs → IsStopped read left count vs → IsAfterLongest (IsCountedPrefix Count G) bytes left
 after_taken {V} {Count} {number} {G} {read} counts bytes left count vs known t stop = record {
   prefix = t.head ++ t.progress.prefix;
   parts = t.parts ∙ ap (λ (b : List ℕ). t.head ++ b) t.progress.parts ∙ sym (append_assoc t.head t.progress.prefix left);
@@ -140,7 +140,7 @@ after_taken {V} {Count} {number} {G} {read} counts bytes left count vs known t s
       omega (arith, le, length-append t.head t.progress.prefix, ap (length {A = ℕ}) h.parts, length-append h.head h.back, ap (length {A = ℕ}) one.0)
 
 -- without a count nothing is whole but nothing
-pub after_none : {V : Type 0} {Count : Grammar ℕ} {number : Reader ℕ} → IsReadBy Count number → (G : Grammar V) (bytes : List ℕ) → number bytes ≡ None → IsAfterLongest (IsCountedPrefix Count G) bytes bytes
+pub after_none : {V : Type 0} {Count : Grammar ℕ} {number : PlainReader ℕ} → IsReadBy Count number → (G : Grammar V) (bytes : List ℕ) → number bytes ≡ None → IsAfterLongest (IsCountedPrefix Count G) bytes bytes
 after_none {Count = Count} {number} counts G bytes none = record {
   prefix = [];
   parts = refl;
@@ -157,12 +157,12 @@ after_none {Count = Count} {number} counts G bytes none = record {
 -- ---- a loop that reads the items of a list
 
 -- so many items were read after the count
-pub record Gone {V : Type 0} (Count : Grammar ℕ) (number : Reader ℕ) (G : Grammar V) (read : Reader V) (bytes left : List ℕ) (count i : ℕ) (vs : List V) : Type 0 where
+pub record Gone {V : Type 0} (Count : Grammar ℕ) (number : PlainReader ℕ) (G : Grammar V) (read : PlainReader V) (bytes left : List ℕ) (count i : ℕ) (vs : List V) : Type 0 where
   pub counts : IsReadBy Count number
   pub fits : IsBytes bytes
   pub begun : List ℕ
   pub counted : number bytes ≡ Some (count, begun)
-  pub so_far : after_items vs (times_at read (count - i) left) ≡ counted_at number read bytes
+  pub so_far : after_items vs (plain_times_at read (count - i) left) ≡ plain_counted_at number read bytes
   pub taken : Taken Count G bytes left count vs
   pub len : length vs ≡ i
   pub known : KnownOf G read i
@@ -171,12 +171,12 @@ after_no_items : {A : Type 0} (read : Option (List A × List ℕ)) → after_ite
 after_no_items (Some x) = refl
 after_no_items None = refl
 
-pub gone_none : {V : Type 0} {Count : Grammar ℕ} {number : Reader ℕ} → IsReadBy Count number → (G : Grammar V) (read : Reader V) (bytes left : List ℕ) (count : ℕ) → IsBytes bytes → number bytes ≡ Some (count, left) → Gone Count number G read bytes left count 0 []
+pub gone_none : {V : Type 0} {Count : Grammar ℕ} {number : PlainReader ℕ} → IsReadBy Count number → (G : Grammar V) (read : PlainReader V) (bytes left : List ℕ) (count : ℕ) → IsBytes bytes → number bytes ≡ Some (count, left) → Gone Count number G read bytes left count 0 []
 gone_none {number = number} counts G read bytes left count fits e =
     let k : count - 0 ≡ count = omega arith in
-    record { counts = counts; fits = fits; begun = left; counted = e; so_far = rw (e, k) (after_no_items (times_at read count left)); taken = taken_none counts G bytes left count fits e; len = refl; known = inl refl }
+    record { counts = counts; fits = fits; begun = left; counted = e; so_far = rw (e, k) (after_no_items (plain_times_at read count left)); taken = taken_none counts G bytes left count fits e; len = refl; known = inl refl }
 
-pub gone_more : {V : Type 0} {Count : Grammar ℕ} {number : Reader ℕ} {G : Grammar V} {read : Reader V} → IsReadBy G read → TakesBytes G → (bytes left rest : List ℕ) (count i : ℕ) (vs : List V) (v : V) → Gone Count number G read bytes left count i vs → i < count → read left ≡ Some (v, rest) → Gone Count number G read bytes rest count (i + 1) (vs ++ v ∷ [])
+pub gone_more : {V : Type 0} {Count : Grammar ℕ} {number : PlainReader ℕ} {G : Grammar V} {read : PlainReader V} → IsReadBy G read → TakesBytes G → (bytes left rest : List ℕ) (count i : ℕ) (vs : List V) (v : V) → Gone Count number G read bytes left count i vs → i < count → read left ≡ Some (v, rest) → Gone Count number G read bytes rest count (i + 1) (vs ++ v ∷ [])
 gone_more {V} {Count} {number} {G} {read} finds some bytes left rest count i vs v w lt e =
     let laws : ItemLaws G read = record { finds = finds; some = some } in
     record {
@@ -184,28 +184,28 @@ gone_more {V} {Count} {number} {G} {read} finds some bytes left rest count i vs 
       fits = w.fits;
       begun = w.begun;
       counted = w.counted;
-      so_far = items_go_on read vs count i left v rest (counted_at number read bytes) lt e w.so_far;
+      so_far = items_go_on read vs count i left v rest (plain_counted_at number read bytes) lt e w.so_far;
       taken = taken_more laws bytes left rest count vs v w.fits w.taken (omega (arith, w.len)) e;
       len = omega (arith, length-append vs (v ∷ []), w.len);
       known = inr laws;
     }
 
 -- What is known where a list was read, or not.
-pub record Answered {X V : Type 0} (Count : Grammar ℕ) (number : Reader ℕ) (G : Grammar V) (read : Reader V) (old new : List ℕ) (r : Result X Fault) : Type 0 where
-  pub finds : UnlessMemory r (FindsAt (Counted Count G) (counted_at number read) old)
+pub record Answered {X V : Type 0} (Count : Grammar ℕ) (number : PlainReader ℕ) (G : Grammar V) (read : PlainReader V) (old new : List ℕ) (r : Result X Fault) : Type 0 where
+  pub finds : UnlessMemory r (FindsAt (Counted Count G) (plain_counted_at number read) old)
   pub prefix : UnlessMemory r (IsAfterLongest (IsCountedPrefix Count G) old new)
 
 -- the count is missing or malformed
-pub count_wanting : {X V : Type 0} {Count : Grammar ℕ} {number : Reader ℕ} → IsReadBy Count number → (G : Grammar V) (read : Reader V) (old new : List ℕ) (fault : Fault) → Reads number old new (Err fault) → new ≡ old → Answered {X = X} Count number G read old new (Err fault)
+pub count_wanting : {X V : Type 0} {Count : Grammar ℕ} {number : PlainReader ℕ} → IsReadBy Count number → (G : Grammar V) (read : PlainReader V) (old new : List ℕ) (fault : Fault) → ReadsPlain number old new (Err fault) → new ≡ old → Answered {X = X} Count number G read old new (Err fault)
 count_wanting counts G read old new faults.Memory none stays = record { finds = tt; prefix = tt }
 count_wanting counts G read old new faults.Malformed none stays = record { finds = finds_none counts G read old none; prefix = rw stays (after_none counts G old none) }
 
-pub unread_count : {V : Type 0} (number : Reader ℕ) (read : Reader V) (old new : List ℕ) (fault : Fault) → Reads number old new (Err fault) → Reads (counted_at number read) old new (Err fault)
+pub unread_count : {V : Type 0} (number : PlainReader ℕ) (read : PlainReader V) (old new : List ℕ) (fault : Fault) → ReadsPlain number old new (Err fault) → ReadsPlain (plain_counted_at number read) old new (Err fault)
 unread_count number read old new faults.Memory none = tt
 unread_count number read old new faults.Malformed none = rw none refl
 
 -- an item is missing or malformed
-pub item_wanting : {X V : Type 0} {Count : Grammar ℕ} {number : Reader ℕ} {G : Grammar V} {read : Reader V} → IsReadBy G read → TakesBytes G → (old left new : List ℕ) (count i : ℕ) (vs : List V) (fault : Fault) → Gone Count number G read old left count i vs → i < count → Reads read left new (Err fault) → new ≡ left → Answered {X = X} Count number G read old new (Err fault)
+pub item_wanting : {X V : Type 0} {Count : Grammar ℕ} {number : PlainReader ℕ} {G : Grammar V} {read : PlainReader V} → IsReadBy G read → TakesBytes G → (old left new : List ℕ) (count i : ℕ) (vs : List V) (fault : Fault) → Gone Count number G read old left count i vs → i < count → ReadsPlain read left new (Err fault) → new ≡ left → Answered {X = X} Count number G read old new (Err fault)
 item_wanting finds some old left new count i vs faults.Memory w lt none stays = record { finds = tt; prefix = tt }
 item_wanting {G = G} {read} finds some old left new count i vs faults.Malformed w lt none stays =
     let known : KnownOf G read count = inr (record { finds = finds; some = some }) in
@@ -214,14 +214,14 @@ item_wanting {G = G} {read} finds some old left new count i vs faults.Malformed 
       prefix = rw stays (after_taken w.counts old left count vs known w.taken (inl none));
     }
 
-pub unread_item : {V : Type 0} {Count : Grammar ℕ} {number : Reader ℕ} {G : Grammar V} {read : Reader V} (old left new : List ℕ) (count i : ℕ) (vs : List V) (fault : Fault) → Gone Count number G read old left count i vs → i < count → Reads read left new (Err fault) → Reads (counted_at number read) old new (Err fault)
-unread_item {number = number} {read = read} old left new count i vs fault w lt none = items_fail fault read (counted_at number read) vs count i left new old (counted_at number read old) lt none w.so_far (λ e. e)
+pub unread_item : {V : Type 0} {Count : Grammar ℕ} {number : PlainReader ℕ} {G : Grammar V} {read : PlainReader V} (old left new : List ℕ) (count i : ℕ) (vs : List V) (fault : Fault) → Gone Count number G read old left count i vs → i < count → ReadsPlain read left new (Err fault) → ReadsPlain (plain_counted_at number read) old new (Err fault)
+unread_item {number = number} {read = read} old left new count i vs fault w lt none = items_fail fault read (plain_counted_at number read) vs count i left new old (plain_counted_at number read old) lt none w.so_far (λ e. e)
 
 -- as many items as the count says
-pub all_read : {V : Type 0} {Count : Grammar ℕ} {number : Reader ℕ} {G : Grammar V} {read : Reader V} (old left : List ℕ) (count i : ℕ) (vs : List V) → Gone Count number G read old left count i vs → count ≤ i → counted_at number read old ≡ Some (vs, left)
-all_read {number = number} {read = read} old left count i vs w le = items_all read vs count i left (counted_at number read old) le w.so_far
+pub all_read : {V : Type 0} {Count : Grammar ℕ} {number : PlainReader ℕ} {G : Grammar V} {read : PlainReader V} (old left : List ℕ) (count i : ℕ) (vs : List V) → Gone Count number G read old left count i vs → count ≤ i → plain_counted_at number read old ≡ Some (vs, left)
+all_read {number = number} {read = read} old left count i vs w le = items_all read vs count i left (plain_counted_at number read old) le w.so_far
 
-pub all_answered : {X V : Type 0} {Count : Grammar ℕ} {number : Reader ℕ} {G : Grammar V} {read : Reader V} (old left : List ℕ) (count i : ℕ) (vs : List V) (x : X) → Gone Count number G read old left count i vs → i ≡ count → Answered Count number G read old left (Ok x)
+pub all_answered : {X V : Type 0} {Count : Grammar ℕ} {number : PlainReader ℕ} {G : Grammar V} {read : PlainReader V} (old left : List ℕ) (count i : ℕ) (vs : List V) (x : X) → Gone Count number G read old left count i vs → i ≡ count → Answered Count number G read old left (Ok x)
 all_answered {G = G} {read} old left count i vs x w full =
     let known : KnownOf G read count = subst (KnownOf G read) full w.known in
     record {
@@ -235,20 +235,20 @@ whole : {V : Type 0} (G : Grammar V) (bytes : List ℕ) (v : V) → G bytes v �
 whole G bytes v g = record { prefix = bytes; encodes = g; parts = sym (append-nil bytes) }
 
 -- nothing is left over
-pub whole_given : {V : Type 0} {G : Grammar V} {read : Reader V} (bytes left : List ℕ) (v : V) → FindsAt G read bytes → read bytes ≡ Some (v, left) → length left ≤ 0 → G bytes v
+pub whole_given : {V : Type 0} {G : Grammar V} {read : PlainReader V} (bytes left : List ℕ) (v : V) → FindsAt G read bytes → read bytes ≡ Some (v, left) → length left ≤ 0 → G bytes v
 whole_given {G = G} bytes [] v f e none =
     let one = f.sound v [] e in
     subst (λ (t : List ℕ). G t v) (sym (one.parts ∙ append-nil one.prefix)) one.encodes
 whole_given bytes (b ∷ left) v f e none = absurd (omega arith)
 
 -- where something is left over the bytes encode nothing
-pub left_unencoded : {V : Type 0} {G : Grammar V} {read : Reader V} (bytes left : List ℕ) (v : V) → FindsAt G read bytes → read bytes ≡ Some (v, left) → 0 < length left → (w : V) → G bytes w → ⊥
+pub left_unencoded : {V : Type 0} {G : Grammar V} {read : PlainReader V} (bytes left : List ℕ) (v : V) → FindsAt G read bytes → read bytes ≡ Some (v, left) → 0 < length left → (w : V) → G bytes w → ⊥
 left_unencoded {V} {G} bytes left v f e more w g =
     let same : (v, left) ≡ (w, []) = some_is (v, left) (w, []) (sym e ∙ f.complete w [] (whole G bytes w g)) in
     absurd (omega (arith, ap (λ (p : V × List ℕ). length p.1) same))
 
 -- nor where nothing is read
-pub none_unencoded : {V : Type 0} {G : Grammar V} {read : Reader V} (bytes : List ℕ) → FindsAt G read bytes → read bytes ≡ None → (w : V) → G bytes w → ⊥
+pub none_unencoded : {V : Type 0} {G : Grammar V} {read : PlainReader V} (bytes : List ℕ) → FindsAt G read bytes → read bytes ≡ None → (w : V) → G bytes w → ⊥
 none_unencoded {V} {G} {read} bytes f none w g = absurd (clash (read bytes) (w, []) none (f.complete w [] (whole G bytes w g))) where
   clash : (o : Option (V × List ℕ)) (x : V × List ℕ) → o ≡ None → o ≡ Some x → ⊥
   clash o x e f = absurd cc

@@ -2,10 +2,10 @@
 use Rattle.std.proofs.Common.{◌≡◌, ℕ, suc, ◌-◌, ◌<◌, ◌≤◌, List, [], ◌∷◌, ◌++◌, length, get_or, take, drop, Some, None, Result, Ok, Err, IfOk, ◌↔◌, refl, sym, ap, subst, ◌∙◌, append_assoc, length-append, arith}
 use Rattle.std.proofs.lemmas.List.{append-nil, take-append-drop}
 use Rattle.std.specs.List.{flat_map}
-use Rattle.wasm_codec.specs.Grammar.{Grammar, Joined, IsBytes, TakesBytes}
+use Rattle.wasm_codec.specs.formats.Grammar.{Grammar, Joined, IsBytes, TakesBytes}
 use Rattle.wasm_codec.specs.declared.reader.cursor.Fault.{Fault}
 use Rattle.wasm_codec.specs.declared.reader.cursor.Fault.TheVariants as faults
-use Rattle.wasm_codec.specs.Reading.{Reader, Reads, IsReadBy}
+use Rattle.wasm_codec.specs.Reading.{PlainReader, ReadsPlain, IsReadBy}
 use Rattle.wasm_codec.specs.declared.reader.ReadError.{ReadError}
 use Rattle.wasm_codec.specs.declared.reader.ReadError.TheVariants as errors
 use Rattle.wasm_codec.specs.Answers.{answer_to, HoldsAtRefusal, IsOrMemory, IfRefused, IsLongestPrefix, EncodesSome, IsNormalForm}
@@ -35,7 +35,7 @@ pub record Next {V : Type 0} (G : Grammar V) (bytes left rest : List ℕ) (vs : 
   pub progress : Progress G bytes rest (vs ++ v ∷ [])
   pub fewer : length rest < length left
 
-pub next : {V : Type 0} {G : Grammar V} {read : Reader V} → IsReadBy G read → TakesBytes G → (bytes left rest : List ℕ) (vs : List V) (v : V) → IsBytes bytes → Progress G bytes left vs → read left ≡ Some (v, rest) → Next G bytes left rest vs v
+pub next : {V : Type 0} {G : Grammar V} {read : PlainReader V} → IsReadBy G read → TakesBytes G → (bytes left rest : List ℕ) (vs : List V) (v : V) → IsBytes bytes → Progress G bytes left vs → read left ≡ Some (v, rest) → Next G bytes left rest vs v
 next {V} {G} r some bytes left rest vs v fits p e =
     let one = r.sound left v rest (IsBytes-back p.prefix left (rw p.parts at fits)) e in
     record {
@@ -56,13 +56,13 @@ end G bytes [] vs p none = subst (λ (t : List ℕ). Joined G t vs) (sym (p.part
 end G bytes (b ∷ left) vs p none = absurd (omega arith)
 
 -- no item is read of the bytes that are left
-pub stopped : {V : Type 0} {G : Grammar V} {read : Reader V} → IsReadBy G read → TakesBytes G → (bytes left : List ℕ) (vs : List V) → Progress G bytes left vs → read left ≡ None → IsLongestPrefix (EncodesSome (Joined G)) bytes (length bytes - length left)
+pub stopped : {V : Type 0} {G : Grammar V} {read : PlainReader V} → IsReadBy G read → TakesBytes G → (bytes left : List ℕ) (vs : List V) → Progress G bytes left vs → read left ≡ None → IsLongestPrefix (EncodesSome (Joined G)) bytes (length bytes - length left)
 stopped {V} {G} r some bytes left vs p none =
     let len : length p.prefix ≡ length bytes - length left = omega (arith, ap (length {A = ℕ}) p.parts, length-append p.prefix left) in
     subst (IsLongestPrefix (EncodesSome (Joined G)) bytes) len (Joined-longest r some bytes p.prefix left vs p.parts p.encodes none)
 
 -- what is answered then
-pub stopped_by : {V : Type 0} {G : Grammar V} {read : Reader V} → IsReadBy G read → TakesBytes G → (bytes left new : List ℕ) (vs : List V) → Progress G bytes left vs → (fault : Fault) → Reads read left new (Err fault)
+pub stopped_by : {V : Type 0} {G : Grammar V} {read : PlainReader V} → IsReadBy G read → TakesBytes G → (bytes left new : List ℕ) (vs : List V) → Progress G bytes left vs → (fault : Fault) → ReadsPlain read left new (Err fault)
     → (e : ReadError) → e ≡ answer_to fault (length bytes - length left) → HoldsAtRefusal e (IsLongestPrefix (EncodesSome (Joined G)) bytes)
 stopped_by r some bytes left new vs p faults.Memory none e is = rw is tt
 stopped_by r some bytes left new vs p faults.Malformed none e is = rw is (stopped r some bytes left vs p none)

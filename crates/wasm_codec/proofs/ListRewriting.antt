@@ -4,14 +4,15 @@ use Rattle.std.proofs.lemmas.List.{append-nil, flat_map_more}
 use Rattle.std.specs.List.{flat_map}
 use Rattle.wasm_codec.specs.declared.reader.cursor.Fault.{Fault}
 use Rattle.wasm_codec.specs.declared.reader.cursor.Fault.TheVariants as faults
-use Rattle.wasm_codec.specs.Grammar.{IsBytes, TakesBytes}
+use Rattle.wasm_codec.specs.formats.Grammar.{IsBytes, TakesBytes}
 use Rattle.wasm_codec.specs.Answers.{IsLongestPrefix, IsAfterLongest, IsNormalForm}
 use Rattle.wasm_codec.specs.Lawful.{IsLawful, plain}
 use Rattle.wasm_codec.specs.Lists.{EncodesList, IsListPrefix, list_at, items_bytes}
-use Rattle.wasm_codec.specs.Numbers.{EncodesU32, unsigned_leb128}
+use Rattle.wasm_codec.specs.formats.Numbers.{EncodesU32}
+use Rattle.wasm_codec.specs.Leb128.{unsigned_leb128}
 use Rattle.wasm_codec.specs.Places.{place}
 use Rattle.wasm_codec.specs.formats.Combinators.{Format, u32}
-use Rattle.wasm_codec.specs.Rewriter.{Rewriting, rewriting, rewritten_at, after_at, Gives, Rewrites, RefusesList}
+use Rattle.wasm_codec.specs.Rewriter.{Rewriting, rewriting, rewritten_at, rewriting_after, Gives, Rewrites, RefusesList}
 use Rattle.wasm_codec.proofs.FormatLaws.{Lawful-u32}
 use Rattle.wasm_codec.proofs.Laws.{IsBytes-after}
 use Rattle.wasm_codec.proofs.ListLaws.{Gone, gone_none, gone_more, all_read, whole_given, left_unencoded, none_unencoded, Answered, count_wanting, item_wanting, all_answered, unread_count, unread_item}
@@ -38,7 +39,7 @@ list_begun F bytes start here count fits start-is e =
       bytes_left = IsBytes-after bytes here.place.left count one fits;
     }
 
-pub list_more : {V : Type 0} {F : Format V} → IsLawful F → TakesBytes F.Encodes → (bytes : List ℕ) (here next : Rewriting) (count i : ℕ) → ListGoing F bytes here count i → i < count → after_at F here ≡ Some next → ListGoing F bytes next count (i + 1)
+pub list_more : {V : Type 0} {F : Format V} → IsLawful F → TakesBytes F.Encodes → (bytes : List ℕ) (here next : Rewriting) (count i : ℕ) → ListGoing F bytes here count i → i < count → rewriting_after F here ≡ Some next → ListGoing F bytes next count (i + 1)
 list_more {V} {F} r some bytes here next count i w lt e =
     let one = is_after F here next e in
     let sound = r.reads.sound here.place one.value next.place w.bytes_left one.given.is_read in

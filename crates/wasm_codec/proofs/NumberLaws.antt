@@ -2,8 +2,9 @@
 use Rattle.std.proofs.Common.{◌≡◌, ℕ, suc, ◌+◌, ◌*◌, ◌%◌, ◌^◌, ◌<◌, ◌≤◌, Bool, true, false, cond, ltb, List, [], ◌∷◌, length, Some, None, refl, sym, ap, subst, ◌∙◌, inl, inr, arith, lit≤, ℤ, pos, negsuc, SFits, w32, w64}
 use Rattle.std.proofs.lemmas.Bool.{ltb-true, lt-ltb, le-ltb, cases_lt}
 use Rattle.std.proofs.lemmas.Int.{ints}
-use Rattle.wasm_codec.specs.Numbers.{IsDigits, unsigned, last, signed, Number, Below, Within, SignedWithin, IndexBelow, EncodesU32, EncodesU64, EncodesS32, EncodesS64, EncodesIndex, digits_of, unsigned_leb128, signed_leb128, number_at, below, is_within, signed_within, index_from, index_below, u32_at, u64_at, s32_at, s64_at, index_at}
-use Rattle.wasm_codec.specs.Grammar.{Grammar}
+use Rattle.wasm_codec.specs.formats.Numbers.{IsDigits, unsigned, last, signed, Number, Below, Within, SignedWithin, IndexBelow, EncodesU32, EncodesU64, EncodesS32, EncodesS64, EncodesIndex}
+use Rattle.wasm_codec.specs.Leb128.{digits_of, unsigned_leb128, signed_leb128, plain_number_at, below, is_within, signed_within, index_from, index_below, plain_u32_at, plain_u64_at, plain_s32_at, plain_s64_at, plain_index_at}
+use Rattle.wasm_codec.specs.formats.Grammar.{Grammar}
 use Rattle.wasm_codec.specs.Encoding.{IsShortestOrLonger, IsShortest}
 use Rattle.wasm_codec.specs.Reading.{IsReadBy}
 use Rattle.wasm_codec.proofs.Laws.{some_is}
@@ -22,7 +23,7 @@ below_means limit digits n e = by (ltb (unsigned digits) limit) refl e where
 below_finds : (limit : ℕ) (digits : List ℕ) (n : ℕ) → IsDigits digits → Below limit digits n → below limit digits ≡ Some n
 below_finds limit digits n d m = rw (m.0, lt-ltb n limit m.1) refl
 
-IsReadBy-unsigned : (most limit : ℕ) → IsReadBy (Number most (Below limit)) (number_at most (below limit))
+IsReadBy-unsigned : (most limit : ℕ) → IsReadBy (Number most (Below limit)) (plain_number_at most (below limit))
 IsReadBy-unsigned most limit = IsReadBy-number most (Below limit) (below limit) (below_means limit) (below_finds limit)
 
 within_is : (limit : ℕ) (z : ℤ) → is_within limit z ≡ true → Within limit z
@@ -42,7 +43,7 @@ signed_means limit digits z e = by (is_within limit (signed digits)) refl e wher
 signed_finds : (limit : ℕ) (digits : List ℕ) (z : ℤ) → IsDigits digits → SignedWithin limit digits z → signed_within limit digits ≡ Some z
 signed_finds limit digits z d m = rw (m.0, is_within_is limit z m.1) refl
 
-IsReadBy-signed : (most limit : ℕ) → IsReadBy (Number most (SignedWithin limit)) (number_at most (signed_within limit))
+IsReadBy-signed : (most limit : ℕ) → IsReadBy (Number most (SignedWithin limit)) (plain_number_at most (signed_within limit))
 IsReadBy-signed most limit = IsReadBy-number most (SignedWithin limit) (signed_within limit) (signed_means limit) (signed_finds limit)
 
 index_means : (limit : ℕ) (digits : List ℕ) (n : ℕ) → index_below limit digits ≡ Some n → IndexBelow limit digits n
@@ -57,7 +58,7 @@ index_means limit digits n e = by (signed digits) refl e where
 index_finds : (limit : ℕ) (digits : List ℕ) (n : ℕ) → IsDigits digits → IndexBelow limit digits n → index_below limit digits ≡ Some n
 index_finds limit digits n d m = rw (m.0, lt-ltb n limit m.1) refl
 
-IsReadBy-index-below : (most limit : ℕ) → IsReadBy (Number most (IndexBelow limit)) (number_at most (index_below limit))
+IsReadBy-index-below : (most limit : ℕ) → IsReadBy (Number most (IndexBelow limit)) (plain_number_at most (index_below limit))
 IsReadBy-index-below most limit = IsReadBy-number most (IndexBelow limit) (index_below limit) (index_means limit) (index_finds limit)
 
 -- ---- shortest encodings of unsigned numbers
@@ -196,40 +197,40 @@ cut_index bytes n g = cut_stands (2 ^ 32) (lit≤ tt) bytes (pos n) g.2.1 (signe
 
 -- ---- the five widths
 
-pub IsReadBy-u32 : IsReadBy EncodesU32 u32_at
-unfolding EncodesU32 u32_at
+pub IsReadBy-u32 : IsReadBy EncodesU32 plain_u32_at
+unfolding EncodesU32 plain_u32_at
 IsReadBy-u32 = IsReadBy-unsigned 5 (2 ^ 32)
 
 pub Shortest-u32 : Shortest EncodesU32 (λ n. n < 2 ^ 32) unsigned_leb128
 unfolding EncodesU32
 Shortest-u32 = Shortest-unsigned 4 (2 ^ 32) (lit≤ tt) (lit≤ tt)
 
-pub IsReadBy-u64 : IsReadBy EncodesU64 u64_at
-unfolding EncodesU64 u64_at
+pub IsReadBy-u64 : IsReadBy EncodesU64 plain_u64_at
+unfolding EncodesU64 plain_u64_at
 IsReadBy-u64 = IsReadBy-unsigned 10 (2 ^ 64)
 
 pub Shortest-u64 : Shortest EncodesU64 (λ n. n < 2 ^ 64) unsigned_leb128
 unfolding EncodesU64
 Shortest-u64 = Shortest-unsigned 9 (2 ^ 64) (lit≤ tt) (lit≤ tt)
 
-pub IsReadBy-s32 : IsReadBy EncodesS32 s32_at
-unfolding EncodesS32 s32_at
+pub IsReadBy-s32 : IsReadBy EncodesS32 plain_s32_at
+unfolding EncodesS32 plain_s32_at
 IsReadBy-s32 = IsReadBy-signed 5 (2 ^ 31)
 
 pub Shortest-s32 : Shortest EncodesS32 (Within (2 ^ 31)) signed_leb128
 unfolding EncodesS32
 Shortest-s32 = Shortest-signed 4 (2 ^ 31) (lit≤ tt) (lit≤ tt)
 
-pub IsReadBy-s64 : IsReadBy EncodesS64 s64_at
-unfolding EncodesS64 s64_at
+pub IsReadBy-s64 : IsReadBy EncodesS64 plain_s64_at
+unfolding EncodesS64 plain_s64_at
 IsReadBy-s64 = IsReadBy-signed 10 (2 ^ 63)
 
 pub Shortest-s64 : Shortest EncodesS64 (Within (2 ^ 63)) signed_leb128
 unfolding EncodesS64
 Shortest-s64 = Shortest-signed 9 (2 ^ 63) (lit≤ tt) (lit≤ tt)
 
-pub IsReadBy-index : IsReadBy EncodesIndex index_at
-unfolding EncodesIndex index_at
+pub IsReadBy-index : IsReadBy EncodesIndex plain_index_at
+unfolding EncodesIndex plain_index_at
 IsReadBy-index = IsReadBy-index-below 5 (2 ^ 32)
 
 pub Shortest-index : Shortest EncodesIndex (λ n. n < 2 ^ 32) (λ n. signed_leb128 (pos n))

@@ -5,8 +5,9 @@ use Rattle.std.proofs.lemmas.Nat.{mul-le}
 use Rattle.std.proofs.lemmas.Int.{ints}
 use Rattle.std.proofs.Common.{◌≡◌, ℕ, zero, suc, ◌+◌, ◌-◌, ◌*◌, ◌%◌, ◌/◌, ◌^◌, ◌<◌, ◌≤◌, ◌&&◌, Bool, true, false, cond, eqb, ltb, List, [], ◌∷◌, ◌++◌, length, take, drop, leb, Option, Some, None, Err, refl, sym, ap, subst, ◌∙◌, inl, inr, arith, lit≤, ℤ, pos, negsuc, ◌-ℤ◌}
 use Rattle.std.proofs.lemmas.Bool.{lt-ltb, le-ltb, le-leb, lt-leb, eq-eqb, ne_eqb, cases_lt}
-use Rattle.wasm_codec.specs.Reading.{byte_at as list_byte_at, ◌>>=◌}
-use Rattle.wasm_codec.specs.Numbers.{digits_at, unsigned, last, signed, below, signed_within, index_below, digits_of, unsigned_leb128, signed_leb128}
+use Rattle.wasm_codec.specs.Reading.{plain_byte_at, ◌>>=◌}
+use Rattle.wasm_codec.specs.Leb128.{digits_at, below, signed_within, index_below, digits_of, unsigned_leb128, signed_leb128}
+use Rattle.wasm_codec.specs.formats.Numbers.{unsigned, last, signed}
 use Rattle.wasm_codec.proofs.Laws.{bind_some, some_is}
 use Rattle.wasm_codec.proofs.Digits.{length-digits_of, some_digits}
 use Rattle.wasm_codec.proofs.DigitLoop.{reads_on, byte_is, digits_end, runs_out}
@@ -32,13 +33,13 @@ byte_took p q b e = by p.left refl e where
         keeps = sym (ap (λ (x : ℕ × Place). x.1.shortest) same);
       }
 
-pub list_byte : (p q : Place) (b : ℕ) → byte_at p ≡ Some (b, q) → list_byte_at p.left ≡ Some (b, q.left)
-list_byte p q b e = ap list_byte_at (byte_took p q b e).bytes
+pub list_byte : (p q : Place) (b : ℕ) → byte_at p ≡ Some (b, q) → plain_byte_at p.left ≡ Some (b, q.left)
+list_byte p q b e = ap plain_byte_at (byte_took p q b e).bytes
 
-pub no_list_byte : (p : Place) → byte_at p ≡ None → list_byte_at p.left ≡ None
+pub no_list_byte : (p : Place) → byte_at p ≡ None → plain_byte_at p.left ≡ None
 unfolding byte_at
 no_list_byte p e = by p.left refl e where
-  by : (l : List ℕ) → p.left ≡ l → byte_from p.shortest l ≡ None → list_byte_at l ≡ None
+  by : (l : List ℕ) → p.left ≡ l → byte_from p.shortest l ≡ None → plain_byte_at l ≡ None
   by [] is e = refl
   by (c ∷ bytes) is e = absurd cc
 
@@ -253,7 +254,7 @@ digits_parts (suc most) (b ∷ bytes) digits rest e = by (λ ds more. digits_par
 pub read_end : (most : ℕ) (old here new : Place) (i b n unit : ℕ) → i < most → b < 128 → n < unit → here.left ≡ drop i old.left → here.shortest ≡ old.shortest → reads_on most old.left i ≡ digits_at most old.left → n ≡ unsigned (take i old.left) → unit ≡ 128 ^ i → byte_at here ≡ Some (b, new)
     → Read most old new (n + (b % 128) * unit) (unit * 128) b
 read_end most old here new i b n unit less small lt rest keeps so_far value pow e =
-    let byte = byte_is old.left i b new.left (sym (ap list_byte_at rest) ∙ list_byte here new b e) in
+    let byte = byte_is old.left i b new.left (sym (ap plain_byte_at rest) ∙ list_byte here new b e) in
     let d = digits_end most old.left i b n unit new.left less small byte so_far value pow in
     let r = bounds n unit (b % 128) b lt (omega arith) (λ l. omega arith) small in
     record {
@@ -273,11 +274,11 @@ read_end most old here new i b n unit less small lt rest keeps so_far value pow 
 -- a byte was wanting
 pub fail : (fault : Fault) (most : ℕ) (old here new : Place) (i : ℕ) → here.left ≡ drop i old.left → reads_on most old.left i ≡ digits_at most old.left → Reads byte_at here new (Err fault) → ReadsDigits most old new (Err fault)
 fail faults.Memory most old here new i rest so_far e = tt
-fail faults.Malformed most old here new i rest so_far e = sym so_far ∙ runs_out most old.left i (sym (ap list_byte_at rest) ∙ no_list_byte here e)
+fail faults.Malformed most old here new i rest so_far e = sym so_far ∙ runs_out most old.left i (sym (ap plain_byte_at rest) ∙ no_list_byte here e)
 
 pub many_fail : (fault : Fault) (most : ℕ) (old here new : Place) (i : ℕ) → here.left ≡ drop i old.left → reads_on most old.left i ≡ digits_at most old.left → Reads byte_at here new (Err fault) → ReadsManyDigits most old new (Err fault)
 many_fail faults.Memory most old here new i rest so_far e = tt
-many_fail faults.Malformed most old here new i rest so_far e = sym so_far ∙ runs_out most old.left i (sym (ap list_byte_at rest) ∙ no_list_byte here e)
+many_fail faults.Malformed most old here new i rest so_far e = sym so_far ∙ runs_out most old.left i (sym (ap plain_byte_at rest) ∙ no_list_byte here e)
 
 pub record FewBounds (more n unit digit : ℕ) : Type 0 where
   pub part : digit * unit ≤ 127 * unit

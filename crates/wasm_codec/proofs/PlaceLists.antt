@@ -6,13 +6,13 @@ use Rattle.std.proofs.Math.Bool.{and-true}
 use Rattle.wasm_codec.specs.declared.reader.cursor.Fault.{Fault}
 use Rattle.wasm_codec.specs.declared.reader.cursor.Fault.TheVariants as faults
 use Rattle.wasm_codec.specs.declared.reader.ReadError.{ReadError}
-use Rattle.wasm_codec.specs.Grammar.{Grammar, IsBytes, Joined}
-use Rattle.wasm_codec.specs.Reading.{Reads as ListReadsCode, ◌>>=◌}
+use Rattle.wasm_codec.specs.formats.Grammar.{Grammar, IsBytes, Joined}
+use Rattle.wasm_codec.specs.Reading.{ReadsPlain, ◌>>=◌}
 use Rattle.wasm_codec.specs.Answers.{answer_to, HoldsAtRefusal, IsLongestPrefix, EncodesSome}
 use Rattle.wasm_codec.specs.Encoding.{IsShortestOrLonger}
 use Rattle.wasm_codec.proofs.Laws.{BeginsWith-is, one_reading, bind_some, some, some_is}
 use Rattle.wasm_codec.specs.Reading.{BeginsWith, IsReadBy as ListReads}
-use Rattle.wasm_codec.specs.Grammar.{TakesBytes}
+use Rattle.wasm_codec.specs.formats.Grammar.{TakesBytes}
 use Rattle.wasm_codec.proofs.ListReading.{Progress, Next, next, stopped_by}
 use Rattle.wasm_codec.specs.Places.{Place, place, Reader, Reads, keeps, times_at, counted_at}
 use Rattle.wasm_codec.specs.formats.Combinators.{Format, only_shortest, narrow}
@@ -130,11 +130,11 @@ plain_none {V} {F} r p fits none = by (plain F.at p.left) refl where
       absurd (clash (F.at p) (x.0, place (keeps p.shortest one.prefix (F.bytes x.0)) x.1) none (ap (λ (l : List ℕ). F.at (place p.shortest l)) one.parts ∙ r.reads.complete one.prefix x.0 x.1 p.shortest one.encodes))
 
 -- and what wasn't read: so the laws of loops over bytes serve loops over places
-pub plain_fault : {V : Type 0} {F : Format V} → IsLawful F → (p q : Place) → IsBytes p.left → (fault : Fault) → Reads F.at p q (Err fault) → ListReadsCode (plain F.at) p.left q.left (Err fault)
+pub plain_fault : {V : Type 0} {F : Format V} → IsLawful F → (p q : Place) → IsBytes p.left → (fault : Fault) → Reads F.at p q (Err fault) → ReadsPlain (plain F.at) p.left q.left (Err fault)
 plain_fault r p q fits faults.Memory e = tt
 plain_fault r p q fits faults.Malformed e = plain_none r p fits e
 
-pub plain_code : {V : Type 0} {F : Format V} → IsLawful F → (p q : Place) → IsBytes p.left → (result : Result V Fault) → Reads F.at p q result → ListReadsCode (plain F.at) p.left q.left result
+pub plain_code : {V : Type 0} {F : Format V} → IsLawful F → (p q : Place) → IsBytes p.left → (result : Result V Fault) → Reads F.at p q result → ReadsPlain (plain F.at) p.left q.left result
 plain_code r p q fits (Ok v) e = plain_some r p v q fits e
 plain_code r p q fits (Err fault) e = plain_fault r p q fits fault e
 

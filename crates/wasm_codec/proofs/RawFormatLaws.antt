@@ -3,9 +3,10 @@ use Rattle.std.proofs.Common.{◌≡◌, ℕ, zero, suc, ◌+◌, ◌*◌, ◌%�
 use Rattle.std.proofs.lemmas.List.{take_at, drop_at, take-append-drop, length-take}
 use Rattle.std.proofs.lemmas.Bool.{ltb-false, le-ltb}
 use Rattle.std.proofs.lemmas.Nat.{div_below}
-use Rattle.wasm_codec.specs.Grammar.{IsBytes, Mapped}
+use Rattle.wasm_codec.specs.formats.Grammar.{IsBytes, Mapped}
 use Rattle.wasm_codec.specs.Encoding.{IsShortestOrLonger}
-use Rattle.wasm_codec.specs.Numbers.{EncodesS64, signed_leb128, s64_at as list_s64_at, signed_within}
+use Rattle.wasm_codec.specs.formats.Numbers.{EncodesS64}
+use Rattle.wasm_codec.specs.Leb128.{signed_leb128, plain_s64_at, signed_within}
 use Rattle.wasm_codec.proofs.Laws.{bind_some, some_is}
 use Rattle.wasm_codec.specs.Reading.{BeginsWith}
 use Rattle.wasm_codec.proofs.NumberLaws.{IsReadBy-s64, Shortest-s64}
@@ -16,7 +17,7 @@ use Rattle.wasm_codec.proofs.FormatLaws.{keeps_same, BeginsWith-at, Reads-number
 use Rattle.wasm_codec.specs.Lawful.{IsLawful}
 
 pub Lawful-s64 : IsLawful s64
-unfolding EncodesS64 s64_at list_s64_at
+unfolding EncodesS64 s64_at plain_s64_at
 Lawful-s64 = record { reads = Reads-number (signed_within (2 ^ 63)) signed_leb128 IsReadBy-s64; shortest = Shortest-s64; in_range = λ bytes n g. g.2.1; are_bytes = λ bytes n g. digits_bytes bytes g.0; begins = λ bytes n g. digits_some bytes g.0 }
 
 -- ---- what is made of a value

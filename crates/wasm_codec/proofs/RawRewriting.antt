@@ -1,8 +1,8 @@
 -- Numbers in so many bytes, which stay as they are.
 use Rattle.std.proofs.Common.{◌≡◌, ℕ, Bool, zero, suc, ◌<◌, ◌≤◌, List, [], ◌∷◌, ◌++◌, length, take, drop, Some, None, refl, sym, ap, ◌∙◌, arith}
-use Rattle.wasm_codec.specs.Grammar.{IsBytes}
+use Rattle.wasm_codec.specs.formats.Grammar.{IsBytes}
 use Rattle.wasm_codec.specs.Places.{Place, place, byte_at}
-use Rattle.wasm_codec.specs.Rewriter.{Rewriting, after_at, stayed}
+use Rattle.wasm_codec.specs.Rewriter.{Rewriting, rewriting_after, skipped}
 use Rattle.wasm_codec.specs.formats.Combinators.{little_endian, with_low}
 use Rattle.wasm_codec.proofs.RawFormatLaws.{low_and_high_are}
 use Rattle.wasm_codec.proofs.RewriterLaws.{after_is}
@@ -26,10 +26,10 @@ number_at (suc more) s (b ∷ left) fits le =
       bytes = ap (λ (q : ℕ × ℕ). q.0 ∷ (little_endian more).bytes q.1) parts ∙ ap (λ (t : List ℕ). b ∷ t) n.bytes;
     }
 
-pub number_stays : (count : ℕ) (r : Rewriting) → IsBytes r.place.left → count ≤ length r.place.left → after_at (little_endian count) r ≡ Some (stayed count r)
+pub number_stays : (count : ℕ) (r : Rewriting) → IsBytes r.place.left → count ≤ length r.place.left → rewriting_after (little_endian count) r ≡ Some (skipped count r)
 number_stays count r fits le =
     let n = number_at count r.place.shortest r.place.left fits le in
-    after_is (little_endian count) r (stayed count r) n.value n.is_read (ap (λ (t : List ℕ). r.done ++ t) (sym n.bytes)) refl
+    after_is (little_endian count) r (skipped count r) n.value n.is_read (ap (λ (t : List ℕ). r.done ++ t) (sym n.bytes)) refl
 
 none_left : (count : ℕ) (s : Bool) (left : List ℕ) → length left < count → (little_endian count).at (place s left) ≡ None
 unfolding little_endian byte_at

@@ -4,13 +4,13 @@ use Rattle.std.proofs.lemmas.List.{append-nil, flat_map_more}
 use Rattle.std.specs.List.{flat_map}
 use Rattle.wasm_codec.specs.declared.reader.cursor.Fault.{Fault}
 use Rattle.wasm_codec.specs.declared.reader.cursor.Fault.TheVariants as faults
-use Rattle.wasm_codec.specs.Grammar.{IsBytes, TakesBytes}
+use Rattle.wasm_codec.specs.formats.Grammar.{IsBytes, TakesBytes}
 use Rattle.wasm_codec.specs.Lawful.{IsLawful}
-use Rattle.wasm_codec.specs.Numbers.{unsigned_leb128}
+use Rattle.wasm_codec.specs.Leb128.{unsigned_leb128}
 use Rattle.wasm_codec.specs.Places.{Place, Reader, place, u32_at}
 use Rattle.wasm_codec.specs.formats.Combinators.{Format, items, u32}
 use Rattle.wasm_codec.specs.formats.Bodies.{at_end, until_end, to_end}
-use Rattle.wasm_codec.specs.Rewriter.{Rewriting, rewriting, rewritten_at, after_at, Rewrites, RewritesAll, stayed}
+use Rattle.wasm_codec.specs.Rewriter.{Rewriting, rewriting, rewritten_at, rewriting_after, Rewrites, RewritesAll, skipped}
 use Rattle.wasm_codec.specs.Scanning.{ReadsShort, BeginsShort}
 use Rattle.wasm_codec.proofs.Shortening.{kept_is, without_value, bytes_after, takes_some}
 use Rattle.std.proofs.lemmas.List.{drop_at}
@@ -40,7 +40,7 @@ pub record IsAfter {V : Type 0} (F : Format V) (p q : Rewriting) : Type 0 where
   pub value : V
   pub given : IsGiven F p value q
 
-pub is_after : {V : Type 0} (F : Format V) (p q : Rewriting) → after_at F p ≡ Some q → IsAfter F p q
+pub is_after : {V : Type 0} (F : Format V) (p q : Rewriting) → rewriting_after F p ≡ Some q → IsAfter F p q
 is_after {V} F p q e =
     let x = bind_some (F.at p.place) (λ x. Some (rewriting (p.done ++ F.bytes x.0) x.1 p.rest)) q e in
     let same = some_is (rewriting (p.done ++ F.bytes x.0.0) x.0.1 p.rest) q x.2 in
@@ -53,7 +53,7 @@ is_after {V} F p q e =
       };
     }
 
-pub after_is : {V : Type 0} (F : Format V) (p q : Rewriting) (v : V) → F.at p.place ≡ Some (v, q.place) → q.done ≡ p.done ++ F.bytes v → q.rest ≡ p.rest → after_at F p ≡ Some q
+pub after_is : {V : Type 0} (F : Format V) (p q : Rewriting) (v : V) → F.at p.place ≡ Some (v, q.place) → q.done ≡ p.done ++ F.bytes v → q.rest ≡ p.rest → rewriting_after F p ≡ Some q
 after_is F p q v read written rest = rw (read, ← written, ← rest) refl
 
 -- ---- a count, and then the items
@@ -70,7 +70,7 @@ no_items_rewritten F old here count e =
     let g = is_given u32 old count here e in
     record { values = []; passed = passed_none u32_at F old.place here.place count g.is_read; len = refl; written = g.written ∙ sym (append-nil (old.done ++ unsigned_leb128 count)); rest = g.rest }
 
-pub item_rewritten : {V : Type 0} (F : Format V) (old here next : Rewriting) (count i : ℕ) → ItemsRewritten F old here count i → i < count → after_at F here ≡ Some next → ItemsRewritten F old next count (i + 1)
+pub item_rewritten : {V : Type 0} (F : Format V) (old here next : Rewriting) (count i : ℕ) → ItemsRewritten F old here count i → i < count → rewriting_after F here ≡ Some next → ItemsRewritten F old next count (i + 1)
 item_rewritten F old here next count i w lt e =
     let one = is_after F here next e in
     record {
@@ -85,7 +85,7 @@ pub item_not_rewritten : {V : Type 0} (F : Format V) (old here next new : Rewrit
 item_not_rewritten F old here next new count i faults.Memory w lt none = absurd none
 item_not_rewritten F old here next new count i faults.Malformed w lt none = passed_fault u32_at F old.place here.place new.place count i w.values faults.Malformed w.passed lt none
 
-pub all_items_rewritten : {V : Type 0} (F : Format V) (old here : Rewriting) (count i : ℕ) → ItemsRewritten F old here count i → i ≡ count → after_at (items F) old ≡ Some here
+pub all_items_rewritten : {V : Type 0} (F : Format V) (old here : Rewriting) (count i : ℕ) → ItemsRewritten F old here count i → i ≡ count → rewriting_after (items F) old ≡ Some here
 all_items_rewritten F old here count i w full =
     after_is (items F) old here w.values (passed_all u32_at F old.place here.place count i w.values w.passed (omega (arith, full)))
     (w.written ∙ append_assoc old.done (unsigned_leb128 count) (flat_map F.bytes w.values) ∙ ap (λ (n : ℕ). old.done ++ (unsigned_leb128 n ++ flat_map F.bytes w.values)) (sym (w.len ∙ full))) w.rest
@@ -131,7 +131,7 @@ pub record GoesOn {V : Type 0} (F : Format V) (old here next : Rewriting) : Type
   pub going : Going F old next
   pub fewer : length next.place.left < length here.place.left
 
-pub goes_on : {V : Type 0} {F : Format V} → IsLawful F → TakesBytes F.Encodes → (old here next : Rewriting) → IsBytes old.place.left → Going F old here → 0 < length here.place.left → after_at F here ≡ Some next → GoesOn F old here next
+pub goes_on : {V : Type 0} {F : Format V} → IsLawful F → TakesBytes F.Encodes → (old here next : Rewriting) → IsBytes old.place.left → Going F old here → 0 < length here.place.left → rewriting_after F here ≡ Some next → GoesOn F old here next
 goes_on {V} {F} r some old here next fits w more e =
     let one = is_after F here next e in
     let left = progress_bytes old.place.left here.place.left fits w.progress in
@@ -151,7 +151,7 @@ goes_on {V} {F} r some old here next fits w more e =
     }
 
 -- what stays of what is left after what stays
-stayed_on : (n m : ℕ) (p : Rewriting) → stayed m (stayed n p) ≡ stayed (n + m) p
+stayed_on : (n m : ℕ) (p : Rewriting) → skipped m (skipped n p) ≡ skipped (n + m) p
 stayed_on n m p =
     let done : (p.done ++ take n p.place.left) ++ take m (drop n p.place.left) ≡ p.done ++ take (n + m) p.place.left = append_assoc p.done (take n p.place.left) (take m (drop n p.place.left)) ∙ ap (λ (t : List ℕ). p.done ++ t) (sym (take-add n m p.place.left)) in
     let left : drop m (drop n p.place.left) ≡ drop (n + m) p.place.left = drop-drop m n p.place.left in
@@ -165,7 +165,7 @@ reads_shorter {V} {F} law (v ∷ values) bytes left fits (next, (read, reads)) =
     omega (arith, again, ap (length {A = ℕ}) one.parts, length-append one.prefix next)
 
 -- values that are read in their shortest encodings stay
-run_stays : {V : Type 0} {F : Format V} → IsLawful F → TakesBytes F.Encodes → (old here : Rewriting) (values : List V) (left : List ℕ) → IsBytes old.place.left → Going F old here → ReadsShort F values here.place.left left → Going F old (stayed (length here.place.left - length left) here)
+run_stays : {V : Type 0} {F : Format V} → IsLawful F → TakesBytes F.Encodes → (old here : Rewriting) (values : List V) (left : List ℕ) → IsBytes old.place.left → Going F old here → ReadsShort F values here.place.left left → Going F old (skipped (length here.place.left - length left) here)
 run_stays {V} {F} law some old here [] left fits going reads =
     let none : length here.place.left - length left ≡ 0 = omega (arith, ap (length {A = ℕ}) reads) in
     rw (none, append-nil here.done) going
@@ -174,24 +174,24 @@ run_stays {V} {F} law some old here (v ∷ values) left fits going (next, (read,
     let one = step law (place true here.place.left) v (place true next) bytes read in
     let sizes : length here.place.left ≡ length one.prefix + length next = ap (length {A = ℕ}) one.parts ∙ length-append one.prefix next in
     let count = length here.place.left - length next in
-    let passed = without_value F here v (stayed count here) (kept_is law here v (place true next) bytes read refl) in
-    let more = goes_on law some old here (stayed count here) fits going (omega (arith, sizes, takes_some F.Encodes some one.prefix v one.encodes)) passed in
+    let passed = without_value F here v (skipped count here) (kept_is law here v (place true next) bytes read refl) in
+    let more = goes_on law some old here (skipped count here) fits going (omega (arith, sizes, takes_some F.Encodes some one.prefix v one.encodes)) passed in
     let left_is : drop count here.place.left ≡ next = ap (drop count) one.parts ∙ drop_at one.prefix next count (omega (arith, sizes)) in
-    let again = run_stays law some old (stayed count here) values left fits more.going (rw left_is reads) in
-    let shorter = reads_shorter law values next left (subst IsBytes left_is (going_bytes old (stayed count here) fits more.going)) reads in
+    let again = run_stays law some old (skipped count here) values left fits more.going (rw left_is reads) in
+    let shorter = reads_shorter law values next left (subst IsBytes left_is (going_bytes old (skipped count here) fits more.going)) reads in
     let rest : length (drop count here.place.left) - length left ≡ length next - length left = ap (λ (t : List ℕ). length t - length left) left_is in
     let all : count + (length next - length left) ≡ length here.place.left - length left = omega (arith, sizes, shorter) in
-    subst (Going F old) (ap (λ (m : ℕ). stayed m (stayed count here)) rest ∙ stayed_on count (length next - length left) here ∙ ap (λ (m : ℕ). stayed m here) all) again
+    subst (Going F old) (ap (λ (m : ℕ). skipped m (skipped count here)) rest ∙ stayed_on count (length next - length left) here ∙ ap (λ (m : ℕ). skipped m here) all) again
 
 -- a run of items is passed
-pub run_passed : {V : Type 0} {F : Format V} → IsLawful F → TakesBytes F.Encodes → (old here next : Rewriting) (bytes : List ℕ) (run : ℕ) → IsBytes old.place.left → Going F old here → bytes ≡ here.place.left → BeginsShort F bytes run → next ≡ stayed run here → Going F old next
+pub run_passed : {V : Type 0} {F : Format V} → IsLawful F → TakesBytes F.Encodes → (old here next : Rewriting) (bytes : List ℕ) (run : ℕ) → IsBytes old.place.left → Going F old here → bytes ≡ here.place.left → BeginsShort F bytes run → next ≡ skipped run here → Going F old next
 run_passed {V} {F} law some old here next bytes run fits going is begins next-is = by (subst (λ (l : List ℕ). BeginsShort F l run) is begins) where
   by : BeginsShort F here.place.left run → Going F old next
   by b =
       let n : length here.place.left - length (drop run here.place.left) ≡ run = omega (arith, length-drop run here.place.left, b.within) in
       rw next-is (rw n at (run_stays law some old here b.values (drop run here.place.left) fits going b.reads))
 
-pub all_gone : {V : Type 0} (F : Format V) (old here : Rewriting) → Going F old here → here.place.left ≡ [] → after_at (to_end F) old ≡ Some here
+pub all_gone : {V : Type 0} (F : Format V) (old here : Rewriting) → Going F old here → here.place.left ≡ [] → rewriting_after (to_end F) old ≡ Some here
 all_gone F old here w none =
     after_is (to_end F) old here w.values (sym w.so_far ∙ until_all F.at (length old.place.left - length w.values) here.place w.values none) w.written w.rest
 

@@ -3,11 +3,12 @@ use Rattle.std.proofs.Common.{◌≡◌, ◌⊎◌, ℕ, zero, suc, ◌+◌, ◌
 use Rattle.std.proofs.lemmas.Bool.{leb-true, leb-false, eqb-true, eq-eqb, ne_eqb, cases_lt}
 use Rattle.std.proofs.lemmas.List.{take_more}
 use Rattle.std.proofs.Math.Nat.{pow-le-pow_right, mul-le-mul, mul_left_comm}
-use Rattle.wasm_codec.specs.Numbers.{IsDigits, EncodesU32, EncodesU64, EncodesS32, EncodesS64, SignedWithin, Number, Below, Within, unsigned, signed, last, turned, digits_of, unsigned_leb128, signed_leb128}
+use Rattle.wasm_codec.specs.formats.Numbers.{IsDigits, EncodesU32, EncodesU64, EncodesS32, EncodesS64, SignedWithin, Number, Below, Within, unsigned, signed, last}
+use Rattle.wasm_codec.specs.Leb128.{turned, digits_of, unsigned_leb128, signed_leb128}
 use Rattle.wasm_codec.specs.Rewriter.{cut}
 use Rattle.wasm_codec.specs.Scanning.{AreMore, AreFewest, repeats, KeepsDigits, IsShortNumber, IsPaddedNumber, ScansDigits, Scans, IsPadded}
 use Rattle.wasm_codec.specs.Lawful.{IsLawful}
-use Rattle.wasm_codec.specs.Grammar.{Grammar}
+use Rattle.wasm_codec.specs.formats.Grammar.{Grammar}
 use Rattle.wasm_codec.specs.declared.rewriter.scan.Scanned.{Scanned}
 use Rattle.wasm_codec.specs.declared.rewriter.scan.Scanned.TheVariants as scanned
 use Rattle.wasm_codec.specs.Places.{place}

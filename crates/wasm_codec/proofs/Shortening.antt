@@ -4,12 +4,12 @@ use Rattle.std.proofs.Math.Bool.{and-true, and-false}
 use Rattle.std.proofs.lemmas.List.{take_at, drop_at}
 use Rattle.wasm_codec.specs.declared.reader.cursor.Fault.{Fault}
 use Rattle.wasm_codec.specs.declared.reader.cursor.Fault.TheVariants.{Malformed, Memory}
-use Rattle.wasm_codec.specs.Grammar.{Grammar, IsBytes, TakesBytes}
+use Rattle.wasm_codec.specs.formats.Grammar.{Grammar, IsBytes, TakesBytes}
 use Rattle.wasm_codec.specs.Lawful.{IsLawful}
 use Rattle.wasm_codec.specs.Places.{Place, place, Reads, keeps}
 use Rattle.wasm_codec.specs.formats.Combinators.{Format}
-use Rattle.wasm_codec.specs.Rewriter.{Rewriting, rewriting, rewritten_at, Gives, Rewrites, after_at, stayed, shortened, cut}
-use Rattle.wasm_codec.specs.Scanning.{Scans, Passes, ReadsShort, BeginsShort}
+use Rattle.wasm_codec.specs.Rewriter.{Rewriting, rewriting, rewritten_at, Gives, Rewrites, rewriting_after, skipped, shortened, cut}
+use Rattle.wasm_codec.specs.Scanning.{Scans, RewritesScanned, ReadsShort, BeginsShort}
 use Rattle.wasm_codec.specs.declared.rewriter.scan.Scanned.{Scanned}
 use Rattle.wasm_codec.specs.declared.rewriter.scan.Scanned.TheVariants as scanned
 use Rattle.wasm_codec.proofs.FormatLaws.{not_longer}
@@ -31,7 +31,7 @@ none_there {V} {F} r l s t fits none = by (F.at (place t l)) refl where
       absurd (clash (F.at (place s l)) (x.0, place (keeps s one.prefix (F.bytes x.0)) x.1.left) none (ap (λ (k : List ℕ). F.at (place s k)) one.parts ∙ r.reads.complete one.prefix x.0 x.1.left s one.encodes))
 
 -- where a value was read that was in its shortest encoding, its bytes stay
-pub kept_is : {V : Type 0} {F : Format V} → IsLawful F → (p : Rewriting) (v : V) (q : Place) → IsBytes p.place.left → F.at (place true p.place.left) ≡ Some (v, q) → q.shortest ≡ true → rewritten_at F p ≡ Some (v, stayed (length p.place.left - length q.left) p)
+pub kept_is : {V : Type 0} {F : Format V} → IsLawful F → (p : Rewriting) (v : V) (q : Place) → IsBytes p.place.left → F.at (place true p.place.left) ≡ Some (v, q) → q.shortest ≡ true → rewritten_at F p ≡ Some (v, skipped (length p.place.left - length q.left) p)
 kept_is {V} {F} r p v q fits e short =
     let l = p.place.left in
     let one = step r (place true l) v q fits e in
@@ -63,7 +63,7 @@ cut_is {V} {F} r cuts p v q fits e long =
     record { is = rw (read, cut-here, left) refl; fewer = omega (arith, len); within = omega (arith, len, ap (length {A = ℕ}) one.parts, length-append one.prefix q.left) }
 
 -- the same, without the value
-pub without_value : {V : Type 0} (F : Format V) (p : Rewriting) (v : V) (q : Rewriting) → rewritten_at F p ≡ Some (v, q) → after_at F p ≡ Some q
+pub without_value : {V : Type 0} (F : Format V) (p : Rewriting) (v : V) (q : Rewriting) → rewritten_at F p ≡ Some (v, q) → rewriting_after F p ≡ Some q
 without_value {V} F p v q e =
     let x = bind_some (F.at p.place) (λ x. Some (x.0, rewriting (p.done ++ F.bytes x.0) x.1 p.rest)) (v, q) e in
     rw x.1 (ap (λ (y : V × Rewriting). Some y.1) (some_is (x.0.0, rewriting (p.done ++ F.bytes x.0.0) x.0.1 p.rest) (v, q) x.2))
@@ -72,8 +72,8 @@ without_value {V} F p v q e =
 pub record NumberRead {V : Type 0} (F : Format V) (p : Rewriting) (v : V) (shortest : Bool) (left digits : ℕ) : Type 0 where
   pub left_over : left ≤ length p.place.left
   pub fewer : digits ≤ length p.place.left - left
-  pub gives : rewritten_at F p ≡ Some (v, if shortest then stayed (length p.place.left - left) p else shortened digits (length p.place.left - left) p)
-  pub rewrites : after_at F p ≡ Some (if shortest then stayed (length p.place.left - left) p else shortened digits (length p.place.left - left) p)
+  pub gives : rewritten_at F p ≡ Some (v, if shortest then skipped (length p.place.left - left) p else shortened digits (length p.place.left - left) p)
+  pub rewrites : rewriting_after F p ≡ Some (if shortest then skipped (length p.place.left - left) p else shortened digits (length p.place.left - left) p)
 
 pub number_read : {V : Type 0} {F : Format V} → IsLawful F → IsCut F.Encodes F.bytes → (p : Rewriting) (here : Place) (v : V) (q : Place) (shortest : Bool) (left digits : ℕ) → IsBytes p.place.left → here ≡ place true p.place.left → F.at here ≡ Some (v, q)
     → shortest ≡ q.shortest → left ≡ length q.left → digits ≡ length (F.bytes v) → NumberRead F p v shortest left digits
@@ -89,7 +89,7 @@ number_read {V} {F} r cuts p here v q shortest left digits fits here-is e shorte
       rewrites = without_value F p v _ (rw (shortest-is, left-is, digits-is) (by read q.shortest refl));
     }
   where
-    by : F.at (place true p.place.left) ≡ Some (v, q) → (t : Bool) → q.shortest ≡ t → rewritten_at F p ≡ Some (v, if t then stayed (length p.place.left - length q.left) p else shortened (length (F.bytes v)) (length p.place.left - length q.left) p)
+    by : F.at (place true p.place.left) ≡ Some (v, q) → (t : Bool) → q.shortest ≡ t → rewritten_at F p ≡ Some (v, if t then skipped (length p.place.left - length q.left) p else shortened (length (F.bytes v)) (length p.place.left - length q.left) p)
     by read true t = kept_is r p v q fits read t
     by read false t = (cut_is r cuts p v q fits read t).is
 
@@ -103,13 +103,13 @@ nothing_rewritten {V} {F} r p new here q Memory fits here-is e none = absurd cc
 nothing_rewritten {V} {F} r p new here q Malformed fits here-is e none = none_there r p.place.left true p.place.shortest fits (ap F.at (sym here-is) ∙ none)
 
 -- an item that was scanned is left in its shortest encoding
-pub scanned_passes : {V : Type 0} {F : Format V} → IsLawful F → (p q : Rewriting) (left : List ℕ) → left ≡ p.place.left → IsBytes p.place.left → (s : Scanned) → Scans F left (Some s) → Passes s p q → after_at F p ≡ Some q
-scanned_passes {V} {F} r p q left is fits s seen = by s (subst (λ (l : List ℕ). Scans F l (Some s)) is seen) where
-  by : (s : Scanned) → Scans F p.place.left (Some s) → Passes s p q → after_at F p ≡ Some q
+pub scanned_rewritten : {V : Type 0} {F : Format V} → IsLawful F → (p q : Rewriting) (left : List ℕ) → left ≡ p.place.left → IsBytes p.place.left → (s : Scanned) → Scans F left (Some s) → RewritesScanned s p q → rewriting_after F p ≡ Some q
+scanned_rewritten {V} {F} r p q left is fits s seen = by s (subst (λ (l : List ℕ). Scans F l (Some s)) is seen) where
+  by : (s : Scanned) → Scans F p.place.left (Some s) → RewritesScanned s p q → rewriting_after F p ≡ Some q
   by (scanned.Shortest count) (le, x) passed =
       let k : length p.place.left - length (drop count p.place.left) ≡ count = omega (arith, length-drop count p.place.left) in
       let whole = kept_is r p x.0 (place true (drop count p.place.left)) fits x.1 refl in
-      rw passed (without_value F p x.0 (stayed count p) (rw k at whole))
+      rw passed (without_value F p x.0 (skipped count p) (rw k at whole))
   by (scanned.Padded signed start more) (le, told) (kept, (k, passed)) =
       let count = start + more + 1 in
       let x = told kept k in

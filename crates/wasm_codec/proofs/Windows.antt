@@ -4,8 +4,8 @@ use Rattle.std.proofs.lemmas.List.{append-nil, length-drop, length-take-le, drop
 use lib.Seq.{paste}
 use Rattle.std.proofs.lemmas.List.Edits.{take-paste, drop-paste}
 use Rattle.wasm_codec.specs.Places.{place, byte_at}
-use Rattle.wasm_codec.specs.Rewriter.{Rewriting, rewritten_at, seen, stayed, shortened, without, with_byte, narrowed, resized, cut, done_of}
-use Rattle.wasm_codec.specs.Numbers.{unsigned_leb128}
+use Rattle.wasm_codec.specs.Rewriter.{Rewriting, rewritten_at, seen, skipped, shortened, without, with_byte, narrowed, resized, cut, done_of}
+use Rattle.wasm_codec.specs.Leb128.{unsigned_leb128}
 use Rattle.wasm_codec.specs.formats.Combinators.{a_byte}
 
 -- what is left, where so many more were passed
@@ -49,7 +49,7 @@ cut_first (suc zero) (suc m) (b ∷ run) le = refl
 cut_first (suc (suc n)) (suc m) (b ∷ run) le = ap (λ (t : List ℕ). b ∷ t) (cut_first (suc n) m run (omega arith))
 
 -- so many bytes were passed, and stay
-pub stays : (bytes : List ℕ) (written from position end : ℕ) (s : Bool) (n : ℕ) → from ≤ position → position + n ≤ end → seen bytes written from (position + n) end s ≡ stayed n (seen bytes written from position end s)
+pub stays : (bytes : List ℕ) (written from position end : ℕ) (s : Bool) (n : ℕ) → from ≤ position → position + n ≤ end → seen bytes written from (position + n) end s ≡ skipped n (seen bytes written from position end s)
 stays bytes written from position end s n run fits = rw (run_grows bytes written from position end n run fits, left_after bytes position end n fits) refl
 
 pub length_done : (bytes : List ℕ) (written from position : ℕ) → written ≤ from → from ≤ position → position ≤ length bytes → length (done_of bytes written from position) ≡ written + (position - from)

@@ -1,8 +1,8 @@
 -- What holds of every format of the library, and is proved of each.
 use Rattle.std.specs.Prelude.{◌≡◌, ℕ, Bool, true, List, [], ◌∷◌, ◌++◌, Option, Some, None}
-use Rattle.wasm_codec.specs.Grammar.{Grammar, IsBytes}
+use Rattle.wasm_codec.specs.formats.Grammar.{Grammar, IsBytes}
 use Rattle.wasm_codec.specs.Encoding.{IsShortestOrLonger}
-use Rattle.wasm_codec.specs.Reading.{◌>>=◌, BeginsWith, Reader as ListReader}
+use Rattle.wasm_codec.specs.Reading.{◌>>=◌, BeginsWith, PlainReader}
 use Rattle.wasm_codec.specs.Places.{Place, place, Reader, keeps}
 use Rattle.wasm_codec.specs.formats.Combinators.{Format}
 
@@ -34,7 +34,7 @@ pub record IsLawful {V : Type 0} (F : Format V) : Type 0 where
   pub begins : (bytes : List ℕ) (v : V) → F.Encodes bytes v → F.first (head_of bytes) ≡ true
 
 -- what is read, of the bytes alone
-abbrev pub plain : {V : Type 0} → Reader V → ListReader V
+abbrev pub plain : {V : Type 0} → Reader V → PlainReader V
 plain read bytes = read (place true bytes) >>= λ x. Some (x.0, x.1.left)
 
 -- no encoding is a proper prefix of another

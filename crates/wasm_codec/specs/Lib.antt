@@ -1,6 +1,5 @@
-pub mod Grammar
 pub mod Reading
-pub mod Numbers
+pub mod Leb128
 pub mod Lists
 pub mod Encoding
 pub mod Answers

@@ -1,17 +1,18 @@
 -- Lists: a count, and then the items (WebAssembly Core 3.0, Lists).
 use Rattle.std.specs.Prelude.{◌≡◌, ℕ, ◌≤◌, ◌⊎◌, Bool, List, [], ◌++◌, length}
 use Rattle.std.specs.List.{flat_map}
-use Rattle.wasm_codec.specs.Grammar.{Grammar, Joined, Counted}
-use Rattle.wasm_codec.specs.Reading.{Reader, counted_at}
-use Rattle.wasm_codec.specs.Numbers.{EncodesU32, unsigned_leb128}
+use Rattle.wasm_codec.specs.formats.Grammar.{Grammar, Joined, Counted}
+use Rattle.wasm_codec.specs.Reading.{PlainReader, plain_counted_at}
+use Rattle.wasm_codec.specs.formats.Numbers.{EncodesU32}
+use Rattle.wasm_codec.specs.Leb128.{unsigned_leb128}
 use Rattle.wasm_codec.specs.formats.Combinators.{Format, u32, asked}
 use Rattle.wasm_codec.specs.Lawful.{plain}
 
 abbrev pub EncodesList : {A : Type 0} → Grammar A → Grammar (List A)
 EncodesList G = Counted EncodesU32 G
 
-abbrev pub list_at : {A : Type 0} → Reader A → Reader (List A)
-list_at read = counted_at (plain u32.at) read
+abbrev pub list_at : {A : Type 0} → PlainReader A → PlainReader (List A)
+list_at read = plain_counted_at (plain u32.at) read
 
 abbrev pub items_bytes : {A : Type 0} → (A → List ℕ) → List A → List ℕ
 items_bytes encoding xs = unsigned_leb128 (length xs) ++ flat_map encoding xs
@@ -40,8 +41,8 @@ IsListPrefix G = IsCountedPrefix EncodesU32 G
 abbrev pub AskedList : {A : Type 0} → Bool → Format A → Grammar (List A)
 AskedList strict F = Counted (asked strict u32).Encodes (asked strict F).Encodes
 
-abbrev pub asked_list_at : {A : Type 0} → Bool → Format A → Reader (List A)
-asked_list_at strict F = counted_at (plain (asked strict u32).at) (plain (asked strict F).at)
+abbrev pub asked_list_at : {A : Type 0} → Bool → Format A → PlainReader (List A)
+asked_list_at strict F = plain_counted_at (plain (asked strict u32).at) (plain (asked strict F).at)
 
 abbrev pub IsAskedPrefix : {A : Type 0} → Bool → Format A → List ℕ → Type 0
 IsAskedPrefix strict F = IsCountedPrefix (asked strict u32).Encodes (asked strict F).Encodes

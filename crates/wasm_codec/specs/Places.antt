@@ -1,15 +1,15 @@
 -- Places in bytes, and reading functions on them: the value that stands there and the place after it, or none. A place
--- also says whether all that was passed so far was in its shortest encoding.
+-- also says whether everything read so far was in its shortest encoding.
 use Rattle.std.specs.Prelude.{◌≡◌, ℕ, zero, suc, Bool, true, false, ◌&&◌, not, ◌==◌, nat_lt, if◌then◌else◌, List, [], ◌∷◌, length, take, drop, Option, Some, None, Result, Ok, Err, ℤ, pos, ◌^◌}
 use Rattle.wasm_codec.specs.declared.reader.cursor.Fault.{Fault}
 use Rattle.wasm_codec.specs.declared.reader.cursor.Fault.TheVariants as faults
 use Rattle.wasm_codec.specs.Reading.{◌>>=◌}
-use Rattle.wasm_codec.specs.Numbers.{digits_at, below, signed_within, index_below, unsigned_leb128, signed_leb128}
+use Rattle.wasm_codec.specs.Leb128.{digits_at, below, signed_within, index_below, unsigned_leb128, signed_leb128}
 
 pub record Place : Type 0 where
   -- the bytes that are left
   pub left : List ℕ
-  -- what was passed was in its shortest encoding
+  -- everything read so far was in its shortest encoding
   pub shortest : Bool
 
 abbrev pub place : Bool → List ℕ → Place
@@ -24,14 +24,14 @@ Reads read old new (Ok v) = read old ≡ Some (v, new)
 Reads read old new (Err faults.Malformed) = read old ≡ None
 Reads read old new (Err faults.Memory) = Unit {0}
 
--- as before, and what was passed since is as long as this
+-- as before, and what was read since is as long as this
 abbrev pub keeps : Bool → List ℕ → List ℕ → Bool
 keeps shortest prefix bytes = shortest && (length prefix == length bytes)
 
--- where shortest encodings alone are asked for, all that was passed was in them
-abbrev pub PassedAsAsked : Bool → Place → Type 0
-PassedAsAsked true p = p.shortest ≡ true
-PassedAsAsked false p = Unit {0}
+-- where shortest encodings alone are asked for, everything read so far was in them
+abbrev pub IsReadAsAsked : Bool → Place → Type 0
+IsReadAsAsked true p = p.shortest ≡ true
+IsReadAsAsked false p = Unit {0}
 
 -- the same, but for a long form it isn't the shortest
 abbrev pub unless : Bool → Place → Place

@@ -2,7 +2,8 @@
 use Rattle.std.specs.Prelude.{◌≡◌, ℕ, ◌*◌, ◌<◌, ◌≤◌, ◌^◌, Bool, ◌||◌, ◌==◌, nat_le, List, ◌∷◌, length, Option, Some, None, Result, Ok, Err}
 use Rattle.wasm_codec.specs.declared.reader.cursor.Fault.{Fault}
 use Rattle.wasm_codec.specs.declared.reader.cursor.Fault.TheVariants as faults
-use Rattle.wasm_codec.specs.Numbers.{digits_at, unsigned, last}
+use Rattle.wasm_codec.specs.Leb128.{digits_at}
+use Rattle.wasm_codec.specs.formats.Numbers.{unsigned, last}
 use Rattle.wasm_codec.specs.declared.reader.cursor.Digits.{Digits}
 use Rattle.wasm_codec.specs.declared.reader.cursor.ManyDigits.{ManyDigits}
 use Rattle.wasm_codec.specs.Places.{Place, place}

@@ -4,11 +4,11 @@ use Rattle.wasm_codec.specs.declared.reader.cursor.Fault.{Fault}
 use Rattle.wasm_codec.specs.declared.reader.cursor.Fault.TheVariants as faults
 use Rattle.wasm_codec.specs.Reading.{◌>>=◌}
 use Rattle.wasm_codec.specs.Places.{Place, place}
-use Rattle.wasm_codec.specs.Numbers.{unsigned_leb128}
+use Rattle.wasm_codec.specs.Leb128.{unsigned_leb128}
 use Rattle.std.specs.Global.{Vec}
 use Rattle.wasm_codec.specs.Answers.{IsLongestPrefix, IsNormalForm}
 use Rattle.wasm_codec.specs.Lists.{EncodesList, IsListPrefix, items_bytes}
-use Rattle.wasm_codec.specs.Grammar.{Joined}
+use Rattle.wasm_codec.specs.formats.Grammar.{Joined}
 use Rattle.wasm_codec.specs.Lawful.{plain}
 use Rattle.wasm_codec.specs.formats.Combinators.{Format}
 use Rattle.wasm_codec.specs.formats.Bodies.{body_at, to_end}
@@ -36,17 +36,17 @@ Gives F old new (Err faults.Malformed) = F.at old.place ≡ None
 Gives F old new (Err faults.Memory) = ⊥
 
 -- the same, without the value
-abbrev pub after_at : {V : Type 0} → Format V → Rewriting → Option Rewriting
-after_at F r = F.at r.place >>= λ x. Some (rewriting (r.done ++ F.bytes x.0) x.1 r.rest)
+abbrev pub rewriting_after : {V : Type 0} → Format V → Rewriting → Option Rewriting
+rewriting_after F r = F.at r.place >>= λ x. Some (rewriting (r.done ++ F.bytes x.0) x.1 r.rest)
 
 abbrev pub Rewrites : {V : Type 0} → Format V → Rewriting → Rewriting → Result (Unit {0}) Fault → Type 0
-Rewrites F old new (Ok done) = after_at F old ≡ Some new
+Rewrites F old new (Ok done) = rewriting_after F old ≡ Some new
 Rewrites F old new (Err faults.Malformed) = F.at old.place ≡ None
 Rewrites F old new (Err faults.Memory) = ⊥
 
--- so many bytes were read, and stay as they are
-abbrev pub stayed : ℕ → Rewriting → Rewriting
-stayed count r = rewriting (r.done ++ take count r.place.left) (place r.place.shortest (drop count r.place.left)) r.rest
+-- so many bytes were skipped: they stay as they are
+abbrev pub skipped : ℕ → Rewriting → Rewriting
+skipped count r = rewriting (r.done ++ take count r.place.left) (place r.place.shortest (drop count r.place.left)) r.rest
 
 -- the first so many bytes, and the last of them without its high bit
 abbrev pub cut : ℕ → List ℕ → List ℕ
@@ -120,7 +120,7 @@ pub record StopsAt {V : Type 0} (F : Format V) (bytes : List ℕ) (left : ℕ) :
 
 -- All items to the end were rewritten, or it tells how many bytes are left from the one on that isn't whole.
 abbrev pub RewritesAll : {V : Type 0} → Format V → Rewriting → Rewriting → Result (Unit {0}) ℕ → Type 0
-RewritesAll F old new (Ok done) = (after_at (to_end F) old ≡ Some new) × (new.place.left ≡ [])
+RewritesAll F old new (Ok done) = (rewriting_after (to_end F) old ≡ Some new) × (new.place.left ≡ [])
 RewritesAll F old new (Err left) = StopsAt F old.place.left left × ((to_end F).at old.place ≡ None)
 
 -- The bytes encode no list, and this is the length of their longest whole prefix.

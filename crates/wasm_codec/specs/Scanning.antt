@@ -1,9 +1,10 @@
 -- Items that are scanned: where they end, and what of them their shortest encodings are.
 use Rattle.std.specs.Prelude.{◌≡◌, ℕ, ◌+◌, ◌<◌, ◌≤◌, ◌-◌, ◌%◌, ◌⊎◌, ◌&&◌, ◌==◌, Bool, true, false, if◌then◌else◌, nat_le, List, [], ◌∷◌, length, get_or, take, drop, Option, Some, None}
 use Rattle.std.specs.List.{AllByRecursion}
-use Rattle.wasm_codec.specs.Numbers.{last, turned}
+use Rattle.wasm_codec.specs.formats.Numbers.{last}
+use Rattle.wasm_codec.specs.Leb128.{turned}
 use Rattle.wasm_codec.specs.Places.{place}
-use Rattle.wasm_codec.specs.Rewriter.{Rewriting, stayed, shortened, cut}
+use Rattle.wasm_codec.specs.Rewriter.{Rewriting, skipped, shortened, cut}
 use Rattle.wasm_codec.specs.formats.Combinators.{Format}
 use Rattle.wasm_codec.specs.declared.rewriter.scan.Scanned.{Scanned}
 use Rattle.wasm_codec.specs.declared.rewriter.scan.Scanned.TheVariants as scanned
@@ -84,10 +85,10 @@ abbrev pub behind_byte : Scanned → Scanned
 behind_byte (scanned.Shortest count) = scanned.Shortest (1 + count)
 behind_byte (scanned.Padded signed start more) = scanned.Padded signed (1 + start) more
 
--- what was scanned was passed, and left in its shortest encoding
-abbrev pub Passes : Scanned → Rewriting → Rewriting → Type 0
-Passes (scanned.Shortest count) old new = new ≡ stayed count old
-Passes (scanned.Padded signed start more) old new = (kept : ℕ) × (KeepsDigits signed (drop start old.place.left) more kept × (new ≡ shortened (start + kept) (start + more + 1) old))
+-- what was scanned is left in its shortest encoding
+abbrev pub RewritesScanned : Scanned → Rewriting → Rewriting → Type 0
+RewritesScanned (scanned.Shortest count) old new = new ≡ skipped count old
+RewritesScanned (scanned.Padded signed start more) old new = (kept : ℕ) × (KeepsDigits signed (drop start old.place.left) more kept × (new ≡ shortened (start + kept) (start + more + 1) old))
 
 -- ---- runs of items
 

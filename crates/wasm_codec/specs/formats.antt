@@ -1,2 +1,4 @@
+pub mod Grammar
+pub mod Numbers
 pub mod Combinators
 pub mod Bodies

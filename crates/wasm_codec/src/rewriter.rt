@@ -1,14 +1,14 @@
 //! Bytes that are rewritten where they lie: what is in its shortest encoding stays, and the rest is shortened.
 ghost use Rattle.std.specs.Prelude.{◌≡◌, Bool, ◌++◌, ◌+◌, ◌-◌, ◌<◌, ◌≤◌, ◌^◌, [], length, take, drop, true, false, Some, vec_len, pos, if◌then◌else◌, IfOk, IfErr};
 ghost use lib.Seq.{paste};
-ghost use Rattle.wasm_codec.specs.Grammar.{IsBytes};
+ghost use Rattle.wasm_codec.specs.formats.Grammar.{IsBytes};
 ghost use Rattle.wasm_codec.specs.Places.{Place, place, Sees};
-ghost use Rattle.wasm_codec.specs.Numbers.{digits_of, unsigned_leb128, signed_leb128};
+ghost use Rattle.wasm_codec.specs.Leb128.{digits_of, unsigned_leb128, signed_leb128};
 ghost use Rattle.wasm_codec.specs.formats.Bodies.{bytes_to_end};
 ghost use Rattle.wasm_codec.specs.formats.Combinators.{a_byte, raw, little_endian, u32 as u32_format, u64 as u64_format, s32 as s32_format, s64 as s64_format, index as index_format};
 ghost use Rattle.wasm_codec.specs.declared.reader.cursor.Fault.TheVariants.{Malformed};
-ghost use Rattle.wasm_codec.specs.Scanning.{IsWithin, Passes};
-ghost use Rattle.wasm_codec.specs.Rewriter.{after_at, Gives, Rewrites, OpensBody, without, with_byte, narrowed, widened, resized, rewriting, stayed, shortened, done_of};
+ghost use Rattle.wasm_codec.specs.Scanning.{IsWithin, RewritesScanned};
+ghost use Rattle.wasm_codec.specs.Rewriter.{rewriting_after, Gives, Rewrites, OpensBody, without, with_byte, narrowed, widened, resized, rewriting, skipped, shortened, done_of};
 
 use std::marker::Model;
 
@@ -127,23 +127,23 @@ impl Rewriter {
         place_of(&self.bytes[self.position..self.end])
     }
 
-    /// Passes so many bytes, which stay as they are.
+    /// Skips so many bytes, which stay as they are.
     #[inline(always)]
-    pub fn stay(&mut self, count: usize)
+    pub fn skip(&mut self, count: usize)
         requires { count ≤ length self.old.place.left }
-        ensures { self.new ≡ stayed count self.old }
+        ensures { self.new ≡ skipped count self.old }
     {
         self.position += count;
     }
 
-    /// Passes an item that was scanned, and leaves it in its shortest encoding.
+    /// Leaves an item that was scanned in its shortest encoding.
     #[inline(always)]
-    pub fn pass(&mut self, scanned: Scanned)
+    pub fn rewrite_scanned(&mut self, scanned: Scanned)
         requires { IsWithin scanned (length self.old.place.left) }
-        ensures { Passes scanned self.old self.new }
+        ensures { RewritesScanned scanned self.old self.new }
     {
         match scanned {
-            Scanned::Shortest(count) => self.stay(count),
+            Scanned::Shortest(count) => self.skip(count),
             Scanned::Padded {
                 signed,
                 start,
@@ -175,7 +175,7 @@ impl Rewriter {
 
     /// How many bytes were written.
     #[inline(always)]
-    pub fn mark(&self) -> usize
+    pub fn written_len(&self) -> usize
         ensures { result ≡ length self.now.done }
     {
         self.written + (self.position - self.from)
@@ -236,7 +236,7 @@ impl Rewriter {
     pub fn open_body(&mut self) -> Result<Body, Fault>
         ensures { OpensBody self.old self.new result }
     {
-        let mark = self.mark();
+        let mark = self.written_len();
         let size = self.u32()?;
         let len = self.len();
         if len < size as usize {
@@ -260,7 +260,7 @@ impl Rewriter {
         ensures { self.new ≡ widened body.behind (resized body.mark (length (unsigned_leb128 body.size)) self.old) }
     {
         let digits = u32_len(body.size);
-        if self.mark() - (body.mark + digits) < body.size as usize {
+        if self.written_len() - (body.mark + digits) < body.size as usize {
             self.put_size(body.mark, digits);
         }
         self.widen(body.behind);
@@ -275,7 +275,7 @@ impl Rewriter {
         let value = cursor.u32()?;
         let (shortest, left) = (cursor.is_shortest(), cursor.len());
         if shortest {
-            self.stay(self.len() - left);
+            self.skip(self.len() - left);
         } else {
             self.shorten(unsigned_digit_count(u64::from(value)), self.len() - left);
         }
@@ -290,7 +290,7 @@ impl Rewriter {
         let value = cursor.u64()?;
         let (shortest, left) = (cursor.is_shortest(), cursor.len());
         if shortest {
-            self.stay(self.len() - left);
+            self.skip(self.len() - left);
         } else {
             self.shorten(unsigned_digit_count(value), self.len() - left);
         }
@@ -305,7 +305,7 @@ impl Rewriter {
         let value = cursor.s32()?;
         let (shortest, left) = (cursor.is_shortest(), cursor.len());
         if shortest {
-            self.stay(self.len() - left);
+            self.skip(self.len() - left);
         } else {
             self.shorten(s32_digit_count(value), self.len() - left);
         }
@@ -320,7 +320,7 @@ impl Rewriter {
         let value = cursor.s64()?;
         let (shortest, left) = (cursor.is_shortest(), cursor.len());
         if shortest {
-            self.stay(self.len() - left);
+            self.skip(self.len() - left);
         } else {
             self.shorten(signed_digit_count(value), self.len() - left);
         }
@@ -335,7 +335,7 @@ impl Rewriter {
         let value = cursor.index()?;
         let (shortest, left) = (cursor.is_shortest(), cursor.len());
         if shortest {
-            self.stay(self.len() - left);
+            self.skip(self.len() - left);
         } else {
             self.shorten(index_digit_count(value), self.len() - left);
         }
@@ -363,15 +363,15 @@ impl Rewriter {
         if self.len() < count {
             return Err(Fault::Malformed);
         }
-        self.stay(count);
+        self.skip(count);
         Ok(())
     }
 
     /// All that is left, which stays as it is.
     pub fn rest(&mut self)
-        ensures { after_at bytes_to_end self.old ≡ Some self.new }
+        ensures { rewriting_after bytes_to_end self.old ≡ Some self.new }
     {
-        self.stay(self.len());
+        self.skip(self.len());
     }
 
     /// A number in so many bytes, the least first, which stay as they are.
@@ -382,7 +382,7 @@ impl Rewriter {
         if self.len() < count {
             return Err(Fault::Malformed);
         }
-        self.stay(count);
+        self.skip(count);
         Ok(())
     }
 
@@ -464,7 +464,7 @@ pub fn digit_count(top: u64, number: u64) -> usize
 }
 
 /// How many digits the shortest encoding of an unsigned number has.
-#[tactic(auto, unfolding(crate::specs::Numbers::unsigned_leb128))]
+#[tactic(auto, unfolding(crate::specs::Leb128::unsigned_leb128))]
 fn unsigned_digit_count(number: u64) -> usize
     ensures count { result ≡ length (unsigned_leb128 number) }
     ensures some { 0 < result }
@@ -473,7 +473,7 @@ fn unsigned_digit_count(number: u64) -> usize
 }
 
 /// How many digits the shortest encoding of a signed number has.
-#[tactic(auto, unfolding(crate::specs::Numbers::signed_leb128))]
+#[tactic(auto, unfolding(crate::specs::Leb128::signed_leb128))]
 fn signed_digit_count(number: i64) -> usize
     ensures count { result ≡ length (signed_leb128 number) }
     ensures some { 0 < result }

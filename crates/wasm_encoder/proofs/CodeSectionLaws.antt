@@ -5,23 +5,24 @@ use Rattle.std.proofs.lemmas.Grind.{flat_map-append}
 use Rattle.std.proofs.lemmas.List.{append-nil}
 use Rattle.wasm_types.specs.declared.types.value.ValType.{ValType}
 use Rattle.wasm_codec.specs.Encoding.{byte_list_bytes, IsCount, IsShortest, IsShortestOrLonger}
-use Rattle.wasm_codec.specs.Numbers.{EncodesU32, unsigned_leb128}
+use Rattle.wasm_codec.specs.formats.Numbers.{EncodesU32}
+use Rattle.wasm_codec.specs.Leb128.{unsigned_leb128}
 use Rattle.wasm_types.specs.formats.Types.{val_type}
 use Rattle.wasm_writers.specs.Iterators.{AppendsItems}
 use Rattle.wasm_codec.specs.formats.Combinators.{items}
 use Rattle.wasm_calls.specs.Appending.{CountedCall}
-use Rattle.wasm_instructions.specs.Instructions.{Instruction}
+use Rattle.wasm_instructions.specs.formats.Instructions.{Instruction}
 use Rattle.wasm_instructions.specs.formats.Instructions.{Instructions, instruction, instructions_bytes}
 use Rattle.wasm_modules.specs.declared.code.CodeBody.{CodeBody}
 use Rattle.wasm_writers.specs.CodeCounts.{CountedBody}
 use Rattle.wasm_modules.specs.formats.CodeBodies.{local_group, code_body, code_section_body}
 use Rattle.wasm_modules.proofs.CodeBodyLaws.{Lawful-code_body, Lawful-code-section-body}
 use Rattle.wasm_writers.proofs.CodeBodyWriting.{calls_counted, calls_in_range, locals_in_range, in_range_by_parts}
-use Rattle.wasm_modules.specs.Sections.{decoded_section_of, code_bodies, code_section_id}
+use Rattle.wasm_modules.specs.formats.Sections.{decoded_section_of, code_bodies, code_section_id}
 use Rattle.wasm_modules.specs.DecodedModules.{IsDecodedSection}
 use Rattle.wasm_encoder.specs.EncodedLists.{Entries, CountedSection, OfItems, body_bytes}
 use Rattle.wasm_encoder.specs.CodeSections.{FunctionStandsFor, GainsBodies, GainsFunction, GoesOnWith, HoldsBodies, IsCodeSection, StandsForBodies, body_of, followed}
-use Rattle.wasm_sections.specs.ModuleSections.{code}
+use Rattle.wasm_sections.specs.formats.ModuleSectionParts.{code}
 use Rattle.wasm_sections.proofs.SectionWriting.{code_section}
 use Rattle.wasm_builders.proofs.ListSectionLaws.{both_written}
 use Rattle.wasm_writers.proofs.EncodedListLaws.{stands_none, stands_one_more, gains_each, body_is, values_in_range, all_in_range}

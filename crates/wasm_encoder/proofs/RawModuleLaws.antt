@@ -1,7 +1,7 @@
 -- The laws of modules that are being built.
 use Rattle.std.proofs.Common.{◌≡◌, ℕ, List, [], ◌∷◌, ◌++◌, Result, OnOk}
 use Rattle.wasm_codec.specs.Encoding.{byte_list_bytes}
-use Rattle.wasm_modules.specs.Sections.{header, section_of}
+use Rattle.wasm_modules.specs.formats.Sections.{header, section_of}
 use Rattle.wasm_modules.specs.formats.Modules.{raw_module}
 use Rattle.wasm_modules.proofs.ModuleLaws.{goes_on}
 

@@ -16,7 +16,8 @@ use Rattle.wasm_codec.specs.declared.encode.EncodeError.TheVariants.{Memory, Too
 use Rattle.wasm_codec.specs.Encoding.{IsCount, OnlyTooLong}
 use Rattle.wasm_writers.specs.Iterators.{IsItemsRefusal}
 use Rattle.wasm_calls.specs.Appending.{CountedCall}
-use Rattle.wasm_instructions.specs.Instructions.{Instruction, IsCounted}
+use Rattle.wasm_instructions.specs.formats.Instructions.{Instruction}
+use Rattle.wasm_instructions.specs.Instructions.{IsCounted}
 use Rattle.wasm_instructions.specs.declared.table.call.Operands.{Operands}
 use Rattle.wasm_instructions.specs.declared.table.call.Operands.TheVariants as operands
 use Rattle.wasm_modules.specs.declared.code.CodeBody.{CodeBody}

@@ -6,7 +6,7 @@ use Rattle.wasm_types.specs.declared.types.composite.SubType.{SubType}
 use Rattle.wasm_types.specs.declared.types.composite.TypeEntry.{TypeEntry}
 use Rattle.wasm_types.specs.declared.types.composite.TypeEntry.TheVariants as entries
 use Rattle.wasm_codec.specs.Encoding.{byte_list_bytes, IsCount, IsShortest, IsShortestOrLonger}
-use Rattle.wasm_modules.specs.Sections.{decoded_section_of, type_entries, type_section_id}
+use Rattle.wasm_modules.specs.formats.Sections.{decoded_section_of, type_entries, type_section_id}
 use Rattle.wasm_modules.specs.DecodedModules.{IsDecodedSection}
 use Rattle.wasm_encoder.specs.EncodedLists.{Entries, CountedSection, body_bytes}
 use Rattle.wasm_encoder.specs.TypeSections.{StandsFor, Gains, GainsAll, HoldsEntries, IsTypeSection, type_section_bytes, final_entry}
@@ -14,7 +14,7 @@ use Rattle.wasm_types.specs.formats.Types.{composite_type, inner_type, recursive
 use Rattle.wasm_types.specs.TypeCounts.{CountedInner, CountedSub, CountedEntry}
 use Rattle.wasm_types.proofs.TypeFormatLaws.{Lawful-inner-type, Lawful-sub-type, Lawful-recursive-type, Lawful-type-body}
 use Rattle.wasm_types.proofs.WrittenTypes.{in_range_of}
-use Rattle.wasm_sections.specs.ModuleSections.{types}
+use Rattle.wasm_sections.specs.formats.ModuleSectionParts.{types}
 use Rattle.wasm_sections.proofs.SectionWriting.{types_section}
 use Rattle.wasm_builders.proofs.ListSectionLaws.{both_written}
 use Rattle.wasm_writers.proofs.EncodedListLaws.{stands_none, gains_one, gains_each, body_is, values_in_range, all_in_range}

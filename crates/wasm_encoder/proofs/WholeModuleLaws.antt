@@ -1,10 +1,10 @@
 -- The laws of modules that are being built of sections with what they hold.
 use Rattle.std.proofs.Common.{◌≡◌, ℕ, List, [], ◌∷◌, ◌++◌, Result, Ok, Err, OnOk, append_assoc, refl, sym, ap, ◌∙◌}
 use Rattle.std.proofs.lemmas.List.{append-nil}
-use Rattle.wasm_codec.specs.Grammar.{Grammar, Joined}
+use Rattle.wasm_codec.specs.formats.Grammar.{Grammar, Joined}
 use Rattle.wasm_codec.specs.formats.Combinators.{narrow}
-use Rattle.wasm_modules.specs.Sections.{header}
-use Rattle.wasm_sections.specs.ModuleSections.{ModuleSectionParts}
+use Rattle.wasm_modules.specs.formats.Sections.{header}
+use Rattle.wasm_sections.specs.formats.ModuleSectionParts.{ModuleSectionParts}
 use Rattle.wasm_sections.specs.SectionBytes.{IsSectionAfter}
 use Rattle.wasm_sections.specs.formats.ModuleSections.{ShortestWholeModule, module_section}
 

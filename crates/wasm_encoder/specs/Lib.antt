@@ -1,9 +1,10 @@
-pub use Rattle.wasm_codec.specs.Grammar
+pub use Rattle.wasm_codec.specs.formats.Grammar
 pub use Rattle.wasm_codec.specs.formats.Combinators
 pub use Rattle.wasm_codec.specs.formats.Bodies
 pub use Rattle.wasm_codec.specs.Places
 pub use Rattle.wasm_codec.specs.Lawful
-pub use Rattle.wasm_codec.specs.Numbers
+pub use Rattle.wasm_codec.specs.formats.Numbers
+pub use Rattle.wasm_codec.specs.Leb128
 pub use Rattle.wasm_codec.specs.Encoding
 pub use Rattle.wasm_codec.specs.Answers
 pub use Rattle.wasm_writers.specs.Iterators
@@ -14,12 +15,12 @@ pub use Rattle.wasm_types.specs.Types
 pub use Rattle.wasm_types.specs.TypeCounts
 pub use Rattle.wasm_instructions.specs.formats.Operands as OperandFormats
 pub use Rattle.wasm_instructions.specs.formats.Instructions as InstructionFormats
-pub use Rattle.wasm_instructions.specs.Opcodes
+pub use Rattle.wasm_instructions.specs.formats.Opcodes
 pub use Rattle.wasm_calls.specs.Appending
 pub use Rattle.wasm_modules.specs.formats.CodeBodies as CodeFormats
 pub use Rattle.wasm_writers.specs.CodeCounts
 pub use Rattle.wasm_modules.specs.formats.Modules as ModuleFormats
-pub use Rattle.wasm_modules.specs.Sections
+pub use Rattle.wasm_modules.specs.formats.Sections
 pub use Rattle.wasm_modules.specs.Modules
 pub use Rattle.wasm_modules.specs.DecodedModules
 pub use Rattle.wasm_sink.specs.Sink

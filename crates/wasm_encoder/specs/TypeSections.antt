@@ -15,7 +15,7 @@ use Rattle.wasm_types.specs.declared.types.composite.TypeEntry.TheVariants as en
 use Rattle.wasm_codec.specs.Encoding.{byte_list_bytes}
 use Rattle.wasm_types.specs.formats.Types.{recursive_type, type_body}
 use Rattle.wasm_types.specs.TypeCounts.{CountedEntry}
-use Rattle.wasm_sections.specs.ModuleSections.{types as holding_types}
+use Rattle.wasm_sections.specs.formats.ModuleSectionParts.{types as holding_types}
 use Rattle.wasm_sections.specs.SectionBytes.{IsSectionAfter}
 use Rattle.wasm_encoder.specs.EncodedLists.{Entries, StandsForAll, GainsOne, GainsEach, IsUncounted, body_bytes}
 

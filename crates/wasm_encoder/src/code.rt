@@ -9,7 +9,7 @@ ghost use Rattle.wasm_calls.specs.Appending.{IsCallsRefusal};
 ghost use Rattle.wasm_modules.specs.declared.code.CodeBody.{CodeBody};
 ghost use Rattle.wasm_types.specs.declared.types.value.ValType.{ValType};
 ghost use Rattle.wasm_modules.specs.formats.CodeBodies.{code_section_body};
-ghost use Rattle.wasm_modules.specs.Sections.{decoded_section_of, code_bodies, code_section_id};
+ghost use Rattle.wasm_modules.specs.formats.Sections.{decoded_section_of, code_bodies, code_section_id};
 ghost use Rattle.wasm_modules.specs.DecodedModules.{IsDecodedSection};
 ghost use Rattle.wasm_encoder.specs.EncodedLists.{Entries, CountedSection, GivesItems, IsFull, IsMemoryOrTooLong, IsUncounted, OfItems, body_bytes};
 ghost use Rattle.wasm_encoder.specs.Rows.{bytes_row};

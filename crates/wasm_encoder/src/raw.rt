@@ -1,6 +1,6 @@
 //! Sections whose body is bytes.
 ghost use Rattle.std.specs.Prelude.{◌≡◌, Some, None, IfSome, IfNone};
-ghost use Rattle.wasm_modules.specs.Sections.{all_parts_of};
+ghost use Rattle.wasm_modules.specs.formats.Sections.{all_parts_of};
 ghost use Rattle.wasm_encoder.specs.RawSections.{first_body_of};
 
 pub use wasm_modules::section::RawSection;

@@ -6,7 +6,7 @@ ghost use Rattle.wasm_encoder.specs.EncodedLists.{Entries, CountedSection, Gives
 ghost use Rattle.wasm_encoder.specs.TypeSections.{StandsFor, Gains, GainsAll, HoldsEntries, IsTypeSection, OfBoth, UncountedEntry, UncountedFunc, UncountedSub, type_section_bytes, final_entry, struct_entry, array_entry};
 ghost use Rattle.wasm_codec.specs.Encoding.{byte_list_bytes, IsRefusal, IsShortestOrLonger, OnlyTooLong};
 ghost use Rattle.wasm_types.specs.formats.Types.{type_body};
-ghost use Rattle.wasm_modules.specs.Sections.{decoded_section_of, type_entries, type_section_id};
+ghost use Rattle.wasm_modules.specs.formats.Sections.{decoded_section_of, type_entries, type_section_id};
 ghost use Rattle.wasm_modules.specs.DecodedModules.{IsDecodedSection};
 ghost use Rattle.wasm_types.specs.declared.types.value.ValType.{ValType};
 ghost use Rattle.wasm_types.specs.declared.types.composite.FieldType.{FieldType};

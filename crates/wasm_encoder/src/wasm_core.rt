@@ -2,9 +2,9 @@
 ghost use Rattle.std.specs.Prelude.{◌≡◌, ◌++◌, ◌∷◌, ℕ, List, [], IfOk, IfErr, OnOk, OnErr, length};
 ghost use Rattle.std.specs.List.{AllByRecursion};
 ghost use Rattle.wasm_codec.specs.Encoding.{byte_list_bytes, IsRefusal, IsShortestOrLonger};
-ghost use Rattle.wasm_modules.specs.Sections.{header, SectionParts, section_of};
+ghost use Rattle.wasm_modules.specs.formats.Sections.{header, SectionParts, section_of};
 ghost use Rattle.wasm_modules.specs.formats.Modules.{raw_module, raw_section};
-ghost use Rattle.wasm_sections.specs.ModuleSections.{ModuleSectionParts};
+ghost use Rattle.wasm_sections.specs.formats.ModuleSectionParts.{ModuleSectionParts};
 ghost use Rattle.wasm_sections.specs.SectionBytes.{IsSectionAfter};
 ghost use Rattle.wasm_sections.specs.formats.ModuleSections.{ShortestWholeModule};
 ghost use Rattle.wasm_encoder.specs.SectionIds.{section_id};

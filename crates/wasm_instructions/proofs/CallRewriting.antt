@@ -12,8 +12,9 @@ use Rattle.wasm_instructions.specs.declared.table.opcode.Kind.{Kind}
 use Rattle.wasm_instructions.specs.declared.table.opcode.Kind.TheVariants as kinds
 use Rattle.wasm_instructions.specs.declared.table.call.Operands.{Operands}
 use Rattle.wasm_instructions.specs.declared.table.call.Operands.TheVariants as operands
-use Rattle.wasm_instructions.specs.Opcodes.{kind}
-use Rattle.wasm_instructions.specs.Instructions.{call, kind_of}
+use Rattle.wasm_instructions.specs.formats.Opcodes.{opcode_kind}
+use Rattle.wasm_instructions.specs.formats.Instructions.{call}
+use Rattle.wasm_instructions.specs.Instructions.{kind_of}
 use Rattle.wasm_instructions.specs.formats.Instructions.{opcode, operands_format, instruction}
 
 made_kind : {A : Type 0} (k : Kind) (read : Option (A × Place)) (make : A × Place → Operands × Place) (o : Operands) (q : Place) → (read >>= λ a. Some (make a)) ≡ Some (o, q) → ((a : A × Place) → kind_of (make a).0 ≡ k) → kind_of o ≡ k
@@ -27,7 +28,7 @@ unfolding operands_format
 of_kind kinds.None p o q e = sym (ap (λ (r : Operands × Place). kind_of r.0) (some_is (operands.None, p) (o, q) e))
 of_kind k p o q e = made_kind k _ _ o q e (λ a. refl)
 
-pub after_opcode : (op : Opcode) (k : Kind) (old mid new : Rewriting) (result : Result (Unit {0}) Fault) → rewritten_at opcode old ≡ Some (op, mid) → kind op ≡ Some k → Rewrites (operands_format k) mid new result → Rewrites instruction old new result
+pub after_opcode : (op : Opcode) (k : Kind) (old mid new : Rewriting) (result : Result (Unit {0}) Fault) → rewritten_at opcode old ≡ Some (op, mid) → opcode_kind op ≡ Some k → Rewrites (operands_format k) mid new result → Rewrites instruction old new result
 unfolding instruction
 after_opcode op k old mid new (Err faults.Memory) reads is none = none
 after_opcode op k old mid new (Err faults.Malformed) reads is none =
@@ -43,7 +44,7 @@ after_opcode op k old mid new (Ok done) reads is e =
     after_is instruction old new (call op one.value) (rw (g.is_read, is, one.given.is_read) refl) whole (one.given.rest ∙ g.rest)
 
 -- what is no opcode of the table
-pub no_opcode : (op : Opcode) (old mid new : Rewriting) → rewritten_at opcode old ≡ Some (op, mid) → kind op ≡ None → Rewrites instruction old new (Err faults.Malformed)
+pub no_opcode : (op : Opcode) (old mid new : Rewriting) → rewritten_at opcode old ≡ Some (op, mid) → opcode_kind op ≡ None → Rewrites instruction old new (Err faults.Malformed)
 unfolding instruction
 no_opcode op old mid new reads is =
     let g = is_given opcode old op mid reads in

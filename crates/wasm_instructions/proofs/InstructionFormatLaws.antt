@@ -7,7 +7,7 @@ use Rattle.wasm_instructions.specs.declared.table.opcode.Kind.TheVariants as kin
 use Rattle.wasm_instructions.specs.declared.table.call.Operands.{Operands}
 use Rattle.wasm_instructions.specs.declared.table.call.Operands.TheVariants as operands
 use Rattle.wasm_codec.proofs.Joining.{Joined-more, Joined-one, Shortest-joined}
-use Rattle.wasm_codec.specs.Grammar.{TakesBytes}
+use Rattle.wasm_codec.specs.formats.Grammar.{TakesBytes}
 use Rattle.wasm_codec.proofs.ListReading.{AtMostOne}
 use Rattle.wasm_codec.specs.Encoding.{IsShortestOrLonger}
 use Rattle.wasm_codec.specs.Places.{place, keeps}
@@ -17,10 +17,12 @@ use Rattle.wasm_codec.proofs.RawFormatLaws.{Lawful-s64, Lawful-byte-where, Lawfu
 use Rattle.wasm_codec.proofs.PlaceLists.{plain_reads}
 use Rattle.wasm_codec.proofs.AskedLaws.{joined_narrow}
 use Rattle.wasm_types.proofs.TypeFormatLaws.{Lawful-heap-type, Lawful-val-type}
-use Rattle.wasm_instructions.specs.Operands.{ieee32, ieee64}
-use Rattle.wasm_instructions.specs.Opcodes.{kind}
-use Rattle.wasm_instructions.specs.Instructions.{Instruction, without_prefix, after_fb, after_fc, after_fd, after_fe, kind_of, IsCall}
-use Rattle.wasm_instructions.specs.formats.Instructions.{fb_part, fc_part, fd_part, fe_part, one_byte_part, is_one_byte, opcode, block_part, index_part, two_indexes_part, br_table_part, types_part, try_table_part, mem_part, i32_part, i64_part, f32_part, f64_part, heap_part, resume_part, resume_throw_part, cast_of, cast_part, v128_part, shuffle_part, lane_part, mem_lane_part, order_part, order_index_part, order_two_indexes_part, operands_format, instruction_of, call_bytes, written, instruction, Instructions, instructions_bytes, ShortestInstructions}
+use Rattle.wasm_instructions.specs.formats.Operands.{ieee32, ieee64}
+use Rattle.wasm_instructions.specs.formats.Opcodes.{opcode_kind}
+use Rattle.wasm_instructions.specs.formats.Instructions.{Instruction}
+use Rattle.wasm_instructions.specs.formats.Opcodes.{without_prefix, after_fb, after_fc, after_fd, after_fe}
+use Rattle.wasm_instructions.specs.Instructions.{kind_of, IsCall}
+use Rattle.wasm_instructions.specs.formats.Instructions.{fb_part, fc_part, fd_part, fe_part, one_byte_part, is_one_byte, opcode, block_part, index_part, two_indexes_part, br_table_part, types_part, try_table_part, mem_part, i32_part, i64_part, f32_part, f64_part, heap_part, resume_part, resume_throw_part, cast_of, cast_part, v128_part, shuffle_part, lane_part, mem_lane_part, order_part, order_index_part, order_two_indexes_part, operands_format, instruction_of, call_bytes, with_bytes, instruction, Instructions, instructions_bytes, ShortestInstructions}
 use Rattle.wasm_instructions.proofs.OperandFormatLaws.{Lawful-block-type, Lawful-catch, Lawful-handle, Lawful-castop, Lawful-mem-arg, Lawful-ordering, Lawful-vector, Lawful-lanes}
 use Rattle.wasm_codec.specs.Lawful.{Shortest, IsLawful}
 
@@ -77,7 +79,7 @@ has_kind k back o g = sym (ap kind_of g.2)
 kind_in_range : (k : Kind) (o : Operands) → (operands_format k).InRange o → kind_of o ≡ k
 kind_in_range k o fits = has_kind k ((operands_format k).bytes o) o ((Lawful-operands k).shortest.encodes o fits)
 
-Lawful-written : {A : Type 0} (bytes : A → List ℕ) {F : Format A} → ((v : A) → F.InRange v → F.bytes v ≡ bytes v) → IsLawful F → IsLawful (written bytes F)
+Lawful-written : {A : Type 0} (bytes : A → List ℕ) {F : Format A} → ((v : A) → F.InRange v → F.bytes v ≡ bytes v) → IsLawful F → IsLawful (with_bytes bytes F)
 Lawful-written {A} bytes {F} same r = record {
   reads = record {
     sound = r.reads.sound;
@@ -100,7 +102,7 @@ of_kind i (Some k) fits = ap (λ (k : Kind). opcode.bytes i.op ++ (operands_form
 
 pub Lawful-instruction : IsLawful instruction
 unfolding instruction
-Lawful-instruction = Lawful-written call_bytes (λ i fits. of_kind i (kind i.op) fits.0.1) (Lawful-made instruction_of (λ i. Some (i.op, i.operands)) (λ p. refl) (Lawful-then Lawful-opcode (λ op. Lawful-by-kind Lawful-operands (kind op))))
+Lawful-instruction = Lawful-written call_bytes (λ i fits. of_kind i (opcode_kind i.op) fits.0.1) (Lawful-made instruction_of (λ i. Some (i.op, i.operands)) (λ p. refl) (Lawful-then Lawful-opcode (λ op. Lawful-by-kind Lawful-operands (opcode_kind op))))
 
 -- no instruction is encoded by no bytes
 pub instruction_takes : TakesBytes instruction.Encodes
@@ -109,8 +111,8 @@ instruction_takes = takes_bytes Lawful-instruction refl
 
 pub encodes_call : (bytes : List ℕ) (i : Instruction) → instruction.Encodes bytes i → IsCall i.op i.operands
 unfolding instruction
-encodes_call bytes i g = subst (λ (i : Instruction). IsCall i.op i.operands) g.2 (by (kind g.0.0) refl g.1.4) where
-  by : (o : Option Kind) → kind g.0.0 ≡ o → (by_kind operands_format o).Encodes g.1.1 g.0.1 → kind g.0.0 ≡ Some (kind_of g.0.1)
+encodes_call bytes i g = subst (λ (i : Instruction). IsCall i.op i.operands) g.2 (by (opcode_kind g.0.0) refl g.1.4) where
+  by : (o : Option Kind) → opcode_kind g.0.0 ≡ o → (by_kind operands_format o).Encodes g.1.1 g.0.1 → opcode_kind g.0.0 ≡ Some (kind_of g.0.1)
   by None is h = absurd h
   by (Some k) is h = is ∙ ap (λ (k : Kind). Some k) (sym (has_kind k g.1.1 g.0.1 h))
 

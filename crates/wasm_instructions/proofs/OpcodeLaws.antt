@@ -9,7 +9,8 @@ use Rattle.wasm_instructions.specs.declared.table.opcode.Prefix.{Prefix}
 use Rattle.wasm_instructions.specs.declared.table.opcode.Prefix.TheVariants as prefixes
 use Rattle.wasm_instructions.specs.declared.table.opcode.Opcode.{Opcode}
 use Rattle.wasm_instructions.specs.Instructions.{IsShort}
-use Rattle.wasm_instructions.specs.Opcodes.{Range, ranges, kind_among, kind, kinds_from, end_below, IsTable}
+use Rattle.wasm_instructions.specs.formats.Opcodes.{Range, ranges, kind_among, opcode_kind}
+use Rattle.wasm_instructions.specs.OpcodeTables.{kinds_from, end_below, IsTable}
 
 kinds_from-at : (rs : List Range) (first count i : ℕ) → i < count → get_or (kinds_from rs first count) i None ≡ kind_among rs (first + i)
 kinds_from-at rs first zero i lt = absurd (omega arith)
@@ -41,7 +42,7 @@ in_table rs end number k h e = elim (cases_lt number end) [
 ]
 
 -- the opcodes of the table are short
-pub in_table_short : (op : Opcode) (k : Kind) → kind op ≡ Some k → IsShort op
+pub in_table_short : (op : Opcode) (k : Kind) → opcode_kind op ≡ Some k → IsShort op
 unfolding ranges
 in_table_short op k e = by op.prefix op.number e where
   by : (p : Prefix) (n : ℕ) → kind_among (ranges p) n ≡ Some k → IsShort (record { prefix = p; number = n })

@@ -9,8 +9,9 @@ use Rattle.wasm_instructions.specs.declared.operands.control.Handle.TheVariants 
 use Rattle.wasm_instructions.specs.declared.operands.memory.MemArg.{MemArg}
 use Rattle.wasm_instructions.specs.declared.operands.memory.Ordering.{Ordering}
 use Rattle.wasm_instructions.specs.declared.operands.memory.Ordering.TheVariants as orderings
-use Rattle.wasm_codec.specs.Grammar.{Grammar, TakesBytes, Then, Mapped, Never, Either}
-use Rattle.wasm_codec.specs.Numbers.{Within, EncodesU32, EncodesU64, digits_of, unsigned_leb128}
+use Rattle.wasm_codec.specs.formats.Grammar.{Grammar, TakesBytes, Then, Mapped, Never, Either}
+use Rattle.wasm_codec.specs.formats.Numbers.{Within, EncodesU32, EncodesU64}
+use Rattle.wasm_codec.specs.Leb128.{digits_of, unsigned_leb128}
 use Rattle.wasm_codec.specs.Encoding.{IsShortestOrLonger}
 use Rattle.wasm_codec.proofs.Laws.{least_then}
 use Rattle.wasm_codec.proofs.NumberLaws.{Shortest-u32, Shortest-u64}

@@ -5,10 +5,10 @@ use Rattle.std.proofs.Math.Bool.{and-false}
 use Rattle.std.proofs.lemmas.List.{take_at, drop_at, set_at, length-take-le, length-drop}
 use Rattle.wasm_codec.specs.declared.reader.cursor.Fault.{Fault}
 use Rattle.wasm_codec.specs.declared.reader.cursor.Fault.TheVariants as faults
-use Rattle.wasm_codec.specs.Grammar.{IsBytes}
-use Rattle.wasm_codec.specs.Numbers.{unsigned_leb128}
+use Rattle.wasm_codec.specs.formats.Grammar.{IsBytes}
+use Rattle.wasm_codec.specs.Leb128.{unsigned_leb128}
 use Rattle.wasm_codec.specs.Places.{place}
-use Rattle.wasm_codec.specs.Rewriter.{Rewriting, rewritten_at, after_at, Rewrites, without, with_byte}
+use Rattle.wasm_codec.specs.Rewriter.{Rewriting, rewritten_at, rewriting_after, Rewrites, without, with_byte}
 use Rattle.wasm_codec.specs.formats.Combinators.{little_endian, u32, u64}
 use Rattle.wasm_codec.proofs.Laws.{IsBytes-after}
 use Rattle.wasm_codec.proofs.RawFormatLaws.{Lawful-little-endian, little_below}
@@ -19,7 +19,7 @@ use Rattle.wasm_instructions.proofs.OperandFormatLaws.{halves_of, one_digit}
 -- ---- vectors
 
 -- both halves stay as they are
-pub vector_rewritten : (old mid new : Rewriting) → IsBytes old.place.left → after_at (little_endian 8) old ≡ Some mid → after_at (little_endian 8) mid ≡ Some new → after_at vector old ≡ Some new
+pub vector_rewritten : (old mid new : Rewriting) → IsBytes old.place.left → rewriting_after (little_endian 8) old ≡ Some mid → rewriting_after (little_endian 8) mid ≡ Some new → rewriting_after vector old ≡ Some new
 unfolding vector
 vector_rewritten old mid new fits first second =
     let law = Lawful-little-endian 8 in
@@ -39,7 +39,7 @@ unfolding vector
 no_low_half old mid new faults.Memory none = none
 no_low_half old mid new faults.Malformed none = rw none refl
 
-pub no_high_half : (old mid end new : Rewriting) (fault : Fault) → after_at (little_endian 8) old ≡ Some mid → Rewrites (little_endian 8) mid end (Err fault) → Rewrites vector old new (Err fault)
+pub no_high_half : (old mid end new : Rewriting) (fault : Fault) → rewriting_after (little_endian 8) old ≡ Some mid → Rewrites (little_endian 8) mid end (Err fault) → Rewrites vector old new (Err fault)
 unfolding vector
 no_high_half old mid end new faults.Memory first none = none
 no_high_half old mid end new faults.Malformed first none =
@@ -55,7 +55,7 @@ record Named (old offset : Rewriting) (align : ℕ) : Type 0 where
   written : offset.done ≡ old.done ++ (align ∷ (0 ∷ unsigned_leb128 value))
   rest : offset.rest ≡ old.rest
 
-named : (old first memory offset : Rewriting) (align index : ℕ) → 64 ≤ align → align < 128 → index ≡ 0 → rewritten_at u32 old ≡ Some (align, first) → rewritten_at u32 first ≡ Some (index, memory) → after_at u64 memory ≡ Some offset → Named old offset align
+named : (old first memory offset : Rewriting) (align index : ℕ) → 64 ≤ align → align < 128 → index ≡ 0 → rewritten_at u32 old ≡ Some (align, first) → rewritten_at u32 first ≡ Some (index, memory) → rewriting_after u64 memory ≡ Some offset → Named old offset align
 unfolding mem_arg
 named old first memory offset align index high low zero e f g =
     let a = is_given u32 old align first e in
@@ -73,8 +73,8 @@ named old first memory offset align index high low zero e f g =
     regroup d t l c = simp append_assoc
 
 -- the index is left out
-pub named_left_out : (old first memory offset : Rewriting) (align index mark : ℕ) → 64 ≤ align → align < 128 → index ≡ 0 → mark ≡ length old.done → rewritten_at u32 old ≡ Some (align, first) → rewritten_at u32 first ≡ Some (index, memory) → after_at u64 memory ≡ Some offset
-    → after_at mem_arg old ≡ Some (with_byte mark (align - 64) (without mark 1 offset))
+pub named_left_out : (old first memory offset : Rewriting) (align index mark : ℕ) → 64 ≤ align → align < 128 → index ≡ 0 → mark ≡ length old.done → rewritten_at u32 old ≡ Some (align, first) → rewritten_at u32 first ≡ Some (index, memory) → rewriting_after u64 memory ≡ Some offset
+    → rewriting_after mem_arg old ≡ Some (with_byte mark (align - 64) (without mark 1 offset))
 unfolding mem_arg
 named_left_out old first memory offset align index mark high low zero at e f g =
     let n = named old first memory offset align index high low zero e f g in
@@ -88,7 +88,7 @@ named_left_out old first memory offset align index mark high low zero at e f g =
     after_is mem_arg old (with_byte mark (align - 64) (without mark 1 offset)) (in_memory (align - 64) (0, n.value)) n.is_read (done ∙ ap (λ (t : List ℕ). old.done ++ t) (sym bytes)) n.rest
 
 -- there are at least the two bytes of the alignment and the index
-pub named_long : (old first memory offset : Rewriting) (align index : ℕ) → 64 ≤ align → align < 128 → index ≡ 0 → rewritten_at u32 old ≡ Some (align, first) → rewritten_at u32 first ≡ Some (index, memory) → after_at u64 memory ≡ Some offset → length old.done + 2 ≤ length offset.done
+pub named_long : (old first memory offset : Rewriting) (align index : ℕ) → 64 ≤ align → align < 128 → index ≡ 0 → rewritten_at u32 old ≡ Some (align, first) → rewritten_at u32 first ≡ Some (index, memory) → rewriting_after u64 memory ≡ Some offset → length old.done + 2 ≤ length offset.done
 named_long old first memory offset align index high low zero e f g =
     let n = named old first memory offset align index high low zero e f g in
     omega (arith, ap (length {A = ℕ}) n.written, length-append old.done (align ∷ (0 ∷ unsigned_leb128 n.value)))

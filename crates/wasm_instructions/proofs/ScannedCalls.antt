@@ -7,7 +7,7 @@ use Rattle.wasm_codec.specs.Rewriter.{cut}
 use Rattle.wasm_codec.specs.Scanning.{IsWithin, Scans, behind_byte}
 use Rattle.wasm_codec.specs.declared.rewriter.scan.Scanned.{Scanned}
 use Rattle.wasm_codec.specs.declared.rewriter.scan.Scanned.TheVariants as scanned
-use Rattle.wasm_codec.specs.Numbers.{unsigned_leb128}
+use Rattle.wasm_codec.specs.Leb128.{unsigned_leb128}
 use Rattle.wasm_instructions.proofs.CallRewriting.{of_kind}
 use Rattle.wasm_instructions.proofs.OperandFormatLaws.{one_digit}
 use Rattle.wasm_codec.specs.formats.Combinators.{Format, made, u64, little_endian, with_low}
@@ -18,9 +18,10 @@ use Rattle.wasm_types.specs.formats.Types.{val_type}
 use Rattle.wasm_instructions.specs.declared.operands.control.BlockType.TheVariants as blocks
 use Rattle.wasm_instructions.specs.declared.operands.memory.MemArg.{MemArg}
 use Rattle.wasm_instructions.specs.declared.table.opcode.Prefix.TheVariants as prefixes
-use Rattle.wasm_instructions.specs.Opcodes.{kind, ranges}
+use Rattle.wasm_instructions.specs.formats.Opcodes.{opcode_kind, ranges}
 use Rattle.wasm_instructions.proofs.OpcodeLaws.{in_table}
-use Rattle.wasm_instructions.specs.Instructions.{call, without_prefix}
+use Rattle.wasm_instructions.specs.formats.Instructions.{call}
+use Rattle.wasm_instructions.specs.formats.Opcodes.{without_prefix}
 use Rattle.wasm_instructions.specs.formats.Instructions.{opcode, operands_format, instruction}
 use Rattle.wasm_instructions.specs.formats.Operands.{block_type, in_memory, mem_arg}
 
@@ -81,11 +82,11 @@ behind F G b bytes reads (scanned.Padded signed start more) (le, told) =
     )
 
 -- a byte that is an opcode is no prefix
-no_prefix : (b : ℕ) (k : Kind) → kind (without_prefix b) ≡ Some k → b < 0xfb
+no_prefix : (b : ℕ) (k : Kind) → opcode_kind (without_prefix b) ≡ Some k → b < 0xfb
 unfolding ranges
 no_prefix b k is = in_table (ranges prefixes.None) 0xfb b k refl is
 
-pub call_scanned : (bytes : List ℕ) (k : Kind) (s : Scanned) → 0 < length bytes → kind (without_prefix (get_or bytes 0 0)) ≡ Some k → Scans (operands_format k) (drop 1 bytes) (Some s) → Scans instruction bytes (Some (behind_byte s))
+pub call_scanned : (bytes : List ℕ) (k : Kind) (s : Scanned) → 0 < length bytes → opcode_kind (without_prefix (get_or bytes 0 0)) ≡ Some k → Scans (operands_format k) (drop 1 bytes) (Some s) → Scans instruction bytes (Some (behind_byte s))
 unfolding instruction opcode
 call_scanned [] k s some is r = absurd (omega arith)
 call_scanned (first ∷ bytes) k s some is r = behind (operands_format k) instruction first bytes (λ v t left e.

@@ -1,4 +1,4 @@
--- Instructions: an opcode and its operands (WebAssembly Core 3.0, Instructions).
+-- Operands of calls: of which kind they are, and the ranges of their numbers (WebAssembly Core 3.0, Instructions).
 use Rattle.std.specs.Prelude.{◌≡◌, ℕ, ◌^◌, ◌<◌, length, get_or, Some}
 use Rattle.std.specs.List.{AllByRecursion}
 use Rattle.wasm_instructions.specs.declared.table.opcode.Prefix.TheVariants as prefixes
@@ -7,36 +7,12 @@ use Rattle.wasm_instructions.specs.declared.table.opcode.Kind.{Kind}
 use Rattle.wasm_instructions.specs.declared.table.opcode.Kind.TheVariants as kinds
 use Rattle.wasm_instructions.specs.declared.table.call.Operands.{Operands}
 use Rattle.wasm_instructions.specs.declared.table.call.Operands.TheVariants as operands
-use Rattle.wasm_codec.specs.Numbers.{Within}
+use Rattle.wasm_codec.specs.formats.Numbers.{Within}
 use Rattle.wasm_instructions.specs.formats.Operands.{MemArgInRange}
 use Rattle.wasm_instructions.specs.Operands.{HeapTypeFits, ValTypeFits, BlockTypeFits, CatchFits, HandleFits}
-use Rattle.wasm_instructions.specs.Opcodes.{kind}
-
--- an opcode and its operands
-pub record Instruction : Type 0 where
-  pub op : Opcode
-  pub operands : Operands
-
-abbrev pub call : Opcode → Operands → Instruction
-call op operands = record { op = op; operands = operands }
+use Rattle.wasm_instructions.specs.formats.Opcodes.{opcode_kind}
 
 -- ---- opcodes
-
--- an opcode without a prefix byte
-abbrev pub without_prefix : ℕ → Opcode
-without_prefix number = record { prefix = prefixes.None; number = number }
-
-abbrev pub after_fb : ℕ → Opcode
-after_fb number = record { prefix = prefixes.Fb; number = number }
-
-abbrev pub after_fc : ℕ → Opcode
-after_fc number = record { prefix = prefixes.Fc; number = number }
-
-abbrev pub after_fd : ℕ → Opcode
-after_fd number = record { prefix = prefixes.Fd; number = number }
-
-abbrev pub after_fe : ℕ → Opcode
-after_fe number = record { prefix = prefixes.Fe; number = number }
 
 -- it is written in three bytes at the most, and where it has no prefix byte, it isn't one itself
 abbrev pub IsShort : Opcode → Type 0
@@ -104,30 +80,30 @@ HasNoList (operands.ResumeThrow index tag handlers) = ⊥
 HasNoList o = Unit {0}
 
 -- the numbers that stand in no list are in the ranges of their widths, and alignments are below 64
-abbrev pub InRange : Operands → Type 0
-InRange operands.None = Unit {0}
-InRange (operands.Block ty) = BlockTypeFits ty
-InRange (operands.Index index) = index < 2 ^ 32
-InRange (operands.TwoIndexes first second) = (first < 2 ^ 32) × (second < 2 ^ 32)
-InRange (operands.BrTable labels default) = default < 2 ^ 32
-InRange (operands.Types types) = Unit {0}
-InRange (operands.TryTable ty clauses) = BlockTypeFits ty
-InRange (operands.Mem arg) = MemArgInRange arg
-InRange (operands.I32 value) = Within (2 ^ 31) value
-InRange (operands.I64 value) = Within (2 ^ 63) value
-InRange (operands.F32 value) = value.bits < 2 ^ 32
-InRange (operands.F64 value) = value.bits < 2 ^ 64
-InRange (operands.Heap ty) = HeapTypeFits ty
-InRange (operands.Resume index handlers) = index < 2 ^ 32
-InRange (operands.ResumeThrow index tag handlers) = (index < 2 ^ 32) × (tag < 2 ^ 32)
-InRange (operands.Cast label before after) = (label < 2 ^ 32) × HeapTypeFits before.heap_type × HeapTypeFits after.heap_type
-InRange (operands.V128 value) = Within (2 ^ 127) value
-InRange (operands.Shuffle lanes) = (length lanes ≡ 16) × ((i : ℕ) → get_or lanes i 0 < 256)
-InRange (operands.Lane lane) = lane < 256
-InRange (operands.MemLane arg lane) = MemArgInRange arg × (lane < 256)
-InRange (operands.Order ordering) = Unit {0}
-InRange (operands.OrderIndex ordering index) = index < 2 ^ 32
-InRange (operands.OrderTwoIndexes ordering first second) = (first < 2 ^ 32) × (second < 2 ^ 32)
+abbrev pub NumbersInRange : Operands → Type 0
+NumbersInRange operands.None = Unit {0}
+NumbersInRange (operands.Block ty) = BlockTypeFits ty
+NumbersInRange (operands.Index index) = index < 2 ^ 32
+NumbersInRange (operands.TwoIndexes first second) = (first < 2 ^ 32) × (second < 2 ^ 32)
+NumbersInRange (operands.BrTable labels default) = default < 2 ^ 32
+NumbersInRange (operands.Types types) = Unit {0}
+NumbersInRange (operands.TryTable ty clauses) = BlockTypeFits ty
+NumbersInRange (operands.Mem arg) = MemArgInRange arg
+NumbersInRange (operands.I32 value) = Within (2 ^ 31) value
+NumbersInRange (operands.I64 value) = Within (2 ^ 63) value
+NumbersInRange (operands.F32 value) = value.bits < 2 ^ 32
+NumbersInRange (operands.F64 value) = value.bits < 2 ^ 64
+NumbersInRange (operands.Heap ty) = HeapTypeFits ty
+NumbersInRange (operands.Resume index handlers) = index < 2 ^ 32
+NumbersInRange (operands.ResumeThrow index tag handlers) = (index < 2 ^ 32) × (tag < 2 ^ 32)
+NumbersInRange (operands.Cast label before after) = (label < 2 ^ 32) × HeapTypeFits before.heap_type × HeapTypeFits after.heap_type
+NumbersInRange (operands.V128 value) = Within (2 ^ 127) value
+NumbersInRange (operands.Shuffle lanes) = (length lanes ≡ 16) × ((i : ℕ) → get_or lanes i 0 < 256)
+NumbersInRange (operands.Lane lane) = lane < 256
+NumbersInRange (operands.MemLane arg lane) = MemArgInRange arg × (lane < 256)
+NumbersInRange (operands.Order ordering) = Unit {0}
+NumbersInRange (operands.OrderIndex ordering index) = index < 2 ^ 32
+NumbersInRange (operands.OrderTwoIndexes ordering first second) = (first < 2 ^ 32) × (second < 2 ^ 32)
 
 -- the numbers in lists are in the ranges of their widths
 abbrev pub ItemsInRange : Operands → Type 0
@@ -142,4 +118,4 @@ ItemsInRange o = Unit {0}
 
 -- the opcode is in the table, and the operands are of its kind
 abbrev pub IsCall : Opcode → Operands → Type 0
-IsCall op operands = kind op ≡ Some (kind_of operands)
+IsCall op operands = opcode_kind op ≡ Some (kind_of operands)

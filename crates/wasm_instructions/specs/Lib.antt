@@ -1,4 +1,4 @@
-pub mod Opcodes
+pub mod OpcodeTables
 pub mod Operands
 pub mod Instructions
 pub mod formats

@@ -1,5 +1,4 @@
--- Floating-point bits, and the ranges of the numbers in what stands after opcodes.
-use Rattle.std.specs.Prelude.{ℕ}
+-- The ranges of the numbers in what stands after opcodes.
 pub use Rattle.wasm_types.specs.TypeRanges.{IsU32, HeapTypeFits, ValTypeFits}
 use Rattle.wasm_instructions.specs.declared.operands.control.BlockType.{BlockType}
 use Rattle.wasm_instructions.specs.declared.operands.control.BlockType.TheVariants as blocks
@@ -7,16 +6,6 @@ use Rattle.wasm_instructions.specs.declared.operands.control.Catch.{Catch}
 use Rattle.wasm_instructions.specs.declared.operands.control.Catch.TheVariants as catches
 use Rattle.wasm_instructions.specs.declared.operands.control.Handle.{Handle}
 use Rattle.wasm_instructions.specs.declared.operands.control.Handle.TheVariants as handles
-use Rattle.wasm_instructions.specs.declared.operands.constants.Ieee32.{Ieee32}
-use Rattle.wasm_instructions.specs.declared.operands.constants.Ieee64.{Ieee64}
-
-abbrev pub ieee32 : ℕ → Ieee32
-ieee32 bits = record { bits = bits }
-
-abbrev pub ieee64 : ℕ → Ieee64
-ieee64 bits = record { bits = bits }
-
--- ---- ranges of numbers
 
 abbrev pub BlockTypeFits : BlockType → Type 0
 BlockTypeFits blocks.Empty = Unit {0}

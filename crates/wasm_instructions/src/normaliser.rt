@@ -2,7 +2,7 @@
 ghost use Rattle.std.specs.Prelude.{◌≡◌, ◌↔◌, ◌<◌, ◌≤◌, List, length, IfOk};
 ghost use Rattle.wasm_codec.specs.Answers.{IsOrMemory, NeedsNoMemory, IfRefused, IsLongestPrefix, EncodesSome, IsNormalForm};
 ghost use Rattle.wasm_codec.specs.Encoding.{IsShortestOrLonger};
-ghost use Rattle.wasm_instructions.specs.Instructions.{Instruction};
+ghost use Rattle.wasm_instructions.specs.formats.Instructions.{Instruction};
 ghost use Rattle.wasm_instructions.specs.formats.Instructions.{Instructions, ShortestInstructions, opcode, instruction, instructions_bytes};
 ghost use Rattle.wasm_codec.specs.Rewriter.{Gives, Rewrites};
 
@@ -94,7 +94,7 @@ impl Rewritable for Call {
         // Where there are as many bytes, the compiler leaves out each later test that there are enough.
         if rewriter.len() >= 16 {
             if let Some(scanned) = scan_call(rewriter.left()) {
-                rewriter.pass(scanned);
+                rewriter.rewrite_scanned(scanned);
                 return Ok(());
             }
         }

@@ -1,7 +1,7 @@
 -- The laws of decoded modules.
 use Rattle.std.proofs.Common.{◌≡◌, ℕ, List, [], ◌∷◌, ◌++◌, map, refl, sym, subst, ap, ◌∙◌}
 use Rattle.std.specs.List.{flat_map, AllByRecursion}
-use Rattle.wasm_modules.specs.Sections.{header, Content, DecodedSection, decoded_section_of}
+use Rattle.wasm_modules.specs.formats.Sections.{header, Content, DecodedSection, decoded_section_of}
 use Rattle.wasm_modules.specs.Modules.{IsSection}
 use Rattle.wasm_modules.specs.DecodedModules.{CanHold, IsDecodedSection, framed}
 use Rattle.wasm_modules.specs.formats.Modules.{raw_section, raw_module, decoded_section, decoded_module, HoldsContent}

@@ -4,16 +4,16 @@ use Rattle.std.specs.Prelude.{MatchOption, IfSome, IfNone}
 use lib.Pointwise.{pointwise, bytes_decides}
 use Rattle.std.proofs.lemmas.List.{append-nil, append_cancel_left, take_at, drop_at, take-append-drop}
 use Rattle.std.specs.List.{flat_map}
-use Rattle.wasm_codec.specs.Grammar.{Grammar, After, Joined}
+use Rattle.wasm_codec.specs.formats.Grammar.{Grammar, After, Joined}
 use Rattle.wasm_codec.specs.Answers.{IsLongestPrefix, IsNormalForm, EncodesSome}
-use Rattle.wasm_codec.specs.Grammar.{IsBytes, TakesBytes}
+use Rattle.wasm_codec.specs.formats.Grammar.{IsBytes, TakesBytes}
 use Rattle.wasm_codec.specs.Lawful.{IsLawful}
 use Rattle.wasm_codec.specs.Places.{place}
 use Rattle.wasm_codec.specs.formats.Combinators.{Format}
 use Rattle.wasm_codec.specs.formats.Bodies.{to_end}
-use Rattle.wasm_codec.specs.Rewriter.{Rewriting, rewriting, after_at, stayed, StopsAt}
+use Rattle.wasm_codec.specs.Rewriter.{Rewriting, rewriting, rewriting_after, skipped, StopsAt}
 use Rattle.wasm_codec.proofs.BodyRewriting.{joined_done, joined_stopped, stopped_within}
-use Rattle.wasm_modules.specs.Sections.{header}
+use Rattle.wasm_modules.specs.formats.Sections.{header}
 
 -- ---- the header, and then items
 
@@ -85,13 +85,13 @@ pub record AfterHeader (bytes body : List ℕ) (start : Rewriting) : Type 0 wher
   pub done : start.done ≡ header
   pub left : start.place.left ≡ body
 
-pub after_header_is : (bytes body : List ℕ) (start : Rewriting) → bytes ≡ header ++ body → start ≡ stayed 8 (rewriting [] (place true bytes) []) → AfterHeader bytes body start
+pub after_header_is : (bytes body : List ℕ) (start : Rewriting) → bytes ≡ header ++ body → start ≡ skipped 8 (rewriting [] (place true bytes) []) → AfterHeader bytes body start
 after_header_is bytes body start e is = record {
   done = ap (λ (s : Rewriting). s.done) is ∙ ap (take 8) e ∙ take_at header body 8 refl;
   left = ap (λ (s : Rewriting). s.place.left) is ∙ ap (drop 8) e ∙ drop_at header body 8 refl;
 }
 
-pub headed_normal : {V : Type 0} {F : Format V} → IsLawful F → TakesBytes F.Encodes → (bytes body : List ℕ) (start end : Rewriting) → bytes ≡ header ++ body → AfterHeader bytes body start → IsBytes start.place.left → after_at (to_end F) start ≡ Some end → end.place.left ≡ []
+pub headed_normal : {V : Type 0} {F : Format V} → IsLawful F → TakesBytes F.Encodes → (bytes body : List ℕ) (start end : Rewriting) → bytes ≡ header ++ body → AfterHeader bytes body start → IsBytes start.place.left → rewriting_after (to_end F) start ≡ Some end → end.place.left ≡ []
     → IsNormalForm (Headed F.Encodes) (λ vs. header ++ flat_map F.bytes vs) bytes end.done
 headed_normal {V} {F} r some bytes body start end e h fits rest none =
     let all = joined_done r some start end fits rest none in

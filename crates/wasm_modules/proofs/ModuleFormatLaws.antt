@@ -2,8 +2,8 @@
 use Rattle.std.proofs.Common.{◌≡◌, ◌↔◌, ℕ, eqb, List, ◌++◌, Some, refl, sym, ap, subst, ◌∙◌, lit≤}
 use Rattle.std.proofs.lemmas.List.{append_cancel_left}
 use Rattle.std.specs.List.{flat_map}
-use Rattle.wasm_codec.specs.Grammar.{IsBytes}
-use Rattle.wasm_codec.specs.Grammar.{TakesBytes}
+use Rattle.wasm_codec.specs.formats.Grammar.{IsBytes}
+use Rattle.wasm_codec.specs.formats.Grammar.{TakesBytes}
 use Rattle.wasm_codec.proofs.ListReading.{AtMostOne}
 use Rattle.wasm_codec.proofs.FormatLaws.{Lawful-byte, Lawful-both, Lawful-then, Lawful-made, takes_bytes}
 use Rattle.wasm_codec.specs.Lawful.{IsLawfulBody}
@@ -13,7 +13,7 @@ use Rattle.wasm_codec.specs.Places.{Place, place, keeps}
 use Rattle.wasm_codec.proofs.PlaceLists.{step}
 use Rattle.wasm_codec.proofs.AskedLaws.{joined_narrow}
 use Rattle.wasm_types.proofs.TypeFormatLaws.{Lawful-type-body}
-use Rattle.wasm_modules.specs.Sections.{header, SectionParts, section_of, Content, DecodedSection, type_entries, code_bodies, raw_bytes, decoded_section_of}
+use Rattle.wasm_modules.specs.formats.Sections.{header, SectionParts, section_of, Content, DecodedSection, type_entries, code_bodies, raw_bytes, decoded_section_of}
 use Rattle.wasm_modules.specs.formats.Modules.{section_parts, raw_section, entries_part, bodies_part, bytes_part, held_by, content_parts, decoded_section, HoldsContent, module_of, raw_module, ShortestModule, decoded_module}
 use Rattle.wasm_codec.specs.formats.Combinators.{Format, narrow}
 use Rattle.wasm_codec.specs.Lawful.{IsLawful}

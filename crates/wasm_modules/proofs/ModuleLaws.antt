@@ -1,14 +1,14 @@
 -- The laws of modules as sections with their bodies as bytes.
 use Rattle.std.proofs.Common.{◌≡◌, ℕ, List, [], ◌∷◌, ◌++◌, length, Result, Ok, Err, OnOk, refl, sym, ap, ◌∙◌, append_assoc, subst}
 use Rattle.std.specs.List.{flat_map, AllByRecursion}
-use Rattle.wasm_codec.specs.Grammar.{IsBytes}
-use Rattle.wasm_codec.specs.Numbers.{unsigned_leb128}
+use Rattle.wasm_codec.specs.formats.Grammar.{IsBytes}
+use Rattle.wasm_codec.specs.Leb128.{unsigned_leb128}
 use Rattle.wasm_codec.proofs.Laws.{IsBytes-back}
 use Rattle.wasm_codec.proofs.BodyLaws.{IsBytes-prefix}
 use Rattle.std.proofs.lemmas.Grind.{flat_map-append}
 use Rattle.std.proofs.lemmas.List.{append-nil}
 use Rattle.wasm_codec.specs.Encoding.{byte_list_bytes, IsShortestOrLonger}
-use Rattle.wasm_modules.specs.Sections.{header, SectionParts, section_of}
+use Rattle.wasm_modules.specs.formats.Sections.{header, SectionParts, section_of}
 use Rattle.wasm_modules.specs.Modules.{IsSection}
 use Rattle.wasm_modules.specs.formats.Modules.{raw_section, raw_module}
 use Rattle.wasm_modules.proofs.ModuleFormatLaws.{Lawful-raw-module}

@@ -1,7 +1,7 @@
 -- Decoded modules: modules whose type sections are entries, whose code sections are code bodies, and whose other
 -- sections are bytes (WebAssembly Core 3.0, Modules).
 use Rattle.std.specs.Prelude.{ℕ, List}
-use Rattle.wasm_modules.specs.Sections.{SectionParts, Content, DecodedSection}
+use Rattle.wasm_modules.specs.formats.Sections.{SectionParts, Content, DecodedSection}
 use Rattle.wasm_modules.specs.Modules.{IsSection, IsModulePrefixOf}
 use Rattle.wasm_modules.specs.formats.Modules.{held_by, decoded_section}
 

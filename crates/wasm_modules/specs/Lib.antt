@@ -1,4 +1,3 @@
-pub mod Sections
 pub mod formats
 pub mod Modules
 pub mod DecodedModules

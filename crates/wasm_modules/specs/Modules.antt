@@ -2,7 +2,7 @@
 use Rattle.std.specs.Prelude.{◌≡◌, ℕ, ◌^◌, ◌<◌, ◌⊎◌, Bool, true, List, [], length}
 use Rattle.wasm_codec.specs.Answers.{EncodesSome}
 use Rattle.wasm_codec.specs.formats.Combinators.{Format, asked}
-use Rattle.wasm_modules.specs.Sections.{SectionParts}
+use Rattle.wasm_modules.specs.formats.Sections.{SectionParts}
 use Rattle.wasm_modules.specs.formats.Modules.{module_of, raw_section}
 
 -- an id is a byte, and a body's size a u32

@@ -1,2 +1,3 @@
+pub mod Sections
 pub mod CodeBodies
 pub mod Modules

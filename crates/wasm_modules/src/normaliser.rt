@@ -7,7 +7,7 @@ ghost use Rattle.wasm_codec.specs.formats.Bodies.{bytes_to_end};
 ghost use Rattle.wasm_codec.specs.formats.Combinators.{made, narrow};
 ghost use Rattle.wasm_codec.specs.Encoding.{IsShortestOrLonger};
 ghost use Rattle.wasm_types.specs.formats.Types.{type_body};
-ghost use Rattle.wasm_modules.specs.Sections.{Content, DecodedSection, type_entries, code_bodies, raw_bytes};
+ghost use Rattle.wasm_modules.specs.formats.Sections.{Content, DecodedSection, type_entries, code_bodies, raw_bytes};
 ghost use Rattle.wasm_modules.specs.DecodedModules.{IsDecodedModulePrefix, IsDecodedSection};
 ghost use Rattle.wasm_modules.specs.formats.CodeBodies.{code_section_body};
 ghost use Rattle.wasm_modules.specs.formats.Modules.{entries_part, bodies_part, bytes_part, decoded_section, decoded_module};
@@ -106,7 +106,7 @@ impl Rewritable for Section {
         if id == CODE_SECTION_ID {
             return rewrite_sized::<CodeBodies>(rewriter);
         }
-        rewrite_sized::<RawBytes>(rewriter)
+        rewrite_sized::<RawContent>(rewriter)
     }
 }
 
@@ -152,9 +152,9 @@ impl RewritableBody for CodeBodies {
 }
 
 /// What any other section holds.
-struct RawBytes;
+struct RawContent;
 
-impl RewritableBody for RawBytes {
+impl RewritableBody for RawContent {
     ghost Value = { Content };
 
     ghost format = { made raw_bytes bytes_part bytes_to_end };

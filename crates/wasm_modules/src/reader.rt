@@ -3,7 +3,7 @@ ghost use Rattle.std.specs.Prelude.{◌≡◌, ◌++◌, List, ℕ, drop, IfErr,
 ghost use Rattle.wasm_codec.specs.Reading.{map_ok};
 ghost use Rattle.wasm_codec.specs.Places.{Reads};
 ghost use Rattle.wasm_codec.specs.formats.Bodies.{byte_list};
-ghost use Rattle.wasm_modules.specs.Sections.{header, parts_of};
+ghost use Rattle.wasm_modules.specs.formats.Sections.{header, parts_of};
 ghost use Rattle.wasm_modules.specs.formats.Modules.{raw_section};
 ghost use Rattle.wasm_codec.specs.declared.reader.cursor.Fault.TheVariants.{Malformed};
 

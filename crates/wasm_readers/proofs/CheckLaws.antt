@@ -1,13 +1,13 @@
 -- What is rewritten only where it is in its shortest encoding: items, and the count before them.
 use Rattle.std.proofs.Common.{◌≡◌, ℕ, ◌+◌, ◌-◌, ◌<◌, ◌≤◌, true, false, List, [], ◌++◌, length, Option, Some, None, Err, refl, sym, ap, ◌∙◌, append_assoc, length-append, inl, inr, arith}
 use Rattle.std.specs.Prelude.{is_some}
-use Rattle.wasm_codec.specs.Grammar.{Grammar, IsBytes}
+use Rattle.wasm_codec.specs.formats.Grammar.{Grammar, IsBytes}
 use Rattle.wasm_codec.specs.Answers.{HoldsAtRefusal, IsLongestPrefix, IsNormalForm, EncodesSome}
 use Rattle.wasm_codec.specs.Lawful.{IsLawful}
 use Rattle.wasm_codec.specs.Lists.{EncodesList, IsListPrefix, IsCountedPrefix, AskedList, IsAskedPrefix, items_bytes}
-use Rattle.wasm_codec.specs.Numbers.{EncodesU32}
+use Rattle.wasm_codec.specs.formats.Numbers.{EncodesU32}
 use Rattle.wasm_codec.specs.Places.{Place, place, keeps}
-use Rattle.wasm_codec.specs.Rewriter.{Rewriting, after_at, Rewrites}
+use Rattle.wasm_codec.specs.Rewriter.{Rewriting, rewriting_after, Rewrites}
 use Rattle.wasm_codec.specs.declared.reader.cursor.Fault.{Fault}
 use Rattle.wasm_codec.specs.declared.reader.cursor.Fault.TheVariants as faults
 use Rattle.wasm_codec.specs.declared.reader.ReadError.{ReadError}
@@ -36,7 +36,7 @@ pub record Item {V : Type 0} (F : Format V) (old new : Rewriting) : Type 0 where
   pub written_len : length new.done ≡ length old.done + length (F.bytes value)
   pub no_longer : length (F.bytes value) ≤ length prefix
 
-pub an_item : {V : Type 0} {F : Format V} → IsLawful F → (old new : Rewriting) → IsBytes old.place.left → after_at F old ≡ Some new → Item F old new
+pub an_item : {V : Type 0} {F : Format V} → IsLawful F → (old new : Rewriting) → IsBytes old.place.left → rewriting_after F old ≡ Some new → Item F old new
 an_item {V} {F} r old new fits e =
     let a = is_after F old new e in
     let s = step r old.place a.value new.place fits a.given.is_read in
@@ -54,7 +54,7 @@ an_item {V} {F} r old new fits e =
     }
 
 -- as many bytes were written as were read
-pub item_taken : {V : Type 0} {F : Format V} → IsLawful F → (old new : Rewriting) → IsBytes old.place.left → after_at F old ≡ Some new → length old.place.left - length new.place.left ≤ length new.done - length old.done → after_at (narrow F) old ≡ Some new
+pub item_taken : {V : Type 0} {F : Format V} → IsLawful F → (old new : Rewriting) → IsBytes old.place.left → rewriting_after F old ≡ Some new → length old.place.left - length new.place.left ≤ length new.done - length old.done → rewriting_after (narrow F) old ≡ Some new
 item_taken {V} {F} r old new fits e as_many =
     let i = an_item r old new fits e in
     let same : i.prefix ≡ F.bytes i.value = elim (r.shortest.least i.prefix i.value i.encodes) [ inl p ↦ p | inr longer ↦ absurd (omega (arith, i.read_len, i.written_len)) ] in
@@ -71,7 +71,7 @@ none_unless {V} F r p fits never = by ((narrow F).at p) refl where
       absurd (never one.prefix x.1.left x.0 one.encodes.0 one.encodes.1 one.parts)
 
 -- fewer bytes were written than were read
-pub item_refused : {V : Type 0} {F : Format V} → IsLawful F → (old new : Rewriting) → IsBytes old.place.left → after_at F old ≡ Some new → length new.done - length old.done < length old.place.left - length new.place.left → (narrow F).at old.place ≡ None
+pub item_refused : {V : Type 0} {F : Format V} → IsLawful F → (old new : Rewriting) → IsBytes old.place.left → rewriting_after F old ≡ Some new → length new.done - length old.done < length old.place.left - length new.place.left → (narrow F).at old.place ≡ None
 item_refused {V} {F} r old new fits e fewer =
     let i = an_item r old new fits e in
     none_unless F r old.place fits (λ prefix rest v g shortest parts.

@@ -4,15 +4,15 @@
 //! bytes, whatever they encode.
 ghost use Rattle.std.specs.Prelude.{◌≡◌, ◌<◌, length, is_some, List, ℕ, true, IfOk};
 ghost use Rattle.wasm_codec.specs.Answers.{IfRefused, IsLongestPrefix, EncodesSome};
-ghost use Rattle.wasm_codec.specs.Grammar.{Joined};
+ghost use Rattle.wasm_codec.specs.formats.Grammar.{Joined};
 ghost use Rattle.wasm_codec.specs.Lists.{AskedList, IsAskedPrefix};
 ghost use Rattle.wasm_codec.specs.Places.{place};
 ghost use Rattle.wasm_codec.specs.formats.Bodies.{bytes_to_end};
 ghost use Rattle.wasm_codec.specs.formats.Combinators.{narrow, u32 as u32_format};
-ghost use Rattle.wasm_instructions.specs.Instructions.{Instruction};
+ghost use Rattle.wasm_instructions.specs.formats.Instructions.{Instruction};
 ghost use Rattle.wasm_instructions.specs.formats.Instructions.{ShortestInstructions};
 ghost use Rattle.wasm_modules.specs.Modules.{IsShortestModulePrefix};
-ghost use Rattle.wasm_modules.specs.Sections.{SectionParts};
+ghost use Rattle.wasm_modules.specs.formats.Sections.{SectionParts};
 ghost use Rattle.wasm_modules.specs.declared.code.CodeBody.{CodeBody};
 ghost use Rattle.wasm_modules.specs.formats.CodeBodies.{ShortestCodeSectionBody, IsShortestCodeSectionBodyPrefix};
 ghost use Rattle.wasm_modules.specs.formats.Modules.{raw_section, ShortestModule};
@@ -162,9 +162,9 @@ impl<T: Rewritable> Rewritable for Shortest<T> {
     fn rewrite(rewriter: &mut Rewriter) -> Result<(), Fault> {
         T::is_lawful();
         rewriter.are_bytes();
-        let (mark, len) = (rewriter.mark(), rewriter.len());
+        let (mark, len) = (rewriter.written_len(), rewriter.len());
         T::rewrite(rewriter)?;
-        if rewriter.mark() - mark < len - rewriter.len() {
+        if rewriter.written_len() - mark < len - rewriter.len() {
             return Err(Fault::Malformed);
         }
         Ok(())

@@ -90,7 +90,7 @@ fn read_code_body(alloc: Global, cursor: &mut Cursor<'_>) -> Result<CodeBody, Fa
     let mut code = cursor.body()?;
     let locals = read_locals(alloc, &mut code)?;
     let calls = read_to_end(alloc, &mut code)?;
-    cursor.body_passed(code.is_shortest());
+    cursor.set_shortest(code.is_shortest());
     Ok(CodeBody { locals, calls })
 }
 

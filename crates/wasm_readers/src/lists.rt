@@ -3,9 +3,9 @@
 //! Each loop stands once: by `STRICT` it takes shortest encodings alone, and stops where a longer one comes.
 ghost use Rattle.std.specs.Prelude.{◌≡◌, ◌^◌, ◌<◌, List, [], length, IfOk, IfErr};
 ghost use Rattle.wasm_codec.specs.declared.reader.cursor.Fault.TheVariants.{Malformed};
-ghost use Rattle.wasm_codec.specs.Grammar.{IsBytes, TakesBytes, Joined};
-ghost use Rattle.wasm_codec.specs.Reading.{Reads as ListReads, FindsAt, map_ok};
-ghost use Rattle.wasm_codec.specs.Places.{Reads, counted_at, PassedAsAsked};
+ghost use Rattle.wasm_codec.specs.formats.Grammar.{IsBytes, TakesBytes, Joined};
+ghost use Rattle.wasm_codec.specs.Reading.{ReadsPlain, FindsAt, map_ok};
+ghost use Rattle.wasm_codec.specs.Places.{Reads, counted_at, IsReadAsAsked};
 ghost use Rattle.wasm_codec.specs.Lawful.{IsLawful, plain};
 ghost use Rattle.wasm_codec.specs.formats.Combinators.{items, asked, u32 as u32_format};
 ghost use Rattle.wasm_codec.specs.formats.Bodies.{to_end};
@@ -26,7 +26,7 @@ pub fn read_list<'a, T: Readable<'a>>(
     cursor: &mut Cursor<'a>,
 ) -> Result<Items<T>, Fault>
     ensures reads { Reads (items T.format).at cursor.old cursor.new (map_ok T.views result) }
-    ensures left { ListReads (list_at (plain T.format.at)) cursor.old.left cursor.new.left (map_ok T.views result) }
+    ensures left { ReadsPlain (list_at (plain T.format.at)) cursor.old.left cursor.new.left (map_ok T.views result) }
     // What is read there is what is encoded there.
     ensures finds { UnlessMemory result (FindsAt (EncodesList T.format.Encodes) (list_at (plain T.format.at)) cursor.old.left) }
     // The cursor is left after the longest prefix that is whole.
@@ -42,9 +42,9 @@ fn read_list_as<'a, T: Readable<'a>, const STRICT: bool>(
     alloc: Global,
     cursor: &mut Cursor<'a>,
 ) -> Result<Items<T>, Fault>
-    requires passed { PassedAsAsked STRICT cursor.old }
+    requires passed { IsReadAsAsked STRICT cursor.old }
     ensures reads { Reads (counted_at (asked STRICT u32_format).at (asked STRICT T.format).at) cursor.old cursor.new (map_ok T.views result) }
-    ensures left { ListReads (asked_list_at STRICT T.format) cursor.old.left cursor.new.left (map_ok T.views result) }
+    ensures left { ReadsPlain (asked_list_at STRICT T.format) cursor.old.left cursor.new.left (map_ok T.views result) }
     ensures finds { UnlessMemory result (FindsAt (AskedList STRICT T.format) (asked_list_at STRICT T.format) cursor.old.left) }
     ensures prefix { UnlessMemory result (IsAfterLongest (IsAskedPrefix STRICT T.format) cursor.old.left cursor.new.left) }
     ensures counted { IfOk result (λ items. length items < 2 ^ 32) }
@@ -63,10 +63,10 @@ fn read_or_stay<'a, T: Readable<'a>, const STRICT: bool>(
     alloc: Global,
     cursor: &mut Cursor<'a>,
 ) -> Result<T, Fault>
-    requires passed { PassedAsAsked STRICT cursor.old }
+    requires passed { IsReadAsAsked STRICT cursor.old }
     ensures reads { Reads (asked STRICT T.format).at cursor.old cursor.new (map_ok T.view result) }
-    ensures left { ListReads (plain (asked STRICT T.format).at) cursor.old.left cursor.new.left (map_ok T.view result) }
-    ensures passed { PassedAsAsked STRICT cursor.new }
+    ensures left { ReadsPlain (plain (asked STRICT T.format).at) cursor.old.left cursor.new.left (map_ok T.view result) }
+    ensures passed { IsReadAsAsked STRICT cursor.new }
     ensures stays { IfErr result (λ _. cursor.new ≡ cursor.old) }
     ensures bytes { IsBytes cursor.old.left }
     ensures lawful { IsLawful (asked STRICT T.format) }
@@ -87,9 +87,9 @@ fn read_asked<'a, T: Readable<'a>, const STRICT: bool>(
     alloc: Global,
     cursor: &mut Cursor<'a>,
 ) -> Result<T, Fault>
-    requires passed { PassedAsAsked STRICT cursor.old }
+    requires passed { IsReadAsAsked STRICT cursor.old }
     ensures reads { Reads (asked STRICT T.format).at cursor.old cursor.new (map_ok T.view result) }
-    ensures passed { IfOk result (λ _. PassedAsAsked STRICT cursor.new) }
+    ensures passed { IfOk result (λ _. IsReadAsAsked STRICT cursor.new) }
     ensures lawful { IsLawful (asked STRICT T.format) }
     ensures some { TakesBytes (asked STRICT T.format).Encodes }
 {
@@ -196,7 +196,7 @@ fn read_to_end_as<'a, T: Readable<'a>, const STRICT: bool>(
     alloc: Global,
     cursor: &mut Cursor<'a>,
 ) -> Result<Items<T>, Fault>
-    requires passed { PassedAsAsked STRICT cursor.old }
+    requires passed { IsReadAsAsked STRICT cursor.old }
     ensures reads { Reads (to_end (asked STRICT T.format)).at cursor.old cursor.new (map_ok T.views result) }
     ensures given { IfOk result (λ items. Joined (asked STRICT T.format).Encodes cursor.old.left (T.views items)) }
     ensures ended { IfOk result (λ _. cursor.new.left ≡ []) }

@@ -6,7 +6,7 @@ ghost use Rattle.wasm_codec.specs.Reading.{map_ok};
 ghost use Rattle.wasm_codec.specs.Lawful.{IsPrefixFree};
 ghost use Rattle.wasm_codec.specs.Answers.{IsOrMemory, IfRefused, IsLongestPrefix};
 ghost use Rattle.wasm_codec.specs.Encoding.{IsShortestOrLonger};
-ghost use Rattle.wasm_modules.specs.Sections.{SectionParts, DecodedSection, all_parts_of, parts_of};
+ghost use Rattle.wasm_modules.specs.formats.Sections.{SectionParts, DecodedSection, all_parts_of, parts_of};
 ghost use Rattle.wasm_codec.specs.formats.Combinators.{asked};
 ghost use Rattle.wasm_modules.specs.Modules.{IsSection, IsModulePrefix, IsModulePrefixOf, IsShortestModulePrefix};
 ghost use Rattle.wasm_modules.specs.formats.Modules.{raw_section, module_of, raw_module, ShortestModule, decoded_section, decoded_module, HoldsContent};
@@ -128,8 +128,7 @@ impl<'a> Readable<'a> for RawSection<'a> {
 
     ghost format = { raw_section };
 
-    fn read(alloc: Global, cursor: &mut Cursor<'a>) -> Result<RawSection<'a>, Fault> {
-        let _ = alloc;
+    fn read(_alloc: Global, cursor: &mut Cursor<'a>) -> Result<RawSection<'a>, Fault> {
         read_section(cursor)
     }
 }

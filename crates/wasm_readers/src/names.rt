@@ -1,6 +1,6 @@
 //! The names of instructions in the text format (Core 3.0, Text Format, Instructions).
 ghost use Rattle.std.specs.Prelude.{◌≡◌, is_some};
-ghost use Rattle.wasm_instructions.specs.Opcodes.{kind};
+ghost use Rattle.wasm_instructions.specs.formats.Opcodes.{opcode_kind};
 
 mod places;
 
@@ -11,7 +11,7 @@ use wasm_instructions::table::{Opcode, Prefix};
 /// table. Both opcodes of `select` have that name.
 pub fn opcode_name(opcode: Opcode) -> Option<&'static str>
     // Every opcode of the table has a name, and no other.
-    ensures { is_some result ≡ is_some (kind opcode) }
+    ensures { is_some result ≡ is_some (opcode_kind opcode) }
 {
     opcode.kind()?;
     let place = opcode.number as usize;

@@ -194,8 +194,7 @@ impl<'a> Readable<'a> for Catch {
 
     ghost format = { catch_clause };
 
-    fn read(alloc: Global, cursor: &mut Cursor<'a>) -> Result<Catch, Fault> {
-        let _ = alloc;
+    fn read(_alloc: Global, cursor: &mut Cursor<'a>) -> Result<Catch, Fault> {
         read_catch(cursor)
     }
 }
@@ -211,8 +210,7 @@ impl<'a> Readable<'a> for Handle {
 
     ghost format = { handle_clause };
 
-    fn read(alloc: Global, cursor: &mut Cursor<'a>) -> Result<Handle, Fault> {
-        let _ = alloc;
+    fn read(_alloc: Global, cursor: &mut Cursor<'a>) -> Result<Handle, Fault> {
         read_handle(cursor)
     }
 }

@@ -1,7 +1,7 @@
 //! Fields, composite types, subtypes and entries of a type section (Core 3.0, Composite Types, Recursive Types and Type
 //! Section).
 ghost use Rattle.std.specs.Prelude.{◌≡◌, IfErr, refl};
-ghost use Rattle.wasm_codec.specs.Grammar.{TakesBytes};
+ghost use Rattle.wasm_codec.specs.formats.Grammar.{TakesBytes};
 ghost use Rattle.wasm_codec.specs.Reading.{map_ok};
 ghost use Rattle.wasm_codec.specs.Places.{Reads};
 ghost use Rattle.wasm_codec.specs.Lawful.{IsLawful};
@@ -172,7 +172,7 @@ fn read_sub_type(alloc: Global, cursor: &mut Cursor<'_>) -> Result<SubType, Faul
         cursor.byte()?;
         let ty = read_with_supertypes(alloc, cursor, true)?;
         if ty.supertype_idxs.as_slice().is_empty() {
-            cursor.long_form();
+            cursor.note_long_form();
         }
         return Ok(ty);
     }

@@ -4,7 +4,7 @@ use Rattle.std.proofs.Math.Seq.{take-length}
 use Rattle.std.proofs.lemmas.List.{append-nil}
 use Rattle.wasm_codec.specs.Answers.{IsOrMemory}
 use Rattle.wasm_codec.specs.Encoding.{IsShortestOrLonger}
-use Rattle.wasm_codec.specs.Grammar.{IsBytes}
+use Rattle.wasm_codec.specs.formats.Grammar.{IsBytes}
 use Rattle.wasm_codec.specs.declared.reader.cursor.Fault.{Fault}
 use Rattle.wasm_codec.specs.declared.reader.cursor.Fault.TheVariants as faults
 use Rattle.wasm_codec.specs.declared.reader.ReadError.{ReadError}
@@ -13,13 +13,13 @@ use Rattle.wasm_codec.proofs.ListReading.{AtMostOne}
 use Rattle.wasm_codec.proofs.PlaceLists.{Lawful-narrow}
 use Rattle.wasm_codec.specs.Lawful.{IsLawful, IsLawfulBody}
 use Rattle.wasm_codec.specs.Places.{Place, place, keeps, Reads}
-use Rattle.wasm_codec.specs.Rewriter.{Rewriting, after_at}
+use Rattle.wasm_codec.specs.Rewriter.{Rewriting, rewriting_after}
 use Rattle.wasm_codec.specs.formats.Bodies.{bytes_to_end}
 use Rattle.wasm_codec.specs.formats.Combinators.{Format, ◌⊗◌, narrow}
 use Rattle.wasm_codec.proofs.BodyLaws.{encodes_one, Lawful-bytes_to_end, Lawful-made-body, Lawful-then-body}
 use Rattle.wasm_codec.proofs.Laws.{bind_some, some_is}
 use Rattle.wasm_codec.proofs.RewriterLaws.{is_after, after_is}
-use Rattle.wasm_sections.specs.Entries.{CustomParts}
+use Rattle.wasm_sections.specs.formats.EntryParts.{CustomParts}
 use Rattle.wasm_sections.specs.Prefixes.{IsNothingOr, IsRefusedAt, ReadsWholeAs, TellsPrefixes}
 use Rattle.wasm_sections.specs.formats.Names.{name}
 use Rattle.wasm_sections.specs.formats.Sections.{custom_of, parts_of_custom, custom_body}
@@ -33,7 +33,7 @@ pub custom_refused : (p : Place) → name.at p ≡ None → custom_body.at p ≡
 unfolding custom_body
 custom_refused p none = rw none refl
 
-pub custom_rewritten : (old mid new : Rewriting) → after_at name old ≡ Some mid → after_at bytes_to_end mid ≡ Some new → after_at custom_body old ≡ Some new
+pub custom_rewritten : (old mid new : Rewriting) → rewriting_after name old ≡ Some mid → rewriting_after bytes_to_end mid ≡ Some new → rewriting_after custom_body old ≡ Some new
 unfolding custom_body
 custom_rewritten old mid new e f =
     let n = is_after name old mid e in

@@ -2,13 +2,13 @@
 use Rattle.std.proofs.Common.{◌≡◌, ℕ, ◌+◌, List, ◌++◌, length, take, drop, length-append, Result, Ok, Err, OnOk, append_assoc, refl, sym, ap, ◌∙◌, arith}
 use Rattle.std.proofs.Math.Seq.{take-append_seam}
 use Rattle.std.proofs.lemmas.List.{take-append-drop}
-use Rattle.wasm_codec.specs.Grammar.{IsBytes}
-use Rattle.wasm_codec.specs.Numbers.{unsigned_leb128}
+use Rattle.wasm_codec.specs.formats.Grammar.{IsBytes}
+use Rattle.wasm_codec.specs.Leb128.{unsigned_leb128}
 use Rattle.wasm_codec.specs.Encoding.{byte_list_bytes, IsCount, IsShortest}
 use Rattle.wasm_codec.proofs.NumberLaws.{written}
 use Rattle.wasm_types.proofs.WrittenTypes.{in_range_of}
-use Rattle.wasm_sections.specs.Entries.{CustomParts}
-use Rattle.wasm_sections.specs.ModuleSections.{custom}
+use Rattle.wasm_sections.specs.formats.EntryParts.{CustomParts}
+use Rattle.wasm_sections.specs.formats.ModuleSectionParts.{custom}
 use Rattle.wasm_sections.specs.SectionBytes.{IsSectionAfter}
 use Rattle.wasm_sections.specs.formats.Names.{name}
 use Rattle.wasm_sections.specs.formats.Sections.{custom_body}

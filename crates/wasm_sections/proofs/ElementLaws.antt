@@ -8,9 +8,9 @@ use Rattle.wasm_types.specs.declared.types.heap.HeapType.TheVariants.{Abstract, 
 use Rattle.wasm_types.specs.declared.types.heap.RefType.{RefType}
 use Rattle.wasm_types.specs.formats.Types.{ref_type}
 use Rattle.wasm_types.proofs.TypeFormatLaws.{Lawful-ref-type}
-use Rattle.wasm_instructions.specs.Instructions.{Instruction}
+use Rattle.wasm_instructions.specs.formats.Instructions.{Instruction}
 use Rattle.wasm_codec.specs.formats.Combinators.{◌⊗◌, u32, items}
-use Rattle.wasm_codec.specs.Grammar.{TakesBytes}
+use Rattle.wasm_codec.specs.formats.Grammar.{TakesBytes}
 use Rattle.wasm_codec.specs.Places.{Place}
 use Rattle.wasm_codec.specs.Lawful.{IsLawful}
 use Rattle.wasm_sections.proofs.SegmentLaws.{left_out}

@@ -1,10 +1,10 @@
 -- What is rewritten of element segments that name table 0, and of the types that are told.
 use Rattle.std.proofs.Common.{◌≡◌, ℕ, ◌+◌, ◌≤◌, ◌<◌, true, List, [], ◌∷◌, ◌++◌, length, take, drop, Some, None, Option, Ok, refl, sym, ap, ◌∙◌, append_assoc, length-append, arith}
 use Rattle.std.proofs.lemmas.List.{take_at, drop_at, set_at}
-use Rattle.wasm_codec.specs.Grammar.{TakesBytes, IsBytes}
-use Rattle.wasm_codec.specs.Numbers.{unsigned_leb128, digits_of}
+use Rattle.wasm_codec.specs.formats.Grammar.{TakesBytes, IsBytes}
+use Rattle.wasm_codec.specs.Leb128.{unsigned_leb128, digits_of}
 use Rattle.wasm_codec.specs.Places.{Place, place, Reads}
-use Rattle.wasm_codec.specs.Rewriter.{Rewriting, rewritten_at, after_at, without, with_byte}
+use Rattle.wasm_codec.specs.Rewriter.{Rewriting, rewritten_at, rewriting_after, without, with_byte}
 use Rattle.wasm_codec.specs.formats.Combinators.{Format, u32, items}
 use Rattle.wasm_codec.proofs.FormatLaws.{takes_bytes}
 use Rattle.wasm_codec.proofs.RewriterLaws.{is_given, is_after}
@@ -29,7 +29,7 @@ expr_takes = takes_bytes expr_is_lawful refl
 given_is : {V : Type 0} (F : Format V) (p q : Rewriting) (v : V) → F.at p.place ≡ Some (v, q.place) → q.done ≡ p.done ++ F.bytes v → q.rest ≡ p.rest → rewritten_at F p ≡ Some (v, q)
 given_is F p q v read written rest = rw (read, ← written, ← rest) refl
 
-pub told_type : (old new : Rewriting) (here cursor : Place) (ty : RefType) → IsBytes old.place.left → here ≡ place true old.place.left → Reads ref_type.at here cursor (Ok ty) → after_at ref_type old ≡ Some new → rewritten_at ref_type old ≡ Some (ty, new)
+pub told_type : (old new : Rewriting) (here cursor : Place) (ty : RefType) → IsBytes old.place.left → here ≡ place true old.place.left → Reads ref_type.at here cursor (Ok ty) → rewriting_after ref_type old ≡ Some new → rewritten_at ref_type old ≡ Some (ty, new)
 told_type old new here cursor ty fits is read e =
     let one = is_after ref_type old new e in
     let plain_old = plain_some Lawful-ref-type old.place one.value new.place fits one.given.is_read in
@@ -66,7 +66,7 @@ unfolding unsigned_leb128 digits_of
 six_digit = refl
 
 -- the byte of its kind or type was written at a mark, after the number of its form, the index and the expression
-module _ (n : ℕ) (old start mid at end : Rewriting) (mark kind b : ℕ) (back : List ℕ) (digit : unsigned_leb128 n ≡ n ∷ []) (begun : rewritten_at u32 old ≡ Some (n, start)) (named : rewritten_at u32 start ≡ Some (0, mid)) (placed : after_at expr mid ≡ Some at) (mark_is : mark ≡ length old.done) (kind_is : kind ≡ length at.done) (written : end.done ≡ at.done ++ b ∷ back) where
+module _ (n : ℕ) (old start mid at end : Rewriting) (mark kind b : ℕ) (back : List ℕ) (digit : unsigned_leb128 n ≡ n ∷ []) (begun : rewritten_at u32 old ≡ Some (n, start)) (named : rewritten_at u32 start ≡ Some (0, mid)) (placed : rewriting_after expr mid ≡ Some at) (mark_is : mark ≡ length old.done) (kind_is : kind ≡ length at.done) (written : end.done ≡ at.done ++ b ∷ back) where
   abbrev offset_bytes : List ℕ
   offset_bytes = expr.bytes (is_after expr mid at placed).value
 
@@ -100,7 +100,7 @@ module _ (n : ℕ) (old start mid at end : Rewriting) (mark kind b : ℕ) (back 
   index_set = rw number_cut (set_at old.done 0 (offset_bytes ++ back) 4 mark (sym mark_is))
 
 -- what was its index is the number of the form
-module _ (old start mid at end : Rewriting) (mark kind : ℕ) (begun : rewritten_at u32 old ≡ Some (2, start)) (named : rewritten_at u32 start ≡ Some (0, mid)) (placed : after_at expr mid ≡ Some at) (functions : after_at kind_and_functions at ≡ Some end) (mark_is : mark ≡ length old.done) (kind_is : kind ≡ length at.done) where
+module _ (old start mid at end : Rewriting) (mark kind : ℕ) (begun : rewritten_at u32 old ≡ Some (2, start)) (named : rewritten_at u32 start ≡ Some (0, mid)) (placed : rewriting_after expr mid ≡ Some at) (functions : rewriting_after kind_and_functions at ≡ Some end) (mark_is : mark ≡ length old.done) (kind_is : kind ≡ length at.done) where
   abbrev indexes : List ℕ
   indexes = (items u32).bytes (is_after kind_and_functions at end functions).value
 
@@ -110,7 +110,7 @@ module _ (old start mid at end : Rewriting) (mark kind : ℕ) (begun : rewritten
   pub number_of_functions_there : mark + 1 ≤ length (without kind 1 end).done
   number_of_functions_there = number_there 2 old start mid at end mark kind 0 indexes two_digit begun named placed mark_is kind_is (is_after kind_and_functions at end functions).given.written
 
-  pub functions_of_table_0 : after_at element_segment old ≡ Some (without mark 1 (without kind 1 end))
+  pub functions_of_table_0 : rewriting_after element_segment old ≡ Some (without mark 1 (without kind 1 end))
   unfolding element_segment
   functions_of_table_0 =
       let g = is_given u32 old 2 start begun in
@@ -121,7 +121,7 @@ module _ (old start mid at end : Rewriting) (mark kind : ℕ) (begun : rewritten
       by_another_number element_number element_form old start 2 begun end.place (without mark 1 (without kind 1 end)) (element (modes.Active 0 one.value) (held.Functions two.value)) (rw (z.is_read, one.given.is_read, two.given.is_read) refl) refl refl (written ∙ ap (λ (d : List ℕ). old.done ++ (d ++ (expr.bytes one.value ++ indexes))) (sym zero_digit)) (two.given.rest ∙ one.given.rest ∙ z.rest ∙ g.rest)
 
 -- and 4 is put in its place, where the type is the one that isn't told
-module _ (old start mid at typed end : Rewriting) (mark kind : ℕ) (ty : RefType) (begun : rewritten_at u32 old ≡ Some (6, start)) (named : rewritten_at u32 start ≡ Some (0, mid)) (placed : after_at expr mid ≡ Some at) (told : rewritten_at ref_type at ≡ Some (ty, typed)) (func : true ≡ is_funcref ty) (expressions : after_at (items expr) typed ≡ Some end) (mark_is : mark ≡ length old.done) (kind_is : kind ≡ length at.done) where
+module _ (old start mid at typed end : Rewriting) (mark kind : ℕ) (ty : RefType) (begun : rewritten_at u32 old ≡ Some (6, start)) (named : rewritten_at u32 start ≡ Some (0, mid)) (placed : rewriting_after expr mid ≡ Some at) (told : rewritten_at ref_type at ≡ Some (ty, typed)) (func : true ≡ is_funcref ty) (expressions : rewriting_after (items expr) typed ≡ Some end) (mark_is : mark ≡ length old.done) (kind_is : kind ≡ length at.done) where
   type_byte : ref_type.bytes funcref ≡ 0x70 ∷ []
   unfolding ref_type abstract_type
   type_byte = refl
@@ -147,7 +147,7 @@ module _ (old start mid at typed end : Rewriting) (mark kind : ℕ) (ty : RefTyp
   pub index_of_expressions_there : mark < length (without mark 1 (without kind 1 end)).done
   index_of_expressions_there = index_there 6 old start mid at end mark kind 0x70 initials six_digit begun named placed mark_is kind_is typed_is
 
-  pub expressions_of_table_0 : after_at element_segment old ≡ Some (with_byte mark 4 (without mark 1 (without kind 1 end)))
+  pub expressions_of_table_0 : rewriting_after element_segment old ≡ Some (with_byte mark 4 (without mark 1 (without kind 1 end)))
   unfolding element_segment
   expressions_of_table_0 =
       let g = is_given u32 old 6 start begun in

@@ -3,7 +3,8 @@ use Rattle.std.proofs.Common.{◌≡◌, ℕ, ◌^◌, ◌<◌, Bool, true, fals
 use Rattle.std.specs.Prelude.{is_some}
 use Rattle.std.specs.List.{All}
 use Rattle.std.proofs.lemmas.Bool.{eqb-true}
-use Rattle.wasm_codec.specs.Numbers.{unsigned_leb128, EncodesU32}
+use Rattle.wasm_codec.specs.Leb128.{unsigned_leb128}
+use Rattle.wasm_codec.specs.formats.Numbers.{EncodesU32}
 use Rattle.wasm_codec.specs.Encoding.{IsCount, IsShortest}
 use Rattle.wasm_codec.specs.formats.Combinators.{u32, items}
 use Rattle.wasm_codec.proofs.FormatLaws.{Lawful-u32}
@@ -13,7 +14,7 @@ use Rattle.wasm_types.specs.TypeRanges.{HeapTypeFits}
 use Rattle.wasm_types.specs.formats.Types.{ref_type}
 use Rattle.wasm_types.proofs.TypeFormatLaws.{Lawful-ref-type}
 use Rattle.wasm_types.proofs.WrittenTypes.{all_in_range, in_range_of, ref_written}
-use Rattle.wasm_instructions.specs.Instructions.{Instruction}
+use Rattle.wasm_instructions.specs.formats.Instructions.{Instruction}
 use Rattle.wasm_sections.specs.declared.elements.ElementMode.{ElementMode}
 use Rattle.wasm_sections.specs.declared.elements.ElementMode.TheVariants as modes
 use Rattle.wasm_sections.specs.declared.elements.Elements.{Elements}

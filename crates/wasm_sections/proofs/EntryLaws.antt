@@ -2,7 +2,7 @@
 use Rattle.std.proofs.Common.{Some, refl, lit≤}
 use Rattle.std.specs.Prelude.{is_some}
 use Rattle.wasm_types.specs.formats.Types.{ref_type, val_type, abstract_type}
-use Rattle.wasm_codec.specs.Grammar.{TakesBytes}
+use Rattle.wasm_codec.specs.formats.Grammar.{TakesBytes}
 use Rattle.wasm_codec.specs.Lawful.{IsLawful}
 use Rattle.wasm_codec.proofs.FormatLaws.{Every-after, Every-made, Lawful-after, Lawful-or-after, Lawful-or-else, Lawful-made, Lawful-both, Lawful-u32, takes_bytes}
 use Rattle.wasm_codec.specs.formats.Combinators.{u32}

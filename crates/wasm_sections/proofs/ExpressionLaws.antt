@@ -8,8 +8,10 @@ use Rattle.wasm_instructions.specs.declared.table.opcode.Opcode.{Opcode}
 use Rattle.wasm_instructions.specs.declared.table.opcode.Kind.TheVariants as kinds
 use Rattle.wasm_instructions.specs.declared.table.call.Operands.{Operands}
 use Rattle.wasm_instructions.specs.declared.table.call.Operands.TheVariants as operands
-use Rattle.wasm_instructions.specs.Opcodes.{kind, ranges}
-use Rattle.wasm_instructions.specs.Instructions.{Instruction, call, without_prefix, kind_of, IsCall}
+use Rattle.wasm_instructions.specs.formats.Opcodes.{opcode_kind, ranges}
+use Rattle.wasm_instructions.specs.formats.Instructions.{Instruction, call}
+use Rattle.wasm_instructions.specs.formats.Opcodes.{without_prefix}
+use Rattle.wasm_instructions.specs.Instructions.{kind_of, IsCall}
 use Rattle.wasm_instructions.specs.formats.Instructions.{instruction}
 use Rattle.wasm_instructions.proofs.InstructionFormatLaws.{Lawful-instruction, instruction_takes, encodes_call}
 use Rattle.wasm_sections.specs.formats.Parts.{goes_on, ends, AreEnded}
@@ -37,13 +39,13 @@ none_of : (o : Operands) → Some kinds.None ≡ Some (kind_of o) → o ≡ oper
 none_of operands.None e = refl
 none_of o e = absurd cc
 
-pub end_kind : kind (without_prefix 0x0b) ≡ Some kinds.None
+pub end_kind : opcode_kind (without_prefix 0x0b) ≡ Some kinds.None
 unfolding ranges
 end_kind = refl
 
 is_end : (op : Opcode) (o : Operands) → op ≡ without_prefix 0x0b → IsCall op o → call op o ≡ end_call
 is_end op o is h =
-    let none : o ≡ operands.None = none_of o (sym end_kind ∙ sym (ap kind is) ∙ h) in
+    let none : o ≡ operands.None = none_of o (sym end_kind ∙ sym (ap opcode_kind is) ∙ h) in
     ap (λ (p : Opcode). call p o) is ∙ ap (λ (p : Operands). call (without_prefix 0x0b) p) none
 
 pub only_end : (depth : ℕ) (i : Instruction) → instruction.InRange i → nested depth i.op ≡ ends → i ≡ end_call

@@ -4,12 +4,12 @@ use Rattle.std.proofs.lemmas.List.{append-nil, flat_map_more}
 use Rattle.std.specs.List.{flat_map}
 use Rattle.wasm_codec.specs.declared.reader.cursor.Fault.{Fault}
 use Rattle.wasm_codec.specs.declared.reader.cursor.Fault.TheVariants as faults
-use Rattle.wasm_codec.specs.Grammar.{IsBytes}
+use Rattle.wasm_codec.specs.formats.Grammar.{IsBytes}
 use Rattle.wasm_codec.specs.Places.{Place, Sees, byte_at}
-use Rattle.wasm_codec.specs.Rewriter.{Rewriting, after_at, Rewrites}
+use Rattle.wasm_codec.specs.Rewriter.{Rewriting, rewriting_after, Rewrites}
 use Rattle.wasm_codec.proofs.FormatLaws.{read_in_range}
 use Rattle.wasm_codec.proofs.RewriterLaws.{is_after, after_is}
-use Rattle.wasm_instructions.specs.Instructions.{Instruction}
+use Rattle.wasm_instructions.specs.formats.Instructions.{Instruction}
 use Rattle.wasm_instructions.specs.formats.Instructions.{instruction}
 use Rattle.wasm_instructions.proofs.InstructionFormatLaws.{Lawful-instruction}
 use Rattle.wasm_sections.specs.formats.Parts.{goes_on, ends, fails, until_at}
@@ -30,7 +30,7 @@ expr_begun old most e =
     let read : until_at by_opcode instruction.at most 0 old.place ≡ expr.at old.place = rw e refl in
     record { items = []; gone = none_gone by_opcode instruction.at (expr.at old.place) most 0 old.place read; written = sym (append-nil old.done); rest = refl }
 
-module _ (old here next : Rewriting) (most i depth b : ℕ) (after : Place) (lt : i < most) (w : ExprGoing old here most i depth) (first : byte_at here.place ≡ Some (b, after)) (e : after_at instruction here ≡ Some next) where
+module _ (old here next : Rewriting) (most i depth b : ℕ) (after : Place) (lt : i < most) (w : ExprGoing old here most i depth) (first : byte_at here.place ≡ Some (b, after)) (e : rewriting_after instruction here ≡ Some next) where
   one_more_written : (v : Instruction) → next.done ≡ here.done ++ instruction.bytes v → next.done ≡ old.done ++ flat_map instruction.bytes (w.items ++ v ∷ [])
   one_more_written v is = is ∙ ap (λ (d : List ℕ). d ++ instruction.bytes v) w.written ∙ flat_map_more instruction.bytes old.done w.items v
 
@@ -45,7 +45,7 @@ module _ (old here next : Rewriting) (most i depth b : ℕ) (after : Place) (lt 
         rest = one.given.rest ∙ w.rest;
       }
 
-  pub expr_ends : IsBytes here.place.left → ends ≡ nested_by depth b → after_at expr old ≡ Some next
+  pub expr_ends : IsBytes here.place.left → ends ≡ nested_by depth b → rewriting_after expr old ≡ Some next
   unfolding expr
   expr_ends fits move =
       let one = is_after instruction here next e in

@@ -3,7 +3,7 @@ use Rattle.std.proofs.Common.{◌≡◌, ◌↔◌, ℕ, Bool, true, false, eqb,
 use Rattle.std.proofs.lemmas.Bool.{eqb-true}
 use Rattle.std.proofs.lemmas.List.{append-nil, take-map, take_all, map_push}
 use Rattle.std.proofs.Math.Seq.{take-add, drop-cons}
-use Rattle.wasm_sections.specs.ModuleSections.{ModuleSectionParts}
+use Rattle.wasm_sections.specs.formats.ModuleSectionParts.{ModuleSectionParts}
 use Rattle.wasm_sections.specs.ModuleOrder.{rank, later, AreInOrder}
 
 -- so many sections are in order, and what comes after them must go on from this rank

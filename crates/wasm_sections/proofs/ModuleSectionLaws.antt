@@ -1,7 +1,7 @@
 -- The laws of sections with what they hold.
 use Rattle.std.proofs.Common.{◌≡◌, ℕ, List, refl, sym, subst, lit≤}
 use Rattle.std.specs.List.{AllByRecursion}
-use Rattle.wasm_codec.specs.Grammar.{TakesBytes}
+use Rattle.wasm_codec.specs.formats.Grammar.{TakesBytes}
 use Rattle.wasm_codec.specs.Lawful.{IsLawful, IsLawfulBody}
 use Rattle.wasm_codec.proofs.ListReading.{AtMostOne}
 use Rattle.wasm_modules.proofs.ModuleFormatLaws.{Lawful-module-of, one_module_of}
@@ -10,7 +10,7 @@ use Rattle.wasm_codec.proofs.BodyLaws.{Lawful-body, Lawful-sized}
 use Rattle.wasm_types.proofs.TypeFormatLaws.{Lawful-type-body}
 use Rattle.wasm_modules.proofs.CodeBodyLaws.{Lawful-code-section-body}
 use Rattle.wasm_sections.specs.formats.Sections.{import_body, function_body, table_body, memory_body, global_body, export_body, start_body, element_body, data_body, data_count_body, tag_body}
-use Rattle.wasm_sections.specs.ModuleSections.{ModuleSectionParts, custom, types, imports, functions, tables, memories, globals, exports, start, elements, code, data_segments, data_count, tags}
+use Rattle.wasm_sections.specs.formats.ModuleSectionParts.{ModuleSectionParts, custom, types, imports, functions, tables, memories, globals, exports, start, elements, code, data_segments, data_count, tags}
 use Rattle.wasm_sections.specs.formats.ModuleSections.{section_id, custom_part, types_part, imports_part, functions_part, tables_part, memories_part, globals_part, exports_part, start_part, elements_part, code_part, data_segments_part, data_count_part, tags_part, module_section, whole_module}
 use Rattle.wasm_sections.proofs.CustomLaws.{custom_is_lawful}
 use Rattle.wasm_sections.proofs.EntryLaws.{import_is_lawful, table_is_lawful, memory_is_lawful, global_is_lawful, export_is_lawful, tag_is_lawful}

@@ -11,12 +11,12 @@ use Rattle.wasm_codec.specs.formats.Combinators.{Format, a_byte, items, u32}
 use Rattle.wasm_codec.proofs.RewriterLaws.{is_given, is_after, after_is}
 use Rattle.wasm_types.specs.formats.Types.{recursive_type, type_body}
 use Rattle.wasm_modules.specs.formats.CodeBodies.{code_body, code_section_body}
-use Rattle.wasm_sections.specs.ModuleSections.{ModuleSectionParts, custom, types, imports, functions, tables, memories, globals, exports, start, elements, code, data_segments, data_count, tags}
+use Rattle.wasm_sections.specs.formats.ModuleSectionParts.{ModuleSectionParts, custom, types, imports, functions, tables, memories, globals, exports, start, elements, code, data_segments, data_count, tags}
 use Rattle.wasm_sections.specs.formats.Elements.{element_segment}
 use Rattle.wasm_sections.specs.formats.Entries.{import_entry, table_entry, global_entry, export_entry}
 use Rattle.wasm_sections.specs.formats.Externals.{memory_type, tag_type}
 use Rattle.wasm_sections.specs.formats.Segments.{data_segment}
-use Rattle.wasm_sections.specs.Entries.{CustomParts}
+use Rattle.wasm_sections.specs.formats.EntryParts.{CustomParts}
 use Rattle.wasm_sections.specs.formats.Names.{name}
 use Rattle.wasm_sections.proofs.CustomLaws.{custom_refused}
 use Rattle.wasm_sections.specs.formats.Sections.{custom_of, custom_body, import_body, function_body, table_body, memory_body, global_body, export_body, start_body, element_body, data_body, data_count_body, tag_body}

@@ -1,7 +1,7 @@
 -- The law of names: what is read is what is encoded, and the shortest encoding is known.
 use Rattle.std.proofs.Common.{◌≡◌, Bool, true, false, cond, ℕ, List, [], Option, Some, None, refl, ap, subst, inl}
 use Rattle.std.specs.Str.{is_utf8}
-use Rattle.wasm_codec.specs.Grammar.{IsBytes}
+use Rattle.wasm_codec.specs.formats.Grammar.{IsBytes}
 use Rattle.wasm_codec.specs.Places.{Place, place}
 use Rattle.wasm_codec.specs.Lawful.{IsLawful, IsLawfulBody}
 use Rattle.wasm_codec.proofs.Laws.{some_is}

@@ -4,7 +4,7 @@ use Rattle.std.proofs.lemmas.Bool.{le-ltb, lt-ltb}
 use Rattle.std.specs.Str.{IsUtf8, is_utf8}
 use Rattle.std.proofs.lemmas.Str.{is_utf8-from_IsUtf8, IsUtf8-from_is_utf8}
 use Rattle.wasm_codec.specs.Places.{Place, place, u32_at}
-use Rattle.wasm_codec.specs.Rewriter.{Rewriting, after_at}
+use Rattle.wasm_codec.specs.Rewriter.{Rewriting, rewriting_after}
 use Rattle.wasm_codec.specs.formats.Bodies.{bytes_to_end}
 use Rattle.wasm_sections.specs.formats.Names.{utf8_to_end, name}
 
@@ -43,7 +43,7 @@ not_utf8 text not = by (is_utf8 text) refl where
   by false h = refl
 
 -- a text that is UTF-8 stays as it is
-pub text_stays : (old new : Rewriting) (text : List ℕ) → text ≡ old.place.left → IsUtf8 text → after_at bytes_to_end old ≡ Some new → after_at utf8_to_end old ≡ Some new
+pub text_stays : (old new : Rewriting) (text : List ℕ) → text ≡ old.place.left → IsUtf8 text → rewriting_after bytes_to_end old ≡ Some new → rewriting_after utf8_to_end old ≡ Some new
 text_stays old new text is u e =
     let test : is_utf8 old.place.left ≡ true = subst (λ (t : List ℕ). is_utf8 t ≡ true) is (is_utf8-from_IsUtf8 text u) in
     rw test e

@@ -2,7 +2,7 @@
 use Rattle.std.proofs.Common.{◌≡◌, ℕ, ◌<◌, true, List, [], ◌∷◌, length, Some, refl, sym, ap, subst, ◌∙◌, lit≤}
 use Rattle.std.proofs.lemmas.List.{append-nil}
 use Rattle.wasm_codec.specs.Encoding.{byte_list_bytes, IsCount}
-use Rattle.wasm_codec.specs.Numbers.{unsigned_leb128}
+use Rattle.wasm_codec.specs.Leb128.{unsigned_leb128}
 use Rattle.wasm_codec.specs.Lawful.{IsLawful}
 use Rattle.wasm_codec.specs.Places.{Place, place, keeps, byte_at}
 use Rattle.wasm_codec.specs.formats.Bodies.{sized}
@@ -14,7 +14,7 @@ use Rattle.wasm_types.specs.formats.Types.{recursive_type}
 use Rattle.wasm_types.proofs.TypeFormatLaws.{Lawful-recursive-type}
 use Rattle.wasm_modules.specs.formats.CodeBodies.{code_body}
 use Rattle.wasm_modules.proofs.CodeBodyLaws.{Lawful-code_body}
-use Rattle.wasm_sections.specs.ModuleSections.{ModuleSectionParts, custom, types, imports, functions, tables, memories, globals, exports, start, elements, code, data_segments, data_count, tags}
+use Rattle.wasm_sections.specs.formats.ModuleSectionParts.{ModuleSectionParts, custom, types, imports, functions, tables, memories, globals, exports, start, elements, code, data_segments, data_count, tags}
 use Rattle.wasm_sections.specs.SectionBytes.{IsBodyOf, IsSectionAfter}
 use Rattle.wasm_sections.specs.formats.Elements.{element_segment}
 use Rattle.wasm_sections.specs.formats.Entries.{import_entry, table_entry, global_entry, export_entry}

@@ -2,14 +2,14 @@
 use Rattle.std.proofs.Common.{◌≡◌, ℕ, zero, suc, ◌<◌, Bool, true, false, eqb, cond, List, length, length-append, refl, sym, ap, subst, ◌∙◌, lit≤, arith}
 use Rattle.std.proofs.lemmas.Bool.{eqb-true}
 use Rattle.wasm_codec.specs.formats.Combinators.{Format, ◌⊗◌, u32}
-use Rattle.wasm_codec.specs.Grammar.{TakesBytes}
+use Rattle.wasm_codec.specs.formats.Grammar.{TakesBytes}
 use Rattle.wasm_codec.specs.Lawful.{IsLawful, IsLawfulBody}
 use Rattle.wasm_codec.specs.formats.Bodies.{bytes_to_end}
 use Rattle.wasm_codec.proofs.FormatLaws.{takes_bytes, not_longer, Lawful-never, Lawful-made, Lawful-both, Lawful-u32}
 use Rattle.wasm_codec.proofs.BodyLaws.{Lawful-byte-list, Lawful-bytes_to_end}
 use Rattle.wasm_sections.specs.declared.data.DataSegmentMode.{DataSegmentMode}
 use Rattle.wasm_sections.specs.declared.data.DataSegmentMode.TheVariants as data_modes
-use Rattle.wasm_sections.specs.Entries.{DataParts}
+use Rattle.wasm_sections.specs.formats.EntryParts.{DataParts}
 use Rattle.wasm_sections.specs.formats.Segments.{active_data, passive_data, first_data_part, any_data_part, passive_data_part, data_number, data_form, data_segment}
 use Rattle.wasm_sections.proofs.PartLaws.{Lawful-numbered, number_takes}
 use Rattle.wasm_sections.proofs.ExpressionLaws.{expr_is_lawful}

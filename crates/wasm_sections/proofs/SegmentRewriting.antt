@@ -1,9 +1,9 @@
 -- What is read and rewritten of data segments, by the number of their form.
 use Rattle.std.proofs.Common.{◌≡◌, ℕ, zero, suc, ◌+◌, ◌≤◌, Bool, true, false, eqb, not, ◌&&◌, List, [], ◌∷◌, ◌++◌, length, take, drop, Some, None, refl, sym, ap, ◌∙◌, append_assoc, length-append, arith}
 use Rattle.std.proofs.lemmas.List.{take_at, drop_at}
-use Rattle.wasm_codec.specs.Numbers.{unsigned_leb128, digits_of}
+use Rattle.wasm_codec.specs.Leb128.{unsigned_leb128, digits_of}
 use Rattle.wasm_codec.specs.Places.{Place, place, unless}
-use Rattle.wasm_codec.specs.Rewriter.{Rewriting, rewritten_at, after_at, without}
+use Rattle.wasm_codec.specs.Rewriter.{Rewriting, rewritten_at, rewriting_after, without}
 use Rattle.wasm_codec.specs.formats.Bodies.{byte_list}
 use Rattle.wasm_codec.specs.formats.Combinators.{Format, ◌⊗◌, u32}
 use Rattle.wasm_codec.proofs.RewriterLaws.{is_given, is_after, after_is}
@@ -32,7 +32,7 @@ unless_false p = ap (λ (s : Bool). place s p.left) (and_true p.shortest) where
 
 module _ {V : Type 0} (number_of : V → ℕ) (G : ℕ → Format V) (old start : Rewriting) (n : ℕ) (begun : rewritten_at u32 old ≡ Some (n, start)) where
   -- a value that was read by its own number
-  pub by_its_number : (end : Rewriting) (v : V) → (G n).at start.place ≡ Some (v, end.place) → end.done ≡ start.done ++ (G n).bytes v → end.rest ≡ start.rest → n ≡ number_of v → eqb n (number_of v) ≡ true → after_at (numbered number_of G) old ≡ Some end
+  pub by_its_number : (end : Rewriting) (v : V) → (G n).at start.place ≡ Some (v, end.place) → end.done ≡ start.done ++ (G n).bytes v → end.rest ≡ start.rest → n ≡ number_of v → eqb n (number_of v) ≡ true → rewriting_after (numbered number_of G) old ≡ Some end
   by_its_number end v read written rest is same =
       let g = is_given u32 old n start begun in
       let own : not (eqb n (number_of v)) ≡ false = ap not same in
@@ -42,26 +42,26 @@ module _ {V : Type 0} (number_of : V → ℕ) (G : ℕ → Format V) (old start 
 
   -- and one that was read by another number, and is written by its own
   pub by_another_number : (end : Place) (new : Rewriting) (v : V) → (G n).at start.place ≡ Some (v, end) → eqb n (number_of v) ≡ false → new.place ≡ place false end.left → new.done ≡ old.done ++ numbered_bytes number_of G v → new.rest ≡ old.rest
-      → after_at (numbered number_of G) old ≡ Some new
+      → rewriting_after (numbered number_of G) old ≡ Some new
   by_another_number end new v read differs left written rest =
       let g = is_given u32 old n start begun in
       let at : (numbered number_of G).at old.place ≡ Some (v, new.place) = rw (g.is_read, read, differs, left) (ap (λ (p : Place). Some (v, p)) (unless_true end)) in
       after_is (numbered number_of G) old new v at written rest
 
-pub placed_rewritten : (old start end : Rewriting) → rewritten_at u32 old ≡ Some (0, start) → after_at (expr ⊗ byte_list) start ≡ Some end → after_at data_segment old ≡ Some end
+pub placed_rewritten : (old start end : Rewriting) → rewritten_at u32 old ≡ Some (0, start) → rewriting_after (expr ⊗ byte_list) start ≡ Some end → rewriting_after data_segment old ≡ Some end
 unfolding data_segment
 placed_rewritten old start end begun e =
     let one = is_after (expr ⊗ byte_list) start end e in
     by_its_number data_number data_form old start 0 begun end (active_data 0 one.value) (rw one.given.is_read refl) one.given.written one.given.rest refl refl
 
-pub passive_rewritten : (old start end : Rewriting) → rewritten_at u32 old ≡ Some (1, start) → after_at byte_list start ≡ Some end → after_at data_segment old ≡ Some end
+pub passive_rewritten : (old start end : Rewriting) → rewritten_at u32 old ≡ Some (1, start) → rewriting_after byte_list start ≡ Some end → rewriting_after data_segment old ≡ Some end
 unfolding data_segment
 passive_rewritten old start end begun e =
     let one = is_after byte_list start end e in
     by_its_number data_number data_form old start 1 begun end (passive_data one.value) (rw one.given.is_read refl) one.given.written one.given.rest refl refl
 
 -- a memory that isn't 0 stays named
-pub memory_kept : (old start mid end : Rewriting) (memory : ℕ) → rewritten_at u32 old ≡ Some (2, start) → rewritten_at u32 start ≡ Some (memory, mid) → after_at (expr ⊗ byte_list) mid ≡ Some end → eqb memory 0 ≡ false → after_at data_segment old ≡ Some end
+pub memory_kept : (old start mid end : Rewriting) (memory : ℕ) → rewritten_at u32 old ≡ Some (2, start) → rewritten_at u32 start ≡ Some (memory, mid) → rewriting_after (expr ⊗ byte_list) mid ≡ Some end → eqb memory 0 ≡ false → rewriting_after data_segment old ≡ Some end
 unfolding data_segment
 memory_kept old start mid end memory begun named e other =
     let g = is_given u32 start memory mid named in
@@ -74,7 +74,7 @@ unfolding unsigned_leb128 digits_of
 two_digits = refl
 
 -- memory 0 is left unnamed: what was its index is the number of the form
-pub memory_left_out : (old start mid end : Rewriting) (mark : ℕ) → rewritten_at u32 old ≡ Some (2, start) → rewritten_at u32 start ≡ Some (0, mid) → after_at (expr ⊗ byte_list) mid ≡ Some end → mark ≡ length old.done → after_at data_segment old ≡ Some (without mark 1 end)
+pub memory_left_out : (old start mid end : Rewriting) (mark : ℕ) → rewritten_at u32 old ≡ Some (2, start) → rewritten_at u32 start ≡ Some (0, mid) → rewriting_after (expr ⊗ byte_list) mid ≡ Some end → mark ≡ length old.done → rewriting_after data_segment old ≡ Some (without mark 1 end)
 unfolding data_segment
 memory_left_out old start mid end mark begun named e at =
     let b = is_given u32 old 2 start begun in
@@ -92,7 +92,7 @@ memory_left_out old start mid end mark begun named e at =
     regroup d t l c = simp append_assoc
 
 -- its number is there to be cut out
-pub number_there : (old start mid end : Rewriting) (memory mark : ℕ) → rewritten_at u32 old ≡ Some (2, start) → rewritten_at u32 start ≡ Some (memory, mid) → after_at (expr ⊗ byte_list) mid ≡ Some end → mark ≡ length old.done → mark + 1 ≤ length end.done
+pub number_there : (old start mid end : Rewriting) (memory mark : ℕ) → rewritten_at u32 old ≡ Some (2, start) → rewritten_at u32 start ≡ Some (memory, mid) → rewriting_after (expr ⊗ byte_list) mid ≡ Some end → mark ≡ length old.done → mark + 1 ≤ length end.done
 unfolding unsigned_leb128 digits_of
 number_there old start mid end memory mark begun named e at =
     let b = is_given u32 old 2 start begun in

@@ -1,15 +1,15 @@
 -- What is written of segments.
 use Rattle.std.proofs.Common.{◌≡◌, ℕ, ◌^◌, ◌<◌, Bool, true, false, eqb, List, ◌++◌, length, append_assoc, refl, sym, ap, subst, ◌∙◌}
 use Rattle.std.proofs.lemmas.Bool.{eqb-true}
-use Rattle.wasm_codec.specs.Grammar.{IsBytes}
-use Rattle.wasm_codec.specs.Numbers.{unsigned_leb128}
+use Rattle.wasm_codec.specs.formats.Grammar.{IsBytes}
+use Rattle.wasm_codec.specs.Leb128.{unsigned_leb128}
 use Rattle.wasm_codec.specs.Encoding.{byte_list_bytes, IsCount, IsShortest}
 use Rattle.wasm_codec.proofs.NumberLaws.{written}
-use Rattle.wasm_instructions.specs.Instructions.{Instruction}
+use Rattle.wasm_instructions.specs.formats.Instructions.{Instruction}
 use Rattle.wasm_sections.specs.declared.data.DataSegmentMode.{DataSegmentMode}
 use Rattle.wasm_sections.specs.declared.data.DataSegmentMode.TheVariants as data_modes
 use Rattle.wasm_sections.specs.Closed.{IsClosed, IsClosedData}
-use Rattle.wasm_sections.specs.Entries.{DataParts}
+use Rattle.wasm_sections.specs.formats.EntryParts.{DataParts}
 use Rattle.wasm_sections.specs.SegmentBytes.{data_mode_bytes, DataModeFits}
 use Rattle.wasm_sections.specs.formats.Parts.{part_if}
 use Rattle.wasm_sections.specs.formats.Expressions.{expr}

@@ -2,7 +2,8 @@
 use Rattle.std.proofs.Common.{◌≡◌, ℕ, Bool, ◌+◌, ◌^◌, ◌<◌, true, false, List, [], ◌∷◌, ◌++◌, append_assoc, Option, Some, None, refl, ap, ◌∙◌}
 use Rattle.std.specs.Prelude.{is_some, IfSome}
 use Rattle.wasm_codec.specs.Encoding.{IsShortest}
-use Rattle.wasm_codec.specs.Numbers.{unsigned_leb128, EncodesU32, EncodesU64}
+use Rattle.wasm_codec.specs.Leb128.{unsigned_leb128}
+use Rattle.wasm_codec.specs.formats.Numbers.{EncodesU32, EncodesU64}
 use Rattle.wasm_codec.proofs.FormatLaws.{Lawful-u32, Lawful-u64}
 use Rattle.wasm_codec.specs.formats.Combinators.{u32, u64}
 use Rattle.wasm_codec.proofs.Laws.{some_is}

@@ -10,8 +10,9 @@ use Rattle.wasm_instructions.specs.declared.table.opcode.Opcode.{Opcode}
 use Rattle.wasm_instructions.specs.declared.table.opcode.Prefix.{Prefix}
 use Rattle.wasm_instructions.specs.declared.table.opcode.Prefix.TheVariants as prefixes
 use Rattle.wasm_instructions.specs.declared.table.call.Operands.{Operands}
-use Rattle.wasm_instructions.specs.Instructions.{Instruction, without_prefix, after_fb, after_fc, after_fd, after_fe}
-use Rattle.wasm_instructions.specs.Opcodes.{kind}
+use Rattle.wasm_instructions.specs.formats.Instructions.{Instruction}
+use Rattle.wasm_instructions.specs.formats.Opcodes.{without_prefix, after_fb, after_fc, after_fd, after_fe}
+use Rattle.wasm_instructions.specs.formats.Opcodes.{opcode_kind}
 use Rattle.wasm_instructions.specs.formats.Instructions.{opcode, instruction, instruction_of, operands_format, is_one_byte}
 use Rattle.wasm_codec.specs.formats.Combinators.{◌⊗>◌, by_kind}
 use Rattle.wasm_sections.specs.formats.Parts.{Move, goes_on, ends, fails, moved, until_at}
@@ -121,9 +122,9 @@ opcode_tells depth b p after op mid first e = by (eqb b 0xfb) refl (eqb b 0xfc) 
 pub first_tells : (depth b : ℕ) (p after : Place) (i : Instruction) (q : Place) → byte_at p ≡ Some (b, after) → instruction.at p ≡ Some (i, q) → nested depth i.op ≡ nested_by depth b
 unfolding instruction
 first_tells depth b p after i q first e =
-    let f = bind_some {B = Instruction × Place} ((opcode ⊗> (λ op. by_kind operands_format (kind op))).at p) (λ a. Some (instruction_of a.0, a.1)) (i, q) e in
-    let g = bind_some {B = (Opcode × Operands) × Place} (opcode.at p) (λ a. (by_kind operands_format (kind a.0)).at a.1 >>= λ x. Some ((a.0, x.0), x.1)) f.0 f.1 in
-    let h = bind_some {B = (Opcode × Operands) × Place} ((by_kind operands_format (kind g.0.0)).at g.0.1) (λ x. Some ((g.0.0, x.0), x.1)) f.0 g.2 in
+    let f = bind_some {B = Instruction × Place} ((opcode ⊗> (λ op. by_kind operands_format (opcode_kind op))).at p) (λ a. Some (instruction_of a.0, a.1)) (i, q) e in
+    let g = bind_some {B = (Opcode × Operands) × Place} (opcode.at p) (λ a. (by_kind operands_format (opcode_kind a.0)).at a.1 >>= λ x. Some ((a.0, x.0), x.1)) f.0 f.1 in
+    let h = bind_some {B = (Opcode × Operands) × Place} ((by_kind operands_format (opcode_kind g.0.0)).at g.0.1) (λ x. Some ((g.0.0, x.0), x.1)) f.0 g.2 in
     let same : f.0.0.0 ≡ i.op = ap (λ (x : Instruction × Place). x.0.op) (some_is (instruction_of f.0.0, f.0.1) (i, q) f.2) in
     let own : g.0.0 ≡ f.0.0.0 = ap (λ (x : (Opcode × Operands) × Place). x.0.0) (some_is ((g.0.0, h.0.0), h.0.1) f.0 h.2) in
     ap (nested depth) (sym (own ∙ same)) ∙ opcode_tells depth b p after g.0.0 g.0.1 first g.1

@@ -2,10 +2,10 @@
 use Rattle.std.proofs.Common.{◌≡◌, ℕ, ◌-◌, ◌<◌, ◌≤◌, true, List, [], ◌∷◌, ◌++◌, length, Some, None, Result, Ok, Err, IfOk, refl, sym, ap, subst, ◌∙◌, arith}
 use Rattle.std.specs.Global.{Vec}
 use Rattle.wasm_codec.specs.Answers.{IsNormalForm, IsOrMemory}
-use Rattle.wasm_codec.specs.Grammar.{IsBytes}
+use Rattle.wasm_codec.specs.formats.Grammar.{IsBytes}
 use Rattle.wasm_codec.specs.Lawful.{IsLawfulBody}
 use Rattle.wasm_codec.specs.Places.{Place, place, keeps}
-use Rattle.wasm_codec.specs.Rewriter.{Rewriting, rewriting, after_at, Rewrites}
+use Rattle.wasm_codec.specs.Rewriter.{Rewriting, rewriting, rewriting_after, Rewrites}
 use Rattle.wasm_codec.specs.declared.reader.cursor.Fault.{Fault}
 use Rattle.wasm_codec.specs.declared.reader.cursor.Fault.TheVariants as faults
 use Rattle.wasm_codec.specs.declared.reader.ReadError.{ReadError}
@@ -27,7 +27,7 @@ module _ {V : Type 0} {F : Format V} (r : IsLawfulBody F) (t : TellsPrefixes F) 
       let none : F.at (place true bytes) ≡ None = ap (λ (r : Rewriting). F.at r.place) (sym begun) ∙ e in
       record { prefix = t.none bytes none; unencoded = λ v g. clash (v, place (keeps true bytes (F.bytes v)) []) (sym none ∙ r.reads.complete bytes v true g) }
 
-  module _ (fits : IsBytes old.place.left) (e : after_at F old ≡ Some new) where
+  module _ (fits : IsBytes old.place.left) (e : rewriting_after F old ≡ Some new) where
     are_bytes : IsBytes bytes
     are_bytes = subst (λ (r : Rewriting). IsBytes r.place.left) begun fits
 

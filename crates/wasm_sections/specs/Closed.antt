@@ -3,7 +3,7 @@ use Rattle.std.specs.Prelude.{List, length, IfSome}
 use Rattle.std.specs.List.{All, AllByRecursion}
 use Rattle.wasm_codec.specs.Encoding.{IsCount, IsShortest}
 use Rattle.wasm_calls.specs.Appending.{CountedCall}
-use Rattle.wasm_instructions.specs.Instructions.{Instruction}
+use Rattle.wasm_instructions.specs.formats.Instructions.{Instruction}
 use Rattle.wasm_sections.specs.declared.data.DataSegmentMode.{DataSegmentMode}
 use Rattle.wasm_sections.specs.declared.data.DataSegmentMode.TheVariants as data_modes
 use Rattle.wasm_sections.specs.declared.elements.ElementMode.{ElementMode}
@@ -11,7 +11,7 @@ use Rattle.wasm_sections.specs.declared.elements.ElementMode.TheVariants as mode
 use Rattle.wasm_sections.specs.declared.elements.Elements.{Elements}
 use Rattle.wasm_sections.specs.declared.elements.Elements.TheVariants as held
 use Rattle.wasm_sections.specs.declared.elements.Element.{Element}
-use Rattle.wasm_sections.specs.Entries.{DataParts}
+use Rattle.wasm_sections.specs.formats.EntryParts.{DataParts}
 use Rattle.wasm_sections.specs.declared.globals.Global.{Global}
 use Rattle.wasm_sections.specs.declared.tables.Table.{Table}
 use Rattle.wasm_sections.specs.formats.Parts.{AreEnded}

@@ -1,9 +1,6 @@
 pub mod Closed
 pub mod SectionBytes
 pub mod SegmentBytes
-pub mod Entries
-pub mod ModuleSections
 pub mod ModuleOrder
-pub mod Nesting
 pub mod Prefixes
 pub mod formats

@@ -1,7 +1,7 @@
 -- What the sections of a module must be besides decodable: they come in order, and counts agree (WebAssembly Core 3.0,
 -- Modules).
 use Rattle.std.specs.Prelude.{◌≡◌, ℕ, ◌==◌, ◌<◌, ◌+◌, ◌⊎◌, List, [], ◌∷◌, length, take, if◌then◌else◌}
-use Rattle.wasm_sections.specs.ModuleSections.{ModuleSectionParts, custom, types, imports, functions, tables, memories, globals, exports, start, elements, code, data_segments, data_count, tags}
+use Rattle.wasm_sections.specs.formats.ModuleSectionParts.{ModuleSectionParts, custom, types, imports, functions, tables, memories, globals, exports, start, elements, code, data_segments, data_count, tags}
 use Rattle.wasm_sections.specs.declared.modules.order.ModuleError.{ModuleError}
 use Rattle.wasm_sections.specs.declared.modules.order.ModuleError.TheVariants as errors
 

@@ -4,7 +4,7 @@ use Rattle.std.specs.Global.{Vec}
 use Rattle.wasm_codec.specs.declared.reader.ReadError.{ReadError}
 use Rattle.wasm_codec.specs.declared.reader.ReadError.TheVariants as errors
 use Rattle.wasm_codec.specs.Answers.{EncodesSome, IsLongestPrefix, IsNormalForm}
-use Rattle.wasm_codec.specs.Grammar.{IsBytes}
+use Rattle.wasm_codec.specs.formats.Grammar.{IsBytes}
 use Rattle.wasm_codec.specs.Places.{Place, place}
 use Rattle.wasm_codec.specs.formats.Combinators.{Format}
 

@@ -4,8 +4,8 @@ use Rattle.std.specs.Prelude.{ℕ, List, ◌∷◌, length}
 use Rattle.wasm_codec.specs.Encoding.{IsCount}
 use Rattle.wasm_codec.specs.formats.Bodies.{sized}
 use Rattle.wasm_codec.specs.formats.Combinators.{Format, narrow}
-use Rattle.wasm_sections.specs.Entries.{custom_parts}
-use Rattle.wasm_sections.specs.ModuleSections.{ModuleSectionParts}
+use Rattle.wasm_sections.specs.formats.EntryParts.{custom_parts}
+use Rattle.wasm_sections.specs.formats.ModuleSectionParts.{ModuleSectionParts}
 use Rattle.wasm_sections.specs.declared.custom.CustomSection.{CustomSection}
 use Rattle.wasm_sections.specs.formats.ModuleSections.{module_section}
 use Rattle.wasm_sections.specs.formats.Sections.{custom_body}

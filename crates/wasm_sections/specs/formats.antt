@@ -1,3 +1,6 @@
+pub mod Nesting
+pub mod EntryParts
+pub mod ModuleSectionParts
 pub mod Parts
 pub mod Names
 pub mod Externals

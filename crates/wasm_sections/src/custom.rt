@@ -3,7 +3,7 @@ ghost use Rattle.std.specs.Prelude.{◌≡◌, ◌↔◌, ◌≤◌, length, IfO
 ghost use Rattle.wasm_codec.specs.Answers.{NeedsNoMemory, IsOrMemory, IfRefused, IsLongestPrefix, IsNormalForm, EncodesSome};
 ghost use Rattle.wasm_codec.specs.Encoding.{IsShortestOrLonger};
 ghost use Rattle.wasm_codec.specs.formats.Combinators.{narrow};
-ghost use Rattle.wasm_sections.specs.Entries.{CustomParts, custom_parts};
+ghost use Rattle.wasm_sections.specs.formats.EntryParts.{CustomParts, custom_parts};
 ghost use Rattle.wasm_sections.specs.Prefixes.{IsNothingOr, ReadsWholeAs};
 ghost use Rattle.wasm_sections.specs.formats.Sections.{custom_body};
 

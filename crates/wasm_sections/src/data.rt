@@ -8,12 +8,12 @@ ghost use Rattle.wasm_codec.specs.Rewriter.{Rewrites, Gives};
 ghost use Rattle.wasm_codec.specs.declared.reader.cursor.Fault.TheVariants.{Malformed};
 ghost use Rattle.std.specs.Prelude.{ℕ};
 ghost use Rattle.std.proofs.lemmas.List.{map_push};
-ghost use Rattle.wasm_codec.specs.Grammar.{TakesBytes};
+ghost use Rattle.wasm_codec.specs.formats.Grammar.{TakesBytes};
 ghost use Rattle.wasm_codec.specs.Lawful.{IsLawful};
 ghost use Rattle.wasm_codec.specs.Reading.{map_ok};
 ghost use Rattle.wasm_codec.specs.formats.Bodies.{byte_list, bytes_to_end};
 ghost use Rattle.wasm_codec.specs.formats.Combinators.{◌⊗◌};
-ghost use Rattle.wasm_sections.specs.Entries.{DataParts, data_parts, all_data_parts};
+ghost use Rattle.wasm_sections.specs.formats.EntryParts.{DataParts, data_parts, all_data_parts};
 ghost use Rattle.wasm_sections.specs.formats.Expressions.{expr};
 ghost use Rattle.wasm_sections.specs.formats.Segments.{data_segment};
 ghost use Rattle.wasm_sections.specs.formats.Sections.{data_body};
@@ -197,7 +197,7 @@ fn read_data_segment<'a>(alloc: Global, cursor: &mut Cursor<'a>) -> Result<DataS
             let offset = read_expr(alloc, cursor)?;
             let bytes = read_byte_list(cursor)?;
             if memory_index == 0 {
-                cursor.long_form();
+                cursor.note_long_form();
             }
             let mode = DataSegmentMode::Active {
                 memory_index,
@@ -260,7 +260,7 @@ fn rewrite_placed(rewriter: &mut Rewriter) -> Result<(), Fault>
 fn rewrite_data_segment(rewriter: &mut Rewriter) -> Result<(), Fault>
     ensures rewrites { Rewrites data_segment rewriter.old rewriter.new result }
 {
-    let mark = rewriter.mark();
+    let mark = rewriter.written_len();
     match rewriter.u32()? {
         0 => {
             rewrite_placed(rewriter)?;

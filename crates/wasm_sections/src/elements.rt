@@ -11,7 +11,7 @@ ghost use Rattle.wasm_codec.specs.formats.Combinators.{◌⊗◌, made, items};
 ghost use Rattle.wasm_sections.specs.declared.elements.Element.{Element};
 ghost use Rattle.wasm_sections.specs.formats.Elements.{is_funcref, element, typed_of, typed_part, element_number, element_form, kind_and_functions, element_segment};
 ghost use Rattle.wasm_types.specs.formats.Types.{ref_type};
-ghost use Rattle.wasm_instructions.specs.Instructions.{Instruction};
+ghost use Rattle.wasm_instructions.specs.formats.Instructions.{Instruction};
 ghost use Rattle.wasm_sections.specs.declared.elements.ElementMode.TheVariants as modes;
 ghost use Rattle.wasm_sections.specs.formats.Expressions.{expr};
 ghost use Rattle.wasm_sections.specs.formats.Sections.{element_body};
@@ -309,7 +309,7 @@ fn read_element(alloc: Global, cursor: &mut Cursor<'_>) -> Result<Element, Fault
     let form = cursor.u32()?;
     let element = read_form(alloc, cursor, form)?;
     if form != number_of(&element) {
-        cursor.long_form();
+        cursor.note_long_form();
     }
     Ok(element)
 }
@@ -397,14 +397,14 @@ fn rewrite_typed(rewriter: &mut Rewriter) -> Result<(), Fault>
 fn rewrite_element(rewriter: &mut Rewriter) -> Result<(), Fault>
     ensures rewrites { Rewrites element_segment rewriter.old rewriter.new result }
 {
-    let mark = rewriter.mark();
+    let mark = rewriter.written_len();
     match rewriter.u32()? {
         0 => rewrite_placed::<u32>(rewriter),
         1 => rewrite_functions(rewriter),
         2 => {
             let table = rewriter.u32()?;
             rewrite_expr(rewriter)?;
-            let kind_mark = rewriter.mark();
+            let kind_mark = rewriter.written_len();
             rewrite_functions(rewriter)?;
             if table == 0 {
                 rewriter.cut_out(kind_mark, 1);
@@ -418,7 +418,7 @@ fn rewrite_element(rewriter: &mut Rewriter) -> Result<(), Fault>
         6 => {
             let table = rewriter.u32()?;
             rewrite_expr(rewriter)?;
-            let type_mark = rewriter.mark();
+            let type_mark = rewriter.written_len();
             let ty = rewrite_told_type(rewriter)?;
             rewrite_list::<Expression>(rewriter)?;
             if table == 0 && is_funcref(ty) {

@@ -7,10 +7,10 @@ ghost use Rattle.wasm_codec.specs.Places.{Reads};
 ghost use Rattle.wasm_codec.specs.Rewriter.{Rewrites, Gives};
 ghost use Rattle.wasm_codec.specs.declared.reader.cursor.Fault.TheVariants.{Malformed};
 ghost use Rattle.std.proofs.lemmas.List.{map_push};
-ghost use Rattle.wasm_codec.specs.Grammar.{TakesBytes};
+ghost use Rattle.wasm_codec.specs.formats.Grammar.{TakesBytes};
 ghost use Rattle.wasm_codec.specs.Lawful.{IsLawful};
 ghost use Rattle.wasm_codec.specs.Reading.{map_ok};
-ghost use Rattle.wasm_sections.specs.Entries.{ExportParts, export_parts, all_export_parts};
+ghost use Rattle.wasm_sections.specs.formats.EntryParts.{ExportParts, export_parts, all_export_parts};
 ghost use Rattle.wasm_sections.specs.formats.Externals.{export_kind};
 ghost use Rattle.wasm_sections.specs.formats.Entries.{export_entry};
 ghost use Rattle.wasm_sections.specs.formats.Sections.{export_body};
@@ -182,8 +182,7 @@ impl<'a> Readable<'a> for Export<'a> {
     ghost format = { export_entry };
 
     #[tactic(auto, using(crate::proofs::EntryLaws::export_is_lawful, crate::proofs::EntryLaws::export_takes))]
-    fn read(alloc: Global, cursor: &mut Cursor<'a>) -> Result<Export<'a>, Fault> {
-        let _ = alloc;
+    fn read(_alloc: Global, cursor: &mut Cursor<'a>) -> Result<Export<'a>, Fault> {
         read_export(cursor)
     }
 }

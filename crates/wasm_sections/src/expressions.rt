@@ -3,7 +3,7 @@ ghost use Rattle.std.specs.Prelude.{◌≡◌, ◌+◌, ◌^◌, ◌<◌, IsTrue
 ghost use Rattle.wasm_sections.specs.Closed.{IsClosed};
 ghost use Rattle.wasm_codec.specs.Places.{Reads};
 ghost use Rattle.wasm_codec.specs.Rewriter.{Rewrites};
-ghost use Rattle.wasm_sections.specs.Nesting.{as_move};
+ghost use Rattle.wasm_sections.specs.formats.Nesting.{as_move};
 ghost use Rattle.wasm_sections.specs.formats.Expressions.{nested, nested_by, expr};
 
 use std::alloc::Global;

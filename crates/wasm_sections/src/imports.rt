@@ -7,10 +7,10 @@ ghost use Rattle.wasm_codec.specs.Places.{Reads};
 ghost use Rattle.wasm_codec.specs.Rewriter.{Rewrites, Gives};
 ghost use Rattle.wasm_codec.specs.declared.reader.cursor.Fault.TheVariants.{Malformed};
 ghost use Rattle.std.proofs.lemmas.List.{map_push};
-ghost use Rattle.wasm_codec.specs.Grammar.{TakesBytes};
+ghost use Rattle.wasm_codec.specs.formats.Grammar.{TakesBytes};
 ghost use Rattle.wasm_codec.specs.Lawful.{IsLawful};
 ghost use Rattle.wasm_codec.specs.Reading.{map_ok};
-ghost use Rattle.wasm_sections.specs.Entries.{ImportParts, import_parts, all_import_parts};
+ghost use Rattle.wasm_sections.specs.formats.EntryParts.{ImportParts, import_parts, all_import_parts};
 ghost use Rattle.wasm_sections.specs.formats.Entries.{import_entry};
 ghost use Rattle.wasm_sections.specs.formats.Sections.{import_body};
 
@@ -166,8 +166,7 @@ impl<'a> Readable<'a> for Import<'a> {
     ghost format = { import_entry };
 
     #[tactic(auto, using(crate::proofs::EntryLaws::import_is_lawful, crate::proofs::EntryLaws::import_takes))]
-    fn read(alloc: Global, cursor: &mut Cursor<'a>) -> Result<Import<'a>, Fault> {
-        let _ = alloc;
+    fn read(_alloc: Global, cursor: &mut Cursor<'a>) -> Result<Import<'a>, Fault> {
         read_import(cursor)
     }
 }

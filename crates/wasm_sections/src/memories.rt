@@ -135,8 +135,7 @@ impl<'a> Readable<'a> for MemoryType {
     ghost format = { memory_type };
 
     #[tactic(auto, using(crate::proofs::EntryLaws::memory_is_lawful, crate::proofs::EntryLaws::memory_takes))]
-    fn read(alloc: Global, cursor: &mut Cursor<'a>) -> Result<MemoryType, Fault> {
-        let _ = alloc;
+    fn read(_alloc: Global, cursor: &mut Cursor<'a>) -> Result<MemoryType, Fault> {
         read_memory_type(cursor)
     }
 }

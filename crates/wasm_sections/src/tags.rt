@@ -134,8 +134,7 @@ impl<'a> Readable<'a> for TagType {
     ghost format = { tag_type };
 
     #[tactic(auto, using(crate::proofs::EntryLaws::tag_is_lawful, crate::proofs::EntryLaws::tag_takes))]
-    fn read(alloc: Global, cursor: &mut Cursor<'a>) -> Result<TagType, Fault> {
-        let _ = alloc;
+    fn read(_alloc: Global, cursor: &mut Cursor<'a>) -> Result<TagType, Fault> {
         read_tag_type(cursor)
     }
 }

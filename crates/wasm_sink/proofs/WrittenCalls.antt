@@ -5,7 +5,8 @@ use Rattle.std.specs.Iterator.{Drains}
 use Rattle.std.proofs.lemmas.Iterator.{items_from_drains}
 use Rattle.wasm_instructions.specs.declared.table.opcode.Opcode.{Opcode}
 use Rattle.wasm_instructions.specs.declared.table.call.Operands.{Operands}
-use Rattle.wasm_instructions.specs.Instructions.{InRange, IsCall, IsCounted, ItemsInRange, call}
+use Rattle.wasm_instructions.specs.Instructions.{NumbersInRange, IsCall, IsCounted, ItemsInRange}
+use Rattle.wasm_instructions.specs.formats.Instructions.{call}
 use Rattle.wasm_instructions.specs.formats.Instructions.{instruction}
 use Rattle.wasm_instructions.proofs.InstructionFormatLaws.{Lawful-instruction}
 use Rattle.wasm_calls.proofs.CallRanges.{call_in_range}
@@ -14,7 +15,7 @@ use Rattle.wasm_codec.specs.Encoding.{IsShortest}
 use Rattle.wasm_codec.proofs.NumberLaws.{written}
 
 -- its bytes are its shortest encoding
-pub shortest_call : (op : Opcode) (o : Operands) → IsCall op o → InRange o → ItemsInRange o → IsCounted o → IsShortest instruction.Encodes instruction.bytes (call op o)
+pub shortest_call : (op : Opcode) (o : Operands) → IsCall op o → NumbersInRange o → ItemsInRange o → IsCounted o → IsShortest instruction.Encodes instruction.bytes (call op o)
 shortest_call op o is fits in_lists counted = written Lawful-instruction.shortest (call op o) (call_in_range op o is fits in_lists counted)
 
 -- the list that comes until the end is the one that the iterator is known to give

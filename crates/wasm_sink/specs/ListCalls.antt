@@ -6,7 +6,7 @@ use Rattle.wasm_sink.specs.declared.sink.InstructionSink.{InstructionSink}
 use Rattle.wasm_instructions.specs.declared.table.opcode.Opcode.{Opcode}
 use Rattle.wasm_instructions.specs.declared.table.call.Operands.{Operands}
 use Rattle.wasm_codec.specs.declared.encode.EncodeError.{EncodeError}
-use Rattle.wasm_instructions.specs.Instructions.{call}
+use Rattle.wasm_instructions.specs.formats.Instructions.{call}
 use Rattle.wasm_calls.specs.Appending.{IsRefusedList}
 use Rattle.wasm_sink.specs.Sink.{GoesOn, IsShortestCall}
 

@@ -2,9 +2,9 @@
 use Rattle.std.proofs.Common.{◌≡◌, ℕ, ◌+◌, ◌-◌, ◌≤◌, Bool, true, false, not, ◌&&◌, List, [], ◌∷◌, ◌++◌, length, take, drop, Some, refl, sym, ap, subst, ◌∙◌, append_assoc, length-append, arith}
 use Rattle.std.proofs.lemmas.List.{take_at, drop_at}
 use Rattle.std.specs.List.{flat_map}
-use Rattle.wasm_codec.specs.Numbers.{unsigned_leb128, digits_of}
+use Rattle.wasm_codec.specs.Leb128.{unsigned_leb128, digits_of}
 use Rattle.wasm_codec.specs.Places.{Place, place, byte_at, unless}
-use Rattle.wasm_codec.specs.Rewriter.{Rewriting, rewritten_at, after_at, without}
+use Rattle.wasm_codec.specs.Rewriter.{Rewriting, rewritten_at, rewriting_after, without}
 use Rattle.wasm_codec.specs.formats.Combinators.{a_byte, items, u32}
 use Rattle.wasm_codec.proofs.Laws.{some_is}
 use Rattle.wasm_codec.proofs.RewriterLaws.{is_given, is_after, after_is}
@@ -50,7 +50,7 @@ record Final (old start supers end : Rewriting) : Type 0 where
   len : length supers.done ≡ length old.done + (1 + length ((items u32).bytes supertypes))
   rest : end.rest ≡ old.rest
 
-final : (old start supers end : Rewriting) (b : ℕ) (after : Place) → byte_at old.place ≡ Some (0x4f, after) → rewritten_at a_byte old ≡ Some (b, start) → after_at (items u32) start ≡ Some supers → after_at composite_type supers ≡ Some end → Final old start supers end
+final : (old start supers end : Rewriting) (b : ℕ) (after : Place) → byte_at old.place ≡ Some (0x4f, after) → rewritten_at a_byte old ≡ Some (b, start) → rewriting_after (items u32) start ≡ Some supers → rewriting_after composite_type supers ≡ Some end → Final old start supers end
 unfolding sub_type
 final old start supers end b after seen first list rest =
     let taken = is_given a_byte old b start first in
@@ -72,8 +72,8 @@ final old start supers end b after seen first list rest =
     regroup d t l c = simp append_assoc
 
 -- without supertypes both are left out
-pub left_out : (old start supers end : Rewriting) (b : ℕ) (after : Place) (mark : ℕ) → byte_at old.place ≡ Some (0x4f, after) → rewritten_at a_byte old ≡ Some (b, start) → after_at (items u32) start ≡ Some supers → after_at composite_type supers ≡ Some end → mark ≡ length old.done → length supers.done - mark ≡ 2
-    → after_at sub_type old ≡ Some (without mark 2 end)
+pub left_out : (old start supers end : Rewriting) (b : ℕ) (after : Place) (mark : ℕ) → byte_at old.place ≡ Some (0x4f, after) → rewritten_at a_byte old ≡ Some (b, start) → rewriting_after (items u32) start ≡ Some supers → rewriting_after composite_type supers ≡ Some end → mark ≡ length old.done → length supers.done - mark ≡ 2
+    → rewriting_after sub_type old ≡ Some (without mark 2 end)
 unfolding sub_type
 left_out old start supers end b after mark seen first list rest at two =
     let f = final old start supers end b after seen first list rest in
@@ -92,8 +92,8 @@ left_out old start supers end b after mark seen first list rest at two =
     split d t l c = simp append_assoc
 
 -- with some they stay
-pub kept : (old start supers end : Rewriting) (b : ℕ) (after : Place) (mark : ℕ) → byte_at old.place ≡ Some (0x4f, after) → rewritten_at a_byte old ≡ Some (b, start) → after_at (items u32) start ≡ Some supers → after_at composite_type supers ≡ Some end → mark ≡ length old.done → (length supers.done - mark ≡ 2 → ⊥)
-    → after_at sub_type old ≡ Some end
+pub kept : (old start supers end : Rewriting) (b : ℕ) (after : Place) (mark : ℕ) → byte_at old.place ≡ Some (0x4f, after) → rewritten_at a_byte old ≡ Some (b, start) → rewriting_after (items u32) start ≡ Some supers → rewriting_after composite_type supers ≡ Some end → mark ≡ length old.done → (length supers.done - mark ≡ 2 → ⊥)
+    → rewriting_after sub_type old ≡ Some end
 unfolding sub_type
 kept old start supers end b after mark seen first list rest at more =
     let f = final old start supers end b after seen first list rest in

@@ -1,7 +1,7 @@
 -- Normal forms are no longer than the bytes that they are normal forms of.
 use Rattle.std.proofs.Common.{ℕ, ◌≤◌, List, length, Result, Ok, Err, IfOk, ap, arith}
 use Rattle.wasm_codec.specs.declared.reader.ReadError.{ReadError}
-use Rattle.wasm_codec.specs.Grammar.{Grammar}
+use Rattle.wasm_codec.specs.formats.Grammar.{Grammar}
 use Rattle.wasm_codec.specs.Lawful.{Shortest}
 use Rattle.wasm_codec.specs.Answers.{IsNormalForm}
 use Rattle.wasm_codec.proofs.FormatLaws.{not_longer}

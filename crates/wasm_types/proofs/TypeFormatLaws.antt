@@ -13,8 +13,8 @@ use Rattle.wasm_types.specs.declared.types.composite.CompositeType.{CompositeTyp
 use Rattle.wasm_types.specs.declared.types.composite.SubType.{SubType}
 use Rattle.wasm_types.specs.declared.types.composite.TypeEntry.{TypeEntry}
 use Rattle.wasm_types.specs.declared.types.composite.TypeEntry.TheVariants as entries
-use Rattle.wasm_codec.specs.Grammar.{Mapped}
-use Rattle.wasm_codec.specs.Grammar.{TakesBytes}
+use Rattle.wasm_codec.specs.formats.Grammar.{Mapped}
+use Rattle.wasm_codec.specs.formats.Grammar.{TakesBytes}
 use Rattle.wasm_codec.specs.formats.Combinators.{Choice, ◌⊗◌, made, or_else, after, flagged, u32, items}
 use Rattle.wasm_codec.proofs.FormatLaws.{IsFound, Every-made, Every-after, Every-either, Lawful-or-after, Lawful-or-after-long, Lawful-or-else, Lawful-variant-after, Lawful-made, Lawful-both, Lawful-variant, Lawful-flagged, Lawful-optional, Lawful-one-byte, Lawful-byte-or, Lawful-u32, Lawful-index, Lawful-items, Tagged-or, Tagged-never, takes_bytes, not_longer}
 use Rattle.wasm_codec.proofs.AskedLaws.{list_narrow}

@@ -23,7 +23,8 @@ use Rattle.wasm_types.specs.declared.types.composite.SubType.{SubType}
 use Rattle.wasm_types.specs.declared.types.composite.TypeEntry.TheVariants as entries
 use Rattle.wasm_codec.specs.Encoding.{CanEncodeList, IsCount, IsShortest}
 use Rattle.wasm_codec.specs.Lawful.{IsLawful}
-use Rattle.wasm_codec.specs.Numbers.{EncodesU32, unsigned_leb128}
+use Rattle.wasm_codec.specs.formats.Numbers.{EncodesU32}
+use Rattle.wasm_codec.specs.Leb128.{unsigned_leb128}
 use Rattle.wasm_codec.specs.formats.Combinators.{Format, flagged, optional, u32, index}
 use Rattle.wasm_codec.proofs.NumberLaws.{written}
 use Rattle.wasm_codec.proofs.FormatLaws.{Lawful-u32, Lawful-index}

@@ -100,10 +100,10 @@ fn rewrite_final_type(rewriter: &mut Rewriter) -> Result<(), Fault>
     requires { (after : Place) × (byte_at rewriter.old.place ≡ Some (0x4f, after)) }
     ensures rewrites { Rewrites sub_type rewriter.old rewriter.new result }
 {
-    let mark = rewriter.mark();
+    let mark = rewriter.written_len();
     rewriter.byte()?;
     rewrite_list::<u32>(rewriter)?;
-    let is_alone = rewriter.mark() - mark == 2;
+    let is_alone = rewriter.written_len() - mark == 2;
     rewrite_composite_type(rewriter)?;
     if is_alone {
         rewriter.cut_out(mark, 2);
@@ -200,7 +200,7 @@ impl Rewritable for TypeEntry {
     fn rewrite(rewriter: &mut Rewriter) -> Result<(), Fault> {
         rewriter.are_bytes();
         if let Some(scanned) = scan_function_type(rewriter.left()) {
-            rewriter.pass(scanned);
+            rewriter.rewrite_scanned(scanned);
             return Ok(());
         }
         rewrite_entry(rewriter)

@@ -4,7 +4,8 @@ use Rattle.std.specs.Prelude.{OnOk}
 use Rattle.std.specs.List.{All, AllByRecursion}
 use Rattle.wasm_codec.specs.declared.encode.EncodeError.TheVariants as errors
 use Rattle.wasm_codec.specs.Encoding.{IsRefusal, IsCount, IsShortest, OnlyTooLong, IsShortestOrLonger}
-use Rattle.wasm_codec.specs.Numbers.{EncodesU32, unsigned_leb128}
+use Rattle.wasm_codec.specs.formats.Numbers.{EncodesU32}
+use Rattle.wasm_codec.specs.Leb128.{unsigned_leb128}
 use Rattle.wasm_codec.specs.formats.Combinators.{items, u32}
 use Rattle.wasm_types.specs.declared.types.value.ValType.{ValType}
 use Rattle.wasm_types.specs.formats.Types.{val_type}
@@ -13,7 +14,7 @@ use Rattle.wasm_types.proofs.WrittenTypes.{in_range_of}
 use Rattle.wasm_codec.proofs.NumberLaws.{written}
 use Rattle.wasm_codec.proofs.FormatLaws.{Lawful-u32, joined_in_range}
 use Rattle.wasm_calls.specs.Appending.{CountedCall}
-use Rattle.wasm_instructions.specs.Instructions.{Instruction}
+use Rattle.wasm_instructions.specs.formats.Instructions.{Instruction}
 use Rattle.wasm_instructions.specs.formats.Instructions.{Instructions, instruction, instructions_bytes}
 use Rattle.wasm_calls.proofs.CallRanges.{is_counted}
 use Rattle.wasm_instructions.proofs.InstructionFormatLaws.{Lawful-instruction}

@@ -6,7 +6,7 @@ use Rattle.std.specs.Iterator.{Drains, Yields}
 use Rattle.wasm_codec.specs.declared.encode.EncodeError.{EncodeError}
 use Rattle.wasm_codec.specs.declared.encode.EncodeError.TheVariants.{Memory, TooLong}
 use Rattle.wasm_codec.specs.Encoding.{IsCount, Refuses}
-use Rattle.wasm_codec.specs.Numbers.{unsigned_leb128}
+use Rattle.wasm_codec.specs.Leb128.{unsigned_leb128}
 use Rattle.wasm_codec.specs.formats.Combinators.{Format}
 
 -- the number of values, and their bytes

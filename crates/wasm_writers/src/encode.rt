@@ -1,6 +1,7 @@
 //! What can be written as bytes: numbers, options and references (Core 3.0, Values).
 ghost use Rattle.std.specs.Prelude.{◌≡◌, ◌++◌, ℕ, List, Option, None, OnOk, OnErr, IfErr, IsErrOf, IfSome, IsSomeAnd, ⊤};
-ghost use Rattle.wasm_codec.specs.Numbers.{unsigned_leb128, signed_leb128, EncodesU32, EncodesU64, EncodesS32, EncodesS64};
+ghost use Rattle.wasm_codec.specs.Leb128.{unsigned_leb128, signed_leb128};
+ghost use Rattle.wasm_codec.specs.formats.Numbers.{EncodesU32, EncodesU64, EncodesS32, EncodesS64};
 ghost use Rattle.wasm_codec.specs.Encoding.{option_bytes, IsCount, IsRefusal, IsShortest, OnlyTooLong, too_long_at_once};
 ghost use Rattle.wasm_codec.specs.declared.encode.EncodeError.{EncodeError};
 

@@ -1,7 +1,7 @@
 //! Values and sections of a caller's own.
 ghost use Rattle.std.specs.Prelude.{[]};
 ghost use Rattle.wasm_encoder.specs.Encoding.{OnlyTooLong, too_long_at_once};
-ghost use Rattle.wasm_encoder.specs.Numbers.{unsigned_leb128};
+ghost use Rattle.wasm_encoder.specs.Leb128.{unsigned_leb128};
 
 use std::alloc::Allocator;
 use wasm_encoder::{Encode, EncodeError, Section};

@@ -1,7 +1,8 @@
 //! Instructions with constants and with lanes.
 ghost use Rattle.std.specs.Prelude.{◌≡◌, ◌++◌, ◌+◌, ◌≤◌, IsOk, IfErr, OnOk, OnErr, vec_len, vec_capacity};
 ghost use Rattle.wasm_codec.specs.declared.encode.EncodeError.TheVariants.{Memory};
-ghost use Rattle.wasm_instructions.specs.Instructions.{InRange, IsShort, call};
+ghost use Rattle.wasm_instructions.specs.Instructions.{NumbersInRange, IsShort};
+ghost use Rattle.wasm_instructions.specs.formats.Instructions.{call};
 ghost use Rattle.wasm_instructions.specs.formats.Instructions.{instruction};
 ghost use Rattle.wasm_instructions.specs.declared.table.call.Operands.TheVariants as operands;
 
@@ -119,7 +120,7 @@ pub fn append_shuffle<A: Allocator>(
     ensures ok { OnOk result (bytes.new.items ≡ bytes.old.items ++ instruction.bytes (call op (operands.Shuffle lanes))) }
     ensures err { OnErr result (bytes.new.items ≡ bytes.old.items) }
     ensures memory { IfErr result (λ e. e ≡ Memory) }
-    ensures in_range { InRange (operands.Shuffle lanes) }
+    ensures in_range { NumbersInRange (operands.Shuffle lanes) }
     ensures room { vec_len bytes.old + 24 ≤ vec_capacity bytes.old → IsOk result }
 {
     bytes.reserve(ROOM)?;

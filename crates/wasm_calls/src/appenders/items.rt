@@ -2,7 +2,7 @@
 ghost use Rattle.std.specs.Prelude.{◌≡◌, ◌++◌, ◌+◌, ◌*◌, ◌≤◌, ◌<◌, ◌^◌, ℕ, List, length, take, OnOk, IfOk, IfErr, IsTrue, vec_len, vec_capacity};
 ghost use Rattle.std.specs.Iterator.{IsFinite, size};
 ghost use Rattle.wasm_calls.specs.Appending.{AppendsAll, PutsItems, IsRefusedList};
-ghost use Rattle.wasm_codec.specs.Numbers.{unsigned_leb128};
+ghost use Rattle.wasm_codec.specs.Leb128.{unsigned_leb128};
 ghost use Rattle.wasm_types.specs.formats.Types.{val_type};
 ghost use Rattle.wasm_codec.specs.Lists.{items_bytes};
 ghost use Rattle.wasm_instructions.specs.Operands.{ValTypeFits, CatchFits, HandleFits};

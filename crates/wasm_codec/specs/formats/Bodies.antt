@@ -1,9 +1,10 @@
 -- Bodies: bytes that are an encoding to their end. Before them stands their number, or bytes that are always the same.
 use Rattle.std.specs.Prelude.{◌≡◌, ℕ, zero, suc, ◌^◌, ◌<◌, Bool, true, false, List, [], ◌∷◌, ◌++◌, length, take, drop, Option, Some, None, nat_lt, if◌then◌else◌}
 use Rattle.std.specs.List.{AllByRecursion}
-use Rattle.wasm_codec.specs.Grammar.{Grammar, IsBytes, After}
+use Rattle.wasm_codec.specs.formats.Grammar.{Grammar, IsBytes, After}
 use Rattle.wasm_codec.specs.Reading.{◌>>=◌}
-use Rattle.wasm_codec.specs.Numbers.{EncodesU32, unsigned_leb128}
+use Rattle.wasm_codec.specs.formats.Numbers.{EncodesU32}
+use Rattle.wasm_codec.specs.Leb128.{unsigned_leb128}
 use Rattle.wasm_codec.specs.Places.{Place, place, Reader, u32_at}
 use Rattle.wasm_codec.specs.formats.Combinators.{Format, any_byte, just, after_at, AllOf, all_bytes}
 

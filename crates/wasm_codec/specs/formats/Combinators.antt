@@ -2,10 +2,11 @@
 -- against that: what code reads at a place, what it writes, which values have an encoding, and which byte may be first.
 use Rattle.std.specs.Prelude.{◌≡◌, ℕ, zero, suc, ◌+◌, ◌*◌, ◌/◌, ◌%◌, ◌^◌, ◌<◌, ◌⊎◌, Bool, true, false, not, ◌||◌, ◌==◌, nat_lt, nat_le, List, [], ◌∷◌, ◌++◌, length, Option, Some, None, if◌then◌else◌, ℤ, pos, IsSomeAnd, is_some}
 use Rattle.std.specs.List.{flat_map, AllByRecursion}
-use Rattle.wasm_codec.specs.Grammar.{Grammar, IsBytes, AByte, Then, Mapped, Nothing, Never, Either, After, Joined, Counted}
+use Rattle.wasm_codec.specs.formats.Grammar.{Grammar, IsBytes, AByte, Then, Mapped, Nothing, Never, Either, After, Joined, Counted}
 use Rattle.wasm_codec.specs.Reading.{◌>>=◌}
 use Rattle.wasm_codec.specs.Places.{Place, place, Reader, byte_at, then_at, map_at, map_unless, nothing_at, never_at, either_at, by_byte, only_at, counted_at, u32_at, u64_at, s32_at, s64_at, index_at, raw_at}
-use Rattle.wasm_codec.specs.Numbers.{Within, EncodesU32, EncodesU64, EncodesS32, EncodesS64, EncodesIndex, unsigned_leb128, signed_leb128}
+use Rattle.wasm_codec.specs.formats.Numbers.{Within, EncodesU32, EncodesU64, EncodesS32, EncodesS64, EncodesIndex}
+use Rattle.wasm_codec.specs.Leb128.{unsigned_leb128, signed_leb128}
 
 pub record Format (V : Type 0) : Type 1 where
   -- which bytes encode which value

@@ -1,7 +1,8 @@
 //! LEB128 numbers, written into room that was reserved. `encode` and the instruction sink write them here alone.
 ghost use Rattle.std.specs.Prelude.{◌≡◌, ◌++◌, ◌∷◌, [], ◌+◌, ◌%◌, ◌/◌, ◌*◌, ◌^◌, ◌<◌, ◌≤◌, length, pos, vec_len, vec_capacity};
 ghost use Rattle.wasm_codec.specs.Encoding.{IsShortest};
-ghost use Rattle.wasm_codec.specs.Numbers.{turned, digits_of, unsigned_leb128, signed_leb128, EncodesU32, EncodesU64, EncodesS32, EncodesS64, EncodesIndex};
+ghost use Rattle.wasm_codec.specs.Leb128.{turned, digits_of, unsigned_leb128, signed_leb128};
+ghost use Rattle.wasm_codec.specs.formats.Numbers.{EncodesU32, EncodesU64, EncodesS32, EncodesS64, EncodesIndex};
 
 use std::alloc::Allocator;
 
@@ -29,7 +30,7 @@ fn put_digit<A: Allocator>(bytes: &mut Vec<u8, A>, turn: bool, n: u64) -> u64
 }
 
 /// Writes the fewest digits of a number that has at most five. The last stands for a number below `top`.
-#[tactic(auto, unfolding(crate::specs::Numbers::digits_of))]
+#[tactic(auto, unfolding(crate::specs::Leb128::digits_of))]
 fn put_few<A: Allocator>(bytes: &mut Vec<u8, A>, turn: bool, top: u64, n: u64)
     requires room { vec_len bytes.old + 5 ≤ vec_capacity bytes.old }
     requires top { top ≤ 128 }
@@ -62,7 +63,7 @@ fn put_few<A: Allocator>(bytes: &mut Vec<u8, A>, turn: bool, top: u64, n: u64)
 }
 
 /// Writes the fewest digits of a number that has at most ten.
-#[tactic(auto, unfolding(crate::specs::Numbers::digits_of))]
+#[tactic(auto, unfolding(crate::specs::Leb128::digits_of))]
 fn put_many<A: Allocator>(bytes: &mut Vec<u8, A>, turn: bool, top: u64, n: u64)
     requires room { vec_len bytes.old + 10 ≤ vec_capacity bytes.old }
     requires top { top ≤ 128 }
@@ -85,7 +86,7 @@ fn put_many<A: Allocator>(bytes: &mut Vec<u8, A>, turn: bool, top: u64, n: u64)
 }
 
 /// Writes a u32 in 1 to 5 bytes.
-#[tactic(auto, unfolding(crate::specs::Numbers::unsigned_leb128))]
+#[tactic(auto, unfolding(crate::specs::Leb128::unsigned_leb128))]
 pub fn put_u32<A: Allocator>(bytes: &mut Vec<u8, A>, value: u32)
     requires { vec_len bytes.old + 5 ≤ vec_capacity bytes.old }
     ensures items { bytes.new.items ≡ bytes.old.items ++ unsigned_leb128 value }
@@ -97,7 +98,7 @@ pub fn put_u32<A: Allocator>(bytes: &mut Vec<u8, A>, value: u32)
 }
 
 /// Writes a u64 in 1 to 10 bytes.
-#[tactic(auto, unfolding(crate::specs::Numbers::unsigned_leb128))]
+#[tactic(auto, unfolding(crate::specs::Leb128::unsigned_leb128))]
 pub fn put_u64<A: Allocator>(bytes: &mut Vec<u8, A>, value: u64)
     requires { vec_len bytes.old + 10 ≤ vec_capacity bytes.old }
     ensures items { bytes.new.items ≡ bytes.old.items ++ unsigned_leb128 value }
@@ -109,7 +110,7 @@ pub fn put_u64<A: Allocator>(bytes: &mut Vec<u8, A>, value: u64)
 }
 
 /// Writes an s32 in 1 to 5 bytes.
-#[tactic(auto, unfolding(crate::specs::Numbers::signed_leb128))]
+#[tactic(auto, unfolding(crate::specs::Leb128::signed_leb128))]
 pub fn put_i32<A: Allocator>(bytes: &mut Vec<u8, A>, value: i32)
     requires { vec_len bytes.old + 5 ≤ vec_capacity bytes.old }
     ensures items { bytes.new.items ≡ bytes.old.items ++ signed_leb128 value }
@@ -125,7 +126,7 @@ pub fn put_i32<A: Allocator>(bytes: &mut Vec<u8, A>, value: i32)
 }
 
 /// Writes an s64 in 1 to 10 bytes.
-#[tactic(auto, unfolding(crate::specs::Numbers::signed_leb128))]
+#[tactic(auto, unfolding(crate::specs::Leb128::signed_leb128))]
 pub fn put_i64<A: Allocator>(bytes: &mut Vec<u8, A>, value: i64)
     requires { vec_len bytes.old + 10 ≤ vec_capacity bytes.old }
     ensures items { bytes.new.items ≡ bytes.old.items ++ signed_leb128 value }
@@ -141,7 +142,7 @@ pub fn put_i64<A: Allocator>(bytes: &mut Vec<u8, A>, value: i64)
 }
 
 /// Writes an index in the place of a negative type code, in 1 to 5 bytes.
-#[tactic(auto, unfolding(crate::specs::Numbers::signed_leb128))]
+#[tactic(auto, unfolding(crate::specs::Leb128::signed_leb128))]
 pub fn put_index<A: Allocator>(bytes: &mut Vec<u8, A>, index: u32)
     requires { vec_len bytes.old + 5 ≤ vec_capacity bytes.old }
     ensures items { bytes.new.items ≡ bytes.old.items ++ signed_leb128 (pos index) }
@@ -153,7 +154,7 @@ pub fn put_index<A: Allocator>(bytes: &mut Vec<u8, A>, index: u32)
 }
 
 /// How many bytes a number's shortest encoding has.
-#[tactic(auto, unfolding(crate::specs::Numbers::unsigned_leb128, crate::specs::Numbers::digits_of))]
+#[tactic(auto, unfolding(crate::specs::Leb128::unsigned_leb128, crate::specs::Leb128::digits_of))]
 pub fn u32_len(value: u32) -> usize
     ensures value { result ≡ length (unsigned_leb128 value) }
     ensures most { result ≤ 5 }

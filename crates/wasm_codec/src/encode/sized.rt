@@ -1,6 +1,6 @@
 //! Numbers that are put before what they count (Core 3.0, Lists, Code Section and Sections).
 ghost use Rattle.std.specs.Prelude.{◌≡◌, ◌++◌, ◌+◌, ◌-◌, ◌^◌, ◌<◌, ◌≤◌, length, take, drop, vec_len, IfOk, IfErr, OnOk, OnErr};
-ghost use Rattle.wasm_codec.specs.Numbers.{unsigned_leb128};
+ghost use Rattle.wasm_codec.specs.Leb128.{unsigned_leb128};
 ghost use Rattle.wasm_codec.specs.declared.encode.EncodeError.TheVariants.{Memory};
 
 use super::EncodeError;
@@ -73,7 +73,7 @@ fn put_number_before<A: Allocator>(
 }
 
 /// Writes the fewest digits of a number over as many bytes.
-#[tactic(auto, unfolding(crate::specs::Numbers::unsigned_leb128, crate::specs::Numbers::digits_of))]
+#[tactic(auto, unfolding(crate::specs::Leb128::unsigned_leb128, crate::specs::Leb128::digits_of))]
 pub(crate) fn write_u32(digits: &mut [u8], value: u32)
     requires { length digits.old ≡ length (unsigned_leb128 value) }
     ensures { digits.new ≡ unsigned_leb128 value }

@@ -1,7 +1,8 @@
 //! A place in bytes, and what can be read there.
 ghost use Rattle.std.specs.Prelude.{◌≡◌, ◌^◌, ◌<◌, ◌≤◌, ◌&&◌, ◌-◌, ◌*◌, Some, IfOk, IfErr, length, take, drop, true, false, pos, negsuc};
-ghost use Rattle.wasm_codec.specs.Grammar.{IsBytes};
-ghost use Rattle.wasm_codec.specs.Numbers.{signed, signed_leb128};
+ghost use Rattle.wasm_codec.specs.formats.Grammar.{IsBytes};
+ghost use Rattle.wasm_codec.specs.formats.Numbers.{signed};
+ghost use Rattle.wasm_codec.specs.Leb128.{signed_leb128};
 ghost use Rattle.wasm_codec.specs.Reading.{map_ok};
 ghost use Rattle.wasm_codec.specs.Places.{Place, place, Reads, Sees, byte_at, number_at, u32_at, u64_at, s32_at, s64_at, index_at};
 ghost use Rattle.wasm_codec.specs.formats.Bodies.{body_at};
@@ -36,7 +37,7 @@ impl<T: Drop> From<AllocFailed<T>> for Fault {
     }
 }
 
-/// A place in bytes, which knows whether all that was passed was in its shortest encoding.
+/// A place in bytes, which knows whether everything read so far was in its shortest encoding.
 #[derive(Drop)]
 pub struct Cursor<'a> {
     bytes: &'a [u8],
@@ -111,15 +112,15 @@ impl<'a> Cursor<'a> {
         self.bytes.len() - self.position
     }
 
-    /// Whether all that was passed was in its shortest encoding, since the beginning.
+    /// Whether everything read since the beginning was in its shortest encoding.
     pub fn is_shortest(&self) -> bool
         ensures { result ≡ self.now.shortest }
     {
         self.shortest
     }
 
-    /// What was passed is a long form.
-    pub fn long_form(&mut self)
+    /// Notes that a long form was read, which isn't the shortest encoding.
+    pub fn note_long_form(&mut self)
         ensures { self.new ≡ place false self.old.left }
     {
         self.shortest = false;
@@ -189,7 +190,7 @@ impl<'a> Cursor<'a> {
         Ok(taken)
     }
 
-    /// Bytes after their number, as a place of their own: it tells of what was passed here, and goes on from there.
+    /// The bytes of a body after its size, as a place of its own. It starts with what is known here of shortest encodings.
     pub fn body(&mut self) -> Result<Cursor<'a>, Fault>
         ensures reads { Reads body_at self.old self.new (map_ok (λ body. body.left) result) }
         ensures tells { IfOk result (λ body. body ≡ place self.new.shortest body.left) }
@@ -202,14 +203,14 @@ impl<'a> Cursor<'a> {
         Ok(Cursor::at(bytes, 0, self.shortest))
     }
 
-    /// Takes over, from the end of a body, whether all that was read is in its shortest encoding.
-    pub fn body_passed(&mut self, shortest: bool)
+    /// Takes over from the end of a body whether everything read so far was in its shortest encoding.
+    pub fn set_shortest(&mut self, shortest: bool)
         ensures { self.new ≡ place shortest self.old.left }
     {
         self.shortest = shortest;
     }
 
-    /// What was passed is in its shortest encoding only if this holds.
+    /// Notes whether what was just read was in its shortest encoding.
     fn keep(&mut self, kept: bool)
         ensures { self.new ≡ place (self.old.shortest && kept) self.old.left }
     {

@@ -1,7 +1,7 @@
 //! Lists and bodies, rewritten where they lie.
 ghost use Rattle.std.specs.Prelude.{◌≡◌, ◌<◌, List, ℕ, length, IfOk};
 ghost use Rattle.std.specs.List.{flat_map};
-ghost use Rattle.wasm_codec.specs.Grammar.{TakesBytes, Joined};
+ghost use Rattle.wasm_codec.specs.formats.Grammar.{TakesBytes, Joined};
 ghost use Rattle.wasm_codec.specs.Answers.{IfRefused, NeedsNoMemory, IsLongestPrefix, IsNormalForm, EncodesSome};
 ghost use Rattle.wasm_codec.specs.Lawful.{IsLawful, IsLawfulBody};
 ghost use Rattle.wasm_codec.specs.Lists.{EncodesList, items_bytes, IsListPrefix};
@@ -51,7 +51,7 @@ impl Rewritable for u32 {
     fn rewrite(rewriter: &mut Rewriter) -> Result<(), Fault> {
         rewriter.are_bytes();
         if let Some(scanned) = scan_u32(rewriter.left()) {
-            rewriter.pass(scanned);
+            rewriter.rewrite_scanned(scanned);
             return Ok(());
         }
         rewriter.u32()?;
@@ -121,7 +121,7 @@ pub fn rewrite_joined<T: Joinable>(rewriter: &mut Rewriter) -> Result<(), usize>
     while rewriter.len() > 0 {
         let run = short_run::<T>(rewriter.left());
         if run > 0 {
-            rewriter.stay(run);
+            rewriter.skip(run);
         } else {
             let left = rewriter.len();
             if let Err(_) = T::rewrite(rewriter) {

@@ -13,13 +13,20 @@ use Rattle.wasm_instructions.specs.declared.table.opcode.Kind.{Kind}
 use Rattle.wasm_instructions.specs.declared.table.opcode.Kind.TheVariants as kinds
 use Rattle.wasm_instructions.specs.declared.table.call.Operands.{Operands}
 use Rattle.wasm_instructions.specs.declared.table.call.Operands.TheVariants as operands
-use Rattle.wasm_codec.specs.Grammar.{Grammar}
+use Rattle.wasm_codec.specs.formats.Grammar.{Grammar}
 use Rattle.wasm_codec.specs.formats.Combinators.{Format, a_byte, nothing, ◌⊗◌, ◌⊗>◌, made, any_of, or_else, variant_after, byte_where, u32, s32, s64, little_endian, items, narrow, by_kind, AllOf, all_bytes}
 use Rattle.wasm_types.specs.formats.Types.{heap_type, reference, val_type}
-use Rattle.wasm_instructions.specs.formats.Operands.{block_type, catch_clause, handle_clause, castop, mem_arg, ordering, vector, lanes}
-use Rattle.wasm_instructions.specs.Operands.{ieee32, ieee64}
-use Rattle.wasm_instructions.specs.Opcodes.{kind}
-use Rattle.wasm_instructions.specs.Instructions.{Instruction, without_prefix, after_fb, after_fc, after_fd, after_fe, kind_of}
+use Rattle.wasm_instructions.specs.formats.Operands.{block_type, catch_clause, handle_clause, castop, mem_arg, ordering, vector, lanes, ieee32, ieee64}
+use Rattle.wasm_instructions.specs.formats.Opcodes.{without_prefix, after_fb, after_fc, after_fd, after_fe, opcode_kind}
+use Rattle.wasm_instructions.specs.Instructions.{kind_of}
+
+-- an opcode and its operands
+pub record Instruction : Type 0 where
+  pub op : Opcode
+  pub operands : Operands
+
+abbrev pub call : Opcode → Operands → Instruction
+call op operands = record { op = op; operands = operands }
 
 -- ---- opcodes
 
@@ -189,12 +196,12 @@ abbrev pub call_bytes : Instruction → List ℕ
 call_bytes i = opcode.bytes i.op ++ (operands_format (kind_of i.operands)).bytes i.operands
 
 -- the same format, where the shortest encodings of values in range are those
-abbrev pub written : {A : Type 0} → (A → List ℕ) → Format A → Format A
-written bytes F = record { Encodes = F.Encodes; at = F.at; bytes = bytes; InRange = F.InRange; first = F.first }
+abbrev pub with_bytes : {A : Type 0} → (A → List ℕ) → Format A → Format A
+with_bytes bytes F = record { Encodes = F.Encodes; at = F.at; bytes = bytes; InRange = F.InRange; first = F.first }
 
 -- instr ::= an opcode of the table and operands of its kind
 unfoldable pub instruction : Format Instruction
-instruction = written call_bytes (made instruction_of (λ i. Some (i.op, i.operands)) (opcode ⊗> (λ op. by_kind operands_format (kind op))))
+instruction = with_bytes call_bytes (made instruction_of (λ i. Some (i.op, i.operands)) (opcode ⊗> (λ op. by_kind operands_format (opcode_kind op))))
 
 -- the encodings of these instructions, with nothing between and nothing left over
 abbrev pub Instructions : Grammar (List Instruction)

@@ -11,7 +11,10 @@ use Rattle.wasm_instructions.specs.declared.operands.control.Handle.TheVariants 
 use Rattle.wasm_instructions.specs.declared.operands.memory.MemArg.{MemArg}
 use Rattle.wasm_instructions.specs.declared.operands.memory.Ordering.{Ordering}
 use Rattle.wasm_instructions.specs.declared.operands.memory.Ordering.TheVariants as orderings
-use Rattle.wasm_codec.specs.Numbers.{Within, unsigned_leb128}
+use Rattle.wasm_instructions.specs.declared.operands.constants.Ieee32.{Ieee32}
+use Rattle.wasm_instructions.specs.declared.operands.constants.Ieee64.{Ieee64}
+use Rattle.wasm_codec.specs.formats.Numbers.{Within}
+use Rattle.wasm_codec.specs.Leb128.{unsigned_leb128}
 use Rattle.wasm_codec.specs.formats.Combinators.{Format, never, ◌⊗◌, ◌⊗>◌, made, made_as, made_of, any_of, or_else, no_other, variant, tagged, choose, one_byte, byte_or, u32, u64, index, raw, little_endian}
 use Rattle.wasm_types.specs.formats.Types.{val_type}
 
@@ -144,6 +147,14 @@ ordering_byte orderings.AcqRel = Some 0x01
 
 unfoldable pub ordering : Format Ordering
 ordering = one_byte ordering_byte (orderings.SeqCst ∷ orderings.AcqRel ∷ [])
+
+-- ---- floating-point constants (Numeric Instructions), whose values are their bits
+
+abbrev pub ieee32 : ℕ → Ieee32
+ieee32 bits = record { bits = bits }
+
+abbrev pub ieee64 : ℕ → Ieee64
+ieee64 bits = record { bits = bits }
 
 -- ---- vectors (Vector Instructions)
 

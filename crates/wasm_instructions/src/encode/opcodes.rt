@@ -2,13 +2,13 @@
 ghost use Rattle.std.specs.Prelude.{◌≡◌, ◌++◌, ◌∷◌, ◌+◌, ◌^◌, ◌<◌, ◌≤◌, vec_len, vec_capacity};
 ghost use Rattle.wasm_instructions.specs.Instructions.{IsShort};
 ghost use Rattle.wasm_instructions.specs.formats.Instructions.{opcode};
-ghost use Rattle.wasm_codec.specs.Numbers.{unsigned_leb128};
+ghost use Rattle.wasm_codec.specs.Leb128.{unsigned_leb128};
 
 use crate::table::{Opcode, Prefix};
 use std::alloc::Allocator;
 
 /// Writes a prefix byte and the opcode's number, in one byte or two, into reserved room.
-#[tactic(auto, unfolding(wasm_codec::specs::Numbers::unsigned_leb128, wasm_codec::specs::Numbers::digits_of))]
+#[tactic(auto, unfolding(wasm_codec::specs::Leb128::unsigned_leb128, wasm_codec::specs::Leb128::digits_of))]
 fn put_prefixed<A: Allocator>(bytes: &mut Vec<u8, A>, prefix: u8, number: u32)
     requires short { number < 2 ^ 14 }
     requires room { vec_len bytes.old + 3 ≤ vec_capacity bytes.old }

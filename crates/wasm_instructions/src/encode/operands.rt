@@ -26,7 +26,7 @@ pub fn put_block_type<A: Allocator>(bytes: &mut Vec<u8, A>, ty: BlockType)
 }
 
 /// Writes a memory argument in 2 to 16 bytes. Memory 0 goes without its index.
-#[tactic(auto, unfolding(crate::specs::formats::Operands::mem_arg, wasm_codec::specs::Numbers::unsigned_leb128, wasm_codec::specs::Numbers::digits_of))]
+#[tactic(auto, unfolding(crate::specs::formats::Operands::mem_arg, wasm_codec::specs::Leb128::unsigned_leb128, wasm_codec::specs::Leb128::digits_of))]
 pub fn put_mem_arg<A: Allocator>(bytes: &mut Vec<u8, A>, arg: MemArg)
     requires aligned { arg.align < 64 }
     requires room { vec_len bytes.old + 16 ≤ vec_capacity bytes.old }

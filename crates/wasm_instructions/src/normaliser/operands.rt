@@ -107,7 +107,7 @@ pub(super) fn rewrite_block_type(rewriter: &mut Rewriter) -> Result<(), Fault>
 pub(super) fn rewrite_mem_arg(rewriter: &mut Rewriter) -> Result<(), Fault>
     ensures rewrites { Rewrites mem_arg rewriter.old rewriter.new result }
 {
-    let mark = rewriter.mark();
+    let mark = rewriter.written_len();
     let align = rewriter.u32()?;
     if align < 64 {
         return rewriter.u64();

@@ -3,7 +3,7 @@ ghost use Rattle.std.specs.Prelude.{◌≡◌, ◌<◌, IfOk, IfErr};
 ghost use Rattle.wasm_codec.specs.Places.{Reads, map_at};
 ghost use Rattle.wasm_codec.specs.formats.Combinators.{little_endian};
 ghost use Rattle.wasm_codec.specs.declared.reader.cursor.Fault.TheVariants.{Malformed};
-ghost use Rattle.wasm_instructions.specs.Operands.{ieee32, ieee64};
+ghost use Rattle.wasm_instructions.specs.formats.Operands.{ieee32, ieee64};
 ghost use Rattle.wasm_instructions.specs.formats.Operands.{block_type, catch_clause, handle_clause, castop, mem_arg, ordering, from_bits, vector, lanes};
 ghost use Rattle.wasm_instructions.specs.declared.operands.control.Catch.{Catch};
 ghost use Rattle.wasm_instructions.specs.declared.operands.control.Handle.{Handle};
@@ -54,7 +54,7 @@ pub fn read_mem_arg(cursor: &mut Cursor<'_>) -> Result<MemArg, Fault>
     let memory_index = cursor.u32()?;
     let offset = cursor.u64()?;
     if memory_index == 0 {
-        cursor.long_form();
+        cursor.note_long_form();
     }
     Ok(MemArg {
         offset,

@@ -1,6 +1,7 @@
 //! Calls: an opcode with operands of its kind.
 ghost use Rattle.std.specs.Prelude.{◌≡◌, IfOk, IfErr, IsOk, IsTrue, ◌↔◌};
-ghost use Rattle.wasm_instructions.specs.Instructions.{InRange, IsAligned, IsCall, IsShort, call, kind_of};
+ghost use Rattle.wasm_instructions.specs.Instructions.{NumbersInRange, IsAligned, IsCall, IsShort, kind_of};
+ghost use Rattle.wasm_instructions.specs.formats.Instructions.{call};
 ghost use Rattle.wasm_codec.specs.declared.encode.EncodeError.TheVariants.{Memory};
 
 use super::opcode::{Kind, Opcode};
@@ -71,13 +72,14 @@ pub struct Call {
 }
 
 impl Model for Call {
-    ghost use Rattle.wasm_instructions.specs.Instructions.{Instruction, IsCall, InRange};
+    ghost use Rattle.wasm_instructions.specs.formats.Instructions.{Instruction};
+    ghost use Rattle.wasm_instructions.specs.Instructions.{IsCall, NumbersInRange};
 
     ghost Value = { Instruction };
 
     ghost view = { λ c. record { op = c.op; operands = c.operands } };
 
-    ghost invariant = { λ c. IsCall c.op c.operands × InRange c.operands };
+    ghost invariant = { λ c. IsCall c.op c.operands × NumbersInRange c.operands };
 
     ghost inverse = { λ i. record { op = i.op; operands = i.operands } };
 }
@@ -198,7 +200,7 @@ impl Call {
         ensures value { result.now ≡ self.now.operands }
         ensures fits { IsCall self.now.op result.now }
         // Numbers outside lists are in range, and alignments below 64.
-        ensures in_range { InRange result.now }
+        ensures in_range { NumbersInRange result.now }
     {
         &self.operands
     }

@@ -1,7 +1,8 @@
 //! The table of opcodes: which kind of operands each has (Core 3.0, Instructions).
 ghost use Rattle.std.specs.Prelude.{◌≡◌};
-ghost use Rattle.wasm_instructions.specs.Opcodes.{IsTable, kind, kind_among, ranges};
-ghost use Rattle.wasm_instructions.specs.Instructions.{without_prefix, after_fb, after_fc, after_fd, after_fe};
+ghost use Rattle.wasm_instructions.specs.OpcodeTables.{IsTable};
+ghost use Rattle.wasm_instructions.specs.formats.Opcodes.{opcode_kind, kind_among, ranges};
+ghost use Rattle.wasm_instructions.specs.formats.Opcodes.{without_prefix, after_fb, after_fc, after_fd, after_fe};
 
 use super::places::{AFTER_FB, AFTER_FC, AFTER_FD, AFTER_FE, WITHOUT_PREFIX};
 
@@ -138,9 +139,9 @@ impl Opcode {
 
     /// The kind of the opcode's operands, or `None` where it is no opcode of the table.
     #[inline(always)]
-    #[tactic(auto, unfolding(crate::specs::Opcodes::ranges))]
+    #[tactic(auto, unfolding(crate::specs::formats::Opcodes::ranges))]
     pub fn kind(self) -> Option<Kind>
-        ensures { result ≡ kind self }
+        ensures { result ≡ opcode_kind self }
     {
         match self.prefix {
             Prefix::None => kind_at(Prefix::None, &WITHOUT_PREFIX, self.number),
@@ -158,6 +159,7 @@ fn kind_at(prefix: Prefix, places: &[Option<Kind>], number: u32) -> Option<Kind>
     requires { IsTable places.now (ranges prefix) }
     ensures { result ≡ kind_among (ranges prefix) number }
 {
+    // Only the contract speaks of the prefix.
     let _ = prefix;
     let place = number as usize;
     if place < places.len() {

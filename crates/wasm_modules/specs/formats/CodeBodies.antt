@@ -3,10 +3,10 @@
 use Rattle.std.specs.Prelude.{ℕ, true, List, Option, Some}
 use Rattle.wasm_types.specs.declared.types.value.ValType.{ValType}
 use Rattle.wasm_types.specs.formats.Types.{val_type}
-use Rattle.wasm_instructions.specs.Instructions.{Instruction}
+use Rattle.wasm_instructions.specs.formats.Instructions.{Instruction}
 use Rattle.wasm_instructions.specs.formats.Instructions.{instruction}
 use Rattle.wasm_codec.specs.formats.Combinators.{Format, ◌⊗◌, made, u32, items}
-use Rattle.wasm_codec.specs.Grammar.{Grammar}
+use Rattle.wasm_codec.specs.formats.Grammar.{Grammar}
 use Rattle.wasm_codec.specs.Lists.{IsListPrefix, AskedList, IsAskedPrefix}
 use Rattle.wasm_codec.specs.formats.Bodies.{sized, to_end}
 use Rattle.wasm_modules.specs.declared.code.CodeBody.{CodeBody}

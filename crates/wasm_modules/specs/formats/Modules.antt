@@ -4,11 +4,11 @@ use Rattle.std.specs.Prelude.{ℕ, ◌==◌, Bool, true, List, Option, Some, Non
 use Rattle.wasm_types.specs.declared.types.composite.TypeEntry.{TypeEntry}
 use Rattle.wasm_types.specs.formats.Types.{type_body}
 use Rattle.wasm_codec.specs.formats.Combinators.{Format, a_byte, ◌⊗>◌, ◌⊗◌, made, choose, asked}
-use Rattle.wasm_codec.specs.Grammar.{Grammar}
+use Rattle.wasm_codec.specs.formats.Grammar.{Grammar}
 use Rattle.wasm_codec.specs.formats.Bodies.{bytes_to_end, sized, byte_list, to_end, headed}
 use Rattle.wasm_modules.specs.declared.code.CodeBody.{CodeBody}
 use Rattle.wasm_modules.specs.formats.CodeBodies.{code_section_body}
-use Rattle.wasm_modules.specs.Sections.{header, type_section_id, code_section_id, SectionParts, section_of, Content, type_entries, code_bodies, raw_bytes, DecodedSection, decoded_section_of}
+use Rattle.wasm_modules.specs.formats.Sections.{header, type_section_id, code_section_id, SectionParts, section_of, Content, type_entries, code_bodies, raw_bytes, DecodedSection, decoded_section_of}
 
 -- ---- sections
 

@@ -66,7 +66,7 @@ pub fn rewrite_module_of<S: Joinable>(bytes: Vec<u8>) -> Result<Vec<u8>, ReadErr
         return Err(ReadError::Refused { at: 0 });
     };
     let mut rewriter = Rewriter::new(bytes);
-    rewriter.stay(HEADER.len());
+    rewriter.skip(HEADER.len());
     rewriter.are_bytes();
     match rewrite_joined::<S>(&mut rewriter) {
         Ok(()) => Ok(rewriter.finish()),

@@ -5,7 +5,7 @@ use Rattle.wasm_types.specs.declared.types.heap.AbstractHeapType.{AbstractHeapTy
 use Rattle.wasm_types.specs.declared.types.heap.HeapType.TheVariants.{Abstract, Concrete, Exact}
 use Rattle.wasm_types.specs.declared.types.heap.RefType.{RefType}
 use Rattle.wasm_types.specs.formats.Types.{ref_type}
-use Rattle.wasm_instructions.specs.Instructions.{Instruction}
+use Rattle.wasm_instructions.specs.formats.Instructions.{Instruction}
 use Rattle.wasm_codec.specs.formats.Combinators.{Format, never, ◌▷◌, ◌⊗◌, made, u32, items}
 use Rattle.wasm_sections.specs.declared.elements.ElementMode.{ElementMode}
 use Rattle.wasm_sections.specs.declared.elements.ElementMode.TheVariants as modes

@@ -6,7 +6,7 @@ use Rattle.wasm_codec.specs.formats.Bodies.{bytes_to_end}
 use Rattle.wasm_sections.specs.declared.types.MemoryType.{MemoryType}
 use Rattle.wasm_sections.specs.declared.types.TagType.{TagType}
 use Rattle.wasm_sections.specs.formats.Externals.{memory_type, tag_type}
-use Rattle.wasm_sections.specs.Entries.{CustomParts, ExportParts, ImportParts, DataParts}
+use Rattle.wasm_sections.specs.formats.EntryParts.{CustomParts, ExportParts, ImportParts, DataParts}
 use Rattle.wasm_sections.specs.formats.Names.{name}
 use Rattle.wasm_sections.specs.declared.elements.Element.{Element}
 use Rattle.wasm_sections.specs.formats.Elements.{element_segment}

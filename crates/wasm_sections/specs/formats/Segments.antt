@@ -1,10 +1,10 @@
 -- Data segments (WebAssembly Core 3.0, Data Section).
 use Rattle.std.specs.Prelude.{ℕ, zero, suc, ◌==◌, if◌then◌else◌, List, Option, Some, None}
-use Rattle.wasm_instructions.specs.Instructions.{Instruction}
+use Rattle.wasm_instructions.specs.formats.Instructions.{Instruction}
 use Rattle.wasm_codec.specs.formats.Combinators.{Format, never, ◌⊗◌, made, u32}
 use Rattle.wasm_codec.specs.formats.Bodies.{byte_list}
 use Rattle.wasm_sections.specs.declared.data.DataSegmentMode.TheVariants as data_modes
-use Rattle.wasm_sections.specs.Entries.{DataParts}
+use Rattle.wasm_sections.specs.formats.EntryParts.{DataParts}
 use Rattle.wasm_sections.specs.formats.Parts.{numbered}
 use Rattle.wasm_sections.specs.formats.Expressions.{expr}
 

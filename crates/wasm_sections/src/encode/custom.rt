@@ -1,8 +1,8 @@
 //! Custom sections, written (Core 3.0, Custom Section).
 ghost use Rattle.std.specs.Prelude.{◌≡◌, ◌++◌, OnOk, IfOk, IfErr, length, take};
 ghost use Rattle.wasm_codec.specs.Encoding.{byte_list_bytes, IsCount, IsCountRefusal, IsRefusal, IsShortest, IsTooLong, OnlyTooLong};
-ghost use Rattle.wasm_sections.specs.Entries.{custom_parts};
-ghost use Rattle.wasm_sections.specs.ModuleSections.{custom};
+ghost use Rattle.wasm_sections.specs.formats.EntryParts.{custom_parts};
+ghost use Rattle.wasm_sections.specs.formats.ModuleSectionParts.{custom};
 ghost use Rattle.wasm_sections.specs.SectionBytes.{CountedCustom, IsSectionAfter};
 ghost use Rattle.wasm_sections.specs.formats.Sections.{custom_body};
 

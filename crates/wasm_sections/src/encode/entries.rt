@@ -2,8 +2,8 @@
 ghost use Rattle.std.specs.Prelude.{◌≡◌, ◌++◌, true, OnOk, IfErr, length, take};
 ghost use Rattle.std.specs.Str.{is_utf8};
 ghost use Rattle.wasm_codec.specs.Encoding.{IsCount, IsCountRefusal, IsRefusal, IsShortest, OnlyTooLong};
-ghost use Rattle.wasm_codec.specs.Grammar.{IsBytes};
-ghost use Rattle.wasm_sections.specs.Entries.{export_parts, import_parts};
+ghost use Rattle.wasm_codec.specs.formats.Grammar.{IsBytes};
+ghost use Rattle.wasm_sections.specs.formats.EntryParts.{export_parts, import_parts};
 ghost use Rattle.wasm_sections.specs.formats.Names.{name};
 ghost use Rattle.wasm_sections.specs.formats.Entries.{export_entry, import_entry};
 

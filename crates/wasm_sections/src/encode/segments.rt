@@ -1,13 +1,14 @@
 //! Data segments and element segments, written (Core 3.0, Data Section and Element Section).
 ghost use Rattle.std.specs.Prelude.{◌≡◌, ◌++◌, ◌⊎◌, OnOk, OnErr, IfErr, IfSome, length, take};
 ghost use Rattle.std.specs.List.{All, Any, flat_map};
-ghost use Rattle.wasm_codec.specs.Numbers.{unsigned_leb128, EncodesU32};
+ghost use Rattle.wasm_codec.specs.Leb128.{unsigned_leb128};
+ghost use Rattle.wasm_codec.specs.formats.Numbers.{EncodesU32};
 ghost use Rattle.wasm_codec.specs.Encoding.{CanEncodeList, IsListRefusal, IsRefusal, IsShortest, OnlyTooLong, Refuses};
-ghost use Rattle.wasm_codec.specs.Grammar.{IsBytes};
+ghost use Rattle.wasm_codec.specs.formats.Grammar.{IsBytes};
 ghost use Rattle.wasm_codec.specs.declared.encode.EncodeError.TheVariants.{Memory};
 ghost use Rattle.wasm_codec.specs.formats.Combinators.{items};
 ghost use Rattle.wasm_sections.specs.Closed.{AreClosed, AreCounted, IsClosed, IsClosedData, IsClosedElement, IsClosedPlace, IsCountedData, IsCountedDataMode, IsCountedElement, IsCountedExpr, IsCountedPlace, IsWrittenExpr};
-ghost use Rattle.wasm_sections.specs.Entries.{data_parts};
+ghost use Rattle.wasm_sections.specs.formats.EntryParts.{data_parts};
 ghost use Rattle.wasm_sections.specs.SegmentBytes.{DataModeFits, ElementModeFits, ElementsFit, data_mode_bytes, element_mode_bytes, elements_bytes, is_short, place_bytes};
 ghost use Rattle.wasm_sections.specs.formats.Elements.{element_segment};
 ghost use Rattle.wasm_sections.specs.formats.Expressions.{expr};

@@ -1,7 +1,8 @@
 //! The types of what is imported and exported, written (Core 3.0, External Types).
 ghost use Rattle.std.specs.Prelude.{◌≡◌, ◌++◌, ◌+◌, ◌≤◌, ◌∷◌, [], Some, IfSome, is_some, vec_len, vec_capacity};
 ghost use Rattle.wasm_codec.specs.Encoding.{IsShortest};
-ghost use Rattle.wasm_codec.specs.Numbers.{unsigned_leb128, EncodesU32, EncodesU64};
+ghost use Rattle.wasm_codec.specs.Leb128.{unsigned_leb128};
+ghost use Rattle.wasm_codec.specs.formats.Numbers.{EncodesU32, EncodesU64};
 ghost use Rattle.wasm_codec.specs.formats.Combinators.{u64 as u64_format, u32 as u32_format};
 ghost use Rattle.wasm_sections.specs.formats.Parts.{part_if};
 ghost use Rattle.wasm_sections.specs.formats.Externals.{flags_byte, paged_byte, memory_type, table_type, global_type, global_byte, tag_type, entity_type, export_kind};

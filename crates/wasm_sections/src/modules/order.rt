@@ -1,6 +1,6 @@
 //! Whether sections make a module: their order, and counts that must agree (Core 3.0, Modules).
 ghost use Rattle.std.specs.Prelude.{◌≡◌, OnOk, IfErr};
-ghost use Rattle.wasm_sections.specs.ModuleSections.{module_section_parts, all_module_section_parts};
+ghost use Rattle.wasm_sections.specs.formats.ModuleSectionParts.{module_section_parts, all_module_section_parts};
 ghost use Rattle.wasm_sections.specs.ModuleOrder.{rank, AreInOrder, AreCounted, function_count, body_count, segment_count, IsModule, IsWhyNot};
 
 use super::ModuleSection;

@@ -1,14 +1,14 @@
 //! Sections with what they hold, read one by one.
 ghost use Rattle.std.specs.Prelude.{IfErr, refl};
 ghost use Rattle.std.proofs.lemmas.List.{map_push};
-ghost use Rattle.wasm_codec.specs.Grammar.{TakesBytes};
+ghost use Rattle.wasm_codec.specs.formats.Grammar.{TakesBytes};
 ghost use Rattle.wasm_codec.specs.Lawful.{IsLawful};
 ghost use Rattle.wasm_codec.specs.Places.{Reads};
 ghost use Rattle.wasm_codec.specs.Reading.{map_ok};
 ghost use Rattle.wasm_codec.specs.formats.Bodies.{sized};
 ghost use Rattle.wasm_codec.specs.formats.Combinators.{items, u32 as u32_format};
-ghost use Rattle.wasm_sections.specs.Entries.{custom_parts};
-ghost use Rattle.wasm_sections.specs.ModuleSections.{ModuleSectionParts, module_section_parts, all_module_section_parts};
+ghost use Rattle.wasm_sections.specs.formats.EntryParts.{custom_parts};
+ghost use Rattle.wasm_sections.specs.formats.ModuleSectionParts.{ModuleSectionParts, module_section_parts, all_module_section_parts};
 ghost use Rattle.wasm_sections.specs.formats.ModuleSections.{module_section};
 ghost use Rattle.wasm_sections.specs.formats.Sections.{custom_body};
 
@@ -54,7 +54,7 @@ fn read_sized_list<'a, T: Readable<'a>>(
     if body.len() > 0 {
         return Err(Fault::Malformed);
     }
-    cursor.body_passed(body.is_shortest());
+    cursor.set_shortest(body.is_shortest());
     Ok(items)
 }
 
@@ -67,7 +67,7 @@ fn read_sized_number(cursor: &mut Cursor<'_>) -> Result<u32, Fault>
     if body.len() > 0 {
         return Err(Fault::Malformed);
     }
-    cursor.body_passed(body.is_shortest());
+    cursor.set_shortest(body.is_shortest());
     Ok(number)
 }
 
@@ -78,7 +78,7 @@ fn read_sized_custom<'a>(cursor: &mut Cursor<'a>) -> Result<CustomSection<'a>, F
     let mut body = cursor.body()?;
     let name = read_name(&mut body)?;
     let bytes = body.take(body.len())?;
-    cursor.body_passed(body.is_shortest());
+    cursor.set_shortest(body.is_shortest());
     Ok(CustomSection { name, bytes })
 }
 

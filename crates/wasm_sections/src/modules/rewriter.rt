@@ -1,11 +1,11 @@
 //! Sections with what they hold, rewritten where they lie.
 ghost use Rattle.std.specs.Prelude.{List};
-ghost use Rattle.wasm_codec.specs.Grammar.{TakesBytes};
+ghost use Rattle.wasm_codec.specs.formats.Grammar.{TakesBytes};
 ghost use Rattle.wasm_codec.specs.Lawful.{IsLawful, IsLawfulBody};
 ghost use Rattle.wasm_codec.specs.Rewriter.{Rewrites};
 ghost use Rattle.wasm_codec.specs.formats.Combinators.{items};
 ghost use Rattle.wasm_sections.specs.formats.ModuleSections.{module_section};
-ghost use Rattle.wasm_sections.specs.ModuleSections.{ModuleSectionParts};
+ghost use Rattle.wasm_sections.specs.formats.ModuleSectionParts.{ModuleSectionParts};
 
 use crate::custom::Custom;
 use crate::data::DataSegment;

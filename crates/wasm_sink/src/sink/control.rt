@@ -6,7 +6,7 @@ ghost use Rattle.std.specs.Iterator.{size};
 ghost use Rattle.wasm_sink.specs.Sink.{IsUnchangedAtErr, IsSameSink, Writes, HasRoom};
 ghost use Rattle.wasm_sink.specs.ListCalls.{WritesGiven, WritesItems};
 ghost use Rattle.wasm_calls.specs.Appending.{IsRefusedList};
-ghost use Rattle.wasm_instructions.specs.Instructions.{without_prefix};
+ghost use Rattle.wasm_instructions.specs.formats.Opcodes.{without_prefix};
 ghost use Rattle.wasm_instructions.specs.declared.table.call.Operands.TheVariants as operands;
 
 use crate::sink::InstructionSink;
@@ -15,7 +15,7 @@ use wasm_codec::encode::EncodeError;
 use wasm_instructions::operands::{BlockType, Catch};
 use wasm_instructions::table::Prefix;
 
-#[tactic(auto, unfolding(wasm_instructions::specs::Opcodes::ranges))]
+#[tactic(auto, unfolding(wasm_instructions::specs::formats::Opcodes::ranges))]
 impl<'a, A: Allocator> InstructionSink<'a, A> {
     /// `unreachable`: `0x00`.
     pub fn unreachable(self) -> Result<InstructionSink<'a, A>, EncodeError>

@@ -3,7 +3,7 @@ ghost use Rattle.std.specs.Prelude.{◌∷◌, [], length, IsOk};
 ghost use Rattle.std.specs.Borrow.{sem};
 ghost use Rattle.wasm_sink.specs.Sink.{IsUnchangedAtErr, IsSameSink, Writes, HasRoom};
 ghost use Rattle.wasm_sink.specs.ListCalls.{WritesList};
-ghost use Rattle.wasm_instructions.specs.Instructions.{without_prefix};
+ghost use Rattle.wasm_instructions.specs.formats.Opcodes.{without_prefix};
 ghost use Rattle.wasm_instructions.specs.declared.table.call.Operands.TheVariants as operands;
 
 use crate::sink::InstructionSink;
@@ -12,7 +12,7 @@ use wasm_codec::encode::EncodeError;
 use wasm_instructions::table::Prefix;
 use wasm_types::types::ValType;
 
-#[tactic(auto, unfolding(wasm_instructions::specs::Opcodes::ranges))]
+#[tactic(auto, unfolding(wasm_instructions::specs::formats::Opcodes::ranges))]
 impl<'a, A: Allocator> InstructionSink<'a, A> {
     /// `drop`: `0x1A`.
     pub fn drop(self) -> Result<InstructionSink<'a, A>, EncodeError>

@@ -3,7 +3,7 @@
 ghost use Rattle.std.specs.Prelude.{IsOk};
 ghost use Rattle.std.specs.Borrow.{sem};
 ghost use Rattle.wasm_sink.specs.Sink.{IsUnchangedAtErr, IsSameSink, Writes, HasRoom};
-ghost use Rattle.wasm_instructions.specs.Instructions.{without_prefix, after_fb};
+ghost use Rattle.wasm_instructions.specs.formats.Opcodes.{without_prefix, after_fb};
 ghost use Rattle.wasm_instructions.specs.declared.table.call.Operands.TheVariants as operands;
 
 use crate::sink::InstructionSink;
@@ -12,7 +12,7 @@ use wasm_codec::encode::EncodeError;
 use wasm_instructions::table::Prefix;
 use wasm_types::types::{HeapType, RefType};
 
-#[tactic(auto, unfolding(wasm_instructions::specs::Opcodes::ranges))]
+#[tactic(auto, unfolding(wasm_instructions::specs::formats::Opcodes::ranges))]
 impl<'a, A: Allocator> InstructionSink<'a, A> {
     /// `ref.null`: `0xD0`, then a heap type.
     pub fn ref_null(self, heap_type: HeapType) -> Result<InstructionSink<'a, A>, EncodeError>

@@ -17,7 +17,7 @@ use Rattle.wasm_types.specs.declared.types.composite.CompositeType.{CompositeTyp
 use Rattle.wasm_types.specs.declared.types.composite.SubType.{SubType}
 use Rattle.wasm_types.specs.declared.types.composite.TypeEntry.{TypeEntry}
 use Rattle.wasm_types.specs.declared.types.composite.TypeEntry.TheVariants as entries
-use Rattle.wasm_codec.specs.Grammar.{Grammar}
+use Rattle.wasm_codec.specs.formats.Grammar.{Grammar}
 use Rattle.wasm_codec.specs.Lists.{IsListPrefix, AskedList, IsAskedPrefix}
 use Rattle.wasm_codec.specs.formats.Combinators.{Format, ◌⊗◌, made, any_of, or_else, no_other, after, after_long, tagged, variant, variant_after, flagged, optional, one_byte, byte_or, u32, index, items}
 

@@ -91,7 +91,7 @@ fn rewrite_nullable_type(rewriter: &mut Rewriter) -> Result<(), Fault>
     requires { (after : Place) × (byte_at rewriter.old.place ≡ Some (0x63, after)) }
     ensures rewrites { Rewrites ref_type rewriter.old rewriter.new result }
 {
-    let mark = rewriter.mark();
+    let mark = rewriter.written_len();
     rewriter.byte()?;
     let next = rewriter.peek()?;
     rewrite_heap_type(rewriter)?;

@@ -74,7 +74,7 @@ pub fn read_ref_type(cursor: &mut Cursor<'_>) -> Result<RefType, Fault>
         cursor.byte()?;
         let heap_type = read_heap_type(cursor)?;
         if matches!(heap_type, HeapType::Abstract { .. }) {
-            cursor.long_form();
+            cursor.note_long_form();
         }
         return Ok(RefType {
             nullable: true,

@@ -3,7 +3,8 @@
 ghost use Rattle.std.specs.Prelude.{◌≡◌, ◌++◌, ◌+◌, OnOk, IfErr, length, take};
 ghost use Rattle.wasm_codec.specs.Encoding.{IsCount, IsCountRefusal, IsRefusal, IsShortest, OnlyTooLong};
 ghost use Rattle.wasm_types.specs.declared.types.composite.CompositeInnerType.TheVariants as inner;
-ghost use Rattle.wasm_codec.specs.Numbers.{EncodesU32, unsigned_leb128};
+ghost use Rattle.wasm_codec.specs.formats.Numbers.{EncodesU32};
+ghost use Rattle.wasm_codec.specs.Leb128.{unsigned_leb128};
 ghost use Rattle.std.specs.List.{All};
 ghost use Rattle.wasm_types.specs.formats.Types.{field_type, inner_type, composite_type, sub_type, recursive_type};
 ghost use Rattle.wasm_types.specs.TypeCounts.{CountedFunc, CountedStruct, CountedInner, CountedComposite, CountedSub, CountedEntry, supertypes_bytes};

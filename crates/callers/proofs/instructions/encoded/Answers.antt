@@ -1,7 +1,7 @@
 use Rattle.std.proofs.Common.{◌≡◌, ◌++◌, ◌∷◌, [], ℕ, List, refl, subst}
 use Rattle.std.specs.Prelude.{OnOk}
 use Rattle.wasm_encoder.specs.Encoding.{byte_list_bytes}
-use Rattle.wasm_encoder.specs.Numbers.{unsigned_leb128, digits_of}
+use Rattle.wasm_encoder.specs.Leb128.{unsigned_leb128, digits_of}
 use Rattle.wasm_encoder.specs.EncodedLists.{Entries, body_bytes}
 use Rattle.callers.proofs.instructions.encoded.Goals as goal
 

@@ -1,5 +1,5 @@
 use Rattle.std.proofs.Common.{[], ◌∷◌}
-use Rattle.wasm_sections.specs.ModuleSections.{functions}
+use Rattle.wasm_sections.specs.formats.ModuleSectionParts.{functions}
 use Rattle.callers.proofs.whole_modules.module_of.Goals as goal
 
 pub returns : goal.returns

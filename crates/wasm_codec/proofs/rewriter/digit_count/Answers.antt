@@ -1,5 +1,5 @@
 use Rattle.std.proofs.Common.{◌+◌, ◌-◌, ◌≡◌, ◌≤◌, suc, length, arith}
-use Rattle.wasm_codec.specs.Numbers.{digits_of}
+use Rattle.wasm_codec.specs.Leb128.{digits_of}
 use Rattle.wasm_codec.proofs.Digits.{one_left, more_left, last_left}
 use Rattle.wasm_codec.proofs.rewriter.digit_count.Goals as goal
 

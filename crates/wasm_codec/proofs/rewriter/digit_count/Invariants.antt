@@ -1,5 +1,5 @@
 use Rattle.std.proofs.Common.{◌≡◌, ◌+◌, ◌-◌, Bool, length}
-use Rattle.wasm_codec.specs.Numbers.{digits_of}
+use Rattle.wasm_codec.specs.Leb128.{digits_of}
 use Rattle.wasm_codec.proofs.rewriter.digit_count.Given as goal
 
 abbrev pub invariant-loop-count : goal.invariant-loop-count

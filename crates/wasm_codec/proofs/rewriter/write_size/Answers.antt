@@ -1,5 +1,5 @@
 use Rattle.std.proofs.Common.{◌-◌, arith}
-use Rattle.wasm_codec.specs.Numbers.{unsigned_leb128}
+use Rattle.wasm_codec.specs.Leb128.{unsigned_leb128}
 use Rattle.wasm_codec.proofs.Windows.{size_written}
 use Rattle.wasm_codec.proofs.rewriter.write_size.Goals as goal
 

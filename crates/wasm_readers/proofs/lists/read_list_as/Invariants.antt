@@ -1,6 +1,6 @@
 use Rattle.std.proofs.Common.{◌≡◌, length}
 use Rattle.wasm_codec.specs.Lawful.{plain}
-use Rattle.wasm_codec.specs.Places.{PassedAsAsked}
+use Rattle.wasm_codec.specs.Places.{IsReadAsAsked}
 use Rattle.wasm_codec.specs.formats.Combinators.{asked, u32}
 use Rattle.wasm_codec.proofs.ListLaws.{Gone}
 use Rattle.wasm_codec.proofs.PlaceLists.{Passed}
@@ -12,5 +12,5 @@ invariant-loop g l = record {
   passed : Passed (asked (flag g.row.STRICT) u32).at (asked (flag g.row.STRICT) g.T.Readable.format) l.fn.cursor l.cursor l.count l.counter (g.T.Readable.views l.items.items);
   gone : Gone (asked (flag g.row.STRICT) u32).Encodes (plain (asked (flag g.row.STRICT) u32).at) (asked (flag g.row.STRICT) g.T.Readable.format).Encodes (plain (asked (flag g.row.STRICT) g.T.Readable.format).at) l.fn.cursor.left l.cursor.left l.count l.counter (g.T.Readable.views l.items.items);
   len : length l.items.items ≡ l.counter;
-  asked : PassedAsAsked (flag g.row.STRICT) l.cursor;
+  asked : IsReadAsAsked (flag g.row.STRICT) l.cursor;
 }

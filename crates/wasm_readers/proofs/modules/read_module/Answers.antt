@@ -1,8 +1,8 @@
 use Rattle.std.proofs.Common.{◌∙◌, map, arith}
-use Rattle.wasm_codec.specs.Grammar.{IsBytes}
+use Rattle.wasm_codec.specs.formats.Grammar.{IsBytes}
 use Rattle.wasm_codec.proofs.ListReading.{IsBytes-from, gives_all}
 use Rattle.wasm_codec.proofs.PlaceLists.{prefix_free}
-use Rattle.wasm_modules.specs.Sections.{all_parts_of}
+use Rattle.wasm_modules.specs.formats.Sections.{all_parts_of}
 use Rattle.wasm_modules.specs.DecodedModules.{framed}
 use Rattle.wasm_modules.proofs.ModuleFormatLaws.{Lawful-raw-section, Lawful-decoded-section, Lawful-raw-module, one_raw_module}
 use Rattle.wasm_modules.proofs.ModuleLaws.{all_encoded}

@@ -1,7 +1,7 @@
 use Rattle.std.proofs.Common.{arith}
-use Rattle.wasm_codec.specs.Grammar.{IsBytes}
+use Rattle.wasm_codec.specs.formats.Grammar.{IsBytes}
 use Rattle.wasm_codec.proofs.ListReading.{IsBytes-from, gives_all}
-use Rattle.wasm_modules.specs.Sections.{all_parts_of}
+use Rattle.wasm_modules.specs.formats.Sections.{all_parts_of}
 use Rattle.wasm_modules.proofs.ModuleFormatLaws.{is_shortest_module, one_shortest_module}
 use Rattle.wasm_modules.proofs.ModuleLaws.{all_encoded}
 use Rattle.wasm_readers.proofs.modules.read_module_strict.Goals as goal

@@ -1,4 +1,4 @@
-use Rattle.wasm_instructions.specs.Opcodes.{ranges}
+use Rattle.wasm_instructions.specs.formats.Opcodes.{ranges}
 use Rattle.wasm_instructions.specs.declared.table.opcode.Prefix.TheVariants as prefixes
 use Rattle.wasm_readers.proofs.NameLaws.{below_end}
 use Rattle.std.proofs.Common.{refl}

@@ -1,5 +1,5 @@
 use Rattle.wasm_codec.proofs.BodyLaws.{encodes_one}
-use Rattle.wasm_sections.specs.Entries.{custom_parts}
+use Rattle.wasm_sections.specs.formats.EntryParts.{custom_parts}
 use Rattle.wasm_sections.specs.formats.Sections.{custom_body}
 use Rattle.wasm_sections.proofs.CustomLaws.{custom_is_lawful, complete_as}
 use Rattle.wasm_sections.proofs.custom.read_custom_section.Goals as goal

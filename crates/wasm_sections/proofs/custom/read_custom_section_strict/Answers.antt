@@ -1,4 +1,4 @@
-use Rattle.wasm_sections.specs.Entries.{custom_parts}
+use Rattle.wasm_sections.specs.formats.EntryParts.{custom_parts}
 use Rattle.wasm_codec.specs.formats.Combinators.{narrow}
 use Rattle.wasm_sections.specs.formats.Sections.{custom_body}
 use Rattle.wasm_sections.proofs.CustomLaws.{complete_as, one_short}

@@ -1,5 +1,5 @@
 use Rattle.wasm_codec.proofs.ListReading.{gives_all}
-use Rattle.wasm_sections.specs.ModuleSections.{all_module_section_parts}
+use Rattle.wasm_sections.specs.formats.ModuleSectionParts.{all_module_section_parts}
 use Rattle.wasm_sections.proofs.ModuleSectionLaws.{Lawful-whole-module, one_whole_module}
 use Rattle.wasm_sections.proofs.modules.read_whole_module.Goals as goal
 

@@ -1,6 +1,6 @@
 use Rattle.wasm_codec.proofs.ListReading.{gives_all}
 use Rattle.wasm_modules.proofs.ModuleFormatLaws.{is_shortest_module_of, one_shortest_module_of}
-use Rattle.wasm_sections.specs.ModuleSections.{all_module_section_parts}
+use Rattle.wasm_sections.specs.formats.ModuleSectionParts.{all_module_section_parts}
 use Rattle.wasm_sections.proofs.ModuleSectionLaws.{module_section_is_lawful, module_section_takes}
 use Rattle.wasm_sections.proofs.modules.read_whole_module_strict.Goals as goal
 

@@ -2,8 +2,9 @@
 ghost use Rattle.std.specs.Prelude.{◌≡◌, ◌<◌, Some, length, IfErr};
 ghost use Rattle.std.specs.Borrow.{sem};
 ghost use Rattle.wasm_sink.specs.Sink.{IsUnchangedAtErr, IsSameSink};
-ghost use Rattle.wasm_instructions.specs.Instructions.{IsCall, IsShort, without_prefix};
-ghost use Rattle.wasm_instructions.specs.Opcodes.{kind};
+ghost use Rattle.wasm_instructions.specs.Instructions.{IsCall, IsShort};
+ghost use Rattle.wasm_instructions.specs.formats.Opcodes.{without_prefix};
+ghost use Rattle.wasm_instructions.specs.formats.Opcodes.{opcode_kind};
 ghost use Rattle.wasm_instructions.specs.declared.table.opcode.Kind.TheVariants as kinds;
 ghost use Rattle.wasm_instructions.specs.declared.table.call.Operands.TheVariants as operands;
 ghost use Rattle.std.specs.Iterator.{size};
@@ -47,7 +48,7 @@ impl<'a, A: Allocator> InstructionSink<'a, A> {
         default: u32,
     ) -> Result<InstructionSink<'a, A>, EncodeError>
         requires short { number < 0xfb }
-        requires call { kind (without_prefix number) ≡ Some kinds.BrTable }
+        requires call { opcode_kind (without_prefix number) ≡ Some kinds.BrTable }
         requires can { I.can_next labels }
         ensures wrote { WritesItems I.next_gives self.entry (without_prefix number) (λ xs. operands.BrTable xs default) labels result }
         ensures stands { WritesGiven I.next_gives self.entry (without_prefix number) (λ xs. operands.BrTable xs default) labels result }
@@ -69,7 +70,7 @@ impl<'a, A: Allocator> InstructionSink<'a, A> {
         clauses: I,
     ) -> Result<InstructionSink<'a, A>, EncodeError>
         requires short { number < 0xfb }
-        requires call { kind (without_prefix number) ≡ Some kinds.TryTable }
+        requires call { opcode_kind (without_prefix number) ≡ Some kinds.TryTable }
         requires can { I.can_next clauses }
         ensures wrote { WritesItems I.next_gives self.entry (without_prefix number) (λ xs. operands.TryTable block_type xs) clauses result }
         ensures stands { WritesGiven I.next_gives self.entry (without_prefix number) (λ xs. operands.TryTable block_type xs) clauses result }
@@ -91,7 +92,7 @@ impl<'a, A: Allocator> InstructionSink<'a, A> {
         handlers: I,
     ) -> Result<InstructionSink<'a, A>, EncodeError>
         requires short { number < 0xfb }
-        requires call { kind (without_prefix number) ≡ Some kinds.Resume }
+        requires call { opcode_kind (without_prefix number) ≡ Some kinds.Resume }
         requires can { I.can_next handlers }
         ensures wrote { WritesItems I.next_gives self.entry (without_prefix number) (λ xs. operands.Resume index xs) handlers result }
         ensures stands { WritesGiven I.next_gives self.entry (without_prefix number) (λ xs. operands.Resume index xs) handlers result }
@@ -114,7 +115,7 @@ impl<'a, A: Allocator> InstructionSink<'a, A> {
         handlers: I,
     ) -> Result<InstructionSink<'a, A>, EncodeError>
         requires short { number < 0xfb }
-        requires call { kind (without_prefix number) ≡ Some kinds.ResumeThrow }
+        requires call { opcode_kind (without_prefix number) ≡ Some kinds.ResumeThrow }
         requires can { I.can_next handlers }
         ensures wrote { WritesItems I.next_gives self.entry (without_prefix number) (λ xs. operands.ResumeThrow first second xs) handlers result }
         ensures stands { WritesGiven I.next_gives self.entry (without_prefix number) (λ xs. operands.ResumeThrow first second xs) handlers result }

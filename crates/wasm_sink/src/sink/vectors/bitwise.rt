@@ -2,7 +2,7 @@
 ghost use Rattle.std.specs.Prelude.{IsOk};
 ghost use Rattle.std.specs.Borrow.{sem};
 ghost use Rattle.wasm_sink.specs.Sink.{IsUnchangedAtErr, IsSameSink, Writes, HasRoom};
-ghost use Rattle.wasm_instructions.specs.Instructions.{after_fd};
+ghost use Rattle.wasm_instructions.specs.formats.Opcodes.{after_fd};
 ghost use Rattle.wasm_instructions.specs.declared.table.call.Operands.TheVariants as operands;
 
 use crate::sink::InstructionSink;
@@ -10,7 +10,7 @@ use std::alloc::Allocator;
 use wasm_codec::encode::EncodeError;
 use wasm_instructions::table::Prefix;
 
-#[tactic(auto, unfolding(wasm_instructions::specs::Opcodes::ranges))]
+#[tactic(auto, unfolding(wasm_instructions::specs::formats::Opcodes::ranges))]
 impl<'a, A: Allocator> InstructionSink<'a, A> {
     /// `v128.not`: `0xFD 0x4D`.
     pub fn v128_not(self) -> Result<InstructionSink<'a, A>, EncodeError>

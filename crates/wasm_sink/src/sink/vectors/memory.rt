@@ -2,7 +2,7 @@
 ghost use Rattle.std.specs.Prelude.{◌≤◌, ◌<◌, ◌↔◌, IsOk, IsErrOf};
 ghost use Rattle.std.specs.Borrow.{sem};
 ghost use Rattle.wasm_sink.specs.Sink.{IsUnchangedAtErr, IsSameSink, WritesBytes, HasRoom};
-ghost use Rattle.wasm_instructions.specs.Instructions.{after_fd};
+ghost use Rattle.wasm_instructions.specs.formats.Opcodes.{after_fd};
 ghost use Rattle.wasm_instructions.specs.declared.table.call.Operands.TheVariants as operands;
 
 use crate::sink::InstructionSink;
@@ -11,7 +11,7 @@ use wasm_codec::encode::EncodeError;
 use wasm_instructions::operands::{Lane, MemArg};
 use wasm_instructions::table::Prefix;
 
-#[tactic(auto, unfolding(wasm_instructions::specs::Opcodes::ranges))]
+#[tactic(auto, unfolding(wasm_instructions::specs::formats::Opcodes::ranges))]
 impl<'a, A: Allocator> InstructionSink<'a, A> {
     /// `v128.load`: `0xFD 0x00`, then a memory argument. `Alignment` where `memarg.align` is 64 or more.
     pub fn v128_load(self, memarg: MemArg) -> Result<InstructionSink<'a, A>, EncodeError>

@@ -3,7 +3,7 @@ use Rattle.std.specs.Result.{IsErrAnd}
 use Rattle.wasm_codec.specs.Answers.{HoldsAtRefusal}
 use Rattle.wasm_codec.specs.declared.reader.ReadError.{ReadError}
 use Rattle.wasm_codec.specs.declared.reader.ReadError.TheVariants as read_errors
-use Rattle.wasm_sections.specs.ModuleSections.{ModuleSectionParts}
+use Rattle.wasm_sections.specs.formats.ModuleSectionParts.{ModuleSectionParts}
 use Rattle.wasm_sections.specs.formats.ModuleSections.{whole_module}
 use Rattle.wasmcanon.specs.Run.{IfRefused, IsNoModule, failure_of}
 use Rattle.wasmcanon.specs.declared.run.Failure.{Failure}

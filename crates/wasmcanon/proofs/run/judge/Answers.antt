@@ -2,7 +2,7 @@ use Rattle.std.proofs.Common.{◌≡◌, ◌∙◌, ℕ, Result, Err, ap, subst}
 use Rattle.wasm_codec.specs.Answers.{IsOrMemory, IfRefused}
 use Rattle.wasm_codec.specs.declared.reader.ReadError.{ReadError}
 use Rattle.wasm_codec.specs.declared.reader.ReadError.TheVariants.{Refused}
-use Rattle.wasm_sections.specs.ModuleSections.{all_module_section_parts}
+use Rattle.wasm_sections.specs.formats.ModuleSectionParts.{all_module_section_parts}
 use Rattle.wasm_sections.specs.formats.ModuleSections.{whole_module}
 use Rattle.wasmcanon.proofs.run.judge.Goals as goal
 

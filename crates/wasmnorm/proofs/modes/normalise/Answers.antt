@@ -1,7 +1,7 @@
 use Rattle.std.proofs.Common.{List, ℕ, Result, Ok, Err, sym, subst}
 use Rattle.wasm_codec.specs.declared.reader.ReadError.{ReadError}
 use Rattle.wasm_codec.specs.declared.reader.ReadError.TheVariants as errors
-use Rattle.wasm_codec.specs.Grammar.{Grammar}
+use Rattle.wasm_codec.specs.formats.Grammar.{Grammar}
 use Rattle.wasm_codec.specs.Answers.{IsOrMemory, IfRefused, EncodesSome}
 use Rattle.wasm_modules.specs.formats.Modules.{decoded_module}
 use Rattle.wasmnorm.specs.Modes.{NormalForm}

@@ -6,4 +6,4 @@ pub returns-then-len-count : goal.returns-then-len-count
 returns-then-len-count c = no_number c.args.count c.args.self.now.place (omega arith)
 
 pub returns : goal.returns
-returns c = rw c.stay.ensures (number_stays c.args.count c.args.self.now c.are_bytes.ensures (omega arith))
+returns c = rw c.skip.ensures (number_stays c.args.count c.args.self.now c.are_bytes.ensures (omega arith))

@@ -1,6 +1,6 @@
 use Rattle.std.proofs.Common.{ℕ, length, ap, ◌∙◌, refl}
 use Rattle.std.proofs.lemmas.Result.{err_from_is_err_and}
-use Rattle.wasm_codec.specs.Numbers.{unsigned_leb128}
+use Rattle.wasm_codec.specs.Leb128.{unsigned_leb128}
 use Rattle.wasm_codec.proofs.FormatLaws.{Lawful-u32}
 use Rattle.wasm_codec.proofs.NumberLaws.{cut_u32}
 use Rattle.wasm_codec.proofs.Shortening.{number_read, no_number}
@@ -16,7 +16,7 @@ overflow_sub-len c = rw c.len.ensures (number_read Lawful-u32 cut_u32 c.args.sel
 
 pub returns-then-shortest : goal.returns-then-shortest
 returns-then-shortest c =
-    rw (c.stay.ensures, c.len.ensures) (rw c.if-shortest.true at (number_read Lawful-u32 cut_u32 c.args.self.now c.cursor-cursor.result c.in_ok-value.value c.u32.new.self c.is_shortest-shortest.result c.len-left.result (length (unsigned_leb128 c.in_ok-value.value)) c.cursor-cursor.ensures.bytes c.cursor-cursor.ensures.place c.in_ok-value.ensures.reads c.is_shortest-shortest.ensures c.len-left.ensures refl).gives)
+    rw (c.skip.ensures, c.len.ensures) (rw c.if-shortest.true at (number_read Lawful-u32 cut_u32 c.args.self.now c.cursor-cursor.result c.in_ok-value.value c.u32.new.self c.is_shortest-shortest.result c.len-left.result (length (unsigned_leb128 c.in_ok-value.value)) c.cursor-cursor.ensures.bytes c.cursor-cursor.ensures.place c.in_ok-value.ensures.reads c.is_shortest-shortest.ensures c.len-left.ensures refl).gives)
 
 pub overflow_sub-len-else-shortest : goal.overflow_sub-len-else-shortest
 overflow_sub-len-else-shortest c = rw c.len-else-shortest.ensures (number_read Lawful-u32 cut_u32 c.args.self.now c.cursor-cursor.result c.in_ok-value.value c.u32.new.self c.is_shortest-shortest.result c.len-left.result (length (unsigned_leb128 c.in_ok-value.value)) c.cursor-cursor.ensures.bytes c.cursor-cursor.ensures.place c.in_ok-value.ensures.reads c.is_shortest-shortest.ensures c.len-left.ensures refl).left_over

@@ -1,5 +1,5 @@
 use Rattle.std.proofs.Common.{◌≡◌, ◌-◌, ℕ, length, ap, subst, arith}
-use Rattle.wasm_codec.specs.Grammar.{IsBytes, Joined}
+use Rattle.wasm_codec.specs.formats.Grammar.{IsBytes, Joined}
 use Rattle.wasm_codec.specs.Answers.{IsLongestPrefix, EncodesSome}
 use Rattle.wasm_codec.specs.Rewriter.{Rewriting, StopsAt}
 use Rattle.wasm_codec.proofs.BodyRewriting.{joined_given, joined_stopped, stopped_within}

@@ -6,7 +6,7 @@ use Rattle.wasm_codec.proofs.rewriter.loops.rewrite_joined.Goals as goal
 pub loop-rewriter-preserved-then-run-gt0 : goal.loop-rewriter-preserved-then-run-gt0
 loop-rewriter-preserved-then-run-gt0 g c =
     let law = c.is_lawful.ensures in
-    run_passed law.lawful law.some c.args.rewriter.now c.loop-rewriter.rewriter c.stay.new.self c.left.result.now c.short_run-run.result c.are_bytes.ensures c.loop-rewriter.invariant c.left.ensures c.short_run-run.ensures c.stay.ensures
+    run_passed law.lawful law.some c.args.rewriter.now c.loop-rewriter.rewriter c.skip.new.self c.left.result.now c.short_run-run.result c.are_bytes.ensures c.loop-rewriter.invariant c.left.ensures c.short_run-run.ensures c.skip.ensures
 
 pub returns-in-Err : goal.returns-in-Err
 returns-in-Err g c =

@@ -1,5 +1,5 @@
 use Rattle.std.proofs.Common.{◌≡◌, take}
-use Rattle.wasm_codec.specs.Numbers.{last}
+use Rattle.wasm_codec.specs.formats.Numbers.{last}
 use Rattle.wasm_codec.specs.Scanning.{AreMore}
 use Rattle.wasm_codec.proofs.rewriter.scan.scan_digits.Given as goal
 

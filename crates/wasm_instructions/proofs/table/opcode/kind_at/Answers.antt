@@ -1,4 +1,4 @@
-use Rattle.wasm_instructions.specs.Opcodes.{ranges}
+use Rattle.wasm_instructions.specs.formats.Opcodes.{ranges}
 use Rattle.wasm_instructions.proofs.OpcodeLaws.{place_is, no_place}
 use Rattle.wasm_instructions.proofs.table.opcode.kind_at.Goals as goal
 

@@ -2,7 +2,7 @@ use Rattle.std.proofs.Common.{refl}
 use Rattle.wasm_codec.proofs.FormatLaws.{Lawful-made}
 use Rattle.wasm_codec.proofs.BodyLaws.{Lawful-body}
 use Rattle.wasm_modules.proofs.CodeBodyLaws.{Lawful-code-section-body}
-use Rattle.wasm_modules.specs.Sections.{code_bodies}
+use Rattle.wasm_modules.specs.formats.Sections.{code_bodies}
 use Rattle.wasm_modules.specs.formats.Modules.{bodies_part}
 use Rattle.wasm_modules.proofs.normaliser.CodeBodiesRewritableBody.is_lawful.Goals as goal
 

@@ -2,7 +2,7 @@ use Rattle.std.proofs.Common.{refl}
 use Rattle.wasm_codec.proofs.FormatLaws.{Lawful-made}
 use Rattle.wasm_codec.proofs.BodyLaws.{Lawful-body}
 use Rattle.wasm_types.proofs.TypeFormatLaws.{Lawful-type-body}
-use Rattle.wasm_modules.specs.Sections.{type_entries}
+use Rattle.wasm_modules.specs.formats.Sections.{type_entries}
 use Rattle.wasm_modules.specs.formats.Modules.{entries_part}
 use Rattle.wasm_modules.proofs.normaliser.TypeEntriesRewritableBody.is_lawful.Goals as goal
 

@@ -1,4 +1,4 @@
-use Rattle.wasm_codec.specs.Numbers.{EncodesU32}
+use Rattle.wasm_codec.specs.formats.Numbers.{EncodesU32}
 use Rattle.wasm_codec.proofs.FormatLaws.{Lawful-u32}
 use Rattle.wasm_readers.proofs.readable.U32Readable.read.Goals as goal
 

@@ -1,4 +1,4 @@
-use Rattle.wasm_sections.specs.Entries.{custom_parts}
+use Rattle.wasm_sections.specs.formats.EntryParts.{custom_parts}
 use Rattle.wasm_sections.proofs.CustomWriting.{custom_written}
 use Rattle.wasm_sections.proofs.encode.custom.append_body.Goals as goal
 

@@ -1,7 +1,7 @@
 use Rattle.std.proofs.Common.{subst}
 use Rattle.wasm_codec.specs.Encoding.{IsCount}
-use Rattle.wasm_codec.specs.Numbers.{unsigned_leb128}
-use Rattle.wasm_sections.specs.Entries.{custom_parts}
+use Rattle.wasm_codec.specs.Leb128.{unsigned_leb128}
+use Rattle.wasm_sections.specs.formats.EntryParts.{custom_parts}
 use Rattle.wasm_sections.proofs.CustomWriting.{custom_section_written, kept_before}
 use Rattle.wasm_sections.proofs.encode.custom.append_custom.Goals as goal
 

@@ -1,5 +1,5 @@
 use Rattle.std.proofs.Common.{◌≡◌, length, arith}
-use Rattle.wasm_sections.specs.Entries.{custom_parts}
+use Rattle.wasm_sections.specs.formats.EntryParts.{custom_parts}
 use Rattle.wasm_sections.proofs.CustomWriting.{body_counted}
 use Rattle.wasm_sections.proofs.encode.custom.body_len.Goals as goal
 

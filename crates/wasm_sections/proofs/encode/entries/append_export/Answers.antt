@@ -1,5 +1,5 @@
 use Rattle.std.proofs.Common.{◌≡◌, [], ◌∷◌, ◌++◌}
-use Rattle.wasm_sections.specs.Entries.{export_parts}
+use Rattle.wasm_sections.specs.formats.EntryParts.{export_parts}
 use Rattle.wasm_sections.proofs.EntryWriting.{export_appended, export_written}
 use Rattle.wasm_sections.proofs.encode.entries.append_export.Goals as goal
 

@@ -1,4 +1,4 @@
-use Rattle.wasm_sections.specs.Entries.{import_parts}
+use Rattle.wasm_sections.specs.formats.EntryParts.{import_parts}
 use Rattle.wasm_sections.proofs.EntryWriting.{import_written}
 use Rattle.wasm_sections.proofs.encode.entries.append_import.Goals as goal
 

@@ -1,4 +1,4 @@
-use Rattle.wasm_sections.specs.Entries.{data_parts}
+use Rattle.wasm_sections.specs.formats.EntryParts.{data_parts}
 use Rattle.wasm_sections.proofs.SegmentWriting.{data_written}
 use Rattle.wasm_sections.proofs.encode.segments.append_data_segment.Goals as goal
 

@@ -1,5 +1,5 @@
 use Rattle.std.proofs.Common.{sym, subst, ◌+◌}
-use Rattle.wasm_sections.specs.ModuleSections.{module_section_parts, all_module_section_parts}
+use Rattle.wasm_sections.specs.formats.ModuleSectionParts.{module_section_parts, all_module_section_parts}
 use Rattle.wasm_sections.proofs.ModuleOrderLaws.{GoOn, next_taken, all_taken, go_on_ranked, go_on_custom, out_of_order_at, all_in_order}
 use Rattle.wasm_sections.proofs.modules.order.check_ranks.Goals as goal
 use Rattle.wasm_sections.proofs.modules.order.check_ranks.Goals.{then-rank-ne0+else-rank-last, else-rank-ne0}

@@ -1,4 +1,4 @@
-use Rattle.wasm_sections.specs.ModuleSections.{all_module_section_parts}
+use Rattle.wasm_sections.specs.formats.ModuleSectionParts.{all_module_section_parts}
 use Rattle.wasm_sections.proofs.ModuleOrderLaws.{GoOn}
 use Rattle.wasm_sections.proofs.modules.order.check_ranks.Given as goal
 

@@ -1,5 +1,5 @@
 use Rattle.std.proofs.Common.{◌≡◌, drop}
-use Rattle.wasm_sections.specs.ModuleSections.{all_module_section_parts}
+use Rattle.wasm_sections.specs.formats.ModuleSectionParts.{all_module_section_parts}
 use Rattle.wasm_sections.specs.ModuleOrder.{segment_count}
 use Rattle.wasm_sections.proofs.modules.order.count_segments.Given as goal
 

@@ -1,7 +1,7 @@
 use Rattle.std.proofs.Common.{◌≡◌, ℕ, Some, subst}
 use Rattle.std.proofs.lemmas.Result.{err_from_is_err_and}
 use Rattle.wasm_codec.specs.Places.{byte_at}
-use Rattle.wasm_sections.specs.ModuleSections.{module_section_parts}
+use Rattle.wasm_sections.specs.formats.ModuleSectionParts.{module_section_parts}
 use Rattle.wasm_sections.proofs.ModuleSectionReading.{section_read, section_fault, custom_kind, types_kind, imports_kind, functions_kind, tables_kind, memories_kind, globals_kind, exports_kind, start_kind, elements_kind, code_kind, data_segments_kind, data_count_kind, tags_kind}
 use Rattle.wasm_sections.proofs.modules.reader.read_module_section.Goals as goal
 

@@ -1,5 +1,5 @@
 use Rattle.std.proofs.lemmas.Result.{err_from_is_err_and}
-use Rattle.wasm_sections.specs.Entries.{custom_parts}
+use Rattle.wasm_sections.specs.formats.EntryParts.{custom_parts}
 use Rattle.wasm_sections.proofs.CustomLaws.{all_taken}
 use Rattle.wasm_sections.proofs.ModuleSectionReading.{custom_read, no_custom}
 use Rattle.wasm_sections.proofs.modules.reader.read_sized_custom.Goals as goal
@@ -13,4 +13,4 @@ pub returns : goal.returns
 returns c =
     let rest = all_taken c.in_ok-bytes.bytes.now c.read_name.new.cursor.left c.len.result c.len.ensures c.in_ok-bytes.ensures.ok.0 in
     let read = custom_read c.args.cursor.now c.body.new.self c.in_ok-body.body c.in_ok-body.ensures.reads c.in_ok-body.ensures.tells c.read_name.new.cursor c.in_ok-name.name.now c.in_ok-bytes.bytes.now c.in_ok-name.ensures.reads rest in
-    rw (c.body_passed.ensures, c.is_shortest.ensures, c.in_ok-bytes.ensures.ok.1) (record { reads = read })
+    rw (c.set_shortest.ensures, c.is_shortest.ensures, c.in_ok-bytes.ensures.ok.1) (record { reads = read })

@@ -1,6 +1,6 @@
 use Rattle.std.proofs.Common.{rules, refl}
 use Rattle.wasm_calls.proofs.InstructionLengths.{short_call}
-use Rattle.wasm_instructions.specs.Instructions.{without_prefix}
+use Rattle.wasm_instructions.specs.formats.Opcodes.{without_prefix}
 use Rattle.wasm_instructions.specs.declared.table.call.Operands.TheVariants as operands
 use Rattle.wasm_sink.proofs.WrittenCalls.{shortest_call}
 use Rattle.wasm_sink.proofs.sink.InstructionSink.emit_i64.Goals as goal

@@ -1,5 +1,5 @@
 use Rattle.std.proofs.Common.{rules, refl, sym}
-use Rattle.wasm_instructions.specs.Instructions.{without_prefix}
+use Rattle.wasm_instructions.specs.formats.Opcodes.{without_prefix}
 use Rattle.wasm_instructions.specs.declared.table.call.Operands.TheVariants as operands
 use Rattle.wasm_calls.specs.Appending.{AppendsAll}
 use Rattle.wasm_sink.proofs.WrittenCalls.{given, shortest_call}

@@ -1,6 +1,6 @@
-use Rattle.wasm_codec.proofs.Shortening.{scanned_passes}
+use Rattle.wasm_codec.proofs.Shortening.{scanned_rewritten}
 use Rattle.wasm_types.proofs.TypeFormatLaws.{Lawful-recursive-type}
 use Rattle.wasm_types.proofs.normaliser.TypeEntryRewritable.rewrite.Goals as goal
 
 pub returns-in-Some : goal.returns-in-Some
-returns-in-Some c = record { rewrites = scanned_passes Lawful-recursive-type c.args.rewriter.now c.pass.new.self c.left.result.now c.left.ensures c.are_bytes.ensures c.in-Some.scanned c.in-Some.ensures c.pass.ensures }
+returns-in-Some c = record { rewrites = scanned_rewritten Lawful-recursive-type c.args.rewriter.now c.rewrite_scanned.new.self c.left.result.now c.left.ensures c.are_bytes.ensures c.in-Some.scanned c.in-Some.ensures c.rewrite_scanned.ensures }

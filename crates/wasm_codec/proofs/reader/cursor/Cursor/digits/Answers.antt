@@ -1,7 +1,7 @@
 use Rattle.std.proofs.Common.{◌≡◌, sym, ap, ◌∙◌, add-one, arith}
 use Rattle.std.proofs.Math.Nat.{pow-suc}
 use Rattle.std.proofs.lemmas.Result.{err_from_is_err_and}
-use Rattle.wasm_codec.specs.Reading.{byte_at as list_byte_at}
+use Rattle.wasm_codec.specs.Reading.{plain_byte_at}
 use Rattle.wasm_codec.proofs.DigitLoop.{reads_on, byte_is, full, value_more, digits_more}
 use Rattle.wasm_codec.proofs.NumberReading.{list_byte, byte_took, few_bounds, fail, read_end}
 use Rattle.wasm_codec.proofs.reader.cursor.Cursor.digits.Goals as goal
@@ -33,7 +33,7 @@ returns-then-byte-lt128-clause-few c =
 
 pub loop-preserved : goal.loop-preserved
 loop-preserved c =
-    let byte = byte_is c.args.self.now.left c.loop.counter c.in_ok-byte.byte c.byte.new.self.left (sym (ap list_byte_at c.loop.invariant.rest) ∙ list_byte c.loop.self c.byte.new.self c.in_ok-byte.byte c.in_ok-byte.ensures.reads) in
+    let byte = byte_is c.args.self.now.left c.loop.counter c.in_ok-byte.byte c.byte.new.self.left (sym (ap plain_byte_at c.loop.invariant.rest) ∙ list_byte c.loop.self c.byte.new.self c.in_ok-byte.byte c.in_ok-byte.ensures.reads) in
     let r = few_bounds 4 c.loop.counter c.loop.unsigned c.loop.unit c.from.result (omega arith) c.loop.invariant.unit c.loop.invariant.below (omega arith) in
     record {
       within = omega (arith, byte.within);

@@ -1,5 +1,6 @@
 use Rattle.std.proofs.Common.{◌≡◌, ◌≤◌, ◌<◌, ◌^◌, length, take, drop}
-use Rattle.wasm_codec.specs.Numbers.{digits_at, unsigned}
+use Rattle.wasm_codec.specs.Leb128.{digits_at}
+use Rattle.wasm_codec.specs.formats.Numbers.{unsigned}
 use Rattle.wasm_codec.proofs.DigitLoop.{reads_on}
 use Rattle.wasm_codec.proofs.reader.cursor.Cursor.digits.Given as goal
 

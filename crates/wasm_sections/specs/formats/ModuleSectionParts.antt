@@ -9,7 +9,7 @@ use Rattle.wasm_sections.specs.declared.types.MemoryType.{MemoryType}
 use Rattle.wasm_sections.specs.declared.types.TagType.{TagType}
 use Rattle.wasm_sections.specs.declared.modules.ModuleSection.{ModuleSection}
 use Rattle.wasm_sections.specs.declared.modules.ModuleSection.TheVariants as sections
-use Rattle.wasm_sections.specs.Entries.{CustomParts, ExportParts, ImportParts, DataParts, custom_parts, all_export_parts, all_import_parts, all_data_parts}
+use Rattle.wasm_sections.specs.formats.EntryParts.{CustomParts, ExportParts, ImportParts, DataParts, custom_parts, all_export_parts, all_import_parts, all_data_parts}
 
 -- what a section holds
 pub data ModuleSectionParts : Type 0 where

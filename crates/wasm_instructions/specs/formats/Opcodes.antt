@@ -1,10 +1,30 @@
 -- The table of opcodes: which kind of operands each has (WebAssembly Core 3.0, Instructions).
-use Rattle.std.specs.Prelude.{◌≡◌, ℕ, zero, suc, ◌+◌, Bool, true, IsTrue, List, [], ◌∷◌, length, Option, Some, None, ◌&&◌, nat_le, nat_lt, if◌then◌else◌}
+use Rattle.std.specs.Prelude.{ℕ, List, [], ◌∷◌, Option, Some, None, ◌&&◌, nat_le, if◌then◌else◌}
 use Rattle.wasm_instructions.specs.declared.table.opcode.Prefix.{Prefix}
 use Rattle.wasm_instructions.specs.declared.table.opcode.Prefix.TheVariants as prefixes
 use Rattle.wasm_instructions.specs.declared.table.opcode.Opcode.{Opcode}
 use Rattle.wasm_instructions.specs.declared.table.opcode.Kind.{Kind}
 use Rattle.wasm_instructions.specs.declared.table.opcode.Kind.TheVariants as kinds
+
+-- ---- opcodes, with a prefix byte or without one
+
+-- an opcode without a prefix byte
+abbrev pub without_prefix : ℕ → Opcode
+without_prefix number = record { prefix = prefixes.None; number = number }
+
+abbrev pub after_fb : ℕ → Opcode
+after_fb number = record { prefix = prefixes.Fb; number = number }
+
+abbrev pub after_fc : ℕ → Opcode
+after_fc number = record { prefix = prefixes.Fc; number = number }
+
+abbrev pub after_fd : ℕ → Opcode
+after_fd number = record { prefix = prefixes.Fd; number = number }
+
+abbrev pub after_fe : ℕ → Opcode
+after_fe number = record { prefix = prefixes.Fe; number = number }
+
+-- ---- the kind of operands of each
 
 -- the opcodes from first to last have this kind of operands
 pub record Range : Type 0 where
@@ -126,22 +146,5 @@ kind_among [] number = None
 kind_among (r ∷ rs) number = if nat_le r.first number && nat_le number r.last then Some r.kind else kind_among rs number
 
 -- the kind of the opcode's operands, or none where it is no opcode
-abbrev pub kind : Opcode → Option Kind
-kind op = kind_among (ranges op.prefix) op.number
-
--- ---- a table with a place for each number up to its end
-
--- the kinds of so many numbers, from this one on
-abbrev pub kinds_from : List Range → ℕ → ℕ → List (Option Kind)
-kinds_from rs first zero = []
-kinds_from rs first (suc more) = kind_among rs first ∷ kinds_from rs (first + 1) more
-
--- no range reaches this number or one past it
-abbrev pub end_below : List Range → ℕ → Bool
-end_below [] number = true
-end_below (r ∷ rs) number = nat_lt r.last number && end_below rs number
-
--- a place for each number from 0 on, up to one past which there is no opcode
-pub record IsTable (places : List (Option Kind)) (rs : List Range) : Type 0 where
-  pub each : places ≡ kinds_from rs 0 (length places)
-  pub end : IsTrue (end_below rs (length places))
+abbrev pub opcode_kind : Opcode → Option Kind
+opcode_kind op = kind_among (ranges op.prefix) op.number
