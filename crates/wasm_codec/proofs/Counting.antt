@@ -82,7 +82,7 @@ items_end read prefix count i bytes total lt h so_far =
     let one : after_items prefix (plain_times_at read (count - i) bytes) ≡ None = rw (k, h) refl in
     sym so_far ∙ one
 
--- an item was wanting
+-- an item was missing
 pub items_fail : {A V : Type 0} (fault : Fault) (read : PlainReader A) (whole : PlainReader V) (prefix : List A) (count i : ℕ) (bytes new old : List ℕ) (total : Option (List A × List ℕ)) → i < count → ReadsPlain read bytes new (Err fault)
     → after_items prefix (plain_times_at read (count - i) bytes) ≡ total → (total ≡ None → whole old ≡ None) → ReadsPlain whole old new (Err fault)
 items_fail faults.Memory read whole prefix count i bytes new old total lt h so_far is = tt

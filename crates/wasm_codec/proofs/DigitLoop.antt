@@ -66,7 +66,7 @@ no_byte (b ∷ bytes) e = absurd cc
 pub runs_out : (most : ℕ) (bytes : List ℕ) (i : ℕ) → plain_byte_at (drop i bytes) ≡ None → reads_on most bytes i ≡ None
 runs_out most bytes i e = rw (no_byte (drop i bytes) e, none_left (most - i)) refl
 
--- a byte was wanting
+-- a byte was missing
 unsigned-append : (prefix : List ℕ) (b : ℕ) → unsigned (prefix ++ b ∷ []) ≡ unsigned prefix + (b % 128) * 128 ^ length prefix
 unsigned-append [] b = omega arith
 unsigned-append (c ∷ prefix) b =

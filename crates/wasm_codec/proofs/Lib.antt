@@ -7,6 +7,7 @@ pub mod NumberLaws
 pub mod Counting
 pub mod ListLaws
 pub mod NumberReading
+pub mod DigitSteps
 pub mod FormatLaws
 pub mod RawFormatLaws
 pub mod PlaceLists

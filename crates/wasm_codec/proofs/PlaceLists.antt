@@ -45,7 +45,7 @@ items_end read prefix count i p total lt h so_far =
     let one : after_items prefix (times_at read (count - i) p) ≡ None = rw (k, h) refl in
     sym so_far ∙ one
 
--- an item was wanting
+-- an item was missing
 pub items_fail : {A V : Type 0} (fault : Fault) (read : Reader A) (whole : Reader V) (prefix : List A) (count i : ℕ) (p new old : Place) (total : Option (List A × Place)) → i < count → Reads read p new (Err fault)
     → after_items prefix (times_at read (count - i) p) ≡ total → (total ≡ None → whole old ≡ None) → Reads whole old new (Err fault)
 items_fail faults.Memory read whole prefix count i p new old total lt h so_far is = tt

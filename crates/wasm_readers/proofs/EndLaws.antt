@@ -72,7 +72,7 @@ one_passed {V} {F} r takes old here next vs v fits w e =
     by progress fewer zero le so_far = absurd (omega arith)
     by progress fewer (suc n) le so_far = record { progress = progress; most = n; enough = omega arith; so_far = until_goes_on F.at vs n here v next ((to_end F).at old) (not_ended here.left (omega arith)) e so_far }
 
--- an item was wanting
+-- an item was missing
 pub wanting : {V : Type 0} (F : Format V) (old here new : Place) (vs : List V) (fault : Fault) → PassedSome F old here vs → 0 < length here.left → Reads F.at here new (Err fault) → Reads (to_end F).at old new (Err fault)
 wanting F old here new vs faults.Memory w lt none = tt
 wanting F old here new vs faults.Malformed w lt none = until_stops F.at vs w.most here ((to_end F).at old) (not_ended here.left lt) none w.so_far

@@ -1,9 +1,7 @@
-use Rattle.std.proofs.Common.{◌≡◌, sym, ap, ◌∙◌, add-one, arith}
-use Rattle.std.proofs.Math.Nat.{pow-suc}
+use Rattle.std.proofs.Common.{◌≡◌, arith}
 use Rattle.std.proofs.lemmas.Result.{err_from_is_err_and}
-use Rattle.wasm_codec.specs.Reading.{plain_byte_at}
-use Rattle.wasm_codec.proofs.DigitLoop.{reads_on, byte_is, full, value_more, digits_more}
-use Rattle.wasm_codec.proofs.NumberReading.{list_byte, byte_took, few_bounds, fail, read_end}
+use Rattle.wasm_codec.proofs.NumberReading.{few_bounds, fail}
+use Rattle.wasm_codec.proofs.DigitSteps.{digits_kept, last_read, too_many}
 use Rattle.wasm_codec.proofs.reader.cursor.Cursor.digits.Goals as goal
 
 pub returns-in_err-byte-clause-reads : goal.returns-in_err-byte-clause-reads
@@ -25,7 +23,7 @@ overflow_mul-unit c =
 
 pub returns-then-byte-lt128-clause-reads : goal.returns-then-byte-lt128-clause-reads
 returns-then-byte-lt128-clause-reads c =
-    rw c.from.ensures (read_end c.args.most c.args.self.now c.loop.self c.byte.new.self c.loop.counter c.in_ok-byte.byte c.loop.unsigned c.loop.unit c.loop-test.true c.if-byte-lt128.true c.loop.invariant.below c.loop.invariant.rest c.loop.invariant.keeps c.loop.invariant.so_far c.loop.invariant.value c.loop.invariant.unit c.in_ok-byte.ensures.reads)
+    rw c.from.ensures (last_read c.args.most c.args.self.now c.loop.self c.byte.new.self c.loop.counter c.in_ok-byte.byte c.loop.unsigned c.loop.unit c.loop.invariant c.loop-test.true c.if-byte-lt128.true c.in_ok-byte.ensures.reads)
 
 pub returns-then-byte-lt128-clause-few : goal.returns-then-byte-lt128-clause-few
 returns-then-byte-lt128-clause-few c =
@@ -33,19 +31,8 @@ returns-then-byte-lt128-clause-few c =
 
 pub loop-preserved : goal.loop-preserved
 loop-preserved c =
-    let byte = byte_is c.args.self.now.left c.loop.counter c.in_ok-byte.byte c.byte.new.self.left (sym (ap plain_byte_at c.loop.invariant.rest) ∙ list_byte c.loop.self c.byte.new.self c.in_ok-byte.byte c.in_ok-byte.ensures.reads) in
-    let r = few_bounds 4 c.loop.counter c.loop.unsigned c.loop.unit c.from.result (omega arith) c.loop.invariant.unit c.loop.invariant.below (omega arith) in
-    record {
-      within = omega (arith, byte.within);
-      rest = byte.after;
-      keeps = (byte_took c.loop.self c.byte.new.self c.in_ok-byte.byte c.in_ok-byte.ensures.reads).keeps ∙ c.loop.invariant.keeps;
-      so_far = digits_more c.args.most c.args.self.now.left c.loop.counter c.in_ok-byte.byte c.byte.new.self.left c.loop-test.true c.if-byte-lt128.false byte c.loop.invariant.so_far;
-      value = rw c.from.ensures (value_more c.args.self.now.left c.loop.counter c.in_ok-byte.byte c.loop.unsigned c.loop.unit byte.within byte.byte c.loop.invariant.value c.loop.invariant.unit);
-      unit = rw (c.loop.invariant.unit, add-one) (omega (arith, pow-suc));
-      below = omega arith;
-    }
+    rw c.from.ensures (digits_kept c.args.most c.args.self.now c.loop.self c.byte.new.self c.loop.counter c.in_ok-byte.byte c.loop.unsigned c.loop.unit c.loop.invariant c.loop-test.true c.if-byte-lt128.false c.in_ok-byte.ensures.reads)
 
 pub returns-clause-reads : goal.returns-clause-reads
 returns-clause-reads c =
-    let end : c.loop.counter ≡ c.args.most = omega arith in
-    sym c.loop.invariant.so_far ∙ ap (reads_on c.args.most c.args.self.now.left) end ∙ full c.args.most c.args.self.now.left
+    too_many c.args.most c.args.self.now c.loop.self c.loop.counter c.loop.unsigned c.loop.unit c.loop.invariant (omega arith)
