@@ -25,7 +25,7 @@ pub use loops::{
 use scan::kept_digits;
 pub use scan::{Scanned, scan_s32, scan_s64, scan_u32, scan_u64};
 
-/// Where a body is that is rewritten.
+/// The place of a body that is being rewritten.
 #[derive(Clone, Copy)]
 pub struct Body {
     /// How many bytes were written before its size.
@@ -102,7 +102,7 @@ impl Rewriter {
         self.end - self.position
     }
 
-    /// What is left are bytes. The call does nothing.
+    /// Tells the proof that what is left are bytes. The call does nothing.
     #[inline(always)]
     pub fn are_bytes(&self)
         ensures { IsBytes self.now.place.left }
@@ -127,7 +127,7 @@ impl Rewriter {
         place_of(&self.bytes[self.position..self.end])
     }
 
-    /// Skips so many bytes, which stay as they are.
+    /// Skips `count` bytes, which stay as they are.
     #[inline(always)]
     pub fn skip(&mut self, count: usize)
         requires { count ≤ length self.old.place.left }
@@ -181,7 +181,7 @@ impl Rewriter {
         self.written + (self.position - self.from)
     }
 
-    /// Takes out so many bytes that were written at a mark: they were of a long form.
+    /// Takes out `count` bytes that were written from `mark` on, which belonged to a long form.
     pub fn cut_out(&mut self, mark: usize, count: usize)
         requires { mark + count ≤ length self.old.done }
         ensures { self.new ≡ without mark count self.old }
@@ -193,7 +193,7 @@ impl Rewriter {
         self.shortest = false;
     }
 
-    /// Writes another byte in the place of one that was written.
+    /// Writes another byte over the one that was written at `mark`.
     pub fn set_byte(&mut self, mark: usize, byte: u8)
         requires { mark < length self.old.done }
         ensures { self.new ≡ with_byte mark byte self.old }
@@ -203,7 +203,7 @@ impl Rewriter {
         self.from = self.position;
     }
 
-    /// Ends what is left after so many bytes.
+    /// Limits what is left to its first `size` bytes.
     fn narrow(&mut self, size: usize)
         requires { size ≤ length self.old.place.left }
         ensures { self.new ≡ narrowed size self.old }
@@ -211,7 +211,7 @@ impl Rewriter {
         self.end = self.position + size;
     }
 
-    /// Where nothing is left, goes on with so many bytes after the end.
+    /// Goes on, where nothing is left, with the `size` bytes after the end.
     fn widen(&mut self, size: usize)
         requires none { self.old.place.left ≡ [] }
         requires within { size ≤ length self.old.rest }
@@ -220,7 +220,7 @@ impl Rewriter {
         self.end += size;
     }
 
-    /// Puts another size in the place of the one at a mark, in no more bytes: the number of the bytes after it.
+    /// Writes the number of the bytes after the size at `mark` in place of it, in no more bytes.
     fn put_size(&mut self, mark: usize, digits: usize)
         requires begun { mark + digits ≤ length self.old.done }
         requires size { length self.old.done - (mark + digits) < 2 ^ 32 }
@@ -250,7 +250,7 @@ impl Rewriter {
         })
     }
 
-    /// Goes on after a body that was rewritten, and corrects its size where it has become shorter.
+    /// Goes on after a body that was rewritten, and corrects its size if it has become shorter.
     pub fn close_body(&mut self, body: Body)
         requires none { self.old.place.left ≡ [] }
         requires behind { body.behind ≤ length self.old.rest }
@@ -355,7 +355,7 @@ impl Rewriter {
         Ok(byte)
     }
 
-    /// So many bytes, which stay as they are.
+    /// Reads `count` bytes, which stay as they are.
     #[tactic(auto, unfolding(crate::specs::Places::raw_at))]
     pub fn bytes(&mut self, count: usize) -> Result<(), Fault>
         ensures { Rewrites (raw count) self.old self.new result }
@@ -367,14 +367,14 @@ impl Rewriter {
         Ok(())
     }
 
-    /// All that is left, which stays as it is.
+    /// Reads all that is left, which stays as it is.
     pub fn rest(&mut self)
         ensures { rewriting_after bytes_to_end self.old ≡ Some self.new }
     {
         self.skip(self.len());
     }
 
-    /// A number in so many bytes, the least first, which stay as they are.
+    /// Reads a number of `count` bytes, the least first, which stay as they are.
     pub fn number(&mut self, count: usize) -> Result<(), Fault>
         ensures { Rewrites (little_endian count) self.old self.new result }
     {
@@ -386,7 +386,7 @@ impl Rewriter {
         Ok(())
     }
 
-    /// The byte that comes next, which is left there.
+    /// The next byte, which isn't consumed.
     #[inline(always)]
     pub fn peek(&self) -> Result<u8, Fault>
         ensures sees { Sees self.now.place result }
@@ -399,7 +399,7 @@ impl Rewriter {
     }
 }
 
-/// Moves the run to the end of what was written, and answers where it ends then.
+/// Moves the run to the end of what was written, and answers where it ends now.
 #[inline(always)]
 fn move_run(bytes: &mut Vec<u8>, written: usize, from: usize, position: usize) -> usize
     requires gap { written ≤ from }

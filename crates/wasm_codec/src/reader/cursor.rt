@@ -17,7 +17,7 @@ use std::marker::Model;
 pub enum Fault {
     /// There was no memory for it.
     Memory,
-    /// It isn't encoded there.
+    /// What is read isn't encoded there.
     Malformed,
 }
 
@@ -56,7 +56,7 @@ impl<'a> Model for Cursor<'a> {
     ghost invariant = { λ c. c.position ≤ length c.bytes.now };
 }
 
-/// What at most five digits say: the sum of their low seven bits, 128 to their number, and the last byte.
+/// At most five digits: the sum of their low seven bits, 128 to their number, and the last byte.
 #[derive(Clone, Copy)]
 struct Digits {
     unsigned: u64,
@@ -72,7 +72,7 @@ struct ManyDigits {
     last: u8,
 }
 
-/// Whether no fewer digits would do.
+/// Whether the number has no encoding with fewer digits.
 fn is_fewest(top: u64, unit: u64, value: u64) -> bool
     requires top { top ≤ 128 }
     requires unit { unit ≤ 128 ^ 5 }
@@ -126,7 +126,7 @@ impl<'a> Cursor<'a> {
         self.shortest = false;
     }
 
-    /// The same place, to come back to.
+    /// A second cursor at the same place, to come back to.
     pub fn fork(&self) -> Cursor<'a>
         ensures place { result ≡ self.now }
         ensures bytes { IsBytes self.now.left }
@@ -162,7 +162,7 @@ impl<'a> Cursor<'a> {
         Ok(byte)
     }
 
-    /// The byte that comes next, which is left there.
+    /// The next byte, which isn't consumed.
     #[inline(always)]
     #[tactic(auto, unfolding(crate::specs::Places::byte_at))]
     pub fn peek(&self) -> Result<u8, Fault>
@@ -175,7 +175,7 @@ impl<'a> Cursor<'a> {
         Ok(self.bytes[self.position])
     }
 
-    /// So many bytes.
+    /// The next `count` bytes.
     pub fn take(&mut self, count: usize) -> Result<&'a [u8], Fault>
         ensures ok { IfOk result (λ taken. (taken.now ≡ take count self.old.left) × (self.new ≡ place self.old.shortest (drop count self.old.left))) }
         ensures enough { IfOk result (λ _. count ≤ length self.old.left) }
@@ -217,7 +217,7 @@ impl<'a> Cursor<'a> {
         self.shortest = self.shortest && kept;
     }
 
-    /// A number of one byte, where one comes next.
+    /// The next byte, where it is a number of one byte.
     #[inline(always)]
     fn one_digit(&mut self) -> Option<u8>
         ensures { ReadsOne self.old self.new result }
@@ -233,7 +233,7 @@ impl<'a> Cursor<'a> {
         Some(byte)
     }
 
-    /// The digits of a number, at most so many.
+    /// The digits of a number, at most `most` of them.
     #[inline(always)]
     fn digits(&mut self, most: u32) -> Result<Digits, Fault>
         requires { most ≤ 5 }
@@ -258,7 +258,7 @@ impl<'a> Cursor<'a> {
         Err(Fault::Malformed)
     }
 
-    /// The digits of a number, at most so many.
+    /// The digits of a number, at most `most` of them.
     fn many_digits(&mut self, most: u32) -> Result<ManyDigits, Fault>
         requires { most ≤ 10 }
         ensures reads { ReadsManyDigits most self.old self.new result }

@@ -14,7 +14,7 @@ use super::{Rewriter, Scanned, are_bytes, scan_u32};
 use crate::reader::ReadError;
 use crate::reader::cursor::Fault;
 
-/// What can be rewritten among others of its kind.
+/// What can be rewritten as an item of a list.
 pub trait Rewritable {
     /// What is read and written.
     ghost Value: { Type 0 };
@@ -22,7 +22,8 @@ pub trait Rewritable {
     /// Which bytes encode which item.
     ghost format: { Format Value };
 
-    /// The format is lawful, and no item is encoded by no bytes. The call does nothing.
+    /// Tells the proof that the format is lawful, and that each encoding of an item has at least one byte. The call does
+    /// nothing.
     fn is_lawful()
         ensures lawful { IsLawful format }
         ensures some { TakesBytes format.Encodes };
@@ -34,7 +35,7 @@ pub trait Rewritable {
 
 /// What is rewritten one after another up to the end.
 pub trait Joinable: Rewritable {
-    /// The item that the bytes begin with, where it is of those that are scanned.
+    /// The item that the bytes begin with, if it is one of those that are scanned.
     fn scan(bytes: &[u8]) -> Option<Scanned>
         ensures scans { Scans Self.format bytes.now result };
 }
@@ -78,16 +79,16 @@ pub trait RewritableBody {
     /// Which bytes encode it.
     ghost format: { Format Value };
 
-    /// The format is lawful where nothing follows. The call does nothing.
+    /// Tells the proof that the format is lawful where nothing follows. The call does nothing.
     fn is_lawful()
         ensures { IsLawfulBody format };
 
-    /// Leaves what the bytes up to the end encode in its shortest encoding. What is left over then isn't of it.
+    /// Leaves what the bytes up to the end encode in its shortest encoding. Bytes that are left over aren't part of it.
     fn rewrite(rewriter: &mut Rewriter) -> Result<(), Fault>
         ensures rewrites { Rewrites format rewriter.old rewriter.new result };
 }
 
-/// Rewrites a size and the body of so many bytes after it.
+/// Rewrites a size and the body after it.
 pub fn rewrite_sized<T: RewritableBody>(rewriter: &mut Rewriter) -> Result<(), Fault>
     ensures rewrites { Rewrites (sized T.format) rewriter.old rewriter.new result }
 {
@@ -112,7 +113,7 @@ pub fn rewrite_to_end<T: Joinable>(rewriter: &mut Rewriter) -> Result<(), Fault>
     }
 }
 
-/// Rewrites items one after another up to the end. Where one isn't whole, tells how many bytes are left from there on.
+/// Rewrites items one after another up to the end. At the first that isn't whole it answers how many bytes are left.
 pub fn rewrite_joined<T: Joinable>(rewriter: &mut Rewriter) -> Result<(), usize>
     ensures { RewritesAll T.format rewriter.old rewriter.new result }
 {
@@ -132,7 +133,7 @@ pub fn rewrite_joined<T: Joinable>(rewriter: &mut Rewriter) -> Result<(), usize>
     Ok(())
 }
 
-/// How many bytes of a run of items the bytes begin with, each of which is seen to be in its shortest encoding.
+/// The length of the run of items at the beginning of the bytes that are seen to be in their shortest encodings.
 fn short_run<T: Joinable>(bytes: &[u8]) -> usize
     ensures { BeginsShort T.format bytes.now result }
 {
@@ -144,7 +145,7 @@ fn short_run<T: Joinable>(bytes: &[u8]) -> usize
     }
 }
 
-/// The same, as long as there are so many bytes ahead.
+/// The same, as long as there are `AHEAD` bytes ahead.
 #[inline(never)]
 fn short_run_ahead<T: Joinable, const AHEAD: usize>(bytes: &[u8]) -> usize
     ensures { BeginsShort T.format bytes.now result }
@@ -196,7 +197,7 @@ pub fn normalise_list_to_end<T: Rewritable>(bytes: Vec<u8>) -> Result<Vec<u8>, R
     }
 }
 
-/// The same. Where the list isn't there, tells how many bytes are whole.
+/// The same. If the bytes encode no list, it answers how many of them are whole.
 fn rewrite_whole_list<T: Rewritable>(bytes: Vec<u8>) -> Result<Vec<u8>, usize>
     ensures { RewritesList T.format bytes.items result }
 {

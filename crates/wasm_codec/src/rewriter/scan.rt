@@ -8,9 +8,10 @@ use crate::encode::leb128::turned;
 /// An item that bytes begin with, as it was scanned.
 #[derive(Clone, Copy)]
 pub enum Scanned {
-    /// It has so many bytes, which are its shortest encoding.
+    /// The item is in its shortest encoding, which has this many bytes.
     Shortest(usize),
-    /// It ends with a number, which begins behind `start` bytes. `more` digits of it are followed by one that says nothing.
+    /// The item ends with a padded number, which begins after `start` bytes: after `more` digits comes a last one that says
+    /// nothing.
     Padded {
         signed: bool,
         start: usize,
@@ -19,7 +20,7 @@ pub enum Scanned {
 }
 
 impl Scanned {
-    /// The same item behind a byte that stays as it is.
+    /// The same item after one more byte, which stays as it is.
     #[inline(always)]
     pub fn behind_byte(self) -> Scanned
         requires { IsWithin self (2 ^ 64 - 2) }
@@ -40,8 +41,8 @@ impl Scanned {
     }
 }
 
-/// The number in at most so many digits that the bytes begin with. Of numbers with as many, those alone that are padded, or
-/// of which the last digit stands for a number below `top`.
+/// The number of at most `most` digits that the bytes begin with. One of exactly `most` digits is scanned only if it is
+/// padded, or if its last digit stands for a number below `top`.
 #[inline(always)]
 fn scan_digits(bytes: &[u8], signed: bool, most: usize, top: u8) -> Option<Scanned>
     ensures { ScansDigits signed most top bytes.now result }
@@ -70,7 +71,7 @@ fn scan_digits(bytes: &[u8], signed: bool, most: usize, top: u8) -> Option<Scann
     None
 }
 
-/// How many of so many digits are kept, where the one after them says nothing.
+/// How many of the first `count` digits are kept, where the digit after them says nothing.
 #[cold]
 #[inline(never)]
 pub(super) fn kept_digits(bytes: &[u8], signed: bool, count: usize) -> usize
@@ -85,7 +86,7 @@ pub(super) fn kept_digits(bytes: &[u8], signed: bool, count: usize) -> usize
     kept
 }
 
-/// Whether the last digit says nothing: it is 0, or repeats the sign that the one before it has already.
+/// Whether the last digit says nothing: it is 0, or repeats the sign that the one before it already has.
 #[inline(always)]
 fn repeats(signed: bool, before: u8, last: u8) -> bool
     ensures { result ≡ repeats signed before last }
