@@ -4,7 +4,7 @@ ghost use Rattle.wasm_codec.specs.declared.encode.EncodeError.TheVariants.{Memor
 
 pub mod normaliser;
 
-use std::alloc::{AllocError, Global};
+use std::alloc::Global;
 use wasm_codec::encode::EncodeError;
 use wasm_codec::list::Items;
 use wasm_instructions::table::Call;
@@ -41,7 +41,7 @@ fn copies_of(alloc: Global, calls: &[Call]) -> Result<Vec<Call>, EncodeError>
 {
     let mut copies = Vec::with_capacity(alloc, calls.len())?;
     for call in calls {
-        copies.push(call.try_clone()?).map_err(AllocError::from)?;
+        copies.push(call.try_clone()?)?;
     }
     Ok(copies)
 }

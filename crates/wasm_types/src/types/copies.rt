@@ -5,7 +5,7 @@ ghost use Rattle.wasm_codec.specs.declared.encode.EncodeError.TheVariants.{Memor
 use super::composite::{
     CompositeInnerType, CompositeType, FuncType, StructType, SubType, TypeEntry,
 };
-use std::alloc::{AllocError, Global};
+use std::alloc::Global;
 use wasm_codec::encode::EncodeError;
 use wasm_codec::list::Items;
 
@@ -87,7 +87,7 @@ fn copies_of(alloc: Global, types: &[SubType]) -> Result<Vec<SubType>, EncodeErr
 {
     let mut copies = Vec::with_capacity(alloc, types.len())?;
     for ty in types {
-        copies.push(ty.try_clone()?).map_err(AllocError::from)?;
+        copies.push(ty.try_clone()?)?;
     }
     Ok(copies)
 }
