@@ -1,5 +1,5 @@
 -- Numbers in LEB128: their shortest encodings, and the functions that read them.
-use Rattle.std.specs.Prelude.{◌≡◌, ℕ, zero, suc, ◌+◌, ◌-◌, ◌%◌, ◌/◌, ◌^◌, Bool, true, false, List, [], ◌∷◌, Option, Some, None, nat_lt, if◌then◌else◌, ℤ, pos, negsuc}
+use Rattle.std.specs.Prelude.{ℕ, zero, suc, ◌+◌, ◌-◌, ◌%◌, ◌/◌, ◌^◌, Bool, true, false, List, [], ◌∷◌, Option, Some, None, nat_lt, if◌then◌else◌, ℤ, pos, negsuc}
 use Rattle.wasm_codec.specs.Reading.{PlainReader, ◌>>=◌}
 use Rattle.wasm_codec.specs.formats.Numbers.{unsigned, signed}
 

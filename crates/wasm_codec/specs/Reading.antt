@@ -1,6 +1,6 @@
 -- Plain reading functions: the value that a prefix of the bytes encodes and the bytes after it, or none. Of those on
 -- places (Places.antt) they say what is read, and nothing of shortest encodings.
-use Rattle.std.specs.Prelude.{◌≡◌, ℕ, zero, suc, Bool, true, false, List, [], ◌∷◌, ◌++◌, Option, Some, None, Result, Ok, Err}
+use Rattle.std.specs.Prelude.{◌≡◌, ℕ, zero, suc, List, [], ◌∷◌, ◌++◌, Option, Some, None, Result, Ok, Err}
 use Rattle.wasm_codec.specs.formats.Grammar.{Grammar, IsBytes}
 use Rattle.wasm_codec.specs.declared.reader.cursor.Fault.{Fault}
 use Rattle.wasm_codec.specs.declared.reader.cursor.Fault.TheVariants as faults

@@ -1,4 +1,4 @@
-//! A list that owns its items. In contracts it is the items alone, without where they lie in memory.
+//! A list that owns its items. In contracts it is the items alone, without their place in memory.
 ghost use Rattle.std.specs.Prelude.{◌≡◌, ◌↔◌, List, [], length, IfOk, IfErr, IsTrue};
 ghost use Rattle.wasm_codec.specs.declared.encode.EncodeError.TheVariants.{Memory};
 

@@ -1,4 +1,4 @@
-//! Bytes that are rewritten where they lie: what is in its shortest encoding stays, and the rest is shortened.
+//! Bytes that are rewritten in place: what is in its shortest encoding stays, and the rest is shortened.
 ghost use Rattle.std.specs.Prelude.{◌≡◌, Bool, ◌++◌, ◌+◌, ◌-◌, ◌<◌, ◌≤◌, ◌^◌, [], length, take, drop, true, false, Some, vec_len, pos, if◌then◌else◌, IfOk, IfErr};
 ghost use lib.Seq.{paste};
 ghost use Rattle.wasm_codec.specs.formats.Grammar.{IsBytes};

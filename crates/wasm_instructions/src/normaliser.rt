@@ -53,7 +53,7 @@ pub fn normalise_instructions(alloc: Global, bytes: &[u8]) -> Result<Vec<u8>, Re
     call_bytes_of(alloc, bytes)
 }
 
-/// The same, in the list itself, which is rewritten where it lies and given back. It takes no memory.
+/// The same, rewritten in place in the list itself, which is given back. It needs no further memory.
 pub fn rewrite_instructions(bytes: Vec<u8>) -> Result<Vec<u8>, ReadError>
     // The result is the shortest encoding of a list that the bytes encode.
     ensures given { IfOk result (λ encoding.

@@ -13,7 +13,7 @@ use wasm_types::types::ValType;
 /// The code of a function: its locals and its instructions, the last `end` among them.
 #[derive(Debug, PartialEq, Eq, Drop)]
 pub struct CodeBody {
-    /// The locals, as pairs of a number and the type of so many locals.
+    /// The locals, as pairs: how many, and of which type.
     pub locals: Items<(u32, ValType)>,
     /// The instructions, in order. Nothing asks that they nest or that an `end` comes last.
     pub calls: Items<Call>,

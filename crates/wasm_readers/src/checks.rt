@@ -109,7 +109,7 @@ pub fn check_module(alloc: Global, bytes: &[u8]) -> Result<(), ReadError>
     }
 }
 
-/// Whether the bytes are a count and so many items with nothing left over, all in their shortest encodings.
+/// Whether the bytes are a count and as many items with nothing left over, all in their shortest encodings.
 fn check_list<T: Rewritable>(alloc: Global, bytes: &[u8]) -> Result<(), ReadError>
     ensures given { IfOk result (λ _. EncodesSome (AskedList true T.format) bytes.now) }
     ensures prefix { IfRefused result (IsLongestPrefix (IsAskedPrefix true T.format) bytes.now) }

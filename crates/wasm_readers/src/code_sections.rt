@@ -83,7 +83,7 @@ impl<'a> Readable<'a> for CodeBody {
     }
 }
 
-/// A code body: its size, and in so many bytes the locals and then instructions to the end.
+/// A code body: its size, and in a body of that size the locals and then instructions to the end.
 fn read_code_body(alloc: Global, cursor: &mut Cursor<'_>) -> Result<CodeBody, Fault>
     ensures reads { Reads code_body.at cursor.old cursor.new result }
 {

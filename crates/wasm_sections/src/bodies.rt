@@ -31,7 +31,7 @@ pub(crate) fn rewrite_body<T: WholeBody>(body: Vec<u8>) -> Result<Vec<u8>, ReadE
     rewrite_whole::<T>(body)
 }
 
-/// The same, said at once.
+/// The same, with one clause that says all of it.
 fn rewrite_whole<T: WholeBody>(body: Vec<u8>) -> Result<Vec<u8>, ReadError>
     ensures { RewritesWhole T.RewritableBody.format body.items result }
 {

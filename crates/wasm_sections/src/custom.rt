@@ -47,7 +47,7 @@ pub fn read_custom_section<'a>(body: &'a [u8]) -> Result<CustomSection<'a>, Read
     only_custom(body)
 }
 
-/// The same, said at once.
+/// The same, with one clause that says all of it.
 fn only_custom<'a>(body: &'a [u8]) -> Result<CustomSection<'a>, ReadError>
     ensures { ReadsWholeAs custom_parts custom_body body.now result }
 {
@@ -88,7 +88,7 @@ pub fn read_custom_section_strict<'a>(body: &'a [u8]) -> Result<CustomSection<'a
     only_custom_strict(body)
 }
 
-/// The same, said at once.
+/// The same, with one clause that says all of it.
 fn only_custom_strict<'a>(body: &'a [u8]) -> Result<CustomSection<'a>, ReadError>
     ensures { ReadsWholeAs custom_parts (narrow custom_body) body.now result }
 {
@@ -145,7 +145,7 @@ pub fn normalise_custom_section(alloc: Global, body: &[u8]) -> Result<Vec<u8>, R
     normalise_body::<Custom>(alloc, body)
 }
 
-/// The same, in the list itself, which is rewritten where it lies and given back. It takes no memory.
+/// The same, rewritten in place in the list itself, which is given back. It needs no further memory.
 pub fn rewrite_custom_section(body: Vec<u8>) -> Result<Vec<u8>, ReadError>
     // The result is the shortest encoding of a name with bytes that the body encodes.
     ensures given { IfOk result (λ encoding.

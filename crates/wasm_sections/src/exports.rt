@@ -123,7 +123,7 @@ pub fn normalise_export_section(alloc: Global, body: &[u8]) -> Result<Vec<u8>, R
     normalise_items::<Export<'_>>(alloc, body)
 }
 
-/// The same, in the list itself, which is rewritten where it lies and given back. It takes no memory.
+/// The same, rewritten in place in the list itself, which is given back. It needs no further memory.
 #[tactic(auto, unfolding(crate::specs::formats::Sections::export_body))]
 pub fn rewrite_export_section(body: Vec<u8>) -> Result<Vec<u8>, ReadError>
     // The result is the shortest encoding of a list that the body encodes.

@@ -16,7 +16,7 @@ use wasm_readers::instructions::read_call;
 /// What an instruction does to the blocks that are open.
 #[derive(Clone, Copy)]
 pub(crate) enum Step {
-    /// It leaves so many open.
+    /// It leaves this many open.
     GoesOn(usize),
     /// It is the end of the expression.
     Ends,
@@ -24,7 +24,7 @@ pub(crate) enum Step {
     Fails,
 }
 
-/// What an instruction does where so many blocks are open.
+/// What an instruction does where `depth` blocks are open.
 fn nested(depth: usize, op: Opcode) -> Step
     requires { depth + 1 < 2 ^ 64 }
     ensures { as_move result ≡ nested depth op }

@@ -116,7 +116,7 @@ pub fn normalise_global_section(alloc: Heap, body: &[u8]) -> Result<Vec<u8>, Rea
     normalise_items::<Global>(alloc, body)
 }
 
-/// The same, in the list itself, which is rewritten where it lies and given back. It takes no memory.
+/// The same, rewritten in place in the list itself, which is given back. It needs no further memory.
 #[tactic(auto, unfolding(crate::specs::formats::Sections::global_body))]
 pub fn rewrite_global_section(body: Vec<u8>) -> Result<Vec<u8>, ReadError>
     // The result is the shortest encoding of a list that the body encodes.

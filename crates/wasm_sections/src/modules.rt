@@ -162,7 +162,7 @@ pub fn normalise_whole_module(alloc: Global, bytes: &[u8]) -> Result<Vec<u8>, Re
     normalise_module_of::<AnySection>(alloc, bytes)
 }
 
-/// The same, in the list itself, which is rewritten where it lies and given back. It takes no memory.
+/// The same, rewritten in place in the list itself, which is given back. It needs no further memory.
 pub fn rewrite_whole_module(bytes: Vec<u8>) -> Result<Vec<u8>, ReadError>
     // The result is the shortest encoding of a list of sections that the bytes encode.
     ensures given { IfOk result (λ encoding.

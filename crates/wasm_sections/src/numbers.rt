@@ -24,7 +24,7 @@ pub(crate) fn read_number(body: &[u8]) -> Result<u32, ReadError>
     only_number(body)
 }
 
-/// The same, said at once.
+/// The same, with one clause that says all of it.
 fn only_number(body: &[u8]) -> Result<u32, ReadError>
     ensures { ReadsWhole u32_format body.now result }
 {
@@ -55,7 +55,7 @@ pub(crate) fn read_number_strict(body: &[u8]) -> Result<u32, ReadError>
     only_number_strict(body)
 }
 
-/// The same, said at once.
+/// The same, with one clause that says all of it.
 fn only_number_strict(body: &[u8]) -> Result<u32, ReadError>
     ensures { ReadsWhole (narrow u32_format) body.now result }
 {

@@ -115,7 +115,7 @@ pub fn normalise_table_section(alloc: Global, body: &[u8]) -> Result<Vec<u8>, Re
     normalise_items::<Table>(alloc, body)
 }
 
-/// The same, in the list itself, which is rewritten where it lies and given back. It takes no memory.
+/// The same, rewritten in place in the list itself, which is given back. It needs no further memory.
 #[tactic(auto, unfolding(crate::specs::formats::Sections::table_body))]
 pub fn rewrite_table_section(body: Vec<u8>) -> Result<Vec<u8>, ReadError>
     // The result is the shortest encoding of a list that the body encodes.

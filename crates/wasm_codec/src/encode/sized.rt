@@ -44,7 +44,7 @@ pub fn mend_count<A: Allocator>(
     put_number_before(bytes, start, right)
 }
 
-/// Takes so many bytes at `start` out, and moves what follows there.
+/// Takes out `count` bytes at `start`, and moves what follows there.
 fn take_out<A: Allocator>(bytes: &mut Vec<u8, A>, start: usize, count: usize)
     requires { start + count ≤ vec_len bytes.old }
     ensures { bytes.new.items ≡ take start bytes.old.items ++ drop (start + count) bytes.old.items }

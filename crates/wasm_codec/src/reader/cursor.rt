@@ -134,7 +134,7 @@ impl<'a> Cursor<'a> {
         Cursor::at(self.bytes, self.position, self.shortest)
     }
 
-    /// The place after so many of the bytes.
+    /// The place after the first `position` bytes.
     fn at(bytes: &'a [u8], position: usize, shortest: bool) -> Cursor<'a>
         requires { position ≤ length bytes.now }
         ensures place { result ≡ place shortest (drop position bytes.now) }

@@ -1,4 +1,4 @@
-//! Lists and bodies, rewritten where they lie.
+//! Lists and bodies, rewritten in place.
 ghost use Rattle.std.specs.Prelude.{◌≡◌, ◌<◌, List, ℕ, length, IfOk};
 ghost use Rattle.std.specs.List.{flat_map};
 ghost use Rattle.wasm_codec.specs.formats.Grammar.{TakesBytes, Joined};

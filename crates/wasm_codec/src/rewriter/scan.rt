@@ -1,4 +1,4 @@
-//! Items that are scanned: where they end, and what of them their shortest encodings are, is seen without a value.
+//! Scanning of items, which makes no value: it finds where one ends and what its shortest encoding is.
 ghost use Rattle.std.specs.Prelude.{◌≡◌, ◌-◌, ◌<◌, ◌≤◌, ◌^◌, length};
 ghost use Rattle.wasm_codec.specs.Scanning.{IsWithin, KeepsDigits, Scans, ScansDigits, behind_byte, repeats};
 ghost use Rattle.wasm_codec.specs.formats.Combinators.{u32 as u32_format, u64 as u64_format, s32 as s32_format, s64 as s64_format};

@@ -1,4 +1,4 @@
-//! Instructions that are scanned: where they end, and what of them their shortest encodings are, is seen without a value
+//! Scanning of instructions, which makes no value: it finds where one ends and what its shortest encoding is
 //! (Core 3.0, Instructions).
 ghost use Rattle.wasm_codec.specs.Scanning.{Scans};
 ghost use Rattle.wasm_codec.specs.formats.Combinators.{little_endian};
@@ -8,7 +8,7 @@ ghost use Rattle.wasm_instructions.specs.formats.Operands.{block_type, mem_arg};
 use crate::table::{Kind, Opcode};
 use wasm_codec::rewriter::{Scanned, scan_s32, scan_s64, scan_u32, scan_u64};
 
-/// The instruction that the bytes begin with, where it is one of those that code has the most of.
+/// The instruction that the bytes begin with, if it is of a kind that is common in code.
 #[inline(always)]
 pub(super) fn scan_call(bytes: &[u8]) -> Option<Scanned>
     ensures { Scans instruction bytes.now result }
@@ -39,7 +39,7 @@ fn scan_operands(kind: Kind, bytes: &[u8]) -> Option<Scanned>
     }
 }
 
-/// The number in so many bytes, the least first, that the bytes begin with.
+/// The number that the first `count` bytes hold, the least first.
 #[inline(always)]
 fn scan_raw(bytes: &[u8], count: usize) -> Option<Scanned>
     ensures { Scans (little_endian count) bytes.now result }
@@ -50,7 +50,7 @@ fn scan_raw(bytes: &[u8], count: usize) -> Option<Scanned>
     Some(Scanned::Shortest(count))
 }
 
-/// The block type that the bytes begin with, where it is none, or one value of a number type.
+/// The block type that the bytes begin with, if it is empty or a number type.
 #[inline(always)]
 fn scan_block_type(bytes: &[u8]) -> Option<Scanned>
     ensures { Scans block_type bytes.now result }
@@ -68,7 +68,7 @@ fn scan_block_type(bytes: &[u8]) -> Option<Scanned>
     }
 }
 
-/// The memory argument that the bytes begin with, where it doesn't name its memory.
+/// The memory argument that the bytes begin with, if it doesn't name its memory.
 #[inline(always)]
 fn scan_mem_arg(bytes: &[u8]) -> Option<Scanned>
     ensures { Scans mem_arg bytes.now result }

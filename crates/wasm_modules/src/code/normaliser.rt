@@ -60,7 +60,7 @@ pub fn normalise_code_section(alloc: Global, body: &[u8]) -> Result<Vec<u8>, Rea
     bodies_bytes_of(alloc, body)
 }
 
-/// The same, in the list itself, which is rewritten where it lies and given back. It takes no memory.
+/// The same, rewritten in place in the list itself, which is given back. It needs no further memory.
 #[tactic(auto, unfolding(crate::specs::formats::CodeBodies::code_section_body))]
 pub fn rewrite_code_section(body: Vec<u8>) -> Result<Vec<u8>, ReadError>
     // The result is the shortest encoding of a list that the body encodes.
@@ -139,7 +139,7 @@ impl Rewritable for LocalGroup {
     }
 }
 
-/// A number, and the type of so many locals.
+/// How many locals, and of which type.
 pub fn read_local_group(cursor: &mut Cursor<'_>) -> Result<(u32, ValType), Fault>
     ensures reads { Reads local_group.at cursor.old cursor.new result }
     ensures err { IfErr result (λ e. e ≡ Malformed) }

@@ -1,4 +1,4 @@
-//! Sections with what they hold, rewritten where they lie.
+//! Sections with what they hold, rewritten in place.
 ghost use Rattle.std.specs.Prelude.{List};
 ghost use Rattle.wasm_codec.specs.formats.Grammar.{TakesBytes};
 ghost use Rattle.wasm_codec.specs.Lawful.{IsLawful, IsLawfulBody};

@@ -6,7 +6,7 @@ ghost use Rattle.wasm_types.specs.formats.Types.{val_type, result_type, recursiv
 
 use wasm_codec::rewriter::Scanned;
 
-/// The function type that the bytes begin with, where its counts and its value types have one byte each.
+/// The function type that the bytes begin with, if its counts and its value types have one byte each.
 #[inline(always)]
 pub(super) fn scan_function_type(bytes: &[u8]) -> Option<Scanned>
     ensures { Scans recursive_type bytes.now result }
@@ -22,7 +22,7 @@ pub(super) fn scan_function_type(bytes: &[u8]) -> Option<Scanned>
     Some(Scanned::Shortest(1 + params + results))
 }
 
-/// How many bytes the list of value types has that the bytes begin with, where its count and each type have one byte.
+/// The length of the list of value types that the bytes begin with, if its count and each type have one byte.
 #[inline(always)]
 fn scan_result_type(bytes: &[u8]) -> Option<usize>
     ensures { IfSome result (λ count. Scans result_type bytes.now (Some (Shortest count))) }

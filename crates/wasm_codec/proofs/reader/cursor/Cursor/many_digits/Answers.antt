@@ -1,4 +1,4 @@
-use Rattle.std.proofs.Common.{◌≡◌, arith}
+use Rattle.std.proofs.Common.{arith}
 use Rattle.std.proofs.lemmas.Result.{err_from_is_err_and}
 use Rattle.wasm_codec.proofs.NumberReading.{few_bounds, many_fail}
 use Rattle.wasm_codec.proofs.DigitSteps.{digits_kept, last_read, too_many}
