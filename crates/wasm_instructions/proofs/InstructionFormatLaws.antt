@@ -22,7 +22,8 @@ use Rattle.wasm_instructions.specs.formats.Opcodes.{opcode_kind}
 use Rattle.wasm_instructions.specs.formats.Instructions.{Instruction}
 use Rattle.wasm_instructions.specs.formats.Opcodes.{without_prefix, after_fb, after_fc, after_fd, after_fe}
 use Rattle.wasm_instructions.specs.Instructions.{kind_of, IsCall}
-use Rattle.wasm_instructions.specs.formats.Instructions.{fb_part, fc_part, fd_part, fe_part, one_byte_part, is_one_byte, opcode, block_part, index_part, two_indexes_part, br_table_part, types_part, try_table_part, mem_part, i32_part, i64_part, f32_part, f64_part, heap_part, resume_part, resume_throw_part, cast_of, cast_part, v128_part, shuffle_part, lane_part, mem_lane_part, order_part, order_index_part, order_two_indexes_part, operands_format, instruction_of, call_bytes, with_bytes, instruction, Instructions, instructions_bytes, ShortestInstructions}
+use Rattle.wasm_instructions.specs.OperandParts.{fb_part, fc_part, fd_part, fe_part, one_byte_part, block_part, index_part, two_indexes_part, br_table_part, types_part, try_table_part, mem_part, i32_part, i64_part, f32_part, f64_part, heap_part, resume_part, resume_throw_part, cast_part, v128_part, shuffle_part, lane_part, mem_lane_part, order_part, order_index_part, order_two_indexes_part}
+use Rattle.wasm_instructions.specs.formats.Instructions.{is_one_byte, opcode, cast_of, operands_format, instruction_of, call_bytes, with_bytes, instruction, Instructions, instructions_bytes, ShortestInstructions}
 use Rattle.wasm_instructions.proofs.OperandFormatLaws.{Lawful-block-type, Lawful-catch, Lawful-handle, Lawful-castop, Lawful-mem-arg, Lawful-ordering, Lawful-vector, Lawful-lanes}
 use Rattle.wasm_codec.specs.Lawful.{Shortest, IsLawful}
 

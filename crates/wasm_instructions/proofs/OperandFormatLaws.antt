@@ -20,7 +20,8 @@ use Rattle.wasm_codec.proofs.FormatLaws.{IsShorter, IsFound, Every-made, Lawful-
 use Rattle.wasm_codec.proofs.RawFormatLaws.{Lawful-made-of, Lawful-raw, Lawful-little-endian}
 use Rattle.wasm_types.specs.formats.Types.{abstract_type, ref_type, val_type}
 use Rattle.wasm_types.proofs.TypeFormatLaws.{Lawful-val-type}
-use Rattle.wasm_instructions.specs.formats.Operands.{empty_byte, function_type_part, result_part, block_type, catch_byte, tag_and_label, label_alone, catch_clause, handle_byte, on_label_part, on_switch_part, handle_clause, nullables_byte, all_nullables, castop, in_first, in_memory, after_alignment, mem_arg_bytes, MemArgInRange, is_named_first, mem_arg, ordering_byte, ordering, from_bits, to_bits, from_halves, to_halves, vector, lanes}
+use Rattle.wasm_instructions.specs.formats.Operands.{empty_byte, block_type, catch_clause, handle_clause, nullables_byte, castop, in_first, in_memory, after_alignment, mem_arg, ordering_byte, ordering, from_bits, from_halves, vector, lanes}
+use Rattle.wasm_instructions.specs.OperandParts.{function_type_part, result_part, catch_byte, tag_and_label, label_alone, handle_byte, on_label_part, on_switch_part, all_nullables, mem_arg_bytes, MemArgInRange, is_named_first, to_bits, to_halves}
 use Rattle.wasm_codec.specs.Lawful.{Shortest, IsLawful}
 
 -- ---- block types

@@ -8,7 +8,7 @@ use Rattle.wasm_instructions.specs.declared.table.opcode.Kind.TheVariants as kin
 use Rattle.wasm_instructions.specs.declared.table.call.Operands.{Operands}
 use Rattle.wasm_instructions.specs.declared.table.call.Operands.TheVariants as operands
 use Rattle.wasm_codec.specs.formats.Numbers.{Within}
-use Rattle.wasm_instructions.specs.formats.Operands.{MemArgInRange}
+use Rattle.wasm_instructions.specs.OperandParts.{MemArgInRange}
 use Rattle.wasm_instructions.specs.Operands.{HeapTypeFits, ValTypeFits, BlockTypeFits, CatchFits, HandleFits}
 use Rattle.wasm_instructions.specs.formats.Opcodes.{opcode_kind}
 

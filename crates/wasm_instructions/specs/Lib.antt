@@ -1,4 +1,5 @@
 pub mod OpcodeTables
+pub mod OperandParts
 pub mod Operands
 pub mod Instructions
 pub mod formats

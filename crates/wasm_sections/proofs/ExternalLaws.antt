@@ -13,7 +13,7 @@ use Rattle.wasm_sections.specs.declared.types.TagKind.TheVariants as tag_kinds
 use Rattle.wasm_sections.specs.declared.types.EntityType.TheVariants as entities
 use Rattle.wasm_sections.specs.declared.types.ExportKind.{ExportKind}
 use Rattle.wasm_sections.specs.declared.types.ExportKind.TheVariants as exports
-use Rattle.wasm_sections.specs.formats.Externals.{Flags, flags_byte, all_flags, limits_flags, paged_byte, all_paged, memory_flags, MemoryParts, memory_of, memory_parts, MemoryInRange, memory_format, memory_type, TableParts, table_of, table_parts, TableInRange, table_format, table_type, global_byte, global_flags, global_of, global_type, tag_kind_byte, tag_of, tag_type, function_part, table_part, memory_part, global_part, tag_part, exact_part, entity_byte, entity_type, export_kind_byte, export_kind}
+use Rattle.wasm_sections.specs.formats.Externals.{Flags, flags_byte, all_flags, limits_flags, paged_byte, all_paged, memory_flags, MemoryParts, memory_of, memory_parts, MemoryInRange, memory_format, memory_type, TableParts, table_of, table_parts, TableInRange, table_format, table_type, global_byte, global_flags, global_type_of, global_type, tag_kind_byte, tag_of, tag_type, function_part, table_part, memory_part, global_part, tag_part, exact_function_part, entity_byte, entity_type, export_kind_byte, export_kind}
 use Rattle.wasm_sections.proofs.PartLaws.{Lawful-part-if, part_tells, part_range, part_in_range}
 
 -- ---- limits
@@ -129,7 +129,7 @@ global_found (true, true) = (refl, refl)
 
 pub Lawful-global-type : IsLawful global_type
 unfolding global_type global_flags
-Lawful-global-type = Lawful-made global_of (λ g. Some (g.val_type, (g.mutable, g.shared))) (λ p. refl) (Lawful-both Lawful-val-type (Lawful-one-byte global_byte ((false, false) ∷ (true, false) ∷ (false, true) ∷ (true, true) ∷ []) global_found))
+Lawful-global-type = Lawful-made global_type_of (λ g. Some (g.val_type, (g.mutable, g.shared))) (λ p. refl) (Lawful-both Lawful-val-type (Lawful-one-byte global_byte ((false, false) ∷ (true, false) ∷ (false, true) ∷ (true, true) ∷ []) global_found))
 
 tag_kind_found : (k : TagKind) → IsFound tag_kind_byte (tag_kinds.Exception ∷ []) k
 tag_kind_found tag_kinds.Exception = (refl, refl)
@@ -148,7 +148,7 @@ Lawful-entity-type =
     (Tagged-or entity_byte 0x02 refl (lit≤ tt) (Every-made (λ m. refl)) (Lawful-made entities.Memory memory_part (λ m. refl) Lawful-memory-type)
     (Tagged-or entity_byte 0x03 refl (lit≤ tt) (Every-made (λ g. refl)) (Lawful-made entities.Global global_part (λ g. refl) Lawful-global-type)
     (Tagged-or entity_byte 0x04 refl (lit≤ tt) (Every-made (λ t. refl)) (Lawful-made entities.Tag tag_part (λ t. refl) Lawful-tag-type)
-    (Tagged-or entity_byte 0x20 refl (lit≤ tt) (Every-made (λ n. refl)) (Lawful-made entities.FunctionExact exact_part (λ n. refl) Lawful-u32)
+    (Tagged-or entity_byte 0x20 refl (lit≤ tt) (Every-made (λ n. refl)) (Lawful-made entities.FunctionExact exact_function_part (λ n. refl) Lawful-u32)
     Tagged-never)))))).choice.lawful
 
 export_found : (k : ExportKind) → IsFound export_kind_byte (exports.Func ∷ exports.Table ∷ exports.Memory ∷ exports.Global ∷ exports.Tag ∷ []) k

@@ -11,7 +11,8 @@ use Rattle.wasm_types.proofs.TypeFormatLaws.{Lawful-type-body}
 use Rattle.wasm_modules.proofs.CodeBodyLaws.{Lawful-code-section-body}
 use Rattle.wasm_sections.specs.formats.Sections.{import_body, function_body, table_body, memory_body, global_body, export_body, start_body, element_body, data_body, data_count_body, tag_body}
 use Rattle.wasm_sections.specs.formats.ModuleSectionParts.{ModuleSectionParts, custom, types, imports, functions, tables, memories, globals, exports, start, elements, code, data_segments, data_count, tags}
-use Rattle.wasm_sections.specs.formats.ModuleSections.{section_id, custom_part, types_part, imports_part, functions_part, tables_part, memories_part, globals_part, exports_part, start_part, elements_part, code_part, data_segments_part, data_count_part, tags_part, module_section, whole_module}
+use Rattle.wasm_sections.specs.SectionParts.{section_id, custom_part, type_entries_part, imports_part, function_indexes_part, tables_part, memories_part, globals_part, exports_part, start_part, elements_part, code_part, data_segments_part, data_count_part, tags_part}
+use Rattle.wasm_sections.specs.formats.ModuleSections.{module_section, whole_module}
 use Rattle.wasm_sections.proofs.CustomLaws.{custom_is_lawful}
 use Rattle.wasm_sections.proofs.EntryLaws.{import_is_lawful, table_is_lawful, memory_is_lawful, global_is_lawful, export_is_lawful, tag_is_lawful}
 use Rattle.wasm_sections.proofs.ElementLaws.{element_is_lawful}
@@ -65,9 +66,9 @@ pub module_section_is_lawful : IsLawful module_section
 unfolding module_section
 module_section_is_lawful =
     (Tagged-or section_id 0 refl (lit≤ tt) (Every-made (λ c. refl)) (Lawful-made custom custom_part (λ c. refl) (Lawful-sized custom_is_lawful))
-    (Tagged-or section_id 1 refl (lit≤ tt) (Every-made (λ c. refl)) (Lawful-made types types_part (λ c. refl) (Lawful-sized (Lawful-body Lawful-type-body)))
+    (Tagged-or section_id 1 refl (lit≤ tt) (Every-made (λ c. refl)) (Lawful-made types type_entries_part (λ c. refl) (Lawful-sized (Lawful-body Lawful-type-body)))
     (Tagged-or section_id 2 refl (lit≤ tt) (Every-made (λ c. refl)) (Lawful-made imports imports_part (λ c. refl) (Lawful-sized (Lawful-body Lawful-imports)))
-    (Tagged-or section_id 3 refl (lit≤ tt) (Every-made (λ c. refl)) (Lawful-made functions functions_part (λ c. refl) (Lawful-sized (Lawful-body Lawful-functions)))
+    (Tagged-or section_id 3 refl (lit≤ tt) (Every-made (λ c. refl)) (Lawful-made functions function_indexes_part (λ c. refl) (Lawful-sized (Lawful-body Lawful-functions)))
     (Tagged-or section_id 4 refl (lit≤ tt) (Every-made (λ c. refl)) (Lawful-made tables tables_part (λ c. refl) (Lawful-sized (Lawful-body Lawful-tables)))
     (Tagged-or section_id 5 refl (lit≤ tt) (Every-made (λ c. refl)) (Lawful-made memories memories_part (λ c. refl) (Lawful-sized (Lawful-body Lawful-memories)))
     (Tagged-or section_id 6 refl (lit≤ tt) (Every-made (λ c. refl)) (Lawful-made globals globals_part (λ c. refl) (Lawful-sized (Lawful-body Lawful-globals)))

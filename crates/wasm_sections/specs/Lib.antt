@@ -1,3 +1,4 @@
+pub mod SectionParts
 pub mod Closed
 pub mod SectionBytes
 pub mod SegmentBytes

@@ -49,19 +49,19 @@ segment_count (data_segments ds ∷ sections) = length ds
 segment_count (s ∷ sections) = segment_count sections
 
 -- each data count is this number
-abbrev pub AreCounted : ℕ → List ModuleSectionParts → Type 0
-AreCounted n [] = Unit
-AreCounted n (data_count told ∷ sections) = (told ≡ n) × AreCounted n sections
-AreCounted n (s ∷ sections) = AreCounted n sections
+abbrev pub DataCountsAre : ℕ → List ModuleSectionParts → Type 0
+DataCountsAre n [] = Unit
+DataCountsAre n (data_count told ∷ sections) = (told ≡ n) × DataCountsAre n sections
+DataCountsAre n (s ∷ sections) = DataCountsAre n sections
 
 -- Sections that make a module.
 pub record IsModule (sections : List ModuleSectionParts) : Type 0 where
   pub in_order : AreInOrder 0 sections
   pub bodies : function_count sections ≡ body_count sections
-  pub segments : AreCounted (segment_count sections) sections
+  pub segments : DataCountsAre (segment_count sections) sections
 
 -- why sections make no module: the first that is out of order, or counts that differ
 abbrev pub IsWhyNot : List ModuleSectionParts → ModuleError → Type 0
 IsWhyNot sections (errors.OutOfOrder index) = AreInOrder 0 (take index sections) × (AreInOrder 0 (take (index + 1) sections) → ⊥)
 IsWhyNot sections (errors.FunctionCount fs bs) = (fs ≡ function_count sections) × (bs ≡ body_count sections) × (fs ≡ bs → ⊥)
-IsWhyNot sections (errors.DataCount told ds) = (ds ≡ segment_count sections) × (told ≡ ds → ⊥) × (AreCounted ds sections → ⊥)
+IsWhyNot sections (errors.DataCount told ds) = (ds ≡ segment_count sections) × (told ≡ ds → ⊥) × (DataCountsAre ds sections → ⊥)

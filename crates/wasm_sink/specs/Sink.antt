@@ -19,8 +19,8 @@ use Rattle.wasm_codec.specs.declared.encode.EncodeError.{EncodeError}
 use Rattle.wasm_codec.specs.declared.encode.EncodeError.TheVariants as errors
 
 -- an opcode of a prefix byte, or of none, and a number
-abbrev pub opcode : Prefix → ℕ → Opcode
-opcode prefix number = record { prefix = prefix; number = number }
+abbrev pub opcode_of : Prefix → ℕ → Opcode
+opcode_of prefix number = record { prefix = prefix; number = number }
 
 -- the bytes of this call are its shortest encoding
 abbrev pub IsShortestCall : Instruction → Type 0

@@ -10,7 +10,8 @@ use Rattle.wasm_codec.proofs.Laws.{some_is}
 use Rattle.wasm_codec.proofs.RewriterLaws.{is_given, is_after, after_is}
 use Rattle.wasm_codec.proofs.Digits.{some_digits}
 use Rattle.wasm_types.specs.declared.types.composite.CompositeType.{CompositeType}
-use Rattle.wasm_types.specs.formats.Types.{composite_type, has_supertypes, sub_of, sub_type}
+use Rattle.wasm_types.specs.formats.Types.{composite_type, sub_of, sub_type}
+use Rattle.wasm_types.specs.TypeParts.{has_supertypes}
 
 unless_true : (p : Place) → unless true p ≡ place false p.left
 unless_true p = ap (λ (s : Bool). place s p.left) (and_false p.shortest) where

@@ -21,7 +21,8 @@ use Rattle.wasm_codec.proofs.AskedLaws.{list_narrow}
 use Rattle.wasm_codec.proofs.ListLaws.{AtMostOne-list}
 use Rattle.wasm_codec.proofs.ListReading.{AtMostOne}
 use Rattle.wasm_codec.proofs.PlaceLists.{plain_reads}
-use Rattle.wasm_types.specs.formats.Types.{abstract_byte, abstract_types, abstract_type, abstract_of, abstract_parts, concrete_part, exact_part, heap_type, reference, nullable_part, short_form, has_short_form, ref_type, number_byte, number_types, ref_part, val_type, result_type, packed_byte, packed_types, val_part, storage_type, mutability_byte, mutability, field_of, field_type, func_of, func_parts, struct_of, struct_part, array_of, array_part, cont_of, cont_part, inner_byte, inner_type, composite_of, composite_type, sub_of, sub_parts, has_supertypes, sub_type, rec_part, sub_part, recursive_type, type_body, ShortestTypeBody}
+use Rattle.wasm_types.specs.formats.Types.{abstract_byte, abstract_type, abstract_of, heap_type, reference, short_form, ref_type, number_byte, val_type, result_type, packed_byte, storage_type, mutability_byte, mutability, field_of, field_type, func_of, struct_of, array_of, cont_of, inner_type, composite_of, composite_type, sub_of, sub_type, recursive_type, type_body, ShortestTypeBody}
+use Rattle.wasm_types.specs.TypeParts.{abstract_types, abstract_parts, concrete_part, exact_part, nullable_part, has_short_form, number_types, ref_part, packed_types, val_part, func_parts, struct_part, array_part, cont_part, inner_byte, sub_parts, has_supertypes, rec_part, sub_part}
 use Rattle.wasm_codec.specs.Lawful.{IsLawful}
 
 -- ---- heap types

@@ -1,3 +1,4 @@
+pub mod TypeParts
 pub mod Types
 pub mod formats
 pub mod TypeCounts

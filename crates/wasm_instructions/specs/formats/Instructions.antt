@@ -1,13 +1,6 @@
 -- Instructions: an opcode and its operands (WebAssembly Core 3.0, Instructions).
-use Rattle.std.specs.Prelude.{ℕ, ℤ, Bool, not, ◌||◌, ◌==◌, List, ◌++◌, Option, Some, None}
+use Rattle.std.specs.Prelude.{ℕ, Bool, not, ◌||◌, ◌==◌, List, ◌++◌, Some}
 use Rattle.wasm_types.specs.declared.types.heap.HeapType.{HeapType}
-use Rattle.wasm_types.specs.declared.types.value.ValType.{ValType}
-use Rattle.wasm_instructions.specs.declared.operands.control.BlockType.{BlockType}
-use Rattle.wasm_instructions.specs.declared.operands.control.Catch.{Catch}
-use Rattle.wasm_instructions.specs.declared.operands.control.Handle.{Handle}
-use Rattle.wasm_instructions.specs.declared.operands.memory.MemArg.{MemArg}
-use Rattle.wasm_instructions.specs.declared.operands.memory.Ordering.{Ordering}
-use Rattle.wasm_instructions.specs.declared.table.opcode.Prefix.TheVariants as prefixes
 use Rattle.wasm_instructions.specs.declared.table.opcode.Opcode.{Opcode}
 use Rattle.wasm_instructions.specs.declared.table.opcode.Kind.{Kind}
 use Rattle.wasm_instructions.specs.declared.table.opcode.Kind.TheVariants as kinds
@@ -17,6 +10,7 @@ use Rattle.wasm_codec.specs.formats.Grammar.{Grammar}
 use Rattle.wasm_codec.specs.formats.Combinators.{Format, a_byte, nothing, ◌⊗◌, ◌⊗>◌, made, any_of, or_else, variant_after, byte_where, u32, s32, s64, little_endian, items, narrow, by_kind, AllOf, all_bytes}
 use Rattle.wasm_types.specs.formats.Types.{heap_type, reference, val_type}
 use Rattle.wasm_instructions.specs.formats.Operands.{block_type, catch_clause, handle_clause, castop, mem_arg, ordering, vector, lanes, ieee32, ieee64}
+use Rattle.wasm_instructions.specs.OperandParts.{fb_part, fc_part, fd_part, fe_part, one_byte_part, block_part, index_part, two_indexes_part, br_table_part, types_part, try_table_part, mem_part, i32_part, i64_part, f32_part, f64_part, heap_part, resume_part, resume_throw_part, cast_part, v128_part, shuffle_part, lane_part, mem_lane_part, order_part, order_index_part, order_two_indexes_part}
 use Rattle.wasm_instructions.specs.formats.Opcodes.{without_prefix, after_fb, after_fc, after_fd, after_fe, opcode_kind}
 use Rattle.wasm_instructions.specs.Instructions.{kind_of}
 
@@ -30,21 +24,6 @@ call op operands = record { op = op; operands = operands }
 
 -- ---- opcodes
 
-abbrev pub fb_part : Opcode → Option ℕ
-fb_part op = elim op.prefix [ prefixes.Fb ↦ Some op.number | _ ↦ None ]
-
-abbrev pub fc_part : Opcode → Option ℕ
-fc_part op = elim op.prefix [ prefixes.Fc ↦ Some op.number | _ ↦ None ]
-
-abbrev pub fd_part : Opcode → Option ℕ
-fd_part op = elim op.prefix [ prefixes.Fd ↦ Some op.number | _ ↦ None ]
-
-abbrev pub fe_part : Opcode → Option ℕ
-fe_part op = elim op.prefix [ prefixes.Fe ↦ Some op.number | _ ↦ None ]
-
-abbrev pub one_byte_part : Opcode → Option ℕ
-one_byte_part op = elim op.prefix [ prefixes.None ↦ Some op.number | _ ↦ None ]
-
 abbrev pub is_one_byte : ℕ → Bool
 is_one_byte byte = not (byte == 0xfb || byte == 0xfc || byte == 0xfd || byte == 0xfe)
 
@@ -57,100 +36,10 @@ opcode = any_of
     (variant_after 0xfe after_fe fe_part u32
     (or_else (made without_prefix one_byte_part (byte_where is_one_byte)))))))
 
--- ---- the parts of operands
-
-abbrev pub block_part : Operands → Option BlockType
-block_part (operands.Block ty) = Some ty
-block_part o = None
-
-abbrev pub index_part : Operands → Option ℕ
-index_part (operands.Index index) = Some index
-index_part o = None
-
-abbrev pub two_indexes_part : Operands → Option (ℕ × ℕ)
-two_indexes_part (operands.TwoIndexes first second) = Some (first, second)
-two_indexes_part o = None
-
-abbrev pub br_table_part : Operands → Option (List ℕ × ℕ)
-br_table_part (operands.BrTable labels default) = Some (labels, default)
-br_table_part o = None
-
-abbrev pub types_part : Operands → Option (List ValType)
-types_part (operands.Types types) = Some types
-types_part o = None
-
-abbrev pub try_table_part : Operands → Option (BlockType × List Catch)
-try_table_part (operands.TryTable ty clauses) = Some (ty, clauses)
-try_table_part o = None
-
-abbrev pub mem_part : Operands → Option MemArg
-mem_part (operands.Mem arg) = Some arg
-mem_part o = None
-
-abbrev pub i32_part : Operands → Option ℤ
-i32_part (operands.I32 value) = Some value
-i32_part o = None
-
-abbrev pub i64_part : Operands → Option ℤ
-i64_part (operands.I64 value) = Some value
-i64_part o = None
-
-abbrev pub f32_part : Operands → Option ℕ
-f32_part (operands.F32 value) = Some value.bits
-f32_part o = None
-
-abbrev pub f64_part : Operands → Option ℕ
-f64_part (operands.F64 value) = Some value.bits
-f64_part o = None
-
-abbrev pub heap_part : Operands → Option HeapType
-heap_part (operands.Heap ty) = Some ty
-heap_part o = None
-
-abbrev pub resume_part : Operands → Option (ℕ × List Handle)
-resume_part (operands.Resume index handlers) = Some (index, handlers)
-resume_part o = None
-
-abbrev pub resume_throw_part : Operands → Option (ℕ × (ℕ × List Handle))
-resume_throw_part (operands.ResumeThrow index tag handlers) = Some (index, (tag, handlers))
-resume_throw_part o = None
+-- ---- operands, one line for each kind
 
 abbrev pub cast_of : (Bool × Bool) × (ℕ × (HeapType × HeapType)) → Operands
 cast_of p = operands.Cast p.1.0 (reference p.0.0 p.1.1.0) (reference p.0.1 p.1.1.1)
-
-abbrev pub cast_part : Operands → Option ((Bool × Bool) × (ℕ × (HeapType × HeapType)))
-cast_part (operands.Cast label before after) = Some ((before.nullable, after.nullable), (label, (before.heap_type, after.heap_type)))
-cast_part o = None
-
-abbrev pub v128_part : Operands → Option ℤ
-v128_part (operands.V128 value) = Some value
-v128_part o = None
-
-abbrev pub shuffle_part : Operands → Option (List ℕ)
-shuffle_part (operands.Shuffle lanes) = Some lanes
-shuffle_part o = None
-
-abbrev pub lane_part : Operands → Option ℕ
-lane_part (operands.Lane lane) = Some lane
-lane_part o = None
-
-abbrev pub mem_lane_part : Operands → Option (MemArg × ℕ)
-mem_lane_part (operands.MemLane arg lane) = Some (arg, lane)
-mem_lane_part o = None
-
-abbrev pub order_part : Operands → Option Ordering
-order_part (operands.Order ordering) = Some ordering
-order_part o = None
-
-abbrev pub order_index_part : Operands → Option (Ordering × ℕ)
-order_index_part (operands.OrderIndex ordering index) = Some (ordering, index)
-order_index_part o = None
-
-abbrev pub order_two_indexes_part : Operands → Option (Ordering × (ℕ × ℕ))
-order_two_indexes_part (operands.OrderTwoIndexes ordering first second) = Some (ordering, (first, second))
-order_two_indexes_part o = None
-
--- ---- operands, one line for each kind
 
 -- what follows the opcode in each line of 5.4, as in 0x0E l*:list(labelidx) l_n:labelidx => br_table l* l_n
 unfoldable pub operands_format : Kind → Format Operands

@@ -1,7 +1,6 @@
 -- What stands after opcodes (WebAssembly Core 3.0, Instructions). Handlers, orderings and casts to descriptors are of
 -- proposals: there this is the project's own profile.
-use Rattle.std.specs.Prelude.{ℕ, ℤ, ◌+◌, ◌-◌, ◌*◌, ◌%◌, ◌/◌, ◌^◌, ◌<◌, Bool, true, false, not, ◌&&◌, ◌==◌, nat_lt, if◌then◌else◌, List, [], ◌∷◌, ◌++◌, Option, Some, None, pos, negsuc, ◌-ℤ◌}
-use Rattle.wasm_types.specs.declared.types.value.ValType.{ValType}
+use Rattle.std.specs.Prelude.{ℕ, ℤ, ◌+◌, ◌-◌, ◌*◌, ◌^◌, Bool, true, false, nat_lt, if◌then◌else◌, List, [], ◌∷◌, Option, Some, None, pos, ◌-ℤ◌}
 use Rattle.wasm_instructions.specs.declared.operands.control.BlockType.{BlockType}
 use Rattle.wasm_instructions.specs.declared.operands.control.BlockType.TheVariants as blocks
 use Rattle.wasm_instructions.specs.declared.operands.control.Catch.{Catch}
@@ -14,23 +13,15 @@ use Rattle.wasm_instructions.specs.declared.operands.memory.Ordering.TheVariants
 use Rattle.wasm_instructions.specs.declared.operands.constants.Ieee32.{Ieee32}
 use Rattle.wasm_instructions.specs.declared.operands.constants.Ieee64.{Ieee64}
 use Rattle.wasm_codec.specs.formats.Numbers.{Within}
-use Rattle.wasm_codec.specs.Leb128.{unsigned_leb128}
 use Rattle.wasm_codec.specs.formats.Combinators.{Format, never, ◌⊗◌, ◌⊗>◌, made, made_as, made_of, any_of, or_else, no_other, variant, tagged, choose, one_byte, byte_or, u32, u64, index, raw, little_endian}
 use Rattle.wasm_types.specs.formats.Types.{val_type}
+use Rattle.wasm_instructions.specs.OperandParts.{function_type_part, result_part, catch_byte, tag_and_label, label_alone, handle_byte, on_label_part, on_switch_part, all_nullables, mem_arg_bytes, MemArgInRange, is_named_first, to_halves}
 
 -- ---- block types (Control Instructions)
 
 abbrev pub empty_byte : BlockType → Option ℕ
 empty_byte blocks.Empty = Some 0x40
 empty_byte ty = None
-
-abbrev pub function_type_part : BlockType → Option ℕ
-function_type_part (blocks.FunctionType index) = Some index
-function_type_part ty = None
-
-abbrev pub result_part : BlockType → Option ValType
-result_part (blocks.Result ty) = Some ty
-result_part ty = None
 
 -- blocktype ::= 0x40 => ε | t:valtype => t | i:s33 => i  (if i ≥ 0)
 unfoldable pub block_type : Format BlockType
@@ -40,22 +31,6 @@ block_type = any_of
     (or_else (made blocks.Result result_part val_type))))
 
 -- ---- clauses of try_table (Control Instructions)
-
-abbrev pub catch_byte : Catch → ℕ
-catch_byte (catches.One tag label) = 0x00
-catch_byte (catches.OneRef tag label) = 0x01
-catch_byte (catches.All label) = 0x02
-catch_byte (catches.AllRef label) = 0x03
-
-abbrev pub tag_and_label : Catch → Option (ℕ × ℕ)
-tag_and_label (catches.One tag label) = Some (tag, label)
-tag_and_label (catches.OneRef tag label) = Some (tag, label)
-tag_and_label c = None
-
-abbrev pub label_alone : Catch → Option ℕ
-label_alone (catches.All label) = Some label
-label_alone (catches.AllRef label) = Some label
-label_alone c = None
 
 -- catch ::= 0x00 x:tagidx l:labelidx => catch x l | 0x01 x:tagidx l:labelidx => catch_ref x l
 --         | 0x02 l:labelidx => catch_all l | 0x03 l:labelidx => catch_all_ref l
@@ -68,18 +43,6 @@ catch_clause = any_of
     no_other))))
 
 -- ---- clauses of resume (of the proposal on stack switching)
-
-abbrev pub handle_byte : Handle → ℕ
-handle_byte (handles.OnLabel tag label) = 0x00
-handle_byte (handles.OnSwitch tag) = 0x01
-
-abbrev pub on_label_part : Handle → Option (ℕ × ℕ)
-on_label_part (handles.OnLabel tag label) = Some (tag, label)
-on_label_part h = None
-
-abbrev pub on_switch_part : Handle → Option ℕ
-on_switch_part (handles.OnSwitch tag) = Some tag
-on_switch_part h = None
 
 -- hdl ::= 0x00 x:tagidx l:labelidx => on x l | 0x01 x:tagidx => on x switch
 unfoldable pub handle_clause : Format Handle
@@ -95,9 +58,6 @@ nullables_byte (false, false) = Some 0x00
 nullables_byte (true, false) = Some 0x01
 nullables_byte (false, true) = Some 0x02
 nullables_byte (true, true) = Some 0x03
-
-abbrev pub all_nullables : List (Bool × Bool)
-all_nullables = (false, false) ∷ (true, false) ∷ (false, true) ∷ (true, true) ∷ []
 
 -- castop ::= 0x00 => (ε, ε) | 0x01 => (null, ε) | 0x02 => (ε, null) | 0x03 => (null, null)
 unfoldable pub castop : Format (Bool × Bool)
@@ -118,21 +78,6 @@ after_alignment n =
     choose (nat_lt n 64) (made (in_first n) (λ arg. Some arg.offset) u64)
     (choose (nat_lt n 128) (made (in_memory (n - 64)) (λ arg. Some (arg.memory_index, arg.offset)) (u32 ⊗ u64))
     never)
-
--- memory 0 is written without its index
-abbrev pub mem_arg_bytes : MemArg → List ℕ
-mem_arg_bytes arg =
-    if arg.memory_index == 0 then unsigned_leb128 arg.align ++ unsigned_leb128 arg.offset
-    else unsigned_leb128 (arg.align + 64) ++ (unsigned_leb128 arg.memory_index ++ unsigned_leb128 arg.offset)
-
-pub record MemArgInRange (arg : MemArg) : Type 0 where
-  pub align : arg.align < 64
-  pub memory_index : arg.memory_index < 2 ^ 32
-  pub offset : arg.offset < 2 ^ 64
-
--- memory 0 that is named
-abbrev pub is_named_first : ℕ × MemArg → Bool
-is_named_first p = not (nat_lt p.0 64) && (p.1.memory_index == 0)
 
 -- memarg ::= n:u32 o:u64 => (0, {align n, offset o})  (if n < 2^6)
 --          | n:u32 x:memidx o:u64 => (x, {align n - 2^6, offset o})  (if 2^6 ≤ n < 2^7)
@@ -162,16 +107,9 @@ ieee64 bits = record { bits = bits }
 abbrev pub from_bits : ℕ → ℤ
 from_bits bits = if nat_lt bits (2 ^ 127) then pos bits else pos bits -ℤ pos (2 ^ 128)
 
-abbrev pub to_bits : ℤ → ℕ
-to_bits (pos n) = n
-to_bits (negsuc n) = 2 ^ 128 - 1 - n
-
 -- the low half and then the high half
 abbrev pub from_halves : ℕ × ℕ → ℤ
 from_halves p = from_bits (p.0 + 2 ^ 64 * p.1)
-
-abbrev pub to_halves : ℤ → ℕ × ℕ
-to_halves value = (to_bits value % 2 ^ 64, to_bits value / 2 ^ 64)
 
 -- 0xFD 12:u32 (b:byte)^16 => v128.const bytes^-1_i128(b^16): the least byte first
 unfoldable pub vector : Format ℤ

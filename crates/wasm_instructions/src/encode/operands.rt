@@ -2,7 +2,8 @@
 ghost use Rattle.std.specs.Prelude.{◌≡◌, ◌++◌, ◌+◌, ◌<◌, ◌≤◌, vec_len, vec_capacity};
 ghost use Rattle.wasm_codec.specs.formats.Combinators.{little_endian};
 ghost use Rattle.wasm_instructions.specs.Operands.{BlockTypeFits, CatchFits, HandleFits};
-ghost use Rattle.wasm_instructions.specs.formats.Operands.{MemArgInRange, block_type, castop, catch_clause, handle_clause, mem_arg, ordering as ordering_format, to_bits, vector};
+ghost use Rattle.wasm_instructions.specs.OperandParts.{MemArgInRange, to_bits};
+ghost use Rattle.wasm_instructions.specs.formats.Operands.{block_type, castop, catch_clause, handle_clause, mem_arg, ordering as ordering_format, vector};
 
 use crate::operands::{BlockType, Catch, Handle, MemArg, Ordering};
 use std::alloc::Allocator;

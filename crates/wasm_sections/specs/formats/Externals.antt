@@ -122,12 +122,12 @@ global_byte (true, true) = Some 0x03
 unfoldable pub global_flags : Format (Bool × Bool)
 global_flags = one_byte global_byte ((false, false) ∷ (true, false) ∷ (false, true) ∷ (true, true) ∷ [])
 
-abbrev pub global_of : ValType × (Bool × Bool) → GlobalType
-global_of p = record { val_type = p.0; mutable = p.1.0; shared = p.1.1 }
+abbrev pub global_type_of : ValType × (Bool × Bool) → GlobalType
+global_type_of p = record { val_type = p.0; mutable = p.1.0; shared = p.1.1 }
 
 -- globaltype ::= t:valtype mut?:mut ⇒ mut? t, and of a proposal 2 more where it is shared
 unfoldable pub global_type : Format GlobalType
-global_type = made global_of (λ g. Some (g.val_type, (g.mutable, g.shared))) (val_type ⊗ global_flags)
+global_type = made global_type_of (λ g. Some (g.val_type, (g.mutable, g.shared))) (val_type ⊗ global_flags)
 
 -- ---- tags
 
@@ -163,9 +163,9 @@ abbrev pub tag_part : EntityType → Option TagType
 tag_part (entities.Tag t) = Some t
 tag_part e = None
 
-abbrev pub exact_part : EntityType → Option ℕ
-exact_part (entities.FunctionExact n) = Some n
-exact_part e = None
+abbrev pub exact_function_part : EntityType → Option ℕ
+exact_function_part (entities.FunctionExact n) = Some n
+exact_function_part e = None
 
 abbrev pub entity_byte : EntityType → ℕ
 entity_byte (entities.Function n) = 0x00
@@ -185,7 +185,7 @@ entity_type = any_of
     (tagged entity_byte 0x02 (made entities.Memory memory_part memory_type)
     (tagged entity_byte 0x03 (made entities.Global global_part global_type)
     (tagged entity_byte 0x04 (made entities.Tag tag_part tag_type)
-    (tagged entity_byte 0x20 (made entities.FunctionExact exact_part u32)
+    (tagged entity_byte 0x20 (made entities.FunctionExact exact_function_part u32)
     no_other))))))
 
 -- ---- what is exported

@@ -16,87 +16,15 @@ use Rattle.wasm_sections.specs.declared.types.MemoryType.{MemoryType}
 use Rattle.wasm_sections.specs.declared.types.TagType.{TagType}
 use Rattle.wasm_sections.specs.formats.EntryParts.{CustomParts, ExportParts, ImportParts, DataParts}
 use Rattle.wasm_sections.specs.formats.Sections.{custom_body, import_body, function_body, table_body, memory_body, global_body, export_body, start_body, element_body, data_body, data_count_body, tag_body}
-
--- the id of a section that holds this
-abbrev pub section_id : ModuleSectionParts → ℕ
-section_id (custom c) = 0
-section_id (types ts) = 1
-section_id (imports is) = 2
-section_id (functions fs) = 3
-section_id (tables ts) = 4
-section_id (memories ms) = 5
-section_id (globals gs) = 6
-section_id (exports es) = 7
-section_id (start f) = 8
-section_id (elements es) = 9
-section_id (code bs) = 10
-section_id (data_segments ds) = 11
-section_id (data_count n) = 12
-section_id (tags ts) = 13
-
-abbrev pub custom_part : ModuleSectionParts → Option CustomParts
-custom_part (custom c) = Some c
-custom_part s = None
-
-abbrev pub types_part : ModuleSectionParts → Option (List TypeEntry)
-types_part (types ts) = Some ts
-types_part s = None
-
-abbrev pub imports_part : ModuleSectionParts → Option (List ImportParts)
-imports_part (imports is) = Some is
-imports_part s = None
-
-abbrev pub functions_part : ModuleSectionParts → Option (List ℕ)
-functions_part (functions fs) = Some fs
-functions_part s = None
-
-abbrev pub tables_part : ModuleSectionParts → Option (List Table)
-tables_part (tables ts) = Some ts
-tables_part s = None
-
-abbrev pub memories_part : ModuleSectionParts → Option (List MemoryType)
-memories_part (memories ms) = Some ms
-memories_part s = None
-
-abbrev pub globals_part : ModuleSectionParts → Option (List Global)
-globals_part (globals gs) = Some gs
-globals_part s = None
-
-abbrev pub exports_part : ModuleSectionParts → Option (List ExportParts)
-exports_part (exports es) = Some es
-exports_part s = None
-
-abbrev pub start_part : ModuleSectionParts → Option ℕ
-start_part (start f) = Some f
-start_part s = None
-
-abbrev pub elements_part : ModuleSectionParts → Option (List Element)
-elements_part (elements es) = Some es
-elements_part s = None
-
-abbrev pub code_part : ModuleSectionParts → Option (List CodeBody)
-code_part (code bs) = Some bs
-code_part s = None
-
-abbrev pub data_segments_part : ModuleSectionParts → Option (List DataParts)
-data_segments_part (data_segments ds) = Some ds
-data_segments_part s = None
-
-abbrev pub data_count_part : ModuleSectionParts → Option ℕ
-data_count_part (data_count n) = Some n
-data_count_part s = None
-
-abbrev pub tags_part : ModuleSectionParts → Option (List TagType)
-tags_part (tags ts) = Some ts
-tags_part s = None
+use Rattle.wasm_sections.specs.SectionParts.{section_id, custom_part, type_entries_part, imports_part, function_indexes_part, tables_part, memories_part, globals_part, exports_part, start_part, elements_part, code_part, data_segments_part, data_count_part, tags_part}
 
 -- section_N(X) ::= N:byte len:u32 x:X ⇒ x (if len = ||X||), for each N and X of the standard
 unfoldable pub module_section : Format ModuleSectionParts
 module_section = any_of
     (tagged section_id 0 (made custom custom_part (sized custom_body))
-    (tagged section_id 1 (made types types_part (sized type_body))
+    (tagged section_id 1 (made types type_entries_part (sized type_body))
     (tagged section_id 2 (made imports imports_part (sized import_body))
-    (tagged section_id 3 (made functions functions_part (sized function_body))
+    (tagged section_id 3 (made functions function_indexes_part (sized function_body))
     (tagged section_id 4 (made tables tables_part (sized table_body))
     (tagged section_id 5 (made memories memories_part (sized memory_body))
     (tagged section_id 6 (made globals globals_part (sized global_body))

@@ -1,7 +1,7 @@
 //! Whether sections make a module: their order, and counts that must agree (Core 3.0, Modules).
 ghost use Rattle.std.specs.Prelude.{◌≡◌, OnOk, IfErr};
 ghost use Rattle.wasm_sections.specs.formats.ModuleSectionParts.{module_section_parts, all_module_section_parts};
-ghost use Rattle.wasm_sections.specs.ModuleOrder.{rank, AreInOrder, AreCounted, function_count, body_count, segment_count, IsModule, IsWhyNot};
+ghost use Rattle.wasm_sections.specs.ModuleOrder.{rank, AreInOrder, DataCountsAre, function_count, body_count, segment_count, IsModule, IsWhyNot};
 
 use super::ModuleSection;
 use thiserror::Error;
@@ -131,7 +131,7 @@ fn count_segments(sections: &[ModuleSection<'_>]) -> usize
 /// Whether each data count is this number.
 fn check_data_count(sections: &[ModuleSection<'_>], segments: usize) -> Result<(), ModuleError>
     requires { segments ≡ segment_count (all_module_section_parts sections.now) }
-    ensures ok { OnOk result (AreCounted segments (all_module_section_parts sections.now)) }
+    ensures ok { OnOk result (DataCountsAre segments (all_module_section_parts sections.now)) }
     ensures why { IfErr result (IsWhyNot (all_module_section_parts sections.now)) }
 {
     for section in sections {

@@ -2,7 +2,7 @@
 //! number, and the prefix too where opcodes of the kind have different ones.
 ghost use Rattle.std.specs.Prelude.{IsOk};
 ghost use Rattle.std.specs.Borrow.{sem};
-ghost use Rattle.wasm_sink.specs.Sink.{opcode, IsUnchangedAtErr, IsSameSink, Writes, HasRoom};
+ghost use Rattle.wasm_sink.specs.Sink.{opcode_of, IsUnchangedAtErr, IsSameSink, Writes, HasRoom};
 ghost use Rattle.wasm_instructions.specs.Instructions.{IsCall, IsShort};
 ghost use Rattle.wasm_instructions.specs.declared.table.call.Operands.TheVariants as operands;
 
@@ -26,9 +26,9 @@ impl<'a, A: Allocator> InstructionSink<'a, A> {
         prefix: Prefix,
         number: u32,
     ) -> Result<InstructionSink<'a, A>, EncodeError>
-        requires short { IsShort (opcode prefix number) }
-        requires call { IsCall (opcode prefix number) operands.None }
-        ensures wrote { Writes self.entry (opcode prefix number) operands.None result }
+        requires short { IsShort (opcode_of prefix number) }
+        requires call { IsCall (opcode_of prefix number) operands.None }
+        ensures wrote { Writes self.entry (opcode_of prefix number) operands.None result }
         ensures same { IsSameSink self.entry result }
         ensures room { HasRoom self.entry → IsOk result }
         ensures* unchanged { sem 𝓛 (IsUnchangedAtErr A.row A.Allocator self.entry result) }
@@ -45,9 +45,9 @@ impl<'a, A: Allocator> InstructionSink<'a, A> {
         number: u32,
         index: u32,
     ) -> Result<InstructionSink<'a, A>, EncodeError>
-        requires short { IsShort (opcode prefix number) }
-        requires call { IsCall (opcode prefix number) (operands.Index index) }
-        ensures wrote { Writes self.entry (opcode prefix number) (operands.Index index) result }
+        requires short { IsShort (opcode_of prefix number) }
+        requires call { IsCall (opcode_of prefix number) (operands.Index index) }
+        ensures wrote { Writes self.entry (opcode_of prefix number) (operands.Index index) result }
         ensures same { IsSameSink self.entry result }
         ensures room { HasRoom self.entry → IsOk result }
         ensures* unchanged { sem 𝓛 (IsUnchangedAtErr A.row A.Allocator self.entry result) }
@@ -65,9 +65,9 @@ impl<'a, A: Allocator> InstructionSink<'a, A> {
         first: u32,
         second: u32,
     ) -> Result<InstructionSink<'a, A>, EncodeError>
-        requires short { IsShort (opcode prefix number) }
-        requires call { IsCall (opcode prefix number) (operands.TwoIndexes first second) }
-        ensures wrote { Writes self.entry (opcode prefix number) (operands.TwoIndexes first second) result }
+        requires short { IsShort (opcode_of prefix number) }
+        requires call { IsCall (opcode_of prefix number) (operands.TwoIndexes first second) }
+        ensures wrote { Writes self.entry (opcode_of prefix number) (operands.TwoIndexes first second) result }
         ensures same { IsSameSink self.entry result }
         ensures room { HasRoom self.entry → IsOk result }
         ensures* unchanged { sem 𝓛 (IsUnchangedAtErr A.row A.Allocator self.entry result) }

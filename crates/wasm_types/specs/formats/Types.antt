@@ -1,6 +1,6 @@
 -- Types in the binary format, each stated once (WebAssembly Core 3.0, Types). Over each stands the standard's
 -- production; what proposals add to it stands below (shared types, exact ones, continuations, descriptors).
-use Rattle.std.specs.Prelude.{ℕ, Bool, true, false, not, ◌&&◌, is_some, List, [], ◌∷◌, Option, Some, None}
+use Rattle.std.specs.Prelude.{ℕ, Bool, true, false, not, ◌&&◌, List, [], ◌∷◌, Option, Some, None}
 use Rattle.wasm_types.specs.declared.types.heap.AbstractHeapType.{AbstractHeapType}
 use Rattle.wasm_types.specs.declared.types.heap.AbstractHeapType.TheVariants as abstracts
 use Rattle.wasm_types.specs.declared.types.heap.HeapType.{HeapType}
@@ -20,6 +20,7 @@ use Rattle.wasm_types.specs.declared.types.composite.TypeEntry.TheVariants as en
 use Rattle.wasm_codec.specs.formats.Grammar.{Grammar}
 use Rattle.wasm_codec.specs.Lists.{IsListPrefix, AskedList, IsAskedPrefix}
 use Rattle.wasm_codec.specs.formats.Combinators.{Format, ◌⊗◌, made, any_of, or_else, no_other, after, after_long, tagged, variant, variant_after, flagged, optional, one_byte, byte_or, u32, index, items}
+use Rattle.wasm_types.specs.TypeParts.{abstract_types, abstract_parts, concrete_part, exact_part, nullable_part, has_short_form, number_types, ref_part, packed_types, val_part, func_parts, struct_part, array_part, cont_part, inner_byte, sub_parts, has_supertypes, rec_part, sub_part}
 
 -- ---- heap types
 
@@ -42,28 +43,11 @@ abstract_byte abstracts.Array = Some 0x6a
 abstract_byte abstracts.Exn = Some 0x69
 abstract_byte abstracts.Cont = Some 0x68
 
-abbrev pub abstract_types : List AbstractHeapType
-abstract_types =
-    abstracts.NoCont ∷ abstracts.NoExn ∷ abstracts.NoFunc ∷ abstracts.NoExtern ∷ abstracts.None ∷ abstracts.Func ∷ abstracts.Extern
-    ∷ abstracts.Any ∷ abstracts.Eq ∷ abstracts.I31 ∷ abstracts.Struct ∷ abstracts.Array ∷ abstracts.Exn ∷ abstracts.Cont ∷ []
-
 unfoldable pub abstract_type : Format AbstractHeapType
 abstract_type = one_byte abstract_byte abstract_types
 
 abbrev pub abstract_of : Bool × AbstractHeapType → HeapType
 abstract_of p = Abstract p.0 p.1
-
-abbrev pub abstract_parts : HeapType → Option (Bool × AbstractHeapType)
-abstract_parts (Abstract shared ty) = Some (shared, ty)
-abstract_parts h = None
-
-abbrev pub concrete_part : HeapType → Option ℕ
-concrete_part (Concrete n) = Some n
-concrete_part h = None
-
-abbrev pub exact_part : HeapType → Option ℕ
-exact_part (Exact n) = Some n
-exact_part h = None
 
 -- heaptype ::= ht:absheaptype ⇒ ht | x:s33 ⇒ x (if x is not negative)
 -- and of proposals 0x65 ht:absheaptype ⇒ shared ht | 0x62 x:u32 ⇒ exact x
@@ -78,15 +62,9 @@ heap_type = any_of
 abbrev pub reference : Bool → HeapType → RefType
 reference nullable heap_type = record { nullable = nullable; heap_type = heap_type }
 
-abbrev pub nullable_part : RefType → Option HeapType
-nullable_part r = elim r.nullable [ true ↦ Some r.heap_type | false ↦ None ]
-
 -- a nullable abstract one
 abbrev pub short_form : Format RefType
 short_form = made (λ p. reference true (abstract_of p)) (λ r. abstract_parts r.heap_type) (flagged 0x65 abstract_type)
-
-abbrev pub has_short_form : RefType → Bool
-has_short_form r = r.nullable && is_some (abstract_parts r.heap_type)
 
 -- reftype ::= 0x63 ht:heaptype ⇒ ref null ht | 0x64 ht:heaptype ⇒ ref ht | ht:absheaptype ⇒ ref null ht
 -- The first is a long form of what the last encodes.
@@ -108,13 +86,6 @@ number_byte values.F64 = Some 0x7c
 number_byte values.V128 = Some 0x7b
 number_byte (values.Ref r) = None
 
-abbrev pub number_types : List ValType
-number_types = values.I32 ∷ values.I64 ∷ values.F32 ∷ values.F64 ∷ values.V128 ∷ []
-
-abbrev pub ref_part : ValType → Option RefType
-ref_part (values.Ref r) = Some r
-ref_part v = None
-
 -- valtype ::= nt:numtype ⇒ nt | vt:vectype ⇒ vt | rt:reftype ⇒ rt
 unfoldable pub val_type : Format ValType
 val_type = any_of (byte_or number_byte number_types (or_else (made values.Ref ref_part ref_type)))
@@ -130,13 +101,6 @@ abbrev pub packed_byte : StorageType → Option ℕ
 packed_byte storages.I8 = Some 0x78
 packed_byte storages.I16 = Some 0x77
 packed_byte (storages.Val v) = None
-
-abbrev pub packed_types : List StorageType
-packed_types = storages.I8 ∷ storages.I16 ∷ []
-
-abbrev pub val_part : StorageType → Option ValType
-val_part (storages.Val v) = Some v
-val_part s = None
 
 -- storagetype ::= t:valtype ⇒ t | pt:packtype ⇒ pt
 unfoldable pub storage_type : Format StorageType
@@ -160,36 +124,14 @@ field_type = made field_of (λ f. Some (f.element_type, f.mutable)) (storage_typ
 abbrev pub func_of : List ValType × List ValType → CompositeInnerType
 func_of p = inner.Func (record { params = p.0; results = p.1 })
 
-abbrev pub func_parts : CompositeInnerType → Option (List ValType × List ValType)
-func_parts (inner.Func f) = Some (f.params, f.results)
-func_parts c = None
-
 abbrev pub struct_of : List FieldType → CompositeInnerType
 struct_of fields = inner.Struct (record { fields = fields })
-
-abbrev pub struct_part : CompositeInnerType → Option (List FieldType)
-struct_part (inner.Struct s) = Some s.fields
-struct_part c = None
 
 abbrev pub array_of : FieldType → CompositeInnerType
 array_of field = inner.Array (record { 0 = field })
 
-abbrev pub array_part : CompositeInnerType → Option FieldType
-array_part (inner.Array a) = Some a.0
-array_part c = None
-
 abbrev pub cont_of : ℕ → CompositeInnerType
 cont_of index = inner.Cont (record { 0 = index })
-
-abbrev pub cont_part : CompositeInnerType → Option ℕ
-cont_part (inner.Cont c) = Some c.0
-cont_part c = None
-
-abbrev pub inner_byte : CompositeInnerType → ℕ
-inner_byte (inner.Func f) = 0x60
-inner_byte (inner.Struct s) = 0x5f
-inner_byte (inner.Array a) = 0x5e
-inner_byte (inner.Cont c) = 0x5d
 
 -- comptype ::= 0x5E ft:fieldtype ⇒ array ft | 0x5F ft*:list(fieldtype) ⇒ struct ft*
 --           |  0x60 t1*:resulttype t2*:resulttype ⇒ func t1* → t2*
@@ -215,13 +157,6 @@ composite_type = made composite_of (λ c. Some (c.shared, (c.describes, (c.descr
 abbrev pub sub_of : Bool → List ℕ × CompositeType → SubType
 sub_of is_final p = record { is_final = is_final; supertype_idxs = p.0; composite_type = p.1 }
 
-abbrev pub sub_parts : SubType → Option (List ℕ × CompositeType)
-sub_parts s = Some (s.supertype_idxs, s.composite_type)
-
-abbrev pub has_supertypes : List ℕ → Bool
-has_supertypes [] = false
-has_supertypes (x ∷ supertypes) = true
-
 -- subtype ::= 0x4F x*:list(typeidx) ct:comptype ⇒ sub final x* ct | 0x50 x*:list(typeidx) ct:comptype ⇒ sub x* ct
 --          |  ct:comptype ⇒ sub final ε ct
 -- Without supertypes the first is a long form of the last.
@@ -230,14 +165,6 @@ sub_type = any_of
     (after (λ s. not s.is_final) 0x50 (made (sub_of false) sub_parts (items u32 ⊗ composite_type))
     (after_long (λ s. has_supertypes s.supertype_idxs) 0x4f (made (sub_of true) sub_parts (items u32 ⊗ composite_type))
     (or_else (made (λ c. sub_of true ([], c)) (λ s. Some s.composite_type) composite_type))))
-
-abbrev pub rec_part : TypeEntry → Option (List SubType)
-rec_part (entries.Rec types) = Some types
-rec_part (entries.Sub s) = None
-
-abbrev pub sub_part : TypeEntry → Option SubType
-sub_part (entries.Sub s) = Some s
-sub_part (entries.Rec types) = None
 
 -- rectype ::= 0x4E st*:list(subtype) ⇒ rec st* | st:subtype ⇒ rec st
 -- Here a group of one type and that type alone are two values.

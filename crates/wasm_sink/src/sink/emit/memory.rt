@@ -1,7 +1,7 @@
 //! Instructions with memory arguments. An alignment of 64 or more is refused before anything grows.
 ghost use Rattle.std.specs.Prelude.{◌≤◌, ◌<◌, ◌↔◌, IsOk, IsErrOf};
 ghost use Rattle.std.specs.Borrow.{sem};
-ghost use Rattle.wasm_sink.specs.Sink.{opcode, IsUnchangedAtErr, IsSameSink, WritesBytes, HasRoom};
+ghost use Rattle.wasm_sink.specs.Sink.{opcode_of, IsUnchangedAtErr, IsSameSink, WritesBytes, HasRoom};
 ghost use Rattle.wasm_instructions.specs.Instructions.{IsCall, IsShort};
 ghost use Rattle.wasm_instructions.specs.formats.Opcodes.{after_fd};
 ghost use Rattle.wasm_instructions.specs.declared.table.call.Operands.TheVariants as operands;
@@ -22,9 +22,9 @@ impl<'a, A: Allocator> InstructionSink<'a, A> {
         number: u32,
         memarg: MemArg,
     ) -> Result<InstructionSink<'a, A>, EncodeError>
-        requires short { IsShort (opcode prefix number) }
-        requires call { IsCall (opcode prefix number) (operands.Mem memarg) }
-        ensures wrote { WritesBytes self.entry (opcode prefix number) (operands.Mem memarg) result }
+        requires short { IsShort (opcode_of prefix number) }
+        requires call { IsCall (opcode_of prefix number) (operands.Mem memarg) }
+        ensures wrote { WritesBytes self.entry (opcode_of prefix number) (operands.Mem memarg) result }
         ensures same { IsSameSink self.entry result }
         ensures alignment { IsErrOf result EncodeError.Alignment ↔ 64 ≤ memarg.align }
         ensures room { HasRoom self.entry → memarg.align < 64 → IsOk result }

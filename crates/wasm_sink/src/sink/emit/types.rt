@@ -1,7 +1,7 @@
 //! Instructions with block, heap, reference and value types.
 ghost use Rattle.std.specs.Prelude.{◌∷◌, [], ◌<◌, IsOk};
 ghost use Rattle.std.specs.Borrow.{sem};
-ghost use Rattle.wasm_sink.specs.Sink.{opcode, IsUnchangedAtErr, IsSameSink, Writes, HasRoom};
+ghost use Rattle.wasm_sink.specs.Sink.{opcode_of, IsUnchangedAtErr, IsSameSink, Writes, HasRoom};
 ghost use Rattle.wasm_instructions.specs.Instructions.{IsCall, IsShort};
 ghost use Rattle.wasm_instructions.specs.formats.Opcodes.{after_fb, without_prefix};
 ghost use Rattle.wasm_instructions.specs.declared.table.call.Operands.TheVariants as operands;
@@ -41,9 +41,9 @@ impl<'a, A: Allocator> InstructionSink<'a, A> {
         number: u32,
         heap_type: HeapType,
     ) -> Result<InstructionSink<'a, A>, EncodeError>
-        requires short { IsShort (opcode prefix number) }
-        requires call { IsCall (opcode prefix number) (operands.Heap heap_type) }
-        ensures wrote { Writes self.entry (opcode prefix number) (operands.Heap heap_type) result }
+        requires short { IsShort (opcode_of prefix number) }
+        requires call { IsCall (opcode_of prefix number) (operands.Heap heap_type) }
+        ensures wrote { Writes self.entry (opcode_of prefix number) (operands.Heap heap_type) result }
         ensures same { IsSameSink self.entry result }
         ensures room { HasRoom self.entry → IsOk result }
         ensures* unchanged { sem 𝓛 (IsUnchangedAtErr A.row A.Allocator self.entry result) }

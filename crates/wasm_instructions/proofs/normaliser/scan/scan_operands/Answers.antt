@@ -1,5 +1,6 @@
 use Rattle.std.proofs.Common.{arith, refl}
-use Rattle.wasm_instructions.specs.formats.Instructions.{operands_format, block_part, index_part, mem_part, i32_part, i64_part, f32_part, f64_part}
+use Rattle.wasm_instructions.specs.formats.Instructions.{operands_format}
+use Rattle.wasm_instructions.specs.OperandParts.{block_part, index_part, mem_part, i32_part, i64_part, f32_part, f64_part}
 use Rattle.wasm_instructions.specs.formats.Operands.{block_type, mem_arg}
 use Rattle.wasm_codec.specs.formats.Combinators.{u32, s32, s64, little_endian}
 use Rattle.wasm_instructions.specs.formats.Operands.{ieee32, ieee64}

@@ -1,6 +1,6 @@
 use Rattle.std.proofs.Common.{rules, refl}
 use Rattle.wasm_calls.proofs.InstructionLengths.{short_call}
-use Rattle.wasm_sink.specs.Sink.{opcode}
+use Rattle.wasm_sink.specs.Sink.{opcode_of}
 use Rattle.wasm_instructions.specs.declared.table.call.Operands.TheVariants as operands
 use Rattle.wasm_sink.proofs.WrittenCalls.{shortest_call}
 use Rattle.wasm_sink.proofs.sink.InstructionSink.emit_mem.Goals as goal
@@ -9,7 +9,7 @@ pub returns : goal.returns
 returns g c = (
   search (rules),
   record {
-    wrote = (search (rules), shortest_call (opcode c.args.prefix c.args.number) (operands.Mem c.args.memarg) c.requires.call (search (rules)) tt tt, search (rules, short_call), search (rules));
+    wrote = (search (rules), shortest_call (opcode_of c.args.prefix c.args.number) (operands.Mem c.args.memarg) c.requires.call (search (rules)) tt tt, search (rules, short_call), search (rules));
     same = refl;
     alignment = search (rules);
     room = search (rules);
