@@ -45,8 +45,7 @@ impl Model for Function {
 impl Function {
     ghost use Rattle.wasm_encoder.specs.contracts.code.Function.{the_row};
 
-    /// A function with the locals that an iterator gives, as pairs of a number and the type of so many locals, and
-    /// without instructions.
+    /// A function without instructions, with the locals that an iterator gives as pairs: how many, and of which type.
     ///
     /// `TooLong` where there are more than 4,294,967,295 pairs, before one is asked for.
     #[tactic(auto, using(crate::proofs::CodeSectionLaws::locals_stand, crate::proofs::RefusalLaws::locals_refused))]
@@ -70,8 +69,8 @@ impl Function {
 
     /// A sink that appends to the function.
     ///
-    /// What is appended to a sink over a list that is lent isn't known to its caller's contracts. Where it has to be,
-    /// [`Function::calls`] tells it, and so does a function over the list of [`Function::bytes_mut`].
+    /// Contracts of the caller don't see what is appended through this sink. Where they have to, use [`Function::calls`], or a
+    /// function over the list of [`Function::bytes_mut`].
     pub fn instructions(&mut self) -> InstructionSink<'_, Global>
         ensures* lends { sem 𝓛 (follows the_row bytes_row self.entry.ghost_name result.bytes.ghost_name (λ code. code.items)) }
         ensures value { result.bytes.now.items ≡ self.old }
@@ -79,7 +78,7 @@ impl Function {
         InstructionSink::new(&mut self.bytes)
     }
 
-    /// The function's bytes, as the list that they are kept in. What is left there is the function's from then on.
+    /// The list that holds the function's bytes. What is left in it belongs to the function from then on.
     pub fn bytes_mut(&mut self) -> &mut Vec<u8>
         ensures* lends { sem 𝓛 (Lends the_row bytes_row self.entry result (λ code. code.items)) }
         ensures value { result.now.items ≡ self.old }

@@ -44,7 +44,8 @@ pub fn read_code_section(alloc: Global, body: &[u8]) -> Result<Vec<CodeBody>, Re
     read_list_to_end(alloc, body)
 }
 
-/// The code bodies whose shortest encoding the body of a code section is (Core 3.0, Code Section).
+/// The code bodies that the body of a code section encodes, if the body is the shortest encoding (Core 3.0, Code
+/// Section).
 ///
 /// `Refused` carries the number of bytes of the count and of the code bodies that are whole and in their shortest
 /// encodings, before the first that isn't, or before what is left over; it is 0 where the count isn't in the fewest

@@ -50,7 +50,7 @@ pub fn read_instructions(alloc: Global, bytes: &[u8]) -> Result<Vec<Call>, ReadE
     read_joined(alloc, bytes)
 }
 
-/// The instructions whose shortest encoding the bytes are (Core 3.0, Instructions).
+/// The instructions that the bytes encode, if the bytes are their shortest encoding (Core 3.0, Instructions).
 ///
 /// `Refused` carries the number of bytes of the instructions that are whole and in their shortest encodings, before the
 /// first that isn't.

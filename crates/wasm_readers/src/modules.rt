@@ -62,8 +62,8 @@ pub fn read_module<'a>(alloc: Global, bytes: &'a [u8]) -> Result<Vec<RawSection<
     read_module_of::<RawSection<'_>, false>(alloc, bytes)
 }
 
-/// The sections of the module whose shortest encoding the bytes are, each section's size being in the fewest bytes,
-/// with their bodies as they lie in the bytes (Core 3.0, Modules).
+/// The sections of the module that the bytes encode, if each section's size is in the fewest bytes, with their bodies as
+/// they lie in the bytes (Core 3.0, Modules).
 ///
 /// No body is looked into. `Refused` carries the number of bytes of the header and of the sections that are whole, with
 /// their sizes in the fewest bytes, before the first that isn't, or 0 where the header isn't there.

@@ -38,7 +38,7 @@ pub fn read_type_section(alloc: Global, body: &[u8]) -> Result<Vec<TypeEntry>, R
     read_list_to_end(alloc, body)
 }
 
-/// The entries whose shortest encoding the body of a type section is (Core 3.0, Type Section).
+/// The entries that the body of a type section encodes, if the body is the shortest encoding (Core 3.0, Type Section).
 ///
 /// `Refused` carries the number of bytes of the count and of the entries that are whole and in their shortest
 /// encodings, before the first that isn't, or before what is left over; it is 0 where the count isn't in the fewest

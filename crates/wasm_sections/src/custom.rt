@@ -64,8 +64,8 @@ fn only_custom<'a>(body: &'a [u8]) -> Result<CustomSection<'a>, ReadError>
     Ok(CustomSection { name, bytes })
 }
 
-/// The name and the bytes whose shortest encoding the body of a custom section is (Core 3.0, Custom Section). It takes no
-/// memory.
+/// The name and the bytes that the body of a custom section encodes, if the body is the shortest encoding (Core 3.0,
+/// Custom Section). It takes no memory.
 ///
 /// `Refused` carries 0, where the name isn't there with its length in the fewest bytes.
 pub fn read_custom_section_strict<'a>(body: &'a [u8]) -> Result<CustomSection<'a>, ReadError>

@@ -77,7 +77,7 @@ pub fn read_data_section<'a>(
     read_items(alloc, body)
 }
 
-/// The segments whose shortest encoding the body of a data section is (Core 3.0, Data Section).
+/// The segments that the body of a data section encodes, if the body is the shortest encoding (Core 3.0, Data Section).
 ///
 /// `Refused` carries the number of bytes of the count and of the segments that are whole and in their shortest
 /// encodings, before the first that isn't, or before what is left over; it is 0 where the count isn't in the fewest

@@ -34,7 +34,8 @@ pub fn read_data_count_section(body: &[u8]) -> Result<u32, ReadError>
     read_number(body)
 }
 
-/// The number of data segments whose shortest encoding the body of a data count section is (Core 3.0, Data Count Section).
+/// The number of data segments that the body of a data count section encodes, if the body is the shortest encoding (Core
+/// 3.0, Data Count Section).
 ///
 /// `Refused` carries the number of bytes of the number, where it is in the fewest and more is left over; otherwise 0.
 #[tactic(auto, unfolding(crate::specs::formats::Sections::data_count_body))]

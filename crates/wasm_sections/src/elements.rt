@@ -87,7 +87,8 @@ pub fn read_element_section(alloc: Global, body: &[u8]) -> Result<Vec<Element>, 
     read_items(alloc, body)
 }
 
-/// The segments whose shortest encoding the body of an element section is (Core 3.0, Element Section).
+/// The segments that the body of an element section encodes, if the body is the shortest encoding (Core 3.0, Element
+/// Section).
 ///
 /// `Refused` carries the number of bytes of the count and of the segments that are whole and in their shortest
 /// encodings, before the first that isn't, or before what is left over; it is 0 where the count isn't in the fewest

@@ -58,7 +58,8 @@ pub fn read_export_section<'a>(alloc: Global, body: &'a [u8]) -> Result<Vec<Expo
     read_items(alloc, body)
 }
 
-/// The exports whose shortest encoding the body of an export section is (Core 3.0, Export Section).
+/// The exports that the body of an export section encodes, if the body is the shortest encoding (Core 3.0, Export
+/// Section).
 ///
 /// `Refused` carries the number of bytes of the count and of the exports that are whole and in their shortest
 /// encodings, before the first that isn't, or before what is left over; it is 0 where the count isn't in the fewest

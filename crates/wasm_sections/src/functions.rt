@@ -37,7 +37,8 @@ pub fn read_function_section(alloc: Global, body: &[u8]) -> Result<Vec<u32>, Rea
     read_items(alloc, body)
 }
 
-/// The indexes of types whose shortest encoding the body of a function section is (Core 3.0, Function Section).
+/// The indexes of types that the body of a function section encodes, if the body is the shortest encoding (Core 3.0,
+/// Function Section).
 ///
 /// `Refused` carries the number of bytes of the count and of the indexes that are whole and in their shortest
 /// encodings, before the first that isn't, or before what is left over; it is 0 where the count isn't in the fewest

@@ -54,7 +54,8 @@ pub fn read_global_section(alloc: Heap, body: &[u8]) -> Result<Vec<Global>, Read
     read_items(alloc, body)
 }
 
-/// The globals whose shortest encoding the body of a global section is (Core 3.0, Global Section).
+/// The globals that the body of a global section encodes, if the body is the shortest encoding (Core 3.0, Global
+/// Section).
 ///
 /// `Refused` carries the number of bytes of the count and of the globals that are whole and in their shortest
 /// encodings, before the first that isn't, or before what is left over; it is 0 where the count isn't in the fewest

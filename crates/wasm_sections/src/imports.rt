@@ -58,7 +58,8 @@ pub fn read_import_section<'a>(alloc: Global, body: &'a [u8]) -> Result<Vec<Impo
     read_items(alloc, body)
 }
 
-/// The imports whose shortest encoding the body of an import section is (Core 3.0, Import Section).
+/// The imports that the body of an import section encodes, if the body is the shortest encoding (Core 3.0, Import
+/// Section).
 ///
 /// `Refused` carries the number of bytes of the count and of the imports that are whole and in their shortest
 /// encodings, before the first that isn't, or before what is left over; it is 0 where the count isn't in the fewest

@@ -30,7 +30,7 @@ pub(crate) fn read_items<'a, T: Readable<'a>>(
     read_list_to_end(alloc, body)
 }
 
-/// The items whose shortest encoding a body is.
+/// The items that a body encodes, if the body is their shortest encoding.
 pub(crate) fn read_items_strict<'a, T: Readable<'a>>(
     alloc: Global,
     body: &'a [u8],

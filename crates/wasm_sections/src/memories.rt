@@ -42,7 +42,8 @@ pub fn read_memory_section(alloc: Global, body: &[u8]) -> Result<Vec<MemoryType>
     read_items(alloc, body)
 }
 
-/// The memories whose shortest encoding the body of a memory section is (Core 3.0, Memory Section).
+/// The memories that the body of a memory section encodes, if the body is the shortest encoding (Core 3.0, Memory
+/// Section).
 ///
 /// `Refused` carries the number of bytes of the count and of the memories that are whole and in their shortest
 /// encodings, before the first that isn't, or before what is left over; it is 0 where the count isn't in the fewest

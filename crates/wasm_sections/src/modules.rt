@@ -94,7 +94,8 @@ pub fn read_whole_module<'a>(
     read_module_of::<ModuleSection<'_>, false>(alloc, bytes)
 }
 
-/// The sections whose shortest encoding the bytes of a module are, each with what it holds (Core 3.0, Modules).
+/// The sections of the module that the bytes encode, if the bytes are their shortest encoding, each with what it holds
+/// (Core 3.0, Modules).
 ///
 /// `Refused` carries the number of bytes of the header and of the sections that are whole and in their shortest encodings,
 /// before the first that isn't, or 0 where the header isn't there.

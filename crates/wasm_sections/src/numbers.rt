@@ -42,7 +42,7 @@ fn only_number(body: &[u8]) -> Result<u32, ReadError>
     Ok(number)
 }
 
-/// The number whose shortest encoding bytes are.
+/// The number that bytes encode, if the bytes are its shortest encoding.
 pub(crate) fn read_number_strict(body: &[u8]) -> Result<u32, ReadError>
     ensures given { IfOk result (λ number. (narrow u32_format).Encodes body.now number) }
     ensures complete { (number : ℕ) → (narrow u32_format).Encodes body.now number → result ≡ Ok number }

@@ -34,7 +34,8 @@ pub fn read_start_section(body: &[u8]) -> Result<u32, ReadError>
     read_number(body)
 }
 
-/// The index of the function whose shortest encoding the body of a start section is (Core 3.0, Start Section).
+/// The index of the function that the body of a start section encodes, if the body is the shortest encoding (Core 3.0,
+/// Start Section).
 ///
 /// `Refused` carries the number of bytes of the number, where it is in the fewest and more is left over; otherwise 0.
 #[tactic(auto, unfolding(crate::specs::formats::Sections::start_body))]

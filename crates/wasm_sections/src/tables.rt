@@ -54,7 +54,7 @@ pub fn read_table_section(alloc: Global, body: &[u8]) -> Result<Vec<Table>, Read
     read_items(alloc, body)
 }
 
-/// The tables whose shortest encoding the body of a table section is (Core 3.0, Table Section).
+/// The tables that the body of a table section encodes, if the body is the shortest encoding (Core 3.0, Table Section).
 ///
 /// `Refused` carries the number of bytes of the count and of the tables that are whole and in their shortest encodings,
 /// before the first that isn't, or before what is left over; it is 0 where the count isn't in the fewest bytes.

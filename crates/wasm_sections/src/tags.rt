@@ -42,7 +42,7 @@ pub fn read_tag_section(alloc: Global, body: &[u8]) -> Result<Vec<TagType>, Read
     read_items(alloc, body)
 }
 
-/// The tags whose shortest encoding the body of a tag section is (Core 3.0, Tag Section).
+/// The tags that the body of a tag section encodes, if the body is the shortest encoding (Core 3.0, Tag Section).
 ///
 /// `Refused` carries the number of bytes of the count and of the tags that are whole and in their shortest encodings,
 /// before the first that isn't, or before what is left over; it is 0 where the count isn't in the fewest bytes.

@@ -102,7 +102,7 @@ impl EncodedList {
         self.settle(start, count, appended)
     }
 
-    /// The number of values after so many more.
+    /// The number of values once `more` are added.
     fn count_after(&self, more: usize) -> Result<u32, EncodeError>
         ensures ok { IfOk result (λ count. count ≡ self.now.count + more) }
         ensures err { IfErr result (λ e. (e ≡ TooLong) × (2 ^ 32 ≤ self.now.count + more)) }

@@ -91,8 +91,8 @@ impl Item for Handle {
     }
 }
 
-/// Makes room at once for a call with so many items, and answers their number: 24 bytes, which all else of the call
-/// fits into, and the most that the items of a short list are written in, or the fewest that those of a longer one are.
+/// Reserves room for a call with `count` items, and answers that number. The room is 24 bytes, which everything else of the
+/// call fits into, and for the items the most bytes of a short list, or the fewest of a longer one.
 ///
 /// `TooLong` where there are more than 4,294,967,295 items.
 pub(super) fn reserve_list<T: Item, A: Allocator>(
@@ -146,7 +146,7 @@ pub(super) fn put_list<T: Item, I: ExactSizeIterator<Item = T>, A: Allocator>(
 
 /// Appends the items that come, and counts them. An `Err` can leave a part of them.
 ///
-/// Where there is room for all that the iterator tells (`FITS`) it asks for none, and otherwise before each item.
+/// With `FITS` there is room for all items already; otherwise room is reserved before each item.
 fn put_items<T: Item, I: ExactSizeIterator<Item = T>, A: Allocator, const FITS: bool>(
     bytes: &mut Vec<u8, A>,
     items: I,
