@@ -3,9 +3,8 @@ use Rattle.std.proofs.Common.{◌≡◌, ℕ, ℤ, [], ◌∷◌, refl}
 use Rattle.wasm_types.specs.declared.types.heap.HeapType.{HeapType}
 use Rattle.wasm_instructions.specs.declared.operands.Ieee32.{Ieee32}
 use Rattle.wasm_instructions.specs.declared.operands.Ieee64.{Ieee64}
-use Rattle.wasm_instructions.specs.formats.Opcodes.{ranges}
+use Rattle.wasm_instructions.specs.formats.Opcodes.{ranges, without_prefix}
 use Rattle.wasm_instructions.specs.formats.Instructions.{call}
-use Rattle.wasm_instructions.specs.formats.Opcodes.{without_prefix}
 use Rattle.wasm_instructions.specs.Instructions.{IsCall}
 use Rattle.wasm_instructions.specs.declared.table.call.Operands.TheVariants as operands
 use Rattle.wasm_instructions.specs.declared.table.call.Operands.{Operands}

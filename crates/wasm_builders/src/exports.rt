@@ -1,10 +1,9 @@
 //! Export sections (Core 3.0, Export Section).
-ghost use Rattle.std.specs.Prelude.{◌≡◌, ⊤, OnOk, OnErr, IfErr};
+ghost use Rattle.std.specs.Prelude.{◌≡◌, ⊤, OnOk, OnErr, IfErr, ◌⊎◌, length};
 ghost use Rattle.wasm_codec.specs.Encoding.{IsShortest};
 ghost use Rattle.wasm_codec.specs.Lawful.{IsLawful};
 ghost use Rattle.wasm_sections.specs.formats.ModuleSectionParts.{exports};
 ghost use Rattle.wasm_sections.specs.declared.exports.Export.{Export};
-ghost use Rattle.std.specs.Prelude.{◌⊎◌, length};
 ghost use Rattle.wasm_sections.specs.formats.EntryParts.{ExportParts, export_parts};
 ghost use Rattle.wasm_codec.specs.formats.Combinators.{items};
 ghost use Rattle.wasm_sections.specs.SectionBytes.{IsBodyOf};

@@ -1,10 +1,9 @@
 //! Import sections (Core 3.0, Import Section).
-ghost use Rattle.std.specs.Prelude.{◌≡◌, ⊤, OnOk, OnErr, IfErr};
+ghost use Rattle.std.specs.Prelude.{◌≡◌, ⊤, OnOk, OnErr, IfErr, ◌⊎◌, length};
 ghost use Rattle.wasm_codec.specs.Encoding.{IsShortest};
 ghost use Rattle.wasm_codec.specs.Lawful.{IsLawful};
 ghost use Rattle.wasm_sections.specs.formats.ModuleSectionParts.{imports};
 ghost use Rattle.wasm_sections.specs.declared.imports.Import.{Import};
-ghost use Rattle.std.specs.Prelude.{◌⊎◌, length};
 ghost use Rattle.wasm_sections.specs.formats.EntryParts.{ImportParts, import_parts};
 ghost use Rattle.wasm_codec.specs.formats.Combinators.{items};
 ghost use Rattle.wasm_sections.specs.SectionBytes.{IsBodyOf};

@@ -1,8 +1,7 @@
 -- The bytes of a call.
 use Rattle.std.proofs.Common.{◌≡◌, Result, Ok, Err, OnOk, subst}
 use Rattle.wasm_instructions.specs.declared.table.call.Operands.{Operands}
-use Rattle.wasm_instructions.specs.formats.Instructions.{instruction}
-use Rattle.wasm_instructions.specs.formats.Instructions.{Instruction, call}
+use Rattle.wasm_instructions.specs.formats.Instructions.{instruction, Instruction, call}
 use Rattle.wasm_instructions.specs.Instructions.{IsCall, NumbersInRange, ItemsInRange, HasEncoding, kind_of}
 use Rattle.wasm_calls.specs.Lengths.{HasNoLongList, IsShortEncoding}
 use Rattle.wasm_instructions.proofs.InstructionFormatLaws.{Lawful-instruction}

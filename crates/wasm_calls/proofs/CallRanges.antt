@@ -23,12 +23,11 @@ use Rattle.wasm_instructions.specs.declared.table.opcode.Kind.{Kind}
 use Rattle.wasm_instructions.specs.declared.table.call.Operands.{Operands}
 use Rattle.wasm_instructions.specs.declared.table.call.Operands.TheVariants as operands
 use Rattle.wasm_instructions.specs.Operands.{ValTypeFits, BlockTypeFits, CatchFits, HandleFits}
-use Rattle.wasm_instructions.specs.formats.Instructions.{Instruction, call}
+use Rattle.wasm_instructions.specs.formats.Instructions.{Instruction, call, opcode, operands_format, instruction}
 use Rattle.wasm_instructions.specs.Instructions.{NumbersInRange, ItemsInRange, IsCounted, IsCall, IsShort, kind_of}
 use Rattle.wasm_codec.specs.formats.Combinators.{little_endian, by_kind}
 use Rattle.wasm_instructions.specs.OperandParts.{MemArgInRange}
 use Rattle.wasm_instructions.specs.formats.Operands.{block_type, catch_clause, handle_clause, castop, mem_arg, ordering, vector, lanes}
-use Rattle.wasm_instructions.specs.formats.Instructions.{opcode, operands_format, instruction}
 use Rattle.wasm_instructions.proofs.OperandFormatLaws.{Lawful-block-type, Lawful-mem-arg, Lawful-catch, Lawful-handle, Lawful-ordering}
 use Rattle.wasm_instructions.proofs.InstructionFormatLaws.{Lawful-instruction, encodes_call}
 use Rattle.wasm_instructions.proofs.OpcodeLaws.{in_table_short}

@@ -8,10 +8,9 @@ use Rattle.wasm_instructions.specs.declared.table.opcode.Opcode.{Opcode}
 use Rattle.wasm_instructions.specs.declared.table.call.Operands.{Operands}
 use Rattle.wasm_calls.specs.declared.appenders.lists.Before.{Before}
 use Rattle.wasm_calls.specs.declared.appenders.lists.Before.TheVariants as parts
-use Rattle.wasm_instructions.specs.formats.Instructions.{Instruction}
+use Rattle.wasm_instructions.specs.formats.Instructions.{Instruction, opcode}
 use Rattle.wasm_instructions.specs.Instructions.{IsAligned, IsCounted}
 use Rattle.wasm_instructions.specs.formats.Operands.{block_type}
-use Rattle.wasm_instructions.specs.formats.Instructions.{opcode}
 use Rattle.wasm_codec.specs.Leb128.{unsigned_leb128}
 
 -- why operands weren't written: memory ran out, an alignment is out of range, or a list is too long

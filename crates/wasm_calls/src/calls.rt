@@ -3,8 +3,7 @@ ghost use Rattle.std.specs.Prelude.{◌≡◌, ◌++◌, ◌+◌, ◌≤◌, Lis
 ghost use Rattle.wasm_codec.specs.Encoding.{IsShortestOrLonger};
 ghost use Rattle.wasm_calls.specs.Appending.{IsOperandsRefusal, IsCallRefusal, IsCallsRefusal};
 ghost use Rattle.wasm_instructions.specs.Instructions.{HasNoList, HasEncoding, IsAligned, IsCounted, IsShort, ItemsInRange};
-ghost use Rattle.wasm_instructions.specs.formats.Instructions.{call};
-ghost use Rattle.wasm_instructions.specs.formats.Instructions.{Instructions, instruction, instructions_bytes};
+ghost use Rattle.wasm_instructions.specs.formats.Instructions.{call, Instructions, instruction, instructions_bytes};
 ghost use Rattle.wasm_calls.specs.Lengths.{HasNoLongList, IsShortEncoding};
 
 use crate::appenders::{

@@ -11,8 +11,7 @@ use Rattle.wasm_types.specs.formats.Types.{val_type}
 use Rattle.wasm_writers.specs.Iterators.{AppendsItems}
 use Rattle.wasm_codec.specs.formats.Combinators.{items}
 use Rattle.wasm_calls.specs.Appending.{CountedCall}
-use Rattle.wasm_instructions.specs.formats.Instructions.{Instruction}
-use Rattle.wasm_instructions.specs.formats.Instructions.{Instructions, instruction, instructions_bytes}
+use Rattle.wasm_instructions.specs.formats.Instructions.{Instruction, Instructions, instruction, instructions_bytes}
 use Rattle.wasm_modules.specs.declared.code.CodeBody.{CodeBody}
 use Rattle.wasm_writers.specs.CodeCounts.{CountedBody}
 use Rattle.wasm_modules.specs.formats.CodeBodies.{local_group, code_body, code_section_body}

@@ -4,10 +4,9 @@ use Rattle.std.specs.List.{AllByRecursion, Any}
 use Rattle.wasm_types.specs.declared.types.value.ValType.{ValType}
 use Rattle.wasm_codec.specs.Encoding.{byte_list_bytes, IsCount}
 use Rattle.wasm_calls.specs.Appending.{CountedCall}
-use Rattle.wasm_instructions.specs.formats.Instructions.{Instruction}
+use Rattle.wasm_instructions.specs.formats.Instructions.{Instruction, instruction, instructions_bytes}
 use Rattle.wasm_instructions.specs.declared.table.call.Operands.{Operands}
 use Rattle.wasm_instructions.specs.declared.table.call.Operands.TheVariants as operands
-use Rattle.wasm_instructions.specs.formats.Instructions.{instruction, instructions_bytes}
 use Rattle.wasm_modules.specs.declared.code.CodeBody.{CodeBody}
 use Rattle.wasm_writers.specs.CodeCounts.{CountedBody, func_bytes}
 use Rattle.wasm_modules.specs.formats.CodeBodies.{local_group, code_body, code_section_body}

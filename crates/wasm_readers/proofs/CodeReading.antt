@@ -1,8 +1,7 @@
 -- What is read of a code body: its locals, and its instructions to the end of its size.
 use Rattle.std.proofs.Common.{◌≡◌, ℕ, List, [], Some, None, Err, ap, sym, ◌∙◌}
 use Rattle.wasm_types.specs.declared.types.value.ValType.{ValType}
-use Rattle.wasm_instructions.specs.formats.Instructions.{Instruction}
-use Rattle.wasm_instructions.specs.formats.Instructions.{instruction}
+use Rattle.wasm_instructions.specs.formats.Instructions.{Instruction, instruction}
 use Rattle.wasm_codec.specs.declared.reader.cursor.Fault.{Fault}
 use Rattle.wasm_codec.specs.Places.{Place, place, Reads}
 use Rattle.wasm_codec.specs.formats.Combinators.{items}

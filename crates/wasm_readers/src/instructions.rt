@@ -5,9 +5,8 @@ ghost use Rattle.wasm_codec.specs.Lawful.{IsPrefixFree};
 ghost use Rattle.wasm_codec.specs.formats.Combinators.{u32 as u32_format, u64 as u64_format, s32, s64, index};
 ghost use Rattle.wasm_types.specs.formats.Types.{heap_type, ref_type, val_type};
 ghost use Rattle.wasm_codec.specs.Answers.{IsOrMemory, IfRefused, IsLongestPrefix, EncodesSome};
-ghost use Rattle.wasm_instructions.specs.formats.Instructions.{Instruction};
+ghost use Rattle.wasm_instructions.specs.formats.Instructions.{Instruction, Instructions, instructions_bytes, ShortestInstructions, operands_format, instruction};
 ghost use Rattle.wasm_instructions.specs.Instructions.{IsCounted};
-ghost use Rattle.wasm_instructions.specs.formats.Instructions.{Instructions, instructions_bytes, ShortestInstructions, operands_format, instruction};
 ghost use Rattle.wasm_instructions.specs.formats.Operands.{block_type};
 ghost use Rattle.wasm_instructions.specs.declared.table.opcode.Kind.{Kind};
 

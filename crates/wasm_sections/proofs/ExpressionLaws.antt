@@ -8,11 +8,9 @@ use Rattle.wasm_instructions.specs.declared.table.opcode.Opcode.{Opcode}
 use Rattle.wasm_instructions.specs.declared.table.opcode.Kind.TheVariants as kinds
 use Rattle.wasm_instructions.specs.declared.table.call.Operands.{Operands}
 use Rattle.wasm_instructions.specs.declared.table.call.Operands.TheVariants as operands
-use Rattle.wasm_instructions.specs.formats.Opcodes.{opcode_kind, ranges}
-use Rattle.wasm_instructions.specs.formats.Instructions.{Instruction, call}
-use Rattle.wasm_instructions.specs.formats.Opcodes.{without_prefix}
+use Rattle.wasm_instructions.specs.formats.Opcodes.{opcode_kind, ranges, without_prefix}
+use Rattle.wasm_instructions.specs.formats.Instructions.{Instruction, call, instruction}
 use Rattle.wasm_instructions.specs.Instructions.{kind_of, IsCall}
-use Rattle.wasm_instructions.specs.formats.Instructions.{instruction}
 use Rattle.wasm_instructions.proofs.InstructionFormatLaws.{Lawful-instruction, instruction_takes, encodes_call}
 use Rattle.wasm_sections.specs.formats.Parts.{goes_on, ends, AreEnded}
 use Rattle.wasm_sections.specs.formats.Expressions.{opens, closed, delegated, nested_by, nested, end_call, expr}

@@ -9,8 +9,7 @@ use Rattle.wasm_codec.specs.Places.{Place, Sees, byte_at}
 use Rattle.wasm_codec.specs.Rewriter.{Rewriting, rewriting_after, Rewrites}
 use Rattle.wasm_codec.proofs.FormatLaws.{read_in_range}
 use Rattle.wasm_codec.proofs.RewriterLaws.{is_after, after_is}
-use Rattle.wasm_instructions.specs.formats.Instructions.{Instruction}
-use Rattle.wasm_instructions.specs.formats.Instructions.{instruction}
+use Rattle.wasm_instructions.specs.formats.Instructions.{Instruction, instruction}
 use Rattle.wasm_instructions.proofs.InstructionFormatLaws.{Lawful-instruction}
 use Rattle.wasm_sections.specs.formats.Parts.{goes_on, ends, fails, until_at}
 use Rattle.wasm_sections.specs.formats.Expressions.{nested_by, expr}

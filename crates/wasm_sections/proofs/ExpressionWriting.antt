@@ -5,9 +5,8 @@ use Rattle.std.specs.List.{AllByRecursion}
 use Rattle.wasm_codec.specs.Encoding.{IsShortest}
 use Rattle.wasm_codec.proofs.NumberLaws.{written}
 use Rattle.wasm_instructions.specs.declared.table.call.Operands.TheVariants as operands
-use Rattle.wasm_instructions.specs.formats.Instructions.{Instruction}
+use Rattle.wasm_instructions.specs.formats.Instructions.{Instruction, Instructions, opcode, operands_format, instruction, instructions_bytes}
 use Rattle.wasm_instructions.specs.formats.Opcodes.{without_prefix}
-use Rattle.wasm_instructions.specs.formats.Instructions.{Instructions, opcode, operands_format, instruction, instructions_bytes}
 use Rattle.wasm_calls.proofs.CallRanges.{call_in_range}
 use Rattle.wasm_types.proofs.WrittenTypes.{in_range_of}
 use Rattle.wasm_writers.proofs.CodeBodyWriting.{calls_in_range, calls_counted}

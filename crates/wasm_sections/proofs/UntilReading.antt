@@ -10,10 +10,8 @@ use Rattle.wasm_instructions.specs.declared.table.opcode.Opcode.{Opcode}
 use Rattle.wasm_instructions.specs.declared.table.opcode.Prefix.{Prefix}
 use Rattle.wasm_instructions.specs.declared.table.opcode.Prefix.TheVariants as prefixes
 use Rattle.wasm_instructions.specs.declared.table.call.Operands.{Operands}
-use Rattle.wasm_instructions.specs.formats.Instructions.{Instruction}
-use Rattle.wasm_instructions.specs.formats.Opcodes.{without_prefix, after_fb, after_fc, after_fd, after_fe}
-use Rattle.wasm_instructions.specs.formats.Opcodes.{opcode_kind}
-use Rattle.wasm_instructions.specs.formats.Instructions.{opcode, instruction, instruction_of, operands_format, is_one_byte}
+use Rattle.wasm_instructions.specs.formats.Instructions.{Instruction, opcode, instruction, instruction_of, operands_format, is_one_byte}
+use Rattle.wasm_instructions.specs.formats.Opcodes.{without_prefix, after_fb, after_fc, after_fd, after_fe, opcode_kind}
 use Rattle.wasm_codec.specs.formats.Combinators.{◌⊗>◌, by_kind}
 use Rattle.wasm_sections.specs.formats.Parts.{Move, goes_on, ends, fails, moved, until_at}
 use Rattle.wasm_sections.specs.formats.Expressions.{opens, closed, delegated, nested, nested_by}

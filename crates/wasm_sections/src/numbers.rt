@@ -2,9 +2,8 @@
 ghost use Rattle.std.specs.Prelude.{◌≡◌, ◌↔◌, ℕ, Ok, IfOk};
 ghost use Rattle.wasm_codec.specs.Answers.{NeedsNoMemory, IfRefused, IsLongestPrefix};
 ghost use Rattle.wasm_codec.specs.Encoding.{IsShortestOrLonger};
-ghost use Rattle.wasm_codec.specs.formats.Combinators.{narrow};
+ghost use Rattle.wasm_codec.specs.formats.Combinators.{narrow, u32 as u32_format};
 ghost use Rattle.wasm_sections.specs.Prefixes.{IsNothingOr, ReadsWhole};
-ghost use Rattle.wasm_codec.specs.formats.Combinators.{u32 as u32_format};
 
 use crate::bodies::WholeBody;
 use wasm_codec::reader::ReadError;

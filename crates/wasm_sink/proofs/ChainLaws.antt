@@ -2,8 +2,7 @@
 use Rattle.std.proofs.Common.{◌≡◌, ℕ, List, [], ◌∷◌, ◌++◌, sym, ap, ◌∙◌, append_assoc}
 use Rattle.std.proofs.lemmas.List.{append-nil}
 use Rattle.wasm_sink.specs.declared.sink.InstructionSink.{InstructionSink}
-use Rattle.wasm_instructions.specs.formats.Instructions.{Instruction}
-use Rattle.wasm_instructions.specs.formats.Instructions.{instruction, instructions_bytes}
+use Rattle.wasm_instructions.specs.formats.Instructions.{Instruction, instruction, instructions_bytes}
 use Rattle.wasm_sink.specs.Sink.{bytes_behind, Chain}
 
 -- a chain of calls appends their bytes

@@ -6,8 +6,7 @@ use Rattle.std.proofs.lemmas.Iterator.{items_from_drains}
 use Rattle.wasm_instructions.specs.declared.table.opcode.Opcode.{Opcode}
 use Rattle.wasm_instructions.specs.declared.table.call.Operands.{Operands}
 use Rattle.wasm_instructions.specs.Instructions.{NumbersInRange, IsCall, IsCounted, ItemsInRange}
-use Rattle.wasm_instructions.specs.formats.Instructions.{call}
-use Rattle.wasm_instructions.specs.formats.Instructions.{instruction}
+use Rattle.wasm_instructions.specs.formats.Instructions.{call, instruction}
 use Rattle.wasm_instructions.proofs.InstructionFormatLaws.{Lawful-instruction}
 use Rattle.wasm_calls.proofs.CallRanges.{call_in_range}
 use Rattle.wasm_sink.specs.ListCalls.{GivesItems}

@@ -9,9 +9,8 @@ use Rattle.wasm_sink.specs.declared.sink.InstructionSink.{InstructionSink}
 use Rattle.wasm_instructions.specs.declared.table.opcode.Opcode.{Opcode}
 use Rattle.wasm_instructions.specs.declared.table.opcode.Prefix.{Prefix}
 use Rattle.wasm_instructions.specs.declared.table.call.Operands.{Operands}
-use Rattle.wasm_instructions.specs.formats.Instructions.{Instruction, call}
+use Rattle.wasm_instructions.specs.formats.Instructions.{Instruction, call, instruction, instructions_bytes}
 use Rattle.wasm_instructions.specs.Instructions.{IsCounted, HasEncoding}
-use Rattle.wasm_instructions.specs.formats.Instructions.{instruction, instructions_bytes}
 use Rattle.wasm_calls.specs.Lengths.{IsShortEncoding}
 use Rattle.wasm_codec.specs.Encoding.{IsShortest}
 use Rattle.wasm_calls.specs.Appending.{IsOperandsRefusal, IsCallRefusal, IsCallsRefusal}

@@ -14,8 +14,7 @@ use Rattle.wasm_types.proofs.WrittenTypes.{in_range_of}
 use Rattle.wasm_codec.proofs.NumberLaws.{written}
 use Rattle.wasm_codec.proofs.FormatLaws.{Lawful-u32, joined_in_range}
 use Rattle.wasm_calls.specs.Appending.{CountedCall}
-use Rattle.wasm_instructions.specs.formats.Instructions.{Instruction}
-use Rattle.wasm_instructions.specs.formats.Instructions.{Instructions, instruction, instructions_bytes}
+use Rattle.wasm_instructions.specs.formats.Instructions.{Instruction, Instructions, instruction, instructions_bytes}
 use Rattle.wasm_calls.proofs.CallRanges.{is_counted}
 use Rattle.wasm_instructions.proofs.InstructionFormatLaws.{Lawful-instruction}
 use Rattle.wasm_modules.specs.declared.code.CodeBody.{CodeBody}

@@ -5,8 +5,7 @@ ghost use Rattle.std.specs.Iterator.{size};
 ghost use Rattle.wasm_calls.specs.Appending.{AppendsAll, IsRefusedList, after_bytes, before_bytes, list_bytes};
 ghost use Rattle.wasm_codec.specs.Lists.{items_bytes};
 ghost use Rattle.wasm_instructions.specs.Instructions.{HasEncoding, IsShort, ItemsInRange};
-ghost use Rattle.wasm_instructions.specs.formats.Instructions.{call};
-ghost use Rattle.wasm_instructions.specs.formats.Instructions.{instruction};
+ghost use Rattle.wasm_instructions.specs.formats.Instructions.{call, instruction};
 ghost use Rattle.wasm_instructions.specs.Operands.{ValTypeFits, CatchFits, HandleFits};
 ghost use Rattle.wasm_instructions.specs.declared.table.call.Operands.TheVariants as operands;
 

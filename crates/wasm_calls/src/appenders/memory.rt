@@ -2,8 +2,7 @@
 ghost use Rattle.std.specs.Prelude.{◌≡◌, ◌++◌, ◌+◌, ◌≤◌, ◌<◌, ◌↔◌, IsOk, IfErr, IsErrOf, OnOk, OnErr, vec_len, vec_capacity};
 ghost use Rattle.wasm_calls.specs.Appending.{IsOperandsRefusal};
 ghost use Rattle.wasm_instructions.specs.Instructions.{IsShort};
-ghost use Rattle.wasm_instructions.specs.formats.Instructions.{call};
-ghost use Rattle.wasm_instructions.specs.formats.Instructions.{instruction};
+ghost use Rattle.wasm_instructions.specs.formats.Instructions.{call, instruction};
 ghost use Rattle.wasm_instructions.specs.declared.table.call.Operands.TheVariants as operands;
 
 use super::ROOM;
