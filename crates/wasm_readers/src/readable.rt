@@ -47,13 +47,12 @@ impl<'a> Readable<'a> for u32 {
 
     ghost views_each = { record { none = refl; more = λ xs x. refl } };
 
-    fn read(alloc: Global, cursor: &mut Cursor<'a>) -> Result<u32, Fault>
+    fn read(_alloc: Global, cursor: &mut Cursor<'a>) -> Result<u32, Fault>
         ensures reads { Reads u32_format.at cursor.old cursor.new (map_ok (λ x. x) result) }
         ensures lawful { IsLawful u32_format }
         ensures some { TakesBytes u32_format.Encodes }
         ensures err { IfErr result (λ e. e ≡ Malformed) }
     {
-        let _ = alloc;
         cursor.u32()
     }
 }

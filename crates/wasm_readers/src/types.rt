@@ -36,13 +36,12 @@ impl<'a> Readable<'a> for ValType {
 
     ghost format = { val_type };
 
-    fn read(alloc: Global, cursor: &mut Cursor<'a>) -> Result<ValType, Fault>
+    fn read(_alloc: Global, cursor: &mut Cursor<'a>) -> Result<ValType, Fault>
         ensures reads { Reads val_type.at cursor.old cursor.new (map_ok (λ x. x) result) }
         ensures lawful { IsLawful val_type }
         ensures some { TakesBytes val_type.Encodes }
         ensures err { IfErr result (λ e. e ≡ Malformed) }
     {
-        let _ = alloc;
         read_val_type(cursor)
     }
 }
@@ -58,13 +57,12 @@ impl<'a> Readable<'a> for FieldType {
 
     ghost format = { field_type };
 
-    fn read(alloc: Global, cursor: &mut Cursor<'a>) -> Result<FieldType, Fault>
+    fn read(_alloc: Global, cursor: &mut Cursor<'a>) -> Result<FieldType, Fault>
         ensures reads { Reads field_type.at cursor.old cursor.new (map_ok (λ x. x) result) }
         ensures lawful { IsLawful field_type }
         ensures some { TakesBytes field_type.Encodes }
         ensures err { IfErr result (λ e. e ≡ Malformed) }
     {
-        let _ = alloc;
         read_field_type(cursor)
     }
 }

@@ -13,8 +13,8 @@ overflow_sub-len g c =
     let i = an_item c.is_lawful.ensures.lawful c.args.rewriter.now c.rewrite.new.rewriter c.are_bytes.ensures c.in_ok-rewrite.ensures.rewrites in
     omega (arith, i.read_len)
 
-pub returns-then-written_len-len : goal.returns-then-written_len-len
-returns-then-written_len-len g c = record { rewrites = item_refused c.is_lawful.ensures.lawful c.args.rewriter.now c.rewrite.new.rewriter c.are_bytes.ensures c.in_ok-rewrite.ensures.rewrites (omega arith) }
+pub returns-then-written_len-mark : goal.returns-then-written_len-mark
+returns-then-written_len-mark g c = record { rewrites = item_refused c.is_lawful.ensures.lawful c.args.rewriter.now c.rewrite.new.rewriter c.are_bytes.ensures c.in_ok-rewrite.ensures.rewrites (omega arith) }
 
 pub returns : goal.returns
 returns g c = record { rewrites = item_taken c.is_lawful.ensures.lawful c.args.rewriter.now c.rewrite.new.rewriter c.are_bytes.ensures c.in_ok-rewrite.ensures.rewrites (omega arith) }
