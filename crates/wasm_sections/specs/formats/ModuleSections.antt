@@ -1,20 +1,12 @@
 -- Sections with what they hold, and modules of such sections (WebAssembly Core 3.0, Modules).
-use Rattle.std.specs.Prelude.{ℕ, List, Option, Some, None}
+use Rattle.std.specs.Prelude.{List}
 use Rattle.wasm_codec.specs.formats.Bodies.{sized}
 use Rattle.wasm_codec.specs.formats.Grammar.{Grammar}
 use Rattle.wasm_codec.specs.formats.Combinators.{Format, made, any_of, no_other, tagged, narrow}
-use Rattle.wasm_types.specs.declared.types.composite.TypeEntry.{TypeEntry}
 use Rattle.wasm_sections.specs.formats.ModuleSectionParts.{ModuleSectionParts, custom, types, imports, functions, tables, memories, globals, exports, start, elements, code, data_segments, data_count, tags}
 use Rattle.wasm_types.specs.formats.Types.{type_body}
-use Rattle.wasm_modules.specs.declared.code.CodeBody.{CodeBody}
 use Rattle.wasm_modules.specs.formats.CodeBodies.{code_section_body}
 use Rattle.wasm_modules.specs.formats.Modules.{module_of}
-use Rattle.wasm_sections.specs.declared.elements.Element.{Element}
-use Rattle.wasm_sections.specs.declared.globals.Global.{Global}
-use Rattle.wasm_sections.specs.declared.tables.Table.{Table}
-use Rattle.wasm_sections.specs.declared.types.MemoryType.{MemoryType}
-use Rattle.wasm_sections.specs.declared.types.TagType.{TagType}
-use Rattle.wasm_sections.specs.formats.EntryParts.{CustomParts, ExportParts, ImportParts, DataParts}
 use Rattle.wasm_sections.specs.formats.Sections.{custom_body, import_body, function_body, table_body, memory_body, global_body, export_body, start_body, element_body, data_body, data_count_body, tag_body}
 use Rattle.wasm_sections.specs.SectionParts.{section_id, custom_part, type_entries_part, imports_part, function_indexes_part, tables_part, memories_part, globals_part, exports_part, start_part, elements_part, code_part, data_segments_part, data_count_part, tags_part}
 
