@@ -78,7 +78,7 @@ guard_none : {A : Type 0} (test : Bool) (x y : A) → cond test None (Some x) �
 guard_none true x y e = absurd cc
 guard_none false x y e = (refl, some_is x y e)
 
-IsBytes-take : (bytes : List ℕ) (n : ℕ) → IsBytes bytes → IsBytes (take n bytes)
+pub IsBytes-take : (bytes : List ℕ) (n : ℕ) → IsBytes bytes → IsBytes (take n bytes)
 IsBytes-take bytes zero fits = tt
 IsBytes-take [] (suc n) fits = tt
 IsBytes-take (b ∷ bytes) (suc n) fits = (fits.0, IsBytes-take bytes n fits.1)

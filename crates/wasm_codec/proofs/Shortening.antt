@@ -1,5 +1,5 @@
 -- Numbers that are read and left in their shortest encodings.
-use Rattle.std.proofs.Common.{◌≡◌, ℕ, ◌+◌, ◌-◌, ◌≤◌, Bool, true, false, ◌&&◌, List, ◌++◌, length, take, drop, Option, Some, None, Err, [], ◌∷◌, ◌<◌, take_all, take-append-drop, drop-drop, refl, sym, ap, subst, if◌then◌else◌, ◌∙◌, length-append, length-drop, arith}
+use Rattle.std.proofs.Common.{◌≡◌, ℕ, ◌+◌, ◌-◌, ◌≤◌, Bool, true, false, ◌&&◌, List, ◌++◌, length, take, drop, Option, Some, None, Err, [], ◌∷◌, ◌<◌, append_assoc, take-append-drop, drop-drop, refl, sym, ap, subst, if◌then◌else◌, ◌∙◌, length-append, length-drop, arith}
 use Rattle.std.proofs.Math.Bool.{and-true, and-false}
 use Rattle.std.proofs.lemmas.List.{take_at, drop_at}
 use Rattle.wasm_codec.specs.declared.reader.cursor.Fault.{Fault}
@@ -16,6 +16,7 @@ use Rattle.wasm_codec.proofs.FormatLaws.{not_longer}
 use Rattle.wasm_codec.proofs.Laws.{bind_some, some_is}
 use Rattle.wasm_codec.proofs.NumberLaws.{IsCut}
 use Rattle.wasm_codec.proofs.PlaceLists.{step, is_shortest}
+use Rattle.wasm_codec.proofs.RawFormatLaws.{IsBytes-take}
 use Rattle.wasm_codec.proofs.Windows.{cut_first}
 
 -- what isn't read at a place isn't, whatever was read before
@@ -135,17 +136,29 @@ pub takes_some : {V : Type 0} (G : Grammar V) → TakesBytes G → (prefix : Lis
 takes_some G some [] v g = absurd (some v g)
 takes_some G some (b ∷ prefix) v g = omega arith
 
+-- what is seen of the first bytes is seen of all of them
+in_window : {V : Type 0} {F : Format V} → IsLawful F → (bytes : List ℕ) (n count : ℕ) → IsBytes bytes → Scans F (take n bytes) (Some (scanned.Shortest count)) → Scans F bytes (Some (scanned.Shortest count))
+in_window {V} {F} law bytes n count fits (le, x) =
+    let w = take n bytes in
+    let one = step law (place true w) x.0 (place true (drop count w)) (IsBytes-take bytes n fits) x.1 in
+    let rest = drop count w ++ drop n bytes in
+    let all : bytes ≡ one.prefix ++ rest = sym (take-append-drop n bytes) ∙ ap (λ (l : List ℕ). l ++ drop n bytes) one.parts ∙ append_assoc one.prefix (drop count w) (drop n bytes) in
+    let size : length one.prefix ≡ count = omega (arith, le, ap (length {A = ℕ}) one.parts, length-append one.prefix (drop count w), length-drop count w) in
+    let left : drop count bytes ≡ rest = ap (drop count) all ∙ drop_at one.prefix rest count size in
+    let read : F.at (place true bytes) ≡ Some (x.0, place (keeps true one.prefix (F.bytes x.0)) rest) = ap (λ (l : List ℕ). F.at (place true l)) all ∙ law.reads.complete one.prefix x.0 rest true one.encodes in
+    (omega (arith, size, ap (length {A = ℕ}) all, length-append one.prefix rest), (x.0, read ∙ ap (λ (t : Bool). Some (x.0, place t rest)) (sym one.tells) ∙ ap (λ (l : List ℕ). Some (x.0, place true l)) (sym left)))
+
 -- one item more
 pub record LongerRun {V : Type 0} (F : Format V) (bytes : List ℕ) (run count : ℕ) : Type 0 where
   pub begins : BeginsShort F bytes (run + count)
   pub more : 0 < count
 
-pub longer_run : {V : Type 0} {F : Format V} → IsLawful F → TakesBytes F.Encodes → (bytes : List ℕ) (run count : ℕ) → IsBytes bytes → BeginsShort F bytes run → Scans F (take (length bytes - run) (drop run bytes)) (Some (scanned.Shortest count)) → LongerRun F bytes run count
-longer_run {V} {F} law some bytes run count fits b seen =
+pub longer_run : {V : Type 0} {F : Format V} → IsLawful F → TakesBytes F.Encodes → (bytes : List ℕ) (run n count : ℕ) → IsBytes bytes → BeginsShort F bytes run → Scans F (take n (drop run bytes)) (Some (scanned.Shortest count)) → LongerRun F bytes run count
+longer_run {V} {F} law some bytes run n count fits b seen =
     let here = drop run bytes in
-    let all : take (length bytes - run) here ≡ here = take_all (length bytes - run) here (omega (arith, length-drop run bytes)) in
-    let s : Scans F here (Some (scanned.Shortest count)) = subst (λ (l : List ℕ). Scans F l (Some (scanned.Shortest count))) all seen in
-    let one = step law (place true here) s.1.0 (place true (drop count here)) (bytes_after (take run bytes) here (subst IsBytes (sym (take-append-drop run bytes)) fits)) s.1.1 in
+    let ahead = bytes_after (take run bytes) here (subst IsBytes (sym (take-append-drop run bytes)) fits) in
+    let s = in_window law here n count ahead seen in
+    let one = step law (place true here) s.1.0 (place true (drop count here)) ahead s.1.1 in
     let left : drop count here ≡ drop (run + count) bytes = drop-drop count run bytes in
     record {
       begins = record {

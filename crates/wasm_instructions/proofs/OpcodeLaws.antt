@@ -11,6 +11,9 @@ use Rattle.wasm_instructions.specs.declared.table.opcode.Opcode.{Opcode}
 use Rattle.wasm_instructions.specs.Instructions.{IsShort}
 use Rattle.wasm_instructions.specs.formats.Opcodes.{Range, ranges, kind_among, opcode_kind}
 use Rattle.wasm_instructions.specs.OpcodeTables.{kinds_from, end_below, IsTable}
+use Rattle.wasm_instructions.specs.ScannedOpcodes.{scanned_of, scanned_from, IsScanTable}
+use Rattle.wasm_instructions.specs.declared.normaliser.scan.opcodes.ScannedKind.{ScannedKind}
+use Rattle.wasm_instructions.specs.declared.normaliser.scan.opcodes.ScannedKind.TheVariants as scanned
 
 kinds_from-at : (rs : List Range) (first count i : ℕ) → i < count → get_or (kinds_from rs first count) i None ≡ kind_among rs (first + i)
 kinds_from-at rs first zero i lt = absurd (omega arith)
@@ -78,3 +81,53 @@ cast_is_low (r ∷ rs) n h e = by (leb r.first n) (leb n r.last) refl (cast_is_l
   by true true within later e = is_low r.kind r.last n (some_is r.kind kinds.Cast e) p.0 (leb-true n r.last within)
   by true false within later e = later e
   by false t within later e = later e
+
+-- ---- opcodes that are scanned
+
+scanned_from-at : (rs : List Range) (first count i : ℕ) → i < count → get_or (scanned_from rs first count) i scanned.No ≡ scanned_of (kind_among rs (first + i))
+scanned_from-at rs first zero i lt = absurd (omega arith)
+scanned_from-at rs first (suc count) zero lt = ap (λ (n : ℕ). scanned_of (kind_among rs n)) (omega arith)
+scanned_from-at rs first (suc count) (suc i) lt = scanned_from-at rs (first + 1) count i (omega arith) ∙ ap (λ (n : ℕ). scanned_of (kind_among rs n)) (omega arith)
+
+-- the kind that is scanned so
+abbrev pub kind_of : ScannedKind → Option Kind
+kind_of scanned.No = None
+kind_of scanned.Plain = Some kinds.None
+kind_of scanned.Block = Some kinds.Block
+kind_of scanned.Index = Some kinds.Index
+kind_of scanned.Mem = Some kinds.Mem
+kind_of scanned.I32 = Some kinds.I32
+kind_of scanned.I64 = Some kinds.I64
+kind_of scanned.F32 = Some kinds.F32
+kind_of scanned.F64 = Some kinds.F64
+
+kind_back : (o : Option Kind) (k : Kind) → kind_of (scanned_of o) ≡ Some k → o ≡ Some k
+kind_back None k e = absurd cc
+kind_back (Some kinds.None) k e = e
+kind_back (Some kinds.Block) k e = e
+kind_back (Some kinds.Index) k e = e
+kind_back (Some kinds.TwoIndexes) k e = absurd cc
+kind_back (Some kinds.BrTable) k e = absurd cc
+kind_back (Some kinds.Types) k e = absurd cc
+kind_back (Some kinds.TryTable) k e = absurd cc
+kind_back (Some kinds.Mem) k e = e
+kind_back (Some kinds.I32) k e = e
+kind_back (Some kinds.I64) k e = e
+kind_back (Some kinds.F32) k e = e
+kind_back (Some kinds.F64) k e = e
+kind_back (Some kinds.Heap) k e = absurd cc
+kind_back (Some kinds.Resume) k e = absurd cc
+kind_back (Some kinds.ResumeThrow) k e = absurd cc
+kind_back (Some kinds.Cast) k e = absurd cc
+kind_back (Some kinds.V128) k e = absurd cc
+kind_back (Some kinds.Shuffle) k e = absurd cc
+kind_back (Some kinds.Lane) k e = absurd cc
+kind_back (Some kinds.MemLane) k e = absurd cc
+kind_back (Some kinds.Order) k e = absurd cc
+kind_back (Some kinds.OrderIndex) k e = absurd cc
+kind_back (Some kinds.OrderTwoIndexes) k e = absurd cc
+
+pub scanned_is : (places : List ScannedKind) (b : ℕ) (k : Kind) (s : ScannedKind) → IsScanTable places → b < 256 → get_or places b scanned.No ≡ s → kind_of s ≡ Some k → kind_among (ranges prefixes.None) b ≡ Some k
+scanned_is places b k s table lt here is =
+    let at : get_or places b scanned.No ≡ scanned_of (kind_among (ranges prefixes.None) b) = ap (λ (t : List ScannedKind). get_or t b scanned.No) table ∙ scanned_from-at (ranges prefixes.None) 0 256 b lt ∙ ap (λ (n : ℕ). scanned_of (kind_among (ranges prefixes.None) n)) (omega arith) in
+    kind_back (kind_among (ranges prefixes.None) b) k (ap kind_of (sym at ∙ here) ∙ is)

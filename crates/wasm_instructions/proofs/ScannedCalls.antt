@@ -10,9 +10,11 @@ use Rattle.wasm_codec.specs.declared.rewriter.scan.Scanned.TheVariants as scanne
 use Rattle.wasm_codec.specs.Leb128.{unsigned_leb128}
 use Rattle.wasm_instructions.proofs.CallRewriting.{of_kind}
 use Rattle.wasm_instructions.proofs.OperandFormatLaws.{one_digit}
-use Rattle.wasm_codec.specs.formats.Combinators.{Format, made, u64, little_endian, with_low}
+use Rattle.wasm_codec.specs.formats.Combinators.{Format, made, u32, u64, little_endian, with_low}
 use Rattle.wasm_codec.proofs.NumberReading.{u32_one}
+use Rattle.wasm_instructions.specs.declared.table.call.Operands.TheVariants as operands
 use Rattle.wasm_instructions.specs.declared.table.opcode.Kind.{Kind}
+use Rattle.wasm_instructions.specs.declared.table.opcode.Kind.TheVariants as kinds
 use Rattle.wasm_types.specs.declared.types.value.ValType.TheVariants as values
 use Rattle.wasm_types.specs.formats.Types.{val_type}
 use Rattle.wasm_instructions.specs.declared.operands.control.BlockType.TheVariants as blocks
@@ -23,6 +25,7 @@ use Rattle.wasm_instructions.proofs.OpcodeLaws.{in_table}
 use Rattle.wasm_instructions.specs.formats.Instructions.{call}
 use Rattle.wasm_instructions.specs.formats.Opcodes.{without_prefix}
 use Rattle.wasm_instructions.specs.formats.Instructions.{opcode, operands_format, instruction}
+use Rattle.wasm_instructions.specs.OperandParts.{index_part}
 use Rattle.wasm_instructions.specs.formats.Operands.{block_type, in_memory, mem_arg}
 
 pub made_scanned : {A B : Type 0} (make : A → B) (parts : B → Option A) (F : Format A) → ((a : A) → parts (make a) ≡ Some a) → (bytes : List ℕ) (r : Option Scanned) → Scans F bytes r → Scans (made make parts F) bytes r
@@ -30,6 +33,15 @@ made_scanned make parts F back bytes None b = tt
 made_scanned make parts F back bytes (Some (scanned.Shortest count)) (le, x) = (le, (make x.0, rw x.1 refl))
 made_scanned make parts F back bytes (Some (scanned.Padded signed start more)) (le, told) =
     (le, λ kept k. let p = told kept k in record { value = make p.value; read = rw p.read refl; shortest = rw (back p.value) p.shortest })
+
+-- the operands of the most frequent kinds
+pub none_scanned : (bytes : List ℕ) → Scans (operands_format kinds.None) bytes (Some (scanned.Shortest 0))
+unfolding operands_format
+none_scanned bytes = (omega arith, (operands.None, refl))
+
+pub index_scanned : (bytes : List ℕ) (r : Option Scanned) → Scans u32 bytes r → Scans (operands_format kinds.Index) bytes r
+unfolding operands_format
+index_scanned bytes r s = made_scanned operands.Index index_part u32 (λ a. refl) bytes r s
 
 number_read : (count : ℕ) (bytes : List ℕ) → count ≤ length bytes → (n : ℕ) × ((little_endian count).at (place true bytes) ≡ Some (n, place true (drop count bytes)))
 unfolding little_endian byte_at

@@ -121,10 +121,9 @@ pub fn rewrite_joined<T: Joinable>(rewriter: &mut Rewriter) -> Result<(), usize>
     rewriter.are_bytes();
     while rewriter.len() > 0 {
         let run = short_run::<T>(rewriter.left());
-        if run > 0 {
-            rewriter.skip(run);
-        } else {
-            let left = rewriter.len();
+        rewriter.skip(run);
+        let left = rewriter.len();
+        if left != 0 {
             if let Err(_) = T::rewrite(rewriter) {
                 return Err(left);
             }
@@ -137,24 +136,31 @@ pub fn rewrite_joined<T: Joinable>(rewriter: &mut Rewriter) -> Result<(), usize>
 fn short_run<T: Joinable>(bytes: &[u8]) -> usize
     ensures { BeginsShort T.format bytes.now result }
 {
-    // Where there are 16 bytes ahead, the compiler leaves out most tests that there are enough.
-    if bytes.len() >= 16 {
-        short_run_ahead::<T, 16>(bytes)
+    // Of 16 bytes at a time the compiler leaves out most tests that there are enough.
+    let run = short_run_ahead::<T, 16>(bytes, 0);
+    if bytes.len() - run < 16 {
+        short_run_ahead::<T, 1>(bytes, run)
     } else {
-        short_run_ahead::<T, 1>(bytes)
+        run
     }
 }
 
-/// The same, as long as there are `AHEAD` bytes ahead.
+/// The same, from where the run goes on, as long as there are so many bytes ahead.
 #[inline(never)]
-fn short_run_ahead<T: Joinable, const AHEAD: usize>(bytes: &[u8]) -> usize
+fn short_run_ahead<T: Joinable, const AHEAD: usize>(bytes: &[u8], begun: usize) -> usize
+    requires { BeginsShort T.format bytes.now begun }
     ensures { BeginsShort T.format bytes.now result }
 {
     T::is_lawful();
     are_bytes(bytes);
-    let mut run = 0;
-    while bytes.len() - run >= AHEAD {
-        let Some(Scanned::Shortest(count)) = T::scan(&bytes[run..]) else {
+    let mut run = begun;
+    if bytes.len() < AHEAD {
+        return run;
+    }
+    let last = bytes.len() - AHEAD;
+    while run <= last {
+        let end = if AHEAD > 1 { run + AHEAD } else { bytes.len() };
+        let Some(Scanned::Shortest(count)) = T::scan(&bytes[run..end]) else {
             return run;
         };
         run += count;

@@ -45,22 +45,29 @@ impl Scanned {
 /// padded, or if its last digit stands for a number below `top`.
 #[inline(always)]
 fn scan_digits(bytes: &[u8], signed: bool, most: usize, top: u8) -> Option<Scanned>
+    requires { 1 < most }
     ensures { ScansDigits signed most top bytes.now result }
 {
-    let mut before = 0;
-    for index in 0..most {
+    if bytes.len() == 0 {
+        return None;
+    }
+    let mut before = bytes[0];
+    if before < 128 {
+        return Some(Scanned::Shortest(1));
+    }
+    for index in 1..most {
         if index >= bytes.len() {
             return None;
         }
         let byte = bytes[index];
+        if repeats(signed, before, byte) {
+            return Some(Scanned::Padded {
+                signed,
+                start: 0,
+                more: index,
+            });
+        }
         if byte < 128 {
-            if index > 0 && repeats(signed, before, byte) {
-                return Some(Scanned::Padded {
-                    signed,
-                    start: 0,
-                    more: index,
-                });
-            }
             if index + 1 == most && turned(signed && byte >= 64, byte) >= top {
                 return None;
             }

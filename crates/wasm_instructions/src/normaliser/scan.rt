@@ -5,7 +5,10 @@ ghost use Rattle.wasm_codec.specs.formats.Combinators.{little_endian};
 ghost use Rattle.wasm_instructions.specs.formats.Instructions.{operands_format, instruction};
 ghost use Rattle.wasm_instructions.specs.formats.Operands.{block_type, mem_arg};
 
-use crate::table::{Kind, Opcode};
+mod opcodes;
+
+use crate::table::Kind;
+use opcodes::{SCANNED, scanned_kind};
 use wasm_codec::rewriter::{Scanned, scan_s32, scan_s64, scan_u32, scan_u64};
 
 /// The instruction that the bytes begin with, if it is of a kind that is common in code.
@@ -16,20 +19,23 @@ pub(super) fn scan_call(bytes: &[u8]) -> Option<Scanned>
     if bytes.len() == 0 {
         return None;
     }
-    let kind = Opcode::without_prefix(bytes[0]).kind()?;
-    let operands = scan_operands(kind, &bytes[1..])?;
-    Some(operands.behind_byte())
+    let operands = &bytes[1..];
+    let scanned = match scanned_kind(&SCANNED, bytes[0])? {
+        // The most frequent kinds by themselves, so that the compiler adds up their lengths beforehand.
+        Kind::None => return Some(Scanned::Shortest(1)),
+        Kind::Index => return Some(scan_u32(operands)?.behind_byte()),
+        kind => scan_operands(kind, operands)?,
+    };
+    Some(scanned.behind_byte())
 }
 
-/// The operands of a kind that the bytes begin with.
+/// The operands of a less frequent kind that the bytes begin with.
 #[inline(always)]
 fn scan_operands(kind: Kind, bytes: &[u8]) -> Option<Scanned>
     ensures { Scans (operands_format kind) bytes.now result }
 {
     match kind {
-        Kind::None => Some(Scanned::Shortest(0)),
         Kind::Block => scan_block_type(bytes),
-        Kind::Index => scan_u32(bytes),
         Kind::Mem => scan_mem_arg(bytes),
         Kind::I32 => scan_s32(bytes),
         Kind::I64 => scan_s64(bytes),

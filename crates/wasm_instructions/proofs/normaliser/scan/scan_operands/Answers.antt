@@ -1,24 +1,16 @@
-use Rattle.std.proofs.Common.{arith, refl}
+use Rattle.std.proofs.Common.{refl}
 use Rattle.wasm_instructions.specs.formats.Instructions.{operands_format}
-use Rattle.wasm_instructions.specs.OperandParts.{block_part, index_part, mem_part, i32_part, i64_part, f32_part, f64_part}
+use Rattle.wasm_instructions.specs.OperandParts.{block_part, mem_part, i32_part, i64_part, f32_part, f64_part}
 use Rattle.wasm_instructions.specs.formats.Operands.{block_type, mem_arg}
-use Rattle.wasm_codec.specs.formats.Combinators.{u32, s32, s64, little_endian}
+use Rattle.wasm_codec.specs.formats.Combinators.{s32, s64, little_endian}
 use Rattle.wasm_instructions.specs.formats.Operands.{ieee32, ieee64}
 use Rattle.wasm_instructions.proofs.ScannedCalls.{made_scanned}
 use Rattle.wasm_instructions.specs.declared.table.call.Operands.TheVariants as operands
 use Rattle.wasm_instructions.proofs.normaliser.scan.scan_operands.Goals as goal
 
-pub returns-in-None : goal.returns-in-None
-unfolding operands_format
-returns-in-None c = rw c.in-None.is (omega arith, (operands.None, refl))
-
 pub returns-in-Block : goal.returns-in-Block
 unfolding operands_format
 returns-in-Block c = rw c.in-Block.is (made_scanned operands.Block block_part block_type (λ a. refl) c.args.bytes.now c.scan_block_type.result c.scan_block_type.ensures)
-
-pub returns-in-Index : goal.returns-in-Index
-unfolding operands_format
-returns-in-Index c = rw c.in-Index.is (made_scanned operands.Index index_part u32 (λ a. refl) c.args.bytes.now c.scan_u32.result c.scan_u32.ensures)
 
 pub returns-in-Mem : goal.returns-in-Mem
 unfolding operands_format
