@@ -9,12 +9,13 @@ ghost use Rattle.wasm_codec.specs.Lists.{AskedList, IsAskedPrefix};
 ghost use Rattle.wasm_codec.specs.Places.{place};
 ghost use Rattle.wasm_codec.specs.formats.Bodies.{bytes_to_end};
 ghost use Rattle.wasm_codec.specs.formats.Combinators.{narrow, u32 as u32_format};
-ghost use Rattle.wasm_instructions.specs.formats.Instructions.{Instruction, ShortestInstructions};
-ghost use Rattle.wasm_modules.specs.Modules.{IsShortestModulePrefix};
-ghost use Rattle.wasm_modules.specs.formats.Sections.{SectionParts};
+ghost use Rattle.wasm_instructions.specs.Instructions.{Instruction};
+ghost use Rattle.wasm_instructions.specs.formats.Instructions.{ShortestInstructions};
+ghost use Rattle.wasm_modules.specs.Modules.{IsModulePrefixOf, IsShortestModulePrefix};
+ghost use Rattle.wasm_modules.specs.Sections.{SectionParts};
 ghost use Rattle.wasm_modules.specs.declared.code.CodeBody.{CodeBody};
 ghost use Rattle.wasm_modules.specs.formats.CodeBodies.{ShortestCodeSectionBody, IsShortestCodeSectionBodyPrefix};
-ghost use Rattle.wasm_modules.specs.formats.Modules.{raw_section, ShortestModule};
+ghost use Rattle.wasm_modules.specs.formats.Modules.{module_of, raw_section, ShortestModule};
 ghost use Rattle.wasm_types.specs.formats.Types.{ShortestTypeBody, IsShortestTypeBodyPrefix};
 ghost use Rattle.wasm_types.specs.declared.types.composite.TypeEntry.{TypeEntry};
 
@@ -96,10 +97,23 @@ pub fn check_module(alloc: Global, bytes: &[u8]) -> Result<(), ReadError>
     ensures unencoded { IfRefused result (λ _.
         (sections : List SectionParts) → ShortestModule bytes.now sections → ⊥) }
 {
+    check_module_of::<Section>(alloc, bytes)
+}
+
+/// Whether the bytes are the shortest encoding of a module, whatever of each section is decoded.
+///
+/// `Refused` carries the number of bytes of the header and of the sections that are whole and in their shortest encodings,
+/// before the first that isn't, or 0 where the header isn't there.
+pub fn check_module_of<T: Joinable>(alloc: Global, bytes: &[u8]) -> Result<(), ReadError>
+    ensures given { IfOk result (λ _. EncodesSome (module_of (narrow T.format)).Encodes bytes.now) }
+    ensures prefix { IfRefused result (IsLongestPrefix (IsModulePrefixOf (narrow T.format)) bytes.now) }
+    ensures unencoded { IfRefused result (λ _.
+        (sections : List T.Value) → (module_of (narrow T.format)).Encodes bytes.now sections → ⊥) }
+{
     let Some(rest) = after_header(bytes) else {
         return Err(ReadError::Refused { at: 0 });
     };
-    match check_joined::<Section>(alloc, rest) {
+    match check_joined::<T>(alloc, rest) {
         Ok(()) => Ok(()),
         Err(ReadError::Memory) => Err(ReadError::Memory),
         Err(ReadError::Refused { at }) => Err(ReadError::Refused {

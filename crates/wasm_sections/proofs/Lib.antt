@@ -14,6 +14,7 @@ pub mod ElementLaws
 pub mod ElementRewriting
 pub mod ValueReading
 pub mod WholeBodies
+pub mod StopLaws
 pub mod CustomLaws
 pub mod ModuleSectionLaws
 pub mod ModuleSectionReading

@@ -4,4 +4,5 @@ pub mod SectionBytes
 pub mod SegmentBytes
 pub mod ModuleOrder
 pub mod Prefixes
+pub mod Stops
 pub mod formats

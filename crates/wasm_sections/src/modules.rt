@@ -6,10 +6,11 @@ ghost use Rattle.wasm_codec.specs.Encoding.{IsShortestOrLonger};
 ghost use Rattle.wasm_codec.specs.formats.Combinators.{narrow};
 ghost use Rattle.wasm_modules.specs.Modules.{IsModulePrefixOf};
 ghost use Rattle.wasm_modules.specs.formats.Modules.{module_of};
-ghost use Rattle.wasm_sections.specs.formats.ModuleSectionParts.{ModuleSectionParts, all_module_section_parts};
-ghost use Rattle.wasm_sections.specs.formats.ModuleSections.{module_section, whole_module};
+ghost use Rattle.wasm_sections.specs.ModuleSections.{ModuleSectionParts, all_module_section_parts};
+ghost use Rattle.wasm_sections.specs.formats.ModuleSections.{module_section, whole_module, ShortestWholeModule};
 
 mod order;
+mod places;
 mod reader;
 mod rewriter;
 
@@ -22,12 +23,14 @@ use crate::imports::Import;
 use crate::tables::Table;
 use crate::types::{MemoryType, TagType};
 pub use order::{ModuleError, check_order};
+pub use places::{ItemPlace, first_broken_item};
 use rewriter::AnySection;
 use std::alloc::Global;
 use wasm_codec::list::Items;
 use wasm_codec::reader::ReadError;
 use wasm_modules::code::CodeBody;
 use wasm_modules::normaliser::framing::{normalise_module_of, rewrite_module_of};
+use wasm_readers::checks::check_module_of;
 use wasm_readers::modules::read_module_of;
 use wasm_types::types::TypeEntry;
 
@@ -120,6 +123,24 @@ pub fn read_whole_module_strict<'a>(
         (whole_module.Encodes bytes.now sections × (bytes.now ≡ whole_module.bytes sections)) }
 {
     read_module_of::<ModuleSection<'_>, true>(alloc, bytes)
+}
+
+/// Whether the bytes are the shortest encoding of a module, every section with what it holds (Core 3.0, Modules).
+///
+/// It takes what `read_whole_module_strict` takes, refuses the rest at the same place, and makes no list.
+pub fn check_whole_module(alloc: Global, bytes: &[u8]) -> Result<(), ReadError>
+    // What is taken is the shortest encoding of a list of sections.
+    ensures given { IfOk result (λ _. EncodesSome ShortestWholeModule bytes.now) }
+    // `at` is the length of the longest prefix that is whole and in shortest encodings.
+    ensures prefix { IfRefused result (IsLongestPrefix (IsModulePrefixOf (narrow module_section)) bytes.now) }
+    // Only what isn't the shortest encoding of a list of sections is refused.
+    ensures unencoded { IfRefused result (λ _.
+        (sections : List ModuleSectionParts) → ShortestWholeModule bytes.now sections → ⊥) }
+    // Bytes are that where they encode the list, as `read_whole_module` tells, and are as `normalise_whole_module` leaves them.
+    ensures shortest { (sections : List ModuleSectionParts) → ShortestWholeModule bytes.now sections ↔
+        (whole_module.Encodes bytes.now sections × (bytes.now ≡ whole_module.bytes sections)) }
+{
+    check_module_of::<AnySection>(alloc, bytes)
 }
 
 /// The normal bytes of a module: every number, size, type and index in the fewest bytes, in every section (Core 3.0,
