@@ -4,8 +4,6 @@ use Rattle.std.specs.Io.KnownBytes.{Appends}
 use Rattle.wasm_codec.specs.Answers.{EncodesSome, IsNormalForm, IsLongestPrefix}
 use Rattle.wasm_sections.specs.formats.ModuleSectionParts.{ModuleSectionParts}
 use Rattle.wasm_sections.specs.formats.ModuleSections.{module_section, whole_module}
-use Rattle.wasm_codec.specs.declared.reader.ReadError.{ReadError}
-use Rattle.wasm_codec.specs.declared.reader.ReadError.TheVariants as read_errors
 use Rattle.wasm_codec.specs.formats.Combinators.{narrow}
 use Rattle.wasm_modules.specs.Modules.{IsModulePrefixOf}
 use Rattle.wasmcanon.specs.declared.run.Verdict.{Verdict}
@@ -42,7 +40,7 @@ Judges input (verdicts.Longer at) =
 -- where the input was refused, this holds of the place
 abbrev pub IfRefused : {X : Type 0} → Result X Failure → (ℕ → Type 0) → Type 0
 IfRefused (Ok x) P = Unit {0}
-IfRefused (Err (failures.Refused at)) P = P at
+IfRefused (Err (failures.Refused at place)) P = P at
 IfRefused (Err failures.Memory) P = Unit {0}
 IfRefused (Err (failures.Read error)) P = Unit {0}
 IfRefused (Err (failures.Write error)) P = Unit {0}
@@ -50,7 +48,7 @@ IfRefused (Err (failures.Write error)) P = Unit {0}
 -- this holds at each answer that is given once all the input is read
 abbrev pub OnceAllIsRead : {X : Type 0} → Result X Failure → Type 0 → Type 0
 OnceAllIsRead (Ok x) P = P
-OnceAllIsRead (Err (failures.Refused at)) P = P
+OnceAllIsRead (Err (failures.Refused at place)) P = P
 OnceAllIsRead (Err failures.Memory) P = Unit {0}
 OnceAllIsRead (Err (failures.Read error)) P = Unit {0}
 OnceAllIsRead (Err (failures.Write error)) P = P
@@ -58,26 +56,21 @@ OnceAllIsRead (Err (failures.Write error)) P = P
 -- this holds at each failure but that of a write
 abbrev pub BeforeAnyWrite : {X : Type 0} → Result X Failure → Type 0 → Type 0
 BeforeAnyWrite (Ok x) P = Unit {0}
-BeforeAnyWrite (Err (failures.Refused at)) P = P
+BeforeAnyWrite (Err (failures.Refused at place)) P = P
 BeforeAnyWrite (Err failures.Memory) P = P
 BeforeAnyWrite (Err (failures.Read error)) P = P
 BeforeAnyWrite (Err (failures.Write error)) P = Unit {0}
 
 -- the failure is one of reading
 abbrev pub IsReadFailure : Failure → Type 0
-IsReadFailure (failures.Refused at) = ⊥
+IsReadFailure (failures.Refused at place) = ⊥
 IsReadFailure failures.Memory = Unit {0}
 IsReadFailure (failures.Read error) = Unit {0}
 IsReadFailure (failures.Write error) = ⊥
 
--- the failure of a run whose reader or normaliser gave this error
-abbrev pub failure_of : ReadError → Failure
-failure_of read_errors.Memory = failures.Memory
-failure_of (read_errors.Refused at) = failures.Refused at
-
 -- the exit status of a run that failed so
 abbrev pub status_of : Failure → ℕ
-status_of (failures.Refused at) = 1
+status_of (failures.Refused at place) = 1
 status_of failures.Memory = 3
 status_of (failures.Read error) = 4
 status_of (failures.Write error) = 4

@@ -1,19 +1,25 @@
 //! Files that are read, and files that are put in the place of others.
 use crate::options::Location;
-use crate::run::{Failure, Verdict, canonicalise, check};
+use crate::run::{
+    Failure, Forms, Verdict, canonicalise, canonicalise_without_offsets, check, read_forms,
+};
+use std::alloc::Global;
 use std::fs::File;
 use std::io::{Read, Write};
+use std::path::{Path, PathBuf};
 use std::{fs, io};
 
-/// Writes the canonical form of the module that is at one location to another.
+/// Writes the canonical form of the module that is at one location to another, or that form without the custom sections
+/// that keep offsets. Where one is kept and bytes have moved, tells how its name begins.
 pub fn canonicalise_file(
     rt: &HostRuntime,
     input: Location<'_>,
     output: Location<'_>,
-) -> Result<(), Failure> {
+    strip_offsets: bool,
+) -> Result<Option<&'static str>, Failure> {
     match input {
-        Location::Standard => canonicalise_to(rt, &mut rt.stdin(), output),
-        Location::File(path) => canonicalise_to(rt, &mut open(rt, path)?, output),
+        Location::Standard => canonicalise_to(rt, &mut rt.stdin(), output, strip_offsets),
+        Location::File(path) => canonicalise_to(rt, &mut open(rt, path)?, output, strip_offsets),
     }
 }
 
@@ -25,6 +31,14 @@ pub fn check_file(rt: &HostRuntime, input: Location<'_>) -> Result<Verdict, Fail
     }
 }
 
+/// The module that is there, and its canonical form.
+pub fn read_forms_at(rt: &HostRuntime, input: Location<'_>) -> Result<Forms, Failure> {
+    match input {
+        Location::Standard => read_forms(rt.alloc(), &mut rt.stdin()),
+        Location::File(path) => read_forms(rt.alloc(), &mut open(rt, path)?),
+    }
+}
+
 fn open(rt: &HostRuntime, path: &str) -> Result<File, Failure> {
     File::open(rt, path).map_err(Failure::Read)
 }
@@ -33,31 +47,52 @@ fn canonicalise_to<R: Read>(
     rt: &HostRuntime,
     reader: &mut R,
     output: Location<'_>,
-) -> Result<(), Failure> {
+    strip_offsets: bool,
+) -> Result<Option<&'static str>, Failure> {
     match output {
         Location::Standard => {
             let mut writer = rt.stdout();
-            canonicalise(rt.alloc(), reader, &mut writer)?;
-            writer.flush().map_err(Failure::Write)
+            let stale = write_form(rt.alloc(), reader, &mut writer, strip_offsets)?;
+            writer.flush().map_err(Failure::Write)?;
+            Ok(stale)
         }
-        Location::File(path) => canonicalise_to_file(rt, reader, path),
+        Location::File(path) => canonicalise_to_file(rt, reader, path, strip_offsets),
     }
 }
 
-/// A file that is there stays as it is unless all of the canonical form is written: that goes to a new file beside it, which
-/// then takes its name. A device or a pipe is written to as it is.
+/// Writes the canonical form of what is read, or that form without the custom sections that keep offsets.
+fn write_form<R: Read, W: Write>(
+    alloc: Global,
+    reader: &mut R,
+    writer: &mut W,
+    strip_offsets: bool,
+) -> Result<Option<&'static str>, Failure> {
+    if strip_offsets {
+        canonicalise_without_offsets(alloc, reader, writer)?;
+        Ok(None)
+    } else {
+        canonicalise(alloc, reader, writer)
+    }
+}
+
+/// A file that is there stays as it is unless all of the form is written: that goes to a new file beside it, which then takes
+/// its name. A device or a pipe is written to as it is.
 fn canonicalise_to_file<R: Read>(
     rt: &HostRuntime,
     reader: &mut R,
     path: &str,
-) -> Result<(), Failure> {
+    strip_offsets: bool,
+) -> Result<Option<&'static str>, Failure> {
     if is_special(rt, path) {
         let mut file = fs::create(rt, path).map_err(write_failure)?;
-        return canonicalise(rt.alloc(), reader, &mut file);
+        return write_form(rt.alloc(), reader, &mut file, strip_offsets);
     }
     let mut replacement = Replacement::create(rt, path).map_err(write_failure)?;
-    match canonicalise(rt.alloc(), reader, &mut replacement.file) {
-        Ok(()) => replacement.put(rt).map_err(write_failure),
+    match write_form(rt.alloc(), reader, &mut replacement.file, strip_offsets) {
+        Ok(stale) => match replacement.put(rt) {
+            Ok(()) => Ok(stale),
+            Err(error) => Err(write_failure(error)),
+        },
         Err(failure) => {
             replacement.remove(rt);
             Err(failure)
@@ -79,10 +114,39 @@ fn is_special(rt: &HostRuntime, path: &str) -> bool {
     fs::metadata(rt, path).is_ok_and(|metadata| !metadata.is_file())
 }
 
+/// How many names are tried for a file beside another.
+const MOST_NAMES: u32 = 100;
+
+/// A new file beside the one at the path. One that an earlier run left is kept, since another run may be writing it, and the
+/// next name is taken.
+fn create_beside(rt: &HostRuntime, path: &str) -> io::Result<(String, File)> {
+    for number in 0..MOST_NAMES {
+        let beside = format!(in rt.alloc(); "{path}.{number}.wasmcanon")?;
+        match File::create_new(rt, beside.as_str()) {
+            Ok(file) => return Ok((beside, file)),
+            Err(error) if error.kind() == io::ErrorKind::AlreadyExists => {}
+            Err(error) => return Err(error),
+        }
+    }
+    Err(io::Error::from(io::ErrorKind::AlreadyExists))
+}
+
+/// The path itself, or the one that a link there leads to, even where nothing is there.
+fn follow_link(rt: &HostRuntime, path: &str) -> io::Result<PathBuf> {
+    if let Ok(target) = fs::canonicalize(rt, path) {
+        return Ok(target);
+    }
+    match (fs::read_link(rt, path), Path::new(path).parent()) {
+        (Ok(target), Some(folder)) => Ok(folder.join(rt.alloc(), target)?),
+        (Ok(target), None) => Ok(target),
+        (Err(_), _) => Ok(PathBuf::from_str(rt.alloc(), path)?),
+    }
+}
+
 /// A new file beside one whose place it takes once it is written.
 #[derive(Drop)]
 struct Replacement {
-    path: String,
+    path: PathBuf,
     beside: String,
     file: File,
 }
@@ -90,12 +154,8 @@ struct Replacement {
 impl Replacement {
     /// A new file beside the one at the path, or beside the one that a link there leads to.
     fn create(rt: &HostRuntime, path: &str) -> io::Result<Replacement> {
-        let path = match fs::canonicalize(rt, path) {
-            Ok(target) => String::from_str(rt.alloc(), target.as_str())?,
-            Err(_) => String::from_str(rt.alloc(), path)?,
-        };
-        let beside = format!(in rt.alloc(); "{path}.wasmcanon")?;
-        let file = File::create_new(rt, beside.as_str())?;
+        let path = follow_link(rt, path)?;
+        let (beside, file) = create_beside(rt, path.as_str())?;
         let permissions = fs::metadata(rt, path.as_str()).map(|it| it.permissions());
         let replacement = Replacement { path, beside, file };
         match permissions.map(|it| replacement.file.set_permissions(it)) {

@@ -5,23 +5,33 @@
 //! status.
 #![tactic(auto)]
 
+mod diff;
 mod files;
 mod messages;
+mod offsets;
 mod options;
+mod places;
+mod report;
 mod run;
+mod sections;
 #[cfg(test)]
 mod tests;
 
 use clap::error::ErrorKind;
-use files::{canonicalise_file, check_file};
-use messages::{FailureMessage, InputName};
+use diff::find_difference;
+use files::{canonicalise_file, check_file, read_forms_at};
+use messages::{FailureMessage, InputName, OffsetWarning};
 use options::{Action, Location, Options, command};
+use report::Report;
 use run::{Failure, Verdict};
+use std::alloc::AllocError;
 use std::io::IsTerminal;
 use std::process::ExitCode;
 use std::{env, io};
 
 const NOT_CANONICAL_STATUS: u8 = 1;
+
+const DIFFERENT_STATUS: u8 = 1;
 
 const USAGE_STATUS: u8 = 2;
 
@@ -72,19 +82,37 @@ fn run_options(rt: &HostRuntime, options: Options<'_>) -> u8 {
             Ok(verdict) => report_verdict(rt, options, verdict),
             Err(failure) => report_failure(rt, options, failure),
         },
-        Action::Write { output, force } => {
+        Action::Diff { other } => diff_files(rt, options, other),
+        Action::Report { json } => report_sizes(rt, options, json),
+        Action::Write {
+            output,
+            force,
+            strip_offsets,
+        } => {
             if output == Location::Standard && !force && rt.stdout().is_terminal() {
                 let _ = eprintln!(rt;
                     "error: standard output is a terminal: name a file by -o, or use --force"
                 );
                 return USAGE_STATUS;
             }
-            match canonicalise_file(rt, options.input, output) {
-                Ok(()) => 0,
+            match canonicalise_file(rt, options.input, output, strip_offsets) {
+                Ok(stale) => warn_of_offsets(rt, options, stale),
                 Err(failure) => report_failure(rt, options, failure),
             }
         }
     }
+}
+
+/// Warns of offsets that point elsewhere now, and gives the exit status.
+fn warn_of_offsets(rt: &HostRuntime, options: Options<'_>, stale: Option<&'static str>) -> u8 {
+    if let Some(name) = stale {
+        let warning = OffsetWarning {
+            input: InputName(options.input),
+            name,
+        };
+        let _ = eprintln!(rt; "{warning}");
+    }
+    0
 }
 
 /// Says on standard error where a module isn't canonical, and gives the exit status.
@@ -94,10 +122,60 @@ fn report_verdict(rt: &HostRuntime, options: Options<'_>, verdict: Verdict) -> u
         Verdict::Longer { at } => {
             let input = InputName(options.input);
             let _ = eprintln!(rt;
-                "{input} isn't canonical: the section at {at:#x} isn't in its shortest encoding"
+                "{input}: isn't canonical: the section at offset {at:#x} isn't in its shortest encoding"
             );
             NOT_CANONICAL_STATUS
         }
+    }
+}
+
+/// Says on standard error where the canonical forms of two modules differ, and gives the exit status.
+fn diff_files(rt: &HostRuntime, options: Options<'_>, other: Location<'_>) -> u8 {
+    let first = match read_forms_at(rt, options.input) {
+        Ok(forms) => forms.canonical,
+        Err(failure) => return report_failure(rt, options, failure),
+    };
+    let second = match read_forms_at(rt, other) {
+        Ok(forms) => forms.canonical,
+        Err(failure) => {
+            let options = Options {
+                input: other,
+                ..options
+            };
+            return report_failure(rt, options, failure);
+        }
+    };
+    match find_difference(rt.alloc(), &first, &second) {
+        Ok(None) => 0,
+        Ok(Some(difference)) => {
+            let (first, second) = (InputName(options.input), InputName(other));
+            let _ = eprintln!(rt; "{first} and {second} differ: {difference}");
+            DIFFERENT_STATUS
+        }
+        Err(AllocError) => no_memory(rt),
+    }
+}
+
+/// Writes how many bytes each section has, here and in the canonical form, and gives the exit status.
+fn report_sizes(rt: &HostRuntime, options: Options<'_>, json: bool) -> u8 {
+    let forms = match read_forms_at(rt, options.input) {
+        Ok(forms) => forms,
+        Err(failure) => return report_failure(rt, options, failure),
+    };
+    let Ok(report) = Report::new(rt.alloc(), &forms.input, &forms.canonical) else {
+        return no_memory(rt);
+    };
+    let written = if json {
+        match report.to_json(rt.alloc()) {
+            Ok(text) => println!(rt; "{text}"),
+            Err(_) => return no_memory(rt),
+        }
+    } else {
+        println!(rt; "{report}")
+    };
+    match written {
+        Ok(()) => 0,
+        Err(error) => report_failure(rt, options, Failure::Write(error)),
     }
 }
 

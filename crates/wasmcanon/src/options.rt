@@ -3,7 +3,7 @@ use clap::{Arg, ArgAction, ArgMatches, Command};
 use std::alloc::{AllocError, Global};
 
 /// Where bytes are read from or written to.
-#[derive(Clone, Copy, Debug, PartialEq, Eq)]
+#[derive(Clone, Copy, PartialEq, Eq)]
 pub enum Location<'a> {
     /// Standard input or standard output.
     Standard,
@@ -22,7 +22,7 @@ impl<'a> Location<'a> {
 }
 
 /// What is done with a module.
-#[derive(Clone, Copy, Debug, PartialEq, Eq)]
+#[derive(Clone, Copy, PartialEq, Eq)]
 pub enum Action<'a> {
     /// Its canonical form is written.
     Write {
@@ -30,13 +30,25 @@ pub enum Action<'a> {
         output: Location<'a>,
         /// Whether a terminal is written to.
         force: bool,
+        /// Whether custom sections that keep offsets are left out.
+        strip_offsets: bool,
     },
     /// Whether it is its canonical form is told.
     Check,
+    /// Whether it has the same canonical form as another is told.
+    Diff {
+        /// Where the other is.
+        other: Location<'a>,
+    },
+    /// How many bytes each section has, here and in the canonical form, is told.
+    Report {
+        /// Whether it is told as JSON.
+        json: bool,
+    },
 }
 
 /// What a command line asks for.
-#[derive(Clone, Copy, Debug, PartialEq, Eq)]
+#[derive(Clone, Copy, PartialEq, Eq)]
 pub struct Options<'a> {
     /// Where the module is.
     pub input: Location<'a>,
@@ -50,10 +62,19 @@ impl<'a> Options<'a> {
         let input = Location::named(matches.get_str("input"));
         let action = if matches.get_flag("check") {
             Action::Check
+        } else if matches.get_flag("diff") {
+            Action::Diff {
+                other: Location::named(matches.get_str("other")),
+            }
+        } else if matches.get_flag("report") {
+            Action::Report {
+                json: matches.get_flag("json"),
+            }
         } else {
             Action::Write {
                 output: Location::named(matches.get_str("output")),
                 force: matches.get_flag("force"),
+                strip_offsets: matches.get_flag("strip-offsets"),
             }
         };
         Options { input, action }
@@ -68,43 +89,88 @@ Examples:
   wasmcanon app.wasm -o app.canon.wasm    write the canonical form to another file
   wasmcanon app.wasm -o app.wasm          put it in place of the module
   wasmcanon < app.wasm | sha256sum        hash it
+  wasmcanon --strip-offsets app.wasm -o app.canon.wasm
+                                          leave out debug information, which bytes that move make wrong
   wasmcanon --check app.wasm              succeed only where the module is its own canonical form
+  wasmcanon --diff a.wasm b.wasm          succeed only where both have the same canonical form
+  wasmcanon --report app.wasm             how many bytes each section would have
+
+Sections, and the items in a section, are counted from 0.
 
 Exit status:
-  0  written, or canonical
-  1  the input isn't a module, or with --check isn't canonical
+  0  written, canonical, or the same
+  1  the input isn't a module; with --check it isn't canonical, with --diff they differ
   2  other options
   3  no memory
   4  a read or a write failed";
 
+/// The group of the arguments by which something is told and nothing is written. One of them is used at most.
+const QUESTION: &str = "question";
+
 /// The command line of the program.
 pub fn command<'a>(alloc: Global) -> Result<Command<'a>, AllocError> {
+    let command = Command::new(alloc, "wasmcanon")
+        .version("0.1.0")
+        .about(ABOUT)
+        .after_help(EXAMPLES);
+    with_questions(alloc, with_writing(alloc, with_files(alloc, command)?)?)
+}
+
+/// Adds the arguments that name modules.
+fn with_files<'a>(alloc: Global, command: Command<'a>) -> Result<Command<'a>, AllocError> {
     let input = Arg::new(alloc, "input")
         .value_name("FILE")
         .help("The module; standard input where it is - or isn't named");
-    let output = Arg::new(alloc, "output")
+    let other = Arg::new(alloc, "other")
+        .value_name("OTHER")
+        .help("With --diff, the other module")
+        .requires_arg("diff")?;
+    command.arg(input)?.arg(other)
+}
+
+/// Adds the arguments about what is written.
+fn with_writing<'a>(alloc: Global, command: Command<'a>) -> Result<Command<'a>, AllocError> {
+    let force = flag(alloc, "force", "Write bytes to a terminal too");
+    let strip = flag(
+        alloc,
+        "strip-offsets",
+        "Leave out custom sections that keep offsets, such as debug information",
+    );
+    let command = command.arg(output(alloc)?)?.arg(force)?;
+    command.arg(strip.conflicts_with(QUESTION)?)
+}
+
+fn output<'a>(alloc: Global) -> Result<Arg<'a>, AllocError> {
+    Arg::new(alloc, "output")
         .short('o')
         .long("output")
         .value_name("FILE")
-        .help("Where the canonical form goes [default: standard output]");
-    let force = Arg::new(alloc, "force")
-        .long("force")
-        .action(ArgAction::SetTrue)
-        .help("Write bytes to a terminal too");
-    Command::new(alloc, "wasmcanon")
-        .version("0.1.0")
-        .about(ABOUT)
-        .after_help(EXAMPLES)
-        .arg(input)?
-        .arg(output)?
-        .arg(check_argument(alloc)?)?
-        .arg(force)
+        .help("Where the canonical form goes [default: standard output]")
+        .conflicts_with(QUESTION)
 }
 
-fn check_argument<'a>(alloc: Global) -> Result<Arg<'a>, AllocError> {
-    Arg::new(alloc, "check")
-        .long("check")
+/// Adds the arguments by which something is told and nothing is written.
+fn with_questions<'a>(alloc: Global, command: Command<'a>) -> Result<Command<'a>, AllocError> {
+    let check = "Write nothing, and tell whether the module is canonical";
+    let report = "Write how many bytes each section has, and how many in the canonical form";
+    let json = flag(alloc, "json", "Write the report as JSON");
+    let command = command.arg(question(alloc, "check", check)?)?;
+    let command = command.arg(question(alloc, "report", report)?)?;
+    command.arg(diff(alloc)?)?.arg(json.requires_arg("report")?)
+}
+
+fn diff<'a>(alloc: Global) -> Result<Arg<'a>, AllocError> {
+    let help = "Write nothing, and tell whether FILE and OTHER have the same canonical form";
+    question(alloc, "diff", help)?.requires_arg("other")
+}
+
+fn question<'a>(alloc: Global, name: &'a str, help: &'a str) -> Result<Arg<'a>, AllocError> {
+    flag(alloc, name, help).group(QUESTION)
+}
+
+fn flag<'a>(alloc: Global, name: &'a str, help: &'a str) -> Arg<'a> {
+    Arg::new(alloc, name)
+        .long(name)
         .action(ArgAction::SetTrue)
-        .help("Write nothing, and tell whether the module is canonical")
-        .conflicts_with("output")
+        .help(help)
 }

@@ -1,19 +1,16 @@
-use Rattle.std.proofs.Common.{◌≡◌, ◌∙◌, ℕ, Result, Err, ap, subst}
-use Rattle.wasm_codec.specs.Answers.{IsOrMemory, IfRefused}
+use Rattle.std.proofs.Common.{◌≡◌, ◌∙◌, ℕ, List, Result, Err, ap, subst}
+use Rattle.wasm_codec.specs.Answers.{IfRefused}
 use Rattle.wasm_codec.specs.declared.reader.ReadError.{ReadError}
 use Rattle.wasm_codec.specs.declared.reader.ReadError.TheVariants.{Refused}
-use Rattle.wasm_sections.specs.formats.ModuleSectionParts.{all_module_section_parts}
-use Rattle.wasm_sections.specs.formats.ModuleSections.{whole_module}
+use Rattle.wasm_sections.specs.ModuleSections.{ModuleSectionParts}
+use Rattle.wasm_sections.specs.formats.ModuleSections.{ShortestWholeModule}
 use Rattle.wasmcanon.proofs.run.judge.Goals as goal
 
 pub returns-in-Ok-clause-ok : goal.returns-in-Ok-clause-ok
 returns-in-Ok-clause-ok c =
-    let shortest = (c.read_whole_module_strict.ensures.shortest (all_module_section_parts c.in-Ok.field-0.items)).0 c.in-Ok.ensures.given in
-    record { value = all_module_section_parts c.in-Ok.field-0.items; encoded = shortest.0; is_shortest = shortest.1 }
-
--- what is refused isn't given
-not_given : {X V : Type 0} (view : X → V) (value : V) (at : ℕ) (result : Result X ReadError) → result ≡ Err (Refused at) → IsOrMemory view value result → ⊥
-not_given view value at result is given = subst (IsOrMemory view value) is given
+    let given = c.in-Ok.ensures.given in
+    let shortest = (c.check_whole_module.ensures.shortest given.0).0 given.1 in
+    record { value = given.0; encoded = shortest.0; is_shortest = shortest.1 }
 
 -- what holds at a refusal holds of its place
 holds_at : {X : Type 0} (P : ℕ → Type 0) (at : ℕ) (result : Result X ReadError) → result ≡ Err (Refused at) → IfRefused result P → P at
@@ -22,9 +19,9 @@ holds_at P at result is holds = subst (λ r. IfRefused r P) is holds
 pub returns-clause-ok : goal.returns-clause-ok
 returns-clause-ok c =
     let form = c.in_ok-canonical.ensures.ok in
-    let encoded = subst (λ bytes. whole_module.Encodes bytes form.value) c.in_ok-from_slice.ensures.items form.encoded in
-    let is = c.in-Err-Refused.is ∙ ap Err c.in-Err-Refused.field-0-is in (
-      (form.value, encoded),
-      λ same. not_given _ same.value _ _ is (c.read_whole_module_strict.ensures.complete same.value ((c.read_whole_module_strict.ensures.shortest same.value).1 (same.encoded, same.is_shortest))),
-      holds_at _ _ _ is c.read_whole_module_strict.ensures.prefix,
+    let is = c.in-Err-Refused.is ∙ ap Err c.in-Err-Refused.field-0-is in
+    let longer = holds_at (λ _. (sections : List ModuleSectionParts) → ShortestWholeModule c.args.input.now sections → ⊥) _ _ is c.check_whole_module.ensures.unencoded in (
+      (form.value, form.encoded),
+      λ same. longer same.value ((c.check_whole_module.ensures.shortest same.value).1 (same.encoded, same.is_shortest)),
+      holds_at _ _ _ is c.check_whole_module.ensures.prefix,
     )

@@ -1,0 +1,135 @@
+//! Sections as they lie in the bytes of a module, with what they are called.
+use std::alloc::{AllocError, Global};
+use std::fmt;
+use wasm_codec::reader::cursor::Cursor;
+use wasm_modules::reader::{after_header, read_section};
+use wasm_modules::section::RawSection;
+use wasm_sections::custom::read_custom_section;
+
+/// A kind of sections that the standard knows (Core 3.0, Modules).
+#[derive(Clone, Copy)]
+pub struct SectionKind {
+    /// What such a section is called.
+    pub name: &'static str,
+    /// What an item of it is called.
+    pub item: &'static str,
+}
+
+impl SectionKind {
+    /// The kind of the sections with this id.
+    pub fn of(id: u8) -> Option<SectionKind> {
+        let (name, item) = match id {
+            0 => ("custom", "byte"),
+            1 => ("type", "type"),
+            2 => ("import", "import"),
+            3 => ("function", "function"),
+            4 => ("table", "table"),
+            5 => ("memory", "memory"),
+            6 => ("global", "global"),
+            7 => ("export", "export"),
+            8 => ("start", "function"),
+            9 => ("element", "segment"),
+            10 => ("code", "function body"),
+            11 => ("data", "segment"),
+            12 => ("data count", "count"),
+            13 => ("tag", "tag"),
+            _ => return None,
+        };
+        Some(SectionKind { name, item })
+    }
+}
+
+/// The name of a section, where it is a custom one.
+pub fn custom_name<'a>(section: RawSection<'a>) -> Option<&'a str> {
+    if section.id != 0 {
+        return None;
+    }
+    match read_custom_section(section.body) {
+        Ok(custom) => Some(custom.name),
+        Err(_) => None,
+    }
+}
+
+/// A section, and where it lies in the bytes of a module.
+#[derive(Clone, Copy)]
+pub struct LocatedSection<'a> {
+    /// How many bytes come before it.
+    pub at: usize,
+    /// How many bytes it has, with its id and its size.
+    pub len: usize,
+    /// Its id and its body.
+    pub section: RawSection<'a>,
+}
+
+impl LocatedSection<'_> {
+    /// How many bytes of the module come before this place in the body.
+    pub fn offset_of(&self, place: usize) -> usize {
+        let header_len = self.len.saturating_sub(self.section.body.len());
+        self.at.saturating_add(header_len).saturating_add(place)
+    }
+}
+
+/// The sections of a module, up to the first that isn't there as a whole.
+pub fn locate_sections<'a>(
+    alloc: Global,
+    module: &'a [u8],
+) -> Result<Vec<LocatedSection<'a>>, AllocError> {
+    let mut sections = Vec::new(alloc);
+    let Some(rest) = after_header(module) else {
+        return Ok(sections);
+    };
+    let mut cursor = Cursor::new(rest);
+    for _ in 0..rest.len() {
+        let left = cursor.len();
+        let Ok(section) = read_section(&mut cursor) else {
+            break;
+        };
+        let located = LocatedSection {
+            at: module.len().saturating_sub(left),
+            len: left.saturating_sub(cursor.len()),
+            section,
+        };
+        sections.push(located)?;
+    }
+    Ok(sections)
+}
+
+/// What a section is called, in a line of text: its kind, and the name of a custom one.
+#[derive(Clone, Copy)]
+pub struct SectionTitle<'a>(pub RawSection<'a>);
+
+impl fmt::Display for SectionTitle<'_> {
+    fn fmt<W: fmt::Write>(&self, f: &mut fmt::Formatter<W>) -> fmt::Result {
+        match SectionKind::of(self.0.id) {
+            Some(kind) => write!(f, "{}", kind.name)?,
+            None => write!(f, "id {}", self.0.id)?,
+        }
+        match custom_name(self.0) {
+            Some(name) => write!(f, " \"{}\"", ShortName(name)),
+            None => Ok(()),
+        }
+    }
+}
+
+/// How many characters of a name are written.
+const SHORT_NAME_LEN: usize = 18;
+
+/// The beginning of a name, without characters that a terminal takes for something else.
+#[derive(Clone, Copy)]
+struct ShortName<'a>(&'a str);
+
+impl fmt::Display for ShortName<'_> {
+    fn fmt<W: fmt::Write>(&self, f: &mut fmt::Formatter<W>) -> fmt::Result {
+        for (index, character) in self.0.chars().enumerate() {
+            if index == SHORT_NAME_LEN {
+                return write!(f, "..");
+            }
+            if character.is_ascii_graphic() || character == ' ' {
+                write!(f, "{character}")?;
+            } else {
+                write!(f, "?")?;
+            }
+        }
+        Ok(())
+    }
+}
