@@ -6,6 +6,9 @@ use Rattle.wasm_sections.specs.formats.ModuleSectionParts.{ModuleSectionParts}
 use Rattle.wasm_sections.specs.formats.ModuleSections.{module_section, whole_module}
 use Rattle.wasm_codec.specs.formats.Combinators.{narrow}
 use Rattle.wasm_modules.specs.Modules.{IsModulePrefixOf}
+use Rattle.wasm_modules.specs.Sections.{SectionParts}
+use Rattle.wasm_modules.specs.formats.Modules.{raw_module}
+use Rattle.wasmcanon.specs.Offsets.{IsWithoutOffsets}
 use Rattle.wasmcanon.specs.declared.run.Verdict.{Verdict}
 use Rattle.wasmcanon.specs.declared.run.Verdict.TheVariants as verdicts
 use Rattle.wasmcanon.specs.declared.run.Failure.{Failure}
@@ -28,6 +31,14 @@ pub record AppendsCanonicalForm (input : List ℕ) (old new : Option (List ℕ))
   pub encoding : List ℕ
   pub canonical : IsCanonicalForm input encoding
   pub appended : Appends old new encoding
+
+-- The known contents of a writer grew by the sections of the canonical form of the input that don't keep offsets.
+pub record AppendsWithoutOffsets (input : List ℕ) (old new : Option (List ℕ)) : Type 0 where
+  pub encoding : List ℕ
+  pub canonical : IsCanonicalForm input encoding
+  pub left : List ℕ
+  pub without : (sections : List SectionParts) → raw_module.Encodes encoding sections → IsWithoutOffsets sections left
+  pub appended : Appends old new left
 
 -- what a verdict says of the input
 abbrev pub Judges : List ℕ → Verdict → Type 0

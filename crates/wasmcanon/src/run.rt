@@ -5,7 +5,7 @@ ghost use Rattle.wasm_codec.specs.Answers.{IsLongestPrefix};
 ghost use Rattle.wasm_codec.specs.formats.Combinators.{narrow};
 ghost use Rattle.wasm_modules.specs.Modules.{IsModulePrefixOf};
 ghost use Rattle.wasm_sections.specs.formats.ModuleSections.{module_section};
-ghost use Rattle.wasmcanon.specs.Run.{IsNoModule, IsCanonicalForm, AppendsCanonicalForm, IfRefused, OnceAllIsRead, BeforeAnyWrite, IsReadFailure, Judges, status_of};
+ghost use Rattle.wasmcanon.specs.Run.{IsNoModule, IsCanonicalForm, AppendsCanonicalForm, AppendsWithoutOffsets, IfRefused, OnceAllIsRead, BeforeAnyWrite, IsReadFailure, Judges, status_of};
 ghost use Rattle.wasmcanon.specs.declared.run.Failure.TheVariants.{Memory};
 
 use crate::offsets::{first_offset_name, without_offsets};
@@ -120,6 +120,9 @@ pub fn canonicalise_without_offsets<R: Read, W: Write>(
     reader: &mut R,
     writer: &mut W,
 ) -> Result<(), Failure>
+    // The sections of the canonical form of the input that don't keep offsets are written, and nothing else.
+    ensures ok { OnOk result (IfSome (R.remaining reader.old) (λ input.
+        AppendsWithoutOffsets input (W.contents writer.old) (W.contents writer.new))) }
     // All of the input is read before it is judged or a byte is written.
     ensures read_to_end { OnceAllIsRead result (IsAtEnd (R.remaining reader.new)) }
     // Only what is no module is refused.

@@ -1,4 +1,8 @@
 //! Sections as they lie in the bytes of a module, with what they are called.
+ghost use Rattle.std.specs.Prelude.{◌≡◌, ℕ, List, IfSome, IfNone};
+ghost use Rattle.wasm_modules.specs.Sections.{parts_of};
+ghost use Rattle.wasmcanon.specs.Offsets.{IsNameOf};
+
 use std::alloc::{AllocError, Global};
 use std::fmt;
 use wasm_codec::reader::cursor::Cursor;
@@ -40,7 +44,14 @@ impl SectionKind {
 }
 
 /// The name of a section, where it is a custom one.
-pub fn custom_name<'a>(section: RawSection<'a>) -> Option<&'a str> {
+pub fn custom_name<'a>(section: RawSection<'a>) -> Option<&'a str>
+    // It is a custom section of this name.
+    ensures found { IfSome result (λ name. IsNameOf (parts_of section.entry) name.now) }
+    // Otherwise it has no name.
+    ensures none { IfNone result ((name : List ℕ) → IsNameOf (parts_of section.entry) name → ⊥) }
+    // It has one name at most.
+    ensures one { (name other : List ℕ) → IsNameOf (parts_of section.entry) name → IsNameOf (parts_of section.entry) other → name ≡ other }
+{
     if section.id != 0 {
         return None;
     }

@@ -1,0 +1,91 @@
+-- The laws of sections that keep offsets, and of what is left without them.
+use Rattle.std.proofs.Common.{◌≡◌, ◌∙◌, ℕ, ◌+◌, ◌⊎◌, true, false, List, [], ◌∷◌, ◌++◌, length, take, drop, Option, Some, None, eqb, refl, sym, ap, subst, append_assoc}
+use Rattle.std.specs.Prelude.{MatchOption, IfSome, IfNone, IfOk, OnOk, Result, Ok, Err, is_some, is_err}
+use Rattle.std.proofs.lemmas.List.{take_at, take-append-drop, flat_map_more}
+use lib.Pointwise.{pointwise, bytes_decides}
+use Rattle.wasm_codec.specs.Answers.{IsOrMemory}
+use Rattle.wasm_codec.specs.Encoding.{byte_list_bytes}
+use Rattle.wasm_codec.specs.declared.reader.ReadError.{ReadError}
+use Rattle.wasm_codec.specs.declared.reader.ReadError.TheVariants.{Refused}
+use Rattle.wasm_modules.specs.Sections.{SectionParts, header}
+use Rattle.wasm_modules.specs.formats.Modules.{raw_module, raw_section}
+use Rattle.wasmcanon.specs.Offsets.{BeginsWith, IsOffsetName, IsNameOf, KeepsOffsets, Without, none, kept, dropped, IsWithoutOffsets}
+
+-- ---- the beginning of a name
+
+-- what is told of a beginning that was looked for
+abbrev pub Stripped : {X : Type 0} → (X → List ℕ) → List ℕ → List ℕ → Option X → Type 0
+Stripped now beginning name r = MatchOption r (pointwise eqb (take (length beginning) name) beginning ≡ false) (λ x. (pointwise eqb (take (length beginning) name) beginning ≡ true) × (now x ≡ drop (length beginning) name) × (length (now x) + length beginning ≡ length name))
+
+pub begins : {X : Type 0} (now : X → List ℕ) (beginning name : List ℕ) (r : Option X) → Stripped now beginning name r → is_some r ≡ true → BeginsWith beginning name
+begins now beginning name None h e = absurd cc
+begins now beginning name (Some x) h e = (drop (length beginning) name, sym (take-append-drop (length beginning) name) ∙ ap (λ (t : List ℕ). t ++ drop (length beginning) name) ((bytes_decides (take (length beginning) name) beginning).0 h.0))
+
+pub begins_not : {X : Type 0} (now : X → List ℕ) (beginning name : List ℕ) (r : Option X) → Stripped now beginning name r → is_some r ≡ false → BeginsWith beginning name → ⊥
+begins_not now beginning name (Some x) h e w = absurd cc
+begins_not now beginning name None h e w =
+    let prefix : take (length beginning) name ≡ beginning = ap (take (length beginning)) w.1 ∙ take_at beginning w.0 (length beginning) refl in
+    let there : pointwise eqb (take (length beginning) name) beginning ≡ true = (bytes_decides (take (length beginning) name) beginning).1 prefix in
+    absurd cc
+
+-- ---- what a reader answers
+
+-- what holds of a result that is given, told otherwise
+pub mapped : {X E : Type 0} {P Q : X → Type 0} (r : Result X E) → ((x : X) → P x → Q x) → IfOk r P → IfOk r Q
+mapped (Ok x) f h = f x h
+mapped (Err e) f h = tt
+
+pub some_holds : {X P : Type 0} (r : Option X) → is_some r ≡ true → IfSome r (λ x. P) → P
+some_holds (Some x) e h = h
+some_holds None e h = absurd cc
+
+pub none_holds : {X P : Type 0} (r : Option X) → is_some r ≡ false → IfNone r P → P
+none_holds (Some x) e h = absurd cc
+none_holds None e h = h
+
+pub ok_holds : {X E P : Type 0} (r : Result X E) → is_err r ≡ false → OnOk r P → P
+ok_holds (Ok x) e h = h
+ok_holds (Err x) e h = absurd cc
+
+pub given_is : {X V : Type 0} (view : X → V) (v : V) (r : Result X ReadError) (x : X) → r ≡ Ok x → IsOrMemory view v r → view x ≡ v
+given_is view v r x is h = subst (IsOrMemory view v) is h
+
+pub not_refused : {X V : Type 0} (view : X → V) (v : V) (r : Result X ReadError) (at : ℕ) → r ≡ Err (Refused at) → IsOrMemory view v r → ⊥
+not_refused view v r at is h = subst (IsOrMemory view v) is h
+
+-- ---- sections one after the other
+
+-- a section of one name, which isn't that of sections that keep offsets, keeps none
+pub not_kept : {X : Type 0} (section : SectionParts) (name : List ℕ) (r : Option X) → IsNameOf section name → ((one other : List ℕ) → IsNameOf section one → IsNameOf section other → one ≡ other) → IfNone r (IsOffsetName name → ⊥) → IfNone r (KeepsOffsets section → ⊥)
+not_kept section name None named one other_name = λ k. other_name (subst IsOffsetName (one k.name name k.named named) k.offsets)
+not_kept section name (Some x) named one other_name = tt
+
+more_kept : {sections left : List SectionParts} (s : SectionParts) → Without sections left → (KeepsOffsets s → ⊥) → Without (sections ++ s ∷ []) (left ++ s ∷ [])
+more_kept s none n = kept n none
+more_kept s (kept m w) n = kept m (more_kept s w n)
+more_kept s (dropped k w) n = dropped k (more_kept s w n)
+
+more_dropped : {sections left : List SectionParts} (s : SectionParts) → Without sections left → KeepsOffsets s → Without (sections ++ s ∷ []) left
+more_dropped s none k = dropped k none
+more_dropped s (kept m w) k = kept m (more_dropped s w k)
+more_dropped s (dropped j w) k = dropped j (more_dropped s w k)
+
+pub section_bytes : (s : SectionParts) → s.id ∷ byte_list_bytes s.body ≡ raw_section.bytes s
+unfolding raw_section
+section_bytes s = refl
+
+-- a section that keeps none was written too
+pub one_written : (sections next : List SectionParts) (s : SectionParts) (old new : List ℕ) → next ≡ sections ++ s ∷ [] → IsWithoutOffsets sections old → (KeepsOffsets s → ⊥) → new ≡ old ++ raw_section.bytes s → IsWithoutOffsets next new
+one_written sections next s old new is w n e = record {
+  left = w.left ++ s ∷ [];
+  chosen = subst (λ (l : List SectionParts). Without l (w.left ++ s ∷ [])) (sym is) (more_kept s w.chosen n);
+  written = e ∙ ap (λ (t : List ℕ). t ++ raw_section.bytes s) w.written ∙ flat_map_more raw_section.bytes header w.left s;
+}
+
+-- a section that keeps some was left out
+pub one_left_out : (sections next : List SectionParts) (s : SectionParts) (bytes : List ℕ) → next ≡ sections ++ s ∷ [] → IsWithoutOffsets sections bytes → KeepsOffsets s → IsWithoutOffsets next bytes
+one_left_out sections next s bytes is w k = record {
+  left = w.left;
+  chosen = subst (λ (l : List SectionParts). Without l w.left) (sym is) (more_dropped s w.chosen k);
+  written = w.written;
+}

@@ -1,0 +1,25 @@
+use Rattle.std.proofs.Common.{◌∙◌, ◌++◌, ℕ, List, [], sym, subst, ap, arith}
+use Rattle.std.proofs.lemmas.List.{map_more, take_all}
+use Rattle.wasm_modules.specs.Sections.{SectionParts, parts_of, all_parts_of}
+use Rattle.wasm_modules.specs.declared.section.RawSection.{RawSection}
+use Rattle.wasmcanon.specs.Offsets.{none, IsWithoutOffsets}
+use Rattle.wasmcanon.proofs.OffsetLaws.{some_holds, none_holds, ok_holds, section_bytes, one_written, one_left_out}
+use Rattle.wasmcanon.proofs.offsets.write_others.Goals as goal
+
+pub loop-section-init : goal.loop-section-init
+loop-section-init c = record { left = []; chosen = none; written = c.in_ok-left.ensures.items }
+
+pub loop-section-preserved-then-is_some : goal.loop-section-preserved-then-is_some
+loop-section-preserved-then-is_some c =
+    let more = map_more parts_of c.args.sections.now c.loop-section.section-index _ c.loop-section-test.true in
+    one_left_out _ _ _ _ more c.loop-section.invariant (some_holds _ (sym c.is_some.ensures ∙ c.if-is_some.true) c.offset_name_of.ensures.found)
+
+pub loop-section-preserved : goal.loop-section-preserved
+loop-section-preserved c =
+    let more = map_more parts_of c.args.sections.now c.loop-section.section-index _ c.loop-section-test.true in
+    let keeps_none = none_holds _ (sym c.is_some.ensures ∙ c.if-is_some.false) c.offset_name_of.ensures.none in
+    let written = ok_holds _ (sym c.is_err.ensures.value ∙ c.if-is_err.false) c.append_section.ensures.ok in
+    one_written _ _ _ _ _ more c.loop-section.invariant keeps_none (written ∙ ap (λ (t : List ℕ). c.loop-section.left.items ++ t) (section_bytes _))
+
+pub returns : goal.returns
+returns c = subst (λ (l : List RawSection). IsWithoutOffsets (all_parts_of l) c.loop-section.left.items) (take_all c.loop-section.section-index c.args.sections.now (omega arith)) c.loop-section.invariant
