@@ -1,8 +1,8 @@
-//! Vectors of the body of a section: which section it is of, its bytes, and `ok` with the normal form and how many items
-//! it has, or `refused` with the place.
+//! Vectors of the body of a section, or of a module: which section it is of, its bytes, and `ok` with the normal form and how
+//! many items it has, or `refused` with the place.
 
 use crate::bodies::{Answer, normalise, read, read_strictly};
-use crate::built::{build, check_module, check_refused_module, sized};
+use crate::modules::{check_module, check_order_of, module_of};
 use hex::FromHexError;
 use std::alloc::Global;
 use thiserror::Error;
@@ -26,51 +26,87 @@ pub enum Mismatch {
     /// The normal form is another, or the place of a refusal.
     #[error("the normaliser answers otherwise")]
     Normalised,
-    /// The builder writes other bytes of what the reader gives.
-    #[error("the builder writes otherwise")]
+    /// The builders write another module of what the reader gives.
+    #[error("the builders write otherwise")]
     Written,
-    /// A part of the body is taken, or refused elsewhere by the normaliser than by the reader.
-    #[error("a part of the body is answered otherwise")]
+    /// A part of the bytes is taken, or refused elsewhere by the normaliser than by the reader.
+    #[error("a part is answered otherwise")]
     Cut,
-    /// The module of that section is read or normalised otherwise.
-    #[error("the module is answered otherwise")]
-    Module,
+    /// Whether the sections come in order is answered otherwise.
+    #[error("the order is answered otherwise")]
+    Order,
 }
 
 impl From<FromHexError> for Mismatch {
-    fn from(_error: FromHexError) -> Mismatch {
-        Mismatch::NotUnderstood
+    fn from(error: FromHexError) -> Mismatch {
+        match error {
+            FromHexError::OutOfMemory => Mismatch::Memory,
+            _ => Mismatch::NotUnderstood,
+        }
     }
 }
 
-/// Holds the readers and the normaliser of a section to the vector of a line.
+/// Holds the readers, the normalisers and the builders to the vector of a line.
 pub fn check(alloc: Global, line: &str) -> Result<(), Mismatch> {
     let (section, rest) = line.split_once('\t').ok_or(Mismatch::NotUnderstood)?;
     let (body, answer) = rest.split_once('\t').ok_or(Mismatch::NotUnderstood)?;
     let body = hex::decode(alloc, body)?;
+    check_answer(alloc, section, body.as_slice(), answer)
+}
+
+/// The bytes are answered so.
+fn check_answer(alloc: Global, section: &str, body: &[u8], answer: &str) -> Result<(), Mismatch> {
+    if section == "order" {
+        return check_order_of(alloc, body, answer);
+    }
     match answer.split_once(' ') {
-        Some(("ok", expected)) => check_taken(alloc, section, body.as_slice(), expected),
-        Some(("refused", at)) => check_refused(alloc, section, body.as_slice(), at.parse().ok()),
+        Some(("ok", expected)) => check_taken(alloc, section, body, expected),
+        Some(("refused", at)) => check_refused(alloc, section, body, at.parse().ok()),
         _ => Err(Mismatch::NotUnderstood),
     }
 }
 
-/// The body holds so many items, and has this normal form, which is its own and alone is read strictly.
+/// The bytes are answered by this number of items and normal form.
 fn check_taken(alloc: Global, section: &str, body: &[u8], expected: &str) -> Result<(), Mismatch> {
     let (count, normal) = expected.split_once(' ').ok_or(Mismatch::NotUnderstood)?;
     let count: usize = count.parse().ok().ok_or(Mismatch::NotUnderstood)?;
     let normal = hex::decode(alloc, normal)?;
-    let normal = normal.as_slice();
+    if section == "module" {
+        return check_module(alloc, body, normal.as_slice(), count);
+    }
+    check_body(alloc, section, body, normal.as_slice(), count)
+}
+
+/// The body is answered so, each part of it is refused, and so is the module of that section answered.
+fn check_body(
+    alloc: Global,
+    section: &str,
+    body: &[u8],
+    normal: &[u8],
+    count: usize,
+) -> Result<(), Mismatch> {
+    check_given(alloc, section, body, normal, count)?;
+    check_cuts(alloc, section, body)?;
+    let module = module_of(alloc, section, body)?;
+    let expected = module_of(alloc, section, normal)?;
+    check_module(alloc, module.as_slice(), expected.as_slice(), 1)
+}
+
+/// The bytes hold so many items, and have this normal form, which is its own and alone is read strictly.
+pub fn check_given(
+    alloc: Global,
+    section: &str,
+    body: &[u8],
+    normal: &[u8],
+    count: usize,
+) -> Result<(), Mismatch> {
     if read(alloc, section, body)? != Answer::Given(count) {
         return Err(Mismatch::Read);
     }
     check_strict(alloc, section, body, count, body == normal)?;
     check_strict(alloc, section, normal, count, true)?;
     check_normal(alloc, section, body, normal)?;
-    check_normal(alloc, section, normal, normal)?;
-    check_built(alloc, section, body, normal)?;
-    check_cuts(alloc, section, body)?;
-    check_module(alloc, section, body, normal)
+    check_normal(alloc, section, normal, normal)
 }
 
 /// Each part of the body from its beginning is refused, but for a custom section, which may hold any bytes after its name.
@@ -84,29 +120,20 @@ fn check_cuts(alloc: Global, section: &str, body: &[u8]) -> Result<(), Mismatch>
     Ok(())
 }
 
-/// The reader and the normaliser refuse the part at the same place, and the strict reader no later.
-fn check_cut(alloc: Global, section: &str, cut: &[u8]) -> Result<(), Mismatch> {
+/// The place where the reader and the normaliser refuse the part. The strict reader refuses it no later.
+pub fn check_cut(alloc: Global, section: &str, cut: &[u8]) -> Result<usize, Mismatch> {
     let Answer::Refused(at) = read(alloc, section, cut)? else {
         return Err(Mismatch::Cut);
     };
     match normalise(alloc, section, cut) {
         Err(ReadError::Refused { at: place }) if place == at && at <= cut.len() => {}
+        Err(ReadError::Memory) => return Err(Mismatch::Memory),
         _ => return Err(Mismatch::Cut),
     }
     match read_strictly(alloc, section, cut)? {
-        Answer::Refused(place) if place <= at => Ok(()),
+        Answer::Refused(place) if place <= at => Ok(at),
         _ => Err(Mismatch::Cut),
     }
-}
-
-/// The builder writes this body of what the reader gives.
-fn check_built(alloc: Global, section: &str, body: &[u8], normal: &[u8]) -> Result<(), Mismatch> {
-    let expected = sized(alloc, normal)?;
-    let built = build(alloc, section, body)?;
-    if built.as_slice() != expected.as_slice() {
-        return Err(Mismatch::Written);
-    }
-    Ok(())
 }
 
 /// The strict reader gives so many items, or refuses the body.
@@ -128,11 +155,12 @@ fn check_strict(
 fn check_normal(alloc: Global, section: &str, body: &[u8], normal: &[u8]) -> Result<(), Mismatch> {
     match normalise(alloc, section, body) {
         Ok(written) if written.as_slice() == normal => Ok(()),
+        Err(ReadError::Memory) => Err(Mismatch::Memory),
         _ => Err(Mismatch::Normalised),
     }
 }
 
-/// The readers and the normaliser refuse the body, the wide ones at this place.
+/// The bytes are refused at this place, and the module of such a section after its header.
 fn check_refused(
     alloc: Global,
     section: &str,
@@ -140,6 +168,16 @@ fn check_refused(
     at: Option<usize>,
 ) -> Result<(), Mismatch> {
     let at = at.ok_or(Mismatch::NotUnderstood)?;
+    check_refusal(alloc, section, body, at)?;
+    if section == "module" {
+        return Ok(());
+    }
+    let module = module_of(alloc, section, body)?;
+    check_refusal(alloc, "module", module.as_slice(), 8)
+}
+
+/// The readers and the normaliser refuse the bytes, the wide ones at this place.
+fn check_refusal(alloc: Global, section: &str, body: &[u8], at: usize) -> Result<(), Mismatch> {
     if read(alloc, section, body)? != Answer::Refused(at) {
         return Err(Mismatch::Read);
     }
@@ -147,8 +185,8 @@ fn check_refused(
         return Err(Mismatch::ReadStrictly);
     }
     match normalise(alloc, section, body) {
-        Err(ReadError::Refused { at: place }) if place == at => {}
-        _ => return Err(Mismatch::Normalised),
+        Err(ReadError::Refused { at: place }) if place == at => Ok(()),
+        Err(ReadError::Memory) => Err(Mismatch::Memory),
+        _ => Err(Mismatch::Normalised),
     }
-    check_refused_module(alloc, section, body)
 }

@@ -1,4 +1,4 @@
-//! The readers and the normalisers of the bodies of sections, by the section's name.
+//! The readers and the normalisers of the bodies of sections, by the section's name, and those of modules.
 
 use crate::answers::Mismatch;
 use std::alloc::Global;
@@ -28,6 +28,7 @@ use wasm_sections::imports::{
 use wasm_sections::memories::{
     normalise_memory_section, read_memory_section, read_memory_section_strict,
 };
+use wasm_sections::modules::{normalise_whole_module, read_whole_module, read_whole_module_strict};
 use wasm_sections::start::{
     normalise_start_section, read_start_section, read_start_section_strict,
 };
@@ -78,6 +79,7 @@ pub fn read(alloc: Global, section: &str, body: &[u8]) -> Result<Answer, Mismatc
         "start" => one(read_start_section(body)),
         "data count" => one(read_data_count_section(body)),
         "custom" => one(read_custom_section(body)),
+        "module" => counted(read_whole_module(alloc, body)),
         _ => Err(Mismatch::NotUnderstood),
     }
 }
@@ -96,6 +98,7 @@ pub fn read_strictly(alloc: Global, section: &str, body: &[u8]) -> Result<Answer
         "tag" => counted(read_tag_section_strict(alloc, body)),
         "start" => one(read_start_section_strict(body)),
         "data count" => one(read_data_count_section_strict(body)),
+        "module" => counted(read_whole_module_strict(alloc, body)),
         _ => one(read_custom_section_strict(body)),
     }
 }
@@ -114,6 +117,7 @@ pub fn normalise(alloc: Global, section: &str, body: &[u8]) -> Result<Vec<u8>, R
         "tag" => normalise_tag_section(alloc, body),
         "start" => normalise_start_section(alloc, body),
         "data count" => normalise_data_count_section(alloc, body),
+        "module" => normalise_whole_module(alloc, body),
         _ => normalise_custom_section(alloc, body),
     }
 }

@@ -1,16 +1,17 @@
-//! Replays vectors of the bodies of sections, and of modules of one section: the lines of the files in `data/`. It prints a line for each vector that
-//! differs, and counts them.
+//! Replays vectors of the bodies of sections, and of modules: the lines of the files in `data/`. It prints a line for each
+//! vector that differs, and counts them.
 #![tactic(auto)]
 
 mod answers;
 mod bodies;
 mod built;
+mod modules;
 
 use std::rt::Files;
 use std::{fs, io};
 
 /// The files.
-const FILES: [&str; 2] = ["worked.tsv", "linked.tsv"];
+const FILES: [&str; 3] = ["worked.tsv", "worked_modules.tsv", "linked.tsv"];
 
 fn replay(rt: &(impl Files + Print + AllocGlobal), name: &str) -> io::Result<()> {
     let text = fs::read_to_string(rt, name)?;

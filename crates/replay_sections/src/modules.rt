@@ -1,0 +1,104 @@
+//! Modules: of one section, and of several; and whether their sections come in order.
+
+use crate::answers::{Mismatch, check_cut, check_given};
+use crate::bodies::{Answer, normalise, read};
+use crate::built::check_built;
+use std::alloc::Global;
+use wasm_codec::reader::ReadError;
+use wasm_modules::section::HEADER;
+use wasm_sections::modules::{check_order, read_whole_module};
+use wasm_writers::encode::encode_bytes;
+
+/// The id of a section.
+fn id_of(section: &str) -> u8 {
+    match section {
+        "import" => 2,
+        "function" => 3,
+        "table" => 4,
+        "memory" => 5,
+        "global" => 6,
+        "export" => 7,
+        "start" => 8,
+        "element" => 9,
+        "data" => 11,
+        "data count" => 12,
+        "tag" => 13,
+        _ => 0,
+    }
+}
+
+/// The module of one section.
+pub fn module_of(alloc: Global, section: &str, body: &[u8]) -> Result<Vec<u8>, Mismatch> {
+    let mut module = match Vec::from_slice(alloc, &HEADER) {
+        Ok(module) => module,
+        Err(_) => return Err(Mismatch::Memory),
+    };
+    let Ok(()) = module.extend_from_slice(&[id_of(section)]) else {
+        return Err(Mismatch::Memory);
+    };
+    match encode_bytes(body, &mut module) {
+        Ok(()) => Ok(module),
+        Err(_) => Err(Mismatch::Memory),
+    }
+}
+
+/// The module holds so many sections, and has this normal form, which the builders write; and so does each part of it.
+pub fn check_module(
+    alloc: Global,
+    module: &[u8],
+    normal: &[u8],
+    count: usize,
+) -> Result<(), Mismatch> {
+    check_given(alloc, "module", module, normal, count)?;
+    check_parts(alloc, module, normal, count)?;
+    check_built(alloc, module, normal)
+}
+
+/// Each part of the module from its beginning is the module of its first sections, or is refused where the last whole one
+/// ends.
+fn check_parts(alloc: Global, module: &[u8], normal: &[u8], count: usize) -> Result<(), Mismatch> {
+    let mut whole = 0;
+    let mut sections: usize = 0;
+    for len in 0..module.len() {
+        let part = &module[..len];
+        if read(alloc, "module", part)? == Answer::Given(sections) {
+            check_beginning(alloc, part, normal)?;
+            whole = len;
+            sections = sections.saturating_add(1);
+        } else if check_cut(alloc, "module", part)? != whole {
+            return Err(Mismatch::Cut);
+        }
+    }
+    if sections == count {
+        Ok(())
+    } else {
+        Err(Mismatch::Cut)
+    }
+}
+
+/// The normal form of a module's first sections is the beginning of that of the module.
+fn check_beginning(alloc: Global, part: &[u8], normal: &[u8]) -> Result<(), Mismatch> {
+    match normalise(alloc, "module", part) {
+        Ok(written) if normal.starts_with(written.as_slice()) => Ok(()),
+        Err(ReadError::Memory) => Err(Mismatch::Memory),
+        _ => Err(Mismatch::Cut),
+    }
+}
+
+/// What `check_order` answers of the module's sections is this text.
+pub fn check_order_of(alloc: Global, module: &[u8], answer: &str) -> Result<(), Mismatch> {
+    let sections = match read_whole_module(alloc, module) {
+        Ok(sections) => sections,
+        Err(ReadError::Memory) => return Err(Mismatch::Memory),
+        Err(_) => return Err(Mismatch::Read),
+    };
+    let told = match check_order(sections.as_slice()) {
+        Ok(()) => format!(in alloc; "ok"),
+        Err(why) => format!(in alloc; "{why}"),
+    };
+    match told {
+        Ok(told) if told.as_str() == answer => Ok(()),
+        Ok(_) => Err(Mismatch::Order),
+        Err(_) => Err(Mismatch::Memory),
+    }
+}
