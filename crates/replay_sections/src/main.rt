@@ -11,7 +11,14 @@ use std::rt::Files;
 use std::{fs, io};
 
 /// The files.
-const FILES: [&str; 3] = ["worked.tsv", "worked_modules.tsv", "linked.tsv"];
+const FILES: [&str; 6] = [
+    "worked.tsv",
+    "worked_modules.tsv",
+    "linked.tsv",
+    "every_section.tsv",
+    "passive_elements.tsv",
+    "try_table.tsv",
+];
 
 fn replay(rt: &(impl Files + Print + AllocGlobal), name: &str) -> io::Result<()> {
     let text = fs::read_to_string(rt, name)?;
