@@ -17,7 +17,8 @@ use exports::{ExportSection, FunctionExport};
 use read::ReadExport;
 use std::io;
 use wasm_encoder::{
-    CodeSection, Function, SectionId, TypeSection, ValType, first_body, read_module,
+    CodeSection, Function, FunctionSection, SectionId, TypeSection, ValType, first_body,
+    read_module,
 };
 
 fn main(rt: HostRuntime) -> Result<()> {
@@ -26,6 +27,8 @@ fn main(rt: HostRuntime) -> Result<()> {
     types
         .ty()
         .function(none.iter().copied(), none.iter().copied())?;
+    let mut functions = FunctionSection::new(rt.alloc());
+    functions.function(0)?;
     let mut function = Function::new(rt.alloc(), [].iter().copied())?;
     function.instructions().end()?;
     let mut code = CodeSection::new(rt.alloc());
@@ -44,7 +47,7 @@ fn main(rt: HostRuntime) -> Result<()> {
         exports: &names,
         alloc: rt.alloc(),
     };
-    let module = module::module_of(rt.alloc(), &types, &exports, &code)?;
+    let module = module::module_of(rt.alloc(), &types, &functions, &exports, &code)?;
     print_hex(&rt, module.as_slice())?;
     let sections = read_module(rt.alloc(), module.as_slice())?;
     if let Some(body) = first_body(&sections, SectionId::Export.into()) {

@@ -1,4 +1,4 @@
-//! A module of one function that is exported.
+//! A module with a section of the caller's own.
 ghost use Rattle.std.specs.Prelude.{◌≡◌, ◌∷◌, [], IfOk};
 ghost use Rattle.wasm_encoder.specs.ModuleFormats.{raw_module};
 ghost use Rattle.wasm_encoder.specs.Sections.{section_of};
@@ -7,28 +7,26 @@ ghost use Rattle.example_sections.specs.Exports.{body_of};
 
 use crate::exports::ExportSection;
 use std::alloc::Global;
-use wasm_encoder::{CodeSection, EncodeError, Module, RawSection, SectionId, TypeSection};
+use wasm_encoder::{CodeSection, EncodeError, FunctionSection, Module, TypeSection};
 
-/// A module of these sections, with one function of type 0.
+/// A module of these sections.
 pub fn module_of(
     alloc: Global,
     types: &TypeSection,
+    functions: &FunctionSection,
     exports: &ExportSection,
     code: &CodeSection,
 ) -> Result<Module, EncodeError>
     // Its bytes are those of four sections: each an id and a body after its size.
     ensures { IfOk result (λ made. made ≡ raw_module.bytes (
         section_of (1, body_bytes types.now) ∷
-        section_of (3, 0x01 ∷ 0x00 ∷ []) ∷
+        section_of (3, body_bytes functions.now) ∷
         section_of (7, body_of exports.now.exports.now) ∷
         section_of (10, body_bytes code.now) ∷ [])) }
 {
     let mut module = Module::new(alloc)?;
     module.section(types)?;
-    module.section(&RawSection {
-        id: SectionId::Function.into(),
-        body: &[0x01, 0x00],
-    })?;
+    module.section(functions)?;
     module.section(exports)?;
     module.section(code)?;
     Ok(module)
