@@ -1,9 +1,9 @@
 -- Where the body of a section stops to be whole (WebAssembly Core 3.0, Lists).
 use Rattle.std.specs.Prelude.{◌≡◌, ◌+◌, ◌≤◌, ◌⊎◌, ℕ, List, ◌++◌, length}
 use Rattle.wasm_codec.specs.Answers.{IsLongestPrefix}
-use Rattle.wasm_codec.specs.Grammar.{Grammar, Joined}
+use Rattle.wasm_codec.specs.formats.Grammar.{Grammar, Joined}
 use Rattle.wasm_codec.specs.Lists.{EncodesList, IsListPrefix}
-use Rattle.wasm_codec.specs.Numbers.{EncodesU32}
+use Rattle.wasm_codec.specs.formats.Numbers.{EncodesU32}
 use Rattle.wasm_codec.specs.formats.Combinators.{Format, u32}
 use Rattle.wasm_modules.specs.formats.CodeBodies.{code_body}
 use Rattle.wasm_sections.specs.formats.Elements.{element_segment}

@@ -6,7 +6,7 @@ ghost use Rattle.wasm_codec.specs.Encoding.{IsShortestOrLonger};
 ghost use Rattle.wasm_codec.specs.formats.Combinators.{narrow};
 ghost use Rattle.wasm_modules.specs.Modules.{IsModulePrefixOf};
 ghost use Rattle.wasm_modules.specs.formats.Modules.{module_of};
-ghost use Rattle.wasm_sections.specs.ModuleSections.{ModuleSectionParts, all_module_section_parts};
+ghost use Rattle.wasm_sections.specs.formats.ModuleSectionParts.{ModuleSectionParts, all_module_section_parts};
 ghost use Rattle.wasm_sections.specs.formats.ModuleSections.{module_section, whole_module, ShortestWholeModule};
 
 mod order;

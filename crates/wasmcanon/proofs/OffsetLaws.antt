@@ -7,7 +7,7 @@ use Rattle.wasm_codec.specs.Answers.{IsOrMemory}
 use Rattle.wasm_codec.specs.Encoding.{byte_list_bytes}
 use Rattle.wasm_codec.specs.declared.reader.ReadError.{ReadError}
 use Rattle.wasm_codec.specs.declared.reader.ReadError.TheVariants.{Refused}
-use Rattle.wasm_modules.specs.Sections.{SectionParts, header}
+use Rattle.wasm_modules.specs.formats.Sections.{SectionParts, header}
 use Rattle.wasm_modules.specs.formats.Modules.{raw_module, raw_section}
 use Rattle.wasmcanon.specs.Offsets.{BeginsWith, IsOffsetName, IsNameOf, KeepsOffsets, Without, none, kept, dropped, IsWithoutOffsets}
 

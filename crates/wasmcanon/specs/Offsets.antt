@@ -1,8 +1,8 @@
 -- Modules without the custom sections that keep offsets.
 use Rattle.std.specs.Prelude.{◌≡◌, ◌⊎◌, ℕ, List, [], ◌∷◌, ◌++◌, codes}
-use Rattle.wasm_modules.specs.Sections.{SectionParts}
+use Rattle.wasm_modules.specs.formats.Sections.{SectionParts}
 use Rattle.wasm_modules.specs.formats.Modules.{raw_module}
-use Rattle.wasm_sections.specs.Entries.{CustomParts}
+use Rattle.wasm_sections.specs.formats.EntryParts.{CustomParts}
 use Rattle.wasm_sections.specs.formats.Sections.{custom_body}
 
 abbrev pub BeginsWith : List ℕ → List ℕ → Type 0

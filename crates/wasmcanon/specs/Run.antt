@@ -6,7 +6,7 @@ use Rattle.wasm_sections.specs.formats.ModuleSectionParts.{ModuleSectionParts}
 use Rattle.wasm_sections.specs.formats.ModuleSections.{module_section, whole_module}
 use Rattle.wasm_codec.specs.formats.Combinators.{narrow}
 use Rattle.wasm_modules.specs.Modules.{IsModulePrefixOf}
-use Rattle.wasm_modules.specs.Sections.{SectionParts}
+use Rattle.wasm_modules.specs.formats.Sections.{SectionParts}
 use Rattle.wasm_modules.specs.formats.Modules.{raw_module}
 use Rattle.wasmcanon.specs.Offsets.{IsWithoutOffsets}
 use Rattle.wasmcanon.specs.declared.run.Verdict.{Verdict}

@@ -1,6 +1,6 @@
 //! Custom sections that keep offsets into the module: these point elsewhere once bytes have moved.
 ghost use Rattle.std.specs.Prelude.{◌≡◌, List, true, false, IfOk, IfSome, IfNone};
-ghost use Rattle.wasm_modules.specs.Sections.{SectionParts, parts_of, all_parts_of};
+ghost use Rattle.wasm_modules.specs.formats.Sections.{SectionParts, parts_of, all_parts_of};
 ghost use Rattle.wasm_modules.specs.formats.Modules.{raw_module};
 ghost use Rattle.wasmcanon.specs.Offsets.{BeginsWith, IsOffsetName, KeepsOffsets, IsWithoutOffsets};
 

@@ -1,6 +1,6 @@
 //! Sections as they lie in the bytes of a module, with what they are called.
 ghost use Rattle.std.specs.Prelude.{◌≡◌, ℕ, List, IfSome, IfNone};
-ghost use Rattle.wasm_modules.specs.Sections.{parts_of};
+ghost use Rattle.wasm_modules.specs.formats.Sections.{parts_of};
 ghost use Rattle.wasmcanon.specs.Offsets.{IsNameOf};
 
 use std::alloc::{AllocError, Global};

@@ -1,4 +1,4 @@
-use Rattle.wasm_modules.specs.Sections.{parts_of}
+use Rattle.wasm_modules.specs.formats.Sections.{parts_of}
 use Rattle.wasmcanon.proofs.OffsetLaws.{not_kept}
 use Rattle.wasmcanon.proofs.offsets.offset_name_of.Goals as goal
 

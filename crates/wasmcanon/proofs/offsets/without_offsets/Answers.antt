@@ -3,7 +3,7 @@ use Rattle.std.specs.Prelude.{IfOk}
 use Rattle.wasm_codec.specs.Answers.{IsOrMemory}
 use Rattle.wasm_codec.specs.declared.reader.ReadError.{ReadError}
 use Rattle.wasm_codec.specs.declared.reader.ReadError.TheVariants.{Refused}
-use Rattle.wasm_modules.specs.Sections.{SectionParts, all_parts_of}
+use Rattle.wasm_modules.specs.formats.Sections.{SectionParts, all_parts_of}
 use Rattle.wasm_modules.specs.declared.section.RawSection.{RawSection}
 use Rattle.wasmcanon.specs.Offsets.{IsWithoutOffsets}
 use Rattle.wasmcanon.proofs.OffsetLaws.{mapped, given_is, not_refused}

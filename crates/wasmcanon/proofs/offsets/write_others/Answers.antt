@@ -1,6 +1,6 @@
 use Rattle.std.proofs.Common.{◌∙◌, ◌++◌, ℕ, List, [], sym, subst, ap, arith}
 use Rattle.std.proofs.lemmas.List.{map_more, take_all}
-use Rattle.wasm_modules.specs.Sections.{SectionParts, parts_of, all_parts_of}
+use Rattle.wasm_modules.specs.formats.Sections.{SectionParts, parts_of, all_parts_of}
 use Rattle.wasm_modules.specs.declared.section.RawSection.{RawSection}
 use Rattle.wasmcanon.specs.Offsets.{none, IsWithoutOffsets}
 use Rattle.wasmcanon.proofs.OffsetLaws.{some_holds, none_holds, ok_holds, section_bytes, one_written, one_left_out}

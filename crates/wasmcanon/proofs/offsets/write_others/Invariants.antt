@@ -1,5 +1,5 @@
 use Rattle.std.proofs.Common.{take}
-use Rattle.wasm_modules.specs.Sections.{all_parts_of}
+use Rattle.wasm_modules.specs.formats.Sections.{all_parts_of}
 use Rattle.wasmcanon.specs.Offsets.{IsWithoutOffsets}
 use Rattle.wasmcanon.proofs.offsets.write_others.Given as goal
 

@@ -1,5 +1,5 @@
 use Rattle.std.proofs.Common.{◌≡◌, ℕ, ◌-◌, length, ap, subst, arith}
-use Rattle.wasm_codec.specs.Grammar.{IsBytes}
+use Rattle.wasm_codec.specs.formats.Grammar.{IsBytes}
 use Rattle.wasm_codec.specs.Rewriter.{Rewriting}
 use Rattle.wasm_codec.proofs.ListRewriting.{list_begun, list_more, no_count_there, no_item_there, left_over, list_given}
 use Rattle.wasm_sections.specs.Stops.{StopsAtItem}
