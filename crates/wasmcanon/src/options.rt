@@ -118,26 +118,28 @@ pub fn command<'a>(alloc: Global) -> Result<Command<'a>, AllocError> {
 
 /// Adds the arguments that name modules.
 fn with_files<'a>(alloc: Global, command: Command<'a>) -> Result<Command<'a>, AllocError> {
-    let input = Arg::new(alloc, "input")
+    let command = command.arg(input(alloc))?;
+    command.arg(other(alloc)?)
+}
+
+fn input<'a>(alloc: Global) -> Arg<'a> {
+    Arg::new(alloc, "input")
         .value_name("FILE")
-        .help("The module; standard input where it is - or isn't named");
-    let other = Arg::new(alloc, "other")
+        .help("The module; standard input where it is - or isn't named")
+}
+
+fn other<'a>(alloc: Global) -> Result<Arg<'a>, AllocError> {
+    Arg::new(alloc, "other")
         .value_name("OTHER")
         .help("With --diff, the other module")
-        .requires_arg("diff")?;
-    command.arg(input)?.arg(other)
+        .requires_arg("diff")
 }
 
 /// Adds the arguments about what is written.
 fn with_writing<'a>(alloc: Global, command: Command<'a>) -> Result<Command<'a>, AllocError> {
-    let force = flag(alloc, "force", "Write bytes to a terminal too");
-    let strip = flag(
-        alloc,
-        "strip-offsets",
-        "Leave out custom sections that keep offsets, such as debug information",
-    );
-    let command = command.arg(output(alloc)?)?.arg(force)?;
-    command.arg(strip.conflicts_with(QUESTION)?)
+    let command = command.arg(output(alloc)?)?;
+    let command = command.arg(flag(alloc, "force", "Write bytes to a terminal too"))?;
+    command.arg(strip_offsets(alloc)?)
 }
 
 fn output<'a>(alloc: Global) -> Result<Arg<'a>, AllocError> {
@@ -149,19 +151,36 @@ fn output<'a>(alloc: Global) -> Result<Arg<'a>, AllocError> {
         .conflicts_with(QUESTION)
 }
 
+fn strip_offsets<'a>(alloc: Global) -> Result<Arg<'a>, AllocError> {
+    let help = "Leave out custom sections that keep offsets, such as debug information";
+    flag(alloc, "strip-offsets", help).conflicts_with(QUESTION)
+}
+
 /// Adds the arguments by which something is told and nothing is written.
 fn with_questions<'a>(alloc: Global, command: Command<'a>) -> Result<Command<'a>, AllocError> {
-    let check = "Write nothing, and tell whether the module is canonical";
-    let report = "Write how many bytes each section has, and how many in the canonical form";
-    let json = flag(alloc, "json", "Write the report as JSON");
-    let command = command.arg(question(alloc, "check", check)?)?;
-    let command = command.arg(question(alloc, "report", report)?)?;
-    command.arg(diff(alloc)?)?.arg(json.requires_arg("report")?)
+    let command = command.arg(check(alloc)?)?;
+    let command = command.arg(report(alloc)?)?;
+    let command = command.arg(diff(alloc)?)?;
+    command.arg(json(alloc)?)
+}
+
+fn check<'a>(alloc: Global) -> Result<Arg<'a>, AllocError> {
+    let help = "Write nothing, and tell whether the module is canonical";
+    question(alloc, "check", help)
+}
+
+fn report<'a>(alloc: Global) -> Result<Arg<'a>, AllocError> {
+    let help = "Write how many bytes each section has, and how many in the canonical form";
+    question(alloc, "report", help)
 }
 
 fn diff<'a>(alloc: Global) -> Result<Arg<'a>, AllocError> {
     let help = "Write nothing, and tell whether FILE and OTHER have the same canonical form";
     question(alloc, "diff", help)?.requires_arg("other")
+}
+
+fn json<'a>(alloc: Global) -> Result<Arg<'a>, AllocError> {
+    flag(alloc, "json", "Write the report as JSON").requires_arg("report")
 }
 
 fn question<'a>(alloc: Global, name: &'a str, help: &'a str) -> Result<Arg<'a>, AllocError> {
