@@ -54,6 +54,13 @@ uint32_t nosgrivel_normalise_instructions_in_place(uint8_t *bytes, size_t len, s
 uint32_t nosgrivel_normalise_type_section_in_place(uint8_t *bytes, size_t len, size_t *count);
 uint32_t nosgrivel_normalise_code_section_in_place(uint8_t *bytes, size_t len, size_t *count);
 
+/* Write the canonical form of a module: every number, size, type, index and limit of every section in the fewest bytes.
+ * Two modules have the same canonical form exactly if their sections hold the same. REFUSED where a section of any kind
+ * can't be decoded; the order of sections isn't looked at. Else as nosgrivel_normalise_module and …_in_place. */
+uint32_t nosgrivel_canonicalise(
+    const uint8_t *input, size_t input_len, uint8_t *output, size_t output_len, size_t *count);
+uint32_t nosgrivel_canonicalise_in_place(uint8_t *bytes, size_t len, size_t *count);
+
 /* Whether the input is its own normal form (NORMAL) or has a shorter one (NOT_NORMAL), and how long that is. What is
  * REFUSED has none. */
 uint32_t nosgrivel_judge_module(const uint8_t *input, size_t input_len, size_t *count);

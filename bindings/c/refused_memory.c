@@ -34,7 +34,8 @@ typedef uint32_t normalise(const uint8_t *, size_t, uint8_t *, size_t, size_t *)
 typedef uint32_t in_place(uint8_t *, size_t, size_t *);
 typedef uint32_t question(const uint8_t *, size_t, size_t *);
 
-/* An input, its normal form, how far its bytes are whole and shortest, and the calls of its kind. */
+/* An input, its normal form, how far its bytes are whole and shortest, and the calls of its kind, the last two of which
+ * there may not be. */
 struct row {
     const char *name;
     const uint8_t *input, *normal;
@@ -128,6 +129,14 @@ static const uint8_t module_normal[] = {
     0x0A, 0x06, 0x01, 0x04, 0x00, 0x20, 0x01, 0x0B,
     0x00, 0x01, 0x00};
 
+/* A memory section with padded numbers, the same in the fewest bytes. */
+static const uint8_t canonical_input[] = {
+    0x00, 0x61, 0x73, 0x6D, 0x01, 0x00, 0x00, 0x00,
+    0x05, 0x85, 0x00, 0x81, 0x00, 0x00, 0x81, 0x00};
+static const uint8_t canonical_normal[] = {
+    0x00, 0x61, 0x73, 0x6D, 0x01, 0x00, 0x00, 0x00,
+    0x05, 0x03, 0x01, 0x00, 0x01};
+
 /* nop, local.get 66, end */
 static const uint8_t instructions_input[] = {0x01, 0x20, 0xC2, 0x80, 0x00, 0x0B};
 static const uint8_t instructions_normal[] = {0x01, 0x20, 0x42, 0x0B};
@@ -146,9 +155,11 @@ static const uint8_t code_section_normal[] = {0x02, 0x02, 0x00, 0x0B, 0x04, 0x00
 
 int main(void) {
     static const struct row rows[] = {
-        ROW(module, 11), ROW(instructions, 1), ROW(type_section, 4), ROW(code_section, 4)};
+        ROW(module, 11), ROW(instructions, 1), ROW(type_section, 4), ROW(code_section, 4),
+        {"canonical forms", canonical_input, canonical_normal, sizeof canonical_input, sizeof canonical_normal, 0,
+         nosgrivel_canonicalise, nosgrivel_canonicalise_in_place, NULL, NULL}};
     for (size_t i = 0; i < sizeof rows / sizeof *rows; i++) {
-        for (int call = 0; call < 4; call++) sweep(&rows[i], call);
+        for (int call = 0; call < (rows[i].judge ? 4 : 2); call++) sweep(&rows[i], call);
         short_outputs(&rows[i]);
     }
     printf("%d calls swept, %d faults\n", swept, faults);

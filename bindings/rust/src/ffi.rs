@@ -37,6 +37,8 @@ extern "C" {
         count: *mut usize,
     ) -> u32;
 
+    pub fn nosgrivel_canonicalise_in_place(bytes: *mut u8, len: usize, count: *mut usize) -> u32;
+
     pub fn nosgrivel_judge_module(input: *const u8, len: usize, count: *mut usize) -> u32;
     pub fn nosgrivel_judge_instructions(input: *const u8, len: usize, count: *mut usize) -> u32;
     pub fn nosgrivel_judge_type_section(input: *const u8, len: usize, count: *mut usize) -> u32;

@@ -72,6 +72,36 @@ pub fn normalise_module(module: &[u8]) -> Result<Vec<u8>, Error> {
     normalised(ffi::nosgrivel_normalise_module_in_place, module)
 }
 
+/// The canonical form of a module: every number, size, type, index and limit of every section in the fewest bytes.
+///
+/// Two modules have the same canonical form exactly if their sections hold the same. The order of sections isn't looked at.
+///
+/// ```
+/// let header = *b"\0asm\x01\0\0\0";
+/// // A memory section: one memory of at least one page, the number in two bytes.
+/// let module = [&header[..], &[0x05, 0x04, 0x01, 0x00, 0x81, 0x00]].concat();
+/// let canonical = [&header[..], &[0x05, 0x03, 0x01, 0x00, 0x01]].concat();
+/// assert_eq!(nosgrivel::canonicalise(&module)?, canonical);
+/// # Ok::<(), nosgrivel::Error>(())
+/// ```
+///
+/// # Errors
+///
+/// [`Error::Refused`] with the number of bytes of the header and of the sections that are whole before the first that
+/// isn't, or 0 where the header isn't there. A section of any kind whose body can't be decoded isn't whole.
+pub fn canonicalise(module: &[u8]) -> Result<Vec<u8>, Error> {
+    normalised(ffi::nosgrivel_canonicalise_in_place, module)
+}
+
+/// Puts a module into its canonical form, in its own memory. After an error it is as it was.
+///
+/// # Errors
+///
+/// As for [`canonicalise`].
+pub fn canonicalise_in_place(module: &mut Vec<u8>) -> Result<(), Error> {
+    in_place(ffi::nosgrivel_canonicalise_in_place, module)
+}
+
 /// The normal form of a list of instructions.
 ///
 /// ```

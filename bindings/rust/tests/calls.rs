@@ -20,6 +20,34 @@ fn no_bytes() {
     assert_eq!(check_instructions(&[]), Ok(()));
     assert_eq!(normalise_module(&[]), Err(Error::Refused { at: 0 }));
     assert_eq!(check_code_section(&[]), Err(Error::Refused { at: 0 }));
+    assert_eq!(canonicalise(&[]), Err(Error::Refused { at: 0 }));
+}
+
+/// A module with a global whose constant has two bytes more than it needs, and one whose export section ends too soon.
+#[test]
+fn canonical_forms() {
+    let header = b"\0asm\x01\0\0\0";
+    let longer = [
+        &header[..],
+        &[0x06, 0x08, 0x01, 0x7F, 0x00, 0x41, 0x80, 0x80, 0x00, 0x0B],
+    ]
+    .concat();
+    let shortest = [
+        &header[..],
+        &[0x06, 0x06, 0x01, 0x7F, 0x00, 0x41, 0x00, 0x0B],
+    ]
+    .concat();
+    assert_eq!(normalise_module(&longer).as_ref(), Ok(&longer));
+    assert_eq!(canonicalise(&longer).as_ref(), Ok(&shortest));
+    let mut bytes = longer.clone();
+    assert_eq!(canonicalise_in_place(&mut bytes), Ok(()));
+    assert_eq!(bytes, shortest);
+    let mut cut = [&header[..], &[0x07, 0x01, 0x01]].concat();
+    assert_eq!(
+        canonicalise_in_place(&mut cut),
+        Err(Error::Refused { at: 8 })
+    );
+    assert_eq!(cut, [&header[..], &[0x07, 0x01, 0x01]].concat());
 }
 
 #[test]
