@@ -14,8 +14,6 @@ mod places;
 mod report;
 mod run;
 mod sections;
-#[cfg(test)]
-mod tests;
 
 use clap::error::ErrorKind;
 use diff::find_difference;
