@@ -1,26 +1,9 @@
-//! Calls with lists: cloned, read, in normal form.
+//! Calls with lists, cloned.
 
-use super::{call, is_cloned, read_again};
+use super::{call, is_cloned};
 use std::alloc::Global;
 use std::test::Fail;
-use wasm_encoder::{
-    BlockType, Call, Catch, EncodeError, Handle, Items, Operands, ReadError, ValType,
-    normalise_instructions, read_instructions,
-};
-
-/// `br_table`, `select`, `try_table`, `resume` and `resume_throw`, their counts in more bytes than are needed.
-const CODE: [u8; 40] = [
-    0x0e, 0x82, 0x00, 0x01, 0x02, 0x03, 0x1c, 0x82, 0x00, 0x7f, 0x7e, 0x1f, 0x40, 0x82, 0x00, 0x00,
-    0x01, 0x00, 0x03, 0x02, 0xe3, 0x03, 0x82, 0x00, 0x00, 0x00, 0x01, 0x01, 0x02, 0xe4, 0x03, 0x04,
-    0x82, 0x00, 0x00, 0x00, 0x01, 0x01, 0x02, 0x0b,
-];
-
-/// The same in the fewest bytes.
-const NORMAL: [u8; 35] = [
-    0x0e, 0x02, 0x01, 0x02, 0x03, 0x1c, 0x02, 0x7f, 0x7e, 0x1f, 0x40, 0x02, 0x00, 0x01, 0x00, 0x03,
-    0x02, 0xe3, 0x03, 0x02, 0x00, 0x00, 0x01, 0x01, 0x02, 0xe4, 0x03, 0x04, 0x02, 0x00, 0x00, 0x01,
-    0x01, 0x02, 0x0b,
-];
+use wasm_encoder::{BlockType, Call, Catch, EncodeError, Handle, Items, Operands, ValType};
 
 /// A list of these items, though the first request for memory be refused.
 fn items<T: Copy>(alloc: Global, items: &[T]) -> Result<Items<T>, EncodeError> {
@@ -30,7 +13,7 @@ fn items<T: Copy>(alloc: Global, items: &[T]) -> Result<Items<T>, EncodeError> {
     }
 }
 
-/// The first calls of `CODE`.
+/// `br_table`, `select` and `try_table`.
 fn branches(alloc: Global) -> Result<[Call; 3], Fail> {
     let clauses = [Catch::One { tag: 1, label: 0 }, Catch::AllRef { label: 2 }];
     let labels = items(alloc, &[1, 2])?;
@@ -43,7 +26,7 @@ fn branches(alloc: Global) -> Result<[Call; 3], Fail> {
     ])
 }
 
-/// The other calls of `CODE`.
+/// `resume`, `resume_throw` and `end`.
 fn resumptions(alloc: Global) -> Result<[Call; 3], Fail> {
     let handlers = [
         Handle::OnLabel { tag: 0, label: 1 },
@@ -78,21 +61,4 @@ fn resumptions_are_cloned(rt: HostRuntime) -> Result<(), Fail> {
 fn long_lists_are_cloned(rt: HostRuntime) -> Result<(), Fail> {
     let labels = items(rt.alloc(), &[7; 100_000])?;
     is_cloned(&rt, &call(0x0e, Operands::BrTable(labels, 3))?)
-}
-
-#[test]
-fn lists_are_read(rt: HostRuntime) -> Result<(), Fail> {
-    let read = read_again(&rt, || read_instructions(rt.alloc(), CODE.as_slice()))?;
-    let branches = branches(rt.alloc())?;
-    let resumptions = resumptions(rt.alloc())?;
-    assert_eq!(rt; read.get(..3), Some(branches.as_slice()));
-    assert_eq!(rt; read.get(3..), Some(resumptions.as_slice()));
-    Ok(())
-}
-
-#[test]
-fn lists_are_normalised(rt: HostRuntime) -> Result<(), Fail> {
-    let encoding = read_again(&rt, || normalise_instructions(rt.alloc(), CODE.as_slice()))?;
-    assert_eq!(rt; encoding.as_slice(), NORMAL.as_slice());
-    Ok(())
 }

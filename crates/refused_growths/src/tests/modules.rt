@@ -1,9 +1,9 @@
-//! Modules: made, added to, cloned and read.
+//! Modules: made, added to and cloned.
 
-use super::{made_again, read_again};
+use super::made_again;
 use std::process::Abort;
 use std::test::Fail;
-use wasm_encoder::{EncodeError, Module, RawSection, ReadError, read_module};
+use wasm_encoder::{EncodeError, Module, RawSection};
 
 /// Sections of a module, more than a list of them has room for at first.
 const SECTIONS: [RawSection<'static>; 6] = [
@@ -60,24 +60,4 @@ fn modules_are_cloned(rt: HostRuntime) -> Result<(), Fail> {
     let same = made_again(&rt, || module.try_clone())?;
     assert_eq!(rt; same.as_slice(), module.as_slice());
     Ok(())
-}
-
-/// The module is read as these sections.
-fn is_read_as(
-    rt: &(impl AllocGlobal + Print + Abort),
-    module: &[u8],
-    expected: &[RawSection<'_>],
-) -> Result<(), Fail> {
-    let sections = read_again(rt, || read_module(rt.alloc(), module))?;
-    assert_eq!(rt; sections.len(), expected.len());
-    for (section, other) in sections.iter().zip(expected) {
-        assert_eq!(rt; section.id, other.id);
-        assert_eq!(rt; section.body, other.body);
-    }
-    Ok(())
-}
-
-#[test]
-fn modules_are_read(rt: HostRuntime) -> Result<(), Fail> {
-    is_read_as(&rt, MODULE, SECTIONS.as_slice())
 }

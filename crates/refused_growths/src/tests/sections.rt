@@ -1,22 +1,17 @@
 //! Sections that are built by name, alone and in a module; and whole modules, read and normalised.
 
-use super::{made_again, read_again};
+use super::made_again;
 use std::alloc::Global;
 use std::process::Abort;
 use std::test::Fail;
 use wasm_encoder::{
     ConstExpr, CustomSection, DataSection, EncodeError, ExportKind, ExportSection, FunctionSection,
-    Module, ReadError, normalise_whole_module, read_whole_module, read_whole_module_strict,
+    Module,
 };
 
 /// A function of type 0, which is exported, some bytes of the memory, and a name with a byte that nothing decodes.
 const MODULE: &[u8] = b"\x00asm\x01\x00\x00\x00\x03\x02\x01\x00\x07\x05\x01\x01f\x00\x00\
     \x0b\x0b\x01\x00\x41\x10\x0b\x05hello\x00\x06\x04note\xff";
-
-/// The same with sizes, counts, indexes and a constant in more bytes than are needed.
-const PADDED: &[u8] =
-    b"\x00asm\x01\x00\x00\x00\x03\x84\x00\x81\x00\x80\x00\x07\x06\x01\x01f\x00\x80\x00\
-    \x0b\x8c\x00\x01\x00\x41\x90\x00\x0b\x05hello\x00\x86\x00\x04note\xff";
 
 fn functions(alloc: Global) -> Result<FunctionSection, EncodeError> {
     let mut functions = FunctionSection::new(alloc);
@@ -85,21 +80,5 @@ fn a_refused_export_changes_nothing(rt: HostRuntime) -> Result<(), Fail> {
     let mut module = made_again(&rt, || Module::new(rt.alloc()))?;
     add(&rt, &mut module, &exports)?;
     assert_eq!(rt; module.as_slice().get(8..), MODULE.get(12..19));
-    Ok(())
-}
-
-#[test]
-fn whole_modules_are_read(rt: HostRuntime) -> Result<(), Fail> {
-    let read = read_again(&rt, || read_whole_module(rt.alloc(), PADDED))?;
-    let shortest = read_again(&rt, || read_whole_module_strict(rt.alloc(), MODULE))?;
-    assert_eq!(rt; read.len(), 4);
-    assert_eq!(rt; shortest.len(), 4);
-    Ok(())
-}
-
-#[test]
-fn whole_modules_are_normalised(rt: HostRuntime) -> Result<(), Fail> {
-    let normal = read_again(&rt, || normalise_whole_module(rt.alloc(), PADDED))?;
-    assert_eq!(rt; normal.as_slice(), MODULE);
     Ok(())
 }

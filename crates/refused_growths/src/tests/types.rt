@@ -1,12 +1,12 @@
-//! Types and type sections: made, added to, cloned, read and normalised.
+//! Types and type sections: made, added to and cloned.
 
-use super::{made_again, read_again};
+use super::made_again;
 use std::process::Abort;
 use std::test::Fail;
 use wasm_encoder::{
     CompositeInnerType, CompositeType, ContType, Encode, EncodeError, FieldType, FuncType, Items,
     ReadError, StorageType, StructType, SubType, TypeEntry, TypeSection, ValType,
-    normalise_type_section, read_type_section,
+    read_type_section,
 };
 
 /// The body of a type section with an entry of each call: a function, an array, a structure, a continuation, a type
@@ -234,13 +234,6 @@ fn sections_are_cloned(rt: HostRuntime) -> Result<(), Fail> {
     let same = clone_of(&rt, &types)?;
     assert_eq!(rt; same.len(), types.len());
     have_same_bytes(&rt, &same, &types)
-}
-
-#[test]
-fn bodies_are_normalised(rt: HostRuntime) -> Result<(), Fail> {
-    let encoding = read_again(&rt, || normalise_type_section(rt.alloc(), BODY.as_slice()))?;
-    assert_eq!(rt; encoding.as_slice(), BODY.as_slice());
-    Ok(())
 }
 
 #[test]
