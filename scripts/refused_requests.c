@@ -1,6 +1,6 @@
 /* Refuses requests for memory of the program that this is linked into with --wrap for malloc, realloc, open and close: the
- * request with the number REFUSED, and where EVERY is set each so many requests after it. Requests while a file is open aren't
- * counted, so that a program reads its files. Standard error is told of each refusal. */
+ * request with the number REFUSED, or one in EVERY, as chance has it that begins with SEED. Requests while a file is open aren't
+ * refused, so that a program reads its files. Standard error is told of each refusal. */
 void *__real_malloc(unsigned long size);
 void *__real_realloc(void *block, unsigned long size);
 int __real_open(const char *path, int flags, unsigned mode);
@@ -16,17 +16,22 @@ static long number_of(const char *name) {
     return word ? strtol(word, 0, 10) : 0;
 }
 
+/* Whether chance refuses one of so many requests. */
+static int is_struck(unsigned long every) {
+    static unsigned long state;
+    if (state == 0)
+        state = number_of("SEED") * 0x9E3779B97F4A7C15 + 1;
+    state ^= state << 13;
+    state ^= state >> 7;
+    state ^= state << 17;
+    return state % every == 0;
+}
+
 static int is_refused(void) {
-    static long left, every;
-    if (is_file_open)
+    static long counted;
+    long every = number_of("EVERY");
+    if (is_file_open || !(every > 0 ? is_struck(every) : ++counted == number_of("REFUSED")))
         return 0;
-    if (left == 0) {
-        left = number_of("REFUSED");
-        every = number_of("EVERY");
-    }
-    if (left <= 0 || --left > 0)
-        return 0;
-    left = every > 0 ? every : -1;
     write(2, "a request was refused\n", 22);
     return 1;
 }

@@ -7,7 +7,7 @@ use crate::readers::{count, normalise, read};
 use crate::words::runs;
 use crate::written::{Written, check_list, check_written};
 use std::alloc::Global;
-use wasm_encoder::read_instructions;
+use wasm_encoder::{ReadError, read_instructions};
 
 /// Holds a normaliser and its reader to the vector of a line.
 pub fn check(alloc: Global, line: &str) -> Result<(), Mismatch> {
@@ -36,8 +36,8 @@ fn check_taken(alloc: Global, what: &str, input: &[u8], normal: &str) -> Result<
 fn check_normal(alloc: Global, what: &str, input: &[u8], normal: &[u8]) -> Result<(), Mismatch> {
     match normalise(alloc, what, input) {
         Ok(written) if written.as_slice() == normal => Ok(()),
-        Ok(_written) => Err(Mismatch::Normalised),
-        Err(_error) => Err(Mismatch::Normalised),
+        Err(ReadError::Memory) => Err(Mismatch::Memory),
+        _ => Err(Mismatch::Normalised),
     }
 }
 
