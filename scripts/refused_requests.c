@@ -1,10 +1,10 @@
-/* Refuses requests for memory of the program that this is linked into with --wrap for malloc, realloc, open and close: the
- * request with the number REFUSED, or one in EVERY, as chance has it that begins with SEED. Requests while a file is open aren't
- * refused, so that a program reads its files. Standard error is told of each refusal. */
-void *__real_malloc(unsigned long size);
-void *__real_realloc(void *block, unsigned long size);
-int __real_open(const char *path, int flags, unsigned mode);
-int __real_close(int file);
+/* Refuses requests for memory of the program that the loader puts this library before: the request with the number REFUSED, or
+ * one in EVERY, as chance has it that begins with SEED. Requests while a file is open aren't refused, so that a program reads its
+ * files. Standard error is told of each refusal. The names with __ are those by which glibc has its own calls too. */
+void *__libc_malloc(unsigned long size);
+void *__libc_realloc(void *block, unsigned long size);
+int __open(const char *path, int flags, ...);
+int __close(int file);
 char *getenv(const char *name);
 long strtol(const char *word, char **end, int base);
 long write(int file, const void *bytes, unsigned long size);
@@ -36,17 +36,17 @@ static int is_refused(void) {
     return 1;
 }
 
-void *__wrap_malloc(unsigned long size) { return is_refused() ? 0 : __real_malloc(size); }
+void *malloc(unsigned long size) { return is_refused() ? 0 : __libc_malloc(size); }
 
-void *__wrap_realloc(void *block, unsigned long size) { return is_refused() ? 0 : __real_realloc(block, size); }
+void *realloc(void *block, unsigned long size) { return is_refused() ? 0 : __libc_realloc(block, size); }
 
-int __wrap_open(const char *path, int flags, unsigned mode) {
-    int file = __real_open(path, flags, mode);
+int open(const char *path, int flags, unsigned mode) {
+    int file = __open(path, flags, mode);
     is_file_open = file >= 0;
     return file;
 }
 
-int __wrap_close(int file) {
+int close(int file) {
     is_file_open = 0;
-    return __real_close(file);
+    return __close(file);
 }

@@ -9,6 +9,7 @@ mod modules;
 mod operands;
 mod own;
 mod readme;
+mod refused_memory;
 mod type_sections;
 mod types;
 mod writing;

@@ -1,12 +1,30 @@
-//! Replays vectors: the lines of the files in `data/`. It prints a line for each vector that differs, and counts them.
+//! Replays vectors: the lines of the files in `data/`. The calls of each are made and compared. It prints a line for each
+//! vector that differs, and counts them.
 #![tactic(auto)]
+
+mod answers;
+mod columns;
+mod cuts;
+mod decoded;
+mod encoded;
+mod entries;
+mod kinds;
+mod mismatch;
+mod readers;
+mod sections;
+mod sink;
+mod strict;
+mod suites;
+mod type_tokens;
+mod words;
+mod written;
 
 use std::rt::Files;
 use std::{fs, io};
-use vectors::Suite;
+use suites::Suite;
 
 /// The files, and what their lines are.
-const FILES: [(&str, Suite); 11] = [
+const FILES: [(&str, Suite); 17] = [
     ("sink.tsv", Suite::Sink),
     ("types.tsv", Suite::Types),
     ("answers.tsv", Suite::Answers),
@@ -18,6 +36,12 @@ const FILES: [(&str, Suite); 11] = [
     ("worked_answers.tsv", Suite::Answers),
     ("worked_strict.tsv", Suite::Strict),
     ("cuts.tsv", Suite::Cuts),
+    ("worked_sections.tsv", Suite::Decoded),
+    ("worked_modules.tsv", Suite::Decoded),
+    ("linked_sections.tsv", Suite::Decoded),
+    ("every_section.tsv", Suite::Decoded),
+    ("passive_elements.tsv", Suite::Decoded),
+    ("try_table.tsv", Suite::Decoded),
 ];
 
 fn replay(rt: &(impl Files + Print + AllocGlobal), name: &str, suite: Suite) -> io::Result<()> {

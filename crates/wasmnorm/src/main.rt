@@ -13,8 +13,6 @@ mod command;
 mod modes;
 mod run;
 mod streams;
-#[cfg(test)]
-mod tests;
 
 use command::{USAGE, USAGE_STATUS, mode_of, report, status};
 use modes::Mode;

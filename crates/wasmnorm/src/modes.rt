@@ -9,7 +9,7 @@ use wasm_modules::normaliser::rewrite_module;
 use wasm_types::normaliser::rewrite_type_section;
 
 /// What the input is read as.
-#[derive(Clone, Copy, Debug, PartialEq, Eq)]
+#[derive(Clone, Copy)]
 pub enum Mode {
     /// A list of instructions.
     Calls,

@@ -13,7 +13,7 @@ use std::io::{Read, Write};
 use wasm_codec::reader::ReadError;
 
 /// Why a run did not write the whole normal form of its input.
-#[derive(Clone, Copy, Debug, PartialEq, Eq)]
+#[derive(Clone, Copy)]
 pub enum RunError {
     /// The input encodes nothing of the mode.
     Refused {

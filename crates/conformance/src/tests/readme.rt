@@ -11,18 +11,48 @@ use wasm_encoder::{
 
 /// A module that exports `add`, a function that adds its two parameters, and a memory that holds a text from 16 on.
 fn add_module(alloc: Global) -> Result<Vec<u8>, EncodeError> {
-    let numbers = [ValType::I32, ValType::I32];
+    let mut module = Module::new(alloc)?;
+    module.section(&types(alloc)?)?;
+    module.section(&functions(alloc)?)?;
+    module.section(&memories(alloc)?)?;
+    module.section(&exports(alloc)?)?;
+    module.section(&code(alloc)?)?;
+    module.section(&data(alloc)?)?;
+    Ok(module.finish())
+}
+
+fn types(alloc: Global) -> Result<TypeSection, EncodeError> {
     let mut types = TypeSection::new(alloc);
+    let params = [ValType::I32, ValType::I32];
+    let results = [ValType::I32];
     types
         .ty()
-        .function(numbers.iter().copied(), [ValType::I32].iter().copied())?;
+        .function(params.iter().copied(), results.iter().copied())?;
+    Ok(types)
+}
+
+/// One function, of type 0.
+fn functions(alloc: Global) -> Result<FunctionSection, EncodeError> {
     let mut functions = FunctionSection::new(alloc);
     functions.function(0)?;
+    Ok(functions)
+}
+
+fn memories(alloc: Global) -> Result<MemorySection, EncodeError> {
     let mut memories = MemorySection::new(alloc);
     memories.memory(ONE_PAGE)?;
+    Ok(memories)
+}
+
+fn exports(alloc: Global) -> Result<ExportSection<'static>, EncodeError> {
     let mut exports = ExportSection::new(alloc);
     exports.export("add", ExportKind::Func, 0)?;
     exports.export("memory", ExportKind::Memory, 0)?;
+    Ok(exports)
+}
+
+/// A function without locals beside its parameters.
+fn code(alloc: Global) -> Result<CodeSection, EncodeError> {
     let mut add = Function::new(alloc, [].iter().copied())?;
     add.instructions()
         .local_get(0)?
@@ -31,16 +61,13 @@ fn add_module(alloc: Global) -> Result<Vec<u8>, EncodeError> {
         .end()?;
     let mut code = CodeSection::new(alloc);
     code.function(&add)?;
+    Ok(code)
+}
+
+fn data(alloc: Global) -> Result<DataSection<'static>, EncodeError> {
     let mut data = DataSection::new(alloc);
     data.active(0, ConstExpr::i32_const(alloc, 16)?, b"hello")?;
-    let mut module = Module::new(alloc)?;
-    module.section(&types)?;
-    module.section(&functions)?;
-    module.section(&memories)?;
-    module.section(&exports)?;
-    module.section(&code)?;
-    module.section(&data)?;
-    Ok(module.finish())
+    Ok(data)
 }
 
 /// A memory of one page, which can grow.

@@ -5,9 +5,8 @@ use std::alloc::Global;
 use std::iter::repeat_n;
 use std::test::Fail;
 use wasm_encoder::{
-    CodeSection, ContType, EncodeError, FuncType, Function, Items, Module, RawSection, Section,
-    StorageType, TypeEntry, TypeSection, ValType, first_body, normalise_module, read_module,
-    read_type_section,
+    ContType, EncodeError, Items, Module, RawSection, StorageType, TypeEntry, TypeSection, ValType,
+    first_body, normalise_module, read_module, read_type_section,
 };
 
 /// The section has so many entries, and these bytes.
@@ -37,48 +36,6 @@ fn a_copy_is_equal_and_apart(rt: HostRuntime) -> Result<(), Fail> {
     types.ty().array(&StorageType::I16, true)?;
     is_section(rt.alloc(), &copy, 1, "04015DC000")?;
     is_section(rt.alloc(), &types, 2, "07025DC0005E7701")
-}
-
-/// The type of a function that adds its two parameters.
-fn sum_type(alloc: Global) -> Result<TypeSection, Fail> {
-    let numbers = [ValType::I32, ValType::I32];
-    let result = [ValType::I32];
-    let ty = FuncType::new(alloc, numbers.iter().copied(), result.iter().copied())?;
-    let mut types = TypeSection::new(alloc);
-    types.ty().func_type(&ty)?;
-    Ok(types)
-}
-
-/// Its body.
-fn sum_code(alloc: Global) -> Result<CodeSection, Fail> {
-    let mut function = Function::new(alloc, [].iter().copied())?;
-    function
-        .instructions()
-        .local_get(0)?
-        .local_get(1)?
-        .i32_add()?
-        .end()?;
-    let mut code = CodeSection::new(alloc);
-    code.function(&function)?;
-    Ok(code)
-}
-
-/// The module that the Rust crate's own page makes.
-#[test]
-fn a_module_with_a_function(rt: HostRuntime) -> Result<(), Fail> {
-    let types = sum_type(rt.alloc())?;
-    assert_eq!(rt; types.id(), 1);
-    let mut module = Module::new(rt.alloc())?;
-    module.section(&types)?;
-    for (id, body) in [
-        (3, b"\x01\x00".as_slice()),
-        (7, b"\x01\x01f\x00\x00".as_slice()),
-    ] {
-        module.section(&RawSection { id, body })?;
-    }
-    module.section(&sum_code(rt.alloc())?)?;
-    let hex = "0061736D0100000001070160027F7F017F03020100070501016600000A09010700200020016A0B";
-    is(rt.alloc(), module.as_slice(), hex)
 }
 
 /// What is too long is refused before an item is asked for, and the section is as it was.

@@ -4,15 +4,6 @@ use super::{is, is_refused};
 use std::test::Fail;
 use wasm_encoder::{Encode, EncodeError, InstructionSink};
 
-fn append_sum(code: &mut Vec<u8>) -> Result<(), EncodeError> {
-    InstructionSink::new(code)
-        .local_get(0)?
-        .local_get(1)?
-        .i32_add()?
-        .end()?;
-    Ok(())
-}
-
 fn append_without_operands(code: &mut Vec<u8>) -> Result<(), EncodeError> {
     InstructionSink::new(code)
         .unreachable()?
@@ -41,10 +32,9 @@ fn append_with_operands(code: &mut Vec<u8>) -> Result<(), EncodeError> {
 #[test]
 fn chains(rt: HostRuntime) -> Result<(), Fail> {
     let mut code = Vec::new(rt.alloc());
-    append_sum(&mut code)?;
     append_without_operands(&mut code)?;
     append_with_operands(&mut code)?;
-    let hex = "200020016A0B00010B1A1B6A6B0C011002200321042205417A4279";
+    let hex = "00010B1A1B6A6B0C011002200321042205417A4279";
     is(rt.alloc(), code.as_slice(), hex)
 }
 

@@ -1,8 +1,9 @@
 //! Modules: of one section, and of several; and whether their sections come in order.
 
-use crate::answers::{Mismatch, check_cut, check_given};
-use crate::bodies::{Answer, normalise, read};
-use crate::built::check_built;
+use super::bodies::{Answer, normalise, read};
+use super::built::check_built;
+use super::{check_cut, check_given};
+use crate::mismatch::Mismatch;
 use std::alloc::Global;
 use wasm_codec::reader::ReadError;
 use wasm_modules::section::HEADER;

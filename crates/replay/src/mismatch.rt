@@ -38,9 +38,21 @@ pub enum Mismatch {
     /// The bytes are read as other calls or sections.
     #[error("other calls or sections are read")]
     Read,
+    /// The strict reader takes what isn't in its shortest encoding, or refuses what is.
+    #[error("the strict reader answers otherwise")]
+    ReadStrictly,
     /// The normal form is another, or the place of a refusal.
     #[error("the normaliser answers otherwise")]
     Normalised,
+    /// The builders write another module of what the reader gives.
+    #[error("the builders write otherwise")]
+    Built,
+    /// A part of the bytes is taken, or refused elsewhere by the normaliser than by the reader.
+    #[error("a part is answered otherwise")]
+    Cut,
+    /// Whether the sections come in order is answered otherwise.
+    #[error("the order is answered otherwise")]
+    Order,
 }
 
 impl From<AllocError> for Mismatch {

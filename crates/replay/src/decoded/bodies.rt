@@ -1,6 +1,6 @@
 //! The readers and the normalisers of the bodies of sections, by the section's name, and those of modules.
 
-use crate::answers::Mismatch;
+use crate::mismatch::Mismatch;
 use std::alloc::Global;
 use wasm_codec::reader::ReadError;
 use wasm_sections::custom::{

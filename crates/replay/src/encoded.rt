@@ -2,7 +2,7 @@
 ghost use Rattle.std.specs.Prelude.{⊤};
 ghost use Rattle.wasm_encoder.specs.Leb128.{unsigned_leb128, signed_leb128};
 ghost use Rattle.wasm_encoder.specs.Encoding.{IsCount, OnlyTooLong};
-ghost use Rattle.vectors.specs.declared.columns.Token.TheVariants as tokens;
+ghost use Rattle.replay.specs.declared.columns.Token.TheVariants as tokens;
 
 use crate::columns::{Token, parse_token};
 use crate::mismatch::Mismatch;

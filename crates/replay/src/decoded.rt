@@ -1,55 +1,20 @@
 //! Vectors of the body of a section, or of a module: which section it is of, its bytes, and `ok` with the normal form and how
 //! many items it has, or `refused` with the place.
 
-use crate::bodies::{Answer, normalise, read, read_strictly};
-use crate::modules::{check_module, check_order_of, module_of};
-use hex::FromHexError;
+mod bodies;
+mod built;
+mod modules;
+
+use crate::columns::columns;
+use crate::mismatch::Mismatch;
+use bodies::{Answer, normalise, read, read_strictly};
+use modules::{check_module, check_order_of, module_of};
 use std::alloc::Global;
-use thiserror::Error;
 use wasm_codec::reader::ReadError;
-
-/// Why a vector does not hold.
-#[derive(Debug, Drop, Error)]
-pub enum Mismatch {
-    /// There was no memory to try it.
-    #[error("no memory")]
-    Memory,
-    /// The line is no vector, or of a section that is not known here.
-    #[error("the line is not understood")]
-    NotUnderstood,
-    /// The reader gives other items, or refuses elsewhere.
-    #[error("the reader answers otherwise")]
-    Read,
-    /// The strict reader takes what isn't in its shortest encoding, or refuses what is.
-    #[error("the strict reader answers otherwise")]
-    ReadStrictly,
-    /// The normal form is another, or the place of a refusal.
-    #[error("the normaliser answers otherwise")]
-    Normalised,
-    /// The builders write another module of what the reader gives.
-    #[error("the builders write otherwise")]
-    Written,
-    /// A part of the bytes is taken, or refused elsewhere by the normaliser than by the reader.
-    #[error("a part is answered otherwise")]
-    Cut,
-    /// Whether the sections come in order is answered otherwise.
-    #[error("the order is answered otherwise")]
-    Order,
-}
-
-impl From<FromHexError> for Mismatch {
-    fn from(error: FromHexError) -> Mismatch {
-        match error {
-            FromHexError::OutOfMemory => Mismatch::Memory,
-            _ => Mismatch::NotUnderstood,
-        }
-    }
-}
 
 /// Holds the readers, the normalisers and the builders to the vector of a line.
 pub fn check(alloc: Global, line: &str) -> Result<(), Mismatch> {
-    let (section, rest) = line.split_once('\t').ok_or(Mismatch::NotUnderstood)?;
-    let (body, answer) = rest.split_once('\t').ok_or(Mismatch::NotUnderstood)?;
+    let (section, body, answer) = columns(line)?;
     let body = hex::decode(alloc, body)?;
     check_answer(alloc, section, body.as_slice(), answer)
 }

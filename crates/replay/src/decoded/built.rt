@@ -1,6 +1,6 @@
 //! Modules that are built again, section by section.
 
-use crate::answers::Mismatch;
+use crate::mismatch::Mismatch;
 use std::alloc::Global;
 use wasm_encoder::sections::{ListSection, SectionItem};
 use wasm_encoder::{
@@ -18,7 +18,7 @@ pub fn check_built(alloc: Global, module: &[u8], normal: &[u8]) -> Result<(), Mi
     match build(alloc, sections.as_slice()) {
         Ok(built) if built.as_slice() == normal => Ok(()),
         Err(EncodeError::Memory) => Err(Mismatch::Memory),
-        _ => Err(Mismatch::Written),
+        _ => Err(Mismatch::Built),
     }
 }
 

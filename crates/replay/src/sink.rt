@@ -1,20 +1,17 @@
 //! Vectors of one call of the sink: the method, the tokens of its operands, and the bytes that it writes.
 
 pub mod arguments;
-mod indexes;
 mod lists;
-mod memory;
-mod values;
-mod vectors;
-mod without_operands;
+mod methods;
 
 use crate::columns::columns;
 use crate::mismatch::Mismatch;
 use crate::written::{Written, check_growth, check_written};
 use arguments::{Argument, arguments};
+use methods::is_called;
 use std::alloc::{Allocator, Global};
 use wasm_encoder::{
-    Call, EncodeError, InstructionSink, Items, Opcode, Operands, Prefix, normalise_instructions,
+    Call, InstructionSink, Items, Opcode, Operands, Prefix, normalise_instructions,
     read_instructions,
 };
 
@@ -23,16 +20,29 @@ pub fn check(alloc: Global, line: &str) -> Result<(), Mismatch> {
     let (method, operands, hex) = columns(line)?;
     let expected = hex::decode(alloc, hex)?;
     let expected = expected.as_slice();
-    let room = if operands.contains("list:") { 0 } else { 24 };
-    check_written(alloc, Written::Method(method, operands), expected)?;
-    check_growth(alloc, 0, Written::Method(method, operands), expected)?;
-    check_growth(alloc, room, Written::Method(method, operands), expected)?;
+    let has_list = operands.contains("list:");
+    let room = if has_list { 0 } else { 24 };
+    if has_list || is_called(method) {
+        check_method(alloc, room, Written::Method(method, operands), expected)?;
+    }
     let calls = [call_of(alloc, method, operands, expected)?];
     check_calls(alloc, room, &calls, expected)?;
     check_readers(alloc, &calls, expected)
 }
 
-/// Calls the method of this name. If there is none, nothing is written.
+/// The method writes the bytes.
+fn check_method(
+    alloc: Global,
+    room: usize,
+    method: Written<'_>,
+    expected: &[u8],
+) -> Result<(), Mismatch> {
+    check_written(alloc, method, expected)?;
+    check_growth(alloc, 0, method, expected)?;
+    check_growth(alloc, room, method, expected)
+}
+
+/// Calls the method of this name, with the operands that the tokens stand for.
 pub fn write_method<'a, A: Allocator>(
     alloc: Global,
     sink: InstructionSink<'a, A>,
@@ -43,7 +53,6 @@ pub fn write_method<'a, A: Allocator>(
     Ok(())
 }
 
-/// Calls the method of this name, with the operands that the tokens stand for. If there is none, nothing is written.
 fn write<'a, A: Allocator>(
     alloc: Global,
     sink: InstructionSink<'a, A>,
@@ -52,67 +61,9 @@ fn write<'a, A: Allocator>(
 ) -> Result<InstructionSink<'a, A>, Mismatch> {
     let written = match lists::parse_listed(alloc, method, operands)? {
         Some(listed) => lists::write(sink, method, &listed),
-        None => write_arguments(sink, method, arguments(alloc, operands)?.as_slice()),
+        None => methods::write(sink, method, arguments(alloc, operands)?.as_slice()),
     };
     Ok(written?)
-}
-
-fn write_arguments<'a, A: Allocator>(
-    sink: InstructionSink<'a, A>,
-    method: &str,
-    arguments: &[Argument],
-) -> Result<InstructionSink<'a, A>, EncodeError> {
-    match arguments {
-        [] => without_operands::control(sink, method),
-        [only] => write_one(sink, method, *only),
-        [first, second] => write_two(sink, method, *first, *second),
-        [
-            Argument::U32(label),
-            Argument::Reference(from),
-            Argument::Reference(to),
-        ] => { values::cast(sink, method, *label, *from, *to) }
-        [
-            Argument::Order(order),
-            Argument::U32(first),
-            Argument::U32(second),
-        ] => { indexes::order_two_indexes(sink, method, *order, *first, *second) }
-        _ => Ok(sink),
-    }
-}
-
-fn write_one<'a, A: Allocator>(
-    sink: InstructionSink<'a, A>,
-    method: &str,
-    only: Argument,
-) -> Result<InstructionSink<'a, A>, EncodeError> {
-    match only {
-        Argument::U32(index) => indexes::index(sink, method, index),
-        Argument::Lane(lane) => memory::lane(sink, method, lane),
-        Argument::Memory(memarg) => memory::memory(sink, method, memarg),
-        Argument::Heap(ty) => values::heap(sink, method, ty),
-        Argument::Block(ty) => values::block(sink, method, ty),
-        operand => values::of_one_method(sink, method, operand),
-    }
-}
-
-fn write_two<'a, A: Allocator>(
-    sink: InstructionSink<'a, A>,
-    method: &str,
-    first: Argument,
-    second: Argument,
-) -> Result<InstructionSink<'a, A>, EncodeError> {
-    match (first, second) {
-        (Argument::U32(first), Argument::U32(second)) => {
-            indexes::two_indexes(sink, method, first, second)
-        }
-        (Argument::Memory(memarg), Argument::Lane(lane)) => {
-            memory::memory_lane(sink, method, memarg, lane)
-        }
-        (Argument::Order(ordering), Argument::U32(index)) => {
-            indexes::order_index(sink, method, ordering, index)
-        }
-        _ => Ok(sink),
-    }
 }
 
 /// The call of the method.

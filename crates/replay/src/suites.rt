@@ -1,23 +1,7 @@
-//! Vectors from outside, and what holds the encoder to them: a line of text is one vector, whose calls are made and
-//! compared.
-#![tactic(auto)]
+//! What the vectors of a file are of, and what holds the library to them.
 
-mod answers;
-mod columns;
-mod cuts;
-mod encoded;
-mod entries;
-mod kinds;
-mod mismatch;
-mod readers;
-mod sections;
-mod sink;
-mod strict;
-mod type_tokens;
-mod words;
-mod written;
-
-pub use mismatch::Mismatch;
+use crate::mismatch::Mismatch;
+use crate::{answers, cuts, decoded, encoded, entries, kinds, sections, sink, strict};
 use std::alloc::Global;
 
 /// The vectors of a file.
@@ -35,6 +19,8 @@ pub enum Suite {
     Cuts,
     /// The kind of an opcode.
     Kinds,
+    /// What is read of the body of a section, or of a module with every section decoded.
+    Decoded,
 }
 
 impl Suite {
@@ -47,6 +33,7 @@ impl Suite {
             Suite::Strict => strict::check(alloc, line),
             Suite::Cuts => cuts::check(alloc, line),
             Suite::Kinds => kinds::check(line),
+            Suite::Decoded => decoded::check(alloc, line),
         }
     }
 }
