@@ -6,6 +6,7 @@ ghost use Rattle.wasm_codec.specs.Answers.{NeedsNoMemory, IsOrMemory, IfRefused,
 ghost use Rattle.wasm_codec.specs.formats.Bodies.{bytes_to_end};
 ghost use Rattle.wasm_codec.specs.formats.Combinators.{made, narrow};
 ghost use Rattle.wasm_codec.specs.Encoding.{IsShortestOrLonger};
+ghost use Rattle.wasm_codec.specs.Rewriter.{Rewrites};
 ghost use Rattle.wasm_types.specs.formats.Types.{type_body};
 ghost use Rattle.wasm_modules.specs.formats.Sections.{Content, DecodedSection, type_entries, code_bodies, raw_bytes};
 ghost use Rattle.wasm_modules.specs.DecodedModules.{IsDecodedModulePrefix, IsDecodedSection};
@@ -97,17 +98,25 @@ impl Rewritable for Section {
     #[inline(always)]
     fn is_lawful() {}
 
-    #[tactic(auto, using(std::proofs::Common::append_assoc), unfolding(crate::specs::formats::Modules::decoded_section))]
+    #[inline(always)]
     fn rewrite(rewriter: &mut Rewriter) -> Result<(), Fault> {
-        let id = rewriter.byte()?;
-        if id == TYPE_SECTION_ID {
-            return rewrite_sized::<TypeEntries>(rewriter);
-        }
-        if id == CODE_SECTION_ID {
-            return rewrite_sized::<CodeBodies>(rewriter);
-        }
-        rewrite_sized::<RawContent>(rewriter)
+        rewrite_section(rewriter)
     }
+}
+
+/// A section with what it holds.
+#[tactic(auto, using(std::proofs::Common::append_assoc), unfolding(crate::specs::formats::Modules::decoded_section))]
+fn rewrite_section(rewriter: &mut Rewriter) -> Result<(), Fault>
+    ensures rewrites { Rewrites decoded_section rewriter.old rewriter.new result }
+{
+    let id = rewriter.byte()?;
+    if id == TYPE_SECTION_ID {
+        return rewrite_sized::<TypeEntries>(rewriter);
+    }
+    if id == CODE_SECTION_ID {
+        return rewrite_sized::<CodeBodies>(rewriter);
+    }
+    rewrite_sized::<RawContent>(rewriter)
 }
 
 impl Joinable for Section {

@@ -3,6 +3,7 @@ ghost use Rattle.std.specs.Prelude.{◌≡◌, ◌↔◌, ◌≤◌, ℕ, List, 
 ghost use Rattle.wasm_codec.specs.Answers.{NeedsNoMemory, IsOrMemory, IfRefused, IsLongestPrefix, IsNormalForm, EncodesSome};
 ghost use Rattle.wasm_codec.specs.Encoding.{IsShortestOrLonger};
 ghost use Rattle.wasm_codec.specs.Places.{Reads};
+ghost use Rattle.wasm_codec.specs.Rewriter.{Rewrites};
 ghost use Rattle.wasm_codec.specs.declared.reader.cursor.Fault.TheVariants.{Malformed};
 ghost use Rattle.wasm_types.specs.declared.types.value.ValType.{ValType};
 ghost use Rattle.wasm_instructions.specs.formats.Instructions.{Instruction};
@@ -97,10 +98,18 @@ impl Rewritable for CodeBody {
     #[inline(always)]
     fn is_lawful() {}
 
-    #[tactic(auto, unfolding(crate::specs::formats::CodeBodies::code_body))]
+    #[inline(always)]
     fn rewrite(rewriter: &mut Rewriter) -> Result<(), Fault> {
-        rewrite_sized::<FunctionCode>(rewriter)
+        rewrite_code_body(rewriter)
     }
+}
+
+/// A code body.
+#[tactic(auto, unfolding(crate::specs::formats::CodeBodies::code_body))]
+fn rewrite_code_body(rewriter: &mut Rewriter) -> Result<(), Fault>
+    ensures rewrites { Rewrites code_body rewriter.old rewriter.new result }
+{
+    rewrite_sized::<FunctionCode>(rewriter)
 }
 
 /// The locals and the instructions of a code body, which are all of its bytes.
@@ -114,11 +123,19 @@ impl RewritableBody for FunctionCode {
     #[inline(always)]
     fn is_lawful() {}
 
-    #[tactic(auto, using(std::proofs::Common::append_assoc))]
+    #[inline(always)]
     fn rewrite(rewriter: &mut Rewriter) -> Result<(), Fault> {
-        rewrite_list::<LocalGroup>(rewriter)?;
-        rewrite_to_end::<Call>(rewriter)
+        rewrite_function_code(rewriter)
     }
+}
+
+/// The locals and the instructions of a code body.
+#[tactic(auto, using(std::proofs::Common::append_assoc))]
+fn rewrite_function_code(rewriter: &mut Rewriter) -> Result<(), Fault>
+    ensures rewrites { Rewrites function_code rewriter.old rewriter.new result }
+{
+    rewrite_list::<LocalGroup>(rewriter)?;
+    rewrite_to_end::<Call>(rewriter)
 }
 
 /// A group of locals, as an item of their list.
