@@ -4,3 +4,4 @@ pub mod InstructionFormatLaws
 pub mod CallRewriting
 pub mod OperandRewriting
 pub mod ScannedCalls
+mod LittleEndianHalves

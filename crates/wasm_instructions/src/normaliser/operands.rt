@@ -130,8 +130,7 @@ fn rewrite_ordering(rewriter: &mut Rewriter) -> Result<(), Fault>
     ensures rewrites { Rewrites ordering rewriter.old rewriter.new result }
 {
     match rewriter.byte()? {
-        0x00 => Ok(()),
-        0x01 => Ok(()),
+        0x00..0x02 => Ok(()),
         _ => Err(Fault::Malformed),
     }
 }
@@ -142,10 +141,7 @@ fn rewrite_castop(rewriter: &mut Rewriter) -> Result<(), Fault>
     ensures rewrites { Rewrites castop rewriter.old rewriter.new result }
 {
     match rewriter.byte()? {
-        0x00 => Ok(()),
-        0x01 => Ok(()),
-        0x02 => Ok(()),
-        0x03 => Ok(()),
+        0x00..0x04 => Ok(()),
         _ => Err(Fault::Malformed),
     }
 }
@@ -171,21 +167,12 @@ impl Rewritable for Catch {
     #[tactic(auto, using(std::proofs::Common::append_assoc), unfolding(crate::specs::formats::Operands::catch_clause))]
     fn rewrite(rewriter: &mut Rewriter) -> Result<(), Fault> {
         match rewriter.byte()? {
-            0x00 => {
+            0x00 | 0x01 => {
                 rewriter.u32()?;
                 rewriter.u32()?;
                 Ok(())
             }
-            0x01 => {
-                rewriter.u32()?;
-                rewriter.u32()?;
-                Ok(())
-            }
-            0x02 => {
-                rewriter.u32()?;
-                Ok(())
-            }
-            0x03 => {
+            0x02 | 0x03 => {
                 rewriter.u32()?;
                 Ok(())
             }

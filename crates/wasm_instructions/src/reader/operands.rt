@@ -121,21 +121,14 @@ pub fn read_bits_32(cursor: &mut Cursor<'_>) -> Result<u32, Fault>
 }
 
 /// A number in 8 bytes, the least first.
-#[tactic(auto, unfolding(wasm_codec::specs::formats::Combinators::little_endian))]
+#[tactic(auto, using(crate::proofs::LittleEndianHalves::both_halves, crate::proofs::LittleEndianHalves::no_low_half, crate::proofs::LittleEndianHalves::no_high_half))]
 pub fn read_bits_64(cursor: &mut Cursor<'_>) -> Result<u64, Fault>
     ensures reads { Reads (little_endian 8).at cursor.old cursor.new result }
     ensures err { IfErr result (λ e. e ≡ Malformed) }
 {
-    let first = u64::from(cursor.byte()?);
-    let second = u64::from(cursor.byte()?);
-    let third = u64::from(cursor.byte()?);
-    let fourth = u64::from(cursor.byte()?);
-    let fifth = u64::from(cursor.byte()?);
-    let sixth = u64::from(cursor.byte()?);
-    let seventh = u64::from(cursor.byte()?);
-    let eighth = u64::from(cursor.byte()?);
-    let high = fifth + 0x100 * (sixth + 0x100 * (seventh + 0x100 * eighth));
-    Ok(first + 0x100 * (second + 0x100 * (third + 0x100 * (fourth + 0x100 * high))))
+    let low = read_bits_32(cursor)?;
+    let high = read_bits_32(cursor)?;
+    Ok(u64::from(low) + (1 << 32) * u64::from(high))
 }
 
 /// A vector: a number in 16 bytes, the least first, in two's complement.

@@ -15,20 +15,7 @@ fn rewrite_abstract_type(rewriter: &mut Rewriter) -> Result<(), Fault>
     ensures rewrites { Rewrites abstract_type rewriter.old rewriter.new result }
 {
     match rewriter.byte()? {
-        0x68 => Ok(()),
-        0x69 => Ok(()),
-        0x6a => Ok(()),
-        0x6b => Ok(()),
-        0x6c => Ok(()),
-        0x6d => Ok(()),
-        0x6e => Ok(()),
-        0x6f => Ok(()),
-        0x70 => Ok(()),
-        0x71 => Ok(()),
-        0x72 => Ok(()),
-        0x73 => Ok(()),
-        0x74 => Ok(()),
-        0x75 => Ok(()),
+        0x68..0x76 => Ok(()),
         _ => Err(Fault::Malformed),
     }
 }
