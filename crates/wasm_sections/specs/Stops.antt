@@ -1,11 +1,18 @@
--- Where the body of a section stops to be whole (WebAssembly Core 3.0, Lists).
-use Rattle.std.specs.Prelude.{◌≡◌, ◌+◌, ◌≤◌, ◌⊎◌, ℕ, List, ◌++◌, length}
-use Rattle.wasm_codec.specs.Answers.{IsLongestPrefix}
+-- Where the body of a section stops to be whole (WebAssembly Core 3.0, Lists), and which of its items aren't in their shortest
+-- encoding.
+use Rattle.std.specs.Prelude.{◌≡◌, ◌+◌, ◌<◌, ◌≤◌, ◌⊎◌, ℕ, List, [], ◌∷◌, ◌++◌, length, Result, Ok, Err}
+use Rattle.wasm_codec.specs.Answers.{EncodesSome, IsLongestPrefix}
 use Rattle.wasm_codec.specs.formats.Grammar.{Grammar, Joined}
 use Rattle.wasm_codec.specs.Lists.{EncodesList, IsListPrefix}
 use Rattle.wasm_codec.specs.formats.Numbers.{EncodesU32}
 use Rattle.wasm_codec.specs.formats.Combinators.{Format, u32}
-use Rattle.wasm_modules.specs.formats.CodeBodies.{code_body}
+use Rattle.wasm_types.specs.declared.types.value.ValType.{ValType}
+use Rattle.wasm_instructions.specs.formats.Instructions.{Instruction, Instructions}
+use Rattle.wasm_modules.specs.formats.CodeBodies.{code_body, local_group, function_code}
+use Rattle.wasm_sections.specs.declared.modules.places.CodePlace.{CodePlace}
+use Rattle.wasm_sections.specs.declared.modules.places.CodePlace.TheVariants as places
+use Rattle.wasm_sections.specs.declared.modules.places.ItemCounts.{ItemCounts}
+use Rattle.wasm_sections.specs.declared.modules.places.ItemPlace.{ItemPlace}
 use Rattle.wasm_sections.specs.formats.Elements.{element_segment}
 use Rattle.wasm_sections.specs.formats.Entries.{import_entry, table_entry, global_entry, export_entry}
 use Rattle.wasm_sections.specs.formats.Externals.{memory_type, tag_type}
@@ -32,16 +39,65 @@ pub record StopsAtItem {V : Type 0} (F : Format V) (body : List ℕ) (count inde
   pub unencoded : (items : List V) → EncodesList F.Encodes body items → ⊥
   pub before : ((count ≡ 0) × (index ≡ 0) × (at ≡ 0)) ⊎ HasItemsBefore F.Encodes body count index at
 
--- the same of the items of a section with this id
-pub data StopsInSection (id : ℕ) (body : List ℕ) (count index at : ℕ) : Type 0 where
-  types : id ≡ 1 → StopsAtItem recursive_type body count index at → StopsInSection id body count index at
-  imports : id ≡ 2 → StopsAtItem import_entry body count index at → StopsInSection id body count index at
-  functions : id ≡ 3 → StopsAtItem u32 body count index at → StopsInSection id body count index at
-  tables : id ≡ 4 → StopsAtItem table_entry body count index at → StopsInSection id body count index at
-  memories : id ≡ 5 → StopsAtItem memory_type body count index at → StopsInSection id body count index at
-  globals : id ≡ 6 → StopsAtItem global_entry body count index at → StopsInSection id body count index at
-  exports : id ≡ 7 → StopsAtItem export_entry body count index at → StopsInSection id body count index at
-  elements : id ≡ 9 → StopsAtItem element_segment body count index at → StopsInSection id body count index at
-  code : id ≡ 10 → StopsAtItem code_body body count index at → StopsInSection id body count index at
-  data_segments : id ≡ 11 → StopsAtItem data_segment body count index at → StopsInSection id body count index at
-  tags : id ≡ 13 → StopsAtItem tag_type body count index at → StopsInSection id body count index at
+-- encodings with nothing between, of which so many have more bytes than the shortest encoding of their item
+pub data HasLonger {V : Type 0} (F : Format V) : List ℕ → List V → ℕ → Type 0 where
+  nothing : HasLonger F [] [] 0
+  shortest : {bytes : List ℕ} {items : List V} {longer : ℕ} (item : V) → HasLonger F bytes items longer → F.Encodes (F.bytes item) item → HasLonger F (bytes ++ F.bytes item) (items ++ item ∷ []) longer
+  more : {bytes : List ℕ} {items : List V} {longer : ℕ} (item : V) (encoding : List ℕ) → HasLonger F bytes items longer → F.Encodes encoding item → length (F.bytes item) < length encoding → HasLonger F (bytes ++ encoding) (items ++ item ∷ []) (longer + 1)
+
+-- The body is a list of so many items, of which so many have more bytes than their shortest encoding.
+pub record CountsLonger {V : Type 0} (F : Format V) (body : List ℕ) (count longer : ℕ) : Type 0 where
+  pub head : List ℕ
+  pub back : List ℕ
+  pub items : List V
+  pub parts : body ≡ head ++ back
+  pub counted : EncodesU32 head count
+  pub all : length items ≡ count
+  pub longer_items : HasLonger F back items longer
+
+-- what is told of the items of a list
+abbrev pub Tells : {V : Type 0} → Format V → List ℕ → Result ItemCounts ItemPlace → Type 0
+Tells F body (Ok counts) = CountsLonger F body counts.count counts.longer
+Tells F body (Err place) = StopsAtItem F body place.count place.index place.at
+
+-- this holds of the items of a section with this id
+pub data OfItems (P : (V : Type 0) → Format V → Type 0) (id : ℕ) : Type 0 where
+  types : id ≡ 1 → P _ recursive_type → OfItems P id
+  imports : id ≡ 2 → P _ import_entry → OfItems P id
+  functions : id ≡ 3 → P _ u32 → OfItems P id
+  tables : id ≡ 4 → P _ table_entry → OfItems P id
+  memories : id ≡ 5 → P _ memory_type → OfItems P id
+  globals : id ≡ 6 → P _ global_entry → OfItems P id
+  exports : id ≡ 7 → P _ export_entry → OfItems P id
+  elements : id ≡ 9 → P _ element_segment → OfItems P id
+  bodies : id ≡ 10 → P _ code_body → OfItems P id
+  data_segments : id ≡ 11 → P _ data_segment → OfItems P id
+  tags : id ≡ 13 → P _ tag_type → OfItems P id
+
+-- ---- within the code of a function
+
+-- The code is whole up to this group of locals and no further, or the number of the groups isn't there.
+pub record StopsInLocals (code : List ℕ) (count index at : ℕ) : Type 0 where
+  pub stops : StopsAtItem local_group code count index at
+  pub within : (at ≡ 0) ⊎ (index < count)
+
+-- The locals are whole, and the instructions after them up to this place and no further.
+pub record StopsAtInstruction (code : List ℕ) (at : ℕ) : Type 0 where
+  pub head : List ℕ
+  pub calls : List ℕ
+  pub groups : List (ℕ × ValType)
+  pub len : ℕ
+  pub parts : code ≡ head ++ calls
+  pub at_is : length head + len ≡ at
+  pub locals : EncodesList local_group.Encodes head groups
+  pub prefix : IsLongestPrefix (EncodesSome Instructions) calls len
+  pub within : len < length calls
+
+abbrev pub StopsAtPart : List ℕ → CodePlace → Type 0
+StopsAtPart code (places.Locals place) = StopsInLocals code place.count place.index place.at
+StopsAtPart code (places.Instruction at) = StopsAtInstruction code at
+
+-- The code encodes no locals and instructions, and stops to be whole there.
+pub record StopsInCode (code : List ℕ) (place : CodePlace) : Type 0 where
+  pub stops : StopsAtPart code place
+  pub unencoded : (parts : List (ℕ × ValType) × List Instruction) → function_code.Encodes code parts → ⊥

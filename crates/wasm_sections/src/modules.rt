@@ -23,7 +23,9 @@ use crate::imports::Import;
 use crate::tables::Table;
 use crate::types::{MemoryType, TagType};
 pub use order::{ModuleError, check_order};
-pub use places::{ItemPlace, first_broken_item};
+pub use places::{
+    CodePlace, ItemCounts, ItemPlace, count_longer_items, first_broken_item, first_broken_part,
+};
 use rewriter::AnySection;
 use std::alloc::Global;
 use wasm_codec::list::Items;
