@@ -154,7 +154,7 @@ fn diff_files(rt: &HostRuntime, options: Options<'_>, other: Location<'_>) -> u8
     }
 }
 
-/// Writes how many bytes each section has, here and in the canonical form, and gives the exit status.
+/// Writes the report of a module, and gives the exit status.
 fn report_sizes(rt: &HostRuntime, options: Options<'_>, json: bool) -> u8 {
     let forms = match read_forms_at(rt, options.input) {
         Ok(forms) => forms,

@@ -40,7 +40,7 @@ pub enum Action<'a> {
         /// Where the other is.
         other: Location<'a>,
     },
-    /// How many bytes each section has, here and in the canonical form, is told.
+    /// How many bytes each section has, here and in the canonical form, and how many encodings are longer, is told.
     Report {
         /// Whether it is told as JSON.
         json: bool,
@@ -95,7 +95,9 @@ Examples:
   wasmcanon --diff a.wasm b.wasm          succeed only where both have the same canonical form
   wasmcanon --report app.wasm             how many bytes each section would have
 
-Sections, and the items in a section, are counted from 0.
+Sections, and the items in a section, are numbered from 0. A report tells of each section how many of its items
+(types, imports, function bodies, ..) aren't in their shortest encoding, of how many, and at the end how many sizes
+of sections and counts of items aren't; in JSON by section.
 
 Exit status:
   0  written, canonical, or the same
@@ -107,89 +109,132 @@ Exit status:
 /// The group of the arguments by which something is told and nothing is written. One of them is used at most.
 const QUESTION: &str = "question";
 
+/// An argument of the command line.
+#[derive(Clone, Copy)]
+struct Argument {
+    name: &'static str,
+    form: Form,
+    help: &'static str,
+    /// The groups that it is in.
+    groups: &'static [&'static str],
+    /// The arguments and groups without which it is used.
+    conflicts: &'static [&'static str],
+    /// The arguments with which it is used.
+    needs: &'static [&'static str],
+}
+
+/// How an argument is written.
+#[derive(Clone, Copy)]
+enum Form {
+    /// By its place, as a word of this name.
+    Place(&'static str),
+    /// By a letter or by its name, and after it a word of this name.
+    Value(char, &'static str),
+    /// By its name alone.
+    Flag,
+}
+
+const ARGUMENTS: [Argument; 9] = [
+    Argument {
+        name: "input",
+        form: Form::Place("FILE"),
+        help: "The module; standard input where it is - or isn't named",
+        groups: &[],
+        conflicts: &[],
+        needs: &[],
+    },
+    Argument {
+        name: "other",
+        form: Form::Place("OTHER"),
+        help: "With --diff, the other module",
+        groups: &[],
+        conflicts: &[],
+        needs: &["diff"],
+    },
+    Argument {
+        name: "output",
+        form: Form::Value('o', "FILE"),
+        help: "Where the canonical form goes [default: standard output]",
+        groups: &[],
+        conflicts: &[QUESTION],
+        needs: &[],
+    },
+    Argument {
+        name: "force",
+        form: Form::Flag,
+        help: "Write bytes to a terminal too",
+        groups: &[],
+        conflicts: &[],
+        needs: &[],
+    },
+    Argument {
+        name: "strip-offsets",
+        form: Form::Flag,
+        help: "Leave out custom sections that keep offsets, such as debug information",
+        groups: &[],
+        conflicts: &[QUESTION],
+        needs: &[],
+    },
+    Argument {
+        name: "check",
+        form: Form::Flag,
+        help: "Write nothing, and tell whether the module is canonical",
+        groups: &[QUESTION],
+        conflicts: &[],
+        needs: &[],
+    },
+    Argument {
+        name: "report",
+        form: Form::Flag,
+        help: "Write how many bytes each section has, and how many in the canonical form; and how many encodings are longer",
+        groups: &[QUESTION],
+        conflicts: &[],
+        needs: &[],
+    },
+    Argument {
+        name: "diff",
+        form: Form::Flag,
+        help: "Write nothing, and tell whether FILE and OTHER have the same canonical form",
+        groups: &[QUESTION],
+        conflicts: &[],
+        needs: &["other"],
+    },
+    Argument {
+        name: "json",
+        form: Form::Flag,
+        help: "Write the report as JSON",
+        groups: &[],
+        conflicts: &[],
+        needs: &["report"],
+    },
+];
+
 /// The command line of the program.
 pub fn command<'a>(alloc: Global) -> Result<Command<'a>, AllocError> {
-    let command = Command::new(alloc, "wasmcanon")
+    let mut arguments = Vec::new(alloc);
+    for argument in &ARGUMENTS {
+        arguments.push(arg_of(alloc, argument)?)?;
+    }
+    Command::new(alloc, "wasmcanon")
         .version("0.1.0")
         .about(ABOUT)
-        .after_help(EXAMPLES);
-    with_questions(alloc, with_writing(alloc, with_files(alloc, command)?)?)
+        .after_help(EXAMPLES)
+        .args(arguments)
 }
 
-/// Adds the arguments that name modules.
-fn with_files<'a>(alloc: Global, command: Command<'a>) -> Result<Command<'a>, AllocError> {
-    let command = command.arg(input(alloc))?;
-    command.arg(other(alloc)?)
+fn arg_of<'a>(alloc: Global, argument: &Argument) -> Result<Arg<'a>, AllocError> {
+    let arg = Arg::new(alloc, argument.name).help(argument.help);
+    written_as(arg, argument)
+        .groups(argument.groups)?
+        .conflicts_with_all(argument.conflicts)?
+        .requires_all(argument.needs)
 }
 
-fn input<'a>(alloc: Global) -> Arg<'a> {
-    Arg::new(alloc, "input")
-        .value_name("FILE")
-        .help("The module; standard input where it is - or isn't named")
-}
-
-fn other<'a>(alloc: Global) -> Result<Arg<'a>, AllocError> {
-    Arg::new(alloc, "other")
-        .value_name("OTHER")
-        .help("With --diff, the other module")
-        .requires_arg("diff")
-}
-
-/// Adds the arguments about what is written.
-fn with_writing<'a>(alloc: Global, command: Command<'a>) -> Result<Command<'a>, AllocError> {
-    let command = command.arg(output(alloc)?)?;
-    let command = command.arg(flag(alloc, "force", "Write bytes to a terminal too"))?;
-    command.arg(strip_offsets(alloc)?)
-}
-
-fn output<'a>(alloc: Global) -> Result<Arg<'a>, AllocError> {
-    Arg::new(alloc, "output")
-        .short('o')
-        .long("output")
-        .value_name("FILE")
-        .help("Where the canonical form goes [default: standard output]")
-        .conflicts_with(QUESTION)
-}
-
-fn strip_offsets<'a>(alloc: Global) -> Result<Arg<'a>, AllocError> {
-    let help = "Leave out custom sections that keep offsets, such as debug information";
-    flag(alloc, "strip-offsets", help).conflicts_with(QUESTION)
-}
-
-/// Adds the arguments by which something is told and nothing is written.
-fn with_questions<'a>(alloc: Global, command: Command<'a>) -> Result<Command<'a>, AllocError> {
-    let command = command.arg(check(alloc)?)?;
-    let command = command.arg(report(alloc)?)?;
-    let command = command.arg(diff(alloc)?)?;
-    command.arg(json(alloc)?)
-}
-
-fn check<'a>(alloc: Global) -> Result<Arg<'a>, AllocError> {
-    let help = "Write nothing, and tell whether the module is canonical";
-    question(alloc, "check", help)
-}
-
-fn report<'a>(alloc: Global) -> Result<Arg<'a>, AllocError> {
-    let help = "Write how many bytes each section has, and how many in the canonical form";
-    question(alloc, "report", help)
-}
-
-fn diff<'a>(alloc: Global) -> Result<Arg<'a>, AllocError> {
-    let help = "Write nothing, and tell whether FILE and OTHER have the same canonical form";
-    question(alloc, "diff", help)?.requires_arg("other")
-}
-
-fn json<'a>(alloc: Global) -> Result<Arg<'a>, AllocError> {
-    flag(alloc, "json", "Write the report as JSON").requires_arg("report")
-}
-
-fn question<'a>(alloc: Global, name: &'a str, help: &'a str) -> Result<Arg<'a>, AllocError> {
-    flag(alloc, name, help).group(QUESTION)
-}
-
-fn flag<'a>(alloc: Global, name: &'a str, help: &'a str) -> Arg<'a> {
-    Arg::new(alloc, name)
-        .long(name)
-        .action(ArgAction::SetTrue)
-        .help(help)
+/// The argument of the parser, written in its form.
+fn written_as<'a>(arg: Arg<'a>, argument: &Argument) -> Arg<'a> {
+    match argument.form {
+        Form::Place(word) => arg.value_name(word),
+        Form::Value(letter, word) => arg.short(letter).long(argument.name).value_name(word),
+        Form::Flag => arg.long(argument.name).action(ArgAction::SetTrue),
+    }
 }

@@ -9,6 +9,7 @@ use wasm_codec::reader::cursor::Cursor;
 use wasm_modules::reader::{after_header, read_section};
 use wasm_modules::section::RawSection;
 use wasm_sections::custom::read_custom_section;
+use wasm_sections::modules::{ItemCounts, count_longer_items};
 
 /// A kind of sections that the standard knows (Core 3.0, Modules).
 #[derive(Clone, Copy)]
@@ -70,6 +71,8 @@ pub struct LocatedSection<'a> {
     pub len: usize,
     /// Its id and its body.
     pub section: RawSection<'a>,
+    /// Whether its size has more bytes than its shortest encoding.
+    pub has_longer_size: bool,
 }
 
 impl LocatedSection<'_> {
@@ -92,6 +95,7 @@ pub fn locate_sections<'a>(
     let mut cursor = Cursor::new(rest);
     for _ in 0..rest.len() {
         let left = cursor.len();
+        cursor.set_shortest(true);
         let Ok(section) = read_section(&mut cursor) else {
             break;
         };
@@ -99,10 +103,41 @@ pub fn locate_sections<'a>(
             at: module.len().saturating_sub(left),
             len: left.saturating_sub(cursor.len()),
             section,
+            has_longer_size: !cursor.is_shortest(),
         };
         sections.push(located)?;
     }
     Ok(sections)
+}
+
+/// How many items a section has, and how many of them aren't in their shortest encoding: those of its list, or the one number
+/// that its body begins with. It isn't told of a body that can't be decoded.
+pub fn count_items(
+    alloc: Global,
+    section: RawSection<'_>,
+) -> Result<Option<ItemCounts>, AllocError> {
+    if has_list(section.id) {
+        return count_longer_items(alloc, section.id, section.body);
+    }
+    let counts = longer_number(section.body).map(|longer| ItemCounts {
+        count: 1,
+        longer: u32::from(longer),
+    });
+    Ok(counts)
+}
+
+/// Whether sections with this id are lists of items: neither custom ones nor those of a start function and of a data count.
+pub fn has_list(id: u8) -> bool {
+    !matches!(id, 0 | 8 | 12)
+}
+
+/// Whether the number that bytes begin with, if there is one, has more bytes than its shortest encoding.
+pub fn longer_number(bytes: &[u8]) -> Option<bool> {
+    let mut cursor = Cursor::new(bytes);
+    match cursor.u32() {
+        Ok(_) => Some(!cursor.is_shortest()),
+        Err(_) => None,
+    }
 }
 
 /// What a section is called, in a line of text: its kind, and the name of a custom one.
@@ -123,7 +158,7 @@ impl fmt::Display for SectionTitle<'_> {
 }
 
 /// How many characters of a name are written.
-const SHORT_NAME_LEN: usize = 18;
+const SHORT_NAME_LEN: usize = 14;
 
 /// The beginning of a name, without characters that a terminal takes for something else.
 #[derive(Clone, Copy)]
