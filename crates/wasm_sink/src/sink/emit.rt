@@ -3,7 +3,7 @@
 ghost use Rattle.std.specs.Prelude.{IsOk};
 ghost use Rattle.std.specs.Borrow.{sem};
 ghost use Rattle.wasm_sink.specs.Sink.{opcode_of, IsUnchangedAtErr, IsSameSink, Writes, HasRoom};
-ghost use Rattle.wasm_instructions.specs.Instructions.{IsCall, IsShort};
+ghost use Rattle.wasm_instructions.specs.Instructions.{IsCall};
 ghost use Rattle.wasm_instructions.specs.declared.table.call.Operands.TheVariants as operands;
 
 mod constants;
@@ -18,7 +18,7 @@ use wasm_calls::appenders::{append_index, append_opcode, append_two_indexes};
 use wasm_codec::encode::EncodeError;
 use wasm_instructions::table::{Opcode, Prefix};
 
-#[tactic(auto, using(wasm_calls::proofs::InstructionLengths::short_call, crate::proofs::WrittenCalls::shortest_call))]
+#[tactic(auto, using(crate::proofs::WrittenCalls::short_call, wasm_instructions::proofs::OpcodeLaws::in_table_short, crate::proofs::WrittenCalls::shortest_call))]
 impl<'a, A: Allocator> InstructionSink<'a, A> {
     /// An instruction without operands.
     pub(super) fn emit(
@@ -26,7 +26,6 @@ impl<'a, A: Allocator> InstructionSink<'a, A> {
         prefix: Prefix,
         number: u32,
     ) -> Result<InstructionSink<'a, A>, EncodeError>
-        requires short { IsShort (opcode_of prefix number) }
         requires call { IsCall (opcode_of prefix number) operands.None }
         ensures wrote { Writes self.entry (opcode_of prefix number) operands.None result }
         ensures same { IsSameSink self.entry result }
@@ -45,7 +44,6 @@ impl<'a, A: Allocator> InstructionSink<'a, A> {
         number: u32,
         index: u32,
     ) -> Result<InstructionSink<'a, A>, EncodeError>
-        requires short { IsShort (opcode_of prefix number) }
         requires call { IsCall (opcode_of prefix number) (operands.Index index) }
         ensures wrote { Writes self.entry (opcode_of prefix number) (operands.Index index) result }
         ensures same { IsSameSink self.entry result }
@@ -65,7 +63,6 @@ impl<'a, A: Allocator> InstructionSink<'a, A> {
         first: u32,
         second: u32,
     ) -> Result<InstructionSink<'a, A>, EncodeError>
-        requires short { IsShort (opcode_of prefix number) }
         requires call { IsCall (opcode_of prefix number) (operands.TwoIndexes first second) }
         ensures wrote { Writes self.entry (opcode_of prefix number) (operands.TwoIndexes first second) result }
         ensures same { IsSameSink self.entry result }

@@ -2,7 +2,7 @@
 ghost use Rattle.std.specs.Prelude.{IsOk};
 ghost use Rattle.std.specs.Borrow.{sem};
 ghost use Rattle.wasm_sink.specs.Sink.{IsUnchangedAtErr, IsSameSink, Writes, HasRoom};
-ghost use Rattle.wasm_instructions.specs.Instructions.{IsCall, IsShort};
+ghost use Rattle.wasm_instructions.specs.Instructions.{IsCall};
 ghost use Rattle.wasm_instructions.specs.formats.Opcodes.{after_fd, without_prefix};
 ghost use Rattle.wasm_instructions.specs.declared.table.call.Operands.TheVariants as operands;
 
@@ -15,7 +15,7 @@ use wasm_codec::encode::EncodeError;
 use wasm_instructions::operands::{Ieee32, Ieee64, Lane};
 use wasm_instructions::table::Opcode;
 
-#[tactic(auto, using(wasm_calls::proofs::InstructionLengths::short_call, crate::proofs::WrittenCalls::shortest_call))]
+#[tactic(auto, using(crate::proofs::WrittenCalls::short_call, wasm_instructions::proofs::OpcodeLaws::in_table_short, crate::proofs::WrittenCalls::shortest_call))]
 impl<'a, A: Allocator> InstructionSink<'a, A> {
     /// An instruction without a prefix, with a signed number of 32 bits.
     pub(in crate::sink) fn emit_i32(
@@ -23,7 +23,6 @@ impl<'a, A: Allocator> InstructionSink<'a, A> {
         number: u8,
         value: i32,
     ) -> Result<InstructionSink<'a, A>, EncodeError>
-        requires short { IsShort (without_prefix number) }
         requires call { IsCall (without_prefix number) (operands.I32 value) }
         ensures wrote { Writes self.entry (without_prefix number) (operands.I32 value) result }
         ensures same { IsSameSink self.entry result }
@@ -41,7 +40,6 @@ impl<'a, A: Allocator> InstructionSink<'a, A> {
         number: u8,
         value: i64,
     ) -> Result<InstructionSink<'a, A>, EncodeError>
-        requires short { IsShort (without_prefix number) }
         requires call { IsCall (without_prefix number) (operands.I64 value) }
         ensures wrote { Writes self.entry (without_prefix number) (operands.I64 value) result }
         ensures same { IsSameSink self.entry result }
@@ -59,7 +57,6 @@ impl<'a, A: Allocator> InstructionSink<'a, A> {
         number: u8,
         value: Ieee32,
     ) -> Result<InstructionSink<'a, A>, EncodeError>
-        requires short { IsShort (without_prefix number) }
         requires call { IsCall (without_prefix number) (operands.F32 value) }
         ensures wrote { Writes self.entry (without_prefix number) (operands.F32 value) result }
         ensures same { IsSameSink self.entry result }
@@ -77,7 +74,6 @@ impl<'a, A: Allocator> InstructionSink<'a, A> {
         number: u8,
         value: Ieee64,
     ) -> Result<InstructionSink<'a, A>, EncodeError>
-        requires short { IsShort (without_prefix number) }
         requires call { IsCall (without_prefix number) (operands.F64 value) }
         ensures wrote { Writes self.entry (without_prefix number) (operands.F64 value) result }
         ensures same { IsSameSink self.entry result }
@@ -95,7 +91,6 @@ impl<'a, A: Allocator> InstructionSink<'a, A> {
         number: u32,
         value: i128,
     ) -> Result<InstructionSink<'a, A>, EncodeError>
-        requires short { IsShort (after_fd number) }
         requires call { IsCall (after_fd number) (operands.V128 value) }
         ensures wrote { Writes self.entry (after_fd number) (operands.V128 value) result }
         ensures same { IsSameSink self.entry result }
@@ -113,7 +108,6 @@ impl<'a, A: Allocator> InstructionSink<'a, A> {
         number: u32,
         lanes: [Lane; 16],
     ) -> Result<InstructionSink<'a, A>, EncodeError>
-        requires short { IsShort (after_fd number) }
         requires call { IsCall (after_fd number) (operands.Shuffle lanes) }
         ensures wrote { Writes self.entry (after_fd number) (operands.Shuffle lanes) result }
         ensures same { IsSameSink self.entry result }
@@ -131,7 +125,6 @@ impl<'a, A: Allocator> InstructionSink<'a, A> {
         number: u32,
         lane: Lane,
     ) -> Result<InstructionSink<'a, A>, EncodeError>
-        requires short { IsShort (after_fd number) }
         requires call { IsCall (after_fd number) (operands.Lane lane) }
         ensures wrote { Writes self.entry (after_fd number) (operands.Lane lane) result }
         ensures same { IsSameSink self.entry result }

@@ -1,8 +1,8 @@
 //! Instructions with a list.
-ghost use Rattle.std.specs.Prelude.{◌≡◌, ◌<◌, Some, length, IfErr};
+ghost use Rattle.std.specs.Prelude.{◌≡◌, Some, length, IfErr};
 ghost use Rattle.std.specs.Borrow.{sem};
 ghost use Rattle.wasm_sink.specs.Sink.{IsUnchangedAtErr, IsSameSink};
-ghost use Rattle.wasm_instructions.specs.Instructions.{IsCall, IsShort};
+ghost use Rattle.wasm_instructions.specs.Instructions.{IsCall};
 ghost use Rattle.wasm_instructions.specs.formats.Opcodes.{without_prefix, opcode_kind};
 ghost use Rattle.wasm_instructions.specs.declared.table.opcode.Kind.TheVariants as kinds;
 ghost use Rattle.wasm_instructions.specs.declared.table.call.Operands.TheVariants as operands;
@@ -20,7 +20,7 @@ use wasm_instructions::operands::{BlockType, Catch, Handle};
 use wasm_instructions::table::Opcode;
 use wasm_types::types::ValType;
 
-#[tactic(auto, using(crate::proofs::WrittenCalls::shortest_call), unfolding(wasm_calls::specs::Appending::AppendsAll))]
+#[tactic(auto, using(wasm_instructions::proofs::OpcodeLaws::in_table_short, crate::proofs::WrittenCalls::shortest_call), unfolding(wasm_calls::specs::Appending::AppendsAll))]
 impl<'a, A: Allocator> InstructionSink<'a, A> {
     /// An instruction without a prefix, with value types.
     pub(in crate::sink) fn emit_types(
@@ -28,7 +28,6 @@ impl<'a, A: Allocator> InstructionSink<'a, A> {
         number: u8,
         types: &[ValType],
     ) -> Result<InstructionSink<'a, A>, EncodeError>
-        requires short { IsShort (without_prefix number) }
         requires call { IsCall (without_prefix number) (operands.Types types.now) }
         ensures wrote { WritesList self.entry (without_prefix number) (operands.Types types.now) (length types.now) result }
         ensures same { IsSameSink self.entry result }
@@ -46,7 +45,6 @@ impl<'a, A: Allocator> InstructionSink<'a, A> {
         labels: I,
         default: u32,
     ) -> Result<InstructionSink<'a, A>, EncodeError>
-        requires short { number < 0xfb }
         requires call { opcode_kind (without_prefix number) ≡ Some kinds.BrTable }
         requires can { I.can_next labels }
         ensures wrote { WritesItems I.next_gives self.entry (without_prefix number) (λ xs. operands.BrTable xs default) labels result }
@@ -68,7 +66,6 @@ impl<'a, A: Allocator> InstructionSink<'a, A> {
         block_type: BlockType,
         clauses: I,
     ) -> Result<InstructionSink<'a, A>, EncodeError>
-        requires short { number < 0xfb }
         requires call { opcode_kind (without_prefix number) ≡ Some kinds.TryTable }
         requires can { I.can_next clauses }
         ensures wrote { WritesItems I.next_gives self.entry (without_prefix number) (λ xs. operands.TryTable block_type xs) clauses result }
@@ -90,7 +87,6 @@ impl<'a, A: Allocator> InstructionSink<'a, A> {
         index: u32,
         handlers: I,
     ) -> Result<InstructionSink<'a, A>, EncodeError>
-        requires short { number < 0xfb }
         requires call { opcode_kind (without_prefix number) ≡ Some kinds.Resume }
         requires can { I.can_next handlers }
         ensures wrote { WritesItems I.next_gives self.entry (without_prefix number) (λ xs. operands.Resume index xs) handlers result }
@@ -113,7 +109,6 @@ impl<'a, A: Allocator> InstructionSink<'a, A> {
         second: u32,
         handlers: I,
     ) -> Result<InstructionSink<'a, A>, EncodeError>
-        requires short { number < 0xfb }
         requires call { opcode_kind (without_prefix number) ≡ Some kinds.ResumeThrow }
         requires can { I.can_next handlers }
         ensures wrote { WritesItems I.next_gives self.entry (without_prefix number) (λ xs. operands.ResumeThrow first second xs) handlers result }

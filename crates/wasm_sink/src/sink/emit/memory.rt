@@ -2,7 +2,7 @@
 ghost use Rattle.std.specs.Prelude.{◌≤◌, ◌<◌, ◌↔◌, IsOk, IsErrOf};
 ghost use Rattle.std.specs.Borrow.{sem};
 ghost use Rattle.wasm_sink.specs.Sink.{opcode_of, IsUnchangedAtErr, IsSameSink, WritesBytes, HasRoom};
-ghost use Rattle.wasm_instructions.specs.Instructions.{IsCall, IsShort};
+ghost use Rattle.wasm_instructions.specs.Instructions.{IsCall};
 ghost use Rattle.wasm_instructions.specs.formats.Opcodes.{after_fd};
 ghost use Rattle.wasm_instructions.specs.declared.table.call.Operands.TheVariants as operands;
 
@@ -13,7 +13,7 @@ use wasm_codec::encode::EncodeError;
 use wasm_instructions::operands::{Lane, MemArg};
 use wasm_instructions::table::{Opcode, Prefix};
 
-#[tactic(auto, using(wasm_calls::proofs::InstructionLengths::short_call, crate::proofs::WrittenCalls::shortest_call))]
+#[tactic(auto, using(crate::proofs::WrittenCalls::short_call, wasm_instructions::proofs::OpcodeLaws::in_table_short, crate::proofs::WrittenCalls::shortest_call))]
 impl<'a, A: Allocator> InstructionSink<'a, A> {
     /// An instruction with a memory argument.
     pub(in crate::sink) fn emit_mem(
@@ -22,7 +22,6 @@ impl<'a, A: Allocator> InstructionSink<'a, A> {
         number: u32,
         memarg: MemArg,
     ) -> Result<InstructionSink<'a, A>, EncodeError>
-        requires short { IsShort (opcode_of prefix number) }
         requires call { IsCall (opcode_of prefix number) (operands.Mem memarg) }
         ensures wrote { WritesBytes self.entry (opcode_of prefix number) (operands.Mem memarg) result }
         ensures same { IsSameSink self.entry result }
@@ -42,7 +41,6 @@ impl<'a, A: Allocator> InstructionSink<'a, A> {
         memarg: MemArg,
         lane: Lane,
     ) -> Result<InstructionSink<'a, A>, EncodeError>
-        requires short { IsShort (after_fd number) }
         requires call { IsCall (after_fd number) (operands.MemLane memarg lane) }
         ensures wrote { WritesBytes self.entry (after_fd number) (operands.MemLane memarg lane) result }
         ensures same { IsSameSink self.entry result }

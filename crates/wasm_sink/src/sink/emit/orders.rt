@@ -2,7 +2,7 @@
 ghost use Rattle.std.specs.Prelude.{IsOk};
 ghost use Rattle.std.specs.Borrow.{sem};
 ghost use Rattle.wasm_sink.specs.Sink.{IsUnchangedAtErr, IsSameSink, Writes, HasRoom};
-ghost use Rattle.wasm_instructions.specs.Instructions.{IsCall, IsShort};
+ghost use Rattle.wasm_instructions.specs.Instructions.{IsCall};
 ghost use Rattle.wasm_instructions.specs.formats.Opcodes.{after_fe};
 ghost use Rattle.wasm_instructions.specs.declared.table.call.Operands.TheVariants as operands;
 
@@ -13,7 +13,7 @@ use wasm_codec::encode::EncodeError;
 use wasm_instructions::operands::Ordering;
 use wasm_instructions::table::Opcode;
 
-#[tactic(auto, using(wasm_calls::proofs::InstructionLengths::short_call, crate::proofs::WrittenCalls::shortest_call))]
+#[tactic(auto, using(crate::proofs::WrittenCalls::short_call, wasm_instructions::proofs::OpcodeLaws::in_table_short, crate::proofs::WrittenCalls::shortest_call))]
 impl<'a, A: Allocator> InstructionSink<'a, A> {
     /// An instruction after `0xFE`, with an ordering.
     pub(in crate::sink) fn emit_order(
@@ -21,7 +21,6 @@ impl<'a, A: Allocator> InstructionSink<'a, A> {
         number: u32,
         ordering: Ordering,
     ) -> Result<InstructionSink<'a, A>, EncodeError>
-        requires short { IsShort (after_fe number) }
         requires call { IsCall (after_fe number) (operands.Order ordering) }
         ensures wrote { Writes self.entry (after_fe number) (operands.Order ordering) result }
         ensures same { IsSameSink self.entry result }
@@ -40,7 +39,6 @@ impl<'a, A: Allocator> InstructionSink<'a, A> {
         ordering: Ordering,
         index: u32,
     ) -> Result<InstructionSink<'a, A>, EncodeError>
-        requires short { IsShort (after_fe number) }
         requires call { IsCall (after_fe number) (operands.OrderIndex ordering index) }
         ensures wrote { Writes self.entry (after_fe number) (operands.OrderIndex ordering index) result }
         ensures same { IsSameSink self.entry result }
@@ -60,7 +58,6 @@ impl<'a, A: Allocator> InstructionSink<'a, A> {
         first: u32,
         second: u32,
     ) -> Result<InstructionSink<'a, A>, EncodeError>
-        requires short { IsShort (after_fe number) }
         requires call { IsCall (after_fe number) (operands.OrderTwoIndexes ordering first second) }
         ensures wrote { Writes self.entry (after_fe number) (operands.OrderTwoIndexes ordering first second) result }
         ensures same { IsSameSink self.entry result }

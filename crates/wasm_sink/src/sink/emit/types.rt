@@ -1,8 +1,8 @@
 //! Instructions with block, heap, reference and value types.
-ghost use Rattle.std.specs.Prelude.{◌∷◌, [], ◌<◌, IsOk};
+ghost use Rattle.std.specs.Prelude.{◌∷◌, [], IsOk};
 ghost use Rattle.std.specs.Borrow.{sem};
 ghost use Rattle.wasm_sink.specs.Sink.{opcode_of, IsUnchangedAtErr, IsSameSink, Writes, HasRoom};
-ghost use Rattle.wasm_instructions.specs.Instructions.{IsCall, IsShort};
+ghost use Rattle.wasm_instructions.specs.Instructions.{IsCall};
 ghost use Rattle.wasm_instructions.specs.formats.Opcodes.{after_fb, without_prefix};
 ghost use Rattle.wasm_instructions.specs.declared.table.call.Operands.TheVariants as operands;
 
@@ -14,7 +14,7 @@ use wasm_instructions::operands::BlockType;
 use wasm_instructions::table::{Opcode, Prefix};
 use wasm_types::types::{HeapType, RefType, ValType};
 
-#[tactic(auto, using(wasm_calls::proofs::InstructionLengths::short_call, crate::proofs::WrittenCalls::shortest_call))]
+#[tactic(auto, using(crate::proofs::WrittenCalls::short_call, wasm_instructions::proofs::OpcodeLaws::in_table_short, crate::proofs::WrittenCalls::shortest_call))]
 impl<'a, A: Allocator> InstructionSink<'a, A> {
     /// An instruction without a prefix, with a block type.
     pub(in crate::sink) fn emit_block(
@@ -22,7 +22,6 @@ impl<'a, A: Allocator> InstructionSink<'a, A> {
         number: u8,
         block_type: BlockType,
     ) -> Result<InstructionSink<'a, A>, EncodeError>
-        requires short { IsShort (without_prefix number) }
         requires call { IsCall (without_prefix number) (operands.Block block_type) }
         ensures wrote { Writes self.entry (without_prefix number) (operands.Block block_type) result }
         ensures same { IsSameSink self.entry result }
@@ -41,7 +40,6 @@ impl<'a, A: Allocator> InstructionSink<'a, A> {
         number: u32,
         heap_type: HeapType,
     ) -> Result<InstructionSink<'a, A>, EncodeError>
-        requires short { IsShort (opcode_of prefix number) }
         requires call { IsCall (opcode_of prefix number) (operands.Heap heap_type) }
         ensures wrote { Writes self.entry (opcode_of prefix number) (operands.Heap heap_type) result }
         ensures same { IsSameSink self.entry result }
@@ -59,7 +57,6 @@ impl<'a, A: Allocator> InstructionSink<'a, A> {
         number: u8,
         ty: ValType,
     ) -> Result<InstructionSink<'a, A>, EncodeError>
-        requires short { IsShort (without_prefix number) }
         requires call { IsCall (without_prefix number) (operands.Types (ty ∷ [])) }
         ensures wrote { Writes self.entry (without_prefix number) (operands.Types (ty ∷ [])) result }
         ensures same { IsSameSink self.entry result }
@@ -79,8 +76,6 @@ impl<'a, A: Allocator> InstructionSink<'a, A> {
         from: RefType,
         to: RefType,
     ) -> Result<InstructionSink<'a, A>, EncodeError>
-        // A branch on a cast has no more than 20 bytes since its opcode's number has one.
-        requires short { number < 128 }
         requires call { IsCall (after_fb number) (operands.Cast label from to) }
         ensures wrote { Writes self.entry (after_fb number) (operands.Cast label from to) result }
         ensures same { IsSameSink self.entry result }

@@ -1,8 +1,7 @@
 use Rattle.std.proofs.Common.{rules, refl}
-use Rattle.wasm_calls.proofs.InstructionLengths.{short_call}
 use Rattle.wasm_instructions.specs.formats.Opcodes.{after_fb}
 use Rattle.wasm_instructions.specs.declared.table.call.Operands.TheVariants as operands
-use Rattle.wasm_sink.proofs.WrittenCalls.{shortest_call}
+use Rattle.wasm_sink.proofs.WrittenCalls.{short_call, shortest_call}
 use Rattle.wasm_sink.proofs.sink.InstructionSink.emit_cast.Goals as goal
 
 pub returns : goal.returns

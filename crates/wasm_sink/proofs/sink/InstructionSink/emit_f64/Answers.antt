@@ -1,6 +1,5 @@
 use Rattle.std.proofs.Common.{rules, refl}
-use Rattle.wasm_calls.proofs.InstructionLengths.{short_call}
-use Rattle.wasm_sink.proofs.WrittenCalls.{shortest_call}
+use Rattle.wasm_sink.proofs.WrittenCalls.{short_call, shortest_call}
 use Rattle.wasm_sink.proofs.sink.InstructionSink.emit_f64.Goals as goal
 
 pub returns : goal.returns

@@ -1,9 +1,15 @@
-use Rattle.std.proofs.Common.{rules, refl, sym}
+use Rattle.std.proofs.Common.{rules, refl, subst, sym}
+use Rattle.wasm_instructions.proofs.OpcodeLaws.{in_table_short}
+use Rattle.wasm_instructions.specs.declared.table.opcode.Kind.TheVariants as kinds
+use Rattle.wasm_instructions.specs.Instructions.{IsShort}
 use Rattle.wasm_instructions.specs.formats.Opcodes.{without_prefix}
 use Rattle.wasm_instructions.specs.declared.table.call.Operands.TheVariants as operands
 use Rattle.wasm_calls.specs.Appending.{AppendsAll}
 use Rattle.wasm_sink.proofs.WrittenCalls.{given, shortest_call}
 use Rattle.wasm_sink.proofs.sink.InstructionSink.emit_try_table.Goals as goal
+
+pub append_try_table-requires-clause-short : goal.append_try_table-requires-clause-short
+append_try_table-requires-clause-short g c = subst IsShort (sym c.without_prefix-op.ensures) (in_table_short (without_prefix c.args.number) kinds.TryTable c.requires.call)
 
 pub returns : goal.returns
 unfolding AppendsAll
