@@ -4,6 +4,7 @@ ghost use Rattle.wasm_instructions.specs.formats.Instructions.{operands_format};
 ghost use Rattle.wasm_instructions.specs.formats.Operands.{block_type, catch_clause, handle_clause, castop, mem_arg, ordering, vector};
 ghost use Rattle.wasm_instructions.specs.declared.operands.control.Catch.{Catch};
 ghost use Rattle.wasm_instructions.specs.declared.operands.control.Handle.{Handle};
+ghost use Rattle.wasm_instructions.specs.declared.table.opcode.Kind.TheVariants as kinds;
 
 use crate::operands::{Catch, Handle};
 use crate::table::Kind;
@@ -13,7 +14,7 @@ use wasm_types::normaliser::{rewrite_heap_type, rewrite_val_type};
 use wasm_types::types::ValType;
 
 /// Operands of a kind.
-#[tactic(auto, using(std::proofs::Common::append_assoc), unfolding(crate::specs::formats::Instructions::operands_format, crate::specs::formats::Operands::lanes))]
+#[tactic(auto, using(std::proofs::Common::append_assoc), unfolding(crate::specs::formats::Instructions::operands_format))]
 pub(super) fn rewrite_operands(rewriter: &mut Rewriter, kind: Kind) -> Result<(), Fault>
     ensures rewrites { Rewrites (operands_format kind) rewriter.old rewriter.new result }
 {
@@ -35,13 +36,10 @@ pub(super) fn rewrite_operands(rewriter: &mut Rewriter, kind: Kind) -> Result<()
             Ok(())
         }
         Kind::Types => rewrite_list::<ValType>(rewriter),
-        Kind::TryTable => {
-            rewrite_block_type(rewriter)?;
-            rewrite_list::<Catch>(rewriter)
-        }
+        Kind::TryTable => rewrite_try_table(rewriter),
         Kind::Mem => rewrite_mem_arg(rewriter),
-        Kind::I32 => rewriter.s32(),
-        Kind::I64 => rewriter.s64(),
+        Kind::I32 => rewrite_i32(rewriter),
+        Kind::I64 => rewrite_i64(rewriter),
         Kind::F32 => rewriter.number(4),
         Kind::F64 => rewriter.number(8),
         Kind::Heap => rewrite_heap_type(rewriter),
@@ -54,18 +52,10 @@ pub(super) fn rewrite_operands(rewriter: &mut Rewriter, kind: Kind) -> Result<()
             rewriter.u32()?;
             rewrite_list::<Handle>(rewriter)
         }
-        Kind::Cast => {
-            rewrite_castop(rewriter)?;
-            rewriter.u32()?;
-            rewrite_heap_type(rewriter)?;
-            rewrite_heap_type(rewriter)
-        }
+        Kind::Cast => rewrite_cast(rewriter),
         Kind::V128 => rewrite_vector(rewriter),
-        Kind::Shuffle => rewriter.bytes(16),
-        Kind::Lane => {
-            rewriter.byte()?;
-            Ok(())
-        }
+        Kind::Shuffle => rewrite_lanes(rewriter),
+        Kind::Lane => rewrite_lane(rewriter),
         Kind::MemLane => {
             rewrite_mem_arg(rewriter)?;
             rewriter.byte()?;
@@ -84,6 +74,59 @@ pub(super) fn rewrite_operands(rewriter: &mut Rewriter, kind: Kind) -> Result<()
             Ok(())
         }
     }
+}
+
+/// A block type and the clauses of a `try_table`.
+#[tactic(auto, using(std::proofs::Common::append_assoc), unfolding(crate::specs::formats::Instructions::operands_format))]
+fn rewrite_try_table(rewriter: &mut Rewriter) -> Result<(), Fault>
+    ensures rewrites { Rewrites (operands_format kinds.TryTable) rewriter.old rewriter.new result }
+{
+    rewrite_block_type(rewriter)?;
+    rewrite_list::<Catch>(rewriter)
+}
+
+/// The constant of an `i32.const`.
+#[tactic(auto, unfolding(crate::specs::formats::Instructions::operands_format))]
+fn rewrite_i32(rewriter: &mut Rewriter) -> Result<(), Fault>
+    ensures rewrites { Rewrites (operands_format kinds.I32) rewriter.old rewriter.new result }
+{
+    rewriter.s32()
+}
+
+/// The constant of an `i64.const`.
+#[tactic(auto, unfolding(crate::specs::formats::Instructions::operands_format))]
+fn rewrite_i64(rewriter: &mut Rewriter) -> Result<(), Fault>
+    ensures rewrites { Rewrites (operands_format kinds.I64) rewriter.old rewriter.new result }
+{
+    rewriter.s64()
+}
+
+/// The flags of a branch on a cast, its label and its two types.
+#[tactic(auto, using(std::proofs::Common::append_assoc), unfolding(crate::specs::formats::Instructions::operands_format))]
+fn rewrite_cast(rewriter: &mut Rewriter) -> Result<(), Fault>
+    ensures rewrites { Rewrites (operands_format kinds.Cast) rewriter.old rewriter.new result }
+{
+    rewrite_castop(rewriter)?;
+    rewriter.u32()?;
+    rewrite_heap_type(rewriter)?;
+    rewrite_heap_type(rewriter)
+}
+
+/// The lanes of a shuffle.
+#[tactic(auto, unfolding(crate::specs::formats::Instructions::operands_format, crate::specs::formats::Operands::lanes))]
+fn rewrite_lanes(rewriter: &mut Rewriter) -> Result<(), Fault>
+    ensures rewrites { Rewrites (operands_format kinds.Shuffle) rewriter.old rewriter.new result }
+{
+    rewriter.bytes(16)
+}
+
+/// A lane.
+#[tactic(auto, unfolding(crate::specs::formats::Instructions::operands_format))]
+fn rewrite_lane(rewriter: &mut Rewriter) -> Result<(), Fault>
+    ensures rewrites { Rewrites (operands_format kinds.Lane) rewriter.old rewriter.new result }
+{
+    let _lane = rewriter.byte()?;
+    Ok(())
 }
 
 /// A block type.
