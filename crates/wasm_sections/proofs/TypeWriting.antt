@@ -1,5 +1,7 @@
 -- What is written of types of what is imported and exported.
-use Rattle.std.proofs.Common.{◌≡◌, ℕ, Bool, ◌+◌, ◌^◌, ◌<◌, true, false, List, [], ◌∷◌, ◌++◌, append_assoc, Option, Some, None, refl, ap, ◌∙◌}
+use Rattle.std.proofs.Common.{◌≡◌, ℕ, Bool, ◌+◌, ◌^◌, ◌<◌, true, false, List, [], ◌∷◌, ◌++◌, length, take, append_assoc, Option, Some, None, Result, Ok, Err, OnOk, OnErr, refl, sym, ap, ◌∙◌}
+use Rattle.std.proofs.lemmas.List.{append-nil}
+use Rattle.std.proofs.Math.Seq.{take-append_seam}
 use Rattle.std.specs.Prelude.{is_some, IfSome}
 use Rattle.wasm_codec.specs.Encoding.{IsShortest}
 use Rattle.wasm_codec.specs.Leb128.{unsigned_leb128}
@@ -43,6 +45,17 @@ three old a b c one more new p q r = two old a (b ++ c) one new p (two one b c m
 
 pub four : (old a b c d one more most new : List ℕ) → one ≡ old ++ a → more ≡ one ++ b → most ≡ more ++ c → new ≡ most ++ d → new ≡ old ++ (a ++ (b ++ (c ++ d)))
 four old a b c d one more most new p q r s = two old a (b ++ (c ++ d)) one new p (three one b c d more most new q r s)
+
+-- what stood before that was appended stands there still
+pub kept_after : (old more new : List ℕ) → new ≡ old ++ more → take (length old) new ≡ old
+kept_after old more new e = ap (take (length old)) e ∙ take-append_seam old more
+
+pub kept_by_three : (old a b c one more most new : List ℕ) → one ≡ old ++ a → more ≡ one ++ b → most ≡ more ++ c → new ≡ most → take (length old) new ≡ old
+kept_by_three old a b c one more most new p q r left = kept_after old (a ++ (b ++ c)) new (left ∙ three old a b c one more most p q r)
+
+pub kept_either : {T E : Type 0} (r : Result T E) (old more new : List ℕ) → OnOk r (new ≡ old ++ more) → OnErr r (new ≡ old) → take (length old) new ≡ old
+kept_either (Ok x) old more new written left = kept_after old more new written
+kept_either (Err e) old more new written left = kept_after old [] new (left ∙ sym (append-nil old))
 
 -- ---- memories and tables
 

@@ -63,7 +63,6 @@ fn body_len(section: &CustomSection<'_>) -> Result<usize, EncodeError>
 }
 
 /// Appends the body of a custom section. An `Err` can leave a part of it.
-#[tactic(auto, using(crate::proofs::CustomWriting::body_appended))]
 fn append_body<A: Allocator>(
     section: &CustomSection<'_>,
     sink: &mut Vec<u8, A>,

@@ -43,7 +43,6 @@ fn are_utf8(text: &str)
 }
 
 /// Appends an export. An `Err` can leave a part of it.
-#[tactic(auto, using(crate::proofs::EntryWriting::export_appended, crate::proofs::EntryWriting::export_written))]
 fn append_export<A: Allocator>(
     export: &Export<'_>,
     sink: &mut Vec<u8, A>,
@@ -81,7 +80,6 @@ impl<'a> Encode for Export<'a> {
 }
 
 /// Appends an import. An `Err` can leave a part of it.
-#[tactic(auto, using(crate::proofs::EntryWriting::import_appended, crate::proofs::EntryWriting::import_written))]
 fn append_import<A: Allocator>(
     import: &Import<'_>,
     sink: &mut Vec<u8, A>,

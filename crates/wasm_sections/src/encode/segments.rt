@@ -29,7 +29,6 @@ use wasm_writers::encode::{Encode, EncodeError, encode_bytes, encode_list, encod
 
 /// Appends the number of a form, the index of a memory or table where it is told, and the place in it. An `Err` can leave
 /// a part of them.
-#[tactic(auto, using(crate::proofs::TypeWriting::three))]
 fn append_place<A: Allocator>(
     form: u32,
     index: Option<u32>,
@@ -90,7 +89,6 @@ fn append_data_mode<A: Allocator>(
 }
 
 /// Appends a data segment. An `Err` can leave a part of it.
-#[tactic(auto, using(crate::proofs::SegmentWriting::data_appended, crate::proofs::SegmentWriting::data_written))]
 fn append_data_segment<A: Allocator>(
     segment: &DataSegment<'_>,
     sink: &mut Vec<u8, A>,

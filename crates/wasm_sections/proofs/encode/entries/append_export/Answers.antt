@@ -1,6 +1,7 @@
 use Rattle.std.proofs.Common.{◌≡◌, [], ◌∷◌, ◌++◌}
 use Rattle.wasm_sections.specs.formats.EntryParts.{export_parts}
 use Rattle.wasm_sections.proofs.EntryWriting.{export_appended, export_written}
+use Rattle.wasm_sections.proofs.TypeWriting.{kept_after}
 use Rattle.wasm_sections.proofs.encode.entries.append_export.Goals as goal
 
 pub returns-clause-ok : goal.returns-clause-ok
@@ -10,3 +11,6 @@ returns-clause-ok g c =
 
 pub returns-clause-written : goal.returns-clause-written
 returns-clause-written g c = export_written (export_parts c.args.export.now) c.in_ok-append_name.ensures.written c.put_u32.ensures.shortest
+
+pub returns-clause-kept : goal.returns-clause-kept
+returns-clause-kept g c = kept_after _ _ _ (returns-clause-ok g c)

@@ -1,5 +1,6 @@
 use Rattle.std.proofs.Common.{◌≡◌, [], ◌∷◌, ◌++◌}
 use Rattle.wasm_sections.proofs.ExpressionWriting.{expr_appended, expr_counted, expr_written}
+use Rattle.wasm_sections.proofs.TypeWriting.{kept_after}
 use Rattle.wasm_sections.proofs.encode.expressions.append_expr.Goals as goal
 
 pub returns-clause-ok : goal.returns-clause-ok
@@ -12,3 +13,6 @@ returns-clause-can g c = expr_counted c.args.calls.now c.in_ok-append_calls.ensu
 
 pub returns-clause-written : goal.returns-clause-written
 returns-clause-written g c = expr_written c.args.calls.now c.in_ok-append_calls.ensures.encodes
+
+pub returns-clause-kept : goal.returns-clause-kept
+returns-clause-kept g c = kept_after _ _ _ (returns-clause-ok g c)

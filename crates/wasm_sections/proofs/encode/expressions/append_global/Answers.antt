@@ -1,4 +1,7 @@
+use Rattle.std.proofs.Common.{◌≡◌, ◌++◌, ◌∙◌}
 use Rattle.wasm_sections.proofs.ExpressionWriting.{global_appended, global_entry_written}
+use Rattle.wasm_sections.proofs.TypeWriting.{kept_after}
+use Rattle.wasm_sections.specs.formats.Externals.{global_type}
 use Rattle.wasm_sections.proofs.encode.expressions.append_global.Goals as goal
 
 pub returns-clause-ok : goal.returns-clause-ok
@@ -6,3 +9,11 @@ returns-clause-ok g c = global_appended c.args.global.now c.as_slice.result.now 
 
 pub returns-clause-written : goal.returns-clause-written
 returns-clause-written g c = global_entry_written c.args.global.now c.as_slice.result.now c.as_slice.ensures.value c.put_global_type.ensures.written c.in_ok-encode_expr.ensures.written
+
+pub returns-in_err-encode_expr-clause-kept : goal.returns-in_err-encode_expr-clause-kept
+returns-in_err-encode_expr-clause-kept g c =
+    let first : c.put_global_type.new.bytes.items ≡ c.args.sink.now.items ++ global_type.bytes c.args.global.now.ty = rw (← c.in_ok-reserve.ensures.items) c.put_global_type.ensures.items in
+    kept_after _ _ _ (c.in_err-encode_expr.ensures.err ∙ first)
+
+pub returns-clause-kept : goal.returns-clause-kept
+returns-clause-kept g c = kept_after _ _ _ (returns-clause-ok g c)

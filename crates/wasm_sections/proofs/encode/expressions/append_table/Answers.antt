@@ -1,5 +1,7 @@
 use Rattle.std.proofs.Common.{◌≡◌, [], ◌∷◌, ◌++◌}
+use Rattle.wasm_sections.specs.formats.Externals.{table_type}
 use Rattle.wasm_sections.proofs.ExpressionWriting.{unfilled_appended, unfilled_written, filled_appended, filled_written}
+use Rattle.wasm_sections.proofs.TypeWriting.{kept_after, kept_by_three}
 use Rattle.wasm_sections.proofs.encode.expressions.append_table.Goals as goal
 
 pub returns-in_default-clause-ok : goal.returns-in_default-clause-ok
@@ -15,3 +17,17 @@ returns-clause-ok g c =
 
 pub returns-clause-written : goal.returns-clause-written
 returns-clause-written g c = filled_written c.args.table.now c.in-Some.init c.as_slice.result.now c.in-Some.is c.as_slice.ensures.value c.put_table_type-2.ensures.written c.in_ok-encode_expr.ensures.written
+
+pub returns-in_default-clause-kept : goal.returns-in_default-clause-kept
+returns-in_default-clause-kept g c = kept_after _ _ _ (returns-in_default-clause-ok g c)
+
+pub returns-in_err-encode_expr-clause-kept : goal.returns-in_err-encode_expr-clause-kept
+returns-in_err-encode_expr-clause-kept g c =
+    let first : c.push_reserved.new.self.items ≡ c.args.sink.now.items ++ 0x40 ∷ [] = rw (← c.in_ok-reserve-2.ensures.items) c.push_reserved.ensures.items in
+    let second : c.push_reserved-2.new.self.items ≡ c.push_reserved.new.self.items ++ 0x00 ∷ [] = c.push_reserved-2.ensures.items in
+    let third : c.put_table_type-2.new.bytes.items ≡ c.push_reserved-2.new.self.items ++ table_type.bytes c.args.table.now.ty = c.put_table_type-2.ensures.items in
+    let left : c.encode_expr.new.sink.items ≡ c.put_table_type-2.new.bytes.items = c.in_err-encode_expr.ensures.err in
+    kept_by_three c.args.sink.now.items (0x40 ∷ []) (0x00 ∷ []) (table_type.bytes c.args.table.now.ty) c.push_reserved.new.self.items c.push_reserved-2.new.self.items c.put_table_type-2.new.bytes.items c.encode_expr.new.sink.items first second third left
+
+pub returns-clause-kept : goal.returns-clause-kept
+returns-clause-kept g c = kept_after _ _ _ (returns-clause-ok g c)

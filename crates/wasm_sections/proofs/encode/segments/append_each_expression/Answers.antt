@@ -1,10 +1,11 @@
-use Rattle.std.proofs.Common.{◌≡◌, ◌+◌, ◌++◌, ◌∷◌, [], take, sym, subst, ap, ◌∙◌}
+use Rattle.std.proofs.Common.{◌≡◌, ◌+◌, ◌++◌, ◌∷◌, [], take, sym, subst, ap, ◌∙◌, arith}
 use Rattle.std.specs.List.{All}
-use Rattle.std.proofs.lemmas.List.{take_more}
+use Rattle.std.proofs.lemmas.List.{take_all, take_more}
 use Rattle.std.proofs.lemmas.List.Elements.{All-push}
 use Rattle.wasm_writers.proofs.WrittenLists.{one_more}
 use Rattle.wasm_sections.specs.Closed.{IsCountedExpr, IsWrittenExpr}
 use Rattle.wasm_sections.specs.formats.Expressions.{expr}
+use Rattle.wasm_sections.proofs.TypeWriting.{kept_after}
 use Rattle.wasm_sections.proofs.encode.segments.append_each_expression.Goals as goal
 
 pub loop-expression-preserved : goal.loop-expression-preserved
@@ -17,3 +18,24 @@ loop-expression-preserved g c =
       can = subst (All IsCountedExpr) (sym longer) (All-push IsCountedExpr before item c.loop-expression.invariant.can (subst IsCountedExpr c.as_slice.ensures.value c.in_ok-encode_expr.ensures.can));
       written = subst (All IsWrittenExpr) (sym longer) (All-push IsWrittenExpr before item c.loop-expression.invariant.written (subst IsWrittenExpr c.as_slice.ensures.value c.in_ok-encode_expr.ensures.written));
     }
+
+pub returns-in_err-encode_expr-clause-kept : goal.returns-in_err-encode_expr-clause-kept
+returns-in_err-encode_expr-clause-kept g c = kept_after _ _ _ (c.in_err-encode_expr.ensures.err ∙ c.loop-expression.invariant.bytes)
+
+pub returns-clause-ok : goal.returns-clause-ok
+returns-clause-ok g c =
+    let whole : take c.loop-expression.expression-index c.args.expressions.now ≡ c.args.expressions.now = take_all c.loop-expression.expression-index c.args.expressions.now (omega arith) in
+    rw whole at c.loop-expression.invariant.bytes
+
+pub returns-clause-can : goal.returns-clause-can
+returns-clause-can g c =
+    let whole : take c.loop-expression.expression-index c.args.expressions.now ≡ c.args.expressions.now = take_all c.loop-expression.expression-index c.args.expressions.now (omega arith) in
+    subst (All IsCountedExpr) whole c.loop-expression.invariant.can
+
+pub returns-clause-written : goal.returns-clause-written
+returns-clause-written g c =
+    let whole : take c.loop-expression.expression-index c.args.expressions.now ≡ c.args.expressions.now = take_all c.loop-expression.expression-index c.args.expressions.now (omega arith) in
+    subst (All IsWrittenExpr) whole c.loop-expression.invariant.written
+
+pub returns-clause-kept : goal.returns-clause-kept
+returns-clause-kept g c = kept_after _ _ _ c.loop-expression.invariant.bytes
