@@ -119,6 +119,22 @@ joined_items nothing = refl
 joined_items {F = F} (shortest {bytes} {items} item before encodes) = Joined-more F.Encodes bytes items (F.bytes item) item (joined_items before) encodes
 joined_items {F = F} (more {bytes} {items} item encoding before encodes longer) = Joined-more F.Encodes bytes items encoding item (joined_items before) encodes
 
+nothing_left : (bytes : List ℕ) → length bytes ≡ 0 → bytes ≡ []
+nothing_left [] e = refl
+nothing_left (b ∷ bytes) e = absurd cc
+
+-- all items were read, and nothing is left
+pub counting_done : {V : Type 0} (F : Format V) (body : List ℕ) (here : Rewriting) (count i longer : ℕ) → Counting F body here count i longer → i ≡ count → length here.place.left ≡ 0 → CountsLonger F body count longer
+counting_done F body here count i longer w all none = record {
+  head = w.head;
+  back = w.back;
+  items = w.items;
+  parts = w.parts ∙ ap (λ (l : List ℕ). w.head ++ (w.back ++ l)) (nothing_left here.place.left none) ∙ ap (λ (l : List ℕ). w.head ++ l) (append-nil w.back);
+  counted = w.counted;
+  all = w.len ∙ all;
+  longer_items = w.longer_items;
+}
+
 -- locals without instructions are code
 pub only_locals : (code : List ℕ) (count longer : ℕ) → CountsLonger local_group code count longer → EncodesSome function_code.Encodes code
 only_locals code count longer c =
