@@ -182,7 +182,6 @@ impl Encode for TagType {
 }
 
 /// Writes the type of what is imported in 2 to 29 bytes.
-#[tactic(auto, using(std::proofs::Common::append_assoc, crate::proofs::TypeWriting::function_entity_written, crate::proofs::TypeWriting::table_entity_written, crate::proofs::TypeWriting::memory_entity_written, crate::proofs::TypeWriting::global_entity_written, crate::proofs::TypeWriting::tag_entity_written, crate::proofs::TypeWriting::exact_entity_written), unfolding(crate::specs::formats::Externals::entity_type))]
 pub(crate) fn put_entity_type<A: Allocator>(bytes: &mut Vec<u8, A>, ty: &EntityType)
     requires { vec_len bytes.old + 29 ≤ vec_capacity bytes.old }
     ensures items { bytes.new.items ≡ bytes.old.items ++ entity_type.bytes ty.now }
