@@ -1,11 +1,12 @@
 //! Files that are read, and files that are put in the place of others.
 use crate::options::Location;
+use crate::progress::{Progress, Source};
 use crate::run::{
     Failure, Forms, Verdict, canonicalise, canonicalise_without_offsets, check, read_forms,
 };
 use std::alloc::Global;
 use std::fs::File;
-use std::io::{Read, Write};
+use std::io::Write;
 use std::path::{Path, PathBuf};
 use std::{fs, io};
 
@@ -17,78 +18,79 @@ pub fn canonicalise_file(
     output: Location<'_>,
     strip_offsets: bool,
 ) -> Result<Option<&'static str>, Failure> {
-    match input {
-        Location::Standard => canonicalise_to(rt, &mut rt.stdin(), output, strip_offsets),
-        Location::File(path) => canonicalise_to(rt, &mut open(rt, path)?, output, strip_offsets),
-    }
+    let mut source = open(rt, input, Progress::new(rt).beside(output))?;
+    let stale = canonicalise_to(rt, &mut source, output, strip_offsets);
+    source.end();
+    stale
 }
 
 /// Tells whether the module that is there is its canonical form.
 pub fn check_file(rt: &HostRuntime, input: Location<'_>) -> Result<Verdict, Failure> {
-    match input {
-        Location::Standard => check(rt.alloc(), &mut rt.stdin()),
-        Location::File(path) => check(rt.alloc(), &mut open(rt, path)?),
-    }
+    let mut source = open(rt, input, Progress::new(rt))?;
+    let verdict = check(rt.alloc(), &mut source);
+    source.end();
+    verdict
 }
 
 /// The module that is there, and its canonical form.
 pub fn read_forms_at(rt: &HostRuntime, input: Location<'_>) -> Result<Forms, Failure> {
-    match input {
-        Location::Standard => read_forms(rt.alloc(), &mut rt.stdin()),
-        Location::File(path) => read_forms(rt.alloc(), &mut open(rt, path)?),
-    }
+    let mut source = open(rt, input, Progress::new(rt))?;
+    let forms = read_forms(rt.alloc(), &mut source);
+    source.end();
+    forms
 }
 
-fn open(rt: &HostRuntime, path: &str) -> Result<File, Failure> {
-    File::open(rt, path).map_err(Failure::Read)
+fn open(rt: &HostRuntime, input: Location<'_>, progress: Progress) -> Result<Source, Failure> {
+    Source::open(rt, input, progress).map_err(Failure::Read)
 }
 
-fn canonicalise_to<R: Read>(
+fn canonicalise_to(
     rt: &HostRuntime,
-    reader: &mut R,
+    source: &mut Source,
     output: Location<'_>,
     strip_offsets: bool,
 ) -> Result<Option<&'static str>, Failure> {
     match output {
         Location::Standard => {
             let mut writer = rt.stdout();
-            let stale = write_form(rt.alloc(), reader, &mut writer, strip_offsets)?;
+            let stale = write_form(rt.alloc(), source, &mut writer, strip_offsets)?;
             writer.flush().map_err(Failure::Write)?;
             Ok(stale)
         }
-        Location::File(path) => canonicalise_to_file(rt, reader, path, strip_offsets),
+        Location::File(path) => canonicalise_to_file(rt, source, path, strip_offsets),
     }
 }
 
 /// Writes the canonical form of what is read, or that form without the custom sections that keep offsets.
-fn write_form<R: Read, W: Write>(
+fn write_form<W: Write>(
     alloc: Global,
-    reader: &mut R,
+    source: &mut Source,
     writer: &mut W,
     strip_offsets: bool,
 ) -> Result<Option<&'static str>, Failure> {
+    let mut writer = source.watch(writer);
     if strip_offsets {
-        canonicalise_without_offsets(alloc, reader, writer)?;
+        canonicalise_without_offsets(alloc, source, &mut writer)?;
         Ok(None)
     } else {
-        canonicalise(alloc, reader, writer)
+        canonicalise(alloc, source, &mut writer)
     }
 }
 
 /// A file that is there stays as it is unless all of the form is written: that goes to a new file beside it, which then takes
 /// its name. A device or a pipe is written to as it is.
-fn canonicalise_to_file<R: Read>(
+fn canonicalise_to_file(
     rt: &HostRuntime,
-    reader: &mut R,
+    source: &mut Source,
     path: &str,
     strip_offsets: bool,
 ) -> Result<Option<&'static str>, Failure> {
     if is_special(rt, path) {
         let mut file = fs::create(rt, path).map_err(write_failure)?;
-        return write_form(rt.alloc(), reader, &mut file, strip_offsets);
+        return write_form(rt.alloc(), source, &mut file, strip_offsets);
     }
     let mut replacement = Replacement::create(rt, path).map_err(write_failure)?;
-    match write_form(rt.alloc(), reader, &mut replacement.file, strip_offsets) {
+    match write_form(rt.alloc(), source, &mut replacement.file, strip_offsets) {
         Ok(stale) => match replacement.put(rt) {
             Ok(()) => Ok(stale),
             Err(error) => Err(write_failure(error)),

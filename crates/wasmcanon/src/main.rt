@@ -11,6 +11,7 @@ mod messages;
 mod offsets;
 mod options;
 mod places;
+mod progress;
 mod report;
 mod run;
 mod sections;
@@ -20,7 +21,7 @@ use diff::find_difference;
 use files::{canonicalise_file, check_file, read_forms_at};
 use messages::{FailureMessage, InputName, OffsetWarning};
 use options::{Action, Location, Options, command};
-use report::Report;
+use report::{JsonReport, Report};
 use run::{Failure, Verdict};
 use std::alloc::AllocError;
 use std::io::IsTerminal;
@@ -163,17 +164,17 @@ fn report_sizes(rt: &HostRuntime, options: Options<'_>, json: bool) -> u8 {
     let Ok(report) = Report::new(rt.alloc(), &forms.input, &forms.canonical) else {
         return no_memory(rt);
     };
-    let written = if json {
-        match report.to_json(rt.alloc()) {
-            Ok(text) => println!(rt; "{text}"),
-            Err(_) => return no_memory(rt),
-        }
-    } else {
-        println!(rt; "{report}")
-    };
-    match written {
+    match print_report(rt, &report, json) {
         Ok(()) => 0,
         Err(error) => report_failure(rt, options, Failure::Write(error)),
+    }
+}
+
+fn print_report(rt: &HostRuntime, report: &Report<'_>, json: bool) -> io::Result<()> {
+    if json {
+        println!(rt; "{}", JsonReport(report))
+    } else {
+        println!(rt; "{report}")
     }
 }
 

@@ -4,7 +4,6 @@ use crate::sections::{
     LocatedSection, SectionKind, SectionTitle, count_items, custom_name, has_list, locate_sections,
     longer_number,
 };
-use serde_json::{Value, json};
 use std::alloc::{AllocError, Global};
 use std::fmt;
 use wasm_modules::section::RawSection;
@@ -68,20 +67,6 @@ impl<'a> Report<'a> {
         })
     }
 
-    /// The same as JSON, for other programs.
-    pub fn to_json(&self, alloc: Global) -> Result<String, AllocError> {
-        let mut sections = Vec::new(alloc);
-        for (number, row) in self.rows.iter().enumerate() {
-            sections.push(row.to_json(alloc, number)?)?;
-        }
-        let report = json!(in alloc; {
-            "before": self.before,
-            "after": self.after,
-            "sections": Value::Array(sections)
-        })?;
-        report.to_string(alloc)
-    }
-
     /// The items of all sections.
     fn items(&self) -> Tally {
         let mut tally = Tally::NONE;
@@ -129,34 +114,6 @@ impl<'a> ReportRow<'a> {
             has_longer_count: has_list(id) && longer_number(body) == Some(true),
         })
     }
-
-    fn to_json(&self, alloc: Global, number: usize) -> Result<Value, AllocError> {
-        let encodings = self.encodings_to_json(alloc)?;
-        let section = self.section.section;
-        let name = match custom_name(section) {
-            Some(name) => Value::try_from_str(alloc, name)?,
-            None => Value::Null,
-        };
-        json!(in alloc; {
-            "section": number,
-            "id": section.id,
-            "kind": kind_name(section.id),
-            "name": name,
-            "before": self.section.len,
-            "after": self.after,
-            "encodings": encodings
-        })
-    }
-
-    /// Which encodings are longer, as JSON.
-    fn encodings_to_json(&self, alloc: Global) -> Result<Value, AllocError> {
-        json!(in alloc; {
-            "items": self.items.count,
-            "longer_items": self.items.longer,
-            "longer_size": self.section.has_longer_size,
-            "longer_count": self.has_longer_count
-        })
-    }
 }
 
 /// What sections with this id are called; nothing where there are none.
@@ -199,5 +156,81 @@ impl fmt::Display for ReportRow<'_> {
             "{before:>9} {:>9} {saved:>9} {:>7} {:>7}  {title}",
             self.after, self.items.longer, self.items.count
         )
+    }
+}
+
+/// A report as JSON, for other programs.
+#[derive(Clone, Copy)]
+pub struct JsonReport<'a>(pub &'a Report<'a>);
+
+impl fmt::Display for JsonReport<'_> {
+    fn fmt<W: fmt::Write>(&self, f: &mut fmt::Formatter<W>) -> fmt::Result {
+        let JsonReport(report) = *self;
+        write!(
+            f,
+            "{{\"before\":{},\"after\":{},\"sections\":[",
+            report.before, report.after
+        )?;
+        for (number, row) in report.rows.iter().enumerate() {
+            if number > 0 {
+                write!(f, ",")?;
+            }
+            write!(f, "{}", JsonRow { number, row })?;
+        }
+        write!(f, "]}}")
+    }
+}
+
+/// A section of a report as JSON.
+#[derive(Clone, Copy)]
+struct JsonRow<'a> {
+    number: usize,
+    row: &'a ReportRow<'a>,
+}
+
+impl fmt::Display for JsonRow<'_> {
+    fn fmt<W: fmt::Write>(&self, f: &mut fmt::Formatter<W>) -> fmt::Result {
+        let (number, row) = (self.number, self.row);
+        let section = row.section.section;
+        let (id, kind) = (section.id, kind_name(section.id));
+        write!(
+            f,
+            "{{\"section\":{number},\"id\":{id},\"kind\":\"{kind}\",\"name\":"
+        )?;
+        match custom_name(section) {
+            Some(name) => write!(f, "{}", JsonText(name))?,
+            None => write!(f, "null")?,
+        }
+        write!(
+            f,
+            ",\"before\":{},\"after\":{},\"encodings\":{{\"items\":{},\"longer_items\":{},\"longer_size\":{},\"longer_count\":{}}}}}",
+            row.section.len,
+            row.after,
+            row.items.count,
+            row.items.longer,
+            row.section.has_longer_size,
+            row.has_longer_count
+        )
+    }
+}
+
+/// A text as JSON, in quotes. A quote, a backslash and a control character are written as escapes (RFC 8259, 7).
+#[derive(Clone, Copy)]
+struct JsonText<'a>(&'a str);
+
+impl fmt::Display for JsonText<'_> {
+    fn fmt<W: fmt::Write>(&self, f: &mut fmt::Formatter<W>) -> fmt::Result {
+        write!(f, "\"")?;
+        for character in self.0.chars() {
+            if character == '"' || character == '\\' {
+                write!(f, "\\")?;
+            }
+            if character < ' ' {
+                write!(f, "\\u{:04x}", u32::from(character))?;
+            } else {
+                write!(f, "{character}")?;
+            }
+        }
+        write!(f, "\"")
     }
 }
