@@ -39,6 +39,11 @@ list_begun F bytes start here count fits start-is e =
       bytes_left = IsBytes-after bytes here.place.left count one fits;
     }
 
+pub left_within : {V : Type 0} (F : Format V) (bytes : List ℕ) (here : Rewriting) (count i : ℕ) → ListGoing F bytes here count i → length here.place.left ≤ length bytes
+left_within F bytes here count i w =
+    let t = w.gone.taken in
+    omega (arith, ap (length {A = ℕ}) t.parts, length-append t.head t.after, ap (length {A = ℕ}) t.progress.parts, length-append t.progress.prefix here.place.left)
+
 pub list_more : {V : Type 0} {F : Format V} → IsLawful F → TakesBytes F.Encodes → (bytes : List ℕ) (here next : Rewriting) (count i : ℕ) → ListGoing F bytes here count i → i < count → rewriting_after F here ≡ Some next → ListGoing F bytes next count (i + 1)
 list_more {V} {F} r some bytes here next count i w lt e =
     let one = is_after F here next e in

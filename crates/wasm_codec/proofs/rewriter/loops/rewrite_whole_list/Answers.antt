@@ -1,7 +1,7 @@
-use Rattle.std.proofs.Common.{◌≡◌, ◌-◌, length, ap, subst, arith}
+use Rattle.std.proofs.Common.{◌≡◌, ◌≤◌, ◌-◌, length, ap, subst, arith}
 use Rattle.wasm_codec.specs.formats.Grammar.{IsBytes}
 use Rattle.wasm_codec.specs.Rewriter.{Rewriting, RefusesList}
-use Rattle.wasm_codec.proofs.ListRewriting.{list_begun, list_more, no_count_there, no_item_there, left_over, list_given}
+use Rattle.wasm_codec.proofs.ListRewriting.{list_begun, list_more, left_within, no_count_there, no_item_there, left_over, list_given}
 use Rattle.wasm_codec.proofs.rewriter.loops.rewrite_whole_list.Goals as goal
 
 pub returns-in_default : goal.returns-in_default
@@ -14,6 +14,12 @@ loop-init g c =
     let fits : IsBytes c.args.bytes.items = subst IsBytes (ap (λ (r : Rewriting). r.place.left) c.new-rewriter.ensures) c.are_bytes.ensures in
     list_begun g.T.Rewritable.format c.args.bytes.items c.new-rewriter.result c.u32.new.self c.in-Ok.count fits c.new-rewriter.ensures c.in-Ok.ensures
 
+pub overflow_sub-result : goal.overflow_sub-result
+overflow_sub-result g c =
+    let within = left_within g.T.Rewritable.format c.args.bytes.items c.loop.rewriter c.in-Ok.count c.loop.counter c.loop.invariant in
+    let fits : c.len-left.result ≤ c.len-len.result = omega (arith, within) in
+    fits
+
 pub returns-in-Err : goal.returns-in-Err
 returns-in-Err g c =
     let law = c.is_lawful.ensures in
@@ -24,6 +30,12 @@ pub loop-preserved : goal.loop-preserved
 loop-preserved g c =
     let law = c.is_lawful.ensures in
     list_more law.lawful law.some c.args.bytes.items c.loop.rewriter c.rewrite.new.rewriter c.in-Ok.count c.loop.counter c.loop.invariant c.loop-test.true c.in_default-rewrite.ensures.rewrites
+
+pub overflow_sub-result-then-left-gt0 : goal.overflow_sub-result-then-left-gt0
+overflow_sub-result-then-left-gt0 g c =
+    let within = left_within g.T.Rewritable.format c.args.bytes.items c.loop.rewriter c.in-Ok.count c.loop.counter c.loop.invariant in
+    let fits : c.len-left-2.result ≤ c.len-len.result = omega (arith, within) in
+    fits
 
 pub returns-then-left-gt0 : goal.returns-then-left-gt0
 returns-then-left-gt0 g c =
