@@ -8,7 +8,7 @@ import subprocess
 import sys
 import tempfile
 
-MILLIONS = 4_000_000
+COUNT = 4_000_000
 PADDED = b"\x80\x80\x80\x80\x00"
 HEADER = b"\0asm\1\0\0\0"
 
@@ -25,8 +25,8 @@ def sized(body):
     return u32(len(body)) + body
 
 
-def types(item, count=MILLIONS):
-    return u32(count) + item * count
+def list_of(item):
+    return u32(COUNT) + item * COUNT
 
 
 def type_section(body):
@@ -42,15 +42,15 @@ def function(code):
 
 
 def inputs():
-    n = MILLIONS
-    yield "types 60 00 00", "module", type_section(types(b"\x60\0\0"))
-    yield "types with padded counts", "module", type_section(types(b"\x60\x80\0\x80\0"))
-    yield "types 4F 00 5D 00", "module", type_section(types(b"\x4f\0\x5d\0"))
+    n = COUNT
+    yield "types 60 00 00", "module", type_section(list_of(b"\x60\0\0"))
+    yield "types with padded counts", "module", type_section(list_of(b"\x60\x80\0\x80\0"))
+    yield "types 4F 00 5D 00", "module", type_section(list_of(b"\x4f\0\x5d\0"))
     yield "a function type", "module", type_section(b"\1\x60" + u32(4 * n) + b"\x7f" * (4 * n) + b"\0")
     yield "a recursion group", "module", type_section(b"\1\x4e" + u32(n) + b"\x5e\x7f\0" * n)
     yield "a structure of shared types", "module", type_section(b"\1\x5f" + u32(n) + b"\x63\x65\x6e\0" * n)
-    yield "code bodies 02 00 0B", "module", code_section(types(b"\x02\0\x0b"))
-    yield "code bodies with padded sizes", "module", code_section(types(b"\x82\x80\x80\x80\x00\0\x0b"))
+    yield "code bodies 02 00 0B", "module", code_section(list_of(b"\x02\0\x0b"))
+    yield "code bodies with padded sizes", "module", code_section(list_of(b"\x82\x80\x80\x80\x00\0\x0b"))
     yield "locals", "module", function(u32(n) + b"\1\x7f" * n + b"\x0b")
     yield "padded locals", "module", function(u32(n) + b"\x81\0\x7f" * n + b"\x0b")
     yield "nop", "module", function(b"\0" + b"\1" * (8 * n) + b"\x0b")
@@ -74,8 +74,8 @@ def inputs():
     yield "select with a type", "calls", b"\x1c\x01\x63\x70" * n
     yield "ref.null of padded indexes", "calls", b"\xd0\x80\x00" * n
     yield "nop, and a refusal", "calls", b"\1" * (8 * n) + b"\xff"
-    yield "60 00 00", "types", types(b"\x60\0\0")
-    yield "60 00 00, and a refusal", "types", types(b"\x60\0\0") + b"\1"
+    yield "60 00 00", "types", list_of(b"\x60\0\0")
+    yield "60 00 00, and a refusal", "types", list_of(b"\x60\0\0") + b"\1"
 
 
 def measure(program, mode, data, room):
