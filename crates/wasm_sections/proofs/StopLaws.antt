@@ -1,5 +1,6 @@
 -- The laws of bodies that stop to be whole at an item, and of the items in longer encodings.
-use Rattle.std.proofs.Common.{◌≡◌, ℕ, ◌+◌, ◌-◌, ◌<◌, ◌≤◌, ◌⊎◌, true, List, [], ◌∷◌, ◌++◌, length, drop, Some, ap, sym, subst, ◌∙◌, inl, inr, refl, append_assoc, length-append, arith}
+use Rattle.std.proofs.Common.{◌≡◌, ℕ, ◌+◌, ◌-◌, ◌<◌, ◌≤◌, ◌⊎◌, true, IfNone, Result, Ok, Err, List, [], ◌∷◌, ◌++◌, length, drop, Some, ap, sym, subst, ◌∙◌, inl, inr, refl, append_assoc, length-append, arith}
+use Rattle.std.specs.Result.{result_ok, result_err}
 use Rattle.std.proofs.lemmas.List.{append-nil, drop_at}
 use Rattle.wasm_codec.specs.Answers.{EncodesSome, IsLongestPrefix}
 use Rattle.wasm_codec.specs.formats.Grammar.{Grammar, IsBytes, TakesBytes, Joined}
@@ -22,8 +23,9 @@ use Rattle.wasm_instructions.specs.formats.Instructions.{Instruction, Instructio
 use Rattle.wasm_modules.specs.formats.CodeBodies.{local_group, function_code}
 use Rattle.wasm_modules.proofs.CodeBodyLaws.{Lawful-local-group, local_group_takes}
 use Rattle.wasm_readers.proofs.CheckLaws.{an_item}
-use Rattle.wasm_sections.specs.Stops.{HasItemsBefore, StopsAtItem, HasLonger, nothing, shortest, more, CountsLonger, StopsInCode}
+use Rattle.wasm_sections.specs.Stops.{HasItemsBefore, StopsAtItem, HasLonger, nothing, shortest, more, CountsLonger, Tells, HoldsItems, OfItems, types, imports, functions, tables, memories, globals, exports, elements, bodies, data_segments, tags, StopsInCode}
 use Rattle.wasm_sections.specs.declared.modules.places.CodePlace.TheVariants.{Locals, Instruction as AtInstruction}
+use Rattle.wasm_sections.specs.declared.modules.places.ItemCounts.{ItemCounts}
 use Rattle.wasm_sections.specs.declared.modules.places.ItemPlace.{ItemPlace}
 use Rattle.wasm_types.specs.declared.types.value.ValType.{ValType}
 
@@ -109,15 +111,44 @@ counting_longer {V} {F} r some body here next count i longer w lt e fewer =
       few = omega (arith, w.few);
     }
 
--- ---- within the code of a function
+-- ---- what is told of a section's items
 
-u32_takes : TakesBytes EncodesU32
-u32_takes = takes_bytes Lawful-u32 refl
+-- What follows from it for any format follows for the items of a section.
+pub of_items : {P Q : (V : Type 0) → Format V → Type 0} {id : ℕ} → ((V : Type 0) (F : Format V) → P V F → Q V F) → OfItems P id → OfItems Q id
+of_items follows (types is p) = types is (follows _ _ p)
+of_items follows (imports is p) = imports is (follows _ _ p)
+of_items follows (functions is p) = functions is (follows _ _ p)
+of_items follows (tables is p) = tables is (follows _ _ p)
+of_items follows (memories is p) = memories is (follows _ _ p)
+of_items follows (globals is p) = globals is (follows _ _ p)
+of_items follows (exports is p) = exports is (follows _ _ p)
+of_items follows (elements is p) = elements is (follows _ _ p)
+of_items follows (bodies is p) = bodies is (follows _ _ p)
+of_items follows (data_segments is p) = data_segments is (follows _ _ p)
+of_items follows (tags is p) = tags is (follows _ _ p)
 
 joined_items : {V : Type 0} {F : Format V} {bytes : List ℕ} {items : List V} {longer : ℕ} → HasLonger F bytes items longer → Joined F.Encodes bytes items
 joined_items nothing = refl
 joined_items {F = F} (shortest {bytes} {items} item before encodes) = Joined-more F.Encodes bytes items (F.bytes item) item (joined_items before) encodes
 joined_items {F = F} (more {bytes} {items} item encoding before encodes longer) = Joined-more F.Encodes bytes items encoding item (joined_items before) encodes
+
+-- a body whose items are counted is a list
+pub counted_list : {V : Type 0} (F : Format V) (body : List ℕ) (count longer : ℕ) → CountsLonger F body count longer → EncodesSome (EncodesList F.Encodes) body
+counted_list F body count longer c = (c.items, (c.head, c.back, c.parts, subst (EncodesU32 c.head) (sym c.all) c.counted, joined_items c.longer_items))
+
+-- Where no place is told of a section's items, its body is a list; where no counts are told, it isn't.
+pub unless_place : (body : List ℕ) {id : ℕ} (told : Result ItemCounts ItemPlace) → OfItems (λ V F. Tells F body told) id → IfNone (result_err told) (HoldsItems id → OfItems (λ V F. EncodesSome (EncodesList F.Encodes) body) id)
+unless_place body (Ok counts) items = λ _. of_items (λ V F counted. counted_list F _ counts.count counts.longer counted) items
+unless_place body (Err p) items = tt
+
+pub unless_counts : (body : List ℕ) {id : ℕ} (told : Result ItemCounts ItemPlace) → OfItems (λ V F. Tells F body told) id → IfNone (result_ok told) (HoldsItems id → OfItems (λ V F. EncodesSome (EncodesList F.Encodes) body → ⊥) id)
+unless_counts body (Ok counts) items = tt
+unless_counts body (Err p) items = λ _. of_items (λ V F stops some. stops.unencoded some.0 some.1) items
+
+-- ---- within the code of a function
+
+u32_takes : TakesBytes EncodesU32
+u32_takes = takes_bytes Lawful-u32 refl
 
 nothing_left : (bytes : List ℕ) → length bytes ≡ 0 → bytes ≡ []
 nothing_left [] e = refl
@@ -138,8 +169,8 @@ counting_done F body here count i longer w all none = record {
 -- locals without instructions are code
 pub only_locals : (code : List ℕ) (count longer : ℕ) → CountsLonger local_group code count longer → EncodesSome function_code.Encodes code
 only_locals code count longer c =
-    let groups : EncodesList local_group.Encodes code c.items = (c.head, c.back, c.parts, subst (EncodesU32 c.head) (sym c.all) c.counted, joined_items c.longer_items) in
-    ((c.items, []), (code, [], sym (append-nil code), groups, refl))
+    let groups = counted_list local_group code count longer c in
+    ((groups.0, []), (code, [], sym (append-nil code), groups.1, refl))
 
 -- of bytes that begin alike the longer part has more items
 more_items : {V : Type 0} {G : Grammar V} {read : PlainReader V} → IsReadBy G read → TakesBytes G → (back other rest after : List ℕ) (items others : List V) → Joined G back items → Joined G other others → back ++ rest ≡ other ++ after → length items < length others → length other ≤ length back → ⊥

@@ -1,6 +1,6 @@
 -- Where the body of a section stops to be whole (WebAssembly Core 3.0, Lists), and which of its items aren't in their shortest
 -- encoding.
-use Rattle.std.specs.Prelude.{◌≡◌, ◌+◌, ◌<◌, ◌≤◌, ◌⊎◌, ℕ, List, [], ◌∷◌, ◌++◌, length, Result, Ok, Err}
+use Rattle.std.specs.Prelude.{◌≡◌, ◌+◌, ◌<◌, ◌≤◌, ◌⊎◌, ℕ, List, [], ◌∷◌, ◌++◌, length, Result, Ok, Err, ⊤}
 use Rattle.wasm_codec.specs.Answers.{EncodesSome, IsLongestPrefix}
 use Rattle.wasm_codec.specs.formats.Grammar.{Grammar, Joined}
 use Rattle.wasm_codec.specs.Lists.{EncodesList, IsListPrefix}
@@ -73,6 +73,10 @@ pub data OfItems (P : (V : Type 0) → Format V → Type 0) (id : ℕ) : Type 0 
   bodies : id ≡ 10 → P _ code_body → OfItems P id
   data_segments : id ≡ 11 → P _ data_segment → OfItems P id
   tags : id ≡ 13 → P _ tag_type → OfItems P id
+
+-- Sections with this id hold a list of items.
+abbrev pub HoldsItems : ℕ → Type 0
+HoldsItems id = OfItems (λ V F. ⊤) id
 
 -- ---- within the code of a function
 

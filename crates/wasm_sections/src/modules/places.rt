@@ -1,10 +1,11 @@
 //! Where the body of a section can't be decoded, and how many of its items aren't in their shortest encoding.
 ghost use Rattle.std.specs.Prelude.{ℕ, List, ◌<◌, length, IfOk, IfSome, IfNone};
 ghost use Rattle.wasm_codec.specs.Answers.{EncodesSome, IsLongestPrefix};
+ghost use Rattle.wasm_codec.specs.Lists.{EncodesList};
 ghost use Rattle.wasm_types.specs.declared.types.value.ValType.{ValType};
 ghost use Rattle.wasm_instructions.specs.formats.Instructions.{Instructions};
 ghost use Rattle.wasm_modules.specs.formats.CodeBodies.{local_group, function_code};
-ghost use Rattle.wasm_sections.specs.Stops.{OfItems, StopsAtItem, CountsLonger, Tells, StopsInCode};
+ghost use Rattle.wasm_sections.specs.Stops.{OfItems, HoldsItems, StopsAtItem, CountsLonger, Tells, StopsInCode};
 
 use crate::data::DataSegment;
 use crate::elements::Element;
@@ -64,10 +65,13 @@ pub fn first_broken_item(
     // The items before the place are whole, no more of the body is, and it encodes no list of what such a section holds.
     ensures stops { IfOk result (λ place. IfSome place (λ place.
         OfItems (λ V F. StopsAtItem F body.now place.count place.index place.at) id)) }
+    // Of a section that holds a list, `None` is answered only where the body encodes one.
+    ensures whole { IfOk result (λ place. IfNone place (HoldsItems id →
+        OfItems (λ V F. EncodesSome (EncodesList F.Encodes) body.now) id)) }
 {
     match look_over(id, Vec::from_slice(alloc, body)?) {
-        Some(Err(place)) => Ok(Some(place)),
-        _ => Ok(None),
+        Some(told) => Ok(told.err()),
+        None => Ok(None),
     }
 }
 
@@ -81,16 +85,20 @@ pub fn count_longer_items(
     // The body is a list of so many items of such a section, of which so many are longer than their shortest encoding.
     ensures counts { IfOk result (λ counts. IfSome counts (λ counts.
         OfItems (λ V F. CountsLonger F body.now counts.count counts.longer) id)) }
+    // Of a section that holds a list, `None` is answered only where the body encodes none.
+    ensures refused { IfOk result (λ counts. IfNone counts (HoldsItems id →
+        OfItems (λ V F. EncodesSome (EncodesList F.Encodes) body.now → ⊥) id)) }
 {
     match look_over(id, Vec::from_slice(alloc, body)?) {
-        Some(Ok(counts)) => Ok(Some(counts)),
-        _ => Ok(None),
+        Some(told) => Ok(told.ok()),
+        None => Ok(None),
     }
 }
 
 /// What is told of the items in the body of a section with this id; nothing of sections that aren't lists.
 fn look_over(id: u8, body: Vec<u8>) -> Option<Result<ItemCounts, ItemPlace>>
-    ensures { IfSome result (λ told. OfItems (λ V F. Tells F body.items told) id) }
+    ensures tells { IfSome result (λ told. OfItems (λ V F. Tells F body.items told) id) }
+    ensures no_list { IfNone result (HoldsItems id → ⊥) }
 {
     match id {
         1 => Some(look_over_list::<TypeEntry>(body)),
