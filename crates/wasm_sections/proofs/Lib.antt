@@ -11,6 +11,7 @@ pub mod ExpressionRewriting
 pub mod SegmentLaws
 pub mod SegmentRewriting
 pub mod ElementLaws
+pub mod ElementReading
 pub mod ElementRewriting
 pub mod ValueReading
 pub mod WholeBodies

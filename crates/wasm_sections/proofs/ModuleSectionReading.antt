@@ -1,5 +1,5 @@
 -- What is read and rewritten of a section after its id.
-use Rattle.std.proofs.Common.{◌≡◌, ℕ, List, [], ◌∷◌, ◌++◌, Some, Result, Ok, Err, refl, sym, ap, ◌∙◌, append_assoc}
+use Rattle.std.proofs.Common.{◌≡◌, ℕ, ◌≤◌, List, [], ◌∷◌, ◌++◌, length, Some, Result, Ok, Err, refl, sym, ap, ◌∙◌, append_assoc, arith}
 use Rattle.wasm_codec.specs.declared.reader.cursor.Fault.{Fault}
 use Rattle.wasm_codec.specs.declared.reader.cursor.Fault.TheVariants as faults
 use Rattle.wasm_codec.specs.Places.{Place, place, byte_at, map_at, Reads}
@@ -104,7 +104,15 @@ tags_kind = record { at_is = λ p after e. rw e refl; bytes_are = λ v. refl }
 
 -- ---- a custom section
 
+nothing_left : (bytes : List ℕ) → length bytes ≤ 0 → bytes ≡ []
+nothing_left [] none = refl
+nothing_left (b ∷ bytes) none = absurd (omega arith)
+
 module _ (old outer body : Place) (is_body : body_at old ≡ Some (body.left, outer)) (tells : body ≡ place outer.shortest body.left) where
+  -- a value that is all of the body
+  pub body_read : {V : Type 0} (F : Format V) (end : Place) (v : V) (len : ℕ) → F.at body ≡ Some (v, end) → len ≡ length end.left → len ≤ 0 → (sized F).at old ≡ Some (v, place end.shortest outer.left)
+  body_read F end v len e counted none = sized_read F old outer end body.left v is_body (ap F.at (sym tells) ∙ e) (nothing_left end.left (omega (arith, counted, none)))
+
   pub custom_read : (mid : Place) (text rest : List ℕ) → name.at body ≡ Some (text, mid) → rest ≡ mid.left → (sized custom_body).at old ≡ Some (custom_of (text, rest), place mid.shortest outer.left)
   unfolding custom_body
   custom_read mid text rest e is =

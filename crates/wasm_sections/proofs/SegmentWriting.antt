@@ -1,5 +1,5 @@
 -- What is written of segments.
-use Rattle.std.proofs.Common.{◌≡◌, ℕ, ◌^◌, ◌<◌, Bool, true, false, eqb, List, ◌++◌, length, append_assoc, refl, sym, ap, subst, ◌∙◌}
+use Rattle.std.proofs.Common.{◌≡◌, ℕ, ◌^◌, ◌<◌, Bool, true, false, eqb, List, ◌++◌, length, append_assoc, Some, None, refl, sym, ap, subst, ◌∙◌}
 use Rattle.std.proofs.lemmas.Bool.{eqb-true}
 use Rattle.wasm_codec.specs.formats.Grammar.{IsBytes}
 use Rattle.wasm_codec.specs.Leb128.{unsigned_leb128}
@@ -10,7 +10,7 @@ use Rattle.wasm_sections.specs.declared.data.DataSegmentMode.{DataSegmentMode}
 use Rattle.wasm_sections.specs.declared.data.DataSegmentMode.TheVariants as data_modes
 use Rattle.wasm_sections.specs.Closed.{IsClosed, IsClosedData}
 use Rattle.wasm_sections.specs.formats.EntryParts.{DataParts}
-use Rattle.wasm_sections.specs.SegmentBytes.{data_mode_bytes, DataModeFits}
+use Rattle.wasm_sections.specs.SegmentBytes.{place_bytes, data_mode_bytes, DataModeFits}
 use Rattle.wasm_sections.specs.formats.Parts.{part_if}
 use Rattle.wasm_sections.specs.formats.Expressions.{expr}
 use Rattle.wasm_sections.specs.formats.Segments.{data_segment}
@@ -25,6 +25,12 @@ data_mode_fits mode memory offset calls is these small made closed =
     let whole : IsClosed offset → IsShortest expr.Encodes expr.bytes offset = subst (λ (l : List Instruction). IsClosed l → IsShortest expr.Encodes expr.bytes l) these made in
     let ends : IsClosed offset = subst IsClosedData is closed in
     subst DataModeFits (sym is) (small, in_expr offset (whole ends))
+
+pub first_memory_appended : (mode : DataSegmentMode) (memory : ℕ) (offset calls : List Instruction) (old new : List ℕ) → mode ≡ data_modes.Active memory offset → calls ≡ offset → memory ≡ 0 → new ≡ old ++ place_bytes 0 None calls → new ≡ old ++ data_mode_bytes mode
+first_memory_appended mode memory offset calls old new is these zero written = rw (is, zero, ← these) written
+
+pub other_memory_appended : (mode : DataSegmentMode) (memory : ℕ) (offset calls : List Instruction) (old new : List ℕ) → mode ≡ data_modes.Active memory offset → calls ≡ offset → eqb memory 0 ≡ false → new ≡ old ++ place_bytes 2 (Some memory) calls → new ≡ old ++ data_mode_bytes mode
+other_memory_appended mode memory offset calls old new is these other written = rw (is, other, ← these) written
 
 data_bytes_are : (mode : DataSegmentMode) (bytes : List ℕ) → data_mode_bytes mode ++ byte_list_bytes bytes ≡ data_segment.bytes (record { mode = mode; data_bytes = bytes })
 unfolding data_segment part_if

@@ -1,5 +1,5 @@
 -- The laws of bodies that stop to be whole at an item, and of the items in longer encodings.
-use Rattle.std.proofs.Common.{◌≡◌, ℕ, ◌+◌, ◌-◌, ◌<◌, ◌≤◌, ◌⊎◌, true, IfNone, Result, Ok, Err, List, [], ◌∷◌, ◌++◌, length, drop, Some, ap, sym, subst, ◌∙◌, inl, inr, refl, append_assoc, length-append, arith}
+use Rattle.std.proofs.Common.{◌≡◌, ℕ, ◌+◌, ◌-◌, ◌<◌, ◌≤◌, ◌⊎◌, true, IfSome, IfNone, Result, Ok, Err, List, [], ◌∷◌, ◌++◌, length, drop, Some, ap, sym, subst, ◌∙◌, inl, inr, refl, append_assoc, length-append, arith}
 use Rattle.std.specs.Result.{result_ok, result_err}
 use Rattle.std.proofs.lemmas.List.{append-nil, drop_at}
 use Rattle.wasm_codec.specs.Answers.{EncodesSome, IsLongestPrefix}
@@ -137,6 +137,14 @@ pub counted_list : {V : Type 0} (F : Format V) (body : List ℕ) (count longer :
 counted_list F body count longer c = (c.items, (c.head, c.back, c.parts, subst (EncodesU32 c.head) (sym c.all) c.counted, joined_items c.longer_items))
 
 -- Where no place is told of a section's items, its body is a list; where no counts are told, it isn't.
+pub if_place : (body : List ℕ) {id : ℕ} (told : Result ItemCounts ItemPlace) → OfItems (λ V F. Tells F body told) id → IfSome (result_err told) (λ place. OfItems (λ V F. StopsAtItem F body place.count place.index place.at) id)
+if_place body (Ok counts) items = tt
+if_place body (Err p) items = items
+
+pub if_counts : (body : List ℕ) {id : ℕ} (told : Result ItemCounts ItemPlace) → OfItems (λ V F. Tells F body told) id → IfSome (result_ok told) (λ counts. OfItems (λ V F. CountsLonger F body counts.count counts.longer) id)
+if_counts body (Ok counts) items = items
+if_counts body (Err p) items = tt
+
 pub unless_place : (body : List ℕ) {id : ℕ} (told : Result ItemCounts ItemPlace) → OfItems (λ V F. Tells F body told) id → IfNone (result_err told) (HoldsItems id → OfItems (λ V F. EncodesSome (EncodesList F.Encodes) body) id)
 unless_place body (Ok counts) items = λ _. of_items (λ V F counted. counted_list F _ counts.count counts.longer counted) items
 unless_place body (Err p) items = tt

@@ -57,6 +57,20 @@ pub kept_either : {T E : Type 0} (r : Result T E) (old more new : List ℕ) → 
 kept_either (Ok x) old more new written left = kept_after old more new written
 kept_either (Err e) old more new written left = kept_after old [] new (left ∙ sym (append-nil old))
 
+-- what is known where all was written
+pub where_ok : {T E : Type 0} (r : Result T E) {P Q : Type 0} → (P → Q) → OnOk r P → OnOk r Q
+where_ok (Ok x) f p = f p
+where_ok (Err e) f p = p
+
+pub where_both_ok : {T E : Type 0} (r : Result T E) {P Q R : Type 0} → (P → Q → R) → OnOk r P → OnOk r Q → OnOk r R
+where_both_ok (Ok x) f p q = f p q
+where_both_ok (Err e) f p q = p
+
+-- what was written last left all that stood before
+pub kept_at_last : {T E : Type 0} (r : Result T E) (old more mid last new : List ℕ) → mid ≡ old ++ more → OnOk r (new ≡ mid ++ last) → OnErr r (new ≡ mid) → take (length old) new ≡ old
+kept_at_last (Ok x) old more mid last new before written left = kept_after old (more ++ last) new (two old more last mid new before written)
+kept_at_last (Err e) old more mid last new before written left = kept_after old more new (left ∙ before)
+
 -- ---- memories and tables
 
 pub memory_put : (m : MemoryType) (old one more most new : List ℕ) (byte : ℕ) → paged_byte ((is_some m.maximum, (m.shared, m.memory64)), is_some m.page_size_log2) ≡ Some byte → one ≡ old ++ byte ∷ [] → more ≡ one ++ unsigned_leb128 m.minimum

@@ -4,7 +4,7 @@ ghost use Rattle.wasm_codec.specs.Answers.{NeedsNoMemory, IsOrMemory, IfRefused,
 ghost use Rattle.wasm_codec.specs.Encoding.{IsShortestOrLonger};
 ghost use Rattle.wasm_codec.specs.Lists.{IsListPrefix, AskedList, IsAskedPrefix};
 ghost use Rattle.wasm_codec.specs.Places.{Reads};
-ghost use Rattle.wasm_codec.specs.Rewriter.{Rewrites, Gives};
+ghost use Rattle.wasm_codec.specs.Rewriter.{Rewrites};
 ghost use Rattle.wasm_codec.specs.declared.reader.cursor.Fault.TheVariants.{Malformed};
 ghost use Rattle.std.proofs.lemmas.List.{map_push};
 ghost use Rattle.wasm_codec.specs.formats.Grammar.{TakesBytes};
@@ -249,8 +249,7 @@ fn rewrite_placed(rewriter: &mut Rewriter) -> Result<(), Fault>
     ensures rewrites { Rewrites (expr ⊗ byte_list) rewriter.old rewriter.new result }
 {
     rewrite_expr(rewriter)?;
-    rewrite_sized::<RawBytes>(rewriter)?;
-    Ok(())
+    rewrite_sized::<RawBytes>(rewriter)
 }
 
 /// Leaves a data segment in its shortest encoding. Where one for memory 0 names it, the number of that form is cut out, and
@@ -261,14 +260,8 @@ fn rewrite_data_segment(rewriter: &mut Rewriter) -> Result<(), Fault>
 {
     let mark = rewriter.written_len();
     match rewriter.u32()? {
-        0 => {
-            rewrite_placed(rewriter)?;
-            Ok(())
-        }
-        1 => {
-            rewrite_sized::<RawBytes>(rewriter)?;
-            Ok(())
-        }
+        0 => rewrite_placed(rewriter),
+        1 => rewrite_sized::<RawBytes>(rewriter),
         2 => {
             let memory = rewriter.u32()?;
             rewrite_placed(rewriter)?;

@@ -1,17 +1,16 @@
 //! Element sections (Core 3.0, Element Section).
-ghost use Rattle.std.specs.Prelude.{◌≡◌, ◌↔◌, ◌≤◌, true, List, length, refl, IfOk, IfErr, ℕ, Bool};
+ghost use Rattle.std.specs.Prelude.{◌≡◌, ◌↔◌, ◌<◌, ◌≤◌, true, List, length, refl, IfOk};
 ghost use Rattle.wasm_codec.specs.Answers.{NeedsNoMemory, IsOrMemory, IfRefused, IsLongestPrefix, IsNormalForm, EncodesSome};
 ghost use Rattle.wasm_codec.specs.Encoding.{IsShortestOrLonger};
 ghost use Rattle.wasm_codec.specs.Lists.{IsListPrefix, AskedList, IsAskedPrefix};
 ghost use Rattle.wasm_codec.specs.Places.{Reads};
 ghost use Rattle.wasm_codec.specs.Rewriter.{Rewrites, Gives};
-ghost use Rattle.wasm_codec.specs.declared.reader.cursor.Fault.TheVariants.{Malformed};
 ghost use Rattle.wasm_codec.specs.formats.Combinators.{◌⊗◌, made, items};
 ghost use Rattle.wasm_sections.specs.declared.elements.Element.{Element};
-ghost use Rattle.wasm_sections.specs.formats.Elements.{is_funcref, element, typed_of, typed_part, element_number, element_form, kind_and_functions, element_segment};
+ghost use Rattle.wasm_sections.specs.Forms.{RewritesForm, place_at, mode_at, elements_at};
+ghost use Rattle.wasm_sections.specs.formats.Elements.{is_funcref, typed_of, typed_part, element_number, element_form, kind_and_functions, element_segment};
 ghost use Rattle.wasm_types.specs.formats.Types.{ref_type};
 ghost use Rattle.wasm_instructions.specs.formats.Instructions.{Instruction};
-ghost use Rattle.wasm_sections.specs.declared.elements.ElementMode.TheVariants as modes;
 ghost use Rattle.wasm_sections.specs.formats.Expressions.{expr};
 ghost use Rattle.wasm_sections.specs.formats.Sections.{element_body};
 
@@ -238,67 +237,61 @@ fn read_typed(alloc: Global, cursor: &mut Cursor<'_>) -> Result<Elements, Fault>
     Ok(Elements::Expressions(ty, expressions))
 }
 
-/// A segment that is copied into a table.
-fn active(table_index: u32, offset: Items<Call>, elements: Elements) -> Element
-    ensures { result ≡ element (modes.Active table_index offset) elements }
+/// The place in a table that the elements are copied to.
+fn read_place(
+    alloc: Global,
+    cursor: &mut Cursor<'_>,
+    table_index: u32,
+) -> Result<ElementMode, Fault>
+    ensures reads { Reads (place_at table_index) cursor.old cursor.new result }
 {
-    let mode = ElementMode::Active {
+    let offset = read_expr(alloc, cursor)?;
+    Ok(ElementMode::Active {
         table_index,
         offset,
-    };
-    Element { mode, elements }
+    })
 }
 
-/// A segment that an instruction copies.
-fn passive(elements: Elements) -> Element
-    ensures { result ≡ element modes.Passive elements }
+/// What stands between the number of a form and the kind or type of the elements.
+fn read_mode(alloc: Global, cursor: &mut Cursor<'_>, form: u32) -> Result<ElementMode, Fault>
+    ensures reads { Reads (mode_at form) cursor.old cursor.new result }
 {
-    let mode = ElementMode::Passive;
-    Element { mode, elements }
+    match form {
+        0 | 4 => read_place(alloc, cursor, 0),
+        1 | 5 => Ok(ElementMode::Passive),
+        2 | 6 => {
+            let table_index = cursor.u32()?;
+            read_place(alloc, cursor, table_index)
+        }
+        3 | 7 => Ok(ElementMode::Declared),
+        _ => Err(Fault::Malformed),
+    }
 }
 
-/// A segment that declares references.
-fn declared(elements: Elements) -> Element
-    ensures { result ≡ element modes.Declared elements }
+/// The kind or type of the elements, where a form tells it, and the elements.
+fn read_elements(alloc: Global, cursor: &mut Cursor<'_>, form: u32) -> Result<Elements, Fault>
+    ensures reads { Reads (elements_at form) cursor.old cursor.new result }
 {
-    let mode = ElementMode::Declared;
-    Element { mode, elements }
+    match form {
+        0 => Ok(Elements::Functions(read_list(alloc, cursor)?)),
+        1 | 2 | 3 => Ok(Elements::Functions(read_functions(alloc, cursor)?)),
+        4 => {
+            let funcref = RefType::new_abstract(AbstractHeapType::Func, true, false);
+            Ok(Elements::Expressions(funcref, read_expressions(alloc, cursor)?))
+        }
+        5 | 6 | 7 => read_typed(alloc, cursor),
+        _ => Err(Fault::Malformed),
+    }
 }
 
 /// What comes after the number of a form.
-#[tactic(auto, using(crate::proofs::ElementLaws::no_element_form))]
+#[tactic(auto, using(crate::proofs::ElementReading::form_read, crate::proofs::ElementReading::no_mode, crate::proofs::ElementReading::no_elements))]
 fn read_form(alloc: Global, cursor: &mut Cursor<'_>, form: u32) -> Result<Element, Fault>
     ensures reads { Reads (element_form form).at cursor.old cursor.new result }
 {
-    match form {
-        0 => {
-            let offset = read_expr(alloc, cursor)?;
-            let functions = Elements::Functions(read_list(alloc, cursor)?);
-            Ok(active(0, offset, functions))
-        }
-        1 => Ok(passive(Elements::Functions(read_functions(alloc, cursor)?))),
-        2 => {
-            let table_index = cursor.u32()?;
-            let offset = read_expr(alloc, cursor)?;
-            let functions = Elements::Functions(read_functions(alloc, cursor)?);
-            Ok(active(table_index, offset, functions))
-        }
-        3 => Ok(declared(Elements::Functions(read_functions(alloc, cursor)?))),
-        4 => {
-            let offset = read_expr(alloc, cursor)?;
-            let funcref = RefType::new_abstract(AbstractHeapType::Func, true, false);
-            let expressions = Elements::Expressions(funcref, read_expressions(alloc, cursor)?);
-            Ok(active(0, offset, expressions))
-        }
-        5 => Ok(passive(read_typed(alloc, cursor)?)),
-        6 => {
-            let table_index = cursor.u32()?;
-            let offset = read_expr(alloc, cursor)?;
-            Ok(active(table_index, offset, read_typed(alloc, cursor)?))
-        }
-        7 => Ok(declared(read_typed(alloc, cursor)?)),
-        _ => Err(Fault::Malformed),
-    }
+    let mode = read_mode(alloc, cursor, form)?;
+    let elements = read_elements(alloc, cursor, form)?;
+    Ok(Element { mode, elements })
 }
 
 /// An element segment. In any form but its own it is a long form.
@@ -354,8 +347,7 @@ fn rewrite_placed<T: Rewritable>(rewriter: &mut Rewriter) -> Result<(), Fault>
     ensures rewrites { Rewrites (expr ⊗ items T.format) rewriter.old rewriter.new result }
 {
     rewrite_expr(rewriter)?;
-    rewrite_list::<T>(rewriter)?;
-    Ok(())
+    rewrite_list::<T>(rewriter)
 }
 
 /// Leaves the byte of a kind, which is that of functions, and their indexes in the shortest encoding.
@@ -366,8 +358,7 @@ fn rewrite_functions(rewriter: &mut Rewriter) -> Result<(), Fault>
     if rewriter.byte()? != 0x00 {
         return Err(Fault::Malformed);
     }
-    rewrite_list::<u32>(rewriter)?;
-    Ok(())
+    rewrite_list::<u32>(rewriter)
 }
 
 /// Leaves a type in its shortest encoding, and gives it.
@@ -387,13 +378,49 @@ fn rewrite_typed(rewriter: &mut Rewriter) -> Result<(), Fault>
     ensures rewrites { Rewrites (ref_type ⊗ items expr) rewriter.old rewriter.new result }
 {
     rewrite_ref_type(rewriter)?;
-    rewrite_list::<Expression>(rewriter)?;
+    rewrite_list::<Expression>(rewriter)
+}
+
+/// Leaves what follows the number 2 at `mark` in its shortest encoding: a table, the place in it, and functions. Where it is
+/// table 0, the form of the number 0 has neither its index nor the byte of the kind.
+#[tactic(auto, unfolding(crate::specs::formats::Elements::element_segment))]
+fn rewrite_functions_of_table(rewriter: &mut Rewriter, mark: usize) -> Result<(), Fault>
+    requires { mark < length rewriter.old.done }
+    ensures rewrites { RewritesForm element_segment 2 mark rewriter.old rewriter.new result }
+{
+    let table = rewriter.u32()?;
+    rewrite_expr(rewriter)?;
+    let kind_mark = rewriter.written_len();
+    rewrite_functions(rewriter)?;
+    if table == 0 {
+        rewriter.cut_out(kind_mark, 1);
+        rewriter.cut_out(mark, 1);
+    }
     Ok(())
 }
 
-/// Leaves an element segment in its shortest encoding. Where it names table 0 and holds functions, or expressions of
-/// `funcref`, its shorter form has neither the index nor the byte of the kind or type.
-#[tactic(auto, using(crate::proofs::ElementLaws::no_element_form), unfolding(crate::specs::formats::Elements::element_segment))]
+/// Leaves what follows the number 6 at `mark` in its shortest encoding: a table, the place in it, and expressions of a type.
+/// Where it is table 0 and the type is `funcref`, the form of the number 4 has neither.
+#[tactic(auto, unfolding(crate::specs::formats::Elements::element_segment))]
+fn rewrite_expressions_of_table(rewriter: &mut Rewriter, mark: usize) -> Result<(), Fault>
+    requires { mark < length rewriter.old.done }
+    ensures rewrites { RewritesForm element_segment 6 mark rewriter.old rewriter.new result }
+{
+    let table = rewriter.u32()?;
+    rewrite_expr(rewriter)?;
+    let type_mark = rewriter.written_len();
+    let ty = rewrite_told_type(rewriter)?;
+    rewrite_list::<Expression>(rewriter)?;
+    if table == 0 && is_funcref(ty) {
+        rewriter.cut_out(type_mark, 1);
+        rewriter.cut_out(mark, 1);
+        rewriter.set_byte(mark, 4);
+    }
+    Ok(())
+}
+
+/// Leaves an element segment in its shortest encoding.
+#[tactic(auto, using(crate::proofs::ElementLaws::no_element_form, crate::proofs::ElementRewriting::number_written), unfolding(crate::specs::formats::Elements::element_segment))]
 fn rewrite_element(rewriter: &mut Rewriter) -> Result<(), Fault>
     ensures rewrites { Rewrites element_segment rewriter.old rewriter.new result }
 {
@@ -401,33 +428,11 @@ fn rewrite_element(rewriter: &mut Rewriter) -> Result<(), Fault>
     match rewriter.u32()? {
         0 => rewrite_placed::<u32>(rewriter),
         1 => rewrite_functions(rewriter),
-        2 => {
-            let table = rewriter.u32()?;
-            rewrite_expr(rewriter)?;
-            let kind_mark = rewriter.written_len();
-            rewrite_functions(rewriter)?;
-            if table == 0 {
-                rewriter.cut_out(kind_mark, 1);
-                rewriter.cut_out(mark, 1);
-            }
-            Ok(())
-        }
+        2 => rewrite_functions_of_table(rewriter, mark),
         3 => rewrite_functions(rewriter),
         4 => rewrite_placed::<Expression>(rewriter),
         5 => rewrite_typed(rewriter),
-        6 => {
-            let table = rewriter.u32()?;
-            rewrite_expr(rewriter)?;
-            let type_mark = rewriter.written_len();
-            let ty = rewrite_told_type(rewriter)?;
-            rewrite_list::<Expression>(rewriter)?;
-            if table == 0 && is_funcref(ty) {
-                rewriter.cut_out(type_mark, 1);
-                rewriter.cut_out(mark, 1);
-                rewriter.set_byte(mark, 4);
-            }
-            Ok(())
-        }
+        6 => rewrite_expressions_of_table(rewriter, mark),
         7 => rewrite_typed(rewriter),
         _ => Err(Fault::Malformed),
     }

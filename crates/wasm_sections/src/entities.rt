@@ -95,8 +95,7 @@ pub(crate) fn rewrite_global_type(rewriter: &mut Rewriter) -> Result<(), Fault>
     ensures rewrites { Rewrites global_type rewriter.old rewriter.new result }
 {
     rewrite_val_type(rewriter)?;
-    rewrite_global_flags(rewriter)?;
-    Ok(())
+    rewrite_global_flags(rewriter)
 }
 
 /// Leaves the type of a tag in its shortest encoding.
@@ -121,22 +120,10 @@ pub(crate) fn rewrite_entity_type(rewriter: &mut Rewriter) -> Result<(), Fault>
             rewriter.u32()?;
             Ok(())
         }
-        0x01 => {
-            rewrite_table_type(rewriter)?;
-            Ok(())
-        }
-        0x02 => {
-            rewrite_memory_type(rewriter)?;
-            Ok(())
-        }
-        0x03 => {
-            rewrite_global_type(rewriter)?;
-            Ok(())
-        }
-        0x04 => {
-            rewrite_tag_type(rewriter)?;
-            Ok(())
-        }
+        0x01 => rewrite_table_type(rewriter),
+        0x02 => rewrite_memory_type(rewriter),
+        0x03 => rewrite_global_type(rewriter),
+        0x04 => rewrite_tag_type(rewriter),
         _ => Err(Fault::Malformed),
     }
 }

@@ -1,11 +1,9 @@
 //! Global sections (Core 3.0, Global Section).
-ghost use Rattle.std.specs.Prelude.{◌≡◌, ◌↔◌, ◌≤◌, true, List, length, refl, IfOk, IfErr};
+ghost use Rattle.std.specs.Prelude.{◌≡◌, ◌↔◌, ◌≤◌, true, List, length, refl, IfOk};
 ghost use Rattle.wasm_codec.specs.Answers.{NeedsNoMemory, IsOrMemory, IfRefused, IsLongestPrefix, IsNormalForm, EncodesSome};
 ghost use Rattle.wasm_codec.specs.Encoding.{IsShortestOrLonger};
 ghost use Rattle.wasm_codec.specs.Lists.{IsListPrefix, AskedList, IsAskedPrefix};
 ghost use Rattle.wasm_codec.specs.Places.{Reads};
-ghost use Rattle.wasm_codec.specs.Rewriter.{Rewrites, Gives};
-ghost use Rattle.wasm_codec.specs.declared.reader.cursor.Fault.TheVariants.{Malformed};
 ghost use Rattle.wasm_sections.specs.declared.globals.Global.{Global};
 ghost use Rattle.wasm_sections.specs.formats.Entries.{global_entry};
 ghost use Rattle.wasm_sections.specs.formats.Sections.{global_body};
@@ -175,7 +173,6 @@ impl Rewritable for Global {
     #[tactic(auto, using(std::proofs::Common::append_assoc), unfolding(crate::specs::formats::Entries::global_entry))]
     fn rewrite(rewriter: &mut Rewriter) -> Result<(), Fault> {
         rewrite_global_type(rewriter)?;
-        rewrite_expr(rewriter)?;
-        Ok(())
+        rewrite_expr(rewriter)
     }
 }

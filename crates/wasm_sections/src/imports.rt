@@ -4,7 +4,7 @@ ghost use Rattle.wasm_codec.specs.Answers.{NeedsNoMemory, IsOrMemory, IfRefused,
 ghost use Rattle.wasm_codec.specs.Encoding.{IsShortestOrLonger};
 ghost use Rattle.wasm_codec.specs.Lists.{IsListPrefix, AskedList, IsAskedPrefix};
 ghost use Rattle.wasm_codec.specs.Places.{Reads};
-ghost use Rattle.wasm_codec.specs.Rewriter.{Rewrites, Gives};
+ghost use Rattle.wasm_codec.specs.Rewriter.{Rewrites};
 ghost use Rattle.wasm_codec.specs.declared.reader.cursor.Fault.TheVariants.{Malformed};
 ghost use Rattle.std.proofs.lemmas.List.{map_push};
 ghost use Rattle.wasm_codec.specs.formats.Grammar.{TakesBytes};
@@ -190,7 +190,6 @@ impl<'a> Rewritable for Import<'a> {
     {
         rewrite_name(rewriter)?;
         rewrite_name(rewriter)?;
-        rewrite_entity_type(rewriter)?;
-        Ok(())
+        rewrite_entity_type(rewriter)
     }
 }

@@ -195,8 +195,7 @@ fn rewrite_memory_parts(rewriter: &mut Rewriter) -> Result<(), Fault>
     let ((has_maximum, _), has_page_size) = rewrite_memory_flags(rewriter)?;
     rewriter.u64()?;
     rewrite_u64_if(rewriter, has_maximum)?;
-    rewrite_u32_if(rewriter, has_page_size)?;
-    Ok(())
+    rewrite_u32_if(rewriter, has_page_size)
 }
 
 /// Leaves the type of a memory in its shortest encoding.
@@ -216,8 +215,7 @@ fn rewrite_table_parts(rewriter: &mut Rewriter) -> Result<(), Fault>
     rewrite_ref_type(rewriter)?;
     let (has_maximum, _) = rewrite_limits_flags(rewriter)?;
     rewriter.u64()?;
-    rewrite_u64_if(rewriter, has_maximum)?;
-    Ok(())
+    rewrite_u64_if(rewriter, has_maximum)
 }
 
 /// Leaves the type of a table in its shortest encoding.

@@ -1,10 +1,9 @@
 //! Table sections (Core 3.0, Table Section).
-ghost use Rattle.std.specs.Prelude.{◌≡◌, ◌↔◌, ◌≤◌, true, List, length, refl, IfOk, IfErr};
+ghost use Rattle.std.specs.Prelude.{◌≡◌, ◌↔◌, ◌≤◌, true, List, length, refl, IfOk};
 ghost use Rattle.wasm_codec.specs.Answers.{NeedsNoMemory, IsOrMemory, IfRefused, IsLongestPrefix, IsNormalForm, EncodesSome};
 ghost use Rattle.wasm_codec.specs.Encoding.{IsShortestOrLonger};
 ghost use Rattle.wasm_codec.specs.Lists.{IsListPrefix, AskedList, IsAskedPrefix};
 ghost use Rattle.wasm_codec.specs.Places.{Reads};
-ghost use Rattle.wasm_codec.specs.Rewriter.{Rewrites, Gives};
 ghost use Rattle.wasm_codec.specs.declared.reader.cursor.Fault.TheVariants.{Malformed};
 ghost use Rattle.wasm_sections.specs.declared.tables.Table.{Table};
 ghost use Rattle.wasm_sections.specs.formats.Entries.{table_entry};
@@ -184,15 +183,13 @@ impl Rewritable for Table {
     #[tactic(auto, using(std::proofs::Common::append_assoc), unfolding(crate::specs::formats::Entries::table_entry))]
     fn rewrite(rewriter: &mut Rewriter) -> Result<(), Fault> {
         if rewriter.peek()? != 0x40 {
-            rewrite_table_type(rewriter)?;
-            return Ok(());
+            return rewrite_table_type(rewriter);
         }
         rewriter.byte()?;
         if rewriter.byte()? != 0x00 {
             return Err(Fault::Malformed);
         }
         rewrite_table_type(rewriter)?;
-        rewrite_expr(rewriter)?;
-        Ok(())
+        rewrite_expr(rewriter)
     }
 }

@@ -57,8 +57,7 @@ fn append_global<A: Allocator>(global: &Global, sink: &mut Vec<u8, A>) -> Result
 {
     sink.reserve(8)?;
     put_global_type(sink, global.ty);
-    encode_expr(global.init.as_slice(), sink)?;
-    Ok(())
+    encode_expr(global.init.as_slice(), sink)
 }
 
 /// The type, and the expression that makes the value (Core 3.0, Global Section).
@@ -97,8 +96,7 @@ fn append_table<A: Allocator>(table: &Table, sink: &mut Vec<u8, A>) -> Result<()
     sink.push_reserved(0x40);
     sink.push_reserved(0x00);
     put_table_type(sink, &table.ty);
-    encode_expr(init.as_slice(), sink)?;
-    Ok(())
+    encode_expr(init.as_slice(), sink)
 }
 
 /// The type; or, where a value is told, the bytes 0x40 and 0x00, the type, and the expression that makes the value (Core

@@ -45,8 +45,7 @@ fn append_place<A: Allocator>(
     sink.reserve(10)?;
     put_u32(sink, form);
     put_u32_if(sink, index);
-    encode_expr(offset, sink)?;
-    Ok(())
+    encode_expr(offset, sink)
 }
 
 /// They are bytes. The call does nothing.
@@ -74,11 +73,10 @@ fn append_data_mode<A: Allocator>(
             offset,
         } => {
             if *memory_index == 0 {
-                append_place(0, None, offset.as_slice(), sink)?;
-                return Ok(());
+                append_place(0, None, offset.as_slice(), sink)
+            } else {
+                append_place(2, Some(*memory_index), offset.as_slice(), sink)
             }
-            append_place(2, Some(*memory_index), offset.as_slice(), sink)?;
-            Ok(())
         }
         DataSegmentMode::Passive => {
             sink.reserve(5)?;
@@ -102,8 +100,7 @@ fn append_data_segment<A: Allocator>(
 {
     are_bytes(segment.bytes);
     append_data_mode(&segment.mode, sink)?;
-    encode_bytes(segment.bytes, sink)?;
-    Ok(())
+    encode_bytes(segment.bytes, sink)
 }
 
 /// The number of the form, the index of the memory where it isn't 0, and the place in it, of an active segment; and the
@@ -151,11 +148,10 @@ fn append_element_mode<A: Allocator>(
             offset,
         } => {
             if is_short(form) {
-                append_place(form, None, offset.as_slice(), sink)?;
-                return Ok(());
+                append_place(form, None, offset.as_slice(), sink)
+            } else {
+                append_place(form, Some(*table_index), offset.as_slice(), sink)
             }
-            append_place(form, Some(*table_index), offset.as_slice(), sink)?;
-            Ok(())
         }
         ElementMode::Passive | ElementMode::Declared => {
             sink.reserve(5)?;
@@ -229,21 +225,18 @@ fn append_elements<A: Allocator>(
     match elements {
         Elements::Functions(functions) => {
             if short {
-                encode_list(functions.as_slice(), sink)?;
-                return Ok(());
+                encode_list(functions.as_slice(), sink)
+            } else {
+                encode_list_after(0x00, functions.as_slice(), sink)
             }
-            encode_list_after(0x00, functions.as_slice(), sink)?;
-            Ok(())
         }
         Elements::Expressions(ty, expressions) => {
             if short {
-                encode_expressions(expressions.as_slice(), sink)?;
-                return Ok(());
+                return encode_expressions(expressions.as_slice(), sink);
             }
             sink.reserve(7)?;
             put_ref_type(sink, *ty);
-            encode_expressions(expressions.as_slice(), sink)?;
-            Ok(())
+            encode_expressions(expressions.as_slice(), sink)
         }
     }
 }
@@ -259,8 +252,7 @@ fn append_element<A: Allocator>(element: &Element, sink: &mut Vec<u8, A>) -> Res
 {
     let form = number_of(element);
     append_element_mode(form, &element.mode, sink)?;
-    append_elements(is_short(form), &element.elements, sink)?;
-    Ok(())
+    append_elements(is_short(form), &element.elements, sink)
 }
 
 /// One of eight forms: its number; of an active segment the table and the place in it; the kind or type of the elements;

@@ -1,9 +1,9 @@
 //! Sections with what they hold, read one by one.
-ghost use Rattle.std.specs.Prelude.{IfErr, refl};
+ghost use Rattle.std.specs.Prelude.{◌≡◌, Some, refl};
 ghost use Rattle.std.proofs.lemmas.List.{map_push};
 ghost use Rattle.wasm_codec.specs.formats.Grammar.{TakesBytes};
 ghost use Rattle.wasm_codec.specs.Lawful.{IsLawful};
-ghost use Rattle.wasm_codec.specs.Places.{Reads};
+ghost use Rattle.wasm_codec.specs.Places.{Place, Reads, byte_at};
 ghost use Rattle.wasm_codec.specs.Reading.{map_ok};
 ghost use Rattle.wasm_codec.specs.formats.Bodies.{sized};
 ghost use Rattle.wasm_codec.specs.formats.Combinators.{items, u32 as u32_format};
@@ -82,6 +82,33 @@ fn read_sized_custom<'a>(cursor: &mut Cursor<'a>) -> Result<CustomSection<'a>, F
     Ok(CustomSection { name, bytes })
 }
 
+/// What comes after the id of a section that holds a list.
+#[tactic(auto, unfolding(crate::specs::formats::ModuleSections::module_section))]
+fn read_section_of_items<'a>(
+    alloc: Global,
+    cursor: &mut Cursor<'a>,
+    id: u8,
+) -> Result<ModuleSection<'a>, Fault>
+    requires of_items { (id ≡ 0 → ⊥) × (id ≡ 8 → ⊥) × (id ≡ 12 → ⊥) }
+    ensures reads { (begun : Place) → byte_at begun ≡ Some (id, cursor.old) →
+        Reads module_section.at begun cursor.new (map_ok module_section_parts result) }
+{
+    match id {
+        1 => Ok(ModuleSection::Types(read_sized_list(alloc, cursor)?)),
+        2 => Ok(ModuleSection::Imports(read_sized_list(alloc, cursor)?)),
+        3 => Ok(ModuleSection::Functions(read_sized_list(alloc, cursor)?)),
+        4 => Ok(ModuleSection::Tables(read_sized_list(alloc, cursor)?)),
+        5 => Ok(ModuleSection::Memories(read_sized_list(alloc, cursor)?)),
+        6 => Ok(ModuleSection::Globals(read_sized_list(alloc, cursor)?)),
+        7 => Ok(ModuleSection::Exports(read_sized_list(alloc, cursor)?)),
+        9 => Ok(ModuleSection::Elements(read_sized_list(alloc, cursor)?)),
+        10 => Ok(ModuleSection::Code(read_sized_list(alloc, cursor)?)),
+        11 => Ok(ModuleSection::Data(read_sized_list(alloc, cursor)?)),
+        13 => Ok(ModuleSection::Tags(read_sized_list(alloc, cursor)?)),
+        _ => Err(Fault::Malformed),
+    }
+}
+
 /// A section.
 #[tactic(auto, unfolding(crate::specs::formats::ModuleSections::module_section))]
 fn read_module_section<'a>(
@@ -92,19 +119,8 @@ fn read_module_section<'a>(
 {
     match cursor.byte()? {
         0 => Ok(ModuleSection::Custom(read_sized_custom(cursor)?)),
-        1 => Ok(ModuleSection::Types(read_sized_list(alloc, cursor)?)),
-        2 => Ok(ModuleSection::Imports(read_sized_list(alloc, cursor)?)),
-        3 => Ok(ModuleSection::Functions(read_sized_list(alloc, cursor)?)),
-        4 => Ok(ModuleSection::Tables(read_sized_list(alloc, cursor)?)),
-        5 => Ok(ModuleSection::Memories(read_sized_list(alloc, cursor)?)),
-        6 => Ok(ModuleSection::Globals(read_sized_list(alloc, cursor)?)),
-        7 => Ok(ModuleSection::Exports(read_sized_list(alloc, cursor)?)),
         8 => Ok(ModuleSection::Start(read_sized_number(cursor)?)),
-        9 => Ok(ModuleSection::Elements(read_sized_list(alloc, cursor)?)),
-        10 => Ok(ModuleSection::Code(read_sized_list(alloc, cursor)?)),
-        11 => Ok(ModuleSection::Data(read_sized_list(alloc, cursor)?)),
         12 => Ok(ModuleSection::DataCount(read_sized_number(cursor)?)),
-        13 => Ok(ModuleSection::Tags(read_sized_list(alloc, cursor)?)),
-        _ => Err(Fault::Malformed),
+        id => read_section_of_items(alloc, cursor, id),
     }
 }

@@ -1,19 +1,17 @@
-use Rattle.std.proofs.Common.{◌≡◌, ◌++◌, ◌∙◌}
+use Rattle.std.proofs.Common.{◌≡◌, ◌++◌}
 use Rattle.wasm_sections.proofs.ExpressionWriting.{global_appended, global_entry_written}
-use Rattle.wasm_sections.proofs.TypeWriting.{kept_after}
+use Rattle.wasm_sections.proofs.TypeWriting.{where_ok, kept_at_last}
+use Rattle.wasm_sections.specs.formats.Expressions.{expr}
 use Rattle.wasm_sections.specs.formats.Externals.{global_type}
 use Rattle.wasm_sections.proofs.encode.expressions.append_global.Goals as goal
 
 pub returns-clause-ok : goal.returns-clause-ok
-returns-clause-ok g c = global_appended c.args.global.now c.as_slice.result.now c.args.sink.now.items c.put_global_type.new.bytes.items c.encode_expr.new.sink.items c.as_slice.ensures.value (rw (← c.in_ok-reserve.ensures.items) c.put_global_type.ensures.items) c.in_ok-encode_expr.ensures.ok
+returns-clause-ok g c = where_ok c.encode_expr.result (global_appended c.args.global.now c.as_slice.result.now c.args.sink.now.items c.put_global_type.new.bytes.items c.encode_expr.new.sink.items c.as_slice.ensures.value (rw (← c.in_ok-reserve.ensures.items) c.put_global_type.ensures.items)) c.encode_expr.ensures.ok
 
 pub returns-clause-written : goal.returns-clause-written
-returns-clause-written g c = global_entry_written c.args.global.now c.as_slice.result.now c.as_slice.ensures.value c.put_global_type.ensures.written c.in_ok-encode_expr.ensures.written
-
-pub returns-in_err-encode_expr-clause-kept : goal.returns-in_err-encode_expr-clause-kept
-returns-in_err-encode_expr-clause-kept g c =
-    let first : c.put_global_type.new.bytes.items ≡ c.args.sink.now.items ++ global_type.bytes c.args.global.now.ty = rw (← c.in_ok-reserve.ensures.items) c.put_global_type.ensures.items in
-    kept_after _ _ _ (c.in_err-encode_expr.ensures.err ∙ first)
+returns-clause-written g c = where_ok c.encode_expr.result (global_entry_written c.args.global.now c.as_slice.result.now c.as_slice.ensures.value c.put_global_type.ensures.written) c.encode_expr.ensures.written
 
 pub returns-clause-kept : goal.returns-clause-kept
-returns-clause-kept g c = kept_after _ _ _ (returns-clause-ok g c)
+returns-clause-kept g c =
+    let first : c.put_global_type.new.bytes.items ≡ c.args.sink.now.items ++ global_type.bytes c.args.global.now.ty = rw (← c.in_ok-reserve.ensures.items) c.put_global_type.ensures.items in
+    kept_at_last c.encode_expr.result _ _ _ (expr.bytes c.as_slice.result.now) _ first c.encode_expr.ensures.ok c.encode_expr.ensures.err

@@ -1,16 +1,13 @@
 use Rattle.wasm_sections.proofs.ElementWriting.{element_appended, element_written}
-use Rattle.wasm_sections.proofs.TypeWriting.{kept_after}
+use Rattle.wasm_sections.proofs.TypeWriting.{where_ok}
 use Rattle.wasm_sections.proofs.CustomWriting.{kept_before}
 use Rattle.wasm_sections.proofs.encode.segments.append_element.Goals as goal
 
 pub returns-clause-ok : goal.returns-clause-ok
-returns-clause-ok g c = element_appended c.args.element.now c.number_of-form.result c.is_short.result c.args.sink.now.items c.append_element_mode.new.sink.items c.append_elements.new.sink.items c.number_of-form.ensures c.is_short.ensures c.in_ok-append_element_mode.ensures.ok c.in_ok-append_elements.ensures.ok
+returns-clause-ok g c = where_ok c.append_elements.result (element_appended c.args.element.now c.number_of-form.result c.is_short.result c.args.sink.now.items c.append_element_mode.new.sink.items c.append_elements.new.sink.items c.number_of-form.ensures c.is_short.ensures c.in_ok-append_element_mode.ensures.ok) c.append_elements.ensures.ok
 
 pub returns-clause-written : goal.returns-clause-written
-returns-clause-written g c = element_written c.args.element.now c.number_of-form.result c.is_short.result c.number_of-form.ensures c.is_short.ensures c.in_ok-append_element_mode.ensures.fits c.in_ok-append_elements.ensures.fits
-
-pub returns-in_err-append_elements-clause-kept : goal.returns-in_err-append_elements-clause-kept
-returns-in_err-append_elements-clause-kept g c = kept_before _ _ _ _ c.in_ok-append_element_mode.ensures.ok c.in_err-append_elements.ensures.kept
+returns-clause-written g c = where_ok c.append_elements.result (element_written c.args.element.now c.number_of-form.result c.is_short.result c.number_of-form.ensures c.is_short.ensures c.in_ok-append_element_mode.ensures.fits) c.append_elements.ensures.fits
 
 pub returns-clause-kept : goal.returns-clause-kept
-returns-clause-kept g c = kept_after _ _ _ (returns-clause-ok g c)
+returns-clause-kept g c = kept_before _ _ _ _ c.in_ok-append_element_mode.ensures.ok c.append_elements.ensures.kept
