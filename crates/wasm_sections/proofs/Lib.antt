@@ -4,6 +4,7 @@ pub mod NameLaws
 pub mod NameReading
 pub mod ExternalLaws
 pub mod EntryLaws
+pub mod FlagReading
 pub mod LimitsRewriting
 pub mod UntilReading
 pub mod ExpressionLaws

@@ -1,11 +1,11 @@
 //! Limits, and the types of memories and tables (Core 3.0, Limits, Memory Types and Table Types).
-ghost use Rattle.std.specs.Prelude.{◌≡◌, IfErr};
+ghost use Rattle.std.specs.Prelude.{◌≡◌, Some, IfErr, IfSome};
 ghost use Rattle.wasm_codec.specs.Places.{Reads};
 ghost use Rattle.wasm_codec.specs.Rewriter.{Gives, Rewrites};
-ghost use Rattle.wasm_codec.specs.formats.Combinators.{u32 as u32_format, u64 as u64_format};
+ghost use Rattle.wasm_codec.specs.formats.Combinators.{find, u32 as u32_format, u64 as u64_format};
 ghost use Rattle.wasm_codec.specs.declared.reader.cursor.Fault.TheVariants.{Malformed};
 ghost use Rattle.wasm_sections.specs.formats.Parts.{part_if};
-ghost use Rattle.wasm_sections.specs.formats.Externals.{limits_flags, memory_flags, memory_type, memory_format, table_type, table_format};
+ghost use Rattle.wasm_sections.specs.formats.Externals.{flags_byte, all_flags, paged_byte, all_paged, limits_flags, memory_flags, memory_type, memory_format, table_type, table_format};
 
 use crate::types::{MemoryType, TableType};
 use wasm_codec::reader::cursor::{Cursor, Fault};
@@ -13,50 +13,66 @@ use wasm_codec::rewriter::Rewriter;
 use wasm_types::normaliser::rewrite_ref_type;
 use wasm_types::reader::read_ref_type;
 
-/// What the flags of limits tell: whether there is a maximum, it is shared, and its addresses have 64 bits.
+/// What a byte of limits tells: whether there is a maximum, they are shared, and addresses have 64 bits.
+fn limits_flags_of(byte: u8) -> Option<(bool, (bool, bool))>
+    ensures found { result ≡ find flags_byte all_flags byte }
+    ensures byte { IfSome result (λ flags. flags_byte flags ≡ Some byte) }
+{
+    match byte {
+        0x00 => Some((false, (false, false))),
+        0x01 => Some((true, (false, false))),
+        0x02 => Some((false, (true, false))),
+        0x03 => Some((true, (true, false))),
+        0x04 => Some((false, (false, true))),
+        0x05 => Some((true, (false, true))),
+        0x06 => Some((false, (true, true))),
+        0x07 => Some((true, (true, true))),
+        _ => None,
+    }
+}
+
+/// The same of a byte of a memory's limits, and whether the size of a page is told.
+fn memory_flags_of(byte: u8) -> Option<((bool, (bool, bool)), bool)>
+    ensures found { result ≡ find paged_byte all_paged byte }
+    ensures byte { IfSome result (λ flags. paged_byte flags ≡ Some byte) }
+{
+    match byte {
+        0x00 => Some(((false, (false, false)), false)),
+        0x01 => Some(((true, (false, false)), false)),
+        0x02 => Some(((false, (true, false)), false)),
+        0x03 => Some(((true, (true, false)), false)),
+        0x04 => Some(((false, (false, true)), false)),
+        0x05 => Some(((true, (false, true)), false)),
+        0x06 => Some(((false, (true, true)), false)),
+        0x07 => Some(((true, (true, true)), false)),
+        0x08 => Some(((false, (false, false)), true)),
+        0x09 => Some(((true, (false, false)), true)),
+        0x0a => Some(((false, (true, false)), true)),
+        0x0b => Some(((true, (true, false)), true)),
+        0x0c => Some(((false, (false, true)), true)),
+        0x0d => Some(((true, (false, true)), true)),
+        0x0e => Some(((false, (true, true)), true)),
+        0x0f => Some(((true, (true, true)), true)),
+        _ => None,
+    }
+}
+
+/// The flags of limits.
 #[tactic(auto, unfolding(crate::specs::formats::Externals::limits_flags))]
 fn read_limits_flags(cursor: &mut Cursor<'_>) -> Result<(bool, (bool, bool)), Fault>
     ensures reads { Reads limits_flags.at cursor.old cursor.new result }
     ensures err { IfErr result (λ e. e ≡ Malformed) }
 {
-    match cursor.byte()? {
-        0x00 => Ok((false, (false, false))),
-        0x01 => Ok((true, (false, false))),
-        0x02 => Ok((false, (true, false))),
-        0x03 => Ok((true, (true, false))),
-        0x04 => Ok((false, (false, true))),
-        0x05 => Ok((true, (false, true))),
-        0x06 => Ok((false, (true, true))),
-        0x07 => Ok((true, (true, true))),
-        _ => Err(Fault::Malformed),
-    }
+    limits_flags_of(cursor.byte()?).ok_or(Fault::Malformed)
 }
 
-/// The same of a memory, and whether the size of a page is told.
+/// The flags of a memory's limits.
 #[tactic(auto, unfolding(crate::specs::formats::Externals::memory_flags))]
 fn read_memory_flags(cursor: &mut Cursor<'_>) -> Result<((bool, (bool, bool)), bool), Fault>
     ensures reads { Reads memory_flags.at cursor.old cursor.new result }
     ensures err { IfErr result (λ e. e ≡ Malformed) }
 {
-    match cursor.byte()? {
-        0x00 => Ok(((false, (false, false)), false)),
-        0x01 => Ok(((true, (false, false)), false)),
-        0x02 => Ok(((false, (true, false)), false)),
-        0x03 => Ok(((true, (true, false)), false)),
-        0x04 => Ok(((false, (false, true)), false)),
-        0x05 => Ok(((true, (false, true)), false)),
-        0x06 => Ok(((false, (true, true)), false)),
-        0x07 => Ok(((true, (true, true)), false)),
-        0x08 => Ok(((false, (false, false)), true)),
-        0x09 => Ok(((true, (false, false)), true)),
-        0x0a => Ok(((false, (true, false)), true)),
-        0x0b => Ok(((true, (true, false)), true)),
-        0x0c => Ok(((false, (false, true)), true)),
-        0x0d => Ok(((true, (false, true)), true)),
-        0x0e => Ok(((false, (true, true)), true)),
-        0x0f => Ok(((true, (true, true)), true)),
-        _ => Err(Fault::Malformed),
-    }
+    memory_flags_of(cursor.byte()?).ok_or(Fault::Malformed)
 }
 
 /// A u64 where a flag tells that there is one.
@@ -121,48 +137,20 @@ pub(crate) fn read_table_type(cursor: &mut Cursor<'_>) -> Result<TableType, Faul
     })
 }
 
-/// What the flags of limits tell, which stay as they are.
+/// The flags of limits, which stay as they are.
 #[tactic(auto, unfolding(crate::specs::formats::Externals::limits_flags))]
 fn rewrite_limits_flags(rewriter: &mut Rewriter) -> Result<(bool, (bool, bool)), Fault>
     ensures gives { Gives limits_flags rewriter.old rewriter.new result }
 {
-    match rewriter.byte()? {
-        0x00 => Ok((false, (false, false))),
-        0x01 => Ok((true, (false, false))),
-        0x02 => Ok((false, (true, false))),
-        0x03 => Ok((true, (true, false))),
-        0x04 => Ok((false, (false, true))),
-        0x05 => Ok((true, (false, true))),
-        0x06 => Ok((false, (true, true))),
-        0x07 => Ok((true, (true, true))),
-        _ => Err(Fault::Malformed),
-    }
+    limits_flags_of(rewriter.byte()?).ok_or(Fault::Malformed)
 }
 
-/// The same of a memory, and whether the size of a page is told.
+/// The flags of a memory's limits, which stay as they are.
 #[tactic(auto, unfolding(crate::specs::formats::Externals::memory_flags))]
 fn rewrite_memory_flags(rewriter: &mut Rewriter) -> Result<((bool, (bool, bool)), bool), Fault>
     ensures gives { Gives memory_flags rewriter.old rewriter.new result }
 {
-    match rewriter.byte()? {
-        0x00 => Ok(((false, (false, false)), false)),
-        0x01 => Ok(((true, (false, false)), false)),
-        0x02 => Ok(((false, (true, false)), false)),
-        0x03 => Ok(((true, (true, false)), false)),
-        0x04 => Ok(((false, (false, true)), false)),
-        0x05 => Ok(((true, (false, true)), false)),
-        0x06 => Ok(((false, (true, true)), false)),
-        0x07 => Ok(((true, (true, true)), false)),
-        0x08 => Ok(((false, (false, false)), true)),
-        0x09 => Ok(((true, (false, false)), true)),
-        0x0a => Ok(((false, (true, false)), true)),
-        0x0b => Ok(((true, (true, false)), true)),
-        0x0c => Ok(((false, (false, true)), true)),
-        0x0d => Ok(((true, (false, true)), true)),
-        0x0e => Ok(((false, (true, true)), true)),
-        0x0f => Ok(((true, (true, true)), true)),
-        _ => Err(Fault::Malformed),
-    }
+    memory_flags_of(rewriter.byte()?).ok_or(Fault::Malformed)
 }
 
 /// Leaves a u64 in its shortest encoding, where a flag tells that there is one.
