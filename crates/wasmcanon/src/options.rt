@@ -22,7 +22,7 @@ impl<'a> Location<'a> {
 }
 
 /// What is done with a module.
-#[derive(Clone, Copy, PartialEq, Eq)]
+#[derive(Clone, Copy)]
 pub enum Action<'a> {
     /// Its canonical form is written.
     Write {
@@ -48,7 +48,7 @@ pub enum Action<'a> {
 }
 
 /// What a command line asks for.
-#[derive(Clone, Copy, PartialEq, Eq)]
+#[derive(Clone, Copy)]
 pub struct Options<'a> {
     /// Where the module is.
     pub input: Location<'a>,

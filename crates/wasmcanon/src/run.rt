@@ -66,7 +66,7 @@ pub struct Forms {
 }
 
 /// Whether a module is its own canonical form.
-#[derive(Clone, Copy, PartialEq, Eq)]
+#[derive(Clone, Copy)]
 pub enum Verdict {
     /// It is.
     Canonical,
