@@ -12,13 +12,13 @@ use Rattle.wasm_sections.specs.declared.elements.Elements.{Elements}
 use Rattle.wasm_sections.specs.declared.elements.Elements.TheVariants as held
 use Rattle.wasm_sections.specs.formats.Expressions.{expr}
 use Rattle.wasm_sections.specs.formats.Elements.{funcref, element, kind_and_functions, typed_of, element_form}
-use Rattle.wasm_sections.specs.Forms.{place_at, mode_at, elements_at}
+use Rattle.wasm_sections.specs.ElementForms.{place_at, mode_at, elements_at}
 
 abbrev Read : Type 0 → Type 0
 Read A = Option (A × Place)
 
-abbrev made_of : {A B : Type 0} → (A → B) → Read A → Read B
-made_of make r = r >>= λ x. Some (make x.0, x.1)
+abbrev mapped : {A B : Type 0} → (A → B) → Read A → Read B
+mapped make r = r >>= λ x. Some (make x.0, x.1)
 
 abbrev both : {A B : Type 0} → Read A → Reader B → Read (A × B)
 both r second = r >>= λ a. second a.1 >>= λ b. Some ((a.0, b.0), b.1)
@@ -27,23 +27,23 @@ abbrev in_parts : Read ElementMode → Reader Elements → Read Element
 in_parts mode elements = mode >>= λ m. elements m.1 >>= λ e. Some (element m.0 e.0, e.1)
 
 -- a mode without a place
-plain : {B : Type 0} (mode : ElementMode) (held_of : B → Elements) (r : Read B) → made_of (element mode) (made_of held_of r) ≡ made_of (λ b. element mode (held_of b)) r
+plain : {B : Type 0} (mode : ElementMode) (held_of : B → Elements) (r : Read B) → mapped (element mode) (mapped held_of r) ≡ mapped (λ b. element mode (held_of b)) r
 plain mode held_of None = refl
 plain mode held_of (Some x) = refl
 
 -- and one with a place
-placed : {B : Type 0} (table : ℕ) (held_of : B → Elements) (second : Reader B) (r : Read (List Instruction)) → in_parts (made_of (modes.Active table) r) (λ p. made_of held_of (second p)) ≡ made_of (λ (p : List Instruction × B). element (modes.Active table p.0) (held_of p.1)) (both r second)
+placed : {B : Type 0} (table : ℕ) (held_of : B → Elements) (second : Reader B) (r : Read (List Instruction)) → in_parts (mapped (modes.Active table) r) (λ p. mapped held_of (second p)) ≡ mapped (λ (p : List Instruction × B). element (modes.Active table p.0) (held_of p.1)) (both r second)
 placed table held_of second None = refl
 placed {B} table held_of second (Some x) = by (second x.1) where
-  by : (o : Read B) → made_of (element (modes.Active table x.0)) (made_of held_of o) ≡ made_of (λ (p : List Instruction × B). element (modes.Active table p.0) (held_of p.1)) (o >>= λ b. Some ((x.0, b.0), b.1))
+  by : (o : Read B) → mapped (element (modes.Active table x.0)) (mapped held_of o) ≡ mapped (λ (p : List Instruction × B). element (modes.Active table p.0) (held_of p.1)) (o >>= λ b. Some ((x.0, b.0), b.1))
   by None = refl
   by (Some y) = refl
 
 -- whose table is told
-named : {B : Type 0} (held_of : B → Elements) (second : Reader B) (r : Read ℕ) → in_parts (r >>= λ x. place_at x.0 x.1) (λ p. made_of held_of (second p)) ≡ made_of (λ (p : ℕ × (List Instruction × B)). element (modes.Active p.0 p.1.0) (held_of p.1.1)) (both r (λ p. both (expr.at p) second))
+named : {B : Type 0} (held_of : B → Elements) (second : Reader B) (r : Read ℕ) → in_parts (r >>= λ x. place_at x.0 x.1) (λ p. mapped held_of (second p)) ≡ mapped (λ (p : ℕ × (List Instruction × B)). element (modes.Active p.0 p.1.0) (held_of p.1.1)) (both r (λ p. both (expr.at p) second))
 named held_of second None = refl
 named {B} held_of second (Some x) = placed x.0 held_of second (expr.at x.1) ∙ by (both (expr.at x.1) second) where
-  by : (o : Read (List Instruction × B)) → made_of (λ (p : List Instruction × B). element (modes.Active x.0 p.0) (held_of p.1)) o ≡ made_of (λ (p : ℕ × (List Instruction × B)). element (modes.Active p.0 p.1.0) (held_of p.1.1)) (o >>= λ b. Some ((x.0, b.0), b.1))
+  by : (o : Read (List Instruction × B)) → mapped (λ (p : List Instruction × B). element (modes.Active x.0 p.0) (held_of p.1)) o ≡ mapped (λ (p : ℕ × (List Instruction × B)). element (modes.Active p.0 p.1.0) (held_of p.1.1)) (o >>= λ b. Some ((x.0, b.0), b.1))
   by None = refl
   by (Some y) = refl
 

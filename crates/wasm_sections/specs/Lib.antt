@@ -5,5 +5,5 @@ pub mod SegmentBytes
 pub mod ModuleOrder
 pub mod Prefixes
 pub mod Stops
-pub mod Forms
+pub mod ElementForms
 pub mod formats

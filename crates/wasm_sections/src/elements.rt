@@ -7,7 +7,7 @@ ghost use Rattle.wasm_codec.specs.Places.{Reads};
 ghost use Rattle.wasm_codec.specs.Rewriter.{Rewrites, Gives};
 ghost use Rattle.wasm_codec.specs.formats.Combinators.{◌⊗◌, made, items};
 ghost use Rattle.wasm_sections.specs.declared.elements.Element.{Element};
-ghost use Rattle.wasm_sections.specs.Forms.{RewritesForm, place_at, mode_at, elements_at};
+ghost use Rattle.wasm_sections.specs.ElementForms.{RewritesForm, place_at, mode_at, elements_at};
 ghost use Rattle.wasm_sections.specs.formats.Elements.{is_funcref, typed_of, typed_part, element_number, element_form, kind_and_functions, element_segment};
 ghost use Rattle.wasm_types.specs.formats.Types.{ref_type};
 ghost use Rattle.wasm_instructions.specs.formats.Instructions.{Instruction};

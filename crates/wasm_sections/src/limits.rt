@@ -58,7 +58,7 @@ fn memory_flags_of(byte: u8) -> Option<((bool, (bool, bool)), bool)>
 }
 
 /// The flags of limits.
-#[tactic(auto, unfolding(crate::specs::formats::Externals::limits_flags))]
+#[tactic(auto, using(crate::proofs::FlagReading::flags_read), unfolding(crate::specs::formats::Externals::limits_flags))]
 fn read_limits_flags(cursor: &mut Cursor<'_>) -> Result<(bool, (bool, bool)), Fault>
     ensures reads { Reads limits_flags.at cursor.old cursor.new result }
     ensures err { IfErr result (λ e. e ≡ Malformed) }
@@ -67,7 +67,7 @@ fn read_limits_flags(cursor: &mut Cursor<'_>) -> Result<(bool, (bool, bool)), Fa
 }
 
 /// The flags of a memory's limits.
-#[tactic(auto, unfolding(crate::specs::formats::Externals::memory_flags))]
+#[tactic(auto, using(crate::proofs::FlagReading::flags_read), unfolding(crate::specs::formats::Externals::memory_flags))]
 fn read_memory_flags(cursor: &mut Cursor<'_>) -> Result<((bool, (bool, bool)), bool), Fault>
     ensures reads { Reads memory_flags.at cursor.old cursor.new result }
     ensures err { IfErr result (λ e. e ≡ Malformed) }
@@ -138,7 +138,7 @@ pub(crate) fn read_table_type(cursor: &mut Cursor<'_>) -> Result<TableType, Faul
 }
 
 /// The flags of limits, which stay as they are.
-#[tactic(auto, unfolding(crate::specs::formats::Externals::limits_flags))]
+#[tactic(auto, using(crate::proofs::FlagReading::flags_given), unfolding(crate::specs::formats::Externals::limits_flags))]
 fn rewrite_limits_flags(rewriter: &mut Rewriter) -> Result<(bool, (bool, bool)), Fault>
     ensures gives { Gives limits_flags rewriter.old rewriter.new result }
 {
@@ -146,7 +146,7 @@ fn rewrite_limits_flags(rewriter: &mut Rewriter) -> Result<(bool, (bool, bool)),
 }
 
 /// The flags of a memory's limits, which stay as they are.
-#[tactic(auto, unfolding(crate::specs::formats::Externals::memory_flags))]
+#[tactic(auto, using(crate::proofs::FlagReading::flags_given), unfolding(crate::specs::formats::Externals::memory_flags))]
 fn rewrite_memory_flags(rewriter: &mut Rewriter) -> Result<((bool, (bool, bool)), bool), Fault>
     ensures gives { Gives memory_flags rewriter.old rewriter.new result }
 {
