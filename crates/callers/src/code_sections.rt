@@ -14,7 +14,7 @@ use wasm_encoder::{
     read_code_section, read_module,
 };
 
-/// Calls after those that the function stands for, and the function after the bodies that the section stands for.
+/// Appends calls to a function, and the function to a code section.
 pub fn function(
     section: &mut CodeSection,
     function: &mut Function,
@@ -28,7 +28,7 @@ pub fn function(
     section.function(function)
 }
 
-/// Bodies that are held, after those that the section stands for.
+/// Appends bodies to a code section.
 pub fn more(section: &mut CodeSection, added: &[CodeBody]) -> Result<(), EncodeError>
     ensures { (before : List CodeBody) → StandsForBodies section.old before →
         OnOk result (StandsForBodies section.new (before ++ added.now)) }
@@ -36,7 +36,7 @@ pub fn more(section: &mut CodeSection, added: &[CodeBody]) -> Result<(), EncodeE
     section.bodies(added)
 }
 
-/// The body that a section writes encodes the bodies that it stands for, whichever calls filled it.
+/// Writes a code section, whose body encodes its bodies whichever calls filled it.
 pub fn encoded(section: &CodeSection, bytes: &mut Vec<u8>) -> Result<(), EncodeError>
     ensures { (added : List CodeBody) → StandsForBodies section.now added →
         code_section_body.Encodes (body_bytes section.now) added }
@@ -44,7 +44,7 @@ pub fn encoded(section: &CodeSection, bytes: &mut Vec<u8>) -> Result<(), EncodeE
     section.encode(bytes)
 }
 
-/// And is read back as these bodies.
+/// Writes a code section and reads its bodies back.
 pub fn read_back(
     alloc: Global,
     section: &CodeSection,
@@ -61,7 +61,7 @@ pub fn read_back(
     read_code_section(alloc, body)
 }
 
-/// A module goes on with the section, whose body is the section's.
+/// Appends a code section to a module.
 pub fn in_module(built: &mut Module, section: &CodeSection) -> Result<(), EncodeError>
     ensures goes_on { (sections : List SectionParts) → built.old ≡ raw_module.bytes sections →
         OnOk result (built.new ≡ raw_module.bytes (sections ++ section_of (10, body_bytes section.now) ∷ [])) }
@@ -70,7 +70,7 @@ pub fn in_module(built: &mut Module, section: &CodeSection) -> Result<(), Encode
     built.section(section)
 }
 
-/// And a module of the section alone is read back as that section.
+/// Reads a module of one code section back.
 pub fn module_back<'a>(
     alloc: Global,
     section: &CodeSection,

@@ -1,5 +1,4 @@
-//! The named types are those of the standard: `any` and the other heap types, and nullable references to them
-//! (Core 3.0, Heap Types to Value Types). So is the header of modules.
+//! The named types and the header of modules, equal to those of the standard (Core 3.0, Heap Types to Value Types).
 ghost use Rattle.std.specs.Prelude.{◌≡◌, true, false};
 ghost use Rattle.wasm_encoder.specs.Sections.{header};
 ghost use Rattle.wasm_types.specs.formats.Types.{reference};
@@ -9,105 +8,105 @@ ghost use Rattle.wasm_types.specs.declared.types.value.ValType.TheVariants as va
 
 use wasm_encoder::{HeapType, Module, RefType, ValType};
 
-/// `ANY` of `HeapType`.
+/// Returns `HeapType::ANY`.
 pub fn any() -> HeapType
     ensures { result ≡ Abstract false abstracts.Any }
 {
     HeapType::ANY
 }
 
-/// `FUNC` of `HeapType`.
+/// Returns `HeapType::FUNC`.
 pub fn func() -> HeapType
     ensures { result ≡ Abstract false abstracts.Func }
 {
     HeapType::FUNC
 }
 
-/// `EXTERN` of `HeapType`.
+/// Returns `HeapType::EXTERN`.
 pub fn external() -> HeapType
     ensures { result ≡ Abstract false abstracts.Extern }
 {
     HeapType::EXTERN
 }
 
-/// `I31` of `HeapType`.
+/// Returns `HeapType::I31`.
 pub fn i31() -> HeapType
     ensures { result ≡ Abstract false abstracts.I31 }
 {
     HeapType::I31
 }
 
-/// `ANYREF` of `RefType`.
+/// Returns `RefType::ANYREF`.
 pub fn anyref() -> RefType
     ensures { result ≡ reference true (Abstract false abstracts.Any) }
 {
     RefType::ANYREF
 }
 
-/// `EQREF` of `RefType`.
+/// Returns `RefType::EQREF`.
 pub fn eqref() -> RefType
     ensures { result ≡ reference true (Abstract false abstracts.Eq) }
 {
     RefType::EQREF
 }
 
-/// `FUNCREF` of `RefType`.
+/// Returns `RefType::FUNCREF`.
 pub fn funcref() -> RefType
     ensures { result ≡ reference true (Abstract false abstracts.Func) }
 {
     RefType::FUNCREF
 }
 
-/// `EXTERNREF` of `RefType`.
+/// Returns `RefType::EXTERNREF`.
 pub fn externref() -> RefType
     ensures { result ≡ reference true (Abstract false abstracts.Extern) }
 {
     RefType::EXTERNREF
 }
 
-/// `I31REF` of `RefType`.
+/// Returns `RefType::I31REF`.
 pub fn i31ref() -> RefType
     ensures { result ≡ reference true (Abstract false abstracts.I31) }
 {
     RefType::I31REF
 }
 
-/// `ARRAYREF` of `RefType`.
+/// Returns `RefType::ARRAYREF`.
 pub fn arrayref() -> RefType
     ensures { result ≡ reference true (Abstract false abstracts.Array) }
 {
     RefType::ARRAYREF
 }
 
-/// `EXNREF` of `RefType`.
+/// Returns `RefType::EXNREF`.
 pub fn exnref() -> RefType
     ensures { result ≡ reference true (Abstract false abstracts.Exn) }
 {
     RefType::EXNREF
 }
 
-/// `FUNCREF` of `ValType`.
+/// Returns `ValType::FUNCREF`.
 pub fn funcref_value() -> ValType
     ensures { result ≡ values.Ref (reference true (Abstract false abstracts.Func)) }
 {
     ValType::FUNCREF
 }
 
-/// `EXTERNREF` of `ValType`.
+/// Returns `ValType::EXTERNREF`.
 pub fn externref_value() -> ValType
     ensures { result ≡ values.Ref (reference true (Abstract false abstracts.Extern)) }
 {
     ValType::EXTERNREF
 }
 
-/// `EXNREF` of `ValType`.
+/// Returns `ValType::EXNREF`.
 pub fn exnref_value() -> ValType
     ensures { result ≡ values.Ref (reference true (Abstract false abstracts.Exn)) }
 {
     ValType::EXNREF
 }
 
-/// `HEADER` of `Module`.
+/// Returns `Module::HEADER`.
 pub fn module_header() -> [u8; 8]
     ensures { result ≡ header }
 {

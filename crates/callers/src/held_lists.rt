@@ -1,4 +1,4 @@
-//! Entries, locals and labels of lists that are held, by the iterators of the standard library.
+//! Lists of types, locals and labels, passed as iterators over slices and vectors.
 ghost use Rattle.std.specs.Prelude.{◌≡◌, ◌++◌, ◌∷◌, [], List, IfOk, OnOk};
 ghost use Rattle.wasm_encoder.specs.CodeSections.{FunctionStandsFor, body_of};
 ghost use Rattle.wasm_encoder.specs.InstructionFormats.{instruction};
@@ -16,7 +16,7 @@ use wasm_encoder::{
     EncodeError, Function, InstructionSink, SubType, TypeEntry, TypeSection, ValType,
 };
 
-/// Adds a function type of these parameters and results.
+/// Adds a function type with these parameters and results.
 pub fn function_of_slices(
     section: &mut TypeSection,
     params: &[ValType],
@@ -29,7 +29,7 @@ pub fn function_of_slices(
     function(section, params.iter().copied(), results.iter().copied())
 }
 
-/// Adds a group of these types.
+/// Adds a recursion group of these types.
 pub fn group_of_vec(section: &mut TypeSection, types: Vec<SubType>) -> Result<(), EncodeError>
     ensures { (before : List TypeEntry) → StandsFor section.old before →
         OnOk result (StandsFor section.new (before ++ entries.Rec types.items ∷ [])) }
@@ -37,14 +37,14 @@ pub fn group_of_vec(section: &mut TypeSection, types: Vec<SubType>) -> Result<()
     group(section, types.into_iter())
 }
 
-/// A function with these locals, and without instructions.
+/// Returns a function with these locals and no instructions.
 pub fn function_of_locals(alloc: Global, locals: &[(u32, ValType)]) -> Result<Function, EncodeError>
     ensures { IfOk result (λ function. FunctionStandsFor function (body_of locals.now [])) }
 {
     Function::new(alloc, locals.iter().copied())
 }
 
-/// Appends a branch to one of these labels.
+/// Appends a `br_table` with these labels.
 pub fn branch_table(code: &mut Vec<u8>, labels: &[u32]) -> Result<(), EncodeError>
     ensures { OnOk result (code.new.items ≡
         code.old.items ++ instruction.bytes (call (without_prefix 0x0e) (operands.BrTable labels.now 0))) }

@@ -9,7 +9,7 @@ ghost use Rattle.wasm_instructions.specs.declared.table.call.Operands.TheVariant
 use std::alloc::Global;
 use wasm_encoder::{CodeSection, Encode, EncodeError, Function, InstructionSink, MemArg};
 
-/// Appends a function body that adds its two parameters, in these bytes.
+/// Appends the instructions of a function that adds its two parameters.
 #[tactic(auto, unfolding(wasm_encoder::proofs::OnLiterals::wasm_encoder_on_literals))]
 pub fn add(code: &mut Vec<u8>) -> Result<(), EncodeError>
     ensures written { OnOk result (code.new.items ≡
@@ -23,7 +23,7 @@ pub fn add(code: &mut Vec<u8>) -> Result<(), EncodeError>
     Ok(())
 }
 
-/// A method without a list appends from 1 to 20 bytes, whatever its operands are.
+/// Appends an `i32.load`. A method without a list appends 1 to 20 bytes, whatever its operands.
 pub fn load(code: &mut Vec<u8>, memarg: MemArg) -> Result<(), EncodeError>
     ensures at_least { OnOk result (length code.old.items + 1 ≤ length code.new.items) }
     ensures at_most { OnOk result (length code.new.items ≤ length code.old.items + 20) }
@@ -32,7 +32,7 @@ pub fn load(code: &mut Vec<u8>, memarg: MemArg) -> Result<(), EncodeError>
     Ok(())
 }
 
-/// What a method appends encodes its call, and every other encoding of the call is longer.
+/// Appends a `local.get` in its minimal encoding. Every other encoding is longer.
 pub fn local(code: &mut Vec<u8>, index: u32) -> Result<(), EncodeError>
     ensures { OnOk result (IsShortestCall (call (without_prefix 0x20) (operands.Index index))) }
 {
@@ -40,7 +40,7 @@ pub fn local(code: &mut Vec<u8>, index: u32) -> Result<(), EncodeError>
     Ok(())
 }
 
-/// Adds these instructions to a function, and the function to a section.
+/// Appends these instructions to a function, and the function to a section.
 pub fn add_function(code: &mut CodeSection, function: &mut Function) -> Result<(), EncodeError>
     ensures bytes { OnOk result (code.new.bytes ≡ code.old.bytes ++
         byte_list_bytes (function.old ++ 0x20 ∷ 0x00 ∷ 0x20 ∷ 0x01 ∷ 0x6a ∷ 0x0b ∷ [])) }
@@ -50,7 +50,7 @@ pub fn add_function(code: &mut CodeSection, function: &mut Function) -> Result<(
     code.function(function)
 }
 
-/// A section of that function alone, where it has no locals.
+/// Appends that function, without locals, to an empty section.
 #[tactic(auto, unfolding(wasm_encoder::proofs::OnLiterals::wasm_encoder_on_literals))]
 pub fn add_alone(code: &mut CodeSection, function: &mut Function) -> Result<(), EncodeError>
     requires none { (code.old.count ≡ 0) × (code.old.bytes ≡ []) }
@@ -62,7 +62,7 @@ pub fn add_alone(code: &mut CodeSection, function: &mut Function) -> Result<(), 
     add_function(code, function)
 }
 
-/// What is written of that section.
+/// Writes the section of that function.
 #[tactic(auto, unfolding(wasm_encoder::proofs::OnLiterals::wasm_encoder_on_literals))]
 pub fn encoded(code: &CodeSection, sink: &mut Vec<u8>) -> Result<(), EncodeError>
     requires bytes { code.now.bytes ≡ 0x07 ∷ 0x00 ∷ 0x20 ∷ 0x00 ∷ 0x20 ∷ 0x01 ∷ 0x6a ∷ 0x0b ∷ [] }
@@ -73,7 +73,7 @@ pub fn encoded(code: &CodeSection, sink: &mut Vec<u8>) -> Result<(), EncodeError
     code.encode(sink)
 }
 
-/// A new section of that function alone, in these bytes.
+/// Writes a new section of that function alone.
 pub fn section_of_add(
     alloc: Global,
     function: &mut Function,

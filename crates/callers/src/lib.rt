@@ -1,5 +1,4 @@
-//! What callers of the library conclude from its public clauses alone: with no proof file, but where the bytes of a
-//! section are computed, or where it is told what the iterators of slices and vectors give.
+//! Callers of the library, proved from its public contracts.
 #![tactic(auto)]
 
 pub mod code_sections;

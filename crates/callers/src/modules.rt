@@ -1,4 +1,4 @@
-//! Type sections that are put into a module, and modules that are in their normal form.
+//! Type sections in modules, and modules that are minimally encoded.
 ghost use Rattle.std.specs.Prelude.{◌≡◌, ◌++◌, ◌∷◌, [], List, OnOk};
 ghost use Rattle.std.specs.List.{AllByRecursion};
 ghost use Rattle.wasm_encoder.specs.Answers.{IsOrMemory};
@@ -10,7 +10,7 @@ ghost use Rattle.wasm_encoder.specs.EncodedLists.{body_bytes};
 use std::alloc::Global;
 use wasm_encoder::{EncodeError, Module, ReadError, TypeSection, normalise_module};
 
-/// A module goes on with a type section, whose body is that of the section's entries.
+/// Appends a type section to a module.
 pub fn written(types: &TypeSection, built: &mut Module) -> Result<(), EncodeError>
     ensures { (sections : List SectionParts) → built.old ≡ raw_module.bytes sections →
         OnOk result (built.new ≡ raw_module.bytes (sections ++ section_of (1, body_bytes types.now) ∷ [])) }
@@ -18,7 +18,7 @@ pub fn written(types: &TypeSection, built: &mut Module) -> Result<(), EncodeErro
     built.section(types)
 }
 
-/// The shortest encoding of sections in range is given back as it is.
+/// Normalises a minimally encoded module, which stays as it is.
 pub fn normalised(alloc: Global, bytes: &[u8]) -> Result<Vec<u8>, ReadError>
     ensures { (sections : List DecodedSection) → AllByRecursion IsDecodedSection sections →
         bytes.now ≡ decoded_module.bytes sections → IsOrMemory (λ given. given.items) bytes.now result }

@@ -1,4 +1,4 @@
-//! Sections other than those of types and code, filled and written.
+//! Sections other than types and code, filled and written.
 ghost use Rattle.std.specs.Prelude.{◌≡◌, ◌++◌, ◌∷◌, [], List, OnOk};
 ghost use Rattle.wasm_codec.specs.Encoding.{byte_list_bytes};
 ghost use Rattle.wasm_sections.specs.formats.EntryParts.{ExportParts};
@@ -10,7 +10,7 @@ ghost use Rattle.wasm_builders.specs.ListSections.{StandsForItems};
 
 use wasm_encoder::{Encode, EncodeError, ExportKind, ExportSection};
 
-/// A function is exported after what the section has.
+/// Adds an export of a function.
 pub fn exported(
     exports: &mut ExportSection<'_>,
     name: &str,
@@ -22,7 +22,7 @@ pub fn exported(
     exports.export(name, ExportKind::Func, function)
 }
 
-/// The body that is written encodes the exports that the section stands for.
+/// Writes an export section, whose body encodes its exports.
 pub fn encoded(exports: &ExportSection<'_>, bytes: &mut Vec<u8>) -> Result<(), EncodeError>
     ensures written { OnOk result (bytes.new.items ≡ bytes.old.items ++ byte_list_bytes (body_bytes exports.now)) }
     ensures encodes { (entries : List ExportParts) → StandsForItems export_entry exports.now entries →

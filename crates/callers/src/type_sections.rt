@@ -13,14 +13,14 @@ use wasm_encoder::{
     Encode, EncodeError, FuncType, ReadError, SubType, TypeEntry, TypeSection, read_type_section,
 };
 
-/// An encoder that isn't used leaves its section as it was.
+/// Drops an unused encoder, which leaves the section unchanged.
 pub fn unused(section: &mut TypeSection)
     ensures { section.new ≡ section.old }
 {
     let _unused = section.ty();
 }
 
-/// Two entries more, each from a call of its own.
+/// Adds two entries by separate calls.
 pub fn two_more(
     section: &mut TypeSection,
     ty: &FuncType,
@@ -33,7 +33,7 @@ pub fn two_more(
     section.ty().subtype(subtype)
 }
 
-/// Entries that are held, after those that the section stands for.
+/// Adds entries from a slice.
 pub fn more(section: &mut TypeSection, added: &[TypeEntry]) -> Result<(), EncodeError>
     ensures { (before : List TypeEntry) → StandsFor section.old before →
         OnOk result (StandsFor section.new (before ++ added.now)) }
@@ -41,7 +41,7 @@ pub fn more(section: &mut TypeSection, added: &[TypeEntry]) -> Result<(), Encode
     section.entries(added)
 }
 
-/// The body that a section writes encodes the entries that it stands for, whichever calls filled it.
+/// Writes a type section, whose body encodes its entries whichever calls filled it.
 pub fn encoded(section: &TypeSection, bytes: &mut Vec<u8>) -> Result<(), EncodeError>
     ensures { (added : List TypeEntry) → StandsFor section.now added →
         type_body.Encodes (body_bytes section.now) added }
@@ -49,7 +49,7 @@ pub fn encoded(section: &TypeSection, bytes: &mut Vec<u8>) -> Result<(), EncodeE
     section.encode(bytes)
 }
 
-/// And is read back as these entries.
+/// Writes a type section and reads its entries back.
 pub fn read_back(
     alloc: Global,
     section: &TypeSection,

@@ -1,4 +1,4 @@
-//! Modules that are built of sections by name, and read back with what their sections hold.
+//! Modules built from named sections, and read back with every section decoded.
 ghost use Rattle.std.specs.Prelude.{◌≡◌, ◌++◌, ◌∷◌, [], ℕ, List, IfOk, OnOk};
 ghost use Rattle.wasm_codec.specs.formats.Combinators.{u32 as u32_format};
 ghost use Rattle.wasm_encoder.specs.Answers.{IsOrMemory};
@@ -14,7 +14,7 @@ use wasm_encoder::{
     read_whole_module_strict,
 };
 
-/// A module goes on with functions.
+/// Appends a function section to a module.
 pub fn functions(built: &mut Module, section: &FunctionSection) -> Result<(), EncodeError>
     ensures { (sections : List ModuleSectionParts) (indexes : List ℕ) → ShortestWholeModule built.old sections →
         StandsForItems u32_format section.now indexes →
@@ -24,7 +24,7 @@ pub fn functions(built: &mut Module, section: &FunctionSection) -> Result<(), En
     Ok(())
 }
 
-/// A module goes on with exports.
+/// Appends an export section to a module.
 pub fn exports(built: &mut Module, section: &ExportSection<'_>) -> Result<(), EncodeError>
     ensures { (sections : List ModuleSectionParts) (entries : List ExportParts) → ShortestWholeModule built.old sections →
         StandsForItems export_entry section.now entries →
@@ -34,7 +34,7 @@ pub fn exports(built: &mut Module, section: &ExportSection<'_>) -> Result<(), En
     Ok(())
 }
 
-/// A module goes on with a custom section.
+/// Appends a custom section to a module.
 pub fn custom(built: &mut Module, section: &CustomSection<'_>) -> Result<(), EncodeError>
     ensures { (sections : List ModuleSectionParts) → ShortestWholeModule built.old sections →
         OnOk result (ShortestWholeModule built.new (sections ++ custom (custom_parts section.now) ∷ [])) }
@@ -43,7 +43,7 @@ pub fn custom(built: &mut Module, section: &CustomSection<'_>) -> Result<(), Enc
     Ok(())
 }
 
-/// A module of these sections.
+/// Returns a module of a function section and an export section.
 pub fn module_of(
     alloc: Global,
     indexes: &FunctionSection,
@@ -59,7 +59,7 @@ pub fn module_of(
     Ok(built)
 }
 
-/// The bytes of such a module are read back as its sections.
+/// Reads the sections of such a module back.
 pub fn read_back<'a>(alloc: Global, module: &'a Module) -> Result<Vec<ModuleSection<'a>>, ReadError>
     ensures { (sections : List ModuleSectionParts) → ShortestWholeModule module.now sections →
         IsOrMemory (λ given. all_module_section_parts given.items) sections result }

@@ -1,4 +1,4 @@
-//! A type section the whole way: filled, put into a module, and read back out of the module's bytes as its entries.
+//! A type section from its first entry to reading it back out of a module.
 ghost use Rattle.std.specs.Prelude.{◌≡◌, ◌++◌, ◌∷◌, [], List, IfOk, OnOk};
 ghost use Rattle.wasm_encoder.specs.Answers.{IsOrMemory};
 ghost use Rattle.wasm_encoder.specs.EncodedLists.{CountedSection, GivesItems, body_bytes};
@@ -17,7 +17,7 @@ use wasm_encoder::{
     ValType, first_body, read_module, read_type_section,
 };
 
-/// Adds a function type of what two iterators give.
+/// Adds a function type with the parameters and results of two iterators.
 pub fn function<P: ExactSizeIterator<Item = ValType>, R: ExactSizeIterator<Item = ValType>>(
     section: &mut TypeSection,
     params: P,
@@ -33,7 +33,7 @@ pub fn function<P: ExactSizeIterator<Item = ValType>, R: ExactSizeIterator<Item 
     section.ty().function(params, results)
 }
 
-/// Adds such a function type, and a subtype.
+/// Adds such a function type and a subtype.
 pub fn two_types<P: ExactSizeIterator<Item = ValType>, R: ExactSizeIterator<Item = ValType>>(
     section: &mut TypeSection,
     params: P,
@@ -52,7 +52,7 @@ pub fn two_types<P: ExactSizeIterator<Item = ValType>, R: ExactSizeIterator<Item
     section.ty().subtype(subtype)
 }
 
-/// Adds a group of the types that an iterator gives.
+/// Adds a recursion group of the types of an iterator.
 pub fn group<S: ExactSizeIterator<Item = SubType>>(
     section: &mut TypeSection,
     types: S,
@@ -65,7 +65,7 @@ pub fn group<S: ExactSizeIterator<Item = SubType>>(
     section.ty().rec(types)
 }
 
-/// Adds such a group, and entries that are held.
+/// Adds such a group and entries from a slice.
 pub fn group_and_more<S: ExactSizeIterator<Item = SubType>>(
     section: &mut TypeSection,
     types: S,
@@ -80,7 +80,7 @@ pub fn group_and_more<S: ExactSizeIterator<Item = SubType>>(
     section.entries(more)
 }
 
-/// Puts the section into a new module.
+/// Appends the section to a new module.
 pub fn in_module(section: &TypeSection, built: &mut Module) -> Result<(), EncodeError>
     requires { built.old ≡ header }
     ensures bytes { OnOk result (built.new ≡ raw_module.bytes (section_of (1, body_bytes section.now) ∷ [])) }
@@ -103,7 +103,7 @@ pub fn module_back<'a>(
     read_module(alloc, bytes)
 }
 
-/// Reads the entries back out of the bytes of that module.
+/// Reads the entries back from the bytes of that module.
 pub fn entries_back(
     alloc: Global,
     section: &TypeSection,
@@ -122,7 +122,7 @@ pub fn entries_back(
     read_type_section(alloc, body)
 }
 
-/// Puts the section into a new module, and reads the entries back out of its bytes.
+/// Appends the section to a new module and reads the entries back from its bytes.
 pub fn there_and_back(
     alloc: Global,
     section: &TypeSection,
@@ -135,8 +135,7 @@ pub fn there_and_back(
     Ok(entries_back(alloc, section, built.as_slice()))
 }
 
-/// The whole way: a section is filled by `function`, `subtype`, `rec` and `entries`, put into a module, and read back as
-/// its entries, unless memory ran out.
+/// Fills a section by `function`, `subtype`, `rec` and `entries`, appends it to a module and reads its entries back.
 pub fn whole_way<
     P: ExactSizeIterator<Item = ValType>,
     R: ExactSizeIterator<Item = ValType>,

@@ -1,29 +1,29 @@
-//! From an expression to the instructions of a function.
+//! Compiles an expression to the instructions of a function.
 
 use crate::tokens::{Token, Tokens, TooLarge};
 use std::alloc::{AllocFailed, Global};
 use thiserror::Error;
 use wasm_encoder::{EncodeError, Function};
 
-/// Why a text wasn't compiled.
+/// An error in an expression.
 #[derive(Debug, Drop, Error)]
 pub enum CompileError {
-    /// A number has no place there.
+    /// An unexpected number.
     #[error("a number follows a number, a name or a parenthesis")]
     UnexpectedNumber,
-    /// A character has no place there.
+    /// An unexpected character.
     #[error("{0:?} has no place there")]
     Unexpected(char),
-    /// A number is too large.
+    /// A number that is too large.
     #[error("{0}")]
     TooLarge(#[from] TooLarge),
-    /// An operand is missing at the end.
+    /// A missing operand at the end.
     #[error("the expression ends where an operand is wanted")]
     Unfinished,
-    /// A parenthesis isn't closed.
+    /// A parenthesis that isn't closed.
     #[error("a parenthesis isn't closed")]
     Unclosed,
-    /// The instructions weren't written.
+    /// A failure to write the instructions.
     #[error("{0}")]
     Encode(#[from] EncodeError),
 }
@@ -34,19 +34,19 @@ impl<T: Drop> From<AllocFailed<T>> for CompileError {
     }
 }
 
-/// What waits for the operand to its right, or for a closing parenthesis.
+/// An operator that waits for its right operand, or an open parenthesis.
 #[derive(Clone, Copy, Debug)]
 enum Pending {
     Parenthesis,
     Add,
     Subtract,
     Multiply,
-    /// A sign: the subtraction from a 0 that was pushed where it stands.
+    /// A sign: subtracts the operand from a 0 pushed in its place.
     Negate,
 }
 
 impl Pending {
-    /// Operators of a higher one are computed first. A parenthesis is below all of them.
+    /// Returns the precedence: operators of higher precedence are computed first. A parenthesis has the lowest.
     fn precedence(self) -> u8 {
         match self {
             Pending::Parenthesis => 0,
@@ -57,10 +57,10 @@ impl Pending {
     }
 }
 
-/// A function of two parameters, `a` and `b`, that computes the expression.
+/// Compiles an expression to a function of two parameters, `a` and `b`.
 ///
-/// Operands are written as they come, and operators once both their operands are, so the instructions are the
-/// expression in postfix order, which is the order of a stack machine.
+/// Writes each operand when it is read and each operator after both its operands. The instructions are the expression
+/// in postfix order, as a stack machine expects.
 pub fn compile(alloc: Global, text: &str) -> Result<Function, CompileError> {
     let mut compiler = Compiler::new(alloc)?;
     for token in Tokens::new(text) {
@@ -85,7 +85,7 @@ impl Compiler {
         })
     }
 
-    /// Goes on with the next token.
+    /// Consumes the next token.
     fn take(&mut self, token: Token) -> Result<(), CompileError> {
         if self.wants_operand {
             self.take_operand(token)
@@ -94,7 +94,7 @@ impl Compiler {
         }
     }
 
-    /// Writes a number or a parameter, or notes what stands before an operand.
+    /// Writes a number or a parameter, or pushes a sign or an open parenthesis.
     fn take_operand(&mut self, token: Token) -> Result<(), CompileError> {
         let sink = self.function.instructions();
         match token {
@@ -112,7 +112,7 @@ impl Compiler {
         Ok(())
     }
 
-    /// Notes an operator, or goes back to the open parenthesis.
+    /// Pushes an operator, or closes a parenthesis.
     fn take_operator(&mut self, token: Token) -> Result<(), CompileError> {
         let operator = match token {
             Token::Symbol(')') => return self.close(),
@@ -137,7 +137,7 @@ impl Compiler {
         }
     }
 
-    /// Writes the operators on top of the stack, down to the first that is below this precedence.
+    /// Writes the operators on top of the stack that have at least this precedence.
     fn write_pending(&mut self, least: u8) -> Result<(), CompileError> {
         for _ in 0..self.pending.len() {
             let Some(operator) = self.pending.pop_if(|top| top.precedence() >= least) else {
@@ -160,7 +160,7 @@ impl Compiler {
         Ok(())
     }
 
-    /// Writes the operators that are left, and the `end` of the function.
+    /// Writes the remaining operators and the `end` of the function.
     fn finish(mut self) -> Result<Function, CompileError> {
         if self.wants_operand {
             return Err(CompileError::Unfinished);

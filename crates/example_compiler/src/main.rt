@@ -1,12 +1,12 @@
 //! Compiles an arithmetic expression to a WebAssembly module, and reads the module back.
 //!
-//! It shows the whole way of a compiler: tokens become calls of the sink (`compiler`), a function goes into a code section
-//! and four sections into a module (`module`), and the readers give back what the bytes encode (`report`). No step can
-//! panic: what isn't an expression is answered by a message and status 1.
+//! The modules follow the steps of a compiler: `compiler` turns tokens into instructions, `module` puts sections into a
+//! module, and `report` reads the module. No step can panic: for a malformed expression the program prints a message
+//! and exits with status 1.
 //!
-//! Standard input is an expression over numbers, the parameters `a` and `b`, `+`, `-`, `*` and parentheses. The module
-//! exports a function `compute` of `a` and `b`. Without arguments the program prints the module's bytes and what was
-//! read back; with the argument `module` it writes the module itself.
+//! Standard input is an expression of numbers, the parameters `a` and `b`, `+`, `-`, `*` and parentheses. The module
+//! exports a function `compute` of `a` and `b`. Without arguments the program prints the bytes of the module and its
+//! contents. With the argument `module` it writes the module itself.
 #![tactic(auto)]
 
 mod compiler;
@@ -30,7 +30,7 @@ fn main(rt: HostRuntime) -> Result<()> {
     report::print(&rt, &bytes)
 }
 
-/// Whether the argument, if there is one, asks for the module itself.
+/// Returns whether the argument asks for the module itself. Fails if there is another argument.
 fn is_module_wanted(rt: &HostRuntime) -> Result<bool> {
     match env::args(rt)?.nth(1) {
         None => Ok(false),

@@ -1,4 +1,4 @@
-//! From a function to a module.
+//! Builds a module of a function.
 
 use std::alloc::Global;
 use wasm_encoder::{
@@ -6,10 +6,10 @@ use wasm_encoder::{
     TypeSection, ValType,
 };
 
-/// The name by which the module exports the function.
+/// Name of the exported function.
 pub const EXPORT_NAME: &str = "compute";
 
-/// The bytes of a module that exports a function of two parameters and one result.
+/// Returns the bytes of a module that exports a function of two parameters and one result.
 pub fn module_of(alloc: Global, function: &Function) -> Result<Vec<u8>, EncodeError> {
     let mut functions = FunctionSection::new(alloc);
     functions.function(0)?;
@@ -23,7 +23,7 @@ pub fn module_of(alloc: Global, function: &Function) -> Result<Vec<u8>, EncodeEr
     Ok(module.finish())
 }
 
-/// The type section: the type of the function.
+/// Returns the type section: the type of the function.
 fn types(alloc: Global) -> Result<TypeSection, EncodeError> {
     let params = [ValType::I32, ValType::I32];
     let results = [ValType::I32];
@@ -34,7 +34,7 @@ fn types(alloc: Global) -> Result<TypeSection, EncodeError> {
     Ok(types)
 }
 
-/// The code section: the locals and the instructions of the function.
+/// Returns the code section: the locals and instructions of the function.
 fn code_of(alloc: Global, function: &Function) -> Result<CodeSection, EncodeError> {
     let mut code = CodeSection::new(alloc);
     code.function(function)?;

@@ -1,4 +1,4 @@
-//! What a module's bytes are, and what they encode.
+//! Prints a module: its bytes and its sections.
 
 use anyhow::Result;
 use std::io;
@@ -7,7 +7,7 @@ use wasm_encoder::{
     read_code_section, read_module, read_type_section,
 };
 
-/// Prints the bytes of a module, and then what its sections are read as.
+/// Prints the bytes of a module, then its sections.
 pub fn print(rt: &(impl Print + AllocGlobal), module: &[u8]) -> Result<()> {
     println!(rt; "module of {} bytes:", module.len())?;
     for line in module.chunks(16) {
@@ -19,7 +19,7 @@ pub fn print(rt: &(impl Print + AllocGlobal), module: &[u8]) -> Result<()> {
     Ok(())
 }
 
-/// Prints a section: its types or its functions, or else its bytes.
+/// Prints a section: its types, its functions or its bytes.
 fn print_section(rt: &(impl Print + AllocGlobal), section: &RawSection) -> Result<()> {
     println!(rt; "section {}, {} bytes:", section.id, section.body.len())?;
     if section.id == u8::from(SectionId::Types) {
@@ -47,7 +47,7 @@ fn print_code(rt: &(impl Print + AllocGlobal), body: &[u8]) -> Result<()> {
     Ok(())
 }
 
-/// Prints a type, if it is a function's.
+/// Prints a type if it is a function type.
 fn print_type(rt: &impl Print, entry: &TypeEntry) -> io::Result<()> {
     if let TypeEntry::Sub(ty) = entry
         && let CompositeInnerType::Func(function) = &ty.composite_type.inner
@@ -61,7 +61,7 @@ fn print_type(rt: &impl Print, entry: &TypeEntry) -> io::Result<()> {
     Ok(())
 }
 
-/// Prints the instructions of a function, each by its name and its operands.
+/// Prints the locals and instructions of a function.
 fn print_body(rt: &impl Print, body: &CodeBody) -> io::Result<()> {
     println!(rt; "  locals: {:?}", body.locals)?;
     for call in body.calls.as_slice() {
@@ -70,7 +70,7 @@ fn print_body(rt: &impl Print, body: &CodeBody) -> io::Result<()> {
     Ok(())
 }
 
-/// Prints an instruction.
+/// Prints the name and the operands of an instruction.
 fn print_call(rt: &impl Print, call: &Call) -> io::Result<()> {
     let name = opcode_name(call.op()).unwrap_or("?");
     match call.operands() {

@@ -7,13 +7,13 @@ use thiserror::Error;
 /// A number, or any other character that isn't a space.
 #[derive(Clone, Copy, Debug)]
 pub enum Token {
-    /// A number that an `i32` holds.
+    /// A number that fits an `i32`.
     Number(i32),
-    /// A name, an operator, a parenthesis, or what has no place in an expression.
+    /// A name, an operator, a parenthesis or any other character.
     Symbol(char),
 }
 
-/// A number that no `i32` holds.
+/// A number that doesn't fit an `i32`.
 #[derive(Clone, Copy, Debug, Error)]
 #[error("a number is past 2147483647")]
 pub struct TooLarge;
@@ -25,7 +25,7 @@ pub struct Tokens<'a> {
 }
 
 impl<'a> Tokens<'a> {
-    /// The tokens of a text.
+    /// Returns the tokens of a text.
     pub fn new(text: &'a str) -> Tokens<'a> {
         Tokens {
             rest: text.as_bytes(),
@@ -36,7 +36,7 @@ impl<'a> Tokens<'a> {
 impl<'a> Iterator for Tokens<'a> {
     type Item = Result<Token, TooLarge>;
 
-    // Each token takes a byte at least, so a loop over tokens ends.
+    // Each token takes at least one byte, so loops over tokens end.
     ghost remaining = { λ tokens. at_most (length tokens.rest.now) };
 
     fn next(&mut self) -> Option<Result<Token, TooLarge>> {
@@ -51,7 +51,7 @@ impl<'a> Iterator for Tokens<'a> {
     }
 }
 
-/// The number that the text begins with, or 0 if there is none.
+/// Returns the number that the text begins with, or 0. `None` means that it doesn't fit.
 fn leading_number(text: &[u8]) -> Option<i32> {
     let mut number: i32 = 0;
     for byte in text {
@@ -65,7 +65,7 @@ fn leading_number(text: &[u8]) -> Option<i32> {
     Some(number)
 }
 
-/// What follows the digits that the text begins with.
+/// Returns the text after its leading digits.
 fn after_digits(text: &[u8]) -> &[u8]
     ensures { length result.now ≤ length text.now }
 {

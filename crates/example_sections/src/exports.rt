@@ -1,4 +1,4 @@
-//! The export section, of functions alone (Core 3.0, Export Section).
+//! An export section of functions alone (Core 3.0, Export Section).
 ghost use Rattle.std.specs.Prelude.{◌≡◌, ◌++◌, OnOk, IfErr, length, take};
 ghost use Rattle.wasm_encoder.specs.Encoding.{byte_list_bytes, IsRefusal, OnlyTooLong};
 ghost use Rattle.example_sections.specs.Exports.{export_bytes, body_of, HasShortName, CanExport};
@@ -8,21 +8,21 @@ use wasm_encoder::{
     Encode, EncodeError, Section, SectionId, encode_bytes, encode_list, encode_str,
 };
 
-/// The byte that says that an export is a function.
+/// Kind byte of an exported function.
 pub const FUNCTION: u8 = 0x00;
 
-/// The export of a function: its name and its index.
+/// An exported function.
 #[derive(Clone, Copy, Debug)]
 pub struct FunctionExport<'a> {
-    /// The name, which a host looks up.
+    /// Name of the export.
     pub name: &'a str,
-    /// The index of the function.
+    /// Function index.
     pub function: u32,
 }
 
-/// The name, the kind of what is exported, and its index.
+/// The name, the kind and the index.
 ///
-/// `TooLong` where the name has more than 4,294,967,295 bytes.
+/// Fails with `TooLong` if the name is longer than 4,294,967,295 bytes.
 impl<'a> Encode for FunctionExport<'a> {
     ghost bytes = { export_bytes };
 
@@ -40,7 +40,7 @@ impl<'a> Encode for FunctionExport<'a> {
     }
 }
 
-/// Appends an export. An `Err` can leave a part of it.
+/// Appends an export. On error a part of it may remain.
 fn append_export<A: Allocator>(
     export: &FunctionExport,
     sink: &mut Vec<u8, A>,
@@ -55,18 +55,18 @@ fn append_export<A: Allocator>(
     export.function.encode(sink)
 }
 
-/// A section of exports.
+/// An export section.
 #[derive(Debug, Drop)]
 pub struct ExportSection<'a> {
-    /// The exports, in order.
+    /// Exports in order.
     pub exports: &'a [FunctionExport<'a>],
-    /// Where the body is made, since its size is written before it.
+    /// Allocator for the body, which is built before its size is known.
     pub alloc: Global,
 }
 
-/// The size of the body, the number of exports, and the exports.
+/// The size of the body in bytes, the number of exports and the exports.
 ///
-/// `TooLong` where one of these numbers is more than 4,294,967,295, or a name is longer.
+/// Fails with `TooLong` if the size, the number or a name's length is above 4,294,967,295.
 impl<'a> Encode for ExportSection<'a> {
     ghost bytes = { λ section. byte_list_bytes (body_of section.exports.now) };
 

@@ -1,11 +1,11 @@
-//! Puts a section of a caller's own into a module.
+//! Adds a section type of its own to a module, and reads it back.
 //!
-//! It shows how a type of one's own is written: `FunctionExport` implements `Encode` and says by its ghosts which bytes it
-//! has, which values have any, and which error the others get (`exports`); `ExportSection` is a `Section`, so a `Module`
-//! takes it like those of the library, and a contract tells all bytes of the module (`module`). The program prints them.
+//! `exports` implements `Encode` for `FunctionExport`: its ghosts say which bytes a value has, which values have any,
+//! and which error the others get. It implements `Section` for `ExportSection`, so `Module::section` accepts it. The
+//! contract in `module` gives all bytes of the module, and the program prints them.
 //!
-//! And how it is read back: `ReadExport` is `Readable`, by one format that tells which bytes encode which export, and
-//! `read_list_to_end` reads a list of them (`read`). The program prints the exports that it reads in the module.
+//! `read` implements `Readable` for `ReadExport`: its format says which bytes encode which export. `read_list_to_end`
+//! reads the list, and the program prints the exports.
 #![tactic(auto)]
 
 mod exports;
@@ -58,7 +58,7 @@ fn main(rt: HostRuntime) -> Result<()> {
     Ok(())
 }
 
-/// Prints a line of an export.
+/// Prints a line for an export.
 fn print_export(rt: &impl Print, export: &ReadExport) -> io::Result<()> {
     for byte in export.name {
         print!(rt; "{}", char::from(*byte))?;

@@ -1,4 +1,4 @@
-//! A module with a section of the caller's own.
+//! A module with a section of the caller's type.
 ghost use Rattle.std.specs.Prelude.{◌≡◌, ◌∷◌, [], IfOk};
 ghost use Rattle.wasm_encoder.specs.ModuleFormats.{raw_module};
 ghost use Rattle.wasm_encoder.specs.Sections.{section_of};
@@ -9,7 +9,7 @@ use crate::exports::ExportSection;
 use std::alloc::Global;
 use wasm_encoder::{CodeSection, EncodeError, FunctionSection, Module, TypeSection};
 
-/// A module of these sections.
+/// Returns a module of these sections.
 pub fn module_of(
     alloc: Global,
     types: &TypeSection,
@@ -17,7 +17,7 @@ pub fn module_of(
     exports: &ExportSection,
     code: &CodeSection,
 ) -> Result<Module, EncodeError>
-    // Its bytes are those of four sections: each an id and a body after its size.
+    // The bytes are those of four sections, each an id, a size and a body.
     ensures { IfOk result (λ made. made ≡ raw_module.bytes (
         section_of (1, body_bytes types.now) ∷
         section_of (3, body_bytes functions.now) ∷

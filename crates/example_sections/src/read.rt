@@ -1,4 +1,4 @@
-//! The export section, read back.
+//! Reads the export section back.
 ghost use Rattle.std.specs.Prelude.{◌≡◌, List, ℕ, IfOk, IfErr, refl};
 ghost use Rattle.std.proofs.lemmas.List.{map_push};
 ghost use Rattle.wasm_codec.specs.Reading.{map_ok};
@@ -13,20 +13,20 @@ use crate::exports::FUNCTION;
 use std::alloc::Global;
 use wasm_encoder::{Cursor, Fault, ReadError, Readable, read_list_to_end};
 
-/// The export of a function, as it was read.
+/// An exported function, as read.
 #[derive(Clone, Copy, Debug)]
 pub struct ReadExport<'a> {
-    /// The bytes of the name, of which nothing asks that they are UTF-8.
+    /// Bytes of the name, not checked to be UTF-8.
     pub name: &'a [u8],
-    /// The index of the function.
+    /// Function index.
     pub function: u32,
 }
 
-/// The exports that the body of the section encodes, in any encoding.
+/// Reads the body of the section, in any encoding.
 pub fn read_exports<'a>(alloc: Global, body: &'a [u8]) -> Result<Vec<ReadExport<'a>>, ReadError>
-    // What is given, the body encodes.
+    // The body encodes the returned list.
     ensures given { IfOk result (λ exports. EncodesList export.Encodes body.now (all_parts_of exports.items)) }
-    // `at` is the length of the longest prefix that is whole.
+    // `at` is the length of the longest well-formed prefix.
     ensures prefix { IfRefused result (IsLongestPrefix (IsListPrefix export.Encodes) body.now) }
 {
     read_list_to_end(alloc, body)
@@ -48,7 +48,7 @@ impl<'a> Readable<'a> for ReadExport<'a> {
     }
 }
 
-/// The name, the kind of what is exported, and its index.
+/// Reads the name, the kind and the index.
 fn read_export<'a>(cursor: &mut Cursor<'a>) -> Result<ReadExport<'a>, Fault>
     ensures reads { Reads export.at cursor.old cursor.new (map_ok parts_of result) }
 {
@@ -60,7 +60,7 @@ fn read_export<'a>(cursor: &mut Cursor<'a>) -> Result<ReadExport<'a>, Fault>
     Ok(ReadExport { name, function })
 }
 
-/// Bytes after their number.
+/// Reads bytes that follow their length.
 fn read_bytes<'a>(cursor: &mut Cursor<'a>) -> Result<&'a [u8], Fault>
     ensures reads { Reads byte_list.at cursor.old cursor.new (map_ok (λ bytes. bytes.now) result) }
     ensures err { IfErr result (λ e. e ≡ Malformed) }

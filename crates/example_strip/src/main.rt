@@ -1,11 +1,10 @@
-//! Takes a module from standard input apart, and writes it to standard output without its custom sections.
+//! Copies a module from standard input to standard output without its custom sections.
 //!
-//! It shows how sections are read and written again: `read_module` lends their bodies from the bytes that it read, and
-//! `Module` takes what was lent as it is. The contract of `strip` says what stays: the sections whose id isn't 0, in their
-//! order, each size in the fewest bytes.
+//! `read_module` borrows the section bodies from the bytes, and `Module::section` accepts them unchanged. The contract
+//! of `strip` says what stays: the sections whose id isn't 0, in order, with minimally encoded sizes.
 //!
-//! Names and debug information are in custom sections, so this is what `wasm-strip` does. The modules of compilers need
-//! none of them to run; relocatable object files do.
+//! Names and debug information are custom sections, so the program does what `wasm-strip` does. Linked modules run
+//! without them; relocatable object files need theirs.
 #![tactic(auto)]
 
 mod strip;

@@ -9,14 +9,15 @@ ghost use Rattle.example_strip.specs.Kept.{kept};
 use std::alloc::Global;
 use wasm_encoder::{EncodeError, Module, RawSection, ReadError, SectionId, read_module};
 
-/// The module that the bytes encode, without its custom sections.
+/// Returns the module without its custom sections.
 ///
-/// A section that was read can be written, so only memory can be missing then.
+/// Fails with `Refused` as `read_module` does. Every section that was read can be written, so writing can fail only
+/// with `Memory`.
 pub fn strip(alloc: Global, bytes: &[u8]) -> Result<Vec<u8>, ReadError>
-    // The sections that stay are given, in their order, unless memory ran out.
+    // The result has the kept sections in their order, unless memory runs out.
     ensures complete { (sections : List SectionParts) → raw_module.Encodes bytes.now sections →
         IsOrMemory (λ given. given.items) (raw_module.bytes (kept sections)) result }
-    // `at` is the length of the longest prefix that is whole.
+    // `at` is the length of the longest well-formed prefix.
     ensures prefix { IfRefused result (IsLongestPrefix IsModulePrefix bytes.now) }
 {
     let sections = read_module(alloc, bytes)?;
@@ -26,7 +27,7 @@ pub fn strip(alloc: Global, bytes: &[u8]) -> Result<Vec<u8>, ReadError>
     }
 }
 
-/// A module of the sections that aren't custom.
+/// Returns a module of the sections that aren't custom.
 fn module_of_kept(alloc: Global, sections: &[RawSection]) -> Result<Module, EncodeError>
     ensures { IfOk result (λ made. made ≡ raw_module.bytes (kept (all_parts_of sections.now))) }
 {

@@ -1,11 +1,11 @@
--- What a call leaves in the caller's memory, and its status.
+-- The caller's memory after a C call, and the status that it returns.
 use Rattle.std.specs.Prelude.{◌≡◌, ℕ, ◌<◌, ◌≤◌, ◌⊎◌, List, ◌++◌, length, drop, Result, Ok, Err}
 use Rattle.wasm_codec.specs.declared.reader.ReadError.{ReadError}
 use Rattle.wasm_codec.specs.declared.reader.ReadError.TheVariants as errors
 
 -- ---- the caller's memory
 
--- The output begins with such an encoding of this length, and is otherwise as it was.
+-- The output begins with the minimal encoding, which has this length, and its other bytes are unchanged.
 pub record BeginsWithNormal (Normal : List ℕ → Type 0) (old new : List ℕ) (count : ℕ) : Type 0 where
   pub encoding : List ℕ
   pub normal : Normal encoding
@@ -13,14 +13,14 @@ pub record BeginsWithNormal (Normal : List ℕ → Type 0) (old new : List ℕ) 
   pub fits : count ≤ length old
   pub output : new ≡ encoding ++ drop count old
 
--- There is such an encoding of this length, for which the output is too short.
+-- The minimal encoding has this length, and the output is shorter.
 pub record IsOutputTooShort (Normal : List ℕ → Type 0) (old : List ℕ) (count : ℕ) : Type 0 where
   pub encoding : List ℕ
   pub normal : Normal encoding
   pub len : count ≡ length encoding
   pub long : length old < count
 
--- There is such an encoding of this length, which is shorter than the input.
+-- The minimal encoding has this length, and is shorter than the input.
 pub record IsShorter (Normal : List ℕ → Type 0) (input : List ℕ) (count : ℕ) : Type 0 where
   pub encoding : List ℕ
   pub normal : Normal encoding
@@ -29,56 +29,61 @@ pub record IsShorter (Normal : List ℕ → Type 0) (input : List ℕ) (count : 
 
 -- ---- the statuses, as the C header numbers them
 
+-- The status for success.
 abbrev pub c_normal : ℕ
 c_normal = 0
 
+-- The status for a malformed input.
 abbrev pub c_refused : ℕ
 c_refused = 1
 
+-- The status for an input that isn't minimally encoded.
 abbrev pub c_not_normal : ℕ
 c_not_normal = 2
 
+-- The status for lack of memory.
 abbrev pub c_no_memory : ℕ
 c_no_memory = 3
 
+-- The status for an output that is too short.
 abbrev pub c_too_long : ℕ
 c_too_long = 5
 
--- ---- which status a call answers
+-- ---- the statuses of each call
 
--- of a normaliser into an output
+-- The status is one of those of a normaliser into an output.
 abbrev pub IsDelivery : ℕ → Type 0
 IsDelivery status = (status ≡ c_normal) ⊎ (status ≡ c_refused) ⊎ (status ≡ c_no_memory) ⊎ (status ≡ c_too_long)
 
--- of a normaliser in place, and of the strict question
+-- The status is one of those of a normaliser in place, or of a check.
 abbrev pub IsAnswer : ℕ → Type 0
 IsAnswer status = (status ≡ c_normal) ⊎ (status ≡ c_refused) ⊎ (status ≡ c_no_memory)
 
--- of the question whether the input is its own normal form
+-- The status is one of those of `nosgrivel_judge_…`.
 abbrev pub IsJudgement : ℕ → Type 0
 IsJudgement status = (status ≡ c_normal) ⊎ (status ≡ c_refused) ⊎ (status ≡ c_not_normal) ⊎ (status ≡ c_no_memory)
 
--- ---- what follows what a normaliser or a reader gave
+-- ---- from the result of a normaliser or a reader to the status
 
--- an error is answered so
+-- The status and the count report this error.
 abbrev pub TellsRefusal : ReadError → ℕ → ℕ → ℕ → Type 0
 TellsRefusal (errors.Refused at) old new status = (status ≡ c_refused) × (new ≡ at)
 TellsRefusal errors.Memory old new status = (status ≡ c_no_memory) × (new ≡ old)
 
--- what a normaliser gave, seen by view, was written, or the output is too short for it
+-- The normaliser's result was written, the output is too short for it, or its error was reported.
 abbrev pub IsDelivered : {X : Type 0} → (X → List ℕ) → Result X ReadError → List ℕ → List ℕ → ℕ → ℕ → ℕ → Type 0
 IsDelivered view (Ok x) old new before count status = (count ≡ length (view x)) × (
     ((status ≡ c_normal) × (count ≤ length old) × (new ≡ view x ++ drop count old))
     ⊎ ((status ≡ c_too_long) × (length old < count) × (new ≡ old)))
 IsDelivered view (Err error) old new before count status = TellsRefusal error before count status × (new ≡ old)
 
--- what a normaliser gave, seen by view, was held against the length of the input
+-- The result has the input's length or not, as the status says, or the error was reported.
 abbrev pub IsJudged : {X : Type 0} → (X → List ℕ) → Result X ReadError → ℕ → ℕ → ℕ → ℕ → Type 0
 IsJudged view (Ok x) len before count status = (count ≡ length (view x)) × (
     ((status ≡ c_normal) × (count ≡ len)) ⊎ ((status ≡ c_not_normal) × (count ≡ len → ⊥)))
 IsJudged view (Err error) len before count status = TellsRefusal error before count status
 
--- what a check found of so many bytes was answered
+-- The check succeeded, or its error was reported.
 abbrev pub IsChecked : {X : Type 0} → Result X ReadError → ℕ → ℕ → ℕ → ℕ → Type 0
 IsChecked (Ok x) len before count status = (status ≡ c_normal) × (count ≡ len)
 IsChecked (Err error) len before count status = TellsRefusal error before count status

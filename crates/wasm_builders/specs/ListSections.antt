@@ -1,4 +1,4 @@
--- Sections that are lists and are being built (WebAssembly Core 3.0, Lists).
+-- Sections that are built item by item (WebAssembly Core 3.0, Lists).
 use Rattle.std.specs.Prelude.{ℕ, List}
 use Rattle.wasm_codec.specs.Encoding.{byte_list_bytes}
 use Rattle.wasm_codec.specs.formats.Combinators.{Format, items}
@@ -7,23 +7,22 @@ use Rattle.wasm_sections.specs.SectionBytes.{IsSectionAfter}
 use Rattle.wasm_writers.specs.EncodedLists.{Entries, StandsForAll, GainsOne, GainsEach, body_bytes}
 
 module _ {V : Type 0} (F : Format V) where
-  -- The section stands for these items: it has their number and their encodings, with nothing between, and they are in
-  -- range.
+  -- The section stands for these items: it has their number and encodings, and each is in range.
   abbrev pub StandsForItems : Entries → List V → Type 0
   StandsForItems = StandsForAll F (λ item. Unit {0})
 
-  -- the new section is the old one with one item more
+  -- The new section is the old one and one more item.
   abbrev pub GainsItem : Entries → V → Entries → Type 0
   GainsItem = GainsOne F (λ item. Unit {0})
 
-  -- the new section is the old one with these items more
+  -- The new section is the old one and these more items.
   abbrev pub GainsItems : Entries → List V → Entries → Type 0
   GainsItems = GainsEach F (λ item. Unit {0})
 
-  -- its body encodes the items that it stands for
+  -- The body of the section encodes the items that it stands for.
   abbrev pub HoldsItems : Entries → Type 0
   HoldsItems section = (values : List V) → StandsForItems section values → (items F).Encodes (body_bytes section) values
 
-  -- after this id, its size and its body are the section of a module that holds the items
+  -- After this id, the section's size and body are the minimal encoding of the module's section with these items.
   abbrev pub IsSectionOfItems : ℕ → (List V → ModuleSectionParts) → Entries → Type 0
   IsSectionOfItems id holding section = (values : List V) → StandsForItems section values → IsSectionAfter id (byte_list_bytes (body_bytes section)) (holding values)

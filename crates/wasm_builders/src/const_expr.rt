@@ -16,9 +16,20 @@ use wasm_sections::expressions::is_closed;
 use wasm_types::types::HeapType;
 use wasm_writers::encode::EncodeError;
 
-/// The instructions of an expression, without its end. Their blocks are closed.
+/// A constant expression: its instructions without the final `end` (Core 3.0, Expressions).
 ///
-/// In contracts it is the list of these instructions. That they are constant isn't asked.
+/// Every block in it is closed. Nothing checks that the instructions are constant. In contracts the expression is the
+/// list of its instructions.
+///
+/// # Examples
+///
+/// ```
+/// # use wasm_encoder::{ConstExpr, InstructionSink};
+/// let sixteen = ConstExpr::i32_const(rt.alloc(), 16)?;
+/// let mut bytes = Vec::new(rt.alloc());
+/// InstructionSink::new(&mut bytes).write_calls(sixteen.as_slice())?.end()?;
+/// assert_eq!(rt; bytes.as_slice(), b"\x41\x10\x0b".as_slice());
+/// ```
 #[derive(Debug, Drop)]
 pub struct ConstExpr {
     calls: Items<Call>,
@@ -37,7 +48,8 @@ impl Model for ConstExpr {
 }
 
 impl ConstExpr {
-    /// The expression of these instructions. Where a block is left open, or one closes more, they are handed back.
+    /// Makes an expression of `calls`. Returns `calls` as the error if they leave a block open or close more than they
+    /// open.
     pub fn new(calls: Items<Call>) -> Result<ConstExpr, Items<Call>>
         ensures ok { IfOk result (λ expr. expr ≡ calls) }
         ensures err { IfErr result (λ handed. handed ≡ calls) }
@@ -50,7 +62,7 @@ impl ConstExpr {
         }
     }
 
-    /// The expression without instructions. It takes no memory.
+    /// Returns an expression without instructions. Allocates nothing.
     pub fn empty(alloc: Global) -> ConstExpr
         ensures { result ≡ [] }
     {
@@ -59,7 +71,7 @@ impl ConstExpr {
         }
     }
 
-    /// `i32.const`
+    /// Makes the expression `i32.const value`. Fails with `Memory` if it can't allocate.
     #[tactic(auto, using(crate::proofs::ExprLaws::alone_closed))]
     pub fn i32_const(alloc: Global, value: i32) -> Result<ConstExpr, EncodeError>
         ensures ok { IfOk result (λ expr. expr ≡ call (without_prefix 0x41) (operands.I32 value) ∷ []) }
@@ -71,7 +83,7 @@ impl ConstExpr {
         )
     }
 
-    /// `i64.const`
+    /// Makes the expression `i64.const value`. Fails with `Memory` if it can't allocate.
     #[tactic(auto, using(crate::proofs::ExprLaws::alone_closed))]
     pub fn i64_const(alloc: Global, value: i64) -> Result<ConstExpr, EncodeError>
         ensures ok { IfOk result (λ expr. expr ≡ call (without_prefix 0x42) (operands.I64 value) ∷ []) }
@@ -83,7 +95,7 @@ impl ConstExpr {
         )
     }
 
-    /// `f32.const`
+    /// Makes the expression `f32.const value`. Fails with `Memory` if it can't allocate.
     #[tactic(auto, using(crate::proofs::ExprLaws::alone_closed))]
     pub fn f32_const(alloc: Global, value: Ieee32) -> Result<ConstExpr, EncodeError>
         ensures ok { IfOk result (λ expr. expr ≡ call (without_prefix 0x43) (operands.F32 value) ∷ []) }
@@ -95,7 +107,7 @@ impl ConstExpr {
         )
     }
 
-    /// `f64.const`
+    /// Makes the expression `f64.const value`. Fails with `Memory` if it can't allocate.
     #[tactic(auto, using(crate::proofs::ExprLaws::alone_closed))]
     pub fn f64_const(alloc: Global, value: Ieee64) -> Result<ConstExpr, EncodeError>
         ensures ok { IfOk result (λ expr. expr ≡ call (without_prefix 0x44) (operands.F64 value) ∷ []) }
@@ -107,7 +119,7 @@ impl ConstExpr {
         )
     }
 
-    /// `global.get`
+    /// Makes the expression `global.get index`, with a global index. Fails with `Memory` if it can't allocate.
     #[tactic(auto, using(crate::proofs::ExprLaws::alone_closed))]
     pub fn global_get(alloc: Global, index: u32) -> Result<ConstExpr, EncodeError>
         ensures ok { IfOk result (λ expr. expr ≡ call (without_prefix 0x23) (operands.Index index) ∷ []) }
@@ -119,7 +131,7 @@ impl ConstExpr {
         )
     }
 
-    /// `ref.null`
+    /// Makes the expression `ref.null ty`. Fails with `Memory` if it can't allocate.
     #[tactic(auto, using(crate::proofs::ExprLaws::alone_closed))]
     pub fn ref_null(alloc: Global, ty: HeapType) -> Result<ConstExpr, EncodeError>
         ensures ok { IfOk result (λ expr. expr ≡ call (without_prefix 0xd0) (operands.Heap ty) ∷ []) }
@@ -131,7 +143,7 @@ impl ConstExpr {
         )
     }
 
-    /// `ref.func`
+    /// Makes the expression `ref.func index`, with a function index. Fails with `Memory` if it can't allocate.
     #[tactic(auto, using(crate::proofs::ExprLaws::alone_closed))]
     pub fn ref_func(alloc: Global, index: u32) -> Result<ConstExpr, EncodeError>
         ensures ok { IfOk result (λ expr. expr ≡ call (without_prefix 0xd2) (operands.Index index) ∷ []) }
@@ -143,7 +155,7 @@ impl ConstExpr {
         )
     }
 
-    /// The expression of one instruction.
+    /// Makes an expression of one instruction. Fails with `Memory` if it can't allocate.
     fn of(alloc: Global, call: Call) -> Result<ConstExpr, EncodeError>
         requires { IsClosed (call ∷ []) }
         ensures ok { IfOk result (λ expr. expr ≡ call ∷ []) }
@@ -156,7 +168,7 @@ impl ConstExpr {
         })
     }
 
-    /// The instructions.
+    /// Returns the instructions, without the final `end`.
     pub fn as_slice(&self) -> &[Call]
         ensures value { result.now ≡ self.now }
         ensures closed { IsClosed self.now }
@@ -164,7 +176,7 @@ impl ConstExpr {
         self.calls.as_slice()
     }
 
-    /// The instructions, as the list that they are kept in.
+    /// Returns the list of instructions, without the final `end`.
     pub fn into_calls(self) -> Items<Call>
         ensures value { result ≡ self }
         ensures closed { IsClosed self }

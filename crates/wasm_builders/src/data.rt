@@ -1,4 +1,4 @@
-//! Data sections (Core 3.0, Data Section).
+//! The data section (Core 3.0, Data Section).
 ghost use Rattle.std.specs.Prelude.{◌≡◌, ◌⊎◌, ⊤, OnOk, OnErr, IfErr, length};
 ghost use Rattle.wasm_codec.specs.Encoding.{IsShortest};
 ghost use Rattle.wasm_codec.specs.Lawful.{IsLawful};
@@ -17,7 +17,19 @@ use crate::list_section::{ListSection, SectionItem, add};
 use wasm_sections::data::{DataSegment, DataSegmentMode};
 use wasm_writers::encode::EncodeError;
 
-/// A data section: bytes that are copied into memories.
+/// A data section (Core 3.0, Data Section).
+///
+/// # Examples
+///
+/// ```
+/// # use wasm_encoder::{ConstExpr, DataSection, Encode};
+/// let mut data = DataSection::new(rt.alloc());
+/// data.active(0, ConstExpr::i32_const(rt.alloc(), 16)?, b"hi")?;
+/// data.passive(b"!")?;
+/// let mut bytes = Vec::new(rt.alloc());
+/// data.encode(&mut bytes)?;
+/// assert_eq!(rt; bytes.as_slice(), b"\x0b\x02\x00\x41\x10\x0b\x02hi\x01\x01!".as_slice());
+/// ```
 pub type DataSection<'a> = ListSection<DataSegment<'a>>;
 
 impl<'a> SectionItem for DataSegment<'a> {
@@ -52,11 +64,11 @@ impl<'a> SectionItem for DataSegment<'a> {
 }
 
 impl<'a> ListSection<DataSegment<'a>> {
-    /// Adds bytes that are copied into the memory of this index when the module is instantiated, to the place that the
-    /// expression makes. Memory 0 isn't named, which is shorter.
+    /// Adds an active segment: instantiating the module copies `bytes` into the memory `memory_index`, from address
+    /// `offset` on. The encoding omits memory 0, which is shorter.
     ///
-    /// `TooLong` where there are 4,294,967,295 segments, or where there are more bytes than that, or more items of a list in
-    /// an instruction of the expression.
+    /// Fails with `TooLong` if the section already has 4,294,967,295 segments, `bytes` is longer than 4,294,967,295
+    /// bytes, or a list in an instruction of `offset` has more items than that.
     #[tactic(auto, using(crate::proofs::ItemLaws::cannot_be_written))]
     pub fn active(
         &mut self,
@@ -76,9 +88,10 @@ impl<'a> ListSection<DataSegment<'a>> {
         add(&mut self.items, &DataSegment { mode, bytes })
     }
 
-    /// Adds bytes that an instruction copies.
+    /// Adds a passive segment, which `memory.init` copies.
     ///
-    /// `TooLong` where there are 4,294,967,295 segments, or where there are more bytes than that.
+    /// Fails with `TooLong` if the section already has 4,294,967,295 segments or `bytes` is longer than 4,294,967,295
+    /// bytes.
     #[tactic(auto, using(crate::proofs::ItemLaws::cannot_be_written))]
     pub fn passive(&mut self, bytes: &[u8]) -> Result<(), EncodeError>
         ensures ok { OnOk result (GainsItem data_segment self.old (passive_data bytes.now) self.new) }

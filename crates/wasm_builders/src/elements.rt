@@ -1,4 +1,4 @@
-//! Element sections (Core 3.0, Element Section).
+//! The element section (Core 3.0, Element Section).
 ghost use Rattle.std.specs.Prelude.{◌≡◌, ◌++◌, ◌+◌, ◌⊎◌, OnOk, OnErr, IfErr};
 ghost use Rattle.wasm_sections.specs.formats.ModuleSectionParts.{elements};
 ghost use Rattle.wasm_sections.specs.declared.elements.Element.{Element};
@@ -13,7 +13,22 @@ use crate::list_section::{ListSection, SectionItem};
 use wasm_sections::elements::{Element, ElementMode, Elements};
 use wasm_writers::encode::EncodeError;
 
-/// An element section: references that are copied into tables, or declared.
+/// An element section (Core 3.0, Element Section).
+///
+/// # Examples
+///
+/// ```
+/// # use wasm_encoder::{ConstExpr, ElementSection, Elements, Encode, Items};
+/// let mut elements = ElementSection::new(rt.alloc());
+/// let offset = ConstExpr::i32_const(rt.alloc(), 0)?;
+/// elements.active(0, offset, Elements::Functions(Items::from_slice(rt.alloc(), &[5])?))?;
+/// elements.passive(Elements::Functions(Items::from_slice(rt.alloc(), &[1, 2])?))?;
+/// elements.declared(Elements::Functions(Items::from_slice(rt.alloc(), &[5])?))?;
+/// let mut bytes = Vec::new(rt.alloc());
+/// elements.encode(&mut bytes)?;
+/// let expected = b"\x10\x03\x00\x41\x00\x0b\x01\x05\x01\x00\x02\x01\x02\x03\x00\x01\x05";
+/// assert_eq!(rt; bytes.as_slice(), expected.as_slice());
+/// ```
 pub type ElementSection = ListSection<Element>;
 
 impl SectionItem for Element {
@@ -38,12 +53,13 @@ impl SectionItem for Element {
     fn is_lawful() {}
 }
 
-/// Each method answers `TooLong` where there are 4,294,967,295 segments, where a segment has more elements than that, or
-/// where a list in an instruction has more items.
+/// Each method fails with `TooLong` if the section already has 4,294,967,295 segments, the segment has more than
+/// 4,294,967,295 elements, or a list in an instruction has more items than that.
+///
+/// The segment has an encoding only if every expression among `elements` closes its blocks.
 impl ListSection<Element> {
-    /// Adds elements that are copied into the table of this index when the module is instantiated, to the place that
-    /// the expression makes. Table 0 isn't named where that is shorter. Expressions must close their blocks for the
-    /// segment to have an encoding.
+    /// Adds an active segment: instantiating the module copies `elements` into the table `table_index`, from index
+    /// `offset` on. The encoding omits table 0 if that is shorter.
     #[tactic(auto, using(crate::proofs::ItemLaws::cannot_be_written))]
     pub fn active(
         &mut self,
@@ -53,7 +69,7 @@ impl ListSection<Element> {
     ) -> Result<(), EncodeError>
         ensures count { OnOk result (self.new.count ≡ self.old.count + 1) }
         ensures bytes { OnOk result (self.new.bytes ≡ self.old.bytes ++ element_segment.bytes (element (modes.Active table_index offset) elements)) }
-        // Where the expressions among the elements close their blocks, the section stands for the segment too.
+        // If the expressions among the elements close their blocks, the section encodes the segment too.
         ensures ok { OnOk result (AreClosed elements →
             GainsItem element_segment self.old (element (modes.Active table_index offset) elements) self.new) }
         ensures err { OnErr result (self.new ≡ self.old) }
@@ -67,12 +83,12 @@ impl ListSection<Element> {
         self.push(&Element { mode, elements })
     }
 
-    /// Adds elements that an instruction copies.
+    /// Adds a passive segment, which `table.init` copies.
     #[tactic(auto, using(crate::proofs::ItemLaws::cannot_be_written))]
     pub fn passive(&mut self, elements: Elements) -> Result<(), EncodeError>
         ensures count { OnOk result (self.new.count ≡ self.old.count + 1) }
         ensures bytes { OnOk result (self.new.bytes ≡ self.old.bytes ++ element_segment.bytes (element modes.Passive elements)) }
-        // Where the expressions among the elements close their blocks, the section stands for the segment too.
+        // If the expressions among the elements close their blocks, the section encodes the segment too.
         ensures ok { OnOk result (AreClosed elements →
             GainsItem element_segment self.old (element modes.Passive elements) self.new) }
         ensures err { OnErr result (self.new ≡ self.old) }
@@ -83,12 +99,12 @@ impl ListSection<Element> {
         self.push(&Element { mode, elements })
     }
 
-    /// Adds elements that are never copied: they declare references to functions.
+    /// Adds a declarative segment: it only declares functions that `ref.func` refers to.
     #[tactic(auto, using(crate::proofs::ItemLaws::cannot_be_written))]
     pub fn declared(&mut self, elements: Elements) -> Result<(), EncodeError>
         ensures count { OnOk result (self.new.count ≡ self.old.count + 1) }
         ensures bytes { OnOk result (self.new.bytes ≡ self.old.bytes ++ element_segment.bytes (element modes.Declared elements)) }
-        // Where the expressions among the elements close their blocks, the section stands for the segment too.
+        // If the expressions among the elements close their blocks, the section encodes the segment too.
         ensures ok { OnOk result (AreClosed elements →
             GainsItem element_segment self.old (element modes.Declared elements) self.new) }
         ensures err { OnErr result (self.new ≡ self.old) }

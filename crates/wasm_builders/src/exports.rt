@@ -1,4 +1,4 @@
-//! Export sections (Core 3.0, Export Section).
+//! The export section (Core 3.0, Export Section).
 ghost use Rattle.std.specs.Prelude.{◌≡◌, ⊤, OnOk, OnErr, IfErr, ◌⊎◌, length};
 ghost use Rattle.wasm_codec.specs.Encoding.{IsShortest};
 ghost use Rattle.wasm_codec.specs.Lawful.{IsLawful};
@@ -16,7 +16,18 @@ use wasm_sections::exports::Export;
 use wasm_sections::types::ExportKind;
 use wasm_writers::encode::EncodeError;
 
-/// An export section: names, and what each refers to.
+/// An export section (Core 3.0, Export Section).
+///
+/// # Examples
+///
+/// ```
+/// # use wasm_encoder::{Encode, ExportKind, ExportSection};
+/// let mut exports = ExportSection::new(rt.alloc());
+/// exports.export("add", ExportKind::Func, 0)?;
+/// let mut bytes = Vec::new(rt.alloc());
+/// exports.encode(&mut bytes)?;
+/// assert_eq!(rt; bytes.as_slice(), b"\x07\x01\x03add\x00\x00".as_slice());
+/// ```
 pub type ExportSection<'a> = ListSection<Export<'a>>;
 
 impl<'a> SectionItem for Export<'a> {
@@ -48,9 +59,10 @@ impl<'a> SectionItem for Export<'a> {
 }
 
 impl<'a> ListSection<Export<'a>> {
-    /// Exports what has this index among those of its kind, under a name.
+    /// Adds an export named `name` of the item `index` of kind `kind`. `index` is in the index space of `kind`.
     ///
-    /// `TooLong` where there are 4,294,967,295 exports, or where the name has more bytes than that.
+    /// Fails with `TooLong` if the section already has 4,294,967,295 exports or `name` is longer than 4,294,967,295
+    /// bytes.
     #[tactic(auto, using(crate::proofs::ItemLaws::named_refused))]
     pub fn export(&mut self, name: &str, kind: ExportKind, index: u32) -> Result<(), EncodeError>
         ensures ok { OnOk result (GainsItem export_entry self.old (export_of (name.now, (kind, index))) self.new) }

@@ -1,4 +1,4 @@
-//! Global sections (Core 3.0, Global Section).
+//! The global section (Core 3.0, Global Section).
 ghost use Rattle.std.specs.Prelude.{◌≡◌, ◌⊎◌, OnOk, OnErr, IfErr};
 ghost use Rattle.wasm_sections.specs.formats.ModuleSectionParts.{globals};
 ghost use Rattle.wasm_sections.specs.declared.globals.Global.{Global};
@@ -13,7 +13,19 @@ use wasm_sections::globals::Global;
 use wasm_sections::types::GlobalType;
 use wasm_writers::encode::EncodeError;
 
-/// A global section: the globals that the module defines, with their first values.
+/// A global section: the globals that the module defines, with their initial values (Core 3.0, Global Section).
+///
+/// # Examples
+///
+/// ```
+/// # use wasm_encoder::{ConstExpr, Encode, GlobalSection, GlobalType, ValType};
+/// let ty = GlobalType { val_type: ValType::I64, mutable: true, shared: false };
+/// let mut globals = GlobalSection::new(rt.alloc());
+/// globals.global(ty, ConstExpr::i64_const(rt.alloc(), -1)?)?;
+/// let mut bytes = Vec::new(rt.alloc());
+/// globals.encode(&mut bytes)?;
+/// assert_eq!(rt; bytes.as_slice(), b"\x06\x01\x7e\x01\x42\x7f\x0b".as_slice());
+/// ```
 pub type GlobalSection = ListSection<Global>;
 
 impl SectionItem for Global {
@@ -39,10 +51,10 @@ impl SectionItem for Global {
 }
 
 impl ListSection<Global> {
-    /// Adds a global, and the expression that makes the value that it has at first.
+    /// Adds a global with the initial value `init`.
     ///
-    /// `TooLong` where there are 4,294,967,295 globals, or where a list in an instruction of the expression has more items
-    /// than that.
+    /// Fails with `TooLong` if the section already has 4,294,967,295 globals or a list in an instruction of `init` has
+    /// more than 4,294,967,295 items.
     #[tactic(auto, using(crate::proofs::ItemLaws::cannot_be_written))]
     pub fn global(&mut self, ty: GlobalType, init: ConstExpr) -> Result<(), EncodeError>
         ensures ok { OnOk result (GainsItem global_entry self.old (global_of (ty, init)) self.new) }

@@ -1,4 +1,4 @@
-//! Import sections (Core 3.0, Import Section).
+//! The import section (Core 3.0, Import Section).
 ghost use Rattle.std.specs.Prelude.{◌≡◌, ⊤, OnOk, OnErr, IfErr, ◌⊎◌, length};
 ghost use Rattle.wasm_codec.specs.Encoding.{IsShortest};
 ghost use Rattle.wasm_codec.specs.Lawful.{IsLawful};
@@ -16,7 +16,18 @@ use wasm_sections::imports::Import;
 use wasm_sections::types::EntityType;
 use wasm_writers::encode::EncodeError;
 
-/// An import section: what the module takes from others.
+/// An import section (Core 3.0, Import Section).
+///
+/// # Examples
+///
+/// ```
+/// # use wasm_encoder::{Encode, EntityType, ImportSection};
+/// let mut imports = ImportSection::new(rt.alloc());
+/// imports.import("env", "log", EntityType::Function(0))?;
+/// let mut bytes = Vec::new(rt.alloc());
+/// imports.encode(&mut bytes)?;
+/// assert_eq!(rt; bytes.as_slice(), b"\x0b\x01\x03env\x03log\x00\x00".as_slice());
+/// ```
 pub type ImportSection<'a> = ListSection<Import<'a>>;
 
 impl<'a> SectionItem for Import<'a> {
@@ -48,9 +59,10 @@ impl<'a> SectionItem for Import<'a> {
 }
 
 impl<'a> ListSection<Import<'a>> {
-    /// Imports what has this name in the module of that name, and is of this type.
+    /// Adds an import of the item `field` of type `ty` from the module `module_name`.
     ///
-    /// `TooLong` where there are 4,294,967,295 imports, or where a name has more bytes than that.
+    /// Fails with `TooLong` if the section already has 4,294,967,295 imports or a name is longer than 4,294,967,295
+    /// bytes.
     #[tactic(auto, using(crate::proofs::ItemLaws::twice_named_refused))]
     pub fn import(
         &mut self,

@@ -1,4 +1,5 @@
-//! Builders of sections (Core 3.0, Modules): what callers fill and then write as a whole.
+//! Builders of the sections other than those of types and code (Core 3.0, Modules). You add items, and the section
+//! keeps them encoded.
 #![tactic(auto)]
 
 pub mod const_expr;

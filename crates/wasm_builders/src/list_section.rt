@@ -1,4 +1,4 @@
-//! Sections that are lists (Core 3.0, Lists), whatever their items are.
+//! The builder of a section that is a list, over any kind of item (Core 3.0, Lists).
 ghost use Rattle.std.specs.Prelude.{◌≡◌, ◌++◌, ◌+◌, ◌^◌, ◌≤◌, ◌↔◌, ℕ, List, [], OnOk, OnErr, IfOk, IfErr, IsErrOf, IsTrue, ⊤, length, map};
 ghost use Rattle.std.specs.List.{All, flat_map};
 ghost use Rattle.wasm_codec.specs.Encoding.{byte_list_bytes, IsCount, IsRefusal, IsShortest, IsShortestOrLonger, OnlyTooLong};
@@ -16,31 +16,47 @@ use wasm_writers::encode::{Encode, EncodeError};
 use wasm_writers::encoded_list::EncodedList;
 
 /// An item of a section that is a list.
+///
+/// It names the section's id and the item's encoding. Every builder of a list, such as `ExportSection`, is a
+/// [`ListSection`] of its items.
+///
+/// # Examples
+///
+/// ```
+/// # use wasm_encoder::Encode;
+/// # use wasm_encoder::ExportKind;
+/// # use wasm_encoder::sections::{Export, ListSection};
+/// let mut exports: ListSection<Export> = ListSection::new(rt.alloc());
+/// exports.push(&Export { name: "f", kind: ExportKind::Func, index: 0 })?;
+/// let mut bytes = Vec::new(rt.alloc());
+/// exports.encode(&mut bytes)?;
+/// assert_eq!(rt; bytes.as_slice(), b"\x05\x01\x01f\x00\x00".as_slice());
+/// ```
 pub trait SectionItem: Encode {
-    /// What an item stands for: itself, unless it borrows.
+    /// The value that an item encodes: the item itself, unless it borrows.
     ghost Value: { Type 0 };
 
-    /// What this item stands for.
+    /// The value that this item encodes.
     ghost view: { Self → Value };
 
-    /// Which bytes encode which item.
+    /// The format of items: which bytes encode which value.
     ghost format: { Format Value };
 
-    /// What must hold of an item for it to have an encoding, besides that it was written. Nothing, unless said.
+    /// What an item needs to have an encoding, besides having been written. By default nothing.
     ghost Fits: { Self → Type 0 } = { λ _. ⊤ };
 
     /// The id of the section.
     ghost id: { ℕ };
 
-    /// The section of a module that holds these items.
+    /// The decoded section that holds these items.
     ghost holding: { List Value → ModuleSectionParts };
 
-    /// The id of the section.
+    /// Returns the id of the section.
     fn section_id() -> u8
         ensures { result ≡ id };
 
-    /// What is written of an item is its shortest encoding, and a section of this id holds a list of items. The call does
-    /// nothing.
+    /// Proves that items are written in their minimal encoding and that a section of this id holds a list of items.
+    /// Does nothing when it runs.
     fn is_lawful()
         ensures lawful { IsLawful format }
         ensures bytes { (item : Self) → Self.bytes item ≡ format.bytes (view item) }
@@ -48,9 +64,23 @@ pub trait SectionItem: Encode {
         ensures body { IsBodyOf id holding (items format) };
 }
 
-/// A section that is a list, to which items are added one after the other.
+/// A section that is a list: you add items, and it keeps them encoded.
 ///
-/// In contracts it is the number of its items and their bytes.
+/// Methods that add fail with `Memory` if the section can't grow. On error the section is unchanged. In contracts the
+/// section is the number of its items and their bytes.
+///
+/// # Examples
+///
+/// ```
+/// # use wasm_encoder::{Encode, FunctionSection};
+/// let mut functions = FunctionSection::new(rt.alloc()); // a ListSection<u32>
+/// functions.push(&0)?;
+/// functions.entries(&[1, 1])?;
+/// assert_eq!(rt; functions.len(), 3);
+/// let mut bytes = Vec::new(rt.alloc());
+/// functions.encode(&mut bytes)?;
+/// assert_eq!(rt; bytes.as_slice(), b"\x04\x03\x00\x01\x01".as_slice());
+/// ```
 #[derive(Debug, Drop)]
 pub struct ListSection<T: SectionItem> {
     pub(crate) items: EncodedList,
@@ -66,7 +96,7 @@ impl<T: SectionItem> Model for ListSection<T> {
 }
 
 impl<T: SectionItem> ListSection<T> {
-    /// A section without items. It takes no memory.
+    /// Returns a section without items. Allocates nothing.
     pub fn new(alloc: Global) -> ListSection<T>
         ensures { StandsForItems T.format result [] }
     {
@@ -76,21 +106,21 @@ impl<T: SectionItem> ListSection<T> {
         }
     }
 
-    /// How many items there are.
+    /// Returns the number of items.
     pub fn len(&self) -> u32
         ensures { result ≡ self.now.count }
     {
         self.items.len()
     }
 
-    /// Whether there are no items.
+    /// Returns whether the section has no items.
     pub fn is_empty(&self) -> bool
         ensures { IsTrue result ↔ (self.now.count ≡ 0) }
     {
         self.items.len() == 0
     }
 
-    /// A section of the same items.
+    /// Copies the section. Fails with `Memory` if it can't allocate.
     pub fn try_clone(&self) -> Result<ListSection<T>, EncodeError>
         ensures ok { IfOk result (λ section. section ≡ self.now) }
         ensures err { IfErr result (λ e. e ≡ Memory) }
@@ -104,11 +134,12 @@ impl<T: SectionItem> ListSection<T> {
 
     /// Adds an item.
     ///
-    /// `TooLong` where there are 4,294,967,295 items, or where a part of the item is too long.
+    /// Fails with `TooLong` if the section already has 4,294,967,295 items or a list, a name or bytes in the item are
+    /// longer than 4,294,967,295.
     pub fn push(&mut self, item: &T) -> Result<(), EncodeError>
         ensures count { OnOk result (self.new.count ≡ self.old.count + 1) }
         ensures bytes { OnOk result (self.new.bytes ≡ self.old.bytes ++ T.format.bytes (T.view item.now)) }
-        // Where the item has an encoding, the section stands for it too.
+        // If the item has an encoding, the section encodes the item too.
         ensures ok { OnOk result (T.Fits item.now → GainsItem T.format self.old (T.view item.now) self.new) }
         ensures err { OnErr result (self.new ≡ self.old) }
         ensures refused { IfErr result (IsRefusalOfOne T.CanEncode T.refuses self.old item.now) }
@@ -118,11 +149,12 @@ impl<T: SectionItem> ListSection<T> {
 
     /// Adds items, all of them or none.
     ///
-    /// `TooLong` where there would be more than 4,294,967,295, before one is encoded, or where a part of an item is too long.
+    /// Fails with `TooLong` if the section would have more than 4,294,967,295 items, before it encodes any, or if a
+    /// list, a name or bytes in an item are longer than 4,294,967,295.
     pub fn entries(&mut self, items: &[T]) -> Result<(), EncodeError>
         ensures count { OnOk result (self.new.count ≡ self.old.count + length items.now) }
         ensures bytes { OnOk result (self.new.bytes ≡ self.old.bytes ++ flat_map T.format.bytes (map T.view items.now)) }
-        // Where the items have encodings, the section stands for them too.
+        // If the items have encodings, the section encodes the items too.
         ensures ok { OnOk result (All T.Fits items.now → GainsItems T.format self.old (map T.view items.now) self.new) }
         ensures err { OnErr result (self.new ≡ self.old) }
         ensures refused { IfErr result (IsRefusalOfEach T.CanEncode T.refuses self.old items.now) }
@@ -133,7 +165,7 @@ impl<T: SectionItem> ListSection<T> {
     }
 }
 
-/// Adds an item to a list of encodings, or leaves it as it was.
+/// Adds an item to a list of encoded items. On error the list is unchanged.
 pub(crate) fn add<T: SectionItem>(list: &mut EncodedList, item: &T) -> Result<(), EncodeError>
     ensures count { OnOk result (list.new.count ≡ list.old.count + 1) }
     ensures bytes { OnOk result (list.new.bytes ≡ list.old.bytes ++ T.format.bytes (T.view item.now)) }
@@ -145,9 +177,9 @@ pub(crate) fn add<T: SectionItem>(list: &mut EncodedList, item: &T) -> Result<()
     list.add(item)
 }
 
-/// The size of the body, the number of items, and the items (Core 3.0, Sections and Lists).
+/// The size of the body in bytes, the number of items, and the items (Core 3.0, Sections and Lists).
 ///
-/// `TooLong` where the body has more than 4,294,967,295 bytes.
+/// Fails with `TooLong` if the body is longer than 4,294,967,295 bytes.
 impl<T: SectionItem> Encode for ListSection<T> {
     ghost bytes = { λ section. byte_list_bytes (body_bytes section) };
 
@@ -160,14 +192,14 @@ impl<T: SectionItem> Encode for ListSection<T> {
     fn encode<A: Allocator>(&self, sink: &mut Vec<u8, A>) -> Result<(), EncodeError>
         ensures ok { OnOk result (sink.new.items ≡ sink.old.items ++ byte_list_bytes (body_bytes self.now)) }
         ensures can { OnOk result (CountedSection self.now) }
-        // The body encodes the items; with the id it is the section of a module that holds them, in its shortest encoding.
+        // The body encodes the items. With the id it is the minimal encoding of a section that holds them.
         ensures written { OnOk result (HoldsItems T.format self.now × IsSectionOfItems T.format T.id T.holding self.now) }
         ensures refused { IfErr result (IsRefusal CountedSection OnlyTooLong self.now) }
         ensures err { OnErr result (sink.new.items ≡ sink.old.items) }
-        // The section's body is that of the items.
+        // The body is that of the items.
         ensures is_body { (values : List T.Value) → StandsForItems T.format self.now values →
             body_bytes self.now ≡ (items T.format).bytes values }
-        // It encodes the items.
+        // The body encodes the items.
         ensures encodes { (values : List T.Value) → StandsForItems T.format self.now values →
             (items T.format).Encodes (body_bytes self.now) values }
         // Every other encoding of the items is longer.

@@ -1,4 +1,4 @@
-//! Memory sections (Core 3.0, Memory Section).
+//! The memory section (Core 3.0, Memory Section).
 ghost use Rattle.std.specs.Prelude.{◌≡◌, OnOk, OnErr, IfErr};
 ghost use Rattle.wasm_sections.specs.formats.ModuleSectionParts.{memories};
 ghost use Rattle.wasm_sections.specs.declared.types.MemoryType.{MemoryType};
@@ -10,7 +10,20 @@ use crate::list_section::{ListSection, SectionItem};
 use wasm_sections::types::MemoryType;
 use wasm_writers::encode::EncodeError;
 
-/// A memory section: the type of each memory that the module defines.
+/// A memory section: the type of each memory that the module defines (Core 3.0, Memory Section).
+///
+/// # Examples
+///
+/// ```
+/// # use wasm_encoder::{Encode, MemorySection, MemoryType};
+/// # let (memory64, shared, page_size_log2) = (false, false, None);
+/// let ty = MemoryType { minimum: 1, maximum: Some(2), memory64, shared, page_size_log2 };
+/// let mut memories = MemorySection::new(rt.alloc());
+/// memories.memory(ty)?;
+/// let mut bytes = Vec::new(rt.alloc());
+/// memories.encode(&mut bytes)?;
+/// assert_eq!(rt; bytes.as_slice(), b"\x04\x01\x01\x01\x02".as_slice());
+/// ```
 pub type MemorySection = ListSection<MemoryType>;
 
 impl SectionItem for MemoryType {
@@ -36,7 +49,7 @@ impl SectionItem for MemoryType {
 impl ListSection<MemoryType> {
     /// Adds a memory.
     ///
-    /// `TooLong` where there are 4,294,967,295 memories.
+    /// Fails with `TooLong` if the section already has 4,294,967,295 memories.
     pub fn memory(&mut self, ty: MemoryType) -> Result<(), EncodeError>
         ensures ok { OnOk result (GainsItem memory_type self.old ty self.new) }
         ensures err { OnErr result (self.new ≡ self.old) }

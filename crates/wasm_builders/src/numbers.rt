@@ -11,21 +11,39 @@ use std::alloc::Allocator;
 use wasm_codec::encode::leb128::{put_u32, u32_len};
 use wasm_writers::encode::{Encode, EncodeError};
 
-/// A start section: the function that is called when the module is instantiated.
+/// A start section: the function that instantiating the module calls (Core 3.0, Start Section).
+///
+/// # Examples
+///
+/// ```
+/// # use wasm_encoder::{Section, StartSection};
+/// let mut bytes = Vec::new(rt.alloc());
+/// StartSection { function_index: 3 }.append_to(&mut bytes)?;
+/// assert_eq!(rt; bytes.as_slice(), b"\x08\x01\x03".as_slice());
+/// ```
 #[derive(Clone, Copy, Debug, PartialEq, Eq)]
 pub struct StartSection {
     /// The index of the function.
     pub function_index: u32,
 }
 
-/// A data count section: how many data segments the module has.
+/// A data count section: the number of the module's data segments (Core 3.0, Data Count Section).
+///
+/// # Examples
+///
+/// ```
+/// # use wasm_encoder::{DataCountSection, Section};
+/// let mut bytes = Vec::new(rt.alloc());
+/// DataCountSection { count: 2 }.append_to(&mut bytes)?;
+/// assert_eq!(rt; bytes.as_slice(), b"\x0c\x01\x02".as_slice());
+/// ```
 #[derive(Clone, Copy, Debug, PartialEq, Eq)]
 pub struct DataCountSection {
     /// The number of data segments.
     pub count: u32,
 }
 
-/// The size of the body, and the index (Core 3.0, Sections and Start Section).
+/// The size of the body in bytes, and the index (Core 3.0, Sections and Start Section).
 #[tactic(auto, using(crate::proofs::ItemLaws::number_written, crate::proofs::ItemLaws::start_written), unfolding(wasm_sections::specs::formats::Sections::start_body))]
 impl Encode for StartSection {
     ghost bytes = { λ section. byte_list_bytes (start_body.bytes section.function_index) };
@@ -38,7 +56,7 @@ impl Encode for StartSection {
     }
 }
 
-/// The size of the body, and the number (Core 3.0, Sections and Data Count Section).
+/// The size of the body in bytes, and the number (Core 3.0, Sections and Data Count Section).
 #[tactic(auto, using(crate::proofs::ItemLaws::number_written, crate::proofs::ItemLaws::data_count_written), unfolding(wasm_sections::specs::formats::Sections::data_count_body))]
 impl Encode for DataCountSection {
     ghost bytes = { λ section. byte_list_bytes (data_count_body.bytes section.count) };
@@ -51,7 +69,7 @@ impl Encode for DataCountSection {
     }
 }
 
-/// Appends the size of a number and the number, or nothing.
+/// Appends the size of a number in bytes and the number, or nothing. Fails with `Memory` if `sink` can't grow.
 fn append_number<A: Allocator>(number: u32, sink: &mut Vec<u8, A>) -> Result<(), EncodeError>
     ensures ok { OnOk result (sink.new.items ≡ sink.old.items ++ byte_list_bytes (unsigned_leb128 number)) }
     ensures err { OnErr result (sink.new.items ≡ sink.old.items) }

@@ -1,4 +1,4 @@
-//! Table sections (Core 3.0, Table Section).
+//! The table section (Core 3.0, Table Section).
 ghost use Rattle.std.specs.Prelude.{◌≡◌, ◌⊎◌, OnOk, OnErr, IfErr};
 ghost use Rattle.wasm_sections.specs.formats.ModuleSectionParts.{tables};
 ghost use Rattle.wasm_sections.specs.declared.tables.Table.{Table};
@@ -13,7 +13,21 @@ use wasm_sections::tables::Table;
 use wasm_sections::types::TableType;
 use wasm_writers::encode::EncodeError;
 
-/// A table section: the tables that the module defines.
+/// A table section: the tables that the module defines (Core 3.0, Table Section).
+///
+/// # Examples
+///
+/// ```
+/// # use wasm_encoder::{ConstExpr, Encode, RefType, TableSection, TableType};
+/// # let element_type = RefType::FUNCREF;
+/// let ty = TableType { element_type, table64: false, minimum: 2, maximum: None, shared: false };
+/// let mut tables = TableSection::new(rt.alloc());
+/// tables.table(ty)?;
+/// tables.table_with_init(ty, ConstExpr::ref_func(rt.alloc(), 0)?)?;
+/// let mut bytes = Vec::new(rt.alloc());
+/// tables.encode(&mut bytes)?;
+/// assert_eq!(rt; bytes.as_slice(), b"\x0c\x02\x70\x00\x02\x40\x00\x70\x00\x02\xd2\x00\x0b".as_slice());
+/// ```
 pub type TableSection = ListSection<Table>;
 
 impl SectionItem for Table {
@@ -39,9 +53,9 @@ impl SectionItem for Table {
 }
 
 impl ListSection<Table> {
-    /// Adds a table whose elements are null at first.
+    /// Adds a table without an initializer: its elements start as null.
     ///
-    /// `TooLong` where there are 4,294,967,295 tables.
+    /// Fails with `TooLong` if the section already has 4,294,967,295 tables.
     #[tactic(auto, using(crate::proofs::ItemLaws::always_counted))]
     pub fn table(&mut self, ty: TableType) -> Result<(), EncodeError>
         ensures ok { OnOk result (GainsItem table_entry self.old (unfilled ty) self.new) }
@@ -51,10 +65,10 @@ impl ListSection<Table> {
         self.push(&Table { ty, init: None })
     }
 
-    /// Adds a table whose elements have the value at first that the expression makes.
+    /// Adds a table whose elements start as the value of `init`.
     ///
-    /// `TooLong` where there are 4,294,967,295 tables, or where a list in an instruction of the expression has more items
-    /// than that.
+    /// Fails with `TooLong` if the section already has 4,294,967,295 tables or a list in an instruction of `init` has
+    /// more than 4,294,967,295 items.
     #[tactic(auto, using(crate::proofs::ItemLaws::cannot_be_written))]
     pub fn table_with_init(&mut self, ty: TableType, init: ConstExpr) -> Result<(), EncodeError>
         ensures ok { OnOk result (GainsItem table_entry self.old (filled_of (ty, init)) self.new) }

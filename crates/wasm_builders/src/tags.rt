@@ -1,4 +1,4 @@
-//! Tag sections (Core 3.0, Tag Section).
+//! The tag section (Core 3.0, Tag Section).
 ghost use Rattle.std.specs.Prelude.{◌≡◌, OnOk, OnErr, IfErr};
 ghost use Rattle.wasm_sections.specs.formats.ModuleSectionParts.{tags};
 ghost use Rattle.wasm_sections.specs.declared.types.TagType.{TagType};
@@ -10,7 +10,19 @@ use crate::list_section::{ListSection, SectionItem};
 use wasm_sections::types::TagType;
 use wasm_writers::encode::EncodeError;
 
-/// A tag section: the type of each tag that the module defines.
+/// A tag section: the type of each tag that the module defines (Core 3.0, Tag Section).
+///
+/// # Examples
+///
+/// ```
+/// # use wasm_encoder::{Encode, TagSection, TagType};
+/// # use wasm_encoder::sections::TagKind;
+/// let mut tags = TagSection::new(rt.alloc());
+/// tags.tag(TagType { kind: TagKind::Exception, func_type_idx: 0 })?;
+/// let mut bytes = Vec::new(rt.alloc());
+/// tags.encode(&mut bytes)?;
+/// assert_eq!(rt; bytes.as_slice(), b"\x03\x01\x00\x00".as_slice());
+/// ```
 pub type TagSection = ListSection<TagType>;
 
 impl SectionItem for TagType {
@@ -36,7 +48,7 @@ impl SectionItem for TagType {
 impl ListSection<TagType> {
     /// Adds a tag.
     ///
-    /// `TooLong` where there are 4,294,967,295 tags.
+    /// Fails with `TooLong` if the section already has 4,294,967,295 tags.
     pub fn tag(&mut self, ty: TagType) -> Result<(), EncodeError>
         ensures ok { OnOk result (GainsItem tag_type self.old ty self.new) }
         ensures err { OnErr result (self.new ≡ self.old) }

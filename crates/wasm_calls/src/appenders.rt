@@ -1,5 +1,5 @@
-//! One appender for each kind of operands: it appends an instruction, or nothing. It asks once for room for 24 bytes,
-//! which every instruction without a list fits into, and writes the bytes there.
+//! One appender for each kind of operands. It appends a whole instruction, or nothing. It first reserves 24 bytes,
+//! enough for every instruction without a list, and fails with `Memory` if it can't.
 ghost use Rattle.std.specs.Prelude.{◌≡◌, ◌++◌, ◌+◌, ◌<◌, ◌≤◌, IsOk, IfErr, OnOk, OnErr, vec_len, vec_capacity};
 ghost use Rattle.wasm_codec.specs.declared.encode.EncodeError.TheVariants.{Memory};
 ghost use Rattle.wasm_instructions.specs.Instructions.{IsShort};
@@ -30,7 +30,7 @@ use wasm_codec::encode::leb128::put_u32;
 use wasm_instructions::encode::put_opcode;
 use wasm_instructions::table::Opcode;
 
-/// The room that every instruction without a list fits into, in bytes.
+/// The bytes to reserve for an instruction without a list.
 const ROOM: usize = 24;
 
 /// Appends an instruction without operands.
@@ -47,7 +47,7 @@ pub fn append_opcode<A: Allocator>(bytes: &mut Vec<u8, A>, op: Opcode) -> Result
     Ok(())
 }
 
-/// Appends an instruction with an index.
+/// Appends an instruction with one index.
 #[tactic(auto, unfolding(wasm_instructions::specs::formats::Instructions::instruction, wasm_instructions::specs::formats::Instructions::operands_format))]
 pub fn append_index<A: Allocator>(
     bytes: &mut Vec<u8, A>,
@@ -66,7 +66,7 @@ pub fn append_index<A: Allocator>(
     Ok(())
 }
 
-/// Appends an instruction with two indexes, in the order in which they are written.
+/// Appends an instruction with two indexes, `first` before `second`.
 #[tactic(auto, unfolding(wasm_instructions::specs::formats::Instructions::instruction, wasm_instructions::specs::formats::Instructions::operands_format))]
 pub fn append_two_indexes<A: Allocator>(
     bytes: &mut Vec<u8, A>,

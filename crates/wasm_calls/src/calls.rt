@@ -1,4 +1,4 @@
-//! Instructions, written.
+//! Writers of calls (Core 3.0, Instructions).
 ghost use Rattle.std.specs.Prelude.{◌≡◌, ◌++◌, ◌+◌, ◌≤◌, List, ℕ, length, take, IsOk, IfErr, OnOk, OnErr, vec_len, vec_capacity};
 ghost use Rattle.wasm_codec.specs.Encoding.{IsShortestOrLonger};
 ghost use Rattle.wasm_calls.specs.Appending.{IsOperandsRefusal, IsCallRefusal, IsCallsRefusal};
@@ -16,9 +16,9 @@ use std::alloc::Allocator;
 use wasm_codec::encode::{EncodeError, keep_or_undo};
 use wasm_instructions::table::{Call, Opcode, Operands};
 
-/// Appends the shortest encodings of instructions, all of them or none.
+/// Appends the minimal encodings of `calls`, all of them or none.
 ///
-/// `TooLong` where a list in one of them has more than 4,294,967,295 items.
+/// Fails with `TooLong` if a list in a call has more than 4,294,967,295 items, and with `Memory` if `bytes` can't grow.
 pub fn append_calls<A: Allocator>(bytes: &mut Vec<u8, A>, calls: &[Call]) -> Result<(), EncodeError>
     ensures ok { OnOk result (bytes.new.items ≡ bytes.old.items ++ instructions_bytes calls.now) }
     ensures err { OnErr result (bytes.new.items ≡ bytes.old.items) }
@@ -32,7 +32,7 @@ pub fn append_calls<A: Allocator>(bytes: &mut Vec<u8, A>, calls: &[Call]) -> Res
     keep_or_undo(bytes, start, appended)
 }
 
-/// Appends the shortest encodings of instructions, one after the other. An `Err` can leave some of them.
+/// Appends the minimal encodings of `calls`. On error some of them may remain.
 fn append_one_by_one<A: Allocator>(
     bytes: &mut Vec<u8, A>,
     calls: &[Call],
@@ -48,24 +48,24 @@ fn append_one_by_one<A: Allocator>(
     Ok(())
 }
 
-/// Appends the shortest encoding of an instruction, or nothing.
+/// Appends the minimal encoding of `call`, or nothing.
 ///
-/// `TooLong` where a list has more than 4,294,967,295 items.
+/// Fails with `TooLong` if a list has more than 4,294,967,295 items, and with `Memory` if `bytes` can't grow.
 pub fn append_call<A: Allocator>(bytes: &mut Vec<u8, A>, call: &Call) -> Result<(), EncodeError>
     ensures ok { OnOk result (bytes.new.items ≡ bytes.old.items ++ instruction.bytes call.now) }
     ensures err { OnErr result (bytes.new.items ≡ bytes.old.items) }
     ensures counted { OnOk result (IsCounted call.now.operands) }
     ensures refused { IfErr result (IsCallRefusal call.now) }
     ensures room { vec_len bytes.old + 24 ≤ vec_capacity bytes.old → HasNoList call.now.operands → IsOk result }
-    // What is written encodes the instruction.
+    // The bytes encode the instruction.
     ensures encodes { OnOk result (instruction.Encodes (instruction.bytes call.now) call.now) }
-    // An instruction without a list, or with a list of one type, has from 1 to 20 bytes.
+    // An instruction without a list, or with a list of one type, has 1 to 20 bytes.
     ensures length { HasNoLongList call.now.operands → IsShortEncoding (instruction.bytes call.now) }
 {
     append_operands(bytes, call.op(), call.operands())
 }
 
-/// Appends an instruction with these operands, or nothing.
+/// Appends the instruction `op` with `operands`, or nothing.
 #[tactic(auto, unfolding(crate::specs::Appending::before_bytes, crate::specs::Appending::after_bytes, wasm_instructions::specs::formats::Instructions::instruction, wasm_instructions::specs::formats::Instructions::operands_format))]
 fn append_operands<A: Allocator>(
     bytes: &mut Vec<u8, A>,

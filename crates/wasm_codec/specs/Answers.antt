@@ -1,4 +1,4 @@
--- What a reader answers about all of its bytes.
+-- Answers of readers and normalisers about their whole input.
 use Rattle.std.specs.Prelude.{◌≡◌, ℕ, ◌≤◌, List, ◌++◌, length, Result, Ok, Err, IfErr}
 use Rattle.wasm_codec.specs.declared.reader.cursor.Fault.{Fault}
 use Rattle.wasm_codec.specs.declared.reader.cursor.Fault.TheVariants as faults
@@ -6,33 +6,33 @@ use Rattle.wasm_codec.specs.formats.Grammar.{Grammar}
 use Rattle.wasm_codec.specs.declared.reader.ReadError.{ReadError}
 use Rattle.wasm_codec.specs.declared.reader.ReadError.TheVariants as errors
 
--- a fault in what begins at this place is answered so
+-- The error for a fault in the item that begins at this offset.
 abbrev pub answer_to : Fault → ℕ → ReadError
 answer_to faults.Memory at = errors.Memory
 answer_to faults.Malformed at = errors.Refused at
 
--- the answer, seen by view, is this value, unless memory ran out
+-- The call returns exactly this value, or it fails with `Memory`.
 abbrev pub IsOrMemory : {X V : Type 0} → (X → V) → V → Result X ReadError → Type 0
 IsOrMemory view v (Ok x) = view x ≡ v
 IsOrMemory view v (Err errors.Memory) = Unit {0}
 IsOrMemory view v (Err (errors.Refused at)) = ⊥
 
--- the answer isn't that memory ran out
+-- The call never fails with `Memory`.
 abbrev pub NeedsNoMemory : {X : Type 0} → Result X ReadError → Type 0
 NeedsNoMemory (Ok x) = Unit {0}
 NeedsNoMemory (Err errors.Memory) = ⊥
 NeedsNoMemory (Err (errors.Refused at)) = Unit {0}
 
--- this holds of the place where it refused, if it did
+-- If the error is `Refused`, the property holds of its offset.
 abbrev pub HoldsAtRefusal : ReadError → (ℕ → Type 0) → Type 0
 HoldsAtRefusal errors.Memory P = Unit {0}
 HoldsAtRefusal (errors.Refused at) P = P at
 
--- at a refusal, this holds of the place
+-- If the call refuses its input, the property holds of the offset that it reports.
 abbrev pub IfRefused : {X : Type 0} → Result X ReadError → (ℕ → Type 0) → Type 0
 IfRefused r P = IfErr r (λ e. HoldsAtRefusal e P)
 
--- The longest prefix of the bytes that is whole has this length.
+-- The longest prefix of the bytes that is `Whole` has this length.
 pub record IsLongestPrefix (Whole : List ℕ → Type 0) (bytes : List ℕ) (len : ℕ) : Type 0 where
   pub prefix : List ℕ
   pub rest : List ℕ
@@ -41,25 +41,25 @@ pub record IsLongestPrefix (Whole : List ℕ → Type 0) (bytes : List ℕ) (len
   pub whole : Whole prefix
   pub longest : (other after : List ℕ) → bytes ≡ other ++ after → Whole other → length other ≤ len
 
--- the bytes encode some value
+-- The bytes encode some value.
 abbrev pub EncodesSome : {V : Type 0} → Grammar V → List ℕ → Type 0
 EncodesSome {V} G bytes = (v : V) × G bytes v
 
--- This is the shortest encoding of a value that the bytes encode.
+-- The result is the minimal encoding of a value that the bytes encode.
 pub record IsNormalForm {V : Type 0} (G : Grammar V) (encoding_of : V → List ℕ) (bytes encoding : List ℕ) : Type 0 where
   pub value : V
   pub encoded : G bytes value
   pub is_shortest : encoding ≡ encoding_of value
 
--- ---- within bytes
+-- ---- inside the input
 
--- this holds, unless memory ran out
+-- The property holds unless memory ran out.
 abbrev pub UnlessMemory : {X : Type 0} → Result X Fault → Type 0 → Type 0
 UnlessMemory (Ok x) P = P
 UnlessMemory (Err faults.Malformed) P = P
 UnlessMemory (Err faults.Memory) P = Unit {0}
 
--- These bytes come after the longest prefix that is whole.
+-- The remaining bytes follow the longest prefix that is `Whole`.
 pub record IsAfterLongest (Whole : List ℕ → Type 0) (bytes rest : List ℕ) : Type 0 where
   pub prefix : List ℕ
   pub parts : bytes ≡ prefix ++ rest

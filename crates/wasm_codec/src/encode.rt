@@ -1,4 +1,4 @@
-//! What numbers and sizes are written by, and the errors of writing.
+//! Writers of numbers and sizes, and the error of all writers.
 ghost use Rattle.std.specs.Prelude.{◌≡◌};
 ghost use Rattle.wasm_codec.specs.declared.encode.EncodeError.TheVariants.{Memory};
 
@@ -12,16 +12,16 @@ use std::alloc::{AllocError, AllocFailed};
 use thiserror::Error;
 pub use undo::keep_or_undo;
 
-/// Why nothing was written. The list of bytes is then as it was before the call.
+/// Error of a writer. The list of bytes is then as it was before the call.
 #[derive(Debug, PartialEq, Eq, Drop, Error)]
 pub enum EncodeError {
-    /// The list of bytes had to grow, and there was no memory for it.
+    /// An allocation failed.
     #[error("no memory")]
     Memory,
-    /// A length or a count is past 4,294,967,295, the limit of the binary format.
+    /// A length or a count exceeds 4,294,967,295, the limit of the binary format.
     #[error("too long")]
     TooLong,
-    /// The alignment of a memory argument is 64 or more, which the binary format has no encoding for.
+    /// The alignment of a memory argument is 64 or more, which the binary format can't encode.
     #[error("alignment out of range")]
     Alignment,
 }

@@ -1,5 +1,5 @@
-//! Values of the WebAssembly binary format (Core 3.0, Conventions and Values): numbers, sizes and lists, the place in
-//! bytes from which things are read, and the rewriter, which leaves bytes in their shortest encodings in place.
+//! Numbers, sizes and lists of the WebAssembly binary format (Core 3.0, Conventions and Values). The cursor reads them,
+//! and the rewriter replaces their encodings by minimal ones in place.
 #![tactic(auto)]
 
 pub mod encode;

@@ -1,4 +1,4 @@
-//! A list that owns its items. In contracts it is the items alone, without their place in memory.
+//! `Items`, a list that owns its items. In contracts it is the plain list of them.
 ghost use Rattle.std.specs.Prelude.{◌≡◌, ◌↔◌, List, [], length, IfOk, IfErr, IsTrue};
 ghost use Rattle.wasm_codec.specs.declared.encode.EncodeError.TheVariants.{Memory};
 
@@ -9,9 +9,19 @@ use std::fmt::Debug;
 use std::hash::{Hash, Hasher};
 use std::marker::Model;
 
-/// A list that owns its items.
+/// A list that owns its items. Types and operands store their lists in it.
 ///
-/// It is made from a `Vec` and gives it back, without memory.
+/// It converts from and to a `Vec` without allocating.
+///
+/// # Examples
+///
+/// ```
+/// # use wasm_encoder::Items;
+/// let items = Items::from_slice(rt.alloc(), &[3, 5])?;
+/// assert_eq!(rt; items.len(), 2);
+/// assert_eq!(rt; items.as_slice(), [3, 5].as_slice());
+/// assert_eq!(rt; items.into_vec().pop(), Some(5));
+/// ```
 #[derive(Drop)]
 pub struct Items<T> {
     items: Vec<T>,
@@ -26,7 +36,7 @@ impl<T> Model for Items<T> {
 }
 
 impl<T> Items<T> {
-    /// A list without items.
+    /// Returns an empty list. It doesn't allocate.
     pub fn new(alloc: Global) -> Items<T>
         ensures { result ≡ [] }
     {
@@ -35,28 +45,28 @@ impl<T> Items<T> {
         }
     }
 
-    /// The items.
+    /// Returns the items as a slice.
     pub fn as_slice(&self) -> &[T]
         ensures value { result.now ≡ self.now }
     {
         self.items.as_slice()
     }
 
-    /// How many items there are.
+    /// Returns the number of items.
     pub fn len(&self) -> usize
         ensures { result ≡ length self.now }
     {
         self.items.len()
     }
 
-    /// Whether there are none.
+    /// Checks whether the list is empty.
     pub fn is_empty(&self) -> bool
         ensures { IsTrue result ↔ (self.now ≡ []) }
     {
         self.items.is_empty()
     }
 
-    /// The items, as a `Vec`.
+    /// Returns the items as a `Vec`.
     pub fn into_vec(self) -> Vec<T>
         ensures { result.items ≡ self }
     {
@@ -66,14 +76,14 @@ impl<T> Items<T> {
 }
 
 impl<T> Items<T> {
-    /// What its memory is asked of.
+    /// Returns the allocator of the list.
     pub fn allocator(&self) -> Global {
         *self.items.allocator()
     }
 }
 
 impl<T: Copy> Items<T> {
-    /// An equal list.
+    /// Returns a copy. Fails with `Memory` if an allocation fails.
     pub fn try_clone(&self) -> Result<Items<T>, EncodeError>
         ensures ok { IfOk result (λ list. list ≡ self.now) }
         ensures err { IfErr result (λ e. e ≡ Memory) }
@@ -81,7 +91,7 @@ impl<T: Copy> Items<T> {
         Items::from_slice(self.allocator(), self.as_slice())
     }
 
-    /// A list of the same items.
+    /// Copies a slice to a new list. Fails with `Memory` if an allocation fails.
     pub fn from_slice(alloc: Global, items: &[T]) -> Result<Items<T>, EncodeError>
         ensures ok { IfOk result (λ list. list ≡ items.now) }
         ensures err { IfErr result (λ e. e ≡ Memory) }

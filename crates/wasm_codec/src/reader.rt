@@ -1,6 +1,6 @@
-//! What readers answer, and the place in bytes that they go by.
+//! The error of readers, and the cursor that they read from.
 //!
-//! A reader takes all of its input: bytes that are left over are refused like any others that encode nothing.
+//! A reader decodes all of its input: trailing bytes are malformed.
 ghost use Rattle.std.specs.Prelude.{◌≡◌};
 ghost use Rattle.wasm_codec.specs.declared.reader.ReadError.TheVariants.{Memory};
 ghost use Rattle.wasm_codec.specs.Answers.{answer_to};
@@ -11,16 +11,16 @@ use cursor::Fault;
 use std::alloc::{AllocError, AllocFailed};
 use thiserror::Error;
 
-/// Why bytes were not read.
+/// Error of a reader, a normaliser or a check.
 #[derive(Debug, PartialEq, Eq, Drop, Error)]
 pub enum ReadError {
-    /// There was no memory for what the bytes encode.
+    /// An allocation failed.
     #[error("no memory")]
     Memory,
-    /// The bytes encode nothing of what is read.
+    /// The bytes are malformed, or not minimally encoded if the call requires that.
     #[error("refused at {at}")]
     Refused {
-        /// How many bytes the longest whole prefix has.
+        /// Length in bytes of the longest prefix that the call accepts: the offset of the first part that it refuses.
         at: usize,
     },
 }

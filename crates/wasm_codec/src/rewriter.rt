@@ -1,4 +1,4 @@
-//! Bytes that are rewritten in place: what is in its shortest encoding stays, and the rest is shortened.
+//! `Rewriter`, which replaces encodings by minimal ones in place.
 ghost use Rattle.std.specs.Prelude.{◌≡◌, Bool, ◌++◌, ◌+◌, ◌-◌, ◌<◌, ◌≤◌, ◌^◌, [], length, take, drop, true, false, Some, vec_len, pos, if◌then◌else◌, IfOk, IfErr};
 ghost use lib.Seq.{paste};
 ghost use Rattle.wasm_codec.specs.formats.Grammar.{IsBytes};
@@ -25,21 +25,21 @@ pub use loops::{
 use scan::kept_digits;
 pub use scan::{Scanned, scan_s32, scan_s64, scan_u32, scan_u64};
 
-/// The place of a body that is being rewritten.
+/// A body that is being rewritten.
 #[derive(Clone, Copy)]
 pub struct Body {
-    /// How many bytes were written before its size.
+    /// Number of bytes written before its size.
     mark: usize,
-    /// How many bytes it had.
+    /// Its old size in bytes.
     size: u32,
-    /// How many bytes are left after it.
+    /// Number of bytes left after it.
     behind: usize,
 }
 
-/// Bytes of which the first part was rewritten.
+/// A list of bytes, rewritten in place from its start on.
 ///
-/// What was written lies at the beginning; then comes a gap, then the run of bytes that stay as they are, then what is
-/// left. The run is moved only where something after it has become shorter.
+/// The list consists of the written bytes, a gap, a run of bytes that stay as they are, and the bytes left. The run
+/// moves down to the written bytes only if something after it gets shorter.
 #[derive(Drop)]
 pub struct Rewriter {
     bytes: Vec<u8>,
@@ -62,7 +62,7 @@ impl Model for Rewriter {
 }
 
 impl Rewriter {
-    /// The beginning of the bytes.
+    /// Returns a rewriter at the start of the bytes.
     pub fn new(bytes: Vec<u8>) -> Rewriter
         ensures { result ≡ rewriting [] (place true bytes.items) [] }
     {
@@ -77,7 +77,7 @@ impl Rewriter {
         }
     }
 
-    /// What was written.
+    /// Returns the written bytes.
     pub fn finish(self) -> Vec<u8>
         ensures { result.items ≡ self.done }
     {
@@ -94,7 +94,7 @@ impl Rewriter {
         bytes
     }
 
-    /// How many bytes are left up to the end.
+    /// Returns the number of bytes left up to the end.
     #[inline(always)]
     pub fn len(&self) -> usize
         ensures { result ≡ length self.now.place.left }
@@ -102,7 +102,7 @@ impl Rewriter {
         self.end - self.position
     }
 
-    /// Tells the proof that what is left are bytes. The call does nothing.
+    /// Tells the proof that each item left is a byte. The call does nothing.
     #[inline(always)]
     pub fn are_bytes(&self)
         ensures { IsBytes self.now.place.left }
@@ -110,7 +110,7 @@ impl Rewriter {
         let _place = self.cursor();
     }
 
-    /// The bytes that are left up to the end.
+    /// Returns the bytes left up to the end.
     #[inline(always)]
     pub fn left(&self) -> &[u8]
         ensures { result.now ≡ self.now.place.left }
@@ -118,7 +118,7 @@ impl Rewriter {
         &self.bytes[self.position..self.end]
     }
 
-    /// The bytes that are left, as a place to read from.
+    /// Returns a cursor over the bytes left.
     #[inline(always)]
     fn cursor(&self) -> Cursor<'_>
         ensures place { result ≡ place true self.now.place.left }
@@ -136,7 +136,7 @@ impl Rewriter {
         self.position += count;
     }
 
-    /// Leaves an item that was scanned in its shortest encoding.
+    /// Replaces a scanned item by its minimal encoding.
     #[inline(always)]
     pub fn rewrite_scanned(&mut self, scanned: Scanned)
         requires { IsWithin scanned (length self.old.place.left) }
@@ -155,7 +155,7 @@ impl Rewriter {
         }
     }
 
-    /// Shortens what comes next to its first bytes, the last of them without its high bit.
+    /// Shortens the next `count` bytes to the first `kept` of them, and clears the high bit of the last.
     #[inline(always)]
     fn shorten(&mut self, kept: usize, count: usize)
         requires some { 0 < kept }
@@ -173,7 +173,7 @@ impl Rewriter {
         self.shortest = false;
     }
 
-    /// How many bytes were written.
+    /// Returns the number of bytes written.
     #[inline(always)]
     pub fn written_len(&self) -> usize
         ensures { result ≡ length self.now.done }
@@ -181,7 +181,7 @@ impl Rewriter {
         self.written + (self.position - self.from)
     }
 
-    /// Takes out `count` bytes that were written from `mark` on, which belonged to a long form.
+    /// Removes `count` written bytes at offset `mark`, which a minimal encoding doesn't have.
     pub fn cut_out(&mut self, mark: usize, count: usize)
         requires { mark + count ≤ length self.old.done }
         ensures { self.new ≡ without mark count self.old }
@@ -193,7 +193,7 @@ impl Rewriter {
         self.shortest = false;
     }
 
-    /// Writes another byte over the one that was written at `mark`.
+    /// Overwrites the byte that was written at offset `mark`.
     pub fn set_byte(&mut self, mark: usize, byte: u8)
         requires { mark < length self.old.done }
         ensures { self.new ≡ with_byte mark byte self.old }
@@ -203,7 +203,7 @@ impl Rewriter {
         self.from = self.position;
     }
 
-    /// Limits what is left to its first `size` bytes.
+    /// Limits the bytes left to the first `size` of them.
     fn narrow(&mut self, size: usize)
         requires { size ≤ length self.old.place.left }
         ensures { self.new ≡ narrowed size self.old }
@@ -211,7 +211,7 @@ impl Rewriter {
         self.end = self.position + size;
     }
 
-    /// Goes on, where nothing is left, with the `size` bytes after the end.
+    /// Continues with the `size` bytes after the end. No byte may be left.
     fn widen(&mut self, size: usize)
         requires none { self.old.place.left ≡ [] }
         requires within { size ≤ length self.old.rest }
@@ -220,7 +220,7 @@ impl Rewriter {
         self.end += size;
     }
 
-    /// Writes the number of the bytes after the size at `mark` in place of it, in no more bytes.
+    /// Replaces the size at offset `mark` by the number of bytes written after it, in at most as many bytes.
     fn put_size(&mut self, mark: usize, digits: usize)
         requires begun { mark + digits ≤ length self.old.done }
         requires size { length self.old.done - (mark + digits) < 2 ^ 32 }
@@ -232,7 +232,8 @@ impl Rewriter {
         self.from = self.position;
     }
 
-    /// Reads the size of a body, and goes on within it.
+    /// Reads the size of a body, and continues within the body. Fails with `Malformed` if the size exceeds the bytes
+    /// left.
     pub fn open_body(&mut self) -> Result<Body, Fault>
         ensures { OpensBody self.old self.new result }
     {
@@ -250,7 +251,7 @@ impl Rewriter {
         })
     }
 
-    /// Goes on after a body that was rewritten, and corrects its size if it has become shorter.
+    /// Continues after a body that was rewritten, and corrects its size if the body got shorter.
     pub fn close_body(&mut self, body: Body)
         requires none { self.old.place.left ≡ [] }
         requires behind { body.behind ≤ length self.old.rest }
@@ -266,7 +267,7 @@ impl Rewriter {
         self.widen(body.behind);
     }
 
-    /// A u32 (Core 3.0, Integers).
+    /// Rewrites a u32 and returns it (Core 3.0, Integers).
     #[inline(always)]
     pub fn u32(&mut self) -> Result<u32, Fault>
         ensures { Gives u32_format self.old self.new result }
@@ -282,7 +283,7 @@ impl Rewriter {
         Ok(value)
     }
 
-    /// A u64 (Core 3.0, Integers).
+    /// Rewrites a u64 (Core 3.0, Integers).
     pub fn u64(&mut self) -> Result<(), Fault>
         ensures { Rewrites u64_format self.old self.new result }
     {
@@ -297,7 +298,7 @@ impl Rewriter {
         Ok(())
     }
 
-    /// An s32 (Core 3.0, Integers).
+    /// Rewrites an s32 (Core 3.0, Integers).
     pub fn s32(&mut self) -> Result<(), Fault>
         ensures { Rewrites s32_format self.old self.new result }
     {
@@ -312,7 +313,7 @@ impl Rewriter {
         Ok(())
     }
 
-    /// An s64 (Core 3.0, Integers).
+    /// Rewrites an s64 (Core 3.0, Integers).
     pub fn s64(&mut self) -> Result<(), Fault>
         ensures { Rewrites s64_format self.old self.new result }
     {
@@ -327,7 +328,7 @@ impl Rewriter {
         Ok(())
     }
 
-    /// An index in the place of a negative type code: an s33 that isn't negative (Core 3.0, Heap Types).
+    /// Rewrites a type index, encoded as a non-negative s33 (Core 3.0, Heap Types).
     pub fn index(&mut self) -> Result<(), Fault>
         ensures { Rewrites index_format self.old self.new result }
     {
@@ -342,7 +343,7 @@ impl Rewriter {
         Ok(())
     }
 
-    /// One byte.
+    /// Reads one byte, which stays as it is.
     #[inline(always)]
     pub fn byte(&mut self) -> Result<u8, Fault>
         ensures { Gives a_byte self.old self.new result }
@@ -355,7 +356,7 @@ impl Rewriter {
         Ok(byte)
     }
 
-    /// Reads `count` bytes, which stay as they are.
+    /// Skips `count` bytes, which stay as they are. Fails with `Malformed` if fewer are left.
     #[tactic(auto, unfolding(crate::specs::Places::raw_at))]
     pub fn bytes(&mut self, count: usize) -> Result<(), Fault>
         ensures { Rewrites (raw count) self.old self.new result }
@@ -367,14 +368,14 @@ impl Rewriter {
         Ok(())
     }
 
-    /// Reads all that is left, which stays as it is.
+    /// Skips all bytes left, which stay as they are.
     pub fn rest(&mut self)
         ensures { rewriting_after bytes_to_end self.old ≡ Some self.new }
     {
         self.skip(self.len());
     }
 
-    /// Reads a number of `count` bytes, the least first, which stay as they are.
+    /// Skips a little-endian number of `count` bytes. Fails with `Malformed` if fewer are left.
     pub fn number(&mut self, count: usize) -> Result<(), Fault>
         ensures { Rewrites (little_endian count) self.old self.new result }
     {
@@ -386,7 +387,7 @@ impl Rewriter {
         Ok(())
     }
 
-    /// The next byte, which isn't consumed.
+    /// Returns the next byte and doesn't move. Fails with `Malformed` at the end of the bytes.
     #[inline(always)]
     pub fn peek(&self) -> Result<u8, Fault>
         ensures sees { Sees self.now.place result }
@@ -399,7 +400,7 @@ impl Rewriter {
     }
 }
 
-/// Moves the run to the end of what was written, and answers where it ends now.
+/// Moves the run to the end of the written bytes. Returns the offset of its new end.
 #[inline(always)]
 fn move_run(bytes: &mut Vec<u8>, written: usize, from: usize, position: usize) -> usize
     requires gap { written ≤ from }
@@ -414,7 +415,7 @@ fn move_run(bytes: &mut Vec<u8>, written: usize, from: usize, position: usize) -
     written + (position - from)
 }
 
-/// Moves the bytes from `start` up to `end` down to `dest`, where they aren't there already.
+/// Moves the bytes from `start` up to `end` down to `dest`, unless they are there already.
 #[cold]
 #[inline(never)]
 #[tactic(auto, using(crate::proofs::Windows::already_there))]
@@ -430,7 +431,7 @@ fn move_down(bytes: &mut [u8], start: usize, end: usize, dest: usize)
     }
 }
 
-/// A slice of `u8` has bytes. The call does nothing.
+/// Tells the proof that each item of a slice of `u8` is a byte. The call does nothing.
 #[inline(always)]
 fn are_bytes(bytes: &[u8])
     ensures { IsBytes bytes.now }
@@ -438,7 +439,7 @@ fn are_bytes(bytes: &[u8])
     let _place = place_of(bytes);
 }
 
-/// The place at the beginning of bytes.
+/// Returns a cursor at the start of the bytes.
 #[inline(always)]
 fn place_of(bytes: &[u8]) -> Cursor<'_>
     ensures place { result ≡ place true bytes.now }
@@ -447,7 +448,7 @@ fn place_of(bytes: &[u8]) -> Cursor<'_>
     Cursor::new(bytes)
 }
 
-/// How many digits the shortest encoding of a number has, of which the last stands for a number below `top`.
+/// Returns the number of digits in a minimal encoding whose last digit represents a number below `top`.
 pub fn digit_count(top: u64, number: u64) -> usize
     requires { 0 < top }
     ensures count { (turn : Bool) → result ≡ length (digits_of turn top 9 number) }
@@ -463,7 +464,7 @@ pub fn digit_count(top: u64, number: u64) -> usize
     10
 }
 
-/// How many digits the shortest encoding of an unsigned number has.
+/// Returns the number of digits in the minimal encoding of an unsigned number.
 #[tactic(auto, unfolding(crate::specs::Leb128::unsigned_leb128))]
 fn unsigned_digit_count(number: u64) -> usize
     ensures count { result ≡ length (unsigned_leb128 number) }
@@ -472,7 +473,7 @@ fn unsigned_digit_count(number: u64) -> usize
     digit_count(128, number)
 }
 
-/// How many digits the shortest encoding of a signed number has.
+/// Returns the number of digits in the minimal encoding of a signed number.
 #[tactic(auto, unfolding(crate::specs::Leb128::signed_leb128))]
 fn signed_digit_count(number: i64) -> usize
     ensures count { result ≡ length (signed_leb128 number) }
@@ -485,7 +486,7 @@ fn signed_digit_count(number: i64) -> usize
     }
 }
 
-/// The same of a signed number of 32 bits.
+/// Returns the number of digits in the minimal encoding of an s32.
 fn s32_digit_count(number: i32) -> usize
     ensures count { result ≡ length (signed_leb128 number) }
     ensures some { 0 < result }
@@ -493,7 +494,7 @@ fn s32_digit_count(number: i32) -> usize
     signed_digit_count(i64::from(number))
 }
 
-/// The same of an index in the place of a negative type code.
+/// Returns the number of digits in the minimal encoding of a type index.
 fn index_digit_count(index: u32) -> usize
     ensures count { result ≡ length (signed_leb128 (pos index)) }
     ensures some { 0 < result }
@@ -501,8 +502,9 @@ fn index_digit_count(index: u32) -> usize
     signed_digit_count(i64::from(index))
 }
 
-/// Writes the number of the bytes from `begin` up to `end` at `start`, in no more bytes than up to `begin`, and moves them
-/// down to it. Answers where they end then.
+/// Writes the number of bytes from `begin` up to `end` at `start`, and moves those bytes down to it.
+///
+/// The number fits before `begin`. Returns the offset of the new end.
 fn write_size(bytes: &mut Vec<u8>, start: usize, begin: usize, end: usize) -> usize
     requires start { start ≤ begin }
     requires begin { begin ≤ end }
@@ -518,7 +520,7 @@ fn write_size(bytes: &mut Vec<u8>, start: usize, begin: usize, end: usize) -> us
     move_run(bytes, digits, begin, end)
 }
 
-/// Writes the shortest encoding of a number over the bytes at a place, and answers how many bytes it has.
+/// Writes the minimal encoding of a number over the bytes at `start`. Returns its length in bytes.
 fn overwrite(bytes: &mut Vec<u8>, start: usize, number: u32) -> usize
     requires { start + length (unsigned_leb128 number) ≤ vec_len bytes.old }
     ensures digits { result ≡ length (unsigned_leb128 number) }

@@ -1,4 +1,4 @@
--- Functions and code sections that are being built (WebAssembly Core 3.0, Code Section).
+-- Functions and code sections that are built (WebAssembly Core 3.0, Code Section).
 use Rattle.std.specs.Prelude.{◌≡◌, ℕ, ◌+◌, ◌⊎◌, List, [], ◌∷◌, ◌++◌, length}
 use Rattle.std.specs.List.{AllByRecursion, Any}
 use Rattle.wasm_types.specs.declared.types.value.ValType.{ValType}
@@ -14,11 +14,11 @@ use Rattle.wasm_sections.specs.formats.ModuleSectionParts.{code}
 use Rattle.wasm_sections.specs.SectionBytes.{IsSectionAfter}
 use Rattle.wasm_encoder.specs.EncodedLists.{Entries, StandsForAll, GainsEach, IsUncounted, body_bytes}
 
+-- The code body with these locals and these calls.
 abbrev pub body_of : List (ℕ × ValType) → List Instruction → CodeBody
 body_of locals calls = record { locals = locals; calls = calls }
 
--- The function stands for this body: its bytes are the locals and the instructions, with nothing between, and each of
--- them can be written and is in range.
+-- The function stands for this body: its bytes are the locals and instructions, which can be written and are in range.
 pub record FunctionStandsFor (function : List ℕ) (body : CodeBody) : Type 0 where
   pub bytes : function ≡ func_bytes body
   pub locals : IsCount (length body.locals)
@@ -26,7 +26,7 @@ pub record FunctionStandsFor (function : List ℕ) (body : CodeBody) : Type 0 wh
   pub locals_in_range : AllByRecursion local_group.InRange body.locals
   pub calls_in_range : AllByRecursion instruction.InRange body.calls
 
--- the body with these instructions at its end
+-- The body with these instructions at its end.
 abbrev pub followed : CodeBody → List Instruction → CodeBody
 followed body more = body_of body.locals (body.calls ++ more)
 
@@ -35,31 +35,31 @@ pub record GoesOnWith (old : List ℕ) (more : List Instruction) (new : List ℕ
   pub bytes : new ≡ old ++ instructions_bytes more
   pub stands : (body : CodeBody) → FunctionStandsFor old body → FunctionStandsFor new (followed body more)
 
--- the section has the number and the encodings of these bodies, and they can be written and are in range
+-- The section stands for these bodies: it has their number and encodings, and each can be written and is in range.
 abbrev pub StandsForBodies : Entries → List CodeBody → Type 0
 StandsForBodies = StandsForAll code_body CountedBody
 
--- its body encodes the code bodies that it stands for
+-- The body of the section encodes the code bodies that it stands for.
 abbrev pub HoldsBodies : Entries → Type 0
 HoldsBodies section = (bodies : List CodeBody) → StandsForBodies section bodies → code_section_body.Encodes (body_bytes section) bodies
 
--- after the id, its size and its body are the section of a module that holds the code bodies
+-- After the id, the section's size and body are the minimal encoding of the module's section with these bodies.
 abbrev pub IsCodeSection : Entries → Type 0
 IsCodeSection section = (bodies : List CodeBody) → StandsForBodies section bodies → IsSectionAfter 10 (byte_list_bytes (body_bytes section)) (code bodies)
 
--- The new section is the old one with the body of this function more.
+-- The new section is the old one and the body of this function.
 pub record GainsFunction (old : Entries) (function : List ℕ) (new : Entries) : Type 0 where
   pub count : new.count ≡ old.count + 1
   pub bytes : new.bytes ≡ old.bytes ++ byte_list_bytes function
   pub stands : (before : List CodeBody) (body : CodeBody) → StandsForBodies old before → FunctionStandsFor function body → StandsForBodies new (before ++ body ∷ [])
 
--- the new section is the old one with these bodies more
+-- The new section is the old one and these more bodies.
 abbrev pub GainsBodies : Entries → List CodeBody → Entries → Type 0
 GainsBodies = GainsEach code_body CountedBody
 
--- ---- what is too long to be written
+-- ---- functions that are too long to be written
 
--- the list in the operands is too long
+-- A u32 doesn't count the items of the list in the operands.
 abbrev pub UncountedList : Operands → Type 0
 UncountedList (operands.BrTable labels default) = IsUncounted (length labels)
 UncountedList (operands.Types types) = IsUncounted (length types)
@@ -68,9 +68,10 @@ UncountedList (operands.Resume index handlers) = IsUncounted (length handlers)
 UncountedList (operands.ResumeThrow index tag handlers) = IsUncounted (length handlers)
 UncountedList o = ⊥
 
+-- A u32 doesn't count the items of the call's list.
 abbrev pub UncountedCall : Instruction → Type 0
 UncountedCall c = UncountedList c.operands
 
--- a code body has too many locals, a list in one of its instructions is too long, or it has too many bytes
+-- The body has too many locals, a list in an instruction is too long, or it has too many bytes.
 abbrev pub UncountedBody : CodeBody → Type 0
 UncountedBody b = IsUncounted (length b.locals) ⊎ (Any UncountedCall b.calls ⊎ IsUncounted (length (func_bytes b)))

@@ -2,7 +2,7 @@
 use Rattle.std.specs.Prelude.{ℕ, ◌==◌, List, [], ◌∷◌, Option, Some, None, if◌then◌else◌}
 use Rattle.wasm_modules.specs.formats.Sections.{SectionParts}
 
--- the body of the first section of this id
+-- The body of the first section with this id, if there is one.
 abbrev pub first_body_of : ℕ → List SectionParts → Option (List ℕ)
 first_body_of id [] = None
 first_body_of id (section ∷ sections) = if section.id == id then Some section.body else first_body_of id sections

@@ -1,9 +1,10 @@
--- What a function lends, as the logic holds it, for the clauses on the lender.
+-- The list that a function lends, as the logic holds it, for clauses about the lender.
 use denote.RattleType.{RattleType}
 use Rattle.std.specs.Borrow.{u8}
 use Rattle.std.specs.contracts.alloc.Global as global
 use Rattle.std.specs.contracts.vec.Vec as vec
 use Rattle.std.specs.contracts.impls.GlobalAllocator.TheImpl.{ghosts}
 
+-- A list of bytes, as the logic holds it.
 abbrev pub bytes_row : RattleType
 bytes_row = vec.the_row u8 global.the_row ghosts

@@ -4,7 +4,7 @@ use Rattle.wasm_encoder.specs.declared.wasm_core.SectionId.{SectionId}
 use Rattle.wasm_encoder.specs.declared.wasm_core.SectionId.TheVariants as ids
 use Rattle.wasm_modules.specs.formats.Sections.{type_section_id}
 
--- the ids of the known sections (Sections)
+-- The id of a section of this kind (Sections).
 abbrev pub section_id : SectionId → ℕ
 section_id ids.Custom = 0
 section_id ids.Types = type_section_id

@@ -1,5 +1,4 @@
--- Type sections that are being built: how many entries were written, and their bytes (WebAssembly Core 3.0, Type
--- Section).
+-- Type sections that are built: the number of their entries, and their bytes (WebAssembly Core 3.0, Type Section).
 use Rattle.std.specs.Prelude.{ℕ, ◌⊎◌, List, [], length, Option, None, Bool, true, false}
 use Rattle.std.specs.List.{Any}
 use Rattle.std.specs.Iterator.{Drains}
@@ -19,63 +18,69 @@ use Rattle.wasm_sections.specs.formats.ModuleSectionParts.{types as holding_type
 use Rattle.wasm_sections.specs.SectionBytes.{IsSectionAfter}
 use Rattle.wasm_encoder.specs.EncodedLists.{Entries, StandsForAll, GainsOne, GainsEach, IsUncounted, body_bytes}
 
--- The section stands for these entries: it has their number and their bytes, with nothing between, and they can be
--- written, with their numbers in range.
+-- The section stands for these entries: it has their number and encodings, and each can be written and is in range.
 abbrev pub StandsFor : Entries → List TypeEntry → Type 0
 StandsFor = StandsForAll recursive_type CountedEntry
 
--- the new section is the old one with one entry more
+-- The new section is the old one and one more entry.
 abbrev pub Gains : Entries → TypeEntry → Entries → Type 0
 Gains = GainsOne recursive_type CountedEntry
 
--- the new section is the old one with these entries more
+-- The new section is the old one and these more entries.
 abbrev pub GainsAll : Entries → List TypeEntry → Entries → Type 0
 GainsAll = GainsEach recursive_type CountedEntry
 
--- its body encodes the entries that it stands for
+-- The body of the section encodes the entries that it stands for.
 abbrev pub HoldsEntries : Entries → Type 0
 HoldsEntries section = (entries : List TypeEntry) → StandsFor section entries → type_body.Encodes (body_bytes section) entries
 
--- the body, after the number of its bytes (Sections)
+-- The size of the section's body, then the body (Sections).
 abbrev pub type_section_bytes : Entries → List ℕ
 type_section_bytes section = byte_list_bytes (body_bytes section)
 
--- after the id they are the section of a module that holds the entries
+-- After the id, the section's size and body are the minimal encoding of the module's section with these entries.
 abbrev pub IsTypeSection : Entries → Type 0
 IsTypeSection section = (entries : List TypeEntry) → StandsFor section entries → IsSectionAfter 1 (type_section_bytes section) (holding_types entries)
 
 -- ---- entries of one type: final, without supertypes, not shared, with no descriptor
 
+-- The entry of one final type that has no supertypes and no descriptor and isn't shared.
 abbrev pub final_entry : CompositeInnerType → TypeEntry
 final_entry inner = entries.Sub (record { is_final = true; supertype_idxs = []; composite_type = record { inner = inner; shared = false; descriptor = None; describes = None } })
 
+-- The entry of one final structure type with these fields.
 abbrev pub struct_entry : List FieldType → TypeEntry
 struct_entry fields = final_entry (inner.Struct (record { fields = fields }))
 
+-- The entry of one final array type with this element.
 abbrev pub array_entry : StorageType → Bool → TypeEntry
 array_entry ty mutable = final_entry (inner.Array (record { 0 = record { element_type = ty; mutable = mutable } }))
 
 -- ---- types from iterators
 
 module _ {P R : Type 0} (gives_params : P → Option ValType → P → Type 0) (gives_results : R → Option ValType → R → Type 0) where
-  -- this holds of the lists that the two iterators give
+  -- The property holds of the function type that the two iterators give.
   abbrev pub OfBoth : P → R → (FuncType → Type 0) → Type 0
   OfBoth params results Holds = (ps : List ValType) × (rs : List ValType) × Drains gives_params params ps × Drains gives_results results rs × Holds (record { params = ps; results = rs })
 
 -- ---- types with a list that is too long
 
+-- A u32 doesn't count the parameters or the results.
 abbrev pub UncountedFunc : FuncType → Type 0
 UncountedFunc f = IsUncounted (length f.params) ⊎ IsUncounted (length f.results)
 
+-- A u32 doesn't count the items of a list in the type.
 abbrev pub UncountedInner : CompositeInnerType → Type 0
 UncountedInner (inner.Func f) = UncountedFunc f
 UncountedInner (inner.Struct s) = IsUncounted (length s.fields)
 UncountedInner (inner.Array a) = ⊥
 UncountedInner (inner.Cont c) = ⊥
 
+-- A u32 doesn't count the supertypes, or the items of a list in the type.
 abbrev pub UncountedSub : SubType → Type 0
 UncountedSub s = IsUncounted (length s.supertype_idxs) ⊎ UncountedInner s.composite_type.inner
 
+-- A u32 doesn't count the subtypes, or the items of a list in one of them.
 abbrev pub UncountedEntry : TypeEntry → Type 0
 UncountedEntry (entries.Sub s) = UncountedSub s
 UncountedEntry (entries.Rec types) = IsUncounted (length types) ⊎ Any UncountedSub types

@@ -26,9 +26,20 @@ use wasm_types::types::ValType;
 use wasm_writers::encode::{Encode, EncodeError, append_items, encode_bytes};
 use wasm_writers::encoded_list::EncodedList;
 
-/// The locals of a function, and instructions that are added to them.
+/// A function body: its locals, and instructions that you append (Core 3.0, Code Section).
 ///
 /// In contracts it is its bytes: the list of locals, and then the instructions.
+///
+/// # Examples
+///
+/// ```
+/// # use wasm_encoder::{Encode, Function, ValType};
+/// let mut function = Function::new(rt.alloc(), [(1, ValType::I64)].iter().copied())?;
+/// function.instructions().local_get(0)?.drop()?.end()?;
+/// let mut bytes = Vec::new(rt.alloc());
+/// function.encode(&mut bytes)?;
+/// assert_eq!(rt; bytes.as_slice(), b"\x07\x01\x01\x7e\x20\x00\x1a\x0b".as_slice());
+/// ```
 #[derive(Debug, Drop)]
 pub struct Function {
     bytes: Vec<u8>,
@@ -45,9 +56,11 @@ impl Model for Function {
 impl Function {
     ghost use Rattle.wasm_encoder.specs.contracts.code.Function.{the_row};
 
-    /// A function without instructions, with the locals that an iterator gives as pairs: how many, and of which type.
+    /// Returns a function without instructions. `locals` yields groups of locals, each a number of locals and their
+    /// type.
     ///
-    /// `TooLong` where there are more than 4,294,967,295 pairs, before one is asked for.
+    /// Fails with `TooLong` if there are more than 4,294,967,295 groups, before it asks for one, and with `Memory` if
+    /// it can't allocate.
     #[tactic(auto, using(crate::proofs::CodeSectionLaws::locals_stand, crate::proofs::RefusalLaws::locals_refused))]
     pub fn new<L: ExactSizeIterator<Item = (u32, ValType)>>(
         alloc: Global,
@@ -56,7 +69,7 @@ impl Function {
         requires { L.can_next locals }
         ensures ok { IfOk result (λ function. OfItems L.next_gives locals (λ groups.
             FunctionStandsFor function (body_of groups []))) }
-        // Where it is known what the iterator gives, as of `slice.iter().copied()`, these are the locals.
+        // If it is known what the iterator yields, as for `slice.iter().copied()`, these are the groups of locals.
         ensures stands { (groups : List (ℕ × ValType)) → GivesItems L.next_gives locals groups →
             IfOk result (λ function. FunctionStandsFor function (body_of groups [])) }
         ensures refused { IfErr result (IsMemoryOrTooLong (IsUncounted (size (L.remaining locals)))) }
@@ -67,10 +80,10 @@ impl Function {
         Ok(Function { bytes })
     }
 
-    /// A sink that appends to the function.
+    /// Returns a sink that appends to the function. End the body with `end`.
     ///
-    /// Contracts of the caller don't see what is appended through this sink. Where they have to, use [`Function::calls`], or a
-    /// function over the list of [`Function::bytes_mut`].
+    /// The caller's contracts don't see what you append through this sink. If they must, call [`Function::calls`], or a
+    /// function over the list from [`Function::bytes_mut`].
     pub fn instructions(&mut self) -> InstructionSink<'_, Global>
         ensures* lends { sem 𝓛 (follows the_row bytes_row self.entry.ghost_name result.bytes.ghost_name (λ code. code.items)) }
         ensures value { result.bytes.now.items ≡ self.old }
@@ -78,7 +91,7 @@ impl Function {
         InstructionSink::new(&mut self.bytes)
     }
 
-    /// The list that holds the function's bytes. What is left in it belongs to the function from then on.
+    /// Returns the list that holds the function's bytes. What you leave in it belongs to the function.
     pub fn bytes_mut(&mut self) -> &mut Vec<u8>
         ensures* lends { sem 𝓛 (Lends the_row bytes_row self.entry result (λ code. code.items)) }
         ensures value { result.now.items ≡ self.old }
@@ -86,9 +99,10 @@ impl Function {
         &mut self.bytes
     }
 
-    /// Adds the shortest encodings of calls, all of them or none.
+    /// Appends the minimal encodings of calls, all of them or none.
     ///
-    /// `TooLong` where a list in one of them has more than 4,294,967,295 items.
+    /// Fails with `TooLong` if a list in a call has more than 4,294,967,295 items, and with `Memory` if the function
+    /// can't grow.
     #[tactic(auto, using(crate::proofs::CodeSectionLaws::goes_on))]
     pub fn calls(&mut self, calls: &[Call]) -> Result<(), EncodeError>
         ensures ok { OnOk result (GoesOnWith self.old calls.now self.new) }
@@ -98,14 +112,14 @@ impl Function {
         append_calls(&mut self.bytes, calls)
     }
 
-    /// How many bytes the function has, without its size.
+    /// Returns the length of the locals and instructions in bytes.
     pub fn byte_len(&self) -> usize
         ensures { result ≡ length self.now }
     {
         self.bytes.len()
     }
 
-    /// A function of the same bytes.
+    /// Copies the function. Fails with `Memory` if it can't allocate.
     pub fn try_clone(&self) -> Result<Function, EncodeError>
         ensures ok { IfOk result (λ function. function ≡ self.now) }
         ensures err { IfErr result (λ e. e ≡ Memory) }
@@ -115,9 +129,9 @@ impl Function {
     }
 }
 
-/// The number of the function's bytes, and the bytes.
+/// The function's length in bytes, and its bytes (Core 3.0, Code Section).
 ///
-/// `TooLong` where there are more than 4,294,967,295.
+/// Fails with `TooLong` if the function is longer than 4,294,967,295 bytes.
 impl Encode for Function {
     ghost bytes = { byte_list_bytes };
 
@@ -132,9 +146,23 @@ impl Encode for Function {
     }
 }
 
-/// A code section that bodies are added to, one after the other.
+/// A code section: you add function bodies, and it keeps them encoded (Core 3.0, Code Section).
 ///
-/// In contracts it is the number of its bodies and their bytes.
+/// Methods that add fail with `Memory` if the section can't grow. On error the section is unchanged. In contracts the
+/// section is the number of its bodies and their bytes.
+///
+/// # Examples
+///
+/// ```
+/// # use wasm_encoder::{CodeSection, Encode, Function};
+/// let mut function = Function::new(rt.alloc(), [].iter().copied())?; // no locals
+/// function.instructions().i32_const(42)?.end()?;
+/// let mut code = CodeSection::new(rt.alloc());
+/// code.function(&function)?;
+/// let mut bytes = Vec::new(rt.alloc());
+/// code.encode(&mut bytes)?;
+/// assert_eq!(rt; bytes.as_slice(), b"\x06\x01\x04\x00\x41\x2a\x0b".as_slice());
+/// ```
 #[derive(Debug, Drop)]
 pub struct CodeSection {
     bodies: EncodedList,
@@ -149,7 +177,7 @@ impl Model for CodeSection {
 }
 
 impl CodeSection {
-    /// A section without bodies. It takes no memory.
+    /// Returns a section without bodies. Allocates nothing.
     #[tactic(auto, using(crate::proofs::CodeSectionLaws::stands_for_none))]
     pub fn new(alloc: Global) -> CodeSection
         ensures { StandsForBodies result [] }
@@ -159,23 +187,24 @@ impl CodeSection {
         }
     }
 
-    /// How many bodies there are.
+    /// Returns the number of bodies.
     pub fn len(&self) -> u32
         ensures { result ≡ self.now.count }
     {
         self.bodies.len()
     }
 
-    /// Whether there are no bodies.
+    /// Returns whether the section has no bodies.
     pub fn is_empty(&self) -> bool
         ensures { IsTrue result ↔ (self.now.count ≡ 0) }
     {
         self.bodies.len() == 0
     }
 
-    /// Adds the body of a function: its size and its bytes.
+    /// Adds the body of a function: its length in bytes, and its bytes.
     ///
-    /// `TooLong` where there are 4,294,967,295 bodies, or where the function has more bytes than that.
+    /// Fails with `TooLong` if the section already has 4,294,967,295 bodies or `function` is longer than 4,294,967,295
+    /// bytes.
     #[tactic(auto, using(crate::proofs::CodeSectionLaws::gains_function, crate::proofs::RefusalLaws::function_refused))]
     pub fn function(&mut self, function: &Function) -> Result<(), EncodeError>
         ensures ok { OnOk result (GainsFunction self.old function.now self.new) }
@@ -187,8 +216,8 @@ impl CodeSection {
 
     /// Adds bodies, all of them or none.
     ///
-    /// `TooLong` where there would be more than 4,294,967,295, before one is encoded, or where a body or a list in it is
-    /// too long.
+    /// Fails with `TooLong` if the section would have more than 4,294,967,295 bodies, before it encodes any. It also
+    /// fails with `TooLong` if a body is longer than 4,294,967,295 bytes, or if a list in it has more items than that.
     #[tactic(auto, using(crate::proofs::CodeSectionLaws::gains_bodies))]
     pub fn bodies(&mut self, bodies: &[CodeBody]) -> Result<(), EncodeError>
         ensures ok { OnOk result (GainsBodies self.old bodies.now self.new) }
@@ -200,7 +229,7 @@ impl CodeSection {
         self.bodies.add_all(bodies)
     }
 
-    /// A section of the same bodies.
+    /// Copies the section. Fails with `Memory` if it can't allocate.
     pub fn try_clone(&self) -> Result<CodeSection, EncodeError>
         ensures ok { IfOk result (λ section. section ≡ self.now) }
         ensures err { IfErr result (λ e. e ≡ Memory) }
@@ -210,9 +239,9 @@ impl CodeSection {
     }
 }
 
-/// The size of the body, the number of code bodies, and the code bodies (Core 3.0, Code Section).
+/// The size of the section's body in bytes, the number of code bodies, and the code bodies (Core 3.0, Code Section).
 ///
-/// `TooLong` where the body has more than 4,294,967,295 bytes.
+/// Fails with `TooLong` if the section's body is longer than 4,294,967,295 bytes.
 #[tactic(auto, using(crate::proofs::CodeSectionLaws::one_encoding, crate::proofs::CodeSectionLaws::section_is_body, crate::proofs::CodeSectionLaws::body_encodes, crate::proofs::CodeSectionLaws::body_shortest, crate::proofs::CodeSectionLaws::bodies_written, crate::proofs::CodeSectionLaws::is_decoded))]
 impl Encode for CodeSection {
     ghost bytes = { λ section. byte_list_bytes (body_bytes section) };
@@ -226,23 +255,24 @@ impl Encode for CodeSection {
     fn encode<A: Allocator>(&self, sink: &mut Vec<u8, A>) -> Result<(), EncodeError>
         ensures ok { OnOk result (sink.new.items ≡ sink.old.items ++ byte_list_bytes (body_bytes self.now)) }
         ensures can { OnOk result (CountedSection self.now) }
-        // The body encodes the code bodies; with the id it is the section of a module that holds them, in its shortest encoding.
+        // The section's body encodes the code bodies. With the id it is the minimal encoding of a section that holds
+        // them.
         ensures written { OnOk result (HoldsBodies self.now × IsCodeSection self.now) }
         ensures refused { IfErr result (IsRefusal CountedSection OnlyTooLong self.now) }
         ensures err { OnErr result (sink.new.items ≡ sink.old.items) }
-        // Sections that stand for the same bodies have the same bytes.
+        // Sections of equal code bodies have equal bytes.
         ensures one_encoding { (other : Entries) (bodies : List CodeBody) →
             StandsForBodies self.now bodies → StandsForBodies other bodies → body_bytes other ≡ body_bytes self.now }
         // The section's body is that of the code bodies.
         ensures is_body { (bodies : List CodeBody) → StandsForBodies self.now bodies →
             body_bytes self.now ≡ code_section_body.bytes bodies }
-        // It encodes the code bodies.
+        // The section's body encodes the code bodies.
         ensures encodes { (bodies : List CodeBody) → StandsForBodies self.now bodies →
             code_section_body.Encodes (body_bytes self.now) bodies }
         // Every other encoding of the code bodies is longer.
         ensures shortest { (bodies : List CodeBody) (bytes : List ℕ) → StandsForBodies self.now bodies →
             code_section_body.Encodes bytes bodies → IsShortestOrLonger bytes (body_bytes self.now) }
-        // A section of the code bodies is in the range of decoded ones, so it is read back out of a module.
+        // The section is in the range of decoded sections, so a reader returns it.
         ensures decoded { (bodies : List CodeBody) → StandsForBodies self.now bodies →
             OnOk result (IsDecodedSection (decoded_section_of (code_section_id, code_bodies bodies))) }
     {

@@ -1,10 +1,70 @@
-//! The lowest layer of a WebAssembly encoder, proved: typed calls go in, and exactly the shortest bytes come out.
-//! Beside the writers stand readers and normalisers, which take every encoding that the binary format allows, and
-//! strict readers, which take the shortest alone.
+//! The lowest layer of a WebAssembly encoder, proved. You call typed methods, and the encoder emits the minimal
+//! encoding. Readers accept every encoding that the binary format allows, and normalisers rewrite it to the minimal
+//! one.
 //!
-//! Modules and their sections (Core 3.0, Modules) stand here. What they are made of comes from the crates below, which
-//! follow the chapters of the binary format: `wasm_codec`, `wasm_types`, `wasm_instructions`, `wasm_sections` and
-//! `wasm_sink`. Callers name this crate alone.
+//! This crate has modules and their sections (Core 3.0, Modules), and re-exports the public API of the crates below it.
+//! Name this crate alone in your code.
+//!
+//! # Examples
+//!
+//! Instructions go into any list of bytes:
+//!
+//! ```
+//! # use wasm_encoder::InstructionSink;
+//! let mut code = Vec::new(rt.alloc());
+//! InstructionSink::new(&mut code).local_get(0)?.local_get(1)?.i32_add()?.end()?;
+//! assert_eq!(rt; code.as_slice(), b"\x20\x00\x20\x01\x6a\x0b".as_slice());
+//! ```
+//!
+//! A module is a list of sections, here a memory of one page and its export:
+//!
+//! ```
+//! # use wasm_encoder::{ExportKind, ExportSection, MemorySection, MemoryType, Module};
+//! # let (maximum, memory64, shared, page_size_log2) = (None, false, false, None);
+//! let mut memories = MemorySection::new(rt.alloc());
+//! memories.memory(MemoryType { minimum: 1, maximum, memory64, shared, page_size_log2 })?;
+//! let mut exports = ExportSection::new(rt.alloc());
+//! exports.export("memory", ExportKind::Memory, 0)?;
+//! let mut module = Module::new(rt.alloc())?;
+//! module.section(&memories)?;
+//! module.section(&exports)?;
+//! let expected = b"\0asm\x01\0\0\0\x05\x03\x01\x00\x01\x07\x0a\x01\x06memory\x02\x00";
+//! assert_eq!(rt; module.as_slice(), expected.as_slice());
+//! ```
+//!
+//! A padded index becomes minimal:
+//!
+//! ```
+//! # use wasm_encoder::normalise_instructions;
+//! let minimal = normalise_instructions(rt.alloc(), b"\x20\xc2\x80\x00")?; // local.get 66
+//! assert_eq!(rt; minimal.as_slice(), b"\x20\x42".as_slice());
+//! ```
+//!
+//! # Writers
+//!
+//! [`InstructionSink`] has a method for each instruction. [`Module`] takes the builders: [`TypeSection`],
+//! [`CodeSection`] with [`Function`], and one for each other section in [`sections`]. [`Encode`] writes single values.
+//! After an error nothing has changed.
+//!
+//! # Readers
+//!
+//! A reader returns the decoded value, or the offset up to which the input decodes. `read_…` accepts every encoding,
+//! `read_…_strict` only minimal encodings, and `check_…` does the same without making the value. [`Readable`] reads
+//! types of your own.
+//!
+//! # Normalisers
+//!
+//! `normalise_…` writes the minimal encoding of its input into new memory, and `rewrite_…` into the memory of its
+//! input. Both fail if the input is malformed.
+//!
+//! # The guarantee
+//!
+//! Contracts state it for all inputs, and the proof checks it. Bytes decode to at most one value. A reader returns that
+//! value unless memory runs out, and refuses exactly malformed bytes. What a writer appends encodes the value, and
+//! every other encoding of it is longer. Nothing checks that a module is valid.
+//!
+//! The repository's `README.md` says how to depend on this crate, `docs/FORMAT.md` gives the binary format, and
+//! `docs/PROMISES.md` lists what is proved of each call.
 #![tactic(auto)]
 
 pub mod code;

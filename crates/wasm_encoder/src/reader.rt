@@ -1,10 +1,10 @@
-//! Readers and normalisers: any encoding in, the list that it encodes or its shortest encoding out.
-//! `normalise_…` writes the shortest encoding into memory of its own, `rewrite_…` into the memory of its input.
+//! Readers, checks and normalisers.
 //!
-//! A reader takes all of its input: bytes that are left over are refused like any others that encode nothing. A strict
-//! one takes shortest encodings alone, and so does a check, `check_…`, which makes no list.
+//! `read_…` decodes any encoding, `read_…_strict` only a minimal encoding, and `check_…` does the same without making
+//! the value. `normalise_…` writes the minimal encoding into new memory, `rewrite_…` into the memory of its input. All
+//! of them treat trailing bytes as malformed.
 //!
-//! A type of a caller's own is read where it is `Readable`: then `read_list_to_end` reads a list of it.
+//! Implement [`Readable`] for a type of your own to read lists of it with [`read_list_to_end`].
 
 pub use wasm_codec::reader::ReadError;
 pub use wasm_codec::reader::cursor::{Cursor, Fault};

@@ -1,8 +1,9 @@
-//! Sections other than those of types and code: what they hold, their builders, and what reads and normalises their bodies
-//! (Core 3.0, Modules).
+//! Sections other than those of types and code: the types of their items, builders, readers and normalisers (Core 3.0,
+//! Modules).
 //!
-//! A builder of a list is a `ListSection` of its items: `ExportSection` of `Export`s, and so on. All of them have `new`, `len`,
-//! `push`, `entries` and `try_clone`, and each has a method that is named after what it adds.
+//! A builder of a list is a [`ListSection`] of its items: `ExportSection` is `ListSection<Export>`, and so on. Each has
+//! `new`, `len`, `is_empty`, `push`, `entries` and `try_clone`, and a method named after what it adds, such as
+//! `export`.
 ghost use Rattle.std.specs.Prelude.{◌≡◌};
 ghost use Rattle.wasm_writers.specs.EncodedLists.{Entries};
 

@@ -16,18 +16,29 @@ use wasm_modules::section::{HEADER, RawSection, TYPE_SECTION_ID};
 use wasm_writers::encode::{Encode, EncodeError};
 use wasm_writers::sections::append_section;
 
-/// A section of a module: an id, and bytes that are the section's size and its body.
+/// A section of a module: an id, and an encoding that is the size of a body in bytes and the body.
 ///
-/// Callers implement it for their own sections. Any id may be given, and a module takes any bytes.
+/// Implement it for sections of your own. Nothing checks the id or the bytes.
+///
+/// # Examples
+///
+/// ```
+/// # use wasm_encoder::{RawSection, Section};
+/// let mut bytes = Vec::new(rt.alloc());
+/// RawSection { id: 0, body: b"\x04test\x2a" }.append_to(&mut bytes)?;
+/// assert_eq!(rt; bytes.as_slice(), b"\x00\x06\x04test\x2a".as_slice());
+/// ```
 pub trait Section: Encode {
     /// The id of the section.
     ghost id: { Self → ℕ };
 
-    /// The id of the section.
+    /// Returns the id of the section.
     fn id(&self) -> u8
         ensures { result ≡ id self.now };
 
-    /// Appends the id and the bytes of the section to `dst`, or leaves `dst` as it was.
+    /// Appends the id and the encoding of the section to `dst`. On error `dst` is unchanged.
+    ///
+    /// Fails with `Memory` if `dst` can't grow, and with the errors of the section's `encode`.
     fn append_to<A: Allocator>(&self, dst: &mut Vec<u8, A>) -> Result<(), EncodeError>
         ensures ok { OnOk result (dst.new.items ≡ dst.old.items ++ id self.now ∷ Self.bytes self.now) }
         ensures can { OnOk result (Self.CanEncode self.now) }
@@ -47,36 +58,36 @@ impl<'a> Section for RawSection<'a> {
     }
 }
 
-/// The ids of the sections that the standard and this project's proposals know.
+/// The id of one of the standard's sections (Core 3.0, Sections).
 #[derive(Clone, Copy, Debug, PartialEq, Eq, PartialOrd, Ord)]
 pub enum SectionId {
-    /// Custom sections.
+    /// A custom section, 0.
     Custom,
-    /// Types.
+    /// The type section, 1.
     Types,
-    /// Imports.
+    /// The import section, 2.
     Import,
-    /// Functions.
+    /// The function section, 3.
     Function,
-    /// Tables.
+    /// The table section, 4.
     Table,
-    /// Memories.
+    /// The memory section, 5.
     Memory,
-    /// Globals.
+    /// The global section, 6.
     Global,
-    /// Exports.
+    /// The export section, 7.
     Export,
-    /// The start function.
+    /// The start section, 8.
     Start,
-    /// Element segments.
+    /// The element section, 9.
     Element,
-    /// Code.
+    /// The code section, 10.
     Code,
-    /// Data segments.
+    /// The data section, 11.
     Data,
-    /// The number of data segments.
+    /// The data count section, 12.
     DataCount,
-    /// Tags.
+    /// The tag section, 13.
     Tag,
 }
 
@@ -114,9 +125,25 @@ impl Encode for SectionId {
     }
 }
 
-/// A module as bytes: a header, and then each section's id and its bytes (Core 3.0, Modules).
+/// A module: a header, and then the id and the encoding of each section (Core 3.0, Modules).
 ///
-/// In contracts it is its bytes.
+/// Nothing checks the order of sections. In contracts the module is its bytes.
+///
+/// # Examples
+///
+/// ```
+/// # use wasm_encoder::{ConstExpr, ExportKind, ExportSection, GlobalSection, GlobalType, Module, ValType};
+/// let ty = GlobalType { val_type: ValType::I32, mutable: false, shared: false };
+/// let mut globals = GlobalSection::new(rt.alloc());
+/// globals.global(ty, ConstExpr::i32_const(rt.alloc(), 42)?)?;
+/// let mut exports = ExportSection::new(rt.alloc());
+/// exports.export("answer", ExportKind::Global, 0)?;
+/// let mut module = Module::new(rt.alloc())?;
+/// module.section(&globals)?;
+/// module.section(&exports)?;
+/// let expected = b"\0asm\x01\0\0\0\x06\x06\x01\x7f\x00\x41\x2a\x0b\x07\x0a\x01\x06answer\x03\x00";
+/// assert_eq!(rt; module.as_slice(), expected.as_slice());
+/// ```
 #[derive(Debug, Drop)]
 pub struct Module {
     bytes: Vec<u8>,
@@ -134,11 +161,11 @@ impl Module {
     /// The bytes that every module begins with: the magic number and the version.
     pub const HEADER: [u8; 8] = HEADER;
 
-    /// A module without sections.
+    /// Returns a module without sections. Fails with `Memory` if it can't allocate.
     #[tactic(auto, using(crate::proofs::WholeModuleLaws::no_sections))]
     pub fn new(alloc: Global) -> Result<Module, EncodeError>
         ensures ok { IfOk result (λ m. m ≡ header) }
-        // It is the shortest encoding of no sections.
+        // The header is the minimal encoding of a module without sections.
         ensures whole { IfOk result (λ m. ShortestWholeModule m []) }
         ensures err { IfErr result (λ e. e ≡ Memory) }
     {
@@ -146,31 +173,32 @@ impl Module {
         Ok(Module { bytes })
     }
 
-    /// Appends the id of a section and its bytes, or leaves the module as it was.
+    /// Appends the id and the encoding of a section. On error the module is unchanged.
     ///
-    /// The section's own `append_to` is never called.
+    /// Fails with `Memory` if the module can't grow, and with the errors of the section's `encode`. It calls the
+    /// section's `id` and `encode`, never its `append_to`.
     #[tactic(auto, using(wasm_modules::proofs::ModuleLaws::goes_on, wasm_modules::proofs::ModuleLaws::raw_shortest, crate::proofs::RawModuleLaws::first_section, crate::proofs::WholeModuleLaws::section_added))]
     pub fn section<S: Section>(&mut self, section: &S) -> Result<(), EncodeError>
         ensures ok { OnOk result (self.new ≡ self.old ++ S.id section.now ∷ S.bytes section.now) }
         ensures can { OnOk result (S.CanEncode section.now) }
-        // Of a builder: that its body encodes the entries that it stands for, and that with the id it is the section of a
-        // module that holds them, in its shortest encoding.
+        // For a builder: the body encodes the entries, and with the id it is the minimal encoding of a section that
+        // holds them.
         ensures written { OnOk result (S.IsWritten section.now) }
         ensures refused { IfErr result (IsRefusal S.CanEncode S.refuses section.now) }
         ensures err { OnErr result (self.new ≡ self.old) }
-        // Where the section's bytes are a body after its size, the module goes on with that section.
+        // If the section's encoding is a body after its size, that section is appended to the module's sections.
         ensures goes_on { (sections : List SectionParts) (body : List ℕ) → self.old ≡ raw_module.bytes sections →
             S.bytes section.now ≡ byte_list_bytes body →
             OnOk result (self.new ≡ raw_module.bytes (sections ++ section_of (S.id section.now, body) ∷ [])) }
-        // A new module is then one of that section alone.
+        // Appended to a new module, it is the only section.
         ensures first { (body : List ℕ) → self.old ≡ header → S.bytes section.now ≡ byte_list_bytes body →
             OnOk result (self.new ≡ raw_module.bytes (section_of (S.id section.now, body) ∷ [])) }
-        // Where the module is the shortest encoding of sections, each with what it holds, and the id and bytes of the new section
-        // are that of a section, the module goes on with it.
+        // If the module is the minimal encoding of decoded sections, and the new section is that of `added`, the module
+        // is the minimal encoding of these sections and `added`.
         ensures whole { (sections : List ModuleSectionParts) (added : ModuleSectionParts) →
             ShortestWholeModule self.old sections → IsSectionAfter (S.id section.now) (S.bytes section.now) added →
             OnOk result (ShortestWholeModule self.new (sections ++ added ∷ [])) }
-        // What is written of sections encodes them, and every other encoding of them is longer.
+        // The bytes of sections encode them, and every other encoding of them is longer.
         ensures encodes { (sections : List SectionParts) → AllByRecursion raw_section.InRange sections →
             raw_module.Encodes (raw_module.bytes sections) sections }
         ensures shortest { (sections : List SectionParts) (bytes : List ℕ) → raw_module.Encodes bytes sections →
@@ -179,21 +207,21 @@ impl Module {
         append_section(section.id(), section, &mut self.bytes)
     }
 
-    /// The bytes of the module.
+    /// Returns the bytes of the module.
     pub fn as_slice(&self) -> &[u8]
         ensures value { result.now ≡ self.now }
     {
         self.bytes.as_slice()
     }
 
-    /// How many bytes the module has.
+    /// Returns the length of the module in bytes.
     pub fn len(&self) -> usize
         ensures { result ≡ length self.now }
     {
         self.bytes.len()
     }
 
-    /// The bytes of the module, as the list that they are kept in.
+    /// Returns the list that holds the bytes of the module.
     pub fn finish(self) -> Vec<u8>
         ensures { result.items ≡ self }
     {
@@ -201,7 +229,7 @@ impl Module {
         bytes
     }
 
-    /// An equal module.
+    /// Copies the module. Fails with `Memory` if it can't allocate.
     pub fn try_clone(&self) -> Result<Module, EncodeError>
         ensures ok { IfOk result (λ m. m ≡ self.now) }
         ensures err { IfErr result (λ e. e ≡ Memory) }

@@ -1,4 +1,4 @@
--- Operands of calls: of which kind they are, and the ranges of their numbers (WebAssembly Core 3.0, Instructions).
+-- Operands of calls: their kind, and the ranges of their numbers (WebAssembly Core 3.0, Instructions).
 use Rattle.std.specs.Prelude.{◌≡◌, ℕ, ◌^◌, ◌<◌, length, get_or, Some}
 use Rattle.std.specs.List.{AllByRecursion}
 use Rattle.wasm_instructions.specs.declared.table.opcode.Prefix.TheVariants as prefixes
@@ -14,7 +14,7 @@ use Rattle.wasm_instructions.specs.formats.Opcodes.{opcode_kind}
 
 -- ---- opcodes
 
--- it is written in three bytes at the most, and where it has no prefix byte, it isn't one itself
+-- The opcode has at most three bytes, and an opcode of one byte is below 0xFB.
 abbrev pub IsShort : Opcode → Type 0
 IsShort op = elim op.prefix [
   | prefixes.None ↦ op.number < 0xfb
@@ -26,6 +26,7 @@ IsShort op = elim op.prefix [
 
 -- ---- operands
 
+-- The kind of the operands.
 abbrev pub kind_of : Operands → Kind
 kind_of operands.None = kinds.None
 kind_of (operands.Block ty) = kinds.Block
@@ -51,13 +52,13 @@ kind_of (operands.Order ordering) = kinds.Order
 kind_of (operands.OrderIndex ordering index) = kinds.OrderIndex
 kind_of (operands.OrderTwoIndexes ordering first second) = kinds.OrderTwoIndexes
 
--- alignments are below 64
+-- Each alignment is below 64.
 abbrev pub IsAligned : Operands → Type 0
 IsAligned (operands.Mem arg) = arg.align < 64
 IsAligned (operands.MemLane arg lane) = arg.align < 64
 IsAligned o = Unit {0}
 
--- the counts of lists are in the range of a u32
+-- A u32 counts the items of the list in the operands, if there is one.
 abbrev pub IsCounted : Operands → Type 0
 IsCounted (operands.BrTable labels default) = length labels < 2 ^ 32
 IsCounted (operands.Types types) = length types < 2 ^ 32
@@ -66,11 +67,11 @@ IsCounted (operands.Resume index handlers) = length handlers < 2 ^ 32
 IsCounted (operands.ResumeThrow index tag handlers) = length handlers < 2 ^ 32
 IsCounted o = Unit {0}
 
--- alignments and the counts of lists have encodings
+-- Each alignment is below 64, and a u32 counts the items of the list.
 abbrev pub HasEncoding : Operands → Type 0
 HasEncoding o = IsAligned o × IsCounted o
 
--- none of the operands is a list
+-- None of the operands is a list.
 abbrev pub HasNoList : Operands → Type 0
 HasNoList (operands.BrTable labels default) = ⊥
 HasNoList (operands.Types types) = ⊥
@@ -79,7 +80,7 @@ HasNoList (operands.Resume index handlers) = ⊥
 HasNoList (operands.ResumeThrow index tag handlers) = ⊥
 HasNoList o = Unit {0}
 
--- the numbers that stand in no list are in the ranges of their widths, and alignments are below 64
+-- Each number outside lists is in the range of its width, and each alignment is below 64.
 abbrev pub NumbersInRange : Operands → Type 0
 NumbersInRange operands.None = Unit {0}
 NumbersInRange (operands.Block ty) = BlockTypeFits ty
@@ -105,7 +106,7 @@ NumbersInRange (operands.Order ordering) = Unit {0}
 NumbersInRange (operands.OrderIndex ordering index) = index < 2 ^ 32
 NumbersInRange (operands.OrderTwoIndexes ordering first second) = (first < 2 ^ 32) × (second < 2 ^ 32)
 
--- the numbers in lists are in the ranges of their widths
+-- Each number in the list is in the range of its width.
 abbrev pub ItemsInRange : Operands → Type 0
 ItemsInRange (operands.BrTable labels default) = AllByRecursion (λ label. label < 2 ^ 32) labels
 ItemsInRange (operands.Types types) = AllByRecursion ValTypeFits types
@@ -116,6 +117,6 @@ ItemsInRange o = Unit {0}
 
 -- ---- instructions
 
--- the opcode is in the table, and the operands are of its kind
+-- The opcode is in the table, and the operands are of its kind.
 abbrev pub IsCall : Opcode → Operands → Type 0
 IsCall op operands = opcode_kind op ≡ Some (kind_of operands)

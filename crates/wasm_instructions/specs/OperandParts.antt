@@ -1,4 +1,4 @@
--- What opcodes and operands are taken apart into, where they are written.
+-- The parts that opcodes and operands are written from.
 use Rattle.std.specs.Prelude.{ℕ, ℤ, ◌+◌, ◌-◌, ◌%◌, ◌/◌, ◌^◌, ◌<◌, Bool, true, false, not, ◌&&◌, ◌==◌, nat_lt, if◌then◌else◌, List, [], ◌∷◌, ◌++◌, Option, Some, None, pos, negsuc}
 use Rattle.wasm_types.specs.declared.types.heap.HeapType.{HeapType}
 use Rattle.wasm_types.specs.declared.types.value.ValType.{ValType}
@@ -16,7 +16,7 @@ use Rattle.wasm_instructions.specs.declared.table.call.Operands.{Operands}
 use Rattle.wasm_instructions.specs.declared.table.call.Operands.TheVariants as operands
 use Rattle.wasm_codec.specs.Leb128.{unsigned_leb128}
 
--- ---- the number of an opcode, where it has this prefix byte, or none
+-- ---- the number of an opcode with this prefix byte, or without one
 
 abbrev pub fb_part : Opcode → Option ℕ
 fb_part op = elim op.prefix [ prefixes.Fb ↦ Some op.number | _ ↦ None ]
@@ -133,6 +133,7 @@ abbrev pub result_part : BlockType → Option ValType
 result_part (blocks.Result ty) = Some ty
 result_part ty = None
 
+-- The byte of a catch clause.
 abbrev pub catch_byte : Catch → ℕ
 catch_byte (catches.One tag label) = 0x00
 catch_byte (catches.OneRef tag label) = 0x01
@@ -149,6 +150,7 @@ label_alone (catches.All label) = Some label
 label_alone (catches.AllRef label) = Some label
 label_alone c = None
 
+-- The byte of a handler.
 abbrev pub handle_byte : Handle → ℕ
 handle_byte (handles.OnLabel tag label) = 0x00
 handle_byte (handles.OnSwitch tag) = 0x01
@@ -161,27 +163,31 @@ abbrev pub on_switch_part : Handle → Option ℕ
 on_switch_part (handles.OnSwitch tag) = Some tag
 on_switch_part h = None
 
+-- All pairs of flags of a cast.
 abbrev pub all_nullables : List (Bool × Bool)
 all_nullables = (false, false) ∷ (true, false) ∷ (false, true) ∷ (true, true) ∷ []
 
--- memory 0 is written without its index
+-- The minimal encoding of a memory argument: memory 0 isn't named.
 abbrev pub mem_arg_bytes : MemArg → List ℕ
 mem_arg_bytes arg =
     if arg.memory_index == 0 then unsigned_leb128 arg.align ++ unsigned_leb128 arg.offset
     else unsigned_leb128 (arg.align + 64) ++ (unsigned_leb128 arg.memory_index ++ unsigned_leb128 arg.offset)
 
+-- The alignment is below 64, the memory index fits in a u32, and the offset in a u64.
 pub record MemArgInRange (arg : MemArg) : Type 0 where
   pub align : arg.align < 64
   pub memory_index : arg.memory_index < 2 ^ 32
   pub offset : arg.offset < 2 ^ 64
 
--- memory 0 that is named
+-- Memory 0 is named, which is a long form.
 abbrev pub is_named_first : ℕ × MemArg → Bool
 is_named_first p = not (nat_lt p.0 64) && (p.1.memory_index == 0)
 
+-- The 128 bits of the number, in two's complement.
 abbrev pub to_bits : ℤ → ℕ
 to_bits (pos n) = n
 to_bits (negsuc n) = 2 ^ 128 - 1 - n
 
+-- The low and the high 64 bits of the number.
 abbrev pub to_halves : ℤ → ℕ × ℕ
 to_halves value = (to_bits value % 2 ^ 64, to_bits value / 2 ^ 64)

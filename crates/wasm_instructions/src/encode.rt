@@ -1,4 +1,4 @@
-//! Writers of opcodes and operands into room that was reserved.
+//! Writers of opcodes and operands into reserved room.
 
 mod opcodes;
 mod operands;

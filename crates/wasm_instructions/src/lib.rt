@@ -1,5 +1,5 @@
-//! Instructions of WebAssembly (Core 3.0, Instructions): operands, the table of opcodes, calls (an opcode with operands
-//! of its kind), their writer, their reader, and the normaliser of lists of them.
+//! Instructions of WebAssembly (Core 3.0, Instructions): the table of opcodes, operands and calls; their readers and
+//! writers; and the normaliser of lists of instructions.
 #![tactic(auto)]
 
 pub mod encode;

@@ -1,5 +1,5 @@
-//! What stands after opcodes (Core 3.0, Instructions): block types, memory arguments, the clauses of `try_table`,
-//! constants, and what the proposals on stack switching and shared memory add.
+//! Operands (Core 3.0, Instructions): block types, memory arguments, the clauses of `try_table` and constants, with the
+//! operands of the proposals on stack switching and shared-everything threads.
 
 mod constants;
 mod control;

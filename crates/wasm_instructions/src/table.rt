@@ -1,4 +1,4 @@
-//! Opcodes, the kinds of their operands, and calls: an opcode with operands of its kind.
+//! Opcodes, the kinds of their operands, and calls: opcodes with operands of their kinds.
 
 mod call;
 mod opcode;

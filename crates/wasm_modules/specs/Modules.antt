@@ -5,21 +5,23 @@ use Rattle.wasm_codec.specs.formats.Combinators.{Format, asked}
 use Rattle.wasm_modules.specs.formats.Sections.{SectionParts}
 use Rattle.wasm_modules.specs.formats.Modules.{module_of, raw_section}
 
--- an id is a byte, and a body's size a u32
+-- The id is a byte, and the size of the body fits in a u32.
 pub record IsSection (s : SectionParts) : Type 0 where
   pub id : s.id < 2 ^ 8
   pub body : length s.body < 2 ^ 32
 
--- a prefix of a module that is whole: nothing, or the header and sections
+-- The prefix is empty, or it is the header and sections of this format.
 abbrev pub IsModulePrefixOf : {V : Type 0} → Format V → List ℕ → Type 0
 IsModulePrefixOf F prefix = (prefix ≡ []) ⊎ EncodesSome (module_of F).Encodes prefix
 
+-- The prefix is empty, or it is the header and sections, each with its body as bytes.
 abbrev pub IsModulePrefix : List ℕ → Type 0
 IsModulePrefix = IsModulePrefixOf raw_section
 
--- the same, where shortest encodings alone may be asked for
+-- The prefix is empty, or the header and sections; if `strict`, each size is minimally encoded.
 abbrev pub IsAskedModulePrefix : Bool → List ℕ → Type 0
 IsAskedModulePrefix strict = IsModulePrefixOf (asked strict raw_section)
 
+-- The prefix is empty, or it is the header and sections whose sizes are minimally encoded.
 abbrev pub IsShortestModulePrefix : List ℕ → Type 0
 IsShortestModulePrefix = IsAskedModulePrefix true

@@ -1,4 +1,4 @@
-//! Code bodies: the locals and the instructions of functions (Core 3.0, Code Section).
+//! Code bodies: the locals and instructions of functions (Core 3.0, Code Section).
 ghost use Rattle.std.specs.Prelude.{◌≡◌, IfOk, IfErr};
 ghost use Rattle.wasm_codec.specs.declared.encode.EncodeError.TheVariants.{Memory};
 
@@ -10,17 +10,17 @@ use wasm_codec::list::Items;
 use wasm_instructions::table::Call;
 use wasm_types::types::ValType;
 
-/// The code of a function: its locals and its instructions, the last `end` among them.
+/// A code body: the locals and instructions of a function (Core 3.0, Code Section).
 #[derive(Debug, PartialEq, Eq, Drop)]
 pub struct CodeBody {
-    /// The locals, as pairs: how many, and of which type.
+    /// Groups of locals: the number of locals in a group, and their type.
     pub locals: Items<(u32, ValType)>,
-    /// The instructions, in order. Nothing asks that they nest or that an `end` comes last.
+    /// Instructions in order, with the last `end`. Neither nesting nor that `end` is checked.
     pub calls: Items<Call>,
 }
 
 impl CodeBody {
-    /// An equal body.
+    /// Returns a copy. Fails with `Memory` if an allocation fails.
     pub fn try_clone(&self) -> Result<CodeBody, EncodeError>
         ensures ok { IfOk result (λ body. body ≡ self.now) }
         ensures err { IfErr result (λ e. e ≡ Memory) }
@@ -34,7 +34,7 @@ impl CodeBody {
     }
 }
 
-/// Copies of calls.
+/// Copies calls.
 fn copies_of(alloc: Global, calls: &[Call]) -> Result<Vec<Call>, EncodeError>
     ensures ok { IfOk result (λ copies. copies.items ≡ calls.now) }
     ensures err { IfErr result (λ e. e ≡ Memory) }

@@ -1,5 +1,5 @@
-//! Modules of WebAssembly (Core 3.0, Modules): sections with their bodies as bytes, the reader of modules, and their
-//! normaliser, which decodes the bodies of type sections and code sections.
+//! Modules of WebAssembly (Core 3.0, Modules): sections with their bodies as bytes, code bodies, and the normalisers of
+//! code sections and of modules.
 #![tactic(auto)]
 
 pub mod code;

@@ -1,5 +1,5 @@
-//! The normaliser of modules (Core 3.0, Modules): a decoded module is one whose type sections are read as entries, and
-//! whose code sections as code bodies.
+//! The normaliser of modules (Core 3.0, Modules). In a decoded module, type sections are lists of entries, code
+//! sections are lists of code bodies, and other sections are bytes.
 ghost use Rattle.std.specs.Prelude.{◌≡◌, ◌↔◌, ◌≤◌, List, length, IfOk};
 ghost use Rattle.std.specs.List.{AllByRecursion};
 ghost use Rattle.wasm_codec.specs.Answers.{NeedsNoMemory, IsOrMemory, IfRefused, IsLongestPrefix, IsNormalForm, EncodesSome};
@@ -26,68 +26,88 @@ use wasm_codec::rewriter::{
 };
 use wasm_types::types::TypeEntry;
 
-/// The normal bytes of a module: each section's size and the body of each type section and code section in the fewest
-/// bytes, and every other body as it is (Core 3.0, Modules).
+/// Returns the minimal encoding of a module, with its type and code sections decoded (Core 3.0, Modules).
 ///
-/// `Refused` carries the number of bytes of the header and of the sections that are whole before the first that isn't,
-/// or 0 where the header isn't there. A type section whose body encodes no entries isn't whole, and neither is a
-/// code section whose body encodes no code bodies.
+/// The sizes of all sections and the bodies of type and code sections become minimal. Other bodies stay as they are.
+///
+/// Fails with `Refused` if the bytes are malformed: `at` is the offset of the first malformed section, or 0 if the
+/// header is missing. A type or code section with a malformed body is malformed. Fails with `Memory` if the bytes can't
+/// be copied.
+///
+/// # Examples
+///
+/// ```
+/// # use wasm_encoder::normalise_module;
+/// let minimal = normalise_module(rt.alloc(), b"\0asm\x01\0\0\0\x03\x82\x00\x01\x00")?; // a size in two bytes
+/// assert_eq!(rt; minimal.as_slice(), b"\0asm\x01\0\0\0\x03\x02\x01\x00".as_slice());
+/// ```
 pub fn normalise_module(alloc: Global, bytes: &[u8]) -> Result<Vec<u8>, ReadError>
-    // The result is the shortest encoding of a decoded module that the bytes encode.
+    // The result is the minimal encoding of a decoded module that the bytes encode.
     ensures given { IfOk result (λ encoding.
         IsNormalForm decoded_module.Encodes decoded_module.bytes bytes.now encoding.items) }
-    // Where the bytes encode a decoded module, its shortest encoding is given, unless memory ran out.
+    // If the bytes encode a decoded module, the result is its minimal encoding, unless memory runs out.
     ensures complete { (sections : List DecodedSection) → decoded_module.Encodes bytes.now sections →
         IsOrMemory (λ encoding. encoding.items) (decoded_module.bytes sections) result }
-    // `at` is the length of the longest prefix that is whole.
+    // `at` is the length of the longest well-formed prefix.
     ensures prefix { IfRefused result (IsLongestPrefix IsDecodedModulePrefix bytes.now) }
     // The bytes encode at most one decoded module.
     ensures one { (sections others : List DecodedSection) →
         decoded_module.Encodes bytes.now sections → decoded_module.Encodes bytes.now others → sections ≡ others }
-    // The result encodes a decoded module exactly if the bytes do.
+    // The result encodes a decoded module if and only if the bytes do.
     ensures same { IfOk result (λ encoding. (sections : List DecodedSection) →
         decoded_module.Encodes encoding.items sections ↔ decoded_module.Encodes bytes.now sections) }
-    // The result is normal: it is the shortest encoding of what it encodes.
+    // The result is the minimal encoding of the decoded module that it encodes.
     ensures normal { IfOk result (λ encoding. (sections : List DecodedSection) →
         decoded_module.Encodes encoding.items sections → encoding.items ≡ decoded_module.bytes sections) }
-    // A shortest encoding stays as it is, unless memory ran out.
+    // A minimal encoding is returned unchanged, unless memory runs out.
     ensures stays { (sections : List DecodedSection) → (narrow decoded_module).Encodes bytes.now sections →
         IsOrMemory (λ encoding. encoding.items) bytes.now result }
-    // What stays as it is, is a shortest encoding.
+    // If the result equals the bytes, they are a minimal encoding.
     ensures was_shortest { IfOk result (λ encoding.
         encoding.items ≡ bytes.now → EncodesSome (narrow decoded_module).Encodes bytes.now) }
-    // Every other encoding of a decoded module is longer than its shortest.
+    // Every other encoding of a decoded module is longer than its minimal encoding.
     ensures shortest { (sections : List DecodedSection) → decoded_module.Encodes bytes.now sections →
         IsShortestOrLonger bytes.now (decoded_module.bytes sections) }
     // The result is no longer than the bytes.
     ensures no_longer { IfOk result (λ encoding. length encoding.items ≤ length bytes.now) }
-    // The shortest encoding of decoded sections in range encodes them.
+    // The minimal encoding of decoded sections in range encodes them.
     ensures encodes { (sections : List DecodedSection) → AllByRecursion IsDecodedSection sections →
         bytes.now ≡ decoded_module.bytes sections → decoded_module.Encodes bytes.now sections }
 {
     normalise_module_of::<Section>(alloc, bytes)
 }
 
-/// The same, rewritten in place in the list itself, which is given back. It needs no further memory.
+/// Replaces a module by its minimal encoding in place, with its type and code sections decoded (Core 3.0, Modules).
+///
+/// It does what `normalise_module` does, without allocating: it never fails with `Memory`.
+///
+/// # Examples
+///
+/// ```
+/// # use wasm_encoder::rewrite_module;
+/// let long_form = b"\0asm\x01\0\0\0\x01\x06\x01\x4f\x00\x60\x00\x00"; // (sub final (func))
+/// let minimal = rewrite_module(Vec::from_slice(rt.alloc(), long_form)?)?;
+/// assert_eq!(rt; minimal.as_slice(), b"\0asm\x01\0\0\0\x01\x04\x01\x60\x00\x00".as_slice());
+/// ```
 pub fn rewrite_module(bytes: Vec<u8>) -> Result<Vec<u8>, ReadError>
-    // The result is the shortest encoding of a decoded module that the bytes encode.
+    // The result is the minimal encoding of a decoded module that the bytes encode.
     ensures given { IfOk result (λ encoding.
         IsNormalForm decoded_module.Encodes decoded_module.bytes bytes.items encoding.items) }
-    // Where the bytes encode a decoded module, its shortest encoding is given.
+    // If the bytes encode a decoded module, the result is its minimal encoding.
     ensures complete { (sections : List DecodedSection) → decoded_module.Encodes bytes.items sections →
         IsOrMemory (λ encoding. encoding.items) (decoded_module.bytes sections) result }
-    // `at` is the length of the longest prefix that is whole.
+    // `at` is the length of the longest well-formed prefix.
     ensures prefix { IfRefused result (IsLongestPrefix IsDecodedModulePrefix bytes.items) }
-    // Only what encodes no decoded module is refused.
+    // Refused bytes encode no decoded module.
     ensures unencoded { IfRefused result (λ _.
         (sections : List DecodedSection) → decoded_module.Encodes bytes.items sections → ⊥) }
-    // `Memory` is never answered.
+    // It never fails with `Memory`.
     ensures memory { NeedsNoMemory result }
 {
     rewrite_module_of::<Section>(bytes)
 }
 
-/// A section with what it holds.
+/// A section with decoded content.
 struct Section;
 
 impl Rewritable for Section {
@@ -104,7 +124,7 @@ impl Rewritable for Section {
     }
 }
 
-/// A section with what it holds.
+/// Rewrites a section and its content.
 #[tactic(auto, using(std::proofs::Common::append_assoc), unfolding(crate::specs::formats::Modules::decoded_section))]
 fn rewrite_section(rewriter: &mut Rewriter) -> Result<(), Fault>
     ensures rewrites { Rewrites decoded_section rewriter.old rewriter.new result }
@@ -126,7 +146,7 @@ impl Joinable for Section {
     }
 }
 
-/// What a type section holds.
+/// The body of a type section.
 struct TypeEntries;
 
 impl RewritableBody for TypeEntries {
@@ -143,7 +163,7 @@ impl RewritableBody for TypeEntries {
     }
 }
 
-/// What a code section holds.
+/// The body of a code section.
 struct CodeBodies;
 
 impl RewritableBody for CodeBodies {
@@ -160,7 +180,7 @@ impl RewritableBody for CodeBodies {
     }
 }
 
-/// What any other section holds.
+/// The body of any other section.
 struct RawContent;
 
 impl RewritableBody for RawContent {

@@ -1,4 +1,4 @@
-//! The header and the sections of a module, read (Core 3.0, Modules).
+//! Readers of the header and of sections of a module (Core 3.0, Modules).
 ghost use Rattle.std.specs.Prelude.{◌≡◌, ◌++◌, List, ℕ, drop, IfErr, IfSome, IfNone};
 ghost use Rattle.wasm_codec.specs.Reading.{map_ok};
 ghost use Rattle.wasm_codec.specs.Places.{Reads};
@@ -10,7 +10,7 @@ ghost use Rattle.wasm_codec.specs.declared.reader.cursor.Fault.TheVariants.{Malf
 use crate::section::{HEADER, RawSection};
 use wasm_codec::reader::cursor::{Cursor, Fault};
 
-/// The bytes after the header, if it is there.
+/// Returns the bytes after the header, or `None` if the header is missing.
 pub fn after_header(bytes: &[u8]) -> Option<&[u8]>
     ensures found { IfSome result (λ rest. bytes.now ≡ header ++ rest.now) }
     ensures rest { IfSome result (λ rest. rest.now ≡ drop 8 bytes.now) }
@@ -19,7 +19,7 @@ pub fn after_header(bytes: &[u8]) -> Option<&[u8]>
     bytes.strip_prefix(&HEADER)
 }
 
-/// Bytes after their number.
+/// Reads a size, and as many bytes.
 fn read_byte_list<'a>(cursor: &mut Cursor<'a>) -> Result<&'a [u8], Fault>
     ensures reads { Reads byte_list.at cursor.old cursor.new (map_ok (λ body. body.now) result) }
     ensures err { IfErr result (λ e. e ≡ Malformed) }
@@ -28,7 +28,7 @@ fn read_byte_list<'a>(cursor: &mut Cursor<'a>) -> Result<&'a [u8], Fault>
     cursor.take(size)
 }
 
-/// A section.
+/// Reads a section, with its body as bytes (Core 3.0, Sections).
 #[tactic(auto, unfolding(crate::specs::formats::Modules::raw_section))]
 pub fn read_section<'a>(cursor: &mut Cursor<'a>) -> Result<RawSection<'a>, Fault>
     ensures reads { Reads raw_section.at cursor.old cursor.new (map_ok parts_of result) }

@@ -1,7 +1,7 @@
-//! Checks: whether bytes are the shortest encoding of what they encode.
+//! Checks that bytes are minimally encoded.
 //!
-//! A check takes and refuses what the strict reader of the same name does, and makes no value: it goes over a copy of the
-//! bytes, whatever they encode.
+//! A check accepts what the corresponding strict reader accepts, but returns no values. It works on a copy of the
+//! bytes.
 ghost use Rattle.std.specs.Prelude.{◌≡◌, ◌<◌, length, is_some, List, ℕ, true, IfOk};
 ghost use Rattle.wasm_codec.specs.Answers.{IfRefused, IsLongestPrefix, EncodesSome};
 ghost use Rattle.wasm_codec.specs.formats.Grammar.{Joined};
@@ -33,77 +33,111 @@ use wasm_modules::reader::after_header;
 use wasm_modules::section::HEADER;
 use wasm_types::types::TypeEntry;
 
-/// Whether the body of a type section is the shortest encoding of a list of entries (Core 3.0, Type Section).
+/// Checks that a type section body is minimally encoded (Core 3.0, Type Section).
 ///
-/// `Refused` carries the number of bytes of the count and of the entries that are whole and in their shortest
-/// encodings, before the first that isn't, or before what is left over; it is 0 where the count isn't in the fewest
-/// bytes.
+/// Fails with `Refused` if it isn't: `at` is the offset of the first entry that is malformed, missing or not minimal,
+/// or of trailing bytes. It is 0 if the count is malformed or not minimal. Fails with `Memory` if an allocation fails.
+///
+/// # Examples
+///
+/// ```
+/// # use wasm_encoder::{ReadError, check_type_section};
+/// check_type_section(rt.alloc(), b"\x01\x60\x00\x00")?; // (func)
+/// let padded = check_type_section(rt.alloc(), b"\x81\x00\x60\x00\x00"); // a count in two bytes
+/// assert_eq!(rt; padded.err(), Some(ReadError::Refused { at: 0 }));
+/// ```
 pub fn check_type_section(alloc: Global, body: &[u8]) -> Result<(), ReadError>
-    // What is taken is the shortest encoding of a list.
+    // An accepted body is the minimal encoding of a list.
     ensures given { IfOk result (λ _. EncodesSome ShortestTypeBody body.now) }
-    // `at` is the length of the longest prefix that is whole and in shortest encodings.
+    // `at` is the length of the longest well-formed, minimally encoded prefix.
     ensures prefix { IfRefused result (IsLongestPrefix IsShortestTypeBodyPrefix body.now) }
-    // Only what isn't the shortest encoding of a list is refused.
+    // A refused body isn't the minimal encoding of any list.
     ensures unencoded { IfRefused result (λ _.
         (entries : List TypeEntry) → ShortestTypeBody body.now entries → ⊥) }
 {
     check_list::<TypeEntry>(alloc, body)
 }
 
-/// Whether the body of a code section is the shortest encoding of a list of code bodies (Core 3.0, Code Section).
+/// Checks that a code section body is minimally encoded (Core 3.0, Code Section).
 ///
-/// `Refused` carries the number of bytes of the count and of the code bodies that are whole and in their shortest
-/// encodings, before the first that isn't, or before what is left over; it is 0 where the count isn't in the fewest
-/// bytes.
+/// Fails with `Refused` if it isn't: `at` is the offset of the first code body that is malformed, missing or not
+/// minimal, or of trailing bytes. It is 0 if the count is malformed or not minimal. Fails with `Memory` if an
+/// allocation fails.
+///
+/// # Examples
+///
+/// ```
+/// # use wasm_encoder::{ReadError, check_code_section};
+/// check_code_section(rt.alloc(), b"\x01\x02\x00\x0b")?; // no locals; end
+/// let padded = check_code_section(rt.alloc(), b"\x01\x82\x00\x00\x0b"); // a size in two bytes
+/// assert_eq!(rt; padded.err(), Some(ReadError::Refused { at: 1 }));
+/// ```
 pub fn check_code_section(alloc: Global, body: &[u8]) -> Result<(), ReadError>
-    // What is taken is the shortest encoding of a list.
+    // An accepted body is the minimal encoding of a list.
     ensures given { IfOk result (λ _. EncodesSome ShortestCodeSectionBody body.now) }
-    // `at` is the length of the longest prefix that is whole and in shortest encodings.
+    // `at` is the length of the longest well-formed, minimally encoded prefix.
     ensures prefix { IfRefused result (IsLongestPrefix IsShortestCodeSectionBodyPrefix body.now) }
-    // Only what isn't the shortest encoding of a list is refused.
+    // A refused body isn't the minimal encoding of any list.
     ensures unencoded { IfRefused result (λ _.
         (bodies : List CodeBody) → ShortestCodeSectionBody body.now bodies → ⊥) }
 {
     check_list::<CodeBody>(alloc, body)
 }
 
-/// Whether the bytes are the shortest encoding of a list of instructions (Core 3.0, Instructions).
+/// Checks that a list of instructions is minimally encoded (Core 3.0, Instructions).
 ///
-/// `Refused` carries the number of bytes of the instructions that are whole and in their shortest encodings, before the
-/// first that isn't.
+/// Fails with `Refused` if it isn't: `at` is the offset of the first instruction that is malformed or not minimal.
+/// Fails with `Memory` if an allocation fails.
+///
+/// # Examples
+///
+/// ```
+/// # use wasm_encoder::{ReadError, check_instructions};
+/// check_instructions(rt.alloc(), b"\x01\x20\x42")?; // nop; local.get 66
+/// let padded = check_instructions(rt.alloc(), b"\x01\x20\xc2\x80\x00");
+/// assert_eq!(rt; padded.err(), Some(ReadError::Refused { at: 1 }));
+/// ```
 pub fn check_instructions(alloc: Global, bytes: &[u8]) -> Result<(), ReadError>
-    // What is taken is the shortest encoding of a list.
+    // Accepted bytes are the minimal encoding of a list.
     ensures given { IfOk result (λ _. EncodesSome ShortestInstructions bytes.now) }
-    // `at` is the length of the longest prefix that is the shortest encoding of a list.
+    // `at` is the length of the longest prefix that is the minimal encoding of a list.
     ensures prefix { IfRefused result (IsLongestPrefix (EncodesSome ShortestInstructions) bytes.now) }
-    // Only what isn't the shortest encoding of a list is refused.
+    // Refused bytes aren't the minimal encoding of any list.
     ensures unencoded { IfRefused result (λ _.
         (calls : List Instruction) → ShortestInstructions bytes.now calls → ⊥) }
 {
     check_joined::<Call>(alloc, bytes)
 }
 
-/// Whether the bytes are the shortest encoding of a module, each section's size being in the fewest bytes (Core 3.0,
-/// Modules).
+/// Checks that the section sizes of a module are minimally encoded (Core 3.0, Modules).
 ///
-/// No body is looked into. `Refused` carries the number of bytes of the header and of the sections that are whole, with
-/// their sizes in the fewest bytes, before the first that isn't, or 0 where the header isn't there.
+/// Section bodies aren't decoded. Fails with `Refused` if a section is malformed or its size isn't minimal: `at` is the
+/// offset of the first such section. It is 0 if the header is missing. Fails with `Memory` if an allocation fails.
+///
+/// # Examples
+///
+/// ```
+/// # use wasm_encoder::{ReadError, check_module};
+/// check_module(rt.alloc(), b"\0asm\x01\0\0\0\x03\x02\x01\x00")?;
+/// let padded = check_module(rt.alloc(), b"\0asm\x01\0\0\0\x03\x82\x00\x01\x00"); // a size in two bytes
+/// assert_eq!(rt; padded.err(), Some(ReadError::Refused { at: 8 }));
+/// ```
 pub fn check_module(alloc: Global, bytes: &[u8]) -> Result<(), ReadError>
-    // What is taken is the shortest encoding of a list of sections.
+    // Accepted bytes are the minimal encoding of a list of sections.
     ensures given { IfOk result (λ _. EncodesSome ShortestModule bytes.now) }
-    // `at` is the length of the longest prefix that is whole and in shortest encodings.
+    // `at` is the length of the longest well-formed, minimally encoded prefix.
     ensures prefix { IfRefused result (IsLongestPrefix IsShortestModulePrefix bytes.now) }
-    // Only what isn't the shortest encoding of a list of sections is refused.
+    // Refused bytes aren't the minimal encoding of any list of sections.
     ensures unencoded { IfRefused result (λ _.
         (sections : List SectionParts) → ShortestModule bytes.now sections → ⊥) }
 {
     check_module_of::<Section>(alloc, bytes)
 }
 
-/// Whether the bytes are the shortest encoding of a module, whatever of each section is decoded.
+/// Checks that a module with sections of type `T` is minimally encoded.
 ///
-/// `Refused` carries the number of bytes of the header and of the sections that are whole and in their shortest encodings,
-/// before the first that isn't, or 0 where the header isn't there.
+/// Fails with `Refused` at the offset of the first section that is malformed or not minimal, or at 0 if the header is
+/// missing. Fails with `Memory` if an allocation fails.
 pub fn check_module_of<T: Joinable>(alloc: Global, bytes: &[u8]) -> Result<(), ReadError>
     ensures given { IfOk result (λ _. EncodesSome (module_of (narrow T.format)).Encodes bytes.now) }
     ensures prefix { IfRefused result (IsLongestPrefix (IsModulePrefixOf (narrow T.format)) bytes.now) }
@@ -122,7 +156,7 @@ pub fn check_module_of<T: Joinable>(alloc: Global, bytes: &[u8]) -> Result<(), R
     }
 }
 
-/// Whether the bytes are a count and as many items with nothing left over, all in their shortest encodings.
+/// Checks that the bytes are a count and as many items, minimally encoded, without trailing bytes.
 fn check_list<T: Rewritable>(alloc: Global, bytes: &[u8]) -> Result<(), ReadError>
     ensures given { IfOk result (λ _. EncodesSome (AskedList true T.format) bytes.now) }
     ensures prefix { IfRefused result (IsLongestPrefix (IsAskedPrefix true T.format) bytes.now) }
@@ -135,7 +169,7 @@ fn check_list<T: Rewritable>(alloc: Global, bytes: &[u8]) -> Result<(), ReadErro
     Ok(())
 }
 
-/// Whether the bytes begin with a u32 in its shortest encoding.
+/// Checks whether the bytes begin with a minimally encoded u32.
 fn begins_with_count(bytes: &[u8]) -> bool
     ensures { result ≡ is_some ((narrow u32_format).at (place true bytes.now)) }
 {
@@ -146,7 +180,7 @@ fn begins_with_count(bytes: &[u8]) -> bool
     }
 }
 
-/// Whether the bytes are items one after another, with no count, all in their shortest encodings.
+/// Checks that the bytes are items one after another, without a count, minimally encoded.
 fn check_joined<T: Joinable>(alloc: Global, bytes: &[u8]) -> Result<(), ReadError>
     ensures given { IfOk result (λ _. EncodesSome (Joined (narrow T.format).Encodes) bytes.now) }
     ensures prefix { IfRefused result (IsLongestPrefix (EncodesSome (Joined (narrow T.format).Encodes)) bytes.now) }
@@ -156,7 +190,7 @@ fn check_joined<T: Joinable>(alloc: Global, bytes: &[u8]) -> Result<(), ReadErro
     Ok(())
 }
 
-/// An item that is rewritten only where it is in its shortest encoding, and so stays as it is.
+/// An item that is refused unless it is minimally encoded, so that rewriting keeps it.
 struct Shortest<T> {
     item: PhantomData<T>,
 }
@@ -219,7 +253,7 @@ impl Joinable for Section {
     }
 }
 
-/// The body of a section, as it is.
+/// The body of a section, as bytes.
 struct Bytes;
 
 impl RewritableBody for Bytes {

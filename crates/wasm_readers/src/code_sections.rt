@@ -1,4 +1,4 @@
-//! The reader of bodies of code sections (Core 3.0, Code Section).
+//! Readers of code section bodies (Core 3.0, Code Section).
 ghost use Rattle.std.specs.Prelude.{◌≡◌, ◌↔◌, List, IfOk, refl};
 ghost use Rattle.wasm_codec.specs.Places.{Reads};
 ghost use Rattle.wasm_codec.specs.Lawful.{IsPrefixFree};
@@ -18,24 +18,34 @@ use wasm_modules::code::CodeBody;
 use wasm_modules::code::normaliser::read_local_group;
 use wasm_types::types::ValType;
 
-/// The code bodies that the body of a code section encodes, in any encoding (Core 3.0, Code Section).
+/// Reads a code section body, in any encoding (Core 3.0, Code Section).
 ///
-/// A code body ends by its size; nothing asks that its instructions nest, or that an `end` comes last. `Refused`
-/// carries the number of bytes of the count and of the code bodies that are whole before the first that isn't, or
-/// before what is left over.
+/// A code body ends by its size: neither nesting nor a final `end` is checked. Fails with `Refused` if the section body
+/// is malformed: `at` is the offset of the first malformed or missing code body, or of trailing bytes. It is 0 if the
+/// count is malformed. Fails with `Memory` if an allocation fails.
+///
+/// # Examples
+///
+/// ```
+/// # use wasm_encoder::{ValType, read_code_section};
+/// let bodies = read_code_section(rt.alloc(), b"\x01\x06\x01\x02\x7f\x20\x00\x0b")?;
+/// assert_eq!(rt; bodies.len(), 1);
+/// assert_eq!(rt; bodies[0].locals.as_slice(), [(2, ValType::I32)].as_slice());
+/// assert_eq!(rt; bodies[0].calls.len(), 2); // local.get 0; end
+/// ```
 #[tactic(auto, unfolding(wasm_modules::specs::formats::CodeBodies::code_section_body))]
 pub fn read_code_section(alloc: Global, body: &[u8]) -> Result<Vec<CodeBody>, ReadError>
-    // What is given, the body encodes.
+    // The body encodes the returned list.
     ensures given { IfOk result (λ bodies. code_section_body.Encodes body.now bodies.items) }
-    // What the body encodes is given, unless memory ran out.
+    // If the body encodes a list, that list is returned, unless memory runs out.
     ensures complete { (bodies : List CodeBody) → code_section_body.Encodes body.now bodies →
         IsOrMemory (λ given. given.items) bodies result }
-    // `at` is the length of the longest prefix that is whole.
+    // `at` is the length of the longest well-formed prefix.
     ensures prefix { IfRefused result (IsLongestPrefix IsCodeSectionBodyPrefix body.now) }
     // The body encodes at most one list.
     ensures one { (bodies others : List CodeBody) →
         code_section_body.Encodes body.now bodies → code_section_body.Encodes body.now others → bodies ≡ others }
-    // Every other encoding of a list is longer than the one that is written.
+    // Every other encoding of a list is longer than its minimal encoding.
     ensures shortest { (bodies : List CodeBody) → code_section_body.Encodes body.now bodies →
         IsShortestOrLonger body.now (code_section_body.bytes bodies) }
     // No encoding of a code body is a proper prefix of another.
@@ -44,24 +54,34 @@ pub fn read_code_section(alloc: Global, body: &[u8]) -> Result<Vec<CodeBody>, Re
     read_list_to_end(alloc, body)
 }
 
-/// The code bodies that the body of a code section encodes, if the body is the shortest encoding (Core 3.0, Code
-/// Section).
+/// Reads a minimally encoded code section body (Core 3.0, Code Section).
 ///
-/// `Refused` carries the number of bytes of the count and of the code bodies that are whole and in their shortest
-/// encodings, before the first that isn't, or before what is left over; it is 0 where the count isn't in the fewest
-/// bytes.
+/// Fails with `Refused` if the section body is malformed or not minimally encoded: `at` is the offset of the first code
+/// body that is malformed, missing or not minimal, or of trailing bytes. It is 0 if the count is malformed or not
+/// minimal. Fails with `Memory` if an allocation fails.
+///
+/// # Examples
+///
+/// ```
+/// # use wasm_encoder::{ReadError, read_code_section_strict};
+/// let bodies = read_code_section_strict(rt.alloc(), b"\x01\x02\x00\x0b")?; // no locals; end
+/// assert_eq!(rt; bodies.len(), 1);
+/// let padded = read_code_section_strict(rt.alloc(), b"\x01\x82\x00\x00\x0b"); // a size in two bytes
+/// assert_eq!(rt; padded.err(), Some(ReadError::Refused { at: 1 }));
+/// ```
 pub fn read_code_section_strict(alloc: Global, body: &[u8]) -> Result<Vec<CodeBody>, ReadError>
-    // What is given, the body is the shortest encoding of.
+    // The body is the minimal encoding of the returned list.
     ensures given { IfOk result (λ bodies. ShortestCodeSectionBody body.now bodies.items) }
-    // What the body is the shortest encoding of is given, unless memory ran out.
+    // If the body is the minimal encoding of a list, that list is returned, unless memory runs out.
     ensures complete { (bodies : List CodeBody) → ShortestCodeSectionBody body.now bodies →
         IsOrMemory (λ given. given.items) bodies result }
-    // `at` is the length of the longest prefix that is whole and in shortest encodings.
+    // `at` is the length of the longest well-formed, minimally encoded prefix.
     ensures prefix { IfRefused result (IsLongestPrefix IsShortestCodeSectionBodyPrefix body.now) }
-    // The body is the shortest encoding of at most one list.
+    // The body is the minimal encoding of at most one list.
     ensures one { (bodies others : List CodeBody) →
         ShortestCodeSectionBody body.now bodies → ShortestCodeSectionBody body.now others → bodies ≡ others }
-    // That is so where it encodes the list, as `read_code_section` tells, and is as `normalise_code_section` leaves it.
+    // The body is the minimal encoding of a list if and only if it encodes the list, as `read_code_section` says, and
+    // `normalise_code_section` leaves it unchanged.
     ensures shortest { (bodies : List CodeBody) → ShortestCodeSectionBody body.now bodies ↔
         (code_section_body.Encodes body.now bodies × (body.now ≡ code_section_body.bytes bodies)) }
 {
@@ -84,7 +104,7 @@ impl<'a> Readable<'a> for CodeBody {
     }
 }
 
-/// A code body: its size, and in a body of that size the locals and then instructions to the end.
+/// Reads a code body: its size, its locals, and instructions up to its end.
 fn read_code_body(alloc: Global, cursor: &mut Cursor<'_>) -> Result<CodeBody, Fault>
     ensures reads { Reads code_body.at cursor.old cursor.new result }
 {
@@ -95,7 +115,7 @@ fn read_code_body(alloc: Global, cursor: &mut Cursor<'_>) -> Result<CodeBody, Fa
     Ok(CodeBody { locals, calls })
 }
 
-/// The locals: a count, and then as many groups. A pair isn't a type of this crate, so it can't be `Readable` here.
+/// Reads the locals: a count, and as many groups. A pair can't be `Readable` here, since its type isn't of this crate.
 fn read_locals(alloc: Global, cursor: &mut Cursor<'_>) -> Result<Items<(u32, ValType)>, Fault>
     ensures reads { Reads (items local_group).at cursor.old cursor.new result }
 {

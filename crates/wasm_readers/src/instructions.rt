@@ -1,4 +1,4 @@
-//! Lists of instructions (Core 3.0, Instructions).
+//! Readers of lists of instructions (Core 3.0, Instructions).
 ghost use Rattle.std.specs.Prelude.{◌≡◌, ◌↔◌, List, IfOk, refl};
 ghost use Rattle.wasm_codec.specs.Places.{Reads};
 ghost use Rattle.wasm_codec.specs.Lawful.{IsPrefixFree};
@@ -19,13 +19,26 @@ use wasm_codec::reader::cursor::{Cursor, Fault};
 use wasm_instructions::reader::read_opcode;
 use wasm_instructions::table::Call;
 
-/// The instructions that the bytes encode, each in any of its encodings (Core 3.0, Instructions).
+/// Reads a list of instructions, in any encoding (Core 3.0, Instructions).
 ///
-/// `Refused` carries the number of bytes of the instructions that are whole before the first that isn't.
+/// Neither nesting nor a final `end` is checked. Fails with `Refused` if the bytes are malformed: `at` is the offset of
+/// the first malformed instruction. Fails with `Memory` if an allocation fails.
+///
+/// # Examples
+///
+/// ```
+/// # use wasm_encoder::{Opcode, Operands, ReadError, read_instructions};
+/// let calls = read_instructions(rt.alloc(), b"\x20\xc2\x80\x00\x0b")?; // local.get 66, padded; end
+/// assert_eq!(rt; calls.len(), 2);
+/// assert_eq!(rt; calls[0].op(), Opcode::without_prefix(0x20));
+/// assert_eq!(rt; calls[0].operands(), &Operands::Index(66));
+/// let malformed = read_instructions(rt.alloc(), b"\x0b\xff"); // end; no opcode
+/// assert_eq!(rt; malformed.err(), Some(ReadError::Refused { at: 1 }));
+/// ```
 pub fn read_instructions(alloc: Global, bytes: &[u8]) -> Result<Vec<Call>, ReadError>
-    // What is given, the bytes encode.
+    // The bytes encode the returned list.
     ensures given { IfOk result (λ calls. Instructions bytes.now calls.items) }
-    // What the bytes encode is given, unless memory ran out.
+    // If the bytes encode a list, that list is returned, unless memory runs out.
     ensures complete { (calls : List Instruction) → Instructions bytes.now calls →
         IsOrMemory (λ given. given.items) calls result }
     // `at` is the length of the longest prefix that encodes a list.
@@ -33,7 +46,7 @@ pub fn read_instructions(alloc: Global, bytes: &[u8]) -> Result<Vec<Call>, ReadE
     // The bytes encode at most one list.
     ensures one { (calls others : List Instruction) →
         Instructions bytes.now calls → Instructions bytes.now others → calls ≡ others }
-    // No encoding of any of these is a proper prefix of another of its kind.
+    // In each of these formats, no encoding is a proper prefix of another.
     ensures prefix_free_u32 { IsPrefixFree u32_format.Encodes }
     ensures prefix_free_u64 { IsPrefixFree u64_format.Encodes }
     ensures prefix_free_s32 { IsPrefixFree s32.Encodes }
@@ -49,34 +62,44 @@ pub fn read_instructions(alloc: Global, bytes: &[u8]) -> Result<Vec<Call>, ReadE
     read_joined(alloc, bytes)
 }
 
-/// The instructions that the bytes encode, if the bytes are their shortest encoding (Core 3.0, Instructions).
+/// Reads a minimally encoded list of instructions (Core 3.0, Instructions).
 ///
-/// `Refused` carries the number of bytes of the instructions that are whole and in their shortest encodings, before the
-/// first that isn't.
+/// Fails with `Refused` if the bytes are malformed or not minimally encoded: `at` is the offset of the first
+/// instruction that is malformed or not minimal. Fails with `Memory` if an allocation fails.
+///
+/// # Examples
+///
+/// ```
+/// # use wasm_encoder::{ReadError, read_instructions_strict};
+/// let calls = read_instructions_strict(rt.alloc(), b"\x01\x20\x42")?; // nop; local.get 66
+/// assert_eq!(rt; calls.len(), 2);
+/// let padded = read_instructions_strict(rt.alloc(), b"\x01\x20\xc2\x80\x00");
+/// assert_eq!(rt; padded.err(), Some(ReadError::Refused { at: 1 }));
+/// ```
 pub fn read_instructions_strict(alloc: Global, bytes: &[u8]) -> Result<Vec<Call>, ReadError>
-    // What is given, the bytes are the shortest encoding of.
+    // The bytes are the minimal encoding of the returned list.
     ensures given { IfOk result (λ calls. ShortestInstructions bytes.now calls.items) }
-    // What the bytes are the shortest encoding of is given, unless memory ran out.
+    // If the bytes are the minimal encoding of a list, that list is returned, unless memory runs out.
     ensures complete { (calls : List Instruction) → ShortestInstructions bytes.now calls →
         IsOrMemory (λ given. given.items) calls result }
-    // `at` is the length of the longest prefix that is the shortest encoding of a list.
+    // `at` is the length of the longest prefix that is the minimal encoding of a list.
     ensures prefix { IfRefused result (IsLongestPrefix (EncodesSome ShortestInstructions) bytes.now) }
-    // The bytes are the shortest encoding of at most one list.
+    // The bytes are the minimal encoding of at most one list.
     ensures one { (calls others : List Instruction) →
         ShortestInstructions bytes.now calls → ShortestInstructions bytes.now others → calls ≡ others }
-    // They are where they encode the list, as `read_instructions` tells, and are as `normalise_instructions` leaves
-    // them.
+    // The bytes are the minimal encoding of a list if and only if they encode the list, as `read_instructions` says,
+    // and `normalise_instructions` leaves them unchanged.
     ensures shortest { (calls : List Instruction) → ShortestInstructions bytes.now calls ↔
         (Instructions bytes.now calls × (bytes.now ≡ instructions_bytes calls)) }
 {
     read_joined_as::<Call, true>(alloc, bytes)
 }
 
-/// An instruction.
+/// Reads an instruction (Core 3.0, Instructions).
 #[tactic(auto, unfolding(wasm_instructions::specs::formats::Instructions::instruction))]
 pub fn read_call(alloc: Global, cursor: &mut Cursor<'_>) -> Result<Call, Fault>
     ensures reads { Reads instruction.at cursor.old cursor.new result }
-    // A u32 counts the items of its lists.
+    // A u32 can count the items of its lists.
     ensures counted { IfOk result (λ call. IsCounted call.operands) }
 {
     let op = read_opcode(cursor)?;

@@ -1,7 +1,6 @@
-//! Readers that give values: types, instructions, code bodies, and the sections of a module (Core 3.0, Binary Format).
+//! Readers of types, instructions, code bodies and the sections of a module (Core 3.0, Binary Format).
 //!
-//! A reader takes all of its input: bytes that are left over are refused like any others that encode nothing. A strict
-//! one takes shortest encodings alone.
+//! A reader decodes all of its input: trailing bytes are malformed. A strict reader accepts minimal encodings only.
 #![tactic(auto)]
 
 pub mod checks;

@@ -1,6 +1,6 @@
-//! Lists: a count and then the items, or the items alone to the end of the bytes (Core 3.0, Lists).
+//! Readers of lists: a count and then the items, or items up to the end of the bytes (Core 3.0, Lists).
 //!
-//! Each loop stands once: by `STRICT` it takes shortest encodings alone, and stops where a longer one comes.
+//! If `STRICT` is set, a loop accepts minimal encodings only, and stops at the first other one.
 ghost use Rattle.std.specs.Prelude.{◌≡◌, ◌^◌, ◌<◌, List, [], length, IfOk, IfErr};
 ghost use Rattle.wasm_codec.specs.declared.reader.cursor.Fault.TheVariants.{Malformed};
 ghost use Rattle.wasm_codec.specs.formats.Grammar.{IsBytes, TakesBytes, Joined};
@@ -18,26 +18,26 @@ use wasm_codec::list::Items;
 use wasm_codec::reader::ReadError;
 use wasm_codec::reader::cursor::{Cursor, Fault};
 
-/// A list: a count, and then the items.
+/// Reads a list: a count, and then the items (Core 3.0, Lists).
 ///
-/// If the count or an item is missing or malformed, the cursor stays at the start of that part.
+/// If the count or an item is missing or malformed, the cursor stays at its start.
 pub fn read_list<'a, T: Readable<'a>>(
     alloc: Global,
     cursor: &mut Cursor<'a>,
 ) -> Result<Items<T>, Fault>
     ensures reads { Reads (items T.format).at cursor.old cursor.new (map_ok T.views result) }
     ensures left { ReadsPlain (list_at (plain T.format.at)) cursor.old.left cursor.new.left (map_ok T.views result) }
-    // What is read there is what is encoded there.
+    // A list is read if and only if the bytes left begin with its encoding.
     ensures finds { UnlessMemory result (FindsAt (EncodesList T.format.Encodes) (list_at (plain T.format.at)) cursor.old.left) }
-    // The cursor is left after the longest prefix that is whole.
+    // The cursor stays after the longest well-formed prefix.
     ensures prefix { UnlessMemory result (IsAfterLongest (IsListPrefix T.format.Encodes) cursor.old.left cursor.new.left) }
-    // The number of items is a count.
+    // A u32 can count the items.
     ensures counted { IfOk result (λ items. length items < 2 ^ 32) }
 {
     read_list_as::<T, false>(alloc, cursor)
 }
 
-/// The same, in its shortest encoding alone if it is `STRICT`.
+/// Reads a list, minimally encoded if `STRICT` is set.
 fn read_list_as<'a, T: Readable<'a>, const STRICT: bool>(
     alloc: Global,
     cursor: &mut Cursor<'a>,
@@ -58,7 +58,7 @@ fn read_list_as<'a, T: Readable<'a>, const STRICT: bool>(
     Ok(Items::from(items))
 }
 
-/// The next item. Where there is none the cursor stays where it is.
+/// Reads the next item, minimally encoded if `STRICT` is set. If it fails, the cursor stays where it was.
 fn read_or_stay<'a, T: Readable<'a>, const STRICT: bool>(
     alloc: Global,
     cursor: &mut Cursor<'a>,
@@ -82,7 +82,7 @@ fn read_or_stay<'a, T: Readable<'a>, const STRICT: bool>(
     }
 }
 
-/// The next item, in its shortest encoding alone if it is `STRICT`.
+/// Reads the next item, minimally encoded if `STRICT` is set.
 fn read_asked<'a, T: Readable<'a>, const STRICT: bool>(
     alloc: Global,
     cursor: &mut Cursor<'a>,
@@ -100,10 +100,20 @@ fn read_asked<'a, T: Readable<'a>, const STRICT: bool>(
     Ok(item)
 }
 
-/// The items of the list that the bytes encode, with nothing left over.
+/// Reads a list from all of the bytes: a count, and then the items (Core 3.0, Lists).
 ///
-/// `Refused` carries the number of bytes of the count and of the items that are whole before the first that isn't, or
-/// before what is left over.
+/// Fails with `Refused` if the bytes are malformed: `at` is the offset of the first malformed or missing item, or of
+/// trailing bytes. It is 0 if the count is malformed. Fails with `Memory` if an allocation fails.
+///
+/// # Examples
+///
+/// ```
+/// # use wasm_encoder::{ReadError, read_list_to_end};
+/// let indexes: Vec<u32> = read_list_to_end(rt.alloc(), b"\x02\x07\x80\x01")?;
+/// assert_eq!(rt; indexes.as_slice(), [7, 128].as_slice());
+/// let trailing = read_list_to_end::<u32>(rt.alloc(), b"\x01\x07\x00");
+/// assert_eq!(rt; trailing.err(), Some(ReadError::Refused { at: 2 }));
+/// ```
 pub fn read_list_to_end<'a, T: Readable<'a>>(
     alloc: Global,
     bytes: &'a [u8],
@@ -116,7 +126,7 @@ pub fn read_list_to_end<'a, T: Readable<'a>>(
     read_list_to_end_as::<T, false>(alloc, bytes)
 }
 
-/// The same, where the count and each item have to be in their shortest encoding if it is `STRICT`.
+/// Reads a list from all of the bytes, minimally encoded if `STRICT` is set.
 pub fn read_list_to_end_as<'a, T: Readable<'a>, const STRICT: bool>(
     alloc: Global,
     bytes: &'a [u8],
@@ -143,9 +153,9 @@ pub fn read_list_to_end_as<'a, T: Readable<'a>, const STRICT: bool>(
     }
 }
 
-/// The items that the bytes encode one after another, with no count, read to the end.
+/// Reads items one after another, without a count, from all of the bytes.
 ///
-/// `Refused` carries the number of bytes of the items that are whole before the first that isn't.
+/// Fails with `Refused` at the offset of the first malformed item, and with `Memory` if an allocation fails.
 pub fn read_joined<'a, T: Readable<'a>>(alloc: Global, bytes: &'a [u8]) -> Result<Vec<T>, ReadError>
     ensures given { IfOk result (λ items. Joined T.format.Encodes bytes.now (T.views items.items)) }
     ensures prefix { IfRefused result (IsLongestPrefix (EncodesSome (Joined T.format.Encodes)) bytes.now) }
@@ -154,7 +164,7 @@ pub fn read_joined<'a, T: Readable<'a>>(alloc: Global, bytes: &'a [u8]) -> Resul
     read_joined_as::<T, false>(alloc, bytes)
 }
 
-/// The same, where each item has to be in its shortest encoding if it is `STRICT`.
+/// Reads items one after another from all of the bytes, minimally encoded if `STRICT` is set.
 pub fn read_joined_as<'a, T: Readable<'a>, const STRICT: bool>(
     alloc: Global,
     bytes: &'a [u8],
@@ -174,9 +184,9 @@ pub fn read_joined_as<'a, T: Readable<'a>, const STRICT: bool>(
     }
 }
 
-/// Items one after another, with no count, as long as there are bytes.
+/// Reads items one after another, without a count, up to the end of the cursor's bytes.
 ///
-/// If an item is missing or malformed, the cursor stays at its start.
+/// If an item is malformed, the cursor stays at its start.
 pub fn read_to_end<'a, T: Readable<'a>>(
     alloc: Global,
     cursor: &mut Cursor<'a>,
@@ -184,14 +194,14 @@ pub fn read_to_end<'a, T: Readable<'a>>(
     ensures reads { Reads (to_end T.format).at cursor.old cursor.new (map_ok T.views result) }
     ensures given { IfOk result (λ items. Joined T.format.Encodes cursor.old.left (T.views items)) }
     ensures ended { IfOk result (λ _. cursor.new.left ≡ []) }
-    // The cursor is left after the longest prefix that is whole.
+    // The cursor stays after the longest well-formed prefix.
     ensures prefix { UnlessMemory result (IsAfterLongest (EncodesSome (Joined T.format.Encodes)) cursor.old.left cursor.new.left) }
     ensures stopped { IfErr result (λ fault. fault ≡ Malformed → 0 < length cursor.new.left) }
 {
     read_to_end_as::<T, false>(alloc, cursor)
 }
 
-/// The same, where each item has to be in its shortest encoding if it is `STRICT`.
+/// Reads items up to the end of the cursor's bytes, minimally encoded if `STRICT` is set.
 fn read_to_end_as<'a, T: Readable<'a>, const STRICT: bool>(
     alloc: Global,
     cursor: &mut Cursor<'a>,

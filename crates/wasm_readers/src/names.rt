@@ -1,4 +1,4 @@
-//! The names of instructions in the text format (Core 3.0, Text Format, Instructions).
+//! Names of instructions (Core 3.0, Text Format, Instructions).
 ghost use Rattle.std.specs.Prelude.{◌≡◌, is_some};
 ghost use Rattle.wasm_instructions.specs.formats.Opcodes.{opcode_kind};
 
@@ -7,10 +7,20 @@ mod places;
 use places::{AFTER_FB, AFTER_FC, AFTER_FD, AFTER_FE, WITHOUT_PREFIX};
 use wasm_instructions::table::{Opcode, Prefix};
 
-/// The name of the opcode's instruction in the text format, such as `local.get`, or `None` where it is no opcode of the
-/// table. Both opcodes of `select` have that name.
+/// Returns the name of an instruction in the text format, such as `local.get` (Core 3.0, Text Format, Instructions).
+///
+/// Returns `None` if the opcode isn't in the table. Both opcodes of `select` have the name `select`.
+///
+/// # Examples
+///
+/// ```
+/// # use wasm_encoder::{Opcode, opcode_name};
+/// assert_eq!(rt; opcode_name(Opcode::without_prefix(0x20)), Some("local.get"));
+/// assert_eq!(rt; opcode_name(Opcode::after_fd(12)), Some("v128.const"));
+/// assert_eq!(rt; opcode_name(Opcode::without_prefix(0xff)), None);
+/// ```
 pub fn opcode_name(opcode: Opcode) -> Option<&'static str>
-    // Every opcode of the table has a name, and no other.
+    // The opcodes of the table have names, and no others.
     ensures { is_some result ≡ is_some (opcode_kind opcode) }
 {
     opcode.kind()?;

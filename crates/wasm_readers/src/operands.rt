@@ -1,4 +1,4 @@
-//! What stands after opcodes, read as operands (Core 3.0, Instructions).
+//! Readers of operands (Core 3.0, Instructions).
 ghost use Rattle.std.specs.Prelude.{◌≡◌, ◌<◌, IfOk, refl};
 ghost use Rattle.wasm_codec.specs.Places.{Reads};
 ghost use Rattle.wasm_instructions.specs.formats.Operands.{catch_clause, handle_clause};
@@ -21,7 +21,7 @@ use wasm_instructions::table::{Kind, Operands};
 use wasm_types::reader::read_heap_type;
 use wasm_types::types::RefType;
 
-/// Operands of a kind.
+/// Reads operands of a kind.
 #[tactic(auto, unfolding(wasm_instructions::specs::formats::Instructions::operands_format))]
 pub fn read_operands(alloc: Global, cursor: &mut Cursor<'_>, kind: Kind) -> Result<Operands, Fault>
     ensures reads { Reads (operands_format kind).at cursor.old cursor.new result }
@@ -56,7 +56,7 @@ pub fn read_operands(alloc: Global, cursor: &mut Cursor<'_>, kind: Kind) -> Resu
     }
 }
 
-/// Two indexes.
+/// Reads two indexes.
 #[tactic(auto, unfolding(wasm_instructions::specs::formats::Instructions::operands_format))]
 fn read_two_indexes(cursor: &mut Cursor<'_>) -> Result<Operands, Fault>
     ensures reads { Reads (operands_format kinds.TwoIndexes).at cursor.old cursor.new result }
@@ -69,7 +69,7 @@ fn read_two_indexes(cursor: &mut Cursor<'_>) -> Result<Operands, Fault>
     Ok(Operands::TwoIndexes(first, second))
 }
 
-/// Labels, and the label of all other numbers.
+/// Reads the labels and the default label of a `br_table`.
 #[tactic(auto, unfolding(wasm_instructions::specs::formats::Instructions::operands_format))]
 fn read_br_table(alloc: Global, cursor: &mut Cursor<'_>) -> Result<Operands, Fault>
     ensures reads { Reads (operands_format kinds.BrTable).at cursor.old cursor.new result }
@@ -82,7 +82,7 @@ fn read_br_table(alloc: Global, cursor: &mut Cursor<'_>) -> Result<Operands, Fau
     Ok(Operands::BrTable(labels, default))
 }
 
-/// A block type and clauses that catch exceptions.
+/// Reads the block type and the clauses of a `try_table`.
 #[tactic(auto, unfolding(wasm_instructions::specs::formats::Instructions::operands_format))]
 fn read_try_table(alloc: Global, cursor: &mut Cursor<'_>) -> Result<Operands, Fault>
     ensures reads { Reads (operands_format kinds.TryTable).at cursor.old cursor.new result }
@@ -95,7 +95,7 @@ fn read_try_table(alloc: Global, cursor: &mut Cursor<'_>) -> Result<Operands, Fa
     Ok(Operands::TryTable(ty, clauses))
 }
 
-/// An index and handlers.
+/// Reads an index and the clauses of a `resume`.
 #[tactic(auto, unfolding(wasm_instructions::specs::formats::Instructions::operands_format))]
 fn read_resume(alloc: Global, cursor: &mut Cursor<'_>) -> Result<Operands, Fault>
     ensures reads { Reads (operands_format kinds.Resume).at cursor.old cursor.new result }
@@ -108,7 +108,7 @@ fn read_resume(alloc: Global, cursor: &mut Cursor<'_>) -> Result<Operands, Fault
     Ok(Operands::Resume(index, handlers))
 }
 
-/// Two indexes and handlers.
+/// Reads two indexes and the clauses of a `resume_throw`.
 #[tactic(auto, unfolding(wasm_instructions::specs::formats::Instructions::operands_format))]
 fn read_resume_throw(alloc: Global, cursor: &mut Cursor<'_>) -> Result<Operands, Fault>
     ensures reads { Reads (operands_format kinds.ResumeThrow).at cursor.old cursor.new result }
@@ -122,7 +122,7 @@ fn read_resume_throw(alloc: Global, cursor: &mut Cursor<'_>) -> Result<Operands,
     Ok(Operands::ResumeThrow(index, tag, handlers))
 }
 
-/// A memory argument and a lane.
+/// Reads a memory argument and a lane index.
 #[tactic(auto, unfolding(wasm_instructions::specs::formats::Instructions::operands_format))]
 fn read_mem_lane(cursor: &mut Cursor<'_>) -> Result<Operands, Fault>
     ensures reads { Reads (operands_format kinds.MemLane).at cursor.old cursor.new result }
@@ -135,7 +135,7 @@ fn read_mem_lane(cursor: &mut Cursor<'_>) -> Result<Operands, Fault>
     Ok(Operands::MemLane(arg, lane))
 }
 
-/// An ordering and an index.
+/// Reads an ordering and an index.
 #[tactic(auto, unfolding(wasm_instructions::specs::formats::Instructions::operands_format))]
 fn read_order_index(cursor: &mut Cursor<'_>) -> Result<Operands, Fault>
     ensures reads { Reads (operands_format kinds.OrderIndex).at cursor.old cursor.new result }
@@ -148,7 +148,7 @@ fn read_order_index(cursor: &mut Cursor<'_>) -> Result<Operands, Fault>
     Ok(Operands::OrderIndex(ordering, index))
 }
 
-/// An ordering and two indexes.
+/// Reads an ordering and two indexes.
 #[tactic(auto, unfolding(wasm_instructions::specs::formats::Instructions::operands_format))]
 fn read_order_two_indexes(cursor: &mut Cursor<'_>) -> Result<Operands, Fault>
     ensures reads { Reads (operands_format kinds.OrderTwoIndexes).at cursor.old cursor.new result }
@@ -162,7 +162,7 @@ fn read_order_two_indexes(cursor: &mut Cursor<'_>) -> Result<Operands, Fault>
     Ok(Operands::OrderTwoIndexes(ordering, first, second))
 }
 
-/// A branch on a cast: flags, a label and two heap types.
+/// Reads the operands of a branch on a cast: flags, a label and two heap types.
 #[tactic(auto, unfolding(wasm_instructions::specs::formats::Instructions::operands_format))]
 fn read_cast(cursor: &mut Cursor<'_>) -> Result<Operands, Fault>
     ensures reads { Reads (operands_format kinds.Cast).at cursor.old cursor.new result }

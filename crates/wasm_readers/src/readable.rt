@@ -1,4 +1,4 @@
-//! What can be read as an item of a list.
+//! `Readable`, the items that lists are read of.
 ghost use Rattle.wasm_codec.specs.declared.reader.cursor.Fault.TheVariants.{Malformed};
 ghost use Rattle.std.specs.Prelude.{◌≡◌, IfErr, ℕ, List, refl};
 ghost use Rattle.wasm_codec.specs.formats.Grammar.{TakesBytes};
@@ -10,29 +10,41 @@ ghost use Rattle.wasm_codec.specs.formats.Combinators.{Format, u32 as u32_format
 use std::alloc::Global;
 use wasm_codec::reader::cursor::{Cursor, Fault};
 
-/// What can be read as an item of a list.
+/// A type that can be read as an item of a list.
+///
+/// Implement it for your own type to read lists of it by `read_list_to_end`.
+///
+/// # Examples
+///
+/// ```
+/// # use wasm_encoder::{Cursor, Fault, RefType, Readable, ValType};
+/// let mut cursor = Cursor::new(b"\x70\x7f\x00");
+/// assert_eq!(rt; ValType::read(rt.alloc(), &mut cursor), Ok(ValType::FUNCREF));
+/// assert_eq!(rt; ValType::read(rt.alloc(), &mut cursor), Ok(ValType::I32));
+/// assert_eq!(rt; ValType::read(rt.alloc(), &mut cursor), Err(Fault::Malformed));
+/// ```
 pub trait Readable<'a>: Drop {
-    /// What an item stands for: itself, unless it borrows from the bytes.
+    /// The decoded item, in contracts: the item itself, unless it borrows from the bytes.
     ghost Value: { Type 0 };
 
-    /// What this item stands for.
+    /// The decoded form of an item.
     ghost view: { Self → Value };
 
-    /// What these items stand for.
+    /// The decoded forms of a list of items.
     ghost views: { List Self → List Value };
 
-    /// Items stand for what each of them stands for.
+    /// A proof that `views` agrees with `view` on each item.
     ghost views_each: { ViewsEach view views };
 
-    /// Which bytes encode which item.
+    /// The bytes that encode each item.
     ghost format: { Format Value };
 
-    /// The item that comes next.
+    /// Reads the next item. Fails with `Malformed` if none can be decoded, and with `Memory` if an allocation fails.
     fn read(alloc: Global, cursor: &mut Cursor<'a>) -> Result<Self, Fault>
         ensures reads { Reads format.at cursor.old cursor.new (map_ok view result) }
-        // What is read is what is encoded, and the shortest encoding is known.
+        // The item read is the one encoded, and its minimal encoding is known.
         ensures lawful { IsLawful format }
-        // No item is encoded by no bytes.
+        // Each encoding of an item has at least one byte.
         ensures some { TakesBytes format.Encodes };
 }
 

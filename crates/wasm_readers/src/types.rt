@@ -1,5 +1,5 @@
-//! Fields, composite types, subtypes and entries of a type section (Core 3.0, Composite Types, Recursive Types and Type
-//! Section).
+//! Readers of composite types, subtypes and entries of a type section (Core 3.0, Composite Types, Recursive Types and
+//! Type Section).
 ghost use Rattle.std.specs.Prelude.{◌≡◌, IfErr, refl};
 ghost use Rattle.wasm_codec.specs.formats.Grammar.{TakesBytes};
 ghost use Rattle.wasm_codec.specs.Reading.{map_ok};
@@ -67,7 +67,7 @@ impl<'a> Readable<'a> for FieldType {
     }
 }
 
-/// What a composite type is made of.
+/// Reads a function, structure, array or continuation type.
 #[tactic(auto, unfolding(wasm_types::specs::formats::Types::inner_type, wasm_types::specs::formats::Types::result_type))]
 fn read_inner_type(alloc: Global, cursor: &mut Cursor<'_>) -> Result<CompositeInnerType, Fault>
     ensures reads { Reads inner_type.at cursor.old cursor.new result }
@@ -88,7 +88,7 @@ fn read_inner_type(alloc: Global, cursor: &mut Cursor<'_>) -> Result<CompositeIn
     }
 }
 
-/// A descriptor, if there is one, and what the type is made of.
+/// Reads an optional descriptor and the type after it.
 fn read_described_type(
     alloc: Global,
     cursor: &mut Cursor<'_>,
@@ -105,7 +105,7 @@ fn read_described_type(
     Ok((None, inner))
 }
 
-/// The type that is described, if there is one, and the rest of a composite type.
+/// Reads an optional described type, and then the rest of a composite type.
 fn read_describing_type(
     alloc: Global,
     cursor: &mut Cursor<'_>,
@@ -122,7 +122,7 @@ fn read_describing_type(
     Ok((None, rest))
 }
 
-/// A composite type.
+/// Reads a composite type.
 #[tactic(auto, unfolding(wasm_types::specs::formats::Types::composite_type))]
 fn read_composite_type(alloc: Global, cursor: &mut Cursor<'_>) -> Result<CompositeType, Fault>
     ensures reads { Reads composite_type.at cursor.old cursor.new result }
@@ -140,7 +140,7 @@ fn read_composite_type(alloc: Global, cursor: &mut Cursor<'_>) -> Result<Composi
     })
 }
 
-/// Supertypes and a composite type.
+/// Reads supertypes and a composite type.
 fn read_with_supertypes(
     alloc: Global,
     cursor: &mut Cursor<'_>,
@@ -157,7 +157,7 @@ fn read_with_supertypes(
     })
 }
 
-/// A subtype.
+/// Reads a subtype.
 #[tactic(auto, unfolding(wasm_types::specs::formats::Types::sub_type))]
 fn read_sub_type(alloc: Global, cursor: &mut Cursor<'_>) -> Result<SubType, Fault>
     ensures reads { Reads sub_type.at cursor.old cursor.new result }
@@ -183,7 +183,7 @@ fn read_sub_type(alloc: Global, cursor: &mut Cursor<'_>) -> Result<SubType, Faul
     })
 }
 
-/// An entry of a type section.
+/// Reads an entry of a type section (Core 3.0, Type Section).
 #[tactic(auto, unfolding(wasm_types::specs::formats::Types::recursive_type))]
 pub fn read_entry(alloc: Global, cursor: &mut Cursor<'_>) -> Result<TypeEntry, Fault>
     ensures reads { Reads recursive_type.at cursor.old cursor.new result }

@@ -1,4 +1,5 @@
--- What can be written of expressions and of what holds them, and which of it is closed (WebAssembly Core 3.0, Expressions).
+-- Expressions and the entries that hold them: those that can be written, and those whose blocks are closed (WebAssembly
+-- Core 3.0, Expressions).
 use Rattle.std.specs.Prelude.{List, length, IfSome}
 use Rattle.std.specs.List.{All, AllByRecursion}
 use Rattle.wasm_codec.specs.Encoding.{IsCount, IsShortest}
@@ -17,61 +18,72 @@ use Rattle.wasm_sections.specs.declared.tables.Table.{Table}
 use Rattle.wasm_sections.specs.formats.Parts.{AreEnded}
 use Rattle.wasm_sections.specs.formats.Expressions.{nested, end_call, expr}
 
--- each block is closed, and no instruction closes more
+-- The instructions close each block that they open, and no more.
 abbrev pub IsClosed : List Instruction → Type 0
 IsClosed calls = AreEnded (λ depth i. nested depth i.op) end_call 0 calls
 
--- a u32 counts the items of each list in the instructions
+-- A u32 counts the items of each list in the instructions.
 abbrev pub IsCountedExpr : List Instruction → Type 0
 IsCountedExpr calls = AllByRecursion CountedCall calls
 
+-- The global's expression closes its blocks.
 abbrev pub IsClosedGlobal : Global → Type 0
 IsClosedGlobal g = IsClosed g.init
 
+-- A u32 counts the items of each list in the global's expression.
 abbrev pub IsCountedGlobal : Global → Type 0
 IsCountedGlobal g = IsCountedExpr g.init
 
+-- The table's expression, if there is one, closes its blocks.
 abbrev pub IsClosedTable : Table → Type 0
 IsClosedTable t = IfSome t.init IsClosed
 
+-- A u32 counts the items of each list in the table's expression.
 abbrev pub IsCountedTable : Table → Type 0
 IsCountedTable t = IfSome t.init IsCountedExpr
 
+-- The offset of the data segment, if it is active, closes its blocks.
 abbrev pub IsClosedData : DataSegmentMode → Type 0
 IsClosedData data_modes.Passive = Unit
 IsClosedData (data_modes.Active memory offset) = IsClosed offset
 
+-- A u32 counts the items of each list in the data segment's offset.
 abbrev pub IsCountedDataMode : DataSegmentMode → Type 0
 IsCountedDataMode data_modes.Passive = Unit
 IsCountedDataMode (data_modes.Active memory offset) = IsCountedExpr offset
 
--- a u32 counts its bytes too
+-- A u32 counts the bytes of the data segment, and the items of each list in its offset.
 abbrev pub IsCountedData : DataParts → Type 0
 IsCountedData d = IsCountedDataMode d.mode × IsCount (length d.data_bytes)
 
--- where it is closed, every other encoding of it is longer
+-- If the expression closes its blocks, its encoding is right and every other is longer.
 abbrev pub IsWrittenExpr : List Instruction → Type 0
 IsWrittenExpr calls = IsClosed calls → IsShortest expr.Encodes expr.bytes calls
 
+-- The offset of the element segment, if it is active, closes its blocks.
 abbrev pub IsClosedPlace : ElementMode → Type 0
 IsClosedPlace (modes.Active table offset) = IsClosed offset
 IsClosedPlace mode = Unit
 
+-- A u32 counts the items of each list in the element segment's offset.
 abbrev pub IsCountedPlace : ElementMode → Type 0
 IsCountedPlace (modes.Active table offset) = IsCountedExpr offset
 IsCountedPlace mode = Unit
 
+-- Each expression among the elements closes its blocks.
 abbrev pub AreClosed : Elements → Type 0
 AreClosed (held.Functions fs) = Unit
 AreClosed (held.Expressions ty es) = All IsClosed es
 
--- a u32 counts them
+-- A u32 counts the elements, and the items of each list in their expressions.
 abbrev pub AreCounted : Elements → Type 0
 AreCounted (held.Functions fs) = IsCount (length fs)
 AreCounted (held.Expressions ty es) = IsCount (length es) × All IsCountedExpr es
 
+-- Each expression of the element segment closes its blocks.
 abbrev pub IsClosedElement : Element → Type 0
 IsClosedElement e = IsClosedPlace e.mode × AreClosed e.elements
 
+-- A u32 counts the elements, and the items of each list in the segment's expressions.
 abbrev pub IsCountedElement : Element → Type 0
 IsCountedElement e = IsCountedPlace e.mode × AreCounted e.elements

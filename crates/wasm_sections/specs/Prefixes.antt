@@ -1,4 +1,4 @@
--- Bodies that are one value, with nothing left over.
+-- Bodies that are a single value, with nothing left over.
 use Rattle.std.specs.Prelude.{◌≡◌, ◌⊎◌, ◌-◌, ◌<◌, ◌≤◌, ℕ, List, [], true, length, Some, None, Result, Ok, Err}
 use Rattle.std.specs.Global.{Vec}
 use Rattle.wasm_codec.specs.declared.reader.ReadError.{ReadError}
@@ -8,32 +8,32 @@ use Rattle.wasm_codec.specs.formats.Grammar.{IsBytes}
 use Rattle.wasm_codec.specs.Places.{Place, place}
 use Rattle.wasm_codec.specs.formats.Combinators.{Format}
 
--- a prefix that is whole: nothing, or the value
+-- The prefix is empty, or it encodes a value.
 abbrev pub IsNothingOr : {V : Type 0} → Format V → List ℕ → Type 0
 IsNothingOr F prefix = (prefix ≡ []) ⊎ EncodesSome F.Encodes prefix
 
--- The bytes encode no value, and this is the length of their longest whole prefix.
+-- The bytes encode no value, and their longest prefix that is empty or encodes a value has this length.
 pub record IsRefusedAt {V : Type 0} (F : Format V) (bytes : List ℕ) (at : ℕ) : Type 0 where
   pub prefix : IsLongestPrefix (IsNothingOr F) bytes at
   pub unencoded : (v : V) → F.Encodes bytes v → ⊥
 
--- What was given stands for the value that the bytes encode, or it is told where they are refused. It needs no memory.
+-- The call returns the value that the bytes encode, or refuses them at the right offset; it needs no memory.
 abbrev pub ReadsWholeAs : {X V : Type 0} → (X → V) → Format V → List ℕ → Result X ReadError → Type 0
 ReadsWholeAs view F bytes (Ok x) = F.Encodes bytes (view x)
 ReadsWholeAs view F bytes (Err errors.Memory) = ⊥
 ReadsWholeAs view F bytes (Err (errors.Refused at)) = IsRefusedAt F bytes at
 
--- the same, where the value itself was given
+-- The call returns the value that the bytes encode, or refuses them at the right offset; it needs no memory.
 abbrev pub ReadsWhole : {V : Type 0} → Format V → List ℕ → Result V ReadError → Type 0
 ReadsWhole F = ReadsWholeAs (λ v. v) F
 
--- The shortest encoding of the value that the bytes encode was given, or it is told where they are refused. It needs no memory.
+-- The call returns the minimal encoding of the value, or refuses the bytes at the right offset; it needs no memory.
 abbrev pub RewritesWhole : {V : Type 0} → Format V → List ℕ → Result (Vec ℕ) ReadError → Type 0
 RewritesWhole F bytes (Ok given) = IsNormalForm F.Encodes F.bytes bytes given.items
 RewritesWhole F bytes (Err errors.Memory) = ⊥
 RewritesWhole F bytes (Err (errors.Refused at)) = IsRefusedAt F bytes at
 
--- What is read of bytes tells how long their longest whole prefix is, where they encode no value.
+-- If the bytes encode no value, reading them yields the length of their longest prefix that is empty or a value.
 pub record TellsPrefixes {V : Type 0} (F : Format V) : Type 0 where
   pub none : (bytes : List ℕ) → F.at (place true bytes) ≡ None → IsLongestPrefix (IsNothingOr F) bytes 0
   pub more : (bytes : List ℕ) (v : V) (q : Place) → IsBytes bytes → F.at (place true bytes) ≡ Some (v, q) → 0 < length q.left → IsLongestPrefix (IsNothingOr F) bytes (length bytes - length q.left)

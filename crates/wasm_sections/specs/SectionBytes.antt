@@ -1,5 +1,4 @@
--- Sections of a whole module, of which the id and what comes after it are written one after the other (WebAssembly Core
--- 3.0, Sections).
+-- Sections of a whole module: their id, and the bytes after it (WebAssembly Core 3.0, Sections).
 use Rattle.std.specs.Prelude.{ℕ, List, ◌∷◌, length}
 use Rattle.wasm_codec.specs.Encoding.{IsCount}
 use Rattle.wasm_codec.specs.formats.Bodies.{sized}
@@ -10,15 +9,14 @@ use Rattle.wasm_sections.specs.declared.custom.CustomSection.{CustomSection}
 use Rattle.wasm_sections.specs.formats.ModuleSections.{module_section}
 use Rattle.wasm_sections.specs.formats.Sections.{custom_body}
 
--- this id and these bytes are the shortest encoding of the section
+-- The id and these bytes are the minimal encoding of the section.
 abbrev pub IsSectionAfter : ℕ → List ℕ → ModuleSectionParts → Type 0
 IsSectionAfter id bytes section = (narrow module_section).Encodes (id ∷ bytes) section
 
--- sections of this id have a body of this format: the id and the shortest encoding of the body, after its size, are the
--- shortest encoding of the section
+-- Sections of this id have bodies of this format.
 abbrev pub IsBodyOf : {V : Type 0} → ℕ → (V → ModuleSectionParts) → Format V → Type 0
 IsBodyOf {V} id section F = (v : V) (bytes : List ℕ) → (narrow (sized F)).Encodes bytes v → IsSectionAfter id bytes (section v)
 
--- a custom section that can be written: a u32 counts the bytes of its name, and those of its body
+-- A u32 counts the bytes of the custom section's name, and one those of its body.
 abbrev pub CountedCustom : CustomSection → Type 0
 CountedCustom section = IsCount (length section.name.now) × IsCount (length (custom_body.bytes (custom_parts section)))

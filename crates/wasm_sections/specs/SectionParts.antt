@@ -1,4 +1,4 @@
--- What sections with what they hold are taken apart into, where they are written.
+-- The parts that sections are written from.
 use Rattle.std.specs.Prelude.{ℕ, List, Option, Some, None}
 use Rattle.wasm_types.specs.declared.types.composite.TypeEntry.{TypeEntry}
 use Rattle.wasm_sections.specs.formats.ModuleSectionParts.{ModuleSectionParts, custom, types, imports, functions, tables, memories, globals, exports, start, elements, code, data_segments, data_count, tags}
@@ -10,7 +10,7 @@ use Rattle.wasm_sections.specs.declared.types.MemoryType.{MemoryType}
 use Rattle.wasm_sections.specs.declared.types.TagType.{TagType}
 use Rattle.wasm_sections.specs.formats.EntryParts.{CustomParts, ExportParts, ImportParts, DataParts}
 
--- the id of a section that holds this
+-- The id of a section with this content.
 abbrev pub section_id : ModuleSectionParts → ℕ
 section_id (custom c) = 0
 section_id (types ts) = 1

@@ -1,4 +1,4 @@
--- The bytes of segments by the parts that are written one after the other.
+-- The bytes of segments, by the parts that are written one after another.
 use Rattle.std.specs.Prelude.{◌≡◌, ℕ, ◌==◌, ◌||◌, ◌<◌, ◌^◌, Bool, false, List, ◌++◌, Option, Some, None, is_some, if◌then◌else◌}
 use Rattle.wasm_codec.specs.Leb128.{unsigned_leb128}
 use Rattle.wasm_codec.specs.formats.Combinators.{u32, items}
@@ -14,37 +14,40 @@ use Rattle.wasm_sections.specs.formats.Parts.{part_if}
 use Rattle.wasm_sections.specs.formats.Expressions.{expr}
 use Rattle.wasm_sections.specs.formats.Elements.{kind_and_functions}
 
--- the number of a form, the index of a memory or table where it is told, and the place in it
+-- The number of a form, the index of a memory or table if it is named, and the offset in it.
 abbrev pub place_bytes : ℕ → Option ℕ → List Instruction → List ℕ
 place_bytes form index offset = unsigned_leb128 form ++ ((part_if (is_some index) u32).bytes index ++ expr.bytes offset)
 
--- what stands before the bytes of a data segment
+-- The bytes before those of a data segment.
 abbrev pub data_mode_bytes : DataSegmentMode → List ℕ
 data_mode_bytes data_modes.Passive = unsigned_leb128 1
 data_mode_bytes (data_modes.Active memory offset) = if memory == 0 then place_bytes 0 None offset else place_bytes 2 (Some memory) offset
 
+-- The memory index and the offset of the data segment are in range.
 abbrev pub DataModeFits : DataSegmentMode → Type 0
 DataModeFits data_modes.Passive = Unit
 DataModeFits (data_modes.Active memory offset) = (memory < 2 ^ 32) × expr.InRange offset
 
--- the forms that tell neither a table nor the kind or type of the elements
+-- The form names neither a table nor the kind or type of the elements.
 abbrev pub is_short : ℕ → Bool
 is_short form = form == 0 || form == 4
 
--- what stands before the elements of a segment in this form
+-- The bytes before the elements of a segment in this form.
 abbrev pub element_mode_bytes : ℕ → ElementMode → List ℕ
 element_mode_bytes form (modes.Active table offset) = if is_short form then place_bytes form None offset else place_bytes form (Some table) offset
 element_mode_bytes form mode = unsigned_leb128 form
 
+-- The table index and the offset of the element segment are in range.
 abbrev pub ElementModeFits : ℕ → ElementMode → Type 0
 ElementModeFits form (modes.Active table offset) = (is_short form ≡ false → table < 2 ^ 32) × expr.InRange offset
 ElementModeFits form mode = Unit
 
--- the elements, after their kind or type where the form isn't short
+-- The elements, after their kind or type unless the form is short.
 abbrev pub elements_bytes : Bool → Elements → List ℕ
 elements_bytes short (held.Functions fs) = if short then (items u32).bytes fs else kind_and_functions.bytes fs
 elements_bytes short (held.Expressions ty es) = if short then (items expr).bytes es else ref_type.bytes ty ++ (items expr).bytes es
 
+-- The elements, and their type unless the form is short, are in range.
 abbrev pub ElementsFit : Bool → Elements → Type 0
 ElementsFit short (held.Functions fs) = (items u32).InRange fs
 ElementsFit short (held.Expressions ty es) = (short ≡ false → ref_type.InRange ty) × (items expr).InRange es

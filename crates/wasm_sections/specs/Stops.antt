@@ -1,5 +1,5 @@
--- Where the body of a section stops to be whole (WebAssembly Core 3.0, Lists), and which of its items aren't in their shortest
--- encoding.
+-- The offset at which the body of a section stops to be a list (WebAssembly Core 3.0, Lists), and the number of its
+-- items that aren't minimally encoded.
 use Rattle.std.specs.Prelude.{◌≡◌, ◌+◌, ◌<◌, ◌≤◌, ◌⊎◌, ℕ, List, [], ◌∷◌, ◌++◌, length, Result, Ok, Err, ⊤}
 use Rattle.wasm_codec.specs.Answers.{EncodesSome, IsLongestPrefix}
 use Rattle.wasm_codec.specs.formats.Grammar.{Grammar, Joined}
@@ -19,7 +19,7 @@ use Rattle.wasm_sections.specs.formats.Externals.{memory_type, tag_type}
 use Rattle.wasm_sections.specs.formats.Segments.{data_segment}
 use Rattle.wasm_types.specs.formats.Types.{recursive_type}
 
--- The bytes before this place are this count and so many items.
+-- The bytes before this offset are the count and this number of items.
 pub record HasItemsBefore {V : Type 0} (G : Grammar V) (body : List ℕ) (count index at : ℕ) : Type 0 where
   pub head : List ℕ
   pub back : List ℕ
@@ -32,20 +32,19 @@ pub record HasItemsBefore {V : Type 0} (G : Grammar V) (body : List ℕ) (count 
   pub encoded : Joined G back items
   pub index_is : length items ≡ index
 
--- The body is no list of such items: it is whole up to this place and no further, and so many of the items that it counts
--- come before it. Where the count isn't there, the place is the beginning.
+-- The body is no list: its longest whole prefix ends at this offset, after this number of items.
 pub record StopsAtItem {V : Type 0} (F : Format V) (body : List ℕ) (count index at : ℕ) : Type 0 where
   pub prefix : IsLongestPrefix (IsListPrefix F.Encodes) body at
   pub unencoded : (items : List V) → EncodesList F.Encodes body items → ⊥
   pub before : ((count ≡ 0) × (index ≡ 0) × (at ≡ 0)) ⊎ HasItemsBefore F.Encodes body count index at
 
--- encodings with nothing between, of which so many have more bytes than the shortest encoding of their item
+-- These are encodings of the items, and this number of them aren't minimal.
 pub data HasLonger {V : Type 0} (F : Format V) : List ℕ → List V → ℕ → Type 0 where
   nothing : HasLonger F [] [] 0
   shortest : {bytes : List ℕ} {items : List V} {longer : ℕ} (item : V) → HasLonger F bytes items longer → F.Encodes (F.bytes item) item → HasLonger F (bytes ++ F.bytes item) (items ++ item ∷ []) longer
   more : {bytes : List ℕ} {items : List V} {longer : ℕ} (item : V) (encoding : List ℕ) → HasLonger F bytes items longer → F.Encodes encoding item → length (F.bytes item) < length encoding → HasLonger F (bytes ++ encoding) (items ++ item ∷ []) (longer + 1)
 
--- The body is a list of so many items, of which so many have more bytes than their shortest encoding.
+-- The body is a list of this many items, and this number of them aren't minimally encoded.
 pub record CountsLonger {V : Type 0} (F : Format V) (body : List ℕ) (count longer : ℕ) : Type 0 where
   pub head : List ℕ
   pub back : List ℕ
@@ -55,12 +54,12 @@ pub record CountsLonger {V : Type 0} (F : Format V) (body : List ℕ) (count lon
   pub all : length items ≡ count
   pub longer_items : HasLonger F back items longer
 
--- what is told of the items of a list
+-- The result is right: the counts of the list's items, or the place where the list stops.
 abbrev pub Tells : {V : Type 0} → Format V → List ℕ → Result ItemCounts ItemPlace → Type 0
 Tells F body (Ok counts) = CountsLonger F body counts.count counts.longer
 Tells F body (Err place) = StopsAtItem F body place.count place.index place.at
 
--- this holds of the items of a section with this id
+-- The property holds of the items of a section with this id.
 pub data OfItems (P : (V : Type 0) → Format V → Type 0) (id : ℕ) : Type 0 where
   types : id ≡ 1 → P _ recursive_type → OfItems P id
   imports : id ≡ 2 → P _ import_entry → OfItems P id
@@ -78,14 +77,14 @@ pub data OfItems (P : (V : Type 0) → Format V → Type 0) (id : ℕ) : Type 0 
 abbrev pub HoldsItems : ℕ → Type 0
 HoldsItems id = OfItems (λ V F. ⊤) id
 
--- ---- within the code of a function
+-- ---- inside the code of a function
 
--- The code is whole up to this group of locals and no further, or the number of the groups isn't there.
+-- The groups of locals decode up to this offset and no further, and this number of them comes before it.
 pub record StopsInLocals (code : List ℕ) (count index at : ℕ) : Type 0 where
   pub stops : StopsAtItem local_group code count index at
   pub within : (at ≡ 0) ⊎ (index < count)
 
--- The locals are whole, and the instructions after them up to this place and no further.
+-- The locals decode, and the instructions after them decode up to this offset and no further.
 pub record StopsAtInstruction (code : List ℕ) (at : ℕ) : Type 0 where
   pub head : List ℕ
   pub calls : List ℕ
@@ -97,11 +96,12 @@ pub record StopsAtInstruction (code : List ℕ) (at : ℕ) : Type 0 where
   pub prefix : IsLongestPrefix (EncodesSome Instructions) calls len
   pub within : len < length calls
 
+-- The place lies in the locals or in the instructions, and the code decodes up to it and no further.
 abbrev pub StopsAtPart : List ℕ → CodePlace → Type 0
 StopsAtPart code (places.Locals place) = StopsInLocals code place.count place.index place.at
 StopsAtPart code (places.Instruction at) = StopsAtInstruction code at
 
--- The code encodes no locals and instructions, and stops to be whole there.
+-- The code is no function's code: it decodes up to this place and no further.
 pub record StopsInCode (code : List ℕ) (place : CodePlace) : Type 0 where
   pub stops : StopsAtPart code place
   pub unencoded : (parts : List (ℕ × ValType) × List Instruction) → function_code.Encodes code parts → ⊥

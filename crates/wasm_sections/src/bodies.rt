@@ -1,4 +1,4 @@
-//! Bodies of sections that are one value, with nothing left over (Core 3.0, Modules), whatever the value is.
+//! Section bodies that are a single value without trailing bytes, for any value.
 ghost use Rattle.std.specs.Prelude.{◌≡◌, ◌↔◌, ◌≤◌, length, IfOk};
 ghost use Rattle.wasm_codec.specs.Answers.{NeedsNoMemory, IsOrMemory, IfRefused, IsLongestPrefix, IsNormalForm, EncodesSome};
 ghost use Rattle.wasm_codec.specs.Encoding.{IsShortestOrLonger};
@@ -9,14 +9,14 @@ use std::alloc::Global;
 use wasm_codec::reader::ReadError;
 use wasm_codec::rewriter::{RewritableBody, Rewriter};
 
-/// What a body is all of.
+/// A value that fills a section body.
 pub(crate) trait WholeBody: RewritableBody {
-    /// What is read of bytes tells how long their longest whole prefix is. The call does nothing.
+    /// Proves that decoding a value shows the longest prefix that decodes. Does nothing at run time.
     fn tells_prefixes()
         ensures { TellsPrefixes Self.format };
 }
 
-/// The shortest encoding of the value that a body encodes, in the list itself. It takes no memory.
+/// Rewrites a body in place to its minimal encoding. Allocates nothing.
 pub(crate) fn rewrite_body<T: WholeBody>(body: Vec<u8>) -> Result<Vec<u8>, ReadError>
     ensures given { IfOk result (λ encoding.
         IsNormalForm T.RewritableBody.format.Encodes T.RewritableBody.format.bytes body.items encoding.items) }
@@ -31,7 +31,7 @@ pub(crate) fn rewrite_body<T: WholeBody>(body: Vec<u8>) -> Result<Vec<u8>, ReadE
     rewrite_whole::<T>(body)
 }
 
-/// The same, with one clause that says all of it.
+/// Rewrites a body as `rewrite_body` does, with one clause that implies the others.
 fn rewrite_whole<T: WholeBody>(body: Vec<u8>) -> Result<Vec<u8>, ReadError>
     ensures { RewritesWhole T.RewritableBody.format body.items result }
 {
@@ -50,7 +50,7 @@ fn rewrite_whole<T: WholeBody>(body: Vec<u8>) -> Result<Vec<u8>, ReadError>
     Ok(rewriter.finish())
 }
 
-/// The shortest encoding of the value that a body encodes.
+/// Returns the minimal encoding of a body.
 pub(crate) fn normalise_body<T: WholeBody>(alloc: Global, body: &[u8]) -> Result<Vec<u8>, ReadError>
     ensures given { IfOk result (λ encoding.
         IsNormalForm T.RewritableBody.format.Encodes T.RewritableBody.format.bytes body.now encoding.items) }
@@ -75,7 +75,7 @@ pub(crate) fn normalise_body<T: WholeBody>(alloc: Global, body: &[u8]) -> Result
     rewrite_body_copy::<T>(alloc, body)
 }
 
-/// The same, with the clauses from which the others follow.
+/// Rewrites a copy of a body, with the clauses that imply those of `normalise_body`.
 fn rewrite_body_copy<T: WholeBody>(alloc: Global, body: &[u8]) -> Result<Vec<u8>, ReadError>
     ensures given { IfOk result (λ encoding.
         IsNormalForm T.RewritableBody.format.Encodes T.RewritableBody.format.bytes body.now encoding.items) }

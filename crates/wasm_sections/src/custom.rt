@@ -14,45 +14,54 @@ use wasm_codec::reader::ReadError;
 use wasm_codec::reader::cursor::{Cursor, Fault};
 use wasm_codec::rewriter::{RewritableBody, Rewriter};
 
-/// A custom section.
+/// A custom section, which `Module::section` accepts and `read_whole_module` returns (Core 3.0, Custom Section).
+///
+/// # Examples
+///
+/// ```
+/// # use wasm_encoder::{CustomSection, Encode};
+/// let section = CustomSection { name: "note", bytes: b"hi" };
+/// let mut bytes = Vec::new(rt.alloc());
+/// section.encode(&mut bytes)?; // the size, the length of the name, the name, the contents
+/// assert_eq!(rt; bytes.as_slice(), b"\x07\x04notehi".as_slice());
+/// ```
 #[derive(Debug, Drop)]
 pub struct CustomSection<'a> {
-    /// Its name.
+    /// Name of the section.
     pub name: &'a str,
-    /// Its bytes after the name.
+    /// Contents after the name.
     pub bytes: &'a [u8],
 }
 
-/// The name and the bytes that the body of a custom section encodes, in any encoding (Core 3.0, Custom Section). It takes no
-/// memory.
+/// Reads a custom section body, in any encoding (Core 3.0, Custom Section).
 ///
-/// `Refused` carries 0, where the name isn't there.
+/// Fails with `Refused` at 0 if the name is malformed. Allocates nothing.
 pub fn read_custom_section<'a>(body: &'a [u8]) -> Result<CustomSection<'a>, ReadError>
-    // What is given, the body encodes.
+    // The body encodes the returned value.
     ensures given { IfOk result (λ section. custom_body.Encodes body.now (custom_parts section)) }
-    // What the body encodes is given.
+    // If the body encodes a value, that value is returned.
     ensures complete { (section : CustomParts) → custom_body.Encodes body.now section →
         IsOrMemory custom_parts section result }
-    // `at` is the length of the longest prefix that is nothing or whole.
+    // `at` is the length of the longest prefix that is empty or well-formed.
     ensures prefix { IfRefused result (IsLongestPrefix (IsNothingOr custom_body) body.now) }
-    // The body encodes at most one name with bytes.
+    // The body encodes at most one name and contents.
     ensures one { (section other : CustomParts) →
         custom_body.Encodes body.now section → custom_body.Encodes body.now other → section ≡ other }
-    // Every other encoding of a name with bytes is longer than its shortest.
+    // Every other encoding of a name and contents is longer than its minimal encoding.
     ensures shortest { (section : CustomParts) → custom_body.Encodes body.now section →
         IsShortestOrLonger body.now (custom_body.bytes section) }
-    // `Memory` is never answered.
+    // It never fails with `Memory`.
     ensures memory { NeedsNoMemory result }
 {
     only_custom(body)
 }
 
-/// The same, with one clause that says all of it.
+/// Reads a custom section as `read_custom_section` does, with one clause that implies the others.
 fn only_custom<'a>(body: &'a [u8]) -> Result<CustomSection<'a>, ReadError>
     ensures { ReadsWholeAs custom_parts custom_body body.now result }
 {
     let mut cursor = Cursor::new(body);
-    // `fork` tells the proof that all that is left are bytes.
+    // `fork` shows the proof that all remaining items are bytes.
     let _start = cursor.fork();
     let Ok(name) = read_name(&mut cursor) else {
         return Err(ReadError::Refused { at: 0 });
@@ -64,36 +73,35 @@ fn only_custom<'a>(body: &'a [u8]) -> Result<CustomSection<'a>, ReadError>
     Ok(CustomSection { name, bytes })
 }
 
-/// The name and the bytes that the body of a custom section encodes, if the body is the shortest encoding (Core 3.0,
-/// Custom Section). It takes no memory.
+/// Reads a minimally encoded custom section body (Core 3.0, Custom Section).
 ///
-/// `Refused` carries 0, where the name isn't there with its length in the fewest bytes.
+/// Fails with `Refused` at 0 if the name is malformed or its length not minimal. Allocates nothing.
 pub fn read_custom_section_strict<'a>(body: &'a [u8]) -> Result<CustomSection<'a>, ReadError>
-    // What is given, the body is the shortest encoding of.
+    // The body is the minimal encoding of the returned value.
     ensures given { IfOk result (λ section. (narrow custom_body).Encodes body.now (custom_parts section)) }
-    // What the body is the shortest encoding of is given.
+    // If the body is the minimal encoding of a value, that value is returned.
     ensures complete { (section : CustomParts) → (narrow custom_body).Encodes body.now section →
         IsOrMemory custom_parts section result }
-    // `at` is the length of the longest prefix that is nothing or whole and in its shortest encoding.
+    // `at` is the length of the longest prefix that is empty, or well-formed and minimally encoded.
     ensures prefix { IfRefused result (IsLongestPrefix (IsNothingOr (narrow custom_body)) body.now) }
-    // The body is the shortest encoding of at most one name with bytes.
+    // The body is the minimal encoding of at most one name and contents.
     ensures one { (section other : CustomParts) →
         (narrow custom_body).Encodes body.now section → (narrow custom_body).Encodes body.now other → section ≡ other }
-    // That is so where it encodes them, as `read_custom_section` tells, and is as `normalise_custom_section` leaves it.
+    // This holds if and only if the body encodes the value and equals its minimal encoding.
     ensures shortest { (section : CustomParts) → (narrow custom_body).Encodes body.now section ↔
         (custom_body.Encodes body.now section × (body.now ≡ custom_body.bytes section)) }
-    // `Memory` is never answered.
+    // It never fails with `Memory`.
     ensures memory { NeedsNoMemory result }
 {
     only_custom_strict(body)
 }
 
-/// The same, with one clause that says all of it.
+/// Reads a custom section as `read_custom_section_strict` does, with one clause that implies the others.
 fn only_custom_strict<'a>(body: &'a [u8]) -> Result<CustomSection<'a>, ReadError>
     ensures { ReadsWholeAs custom_parts (narrow custom_body) body.now result }
 {
     let mut cursor = Cursor::new(body);
-    // `fork` tells the proof that all that is left are bytes.
+    // `fork` shows the proof that all remaining items are bytes.
     let _start = cursor.fork();
     let Ok(name) = read_name(&mut cursor) else {
         return Err(ReadError::Refused { at: 0 });
@@ -108,62 +116,63 @@ fn only_custom_strict<'a>(body: &'a [u8]) -> Result<CustomSection<'a>, ReadError
     Ok(CustomSection { name, bytes })
 }
 
-/// The normal bytes of the body of a custom section: the length of the name is in the fewest, and what comes
-/// after it stays as it is (Core 3.0, Custom Section).
+/// Returns the minimal encoding of a custom section body (Core 3.0, Custom Section).
 ///
-/// `Refused` carries 0, where the name isn't there.
+/// Fails with `Refused` as `read_custom_section` does, and with `Memory` if the body can't be copied.
 pub fn normalise_custom_section(alloc: Global, body: &[u8]) -> Result<Vec<u8>, ReadError>
-    // The result is the shortest encoding of a name with bytes that the body encodes.
+    // The result is the minimal encoding of a name and contents that the body encodes.
     ensures given { IfOk result (λ encoding.
         IsNormalForm custom_body.Encodes custom_body.bytes body.now encoding.items) }
-    // Where the body encodes a name with bytes, its shortest encoding is given, unless memory ran out.
+    // If the body encodes a name and contents, the result is their minimal encoding, unless memory runs out.
     ensures complete { (section : CustomParts) → custom_body.Encodes body.now section →
         IsOrMemory (λ encoding. encoding.items) (custom_body.bytes section) result }
-    // `at` is the length of the longest prefix that is nothing or whole.
+    // `at` is the length of the longest prefix that is empty or well-formed.
     ensures prefix { IfRefused result (IsLongestPrefix (IsNothingOr custom_body) body.now) }
-    // The body encodes at most one name with bytes.
+    // The body encodes at most one name and contents.
     ensures one { (section other : CustomParts) →
         custom_body.Encodes body.now section → custom_body.Encodes body.now other → section ≡ other }
-    // The result encodes a name with bytes exactly if the body does.
+    // The result encodes a name and contents if and only if the body does.
     ensures same { IfOk result (λ encoding. (section : CustomParts) →
         custom_body.Encodes encoding.items section ↔ custom_body.Encodes body.now section) }
-    // The result is normal: it is the shortest encoding of what it encodes.
+    // The result is the minimal encoding of the value that it encodes.
     ensures normal { IfOk result (λ encoding. (section : CustomParts) →
         custom_body.Encodes encoding.items section → encoding.items ≡ custom_body.bytes section) }
-    // Every other encoding of a name with bytes is longer than its shortest.
+    // Every other encoding of a name and contents is longer than its minimal encoding.
     ensures shortest { (section : CustomParts) → custom_body.Encodes body.now section →
         IsShortestOrLonger body.now (custom_body.bytes section) }
     // The result is no longer than the body.
     ensures no_longer { IfOk result (λ encoding. length encoding.items ≤ length body.now) }
-    // A shortest encoding stays as it is, unless memory ran out.
+    // A minimal encoding is returned unchanged, unless memory runs out.
     ensures stays { (section : CustomParts) → (narrow custom_body).Encodes body.now section →
         IsOrMemory (λ encoding. encoding.items) body.now result }
-    // What stays as it is, is a shortest encoding.
+    // If the result equals the input, the input is a minimal encoding.
     ensures was_shortest { IfOk result (λ encoding.
         encoding.items ≡ body.now → EncodesSome (narrow custom_body).Encodes body.now) }
 {
     normalise_body::<Custom>(alloc, body)
 }
 
-/// The same, rewritten in place in the list itself, which is given back. It needs no further memory.
+/// Replaces a custom section body by its minimal encoding in place (Core 3.0, Custom Section).
+///
+/// Fails with `Refused` as `read_custom_section` does. Allocates nothing.
 pub fn rewrite_custom_section(body: Vec<u8>) -> Result<Vec<u8>, ReadError>
-    // The result is the shortest encoding of a name with bytes that the body encodes.
+    // The result is the minimal encoding of a name and contents that the body encodes.
     ensures given { IfOk result (λ encoding.
         IsNormalForm custom_body.Encodes custom_body.bytes body.items encoding.items) }
-    // Where the body encodes a name with bytes, its shortest encoding is given.
+    // If the body encodes a name and contents, the result is their minimal encoding.
     ensures complete { (section : CustomParts) → custom_body.Encodes body.items section →
         IsOrMemory (λ encoding. encoding.items) (custom_body.bytes section) result }
-    // `at` is the length of the longest prefix that is nothing or whole.
+    // `at` is the length of the longest prefix that is empty or well-formed.
     ensures prefix { IfRefused result (IsLongestPrefix (IsNothingOr custom_body) body.items) }
-    // Only what encodes no name with bytes is refused.
+    // A refused body encodes no name and contents.
     ensures unencoded { IfRefused result (λ _. (section : CustomParts) → custom_body.Encodes body.items section → ⊥) }
-    // `Memory` is never answered.
+    // It never fails with `Memory`.
     ensures memory { NeedsNoMemory result }
 {
     rewrite_body::<Custom>(body)
 }
 
-/// A name, and the bytes to the end.
+/// A name followed by all remaining bytes.
 pub(crate) struct Custom;
 
 impl RewritableBody for Custom {

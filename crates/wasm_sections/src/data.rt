@@ -27,140 +27,140 @@ use wasm_codec::rewriter::{Rewritable, RewritableBody, Rewriter, rewrite_sized};
 use wasm_instructions::table::Call;
 use wasm_readers::readable::Readable;
 
-/// When the bytes of a data segment are copied.
+/// Mode of a data segment.
 #[derive(Debug, PartialEq, Eq, Drop)]
 pub enum DataSegmentMode {
-    /// Into a memory, when the module is instantiated.
+    /// Copied into a memory when the module is instantiated.
     Active {
-        /// The index of the memory.
+        /// Memory index.
         memory_index: u32,
-        /// The instructions that make the place in it, without the end.
+        /// Instructions that compute the address of the first byte, without the final `end`.
         offset: Items<Call>,
     },
-    /// When an instruction asks for it.
+    /// Copied by instructions such as `memory.init`.
     Passive,
 }
 
-/// A data segment.
+/// A data segment (Core 3.0, Data Section).
 #[derive(Debug, Drop)]
 pub struct DataSegment<'a> {
-    /// When its bytes are copied.
+    /// Mode of the segment.
     pub mode: DataSegmentMode,
-    /// Its bytes.
+    /// Contents of the segment.
     pub bytes: &'a [u8],
 }
 
-/// The segments that the body of a data section encodes, in any encoding (Core 3.0, Data Section).
+/// Reads a data section body, in any encoding (Core 3.0, Data Section).
 ///
-/// `Refused` carries the number of bytes of the count and of the segments that are whole before the first that isn't,
-/// or before what is left over.
+/// Fails with `Refused` at the offset of the malformed count or segment, or of trailing bytes. Fails with `Memory` if
+/// an allocation fails.
 #[tactic(auto, using(crate::proofs::SegmentLaws::data_is_lawful), unfolding(crate::specs::formats::Sections::data_body))]
 pub fn read_data_section<'a>(
     alloc: Global,
     body: &'a [u8],
 ) -> Result<Vec<DataSegment<'a>>, ReadError>
-    // What is given, the body encodes.
+    // The body encodes the returned list.
     ensures given { IfOk result (λ segments. data_body.Encodes body.now (all_data_parts segments.items)) }
-    // What the body encodes is given, unless memory ran out.
+    // If the body encodes a list, that list is returned, unless memory runs out.
     ensures complete { (segments : List DataParts) → data_body.Encodes body.now segments →
         IsOrMemory (λ given. all_data_parts given.items) segments result }
-    // `at` is the length of the longest prefix that is whole.
+    // `at` is the length of the longest well-formed prefix.
     ensures prefix { IfRefused result (IsLongestPrefix (IsListPrefix data_segment.Encodes) body.now) }
     // The body encodes at most one list.
     ensures one { (segments others : List DataParts) →
         data_body.Encodes body.now segments → data_body.Encodes body.now others → segments ≡ others }
-    // Every other encoding of a list is longer than its shortest.
+    // Every other encoding of a list is longer than its minimal encoding.
     ensures shortest { (segments : List DataParts) → data_body.Encodes body.now segments →
         IsShortestOrLonger body.now (data_body.bytes segments) }
 {
     read_items(alloc, body)
 }
 
-/// The segments that the body of a data section encodes, if the body is the shortest encoding (Core 3.0, Data Section).
+/// Reads a minimally encoded data section body (Core 3.0, Data Section).
 ///
-/// `Refused` carries the number of bytes of the count and of the segments that are whole and in their shortest
-/// encodings, before the first that isn't, or before what is left over; it is 0 where the count isn't in the fewest
-/// bytes.
+/// Fails with `Refused` at the offset of the count or segment that is malformed or not minimal, or of trailing bytes.
+/// Fails with `Memory` if an allocation fails.
 #[tactic(auto, using(crate::proofs::SegmentLaws::data_is_lawful), unfolding(crate::specs::formats::Sections::data_body))]
 pub fn read_data_section_strict<'a>(
     alloc: Global,
     body: &'a [u8],
 ) -> Result<Vec<DataSegment<'a>>, ReadError>
-    // What is given, the body is the shortest encoding of.
+    // The body is the minimal encoding of the returned list.
     ensures given { IfOk result (λ segments. AskedList true data_segment body.now (all_data_parts segments.items)) }
-    // What the body is the shortest encoding of is given, unless memory ran out.
+    // If the body is the minimal encoding of a list, that list is returned, unless memory runs out.
     ensures complete { (segments : List DataParts) → AskedList true data_segment body.now segments →
         IsOrMemory (λ given. all_data_parts given.items) segments result }
-    // `at` is the length of the longest prefix that is whole and in shortest encodings.
+    // `at` is the length of the longest well-formed, minimally encoded prefix.
     ensures prefix { IfRefused result (IsLongestPrefix (IsAskedPrefix true data_segment) body.now) }
-    // The body is the shortest encoding of at most one list.
+    // The body is the minimal encoding of at most one list.
     ensures one { (segments others : List DataParts) →
         AskedList true data_segment body.now segments → AskedList true data_segment body.now others → segments ≡ others }
-    // That is so where it encodes the list, as `read_data_section` tells, and is as `normalise_data_section` leaves it.
+    // This holds if and only if the body encodes the value and equals its minimal encoding.
     ensures shortest { (segments : List DataParts) → AskedList true data_segment body.now segments ↔
         (data_body.Encodes body.now segments × (body.now ≡ data_body.bytes segments)) }
 {
     read_items_strict(alloc, body)
 }
 
-/// The normal bytes of the body of a data section: the same segments in the fewest bytes (Core 3.0, Data Section).
+/// Returns the minimal encoding of a data section body (Core 3.0, Data Section).
 ///
-/// `Refused` carries the number of bytes of the count and of the segments that are whole before the first that isn't,
-/// or before what is left over.
+/// Fails with `Refused` as `read_data_section` does, and with `Memory` if the body can't be copied.
 #[tactic(auto, unfolding(crate::specs::formats::Sections::data_body))]
 pub fn normalise_data_section(alloc: Global, body: &[u8]) -> Result<Vec<u8>, ReadError>
-    // The result is the shortest encoding of a list that the body encodes.
+    // The result is the minimal encoding of a list that the body encodes.
     ensures given { IfOk result (λ encoding.
         IsNormalForm data_body.Encodes data_body.bytes body.now encoding.items) }
-    // Where the body encodes a list, its shortest encoding is given, unless memory ran out.
+    // If the body encodes a list, the result is the minimal encoding of that list, unless memory runs out.
     ensures complete { (segments : List DataParts) → data_body.Encodes body.now segments →
         IsOrMemory (λ encoding. encoding.items) (data_body.bytes segments) result }
-    // `at` is the length of the longest prefix that is whole.
+    // `at` is the length of the longest well-formed prefix.
     ensures prefix { IfRefused result (IsLongestPrefix (IsListPrefix data_segment.Encodes) body.now) }
     // The body encodes at most one list.
     ensures one { (segments others : List DataParts) →
         data_body.Encodes body.now segments → data_body.Encodes body.now others → segments ≡ others }
-    // The result encodes a list exactly if the body does.
+    // The result encodes a list if and only if the body does.
     ensures same { IfOk result (λ encoding. (segments : List DataParts) →
         data_body.Encodes encoding.items segments ↔ data_body.Encodes body.now segments) }
-    // The result is normal: it is the shortest encoding of what it encodes.
+    // The result is the minimal encoding of the value that it encodes.
     ensures normal { IfOk result (λ encoding. (segments : List DataParts) →
         data_body.Encodes encoding.items segments → encoding.items ≡ data_body.bytes segments) }
-    // Every other encoding of a list is longer than its shortest.
+    // Every other encoding of a list is longer than its minimal encoding.
     ensures shortest { (segments : List DataParts) → data_body.Encodes body.now segments →
         IsShortestOrLonger body.now (data_body.bytes segments) }
     // The result is no longer than the body.
     ensures no_longer { IfOk result (λ encoding. length encoding.items ≤ length body.now) }
-    // A shortest encoding stays as it is, unless memory ran out.
+    // A minimal encoding is returned unchanged, unless memory runs out.
     ensures stays { (segments : List DataParts) → AskedList true data_segment body.now segments →
         IsOrMemory (λ encoding. encoding.items) body.now result }
-    // What stays as it is, is a shortest encoding.
+    // If the result equals the input, the input is a minimal encoding.
     ensures was_shortest { IfOk result (λ encoding.
         encoding.items ≡ body.now → EncodesSome (AskedList true data_segment) body.now) }
 {
     normalise_items::<DataSegment<'_>>(alloc, body)
 }
 
-/// The same, rewritten in place in the list itself, which is given back. It needs no further memory.
+/// Replaces a data section body by its minimal encoding in place (Core 3.0, Data Section).
+///
+/// Fails with `Refused` as `read_data_section` does. Allocates nothing.
 #[tactic(auto, unfolding(crate::specs::formats::Sections::data_body))]
 pub fn rewrite_data_section(body: Vec<u8>) -> Result<Vec<u8>, ReadError>
-    // The result is the shortest encoding of a list that the body encodes.
+    // The result is the minimal encoding of a list that the body encodes.
     ensures given { IfOk result (λ encoding.
         IsNormalForm data_body.Encodes data_body.bytes body.items encoding.items) }
-    // Where the body encodes a list, its shortest encoding is given.
+    // If the body encodes a list, the result is the minimal encoding of that list.
     ensures complete { (segments : List DataParts) → data_body.Encodes body.items segments →
         IsOrMemory (λ encoding. encoding.items) (data_body.bytes segments) result }
-    // `at` is the length of the longest prefix that is whole.
+    // `at` is the length of the longest well-formed prefix.
     ensures prefix { IfRefused result (IsLongestPrefix (IsListPrefix data_segment.Encodes) body.items) }
-    // Only what encodes no list is refused.
+    // A refused body encodes no list.
     ensures unencoded { IfRefused result (λ _. (segments : List DataParts) → data_body.Encodes body.items segments → ⊥) }
-    // `Memory` is never answered.
+    // It never fails with `Memory`.
     ensures memory { NeedsNoMemory result }
 {
     rewrite_items::<DataSegment<'_>>(body)
 }
 
-/// Bytes after their number.
+/// Reads bytes that follow their length.
 fn read_byte_list<'a>(cursor: &mut Cursor<'a>) -> Result<&'a [u8], Fault>
     ensures reads { Reads byte_list.at cursor.old cursor.new (map_ok (λ bytes. bytes.now) result) }
     ensures err { IfErr result (λ e. e ≡ Malformed) }
@@ -169,7 +169,7 @@ fn read_byte_list<'a>(cursor: &mut Cursor<'a>) -> Result<&'a [u8], Fault>
     cursor.take(size)
 }
 
-/// A data segment. One for memory 0 that names it is a long form.
+/// Reads a data segment. Notes a non-minimal form if the segment names memory 0.
 #[tactic(auto, using(crate::proofs::SegmentRewriting::no_data_form), unfolding(crate::specs::formats::Segments::data_segment))]
 fn read_data_segment<'a>(alloc: Global, cursor: &mut Cursor<'a>) -> Result<DataSegment<'a>, Fault>
     ensures reads { Reads data_segment.at cursor.old cursor.new (map_ok data_parts result) }
@@ -225,7 +225,7 @@ impl<'a> Readable<'a> for DataSegment<'a> {
     }
 }
 
-/// Bytes to the end, which stay as they are.
+/// All remaining bytes, unchanged.
 struct RawBytes;
 
 impl RewritableBody for RawBytes {
@@ -243,7 +243,7 @@ impl RewritableBody for RawBytes {
     }
 }
 
-/// Leaves the place of an active data segment and its bytes in their shortest encodings.
+/// Rewrites the offset and the contents of an active data segment to their minimal encodings.
 #[tactic(auto, using(std::proofs::Common::append_assoc))]
 fn rewrite_placed(rewriter: &mut Rewriter) -> Result<(), Fault>
     ensures rewrites { Rewrites (expr ⊗ byte_list) rewriter.old rewriter.new result }
@@ -252,8 +252,8 @@ fn rewrite_placed(rewriter: &mut Rewriter) -> Result<(), Fault>
     rewrite_sized::<RawBytes>(rewriter)
 }
 
-/// Leaves a data segment in its shortest encoding. Where one for memory 0 names it, the number of that form is cut out, and
-/// the index is the number of the form that doesn't.
+/// Rewrites a data segment to its minimal encoding. If it names memory 0, cuts out the form number 2, so that the
+/// memory index 0 becomes the number of the shorter form.
 #[tactic(auto, using(crate::proofs::SegmentRewriting::no_data_form, crate::proofs::SegmentRewriting::placed_rewritten, crate::proofs::SegmentRewriting::passive_rewritten, crate::proofs::SegmentRewriting::memory_left_out, crate::proofs::SegmentRewriting::memory_kept), unfolding(crate::specs::formats::Segments::data_segment))]
 fn rewrite_data_segment(rewriter: &mut Rewriter) -> Result<(), Fault>
     ensures rewrites { Rewrites data_segment rewriter.old rewriter.new result }

@@ -28,147 +28,145 @@ use wasm_types::normaliser::rewrite_ref_type;
 use wasm_types::reader::read_ref_type;
 use wasm_types::types::{AbstractHeapType, HeapType, RefType};
 
-/// When the elements of a segment are copied.
+/// Mode of an element segment.
 #[derive(Debug, PartialEq, Eq, Drop)]
 pub enum ElementMode {
-    /// When an instruction asks for it.
+    /// Copied by instructions such as `table.init`.
     Passive,
-    /// Into a table, when the module is instantiated.
+    /// Copied into a table when the module is instantiated.
     Active {
-        /// The index of the table.
+        /// Table index.
         table_index: u32,
-        /// The instructions that make the place in it, without the end.
+        /// Instructions that compute the index of the first element, without the final `end`.
         offset: Items<Call>,
     },
-    /// Never: it declares references to functions.
+    /// Never copied: declares functions that code refers to.
     Declared,
 }
 
-/// What an element segment holds.
+/// Elements of an element segment.
 #[derive(Debug, PartialEq, Eq, Drop)]
 pub enum Elements {
-    /// Functions, by their indexes.
+    /// Function indices.
     Functions(Items<u32>),
-    /// Expressions of a type, each without its end.
+    /// Expressions of a reference type, each without its final `end`.
     Expressions(RefType, Items<Items<Call>>),
 }
 
-/// An element segment.
+/// An element segment (Core 3.0, Element Section).
 #[derive(Debug, PartialEq, Eq, Drop)]
 pub struct Element {
-    /// When its elements are copied.
+    /// Mode of the segment.
     pub mode: ElementMode,
-    /// What it holds.
+    /// Elements of the segment.
     pub elements: Elements,
 }
 
-/// The segments that the body of an element section encodes, in any encoding (Core 3.0, Element Section).
+/// Reads an element section body, in any encoding (Core 3.0, Element Section).
 ///
-/// `Refused` carries the number of bytes of the count and of the segments that are whole before the first that isn't,
-/// or before what is left over.
+/// Fails with `Refused` at the offset of the malformed count or segment, or of trailing bytes. Fails with `Memory` if
+/// an allocation fails.
 #[tactic(auto, using(crate::proofs::ElementLaws::element_is_lawful), unfolding(crate::specs::formats::Sections::element_body))]
 pub fn read_element_section(alloc: Global, body: &[u8]) -> Result<Vec<Element>, ReadError>
-    // What is given, the body encodes.
+    // The body encodes the returned list.
     ensures given { IfOk result (λ segments. element_body.Encodes body.now (segments.items)) }
-    // What the body encodes is given, unless memory ran out.
+    // If the body encodes a list, that list is returned, unless memory runs out.
     ensures complete { (segments : List Element) → element_body.Encodes body.now segments →
         IsOrMemory (λ given. given.items) segments result }
-    // `at` is the length of the longest prefix that is whole.
+    // `at` is the length of the longest well-formed prefix.
     ensures prefix { IfRefused result (IsLongestPrefix (IsListPrefix element_segment.Encodes) body.now) }
     // The body encodes at most one list.
     ensures one { (segments others : List Element) →
         element_body.Encodes body.now segments → element_body.Encodes body.now others → segments ≡ others }
-    // Every other encoding of a list is longer than its shortest.
+    // Every other encoding of a list is longer than its minimal encoding.
     ensures shortest { (segments : List Element) → element_body.Encodes body.now segments →
         IsShortestOrLonger body.now (element_body.bytes segments) }
 {
     read_items(alloc, body)
 }
 
-/// The segments that the body of an element section encodes, if the body is the shortest encoding (Core 3.0, Element
-/// Section).
+/// Reads a minimally encoded element section body (Core 3.0, Element Section).
 ///
-/// `Refused` carries the number of bytes of the count and of the segments that are whole and in their shortest
-/// encodings, before the first that isn't, or before what is left over; it is 0 where the count isn't in the fewest
-/// bytes.
+/// Fails with `Refused` at the offset of the count or segment that is malformed or not minimal, or of trailing bytes.
+/// Fails with `Memory` if an allocation fails.
 #[tactic(auto, using(crate::proofs::ElementLaws::element_is_lawful), unfolding(crate::specs::formats::Sections::element_body))]
 pub fn read_element_section_strict(alloc: Global, body: &[u8]) -> Result<Vec<Element>, ReadError>
-    // What is given, the body is the shortest encoding of.
+    // The body is the minimal encoding of the returned list.
     ensures given { IfOk result (λ segments. AskedList true element_segment body.now (segments.items)) }
-    // What the body is the shortest encoding of is given, unless memory ran out.
+    // If the body is the minimal encoding of a list, that list is returned, unless memory runs out.
     ensures complete { (segments : List Element) → AskedList true element_segment body.now segments →
         IsOrMemory (λ given. given.items) segments result }
-    // `at` is the length of the longest prefix that is whole and in shortest encodings.
+    // `at` is the length of the longest well-formed, minimally encoded prefix.
     ensures prefix { IfRefused result (IsLongestPrefix (IsAskedPrefix true element_segment) body.now) }
-    // The body is the shortest encoding of at most one list.
+    // The body is the minimal encoding of at most one list.
     ensures one { (segments others : List Element) →
         AskedList true element_segment body.now segments → AskedList true element_segment body.now others → segments ≡ others }
-    // That is so where it encodes the list, as `read_element_section` tells, and is as `normalise_element_section` leaves
-    // it.
+    // This holds if and only if the body encodes the value and equals its minimal encoding.
     ensures shortest { (segments : List Element) → AskedList true element_segment body.now segments ↔
         (element_body.Encodes body.now segments × (body.now ≡ element_body.bytes segments)) }
 {
     read_items_strict(alloc, body)
 }
 
-/// The normal bytes of the body of an element section: the same segments in the fewest bytes (Core 3.0, Element Section).
+/// Returns the minimal encoding of an element section body (Core 3.0, Element Section).
 ///
-/// `Refused` carries the number of bytes of the count and of the segments that are whole before the first that isn't,
-/// or before what is left over.
+/// Fails with `Refused` as `read_element_section` does, and with `Memory` if the body can't be copied.
 #[tactic(auto, unfolding(crate::specs::formats::Sections::element_body))]
 pub fn normalise_element_section(alloc: Global, body: &[u8]) -> Result<Vec<u8>, ReadError>
-    // The result is the shortest encoding of a list that the body encodes.
+    // The result is the minimal encoding of a list that the body encodes.
     ensures given { IfOk result (λ encoding.
         IsNormalForm element_body.Encodes element_body.bytes body.now encoding.items) }
-    // Where the body encodes a list, its shortest encoding is given, unless memory ran out.
+    // If the body encodes a list, the result is the minimal encoding of that list, unless memory runs out.
     ensures complete { (segments : List Element) → element_body.Encodes body.now segments →
         IsOrMemory (λ encoding. encoding.items) (element_body.bytes segments) result }
-    // `at` is the length of the longest prefix that is whole.
+    // `at` is the length of the longest well-formed prefix.
     ensures prefix { IfRefused result (IsLongestPrefix (IsListPrefix element_segment.Encodes) body.now) }
     // The body encodes at most one list.
     ensures one { (segments others : List Element) →
         element_body.Encodes body.now segments → element_body.Encodes body.now others → segments ≡ others }
-    // The result encodes a list exactly if the body does.
+    // The result encodes a list if and only if the body does.
     ensures same { IfOk result (λ encoding. (segments : List Element) →
         element_body.Encodes encoding.items segments ↔ element_body.Encodes body.now segments) }
-    // The result is normal: it is the shortest encoding of what it encodes.
+    // The result is the minimal encoding of the value that it encodes.
     ensures normal { IfOk result (λ encoding. (segments : List Element) →
         element_body.Encodes encoding.items segments → encoding.items ≡ element_body.bytes segments) }
-    // Every other encoding of a list is longer than its shortest.
+    // Every other encoding of a list is longer than its minimal encoding.
     ensures shortest { (segments : List Element) → element_body.Encodes body.now segments →
         IsShortestOrLonger body.now (element_body.bytes segments) }
     // The result is no longer than the body.
     ensures no_longer { IfOk result (λ encoding. length encoding.items ≤ length body.now) }
-    // A shortest encoding stays as it is, unless memory ran out.
+    // A minimal encoding is returned unchanged, unless memory runs out.
     ensures stays { (segments : List Element) → AskedList true element_segment body.now segments →
         IsOrMemory (λ encoding. encoding.items) body.now result }
-    // What stays as it is, is a shortest encoding.
+    // If the result equals the input, the input is a minimal encoding.
     ensures was_shortest { IfOk result (λ encoding.
         encoding.items ≡ body.now → EncodesSome (AskedList true element_segment) body.now) }
 {
     normalise_items::<Element>(alloc, body)
 }
 
-/// The same, rewritten in place in the list itself, which is given back. It needs no further memory.
+/// Replaces an element section body by its minimal encoding in place (Core 3.0, Element Section).
+///
+/// Fails with `Refused` as `read_element_section` does. Allocates nothing.
 #[tactic(auto, unfolding(crate::specs::formats::Sections::element_body))]
 pub fn rewrite_element_section(body: Vec<u8>) -> Result<Vec<u8>, ReadError>
-    // The result is the shortest encoding of a list that the body encodes.
+    // The result is the minimal encoding of a list that the body encodes.
     ensures given { IfOk result (λ encoding.
         IsNormalForm element_body.Encodes element_body.bytes body.items encoding.items) }
-    // Where the body encodes a list, its shortest encoding is given.
+    // If the body encodes a list, the result is the minimal encoding of that list.
     ensures complete { (segments : List Element) → element_body.Encodes body.items segments →
         IsOrMemory (λ encoding. encoding.items) (element_body.bytes segments) result }
-    // `at` is the length of the longest prefix that is whole.
+    // `at` is the length of the longest well-formed prefix.
     ensures prefix { IfRefused result (IsLongestPrefix (IsListPrefix element_segment.Encodes) body.items) }
-    // Only what encodes no list is refused.
+    // A refused body encodes no list.
     ensures unencoded { IfRefused result (λ _. (segments : List Element) → element_body.Encodes body.items segments → ⊥) }
-    // `Memory` is never answered.
+    // It never fails with `Memory`.
     ensures memory { NeedsNoMemory result }
 {
     rewrite_items::<Element>(body)
 }
 
-/// Whether a type is that of elements where none is told: `funcref`.
+/// Returns whether a type is `funcref`, which forms 0 and 4 imply.
 fn is_funcref(ty: RefType) -> bool
     ensures { result ≡ is_funcref ty }
 {
@@ -181,7 +179,7 @@ fn is_funcref(ty: RefType) -> bool
     }
 }
 
-/// The number of the form that a segment is written in.
+/// Returns the number of the minimal form of a segment.
 pub(crate) fn number_of(element: &Element) -> u32
     ensures { result ≡ element_number element.now }
 {
@@ -205,7 +203,7 @@ pub(crate) fn number_of(element: &Element) -> u32
     }
 }
 
-/// The byte of a kind, which is that of functions, and their indexes.
+/// Reads the element kind 0x00 (functions) and a list of function indices.
 fn read_functions(alloc: Global, cursor: &mut Cursor<'_>) -> Result<Items<u32>, Fault>
     ensures reads { Reads kind_and_functions.at cursor.old cursor.new result }
 {
@@ -215,7 +213,8 @@ fn read_functions(alloc: Global, cursor: &mut Cursor<'_>) -> Result<Items<u32>, 
     read_list(alloc, cursor)
 }
 
-/// A list of expressions. A list of instructions isn't a type of this crate, so it can't be `Readable` here.
+/// Reads a list of expressions. `Readable` can't be implemented here for a list of instructions, a type of another
+/// crate.
 fn read_expressions(alloc: Global, cursor: &mut Cursor<'_>) -> Result<Items<Items<Call>>, Fault>
     ensures reads { Reads (items expr).at cursor.old cursor.new result }
 {
@@ -228,7 +227,7 @@ fn read_expressions(alloc: Global, cursor: &mut Cursor<'_>) -> Result<Items<Item
     Ok(Items::from(groups))
 }
 
-/// A type, and expressions of it.
+/// Reads a reference type and a list of expressions.
 fn read_typed(alloc: Global, cursor: &mut Cursor<'_>) -> Result<Elements, Fault>
     ensures reads { Reads (made typed_of typed_part (ref_type ⊗ items expr)).at cursor.old cursor.new result }
 {
@@ -237,7 +236,7 @@ fn read_typed(alloc: Global, cursor: &mut Cursor<'_>) -> Result<Elements, Fault>
     Ok(Elements::Expressions(ty, expressions))
 }
 
-/// The place in a table that the elements are copied to.
+/// Reads the offset of an active segment.
 fn read_place(
     alloc: Global,
     cursor: &mut Cursor<'_>,
@@ -252,7 +251,7 @@ fn read_place(
     })
 }
 
-/// What stands between the number of a form and the kind or type of the elements.
+/// Reads what follows the number of a form, up to the element kind or type.
 fn read_mode(alloc: Global, cursor: &mut Cursor<'_>, form: u32) -> Result<ElementMode, Fault>
     ensures reads { Reads (mode_at form) cursor.old cursor.new result }
 {
@@ -268,7 +267,7 @@ fn read_mode(alloc: Global, cursor: &mut Cursor<'_>, form: u32) -> Result<Elemen
     }
 }
 
-/// The kind or type of the elements, where a form tells it, and the elements.
+/// Reads the element kind or type, if the form has one, and the elements.
 fn read_elements(alloc: Global, cursor: &mut Cursor<'_>, form: u32) -> Result<Elements, Fault>
     ensures reads { Reads (elements_at form) cursor.old cursor.new result }
 {
@@ -284,7 +283,7 @@ fn read_elements(alloc: Global, cursor: &mut Cursor<'_>, form: u32) -> Result<El
     }
 }
 
-/// What comes after the number of a form.
+/// Reads what follows the number of a form.
 #[tactic(auto, using(crate::proofs::ElementReading::form_read, crate::proofs::ElementReading::no_mode, crate::proofs::ElementReading::no_elements))]
 fn read_form(alloc: Global, cursor: &mut Cursor<'_>, form: u32) -> Result<Element, Fault>
     ensures reads { Reads (element_form form).at cursor.old cursor.new result }
@@ -294,7 +293,7 @@ fn read_form(alloc: Global, cursor: &mut Cursor<'_>, form: u32) -> Result<Elemen
     Ok(Element { mode, elements })
 }
 
-/// An element segment. In any form but its own it is a long form.
+/// Reads an element segment. Notes a non-minimal form if the segment has a shorter one.
 #[tactic(auto, unfolding(crate::specs::formats::Elements::element_segment))]
 fn read_element(alloc: Global, cursor: &mut Cursor<'_>) -> Result<Element, Fault>
     ensures reads { Reads element_segment.at cursor.old cursor.new result }
@@ -324,7 +323,7 @@ impl<'a> Readable<'a> for Element {
     }
 }
 
-/// An expression that an element is made by.
+/// An expression that computes an element.
 struct Expression;
 
 impl Rewritable for Expression {
@@ -341,7 +340,7 @@ impl Rewritable for Expression {
     }
 }
 
-/// Leaves the place in a table and a list of elements in their shortest encodings.
+/// Rewrites an offset and a list of elements to their minimal encodings.
 #[tactic(auto, using(std::proofs::Common::append_assoc))]
 fn rewrite_placed<T: Rewritable>(rewriter: &mut Rewriter) -> Result<(), Fault>
     ensures rewrites { Rewrites (expr ⊗ items T.format) rewriter.old rewriter.new result }
@@ -350,7 +349,7 @@ fn rewrite_placed<T: Rewritable>(rewriter: &mut Rewriter) -> Result<(), Fault>
     rewrite_list::<T>(rewriter)
 }
 
-/// Leaves the byte of a kind, which is that of functions, and their indexes in the shortest encoding.
+/// Rewrites the element kind 0x00 (functions) and a list of function indices to their minimal encodings.
 #[tactic(auto, using(std::proofs::Common::append_assoc))]
 fn rewrite_functions(rewriter: &mut Rewriter) -> Result<(), Fault>
     ensures rewrites { Rewrites kind_and_functions rewriter.old rewriter.new result }
@@ -361,7 +360,7 @@ fn rewrite_functions(rewriter: &mut Rewriter) -> Result<(), Fault>
     rewrite_list::<u32>(rewriter)
 }
 
-/// Leaves a type in its shortest encoding, and gives it.
+/// Rewrites a reference type to its minimal encoding and returns the type.
 fn rewrite_told_type(rewriter: &mut Rewriter) -> Result<RefType, Fault>
     ensures gives { Gives ref_type rewriter.old rewriter.new result }
 {
@@ -372,7 +371,7 @@ fn rewrite_told_type(rewriter: &mut Rewriter) -> Result<RefType, Fault>
     Ok(ty)
 }
 
-/// Leaves a type and expressions of it in their shortest encodings.
+/// Rewrites a reference type and a list of expressions to their minimal encodings.
 #[tactic(auto, using(std::proofs::Common::append_assoc))]
 fn rewrite_typed(rewriter: &mut Rewriter) -> Result<(), Fault>
     ensures rewrites { Rewrites (ref_type ⊗ items expr) rewriter.old rewriter.new result }
@@ -381,8 +380,8 @@ fn rewrite_typed(rewriter: &mut Rewriter) -> Result<(), Fault>
     rewrite_list::<Expression>(rewriter)
 }
 
-/// Leaves what follows the number 2 at `mark` in its shortest encoding: a table, the place in it, and functions. Where it is
-/// table 0, the form of the number 0 has neither its index nor the byte of the kind.
+/// Rewrites what follows the form number 2 at `mark` to its minimal encoding: a table index, an offset and functions.
+/// Form 0 leaves out table index 0 and the element kind.
 #[tactic(auto, unfolding(crate::specs::formats::Elements::element_segment))]
 fn rewrite_functions_of_table(rewriter: &mut Rewriter, mark: usize) -> Result<(), Fault>
     requires { mark < length rewriter.old.done }
@@ -399,8 +398,8 @@ fn rewrite_functions_of_table(rewriter: &mut Rewriter, mark: usize) -> Result<()
     Ok(())
 }
 
-/// Leaves what follows the number 6 at `mark` in its shortest encoding: a table, the place in it, and expressions of a type.
-/// Where it is table 0 and the type is `funcref`, the form of the number 4 has neither.
+/// Rewrites what follows the form number 6 at `mark` to its minimal encoding: a table index, an offset, a type and
+/// expressions. Form 4 leaves out table index 0 and the type `funcref`.
 #[tactic(auto, unfolding(crate::specs::formats::Elements::element_segment))]
 fn rewrite_expressions_of_table(rewriter: &mut Rewriter, mark: usize) -> Result<(), Fault>
     requires { mark < length rewriter.old.done }
@@ -419,7 +418,7 @@ fn rewrite_expressions_of_table(rewriter: &mut Rewriter, mark: usize) -> Result<
     Ok(())
 }
 
-/// Leaves an element segment in its shortest encoding.
+/// Rewrites an element segment to its minimal encoding.
 #[tactic(auto, using(crate::proofs::ElementLaws::no_element_form, crate::proofs::ElementRewriting::number_written), unfolding(crate::specs::formats::Elements::element_segment))]
 fn rewrite_element(rewriter: &mut Rewriter) -> Result<(), Fault>
     ensures rewrites { Rewrites element_segment rewriter.old rewriter.new result }

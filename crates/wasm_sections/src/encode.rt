@@ -1,4 +1,4 @@
-//! What readers of sections give, written (Core 3.0, Modules).
+//! `Encode` for the types that the readers of sections return.
 
 mod custom;
 mod entries;

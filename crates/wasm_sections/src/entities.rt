@@ -1,4 +1,4 @@
-//! The types of globals and tags, and of what is imported (Core 3.0, Global Types, Tag Types and External Types).
+//! The types of globals, tags and imports, read and rewritten (Core 3.0, Global Types, Tag Types and External Types).
 ghost use Rattle.std.specs.Prelude.{◌≡◌, IfErr};
 ghost use Rattle.wasm_codec.specs.Places.{Reads};
 ghost use Rattle.wasm_codec.specs.Rewriter.{Rewrites};
@@ -12,7 +12,7 @@ use wasm_codec::rewriter::Rewriter;
 use wasm_types::normaliser::rewrite_val_type;
 use wasm_types::reader::read_val_type;
 
-/// Whether a global can be written, and whether it is shared.
+/// Reads whether a global is mutable and whether it is shared.
 #[tactic(auto, unfolding(crate::specs::formats::Externals::global_flags))]
 fn read_global_flags(cursor: &mut Cursor<'_>) -> Result<(bool, bool), Fault>
     ensures reads { Reads global_flags.at cursor.old cursor.new result }
@@ -27,7 +27,7 @@ fn read_global_flags(cursor: &mut Cursor<'_>) -> Result<(bool, bool), Fault>
     }
 }
 
-/// The type of a global.
+/// Reads a global type.
 #[tactic(auto, unfolding(crate::specs::formats::Externals::global_type))]
 pub(crate) fn read_global_type(cursor: &mut Cursor<'_>) -> Result<GlobalType, Fault>
     ensures reads { Reads global_type.at cursor.old cursor.new result }
@@ -42,7 +42,7 @@ pub(crate) fn read_global_type(cursor: &mut Cursor<'_>) -> Result<GlobalType, Fa
     })
 }
 
-/// The type of a tag.
+/// Reads a tag type.
 #[tactic(auto, unfolding(crate::specs::formats::Externals::tag_type))]
 pub(crate) fn read_tag_type(cursor: &mut Cursor<'_>) -> Result<TagType, Fault>
     ensures reads { Reads tag_type.at cursor.old cursor.new result }
@@ -58,7 +58,7 @@ pub(crate) fn read_tag_type(cursor: &mut Cursor<'_>) -> Result<TagType, Fault>
     })
 }
 
-/// The type of what is imported.
+/// Reads the type of an import.
 #[tactic(auto, unfolding(crate::specs::formats::Externals::entity_type))]
 pub(crate) fn read_entity_type(cursor: &mut Cursor<'_>) -> Result<EntityType, Fault>
     ensures reads { Reads entity_type.at cursor.old cursor.new result }
@@ -75,7 +75,7 @@ pub(crate) fn read_entity_type(cursor: &mut Cursor<'_>) -> Result<EntityType, Fa
     }
 }
 
-/// Leaves as it is whether a global can be written, and whether it is shared.
+/// Passes the flags of a global, which have one encoding.
 #[tactic(auto, unfolding(crate::specs::formats::Externals::global_flags))]
 fn rewrite_global_flags(rewriter: &mut Rewriter) -> Result<(), Fault>
     ensures rewrites { Rewrites global_flags rewriter.old rewriter.new result }
@@ -89,7 +89,7 @@ fn rewrite_global_flags(rewriter: &mut Rewriter) -> Result<(), Fault>
     }
 }
 
-/// Leaves the type of a global in its shortest encoding.
+/// Rewrites a global type to its minimal encoding.
 #[tactic(auto, using(std::proofs::Common::append_assoc), unfolding(crate::specs::formats::Externals::global_type))]
 pub(crate) fn rewrite_global_type(rewriter: &mut Rewriter) -> Result<(), Fault>
     ensures rewrites { Rewrites global_type rewriter.old rewriter.new result }
@@ -98,7 +98,7 @@ pub(crate) fn rewrite_global_type(rewriter: &mut Rewriter) -> Result<(), Fault>
     rewrite_global_flags(rewriter)
 }
 
-/// Leaves the type of a tag in its shortest encoding.
+/// Rewrites a tag type to its minimal encoding.
 #[tactic(auto, using(std::proofs::Common::append_assoc), unfolding(crate::specs::formats::Externals::tag_type))]
 pub(crate) fn rewrite_tag_type(rewriter: &mut Rewriter) -> Result<(), Fault>
     ensures rewrites { Rewrites tag_type rewriter.old rewriter.new result }
@@ -110,7 +110,7 @@ pub(crate) fn rewrite_tag_type(rewriter: &mut Rewriter) -> Result<(), Fault>
     Ok(())
 }
 
-/// Leaves the type of what is imported in its shortest encoding.
+/// Rewrites the type of an import to its minimal encoding.
 #[tactic(auto, using(std::proofs::Common::append_assoc), unfolding(crate::specs::formats::Externals::entity_type))]
 pub(crate) fn rewrite_entity_type(rewriter: &mut Rewriter) -> Result<(), Fault>
     ensures rewrites { Rewrites entity_type rewriter.old rewriter.new result }

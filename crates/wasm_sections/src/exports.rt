@@ -24,126 +24,136 @@ use wasm_codec::reader::cursor::{Cursor, Fault};
 use wasm_codec::rewriter::{Rewritable, Rewriter};
 use wasm_readers::readable::Readable;
 
-/// An export: a name, and what it refers to.
+/// An export: a name for an item of the module (Core 3.0, Export Section).
 #[derive(Clone, Copy, Debug)]
 pub struct Export<'a> {
-    /// The name.
+    /// Name of the export.
     pub name: &'a str,
-    /// What kind of thing it refers to.
+    /// Kind of the exported item.
     pub kind: ExportKind,
-    /// The index of that thing.
+    /// Index of the item in the index space of its kind.
     pub index: u32,
 }
 
-/// The exports that the body of an export section encodes, in any encoding (Core 3.0, Export Section).
+/// Reads an export section body, in any encoding (Core 3.0, Export Section).
 ///
-/// `Refused` carries the number of bytes of the count and of the exports that are whole before the first that isn't, or
-/// before what is left over.
+/// Fails with `Refused` at the offset of the malformed count or export, or of trailing bytes. Fails with `Memory` if an
+/// allocation fails.
+///
+/// # Examples
+///
+/// ```
+/// # use wasm_encoder::sections::read_export_section;
+/// # use wasm_encoder::ExportKind;
+/// let body = b"\x01\x03add\x00\x87\x00"; // one export: `add`, a function, its index padded
+/// let exports = read_export_section(rt.alloc(), body)?;
+/// assert_eq!(rt; exports[0].name, "add");
+/// assert_eq!(rt; (exports[0].kind, exports[0].index), (ExportKind::Func, 7));
+/// ```
 #[tactic(auto, using(crate::proofs::EntryLaws::export_is_lawful), unfolding(crate::specs::formats::Sections::export_body))]
 pub fn read_export_section<'a>(alloc: Global, body: &'a [u8]) -> Result<Vec<Export<'a>>, ReadError>
-    // What is given, the body encodes.
+    // The body encodes the returned list.
     ensures given { IfOk result (λ exports. export_body.Encodes body.now (all_export_parts exports.items)) }
-    // What the body encodes is given, unless memory ran out.
+    // If the body encodes a list, that list is returned, unless memory runs out.
     ensures complete { (exports : List ExportParts) → export_body.Encodes body.now exports →
         IsOrMemory (λ given. all_export_parts given.items) exports result }
-    // `at` is the length of the longest prefix that is whole.
+    // `at` is the length of the longest well-formed prefix.
     ensures prefix { IfRefused result (IsLongestPrefix (IsListPrefix export_entry.Encodes) body.now) }
     // The body encodes at most one list.
     ensures one { (exports others : List ExportParts) →
         export_body.Encodes body.now exports → export_body.Encodes body.now others → exports ≡ others }
-    // Every other encoding of a list is longer than its shortest.
+    // Every other encoding of a list is longer than its minimal encoding.
     ensures shortest { (exports : List ExportParts) → export_body.Encodes body.now exports →
         IsShortestOrLonger body.now (export_body.bytes exports) }
 {
     read_items(alloc, body)
 }
 
-/// The exports that the body of an export section encodes, if the body is the shortest encoding (Core 3.0, Export
-/// Section).
+/// Reads a minimally encoded export section body (Core 3.0, Export Section).
 ///
-/// `Refused` carries the number of bytes of the count and of the exports that are whole and in their shortest
-/// encodings, before the first that isn't, or before what is left over; it is 0 where the count isn't in the fewest
-/// bytes.
+/// Fails with `Refused` at the offset of the count or export that is malformed or not minimal, or of trailing bytes.
+/// Fails with `Memory` if an allocation fails.
 #[tactic(auto, using(crate::proofs::EntryLaws::export_is_lawful), unfolding(crate::specs::formats::Sections::export_body))]
 pub fn read_export_section_strict<'a>(
     alloc: Global,
     body: &'a [u8],
 ) -> Result<Vec<Export<'a>>, ReadError>
-    // What is given, the body is the shortest encoding of.
+    // The body is the minimal encoding of the returned list.
     ensures given { IfOk result (λ exports. AskedList true export_entry body.now (all_export_parts exports.items)) }
-    // What the body is the shortest encoding of is given, unless memory ran out.
+    // If the body is the minimal encoding of a list, that list is returned, unless memory runs out.
     ensures complete { (exports : List ExportParts) → AskedList true export_entry body.now exports →
         IsOrMemory (λ given. all_export_parts given.items) exports result }
-    // `at` is the length of the longest prefix that is whole and in shortest encodings.
+    // `at` is the length of the longest well-formed, minimally encoded prefix.
     ensures prefix { IfRefused result (IsLongestPrefix (IsAskedPrefix true export_entry) body.now) }
-    // The body is the shortest encoding of at most one list.
+    // The body is the minimal encoding of at most one list.
     ensures one { (exports others : List ExportParts) →
         AskedList true export_entry body.now exports → AskedList true export_entry body.now others → exports ≡ others }
-    // That is so where it encodes the list, as `read_export_section` tells, and is as `normalise_export_section` leaves it.
+    // This holds if and only if the body encodes the value and equals its minimal encoding.
     ensures shortest { (exports : List ExportParts) → AskedList true export_entry body.now exports ↔
         (export_body.Encodes body.now exports × (body.now ≡ export_body.bytes exports)) }
 {
     read_items_strict(alloc, body)
 }
 
-/// The normal bytes of the body of an export section: the same exports in the fewest bytes (Core 3.0, Export Section).
+/// Returns the minimal encoding of an export section body (Core 3.0, Export Section).
 ///
-/// `Refused` carries the number of bytes of the count and of the exports that are whole before the first that isn't, or
-/// before what is left over.
+/// Fails with `Refused` as `read_export_section` does, and with `Memory` if the body can't be copied.
 #[tactic(auto, unfolding(crate::specs::formats::Sections::export_body))]
 pub fn normalise_export_section(alloc: Global, body: &[u8]) -> Result<Vec<u8>, ReadError>
-    // The result is the shortest encoding of a list that the body encodes.
+    // The result is the minimal encoding of a list that the body encodes.
     ensures given { IfOk result (λ encoding.
         IsNormalForm export_body.Encodes export_body.bytes body.now encoding.items) }
-    // Where the body encodes a list, its shortest encoding is given, unless memory ran out.
+    // If the body encodes a list, the result is the minimal encoding of that list, unless memory runs out.
     ensures complete { (exports : List ExportParts) → export_body.Encodes body.now exports →
         IsOrMemory (λ encoding. encoding.items) (export_body.bytes exports) result }
-    // `at` is the length of the longest prefix that is whole.
+    // `at` is the length of the longest well-formed prefix.
     ensures prefix { IfRefused result (IsLongestPrefix (IsListPrefix export_entry.Encodes) body.now) }
     // The body encodes at most one list.
     ensures one { (exports others : List ExportParts) →
         export_body.Encodes body.now exports → export_body.Encodes body.now others → exports ≡ others }
-    // The result encodes a list exactly if the body does.
+    // The result encodes a list if and only if the body does.
     ensures same { IfOk result (λ encoding. (exports : List ExportParts) →
         export_body.Encodes encoding.items exports ↔ export_body.Encodes body.now exports) }
-    // The result is normal: it is the shortest encoding of what it encodes.
+    // The result is the minimal encoding of the value that it encodes.
     ensures normal { IfOk result (λ encoding. (exports : List ExportParts) →
         export_body.Encodes encoding.items exports → encoding.items ≡ export_body.bytes exports) }
-    // Every other encoding of a list is longer than its shortest.
+    // Every other encoding of a list is longer than its minimal encoding.
     ensures shortest { (exports : List ExportParts) → export_body.Encodes body.now exports →
         IsShortestOrLonger body.now (export_body.bytes exports) }
     // The result is no longer than the body.
     ensures no_longer { IfOk result (λ encoding. length encoding.items ≤ length body.now) }
-    // A shortest encoding stays as it is, unless memory ran out.
+    // A minimal encoding is returned unchanged, unless memory runs out.
     ensures stays { (exports : List ExportParts) → AskedList true export_entry body.now exports →
         IsOrMemory (λ encoding. encoding.items) body.now result }
-    // What stays as it is, is a shortest encoding.
+    // If the result equals the input, the input is a minimal encoding.
     ensures was_shortest { IfOk result (λ encoding.
         encoding.items ≡ body.now → EncodesSome (AskedList true export_entry) body.now) }
 {
     normalise_items::<Export<'_>>(alloc, body)
 }
 
-/// The same, rewritten in place in the list itself, which is given back. It needs no further memory.
+/// Replaces an export section body by its minimal encoding in place (Core 3.0, Export Section).
+///
+/// Fails with `Refused` as `read_export_section` does. Allocates nothing.
 #[tactic(auto, unfolding(crate::specs::formats::Sections::export_body))]
 pub fn rewrite_export_section(body: Vec<u8>) -> Result<Vec<u8>, ReadError>
-    // The result is the shortest encoding of a list that the body encodes.
+    // The result is the minimal encoding of a list that the body encodes.
     ensures given { IfOk result (λ encoding.
         IsNormalForm export_body.Encodes export_body.bytes body.items encoding.items) }
-    // Where the body encodes a list, its shortest encoding is given.
+    // If the body encodes a list, the result is the minimal encoding of that list.
     ensures complete { (exports : List ExportParts) → export_body.Encodes body.items exports →
         IsOrMemory (λ encoding. encoding.items) (export_body.bytes exports) result }
-    // `at` is the length of the longest prefix that is whole.
+    // `at` is the length of the longest well-formed prefix.
     ensures prefix { IfRefused result (IsLongestPrefix (IsListPrefix export_entry.Encodes) body.items) }
-    // Only what encodes no list is refused.
+    // A refused body encodes no list.
     ensures unencoded { IfRefused result (λ _. (exports : List ExportParts) → export_body.Encodes body.items exports → ⊥) }
-    // `Memory` is never answered.
+    // It never fails with `Memory`.
     ensures memory { NeedsNoMemory result }
 {
     rewrite_items::<Export<'_>>(body)
 }
 
-/// What an export refers to.
+/// Reads the kind of an export.
 #[tactic(auto, unfolding(crate::specs::formats::Externals::export_kind))]
 fn read_export_kind(cursor: &mut Cursor<'_>) -> Result<ExportKind, Fault>
     ensures reads { Reads export_kind.at cursor.old cursor.new result }
@@ -159,7 +169,7 @@ fn read_export_kind(cursor: &mut Cursor<'_>) -> Result<ExportKind, Fault>
     }
 }
 
-/// An export.
+/// Reads an export.
 #[tactic(auto, unfolding(crate::specs::formats::Entries::export_entry))]
 fn read_export<'a>(cursor: &mut Cursor<'a>) -> Result<Export<'a>, Fault>
     ensures reads { Reads export_entry.at cursor.old cursor.new (map_ok export_parts result) }
@@ -188,7 +198,7 @@ impl<'a> Readable<'a> for Export<'a> {
     }
 }
 
-/// Leaves what an export refers to as it is.
+/// Passes the kind of an export, which has one encoding.
 #[tactic(auto, unfolding(crate::specs::formats::Externals::export_kind))]
 fn rewrite_export_kind(rewriter: &mut Rewriter) -> Result<(), Fault>
     ensures rewrites { Rewrites export_kind rewriter.old rewriter.new result }
@@ -203,7 +213,7 @@ fn rewrite_export_kind(rewriter: &mut Rewriter) -> Result<(), Fault>
     }
 }
 
-/// Leaves an export in its shortest encoding.
+/// Rewrites an export to its minimal encoding.
 #[tactic(auto, using(std::proofs::Common::append_assoc), unfolding(crate::specs::formats::Entries::export_entry))]
 fn rewrite_export(rewriter: &mut Rewriter) -> Result<(), Fault>
     ensures rewrites { Rewrites export_entry rewriter.old rewriter.new result }

@@ -1,4 +1,4 @@
-//! Expressions: instructions up to the end that closes none of them (Core 3.0, Expressions).
+//! Expressions: instructions up to the `end` that closes none of their blocks (Core 3.0, Expressions).
 ghost use Rattle.std.specs.Prelude.{◌≡◌, ◌+◌, ◌^◌, ◌<◌, IsTrue, IsFalse};
 ghost use Rattle.wasm_sections.specs.Closed.{IsClosed};
 ghost use Rattle.wasm_codec.specs.Places.{Reads};
@@ -13,18 +13,18 @@ use wasm_codec::rewriter::{Rewritable, Rewriter};
 use wasm_instructions::table::{Call, Opcode, Prefix};
 use wasm_readers::instructions::read_call;
 
-/// What an instruction does to the blocks that are open.
+/// The effect of an instruction on the open blocks.
 #[derive(Clone, Copy)]
 pub(crate) enum Step {
-    /// It leaves this many open.
+    /// This many blocks are open afterwards.
     GoesOn(usize),
-    /// It is the end of the expression.
+    /// The instruction ends the expression.
     Ends,
-    /// It can't stand there.
+    /// The instruction is malformed here.
     Fails,
 }
 
-/// What an instruction does where `depth` blocks are open.
+/// Returns the effect of an instruction when `depth` blocks are open.
 fn nested(depth: usize, op: Opcode) -> Step
     requires { depth + 1 < 2 ^ 64 }
     ensures { as_move result ≡ nested depth op }
@@ -35,7 +35,7 @@ fn nested(depth: usize, op: Opcode) -> Step
     }
 }
 
-/// The same, of an instruction whose opcode is this byte, or begins with it.
+/// Returns the effect of an instruction whose opcode is, or begins with, `byte`.
 fn nested_by(depth: usize, byte: u32) -> Step
     requires { depth + 1 < 2 ^ 64 }
     ensures { as_move result ≡ nested_by depth byte }
@@ -60,7 +60,7 @@ fn nested_by(depth: usize, byte: u32) -> Step
     }
 }
 
-/// Whether each block in instructions is closed, and none closes more: then they are those of an expression.
+/// Returns whether every block is closed and no `end` is left over, so that the instructions form an expression.
 pub fn is_closed(calls: &[Call]) -> bool
     ensures closed { IsTrue result → IsClosed calls.now }
     ensures open { IsFalse result → IsClosed calls.now → ⊥ }
@@ -75,7 +75,7 @@ pub fn is_closed(calls: &[Call]) -> bool
     depth == 0
 }
 
-/// The instructions of an expression, without its end.
+/// Reads the instructions of an expression, without the final `end`.
 #[tactic(auto, unfolding(crate::specs::formats::Expressions::expr))]
 pub(crate) fn read_expr(alloc: Global, cursor: &mut Cursor<'_>) -> Result<Items<Call>, Fault>
     ensures reads { Reads expr.at cursor.old cursor.new result }
@@ -95,7 +95,7 @@ pub(crate) fn read_expr(alloc: Global, cursor: &mut Cursor<'_>) -> Result<Items<
     Err(Fault::Malformed)
 }
 
-/// Leaves an expression in its shortest encoding.
+/// Rewrites an expression to its minimal encoding.
 pub(crate) fn rewrite_expr(rewriter: &mut Rewriter) -> Result<(), Fault>
     ensures rewrites { Rewrites expr rewriter.old rewriter.new result }
 {

@@ -20,121 +20,120 @@ use wasm_codec::rewriter::{Rewritable, Rewriter};
 use wasm_instructions::table::Call;
 use wasm_readers::readable::Readable;
 
-/// A global, and the value that it has at first.
+/// A global defined by the module (Core 3.0, Global Section).
 #[derive(Debug, PartialEq, Eq, Drop)]
 pub struct Global {
-    /// Its type.
+    /// Type of the global.
     pub ty: GlobalType,
-    /// The instructions that make the value, without the end.
+    /// Instructions that compute the initial value, without the final `end`.
     pub init: Items<Call>,
 }
 
-/// The globals that the body of a global section encodes, in any encoding (Core 3.0, Global Section).
+/// Reads a global section body, in any encoding (Core 3.0, Global Section).
 ///
-/// `Refused` carries the number of bytes of the count and of the globals that are whole before the first that isn't, or
-/// before what is left over.
+/// Fails with `Refused` at the offset of the malformed count or global, or of trailing bytes. Fails with `Memory` if an
+/// allocation fails.
 #[tactic(auto, using(crate::proofs::EntryLaws::global_is_lawful), unfolding(crate::specs::formats::Sections::global_body))]
 pub fn read_global_section(alloc: Heap, body: &[u8]) -> Result<Vec<Global>, ReadError>
-    // What is given, the body encodes.
+    // The body encodes the returned list.
     ensures given { IfOk result (λ globals. global_body.Encodes body.now (globals.items)) }
-    // What the body encodes is given, unless memory ran out.
+    // If the body encodes a list, that list is returned, unless memory runs out.
     ensures complete { (globals : List Global) → global_body.Encodes body.now globals →
         IsOrMemory (λ given. given.items) globals result }
-    // `at` is the length of the longest prefix that is whole.
+    // `at` is the length of the longest well-formed prefix.
     ensures prefix { IfRefused result (IsLongestPrefix (IsListPrefix global_entry.Encodes) body.now) }
     // The body encodes at most one list.
     ensures one { (globals others : List Global) →
         global_body.Encodes body.now globals → global_body.Encodes body.now others → globals ≡ others }
-    // Every other encoding of a list is longer than its shortest.
+    // Every other encoding of a list is longer than its minimal encoding.
     ensures shortest { (globals : List Global) → global_body.Encodes body.now globals →
         IsShortestOrLonger body.now (global_body.bytes globals) }
 {
     read_items(alloc, body)
 }
 
-/// The globals that the body of a global section encodes, if the body is the shortest encoding (Core 3.0, Global
-/// Section).
+/// Reads a minimally encoded global section body (Core 3.0, Global Section).
 ///
-/// `Refused` carries the number of bytes of the count and of the globals that are whole and in their shortest
-/// encodings, before the first that isn't, or before what is left over; it is 0 where the count isn't in the fewest
-/// bytes.
+/// Fails with `Refused` at the offset of the count or global that is malformed or not minimal, or of trailing bytes.
+/// Fails with `Memory` if an allocation fails.
 #[tactic(auto, using(crate::proofs::EntryLaws::global_is_lawful), unfolding(crate::specs::formats::Sections::global_body))]
 pub fn read_global_section_strict(alloc: Heap, body: &[u8]) -> Result<Vec<Global>, ReadError>
-    // What is given, the body is the shortest encoding of.
+    // The body is the minimal encoding of the returned list.
     ensures given { IfOk result (λ globals. AskedList true global_entry body.now (globals.items)) }
-    // What the body is the shortest encoding of is given, unless memory ran out.
+    // If the body is the minimal encoding of a list, that list is returned, unless memory runs out.
     ensures complete { (globals : List Global) → AskedList true global_entry body.now globals →
         IsOrMemory (λ given. given.items) globals result }
-    // `at` is the length of the longest prefix that is whole and in shortest encodings.
+    // `at` is the length of the longest well-formed, minimally encoded prefix.
     ensures prefix { IfRefused result (IsLongestPrefix (IsAskedPrefix true global_entry) body.now) }
-    // The body is the shortest encoding of at most one list.
+    // The body is the minimal encoding of at most one list.
     ensures one { (globals others : List Global) →
         AskedList true global_entry body.now globals → AskedList true global_entry body.now others → globals ≡ others }
-    // That is so where it encodes the list, as `read_global_section` tells, and is as `normalise_global_section` leaves it.
+    // This holds if and only if the body encodes the value and equals its minimal encoding.
     ensures shortest { (globals : List Global) → AskedList true global_entry body.now globals ↔
         (global_body.Encodes body.now globals × (body.now ≡ global_body.bytes globals)) }
 {
     read_items_strict(alloc, body)
 }
 
-/// The normal bytes of the body of a global section: the same globals in the fewest bytes (Core 3.0, Global Section).
+/// Returns the minimal encoding of a global section body (Core 3.0, Global Section).
 ///
-/// `Refused` carries the number of bytes of the count and of the globals that are whole before the first that isn't, or
-/// before what is left over.
+/// Fails with `Refused` as `read_global_section` does, and with `Memory` if the body can't be copied.
 #[tactic(auto, unfolding(crate::specs::formats::Sections::global_body))]
 pub fn normalise_global_section(alloc: Heap, body: &[u8]) -> Result<Vec<u8>, ReadError>
-    // The result is the shortest encoding of a list that the body encodes.
+    // The result is the minimal encoding of a list that the body encodes.
     ensures given { IfOk result (λ encoding.
         IsNormalForm global_body.Encodes global_body.bytes body.now encoding.items) }
-    // Where the body encodes a list, its shortest encoding is given, unless memory ran out.
+    // If the body encodes a list, the result is the minimal encoding of that list, unless memory runs out.
     ensures complete { (globals : List Global) → global_body.Encodes body.now globals →
         IsOrMemory (λ encoding. encoding.items) (global_body.bytes globals) result }
-    // `at` is the length of the longest prefix that is whole.
+    // `at` is the length of the longest well-formed prefix.
     ensures prefix { IfRefused result (IsLongestPrefix (IsListPrefix global_entry.Encodes) body.now) }
     // The body encodes at most one list.
     ensures one { (globals others : List Global) →
         global_body.Encodes body.now globals → global_body.Encodes body.now others → globals ≡ others }
-    // The result encodes a list exactly if the body does.
+    // The result encodes a list if and only if the body does.
     ensures same { IfOk result (λ encoding. (globals : List Global) →
         global_body.Encodes encoding.items globals ↔ global_body.Encodes body.now globals) }
-    // The result is normal: it is the shortest encoding of what it encodes.
+    // The result is the minimal encoding of the value that it encodes.
     ensures normal { IfOk result (λ encoding. (globals : List Global) →
         global_body.Encodes encoding.items globals → encoding.items ≡ global_body.bytes globals) }
-    // Every other encoding of a list is longer than its shortest.
+    // Every other encoding of a list is longer than its minimal encoding.
     ensures shortest { (globals : List Global) → global_body.Encodes body.now globals →
         IsShortestOrLonger body.now (global_body.bytes globals) }
     // The result is no longer than the body.
     ensures no_longer { IfOk result (λ encoding. length encoding.items ≤ length body.now) }
-    // A shortest encoding stays as it is, unless memory ran out.
+    // A minimal encoding is returned unchanged, unless memory runs out.
     ensures stays { (globals : List Global) → AskedList true global_entry body.now globals →
         IsOrMemory (λ encoding. encoding.items) body.now result }
-    // What stays as it is, is a shortest encoding.
+    // If the result equals the input, the input is a minimal encoding.
     ensures was_shortest { IfOk result (λ encoding.
         encoding.items ≡ body.now → EncodesSome (AskedList true global_entry) body.now) }
 {
     normalise_items::<Global>(alloc, body)
 }
 
-/// The same, rewritten in place in the list itself, which is given back. It needs no further memory.
+/// Replaces a global section body by its minimal encoding in place (Core 3.0, Global Section).
+///
+/// Fails with `Refused` as `read_global_section` does. Allocates nothing.
 #[tactic(auto, unfolding(crate::specs::formats::Sections::global_body))]
 pub fn rewrite_global_section(body: Vec<u8>) -> Result<Vec<u8>, ReadError>
-    // The result is the shortest encoding of a list that the body encodes.
+    // The result is the minimal encoding of a list that the body encodes.
     ensures given { IfOk result (λ encoding.
         IsNormalForm global_body.Encodes global_body.bytes body.items encoding.items) }
-    // Where the body encodes a list, its shortest encoding is given.
+    // If the body encodes a list, the result is the minimal encoding of that list.
     ensures complete { (globals : List Global) → global_body.Encodes body.items globals →
         IsOrMemory (λ encoding. encoding.items) (global_body.bytes globals) result }
-    // `at` is the length of the longest prefix that is whole.
+    // `at` is the length of the longest well-formed prefix.
     ensures prefix { IfRefused result (IsLongestPrefix (IsListPrefix global_entry.Encodes) body.items) }
-    // Only what encodes no list is refused.
+    // A refused body encodes no list.
     ensures unencoded { IfRefused result (λ _. (globals : List Global) → global_body.Encodes body.items globals → ⊥) }
-    // `Memory` is never answered.
+    // It never fails with `Memory`.
     ensures memory { NeedsNoMemory result }
 {
     rewrite_items::<Global>(body)
 }
 
-/// A global.
+/// Reads a global.
 #[tactic(auto, unfolding(crate::specs::formats::Entries::global_entry))]
 fn read_global(alloc: Heap, cursor: &mut Cursor<'_>) -> Result<Global, Fault>
     ensures reads { Reads global_entry.at cursor.old cursor.new result }

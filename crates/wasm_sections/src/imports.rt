@@ -24,126 +24,125 @@ use wasm_codec::reader::cursor::{Cursor, Fault};
 use wasm_codec::rewriter::{Rewritable, Rewriter};
 use wasm_readers::readable::Readable;
 
-/// An import: the names that it has there, and its type.
+/// An import: two names and a type (Core 3.0, Import Section).
 #[derive(Clone, Copy, Debug)]
 pub struct Import<'a> {
-    /// The name of the module that it comes from.
+    /// Name of the module to import from.
     pub module: &'a str,
-    /// The name that it has there.
+    /// Name of the item in that module.
     pub field: &'a str,
-    /// What it is.
+    /// Type of the item.
     pub ty: EntityType,
 }
 
-/// The imports that the body of an import section encodes, in any encoding (Core 3.0, Import Section).
+/// Reads an import section body, in any encoding (Core 3.0, Import Section).
 ///
-/// `Refused` carries the number of bytes of the count and of the imports that are whole before the first that isn't, or
-/// before what is left over.
+/// Fails with `Refused` at the offset of the malformed count or import, or of trailing bytes. Fails with `Memory` if an
+/// allocation fails.
 #[tactic(auto, using(crate::proofs::EntryLaws::import_is_lawful), unfolding(crate::specs::formats::Sections::import_body))]
 pub fn read_import_section<'a>(alloc: Global, body: &'a [u8]) -> Result<Vec<Import<'a>>, ReadError>
-    // What is given, the body encodes.
+    // The body encodes the returned list.
     ensures given { IfOk result (λ imports. import_body.Encodes body.now (all_import_parts imports.items)) }
-    // What the body encodes is given, unless memory ran out.
+    // If the body encodes a list, that list is returned, unless memory runs out.
     ensures complete { (imports : List ImportParts) → import_body.Encodes body.now imports →
         IsOrMemory (λ given. all_import_parts given.items) imports result }
-    // `at` is the length of the longest prefix that is whole.
+    // `at` is the length of the longest well-formed prefix.
     ensures prefix { IfRefused result (IsLongestPrefix (IsListPrefix import_entry.Encodes) body.now) }
     // The body encodes at most one list.
     ensures one { (imports others : List ImportParts) →
         import_body.Encodes body.now imports → import_body.Encodes body.now others → imports ≡ others }
-    // Every other encoding of a list is longer than its shortest.
+    // Every other encoding of a list is longer than its minimal encoding.
     ensures shortest { (imports : List ImportParts) → import_body.Encodes body.now imports →
         IsShortestOrLonger body.now (import_body.bytes imports) }
 {
     read_items(alloc, body)
 }
 
-/// The imports that the body of an import section encodes, if the body is the shortest encoding (Core 3.0, Import
-/// Section).
+/// Reads a minimally encoded import section body (Core 3.0, Import Section).
 ///
-/// `Refused` carries the number of bytes of the count and of the imports that are whole and in their shortest
-/// encodings, before the first that isn't, or before what is left over; it is 0 where the count isn't in the fewest
-/// bytes.
+/// Fails with `Refused` at the offset of the count or import that is malformed or not minimal, or of trailing bytes.
+/// Fails with `Memory` if an allocation fails.
 #[tactic(auto, using(crate::proofs::EntryLaws::import_is_lawful), unfolding(crate::specs::formats::Sections::import_body))]
 pub fn read_import_section_strict<'a>(
     alloc: Global,
     body: &'a [u8],
 ) -> Result<Vec<Import<'a>>, ReadError>
-    // What is given, the body is the shortest encoding of.
+    // The body is the minimal encoding of the returned list.
     ensures given { IfOk result (λ imports. AskedList true import_entry body.now (all_import_parts imports.items)) }
-    // What the body is the shortest encoding of is given, unless memory ran out.
+    // If the body is the minimal encoding of a list, that list is returned, unless memory runs out.
     ensures complete { (imports : List ImportParts) → AskedList true import_entry body.now imports →
         IsOrMemory (λ given. all_import_parts given.items) imports result }
-    // `at` is the length of the longest prefix that is whole and in shortest encodings.
+    // `at` is the length of the longest well-formed, minimally encoded prefix.
     ensures prefix { IfRefused result (IsLongestPrefix (IsAskedPrefix true import_entry) body.now) }
-    // The body is the shortest encoding of at most one list.
+    // The body is the minimal encoding of at most one list.
     ensures one { (imports others : List ImportParts) →
         AskedList true import_entry body.now imports → AskedList true import_entry body.now others → imports ≡ others }
-    // That is so where it encodes the list, as `read_import_section` tells, and is as `normalise_import_section` leaves it.
+    // This holds if and only if the body encodes the value and equals its minimal encoding.
     ensures shortest { (imports : List ImportParts) → AskedList true import_entry body.now imports ↔
         (import_body.Encodes body.now imports × (body.now ≡ import_body.bytes imports)) }
 {
     read_items_strict(alloc, body)
 }
 
-/// The normal bytes of the body of an import section: the same imports in the fewest bytes (Core 3.0, Import Section).
+/// Returns the minimal encoding of an import section body (Core 3.0, Import Section).
 ///
-/// `Refused` carries the number of bytes of the count and of the imports that are whole before the first that isn't, or
-/// before what is left over.
+/// Fails with `Refused` as `read_import_section` does, and with `Memory` if the body can't be copied.
 #[tactic(auto, unfolding(crate::specs::formats::Sections::import_body))]
 pub fn normalise_import_section(alloc: Global, body: &[u8]) -> Result<Vec<u8>, ReadError>
-    // The result is the shortest encoding of a list that the body encodes.
+    // The result is the minimal encoding of a list that the body encodes.
     ensures given { IfOk result (λ encoding.
         IsNormalForm import_body.Encodes import_body.bytes body.now encoding.items) }
-    // Where the body encodes a list, its shortest encoding is given, unless memory ran out.
+    // If the body encodes a list, the result is the minimal encoding of that list, unless memory runs out.
     ensures complete { (imports : List ImportParts) → import_body.Encodes body.now imports →
         IsOrMemory (λ encoding. encoding.items) (import_body.bytes imports) result }
-    // `at` is the length of the longest prefix that is whole.
+    // `at` is the length of the longest well-formed prefix.
     ensures prefix { IfRefused result (IsLongestPrefix (IsListPrefix import_entry.Encodes) body.now) }
     // The body encodes at most one list.
     ensures one { (imports others : List ImportParts) →
         import_body.Encodes body.now imports → import_body.Encodes body.now others → imports ≡ others }
-    // The result encodes a list exactly if the body does.
+    // The result encodes a list if and only if the body does.
     ensures same { IfOk result (λ encoding. (imports : List ImportParts) →
         import_body.Encodes encoding.items imports ↔ import_body.Encodes body.now imports) }
-    // The result is normal: it is the shortest encoding of what it encodes.
+    // The result is the minimal encoding of the value that it encodes.
     ensures normal { IfOk result (λ encoding. (imports : List ImportParts) →
         import_body.Encodes encoding.items imports → encoding.items ≡ import_body.bytes imports) }
-    // Every other encoding of a list is longer than its shortest.
+    // Every other encoding of a list is longer than its minimal encoding.
     ensures shortest { (imports : List ImportParts) → import_body.Encodes body.now imports →
         IsShortestOrLonger body.now (import_body.bytes imports) }
     // The result is no longer than the body.
     ensures no_longer { IfOk result (λ encoding. length encoding.items ≤ length body.now) }
-    // A shortest encoding stays as it is, unless memory ran out.
+    // A minimal encoding is returned unchanged, unless memory runs out.
     ensures stays { (imports : List ImportParts) → AskedList true import_entry body.now imports →
         IsOrMemory (λ encoding. encoding.items) body.now result }
-    // What stays as it is, is a shortest encoding.
+    // If the result equals the input, the input is a minimal encoding.
     ensures was_shortest { IfOk result (λ encoding.
         encoding.items ≡ body.now → EncodesSome (AskedList true import_entry) body.now) }
 {
     normalise_items::<Import<'_>>(alloc, body)
 }
 
-/// The same, rewritten in place in the list itself, which is given back. It needs no further memory.
+/// Replaces an import section body by its minimal encoding in place (Core 3.0, Import Section).
+///
+/// Fails with `Refused` as `read_import_section` does. Allocates nothing.
 #[tactic(auto, unfolding(crate::specs::formats::Sections::import_body))]
 pub fn rewrite_import_section(body: Vec<u8>) -> Result<Vec<u8>, ReadError>
-    // The result is the shortest encoding of a list that the body encodes.
+    // The result is the minimal encoding of a list that the body encodes.
     ensures given { IfOk result (λ encoding.
         IsNormalForm import_body.Encodes import_body.bytes body.items encoding.items) }
-    // Where the body encodes a list, its shortest encoding is given.
+    // If the body encodes a list, the result is the minimal encoding of that list.
     ensures complete { (imports : List ImportParts) → import_body.Encodes body.items imports →
         IsOrMemory (λ encoding. encoding.items) (import_body.bytes imports) result }
-    // `at` is the length of the longest prefix that is whole.
+    // `at` is the length of the longest well-formed prefix.
     ensures prefix { IfRefused result (IsLongestPrefix (IsListPrefix import_entry.Encodes) body.items) }
-    // Only what encodes no list is refused.
+    // A refused body encodes no list.
     ensures unencoded { IfRefused result (λ _. (imports : List ImportParts) → import_body.Encodes body.items imports → ⊥) }
-    // `Memory` is never answered.
+    // It never fails with `Memory`.
     ensures memory { NeedsNoMemory result }
 {
     rewrite_items::<Import<'_>>(body)
 }
 
-/// An import.
+/// Reads an import.
 #[tactic(auto, unfolding(crate::specs::formats::Entries::import_entry))]
 fn read_import<'a>(cursor: &mut Cursor<'a>) -> Result<Import<'a>, Fault>
     ensures reads { Reads import_entry.at cursor.old cursor.new (map_ok import_parts result) }

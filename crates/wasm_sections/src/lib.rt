@@ -1,5 +1,5 @@
-//! Sections of WebAssembly modules other than those of types and code (Core 3.0, Modules): what they hold, what reads it
-//! and what leaves it in its shortest encoding.
+//! The sections of WebAssembly modules, except types and code: their contents, readers and normalisers (Core 3.0,
+//! Modules).
 #![tactic(auto)]
 
 mod bodies;

@@ -1,4 +1,4 @@
-//! Limits, and the types of memories and tables (Core 3.0, Limits, Memory Types and Table Types).
+//! Limits and the types of memories and tables, read and rewritten (Core 3.0, Limits, Memory Types and Table Types).
 ghost use Rattle.std.specs.Prelude.{◌≡◌, Some, IfErr, IfSome};
 ghost use Rattle.wasm_codec.specs.Places.{Reads};
 ghost use Rattle.wasm_codec.specs.Rewriter.{Gives, Rewrites};
@@ -13,7 +13,8 @@ use wasm_codec::rewriter::Rewriter;
 use wasm_types::normaliser::rewrite_ref_type;
 use wasm_types::reader::read_ref_type;
 
-/// What a byte of limits tells: whether there is a maximum, they are shared, and addresses have 64 bits.
+/// Returns the flags of limits: whether there is a maximum, whether they are shared, whether addresses have 64 bits.
+/// `None` means that the byte is malformed.
 fn limits_flags_of(byte: u8) -> Option<(bool, (bool, bool))>
     ensures found { result ≡ find flags_byte all_flags byte }
     ensures byte { IfSome result (λ flags. flags_byte flags ≡ Some byte) }
@@ -31,7 +32,7 @@ fn limits_flags_of(byte: u8) -> Option<(bool, (bool, bool))>
     }
 }
 
-/// The same of a byte of a memory's limits, and whether the size of a page is told.
+/// Returns the flags of a memory's limits, and whether there is a page size. `None` means that the byte is malformed.
 fn memory_flags_of(byte: u8) -> Option<((bool, (bool, bool)), bool)>
     ensures found { result ≡ find paged_byte all_paged byte }
     ensures byte { IfSome result (λ flags. paged_byte flags ≡ Some byte) }
@@ -57,7 +58,7 @@ fn memory_flags_of(byte: u8) -> Option<((bool, (bool, bool)), bool)>
     }
 }
 
-/// The flags of limits.
+/// Reads the flags of limits.
 #[tactic(auto, using(crate::proofs::FlagReading::flags_read), unfolding(crate::specs::formats::Externals::limits_flags))]
 fn read_limits_flags(cursor: &mut Cursor<'_>) -> Result<(bool, (bool, bool)), Fault>
     ensures reads { Reads limits_flags.at cursor.old cursor.new result }
@@ -66,7 +67,7 @@ fn read_limits_flags(cursor: &mut Cursor<'_>) -> Result<(bool, (bool, bool)), Fa
     limits_flags_of(cursor.byte()?).ok_or(Fault::Malformed)
 }
 
-/// The flags of a memory's limits.
+/// Reads the flags of a memory's limits.
 #[tactic(auto, using(crate::proofs::FlagReading::flags_read), unfolding(crate::specs::formats::Externals::memory_flags))]
 fn read_memory_flags(cursor: &mut Cursor<'_>) -> Result<((bool, (bool, bool)), bool), Fault>
     ensures reads { Reads memory_flags.at cursor.old cursor.new result }
@@ -75,7 +76,7 @@ fn read_memory_flags(cursor: &mut Cursor<'_>) -> Result<((bool, (bool, bool)), b
     memory_flags_of(cursor.byte()?).ok_or(Fault::Malformed)
 }
 
-/// A u64 where a flag tells that there is one.
+/// Reads a u64 if a flag says that there is one.
 #[tactic(auto, unfolding(crate::specs::formats::Parts::part_if))]
 fn read_u64_if(cursor: &mut Cursor<'_>, there: bool) -> Result<Option<u64>, Fault>
     ensures reads { Reads (part_if there u64_format).at cursor.old cursor.new result }
@@ -87,7 +88,7 @@ fn read_u64_if(cursor: &mut Cursor<'_>, there: bool) -> Result<Option<u64>, Faul
     Ok(Some(cursor.u64()?))
 }
 
-/// A u32 where a flag tells that there is one.
+/// Reads a u32 if a flag says that there is one.
 #[tactic(auto, unfolding(crate::specs::formats::Parts::part_if))]
 fn read_u32_if(cursor: &mut Cursor<'_>, there: bool) -> Result<Option<u32>, Fault>
     ensures reads { Reads (part_if there u32_format).at cursor.old cursor.new result }
@@ -99,7 +100,7 @@ fn read_u32_if(cursor: &mut Cursor<'_>, there: bool) -> Result<Option<u32>, Faul
     Ok(Some(cursor.u32()?))
 }
 
-/// The type of a memory.
+/// Reads a memory type.
 #[tactic(auto, unfolding(crate::specs::formats::Externals::memory_type))]
 pub(crate) fn read_memory_type(cursor: &mut Cursor<'_>) -> Result<MemoryType, Fault>
     ensures reads { Reads memory_type.at cursor.old cursor.new result }
@@ -118,7 +119,7 @@ pub(crate) fn read_memory_type(cursor: &mut Cursor<'_>) -> Result<MemoryType, Fa
     })
 }
 
-/// The type of a table.
+/// Reads a table type.
 #[tactic(auto, unfolding(crate::specs::formats::Externals::table_type))]
 pub(crate) fn read_table_type(cursor: &mut Cursor<'_>) -> Result<TableType, Fault>
     ensures reads { Reads table_type.at cursor.old cursor.new result }
@@ -137,7 +138,7 @@ pub(crate) fn read_table_type(cursor: &mut Cursor<'_>) -> Result<TableType, Faul
     })
 }
 
-/// The flags of limits, which stay as they are.
+/// Passes the flags of limits, which have one encoding, and returns them.
 #[tactic(auto, using(crate::proofs::FlagReading::flags_given), unfolding(crate::specs::formats::Externals::limits_flags))]
 fn rewrite_limits_flags(rewriter: &mut Rewriter) -> Result<(bool, (bool, bool)), Fault>
     ensures gives { Gives limits_flags rewriter.old rewriter.new result }
@@ -145,7 +146,7 @@ fn rewrite_limits_flags(rewriter: &mut Rewriter) -> Result<(bool, (bool, bool)),
     limits_flags_of(rewriter.byte()?).ok_or(Fault::Malformed)
 }
 
-/// The flags of a memory's limits, which stay as they are.
+/// Passes the flags of a memory's limits, which have one encoding, and returns them.
 #[tactic(auto, using(crate::proofs::FlagReading::flags_given), unfolding(crate::specs::formats::Externals::memory_flags))]
 fn rewrite_memory_flags(rewriter: &mut Rewriter) -> Result<((bool, (bool, bool)), bool), Fault>
     ensures gives { Gives memory_flags rewriter.old rewriter.new result }
@@ -153,7 +154,7 @@ fn rewrite_memory_flags(rewriter: &mut Rewriter) -> Result<((bool, (bool, bool))
     memory_flags_of(rewriter.byte()?).ok_or(Fault::Malformed)
 }
 
-/// Leaves a u64 in its shortest encoding, where a flag tells that there is one.
+/// Rewrites a u64 to its minimal encoding if a flag says that there is one.
 #[tactic(auto, using(crate::proofs::LimitsRewriting::none_there), unfolding(crate::specs::formats::Parts::part_if))]
 fn rewrite_u64_if(rewriter: &mut Rewriter, there: bool) -> Result<(), Fault>
     ensures rewrites { Rewrites (part_if there u64_format) rewriter.old rewriter.new result }
@@ -164,7 +165,7 @@ fn rewrite_u64_if(rewriter: &mut Rewriter, there: bool) -> Result<(), Fault>
     Ok(())
 }
 
-/// Leaves a u32 in its shortest encoding, where a flag tells that there is one.
+/// Rewrites a u32 to its minimal encoding if a flag says that there is one.
 #[tactic(auto, using(crate::proofs::LimitsRewriting::none_there), unfolding(crate::specs::formats::Parts::part_if))]
 fn rewrite_u32_if(rewriter: &mut Rewriter, there: bool) -> Result<(), Fault>
     ensures rewrites { Rewrites (part_if there u32_format) rewriter.old rewriter.new result }
@@ -175,7 +176,7 @@ fn rewrite_u32_if(rewriter: &mut Rewriter, there: bool) -> Result<(), Fault>
     Ok(())
 }
 
-/// Leaves the parts of a memory type in their shortest encodings.
+/// Rewrites the parts of a memory type to their minimal encodings.
 #[tactic(auto, using(std::proofs::Common::append_assoc))]
 fn rewrite_memory_parts(rewriter: &mut Rewriter) -> Result<(), Fault>
     ensures rewrites { Rewrites memory_format rewriter.old rewriter.new result }
@@ -186,7 +187,7 @@ fn rewrite_memory_parts(rewriter: &mut Rewriter) -> Result<(), Fault>
     rewrite_u32_if(rewriter, has_page_size)
 }
 
-/// Leaves the type of a memory in its shortest encoding.
+/// Rewrites a memory type to its minimal encoding.
 #[tactic(auto, using(crate::proofs::LimitsRewriting::memory_rewritten, crate::proofs::LimitsRewriting::memory_refused))]
 pub(crate) fn rewrite_memory_type(rewriter: &mut Rewriter) -> Result<(), Fault>
     ensures rewrites { Rewrites memory_type rewriter.old rewriter.new result }
@@ -195,7 +196,7 @@ pub(crate) fn rewrite_memory_type(rewriter: &mut Rewriter) -> Result<(), Fault>
     rewrite_memory_parts(rewriter)
 }
 
-/// Leaves the parts of a table type in their shortest encodings.
+/// Rewrites the parts of a table type to their minimal encodings.
 #[tactic(auto, using(std::proofs::Common::append_assoc))]
 fn rewrite_table_parts(rewriter: &mut Rewriter) -> Result<(), Fault>
     ensures rewrites { Rewrites table_format rewriter.old rewriter.new result }
@@ -206,7 +207,7 @@ fn rewrite_table_parts(rewriter: &mut Rewriter) -> Result<(), Fault>
     rewrite_u64_if(rewriter, has_maximum)
 }
 
-/// Leaves the type of a table in its shortest encoding.
+/// Rewrites a table type to its minimal encoding.
 #[tactic(auto, using(crate::proofs::LimitsRewriting::table_rewritten, crate::proofs::LimitsRewriting::table_refused))]
 pub(crate) fn rewrite_table_type(rewriter: &mut Rewriter) -> Result<(), Fault>
     ensures rewrites { Rewrites table_type rewriter.old rewriter.new result }

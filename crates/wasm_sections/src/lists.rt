@@ -1,4 +1,4 @@
-//! Bodies of sections that are lists (Core 3.0, Modules), whatever their items are.
+//! Section bodies that are lists, for items of any type.
 ghost use Rattle.std.specs.Prelude.{◌≡◌, ◌↔◌, ◌≤◌, true, List, length, IfOk};
 ghost use Rattle.wasm_codec.specs.Answers.{NeedsNoMemory, IsOrMemory, IfRefused, IsLongestPrefix, IsNormalForm, EncodesSome};
 ghost use Rattle.wasm_codec.specs.Encoding.{IsShortestOrLonger};
@@ -12,7 +12,7 @@ use wasm_codec::rewriter::{Rewritable, normalise_list_to_end};
 use wasm_readers::lists::{read_list_to_end, read_list_to_end_as};
 use wasm_readers::readable::Readable;
 
-/// The items that a body encodes, in any encoding.
+/// Reads a list that fills a body, in any encoding.
 pub(crate) fn read_items<'a, T: Readable<'a>>(
     alloc: Global,
     body: &'a [u8],
@@ -30,7 +30,7 @@ pub(crate) fn read_items<'a, T: Readable<'a>>(
     read_list_to_end(alloc, body)
 }
 
-/// The items that a body encodes, if the body is their shortest encoding.
+/// Reads a minimally encoded list that fills a body.
 pub(crate) fn read_items_strict<'a, T: Readable<'a>>(
     alloc: Global,
     body: &'a [u8],
@@ -48,7 +48,7 @@ pub(crate) fn read_items_strict<'a, T: Readable<'a>>(
     read_list_to_end_as::<T, true>(alloc, body)
 }
 
-/// The shortest encoding of the items that a body encodes, in the list itself. It takes no memory.
+/// Rewrites a list that fills a body in place to its minimal encoding. Allocates nothing.
 pub(crate) fn rewrite_items<T: Rewritable>(body: Vec<u8>) -> Result<Vec<u8>, ReadError>
     ensures given { IfOk result (λ encoding.
         IsNormalForm (items T.format).Encodes (items T.format).bytes body.items encoding.items) }
@@ -63,7 +63,7 @@ pub(crate) fn rewrite_items<T: Rewritable>(body: Vec<u8>) -> Result<Vec<u8>, Rea
     normalise_list_to_end::<T>(body)
 }
 
-/// The shortest encoding of the items that a body encodes.
+/// Returns the minimal encoding of a list that fills a body.
 pub(crate) fn normalise_items<T: Rewritable>(
     alloc: Global,
     body: &[u8],
@@ -91,7 +91,7 @@ pub(crate) fn normalise_items<T: Rewritable>(
     rewrite_list_copy::<T>(alloc, body)
 }
 
-/// The same, with the clauses from which the others follow.
+/// Rewrites a copy of a body, with the clauses that imply those of `normalise_items`.
 fn rewrite_list_copy<T: Rewritable>(alloc: Global, body: &[u8]) -> Result<Vec<u8>, ReadError>
     ensures given { IfOk result (λ encoding.
         IsNormalForm (items T.format).Encodes (items T.format).bytes body.now encoding.items) }

@@ -19,106 +19,105 @@ use wasm_codec::reader::cursor::{Cursor, Fault};
 use wasm_codec::rewriter::{Rewritable, Rewriter};
 use wasm_readers::readable::Readable;
 
-/// The memories that the body of a memory section encodes, in any encoding (Core 3.0, Memory Section).
+/// Reads a memory section body, in any encoding (Core 3.0, Memory Section).
 ///
-/// `Refused` carries the number of bytes of the count and of the memories that are whole before the first that isn't,
-/// or before what is left over.
+/// Fails with `Refused` at the offset of the malformed count or memory, or of trailing bytes. Fails with `Memory` if an
+/// allocation fails.
 #[tactic(auto, using(crate::proofs::EntryLaws::memory_is_lawful), unfolding(crate::specs::formats::Sections::memory_body))]
 pub fn read_memory_section(alloc: Global, body: &[u8]) -> Result<Vec<MemoryType>, ReadError>
-    // What is given, the body encodes.
+    // The body encodes the returned list.
     ensures given { IfOk result (λ memories. memory_body.Encodes body.now (memories.items)) }
-    // What the body encodes is given, unless memory ran out.
+    // If the body encodes a list, that list is returned, unless memory runs out.
     ensures complete { (memories : List MemoryType) → memory_body.Encodes body.now memories →
         IsOrMemory (λ given. given.items) memories result }
-    // `at` is the length of the longest prefix that is whole.
+    // `at` is the length of the longest well-formed prefix.
     ensures prefix { IfRefused result (IsLongestPrefix (IsListPrefix memory_type.Encodes) body.now) }
     // The body encodes at most one list.
     ensures one { (memories others : List MemoryType) →
         memory_body.Encodes body.now memories → memory_body.Encodes body.now others → memories ≡ others }
-    // Every other encoding of a list is longer than its shortest.
+    // Every other encoding of a list is longer than its minimal encoding.
     ensures shortest { (memories : List MemoryType) → memory_body.Encodes body.now memories →
         IsShortestOrLonger body.now (memory_body.bytes memories) }
 {
     read_items(alloc, body)
 }
 
-/// The memories that the body of a memory section encodes, if the body is the shortest encoding (Core 3.0, Memory
-/// Section).
+/// Reads a minimally encoded memory section body (Core 3.0, Memory Section).
 ///
-/// `Refused` carries the number of bytes of the count and of the memories that are whole and in their shortest
-/// encodings, before the first that isn't, or before what is left over; it is 0 where the count isn't in the fewest
-/// bytes.
+/// Fails with `Refused` at the offset of the count or memory that is malformed or not minimal, or of trailing bytes.
+/// Fails with `Memory` if an allocation fails.
 #[tactic(auto, using(crate::proofs::EntryLaws::memory_is_lawful), unfolding(crate::specs::formats::Sections::memory_body))]
 pub fn read_memory_section_strict(alloc: Global, body: &[u8]) -> Result<Vec<MemoryType>, ReadError>
-    // What is given, the body is the shortest encoding of.
+    // The body is the minimal encoding of the returned list.
     ensures given { IfOk result (λ memories. AskedList true memory_type body.now (memories.items)) }
-    // What the body is the shortest encoding of is given, unless memory ran out.
+    // If the body is the minimal encoding of a list, that list is returned, unless memory runs out.
     ensures complete { (memories : List MemoryType) → AskedList true memory_type body.now memories →
         IsOrMemory (λ given. given.items) memories result }
-    // `at` is the length of the longest prefix that is whole and in shortest encodings.
+    // `at` is the length of the longest well-formed, minimally encoded prefix.
     ensures prefix { IfRefused result (IsLongestPrefix (IsAskedPrefix true memory_type) body.now) }
-    // The body is the shortest encoding of at most one list.
+    // The body is the minimal encoding of at most one list.
     ensures one { (memories others : List MemoryType) →
         AskedList true memory_type body.now memories → AskedList true memory_type body.now others → memories ≡ others }
-    // That is so where it encodes the list, as `read_memory_section` tells, and is as `normalise_memory_section` leaves it.
+    // This holds if and only if the body encodes the value and equals its minimal encoding.
     ensures shortest { (memories : List MemoryType) → AskedList true memory_type body.now memories ↔
         (memory_body.Encodes body.now memories × (body.now ≡ memory_body.bytes memories)) }
 {
     read_items_strict(alloc, body)
 }
 
-/// The normal bytes of the body of a memory section: the same memories in the fewest bytes (Core 3.0, Memory Section).
+/// Returns the minimal encoding of a memory section body (Core 3.0, Memory Section).
 ///
-/// `Refused` carries the number of bytes of the count and of the memories that are whole before the first that isn't,
-/// or before what is left over.
+/// Fails with `Refused` as `read_memory_section` does, and with `Memory` if the body can't be copied.
 #[tactic(auto, unfolding(crate::specs::formats::Sections::memory_body))]
 pub fn normalise_memory_section(alloc: Global, body: &[u8]) -> Result<Vec<u8>, ReadError>
-    // The result is the shortest encoding of a list that the body encodes.
+    // The result is the minimal encoding of a list that the body encodes.
     ensures given { IfOk result (λ encoding.
         IsNormalForm memory_body.Encodes memory_body.bytes body.now encoding.items) }
-    // Where the body encodes a list, its shortest encoding is given, unless memory ran out.
+    // If the body encodes a list, the result is the minimal encoding of that list, unless memory runs out.
     ensures complete { (memories : List MemoryType) → memory_body.Encodes body.now memories →
         IsOrMemory (λ encoding. encoding.items) (memory_body.bytes memories) result }
-    // `at` is the length of the longest prefix that is whole.
+    // `at` is the length of the longest well-formed prefix.
     ensures prefix { IfRefused result (IsLongestPrefix (IsListPrefix memory_type.Encodes) body.now) }
     // The body encodes at most one list.
     ensures one { (memories others : List MemoryType) →
         memory_body.Encodes body.now memories → memory_body.Encodes body.now others → memories ≡ others }
-    // The result encodes a list exactly if the body does.
+    // The result encodes a list if and only if the body does.
     ensures same { IfOk result (λ encoding. (memories : List MemoryType) →
         memory_body.Encodes encoding.items memories ↔ memory_body.Encodes body.now memories) }
-    // The result is normal: it is the shortest encoding of what it encodes.
+    // The result is the minimal encoding of the value that it encodes.
     ensures normal { IfOk result (λ encoding. (memories : List MemoryType) →
         memory_body.Encodes encoding.items memories → encoding.items ≡ memory_body.bytes memories) }
-    // Every other encoding of a list is longer than its shortest.
+    // Every other encoding of a list is longer than its minimal encoding.
     ensures shortest { (memories : List MemoryType) → memory_body.Encodes body.now memories →
         IsShortestOrLonger body.now (memory_body.bytes memories) }
     // The result is no longer than the body.
     ensures no_longer { IfOk result (λ encoding. length encoding.items ≤ length body.now) }
-    // A shortest encoding stays as it is, unless memory ran out.
+    // A minimal encoding is returned unchanged, unless memory runs out.
     ensures stays { (memories : List MemoryType) → AskedList true memory_type body.now memories →
         IsOrMemory (λ encoding. encoding.items) body.now result }
-    // What stays as it is, is a shortest encoding.
+    // If the result equals the input, the input is a minimal encoding.
     ensures was_shortest { IfOk result (λ encoding.
         encoding.items ≡ body.now → EncodesSome (AskedList true memory_type) body.now) }
 {
     normalise_items::<MemoryType>(alloc, body)
 }
 
-/// The same, rewritten in place in the list itself, which is given back. It needs no further memory.
+/// Replaces a memory section body by its minimal encoding in place (Core 3.0, Memory Section).
+///
+/// Fails with `Refused` as `read_memory_section` does. Allocates nothing.
 #[tactic(auto, unfolding(crate::specs::formats::Sections::memory_body))]
 pub fn rewrite_memory_section(body: Vec<u8>) -> Result<Vec<u8>, ReadError>
-    // The result is the shortest encoding of a list that the body encodes.
+    // The result is the minimal encoding of a list that the body encodes.
     ensures given { IfOk result (λ encoding.
         IsNormalForm memory_body.Encodes memory_body.bytes body.items encoding.items) }
-    // Where the body encodes a list, its shortest encoding is given.
+    // If the body encodes a list, the result is the minimal encoding of that list.
     ensures complete { (memories : List MemoryType) → memory_body.Encodes body.items memories →
         IsOrMemory (λ encoding. encoding.items) (memory_body.bytes memories) result }
-    // `at` is the length of the longest prefix that is whole.
+    // `at` is the length of the longest well-formed prefix.
     ensures prefix { IfRefused result (IsLongestPrefix (IsListPrefix memory_type.Encodes) body.items) }
-    // Only what encodes no list is refused.
+    // A refused body encodes no list.
     ensures unencoded { IfRefused result (λ _. (memories : List MemoryType) → memory_body.Encodes body.items memories → ⊥) }
-    // `Memory` is never answered.
+    // It never fails with `Memory`.
     ensures memory { NeedsNoMemory result }
 {
     rewrite_items::<MemoryType>(body)

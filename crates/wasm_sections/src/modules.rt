@@ -1,4 +1,4 @@
-//! Modules of which every section is decoded (Core 3.0, Modules).
+//! Modules with every section decoded (Core 3.0, Modules).
 ghost use Rattle.std.specs.Prelude.{◌≡◌, ◌↔◌, ◌≤◌, List, length, IfOk};
 ghost use Rattle.std.specs.List.{AllByRecursion};
 ghost use Rattle.wasm_codec.specs.Answers.{NeedsNoMemory, IsOrMemory, IfRefused, IsLongestPrefix, IsNormalForm, EncodesSome};
@@ -36,170 +36,220 @@ use wasm_readers::checks::check_module_of;
 use wasm_readers::modules::read_module_of;
 use wasm_types::types::TypeEntry;
 
-/// A section with what it holds.
+/// A decoded section (Core 3.0, Modules).
+///
+/// # Examples
+///
+/// ```
+/// # use wasm_encoder::{ModuleSection, read_whole_module};
+/// let bytes = b"\0asm\x01\0\0\0\x03\x03\x02\x00\x01"; // a function section: two functions, of types 0 and 1
+/// for section in &read_whole_module(rt.alloc(), bytes)? {
+///     if let ModuleSection::Functions(types) = section {
+///         assert_eq!(rt; types.as_slice(), [0, 1].as_slice());
+///     }
+/// }
+/// ```
 #[derive(Debug, Drop)]
 pub enum ModuleSection<'a> {
-    /// A custom section, whose id is 0.
+    /// A custom section (id 0).
     Custom(CustomSection<'a>),
-    /// Entries of a type section, whose id is 1.
+    /// The type section (id 1): recursion groups and single types.
     Types(Items<TypeEntry>),
-    /// Imports, of the section with the id 2.
+    /// The import section (id 2).
     Imports(Items<Import<'a>>),
-    /// The type index of each function, of the section with the id 3.
+    /// The function section (id 3): the type index of each function.
     Functions(Items<u32>),
-    /// Tables, of the section with the id 4.
+    /// The table section (id 4).
     Tables(Items<Table>),
-    /// Types of memories, of the section with the id 5.
+    /// The memory section (id 5).
     Memories(Items<MemoryType>),
-    /// Globals, of the section with the id 6.
+    /// The global section (id 6).
     Globals(Items<GlobalEntry>),
-    /// Exports, of the section with the id 7.
+    /// The export section (id 7).
     Exports(Items<Export<'a>>),
-    /// The index of the start function, of the section with the id 8.
+    /// The start section (id 8): a function index.
     Start(u32),
-    /// Element segments, of the section with the id 9.
+    /// The element section (id 9).
     Elements(Items<Element>),
-    /// Code bodies, of the section with the id 10.
+    /// The code section (id 10).
     Code(Items<CodeBody>),
-    /// Data segments, of the section with the id 11.
+    /// The data section (id 11).
     Data(Items<DataSegment<'a>>),
-    /// How many data segments there are, of the section with the id 12.
+    /// The data count section (id 12): the number of data segments.
     DataCount(u32),
-    /// Types of tags, of the section with the id 13.
+    /// The tag section (id 13).
     Tags(Items<TagType>),
 }
 
-/// The sections that the bytes of a module encode, in any encoding, each with what it holds (Core 3.0, Modules).
+/// Reads a module and decodes every section, in any encoding (Core 3.0, Modules).
 ///
-/// Sections come in any order and any number of times, as in the bytes: `check_order` tells whether they make a module.
-/// `Refused` carries the number of bytes of the header and of the sections that are whole before the first that isn't,
-/// or 0 where the header isn't there. A section with an id above 13, or with a body that encodes nothing of its kind, isn't
-/// whole.
+/// Sections may come in any order, and more than once: `check_order` checks that. Fails with `Refused` if the bytes are
+/// malformed: `at` is the offset of the first malformed section, or 0 if the header is missing. A section is malformed
+/// if its id is above 13 or its body doesn't decode. Fails with `Memory` if an allocation fails.
+///
+/// # Examples
+///
+/// ```
+/// # use wasm_encoder::{ModuleSection, read_whole_module};
+/// let bytes = b"\0asm\x01\0\0\0\x08\x82\x00\x85\x00"; // a start section; its size and its index are padded
+/// let sections = read_whole_module(rt.alloc(), bytes)?;
+/// assert!(rt; matches!(sections.as_slice(), [ModuleSection::Start(5)]));
+/// ```
 pub fn read_whole_module<'a>(
     alloc: Global,
     bytes: &'a [u8],
 ) -> Result<Vec<ModuleSection<'a>>, ReadError>
-    // What is given, the bytes encode.
+    // The bytes encode the returned list.
     ensures given { IfOk result (λ sections. whole_module.Encodes bytes.now (all_module_section_parts sections.items)) }
-    // What the bytes encode is given, unless memory ran out.
+    // If the bytes encode a list, that list is returned, unless memory runs out.
     ensures complete { (sections : List ModuleSectionParts) → whole_module.Encodes bytes.now sections →
         IsOrMemory (λ given. all_module_section_parts given.items) sections result }
-    // `at` is the length of the longest prefix that is whole.
+    // `at` is the length of the longest well-formed prefix.
     ensures prefix { IfRefused result (IsLongestPrefix (IsModulePrefixOf module_section) bytes.now) }
-    // Only what encodes no sections is refused.
+    // Refused bytes encode no list of sections.
     ensures unencoded { IfRefused result (λ _.
         (sections : List ModuleSectionParts) → whole_module.Encodes bytes.now sections → ⊥) }
     // The bytes encode at most one list.
     ensures one { (sections others : List ModuleSectionParts) →
         whole_module.Encodes bytes.now sections → whole_module.Encodes bytes.now others → sections ≡ others }
-    // Every other encoding of a list is longer than its shortest.
+    // Every other encoding of a list is longer than its minimal encoding.
     ensures shortest { (sections : List ModuleSectionParts) → whole_module.Encodes bytes.now sections →
         IsShortestOrLonger bytes.now (whole_module.bytes sections) }
 {
     read_module_of::<ModuleSection<'_>, false>(alloc, bytes)
 }
 
-/// The sections of the module that the bytes encode, if the bytes are their shortest encoding, each with what it holds
-/// (Core 3.0, Modules).
+/// Reads a minimally encoded module and decodes every section (Core 3.0, Modules).
 ///
-/// `Refused` carries the number of bytes of the header and of the sections that are whole and in their shortest encodings,
-/// before the first that isn't, or 0 where the header isn't there.
+/// Fails with `Refused` at the offset of the first section that is malformed or not minimally encoded, or at 0 if the
+/// header is missing. Fails with `Memory` if an allocation fails.
+///
+/// # Examples
+///
+/// ```
+/// # use wasm_encoder::{ReadError, read_whole_module_strict};
+/// let minimal = b"\0asm\x01\0\0\0\x08\x01\x05";
+/// assert_eq!(rt; read_whole_module_strict(rt.alloc(), minimal)?.len(), 1);
+/// let padded = b"\0asm\x01\0\0\0\x08\x81\x00\x05"; // the size 1 in two bytes
+/// let refused = read_whole_module_strict(rt.alloc(), padded);
+/// assert!(rt; matches!(refused, Err(ReadError::Refused { at: 8 })));
+/// ```
 pub fn read_whole_module_strict<'a>(
     alloc: Global,
     bytes: &'a [u8],
 ) -> Result<Vec<ModuleSection<'a>>, ReadError>
-    // What is given, the bytes are the shortest encoding of.
+    // The bytes are the minimal encoding of the returned list.
     ensures given { IfOk result (λ sections.
         (module_of (narrow module_section)).Encodes bytes.now (all_module_section_parts sections.items)) }
-    // What the bytes are the shortest encoding of is given, unless memory ran out.
+    // If the bytes are the minimal encoding of a list, that list is returned, unless memory runs out.
     ensures complete { (sections : List ModuleSectionParts) → (module_of (narrow module_section)).Encodes bytes.now sections →
         IsOrMemory (λ given. all_module_section_parts given.items) sections result }
-    // `at` is the length of the longest prefix that is whole and in shortest encodings.
+    // `at` is the length of the longest well-formed, minimally encoded prefix.
     ensures prefix { IfRefused result (IsLongestPrefix (IsModulePrefixOf (narrow module_section)) bytes.now) }
-    // The bytes are the shortest encoding of at most one list.
+    // The bytes are the minimal encoding of at most one list.
     ensures one { (sections others : List ModuleSectionParts) →
         (module_of (narrow module_section)).Encodes bytes.now sections →
         (module_of (narrow module_section)).Encodes bytes.now others → sections ≡ others }
-    // That is so where they encode the list, as `read_whole_module` tells, and are as `normalise_whole_module` leaves them.
+    // This holds if and only if the bytes encode the list and equal its minimal encoding.
     ensures shortest { (sections : List ModuleSectionParts) → (module_of (narrow module_section)).Encodes bytes.now sections ↔
         (whole_module.Encodes bytes.now sections × (bytes.now ≡ whole_module.bytes sections)) }
 {
     read_module_of::<ModuleSection<'_>, true>(alloc, bytes)
 }
 
-/// Whether the bytes are the shortest encoding of a module, every section with what it holds (Core 3.0, Modules).
+/// Checks that a module and all its sections are minimally encoded (Core 3.0, Modules).
 ///
-/// It takes what `read_whole_module_strict` takes, refuses the rest at the same place, and makes no list.
+/// Accepts and refuses as `read_whole_module_strict` does, but builds no list of sections. Fails with `Memory` if an
+/// allocation fails.
 pub fn check_whole_module(alloc: Global, bytes: &[u8]) -> Result<(), ReadError>
-    // What is taken is the shortest encoding of a list of sections.
+    // Accepted bytes are the minimal encoding of a list of sections.
     ensures given { IfOk result (λ _. EncodesSome ShortestWholeModule bytes.now) }
-    // `at` is the length of the longest prefix that is whole and in shortest encodings.
+    // `at` is the length of the longest well-formed, minimally encoded prefix.
     ensures prefix { IfRefused result (IsLongestPrefix (IsModulePrefixOf (narrow module_section)) bytes.now) }
-    // Only what isn't the shortest encoding of a list of sections is refused.
+    // Refused bytes aren't the minimal encoding of any list of sections.
     ensures unencoded { IfRefused result (λ _.
         (sections : List ModuleSectionParts) → ShortestWholeModule bytes.now sections → ⊥) }
-    // Bytes are that where they encode the list, as `read_whole_module` tells, and are as `normalise_whole_module` leaves them.
+    // Bytes are minimal if and only if they encode the list and equal its minimal encoding.
     ensures shortest { (sections : List ModuleSectionParts) → ShortestWholeModule bytes.now sections ↔
         (whole_module.Encodes bytes.now sections × (bytes.now ≡ whole_module.bytes sections)) }
 {
     check_module_of::<AnySection>(alloc, bytes)
 }
 
-/// The normal bytes of a module: every number, size, type and index in the fewest bytes, in every section (Core 3.0,
+/// Returns the minimal encoding of a module: of every number, size, type and index in every section (Core 3.0,
 /// Modules).
 ///
-/// `Refused` carries the number of bytes of the header and of the sections that are whole before the first that isn't,
-/// or 0 where the header isn't there.
+/// Fails with `Refused` as `read_whole_module` does, and with `Memory` if the bytes can't be copied.
+///
+/// # Examples
+///
+/// ```
+/// # use wasm_encoder::normalise_whole_module;
+/// let padded = b"\0asm\x01\0\0\0\x08\x82\x00\x85\x00";
+/// let minimal = normalise_whole_module(rt.alloc(), padded)?;
+/// assert_eq!(rt; minimal.as_slice(), b"\0asm\x01\0\0\0\x08\x01\x05".as_slice());
+/// ```
 pub fn normalise_whole_module(alloc: Global, bytes: &[u8]) -> Result<Vec<u8>, ReadError>
-    // The result is the shortest encoding of a list of sections that the bytes encode.
+    // The result is the minimal encoding of a list of sections that the bytes encode.
     ensures given { IfOk result (λ encoding.
         IsNormalForm whole_module.Encodes whole_module.bytes bytes.now encoding.items) }
-    // Where the bytes encode a list, its shortest encoding is given, unless memory ran out.
+    // If the bytes encode a list, the result is the minimal encoding of that list, unless memory runs out.
     ensures complete { (sections : List ModuleSectionParts) → whole_module.Encodes bytes.now sections →
         IsOrMemory (λ encoding. encoding.items) (whole_module.bytes sections) result }
-    // `at` is the length of the longest prefix that is whole.
+    // `at` is the length of the longest well-formed prefix.
     ensures prefix { IfRefused result (IsLongestPrefix (IsModulePrefixOf module_section) bytes.now) }
     // The bytes encode at most one list.
     ensures one { (sections others : List ModuleSectionParts) →
         whole_module.Encodes bytes.now sections → whole_module.Encodes bytes.now others → sections ≡ others }
-    // The result encodes a list exactly if the bytes do.
+    // The result encodes a list if and only if the input does.
     ensures same { IfOk result (λ encoding. (sections : List ModuleSectionParts) →
         whole_module.Encodes encoding.items sections ↔ whole_module.Encodes bytes.now sections) }
-    // The result is normal: it is the shortest encoding of what it encodes.
+    // The result is the minimal encoding of the value that it encodes.
     ensures normal { IfOk result (λ encoding. (sections : List ModuleSectionParts) →
         whole_module.Encodes encoding.items sections → encoding.items ≡ whole_module.bytes sections) }
-    // A shortest encoding stays as it is, unless memory ran out.
+    // A minimal encoding is returned unchanged, unless memory runs out.
     ensures stays { (sections : List ModuleSectionParts) → (narrow whole_module).Encodes bytes.now sections →
         IsOrMemory (λ encoding. encoding.items) bytes.now result }
-    // What stays as it is, is a shortest encoding.
+    // If the result equals the input, the input is a minimal encoding.
     ensures was_shortest { IfOk result (λ encoding.
         encoding.items ≡ bytes.now → EncodesSome (narrow whole_module).Encodes bytes.now) }
-    // Every other encoding of a list is longer than its shortest.
+    // Every other encoding of a list is longer than its minimal encoding.
     ensures shortest { (sections : List ModuleSectionParts) → whole_module.Encodes bytes.now sections →
         IsShortestOrLonger bytes.now (whole_module.bytes sections) }
-    // The result is no longer than the bytes.
+    // The result is no longer than the input.
     ensures no_longer { IfOk result (λ encoding. length encoding.items ≤ length bytes.now) }
-    // The shortest encoding of sections in range encodes them.
+    // The minimal encoding of sections in range encodes them.
     ensures encodes { (sections : List ModuleSectionParts) → AllByRecursion module_section.InRange sections →
         bytes.now ≡ whole_module.bytes sections → whole_module.Encodes bytes.now sections }
 {
     normalise_module_of::<AnySection>(alloc, bytes)
 }
 
-/// The same, rewritten in place in the list itself, which is given back. It needs no further memory.
+/// Replaces a module by its minimal encoding in place (Core 3.0, Modules).
+///
+/// Fails with `Refused` as `read_whole_module` does. Allocates nothing.
+///
+/// # Examples
+///
+/// ```
+/// # use wasm_encoder::sections::rewrite_whole_module;
+/// let padded = Vec::from_slice(rt.alloc(), b"\0asm\x01\0\0\0\x08\x82\x00\x85\x00")?;
+/// let minimal = rewrite_whole_module(padded)?;
+/// assert_eq!(rt; minimal.as_slice(), b"\0asm\x01\0\0\0\x08\x01\x05".as_slice());
+/// ```
 pub fn rewrite_whole_module(bytes: Vec<u8>) -> Result<Vec<u8>, ReadError>
-    // The result is the shortest encoding of a list of sections that the bytes encode.
+    // The result is the minimal encoding of a list of sections that the bytes encode.
     ensures given { IfOk result (λ encoding.
         IsNormalForm whole_module.Encodes whole_module.bytes bytes.items encoding.items) }
-    // Where the bytes encode a list, its shortest encoding is given.
+    // If the bytes encode a list, the result is the minimal encoding of that list.
     ensures complete { (sections : List ModuleSectionParts) → whole_module.Encodes bytes.items sections →
         IsOrMemory (λ encoding. encoding.items) (whole_module.bytes sections) result }
-    // `at` is the length of the longest prefix that is whole.
+    // `at` is the length of the longest well-formed prefix.
     ensures prefix { IfRefused result (IsLongestPrefix (IsModulePrefixOf module_section) bytes.items) }
-    // Only what encodes no sections is refused.
+    // Refused bytes encode no list of sections.
     ensures unencoded { IfRefused result (λ _.
         (sections : List ModuleSectionParts) → whole_module.Encodes bytes.items sections → ⊥) }
-    // `Memory` is never answered.
+    // It never fails with `Memory`.
     ensures memory { NeedsNoMemory result }
 {
     rewrite_module_of::<AnySection>(bytes)

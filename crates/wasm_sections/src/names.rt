@@ -1,4 +1,4 @@
-//! Names: texts in UTF-8, after the number of their bytes (Core 3.0, Names).
+//! Names: a length in bytes, then UTF-8 text (Core 3.0, Names).
 ghost use Rattle.std.specs.Prelude.{◌≡◌, List, ℕ, IfErr};
 ghost use Rattle.wasm_codec.specs.Places.{Reads};
 ghost use Rattle.wasm_codec.specs.Reading.{map_ok};
@@ -9,7 +9,7 @@ ghost use Rattle.wasm_sections.specs.formats.Names.{utf8_to_end, name};
 use wasm_codec::reader::cursor::{Cursor, Fault};
 use wasm_codec::rewriter::{RewritableBody, Rewriter, rewrite_sized};
 
-/// A name, with its text as it lies in the bytes.
+/// Reads a name. Borrows its text from the bytes.
 #[tactic(auto, using(crate::proofs::NameReading::name_read, crate::proofs::NameReading::name_refused, crate::proofs::NameReading::no_size, crate::proofs::NameReading::no_bytes))]
 pub(crate) fn read_name<'a>(cursor: &mut Cursor<'a>) -> Result<&'a str, Fault>
     ensures reads { Reads name.at cursor.old cursor.new (map_ok (λ text. text.now) result) }
@@ -23,7 +23,7 @@ pub(crate) fn read_name<'a>(cursor: &mut Cursor<'a>) -> Result<&'a str, Fault>
     Ok(text)
 }
 
-/// Leaves a name in its shortest encoding.
+/// Rewrites a name to its minimal encoding.
 #[tactic(auto, unfolding(crate::specs::formats::Names::name))]
 pub(crate) fn rewrite_name(rewriter: &mut Rewriter) -> Result<(), Fault>
     ensures rewrites { Rewrites name rewriter.old rewriter.new result }
@@ -31,7 +31,7 @@ pub(crate) fn rewrite_name(rewriter: &mut Rewriter) -> Result<(), Fault>
     rewrite_sized::<Text>(rewriter)
 }
 
-/// The text of a name, to its end.
+/// The text of a name, up to the end.
 struct Text;
 
 impl RewritableBody for Text {

@@ -1,4 +1,4 @@
-//! Bodies of sections that are one number (Core 3.0, Start Section and Data Count Section).
+//! Section bodies that are a single number (Core 3.0, Start Section and Data Count Section).
 ghost use Rattle.std.specs.Prelude.{◌≡◌, ◌↔◌, ℕ, Ok, IfOk};
 ghost use Rattle.wasm_codec.specs.Answers.{NeedsNoMemory, IfRefused, IsLongestPrefix};
 ghost use Rattle.wasm_codec.specs.Encoding.{IsShortestOrLonger};
@@ -10,7 +10,7 @@ use wasm_codec::reader::ReadError;
 use wasm_codec::reader::cursor::{Cursor, Fault};
 use wasm_codec::rewriter::{RewritableBody, Rewriter};
 
-/// The number that bytes encode, with nothing left over.
+/// Reads a number that fills a body, in any encoding.
 pub(crate) fn read_number(body: &[u8]) -> Result<u32, ReadError>
     ensures given { IfOk result (λ number. u32_format.Encodes body.now number) }
     ensures complete { (number : ℕ) → u32_format.Encodes body.now number → result ≡ Ok number }
@@ -23,12 +23,12 @@ pub(crate) fn read_number(body: &[u8]) -> Result<u32, ReadError>
     only_number(body)
 }
 
-/// The same, with one clause that says all of it.
+/// Reads a number as `read_number` does, with one clause that implies the others.
 fn only_number(body: &[u8]) -> Result<u32, ReadError>
     ensures { ReadsWhole u32_format body.now result }
 {
     let mut cursor = Cursor::new(body);
-    // `fork` tells the proof that all that is left are bytes.
+    // `fork` shows the proof that all remaining items are bytes.
     let _start = cursor.fork();
     let Ok(number) = cursor.u32() else {
         return Err(ReadError::Refused { at: 0 });
@@ -41,7 +41,7 @@ fn only_number(body: &[u8]) -> Result<u32, ReadError>
     Ok(number)
 }
 
-/// The number that bytes encode, if the bytes are its shortest encoding.
+/// Reads a minimally encoded number that fills a body.
 pub(crate) fn read_number_strict(body: &[u8]) -> Result<u32, ReadError>
     ensures given { IfOk result (λ number. (narrow u32_format).Encodes body.now number) }
     ensures complete { (number : ℕ) → (narrow u32_format).Encodes body.now number → result ≡ Ok number }
@@ -54,12 +54,12 @@ pub(crate) fn read_number_strict(body: &[u8]) -> Result<u32, ReadError>
     only_number_strict(body)
 }
 
-/// The same, with one clause that says all of it.
+/// Reads a number as `read_number_strict` does, with one clause that implies the others.
 fn only_number_strict(body: &[u8]) -> Result<u32, ReadError>
     ensures { ReadsWhole (narrow u32_format) body.now result }
 {
     let mut cursor = Cursor::new(body);
-    // `fork` tells the proof that all that is left are bytes.
+    // `fork` shows the proof that all remaining items are bytes.
     let _start = cursor.fork();
     let Ok(number) = cursor.u32() else {
         return Err(ReadError::Refused { at: 0 });
@@ -75,7 +75,7 @@ fn only_number_strict(body: &[u8]) -> Result<u32, ReadError>
     Ok(number)
 }
 
-/// A number, of which a body is all.
+/// A section body that is a single number.
 pub(crate) struct Number;
 
 impl RewritableBody for Number {

@@ -11,105 +11,107 @@ use crate::numbers::{Number, read_number, read_number_strict};
 use std::alloc::Global;
 use wasm_codec::reader::ReadError;
 
-/// The index of the function that the body of a start section encodes, in any encoding (Core 3.0, Start Section).
+/// Reads a start section body, in any encoding (Core 3.0, Start Section).
 ///
-/// `Refused` carries the number of bytes of the number, where more is left over, or 0 where it isn't there.
+/// Fails with `Refused` at the offset of trailing bytes, or at 0 if the index is malformed. Allocates nothing.
 #[tactic(auto, unfolding(crate::specs::formats::Sections::start_body))]
 pub fn read_start_section(body: &[u8]) -> Result<u32, ReadError>
-    // What is given, the body encodes.
+    // The body encodes the returned value.
     ensures given { IfOk result (λ number. start_body.Encodes body.now number) }
-    // What the body encodes is given.
+    // If the body encodes a value, that value is returned.
     ensures complete { (number : ℕ) → start_body.Encodes body.now number → result ≡ Ok number }
-    // `at` is the length of the longest prefix that is nothing or a number.
+    // `at` is the length of the longest prefix that is empty or a number.
     ensures prefix { IfRefused result (IsLongestPrefix (IsNothingOr start_body) body.now) }
     // The body encodes at most one number.
     ensures one { (number other : ℕ) →
         start_body.Encodes body.now number → start_body.Encodes body.now other → number ≡ other }
-    // Every other encoding of a number is longer than its shortest.
+    // Every other encoding of a number is longer than its minimal encoding.
     ensures shortest { (number : ℕ) → start_body.Encodes body.now number →
         IsShortestOrLonger body.now (start_body.bytes number) }
-    // `Memory` is never answered.
+    // It never fails with `Memory`.
     ensures memory { NeedsNoMemory result }
 {
     read_number(body)
 }
 
-/// The index of the function that the body of a start section encodes, if the body is the shortest encoding (Core 3.0,
-/// Start Section).
+/// Reads a minimally encoded start section body (Core 3.0, Start Section).
 ///
-/// `Refused` carries the number of bytes of the number, where it is in the fewest and more is left over; otherwise 0.
+/// Fails with `Refused` at the offset of trailing bytes, or at 0 if the index is malformed or not minimal. Allocates
+/// nothing.
 #[tactic(auto, unfolding(crate::specs::formats::Sections::start_body))]
 pub fn read_start_section_strict(body: &[u8]) -> Result<u32, ReadError>
-    // What is given, the body is the shortest encoding of.
+    // The body is the minimal encoding of the returned value.
     ensures given { IfOk result (λ number. (narrow start_body).Encodes body.now number) }
-    // What the body is the shortest encoding of is given.
+    // If the body is the minimal encoding of a value, that value is returned.
     ensures complete { (number : ℕ) → (narrow start_body).Encodes body.now number →
         result ≡ Ok number }
-    // `at` is the length of the longest prefix that is nothing or the shortest encoding of a number.
+    // `at` is the length of the longest prefix that is empty or a minimally encoded number.
     ensures prefix { IfRefused result (IsLongestPrefix (IsNothingOr (narrow start_body)) body.now) }
-    // The body is the shortest encoding of at most one number.
+    // The body is the minimal encoding of at most one number.
     ensures one { (number other : ℕ) →
         (narrow start_body).Encodes body.now number → (narrow start_body).Encodes body.now other → number ≡ other }
-    // That is so where it encodes the number, as `read_start_section` tells, and is as `normalise_start_section` leaves it.
+    // This holds if and only if the body encodes the value and equals its minimal encoding.
     ensures shortest { (number : ℕ) → (narrow start_body).Encodes body.now number ↔
         (start_body.Encodes body.now number × (body.now ≡ start_body.bytes number)) }
-    // `Memory` is never answered.
+    // It never fails with `Memory`.
     ensures memory { NeedsNoMemory result }
 {
     read_number_strict(body)
 }
 
-/// The normal bytes of the body of a start section: the same index in the fewest bytes (Core 3.0, Start Section).
+/// Returns the minimal encoding of a start section body (Core 3.0, Start Section).
 ///
-/// `Refused` carries the number of bytes of the number, where more is left over, or 0 where it isn't there.
+/// Fails with `Refused` as `read_start_section` does, and with `Memory` if the body can't be copied.
 #[tactic(auto, unfolding(crate::specs::formats::Sections::start_body))]
 pub fn normalise_start_section(alloc: Global, body: &[u8]) -> Result<Vec<u8>, ReadError>
-    // The result is the shortest encoding of a number that the body encodes.
+    // The result is the minimal encoding of a number that the body encodes.
     ensures given { IfOk result (λ encoding.
         IsNormalForm start_body.Encodes start_body.bytes body.now encoding.items) }
-    // Where the body encodes a number, its shortest encoding is given, unless memory ran out.
+    // If the body encodes a number, the result is its minimal encoding, unless memory runs out.
     ensures complete { (number : ℕ) → start_body.Encodes body.now number →
         IsOrMemory (λ encoding. encoding.items) (start_body.bytes number) result }
-    // `at` is the length of the longest prefix that is nothing or a number.
+    // `at` is the length of the longest prefix that is empty or a number.
     ensures prefix { IfRefused result (IsLongestPrefix (IsNothingOr start_body) body.now) }
     // The body encodes at most one number.
     ensures one { (number other : ℕ) →
         start_body.Encodes body.now number → start_body.Encodes body.now other → number ≡ other }
-    // The result encodes a number exactly if the body does.
+    // The result encodes a number if and only if the body does.
     ensures same { IfOk result (λ encoding. (number : ℕ) →
         start_body.Encodes encoding.items number ↔ start_body.Encodes body.now number) }
-    // The result is normal: it is the shortest encoding of what it encodes.
+    // The result is the minimal encoding of the value that it encodes.
     ensures normal { IfOk result (λ encoding. (number : ℕ) →
         start_body.Encodes encoding.items number → encoding.items ≡ start_body.bytes number) }
-    // Every other encoding of a number is longer than its shortest.
+    // Every other encoding of a number is longer than its minimal encoding.
     ensures shortest { (number : ℕ) → start_body.Encodes body.now number →
         IsShortestOrLonger body.now (start_body.bytes number) }
     // The result is no longer than the body.
     ensures no_longer { IfOk result (λ encoding. length encoding.items ≤ length body.now) }
-    // A shortest encoding stays as it is, unless memory ran out.
+    // A minimal encoding is returned unchanged, unless memory runs out.
     ensures stays { (number : ℕ) → (narrow start_body).Encodes body.now number →
         IsOrMemory (λ encoding. encoding.items) body.now result }
-    // What stays as it is, is a shortest encoding.
+    // If the result equals the input, the input is a minimal encoding.
     ensures was_shortest { IfOk result (λ encoding.
         encoding.items ≡ body.now → EncodesSome (narrow start_body).Encodes body.now) }
 {
     normalise_body::<Number>(alloc, body)
 }
 
-/// The same, rewritten in place in the list itself, which is given back. It needs no further memory.
+/// Replaces a start section body by its minimal encoding in place (Core 3.0, Start Section).
+///
+/// Fails with `Refused` as `read_start_section` does. Allocates nothing.
 #[tactic(auto, unfolding(crate::specs::formats::Sections::start_body))]
 pub fn rewrite_start_section(body: Vec<u8>) -> Result<Vec<u8>, ReadError>
-    // The result is the shortest encoding of a number that the body encodes.
+    // The result is the minimal encoding of a number that the body encodes.
     ensures given { IfOk result (λ encoding.
         IsNormalForm start_body.Encodes start_body.bytes body.items encoding.items) }
-    // Where the body encodes a number, its shortest encoding is given.
+    // If the body encodes a number, the result is its minimal encoding.
     ensures complete { (number : ℕ) → start_body.Encodes body.items number →
         IsOrMemory (λ encoding. encoding.items) (start_body.bytes number) result }
-    // `at` is the length of the longest prefix that is nothing or a number.
+    // `at` is the length of the longest prefix that is empty or a number.
     ensures prefix { IfRefused result (IsLongestPrefix (IsNothingOr start_body) body.items) }
-    // Only what encodes no number is refused.
+    // A refused body encodes no number.
     ensures unencoded { IfRefused result (λ _. (number : ℕ) → start_body.Encodes body.items number → ⊥) }
-    // `Memory` is never answered.
+    // It never fails with `Memory`.
     ensures memory { NeedsNoMemory result }
 {
     rewrite_body::<Number>(body)

@@ -21,119 +21,120 @@ use wasm_codec::rewriter::{Rewritable, Rewriter};
 use wasm_instructions::table::Call;
 use wasm_readers::readable::Readable;
 
-/// A table, and the value that its elements have at first, where it is told.
+/// A table defined by the module (Core 3.0, Table Section).
 #[derive(Debug, PartialEq, Eq, Drop)]
 pub struct Table {
-    /// Its type.
+    /// Type of the table.
     pub ty: TableType,
-    /// The instructions that make the value, without the end. Where they aren't told, it is null.
+    /// Instructions that compute the initial value of the elements, without the final `end`. `None` means null.
     pub init: Option<Items<Call>>,
 }
 
-/// The tables that the body of a table section encodes, in any encoding (Core 3.0, Table Section).
+/// Reads a table section body, in any encoding (Core 3.0, Table Section).
 ///
-/// `Refused` carries the number of bytes of the count and of the tables that are whole before the first that isn't, or
-/// before what is left over.
+/// Fails with `Refused` at the offset of the malformed count or table, or of trailing bytes. Fails with `Memory` if an
+/// allocation fails.
 #[tactic(auto, using(crate::proofs::EntryLaws::table_is_lawful), unfolding(crate::specs::formats::Sections::table_body))]
 pub fn read_table_section(alloc: Global, body: &[u8]) -> Result<Vec<Table>, ReadError>
-    // What is given, the body encodes.
+    // The body encodes the returned list.
     ensures given { IfOk result (λ tables. table_body.Encodes body.now (tables.items)) }
-    // What the body encodes is given, unless memory ran out.
+    // If the body encodes a list, that list is returned, unless memory runs out.
     ensures complete { (tables : List Table) → table_body.Encodes body.now tables →
         IsOrMemory (λ given. given.items) tables result }
-    // `at` is the length of the longest prefix that is whole.
+    // `at` is the length of the longest well-formed prefix.
     ensures prefix { IfRefused result (IsLongestPrefix (IsListPrefix table_entry.Encodes) body.now) }
     // The body encodes at most one list.
     ensures one { (tables others : List Table) →
         table_body.Encodes body.now tables → table_body.Encodes body.now others → tables ≡ others }
-    // Every other encoding of a list is longer than its shortest.
+    // Every other encoding of a list is longer than its minimal encoding.
     ensures shortest { (tables : List Table) → table_body.Encodes body.now tables →
         IsShortestOrLonger body.now (table_body.bytes tables) }
 {
     read_items(alloc, body)
 }
 
-/// The tables that the body of a table section encodes, if the body is the shortest encoding (Core 3.0, Table Section).
+/// Reads a minimally encoded table section body (Core 3.0, Table Section).
 ///
-/// `Refused` carries the number of bytes of the count and of the tables that are whole and in their shortest encodings,
-/// before the first that isn't, or before what is left over; it is 0 where the count isn't in the fewest bytes.
+/// Fails with `Refused` at the offset of the count or table that is malformed or not minimal, or of trailing bytes.
+/// Fails with `Memory` if an allocation fails.
 #[tactic(auto, using(crate::proofs::EntryLaws::table_is_lawful), unfolding(crate::specs::formats::Sections::table_body))]
 pub fn read_table_section_strict(alloc: Global, body: &[u8]) -> Result<Vec<Table>, ReadError>
-    // What is given, the body is the shortest encoding of.
+    // The body is the minimal encoding of the returned list.
     ensures given { IfOk result (λ tables. AskedList true table_entry body.now (tables.items)) }
-    // What the body is the shortest encoding of is given, unless memory ran out.
+    // If the body is the minimal encoding of a list, that list is returned, unless memory runs out.
     ensures complete { (tables : List Table) → AskedList true table_entry body.now tables →
         IsOrMemory (λ given. given.items) tables result }
-    // `at` is the length of the longest prefix that is whole and in shortest encodings.
+    // `at` is the length of the longest well-formed, minimally encoded prefix.
     ensures prefix { IfRefused result (IsLongestPrefix (IsAskedPrefix true table_entry) body.now) }
-    // The body is the shortest encoding of at most one list.
+    // The body is the minimal encoding of at most one list.
     ensures one { (tables others : List Table) →
         AskedList true table_entry body.now tables → AskedList true table_entry body.now others → tables ≡ others }
-    // That is so where it encodes the list, as `read_table_section` tells, and is as `normalise_table_section` leaves it.
+    // This holds if and only if the body encodes the value and equals its minimal encoding.
     ensures shortest { (tables : List Table) → AskedList true table_entry body.now tables ↔
         (table_body.Encodes body.now tables × (body.now ≡ table_body.bytes tables)) }
 {
     read_items_strict(alloc, body)
 }
 
-/// The normal bytes of the body of a table section: the same tables in the fewest bytes (Core 3.0, Table Section).
+/// Returns the minimal encoding of a table section body (Core 3.0, Table Section).
 ///
-/// `Refused` carries the number of bytes of the count and of the tables that are whole before the first that isn't, or
-/// before what is left over.
+/// Fails with `Refused` as `read_table_section` does, and with `Memory` if the body can't be copied.
 #[tactic(auto, unfolding(crate::specs::formats::Sections::table_body))]
 pub fn normalise_table_section(alloc: Global, body: &[u8]) -> Result<Vec<u8>, ReadError>
-    // The result is the shortest encoding of a list that the body encodes.
+    // The result is the minimal encoding of a list that the body encodes.
     ensures given { IfOk result (λ encoding.
         IsNormalForm table_body.Encodes table_body.bytes body.now encoding.items) }
-    // Where the body encodes a list, its shortest encoding is given, unless memory ran out.
+    // If the body encodes a list, the result is the minimal encoding of that list, unless memory runs out.
     ensures complete { (tables : List Table) → table_body.Encodes body.now tables →
         IsOrMemory (λ encoding. encoding.items) (table_body.bytes tables) result }
-    // `at` is the length of the longest prefix that is whole.
+    // `at` is the length of the longest well-formed prefix.
     ensures prefix { IfRefused result (IsLongestPrefix (IsListPrefix table_entry.Encodes) body.now) }
     // The body encodes at most one list.
     ensures one { (tables others : List Table) →
         table_body.Encodes body.now tables → table_body.Encodes body.now others → tables ≡ others }
-    // The result encodes a list exactly if the body does.
+    // The result encodes a list if and only if the body does.
     ensures same { IfOk result (λ encoding. (tables : List Table) →
         table_body.Encodes encoding.items tables ↔ table_body.Encodes body.now tables) }
-    // The result is normal: it is the shortest encoding of what it encodes.
+    // The result is the minimal encoding of the value that it encodes.
     ensures normal { IfOk result (λ encoding. (tables : List Table) →
         table_body.Encodes encoding.items tables → encoding.items ≡ table_body.bytes tables) }
-    // Every other encoding of a list is longer than its shortest.
+    // Every other encoding of a list is longer than its minimal encoding.
     ensures shortest { (tables : List Table) → table_body.Encodes body.now tables →
         IsShortestOrLonger body.now (table_body.bytes tables) }
     // The result is no longer than the body.
     ensures no_longer { IfOk result (λ encoding. length encoding.items ≤ length body.now) }
-    // A shortest encoding stays as it is, unless memory ran out.
+    // A minimal encoding is returned unchanged, unless memory runs out.
     ensures stays { (tables : List Table) → AskedList true table_entry body.now tables →
         IsOrMemory (λ encoding. encoding.items) body.now result }
-    // What stays as it is, is a shortest encoding.
+    // If the result equals the input, the input is a minimal encoding.
     ensures was_shortest { IfOk result (λ encoding.
         encoding.items ≡ body.now → EncodesSome (AskedList true table_entry) body.now) }
 {
     normalise_items::<Table>(alloc, body)
 }
 
-/// The same, rewritten in place in the list itself, which is given back. It needs no further memory.
+/// Replaces a table section body by its minimal encoding in place (Core 3.0, Table Section).
+///
+/// Fails with `Refused` as `read_table_section` does. Allocates nothing.
 #[tactic(auto, unfolding(crate::specs::formats::Sections::table_body))]
 pub fn rewrite_table_section(body: Vec<u8>) -> Result<Vec<u8>, ReadError>
-    // The result is the shortest encoding of a list that the body encodes.
+    // The result is the minimal encoding of a list that the body encodes.
     ensures given { IfOk result (λ encoding.
         IsNormalForm table_body.Encodes table_body.bytes body.items encoding.items) }
-    // Where the body encodes a list, its shortest encoding is given.
+    // If the body encodes a list, the result is the minimal encoding of that list.
     ensures complete { (tables : List Table) → table_body.Encodes body.items tables →
         IsOrMemory (λ encoding. encoding.items) (table_body.bytes tables) result }
-    // `at` is the length of the longest prefix that is whole.
+    // `at` is the length of the longest well-formed prefix.
     ensures prefix { IfRefused result (IsLongestPrefix (IsListPrefix table_entry.Encodes) body.items) }
-    // Only what encodes no list is refused.
+    // A refused body encodes no list.
     ensures unencoded { IfRefused result (λ _. (tables : List Table) → table_body.Encodes body.items tables → ⊥) }
-    // `Memory` is never answered.
+    // It never fails with `Memory`.
     ensures memory { NeedsNoMemory result }
 {
     rewrite_items::<Table>(body)
 }
 
-/// A table.
+/// Reads a table.
 #[tactic(auto, unfolding(crate::specs::formats::Entries::table_entry))]
 fn read_table(alloc: Global, cursor: &mut Cursor<'_>) -> Result<Table, Fault>
     ensures reads { Reads table_entry.at cursor.old cursor.new result }

@@ -19,104 +19,105 @@ use wasm_codec::reader::cursor::{Cursor, Fault};
 use wasm_codec::rewriter::{Rewritable, Rewriter};
 use wasm_readers::readable::Readable;
 
-/// The tags that the body of a tag section encodes, in any encoding (Core 3.0, Tag Section).
+/// Reads a tag section body, in any encoding (Core 3.0, Tag Section).
 ///
-/// `Refused` carries the number of bytes of the count and of the tags that are whole before the first that isn't, or
-/// before what is left over.
+/// Fails with `Refused` at the offset of the malformed count or tag, or of trailing bytes. Fails with `Memory` if an
+/// allocation fails.
 #[tactic(auto, using(crate::proofs::EntryLaws::tag_is_lawful), unfolding(crate::specs::formats::Sections::tag_body))]
 pub fn read_tag_section(alloc: Global, body: &[u8]) -> Result<Vec<TagType>, ReadError>
-    // What is given, the body encodes.
+    // The body encodes the returned list.
     ensures given { IfOk result (λ tags. tag_body.Encodes body.now (tags.items)) }
-    // What the body encodes is given, unless memory ran out.
+    // If the body encodes a list, that list is returned, unless memory runs out.
     ensures complete { (tags : List TagType) → tag_body.Encodes body.now tags →
         IsOrMemory (λ given. given.items) tags result }
-    // `at` is the length of the longest prefix that is whole.
+    // `at` is the length of the longest well-formed prefix.
     ensures prefix { IfRefused result (IsLongestPrefix (IsListPrefix tag_type.Encodes) body.now) }
     // The body encodes at most one list.
     ensures one { (tags others : List TagType) →
         tag_body.Encodes body.now tags → tag_body.Encodes body.now others → tags ≡ others }
-    // Every other encoding of a list is longer than its shortest.
+    // Every other encoding of a list is longer than its minimal encoding.
     ensures shortest { (tags : List TagType) → tag_body.Encodes body.now tags →
         IsShortestOrLonger body.now (tag_body.bytes tags) }
 {
     read_items(alloc, body)
 }
 
-/// The tags that the body of a tag section encodes, if the body is the shortest encoding (Core 3.0, Tag Section).
+/// Reads a minimally encoded tag section body (Core 3.0, Tag Section).
 ///
-/// `Refused` carries the number of bytes of the count and of the tags that are whole and in their shortest encodings,
-/// before the first that isn't, or before what is left over; it is 0 where the count isn't in the fewest bytes.
+/// Fails with `Refused` at the offset of the count or tag that is malformed or not minimal, or of trailing bytes. Fails
+/// with `Memory` if an allocation fails.
 #[tactic(auto, using(crate::proofs::EntryLaws::tag_is_lawful), unfolding(crate::specs::formats::Sections::tag_body))]
 pub fn read_tag_section_strict(alloc: Global, body: &[u8]) -> Result<Vec<TagType>, ReadError>
-    // What is given, the body is the shortest encoding of.
+    // The body is the minimal encoding of the returned list.
     ensures given { IfOk result (λ tags. AskedList true tag_type body.now (tags.items)) }
-    // What the body is the shortest encoding of is given, unless memory ran out.
+    // If the body is the minimal encoding of a list, that list is returned, unless memory runs out.
     ensures complete { (tags : List TagType) → AskedList true tag_type body.now tags →
         IsOrMemory (λ given. given.items) tags result }
-    // `at` is the length of the longest prefix that is whole and in shortest encodings.
+    // `at` is the length of the longest well-formed, minimally encoded prefix.
     ensures prefix { IfRefused result (IsLongestPrefix (IsAskedPrefix true tag_type) body.now) }
-    // The body is the shortest encoding of at most one list.
+    // The body is the minimal encoding of at most one list.
     ensures one { (tags others : List TagType) →
         AskedList true tag_type body.now tags → AskedList true tag_type body.now others → tags ≡ others }
-    // That is so where it encodes the list, as `read_tag_section` tells, and is as `normalise_tag_section` leaves it.
+    // This holds if and only if the body encodes the value and equals its minimal encoding.
     ensures shortest { (tags : List TagType) → AskedList true tag_type body.now tags ↔
         (tag_body.Encodes body.now tags × (body.now ≡ tag_body.bytes tags)) }
 {
     read_items_strict(alloc, body)
 }
 
-/// The normal bytes of the body of a tag section: the same tags in the fewest bytes (Core 3.0, Tag Section).
+/// Returns the minimal encoding of a tag section body (Core 3.0, Tag Section).
 ///
-/// `Refused` carries the number of bytes of the count and of the tags that are whole before the first that isn't, or
-/// before what is left over.
+/// Fails with `Refused` as `read_tag_section` does, and with `Memory` if the body can't be copied.
 #[tactic(auto, unfolding(crate::specs::formats::Sections::tag_body))]
 pub fn normalise_tag_section(alloc: Global, body: &[u8]) -> Result<Vec<u8>, ReadError>
-    // The result is the shortest encoding of a list that the body encodes.
+    // The result is the minimal encoding of a list that the body encodes.
     ensures given { IfOk result (λ encoding.
         IsNormalForm tag_body.Encodes tag_body.bytes body.now encoding.items) }
-    // Where the body encodes a list, its shortest encoding is given, unless memory ran out.
+    // If the body encodes a list, the result is the minimal encoding of that list, unless memory runs out.
     ensures complete { (tags : List TagType) → tag_body.Encodes body.now tags →
         IsOrMemory (λ encoding. encoding.items) (tag_body.bytes tags) result }
-    // `at` is the length of the longest prefix that is whole.
+    // `at` is the length of the longest well-formed prefix.
     ensures prefix { IfRefused result (IsLongestPrefix (IsListPrefix tag_type.Encodes) body.now) }
     // The body encodes at most one list.
     ensures one { (tags others : List TagType) →
         tag_body.Encodes body.now tags → tag_body.Encodes body.now others → tags ≡ others }
-    // The result encodes a list exactly if the body does.
+    // The result encodes a list if and only if the body does.
     ensures same { IfOk result (λ encoding. (tags : List TagType) →
         tag_body.Encodes encoding.items tags ↔ tag_body.Encodes body.now tags) }
-    // The result is normal: it is the shortest encoding of what it encodes.
+    // The result is the minimal encoding of the value that it encodes.
     ensures normal { IfOk result (λ encoding. (tags : List TagType) →
         tag_body.Encodes encoding.items tags → encoding.items ≡ tag_body.bytes tags) }
-    // Every other encoding of a list is longer than its shortest.
+    // Every other encoding of a list is longer than its minimal encoding.
     ensures shortest { (tags : List TagType) → tag_body.Encodes body.now tags →
         IsShortestOrLonger body.now (tag_body.bytes tags) }
     // The result is no longer than the body.
     ensures no_longer { IfOk result (λ encoding. length encoding.items ≤ length body.now) }
-    // A shortest encoding stays as it is, unless memory ran out.
+    // A minimal encoding is returned unchanged, unless memory runs out.
     ensures stays { (tags : List TagType) → AskedList true tag_type body.now tags →
         IsOrMemory (λ encoding. encoding.items) body.now result }
-    // What stays as it is, is a shortest encoding.
+    // If the result equals the input, the input is a minimal encoding.
     ensures was_shortest { IfOk result (λ encoding.
         encoding.items ≡ body.now → EncodesSome (AskedList true tag_type) body.now) }
 {
     normalise_items::<TagType>(alloc, body)
 }
 
-/// The same, rewritten in place in the list itself, which is given back. It needs no further memory.
+/// Replaces a tag section body by its minimal encoding in place (Core 3.0, Tag Section).
+///
+/// Fails with `Refused` as `read_tag_section` does. Allocates nothing.
 #[tactic(auto, unfolding(crate::specs::formats::Sections::tag_body))]
 pub fn rewrite_tag_section(body: Vec<u8>) -> Result<Vec<u8>, ReadError>
-    // The result is the shortest encoding of a list that the body encodes.
+    // The result is the minimal encoding of a list that the body encodes.
     ensures given { IfOk result (λ encoding.
         IsNormalForm tag_body.Encodes tag_body.bytes body.items encoding.items) }
-    // Where the body encodes a list, its shortest encoding is given.
+    // If the body encodes a list, the result is the minimal encoding of that list.
     ensures complete { (tags : List TagType) → tag_body.Encodes body.items tags →
         IsOrMemory (λ encoding. encoding.items) (tag_body.bytes tags) result }
-    // `at` is the length of the longest prefix that is whole.
+    // `at` is the length of the longest well-formed prefix.
     ensures prefix { IfRefused result (IsLongestPrefix (IsListPrefix tag_type.Encodes) body.items) }
-    // Only what encodes no list is refused.
+    // A refused body encodes no list.
     ensures unencoded { IfRefused result (λ _. (tags : List TagType) → tag_body.Encodes body.items tags → ⊥) }
-    // `Memory` is never answered.
+    // It never fails with `Memory`.
     ensures memory { NeedsNoMemory result }
 {
     rewrite_items::<TagType>(body)

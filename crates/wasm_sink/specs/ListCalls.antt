@@ -1,4 +1,4 @@
--- Calls with a list.
+-- The promises of the sink's methods that take a list.
 use Rattle.std.specs.Prelude.{ℕ, ◌^◌, ◌<◌, List, length, Option, Result, IfOk, MatchResult}
 use Rattle.std.specs.Iterator.{Drains}
 use Rattle.std.proofs.lemmas.Iterator.{YieldsList}
@@ -11,19 +11,19 @@ use Rattle.wasm_calls.specs.Appending.{IsRefusedList}
 use Rattle.wasm_sink.specs.Sink.{GoesOn, IsShortestCall}
 
 module _ {S A : Type 0} (gives : S → Option A → S → Type 0) where
-  -- the sink goes on with the shortest encoding of the call with the list that the iterator gives
+  -- The method appends the minimal encoding of its call with the list that the iterator gives.
   abbrev pub WritesItems : {Z : Type 0} → InstructionSink Z → Opcode → (List A → Operands) → S → Result (InstructionSink Z) EncodeError → Type 0
   WritesItems s op operands items r = IfOk r (λ t. (xs : List A) × Drains gives items xs × GoesOn s (call op (operands xs)) t × IsShortestCall (call op (operands xs)) × (length xs < 2 ^ 32))
 
-  -- these items are what the iterator gives until it ends, whenever it is asked
+  -- The iterator gives these items until it ends, whenever it is asked.
   abbrev pub GivesItems : S → List A → Type 0
   GivesItems items xs = YieldsList gives (λ x. x) items xs
 
-  -- where it is known what the iterator gives, the sink goes on with the bytes of the call with these items
+  -- If the iterator is known to give these items, the method appends the call with them.
   abbrev pub WritesGiven : {Z : Type 0} → InstructionSink Z → Opcode → (List A → Operands) → S → Result (InstructionSink Z) EncodeError → Type 0
   WritesGiven s op operands items r = (xs : List A) → GivesItems items xs → IfOk r (λ t. GoesOn s (call op (operands xs)) t)
 
 module _ {Z : Type 0} where
-  -- the sink goes on with the shortest encoding of a call with a list of so many items, or tells why not
+  -- The method appends the minimal encoding of its call with a list of this length, or names the reason.
   abbrev pub WritesList : InstructionSink Z → Opcode → Operands → ℕ → Result (InstructionSink Z) EncodeError → Type 0
   WritesList s op operands count r = MatchResult r (λ t. GoesOn s (call op operands) t × IsShortestCall (call op operands) × (count < 2 ^ 32)) (IsRefusedList count)

@@ -1,4 +1,4 @@
-//! The instruction sink, with a method for each opcode (Core 3.0, Instructions).
+//! The instruction sink, with a method for each instruction (Core 3.0, Instructions).
 #![tactic(auto)]
 
 pub mod sink;

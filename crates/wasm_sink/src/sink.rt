@@ -1,8 +1,4 @@
-//! The instruction sink: one method for each instruction.
-//!
-//! Each method takes the sink by value and gives it back at `Ok`, so calls are chained by `?`:
-//! `InstructionSink::new(&mut code).local_get(0)?.local_get(1)?.i32_add()?.end()?`. At an `Err` the list of bytes is
-//! as it was before the call.
+//! The instruction sink: one method for each instruction (Core 3.0, Instructions).
 ghost use Rattle.std.specs.Prelude.{◌≡◌, ℕ, List, IsOk, IfOk};
 ghost use Rattle.std.specs.Borrow.{sem};
 ghost use Rattle.wasm_sink.specs.Sink.{IsUnchangedAtErr, IsSameSink, AppendsCall, AppendsCalls, Chain, bytes_behind, HasRoom};
@@ -31,16 +27,32 @@ use wasm_instructions::table::Call;
 
 /// Appends instructions to a list of bytes.
 ///
-/// Each method's documentation begins with the name of its instruction in the text format, the bytes of its opcode, and
-/// its operands in the order in which they are bytes_behind. Any method answers `Memory` where the list can't grow, and those
-/// with other errors name them.
+/// Each method takes the sink by value and returns it, so you chain calls with `?`. The documentation of a method gives
+/// the instruction's name in the text format, the bytes of its opcode, and its operands in the order in which they are
+/// written.
+///
+/// Every method fails with `Memory` if the list can't grow. If it can fail with another error, its documentation says
+/// so. On error the list is as it was before the call.
+///
+/// # Examples
+///
+/// ```
+/// # use wasm_encoder::{BlockType, InstructionSink};
+/// let mut code = Vec::new(rt.alloc());
+/// InstructionSink::new(&mut code)
+///     .block(BlockType::Empty)?
+///     .local_get(66)?
+///     .br_if(0)?
+///     .end()?;
+/// assert_eq!(rt; code.as_slice(), b"\x02\x40\x20\x42\x0d\x00\x0b".as_slice());
+/// ```
 #[derive(Drop)]
 pub struct InstructionSink<'a, A: Allocator> {
     bytes: &'a mut Vec<u8, A>,
 }
 
 impl<'a, A: Allocator> InstructionSink<'a, A> {
-    /// A sink that appends to this list.
+    /// Returns a sink that appends to `bytes`.
     pub fn new(bytes: &'a mut Vec<u8, A>) -> InstructionSink<'a, A>
         ensures same_reference { result.bytes.ghost_name ≡ bytes.entry.ghost_name }
         ensures value { result.bytes.now ≡ bytes.old }
@@ -48,16 +60,16 @@ impl<'a, A: Allocator> InstructionSink<'a, A> {
         InstructionSink { bytes }
     }
 
-    /// Appends the shortest encoding of a call.
+    /// Appends the minimal encoding of `call`.
     ///
-    /// `TooLong` where a list has more than 4,294,967,295 items.
+    /// Fails with `TooLong` if a list in it has more than 4,294,967,295 items.
     pub fn write_call(self, call: &Call) -> Result<InstructionSink<'a, A>, EncodeError>
         ensures wrote { AppendsCall self.entry call.now result }
         ensures same { IsSameSink self.entry result }
         ensures room { HasRoom self.entry → HasNoList call.now.operands → IsOk result }
-        // What is bytes_behind encodes the call.
+        // The appended bytes encode the call.
         ensures encodes { IfOk result (λ _. instruction.Encodes (instruction.bytes call.now) call.now) }
-        // A call without a list, or with a list of one type, has from 1 to 20 bytes.
+        // A call without a list, or with a list of one type, has 1 to 20 bytes.
         ensures length { HasNoLongList call.now.operands → IsShortEncoding (instruction.bytes call.now) }
         ensures* unchanged { sem 𝓛 (IsUnchangedAtErr A.row A.Allocator self.entry result) }
     {
@@ -66,19 +78,19 @@ impl<'a, A: Allocator> InstructionSink<'a, A> {
         Ok(InstructionSink { bytes })
     }
 
-    /// Appends the shortest encodings of calls, all of them or none.
+    /// Appends the minimal encodings of `calls`, all of them or none.
     ///
-    /// `TooLong` where a list in one of them has more than 4,294,967,295 items.
+    /// Fails with `TooLong` if a list in a call has more than 4,294,967,295 items.
     #[tactic(auto, using(crate::proofs::ChainLaws::same_as_chain))]
     pub fn write_calls(self, calls: &[Call]) -> Result<InstructionSink<'a, A>, EncodeError>
         ensures wrote { AppendsCalls self.entry calls.now result }
         ensures same { IsSameSink self.entry result }
-        // After equal bytes, a chain of methods and `write_call`, one for each of the calls, writes the same.
+        // After equal bytes, a chain of methods and `write_call`, one for each of the calls, appends the same bytes.
         ensures one_by_one { (start finish : InstructionSink A) → bytes_behind start ≡ bytes_behind self.entry →
             Chain start calls.now finish → IfOk result (λ sink. bytes_behind sink ≡ bytes_behind finish) }
-        // What is bytes_behind encodes the calls.
+        // The appended bytes encode the calls.
         ensures encodes { IfOk result (λ _. Instructions (instructions_bytes calls.now) calls.now) }
-        // Every other encoding of the calls is longer than what is bytes_behind.
+        // Every other encoding of the calls is longer.
         ensures shortest { (bytes : List ℕ) → Instructions bytes calls.now →
             IsShortestOrLonger bytes (instructions_bytes calls.now) }
         ensures* unchanged { sem 𝓛 (IsUnchangedAtErr A.row A.Allocator self.entry result) }

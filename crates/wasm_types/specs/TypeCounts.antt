@@ -11,30 +11,35 @@ use Rattle.wasm_types.specs.declared.types.composite.TypeEntry.{TypeEntry}
 use Rattle.wasm_types.specs.declared.types.composite.TypeEntry.TheVariants as entries
 use Rattle.wasm_codec.specs.Encoding.{IsCount, CanEncodeList}
 
+-- A u32 counts the parameters of the function type, and one its results.
 abbrev pub CountedFunc : FuncType → Type 0
 CountedFunc f = IsCount (length f.params) × IsCount (length f.results)
 
+-- A u32 counts the fields of the structure type.
 abbrev pub CountedStruct : StructType → Type 0
 CountedStruct s = IsCount (length s.fields)
 
+-- A u32 counts the items of each list in the type.
 abbrev pub CountedInner : CompositeInnerType → Type 0
 CountedInner (inner.Func f) = CountedFunc f
 CountedInner (inner.Struct s) = CountedStruct s
 CountedInner (inner.Array a) = Unit {0}
 CountedInner (inner.Cont c) = Unit {0}
 
+-- A u32 counts the items of each list in the composite type.
 abbrev pub CountedComposite : CompositeType → Type 0
 CountedComposite c = CountedInner c.inner
 
+-- A u32 counts the supertypes, and the items of each list in the composite type.
 abbrev pub CountedSub : SubType → Type 0
 CountedSub s = IsCount (length s.supertype_idxs) × CountedComposite s.composite_type
 
+-- A u32 counts the items of each list in the entry.
 abbrev pub CountedEntry : TypeEntry → Type 0
 CountedEntry (entries.Sub s) = CountedSub s
 CountedEntry (entries.Rec types) = CanEncodeList CountedSub types
 
--- what stands before the composite type of a subtype (Recursive Types): nothing, where it is final and has no
--- supertypes
+-- The bytes before the composite type of a subtype (Recursive Types): none, if it is final and has no supertypes.
 abbrev pub supertypes_bytes : Bool → List ℕ → List ℕ
 supertypes_bytes true [] = []
 supertypes_bytes true (index ∷ indexes) = 0x4f ∷ (items u32).bytes (index ∷ indexes)

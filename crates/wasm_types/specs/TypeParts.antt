@@ -1,4 +1,4 @@
--- What types are taken apart into where they are written, and the values among which a byte is looked up.
+-- The parts that types are written from, and the values among which a byte is looked up.
 use Rattle.std.specs.Prelude.{ℕ, Bool, true, false, ◌&&◌, is_some, List, [], ◌∷◌, Option, Some, None}
 use Rattle.wasm_types.specs.declared.types.heap.AbstractHeapType.{AbstractHeapType}
 use Rattle.wasm_types.specs.declared.types.heap.AbstractHeapType.TheVariants as abstracts
@@ -17,6 +17,7 @@ use Rattle.wasm_types.specs.declared.types.composite.SubType.{SubType}
 use Rattle.wasm_types.specs.declared.types.composite.TypeEntry.{TypeEntry}
 use Rattle.wasm_types.specs.declared.types.composite.TypeEntry.TheVariants as entries
 
+-- All abstract heap types.
 abbrev pub abstract_types : List AbstractHeapType
 abstract_types =
     abstracts.NoCont ∷ abstracts.NoExn ∷ abstracts.NoFunc ∷ abstracts.NoExtern ∷ abstracts.None ∷ abstracts.Func ∷ abstracts.Extern
@@ -76,6 +77,7 @@ inner_byte (inner.Struct s) = 0x5f
 inner_byte (inner.Array a) = 0x5e
 inner_byte (inner.Cont c) = 0x5d
 
+-- The supertypes and the composite type of a subtype.
 abbrev pub sub_parts : SubType → Option (List ℕ × CompositeType)
 sub_parts s = Some (s.supertype_idxs, s.composite_type)
 

@@ -1,4 +1,4 @@
-//! Writers of types into room that was reserved.
+//! Writers of types into reserved room.
 
 mod heap_types;
 

@@ -1,4 +1,5 @@
-//! Types that are left in their shortest encodings, with no list of them held (Core 3.0, Types).
+//! Rewriters of types (Core 3.0, Types). Each replaces the next type by its minimal encoding in place, and holds no
+//! list of types.
 ghost use Rattle.std.specs.Prelude.{◌≡◌, Some};
 ghost use Rattle.wasm_codec.specs.Places.{Place, byte_at};
 ghost use Rattle.wasm_codec.specs.Rewriter.{Rewrites};
@@ -21,7 +22,7 @@ pub use type_sections::{normalise_type_section, rewrite_type_section};
 use wasm_codec::reader::cursor::Fault;
 use wasm_codec::rewriter::{Rewritable, Rewriter, rewrite_list};
 
-/// What a composite type is made of.
+/// Rewrites a function, structure, array or continuation type.
 #[tactic(auto, using(std::proofs::Common::append_assoc), unfolding(crate::specs::formats::Types::inner_type, crate::specs::formats::Types::result_type))]
 fn rewrite_inner_type(rewriter: &mut Rewriter) -> Result<(), Fault>
     ensures rewrites { Rewrites inner_type rewriter.old rewriter.new result }
@@ -48,7 +49,7 @@ fn rewrite_inner_type(rewriter: &mut Rewriter) -> Result<(), Fault>
     }
 }
 
-/// A descriptor, if there is one, and what the type is made of.
+/// Rewrites an optional descriptor and the type after it.
 #[inline(always)]
 #[tactic(auto, using(std::proofs::Common::append_assoc))]
 fn rewrite_described_type(rewriter: &mut Rewriter) -> Result<(), Fault>
@@ -64,7 +65,7 @@ fn rewrite_described_type(rewriter: &mut Rewriter) -> Result<(), Fault>
     Ok(())
 }
 
-/// The type that is described, if there is one, and the rest of a composite type.
+/// Rewrites an optional described type, and then the rest of a composite type.
 #[inline(always)]
 #[tactic(auto, using(std::proofs::Common::append_assoc))]
 fn rewrite_describing_type(rewriter: &mut Rewriter) -> Result<(), Fault>
@@ -80,7 +81,7 @@ fn rewrite_describing_type(rewriter: &mut Rewriter) -> Result<(), Fault>
     Ok(())
 }
 
-/// A composite type.
+/// Rewrites a composite type.
 #[tactic(auto, using(std::proofs::Common::append_assoc), unfolding(crate::specs::formats::Types::composite_type))]
 fn rewrite_composite_type(rewriter: &mut Rewriter) -> Result<(), Fault>
     ensures rewrites { Rewrites composite_type rewriter.old rewriter.new result }
@@ -94,7 +95,7 @@ fn rewrite_composite_type(rewriter: &mut Rewriter) -> Result<(), Fault>
     Ok(())
 }
 
-/// A final subtype that begins with `0x4F`. Where its list of supertypes is empty, both are left out.
+/// Rewrites a final subtype that begins with `0x4F`. If it has no supertypes, that byte and the empty list are dropped.
 #[tactic(auto, unfolding(crate::specs::formats::Types::sub_type))]
 fn rewrite_final_type(rewriter: &mut Rewriter) -> Result<(), Fault>
     requires { (after : Place) × (byte_at rewriter.old.place ≡ Some (0x4f, after)) }
@@ -111,7 +112,7 @@ fn rewrite_final_type(rewriter: &mut Rewriter) -> Result<(), Fault>
     Ok(())
 }
 
-/// A subtype.
+/// Rewrites a subtype.
 #[tactic(auto, using(std::proofs::Common::append_assoc), unfolding(crate::specs::formats::Types::sub_type))]
 fn rewrite_sub_type(rewriter: &mut Rewriter) -> Result<(), Fault>
     ensures rewrites { Rewrites sub_type rewriter.old rewriter.new result }
@@ -130,7 +131,7 @@ fn rewrite_sub_type(rewriter: &mut Rewriter) -> Result<(), Fault>
     Ok(())
 }
 
-/// An entry of a type section.
+/// Rewrites an entry of a type section.
 #[inline(never)]
 #[tactic(auto, using(std::proofs::Common::append_assoc), unfolding(crate::specs::formats::Types::recursive_type, crate::specs::formats::Types::sub_type, crate::specs::formats::Types::composite_type))]
 fn rewrite_entry(rewriter: &mut Rewriter) -> Result<(), Fault>

@@ -1,4 +1,4 @@
-//! Readers of types that hold no list.
+//! Readers of the types that hold no list.
 
 mod heap_types;
 

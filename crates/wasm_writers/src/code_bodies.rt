@@ -1,4 +1,4 @@
-//! Code bodies, written (Core 3.0, Code Section).
+//! The writer of code bodies (Core 3.0, Code Section).
 ghost use Rattle.std.specs.Prelude.{◌≡◌, ◌++◌, ℕ, List, OnOk, OnErr, IfErr, length, take};
 ghost use Rattle.wasm_codec.specs.Encoding.{IsRefusal, IsShortest, IsShortestOrLonger, OnlyTooLong};
 ghost use Rattle.wasm_writers.specs.CodeCounts.{CountedBody};
@@ -10,11 +10,10 @@ use wasm_calls::calls::append_calls;
 use wasm_codec::encode::{keep_or_undo, put_size_before};
 use wasm_modules::code::CodeBody;
 
-/// The number of the bytes that follow, the list of locals, and the instructions (Core 3.0, Code
-/// Section).
+/// The size in bytes of what follows, the list of locals, and the instructions (Core 3.0, Code Section).
 ///
-/// `TooLong` where there are more than 4,294,967,295 pairs of locals, where a list in an instruction is longer than
-/// that, or where more bytes follow.
+/// Fails with `TooLong` if there are more than 4,294,967,295 groups of locals, if a list in an instruction is longer,
+/// or if the size is over 4,294,967,295.
 #[tactic(auto, using(crate::proofs::CodeBodyWriting::body_is_written, crate::proofs::CodeBodyWriting::body_encodes, crate::proofs::CodeBodyWriting::body_shortest))]
 impl Encode for CodeBody {
     ghost bytes = { code_body.bytes };
@@ -31,7 +30,7 @@ impl Encode for CodeBody {
         ensures refused { IfErr result (IsRefusal CountedBody OnlyTooLong self.now) }
         ensures err { OnErr result (sink.new.items ≡ sink.old.items) }
         ensures written { OnOk result (IsShortest code_body.Encodes code_body.bytes self.now) }
-        // What is written encodes the body.
+        // The bytes encode the body.
         ensures encodes { OnOk result (code_body.Encodes (code_body.bytes self.now) self.now) }
         // Every other encoding of the body is longer.
         ensures shortest { (bytes : List ℕ) → code_body.Encodes bytes self.now →
@@ -43,7 +42,7 @@ impl Encode for CodeBody {
     }
 }
 
-/// Appends the size, the locals and the instructions of a body. An `Err` can leave a part of them.
+/// Appends the size, the locals and the instructions of a body. On error a part of it may remain.
 #[tactic(auto, unfolding(wasm_modules::specs::formats::CodeBodies::code_body))]
 fn append_body<A: Allocator>(body: &CodeBody, sink: &mut Vec<u8, A>) -> Result<(), EncodeError>
     ensures ok { OnOk result (sink.new.items ≡ sink.old.items ++ code_body.bytes body.now) }

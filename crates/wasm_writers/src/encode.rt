@@ -1,4 +1,4 @@
-//! What can be written as bytes: numbers, options and references (Core 3.0, Values).
+//! The trait `Encode`, and writers of numbers, options and references (Core 3.0, Values).
 ghost use Rattle.std.specs.Prelude.{◌≡◌, ◌++◌, ℕ, List, Option, None, OnOk, OnErr, IfErr, IsErrOf, IfSome, IsSomeAnd, ⊤};
 ghost use Rattle.wasm_codec.specs.Leb128.{unsigned_leb128, signed_leb128};
 ghost use Rattle.wasm_codec.specs.formats.Numbers.{EncodesU32, EncodesU64, EncodesS32, EncodesS64};
@@ -16,27 +16,40 @@ pub use wasm_codec::encode::EncodeError;
 use wasm_codec::encode::keep_or_undo;
 use wasm_codec::encode::leb128::{put_i32, put_i64, put_u32, put_u64};
 
-/// A value that can be written as bytes in the binary format.
+/// A value with an encoding in the binary format.
 ///
-/// Callers implement it for their own types under the same contract.
+/// Numbers, options, pairs, types, operands, calls, code bodies and the builders of sections implement it. Implement it
+/// for types of your own too: `bytes` says what a value's encoding is, and the proof checks that `encode` appends it.
+///
+/// # Examples
+///
+/// ```
+/// # use wasm_encoder::Encode;
+/// let mut bytes = Vec::new(rt.alloc());
+/// 624485u32.encode(&mut bytes)?;
+/// (-123456i32).encode(&mut bytes)?;
+/// assert_eq!(rt; bytes.as_slice(), b"\xe5\x8e\x26\xc0\xbb\x78".as_slice());
+/// ```
 pub trait Encode {
-    /// The bytes that are written for the value.
+    /// The encoding of a value.
     ghost bytes: { Self → List ℕ };
 
-    /// What holds of each value that was written, such as that its bytes are its shortest encoding. Nothing, unless
-    /// said.
+    /// What holds for every value that was written, for example that its encoding is minimal. By default nothing.
     ghost IsWritten: { Self → Type 0 } = { λ _. ⊤ };
 
-    /// Whether the value can be written. Any value can, unless said.
+    /// The values that have an encoding. By default all.
     ghost CanEncode: { Self → Type 0 } = { λ _. ⊤ };
 
-    /// The errors, besides `Memory`, that may be answered for a value that can't be written. None, unless said.
+    /// The errors besides `Memory` that `encode` may return for a value without an encoding. By default none.
     ghost refuses: { Self → EncodeError → Type 0 } = { λ _ _. ⊥ };
 
-    /// The error that is answered for the value before anything grows, whatever memory there is. None, unless said.
+    /// The error that `encode` returns for the value before it allocates, whatever memory is available. By default
+    /// none.
     ghost at_once: { Self → Option EncodeError } = { λ _. None };
 
-    /// Appends the bytes of the value to `sink`, or leaves `sink` as it was.
+    /// Appends the value's encoding to `sink`. On error `sink` is unchanged.
+    ///
+    /// Fails with `Memory` if `sink` can't grow, and with an error of `refuses` if the value has no encoding.
     fn encode<A: Allocator>(&self, sink: &mut Vec<u8, A>) -> Result<(), EncodeError>
         ensures ok { OnOk result (sink.new.items ≡ sink.old.items ++ bytes self.now) }
         ensures can { OnOk result (CanEncode self.now) }
@@ -98,7 +111,9 @@ impl Encode for i64 {
     }
 }
 
-/// A length or a count, as a `u32`; past 4,294,967,295 it is refused by [`EncodeError::TooLong`].
+/// A length or a count, as a `u32` (Core 3.0, Integers).
+///
+/// Fails with [`EncodeError::TooLong`] if the number is over 4,294,967,295.
 impl Encode for usize {
     ghost bytes = { unsigned_leb128 };
 
@@ -118,7 +133,7 @@ impl Encode for usize {
     }
 }
 
-/// The bytes of what is referred to.
+/// The encoding of the referenced value.
 impl<T: Encode> Encode for &T {
     ghost bytes = { λ value. T.bytes value.now };
 
@@ -135,7 +150,7 @@ impl<T: Encode> Encode for &T {
     }
 }
 
-/// A zero byte for `None`, and a one before the bytes of a value.
+/// `0x00` for `None`, and `0x01` and the value's encoding for `Some`.
 impl<T: Encode> Encode for Option<T> {
     ghost bytes = { option_bytes T.bytes };
 

@@ -1,4 +1,4 @@
-//! What sections that are lists are built in: encodings one after the other, and their number (Core 3.0, Modules).
+//! Encoded values, one after the other, with their number: sections that are lists are built in it (Core 3.0, Modules).
 ghost use Rattle.std.specs.Prelude.{◌≡◌, ◌++◌, ◌∷◌, ◌+◌, ◌^◌, ◌≤◌, ◌⊎◌, [], OnOk, OnErr, IfOk, IfErr, IsErrOf, length, take};
 ghost use Rattle.std.specs.List.{All, flat_map};
 ghost use Rattle.wasm_codec.specs.Encoding.{byte_list_bytes, CanEncodeList, IsCount, IsRefusal, OnlyTooLong};
@@ -13,7 +13,7 @@ use std::marker::Model;
 use wasm_codec::encode::leb128::u32_len;
 use wasm_codec::encode::{EncodeError, keep_or_undo};
 
-/// Values that were encoded one after the other.
+/// A list of encoded values.
 ///
 /// In contracts it is their number and their bytes.
 #[derive(Debug, Drop)]
@@ -31,7 +31,7 @@ impl Model for EncodedList {
 }
 
 impl EncodedList {
-    /// A list without values. It takes no memory.
+    /// Returns an empty list. Allocates nothing.
     pub fn new(alloc: Global) -> EncodedList
         ensures count { result.count ≡ 0 }
         ensures bytes { result.bytes ≡ [] }
@@ -42,14 +42,14 @@ impl EncodedList {
         }
     }
 
-    /// How many values there are.
+    /// Returns the number of values.
     pub fn len(&self) -> u32
         ensures { result ≡ self.now.count }
     {
         self.count
     }
 
-    /// A list of the same encodings.
+    /// Copies the list. Fails with `Memory` if it can't allocate.
     pub fn try_clone(&self) -> Result<EncodedList, EncodeError>
         ensures ok { IfOk result (λ list. list ≡ self.now) }
         ensures err { IfErr result (λ e. e ≡ Memory) }
@@ -61,7 +61,7 @@ impl EncodedList {
         })
     }
 
-    /// The number of values after one more.
+    /// Returns the number of values plus one. Fails with `TooLong` if that is over 4,294,967,295.
     fn next_count(&self) -> Result<u32, EncodeError>
         ensures ok { IfOk result (λ count. count ≡ self.now.count + 1) }
         ensures err { IfErr result (λ e. (e ≡ TooLong) × IsFull self.now) }
@@ -69,7 +69,9 @@ impl EncodedList {
         self.count.checked_add(1).ok_or(EncodeError::TooLong)
     }
 
-    /// Adds a value, or leaves the list as it was.
+    /// Adds a value. On error the list is unchanged.
+    ///
+    /// Fails with `TooLong` if the list already has 4,294,967,295 values, and with any error of the value.
     pub fn add<T: Encode>(&mut self, value: &T) -> Result<(), EncodeError>
         ensures count { OnOk result (self.new.count ≡ self.old.count + 1) }
         ensures bytes { OnOk result (self.new.bytes ≡ self.old.bytes ++ T.bytes value.now) }
@@ -86,7 +88,8 @@ impl EncodedList {
 
     /// Adds values, all of them or none.
     ///
-    /// `TooLong` where there would be more than 4,294,967,295, before one is encoded; else an error of a value.
+    /// Fails with `TooLong` if the list would have more than 4,294,967,295 values, before it encodes any, and with any
+    /// error of a value.
     pub fn add_all<T: Encode>(&mut self, values: &[T]) -> Result<(), EncodeError>
         ensures count { OnOk result (self.new.count ≡ self.old.count + length values.now) }
         ensures bytes { OnOk result (self.new.bytes ≡ self.old.bytes ++ flat_map T.bytes values.now) }
@@ -102,7 +105,7 @@ impl EncodedList {
         self.settle(start, count, appended)
     }
 
-    /// The number of values once `more` are added.
+    /// Returns the number of values plus `more`. Fails with `TooLong` if that is over 4,294,967,295.
     fn count_after(&self, more: usize) -> Result<u32, EncodeError>
         ensures ok { IfOk result (λ count. count ≡ self.now.count + more) }
         ensures err { IfErr result (λ e. (e ≡ TooLong) × (2 ^ 32 ≤ self.now.count + more)) }
@@ -114,11 +117,13 @@ impl EncodedList {
     }
 }
 
-/// Values that are made of what iterators give.
+/// Values made of the items of iterators.
 impl EncodedList {
-    /// Adds a value that is a byte and the list that an iterator gives, or leaves the list of values as it was.
+    /// Adds a value that is the byte `tag` and the list of the items that an iterator yields. On error the list is
+    /// unchanged.
     ///
-    /// `TooLong` for the iterator's `len` before an item is asked for.
+    /// Fails with `TooLong` if the list already has 4,294,967,295 values or the iterator's `len` is over 4,294,967,295,
+    /// before it asks for an item, and with any error of an item.
     pub fn add_tagged<T: Encode + Drop, I: ExactSizeIterator<Item = T>>(
         &mut self,
         tag: u8,
@@ -138,9 +143,11 @@ impl EncodedList {
         self.settle(start, count, appended)
     }
 
-    /// Adds a value that is a byte and the lists that two iterators give, or leaves the list of values as it was.
+    /// Adds a value that is the byte `tag` and the lists of the items that two iterators yield. On error the list is
+    /// unchanged.
     ///
-    /// `TooLong` for an iterator's `len` before an item of either is asked for.
+    /// Fails with `TooLong` if the list already has 4,294,967,295 values or a `len` is over 4,294,967,295, before it
+    /// asks for an item of either, and with any error of an item.
     pub fn add_tagged_pair<
         T: Encode + Drop,
         I: ExactSizeIterator<Item = T>,
@@ -163,7 +170,8 @@ impl EncodedList {
         self.settle(start, count, appended)
     }
 
-    /// Keeps what was appended since `start` as one value more, or takes it back.
+    /// Keeps the bytes from `start` on, and sets the number of values to `count`, if `appended` is `Ok`. Otherwise
+    /// truncates the bytes back to `start`.
     fn settle(
         &mut self,
         start: usize,
@@ -180,7 +188,7 @@ impl EncodedList {
     }
 }
 
-/// Appends a byte and the list that an iterator gives. An `Err` can leave a part of it.
+/// Appends the byte `tag` and the list of the items that an iterator yields. On error a part of it may remain.
 fn append_tagged<T: Encode + Drop, I: ExactSizeIterator<Item = T>>(
     tag: u8,
     items: I,
@@ -197,7 +205,7 @@ fn append_tagged<T: Encode + Drop, I: ExactSizeIterator<Item = T>>(
     append_items(items, bytes)
 }
 
-/// Appends a byte and the lists that two iterators give. An `Err` can leave a part of them.
+/// Appends the byte `tag` and the lists of the items that two iterators yield. On error a part of it may remain.
 fn append_tagged_pair<
     T: Encode + Drop,
     I: ExactSizeIterator<Item = T>,
@@ -220,9 +228,9 @@ fn append_tagged_pair<
     append_items(second, bytes)
 }
 
-/// The size of the body, the number of values, and their encodings (Core 3.0, Sections and Lists).
+/// The size of the body in bytes, the number of values, and the values (Core 3.0, Sections and Lists).
 ///
-/// `TooLong` where the body has more than 4,294,967,295 bytes.
+/// Fails with `TooLong` if the body is longer than 4,294,967,295 bytes.
 impl Encode for EncodedList {
     ghost bytes = { λ list. byte_list_bytes (body_bytes list) };
 
@@ -235,7 +243,7 @@ impl Encode for EncodedList {
         ensures can { OnOk result (CountedSection self.now) }
         ensures refused { IfErr result (IsRefusal CountedSection OnlyTooLong self.now) }
         ensures err { OnErr result (sink.new.items ≡ sink.old.items) }
-        // A u32 counts the values.
+        // The number of values fits a u32.
         ensures few { IsCount self.now.count }
     {
         let start = sink.len();
@@ -244,7 +252,7 @@ impl Encode for EncodedList {
     }
 }
 
-/// Appends the size, the number and the values of a list. An `Err` can leave a part of them.
+/// Appends the size, the number and the values of a list. On error a part of it may remain.
 fn append_sized<A: Allocator>(list: &EncodedList, sink: &mut Vec<u8, A>) -> Result<(), EncodeError>
     ensures ok { OnOk result (sink.new.items ≡ sink.old.items ++ byte_list_bytes (body_bytes list.now)) }
     ensures can { OnOk result (CountedSection list.now) }

@@ -1,4 +1,4 @@
-//! Instructions, written (Core 3.0, Instructions).
+//! The writer of an instruction (Core 3.0, Instructions).
 ghost use Rattle.wasm_calls.specs.Appending.{CountedCall};
 ghost use Rattle.wasm_codec.specs.Encoding.{IsShortest, OnlyTooLong};
 ghost use Rattle.wasm_instructions.specs.formats.Instructions.{instruction};
@@ -8,7 +8,9 @@ use std::alloc::Allocator;
 use wasm_calls::calls::append_call;
 use wasm_instructions::table::Call;
 
-/// The opcode and its operands, where a u32 counts the items of each list (Core 3.0, Instructions).
+/// The opcode and its operands (Core 3.0, Instructions).
+///
+/// Fails with `TooLong` if a list in the operands has more than 4,294,967,295 items.
 #[tactic(auto, using(wasm_calls::proofs::CallRanges::call_written))]
 impl Encode for Call {
     ghost bytes = { instruction.bytes };

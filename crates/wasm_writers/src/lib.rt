@@ -1,5 +1,5 @@
-//! Writers of values: the trait `Encode`, and what it writes of numbers, lists, types, instructions, code bodies and
-//! sections (Core 3.0, Binary Format).
+//! The trait `Encode` and its implementations for numbers, lists, types, instructions, code bodies and raw sections
+//! (Core 3.0, Binary Format).
 #![tactic(auto)]
 
 mod code_bodies;

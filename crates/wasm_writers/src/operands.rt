@@ -1,4 +1,4 @@
-//! Operands, written (Core 3.0, Instructions).
+//! Writers of operands (Core 3.0, Instructions).
 ghost use Rattle.std.specs.Prelude.{◌≡◌};
 ghost use Rattle.wasm_codec.specs.declared.encode.EncodeError.TheVariants.{Alignment};
 ghost use Rattle.wasm_codec.specs.Encoding.{IsShortest};
@@ -10,7 +10,7 @@ use std::alloc::Allocator;
 use wasm_instructions::encode::{put_block_type, put_catch, put_handle, put_mem_arg, put_ordering};
 use wasm_instructions::operands::{BlockType, Catch, Handle, MemArg, Ordering};
 
-/// One byte, a value type, or an index as an s33 (Core 3.0, Control Instructions).
+/// `0x40` for no result, a value type, or a type index as an s33 (Core 3.0, Control Instructions).
 #[tactic(auto, using(wasm_calls::proofs::CallRanges::block_written))]
 impl Encode for BlockType {
     ghost bytes = { block_type.bytes };
@@ -24,8 +24,9 @@ impl Encode for BlockType {
     }
 }
 
-/// The alignment and the offset, with the memory's index between them where that isn't 0 (Core 3.0, Instructions,
-/// memory instructions). An alignment of 64 or more is refused by [`EncodeError::Alignment`], before anything grows.
+/// The alignment, the memory index unless it is 0, and the offset (Core 3.0, Memory Instructions).
+///
+/// Fails with [`EncodeError::Alignment`] if the alignment is 64 or more, before it allocates.
 impl Encode for MemArg {
     ghost bytes = { mem_arg.bytes };
 
@@ -47,7 +48,7 @@ impl Encode for MemArg {
     }
 }
 
-/// The byte of the clause, its tag, if it has one, and its label (Core 3.0, Control Instructions).
+/// The byte of the clause, its tag index, if any, and its label (Core 3.0, Control Instructions).
 #[tactic(auto, using(wasm_calls::proofs::CallRanges::catch_written))]
 impl Encode for Catch {
     ghost bytes = { catch_clause.bytes };
@@ -61,7 +62,7 @@ impl Encode for Catch {
     }
 }
 
-/// The byte of the clause, its tag, and its label, if it has one.
+/// The byte of the clause, its tag index, and its label, if any (stack switching proposal).
 #[tactic(auto, using(wasm_calls::proofs::CallRanges::handle_written))]
 impl Encode for Handle {
     ghost bytes = { handle_clause.bytes };
@@ -75,7 +76,7 @@ impl Encode for Handle {
     }
 }
 
-/// One byte.
+/// One byte (threads proposal).
 impl Encode for Ordering {
     ghost bytes = { ordering_format.bytes };
 

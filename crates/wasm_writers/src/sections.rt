@@ -1,4 +1,4 @@
-//! Sections, written: an id, the size of the body, and the body (Core 3.0, Sections).
+//! Writers of sections: an id, the size of the body, and the body (Core 3.0, Sections).
 ghost use Rattle.std.specs.Prelude.{◌≡◌, ◌++◌, ◌∷◌, OnOk, OnErr, IfErr, length};
 ghost use Rattle.wasm_codec.specs.Encoding.{byte_list_bytes, IsCount, IsRefusal, OnlyTooLong, too_long_at_once};
 
@@ -7,7 +7,9 @@ use std::alloc::Allocator;
 use wasm_codec::encode::keep_or_undo;
 use wasm_modules::section::RawSection;
 
-/// The size of the body and then the body (Core 3.0, Sections).
+/// The size of the body in bytes, and the body (Core 3.0, Sections).
+///
+/// Fails with `TooLong` if the body is longer than 4,294,967,295 bytes.
 impl<'a> Encode for RawSection<'a> {
     ghost bytes = { λ section. byte_list_bytes section.body.now };
 
@@ -22,7 +24,7 @@ impl<'a> Encode for RawSection<'a> {
     }
 }
 
-/// Appends the id of a section and what encodes its size and its body, or leaves `dst` as it was.
+/// Appends the id of a section and the section's encoding. On error `dst` is unchanged.
 pub fn append_section<S: Encode, A: Allocator>(
     id: u8,
     section: &S,

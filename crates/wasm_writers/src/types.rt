@@ -1,4 +1,4 @@
-//! Types, written (Core 3.0, Types).
+//! Writers of types (Core 3.0, Types).
 
 mod composite_types;
 mod heap_types;

@@ -5,10 +5,11 @@ use Rattle.wasm_modules.specs.formats.Modules.{raw_module}
 use Rattle.wasm_sections.specs.formats.EntryParts.{CustomParts}
 use Rattle.wasm_sections.specs.formats.Sections.{custom_body}
 
+-- The name begins with these bytes.
 abbrev pub BeginsWith : List ℕ → List ℕ → Type 0
 BeginsWith beginning name = (rest : List ℕ) × (name ≡ beginning ++ rest)
 
--- sections of this name keep offsets
+-- Custom sections of this name keep offsets.
 abbrev pub IsOffsetName : List ℕ → Type 0
 IsOffsetName name =
     BeginsWith (codes "linking") name
@@ -18,26 +19,26 @@ IsOffsetName name =
     ⊎ (BeginsWith (codes "sourceMappingURL") name
     ⊎ BeginsWith (codes "metadata.code.") name))))
 
--- This is a custom section of this name.
+-- The section is a custom section of this name.
 pub record IsNameOf (section : SectionParts) (name : List ℕ) : Type 0 where
   pub is_custom : section.id ≡ 0
   pub custom : CustomParts
   pub holds : custom_body.Encodes section.body custom
   pub named : custom.name ≡ name
 
--- This is a custom section that keeps offsets.
+-- The section is a custom section that keeps offsets.
 pub record KeepsOffsets (section : SectionParts) : Type 0 where
   pub name : List ℕ
   pub named : IsNameOf section name
   pub offsets : IsOffsetName name
 
--- the second list has the sections of the first that don't keep offsets
+-- The second list has the sections of the first that don't keep offsets, in their order.
 pub data Without : List SectionParts → List SectionParts → Type 0 where
   none : Without [] []
   kept : {section : SectionParts} {sections left : List SectionParts} → (KeepsOffsets section → ⊥) → Without sections left → Without (section ∷ sections) (section ∷ left)
   dropped : {section : SectionParts} {sections left : List SectionParts} → KeepsOffsets section → Without sections left → Without (section ∷ sections) left
 
--- These bytes are the shortest encoding of the sections of a module that don't keep offsets.
+-- The bytes are the minimal encoding of the sections that don't keep offsets.
 pub record IsWithoutOffsets (sections : List SectionParts) (bytes : List ℕ) : Type 0 where
   pub left : List SectionParts
   pub chosen : Without sections left

@@ -1,4 +1,4 @@
--- What a run reads, writes and answers.
+-- The output of a run of `wasmcanon`, and its result.
 use Rattle.std.specs.Prelude.{ℕ, List, Option, Result, Ok, Err}
 use Rattle.std.specs.Io.KnownBytes.{Appends}
 use Rattle.wasm_codec.specs.Answers.{EncodesSome, IsNormalForm, IsLongestPrefix}
@@ -14,7 +14,7 @@ use Rattle.wasmcanon.specs.declared.run.Verdict.TheVariants as verdicts
 use Rattle.wasmcanon.specs.declared.run.Failure.{Failure}
 use Rattle.wasmcanon.specs.declared.run.Failure.TheVariants as failures
 
--- the bytes encode a list of sections, each with what it holds
+-- The bytes encode a list of sections, each with its content.
 abbrev pub IsModule : List ℕ → Type 0
 IsModule bytes = EncodesSome whole_module.Encodes bytes
 
@@ -22,17 +22,17 @@ IsModule bytes = EncodesSome whole_module.Encodes bytes
 pub record IsNoModule (bytes : List ℕ) : Type 0 where
   pub none : (sections : List ModuleSectionParts) → whole_module.Encodes bytes sections → ⊥
 
--- this is the shortest encoding of the sections that the input encodes
+-- The result is the minimal encoding of the sections that the input encodes.
 abbrev pub IsCanonicalForm : List ℕ → List ℕ → Type 0
 IsCanonicalForm input encoding = IsNormalForm whole_module.Encodes whole_module.bytes input encoding
 
--- The known contents of a writer grew by the canonical form of the input.
+-- The writer's known contents grew by the canonical form of the input.
 pub record AppendsCanonicalForm (input : List ℕ) (old new : Option (List ℕ)) : Type 0 where
   pub encoding : List ℕ
   pub canonical : IsCanonicalForm input encoding
   pub appended : Appends old new encoding
 
--- The known contents of a writer grew by the sections of the canonical form of the input that don't keep offsets.
+-- The writer's known contents grew by the canonical form's sections that don't keep offsets.
 pub record AppendsWithoutOffsets (input : List ℕ) (old new : Option (List ℕ)) : Type 0 where
   pub encoding : List ℕ
   pub canonical : IsCanonicalForm input encoding
@@ -40,15 +40,15 @@ pub record AppendsWithoutOffsets (input : List ℕ) (old new : Option (List ℕ)
   pub without : (sections : List SectionParts) → raw_module.Encodes encoding sections → IsWithoutOffsets sections left
   pub appended : Appends old new left
 
--- what a verdict says of the input
+-- The verdict is right: the input is canonical, or its longest canonical prefix ends at this offset.
 abbrev pub Judges : List ℕ → Verdict → Type 0
 Judges input verdicts.Canonical = IsCanonicalForm input input
 Judges input (verdicts.Longer at) =
     IsModule input × (IsCanonicalForm input input → ⊥) × IsLongestPrefix (IsModulePrefixOf (narrow module_section)) input at
 
--- ---- answers
+-- ---- results
 
--- where the input was refused, this holds of the place
+-- If the run refuses its input, the property holds of the offset that it reports.
 abbrev pub IfRefused : {X : Type 0} → Result X Failure → (ℕ → Type 0) → Type 0
 IfRefused (Ok x) P = Unit {0}
 IfRefused (Err (failures.Refused at place)) P = P at
@@ -56,7 +56,7 @@ IfRefused (Err failures.Memory) P = Unit {0}
 IfRefused (Err (failures.Read error)) P = Unit {0}
 IfRefused (Err (failures.Write error)) P = Unit {0}
 
--- this holds at each answer that is given once all the input is read
+-- The property holds of each result that is returned after all input was read.
 abbrev pub OnceAllIsRead : {X : Type 0} → Result X Failure → Type 0 → Type 0
 OnceAllIsRead (Ok x) P = P
 OnceAllIsRead (Err (failures.Refused at place)) P = P
@@ -64,7 +64,7 @@ OnceAllIsRead (Err failures.Memory) P = Unit {0}
 OnceAllIsRead (Err (failures.Read error)) P = Unit {0}
 OnceAllIsRead (Err (failures.Write error)) P = P
 
--- this holds at each failure but that of a write
+-- The property holds of each failure but that of a write.
 abbrev pub BeforeAnyWrite : {X : Type 0} → Result X Failure → Type 0 → Type 0
 BeforeAnyWrite (Ok x) P = Unit {0}
 BeforeAnyWrite (Err (failures.Refused at place)) P = P
@@ -72,14 +72,14 @@ BeforeAnyWrite (Err failures.Memory) P = P
 BeforeAnyWrite (Err (failures.Read error)) P = P
 BeforeAnyWrite (Err (failures.Write error)) P = Unit {0}
 
--- the failure is one of reading
+-- The failure is `Memory` or `Read`.
 abbrev pub IsReadFailure : Failure → Type 0
 IsReadFailure (failures.Refused at place) = ⊥
 IsReadFailure failures.Memory = Unit {0}
 IsReadFailure (failures.Read error) = Unit {0}
 IsReadFailure (failures.Write error) = ⊥
 
--- the exit status of a run that failed so
+-- The exit status of a run that failed so.
 abbrev pub status_of : Failure → ℕ
 status_of (failures.Refused at place) = 1
 status_of failures.Memory = 3

@@ -1,4 +1,4 @@
--- What the program reads its input as.
+-- The modes of `wasmnorm`: how it reads its input.
 use Rattle.std.specs.Prelude.{ℕ, List}
 use Rattle.wasm_codec.specs.Answers.{EncodesSome, IsNormalForm}
 use Rattle.wasm_instructions.specs.formats.Instructions.{Instructions, instructions_bytes}
@@ -8,20 +8,19 @@ use Rattle.wasm_types.specs.formats.Types.{IsTypeBodyPrefix, type_body}
 use Rattle.wasm_modules.specs.formats.Modules.{decoded_module}
 use Rattle.wasm_modules.specs.DecodedModules.{IsDecodedModulePrefix}
 
--- the bytes encode something of the mode
+-- The input encodes a list of calls, type entries or a decoded module, as the mode asks.
 abbrev pub IsEncoded : Mode → List ℕ → Type 0
 IsEncoded Calls bytes = EncodesSome Instructions bytes
 IsEncoded Types bytes = EncodesSome type_body.Encodes bytes
 IsEncoded Module bytes = EncodesSome decoded_module.Encodes bytes
 
--- a prefix of the bytes is whole in the mode: for types nothing, or a count and at most as many entries; for a module
--- nothing, or the header and sections
+-- In its mode, the prefix is a list of calls, empty, a count and at most as many entries, or the header and sections.
 abbrev pub IsWholePrefix : Mode → List ℕ → Type 0
 IsWholePrefix Calls prefix = EncodesSome Instructions prefix
 IsWholePrefix Types prefix = IsTypeBodyPrefix prefix
 IsWholePrefix Module prefix = IsDecodedModulePrefix prefix
 
--- these bytes are the shortest encoding of something of the mode that the input encodes
+-- The result is the minimal encoding of what the input encodes in the mode.
 abbrev pub NormalForm : Mode → List ℕ → List ℕ → Type 0
 NormalForm Calls input encoding = IsNormalForm Instructions instructions_bytes input encoding
 NormalForm Types input encoding = IsNormalForm type_body.Encodes type_body.bytes input encoding

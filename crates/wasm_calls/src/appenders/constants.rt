@@ -1,4 +1,4 @@
-//! Instructions with constants and with lanes.
+//! Appenders of instructions with a constant or with lanes.
 ghost use Rattle.std.specs.Prelude.{◌≡◌, ◌++◌, ◌+◌, ◌≤◌, IsOk, IfErr, OnOk, OnErr, vec_len, vec_capacity};
 ghost use Rattle.wasm_codec.specs.declared.encode.EncodeError.TheVariants.{Memory};
 ghost use Rattle.wasm_instructions.specs.Instructions.{NumbersInRange, IsShort};
@@ -13,7 +13,7 @@ use wasm_instructions::encode::{put_bits_32, put_bits_64, put_opcode, put_vector
 use wasm_instructions::operands::{Ieee32, Ieee64, Lane};
 use wasm_instructions::table::Opcode;
 
-/// Appends an instruction with a signed number of 32 bits.
+/// Appends an instruction with a signed 32-bit number.
 #[tactic(auto, unfolding(wasm_instructions::specs::formats::Instructions::instruction, wasm_instructions::specs::formats::Instructions::operands_format))]
 pub fn append_i32<A: Allocator>(
     bytes: &mut Vec<u8, A>,
@@ -32,7 +32,7 @@ pub fn append_i32<A: Allocator>(
     Ok(())
 }
 
-/// Appends an instruction with a signed number of 64 bits.
+/// Appends an instruction with a signed 64-bit number.
 #[tactic(auto, unfolding(wasm_instructions::specs::formats::Instructions::instruction, wasm_instructions::specs::formats::Instructions::operands_format))]
 pub fn append_i64<A: Allocator>(
     bytes: &mut Vec<u8, A>,
@@ -51,7 +51,7 @@ pub fn append_i64<A: Allocator>(
     Ok(())
 }
 
-/// Appends an instruction with the bits of a floating-point number of 32 bits.
+/// Appends an instruction with the bits of a 32-bit floating-point number.
 #[tactic(auto, unfolding(wasm_instructions::specs::formats::Instructions::instruction, wasm_instructions::specs::formats::Instructions::operands_format))]
 pub fn append_f32<A: Allocator>(
     bytes: &mut Vec<u8, A>,
@@ -70,7 +70,7 @@ pub fn append_f32<A: Allocator>(
     Ok(())
 }
 
-/// Appends an instruction with the bits of a floating-point number of 64 bits.
+/// Appends an instruction with the bits of a 64-bit floating-point number.
 #[tactic(auto, unfolding(wasm_instructions::specs::formats::Instructions::instruction, wasm_instructions::specs::formats::Instructions::operands_format))]
 pub fn append_f64<A: Allocator>(
     bytes: &mut Vec<u8, A>,
@@ -89,7 +89,7 @@ pub fn append_f64<A: Allocator>(
     Ok(())
 }
 
-/// Appends an instruction with a vector.
+/// Appends an instruction with a 128-bit vector.
 #[tactic(auto, unfolding(wasm_instructions::specs::formats::Instructions::instruction, wasm_instructions::specs::formats::Instructions::operands_format))]
 pub fn append_v128<A: Allocator>(
     bytes: &mut Vec<u8, A>,
@@ -108,7 +108,7 @@ pub fn append_v128<A: Allocator>(
     Ok(())
 }
 
-/// Appends an instruction with sixteen lanes.
+/// Appends an instruction with sixteen lane indexes.
 #[tactic(auto, unfolding(wasm_instructions::specs::formats::Instructions::instruction, wasm_instructions::specs::formats::Instructions::operands_format, wasm_instructions::specs::formats::Operands::lanes))]
 pub fn append_shuffle<A: Allocator>(
     bytes: &mut Vec<u8, A>,
@@ -124,12 +124,12 @@ pub fn append_shuffle<A: Allocator>(
 {
     bytes.reserve(ROOM)?;
     put_opcode(bytes, op);
-    // There is room for them.
+    // The reserved bytes hold the lanes.
     bytes.extend_from_slice(&lanes)?;
     Ok(())
 }
 
-/// Appends an instruction with a lane.
+/// Appends an instruction with one lane index.
 #[tactic(auto, unfolding(wasm_instructions::specs::formats::Instructions::instruction, wasm_instructions::specs::formats::Instructions::operands_format))]
 pub fn append_lane<A: Allocator>(
     bytes: &mut Vec<u8, A>,

@@ -1,4 +1,4 @@
-//! Lists of items, each with bytes of its own, after their number (Core 3.0, Lists).
+//! Lists of operands: their count, and then each item's bytes (Core 3.0, Lists).
 ghost use Rattle.std.specs.Prelude.{◌≡◌, ◌++◌, ◌+◌, ◌*◌, ◌≤◌, ◌<◌, ◌^◌, ℕ, List, length, take, OnOk, IfOk, IfErr, IsTrue, vec_len, vec_capacity};
 ghost use Rattle.std.specs.Iterator.{IsFinite, size};
 ghost use Rattle.wasm_calls.specs.Appending.{AppendsAll, PutsItems, IsRefusedList};
@@ -17,24 +17,24 @@ use wasm_instructions::operands::{Catch, Handle};
 use wasm_types::encode::put_val_type;
 use wasm_types::types::ValType;
 
-/// The room that every item fits into, in bytes.
+/// The bytes to reserve for an item.
 const ITEM_ROOM: usize = 11;
 
-/// The most items that a short list has: room for the longest encoding of each is made at once.
+/// The number of items up to which a list is short. Room for a short list is reserved at once.
 const SHORT: u32 = 64;
 
-/// What lists of operands are made of. Each item has a shortest encoding.
+/// An item of a list of operands.
 pub(crate) trait Item: Copy + Drop {
-    /// The fewest bytes that an item is written in.
+    /// The least number of bytes of an item's minimal encoding.
     const LEAST: usize;
 
-    /// The item's shortest encoding.
+    /// The item's minimal encoding.
     ghost encoding: { Self → List ℕ };
 
-    /// Its numbers are in the ranges of their widths.
+    /// The item's numbers are within their widths.
     ghost InRange: { Self → Type 0 };
 
-    /// Writes the item in `LEAST` to 11 bytes, into reserved room.
+    /// Writes the item, `LEAST` to 11 bytes, into reserved room.
     fn put<A: Allocator>(self, bytes: &mut Vec<u8, A>)
         requires room { vec_len bytes.old + 11 ≤ vec_capacity bytes.old }
         ensures items { bytes.new.items ≡ bytes.old.items ++ encoding self }
@@ -91,10 +91,11 @@ impl Item for Handle {
     }
 }
 
-/// Reserves room for a call with `count` items, and answers that number. The room is 24 bytes, which everything else of the
-/// call fits into, and for the items the most bytes of a short list, or the fewest of a longer one.
+/// Reserves room for an instruction with `count` items, and returns `count` as a `u32`. It reserves 24 bytes for all
+/// but the items. For the items of a short list it reserves the most bytes that they may need, for those of a longer
+/// list the fewest.
 ///
-/// `TooLong` where there are more than 4,294,967,295 items.
+/// Fails with `TooLong` if `count` is over 4,294,967,295, and with `Memory` if `bytes` can't grow.
 pub(super) fn reserve_list<T: Item, A: Allocator>(
     bytes: &mut Vec<u8, A>,
     count: usize,
@@ -113,8 +114,8 @@ pub(super) fn reserve_list<T: Item, A: Allocator>(
     Ok(number)
 }
 
-/// Appends the number of the items that come, into reserved room, and then the items, into it as well where the list is
-/// short. An `Err` can leave a part of them.
+/// Appends the count into reserved room, and then the items. A short list's items go into reserved room too. On error a
+/// part of the list may remain.
 ///
 /// Writes the iterator's `len` as the count, and corrects it if the iterator yields fewer items.
 #[tactic(auto, unfolding(crate::specs::Appending::AppendsAll))]
@@ -144,9 +145,9 @@ pub(super) fn put_list<T: Item, I: ExactSizeIterator<Item = T>, A: Allocator>(
     mend_count(bytes, start, told, came)
 }
 
-/// Appends the items that come, and counts them. An `Err` can leave a part of them.
+/// Appends the items that the iterator yields, and returns their number. On error some of them may remain.
 ///
-/// With `FITS` there is room for all items already; otherwise room is reserved before each item.
+/// With `FITS`, room for all items is already reserved; without it, room is reserved before each item.
 fn put_items<T: Item, I: ExactSizeIterator<Item = T>, A: Allocator, const FITS: bool>(
     bytes: &mut Vec<u8, A>,
     items: I,

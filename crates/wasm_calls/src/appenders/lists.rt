@@ -1,4 +1,6 @@
-//! Instructions with a list that an iterator gives.
+//! Appenders of instructions with a list, mostly from an iterator. They fail with `TooLong` if the iterator's `len` is
+//! over 4,294,967,295, before they ask for an item, and with `Memory` if `bytes` can't grow. The count is that of the
+//! items that the iterator yields, even if they are fewer than `len`.
 ghost use Rattle.std.specs.List.{AllByRecursion};
 ghost use Rattle.std.specs.Prelude.{◌≡◌, ◌++◌, ◌<◌, ◌+◌, ◌≤◌, ◌^◌, length, take, OnOk, OnErr, IfErr, vec_len, vec_capacity};
 ghost use Rattle.std.specs.Iterator.{size};
@@ -19,7 +21,7 @@ use wasm_instructions::operands::{BlockType, Catch, Handle};
 use wasm_instructions::table::Opcode;
 use wasm_types::types::ValType;
 
-/// Appends an instruction with labels, and the label of all other numbers.
+/// Appends a branch table: `labels`, and the label `default` for every other operand.
 #[tactic(auto, unfolding(crate::specs::Appending::AppendsAll, crate::specs::Appending::before_bytes, crate::specs::Appending::after_bytes, wasm_instructions::specs::formats::Instructions::instruction, wasm_instructions::specs::formats::Instructions::operands_format))]
 pub fn append_branch_table<I: ExactSizeIterator<Item = u32>, A: Allocator>(
     bytes: &mut Vec<u8, A>,
@@ -36,7 +38,7 @@ pub fn append_branch_table<I: ExactSizeIterator<Item = u32>, A: Allocator>(
     append_list_call(bytes, op, Before::Nothing, labels, Some(default))
 }
 
-/// Appends an instruction with a list of types. One type is written in one growth.
+/// Appends an instruction with a list of value types. A list of one type needs no more room than 24 bytes.
 #[tactic(auto, unfolding(crate::specs::Appending::before_bytes, crate::specs::Appending::after_bytes, wasm_instructions::specs::formats::Instructions::instruction, wasm_instructions::specs::formats::Instructions::operands_format))]
 pub fn append_type_list<A: Allocator>(
     bytes: &mut Vec<u8, A>,
@@ -56,7 +58,7 @@ pub fn append_type_list<A: Allocator>(
     }
 }
 
-/// Appends an instruction with value types.
+/// Appends an instruction with the value types that an iterator yields.
 #[tactic(auto, unfolding(crate::specs::Appending::AppendsAll, crate::specs::Appending::before_bytes, crate::specs::Appending::after_bytes, wasm_instructions::specs::formats::Instructions::instruction, wasm_instructions::specs::formats::Instructions::operands_format))]
 pub fn append_types<I: ExactSizeIterator<Item = ValType>, A: Allocator>(
     bytes: &mut Vec<u8, A>,
@@ -72,7 +74,7 @@ pub fn append_types<I: ExactSizeIterator<Item = ValType>, A: Allocator>(
     append_list_call(bytes, op, Before::Nothing, types, None)
 }
 
-/// Appends an instruction with a block type and clauses that catch exceptions.
+/// Appends an instruction with a block type and catch clauses.
 #[tactic(auto, unfolding(crate::specs::Appending::AppendsAll, crate::specs::Appending::before_bytes, crate::specs::Appending::after_bytes, wasm_instructions::specs::formats::Instructions::instruction, wasm_instructions::specs::formats::Instructions::operands_format))]
 pub fn append_try_table<I: ExactSizeIterator<Item = Catch>, A: Allocator>(
     bytes: &mut Vec<u8, A>,
@@ -106,7 +108,7 @@ pub fn append_resume<I: ExactSizeIterator<Item = Handle>, A: Allocator>(
     append_list_call(bytes, op, Before::Index(index), handlers, None)
 }
 
-/// Appends an instruction with two indexes and handlers.
+/// Appends an instruction with two indexes, `first` before `second`, and handlers.
 #[tactic(auto, unfolding(crate::specs::Appending::AppendsAll, crate::specs::Appending::before_bytes, crate::specs::Appending::after_bytes, wasm_instructions::specs::formats::Instructions::instruction, wasm_instructions::specs::formats::Instructions::operands_format))]
 pub fn append_resume_throw<I: ExactSizeIterator<Item = Handle>, A: Allocator>(
     bytes: &mut Vec<u8, A>,
@@ -124,12 +126,12 @@ pub fn append_resume_throw<I: ExactSizeIterator<Item = Handle>, A: Allocator>(
     append_list_call(bytes, op, Before::TwoIndexes(first, second), handlers, None)
 }
 
-/// What stands between an opcode and a list.
+/// The operands between an opcode and a list.
 #[derive(Clone, Copy)]
 pub(crate) enum Before {
-    /// Nothing: the list is first.
+    /// None: the list follows the opcode.
     Nothing,
-    /// The type of a block.
+    /// A block type.
     Block(BlockType),
     /// An index.
     Index(u32),
@@ -137,7 +139,7 @@ pub(crate) enum Before {
     TwoIndexes(u32, u32),
 }
 
-/// Writes what stands before a list in up to 10 bytes, into reserved room.
+/// Writes the operands before a list, up to 10 bytes, into reserved room.
 #[inline(always)]
 #[tactic(auto, unfolding(crate::specs::Appending::before_bytes))]
 fn put_before<A: Allocator>(bytes: &mut Vec<u8, A>, before: Before)
@@ -157,7 +159,7 @@ fn put_before<A: Allocator>(bytes: &mut Vec<u8, A>, before: Before)
     }
 }
 
-/// Appends an instruction with a list that is held, as [`append_list_call`] does.
+/// Appends an instruction with the list in a slice, as [`append_list_call`] does.
 pub(crate) fn append_held<T: Item, A: Allocator>(
     bytes: &mut Vec<u8, A>,
     op: Opcode,
@@ -175,7 +177,8 @@ pub(crate) fn append_held<T: Item, A: Allocator>(
     append_list_call(bytes, op, before, items.iter().copied(), after)
 }
 
-/// Appends an opcode, what stands before a list, the list, and the index after it, if there is one: all or nothing.
+/// Appends an opcode, the operands before a list, the list, and the index after it, if there is one. Appends all or
+/// nothing.
 fn append_list_call<T: Item, I: ExactSizeIterator<Item = T>, A: Allocator>(
     bytes: &mut Vec<u8, A>,
     op: Opcode,
@@ -194,7 +197,7 @@ fn append_list_call<T: Item, I: ExactSizeIterator<Item = T>, A: Allocator>(
     keep_or_undo(bytes, start, appended)
 }
 
-/// Appends an instruction with a list, as [`append_list_call`] does. An `Err` can leave a part of it.
+/// Appends an instruction with a list, as [`append_list_call`] does. On error a part of it may remain.
 #[tactic(auto, unfolding(crate::specs::Appending::AppendsAll))]
 fn write_list<T: Item, I: ExactSizeIterator<Item = T>, A: Allocator>(
     bytes: &mut Vec<u8, A>,
@@ -216,7 +219,7 @@ fn write_list<T: Item, I: ExactSizeIterator<Item = T>, A: Allocator>(
     Ok(append_after(bytes, after)?)
 }
 
-/// Appends what stands after a list: an index, or nothing.
+/// Appends the index after a list, if there is one.
 #[tactic(auto, unfolding(crate::specs::Appending::after_bytes))]
 fn append_after<A: Allocator>(bytes: &mut Vec<u8, A>, after: Option<u32>) -> Result<(), AllocError>
     ensures ok { OnOk result (bytes.new.items ≡ bytes.old.items ++ after_bytes after) }

@@ -1,4 +1,5 @@
-//! Instructions with memory arguments. An alignment of 64 or more is refused before anything grows.
+//! Appenders of instructions with memory arguments. They fail with `Alignment` if the alignment is 64 or more, before
+//! they allocate.
 ghost use Rattle.std.specs.Prelude.{◌≡◌, ◌++◌, ◌+◌, ◌≤◌, ◌<◌, ◌↔◌, IsOk, IfErr, IsErrOf, OnOk, OnErr, vec_len, vec_capacity};
 ghost use Rattle.wasm_calls.specs.Appending.{IsOperandsRefusal};
 ghost use Rattle.wasm_instructions.specs.Instructions.{IsShort};
@@ -36,7 +37,7 @@ pub fn append_mem<A: Allocator>(
     Ok(())
 }
 
-/// Appends an instruction with a memory argument and a lane.
+/// Appends an instruction with a memory argument and a lane index.
 #[tactic(auto, unfolding(wasm_instructions::specs::formats::Instructions::instruction, wasm_instructions::specs::formats::Instructions::operands_format))]
 pub fn append_mem_lane<A: Allocator>(
     bytes: &mut Vec<u8, A>,

@@ -1,4 +1,4 @@
-//! Instructions with orderings.
+//! Appenders of instructions with orderings.
 ghost use Rattle.std.specs.Prelude.{◌≡◌, ◌++◌, ◌+◌, ◌≤◌, IsOk, IfErr, OnOk, OnErr, vec_len, vec_capacity};
 ghost use Rattle.wasm_codec.specs.declared.encode.EncodeError.TheVariants.{Memory};
 ghost use Rattle.wasm_instructions.specs.Instructions.{IsShort};
@@ -53,7 +53,7 @@ pub fn append_order_index<A: Allocator>(
     Ok(())
 }
 
-/// Appends an instruction with an ordering and two indexes.
+/// Appends an instruction with an ordering and two indexes, `first` before `second`.
 #[tactic(auto, unfolding(wasm_instructions::specs::formats::Instructions::instruction, wasm_instructions::specs::formats::Instructions::operands_format))]
 pub fn append_order_two_indexes<A: Allocator>(
     bytes: &mut Vec<u8, A>,

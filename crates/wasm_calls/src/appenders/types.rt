@@ -1,4 +1,4 @@
-//! Instructions with block, heap, reference and value types.
+//! Appenders of instructions with block, heap, reference and value types.
 ghost use Rattle.std.specs.Prelude.{◌≡◌, ◌++◌, ◌∷◌, [], ◌+◌, ◌≤◌, IsOk, IfErr, OnOk, OnErr, vec_len, vec_capacity};
 ghost use Rattle.wasm_codec.specs.declared.encode.EncodeError.TheVariants.{Memory};
 ghost use Rattle.wasm_instructions.specs.Instructions.{IsShort};
@@ -75,7 +75,7 @@ pub fn append_type<A: Allocator>(
     Ok(())
 }
 
-/// Appends a branch on a cast: the flags of the two reference types, the label, and their heap types.
+/// Appends a branch on a cast: the nullability of both reference types, the label, and their heap types.
 #[tactic(auto, unfolding(wasm_instructions::specs::formats::Instructions::instruction, wasm_instructions::specs::formats::Instructions::operands_format))]
 pub fn append_cast<A: Allocator>(
     bytes: &mut Vec<u8, A>,

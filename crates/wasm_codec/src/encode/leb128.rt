@@ -1,4 +1,4 @@
-//! LEB128 numbers, written into room that was reserved. `encode` and the instruction sink write them here alone.
+//! Writers of LEB128 numbers into reserved room (Core 3.0, Integers).
 ghost use Rattle.std.specs.Prelude.{◌≡◌, ◌++◌, ◌∷◌, [], ◌+◌, ◌%◌, ◌/◌, ◌*◌, ◌^◌, ◌<◌, ◌≤◌, length, pos, vec_len, vec_capacity};
 ghost use Rattle.wasm_codec.specs.Encoding.{IsShortest};
 ghost use Rattle.wasm_codec.specs.Leb128.{turned, digits_of, unsigned_leb128, signed_leb128};
@@ -6,7 +6,8 @@ ghost use Rattle.wasm_codec.specs.formats.Numbers.{EncodesU32, EncodesU64, Encod
 
 use std::alloc::Allocator;
 
-/// The digit, or what is left of it to 127: the digits of -1 - n are those of n, each taken from 127.
+/// Returns the digit, or 127 minus the digit if `turn` is set. The digits of -1 - n are those of n, each subtracted
+/// from 127.
 #[inline(always)]
 pub(crate) fn turned(turn: bool, digit: u8) -> u8
     requires { digit < 128 }
@@ -16,7 +17,7 @@ pub(crate) fn turned(turn: bool, digit: u8) -> u8
     if turn { 127 - digit } else { digit }
 }
 
-/// Writes the lowest digit of a number that has more, and answers what the others stand for.
+/// Writes the lowest digit of a number that has more digits. Returns the number without that digit.
 #[inline(always)]
 fn put_digit<A: Allocator>(bytes: &mut Vec<u8, A>, turn: bool, n: u64) -> u64
     requires { vec_len bytes.old + 1 ≤ vec_capacity bytes.old }
@@ -29,7 +30,7 @@ fn put_digit<A: Allocator>(bytes: &mut Vec<u8, A>, turn: bool, n: u64) -> u64
     n / 128
 }
 
-/// Writes the fewest digits of a number that has at most five. The last stands for a number below `top`.
+/// Writes the minimal digits of a number that has at most five. The last digit represents a number below `top`.
 #[tactic(auto, unfolding(crate::specs::Leb128::digits_of))]
 fn put_few<A: Allocator>(bytes: &mut Vec<u8, A>, turn: bool, top: u64, n: u64)
     requires room { vec_len bytes.old + 5 ≤ vec_capacity bytes.old }
@@ -62,7 +63,7 @@ fn put_few<A: Allocator>(bytes: &mut Vec<u8, A>, turn: bool, top: u64, n: u64)
     bytes.push_reserved(turned(turn, fifth as u8));
 }
 
-/// Writes the fewest digits of a number that has at most ten.
+/// Writes the minimal digits of a number that has at most ten. The last digit represents a number below `top`.
 #[tactic(auto, unfolding(crate::specs::Leb128::digits_of))]
 fn put_many<A: Allocator>(bytes: &mut Vec<u8, A>, turn: bool, top: u64, n: u64)
     requires room { vec_len bytes.old + 10 ≤ vec_capacity bytes.old }
@@ -85,7 +86,7 @@ fn put_many<A: Allocator>(bytes: &mut Vec<u8, A>, turn: bool, top: u64, n: u64)
     put_few(bytes, turn, top, sixth);
 }
 
-/// Writes a u32 in 1 to 5 bytes.
+/// Writes a u32 in 1 to 5 bytes (Core 3.0, Integers).
 #[tactic(auto, unfolding(crate::specs::Leb128::unsigned_leb128))]
 pub fn put_u32<A: Allocator>(bytes: &mut Vec<u8, A>, value: u32)
     requires { vec_len bytes.old + 5 ≤ vec_capacity bytes.old }
@@ -97,7 +98,7 @@ pub fn put_u32<A: Allocator>(bytes: &mut Vec<u8, A>, value: u32)
     put_few(bytes, false, 128, u64::from(value));
 }
 
-/// Writes a u64 in 1 to 10 bytes.
+/// Writes a u64 in 1 to 10 bytes (Core 3.0, Integers).
 #[tactic(auto, unfolding(crate::specs::Leb128::unsigned_leb128))]
 pub fn put_u64<A: Allocator>(bytes: &mut Vec<u8, A>, value: u64)
     requires { vec_len bytes.old + 10 ≤ vec_capacity bytes.old }
@@ -109,7 +110,7 @@ pub fn put_u64<A: Allocator>(bytes: &mut Vec<u8, A>, value: u64)
     put_many(bytes, false, 128, value);
 }
 
-/// Writes an s32 in 1 to 5 bytes.
+/// Writes an s32 in 1 to 5 bytes (Core 3.0, Integers).
 #[tactic(auto, unfolding(crate::specs::Leb128::signed_leb128))]
 pub fn put_i32<A: Allocator>(bytes: &mut Vec<u8, A>, value: i32)
     requires { vec_len bytes.old + 5 ≤ vec_capacity bytes.old }
@@ -125,7 +126,7 @@ pub fn put_i32<A: Allocator>(bytes: &mut Vec<u8, A>, value: i32)
     }
 }
 
-/// Writes an s64 in 1 to 10 bytes.
+/// Writes an s64 in 1 to 10 bytes (Core 3.0, Integers).
 #[tactic(auto, unfolding(crate::specs::Leb128::signed_leb128))]
 pub fn put_i64<A: Allocator>(bytes: &mut Vec<u8, A>, value: i64)
     requires { vec_len bytes.old + 10 ≤ vec_capacity bytes.old }
@@ -141,7 +142,7 @@ pub fn put_i64<A: Allocator>(bytes: &mut Vec<u8, A>, value: i64)
     }
 }
 
-/// Writes an index in the place of a negative type code, in 1 to 5 bytes.
+/// Writes a type index as a non-negative s33, in 1 to 5 bytes (Core 3.0, Heap Types).
 #[tactic(auto, unfolding(crate::specs::Leb128::signed_leb128))]
 pub fn put_index<A: Allocator>(bytes: &mut Vec<u8, A>, index: u32)
     requires { vec_len bytes.old + 5 ≤ vec_capacity bytes.old }
@@ -153,7 +154,7 @@ pub fn put_index<A: Allocator>(bytes: &mut Vec<u8, A>, index: u32)
     put_few(bytes, false, 64, u64::from(index));
 }
 
-/// How many bytes a number's shortest encoding has.
+/// Returns the number of bytes in the minimal encoding of a u32.
 #[tactic(auto, unfolding(crate::specs::Leb128::unsigned_leb128, crate::specs::Leb128::digits_of))]
 pub fn u32_len(value: u32) -> usize
     ensures value { result ≡ length (unsigned_leb128 value) }

@@ -1,4 +1,4 @@
-//! Numbers that are put before what they count (Core 3.0, Lists, Code Section and Sections).
+//! Sizes and counts, written before the bytes or items that they count (Core 3.0, Lists, Code Section and Sections).
 ghost use Rattle.std.specs.Prelude.{◌≡◌, ◌++◌, ◌+◌, ◌-◌, ◌^◌, ◌<◌, ◌≤◌, length, take, drop, vec_len, IfOk, IfErr, OnOk, OnErr};
 ghost use Rattle.wasm_codec.specs.Leb128.{unsigned_leb128};
 ghost use Rattle.wasm_codec.specs.declared.encode.EncodeError.TheVariants.{Memory};
@@ -7,9 +7,10 @@ use super::EncodeError;
 use super::leb128::{put_u32, u32_len};
 use std::alloc::{AllocError, Allocator};
 
-/// Puts the number of the bytes from `start` on before them, in the fewest bytes, or leaves `bytes` as they were.
+/// Inserts the number of bytes from `start` on before them, in its minimal encoding.
 ///
-/// What is counted lies in `bytes` already, so it needs no list of its own.
+/// The bytes already lie in `bytes`, so no second list is needed. Fails with `Memory` if the list can't grow; `bytes`
+/// then stay as they were.
 pub fn put_size_before<A: Allocator>(
     bytes: &mut Vec<u8, A>,
     start: usize,
@@ -26,9 +27,9 @@ pub fn put_size_before<A: Allocator>(
     Ok(())
 }
 
-/// Puts another count in the place of the one at `start`, in the fewest bytes. An `Err` can leave no count there.
+/// Replaces the count at `start` by another, in its minimal encoding, and moves what follows if the lengths differ.
 ///
-/// Where they differ in the number of their bytes, what follows is moved.
+/// If it fails, the bytes from `start` on may have lost their count.
 pub fn mend_count<A: Allocator>(
     bytes: &mut Vec<u8, A>,
     start: usize,
@@ -44,7 +45,7 @@ pub fn mend_count<A: Allocator>(
     put_number_before(bytes, start, right)
 }
 
-/// Takes out `count` bytes at `start`, and moves what follows there.
+/// Removes `count` bytes at `start`.
 fn take_out<A: Allocator>(bytes: &mut Vec<u8, A>, start: usize, count: usize)
     requires { start + count ≤ vec_len bytes.old }
     ensures { bytes.new.items ≡ take start bytes.old.items ++ drop (start + count) bytes.old.items }
@@ -53,7 +54,7 @@ fn take_out<A: Allocator>(bytes: &mut Vec<u8, A>, start: usize, count: usize)
     bytes.truncate(bytes.len() - count);
 }
 
-/// Puts a number before the bytes from `start` on, in the fewest bytes, or leaves `bytes` as they were.
+/// Inserts a number before the bytes from `start` on, in its minimal encoding. If it fails, `bytes` stay as they were.
 fn put_number_before<A: Allocator>(
     bytes: &mut Vec<u8, A>,
     start: usize,
@@ -72,7 +73,7 @@ fn put_number_before<A: Allocator>(
     Ok(())
 }
 
-/// Writes the fewest digits of a number over as many bytes.
+/// Writes the minimal digits of a number over exactly as many bytes.
 #[tactic(auto, unfolding(crate::specs::Leb128::unsigned_leb128, crate::specs::Leb128::digits_of))]
 pub(crate) fn write_u32(digits: &mut [u8], value: u32)
     requires { length digits.old ≡ length (unsigned_leb128 value) }

@@ -1,4 +1,4 @@
-//! A place in bytes, and what can be read there.
+//! `Cursor`, a position in bytes from which values are read.
 ghost use Rattle.std.specs.Prelude.{◌≡◌, ◌^◌, ◌<◌, ◌≤◌, ◌&&◌, ◌-◌, ◌*◌, Some, IfOk, IfErr, length, take, drop, true, false, pos, negsuc};
 ghost use Rattle.wasm_codec.specs.formats.Grammar.{IsBytes};
 ghost use Rattle.wasm_codec.specs.formats.Numbers.{signed};
@@ -12,12 +12,12 @@ ghost use Rattle.wasm_codec.specs.declared.reader.cursor.Fault.TheVariants.{Malf
 use std::alloc::{AllocError, AllocFailed};
 use std::marker::Model;
 
-/// Why nothing was read.
+/// Reason why nothing was read.
 #[derive(Clone, Copy, Debug, PartialEq, Eq)]
 pub enum Fault {
-    /// There was no memory for it.
+    /// An allocation failed.
     Memory,
-    /// What is read isn't encoded there.
+    /// The bytes at the cursor don't encode what was to be read.
     Malformed,
 }
 
@@ -37,7 +37,21 @@ impl<T: Drop> From<AllocFailed<T>> for Fault {
     }
 }
 
-/// A place in bytes, which knows whether everything read so far was in its shortest encoding.
+/// A position in bytes. It also records whether everything read so far was minimally encoded.
+///
+/// After an error the position is unspecified: `fork` the cursor first if you need it again.
+///
+/// # Examples
+///
+/// ```
+/// # use wasm_encoder::{Cursor, Fault};
+/// let mut cursor = Cursor::new(b"\x7f\xc2\x80\x00");
+/// assert_eq!(rt; cursor.s32(), Ok(-1));
+/// assert!(rt; cursor.is_shortest());
+/// assert_eq!(rt; cursor.u32(), Ok(66)); // padded
+/// assert!(rt; !cursor.is_shortest());
+/// assert_eq!(rt; cursor.byte(), Err(Fault::Malformed));
+/// ```
 #[derive(Drop)]
 pub struct Cursor<'a> {
     bytes: &'a [u8],
@@ -56,7 +70,8 @@ impl<'a> Model for Cursor<'a> {
     ghost invariant = { λ c. c.position ≤ length c.bytes.now };
 }
 
-/// At most five digits: the sum of their low seven bits, 128 to their number, and the last byte.
+/// At most five digits of a number: the sum of their low seven bits, 128 to the power of their number, and the last
+/// byte.
 #[derive(Clone, Copy)]
 struct Digits {
     unsigned: u64,
@@ -64,7 +79,7 @@ struct Digits {
     last: u8,
 }
 
-/// The same, of at most ten.
+/// At most ten digits of a number, in the same form.
 #[derive(Clone, Copy)]
 struct ManyDigits {
     unsigned: u128,
@@ -72,7 +87,7 @@ struct ManyDigits {
     last: u8,
 }
 
-/// Whether the number has no encoding with fewer digits.
+/// Checks whether a number of at most five digits has no encoding with fewer digits.
 fn is_fewest(top: u64, unit: u64, value: u64) -> bool
     requires top { top ≤ 128 }
     requires unit { unit ≤ 128 ^ 5 }
@@ -82,7 +97,7 @@ fn is_fewest(top: u64, unit: u64, value: u64) -> bool
     unit == 128 || top * unit <= value * 16384
 }
 
-/// The same, of at most ten digits.
+/// Checks whether a number of at most ten digits has no encoding with fewer digits.
 fn is_fewest_of_many(top: u128, unit: u128, value: u128) -> bool
     requires top { top ≤ 128 }
     requires unit { unit ≤ 128 ^ 10 }
@@ -93,7 +108,7 @@ fn is_fewest_of_many(top: u128, unit: u128, value: u128) -> bool
 }
 
 impl<'a> Cursor<'a> {
-    /// The beginning of the bytes.
+    /// Returns a cursor at the start of the bytes.
     pub fn new(bytes: &'a [u8]) -> Cursor<'a>
         ensures { result ≡ place true bytes.now }
     {
@@ -104,7 +119,7 @@ impl<'a> Cursor<'a> {
         }
     }
 
-    /// How many bytes are left.
+    /// Returns the number of bytes left.
     #[inline(always)]
     pub fn len(&self) -> usize
         ensures { result ≡ length self.now.left }
@@ -112,21 +127,21 @@ impl<'a> Cursor<'a> {
         self.bytes.len() - self.position
     }
 
-    /// Whether everything read since the beginning was in its shortest encoding.
+    /// Checks whether everything read since the start was minimally encoded.
     pub fn is_shortest(&self) -> bool
         ensures { result ≡ self.now.shortest }
     {
         self.shortest
     }
 
-    /// Notes that a long form was read, which isn't the shortest encoding.
+    /// Records that a form was read that isn't minimal.
     pub fn note_long_form(&mut self)
         ensures { self.new ≡ place false self.old.left }
     {
         self.shortest = false;
     }
 
-    /// A second cursor at the same place, to come back to.
+    /// Returns a second cursor at the same position, to come back to.
     pub fn fork(&self) -> Cursor<'a>
         ensures place { result ≡ self.now }
         ensures bytes { IsBytes self.now.left }
@@ -134,7 +149,7 @@ impl<'a> Cursor<'a> {
         Cursor::at(self.bytes, self.position, self.shortest)
     }
 
-    /// The place after the first `position` bytes.
+    /// Returns a cursor after the first `position` bytes.
     fn at(bytes: &'a [u8], position: usize, shortest: bool) -> Cursor<'a>
         requires { position ≤ length bytes.now }
         ensures place { result ≡ place shortest (drop position bytes.now) }
@@ -147,7 +162,7 @@ impl<'a> Cursor<'a> {
         }
     }
 
-    /// One byte.
+    /// Reads one byte. Fails with `Malformed` at the end of the bytes.
     #[inline(always)]
     #[tactic(auto, unfolding(crate::specs::Places::byte_at))]
     pub fn byte(&mut self) -> Result<u8, Fault>
@@ -162,7 +177,7 @@ impl<'a> Cursor<'a> {
         Ok(byte)
     }
 
-    /// The next byte, which isn't consumed.
+    /// Returns the next byte and doesn't move. Fails with `Malformed` at the end of the bytes.
     #[inline(always)]
     #[tactic(auto, unfolding(crate::specs::Places::byte_at))]
     pub fn peek(&self) -> Result<u8, Fault>
@@ -175,7 +190,7 @@ impl<'a> Cursor<'a> {
         Ok(self.bytes[self.position])
     }
 
-    /// The next `count` bytes.
+    /// Reads `count` bytes. Fails with `Malformed` if fewer are left.
     pub fn take(&mut self, count: usize) -> Result<&'a [u8], Fault>
         ensures ok { IfOk result (λ taken. (taken.now ≡ take count self.old.left) × (self.new ≡ place self.old.shortest (drop count self.old.left))) }
         ensures enough { IfOk result (λ _. count ≤ length self.old.left) }
@@ -190,7 +205,10 @@ impl<'a> Cursor<'a> {
         Ok(taken)
     }
 
-    /// The bytes of a body after its size, as a place of its own. It starts with what is known here of shortest encodings.
+    /// Reads a size and returns a cursor over that many bytes, which it skips.
+    ///
+    /// The new cursor starts with this cursor's record of minimal encodings; hand its record back by `set_shortest`.
+    /// Fails with `Malformed` if the size is malformed or exceeds the bytes left.
     pub fn body(&mut self) -> Result<Cursor<'a>, Fault>
         ensures reads { Reads body_at self.old self.new (map_ok (λ body. body.left) result) }
         ensures tells { IfOk result (λ body. body ≡ place self.new.shortest body.left) }
@@ -203,21 +221,21 @@ impl<'a> Cursor<'a> {
         Ok(Cursor::at(bytes, 0, self.shortest))
     }
 
-    /// Takes over from the end of a body whether everything read so far was in its shortest encoding.
+    /// Sets whether everything read so far was minimally encoded: by the cursor of a body, once that body was read.
     pub fn set_shortest(&mut self, shortest: bool)
         ensures { self.new ≡ place shortest self.old.left }
     {
         self.shortest = shortest;
     }
 
-    /// Notes whether what was just read was in its shortest encoding.
+    /// Records whether what was just read was minimally encoded.
     fn keep(&mut self, kept: bool)
         ensures { self.new ≡ place (self.old.shortest && kept) self.old.left }
     {
         self.shortest = self.shortest && kept;
     }
 
-    /// The next byte, where it is a number of one byte.
+    /// Reads a number of one byte. Returns `None` if the next number has more bytes.
     #[inline(always)]
     fn one_digit(&mut self) -> Option<u8>
         ensures { ReadsOne self.old self.new result }
@@ -233,7 +251,7 @@ impl<'a> Cursor<'a> {
         Some(byte)
     }
 
-    /// The digits of a number, at most `most` of them.
+    /// Reads the digits of a number, at most `most` of them.
     #[inline(always)]
     fn digits(&mut self, most: u32) -> Result<Digits, Fault>
         requires { most ≤ 5 }
@@ -258,7 +276,7 @@ impl<'a> Cursor<'a> {
         Err(Fault::Malformed)
     }
 
-    /// The digits of a number, at most `most` of them.
+    /// Reads the digits of a number, at most `most` of them.
     fn many_digits(&mut self, most: u32) -> Result<ManyDigits, Fault>
         requires { most ≤ 10 }
         ensures reads { ReadsManyDigits most self.old self.new result }
@@ -282,7 +300,7 @@ impl<'a> Cursor<'a> {
         Err(Fault::Malformed)
     }
 
-    /// The digits of a signed number, at most five, and its value.
+    /// Reads the digits of a signed number, at most five, and returns its value.
     #[tactic(auto, using(crate::proofs::NumberReading::signed_low, crate::proofs::NumberReading::signed_high))]
     fn signed(&mut self) -> Result<i64, Fault>
         ensures reads { Reads (number_at 5 (λ digits. Some (signed digits)) signed_leb128) self.old self.new result }
@@ -302,7 +320,7 @@ impl<'a> Cursor<'a> {
         }
     }
 
-    /// The same, of at most ten.
+    /// Reads the digits of a signed number, at most ten, and returns its value.
     #[tactic(auto, using(crate::proofs::NumberReading::signed_low, crate::proofs::NumberReading::signed_high))]
     fn many_signed(&mut self) -> Result<i128, Fault>
         ensures reads { Reads (number_at 10 (λ digits. Some (signed digits)) signed_leb128) self.old self.new result }
@@ -322,7 +340,8 @@ impl<'a> Cursor<'a> {
         }
     }
 
-    /// A u32 (Core 3.0, Integers).
+    /// Reads a u32 (Core 3.0, Integers). Fails with `Malformed` if it is cut off, has more than 5 bytes or is out of
+    /// range.
     #[inline(always)]
     pub fn u32(&mut self) -> Result<u32, Fault>
         ensures reads { Reads u32_at self.old self.new result }
@@ -334,7 +353,7 @@ impl<'a> Cursor<'a> {
         self.long_u32()
     }
 
-    /// A u32 of any number of digits.
+    /// Reads a u32 of any length.
     #[inline]
     #[tactic(auto, using(crate::proofs::NumberReading::u32_is, crate::proofs::NumberReading::u32_wide, crate::proofs::NumberReading::u32_none))]
     fn long_u32(&mut self) -> Result<u32, Fault>
@@ -349,7 +368,8 @@ impl<'a> Cursor<'a> {
         Ok(value)
     }
 
-    /// A u64 (Core 3.0, Integers).
+    /// Reads a u64 (Core 3.0, Integers). Fails with `Malformed` if it is cut off, has more than 10 bytes or is out of
+    /// range.
     #[inline(always)]
     pub fn u64(&mut self) -> Result<u64, Fault>
         ensures reads { Reads u64_at self.old self.new result }
@@ -361,7 +381,7 @@ impl<'a> Cursor<'a> {
         self.long_u64()
     }
 
-    /// A u64 of any number of digits.
+    /// Reads a u64 of any length.
     #[inline(never)]
     #[tactic(auto, using(crate::proofs::NumberReading::u64_is, crate::proofs::NumberReading::u64_wide, crate::proofs::NumberReading::u64_none))]
     fn long_u64(&mut self) -> Result<u64, Fault>
@@ -376,7 +396,8 @@ impl<'a> Cursor<'a> {
         Ok(value)
     }
 
-    /// An s32 (Core 3.0, Integers).
+    /// Reads an s32 (Core 3.0, Integers). Fails with `Malformed` if it is cut off, has more than 5 bytes or is out of
+    /// range.
     #[inline(always)]
     #[tactic(auto, using(crate::proofs::NumberReading::s32_low, crate::proofs::NumberReading::s32_high), unfolding(crate::specs::Places::s32_at))]
     pub fn s32(&mut self) -> Result<i32, Fault>
@@ -390,7 +411,7 @@ impl<'a> Cursor<'a> {
         self.long_s32()
     }
 
-    /// An s32 of any number of digits.
+    /// Reads an s32 of any length.
     #[inline(never)]
     #[tactic(auto, unfolding(crate::specs::Places::s32_at))]
     fn long_s32(&mut self) -> Result<i32, Fault>
@@ -401,7 +422,8 @@ impl<'a> Cursor<'a> {
         i32::try_from(value).map_err(|_| Fault::Malformed)
     }
 
-    /// An s64 (Core 3.0, Integers).
+    /// Reads an s64 (Core 3.0, Integers). Fails with `Malformed` if it is cut off, has more than 10 bytes or is out of
+    /// range.
     #[inline(always)]
     #[tactic(auto, using(crate::proofs::NumberReading::s64_low, crate::proofs::NumberReading::s64_high), unfolding(crate::specs::Places::s64_at))]
     pub fn s64(&mut self) -> Result<i64, Fault>
@@ -415,7 +437,7 @@ impl<'a> Cursor<'a> {
         self.long_s64()
     }
 
-    /// An s64 of any number of digits.
+    /// Reads an s64 of any length.
     #[inline(never)]
     #[tactic(auto, unfolding(crate::specs::Places::s64_at))]
     fn long_s64(&mut self) -> Result<i64, Fault>
@@ -426,7 +448,9 @@ impl<'a> Cursor<'a> {
         i64::try_from(value).map_err(|_| Fault::Malformed)
     }
 
-    /// An index in the place of a negative type code: an s33 that isn't negative (Core 3.0, Heap Types).
+    /// Reads a type index, encoded as a non-negative s33 (Core 3.0, Heap Types).
+    ///
+    /// Fails with `Malformed` if it is negative, cut off, has more than 5 bytes or is out of range.
     #[inline(always)]
     #[tactic(auto, using(crate::proofs::NumberReading::index_low, crate::proofs::NumberReading::index_high), unfolding(crate::specs::Places::index_at))]
     pub fn index(&mut self) -> Result<u32, Fault>
@@ -442,7 +466,7 @@ impl<'a> Cursor<'a> {
         self.long_index()
     }
 
-    /// An index of any number of digits.
+    /// Reads a type index of any length.
     #[inline(never)]
     #[tactic(auto, unfolding(crate::specs::Places::index_at))]
     fn long_index(&mut self) -> Result<u32, Fault>

@@ -14,28 +14,28 @@ use super::{Rewriter, Scanned, are_bytes, scan_u32};
 use crate::reader::ReadError;
 use crate::reader::cursor::Fault;
 
-/// What can be rewritten as an item of a list.
+/// An item of a list that can be rewritten in place.
 pub trait Rewritable {
-    /// What is read and written.
+    /// The decoded item, in contracts.
     ghost Value: { Type 0 };
 
-    /// Which bytes encode which item.
+    /// The bytes that encode each item.
     ghost format: { Format Value };
 
-    /// Tells the proof that the format is lawful, and that each encoding of an item has at least one byte. The call does
-    /// nothing.
+    /// Tells the proof that the format is lawful, and that each encoding of an item has at least one byte. The call
+    /// does nothing.
     fn is_lawful()
         ensures lawful { IsLawful format }
         ensures some { TakesBytes format.Encodes };
 
-    /// Leaves the item that comes next in its shortest encoding.
+    /// Replaces the next item by its minimal encoding. Fails with `Malformed` if no item can be decoded.
     fn rewrite(rewriter: &mut Rewriter) -> Result<(), Fault>
         ensures rewrites { Rewrites format rewriter.old rewriter.new result };
 }
 
-/// What is rewritten one after another up to the end.
+/// An item of which any number can be rewritten one after another, up to the end of the bytes.
 pub trait Joinable: Rewritable {
-    /// The item that the bytes begin with, if it is one of those that are scanned.
+    /// Scans the item that the bytes begin with. Returns `None` if it isn't one of those that can be scanned.
     fn scan(bytes: &[u8]) -> Option<Scanned>
         ensures scans { Scans Self.format bytes.now result };
 }
@@ -60,7 +60,7 @@ impl Rewritable for u32 {
     }
 }
 
-/// Rewrites a list: a count, and then the items.
+/// Rewrites a list: a count, and then the items (Core 3.0, Lists).
 pub fn rewrite_list<T: Rewritable>(rewriter: &mut Rewriter) -> Result<(), Fault>
     ensures rewrites { Rewrites (items T.format) rewriter.old rewriter.new result }
 {
@@ -71,24 +71,25 @@ pub fn rewrite_list<T: Rewritable>(rewriter: &mut Rewriter) -> Result<(), Fault>
     Ok(())
 }
 
-/// What is rewritten up to the end of its bytes.
+/// A body that is rewritten up to its end.
 pub trait RewritableBody {
-    /// What is read and written.
+    /// The decoded body, in contracts.
     ghost Value: { Type 0 };
 
-    /// Which bytes encode it.
+    /// The bytes that encode each body.
     ghost format: { Format Value };
 
-    /// Tells the proof that the format is lawful where nothing follows. The call does nothing.
+    /// Tells the proof that the format is lawful if nothing follows. The call does nothing.
     fn is_lawful()
         ensures { IsLawfulBody format };
 
-    /// Leaves what the bytes up to the end encode in its shortest encoding. Bytes that are left over aren't part of it.
+    /// Replaces the body by its minimal encoding. Trailing bytes are left over. Fails with `Malformed` if no body can
+    /// be decoded.
     fn rewrite(rewriter: &mut Rewriter) -> Result<(), Fault>
         ensures rewrites { Rewrites format rewriter.old rewriter.new result };
 }
 
-/// Rewrites a size and the body after it.
+/// Rewrites a size and the body after it. Fails with `Malformed` if the body is malformed or has trailing bytes.
 pub fn rewrite_sized<T: RewritableBody>(rewriter: &mut Rewriter) -> Result<(), Fault>
     ensures rewrites { Rewrites (sized T.format) rewriter.old rewriter.new result }
 {
@@ -103,7 +104,7 @@ pub fn rewrite_sized<T: RewritableBody>(rewriter: &mut Rewriter) -> Result<(), F
     Ok(())
 }
 
-/// Rewrites items one after another up to the end.
+/// Rewrites items one after another, up to the end.
 pub fn rewrite_to_end<T: Joinable>(rewriter: &mut Rewriter) -> Result<(), Fault>
     ensures rewrites { Rewrites (to_end T.format) rewriter.old rewriter.new result }
 {
@@ -113,7 +114,7 @@ pub fn rewrite_to_end<T: Joinable>(rewriter: &mut Rewriter) -> Result<(), Fault>
     }
 }
 
-/// Rewrites items one after another up to the end. At the first that isn't whole it answers how many bytes are left.
+/// Rewrites items one after another, up to the end. Fails with the number of bytes left at the first malformed item.
 pub fn rewrite_joined<T: Joinable>(rewriter: &mut Rewriter) -> Result<(), usize>
     ensures { RewritesAll T.format rewriter.old rewriter.new result }
 {
@@ -132,11 +133,11 @@ pub fn rewrite_joined<T: Joinable>(rewriter: &mut Rewriter) -> Result<(), usize>
     Ok(())
 }
 
-/// The length of the run of items at the beginning of the bytes that are seen to be in their shortest encodings.
+/// Returns the length of the run of scanned, minimally encoded items that the bytes begin with.
 fn short_run<T: Joinable>(bytes: &[u8]) -> usize
     ensures { BeginsShort T.format bytes.now result }
 {
-    // Of 16 bytes at a time the compiler leaves out most tests that there are enough.
+    // With 16 bytes ahead, the compiler drops most length checks.
     let run = short_run_ahead::<T, 16>(bytes, 0);
     if bytes.len() - run < 16 {
         short_run_ahead::<T, 1>(bytes, run)
@@ -145,7 +146,7 @@ fn short_run<T: Joinable>(bytes: &[u8]) -> usize
     }
 }
 
-/// The same, from where the run goes on, as long as there are so many bytes ahead.
+/// Extends a run that has `begun` bytes, while at least `AHEAD` bytes follow.
 #[inline(never)]
 fn short_run_ahead<T: Joinable, const AHEAD: usize>(bytes: &[u8], begun: usize) -> usize
     requires { BeginsShort T.format bytes.now begun }
@@ -168,9 +169,9 @@ fn short_run_ahead<T: Joinable, const AHEAD: usize>(bytes: &[u8], begun: usize) 
     run
 }
 
-/// The shortest encoding of the items that the bytes encode one after another, with no count, read to the end.
+/// Returns the minimal encoding of the items that the bytes encode one after another, without a count.
 ///
-/// `Refused` carries the number of bytes of the items that are whole before the first that isn't.
+/// It never fails with `Memory`. Fails with `Refused` at the offset of the first malformed item.
 pub fn normalise_joined<T: Joinable>(bytes: Vec<u8>) -> Result<Vec<u8>, ReadError>
     ensures given { IfOk result (λ given. IsNormalForm (Joined T.format.Encodes) (flat_map T.format.bytes) bytes.items given.items) }
     ensures prefix { IfRefused result (IsLongestPrefix (EncodesSome (Joined T.format.Encodes)) bytes.items) }
@@ -187,10 +188,10 @@ pub fn normalise_joined<T: Joinable>(bytes: Vec<u8>) -> Result<Vec<u8>, ReadErro
     }
 }
 
-/// The shortest encoding of the list that the bytes encode, with nothing left over.
+/// Returns the minimal encoding of the list that the bytes encode.
 ///
-/// `Refused` carries the number of bytes of the count and of the items that are whole before the first that isn't, or
-/// before what is left over.
+/// It never fails with `Memory`. Fails with `Refused` at the offset of the first malformed or missing item, or of
+/// trailing bytes. The offset is 0 if the count is malformed.
 pub fn normalise_list_to_end<T: Rewritable>(bytes: Vec<u8>) -> Result<Vec<u8>, ReadError>
     ensures given { IfOk result (λ given. IsNormalForm (EncodesList T.format.Encodes) (items_bytes T.format.bytes) bytes.items given.items) }
     ensures prefix { IfRefused result (IsLongestPrefix (IsListPrefix T.format.Encodes) bytes.items) }
@@ -203,7 +204,7 @@ pub fn normalise_list_to_end<T: Rewritable>(bytes: Vec<u8>) -> Result<Vec<u8>, R
     }
 }
 
-/// The same. If the bytes encode no list, it answers how many of them are whole.
+/// Rewrites the list that the bytes encode. Fails with the length of the longest well-formed prefix.
 fn rewrite_whole_list<T: Rewritable>(bytes: Vec<u8>) -> Result<Vec<u8>, usize>
     ensures { RewritesList T.format bytes.items result }
 {

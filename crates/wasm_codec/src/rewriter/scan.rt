@@ -1,17 +1,17 @@
-//! Scanning of items, which makes no value: it finds where one ends and what its shortest encoding is.
+//! Scanning of items: it finds the end of an item and its minimal encoding without decoding it.
 ghost use Rattle.std.specs.Prelude.{◌≡◌, ◌-◌, ◌<◌, ◌≤◌, ◌^◌, length};
 ghost use Rattle.wasm_codec.specs.Scanning.{IsWithin, KeepsDigits, Scans, ScansDigits, behind_byte, repeats};
 ghost use Rattle.wasm_codec.specs.formats.Combinators.{u32 as u32_format, u64 as u64_format, s32 as s32_format, s64 as s64_format};
 
 use crate::encode::leb128::turned;
 
-/// An item that bytes begin with, as it was scanned.
+/// An item at the start of bytes, as scanned.
 #[derive(Clone, Copy)]
 pub enum Scanned {
-    /// The item is in its shortest encoding, which has this many bytes.
+    /// The item is minimally encoded and has this many bytes.
     Shortest(usize),
-    /// The item ends with a padded number, which begins after `start` bytes: after `more` digits comes a last one that says
-    /// nothing.
+    /// The item ends with a padded number, which begins at offset `start`: `more` digits, and then a redundant last
+    /// digit.
     Padded {
         signed: bool,
         start: usize,
@@ -20,7 +20,7 @@ pub enum Scanned {
 }
 
 impl Scanned {
-    /// The same item after one more byte, which stays as it is.
+    /// Returns the same item with one more byte before it, which stays as it is.
     #[inline(always)]
     pub fn behind_byte(self) -> Scanned
         requires { IsWithin self (2 ^ 64 - 2) }
@@ -41,8 +41,10 @@ impl Scanned {
     }
 }
 
-/// The number of at most `most` digits that the bytes begin with. One of exactly `most` digits is scanned only if it is
-/// padded, or if its last digit stands for a number below `top`.
+/// Scans the number of at most `most` digits that the bytes begin with.
+///
+/// If it has exactly `most` digits, it is scanned only if it is padded or its last digit represents a number below
+/// `top`.
 #[inline(always)]
 fn scan_digits(bytes: &[u8], signed: bool, most: usize, top: u8) -> Option<Scanned>
     requires { 1 < most }
@@ -78,7 +80,7 @@ fn scan_digits(bytes: &[u8], signed: bool, most: usize, top: u8) -> Option<Scann
     None
 }
 
-/// How many of the first `count` digits are kept, where the digit after them says nothing.
+/// Returns how many of the first `count` digits are needed if the digit after them is redundant.
 #[cold]
 #[inline(never)]
 pub(super) fn kept_digits(bytes: &[u8], signed: bool, count: usize) -> usize
@@ -93,7 +95,7 @@ pub(super) fn kept_digits(bytes: &[u8], signed: bool, count: usize) -> usize
     kept
 }
 
-/// Whether the last digit says nothing: it is 0, or repeats the sign that the one before it already has.
+/// Checks whether the last digit is redundant: 0, or a repetition of the sign that the digit before it already has.
 #[inline(always)]
 fn repeats(signed: bool, before: u8, last: u8) -> bool
     ensures { result ≡ repeats signed before last }
@@ -105,7 +107,7 @@ fn repeats(signed: bool, before: u8, last: u8) -> bool
     }
 }
 
-/// The u32 that the bytes begin with.
+/// Scans the u32 that the bytes begin with.
 #[inline(always)]
 pub fn scan_u32(bytes: &[u8]) -> Option<Scanned>
     ensures { Scans u32_format bytes.now result }
@@ -113,7 +115,7 @@ pub fn scan_u32(bytes: &[u8]) -> Option<Scanned>
     scan_digits(bytes, false, 5, 16)
 }
 
-/// The u64 that the bytes begin with.
+/// Scans the u64 that the bytes begin with.
 #[inline(always)]
 pub fn scan_u64(bytes: &[u8]) -> Option<Scanned>
     ensures { Scans u64_format bytes.now result }
@@ -121,7 +123,7 @@ pub fn scan_u64(bytes: &[u8]) -> Option<Scanned>
     scan_digits(bytes, false, 10, 0)
 }
 
-/// The s32 that the bytes begin with.
+/// Scans the s32 that the bytes begin with.
 #[inline(always)]
 pub fn scan_s32(bytes: &[u8]) -> Option<Scanned>
     ensures { Scans s32_format bytes.now result }
@@ -129,7 +131,7 @@ pub fn scan_s32(bytes: &[u8]) -> Option<Scanned>
     scan_digits(bytes, true, 5, 8)
 }
 
-/// The s64 that the bytes begin with.
+/// Scans the s64 that the bytes begin with.
 #[inline(always)]
 pub fn scan_s64(bytes: &[u8]) -> Option<Scanned>
     ensures { Scans s64_format bytes.now result }

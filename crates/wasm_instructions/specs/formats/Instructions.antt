@@ -14,20 +14,23 @@ use Rattle.wasm_instructions.specs.OperandParts.{fb_part, fc_part, fd_part, fe_p
 use Rattle.wasm_instructions.specs.formats.Opcodes.{without_prefix, after_fb, after_fc, after_fd, after_fe, opcode_kind}
 use Rattle.wasm_instructions.specs.Instructions.{kind_of}
 
--- an opcode and its operands
+-- An instruction: an opcode and its operands.
 pub record Instruction : Type 0 where
   pub op : Opcode
   pub operands : Operands
 
+-- The instruction of this opcode and these operands.
 abbrev pub call : Opcode → Operands → Instruction
 call op operands = record { op = op; operands = operands }
 
 -- ---- opcodes
 
+-- The byte isn't a prefix byte.
 abbrev pub is_one_byte : ℕ → Bool
 is_one_byte byte = not (byte == 0xfb || byte == 0xfc || byte == 0xfd || byte == 0xfe)
 
--- 0xFB n:u32 | 0xFC n:u32 | 0xFD n:u32 | 0xFE n:u32 | b:byte: which numbers and bytes are opcodes, the table tells
+-- An opcode: one byte, or a prefix byte and a number.
+-- 0xFB n:u32 | 0xFC n:u32 | 0xFD n:u32 | 0xFE n:u32 | b:byte. The table tells which numbers and bytes are opcodes.
 unfoldable pub opcode : Format Opcode
 opcode = any_of
     (variant_after 0xfb after_fb fb_part u32
@@ -41,7 +44,8 @@ opcode = any_of
 abbrev pub cast_of : (Bool × Bool) × (ℕ × (HeapType × HeapType)) → Operands
 cast_of p = operands.Cast p.1.0 (reference p.0.0 p.1.1.0) (reference p.0.1 p.1.1.1)
 
--- what follows the opcode in each line of 5.4, as in 0x0E l*:list(labelidx) l_n:labelidx => br_table l* l_n
+-- The operands of this kind, as they follow the opcode.
+-- For example, 0x0E l*:list(labelidx) l_n:labelidx => br_table l* l_n
 unfoldable pub operands_format : Kind → Format Operands
 -- Control Instructions
 operands_format kinds.None = nothing operands.None
@@ -51,7 +55,7 @@ operands_format kinds.TwoIndexes = made (λ p. operands.TwoIndexes p.0 p.1) two_
 operands_format kinds.BrTable = made (λ p. operands.BrTable p.0 p.1) br_table_part (items u32 ⊗ u32)
 operands_format kinds.TryTable = made (λ p. operands.TryTable p.0 p.1) try_table_part (block_type ⊗ items catch_clause)
 operands_format kinds.Cast = made cast_of cast_part (castop ⊗ u32 ⊗ heap_type ⊗ heap_type)
--- of the proposal on stack switching
+-- proposal: stack switching
 operands_format kinds.Resume = made (λ p. operands.Resume p.0 p.1) resume_part (u32 ⊗ items handle_clause)
 operands_format kinds.ResumeThrow = made (λ p. operands.ResumeThrow p.0 p.1.0 p.1.1) resume_throw_part (u32 ⊗ u32 ⊗ items handle_clause)
 -- Reference Instructions
@@ -70,35 +74,38 @@ operands_format kinds.V128 = made operands.V128 v128_part vector
 operands_format kinds.Shuffle = made operands.Shuffle shuffle_part lanes
 operands_format kinds.Lane = made operands.Lane lane_part a_byte
 operands_format kinds.MemLane = made (λ p. operands.MemLane p.0 p.1) mem_lane_part (mem_arg ⊗ a_byte)
--- of the proposal on shared types
+-- proposal: shared types
 operands_format kinds.Order = made operands.Order order_part ordering
 operands_format kinds.OrderIndex = made (λ p. operands.OrderIndex p.0 p.1) order_index_part (ordering ⊗ u32)
 operands_format kinds.OrderTwoIndexes = made (λ p. operands.OrderTwoIndexes p.0 p.1.0 p.1.1) order_two_indexes_part (ordering ⊗ u32 ⊗ u32)
 
 -- ---- instructions
 
+-- The instruction of this opcode and these operands.
 abbrev pub instruction_of : Opcode × Operands → Instruction
 instruction_of p = record { op = p.0; operands = p.1 }
 
--- the shortest encodings of an opcode and of operands, of which the operands tell the kind
+-- The minimal encoding of an instruction, by the kind of its operands.
 abbrev pub call_bytes : Instruction → List ℕ
 call_bytes i = opcode.bytes i.op ++ (operands_format (kind_of i.operands)).bytes i.operands
 
--- the same format, where the shortest encodings of values in range are those
+-- The same format, with these bytes as the minimal encodings of values in range.
 abbrev pub with_bytes : {A : Type 0} → (A → List ℕ) → Format A → Format A
 with_bytes bytes F = record { Encodes = F.Encodes; at = F.at; bytes = bytes; InRange = F.InRange; first = F.first }
 
+-- An instruction.
 -- instr ::= an opcode of the table and operands of its kind
 unfoldable pub instruction : Format Instruction
 instruction = with_bytes call_bytes (made instruction_of (λ i. Some (i.op, i.operands)) (opcode ⊗> (λ op. by_kind operands_format (opcode_kind op))))
 
--- the encodings of these instructions, with nothing between and nothing left over
+-- The bytes encode these instructions, with nothing between and nothing left over.
 abbrev pub Instructions : Grammar (List Instruction)
 Instructions = AllOf instruction
 
+-- The minimal encoding of a list of instructions.
 abbrev pub instructions_bytes : List Instruction → List ℕ
 instructions_bytes = all_bytes instruction
 
--- the same, each in its shortest encoding
+-- The bytes encode these instructions, each of them minimally.
 abbrev pub ShortestInstructions : Grammar (List Instruction)
 ShortestInstructions = AllOf (narrow instruction)

@@ -1,4 +1,4 @@
--- The table of opcodes: which kind of operands each has (WebAssembly Core 3.0, Instructions).
+-- The table of opcodes: the kind of operands of each (WebAssembly Core 3.0, Instructions).
 use Rattle.std.specs.Prelude.{ℕ, List, [], ◌∷◌, Option, Some, None, ◌&&◌, nat_le, if◌then◌else◌}
 use Rattle.wasm_instructions.specs.declared.table.opcode.Prefix.{Prefix}
 use Rattle.wasm_instructions.specs.declared.table.opcode.Prefix.TheVariants as prefixes
@@ -8,25 +8,29 @@ use Rattle.wasm_instructions.specs.declared.table.opcode.Kind.TheVariants as kin
 
 -- ---- opcodes, with a prefix byte or without one
 
--- an opcode without a prefix byte
+-- The opcode of one byte.
 abbrev pub without_prefix : ℕ → Opcode
 without_prefix number = record { prefix = prefixes.None; number = number }
 
+-- The opcode after 0xFB with this number.
 abbrev pub after_fb : ℕ → Opcode
 after_fb number = record { prefix = prefixes.Fb; number = number }
 
+-- The opcode after 0xFC with this number.
 abbrev pub after_fc : ℕ → Opcode
 after_fc number = record { prefix = prefixes.Fc; number = number }
 
+-- The opcode after 0xFD with this number.
 abbrev pub after_fd : ℕ → Opcode
 after_fd number = record { prefix = prefixes.Fd; number = number }
 
+-- The opcode after 0xFE with this number.
 abbrev pub after_fe : ℕ → Opcode
 after_fe number = record { prefix = prefixes.Fe; number = number }
 
 -- ---- the kind of operands of each
 
--- the opcodes from first to last have this kind of operands
+-- The opcodes from `first` to `last` have operands of this kind.
 pub record Range : Type 0 where
   pub first : ℕ
   pub last : ℕ
@@ -38,6 +42,7 @@ from_to first last kind = record { first = first; last = last; kind = kind }
 abbrev pub one : ℕ → Kind → Range
 one number kind = from_to number number kind
 
+-- All opcodes after a prefix byte, or without one, and the kinds of their operands.
 unfoldable pub ranges : Prefix → List Range
 ranges prefixes.None =
     from_to 0x00 0x01 kinds.None  -- unreachable, nop
@@ -141,10 +146,11 @@ ranges prefixes.Fe =
     ∷ one 0x72 kinds.None  -- ref.i31_shared
     ∷ []
 
+-- The kind of the operands of this number, if a range has it.
 abbrev pub kind_among : List Range → ℕ → Option Kind
 kind_among [] number = None
 kind_among (r ∷ rs) number = if nat_le r.first number && nat_le number r.last then Some r.kind else kind_among rs number
 
--- the kind of the opcode's operands, or none where it is no opcode
+-- The kind of the opcode's operands, or none if it is no opcode.
 abbrev pub opcode_kind : Opcode → Option Kind
 opcode_kind op = kind_among (ranges op.prefix) op.number

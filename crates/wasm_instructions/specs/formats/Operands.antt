@@ -1,5 +1,5 @@
--- What stands after opcodes (WebAssembly Core 3.0, Instructions). Handlers, orderings and casts to descriptors are of
--- proposals: there this is the project's own profile.
+-- Operands (WebAssembly Core 3.0, Instructions). Handlers, orderings and casts to descriptors belong to proposals:
+-- there this is the project's own profile.
 use Rattle.std.specs.Prelude.{ℕ, ℤ, ◌+◌, ◌-◌, ◌*◌, ◌^◌, Bool, true, false, nat_lt, if◌then◌else◌, List, [], ◌∷◌, Option, Some, None, pos, ◌-ℤ◌}
 use Rattle.wasm_instructions.specs.declared.operands.control.BlockType.{BlockType}
 use Rattle.wasm_instructions.specs.declared.operands.control.BlockType.TheVariants as blocks
@@ -23,6 +23,7 @@ abbrev pub empty_byte : BlockType → Option ℕ
 empty_byte blocks.Empty = Some 0x40
 empty_byte ty = None
 
+-- A block type.
 -- blocktype ::= 0x40 => ε | t:valtype => t | i:s33 => i  (if i ≥ 0)
 unfoldable pub block_type : Format BlockType
 block_type = any_of
@@ -32,6 +33,7 @@ block_type = any_of
 
 -- ---- clauses of try_table (Control Instructions)
 
+-- A catch clause.
 -- catch ::= 0x00 x:tagidx l:labelidx => catch x l | 0x01 x:tagidx l:labelidx => catch_ref x l
 --         | 0x02 l:labelidx => catch_all l | 0x03 l:labelidx => catch_all_ref l
 unfoldable pub catch_clause : Format Catch
@@ -42,8 +44,9 @@ catch_clause = any_of
     (tagged catch_byte 0x03 (made catches.AllRef label_alone u32)
     no_other))))
 
--- ---- clauses of resume (of the proposal on stack switching)
+-- ---- clauses of resume (proposal: stack switching)
 
+-- A handler.
 -- hdl ::= 0x00 x:tagidx l:labelidx => on x l | 0x01 x:tagidx => on x switch
 unfoldable pub handle_clause : Format Handle
 handle_clause = any_of
@@ -59,6 +62,7 @@ nullables_byte (true, false) = Some 0x01
 nullables_byte (false, true) = Some 0x02
 nullables_byte (true, true) = Some 0x03
 
+-- The flags of a branch on a cast.
 -- castop ::= 0x00 => (ε, ε) | 0x01 => (null, ε) | 0x02 => (ε, null) | 0x03 => (null, null)
 unfoldable pub castop : Format (Bool × Bool)
 castop = one_byte nullables_byte all_nullables
@@ -71,50 +75,57 @@ in_first align offset = record { offset = offset; align = align; memory_index = 
 abbrev pub in_memory : ℕ → ℕ × ℕ → MemArg
 in_memory align p = record { offset = p.1; align = align; memory_index = p.0 }
 
--- below 64 it is the alignment, and an offset in memory 0 follows; below 128 it is the alignment and 64, and a
--- memory's index and an offset follow
+-- A memory argument after its first number.
+-- Below 64 the number is the alignment, and an offset in memory 0 follows. From 64 to 127 it is the alignment and 64,
+-- and a memory index and an offset follow.
 abbrev pub after_alignment : ℕ → Format MemArg
 after_alignment n =
     choose (nat_lt n 64) (made (in_first n) (λ arg. Some arg.offset) u64)
     (choose (nat_lt n 128) (made (in_memory (n - 64)) (λ arg. Some (arg.memory_index, arg.offset)) (u32 ⊗ u64))
     never)
 
+-- A memory argument.
 -- memarg ::= n:u32 o:u64 => (0, {align n, offset o})  (if n < 2^6)
 --          | n:u32 x:memidx o:u64 => (x, {align n - 2^6, offset o})  (if 2^6 ≤ n < 2^7)
 unfoldable pub mem_arg : Format MemArg
 mem_arg = made_as is_named_first (λ p. p.1) mem_arg_bytes MemArgInRange (u32 ⊗> after_alignment)
 
--- ---- orderings (of the proposal on shared types)
+-- ---- orderings (proposal: shared types)
 
 abbrev pub ordering_byte : Ordering → Option ℕ
 ordering_byte orderings.SeqCst = Some 0x00
 ordering_byte orderings.AcqRel = Some 0x01
 
+-- An ordering of atomic accesses.
 unfoldable pub ordering : Format Ordering
 ordering = one_byte ordering_byte (orderings.SeqCst ∷ orderings.AcqRel ∷ [])
 
 -- ---- floating-point constants (Numeric Instructions), whose values are their bits
 
+-- The 32-bit floating-point constant with these bits.
 abbrev pub ieee32 : ℕ → Ieee32
 ieee32 bits = record { bits = bits }
 
+-- The 64-bit floating-point constant with these bits.
 abbrev pub ieee64 : ℕ → Ieee64
 ieee64 bits = record { bits = bits }
 
 -- ---- vectors (Vector Instructions)
 
--- the number of 128 bits in two's complement
+-- The number with these 128 bits, in two's complement.
 abbrev pub from_bits : ℕ → ℤ
 from_bits bits = if nat_lt bits (2 ^ 127) then pos bits else pos bits -ℤ pos (2 ^ 128)
 
--- the low half and then the high half
+-- The number with this low half and this high half.
 abbrev pub from_halves : ℕ × ℕ → ℤ
 from_halves p = from_bits (p.0 + 2 ^ 64 * p.1)
 
+-- The 128 bits of a vector.
 -- 0xFD 12:u32 (b:byte)^16 => v128.const bytes^-1_i128(b^16): the least byte first
 unfoldable pub vector : Format ℤ
 vector = made_of from_halves to_halves (Within (2 ^ 127)) (little_endian 8 ⊗ little_endian 8)
 
+-- The 16 lanes of a shuffle.
 -- 0xFD 13:u32 (l:laneidx)^16 => i8x16.shuffle l^16
 unfoldable pub lanes : Format (List ℕ)
 lanes = raw 16

@@ -1,4 +1,4 @@
-//! Opcodes, written into room that was reserved (Core 3.0, Instructions).
+//! Writers of opcodes into reserved room (Core 3.0, Instructions).
 ghost use Rattle.std.specs.Prelude.{◌≡◌, ◌++◌, ◌∷◌, ◌+◌, ◌^◌, ◌<◌, ◌≤◌, vec_len, vec_capacity};
 ghost use Rattle.wasm_instructions.specs.Instructions.{IsShort};
 ghost use Rattle.wasm_instructions.specs.formats.Instructions.{opcode};
@@ -7,7 +7,7 @@ ghost use Rattle.wasm_codec.specs.Leb128.{unsigned_leb128};
 use crate::table::{Opcode, Prefix};
 use std::alloc::Allocator;
 
-/// Writes a prefix byte and the opcode's number, in one byte or two, into reserved room.
+/// Writes a prefix byte, and the opcode's number in one byte or two.
 #[tactic(auto, unfolding(wasm_codec::specs::Leb128::unsigned_leb128, wasm_codec::specs::Leb128::digits_of))]
 fn put_prefixed<A: Allocator>(bytes: &mut Vec<u8, A>, prefix: u8, number: u32)
     requires short { number < 2 ^ 14 }
@@ -25,7 +25,7 @@ fn put_prefixed<A: Allocator>(bytes: &mut Vec<u8, A>, prefix: u8, number: u32)
     }
 }
 
-/// Writes an opcode into reserved room.
+/// Writes an opcode in 1 to 3 bytes (Core 3.0, Instructions).
 #[tactic(auto, unfolding(crate::specs::formats::Instructions::opcode))]
 pub fn put_opcode<A: Allocator>(bytes: &mut Vec<u8, A>, op: Opcode)
     requires short { IsShort op }

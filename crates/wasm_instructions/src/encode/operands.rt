@@ -1,4 +1,4 @@
-//! What stands after opcodes, written into room that was reserved (Core 3.0, Instructions).
+//! Writers of operands into reserved room (Core 3.0, Instructions).
 ghost use Rattle.std.specs.Prelude.{◌≡◌, ◌++◌, ◌+◌, ◌<◌, ◌≤◌, vec_len, vec_capacity};
 ghost use Rattle.wasm_codec.specs.formats.Combinators.{little_endian};
 ghost use Rattle.wasm_instructions.specs.Operands.{BlockTypeFits, CatchFits, HandleFits};
@@ -10,7 +10,7 @@ use std::alloc::Allocator;
 use wasm_codec::encode::leb128::{put_index, put_u32, put_u64};
 use wasm_types::encode::put_val_type;
 
-/// Writes a block type in 1 to 7 bytes.
+/// Writes a block type in 1 to 7 bytes (Core 3.0, Control Instructions).
 #[tactic(auto, unfolding(crate::specs::formats::Operands::block_type))]
 pub fn put_block_type<A: Allocator>(bytes: &mut Vec<u8, A>, ty: BlockType)
     requires { vec_len bytes.old + 7 ≤ vec_capacity bytes.old }
@@ -26,7 +26,7 @@ pub fn put_block_type<A: Allocator>(bytes: &mut Vec<u8, A>, ty: BlockType)
     }
 }
 
-/// Writes a memory argument in 2 to 16 bytes. Memory 0 goes without its index.
+/// Writes a memory argument in 2 to 16 bytes, without the index of memory 0 (Core 3.0, Memory Instructions).
 #[tactic(auto, unfolding(crate::specs::formats::Operands::mem_arg, wasm_codec::specs::Leb128::unsigned_leb128, wasm_codec::specs::Leb128::digits_of))]
 pub fn put_mem_arg<A: Allocator>(bytes: &mut Vec<u8, A>, arg: MemArg)
     requires aligned { arg.align < 64 }
@@ -45,7 +45,7 @@ pub fn put_mem_arg<A: Allocator>(bytes: &mut Vec<u8, A>, arg: MemArg)
     put_u64(bytes, arg.offset);
 }
 
-/// Writes a clause of `try_table` in 2 to 11 bytes.
+/// Writes a clause of `try_table` in 2 to 11 bytes (Core 3.0, Control Instructions).
 #[tactic(auto, unfolding(crate::specs::formats::Operands::catch_clause))]
 pub fn put_catch<A: Allocator>(bytes: &mut Vec<u8, A>, clause: Catch)
     requires { vec_len bytes.old + 11 ≤ vec_capacity bytes.old }
@@ -112,8 +112,8 @@ pub fn put_ordering<A: Allocator>(bytes: &mut Vec<u8, A>, ordering: Ordering)
     }
 }
 
-/// Writes the flags of a branch on a cast in one byte: bit 0 where the type before is nullable, bit 1 where the type
-/// after is.
+/// Writes the flags of a branch on a cast in one byte. Bit 0 means that the type before the cast is nullable, bit 1 the
+/// type after it.
 #[inline]
 #[tactic(auto, unfolding(crate::specs::formats::Operands::castop))]
 pub fn put_castop<A: Allocator>(bytes: &mut Vec<u8, A>, before: bool, after: bool)
@@ -130,7 +130,7 @@ pub fn put_castop<A: Allocator>(bytes: &mut Vec<u8, A>, before: bool, after: boo
     }
 }
 
-/// Writes a number in 4 bytes, the least first.
+/// Writes a number in 4 bytes, little-endian.
 #[tactic(auto, unfolding(wasm_codec::specs::formats::Combinators::little_endian))]
 pub fn put_bits_32<A: Allocator>(bytes: &mut Vec<u8, A>, value: u32)
     requires { vec_len bytes.old + 4 ≤ vec_capacity bytes.old }
@@ -147,7 +147,7 @@ pub fn put_bits_32<A: Allocator>(bytes: &mut Vec<u8, A>, value: u32)
     bytes.push_reserved((fourth % 0x100) as u8);
 }
 
-/// Writes a number in 8 bytes, the least first.
+/// Writes a number in 8 bytes, little-endian.
 #[tactic(auto, unfolding(wasm_codec::specs::formats::Combinators::little_endian))]
 pub fn put_bits_64<A: Allocator>(bytes: &mut Vec<u8, A>, value: u64)
     requires { vec_len bytes.old + 8 ≤ vec_capacity bytes.old }
@@ -172,7 +172,7 @@ pub fn put_bits_64<A: Allocator>(bytes: &mut Vec<u8, A>, value: u64)
     bytes.push_reserved((eighth % 0x100) as u8);
 }
 
-/// The bits of a vector: a negative number less -2^127, with the highest bit set.
+/// Returns the bits of a vector: its 128-bit two's complement.
 fn vector_bits(value: i128) -> u128
     ensures { result ≡ to_bits value }
 {
@@ -183,7 +183,7 @@ fn vector_bits(value: i128) -> u128
     }
 }
 
-/// Writes a vector in 16 bytes, the least first, in two's complement.
+/// Writes a vector in 16 bytes, little-endian, in two's complement.
 #[tactic(auto, unfolding(crate::specs::formats::Operands::vector))]
 pub fn put_vector<A: Allocator>(bytes: &mut Vec<u8, A>, value: i128)
     requires { vec_len bytes.old + 16 ≤ vec_capacity bytes.old }

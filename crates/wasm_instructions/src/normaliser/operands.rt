@@ -1,4 +1,5 @@
-//! Operands, left in their shortest encodings, with no list of them held (Core 3.0, Instructions).
+//! Rewriters of operands (Core 3.0, Instructions). Each replaces the next operand by its minimal encoding in place, and
+//! holds no list.
 ghost use Rattle.wasm_codec.specs.Rewriter.{Rewrites};
 ghost use Rattle.wasm_instructions.specs.formats.Instructions.{operands_format};
 ghost use Rattle.wasm_instructions.specs.formats.Operands.{block_type, catch_clause, handle_clause, castop, mem_arg, ordering, vector};
@@ -13,7 +14,7 @@ use wasm_codec::rewriter::{Rewritable, Rewriter, rewrite_list};
 use wasm_types::normaliser::{rewrite_heap_type, rewrite_val_type};
 use wasm_types::types::ValType;
 
-/// Operands of a kind.
+/// Rewrites operands of a kind.
 #[tactic(auto, using(std::proofs::Common::append_assoc), unfolding(crate::specs::formats::Instructions::operands_format))]
 pub(super) fn rewrite_operands(rewriter: &mut Rewriter, kind: Kind) -> Result<(), Fault>
     ensures rewrites { Rewrites (operands_format kind) rewriter.old rewriter.new result }
@@ -76,7 +77,7 @@ pub(super) fn rewrite_operands(rewriter: &mut Rewriter, kind: Kind) -> Result<()
     }
 }
 
-/// A block type and the clauses of a `try_table`.
+/// Rewrites the block type and the clauses of a `try_table`.
 #[tactic(auto, using(std::proofs::Common::append_assoc), unfolding(crate::specs::formats::Instructions::operands_format))]
 fn rewrite_try_table(rewriter: &mut Rewriter) -> Result<(), Fault>
     ensures rewrites { Rewrites (operands_format kinds.TryTable) rewriter.old rewriter.new result }
@@ -85,7 +86,7 @@ fn rewrite_try_table(rewriter: &mut Rewriter) -> Result<(), Fault>
     rewrite_list::<Catch>(rewriter)
 }
 
-/// The constant of an `i32.const`.
+/// Rewrites the constant of an `i32.const`.
 #[tactic(auto, unfolding(crate::specs::formats::Instructions::operands_format))]
 fn rewrite_i32(rewriter: &mut Rewriter) -> Result<(), Fault>
     ensures rewrites { Rewrites (operands_format kinds.I32) rewriter.old rewriter.new result }
@@ -93,7 +94,7 @@ fn rewrite_i32(rewriter: &mut Rewriter) -> Result<(), Fault>
     rewriter.s32()
 }
 
-/// The constant of an `i64.const`.
+/// Rewrites the constant of an `i64.const`.
 #[tactic(auto, unfolding(crate::specs::formats::Instructions::operands_format))]
 fn rewrite_i64(rewriter: &mut Rewriter) -> Result<(), Fault>
     ensures rewrites { Rewrites (operands_format kinds.I64) rewriter.old rewriter.new result }
@@ -101,7 +102,7 @@ fn rewrite_i64(rewriter: &mut Rewriter) -> Result<(), Fault>
     rewriter.s64()
 }
 
-/// The flags of a branch on a cast, its label and its two types.
+/// Rewrites the flags of a branch on a cast, its label and its two types.
 #[tactic(auto, using(std::proofs::Common::append_assoc), unfolding(crate::specs::formats::Instructions::operands_format))]
 fn rewrite_cast(rewriter: &mut Rewriter) -> Result<(), Fault>
     ensures rewrites { Rewrites (operands_format kinds.Cast) rewriter.old rewriter.new result }
@@ -112,7 +113,7 @@ fn rewrite_cast(rewriter: &mut Rewriter) -> Result<(), Fault>
     rewrite_heap_type(rewriter)
 }
 
-/// The lanes of a shuffle.
+/// Rewrites the lanes of a shuffle.
 #[tactic(auto, unfolding(crate::specs::formats::Instructions::operands_format, crate::specs::formats::Operands::lanes))]
 fn rewrite_lanes(rewriter: &mut Rewriter) -> Result<(), Fault>
     ensures rewrites { Rewrites (operands_format kinds.Shuffle) rewriter.old rewriter.new result }
@@ -120,7 +121,7 @@ fn rewrite_lanes(rewriter: &mut Rewriter) -> Result<(), Fault>
     rewriter.bytes(16)
 }
 
-/// A lane.
+/// Rewrites a lane index.
 #[tactic(auto, unfolding(crate::specs::formats::Instructions::operands_format))]
 fn rewrite_lane(rewriter: &mut Rewriter) -> Result<(), Fault>
     ensures rewrites { Rewrites (operands_format kinds.Lane) rewriter.old rewriter.new result }
@@ -129,7 +130,7 @@ fn rewrite_lane(rewriter: &mut Rewriter) -> Result<(), Fault>
     Ok(())
 }
 
-/// A block type.
+/// Rewrites a block type.
 #[tactic(auto, unfolding(crate::specs::formats::Operands::block_type))]
 pub(super) fn rewrite_block_type(rewriter: &mut Rewriter) -> Result<(), Fault>
     ensures rewrites { Rewrites block_type rewriter.old rewriter.new result }
@@ -145,7 +146,7 @@ pub(super) fn rewrite_block_type(rewriter: &mut Rewriter) -> Result<(), Fault>
     rewrite_val_type(rewriter)
 }
 
-/// A memory argument. Where it names memory 0, the index is left out.
+/// Rewrites a memory argument. The index of memory 0 is dropped.
 #[tactic(auto, unfolding(crate::specs::formats::Operands::mem_arg))]
 pub(super) fn rewrite_mem_arg(rewriter: &mut Rewriter) -> Result<(), Fault>
     ensures rewrites { Rewrites mem_arg rewriter.old rewriter.new result }
@@ -167,7 +168,7 @@ pub(super) fn rewrite_mem_arg(rewriter: &mut Rewriter) -> Result<(), Fault>
     Ok(())
 }
 
-/// An ordering.
+/// Rewrites an ordering.
 #[tactic(auto, unfolding(crate::specs::formats::Operands::ordering))]
 fn rewrite_ordering(rewriter: &mut Rewriter) -> Result<(), Fault>
     ensures rewrites { Rewrites ordering rewriter.old rewriter.new result }
@@ -178,7 +179,7 @@ fn rewrite_ordering(rewriter: &mut Rewriter) -> Result<(), Fault>
     }
 }
 
-/// Whether the types before and after a cast are nullable.
+/// Rewrites the flags of a branch on a cast.
 #[tactic(auto, unfolding(crate::specs::formats::Operands::castop))]
 fn rewrite_castop(rewriter: &mut Rewriter) -> Result<(), Fault>
     ensures rewrites { Rewrites castop rewriter.old rewriter.new result }
@@ -189,7 +190,7 @@ fn rewrite_castop(rewriter: &mut Rewriter) -> Result<(), Fault>
     }
 }
 
-/// A vector.
+/// Rewrites the constant of a `v128.const`.
 fn rewrite_vector(rewriter: &mut Rewriter) -> Result<(), Fault>
     ensures rewrites { Rewrites vector rewriter.old rewriter.new result }
 {

@@ -1,5 +1,5 @@
-//! Scanning of instructions, which makes no value: it finds where one ends and what its shortest encoding is
-//! (Core 3.0, Instructions).
+//! Scanning of instructions: it finds the end of an instruction and its minimal encoding without decoding it (Core 3.0,
+//! Instructions).
 ghost use Rattle.wasm_codec.specs.Scanning.{Scans};
 ghost use Rattle.wasm_codec.specs.formats.Combinators.{little_endian};
 ghost use Rattle.wasm_instructions.specs.formats.Instructions.{operands_format, instruction};
@@ -11,7 +11,7 @@ use crate::table::Kind;
 use opcodes::{SCANNED, scanned_kind};
 use wasm_codec::rewriter::{Scanned, scan_s32, scan_s64, scan_u32, scan_u64};
 
-/// The instruction that the bytes begin with, if it is of a kind that is common in code.
+/// Scans the instruction that the bytes begin with. Returns `None` unless it is of a frequent kind.
 #[inline(always)]
 pub(super) fn scan_call(bytes: &[u8]) -> Option<Scanned>
     ensures { Scans instruction bytes.now result }
@@ -21,7 +21,7 @@ pub(super) fn scan_call(bytes: &[u8]) -> Option<Scanned>
     }
     let operands = &bytes[1..];
     let scanned = match scanned_kind(&SCANNED, bytes[0])? {
-        // The most frequent kinds by themselves, so that the compiler adds up their lengths beforehand.
+        // The most frequent kinds have branches of their own, so that the compiler adds their lengths beforehand.
         Kind::None => return Some(Scanned::Shortest(1)),
         Kind::Index => return Some(scan_u32(operands)?.behind_byte()),
         kind => scan_operands(kind, operands)?,
@@ -29,7 +29,7 @@ pub(super) fn scan_call(bytes: &[u8]) -> Option<Scanned>
     Some(scanned.behind_byte())
 }
 
-/// The operands of a less frequent kind that the bytes begin with.
+/// Scans operands of a less frequent kind.
 #[inline(always)]
 fn scan_operands(kind: Kind, bytes: &[u8]) -> Option<Scanned>
     ensures { Scans (operands_format kind) bytes.now result }
@@ -45,7 +45,7 @@ fn scan_operands(kind: Kind, bytes: &[u8]) -> Option<Scanned>
     }
 }
 
-/// The number that the first `count` bytes hold, the least first.
+/// Scans a little-endian number of `count` bytes.
 #[inline(always)]
 fn scan_raw(bytes: &[u8], count: usize) -> Option<Scanned>
     ensures { Scans (little_endian count) bytes.now result }
@@ -56,7 +56,7 @@ fn scan_raw(bytes: &[u8], count: usize) -> Option<Scanned>
     Some(Scanned::Shortest(count))
 }
 
-/// The block type that the bytes begin with, if it is empty or a number type.
+/// Scans a block type. Returns `None` unless it is empty or a number type.
 #[inline(always)]
 fn scan_block_type(bytes: &[u8]) -> Option<Scanned>
     ensures { Scans block_type bytes.now result }
@@ -74,7 +74,7 @@ fn scan_block_type(bytes: &[u8]) -> Option<Scanned>
     }
 }
 
-/// The memory argument that the bytes begin with, if it doesn't name its memory.
+/// Scans a memory argument. Returns `None` if it has the index of a memory.
 #[inline(always)]
 fn scan_mem_arg(bytes: &[u8]) -> Option<Scanned>
     ensures { Scans mem_arg bytes.now result }

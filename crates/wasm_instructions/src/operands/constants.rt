@@ -1,24 +1,24 @@
-//! Constants that are kept as their bits, and lanes of vectors (Core 3.0, Floating-Point and Instructions).
+//! Constants kept as their bits, and lane indexes (Core 3.0, Floating-Point and Instructions).
 ghost use Rattle.std.specs.Prelude.{◌≡◌};
 
-/// The index of a lane of a vector: one byte, of which any is read and written.
+/// Index of a lane of a vector. Every byte is read and written, in range or not.
 pub type Lane = u8;
 
-/// A floating-point number of 32 bits, as its bits. Not-a-number keeps its payload.
+/// A 32-bit floating-point number, kept as its bits. A NaN keeps its payload.
 #[derive(Clone, Copy, Debug, PartialEq, Eq)]
 pub struct Ieee32 {
     bits: u32,
 }
 
 impl Ieee32 {
-    /// The number of these bits.
+    /// Returns the number with these bits.
     pub fn new(bits: u32) -> Ieee32
         ensures { result.bits ≡ bits }
     {
         Ieee32 { bits }
     }
 
-    /// Its bits.
+    /// Returns the bits.
     pub fn bits(self) -> u32
         ensures { result ≡ self.bits }
     {
@@ -26,21 +26,21 @@ impl Ieee32 {
     }
 }
 
-/// A floating-point number of 64 bits, as its bits. Not-a-number keeps its payload.
+/// A 64-bit floating-point number, kept as its bits. A NaN keeps its payload.
 #[derive(Clone, Copy, Debug, PartialEq, Eq)]
 pub struct Ieee64 {
     bits: u64,
 }
 
 impl Ieee64 {
-    /// The number of these bits.
+    /// Returns the number with these bits.
     pub fn new(bits: u64) -> Ieee64
         ensures { result.bits ≡ bits }
     {
         Ieee64 { bits }
     }
 
-    /// Its bits.
+    /// Returns the bits.
     pub fn bits(self) -> u64
         ensures { result ≡ self.bits }
     {

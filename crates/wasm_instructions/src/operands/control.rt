@@ -1,8 +1,18 @@
-//! Block types and the clauses of `try_table` (Core 3.0, Control Instructions), and of `resume`.
+//! Block types and the clauses of `try_table` (Core 3.0, Control Instructions) and of `resume`.
 
 use wasm_types::types::ValType;
 
-/// The type of a block.
+/// The type of a block (Core 3.0, Control Instructions).
+///
+/// # Examples
+///
+/// ```
+/// # use wasm_encoder::{BlockType, InstructionSink, ValType};
+/// let mut code = Vec::new(rt.alloc());
+/// let sink = InstructionSink::new(&mut code);
+/// sink.block(BlockType::Result(ValType::I32))?.i32_const(7)?.end()?;
+/// assert_eq!(rt; code.as_slice(), b"\x02\x7f\x41\x07\x0b".as_slice());
+/// ```
 #[derive(Clone, Copy, Debug, PartialEq, Eq)]
 pub enum BlockType {
     /// No parameters and no results.
@@ -13,48 +23,49 @@ pub enum BlockType {
     FunctionType(u32),
 }
 
-/// A clause of `try_table`: which exceptions it catches, and where they lead.
+/// A clause of `try_table`: the exceptions that it catches, and the label that it branches to (Core 3.0, Control
+/// Instructions).
 #[derive(Clone, Copy, Debug, PartialEq, Eq)]
 pub enum Catch {
-    /// Exceptions of this tag.
+    /// Catches exceptions of a tag.
     One {
-        /// The tag's index.
+        /// Index of the tag.
         tag: u32,
-        /// The label that is branched to.
+        /// Label to branch to.
         label: u32,
     },
-    /// Exceptions of this tag, with a reference to the exception.
+    /// Catches exceptions of a tag, and passes a reference to the exception.
     OneRef {
-        /// The tag's index.
+        /// Index of the tag.
         tag: u32,
-        /// The label that is branched to.
+        /// Label to branch to.
         label: u32,
     },
-    /// All exceptions.
+    /// Catches all exceptions.
     All {
-        /// The label that is branched to.
+        /// Label to branch to.
         label: u32,
     },
-    /// All exceptions, with a reference to the exception.
+    /// Catches all exceptions, and passes a reference to the exception.
     AllRef {
-        /// The label that is branched to.
+        /// Label to branch to.
         label: u32,
     },
 }
 
-/// A clause of `resume`: what becomes of a suspension. It is of the proposal on stack switching.
+/// A clause of `resume`: the handler of a suspension (stack switching proposal).
 #[derive(Clone, Copy, Debug, PartialEq, Eq)]
 pub enum Handle {
-    /// A suspension of this tag branches.
+    /// Branches on a suspension of a tag.
     OnLabel {
-        /// The tag's index.
+        /// Index of the tag.
         tag: u32,
-        /// The label that is branched to.
+        /// Label to branch to.
         label: u32,
     },
-    /// A `switch` of this tag is served.
+    /// Handles a `switch` of a tag.
     OnSwitch {
-        /// The tag's index.
+        /// Index of the tag.
         tag: u32,
     },
 }

@@ -1,4 +1,4 @@
-//! Opcodes, read (Core 3.0, Instructions).
+//! The reader of opcodes (Core 3.0, Instructions).
 ghost use Rattle.std.specs.Prelude.{◌≡◌, IfErr};
 ghost use Rattle.wasm_codec.specs.Places.{Reads};
 ghost use Rattle.wasm_codec.specs.declared.reader.cursor.Fault.TheVariants.{Malformed};
@@ -7,7 +7,7 @@ ghost use Rattle.wasm_instructions.specs.formats.Instructions.{opcode};
 use crate::table::Opcode;
 use wasm_codec::reader::cursor::{Cursor, Fault};
 
-/// An opcode: a prefix byte and a number, or one byte.
+/// Reads an opcode: one byte, or a prefix byte and a number. It may be outside the table.
 #[inline(always)]
 #[tactic(auto, unfolding(crate::specs::formats::Instructions::opcode))]
 pub fn read_opcode(cursor: &mut Cursor<'_>) -> Result<Opcode, Fault>

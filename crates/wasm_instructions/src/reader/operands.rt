@@ -1,4 +1,4 @@
-//! What stands after opcodes, part by part (Core 3.0, Instructions).
+//! Readers of the parts of operands (Core 3.0, Instructions).
 ghost use Rattle.std.specs.Prelude.{◌≡◌, ◌<◌, IfOk, IfErr};
 ghost use Rattle.wasm_codec.specs.Places.{Reads, map_at};
 ghost use Rattle.wasm_codec.specs.formats.Combinators.{little_endian};
@@ -13,7 +13,7 @@ use crate::operands::{BlockType, Catch, Handle, Ieee32, Ieee64, Lane, MemArg, Or
 use wasm_codec::reader::cursor::{Cursor, Fault};
 use wasm_types::reader::read_val_type;
 
-/// A block type.
+/// Reads a block type (Core 3.0, Control Instructions).
 #[inline]
 #[tactic(auto, unfolding(crate::specs::formats::Operands::block_type))]
 pub fn read_block_type(cursor: &mut Cursor<'_>) -> Result<BlockType, Fault>
@@ -31,7 +31,7 @@ pub fn read_block_type(cursor: &mut Cursor<'_>) -> Result<BlockType, Fault>
     Ok(BlockType::Result(read_val_type(cursor)?))
 }
 
-/// A memory argument.
+/// Reads a memory argument, with or without the index of its memory (Core 3.0, Memory Instructions).
 #[inline(always)]
 #[tactic(auto, unfolding(crate::specs::formats::Operands::mem_arg))]
 pub fn read_mem_arg(cursor: &mut Cursor<'_>) -> Result<MemArg, Fault>
@@ -63,7 +63,7 @@ pub fn read_mem_arg(cursor: &mut Cursor<'_>) -> Result<MemArg, Fault>
     })
 }
 
-/// An ordering.
+/// Reads an ordering.
 #[tactic(auto, unfolding(crate::specs::formats::Operands::ordering))]
 pub fn read_ordering(cursor: &mut Cursor<'_>) -> Result<Ordering, Fault>
     ensures reads { Reads ordering.at cursor.old cursor.new result }
@@ -76,7 +76,7 @@ pub fn read_ordering(cursor: &mut Cursor<'_>) -> Result<Ordering, Fault>
     }
 }
 
-/// Whether the types before and after a cast are nullable.
+/// Reads the flags of a branch on a cast: whether the types before and after it are nullable.
 #[tactic(auto, unfolding(crate::specs::formats::Operands::castop))]
 pub fn read_castop(cursor: &mut Cursor<'_>) -> Result<(bool, bool), Fault>
     ensures reads { Reads castop.at cursor.old cursor.new result }
@@ -91,7 +91,7 @@ pub fn read_castop(cursor: &mut Cursor<'_>) -> Result<(bool, bool), Fault>
     }
 }
 
-/// The bits of a floating-point number of 32 bits.
+/// Reads a 32-bit floating-point number as its bits.
 pub fn read_f32(cursor: &mut Cursor<'_>) -> Result<Ieee32, Fault>
     ensures reads { Reads (map_at ieee32 (little_endian 4).at) cursor.old cursor.new result }
     ensures err { IfErr result (λ e. e ≡ Malformed) }
@@ -99,7 +99,7 @@ pub fn read_f32(cursor: &mut Cursor<'_>) -> Result<Ieee32, Fault>
     Ok(Ieee32::new(read_bits_32(cursor)?))
 }
 
-/// The bits of a floating-point number of 64 bits.
+/// Reads a 64-bit floating-point number as its bits.
 pub fn read_f64(cursor: &mut Cursor<'_>) -> Result<Ieee64, Fault>
     ensures reads { Reads (map_at ieee64 (little_endian 8).at) cursor.old cursor.new result }
     ensures err { IfErr result (λ e. e ≡ Malformed) }
@@ -107,7 +107,7 @@ pub fn read_f64(cursor: &mut Cursor<'_>) -> Result<Ieee64, Fault>
     Ok(Ieee64::new(read_bits_64(cursor)?))
 }
 
-/// A number in 4 bytes, the least first.
+/// Reads a little-endian number of 4 bytes.
 #[tactic(auto, unfolding(wasm_codec::specs::formats::Combinators::little_endian))]
 pub fn read_bits_32(cursor: &mut Cursor<'_>) -> Result<u32, Fault>
     ensures reads { Reads (little_endian 4).at cursor.old cursor.new result }
@@ -120,7 +120,7 @@ pub fn read_bits_32(cursor: &mut Cursor<'_>) -> Result<u32, Fault>
     Ok(first + 0x100 * (second + 0x100 * (third + 0x100 * fourth)))
 }
 
-/// A number in 8 bytes, the least first.
+/// Reads a little-endian number of 8 bytes.
 #[tactic(auto, using(crate::proofs::LittleEndianHalves::both_halves, crate::proofs::LittleEndianHalves::no_low_half, crate::proofs::LittleEndianHalves::no_high_half))]
 pub fn read_bits_64(cursor: &mut Cursor<'_>) -> Result<u64, Fault>
     ensures reads { Reads (little_endian 8).at cursor.old cursor.new result }
@@ -131,7 +131,7 @@ pub fn read_bits_64(cursor: &mut Cursor<'_>) -> Result<u64, Fault>
     Ok(u64::from(low) + (1 << 32) * u64::from(high))
 }
 
-/// A vector: a number in 16 bytes, the least first, in two's complement.
+/// Reads a vector: a little-endian number of 16 bytes, in two's complement.
 #[tactic(auto, unfolding(crate::specs::formats::Operands::vector))]
 pub fn read_vector(cursor: &mut Cursor<'_>) -> Result<i128, Fault>
     ensures reads { Reads vector.at cursor.old cursor.new result }
@@ -142,7 +142,7 @@ pub fn read_vector(cursor: &mut Cursor<'_>) -> Result<i128, Fault>
     Ok(from_bits(u128::from(low) + (1 << 64) * u128::from(high)))
 }
 
-/// Sixteen lanes.
+/// Reads sixteen lane indexes.
 #[tactic(auto, unfolding(crate::specs::formats::Operands::lanes, wasm_codec::specs::Places::raw_at))]
 pub fn read_lanes(cursor: &mut Cursor<'_>) -> Result<[Lane; 16], Fault>
     ensures reads { Reads lanes.at cursor.old cursor.new result }
@@ -154,7 +154,7 @@ pub fn read_lanes(cursor: &mut Cursor<'_>) -> Result<[Lane; 16], Fault>
     Ok(lanes)
 }
 
-/// The value of 128 bits in two's complement.
+/// Returns the value of 128 bits in two's complement.
 fn from_bits(bits: u128) -> i128
     ensures { result ≡ from_bits bits }
 {
@@ -165,7 +165,7 @@ fn from_bits(bits: u128) -> i128
     }
 }
 
-/// A clause of a `try_table`.
+/// Reads a clause of a `try_table` (Core 3.0, Control Instructions).
 #[tactic(auto, unfolding(crate::specs::formats::Operands::catch_clause))]
 pub fn read_catch(cursor: &mut Cursor<'_>) -> Result<Catch, Fault>
     ensures reads { Reads catch_clause.at cursor.old cursor.new result }
@@ -194,7 +194,7 @@ pub fn read_catch(cursor: &mut Cursor<'_>) -> Result<Catch, Fault>
     }
 }
 
-/// A handler of a `resume`.
+/// Reads a clause of a `resume`.
 #[tactic(auto, unfolding(crate::specs::formats::Operands::handle_clause))]
 pub fn read_handle(cursor: &mut Cursor<'_>) -> Result<Handle, Fault>
     ensures reads { Reads handle_clause.at cursor.old cursor.new result }

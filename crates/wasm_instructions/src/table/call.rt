@@ -1,4 +1,4 @@
-//! Calls: an opcode with operands of its kind.
+//! `Call`, an opcode with operands of its kind.
 ghost use Rattle.std.specs.Prelude.{◌≡◌, IfOk, IfErr, IsOk, IsTrue, ◌↔◌};
 ghost use Rattle.wasm_instructions.specs.Instructions.{NumbersInRange, IsAligned, IsCall, IsShort, kind_of};
 ghost use Rattle.wasm_instructions.specs.formats.Instructions.{call};
@@ -11,48 +11,48 @@ use wasm_codec::encode::EncodeError;
 use wasm_codec::list::Items;
 use wasm_types::types::{HeapType, RefType, ValType};
 
-/// The operands of an instruction, one variant for each [`Kind`], in the order in which they are written.
+/// The operands of an instruction. It has one variant for each [`Kind`], with fields in the order of the binary format.
 #[derive(Debug, PartialEq, Eq, Drop)]
 pub enum Operands {
     /// No operands.
     None,
-    /// The type of a block.
+    /// A block type.
     Block(BlockType),
-    /// An index: of a local, a function, a label.
+    /// An index, such as that of a local, a function or a label.
     Index(u32),
-    /// Two indexes, in written order.
+    /// Two indexes, in the order of the binary format.
     TwoIndexes(u32, u32),
-    /// The labels of `br_table`, and the label of all other numbers.
+    /// The labels of a `br_table`, and its default label.
     BrTable(Items<u32>, u32),
-    /// The types of `select`.
+    /// The types of a `select`.
     Types(Items<ValType>),
-    /// The type of a `try_table` and its clauses.
+    /// The block type of a `try_table`, and its clauses.
     TryTable(BlockType, Items<Catch>),
-    /// Where memory is reached.
+    /// A memory argument.
     Mem(MemArg),
-    /// The value of an `i32.const`.
+    /// The constant of an `i32.const`.
     I32(i32),
-    /// The value of an `i64.const`.
+    /// The constant of an `i64.const`.
     I64(i64),
-    /// The value of an `f32.const`.
+    /// The constant of an `f32.const`.
     F32(Ieee32),
-    /// The value of an `f64.const`.
+    /// The constant of an `f64.const`.
     F64(Ieee64),
     /// A heap type.
     Heap(HeapType),
-    /// The continuation type of a `resume`, and its handlers.
+    /// The index of a `resume`'s continuation type, and its clauses.
     Resume(u32, Items<Handle>),
-    /// The continuation type of a `resume_throw`, its tag, and its handlers.
+    /// The index of a `resume_throw`'s continuation type, the index of its tag, and its clauses.
     ResumeThrow(u32, u32, Items<Handle>),
-    /// The label of a branch on a cast, the type before and the type after.
+    /// The label of a branch on a cast, and the types before and after the cast.
     Cast(u32, RefType, RefType),
-    /// The value of a `v128.const`.
+    /// The constant of a `v128.const`.
     V128(i128),
-    /// The lanes of an `i8x16.shuffle`.
+    /// The lane indexes of an `i8x16.shuffle`.
     Shuffle([Lane; 16]),
-    /// A lane.
+    /// A lane index.
     Lane(Lane),
-    /// Where memory is reached, and a lane.
+    /// A memory argument and a lane index.
     MemLane(MemArg, Lane),
     /// An ordering.
     Order(Ordering),
@@ -62,9 +62,18 @@ pub enum Operands {
     OrderTwoIndexes(Ordering, u32, u32),
 }
 
-/// An instruction: an opcode of the table with operands of its kind.
+/// An instruction: an opcode of the table with operands of its kind (Core 3.0, Instructions).
 ///
-/// In contracts it is the record of the two.
+/// # Examples
+///
+/// ```
+/// # use wasm_encoder::{Call, Opcode, Operands};
+/// let local_get = Opcode::without_prefix(0x20);
+/// let call = Call::new(local_get, Operands::Index(1));
+/// assert!(rt; call.is_ok());
+/// let other_kind = Call::new(local_get, Operands::I32(1));
+/// assert_eq!(rt; other_kind.err(), Some(Operands::I32(1)));
+/// ```
 #[derive(Debug, PartialEq, Eq, Drop)]
 pub struct Call {
     op: Opcode,
@@ -85,7 +94,7 @@ impl Model for Call {
 }
 
 impl Operands {
-    /// The kind of opcodes that have such operands.
+    /// Returns the kind of the operands.
     pub fn kind(&self) -> Kind
         ensures { result ≡ kind_of self.now }
     {
@@ -116,7 +125,7 @@ impl Operands {
         }
     }
 
-    /// Whether alignments are below 64, which the format has encodings for.
+    /// Checks whether every alignment is below 64, so that the format can encode it.
     pub(crate) fn is_aligned(&self) -> bool
         ensures { IsTrue result ↔ IsAligned self.now }
     {
@@ -126,7 +135,7 @@ impl Operands {
         }
     }
 
-    /// An equal value.
+    /// Returns a copy. Fails with `Memory` if an allocation fails.
     pub fn try_clone(&self) -> Result<Operands, EncodeError>
         ensures ok { IfOk result (λ o. o ≡ self.now) }
         ensures err { IfErr result (λ e. e ≡ Memory) }
@@ -164,8 +173,10 @@ impl Operands {
 }
 
 impl Call {
-    /// The call of an opcode with these operands. Where the opcode isn't in the table, has operands of another kind,
-    /// or an alignment is 64 or more, the operands are handed back.
+    /// Returns the call of an opcode with these operands.
+    ///
+    /// Fails with the operands if the opcode isn't in the table or has operands of another kind, or if an alignment is
+    /// 64 or more.
     pub fn new(op: Opcode, operands: Operands) -> Result<Call, Operands>
         ensures ok { IfOk result (λ c. c ≡ call op operands) }
         ensures err { IfErr result (λ o. o ≡ operands) }
@@ -178,7 +189,7 @@ impl Call {
         }
     }
 
-    /// The call of an opcode of the table with operands of its kind, with alignments below 64.
+    /// Returns the call of an opcode with operands that are known to fit it.
     pub fn from_parts(op: Opcode, operands: Operands) -> Call
         requires call { IsCall op operands }
         requires aligned { IsAligned operands }
@@ -187,7 +198,7 @@ impl Call {
         Call { op, operands }
     }
 
-    /// The opcode.
+    /// Returns the opcode.
     pub fn op(&self) -> Opcode
         ensures value { result ≡ self.now.op }
         ensures short { IsShort result }
@@ -195,17 +206,17 @@ impl Call {
         self.op
     }
 
-    /// The operands.
+    /// Returns the operands.
     pub fn operands(&self) -> &Operands
         ensures value { result.now ≡ self.now.operands }
         ensures fits { IsCall self.now.op result.now }
-        // Numbers outside lists are in range, and alignments below 64.
+        // Numbers outside lists are in range, and alignments are below 64.
         ensures in_range { NumbersInRange result.now }
     {
         &self.operands
     }
 
-    /// An equal call.
+    /// Returns a copy. Fails with `Memory` if an allocation fails.
     pub fn try_clone(&self) -> Result<Call, EncodeError>
         ensures ok { IfOk result (λ c. c ≡ self.now) }
         ensures err { IfErr result (λ e. e ≡ Memory) }

@@ -1,4 +1,4 @@
-//! The table of opcodes: which kind of operands each has (Core 3.0, Instructions).
+//! Opcodes, and the table of the kinds of their operands (Core 3.0, Instructions).
 ghost use Rattle.std.specs.Prelude.{◌≡◌};
 ghost use Rattle.wasm_instructions.specs.OpcodeTables.{IsTable};
 ghost use Rattle.wasm_instructions.specs.formats.Opcodes.{opcode_kind, kind_among, ranges};
@@ -6,7 +6,7 @@ ghost use Rattle.wasm_instructions.specs.formats.Opcodes.{without_prefix, after_
 
 use super::places::{AFTER_FB, AFTER_FC, AFTER_FD, AFTER_FE, WITHOUT_PREFIX};
 
-/// The byte before an opcode's number, if there is one.
+/// The prefix byte of an opcode.
 #[derive(Clone, Copy, Debug, PartialEq, Eq)]
 pub enum Prefix {
     /// No prefix byte: the opcode is one byte.
@@ -21,19 +21,30 @@ pub enum Prefix {
     Fe,
 }
 
-/// What an instruction begins with: a byte, or a prefix byte and a number.
+/// An opcode: one byte, or a prefix byte and a number (Core 3.0, Instructions). It may be outside the table.
+///
+/// # Examples
+///
+/// ```
+/// # use wasm_encoder::{Kind, Opcode};
+/// let local_get = Opcode::without_prefix(0x20);
+/// assert_eq!(rt; local_get.kind(), Some(Kind::Index));
+/// let memory_copy = Opcode::after_fc(10);
+/// assert_eq!(rt; memory_copy.kind(), Some(Kind::TwoIndexes));
+/// assert_eq!(rt; Opcode::without_prefix(0xff).kind(), None);
+/// ```
 #[derive(Clone, Copy, Debug, PartialEq, Eq)]
 pub struct Opcode {
-    /// The prefix byte, if there is one.
+    /// Prefix byte.
     pub prefix: Prefix,
-    /// The number after the prefix byte, or the one byte itself.
+    /// Number after the prefix byte, or the byte itself if there is no prefix.
     pub number: u32,
 }
 
-/// What stands after an opcode.
+/// The kind of operands that follow an opcode.
 #[derive(Clone, Copy, Debug, PartialEq, Eq)]
 pub enum Kind {
-    /// Nothing.
+    /// No operands.
     None,
     /// A block type.
     Block,
@@ -41,7 +52,7 @@ pub enum Kind {
     Index,
     /// Two indexes.
     TwoIndexes,
-    /// A list of labels, and the label of all other numbers.
+    /// A list of labels and a default label.
     BrTable,
     /// A list of value types.
     Types,
@@ -49,29 +60,29 @@ pub enum Kind {
     TryTable,
     /// A memory argument.
     Mem,
-    /// A signed number of 32 bits.
+    /// A signed 32-bit number.
     I32,
-    /// A signed number of 64 bits.
+    /// A signed 64-bit number.
     I64,
-    /// The bits of a floating-point number, in 4 bytes.
+    /// A 32-bit floating-point number, in 4 bytes.
     F32,
-    /// The bits of a floating-point number, in 8 bytes.
+    /// A 64-bit floating-point number, in 8 bytes.
     F64,
     /// A heap type.
     Heap,
-    /// An index and a list of handlers.
+    /// An index and a list of clauses.
     Resume,
-    /// Two indexes and a list of handlers.
+    /// Two indexes and a list of clauses.
     ResumeThrow,
     /// Flags, a label and two heap types.
     Cast,
-    /// The bits of a vector, in 16 bytes.
+    /// A vector, in 16 bytes.
     V128,
-    /// Sixteen lanes.
+    /// Sixteen lane indexes.
     Shuffle,
-    /// A lane.
+    /// A lane index.
     Lane,
-    /// A memory argument and a lane.
+    /// A memory argument and a lane index.
     MemLane,
     /// An ordering.
     Order,
@@ -82,7 +93,7 @@ pub enum Kind {
 }
 
 impl Opcode {
-    /// An opcode of one byte.
+    /// Returns the opcode of one byte.
     #[inline]
     pub const fn without_prefix(number: u8) -> Opcode
         ensures { result ≡ without_prefix number }
@@ -93,7 +104,7 @@ impl Opcode {
         }
     }
 
-    /// An opcode after the byte `0xFB`.
+    /// Returns the opcode of this number after the prefix byte `0xFB`.
     #[inline]
     pub const fn after_fb(number: u32) -> Opcode
         ensures { result ≡ after_fb number }
@@ -104,7 +115,7 @@ impl Opcode {
         }
     }
 
-    /// An opcode after the byte `0xFC`.
+    /// Returns the opcode of this number after the prefix byte `0xFC`.
     #[inline]
     pub const fn after_fc(number: u32) -> Opcode
         ensures { result ≡ after_fc number }
@@ -115,7 +126,7 @@ impl Opcode {
         }
     }
 
-    /// An opcode after the byte `0xFD`.
+    /// Returns the opcode of this number after the prefix byte `0xFD`.
     #[inline]
     pub const fn after_fd(number: u32) -> Opcode
         ensures { result ≡ after_fd number }
@@ -126,7 +137,7 @@ impl Opcode {
         }
     }
 
-    /// An opcode after the byte `0xFE`.
+    /// Returns the opcode of this number after the prefix byte `0xFE`.
     #[inline]
     pub const fn after_fe(number: u32) -> Opcode
         ensures { result ≡ after_fe number }
@@ -137,7 +148,7 @@ impl Opcode {
         }
     }
 
-    /// The kind of the opcode's operands, or `None` where it is no opcode of the table.
+    /// Returns the kind of the operands, or `None` if the opcode isn't in the table.
     #[inline(always)]
     #[tactic(auto, unfolding(crate::specs::formats::Opcodes::ranges))]
     pub fn kind(self) -> Option<Kind>
@@ -153,13 +164,13 @@ impl Opcode {
     }
 }
 
-/// The kind at the place of a number in the table of a `Prefix`, or `None` past its end.
+/// Returns the kind of an opcode by its number and the table of its prefix, or `None` past the end of the table.
 #[inline(always)]
 fn kind_at(prefix: Prefix, places: &[Option<Kind>], number: u32) -> Option<Kind>
     requires { IsTable places.now (ranges prefix) }
     ensures { result ≡ kind_among (ranges prefix) number }
 {
-    // Only the contract speaks of the prefix.
+    // Only the contract mentions the prefix.
     let _ = prefix;
     let place = number as usize;
     if place < places.len() {

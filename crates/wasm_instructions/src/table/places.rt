@@ -1,4 +1,4 @@
-//! The kind of each opcode, at the place of its number. A number past the end is no opcode.
+//! The kind of each opcode, by its number. A number past the end is no opcode.
 
 use super::opcode::Kind;
 

@@ -1,5 +1,5 @@
--- Code bodies in the binary format, each part stated once (WebAssembly Core 3.0, Code Section). Over each
--- stands the standard's production.
+-- Code bodies in the binary format, each part stated once, under the standard's production (WebAssembly Core 3.0, Code
+-- Section).
 use Rattle.std.specs.Prelude.{ℕ, true, List, Option, Some}
 use Rattle.wasm_types.specs.declared.types.value.ValType.{ValType}
 use Rattle.wasm_types.specs.formats.Types.{val_type}
@@ -11,35 +11,42 @@ use Rattle.wasm_codec.specs.Lists.{IsListPrefix, AskedList, IsAskedPrefix}
 use Rattle.wasm_codec.specs.formats.Bodies.{sized, to_end}
 use Rattle.wasm_modules.specs.declared.code.CodeBody.{CodeBody}
 
+-- A group of locals: their number and their type.
 -- local ::= n:u32 t:valtype ⇒ t^n, here as the pair of n and t
 abbrev pub local_group : Format (ℕ × ValType)
 local_group = u32 ⊗ val_type
 
+-- The code body with these locals and these instructions.
 abbrev pub code_body_of : List (ℕ × ValType) × List Instruction → CodeBody
 code_body_of p = record { locals = p.0; calls = p.1 }
 
+-- The locals and the instructions of a code body.
 abbrev pub code_body_parts : CodeBody → Option (List (ℕ × ValType) × List Instruction)
 code_body_parts b = Some (b.locals, b.calls)
 
+-- A code body without its size: locals, then instructions to the end.
 -- code ::= size:u32 code:func ⇒ code (if size = ||func||), func ::= loc**:list(local) e:expr ⇒ (local*, e)
--- Here the instructions go on to the end of the size, whether an 0x0B stands last or not.
+-- Here the instructions end with the size, whether their last is 0x0B or not.
 abbrev pub function_code : Format (List (ℕ × ValType) × List Instruction)
 function_code = items local_group ⊗ to_end instruction
 
+-- A code body: its size, its locals and its instructions.
 unfoldable pub code_body : Format CodeBody
 code_body = made code_body_of code_body_parts (sized function_code)
 
+-- The body of a code section: a count, then as many code bodies.
 -- codesec ::= code*:section_10(list(code)) ⇒ code*, without the id and the size of the section
 unfoldable pub code_section_body : Format (List CodeBody)
 code_section_body = items code_body
 
--- a prefix of the body of a code section that is whole: nothing, or a count and at most as many code bodies
+-- The prefix is empty, or it is a count and at most as many code bodies.
 abbrev pub IsCodeSectionBodyPrefix : List ℕ → Type 0
 IsCodeSectionBodyPrefix = IsListPrefix code_body.Encodes
 
--- the same, with the count and each code body in its shortest encoding
+-- The bytes encode these code bodies, with the count and each body minimally encoded.
 abbrev pub ShortestCodeSectionBody : Grammar (List CodeBody)
 ShortestCodeSectionBody = AskedList true code_body
 
+-- The prefix is empty, or it is a count and at most as many code bodies, all minimally encoded.
 abbrev pub IsShortestCodeSectionBodyPrefix : List ℕ → Type 0
 IsShortestCodeSectionBodyPrefix = IsAskedPrefix true code_body

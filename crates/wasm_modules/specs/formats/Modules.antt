@@ -1,5 +1,4 @@
--- Modules in the binary format, each part stated once (WebAssembly Core 3.0, Modules). Over each stands the
--- standard's production.
+-- Modules in the binary format, each part stated once, under the standard's production (WebAssembly Core 3.0, Modules).
 use Rattle.std.specs.Prelude.{ℕ, ◌==◌, Bool, true, List, Option, Some, None}
 use Rattle.wasm_types.specs.declared.types.composite.TypeEntry.{TypeEntry}
 use Rattle.wasm_types.specs.formats.Types.{type_body}
@@ -15,6 +14,7 @@ use Rattle.wasm_modules.specs.formats.Sections.{header, type_section_id, code_se
 abbrev pub section_parts : SectionParts → Option (ℕ × List ℕ)
 section_parts s = Some (s.id, s.body)
 
+-- A section with its body as bytes: its id, its size and its body.
 -- section_N(X) ::= N:byte len:u32 x:X ⇒ x (if len = ||X||), with the bytes of X as they are
 unfoldable pub raw_section : Format SectionParts
 raw_section = made section_of section_parts (a_byte ⊗ byte_list)
@@ -31,7 +31,7 @@ abbrev pub bytes_part : Content → Option (List ℕ)
 bytes_part (raw_bytes bytes) = Some bytes
 bytes_part c = None
 
--- what the body of a section of this id holds
+-- The content of a section with this id: type entries, code bodies or bytes.
 abbrev pub held_by : ℕ → Format Content
 held_by id =
     choose (id == type_section_id) (made type_entries entries_part type_body)
@@ -41,31 +41,36 @@ held_by id =
 abbrev pub content_parts : DecodedSection → Option (ℕ × Content)
 content_parts s = Some (s.id, s.content)
 
+-- A section with its content: type entries, code bodies or bytes.
 -- typesec ::= ty*:section_1(list(rectype)) ⇒ ty*, codesec ::= code*:section_10(list(code)) ⇒ code*,
 -- and any other section with its bytes as they are
 unfoldable pub decoded_section : Format DecodedSection
 decoded_section = made decoded_section_of content_parts (a_byte ⊗> (λ id. sized (held_by id)))
 
--- a section with its body as bytes holds this
+-- The body of the section encodes this content.
 abbrev pub HoldsContent : SectionParts → Content → Type 0
 HoldsContent s c = (held_by s.id).Encodes s.body c
 
 -- ---- modules
 
+-- A module of such sections: the header, then sections to the end.
 -- magic ::= 0x00 0x61 0x73 0x6D, version ::= 0x01 0x00 0x00 0x00
--- module ::= magic version section*, with nothing left over, whatever of a section is decoded
+-- module ::= magic version section*, with nothing left over, for sections in any degree of decoding
 abbrev pub module_of : {V : Type 0} → Format V → Format (List V)
 module_of F = headed header (to_end F)
 
+-- A module whose sections have their bodies as bytes.
 abbrev pub raw_module : Format (List SectionParts)
 raw_module = module_of raw_section
 
--- the same, with each section in its shortest encoding where that is asked for: its size in the fewest bytes
+-- A module whose sections have their bodies as bytes; if `strict`, each size is minimally encoded.
 abbrev pub asked_module : Bool → Format (List SectionParts)
 asked_module strict = module_of (asked strict raw_section)
 
+-- The bytes encode these sections, each with its size minimally encoded.
 abbrev pub ShortestModule : Grammar (List SectionParts)
 ShortestModule = (asked_module true).Encodes
 
+-- A module whose type and code sections are decoded.
 abbrev pub decoded_module : Format (List DecodedSection)
 decoded_module = module_of decoded_section

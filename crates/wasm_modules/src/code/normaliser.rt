@@ -1,4 +1,4 @@
-//! The normaliser of bodies of code sections (Core 3.0, Code Section).
+//! The normaliser of code section bodies (Core 3.0, Code Section).
 ghost use Rattle.std.specs.Prelude.{◌≡◌, ◌↔◌, ◌≤◌, ℕ, List, length, IfOk, IfErr};
 ghost use Rattle.wasm_codec.specs.Answers.{NeedsNoMemory, IsOrMemory, IfRefused, IsLongestPrefix, IsNormalForm, EncodesSome};
 ghost use Rattle.wasm_codec.specs.Encoding.{IsShortestOrLonger};
@@ -23,64 +23,82 @@ use wasm_types::normaliser::rewrite_val_type;
 use wasm_types::reader::read_val_type;
 use wasm_types::types::ValType;
 
-/// The normal bytes of the body of a code section: the same code bodies in the fewest bytes (Core 3.0, Code
-/// Section).
+/// Returns the minimal encoding of the code bodies in a code section body (Core 3.0, Code Section).
 ///
-/// `Refused` carries the number of bytes of the
-/// count and of the code bodies that are whole before the first that isn't, or before what is left over.
+/// Fails with `Refused` if the body is malformed: `at` is the offset of the first malformed or missing code body, or of
+/// trailing bytes. It is 0 if the count is malformed. Fails with `Memory` if the body can't be copied.
+///
+/// # Examples
+///
+/// ```
+/// # use wasm_encoder::normalise_code_section;
+/// let minimal = normalise_code_section(rt.alloc(), b"\x01\x82\x00\x00\x0b")?; // a size in two bytes
+/// assert_eq!(rt; minimal.as_slice(), b"\x01\x02\x00\x0b".as_slice());
+/// ```
 pub fn normalise_code_section(alloc: Global, body: &[u8]) -> Result<Vec<u8>, ReadError>
-    // The result is the shortest encoding of a list that the body encodes.
+    // The result is the minimal encoding of a list that the body encodes.
     ensures given { IfOk result (λ encoding.
         IsNormalForm code_section_body.Encodes code_section_body.bytes body.now encoding.items) }
-    // Where the body encodes a list, its shortest encoding is given, unless memory ran out.
+    // If the body encodes a list, the result is the minimal encoding of that list, unless memory runs out.
     ensures complete { (bodies : List CodeBody) → code_section_body.Encodes body.now bodies →
         IsOrMemory (λ encoding. encoding.items) (code_section_body.bytes bodies) result }
-    // `at` is the length of the longest prefix that is whole.
+    // `at` is the length of the longest well-formed prefix.
     ensures prefix { IfRefused result (IsLongestPrefix IsCodeSectionBodyPrefix body.now) }
     // The body encodes at most one list.
     ensures one { (bodies others : List CodeBody) →
         code_section_body.Encodes body.now bodies → code_section_body.Encodes body.now others → bodies ≡ others }
-    // The result encodes a list exactly if the body does.
+    // The result encodes a list if and only if the body does.
     ensures same { IfOk result (λ encoding. (bodies : List CodeBody) →
         code_section_body.Encodes encoding.items bodies ↔ code_section_body.Encodes body.now bodies) }
-    // The result is normal: it is the shortest encoding of what it encodes.
+    // The result is the minimal encoding of the list that it encodes.
     ensures normal { IfOk result (λ encoding. (bodies : List CodeBody) →
         code_section_body.Encodes encoding.items bodies → encoding.items ≡ code_section_body.bytes bodies) }
-    // Every other encoding of a list is longer than its shortest.
+    // Every other encoding of a list is longer than its minimal encoding.
     ensures shortest { (bodies : List CodeBody) → code_section_body.Encodes body.now bodies →
         IsShortestOrLonger body.now (code_section_body.bytes bodies) }
     // The result is no longer than the body.
     ensures no_longer { IfOk result (λ encoding. length encoding.items ≤ length body.now) }
-    // A shortest encoding stays as it is, unless memory ran out.
+    // A minimal encoding is returned unchanged, unless memory runs out.
     ensures stays { (bodies : List CodeBody) → ShortestCodeSectionBody body.now bodies →
         IsOrMemory (λ encoding. encoding.items) body.now result }
-    // What stays as it is, is a shortest encoding.
+    // If the result equals the body, the body is a minimal encoding.
     ensures was_shortest { IfOk result (λ encoding.
         encoding.items ≡ body.now → EncodesSome ShortestCodeSectionBody body.now) }
 {
     bodies_bytes_of(alloc, body)
 }
 
-/// The same, rewritten in place in the list itself, which is given back. It needs no further memory.
+/// Replaces a code section body by its minimal encoding in place (Core 3.0, Code Section).
+///
+/// It does what `normalise_code_section` does, without allocating: it never fails with `Memory`.
+///
+/// # Examples
+///
+/// ```
+/// # use wasm_encoder::rewrite_code_section;
+/// let padded = Vec::from_slice(rt.alloc(), b"\x01\x04\x80\x80\x00\x0b")?; // a count of locals in three bytes
+/// let minimal = rewrite_code_section(padded)?;
+/// assert_eq!(rt; minimal.as_slice(), b"\x01\x02\x00\x0b".as_slice());
+/// ```
 #[tactic(auto, unfolding(crate::specs::formats::CodeBodies::code_section_body))]
 pub fn rewrite_code_section(body: Vec<u8>) -> Result<Vec<u8>, ReadError>
-    // The result is the shortest encoding of a list that the body encodes.
+    // The result is the minimal encoding of a list that the body encodes.
     ensures given { IfOk result (λ encoding.
         IsNormalForm code_section_body.Encodes code_section_body.bytes body.items encoding.items) }
-    // Where the body encodes a list, its shortest encoding is given.
+    // If the body encodes a list, the result is the minimal encoding of that list.
     ensures complete { (bodies : List CodeBody) → code_section_body.Encodes body.items bodies →
         IsOrMemory (λ encoding. encoding.items) (code_section_body.bytes bodies) result }
-    // `at` is the length of the longest prefix that is whole.
+    // `at` is the length of the longest well-formed prefix.
     ensures prefix { IfRefused result (IsLongestPrefix IsCodeSectionBodyPrefix body.items) }
-    // Only what encodes no list is refused.
+    // A refused body encodes no list.
     ensures unencoded { IfRefused result (λ _. (bodies : List CodeBody) → code_section_body.Encodes body.items bodies → ⊥) }
-    // `Memory` is never answered.
+    // It never fails with `Memory`.
     ensures memory { NeedsNoMemory result }
 {
     normalise_list_to_end::<CodeBody>(body)
 }
 
-/// The shortest encoding of the code bodies, written over a copy of the body.
+/// Copies the body and rewrites the copy.
 fn bodies_bytes_of(alloc: Global, body: &[u8]) -> Result<Vec<u8>, ReadError>
     ensures given { IfOk result (λ encoding.
         IsNormalForm code_section_body.Encodes code_section_body.bytes body.now encoding.items) }
@@ -104,7 +122,7 @@ impl Rewritable for CodeBody {
     }
 }
 
-/// A code body.
+/// Rewrites a code body.
 #[tactic(auto, unfolding(crate::specs::formats::CodeBodies::code_body))]
 fn rewrite_code_body(rewriter: &mut Rewriter) -> Result<(), Fault>
     ensures rewrites { Rewrites code_body rewriter.old rewriter.new result }
@@ -112,7 +130,7 @@ fn rewrite_code_body(rewriter: &mut Rewriter) -> Result<(), Fault>
     rewrite_sized::<FunctionCode>(rewriter)
 }
 
-/// The locals and the instructions of a code body, which are all of its bytes.
+/// The locals and instructions of a code body, which take up all of its bytes.
 struct FunctionCode;
 
 impl RewritableBody for FunctionCode {
@@ -129,7 +147,7 @@ impl RewritableBody for FunctionCode {
     }
 }
 
-/// The locals and the instructions of a code body.
+/// Rewrites the locals and instructions of a code body.
 #[tactic(auto, using(std::proofs::Common::append_assoc))]
 fn rewrite_function_code(rewriter: &mut Rewriter) -> Result<(), Fault>
     ensures rewrites { Rewrites function_code rewriter.old rewriter.new result }
@@ -138,7 +156,7 @@ fn rewrite_function_code(rewriter: &mut Rewriter) -> Result<(), Fault>
     rewrite_to_end::<Call>(rewriter)
 }
 
-/// A group of locals, as an item of their list.
+/// A group of locals, as an item of the list of locals.
 struct LocalGroup;
 
 impl Rewritable for LocalGroup {
@@ -156,7 +174,7 @@ impl Rewritable for LocalGroup {
     }
 }
 
-/// How many locals, and of which type.
+/// Reads a group of locals: their number and their type.
 pub fn read_local_group(cursor: &mut Cursor<'_>) -> Result<(u32, ValType), Fault>
     ensures reads { Reads local_group.at cursor.old cursor.new result }
     ensures err { IfErr result (λ e. e ≡ Malformed) }

@@ -1,4 +1,4 @@
-//! Modules as a header and sections, normalised whatever of a section is decoded (Core 3.0, Modules).
+//! The normaliser of modules, generic over the format of their sections (Core 3.0, Modules).
 ghost use Rattle.std.specs.Prelude.{◌≡◌, ◌↔◌, ◌≤◌, List, length, IfOk};
 ghost use Rattle.wasm_codec.specs.Answers.{NeedsNoMemory, IsOrMemory, IfRefused, IsLongestPrefix, IsNormalForm, EncodesSome};
 ghost use Rattle.wasm_codec.specs.Encoding.{IsShortestOrLonger};
@@ -12,10 +12,10 @@ use std::alloc::Global;
 use wasm_codec::reader::ReadError;
 use wasm_codec::rewriter::{Joinable, Rewriter, rewrite_joined};
 
-/// The shortest encoding of the sections that a module encodes.
+/// Returns the minimal encoding of a module with sections of type `S`.
 ///
-/// `Refused` carries the number of bytes of the header and of the sections that are whole before the first that isn't,
-/// or 0 where the header isn't there.
+/// Fails with `Refused` if the bytes are malformed: `at` is the offset of the first malformed section, or 0 if the
+/// header is missing. Fails with `Memory` if the bytes can't be copied.
 pub fn normalise_module_of<S: Joinable>(alloc: Global, bytes: &[u8]) -> Result<Vec<u8>, ReadError>
     ensures given { IfOk result (λ encoding.
         IsNormalForm (module_of S.format).Encodes (module_of S.format).bytes bytes.now encoding.items) }
@@ -40,7 +40,7 @@ pub fn normalise_module_of<S: Joinable>(alloc: Global, bytes: &[u8]) -> Result<V
     copied_and_rewritten::<S>(alloc, bytes)
 }
 
-/// The same, with the clauses from which the others follow.
+/// Copies the bytes and rewrites the copy. The caller's other clauses follow from these.
 fn copied_and_rewritten<S: Joinable>(alloc: Global, bytes: &[u8]) -> Result<Vec<u8>, ReadError>
     ensures given { IfOk result (λ encoding.
         IsNormalForm (module_of S.format).Encodes (module_of S.format).bytes bytes.now encoding.items) }
@@ -51,7 +51,7 @@ fn copied_and_rewritten<S: Joinable>(alloc: Global, bytes: &[u8]) -> Result<Vec<
     rewrite_module_of::<S>(Vec::from_slice(alloc, bytes)?)
 }
 
-/// The same, in the list itself: the header, which stays, and the sections after it. It takes no memory.
+/// Replaces a module by its minimal encoding in place. The header stays, and nothing is allocated.
 pub fn rewrite_module_of<S: Joinable>(bytes: Vec<u8>) -> Result<Vec<u8>, ReadError>
     ensures given { IfOk result (λ encoding.
         IsNormalForm (module_of S.format).Encodes (module_of S.format).bytes bytes.items encoding.items) }

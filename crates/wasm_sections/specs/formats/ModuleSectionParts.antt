@@ -1,4 +1,4 @@
--- What sections hold, whatever they are (WebAssembly Core 3.0, Modules).
+-- The contents of sections (WebAssembly Core 3.0, Modules).
 use Rattle.std.specs.Prelude.{ℕ, List, map}
 use Rattle.wasm_types.specs.declared.types.composite.TypeEntry.{TypeEntry}
 use Rattle.wasm_modules.specs.declared.code.CodeBody.{CodeBody}
@@ -11,7 +11,7 @@ use Rattle.wasm_sections.specs.declared.modules.ModuleSection.{ModuleSection}
 use Rattle.wasm_sections.specs.declared.modules.ModuleSection.TheVariants as sections
 use Rattle.wasm_sections.specs.formats.EntryParts.{CustomParts, ExportParts, ImportParts, DataParts, custom_parts, all_export_parts, all_import_parts, all_data_parts}
 
--- what a section holds
+-- A section with its content.
 pub data ModuleSectionParts : Type 0 where
   custom : CustomParts → ModuleSectionParts
   types : List TypeEntry → ModuleSectionParts
@@ -28,7 +28,7 @@ pub data ModuleSectionParts : Type 0 where
   data_count : ℕ → ModuleSectionParts
   tags : List TagType → ModuleSectionParts
 
--- what a section holds, where it borrows from bytes
+-- The section with its content, without the borrows from the input.
 abbrev pub module_section_parts : ModuleSection → ModuleSectionParts
 module_section_parts (sections.Custom section) = custom (custom_parts section)
 module_section_parts (sections.Types entries) = types entries
@@ -45,5 +45,6 @@ module_section_parts (sections.Data segments) = data_segments (all_data_parts se
 module_section_parts (sections.DataCount count) = data_count count
 module_section_parts (sections.Tags entries) = tags entries
 
+-- The sections with their content, without the borrows from the input.
 abbrev pub all_module_section_parts : List ModuleSection → List ModuleSectionParts
 all_module_section_parts = map module_section_parts

@@ -1,4 +1,4 @@
--- Sections with what they hold, and modules of such sections (WebAssembly Core 3.0, Modules).
+-- Sections with their content, and modules of such sections (WebAssembly Core 3.0, Modules).
 use Rattle.std.specs.Prelude.{List}
 use Rattle.wasm_codec.specs.formats.Bodies.{sized}
 use Rattle.wasm_codec.specs.formats.Grammar.{Grammar}
@@ -10,6 +10,7 @@ use Rattle.wasm_modules.specs.formats.Modules.{module_of}
 use Rattle.wasm_sections.specs.formats.Sections.{custom_body, import_body, function_body, table_body, memory_body, global_body, export_body, start_body, element_body, data_body, data_count_body, tag_body}
 use Rattle.wasm_sections.specs.SectionParts.{section_id, custom_part, type_entries_part, imports_part, function_indexes_part, tables_part, memories_part, globals_part, exports_part, start_part, elements_part, code_part, data_segments_part, data_count_part, tags_part}
 
+-- A section with its content: its id, its size and its body.
 -- section_N(X) ::= N:byte len:u32 x:X ⇒ x (if len = ||X||), for each N and X of the standard
 unfoldable pub module_section : Format ModuleSectionParts
 module_section = any_of
@@ -29,11 +30,12 @@ module_section = any_of
     (tagged section_id 13 (made tags tags_part (sized tag_body))
     no_other))))))))))))))
 
--- module ::= magic version section*, with nothing left over. That each section but the custom ones comes once at most, in
--- the standard's order, and that counts agree, is asked of the list, not here.
+-- A module whose sections are all decoded.
+-- module ::= magic version section*, with nothing left over. Here sections may have any order and number, and counts
+-- needn't agree.
 abbrev pub whole_module : Format (List ModuleSectionParts)
 whole_module = module_of module_section
 
--- the same, with each section in its shortest encoding
+-- The bytes encode these sections, each of them minimally.
 abbrev pub ShortestWholeModule : Grammar (List ModuleSectionParts)
 ShortestWholeModule = (module_of (narrow module_section)).Encodes

@@ -8,9 +8,11 @@ use Rattle.wasm_sections.specs.formats.EntryParts.{DataParts}
 use Rattle.wasm_sections.specs.formats.Parts.{numbered}
 use Rattle.wasm_sections.specs.formats.Expressions.{expr}
 
+-- The active data segment for this memory, with this offset and these bytes.
 abbrev pub active_data : ℕ → List Instruction × List ℕ → DataParts
 active_data memory p = record { mode = data_modes.Active memory p.0; data_bytes = p.1 }
 
+-- The passive data segment with these bytes.
 abbrev pub passive_data : List ℕ → DataParts
 passive_data bytes = record { mode = data_modes.Passive; data_bytes = bytes }
 
@@ -23,15 +25,18 @@ any_data_part d = elim d.mode [ data_modes.Active memory offset ↦ Some (memory
 abbrev pub passive_data_part : DataParts → Option (List ℕ)
 passive_data_part d = elim d.mode [ data_modes.Active memory offset ↦ None | data_modes.Passive ↦ Some d.data_bytes ]
 
+-- The number of the form that a data segment is written in.
 abbrev pub data_number : DataParts → ℕ
 data_number d = elim d.mode [ data_modes.Active memory offset ↦ if memory == 0 then 0 else 2 | data_modes.Passive ↦ 1 ]
 
+-- A data segment in the form of this number, without the number.
 abbrev pub data_form : ℕ → Format DataParts
 data_form zero = made (active_data 0) first_data_part (expr ⊗ byte_list)
 data_form (suc zero) = made passive_data passive_data_part byte_list
 data_form (suc (suc zero)) = made (λ p. active_data p.0 p.1) any_data_part (u32 ⊗ (expr ⊗ byte_list))
 data_form n = never
 
+-- A data segment.
 -- data ::= 0:u32 e:expr b*:list(byte) ⇒ data b* (active 0 e) | 1:u32 b*:list(byte) ⇒ data b* passive
 --       |  2:u32 x:memidx e:expr b*:list(byte) ⇒ data b* (active x e)
 -- The third is a long form for memory 0.

@@ -1,4 +1,4 @@
-//! Custom sections, written (Core 3.0, Custom Section).
+//! `Encode` for custom sections (Core 3.0, Custom Section).
 ghost use Rattle.std.specs.Prelude.{◌≡◌, ◌++◌, OnOk, IfOk, IfErr, length, take};
 ghost use Rattle.wasm_codec.specs.Encoding.{byte_list_bytes, IsCount, IsCountRefusal, IsRefusal, IsShortest, IsTooLong, OnlyTooLong};
 ghost use Rattle.wasm_sections.specs.formats.EntryParts.{custom_parts};
@@ -14,9 +14,9 @@ use wasm_codec::encode::keep_or_undo;
 use wasm_codec::encode::leb128::u32_len;
 use wasm_writers::encode::{Encode, EncodeError};
 
-/// The size of the body, the name, and the bytes (Core 3.0, Custom Section).
+/// The size of the body in bytes, the name and the contents (Core 3.0, Custom Section).
 ///
-/// `TooLong` where the body has more than 4,294,967,295 bytes, as with a name of so many.
+/// Fails with `TooLong` if the body is longer than 4,294,967,295 bytes.
 impl<'a> Encode for CustomSection<'a> {
     ghost bytes = { λ section. byte_list_bytes (custom_body.bytes (custom_parts section)) };
 
@@ -34,7 +34,7 @@ impl<'a> Encode for CustomSection<'a> {
     }
 }
 
-/// Appends the size and the body of a custom section. An `Err` can leave a part of them.
+/// Appends the size and the body of a custom section. On error a part of them may remain.
 fn append_custom<A: Allocator>(
     section: &CustomSection<'_>,
     sink: &mut Vec<u8, A>,
@@ -51,7 +51,8 @@ fn append_custom<A: Allocator>(
     append_body(section, sink)
 }
 
-/// How many bytes the body of a custom section has.
+/// Returns the length of the body of a custom section, in bytes. Fails with `TooLong` if the name is longer than
+/// 4,294,967,295 bytes.
 fn body_len(section: &CustomSection<'_>) -> Result<usize, EncodeError>
     ensures ok { IfOk result (λ size. size ≡ length (custom_body.bytes (custom_parts section.now))) }
     ensures err { IfErr result (IsTooLong (length section.now.name.now)) }
@@ -62,7 +63,7 @@ fn body_len(section: &CustomSection<'_>) -> Result<usize, EncodeError>
     Ok(u32_len(name_len) + section.name.len() + section.bytes.len())
 }
 
-/// Appends the body of a custom section. An `Err` can leave a part of it.
+/// Appends the body of a custom section. On error a part of it may remain.
 fn append_body<A: Allocator>(
     section: &CustomSection<'_>,
     sink: &mut Vec<u8, A>,

@@ -1,4 +1,4 @@
-//! Exports and imports, written (Core 3.0, Import Section and Export Section).
+//! `Encode` for imports and exports (Core 3.0, Import Section and Export Section).
 ghost use Rattle.std.specs.Prelude.{◌≡◌, ◌++◌, true, OnOk, IfErr, length, take};
 ghost use Rattle.std.specs.Str.{is_utf8};
 ghost use Rattle.wasm_codec.specs.Encoding.{IsCount, IsCountRefusal, IsRefusal, IsShortest, OnlyTooLong};
@@ -16,7 +16,7 @@ use wasm_codec::encode::leb128::put_u32;
 use wasm_codec::reader::cursor::Cursor;
 use wasm_writers::encode::{Encode, EncodeError, encode_str};
 
-/// Appends a name, or nothing.
+/// Appends a name. Appends nothing if it fails.
 #[tactic(auto, using(crate::proofs::EntryWriting::name_written), unfolding(crate::specs::formats::Names::name))]
 pub(super) fn append_name<A: Allocator>(
     text: &str,
@@ -32,17 +32,17 @@ pub(super) fn append_name<A: Allocator>(
     encode_str(text, sink)
 }
 
-/// A text is UTF-8, and bytes. The call does nothing.
+/// Proves that a text is valid UTF-8 and consists of bytes. Does nothing at run time.
 #[tactic(auto, using(crate::proofs::EntryWriting::utf8_test))]
 fn are_utf8(text: &str)
     ensures utf8 { is_utf8 text.now ≡ true }
     ensures bytes { IsBytes text.now }
 {
-    // What is known of a cursor's bytes is known of the text.
+    // `fork` shows the proof that the items are bytes.
     let _start = Cursor::new(text.as_bytes()).fork();
 }
 
-/// Appends an export. An `Err` can leave a part of it.
+/// Appends an export. On error a part of it may remain.
 fn append_export<A: Allocator>(
     export: &Export<'_>,
     sink: &mut Vec<u8, A>,
@@ -60,9 +60,9 @@ fn append_export<A: Allocator>(
     Ok(())
 }
 
-/// The name, the byte of the kind, and the index (Core 3.0, Export Section).
+/// The name, the byte of the kind and the index (Core 3.0, Export Section).
 ///
-/// `TooLong` where the name has more than 4,294,967,295 bytes.
+/// Fails with `TooLong` if the name is longer than 4,294,967,295 bytes.
 impl<'a> Encode for Export<'a> {
     ghost bytes = { λ export. export_entry.bytes (export_parts export) };
 
@@ -79,7 +79,7 @@ impl<'a> Encode for Export<'a> {
     }
 }
 
-/// Appends an import. An `Err` can leave a part of it.
+/// Appends an import. On error a part of it may remain.
 fn append_import<A: Allocator>(
     import: &Import<'_>,
     sink: &mut Vec<u8, A>,
@@ -97,9 +97,9 @@ fn append_import<A: Allocator>(
     Ok(())
 }
 
-/// The name of the module, the name in it, and the type (Core 3.0, Import Section).
+/// The module name, the item name and the type (Core 3.0, Import Section).
 ///
-/// `TooLong` where a name has more than 4,294,967,295 bytes.
+/// Fails with `TooLong` if a name is longer than 4,294,967,295 bytes.
 impl<'a> Encode for Import<'a> {
     ghost bytes = { λ import. import_entry.bytes (import_parts import) };
 

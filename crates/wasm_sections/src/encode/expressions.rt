@@ -1,4 +1,4 @@
-//! Expressions, and the globals and tables that hold them, written (Core 3.0, Expressions).
+//! `Encode` for globals and tables, and writing of expressions (Core 3.0, Expressions).
 ghost use Rattle.std.specs.Prelude.{◌≡◌, ◌++◌, OnOk, OnErr, IfErr, length, take};
 ghost use Rattle.wasm_codec.specs.Encoding.{IsRefusal, IsShortest, OnlyTooLong};
 ghost use Rattle.wasm_sections.specs.Closed.{IsClosed, IsClosedGlobal, IsClosedTable, IsCountedExpr, IsCountedGlobal, IsCountedTable};
@@ -14,16 +14,16 @@ use wasm_codec::encode::keep_or_undo;
 use wasm_instructions::table::Call;
 use wasm_writers::encode::{Encode, EncodeError};
 
-/// Appends the instructions of an expression and its end, or nothing.
+/// Appends the instructions of an expression and the final `end`. Appends nothing if it fails.
 ///
-/// `TooLong` where a list in an instruction has more than 4,294,967,295 items.
+/// Fails with `TooLong` if a list in an instruction has more than 4,294,967,295 items.
 pub(crate) fn encode_expr<A: Allocator>(
     calls: &[Call],
     sink: &mut Vec<u8, A>,
 ) -> Result<(), EncodeError>
     ensures ok { OnOk result (sink.new.items ≡ sink.old.items ++ expr.bytes calls.now) }
     ensures can { OnOk result (IsCountedExpr calls.now) }
-    // Where each block is closed, every other encoding of the expression is longer.
+    // If every block is closed, every other encoding of the expression is longer.
     ensures written { OnOk result (IsClosed calls.now → IsShortest expr.Encodes expr.bytes calls.now) }
     ensures refused { IfErr result (IsRefusal IsCountedExpr OnlyTooLong calls.now) }
     ensures err { OnErr result (sink.new.items ≡ sink.old.items) }
@@ -33,7 +33,7 @@ pub(crate) fn encode_expr<A: Allocator>(
     keep_or_undo(sink, start, result)
 }
 
-/// Appends the instructions of an expression and its end. An `Err` can leave the instructions.
+/// Appends the instructions of an expression and the final `end`. On error some of them may remain.
 fn append_expr<A: Allocator>(calls: &[Call], sink: &mut Vec<u8, A>) -> Result<(), EncodeError>
     ensures ok { OnOk result (sink.new.items ≡ sink.old.items ++ expr.bytes calls.now) }
     ensures can { OnOk result (IsCountedExpr calls.now) }
@@ -47,7 +47,7 @@ fn append_expr<A: Allocator>(calls: &[Call], sink: &mut Vec<u8, A>) -> Result<()
     Ok(())
 }
 
-/// Appends a global. An `Err` can leave a part of it.
+/// Appends a global. On error a part of it may remain.
 fn append_global<A: Allocator>(global: &Global, sink: &mut Vec<u8, A>) -> Result<(), EncodeError>
     ensures ok { OnOk result (sink.new.items ≡ sink.old.items ++ global_entry.bytes global.now) }
     ensures can { OnOk result (IsCountedGlobal global.now) }
@@ -60,9 +60,9 @@ fn append_global<A: Allocator>(global: &Global, sink: &mut Vec<u8, A>) -> Result
     encode_expr(global.init.as_slice(), sink)
 }
 
-/// The type, and the expression that makes the value (Core 3.0, Global Section).
+/// The type and the initial expression (Core 3.0, Global Section).
 ///
-/// `TooLong` where a list in an instruction has more than 4,294,967,295 items.
+/// Fails with `TooLong` if a list in an instruction has more than 4,294,967,295 items.
 impl Encode for Global {
     ghost bytes = { global_entry.bytes };
 
@@ -79,7 +79,7 @@ impl Encode for Global {
     }
 }
 
-/// Appends a table. An `Err` can leave a part of it.
+/// Appends a table. On error a part of it may remain.
 fn append_table<A: Allocator>(table: &Table, sink: &mut Vec<u8, A>) -> Result<(), EncodeError>
     ensures ok { OnOk result (sink.new.items ≡ sink.old.items ++ table_entry.bytes table.now) }
     ensures can { OnOk result (IsCountedTable table.now) }
@@ -99,10 +99,9 @@ fn append_table<A: Allocator>(table: &Table, sink: &mut Vec<u8, A>) -> Result<()
     encode_expr(init.as_slice(), sink)
 }
 
-/// The type; or, where a value is told, the bytes 0x40 and 0x00, the type, and the expression that makes the value (Core
-/// 3.0, Table Section).
+/// The type. With an initial expression: `0x40`, `0x00`, the type and the expression (Core 3.0, Table Section).
 ///
-/// `TooLong` where a list in an instruction has more than 4,294,967,295 items.
+/// Fails with `TooLong` if a list in an instruction has more than 4,294,967,295 items.
 impl Encode for Table {
     ghost bytes = { table_entry.bytes };
 

@@ -1,4 +1,4 @@
-//! Data segments and element segments, written (Core 3.0, Data Section and Element Section).
+//! `Encode` for data segments and element segments (Core 3.0, Data Section and Element Section).
 ghost use Rattle.std.specs.Prelude.{◌≡◌, ◌++◌, ◌⊎◌, OnOk, OnErr, IfErr, IfSome, length, take};
 ghost use Rattle.std.specs.List.{All, Any, flat_map};
 ghost use Rattle.wasm_codec.specs.Leb128.{unsigned_leb128};
@@ -27,8 +27,8 @@ use wasm_instructions::table::Call;
 use wasm_types::encode::put_ref_type;
 use wasm_writers::encode::{Encode, EncodeError, encode_bytes, encode_list, encode_list_after};
 
-/// Appends the number of a form, the index of a memory or table where it is told, and the place in it. An `Err` can leave
-/// a part of them.
+/// Appends the number of a form, the memory or table index if the form has one, and the offset. On error a part of them
+/// may remain.
 fn append_place<A: Allocator>(
     form: u32,
     index: Option<u32>,
@@ -48,15 +48,15 @@ fn append_place<A: Allocator>(
     encode_expr(offset, sink)
 }
 
-/// They are bytes. The call does nothing.
+/// Proves that the items of a slice are bytes. Does nothing at run time.
 pub(super) fn are_bytes(bytes: &[u8])
     ensures { IsBytes bytes.now }
 {
-    // What is known of a cursor's bytes is known of these.
+    // `fork` shows the proof that the items are bytes.
     let _start = Cursor::new(bytes).fork();
 }
 
-/// Appends what stands before the bytes of a data segment. An `Err` can leave a part of it.
+/// Appends what precedes the contents of a data segment. On error a part of it may remain.
 fn append_data_mode<A: Allocator>(
     mode: &DataSegmentMode,
     sink: &mut Vec<u8, A>,
@@ -86,7 +86,7 @@ fn append_data_mode<A: Allocator>(
     }
 }
 
-/// Appends a data segment. An `Err` can leave a part of it.
+/// Appends a data segment. On error a part of it may remain.
 fn append_data_segment<A: Allocator>(
     segment: &DataSegment<'_>,
     sink: &mut Vec<u8, A>,
@@ -103,10 +103,11 @@ fn append_data_segment<A: Allocator>(
     encode_bytes(segment.bytes, sink)
 }
 
-/// The number of the form, the index of the memory where it isn't 0, and the place in it, of an active segment; and the
-/// bytes after their number (Core 3.0, Data Section).
+/// The number of the form, the memory index unless 0, the offset, and the contents after their length (Core 3.0, Data
+/// Section).
 ///
-/// `TooLong` where there are more than 4,294,967,295 bytes, or a list in an instruction is longer than that.
+/// Fails with `TooLong` if the contents have more than 4,294,967,295 bytes, or a list in an instruction more items than
+/// that.
 impl<'a> Encode for DataSegment<'a> {
     ghost bytes = { λ segment. data_segment.bytes (data_parts segment) };
 
@@ -123,14 +124,14 @@ impl<'a> Encode for DataSegment<'a> {
     }
 }
 
-/// Whether a form tells neither a table nor the kind or type of the elements.
+/// Returns whether a form has neither a table index nor the element kind or type.
 fn is_short(form: u32) -> bool
     ensures { result ≡ is_short form }
 {
     form == 0 || form == 4
 }
 
-/// Appends what stands before the elements of a segment in this form. An `Err` can leave a part of it.
+/// Appends what precedes the element kind or type of a segment in this form. On error a part of it may remain.
 fn append_element_mode<A: Allocator>(
     form: u32,
     mode: &ElementMode,
@@ -161,7 +162,7 @@ fn append_element_mode<A: Allocator>(
     }
 }
 
-/// Appends expressions, one after the other. An `Err` can leave a part of them.
+/// Appends expressions. On error a part of them may remain.
 fn append_each_expression<A: Allocator>(
     expressions: &[Items<Call>],
     sink: &mut Vec<u8, A>,
@@ -178,7 +179,7 @@ fn append_each_expression<A: Allocator>(
     Ok(())
 }
 
-/// Appends the number of expressions and each of them, or nothing.
+/// Appends the number of expressions and the expressions. Appends nothing if it fails.
 fn encode_expressions<A: Allocator>(
     expressions: &[Items<Call>],
     sink: &mut Vec<u8, A>,
@@ -194,7 +195,7 @@ fn encode_expressions<A: Allocator>(
     keep_or_undo(sink, start, result)
 }
 
-/// Appends the number of expressions and each of them. An `Err` can leave a part of them.
+/// Appends the number of expressions and the expressions. On error a part of them may remain.
 fn append_expressions<A: Allocator>(
     expressions: &[Items<Call>],
     sink: &mut Vec<u8, A>,
@@ -209,8 +210,8 @@ fn append_expressions<A: Allocator>(
     append_each_expression(expressions, sink)
 }
 
-/// Appends the elements of a segment, after their kind or type where the form isn't short. An `Err` can leave a part of
-/// them.
+/// Appends the elements of a segment, after their kind or type unless the form is short. On error a part of them may
+/// remain.
 fn append_elements<A: Allocator>(
     short: bool,
     elements: &Elements,
@@ -241,7 +242,7 @@ fn append_elements<A: Allocator>(
     }
 }
 
-/// Appends an element segment. An `Err` can leave a part of it.
+/// Appends an element segment. On error a part of it may remain.
 fn append_element<A: Allocator>(element: &Element, sink: &mut Vec<u8, A>) -> Result<(), EncodeError>
     ensures ok { OnOk result (sink.new.items ≡ sink.old.items ++ element_segment.bytes element.now) }
     ensures can { OnOk result (IsCountedElement element.now) }
@@ -255,11 +256,11 @@ fn append_element<A: Allocator>(element: &Element, sink: &mut Vec<u8, A>) -> Res
     append_elements(is_short(form), &element.elements, sink)
 }
 
-/// One of eight forms: its number; of an active segment the table and the place in it; the kind or type of the elements;
-/// and the elements (Core 3.0, Element Section). Table 0 isn't told with functions, or with expressions of `funcref`, nor
-/// is their kind or type then.
+/// The number of the form, the table index and offset, the element kind or type, and the elements (Core 3.0, Element
+/// Section). Form 0 and form 4 (both for table 0) omit the table index and the kind or type.
 ///
-/// `TooLong` where there are more than 4,294,967,295 elements, or a list in an instruction is longer than that.
+/// Fails with `TooLong` if there are more than 4,294,967,295 elements, or a list in an instruction has more items than
+/// that.
 impl Encode for Element {
     ghost bytes = { element_segment.bytes };
 

@@ -1,4 +1,4 @@
-//! The types of what is imported and exported, written (Core 3.0, External Types).
+//! `Encode` for the types of imports and exports (Core 3.0, External Types).
 ghost use Rattle.std.specs.Prelude.{◌≡◌, ◌++◌, ◌+◌, ◌≤◌, ◌∷◌, [], Some, IfSome, is_some, vec_len, vec_capacity};
 ghost use Rattle.wasm_codec.specs.Encoding.{IsShortest};
 ghost use Rattle.wasm_codec.specs.Leb128.{unsigned_leb128};
@@ -13,7 +13,8 @@ use wasm_codec::encode::leb128::{put_u32, put_u64};
 use wasm_types::encode::{put_ref_type, put_val_type};
 use wasm_writers::encode::{Encode, EncodeError};
 
-/// The byte of limits: whether there is a maximum, they are shared, and addresses have 64 bits.
+/// Returns the flags byte of limits: whether there is a maximum, whether they are shared, whether addresses have 64
+/// bits.
 fn limits_byte(has_maximum: bool, shared: bool, wide: bool) -> u8
     ensures { flags_byte (has_maximum, (shared, wide)) ≡ Some result }
 {
@@ -29,7 +30,7 @@ fn limits_byte(has_maximum: bool, shared: bool, wide: bool) -> u8
     }
 }
 
-/// The same for a memory, which may tell the size of a page.
+/// Returns the flags byte of a memory's limits, with one flag more for the page size.
 #[tactic(auto, using(crate::proofs::TypeWriting::paged_is))]
 fn memory_byte(has_maximum: bool, shared: bool, wide: bool, paged: bool) -> u8
     ensures { paged_byte ((has_maximum, (shared, wide)), paged) ≡ Some result }
@@ -38,7 +39,7 @@ fn memory_byte(has_maximum: bool, shared: bool, wide: bool, paged: bool) -> u8
     if paged { limits + 8 } else { limits }
 }
 
-/// A u64, where there is one, in at most 10 bytes.
+/// Appends a u64, if present, in at most 10 bytes.
 #[tactic(auto, unfolding(crate::specs::formats::Parts::part_if))]
 fn put_u64_if<A: Allocator>(bytes: &mut Vec<u8, A>, value: Option<u64>)
     requires { vec_len bytes.old + 10 ≤ vec_capacity bytes.old }
@@ -52,7 +53,7 @@ fn put_u64_if<A: Allocator>(bytes: &mut Vec<u8, A>, value: Option<u64>)
     }
 }
 
-/// A u32, where there is one, in at most 5 bytes.
+/// Appends a u32, if present, in at most 5 bytes.
 #[tactic(auto, unfolding(crate::specs::formats::Parts::part_if))]
 pub(crate) fn put_u32_if<A: Allocator>(bytes: &mut Vec<u8, A>, value: Option<u32>)
     requires { vec_len bytes.old + 5 ≤ vec_capacity bytes.old }
@@ -66,7 +67,7 @@ pub(crate) fn put_u32_if<A: Allocator>(bytes: &mut Vec<u8, A>, value: Option<u32
     }
 }
 
-/// Writes the type of a memory in 2 to 26 bytes.
+/// Appends a memory type in 2 to 26 bytes.
 pub(crate) fn put_memory_type<A: Allocator>(bytes: &mut Vec<u8, A>, ty: &MemoryType)
     requires { vec_len bytes.old + 26 ≤ vec_capacity bytes.old }
     ensures items { bytes.new.items ≡ bytes.old.items ++ memory_type.bytes ty.now }
@@ -83,7 +84,7 @@ pub(crate) fn put_memory_type<A: Allocator>(bytes: &mut Vec<u8, A>, ty: &MemoryT
     put_u32_if(bytes, ty.page_size_log2);
 }
 
-/// Writes the type of a table in 3 to 28 bytes.
+/// Appends a table type in 3 to 28 bytes.
 pub(crate) fn put_table_type<A: Allocator>(bytes: &mut Vec<u8, A>, ty: &TableType)
     requires { vec_len bytes.old + 28 ≤ vec_capacity bytes.old }
     ensures items { bytes.new.items ≡ bytes.old.items ++ table_type.bytes ty.now }
@@ -95,7 +96,7 @@ pub(crate) fn put_table_type<A: Allocator>(bytes: &mut Vec<u8, A>, ty: &TableTyp
     put_u64_if(bytes, ty.maximum);
 }
 
-/// The byte that tells whether a global can be written, and whether it is shared.
+/// Returns the flags byte of a global: whether it is mutable, whether it is shared.
 fn mutability_byte(mutable: bool, shared: bool) -> u8
     ensures { global_byte (mutable, shared) ≡ Some result }
 {
@@ -107,7 +108,7 @@ fn mutability_byte(mutable: bool, shared: bool) -> u8
     }
 }
 
-/// Writes the type of a global in 2 to 8 bytes.
+/// Appends a global type in 2 to 8 bytes.
 #[tactic(auto, using(crate::proofs::TypeWriting::global_put, crate::proofs::TypeWriting::global_written))]
 pub(crate) fn put_global_type<A: Allocator>(bytes: &mut Vec<u8, A>, ty: GlobalType)
     requires { vec_len bytes.old + 8 ≤ vec_capacity bytes.old }
@@ -118,7 +119,7 @@ pub(crate) fn put_global_type<A: Allocator>(bytes: &mut Vec<u8, A>, ty: GlobalTy
     bytes.push_reserved(mutability_byte(ty.mutable, ty.shared));
 }
 
-/// Writes the type of a tag in 2 to 6 bytes.
+/// Appends a tag type in 2 to 6 bytes.
 #[tactic(auto, using(crate::proofs::TypeWriting::tag_put, crate::proofs::TypeWriting::tag_written))]
 pub(crate) fn put_tag_type<A: Allocator>(bytes: &mut Vec<u8, A>, ty: TagType)
     requires { vec_len bytes.old + 6 ≤ vec_capacity bytes.old }
@@ -129,7 +130,7 @@ pub(crate) fn put_tag_type<A: Allocator>(bytes: &mut Vec<u8, A>, ty: TagType)
     put_u32(bytes, ty.func_type_idx);
 }
 
-/// A byte of flags, the minimum, the maximum, and the size of a page, where they are told (Core 3.0, Memory Types).
+/// The flags, the minimum, then the maximum and the page size if present (Core 3.0, Memory Types).
 impl Encode for MemoryType {
     ghost bytes = { memory_type.bytes };
 
@@ -142,7 +143,7 @@ impl Encode for MemoryType {
     }
 }
 
-/// The type of the elements, a byte of flags, the minimum, and the maximum, where it is told (Core 3.0, Table Types).
+/// The element type, the flags, the minimum, then the maximum if present (Core 3.0, Table Types).
 impl Encode for TableType {
     ghost bytes = { table_type.bytes };
 
@@ -155,7 +156,7 @@ impl Encode for TableType {
     }
 }
 
-/// The type of the value, and a byte of flags (Core 3.0, Global Types).
+/// The value type and the flags (Core 3.0, Global Types).
 impl Encode for GlobalType {
     ghost bytes = { global_type.bytes };
 
@@ -168,7 +169,7 @@ impl Encode for GlobalType {
     }
 }
 
-/// A zero byte, and the index of the function type (Core 3.0, Tag Types).
+/// A zero byte and the index of the function type (Core 3.0, Tag Types).
 impl Encode for TagType {
     ghost bytes = { tag_type.bytes };
 
@@ -181,7 +182,7 @@ impl Encode for TagType {
     }
 }
 
-/// Writes the type of what is imported in 2 to 29 bytes.
+/// Appends the type of an import in 2 to 29 bytes.
 pub(crate) fn put_entity_type<A: Allocator>(bytes: &mut Vec<u8, A>, ty: &EntityType)
     requires { vec_len bytes.old + 29 ≤ vec_capacity bytes.old }
     ensures items { bytes.new.items ≡ bytes.old.items ++ entity_type.bytes ty.now }
@@ -215,7 +216,7 @@ pub(crate) fn put_entity_type<A: Allocator>(bytes: &mut Vec<u8, A>, ty: &EntityT
     }
 }
 
-/// The byte of its kind, and what it is (Core 3.0, External Types).
+/// The byte of the kind and the type (Core 3.0, External Types).
 impl Encode for EntityType {
     ghost bytes = { entity_type.bytes };
 
@@ -228,7 +229,7 @@ impl Encode for EntityType {
     }
 }
 
-/// The byte of what is exported.
+/// Returns the byte of an export's kind.
 #[tactic(auto, unfolding(crate::specs::formats::Externals::export_kind))]
 pub(crate) fn kind_byte(kind: ExportKind) -> u8
     ensures { export_kind.bytes kind ≡ result ∷ [] }

@@ -1,4 +1,4 @@
-//! Whether sections make a module: their order, and counts that must agree (Core 3.0, Modules).
+//! The order of sections, and counts that must agree (Core 3.0, Modules).
 ghost use Rattle.std.specs.Prelude.{◌≡◌, OnOk, IfErr};
 ghost use Rattle.wasm_sections.specs.formats.ModuleSectionParts.{module_section_parts, all_module_section_parts};
 ghost use Rattle.wasm_sections.specs.ModuleOrder.{rank, AreInOrder, DataCountsAre, function_count, body_count, segment_count, IsModule, IsWhyNot};
@@ -6,41 +6,52 @@ ghost use Rattle.wasm_sections.specs.ModuleOrder.{rank, AreInOrder, DataCountsAr
 use super::ModuleSection;
 use thiserror::Error;
 
-/// Why sections make no module.
+/// An error of `check_order`.
 #[derive(Debug, PartialEq, Eq, Drop, Error)]
 pub enum ModuleError {
-    /// A section that isn't custom stands after one that it must come before, or a second time.
+    /// A section other than a custom one comes after a section that it must precede, or a second time.
     #[error("section {index} is out of order")]
     OutOfOrder {
-        /// The place of the first such section in the list, from 0 on.
+        /// Position in the list of the first such section, from 0.
         index: usize,
     },
-    /// There aren't as many code bodies as functions.
+    /// The function section and the code section have different lengths.
     #[error("{functions} functions, {bodies} code bodies")]
     FunctionCount {
-        /// How many functions the function section has.
+        /// Number of functions in the function section.
         functions: usize,
-        /// How many bodies the code section has.
+        /// Number of bodies in the code section.
         bodies: usize,
     },
-    /// The data count section tells another number than that of the data segments.
+    /// The data count section differs from the number of data segments.
     #[error("{told} data segments are told, {segments} are there")]
     DataCount {
-        /// The number in the data count section.
+        /// Number in the data count section.
         told: u32,
-        /// How many segments the data section has.
+        /// Number of segments in the data section.
         segments: usize,
     },
 }
 
-/// Tests what a module asks of its sections besides that each can be decoded (Core 3.0, Modules): that all but custom
-/// sections come once at most, in the standard's order (types, imports, functions, tables, memories, tags, globals, exports,
-/// start, elements, data count, code, data); that there are as many code bodies as functions; and that a data count is that
-/// of the data segments.
+/// Checks the order of sections and the counts that must agree (Core 3.0, Modules).
+///
+/// The standard's order is: types, imports, functions, tables, memories, tags, globals, exports, start, elements, data
+/// count, code, data. Each may come once; custom sections may come anywhere. Fails with `OutOfOrder` if the sections
+/// break that order. Fails with `FunctionCount` unless there are as many code bodies as functions. Fails with
+/// `DataCount` if a data count section differs from the number of data segments.
+///
+/// # Examples
+///
+/// ```
+/// # use wasm_encoder::sections::ModuleError;
+/// # use wasm_encoder::{ModuleSection, check_order};
+/// let sections = [ModuleSection::DataCount(0), ModuleSection::Start(0)];
+/// assert_eq!(rt; check_order(&sections), Err(ModuleError::OutOfOrder { index: 1 }));
+/// ```
 pub fn check_order(sections: &[ModuleSection<'_>]) -> Result<(), ModuleError>
-    // The sections make a module.
+    // If it succeeds, the sections are in order and the counts agree.
     ensures ok { OnOk result (IsModule (all_module_section_parts sections.now)) }
-    // The error tells why they don't.
+    // The error names a rule that the sections break.
     ensures why { IfErr result (IsWhyNot (all_module_section_parts sections.now)) }
 {
     check_ranks(sections)?;
@@ -52,7 +63,8 @@ pub fn check_order(sections: &[ModuleSection<'_>]) -> Result<(), ModuleError>
     check_data_count(sections, count_segments(sections))
 }
 
-/// The place of a section among those of a module, from 1 on, or 0 for a custom section, which comes anywhere.
+/// Returns the position of a section in the standard's order, from 1. Returns 0 for a custom section, which may come
+/// anywhere.
 fn rank(section: &ModuleSection<'_>) -> u8
     ensures { result ≡ rank (module_section_parts section.now) }
 {
@@ -74,7 +86,7 @@ fn rank(section: &ModuleSection<'_>) -> u8
     }
 }
 
-/// Whether the sections come in order.
+/// Checks the order of the sections.
 fn check_ranks(sections: &[ModuleSection<'_>]) -> Result<(), ModuleError>
     ensures ok { OnOk result (AreInOrder 0 (all_module_section_parts sections.now)) }
     ensures why { IfErr result (IsWhyNot (all_module_section_parts sections.now)) }
@@ -92,7 +104,7 @@ fn check_ranks(sections: &[ModuleSection<'_>]) -> Result<(), ModuleError>
     Ok(())
 }
 
-/// How many functions the first function section has.
+/// Returns the number of functions in the first function section, or 0.
 fn count_functions(sections: &[ModuleSection<'_>]) -> usize
     ensures { result ≡ function_count (all_module_section_parts sections.now) }
 {
@@ -104,7 +116,7 @@ fn count_functions(sections: &[ModuleSection<'_>]) -> usize
     0
 }
 
-/// How many bodies the first code section has.
+/// Returns the number of bodies in the first code section, or 0.
 fn count_bodies(sections: &[ModuleSection<'_>]) -> usize
     ensures { result ≡ body_count (all_module_section_parts sections.now) }
 {
@@ -116,7 +128,7 @@ fn count_bodies(sections: &[ModuleSection<'_>]) -> usize
     0
 }
 
-/// How many segments the first data section has.
+/// Returns the number of segments in the first data section, or 0.
 fn count_segments(sections: &[ModuleSection<'_>]) -> usize
     ensures { result ≡ segment_count (all_module_section_parts sections.now) }
 {
@@ -128,7 +140,7 @@ fn count_segments(sections: &[ModuleSection<'_>]) -> usize
     0
 }
 
-/// Whether each data count is this number.
+/// Checks that every data count section says `segments`.
 fn check_data_count(sections: &[ModuleSection<'_>], segments: usize) -> Result<(), ModuleError>
     requires { segments ≡ segment_count (all_module_section_parts sections.now) }
     ensures ok { OnOk result (DataCountsAre segments (all_module_section_parts sections.now)) }

@@ -1,4 +1,4 @@
-//! Where the body of a section can't be decoded, and how many of its items aren't in their shortest encoding.
+//! Places of malformed items in section bodies, and counts of items that aren't minimally encoded.
 ghost use Rattle.std.specs.Prelude.{ℕ, List, ◌<◌, length, IfOk, IfSome, IfNone};
 ghost use Rattle.wasm_codec.specs.Answers.{EncodesSome, IsLongestPrefix};
 ghost use Rattle.wasm_codec.specs.Lists.{EncodesList};
@@ -23,49 +23,51 @@ use wasm_modules::code::CodeBody;
 use wasm_types::normaliser::rewrite_val_type;
 use wasm_types::types::TypeEntry;
 
-/// The first item of a list that isn't whole, or what is left over after the last.
+/// The place of the first malformed item of a list, or of the trailing bytes.
 #[derive(Clone, Copy, Debug, PartialEq, Eq)]
 pub struct ItemPlace {
-    /// How many items the list counts.
+    /// Number of items that the list announces. 0 if this number is malformed.
     pub count: u32,
-    /// How many of them come before it.
+    /// Index of the malformed item, from 0. Equal to `count` if all items decode and trailing bytes follow.
     pub index: u32,
-    /// How many bytes of the body come before it; 0 where the count of the items isn't there.
+    /// Offset in bytes from the start of the body. 0 if the count is malformed.
     pub at: usize,
 }
 
-/// How many items a list has, and how many of them aren't in their shortest encoding.
+/// The number of items in a list, and how many aren't minimally encoded.
 #[derive(Clone, Copy, Debug, PartialEq, Eq)]
 pub struct ItemCounts {
-    /// How many items the list has.
+    /// Number of items.
     pub count: u32,
-    /// How many of them have more bytes than their shortest encoding.
+    /// Number of items that are longer than their minimal encoding.
     pub longer: u32,
 }
 
-/// Where the code of a function can't be decoded.
+/// The place of the first malformed part of a function's code.
 #[derive(Clone, Copy, Debug, PartialEq, Eq)]
 pub enum CodePlace {
-    /// In its locals: at a group of them, or at the number of the groups.
+    /// A group of locals, or the number of groups.
     Locals(ItemPlace),
-    /// In its instructions.
+    /// An instruction.
     Instruction {
-        /// How many bytes of the code come before the instruction.
+        /// Offset in bytes from the start of the code.
         at: usize,
     },
 }
 
-/// Where the body of a section with this id can't be decoded. There is no such place in a body that can be, nor is one told
-/// of sections that aren't lists.
+/// Locates the first malformed item in the body of the section with this id.
+///
+/// `None` means that the body decodes, or that the section isn't a list. Fails with `AllocError` if an allocation
+/// fails.
 pub fn first_broken_item(
     alloc: Global,
     id: u8,
     body: &[u8],
 ) -> Result<Option<ItemPlace>, AllocError>
-    // The items before the place are whole, no more of the body is, and it encodes no list of what such a section holds.
+    // `at` is the length of the longest well-formed prefix, and the body encodes no list.
     ensures stops { IfOk result (λ place. IfSome place (λ place.
         OfItems (λ V F. StopsAtItem F body.now place.count place.index place.at) id)) }
-    // Of a section that holds a list, `None` is answered only where the body encodes one.
+    // If the section is a list, `None` means that the body encodes one.
     ensures whole { IfOk result (λ place. IfNone place (HoldsItems id →
         OfItems (λ V F. EncodesSome (EncodesList F.Encodes) body.now) id)) }
 {
@@ -75,17 +77,19 @@ pub fn first_broken_item(
     }
 }
 
-/// How many items the body of a section with this id has, and how many of them aren't in their shortest encoding. It isn't told
-/// of a body that can't be decoded, nor of sections that aren't lists.
+/// Counts the items in the body of the section with this id, and those that aren't minimally encoded.
+///
+/// `None` means that the body is malformed, or that the section isn't a list. Fails with `AllocError` if an allocation
+/// fails.
 pub fn count_longer_items(
     alloc: Global,
     id: u8,
     body: &[u8],
 ) -> Result<Option<ItemCounts>, AllocError>
-    // The body is a list of so many items of such a section, of which so many are longer than their shortest encoding.
+    // The body is a list of `count` items, of which `longer` are longer than their minimal encoding.
     ensures counts { IfOk result (λ counts. IfSome counts (λ counts.
         OfItems (λ V F. CountsLonger F body.now counts.count counts.longer) id)) }
-    // Of a section that holds a list, `None` is answered only where the body encodes none.
+    // If the section is a list, `None` means that the body encodes none.
     ensures refused { IfOk result (λ counts. IfNone counts (HoldsItems id →
         OfItems (λ V F. EncodesSome (EncodesList F.Encodes) body.now → ⊥) id)) }
 {
@@ -95,7 +99,8 @@ pub fn count_longer_items(
     }
 }
 
-/// What is told of the items in the body of a section with this id; nothing of sections that aren't lists.
+/// Counts the items in the body of the section with this id, or locates the malformed one. `None` means that the
+/// section isn't a list.
 fn look_over(id: u8, body: Vec<u8>) -> Option<Result<ItemCounts, ItemPlace>>
     ensures tells { IfSome result (λ told. OfItems (λ V F. Tells F body.items told) id) }
     ensures no_list { IfNone result (HoldsItems id → ⊥) }
@@ -116,7 +121,7 @@ fn look_over(id: u8, body: Vec<u8>) -> Option<Result<ItemCounts, ItemPlace>>
     }
 }
 
-/// How many items a list has, and how many of them aren't in their shortest encoding; or where it can't be decoded.
+/// Counts the items of a list and those that aren't minimally encoded, or locates the malformed one.
 fn look_over_list<T: Rewritable>(body: Vec<u8>) -> Result<ItemCounts, ItemPlace>
     ensures { Tells T.format body.items result }
 {
@@ -156,12 +161,14 @@ fn look_over_list<T: Rewritable>(body: Vec<u8>) -> Result<ItemCounts, ItemPlace>
     Ok(ItemCounts { count, longer })
 }
 
-/// Where the code of a function can't be decoded: its locals and its instructions, which are what follows its size in a code
-/// section (Core 3.0, Code Section). There is no such place in code that can be.
+/// Locates the first malformed part of a function's code: the locals and instructions after its size (Core 3.0, Code
+/// Section).
+///
+/// `None` means that the code decodes. Fails with `AllocError` if an allocation fails.
 pub fn first_broken_part(alloc: Global, code: &[u8]) -> Result<Option<CodePlace>, AllocError>
-    // The locals, or the locals and the instructions before the place are whole, and no more of the code is.
+    // The parts before the place decode, the next one doesn't, and the code is malformed.
     ensures stops { IfOk result (λ place. IfSome place (StopsInCode code.now)) }
-    // None is told only of code that encodes locals and instructions.
+    // `None` means that the code encodes locals and instructions.
     ensures whole { IfOk result (λ place. IfNone place (EncodesSome function_code.Encodes code.now)) }
 {
     let Err(place) = look_over_list::<LocalGroup>(Vec::from_slice(alloc, code)?) else {
@@ -176,7 +183,7 @@ pub fn first_broken_part(alloc: Global, code: &[u8]) -> Result<Option<CodePlace>
     }
 }
 
-/// How many bytes come before the first instruction that can't be decoded.
+/// Returns the offset of the first malformed instruction, in bytes. `None` means that all decode.
 fn first_broken_instruction(alloc: Global, calls: &[u8]) -> Result<Option<usize>, AllocError>
     ensures prefix { IfOk result (λ at. IfSome at (IsLongestPrefix (EncodesSome Instructions) calls.now)) }
     ensures within { IfOk result (λ at. IfSome at (λ at. at < length calls.now)) }
@@ -189,7 +196,7 @@ fn first_broken_instruction(alloc: Global, calls: &[u8]) -> Result<Option<usize>
     }
 }
 
-/// A group of locals, as an item of their list.
+/// A group of locals.
 struct LocalGroup;
 
 impl Rewritable for LocalGroup {

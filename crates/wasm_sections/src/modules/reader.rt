@@ -1,4 +1,4 @@
-//! Sections with what they hold, read one by one.
+//! Readers of single decoded sections.
 ghost use Rattle.std.specs.Prelude.{◌≡◌, Some, refl};
 ghost use Rattle.std.proofs.lemmas.List.{map_push};
 ghost use Rattle.wasm_codec.specs.formats.Grammar.{TakesBytes};
@@ -42,7 +42,7 @@ impl<'a> Readable<'a> for ModuleSection<'a> {
     }
 }
 
-/// A size, and a list that is all of the body.
+/// Reads a size and a list that fills so many bytes.
 fn read_sized_list<'a, T: Readable<'a>>(
     alloc: Global,
     cursor: &mut Cursor<'a>,
@@ -58,7 +58,7 @@ fn read_sized_list<'a, T: Readable<'a>>(
     Ok(items)
 }
 
-/// A size, and a number that is all of the body.
+/// Reads a size and a number that fills so many bytes.
 fn read_sized_number(cursor: &mut Cursor<'_>) -> Result<u32, Fault>
     ensures reads { Reads (sized u32_format).at cursor.old cursor.new result }
 {
@@ -71,7 +71,7 @@ fn read_sized_number(cursor: &mut Cursor<'_>) -> Result<u32, Fault>
     Ok(number)
 }
 
-/// A size, and a name and the bytes after it.
+/// Reads a size, a name, and the contents up to that size.
 fn read_sized_custom<'a>(cursor: &mut Cursor<'a>) -> Result<CustomSection<'a>, Fault>
     ensures reads { Reads (sized custom_body).at cursor.old cursor.new (map_ok custom_parts result) }
 {
@@ -82,7 +82,7 @@ fn read_sized_custom<'a>(cursor: &mut Cursor<'a>) -> Result<CustomSection<'a>, F
     Ok(CustomSection { name, bytes })
 }
 
-/// What comes after the id of a section that holds a list.
+/// Reads what follows the id of a section that is a list.
 #[tactic(auto, unfolding(crate::specs::formats::ModuleSections::module_section))]
 fn read_section_of_items<'a>(
     alloc: Global,
@@ -109,7 +109,7 @@ fn read_section_of_items<'a>(
     }
 }
 
-/// A section.
+/// Reads a section.
 #[tactic(auto, unfolding(crate::specs::formats::ModuleSections::module_section))]
 fn read_module_section<'a>(
     alloc: Global,

@@ -1,4 +1,4 @@
-//! Sections with what they hold, rewritten in place.
+//! Rewriting of single decoded sections.
 ghost use Rattle.std.specs.Prelude.{List};
 ghost use Rattle.wasm_codec.specs.formats.Grammar.{TakesBytes};
 ghost use Rattle.wasm_codec.specs.Lawful.{IsLawful, IsLawfulBody};
@@ -24,7 +24,7 @@ use wasm_codec::rewriter::{
 use wasm_modules::code::CodeBody;
 use wasm_types::types::TypeEntry;
 
-/// A section with what it holds.
+/// A section of any kind, decoded.
 pub(super) struct AnySection;
 
 impl Rewritable for AnySection {
@@ -48,7 +48,7 @@ impl Joinable for AnySection {
     }
 }
 
-/// What is all of a body: a list.
+/// A section body that is a list.
 struct ListOf<T: Rewritable> {
     _items: PhantomData<T>,
 }
@@ -69,7 +69,7 @@ impl<T: Rewritable> RewritableBody for ListOf<T> {
     }
 }
 
-/// Leaves a section in its shortest encoding.
+/// Rewrites a section to its minimal encoding.
 #[tactic(auto, unfolding(crate::specs::formats::ModuleSections::module_section))]
 fn rewrite_module_section(rewriter: &mut Rewriter) -> Result<(), Fault>
     ensures rewrites { Rewrites module_section rewriter.old rewriter.new result }

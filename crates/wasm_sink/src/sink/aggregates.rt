@@ -1,5 +1,5 @@
-//! Instructions on structs and arrays (Core 3.0, Aggregate Instructions). Those with descriptors are of the proposal
-//! on custom descriptors.
+//! Instructions on structs and arrays (Core 3.0, Aggregate Instructions), and those with descriptors (custom
+//! descriptors proposal).
 ghost use Rattle.std.specs.Prelude.{IsOk};
 ghost use Rattle.std.specs.Borrow.{sem};
 ghost use Rattle.wasm_sink.specs.Sink.{IsUnchangedAtErr, IsSameSink, Writes, HasRoom};

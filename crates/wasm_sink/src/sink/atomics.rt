@@ -1,4 +1,5 @@
-//! Atomic accesses: of the proposals on threads and on shared types. An opcode is the byte `0xFE` and a number.
+//! Atomic instructions (threads and shared-everything-threads proposals). Their opcodes are the byte `0xFE` and a
+//! number.
 
 mod memory;
 mod read_modify_write;

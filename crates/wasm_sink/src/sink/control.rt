@@ -1,5 +1,5 @@
-//! Control instructions (Core 3.0, Control Instructions). `try`, `catch`, `rethrow`, `delegate` and `catch_all` are
-//! those that `try_table` took the place of.
+//! Control instructions (Core 3.0, Control Instructions), and `try`, `catch`, `rethrow`, `delegate` and `catch_all`,
+//! which `try_table` replaces.
 ghost use Rattle.std.specs.Prelude.{IsOk, IfErr};
 ghost use Rattle.std.specs.Borrow.{sem};
 ghost use Rattle.std.specs.Iterator.{size};

@@ -1,5 +1,5 @@
-//! One emitter for each kind of operands: the appender of the kind, over the sink's list of bytes. It takes the opcode's
-//! number, and the prefix too where opcodes of the kind have different ones.
+//! One emitter for each kind of operands: it calls the kind's appender over the sink's list of bytes. It takes the
+//! opcode's number, and its prefix if opcodes of the kind differ in it.
 ghost use Rattle.std.specs.Prelude.{IsOk};
 ghost use Rattle.std.specs.Borrow.{sem};
 ghost use Rattle.wasm_sink.specs.Sink.{opcode_of, IsUnchangedAtErr, IsSameSink, Writes, HasRoom};
@@ -20,7 +20,7 @@ use wasm_instructions::table::{Opcode, Prefix};
 
 #[tactic(auto, using(crate::proofs::WrittenCalls::short_call, wasm_instructions::proofs::OpcodeLaws::in_table_short, crate::proofs::WrittenCalls::shortest_call))]
 impl<'a, A: Allocator> InstructionSink<'a, A> {
-    /// An instruction without operands.
+    /// Appends an instruction without operands.
     pub(super) fn emit(
         self,
         prefix: Prefix,
@@ -37,7 +37,7 @@ impl<'a, A: Allocator> InstructionSink<'a, A> {
         Ok(InstructionSink { bytes })
     }
 
-    /// An instruction with an index.
+    /// Appends an instruction with one index.
     pub(super) fn emit_index(
         self,
         prefix: Prefix,
@@ -55,7 +55,7 @@ impl<'a, A: Allocator> InstructionSink<'a, A> {
         Ok(InstructionSink { bytes })
     }
 
-    /// An instruction with two indexes, in the order in which they are written.
+    /// Appends an instruction with two indexes, `first` before `second`.
     pub(super) fn emit_two_indexes(
         self,
         prefix: Prefix,

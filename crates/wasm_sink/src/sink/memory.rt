@@ -1,4 +1,4 @@
-//! Instructions on memories (Core 3.0, Memory Instructions). `memory.discard` is of the proposal on memory control.
+//! Instructions on memories (Core 3.0, Memory Instructions), and `memory.discard` (memory control proposal).
 ghost use Rattle.std.specs.Prelude.{◌≤◌, ◌<◌, ◌↔◌, IsOk, IsErrOf};
 ghost use Rattle.std.specs.Borrow.{sem};
 ghost use Rattle.wasm_sink.specs.Sink.{IsUnchangedAtErr, IsSameSink, Writes, WritesBytes, HasRoom};

@@ -1,5 +1,5 @@
-//! Instructions on references, and branches on them (Core 3.0, Reference Instructions and Control Instructions). Those
-//! with descriptors are of the proposal on custom descriptors.
+//! Instructions on references, and branches on them (Core 3.0, Reference Instructions and Control Instructions), and
+//! those with descriptors (custom descriptors proposal).
 ghost use Rattle.std.specs.Prelude.{IsOk};
 ghost use Rattle.std.specs.Borrow.{sem};
 ghost use Rattle.wasm_sink.specs.Sink.{IsUnchangedAtErr, IsSameSink, Writes, HasRoom};

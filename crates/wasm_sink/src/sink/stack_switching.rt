@@ -1,4 +1,4 @@
-//! Continuations: of the proposal on stack switching.
+//! Instructions on continuations (stack switching proposal).
 ghost use Rattle.std.specs.Prelude.{IsOk, IfErr};
 ghost use Rattle.std.specs.Borrow.{sem};
 ghost use Rattle.std.specs.Iterator.{size};

@@ -1,4 +1,4 @@
-//! Vector instructions (Core 3.0, Vector Instructions). An opcode is the byte `0xFD` and a number.
+//! Vector instructions (Core 3.0, Vector Instructions). Their opcodes are the byte `0xFD` and a number.
 
 mod bitwise;
 mod comparisons;

@@ -1,5 +1,5 @@
-//! Heap, reference, value, storage and field types, written into room that was reserved (Core 3.0, Heap Types to
-//! Composite Types).
+//! Writers of heap, reference, value, storage and field types into reserved room (Core 3.0, Heap Types to Composite
+//! Types).
 ghost use Rattle.std.specs.Prelude.{◌≡◌, [], ◌∷◌, ◌++◌, ◌+◌, ◌≤◌, vec_len, vec_capacity};
 ghost use Rattle.wasm_codec.specs.formats.Combinators.{flagged};
 ghost use Rattle.wasm_types.specs.TypeRanges.{HeapTypeFits, ValTypeFits, StorageTypeFits};
@@ -9,7 +9,7 @@ use crate::types::{AbstractHeapType, FieldType, HeapType, RefType, StorageType, 
 use std::alloc::Allocator;
 use wasm_codec::encode::leb128::{put_index, put_u32};
 
-/// The byte of an abstract heap type.
+/// Returns the byte of an abstract heap type (Core 3.0, Heap Types).
 #[tactic(auto, unfolding(crate::specs::formats::Types::abstract_type))]
 pub fn abstract_byte(ty: AbstractHeapType) -> u8
     ensures { abstract_type.bytes ty ≡ result ∷ [] }
@@ -32,7 +32,7 @@ pub fn abstract_byte(ty: AbstractHeapType) -> u8
     }
 }
 
-/// Writes an abstract heap type in one byte, or in two where it is shared.
+/// Writes an abstract heap type in one byte, or in two if it is shared.
 fn put_abstract<A: Allocator>(bytes: &mut Vec<u8, A>, shared: bool, ty: AbstractHeapType)
     requires { vec_len bytes.old + 2 ≤ vec_capacity bytes.old }
     ensures items { bytes.new.items ≡ bytes.old.items ++ (flagged 0x65 abstract_type).bytes (shared, ty) }
@@ -45,7 +45,7 @@ fn put_abstract<A: Allocator>(bytes: &mut Vec<u8, A>, shared: bool, ty: Abstract
     bytes.push_reserved(abstract_byte(ty));
 }
 
-/// Writes a heap type in 1 to 6 bytes.
+/// Writes a heap type in 1 to 6 bytes (Core 3.0, Heap Types).
 #[tactic(auto, unfolding(crate::specs::formats::Types::heap_type))]
 pub fn put_heap_type<A: Allocator>(bytes: &mut Vec<u8, A>, ty: HeapType)
     requires { vec_len bytes.old + 6 ≤ vec_capacity bytes.old }
@@ -64,7 +64,7 @@ pub fn put_heap_type<A: Allocator>(bytes: &mut Vec<u8, A>, ty: HeapType)
     }
 }
 
-/// Writes a reference type in 1 to 7 bytes: the short form where there is one.
+/// Writes a reference type in 1 to 7 bytes, in its short form if it has one (Core 3.0, Reference Types).
 #[tactic(auto, unfolding(crate::specs::formats::Types::ref_type))]
 pub fn put_ref_type<A: Allocator>(bytes: &mut Vec<u8, A>, ty: RefType)
     requires { vec_len bytes.old + 7 ≤ vec_capacity bytes.old }
@@ -87,7 +87,7 @@ pub fn put_ref_type<A: Allocator>(bytes: &mut Vec<u8, A>, ty: RefType)
     }
 }
 
-/// Writes a value type in 1 to 7 bytes.
+/// Writes a value type in 1 to 7 bytes (Core 3.0, Value Types).
 #[tactic(auto, unfolding(crate::specs::formats::Types::val_type))]
 pub fn put_val_type<A: Allocator>(bytes: &mut Vec<u8, A>, ty: ValType)
     requires { vec_len bytes.old + 7 ≤ vec_capacity bytes.old }
@@ -106,7 +106,7 @@ pub fn put_val_type<A: Allocator>(bytes: &mut Vec<u8, A>, ty: ValType)
     }
 }
 
-/// Writes a storage type in 1 to 7 bytes.
+/// Writes a storage type in 1 to 7 bytes (Core 3.0, Composite Types).
 #[tactic(auto, unfolding(crate::specs::formats::Types::storage_type))]
 pub fn put_storage_type<A: Allocator>(bytes: &mut Vec<u8, A>, ty: StorageType)
     requires { vec_len bytes.old + 7 ≤ vec_capacity bytes.old }
@@ -122,7 +122,7 @@ pub fn put_storage_type<A: Allocator>(bytes: &mut Vec<u8, A>, ty: StorageType)
     }
 }
 
-/// Writes a field in 2 to 8 bytes.
+/// Writes a field type in 2 to 8 bytes (Core 3.0, Composite Types).
 #[tactic(auto, unfolding(crate::specs::formats::Types::field_type, crate::specs::formats::Types::mutability))]
 pub fn put_field_type<A: Allocator>(bytes: &mut Vec<u8, A>, field: FieldType)
     requires { vec_len bytes.old + 8 ≤ vec_capacity bytes.old }

@@ -1,5 +1,4 @@
-//! Heap, reference, value, storage and field types, left in their shortest encodings (Core 3.0, Heap Types to Composite
-//! Types).
+//! Rewriters of heap, reference, value, storage and field types (Core 3.0, Heap Types to Composite Types).
 ghost use Rattle.std.specs.Prelude.{◌≡◌, Some};
 ghost use Rattle.wasm_codec.specs.Places.{Place, byte_at};
 ghost use Rattle.wasm_codec.specs.Rewriter.{Rewrites};
@@ -9,7 +8,7 @@ ghost use Rattle.wasm_types.specs.formats.Types.{abstract_type, heap_type, ref_t
 use wasm_codec::reader::cursor::Fault;
 use wasm_codec::rewriter::Rewriter;
 
-/// An abstract heap type that isn't shared.
+/// Rewrites an abstract heap type that isn't shared.
 #[tactic(auto, unfolding(crate::specs::formats::Types::abstract_type))]
 fn rewrite_abstract_type(rewriter: &mut Rewriter) -> Result<(), Fault>
     ensures rewrites { Rewrites abstract_type rewriter.old rewriter.new result }
@@ -20,7 +19,7 @@ fn rewrite_abstract_type(rewriter: &mut Rewriter) -> Result<(), Fault>
     }
 }
 
-/// An abstract heap type, which may be shared.
+/// Rewrites an abstract heap type, shared or not.
 #[tactic(auto, using(std::proofs::Common::append_assoc))]
 fn rewrite_shared_type(rewriter: &mut Rewriter) -> Result<(), Fault>
     ensures rewrites { Rewrites (flagged 0x65 abstract_type) rewriter.old rewriter.new result }
@@ -34,7 +33,7 @@ fn rewrite_shared_type(rewriter: &mut Rewriter) -> Result<(), Fault>
     Ok(())
 }
 
-/// A heap type.
+/// Rewrites a heap type (Core 3.0, Heap Types).
 #[tactic(auto, using(std::proofs::Common::append_assoc), unfolding(crate::specs::formats::Types::heap_type))]
 pub fn rewrite_heap_type(rewriter: &mut Rewriter) -> Result<(), Fault>
     ensures rewrites { Rewrites heap_type rewriter.old rewriter.new result }
@@ -53,7 +52,7 @@ pub fn rewrite_heap_type(rewriter: &mut Rewriter) -> Result<(), Fault>
     Ok(())
 }
 
-/// A reference type. One that may be null and is of an abstract heap type is left in its short form.
+/// Rewrites a reference type, to its short form if it has one (Core 3.0, Reference Types).
 #[inline(never)]
 #[tactic(auto, using(std::proofs::Common::append_assoc), unfolding(crate::specs::formats::Types::ref_type))]
 pub fn rewrite_ref_type(rewriter: &mut Rewriter) -> Result<(), Fault>
@@ -72,7 +71,7 @@ pub fn rewrite_ref_type(rewriter: &mut Rewriter) -> Result<(), Fault>
     Ok(())
 }
 
-/// A reference type that begins with `0x63`, which is left out before an abstract heap type.
+/// Rewrites a reference type that begins with `0x63`. That byte is dropped before an abstract heap type.
 #[tactic(auto, using(std::proofs::Common::append_assoc), unfolding(crate::specs::formats::Types::ref_type, crate::specs::formats::Types::heap_type))]
 fn rewrite_nullable_type(rewriter: &mut Rewriter) -> Result<(), Fault>
     requires { (after : Place) × (byte_at rewriter.old.place ≡ Some (0x63, after)) }
@@ -88,7 +87,7 @@ fn rewrite_nullable_type(rewriter: &mut Rewriter) -> Result<(), Fault>
     Ok(())
 }
 
-/// A value type.
+/// Rewrites a value type (Core 3.0, Value Types).
 #[inline(always)]
 #[tactic(auto, using(std::proofs::Common::append_assoc), unfolding(crate::specs::formats::Types::val_type))]
 pub fn rewrite_val_type(rewriter: &mut Rewriter) -> Result<(), Fault>
@@ -106,7 +105,7 @@ pub fn rewrite_val_type(rewriter: &mut Rewriter) -> Result<(), Fault>
     }
 }
 
-/// A storage type.
+/// Rewrites a storage type.
 #[tactic(auto, using(std::proofs::Common::append_assoc), unfolding(crate::specs::formats::Types::storage_type))]
 fn rewrite_storage_type(rewriter: &mut Rewriter) -> Result<(), Fault>
     ensures rewrites { Rewrites storage_type rewriter.old rewriter.new result }
@@ -123,7 +122,7 @@ fn rewrite_storage_type(rewriter: &mut Rewriter) -> Result<(), Fault>
     }
 }
 
-/// A field.
+/// Rewrites a field type.
 #[tactic(auto, using(std::proofs::Common::append_assoc), unfolding(crate::specs::formats::Types::field_type, crate::specs::formats::Types::mutability))]
 pub(super) fn rewrite_field_type(rewriter: &mut Rewriter) -> Result<(), Fault>
     ensures rewrites { Rewrites field_type rewriter.old rewriter.new result }

@@ -1,4 +1,4 @@
-//! Function types that are scanned: where they end is seen without a value (Core 3.0, Composite Types).
+//! Scanning of function types: it finds their end without decoding them (Core 3.0, Composite Types).
 ghost use Rattle.std.specs.Prelude.{◌≡◌, ℕ, List, ◌∷◌, Some, true, IfSome};
 ghost use Rattle.wasm_codec.specs.Scanning.{Scans};
 ghost use Rattle.wasm_codec.specs.declared.rewriter.scan.Scanned.TheVariants.{Shortest};
@@ -6,7 +6,8 @@ ghost use Rattle.wasm_types.specs.formats.Types.{val_type, result_type, recursiv
 
 use wasm_codec::rewriter::Scanned;
 
-/// The function type that the bytes begin with, if its counts and its value types have one byte each.
+/// Scans the function type that the bytes begin with. Returns `None` unless its counts and value types have one byte
+/// each.
 #[inline(always)]
 pub(super) fn scan_function_type(bytes: &[u8]) -> Option<Scanned>
     ensures { Scans recursive_type bytes.now result }
@@ -22,7 +23,8 @@ pub(super) fn scan_function_type(bytes: &[u8]) -> Option<Scanned>
     Some(Scanned::Shortest(1 + params + results))
 }
 
-/// The length of the list of value types that the bytes begin with, if its count and each type have one byte.
+/// Returns the length of the list of value types that the bytes begin with, or `None` unless its count and types have
+/// one byte each.
 #[inline(always)]
 fn scan_result_type(bytes: &[u8]) -> Option<usize>
     ensures { IfSome result (λ count. Scans result_type bytes.now (Some (Shortest count))) }
@@ -45,8 +47,8 @@ fn scan_result_type(bytes: &[u8]) -> Option<usize>
     Some(1 + count)
 }
 
-/// Whether the byte alone is a value type in its shortest encoding: a number or vector type, or a nullable reference to an
-/// abstract heap type.
+/// Checks whether the byte alone is a minimally encoded value type: a number or vector type, or a nullable reference to
+/// an abstract heap type.
 #[inline(always)]
 fn is_whole_type(byte: u8) -> bool
     ensures { result ≡ true → (more : List ℕ) → Scans val_type (byte ∷ more) (Some (Shortest 1)) }

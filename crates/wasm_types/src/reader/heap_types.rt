@@ -1,4 +1,4 @@
-//! Heap, reference, value, storage and field types (Core 3.0, Heap Types to Composite Types).
+//! Readers of heap, reference, value, storage and field types (Core 3.0, Heap Types to Composite Types).
 ghost use Rattle.std.specs.Prelude.{◌≡◌, IfErr};
 ghost use Rattle.wasm_codec.specs.Places.{Reads};
 ghost use Rattle.wasm_codec.specs.formats.Combinators.{flagged};
@@ -8,7 +8,7 @@ ghost use Rattle.wasm_codec.specs.declared.reader.cursor.Fault.TheVariants.{Malf
 use crate::types::{AbstractHeapType, FieldType, HeapType, RefType, StorageType, ValType};
 use wasm_codec::reader::cursor::{Cursor, Fault};
 
-/// An abstract heap type that isn't shared.
+/// Reads an abstract heap type that isn't shared.
 #[tactic(auto, unfolding(crate::specs::formats::Types::abstract_type))]
 fn read_abstract_type(cursor: &mut Cursor<'_>) -> Result<AbstractHeapType, Fault>
     ensures reads { Reads abstract_type.at cursor.old cursor.new result }
@@ -33,7 +33,7 @@ fn read_abstract_type(cursor: &mut Cursor<'_>) -> Result<AbstractHeapType, Fault
     }
 }
 
-/// An abstract heap type, and whether it is shared.
+/// Reads an abstract heap type, and whether it is shared.
 fn read_shared_type(cursor: &mut Cursor<'_>) -> Result<(bool, AbstractHeapType), Fault>
     ensures reads { Reads (flagged 0x65 abstract_type).at cursor.old cursor.new result }
     ensures err { IfErr result (λ e. e ≡ Malformed) }
@@ -45,7 +45,7 @@ fn read_shared_type(cursor: &mut Cursor<'_>) -> Result<(bool, AbstractHeapType),
     Ok((false, read_abstract_type(cursor)?))
 }
 
-/// A heap type.
+/// Reads a heap type (Core 3.0, Heap Types).
 #[tactic(auto, unfolding(crate::specs::formats::Types::heap_type))]
 pub fn read_heap_type(cursor: &mut Cursor<'_>) -> Result<HeapType, Fault>
     ensures reads { Reads heap_type.at cursor.old cursor.new result }
@@ -63,7 +63,7 @@ pub fn read_heap_type(cursor: &mut Cursor<'_>) -> Result<HeapType, Fault>
     Ok(HeapType::Abstract { shared, ty })
 }
 
-/// A reference type, in its long or its short form.
+/// Reads a reference type, by any of its forms (Core 3.0, Reference Types).
 #[tactic(auto, unfolding(crate::specs::formats::Types::ref_type))]
 pub fn read_ref_type(cursor: &mut Cursor<'_>) -> Result<RefType, Fault>
     ensures reads { Reads ref_type.at cursor.old cursor.new result }
@@ -93,7 +93,7 @@ pub fn read_ref_type(cursor: &mut Cursor<'_>) -> Result<RefType, Fault>
     Ok(RefType::new_abstract(ty, true, shared))
 }
 
-/// A value type.
+/// Reads a value type (Core 3.0, Value Types).
 #[tactic(auto, unfolding(crate::specs::formats::Types::val_type))]
 pub fn read_val_type(cursor: &mut Cursor<'_>) -> Result<ValType, Fault>
     ensures reads { Reads val_type.at cursor.old cursor.new result }
@@ -111,7 +111,7 @@ pub fn read_val_type(cursor: &mut Cursor<'_>) -> Result<ValType, Fault>
     Ok(ty)
 }
 
-/// A storage type.
+/// Reads a storage type (Core 3.0, Composite Types).
 #[tactic(auto, unfolding(crate::specs::formats::Types::storage_type))]
 pub fn read_storage_type(cursor: &mut Cursor<'_>) -> Result<StorageType, Fault>
     ensures reads { Reads storage_type.at cursor.old cursor.new result }
@@ -126,7 +126,7 @@ pub fn read_storage_type(cursor: &mut Cursor<'_>) -> Result<StorageType, Fault>
     Ok(ty)
 }
 
-/// A field.
+/// Reads a field type (Core 3.0, Composite Types).
 #[tactic(auto, unfolding(crate::specs::formats::Types::field_type, crate::specs::formats::Types::mutability))]
 pub fn read_field_type(cursor: &mut Cursor<'_>) -> Result<FieldType, Fault>
     ensures reads { Reads field_type.at cursor.old cursor.new result }

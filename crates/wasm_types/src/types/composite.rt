@@ -8,32 +8,32 @@ use std::alloc::Global;
 use wasm_codec::encode::EncodeError;
 use wasm_codec::list::Items;
 
-/// A field of a structure, or what an array holds.
+/// The type of a structure's field or an array's elements.
 #[derive(Clone, Copy, Debug, PartialEq, Eq, Hash, PartialOrd, Ord)]
 pub struct FieldType {
-    /// What it holds.
+    /// Type of the stored value.
     pub element_type: StorageType,
-    /// Whether it can be written.
+    /// Whether the value can be written.
     pub mutable: bool,
 }
 
-/// An array of one kind of field.
+/// An array type, by the type of its elements.
 #[derive(Clone, Copy, Debug, PartialEq, Eq, Hash)]
 pub struct ArrayType(pub FieldType);
 
-/// A continuation of the function type of this index.
+/// A continuation type, by the index of its function type.
 #[derive(Clone, Copy, Debug, PartialEq, Eq, Hash)]
 pub struct ContType(pub u32);
 
-/// A structure.
+/// A structure type.
 #[derive(Debug, PartialEq, Eq, Hash, Drop)]
 pub struct StructType {
-    /// The fields, in order.
+    /// Types of the fields, in order.
     pub fields: Items<FieldType>,
 }
 
 impl StructType {
-    /// A structure of these fields.
+    /// Returns a structure type with these fields. Fails with `Memory` if an allocation fails.
     pub fn new(alloc: Global, fields: &[FieldType]) -> Result<StructType, EncodeError>
         ensures ok { IfOk result (λ ty. ty.fields ≡ fields.now) }
         ensures err { IfErr result (λ e. e ≡ Memory) }
@@ -43,7 +43,17 @@ impl StructType {
     }
 }
 
-/// A function type.
+/// A function type (Core 3.0, Composite Types).
+///
+/// # Examples
+///
+/// ```
+/// # use wasm_encoder::{Encode, FuncType, ValType};
+/// let params = [ValType::I32, ValType::I64];
+/// let ty = FuncType::new(rt.alloc(), params.iter().copied(), [].iter().copied())?;
+/// assert_eq!(rt; ty.params(), params.as_slice());
+/// assert!(rt; ty.results().is_empty());
+/// ```
 #[derive(Debug, PartialEq, Eq, Hash, Drop)]
 pub struct FuncType {
     params: Items<ValType>,
@@ -51,7 +61,8 @@ pub struct FuncType {
 }
 
 impl FuncType {
-    /// A function type of the parameters and results that two iterators give.
+    /// Returns a function type with the parameters and results of two iterators. Fails with `Memory` if an allocation
+    /// fails.
     pub fn new<P: Iterator<Item = ValType>, R: Iterator<Item = ValType>>(
         alloc: Global,
         params: P,
@@ -71,14 +82,14 @@ impl FuncType {
         })
     }
 
-    /// A function type of these parameters and results.
+    /// Returns a function type with these parameters and results.
     pub fn from_lists(params: Items<ValType>, results: Items<ValType>) -> FuncType
         ensures { result ≡ record { params = params; results = results } }
     {
         FuncType { params, results }
     }
 
-    /// An equal function type.
+    /// Returns a copy. Fails with `Memory` if an allocation fails.
     pub fn try_clone(&self) -> Result<FuncType, EncodeError>
         ensures ok { IfOk result (λ ty. ty ≡ self.now) }
         ensures err { IfErr result (λ e. e ≡ Memory) }
@@ -89,14 +100,14 @@ impl FuncType {
         })
     }
 
-    /// The types of the parameters.
+    /// Returns the types of the parameters.
     pub fn params(&self) -> &[ValType]
         ensures value { result.now ≡ self.now.params }
     {
         self.params.as_slice()
     }
 
-    /// The types of the results.
+    /// Returns the types of the results.
     pub fn results(&self) -> &[ValType]
         ensures value { result.now ≡ self.now.results }
     {
@@ -104,50 +115,52 @@ impl FuncType {
     }
 }
 
-/// What a defined type is made of.
+/// A composite type without the additions of proposals.
 #[derive(Debug, PartialEq, Eq, Drop)]
 pub enum CompositeInnerType {
-    /// A function.
+    /// A function type.
     Func(FuncType),
-    /// An array.
+    /// An array type.
     Array(ArrayType),
-    /// A structure.
+    /// A structure type.
     Struct(StructType),
-    /// A continuation.
+    /// A continuation type (stack switching proposal).
     Cont(ContType),
 }
 
-/// A composite type, with what the proposals on shared types and descriptors add.
+/// A composite type, with the additions of the proposals on shared types and custom descriptors (Core 3.0, Composite
+/// Types).
 #[derive(Debug, PartialEq, Eq, Drop)]
 pub struct CompositeType {
-    /// What it is made of.
+    /// The type without these additions.
     pub inner: CompositeInnerType,
-    /// Whether it may be shared between threads.
+    /// Whether it is shared between threads.
     pub shared: bool,
-    /// The type that describes it, by its index.
+    /// Index of the type that describes this one. `None` means that there is none.
     pub descriptor: Option<u32>,
-    /// The type that it describes, by its index.
+    /// Index of the type that this one describes. `None` means that there is none.
     pub describes: Option<u32>,
 }
 
-/// A composite type with its supertypes.
+/// A composite type with its supertypes (Core 3.0, Recursive Types).
 #[derive(Debug, PartialEq, Eq, Drop)]
 pub struct SubType {
-    /// Whether it can have no subtypes.
+    /// Whether it can't have subtypes.
     pub is_final: bool,
-    /// The supertypes, by their indexes.
+    /// Indexes of the supertypes.
     pub supertype_idxs: Items<u32>,
-    /// What it is made of.
+    /// The composite type.
     pub composite_type: CompositeType,
 }
 
-/// An entry of a type section: one type, or a group of types that can refer to each other.
+/// An entry of a type section: a single type, or a group of types that can refer to each other (Core 3.0, Type
+/// Section).
 ///
-/// A group of one type and that type alone are two different entries.
+/// A group of one type and that type alone are different entries.
 #[derive(Debug, PartialEq, Eq, Drop)]
 pub enum TypeEntry {
-    /// One type.
+    /// A single type.
     Sub(SubType),
-    /// A group.
+    /// A recursion group.
     Rec(Items<SubType>),
 }

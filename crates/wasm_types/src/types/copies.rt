@@ -10,7 +10,7 @@ use wasm_codec::encode::EncodeError;
 use wasm_codec::list::Items;
 
 impl StructType {
-    /// An equal structure.
+    /// Returns a copy. Fails with `Memory` if an allocation fails.
     pub fn try_clone(&self) -> Result<StructType, EncodeError>
         ensures ok { IfOk result (λ ty. ty ≡ self.now) }
         ensures err { IfErr result (λ e. e ≡ Memory) }
@@ -21,7 +21,7 @@ impl StructType {
 }
 
 impl CompositeInnerType {
-    /// An equal type.
+    /// Returns a copy. Fails with `Memory` if an allocation fails.
     pub fn try_clone(&self) -> Result<CompositeInnerType, EncodeError>
         ensures ok { IfOk result (λ ty. ty ≡ self.now) }
         ensures err { IfErr result (λ e. e ≡ Memory) }
@@ -36,7 +36,7 @@ impl CompositeInnerType {
 }
 
 impl CompositeType {
-    /// An equal type.
+    /// Returns a copy. Fails with `Memory` if an allocation fails.
     pub fn try_clone(&self) -> Result<CompositeType, EncodeError>
         ensures ok { IfOk result (λ ty. ty ≡ self.now) }
         ensures err { IfErr result (λ e. e ≡ Memory) }
@@ -51,7 +51,7 @@ impl CompositeType {
 }
 
 impl SubType {
-    /// An equal type.
+    /// Returns a copy. Fails with `Memory` if an allocation fails.
     pub fn try_clone(&self) -> Result<SubType, EncodeError>
         ensures ok { IfOk result (λ ty. ty ≡ self.now) }
         ensures err { IfErr result (λ e. e ≡ Memory) }
@@ -65,7 +65,7 @@ impl SubType {
 }
 
 impl TypeEntry {
-    /// An equal entry.
+    /// Returns a copy. Fails with `Memory` if an allocation fails.
     pub fn try_clone(&self) -> Result<TypeEntry, EncodeError>
         ensures ok { IfOk result (λ entry. entry ≡ self.now) }
         ensures err { IfErr result (λ e. e ≡ Memory) }
@@ -80,7 +80,7 @@ impl TypeEntry {
     }
 }
 
-/// Copies of the types of a group.
+/// Copies the types of a recursion group.
 fn copies_of(alloc: Global, types: &[SubType]) -> Result<Vec<SubType>, EncodeError>
     ensures ok { IfOk result (λ copies. copies.items ≡ types.now) }
     ensures err { IfErr result (λ e. e ≡ Memory) }

@@ -1,52 +1,52 @@
 //! Heap types and reference types (Core 3.0, Heap Types to Reference Types).
 ghost use Rattle.std.specs.Prelude.{◌≡◌};
 
-/// A heap type that has a name of its own.
+/// An abstract heap type, which has a name instead of a definition (Core 3.0, Heap Types).
 #[derive(Clone, Copy, Debug, PartialEq, Eq, Hash, PartialOrd, Ord)]
 pub enum AbstractHeapType {
-    /// `func`: functions.
+    /// `func`: all functions.
     Func,
-    /// `extern`: values of the host.
+    /// `extern`: all values of the host.
     Extern,
-    /// `any`: values inside of WebAssembly.
+    /// `any`: all internal values.
     Any,
-    /// `none`: below every internal type.
+    /// `none`: subtype of all internal types.
     None,
-    /// `noextern`: below every external type.
+    /// `noextern`: subtype of all external types.
     NoExtern,
-    /// `nofunc`: below every function type.
+    /// `nofunc`: subtype of all function types.
     NoFunc,
     /// `eq`: values that can be compared.
     Eq,
-    /// `struct`: structures.
+    /// `struct`: all structures.
     Struct,
-    /// `array`: arrays.
+    /// `array`: all arrays.
     Array,
     /// `i31`: integers of 31 bits.
     I31,
-    /// `exn`: exceptions.
+    /// `exn`: all exceptions.
     Exn,
-    /// `noexn`: below every exception.
+    /// `noexn`: subtype of all exception types.
     NoExn,
-    /// `cont`: continuations.
+    /// `cont`: all continuations.
     Cont,
-    /// `nocont`: below every continuation.
+    /// `nocont`: subtype of all continuation types.
     NoCont,
 }
 
-/// What a reference refers to.
+/// The type that a reference refers to (Core 3.0, Heap Types).
 #[derive(Clone, Copy, Debug, PartialEq, Eq, Hash, PartialOrd, Ord)]
 pub enum HeapType {
-    /// A type with a name of its own.
+    /// An abstract heap type.
     Abstract {
-        /// Whether it may be shared between threads.
+        /// Whether it is shared between threads.
         shared: bool,
-        /// The type.
+        /// The heap type itself.
         ty: AbstractHeapType,
     },
-    /// A defined type, by its index, or a subtype of it.
+    /// The defined type of this index, or a subtype of it.
     Concrete(u32),
-    /// Just this defined type, by its index.
+    /// Exactly the defined type of this index (custom descriptors proposal).
     Exact(u32),
 }
 
@@ -76,12 +76,26 @@ impl HeapType {
     };
 }
 
-/// A reference to a heap type.
+/// A reference type (Core 3.0, Reference Types).
+///
+/// # Examples
+///
+/// ```
+/// # use wasm_encoder::{Encode, HeapType, RefType};
+/// let mut bytes = Vec::new(rt.alloc());
+/// RefType::EXTERNREF.encode(&mut bytes)?;
+/// let of_type_5 = RefType {
+///     nullable: true,
+///     heap_type: HeapType::Concrete(5),
+/// };
+/// of_type_5.encode(&mut bytes)?;
+/// assert_eq!(rt; bytes.as_slice(), b"\x6f\x63\x05".as_slice());
+/// ```
 #[derive(Clone, Copy, Debug, PartialEq, Eq, Hash, PartialOrd, Ord)]
 pub struct RefType {
-    /// Whether null belongs to it.
+    /// Whether the reference can be null.
     pub nullable: bool,
-    /// What it refers to.
+    /// Type that it refers to.
     pub heap_type: HeapType,
 }
 
@@ -137,7 +151,7 @@ impl RefType {
         },
     };
 
-    /// A reference to an abstract heap type.
+    /// Returns a reference type to an abstract heap type.
     pub fn new_abstract(ty: AbstractHeapType, nullable: bool, shared: bool) -> RefType
         ensures { result ≡ record { nullable = nullable; heap_type = HeapType.Abstract shared ty } }
     {
@@ -147,7 +161,7 @@ impl RefType {
         }
     }
 
-    /// The same reference, with or without null.
+    /// Returns the same reference type, nullable or not.
     pub fn nullable(self, nullable: bool) -> RefType
         ensures { result ≡ record self { nullable = nullable } }
     {

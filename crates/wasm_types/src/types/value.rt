@@ -5,7 +5,18 @@ ghost use Rattle.wasm_types.specs.declared.types.value.ValType.TheVariants.{Ref}
 
 use super::heap::RefType;
 
-/// The type of a value.
+/// A value type (Core 3.0, Value Types).
+///
+/// # Examples
+///
+/// ```
+/// # use wasm_encoder::{Encode, RefType, ValType};
+/// let mut bytes = Vec::new(rt.alloc());
+/// ValType::I32.encode(&mut bytes)?;
+/// ValType::FUNCREF.encode(&mut bytes)?;
+/// ValType::Ref(RefType::FUNCREF.nullable(false)).encode(&mut bytes)?;
+/// assert_eq!(rt; bytes.as_slice(), b"\x7f\x70\x64\x70".as_slice());
+/// ```
 #[derive(Clone, Copy, Debug, PartialEq, Eq, Hash, PartialOrd, Ord)]
 pub enum ValType {
     /// `i32`.
@@ -18,7 +29,7 @@ pub enum ValType {
     F64,
     /// `v128`.
     V128,
-    /// A reference.
+    /// A reference type.
     Ref(RefType),
 }
 
@@ -32,7 +43,7 @@ impl ValType {
     /// `exnref`.
     pub const EXNREF: ValType = ValType::Ref(RefType::EXNREF);
 
-    /// Whether it is `i32`, `i64`, `f32` or `f64`.
+    /// Checks whether the type is `i32`, `i64`, `f32` or `f64`.
     pub fn is_numeric(&self) -> bool
         ensures { result ≡ is_numeric self.now }
     {
@@ -42,21 +53,21 @@ impl ValType {
         )
     }
 
-    /// Whether it is `v128`.
+    /// Checks whether the type is `v128`.
     pub fn is_vector(&self) -> bool
         ensures { result ≡ is_vector self.now }
     {
         matches!(self, ValType::V128)
     }
 
-    /// Whether it is a reference.
+    /// Checks whether the type is a reference type.
     pub fn is_reference(&self) -> bool
         ensures { result ≡ is_reference self.now }
     {
         matches!(self, ValType::Ref(_))
     }
 
-    /// Whether a local of this type has a default: every type but a reference without null.
+    /// Checks whether a local of this type has a default value: it has one unless it is a reference that can't be null.
     pub fn is_defaultable(&self) -> bool
         ensures { result ≡ is_defaultable self.now }
     {
@@ -75,19 +86,19 @@ impl From<RefType> for ValType {
     }
 }
 
-/// What a field of a structure or an array holds.
+/// The type of a value in a field: a value type, or a packed type (Core 3.0, Composite Types).
 #[derive(Clone, Copy, Debug, PartialEq, Eq, Hash, PartialOrd, Ord)]
 pub enum StorageType {
     /// `i8`.
     I8,
     /// `i16`.
     I16,
-    /// A value.
+    /// A value type.
     Val(ValType),
 }
 
 impl StorageType {
-    /// The type of the value that is read from it: `i32` for packed ones.
+    /// Returns the type of the value read from the field: `i32` if it is packed.
     pub fn unpack(&self) -> ValType
         ensures { result ≡ unpacked self.now }
     {
@@ -97,7 +108,7 @@ impl StorageType {
         }
     }
 
-    /// Whether it has a default, as its unpacked type has.
+    /// Checks whether the unpacked type has a default value.
     pub fn is_defaultable(&self) -> bool
         ensures { result ≡ is_defaultable (unpacked self.now) }
     {

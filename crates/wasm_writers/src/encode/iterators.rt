@@ -1,4 +1,4 @@
-//! Lists from iterators that tell how many items are to come (Core 3.0, Lists).
+//! Lists of the items that an iterator yields (Core 3.0, Lists).
 ghost use Rattle.std.specs.Prelude.{◌≡◌, ◌^◌, ◌≤◌, ◌⊎◌, OnOk, IfOk, IfErr, IsErrOf, length, take};
 ghost use Rattle.std.specs.Iterator.{IsFinite, size};
 ghost use Rattle.wasm_codec.specs.Encoding.{IsCount};
@@ -9,10 +9,11 @@ use super::{Encode, EncodeError};
 use std::alloc::Allocator;
 use wasm_codec::encode::mend_count;
 
-/// Appends the number of the items that come and then the bytes of each. An `Err` can leave a part of them.
+/// Appends the number of the items that the iterator yields, and then each item's encoding. On error a part of the list
+/// may remain.
 ///
-/// Writes the iterator's `len` as the count, and corrects it if the iterator yields fewer items.
-/// `TooLong` where it tells more than 4,294,967,295, before an item is asked for; else an error of an item.
+/// Writes the iterator's `len` as the count, and corrects it if the iterator yields fewer items. Fails with `TooLong`
+/// if `len` is over 4,294,967,295, before it asks for an item, and with any error of an item.
 pub fn append_items<T: Encode + Drop, I: ExactSizeIterator<Item = T>, A: Allocator>(
     items: I,
     sink: &mut Vec<u8, A>,
@@ -35,7 +36,8 @@ pub fn append_items<T: Encode + Drop, I: ExactSizeIterator<Item = T>, A: Allocat
     Ok(())
 }
 
-/// Appends the bytes of the items that come, and counts them. An `Err` can leave a part of them.
+/// Appends the encodings of the items that the iterator yields, and returns their number. On error some of them may
+/// remain.
 fn append_given<T: Encode + Drop, I: ExactSizeIterator<Item = T>, A: Allocator>(
     items: I,
     sink: &mut Vec<u8, A>,

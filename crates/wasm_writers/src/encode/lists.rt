@@ -1,4 +1,4 @@
-//! Lists, bytes and texts, after their number (Core 3.0, Lists and Names).
+//! Lists, bytes and texts, each after its length (Core 3.0, Lists and Names).
 ghost use Rattle.std.specs.Prelude.{◌≡◌, ◌++◌, ◌∷◌, ◌^◌, ◌≤◌, ◌⊎◌, OnOk, OnErr, IfErr, IsErrOf, length, take};
 ghost use Rattle.std.specs.List.{All, Any, flat_map};
 ghost use Rattle.wasm_codec.specs.Lists.{items_bytes};
@@ -9,12 +9,22 @@ use super::{Encode, EncodeError};
 use std::alloc::Allocator;
 use wasm_codec::encode::keep_or_undo;
 
-/// Appends the number of items and then the bytes of each, or leaves `sink` as it was.
+/// Appends the number of items and then each item's encoding. On error `sink` is unchanged (Core 3.0, Lists).
 ///
-/// A number without a type is an `i32`, which is signed: write `&[0u32, 64]` for indexes. `&[0, 64]` has other bytes, since
-/// a signed 64 takes two.
+/// Fails with `TooLong` if there are more than 4,294,967,295 items, before it encodes any, and with any error of an
+/// item.
 ///
-/// `TooLong` where there are more than 4,294,967,295 items, before the first is encoded; else an error of an item.
+/// Write the type of numbers: `&[0u32, 64]` for indexes. The numbers of `&[0, 64]` are `i32`, and a signed 64 has two
+/// bytes.
+///
+/// # Examples
+///
+/// ```
+/// # use wasm_encoder::encode_list;
+/// let mut bytes = Vec::new(rt.alloc());
+/// encode_list(&[0u32, 64], &mut bytes)?;
+/// assert_eq!(rt; bytes.as_slice(), b"\x02\x00\x40".as_slice());
+/// ```
 pub fn encode_list<T: Encode, A: Allocator>(
     items: &[T],
     sink: &mut Vec<u8, A>,
@@ -31,9 +41,9 @@ pub fn encode_list<T: Encode, A: Allocator>(
     keep_or_undo(sink, start, result)
 }
 
-/// Appends a byte, the number of items and then the bytes of each, or leaves `sink` as it was.
+/// Appends `byte`, the number of items and then each item's encoding. On error `sink` is unchanged.
 ///
-/// `TooLong` where there are more than 4,294,967,295 items, before anything grows; else an error of an item.
+/// Fails with `TooLong` if there are more than 4,294,967,295 items, before it allocates, and with any error of an item.
 pub fn encode_list_after<T: Encode, A: Allocator>(
     byte: u8,
     items: &[T],
@@ -56,7 +66,7 @@ pub fn encode_list_after<T: Encode, A: Allocator>(
     keep_or_undo(sink, start, result)
 }
 
-/// Appends the number of items and then the bytes of each. An `Err` can leave a part of them.
+/// Appends the number of items and then each item's encoding. On error a part of the list may remain.
 fn append_list<T: Encode, A: Allocator>(
     items: &[T],
     sink: &mut Vec<u8, A>,
@@ -72,7 +82,7 @@ fn append_list<T: Encode, A: Allocator>(
     append_each(items, sink)
 }
 
-/// Appends the bytes of each item. An `Err` can leave a part of them.
+/// Appends each item's encoding. On error some of them may remain.
 pub fn append_each<T: Encode, A: Allocator>(
     items: &[T],
     sink: &mut Vec<u8, A>,
@@ -89,9 +99,18 @@ pub fn append_each<T: Encode, A: Allocator>(
     Ok(())
 }
 
-/// Appends the number of bytes and then the bytes, or leaves `sink` as it was.
+/// Appends the number of bytes and then the bytes. On error `sink` is unchanged (Core 3.0, Lists).
 ///
-/// `TooLong` where there are more than 4,294,967,295.
+/// Fails with `TooLong` if there are more than 4,294,967,295 bytes.
+///
+/// # Examples
+///
+/// ```
+/// # use wasm_encoder::encode_bytes;
+/// let mut bytes = Vec::new(rt.alloc());
+/// encode_bytes(b"\x2a\x80", &mut bytes)?;
+/// assert_eq!(rt; bytes.as_slice(), b"\x02\x2a\x80".as_slice());
+/// ```
 pub fn encode_bytes<A: Allocator>(bytes: &[u8], sink: &mut Vec<u8, A>) -> Result<(), EncodeError>
     ensures ok { OnOk result (sink.new.items ≡ sink.old.items ++ byte_list_bytes bytes.now) }
     ensures can { OnOk result (IsCount (length bytes.now)) }
@@ -105,9 +124,18 @@ pub fn encode_bytes<A: Allocator>(bytes: &[u8], sink: &mut Vec<u8, A>) -> Result
     keep_or_undo(sink, start, appended)
 }
 
-/// Appends the number of bytes of a text and then its bytes, as UTF-8, or leaves `sink` as it was.
+/// Appends the length of a text in bytes and then the text as UTF-8. On error `sink` is unchanged (Core 3.0, Names).
 ///
-/// `TooLong` where there are more than 4,294,967,295.
+/// Fails with `TooLong` if the text is longer than 4,294,967,295 bytes.
+///
+/// # Examples
+///
+/// ```
+/// # use wasm_encoder::encode_str;
+/// let mut bytes = Vec::new(rt.alloc());
+/// encode_str("naïve", &mut bytes)?;
+/// assert_eq!(rt; bytes.as_slice(), b"\x06na\xc3\xafve".as_slice());
+/// ```
 pub fn encode_str<A: Allocator>(text: &str, sink: &mut Vec<u8, A>) -> Result<(), EncodeError>
     ensures ok { OnOk result (sink.new.items ≡ sink.old.items ++ byte_list_bytes text.now) }
     ensures can { OnOk result (IsCount (length text.now)) }

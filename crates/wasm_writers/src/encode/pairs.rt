@@ -1,11 +1,11 @@
-//! Pairs: the bytes of the first value and then those of the second.
+//! The writer of pairs.
 ghost use Rattle.std.specs.Prelude.{◌++◌, ◌⊎◌};
 
 use super::{Encode, EncodeError};
 use std::alloc::Allocator;
 use wasm_codec::encode::keep_or_undo;
 
-/// The bytes of the first value and then those of the second.
+/// The encoding of the first value, and then that of the second.
 impl<T: Encode, U: Encode> Encode for (T, U) {
     ghost bytes = { λ pair. T.bytes pair.0 ++ U.bytes pair.1 };
 

@@ -1,4 +1,4 @@
-//! Fields, composite types, subtypes and the entries of a type section, written (Core 3.0, Composite Types to Recursive
+//! Writers of fields, composite types, subtypes and type section entries (Core 3.0, Composite Types to Recursive
 //! Types).
 ghost use Rattle.std.specs.Prelude.{◌≡◌, ◌++◌, ◌+◌, OnOk, IfErr, length, take};
 ghost use Rattle.wasm_codec.specs.Encoding.{IsCount, IsCountRefusal, IsRefusal, IsShortest, OnlyTooLong};
@@ -19,7 +19,7 @@ use wasm_types::types::{
     SubType, TypeEntry,
 };
 
-/// A storage type, and then `0x00` where it is constant or `0x01` where it is mutable (Core 3.0, Composite Types).
+/// A storage type, then `0x00` if the field is immutable or `0x01` if it is mutable (Core 3.0, Composite Types).
 #[tactic(auto, using(wasm_types::proofs::WrittenTypes::field_written))]
 impl Encode for FieldType {
     ghost bytes = { field_type.bytes };
@@ -33,7 +33,7 @@ impl Encode for FieldType {
     }
 }
 
-/// Appends a function type. An `Err` can leave a part of it.
+/// Appends a function type. On error a part of it may remain.
 #[tactic(auto, using(wasm_types::proofs::WrittenTypes::func_ok), unfolding(wasm_types::specs::formats::Types::inner_type, wasm_types::specs::formats::Types::result_type))]
 fn append_func<A: Allocator>(ty: &FuncType, sink: &mut Vec<u8, A>) -> Result<(), EncodeError>
     ensures ok { OnOk result (sink.new.items ≡ sink.old.items ++ inner_type.bytes (inner.Func ty.now)) }
@@ -47,6 +47,8 @@ fn append_func<A: Allocator>(ty: &FuncType, sink: &mut Vec<u8, A>) -> Result<(),
 }
 
 /// `0x60`, the parameters and the results (Core 3.0, Composite Types).
+///
+/// Fails with `TooLong` if there are more than 4,294,967,295 parameters or results.
 impl Encode for FuncType {
     ghost bytes = { λ ty. inner_type.bytes (inner.Func ty) };
 
@@ -64,6 +66,8 @@ impl Encode for FuncType {
 }
 
 /// `0x5F` and the fields (Core 3.0, Composite Types).
+///
+/// Fails with `TooLong` if there are more than 4,294,967,295 fields.
 #[tactic(auto, using(wasm_types::proofs::WrittenTypes::struct_ok), unfolding(wasm_types::specs::formats::Types::inner_type, wasm_types::specs::formats::Types::result_type))]
 impl Encode for StructType {
     ghost bytes = { λ ty. inner_type.bytes (inner.Struct ty) };
@@ -94,7 +98,7 @@ impl Encode for ArrayType {
     }
 }
 
-/// `0x5D` and the index of a function type, as an s33 (a proposal).
+/// `0x5D` and the index of a function type, as an s33 (stack switching proposal).
 #[tactic(auto, using(wasm_types::proofs::WrittenTypes::cont_written), unfolding(wasm_types::specs::formats::Types::inner_type, wasm_types::specs::formats::Types::result_type))]
 impl Encode for ContType {
     ghost bytes = { λ ty. inner_type.bytes (inner.Cont ty) };
@@ -109,7 +113,9 @@ impl Encode for ContType {
     }
 }
 
-/// The bytes of what it is made of (Core 3.0, Composite Types).
+/// The encoding of the function, struct, array or continuation type (Core 3.0, Composite Types).
+///
+/// Fails with `TooLong` if a list in the type has more than 4,294,967,295 items.
 impl Encode for CompositeInnerType {
     ghost bytes = { inner_type.bytes };
 
@@ -129,7 +135,7 @@ impl Encode for CompositeInnerType {
     }
 }
 
-/// Appends a composite type. An `Err` can leave a part of it.
+/// Appends a composite type. On error a part of it may remain.
 #[tactic(auto, using(wasm_types::proofs::WrittenTypes::composite_ok), unfolding(wasm_types::specs::formats::Types::composite_type))]
 fn append_composite<A: Allocator>(
     ty: &CompositeType,
@@ -156,7 +162,10 @@ fn append_composite<A: Allocator>(
     ty.inner.encode(sink)
 }
 
-/// What it shares and describes, its descriptor, and what it is made of (Core 3.0, Composite Types and proposals).
+/// `0x65` if the type is shared, `0x4C` and the index of the type that it describes, `0x4D` and the index of its
+/// descriptor, and the inner type (Core 3.0, Composite Types; proposals).
+///
+/// Fails with `TooLong` if a list in the type has more than 4,294,967,295 items.
 impl Encode for CompositeType {
     ghost bytes = { composite_type.bytes };
 
@@ -173,7 +182,7 @@ impl Encode for CompositeType {
     }
 }
 
-/// Appends the supertypes of a subtype, if they are written. An `Err` can leave a part of them.
+/// Appends the supertypes of a subtype, unless its encoding omits them. On error a part of them may remain.
 fn append_supertypes<A: Allocator>(
     is_final: bool,
     supertypes: &[u32],
@@ -191,7 +200,7 @@ fn append_supertypes<A: Allocator>(
     }
 }
 
-/// Appends a subtype. An `Err` can leave a part of it.
+/// Appends a subtype. On error a part of it may remain.
 #[tactic(auto, using(wasm_types::proofs::WrittenTypes::sub_ok), unfolding(wasm_types::specs::formats::Types::sub_type))]
 fn append_sub<A: Allocator>(ty: &SubType, sink: &mut Vec<u8, A>) -> Result<(), EncodeError>
     ensures ok { OnOk result (sink.new.items ≡ sink.old.items ++ sub_type.bytes ty.now) }
@@ -204,8 +213,10 @@ fn append_sub<A: Allocator>(ty: &SubType, sink: &mut Vec<u8, A>) -> Result<(), E
     ty.composite_type.encode(sink)
 }
 
-/// `0x50` or `0x4F` and the supertypes, and the composite type; a final one without supertypes is the composite type
-/// alone (Core 3.0, Recursive Types).
+/// `0x50`, or `0x4F` for a final subtype, then the supertypes and the composite type. A final subtype without
+/// supertypes is the composite type alone (Core 3.0, Recursive Types).
+///
+/// Fails with `TooLong` if a list in the subtype has more than 4,294,967,295 items.
 impl Encode for SubType {
     ghost bytes = { sub_type.bytes };
 
@@ -222,7 +233,9 @@ impl Encode for SubType {
     }
 }
 
-/// `0x4E` and a list of subtypes, or one subtype (Core 3.0, Recursive Types).
+/// `0x4E` and a list of subtypes for a recursion group; otherwise the subtype (Core 3.0, Recursive Types).
+///
+/// Fails with `TooLong` if a list in the entry has more than 4,294,967,295 items.
 #[tactic(auto, using(crate::proofs::WrittenLists::list_refused, wasm_types::proofs::WrittenTypes::alone_ok, wasm_types::proofs::WrittenTypes::group_ok), unfolding(wasm_types::specs::formats::Types::recursive_type))]
 impl Encode for TypeEntry {
     ghost bytes = { recursive_type.bytes };

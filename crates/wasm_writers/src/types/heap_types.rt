@@ -1,4 +1,4 @@
-//! Heap, reference, value and storage types, written (Core 3.0, Heap Types to Composite Types).
+//! Writers of heap, reference, value and storage types (Core 3.0, Heap Types to Composite Types).
 ghost use Rattle.wasm_codec.specs.Encoding.{IsShortest};
 ghost use Rattle.wasm_types.specs.formats.Types.{abstract_type, heap_type, ref_type, val_type, storage_type};
 
@@ -23,7 +23,8 @@ impl Encode for AbstractHeapType {
     }
 }
 
-/// A byte or two, or an index as an s33, or `0x62` and an index (Core 3.0, Heap Types).
+/// One byte for an abstract heap type, `0x65` before it if shared; an index as an s33, or `0x62` and an index (Core
+/// 3.0, Heap Types).
 #[tactic(auto, using(wasm_types::proofs::WrittenTypes::heap_written))]
 impl Encode for HeapType {
     ghost bytes = { heap_type.bytes };
@@ -37,7 +38,8 @@ impl Encode for HeapType {
     }
 }
 
-/// The short form for a nullable abstract one, else `0x63` or `0x64` and the heap type (Core 3.0, Reference Types).
+/// One byte for a nullable abstract type, two if shared; otherwise `0x63` or `0x64` and the heap type (Core 3.0,
+/// Reference Types).
 #[tactic(auto, using(wasm_types::proofs::WrittenTypes::ref_written))]
 impl Encode for RefType {
     ghost bytes = { ref_type.bytes };
@@ -65,7 +67,7 @@ impl Encode for ValType {
     }
 }
 
-/// One byte where it is packed, else a value type (Core 3.0, Composite Types).
+/// One byte for a packed type, otherwise a value type (Core 3.0, Composite Types).
 #[tactic(auto, using(wasm_types::proofs::WrittenTypes::storage_written))]
 impl Encode for StorageType {
     ghost bytes = { storage_type.bytes };

@@ -1,4 +1,4 @@
-//! The opcodes that are scanned with their operands, at the places of their bytes.
+//! The opcodes that are scanned with their operands, in a table by their bytes.
 ghost use Rattle.std.specs.Prelude.{◌≡◌, Some, IfSome};
 ghost use Rattle.wasm_instructions.specs.formats.Opcodes.{without_prefix};
 ghost use Rattle.wasm_instructions.specs.formats.Opcodes.{opcode_kind};
@@ -6,10 +6,10 @@ ghost use Rattle.wasm_instructions.specs.ScannedOpcodes.{IsScanTable};
 
 use crate::table::Kind;
 
-/// The kind of operands that is scanned after an opcode of one byte. An `Option<Kind>` would be looked into twice.
+/// The kind of operands that is scanned after an opcode of one byte. An `Option<Kind>` takes two tests.
 #[derive(Clone, Copy)]
 pub(super) enum ScannedKind {
-    /// It isn't scanned, or the byte is no opcode.
+    /// The byte is no opcode, or its operands aren't scanned.
     No,
     /// `Kind::None`.
     Plain,
@@ -67,7 +67,7 @@ pub(super) const SCANNED: [ScannedKind; 256] = [
     NO, NO, NO, NO, NO, NO, NO, NO, NO, NO, NO, NO, NO, NO, NO, NO, NO, NO, NO, NO, NO, NO,
 ];
 
-/// The kind of the operands that are scanned after an opcode of one byte, by the table.
+/// Returns the kind of operands that is scanned after an opcode of one byte, by the table.
 #[inline(always)]
 pub(super) fn scanned_kind(places: &[ScannedKind], byte: u8) -> Option<Kind>
     requires { IsScanTable places.now }

@@ -1,4 +1,4 @@
-//! Waiting, notifying, fences, atomic loads and stores: of the proposal on threads.
+//! Wait, notify, fence, and atomic loads and stores (threads proposal).
 ghost use Rattle.std.specs.Prelude.{◌≤◌, ◌<◌, ◌↔◌, IsOk, IsErrOf};
 ghost use Rattle.std.specs.Borrow.{sem};
 ghost use Rattle.wasm_sink.specs.Sink.{IsUnchangedAtErr, IsSameSink, Writes, WritesBytes, HasRoom};

@@ -1,4 +1,4 @@
-//! Atomic reads with a write: of the proposal on threads.
+//! Atomic read-modify-write instructions (threads proposal).
 ghost use Rattle.std.specs.Prelude.{◌≤◌, ◌<◌, ◌↔◌, IsOk, IsErrOf};
 ghost use Rattle.std.specs.Borrow.{sem};
 ghost use Rattle.wasm_sink.specs.Sink.{IsUnchangedAtErr, IsSameSink, WritesBytes, HasRoom};

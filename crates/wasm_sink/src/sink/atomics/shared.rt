@@ -1,5 +1,5 @@
-//! Atomic accesses to globals, tables, structs and arrays, and shared references to 31-bit integers: of the proposal
-//! on shared types.
+//! Atomic accesses to globals, tables, structs and arrays, and shared references to 31-bit integers
+//! (shared-everything-threads proposal).
 ghost use Rattle.std.specs.Prelude.{IsOk};
 ghost use Rattle.std.specs.Borrow.{sem};
 ghost use Rattle.wasm_sink.specs.Sink.{IsUnchangedAtErr, IsSameSink, Writes, HasRoom};

@@ -1,4 +1,4 @@
-//! Instructions with constants and with lanes.
+//! Emitters of instructions with a constant or with lanes.
 ghost use Rattle.std.specs.Prelude.{IsOk};
 ghost use Rattle.std.specs.Borrow.{sem};
 ghost use Rattle.wasm_sink.specs.Sink.{IsUnchangedAtErr, IsSameSink, Writes, HasRoom};
@@ -17,7 +17,7 @@ use wasm_instructions::table::Opcode;
 
 #[tactic(auto, using(crate::proofs::WrittenCalls::short_call, wasm_instructions::proofs::OpcodeLaws::in_table_short, crate::proofs::WrittenCalls::shortest_call))]
 impl<'a, A: Allocator> InstructionSink<'a, A> {
-    /// An instruction without a prefix, with a signed number of 32 bits.
+    /// Appends an instruction without a prefix, with a signed 32-bit number.
     pub(in crate::sink) fn emit_i32(
         self,
         number: u8,
@@ -34,7 +34,7 @@ impl<'a, A: Allocator> InstructionSink<'a, A> {
         Ok(InstructionSink { bytes })
     }
 
-    /// An instruction without a prefix, with a signed number of 64 bits.
+    /// Appends an instruction without a prefix, with a signed 64-bit number.
     pub(in crate::sink) fn emit_i64(
         self,
         number: u8,
@@ -51,7 +51,7 @@ impl<'a, A: Allocator> InstructionSink<'a, A> {
         Ok(InstructionSink { bytes })
     }
 
-    /// An instruction without a prefix, with the bits of a floating-point number of 32 bits.
+    /// Appends an instruction without a prefix, with the bits of a 32-bit floating-point number.
     pub(in crate::sink) fn emit_f32(
         self,
         number: u8,
@@ -68,7 +68,7 @@ impl<'a, A: Allocator> InstructionSink<'a, A> {
         Ok(InstructionSink { bytes })
     }
 
-    /// An instruction without a prefix, with the bits of a floating-point number of 64 bits.
+    /// Appends an instruction without a prefix, with the bits of a 64-bit floating-point number.
     pub(in crate::sink) fn emit_f64(
         self,
         number: u8,
@@ -85,7 +85,7 @@ impl<'a, A: Allocator> InstructionSink<'a, A> {
         Ok(InstructionSink { bytes })
     }
 
-    /// An instruction after `0xFD`, with a vector.
+    /// Appends an instruction after `0xFD`, with a 128-bit vector.
     pub(in crate::sink) fn emit_v128(
         self,
         number: u32,
@@ -102,7 +102,7 @@ impl<'a, A: Allocator> InstructionSink<'a, A> {
         Ok(InstructionSink { bytes })
     }
 
-    /// An instruction after `0xFD`, with sixteen lanes.
+    /// Appends an instruction after `0xFD`, with sixteen lane indexes.
     pub(in crate::sink) fn emit_shuffle(
         self,
         number: u32,
@@ -119,7 +119,7 @@ impl<'a, A: Allocator> InstructionSink<'a, A> {
         Ok(InstructionSink { bytes })
     }
 
-    /// An instruction after `0xFD`, with a lane.
+    /// Appends an instruction after `0xFD`, with one lane index.
     pub(in crate::sink) fn emit_lane(
         self,
         number: u32,

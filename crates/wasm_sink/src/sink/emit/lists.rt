@@ -1,4 +1,4 @@
-//! Instructions with a list.
+//! Emitters of instructions with a list. They fail with `TooLong` if the list has more than 4,294,967,295 items.
 ghost use Rattle.std.specs.Prelude.{◌≡◌, Some, length, IfErr};
 ghost use Rattle.std.specs.Borrow.{sem};
 ghost use Rattle.wasm_sink.specs.Sink.{IsUnchangedAtErr, IsSameSink};
@@ -22,7 +22,7 @@ use wasm_types::types::ValType;
 
 #[tactic(auto, using(wasm_instructions::proofs::OpcodeLaws::in_table_short, crate::proofs::WrittenCalls::shortest_call), unfolding(wasm_calls::specs::Appending::AppendsAll))]
 impl<'a, A: Allocator> InstructionSink<'a, A> {
-    /// An instruction without a prefix, with value types.
+    /// Appends an instruction without a prefix, with a list of value types.
     pub(in crate::sink) fn emit_types(
         self,
         number: u8,
@@ -38,7 +38,7 @@ impl<'a, A: Allocator> InstructionSink<'a, A> {
         Ok(InstructionSink { bytes })
     }
 
-    /// An instruction with labels, and the label of all other numbers.
+    /// Appends a branch table: `labels`, and the label `default` for every other operand.
     pub(in crate::sink) fn emit_branch_table<I: ExactSizeIterator<Item = u32>>(
         self,
         number: u8,
@@ -59,7 +59,7 @@ impl<'a, A: Allocator> InstructionSink<'a, A> {
         Ok(InstructionSink { bytes })
     }
 
-    /// An instruction with a block type and clauses that catch exceptions.
+    /// Appends an instruction with a block type and catch clauses.
     pub(in crate::sink) fn emit_try_table<I: ExactSizeIterator<Item = Catch>>(
         self,
         number: u8,
@@ -80,7 +80,7 @@ impl<'a, A: Allocator> InstructionSink<'a, A> {
         Ok(InstructionSink { bytes })
     }
 
-    /// An instruction with an index and handlers.
+    /// Appends an instruction with an index and handlers.
     pub(in crate::sink) fn emit_resume<I: ExactSizeIterator<Item = Handle>>(
         self,
         number: u8,
@@ -101,7 +101,7 @@ impl<'a, A: Allocator> InstructionSink<'a, A> {
         Ok(InstructionSink { bytes })
     }
 
-    /// An instruction with two indexes and handlers.
+    /// Appends an instruction with two indexes, `first` before `second`, and handlers.
     pub(in crate::sink) fn emit_resume_throw<I: ExactSizeIterator<Item = Handle>>(
         self,
         number: u8,

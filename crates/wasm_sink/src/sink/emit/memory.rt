@@ -1,4 +1,5 @@
-//! Instructions with memory arguments. An alignment of 64 or more is refused before anything grows.
+//! Emitters of instructions with memory arguments. They fail with `Alignment` if the alignment is 64 or more, before
+//! they allocate.
 ghost use Rattle.std.specs.Prelude.{◌≤◌, ◌<◌, ◌↔◌, IsOk, IsErrOf};
 ghost use Rattle.std.specs.Borrow.{sem};
 ghost use Rattle.wasm_sink.specs.Sink.{opcode_of, IsUnchangedAtErr, IsSameSink, WritesBytes, HasRoom};
@@ -15,7 +16,7 @@ use wasm_instructions::table::{Opcode, Prefix};
 
 #[tactic(auto, using(crate::proofs::WrittenCalls::short_call, wasm_instructions::proofs::OpcodeLaws::in_table_short, crate::proofs::WrittenCalls::shortest_call))]
 impl<'a, A: Allocator> InstructionSink<'a, A> {
-    /// An instruction with a memory argument.
+    /// Appends an instruction with a memory argument.
     pub(in crate::sink) fn emit_mem(
         self,
         prefix: Prefix,
@@ -34,7 +35,7 @@ impl<'a, A: Allocator> InstructionSink<'a, A> {
         Ok(InstructionSink { bytes })
     }
 
-    /// An instruction after `0xFD`, with a memory argument and a lane.
+    /// Appends an instruction after `0xFD`, with a memory argument and a lane index.
     pub(in crate::sink) fn emit_mem_lane(
         self,
         number: u32,

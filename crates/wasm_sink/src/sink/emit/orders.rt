@@ -1,4 +1,4 @@
-//! Instructions with orderings.
+//! Emitters of instructions with orderings (threads proposal).
 ghost use Rattle.std.specs.Prelude.{IsOk};
 ghost use Rattle.std.specs.Borrow.{sem};
 ghost use Rattle.wasm_sink.specs.Sink.{IsUnchangedAtErr, IsSameSink, Writes, HasRoom};
@@ -15,7 +15,7 @@ use wasm_instructions::table::Opcode;
 
 #[tactic(auto, using(crate::proofs::WrittenCalls::short_call, wasm_instructions::proofs::OpcodeLaws::in_table_short, crate::proofs::WrittenCalls::shortest_call))]
 impl<'a, A: Allocator> InstructionSink<'a, A> {
-    /// An instruction after `0xFE`, with an ordering.
+    /// Appends an instruction after `0xFE`, with an ordering.
     pub(in crate::sink) fn emit_order(
         self,
         number: u32,
@@ -32,7 +32,7 @@ impl<'a, A: Allocator> InstructionSink<'a, A> {
         Ok(InstructionSink { bytes })
     }
 
-    /// An instruction after `0xFE`, with an ordering and an index.
+    /// Appends an instruction after `0xFE`, with an ordering and an index.
     pub(in crate::sink) fn emit_order_index(
         self,
         number: u32,
@@ -50,7 +50,7 @@ impl<'a, A: Allocator> InstructionSink<'a, A> {
         Ok(InstructionSink { bytes })
     }
 
-    /// An instruction after `0xFE`, with an ordering and two indexes.
+    /// Appends an instruction after `0xFE`, with an ordering and two indexes, `first` before `second`.
     pub(in crate::sink) fn emit_order_two_indexes(
         self,
         number: u32,

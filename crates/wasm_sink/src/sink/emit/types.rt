@@ -1,4 +1,4 @@
-//! Instructions with block, heap, reference and value types.
+//! Emitters of instructions with block, heap, reference and value types.
 ghost use Rattle.std.specs.Prelude.{◌∷◌, [], IsOk};
 ghost use Rattle.std.specs.Borrow.{sem};
 ghost use Rattle.wasm_sink.specs.Sink.{opcode_of, IsUnchangedAtErr, IsSameSink, Writes, HasRoom};
@@ -16,7 +16,7 @@ use wasm_types::types::{HeapType, RefType, ValType};
 
 #[tactic(auto, using(crate::proofs::WrittenCalls::short_call, wasm_instructions::proofs::OpcodeLaws::in_table_short, crate::proofs::WrittenCalls::shortest_call))]
 impl<'a, A: Allocator> InstructionSink<'a, A> {
-    /// An instruction without a prefix, with a block type.
+    /// Appends an instruction without a prefix, with a block type.
     pub(in crate::sink) fn emit_block(
         self,
         number: u8,
@@ -33,7 +33,7 @@ impl<'a, A: Allocator> InstructionSink<'a, A> {
         Ok(InstructionSink { bytes })
     }
 
-    /// An instruction with a heap type.
+    /// Appends an instruction with a heap type.
     pub(in crate::sink) fn emit_heap(
         self,
         prefix: Prefix,
@@ -51,7 +51,7 @@ impl<'a, A: Allocator> InstructionSink<'a, A> {
         Ok(InstructionSink { bytes })
     }
 
-    /// An instruction without a prefix, with a list of one value type.
+    /// Appends an instruction without a prefix, with a list of one value type.
     pub(in crate::sink) fn emit_type(
         self,
         number: u8,
@@ -68,7 +68,7 @@ impl<'a, A: Allocator> InstructionSink<'a, A> {
         Ok(InstructionSink { bytes })
     }
 
-    /// A branch on a cast, after `0xFB`.
+    /// Appends a branch on a cast, after `0xFB`.
     pub(in crate::sink) fn emit_cast(
         self,
         number: u32,

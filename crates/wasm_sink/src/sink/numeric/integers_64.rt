@@ -1,5 +1,4 @@
-//! Operations on integers of 64 bits (Core 3.0, Numeric Instructions). Those on 128 bits are of the proposal on
-//! wide arithmetic.
+//! Operations on 64-bit integers (Core 3.0, Numeric Instructions), and on 128-bit integers (wide arithmetic proposal).
 ghost use Rattle.std.specs.Prelude.{IsOk};
 ghost use Rattle.std.specs.Borrow.{sem};
 ghost use Rattle.wasm_sink.specs.Sink.{IsUnchangedAtErr, IsSameSink, Writes, HasRoom};

@@ -1,4 +1,4 @@
-//! Operations on vectors as a whole (Core 3.0, Vector Instructions).
+//! Bitwise operations on vectors (Core 3.0, Vector Instructions).
 ghost use Rattle.std.specs.Prelude.{IsOk};
 ghost use Rattle.std.specs.Borrow.{sem};
 ghost use Rattle.wasm_sink.specs.Sink.{IsUnchangedAtErr, IsSameSink, Writes, HasRoom};

@@ -1,4 +1,4 @@
-//! Operations on four floating-point numbers of 32 bits, or two of 64 (Core 3.0, Vector Instructions).
+//! Operations on four 32-bit or two 64-bit floating-point numbers (Core 3.0, Vector Instructions).
 ghost use Rattle.std.specs.Prelude.{IsOk};
 ghost use Rattle.std.specs.Borrow.{sem};
 ghost use Rattle.wasm_sink.specs.Sink.{IsUnchangedAtErr, IsSameSink, Writes, HasRoom};

@@ -1,4 +1,4 @@
-//! Operations on eight integers of 16 bits (Core 3.0, Vector Instructions).
+//! Operations on eight 16-bit integers (Core 3.0, Vector Instructions).
 ghost use Rattle.std.specs.Prelude.{IsOk};
 ghost use Rattle.std.specs.Borrow.{sem};
 ghost use Rattle.wasm_sink.specs.Sink.{IsUnchangedAtErr, IsSameSink, Writes, HasRoom};

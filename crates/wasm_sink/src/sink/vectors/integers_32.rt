@@ -1,4 +1,4 @@
-//! Operations on four integers of 32 bits (Core 3.0, Vector Instructions).
+//! Operations on four 32-bit integers (Core 3.0, Vector Instructions).
 ghost use Rattle.std.specs.Prelude.{IsOk};
 ghost use Rattle.std.specs.Borrow.{sem};
 ghost use Rattle.wasm_sink.specs.Sink.{IsUnchangedAtErr, IsSameSink, Writes, HasRoom};

@@ -1,4 +1,4 @@
-//! Operations on sixteen integers of 8 bits (Core 3.0, Vector Instructions).
+//! Operations on sixteen 8-bit integers (Core 3.0, Vector Instructions).
 ghost use Rattle.std.specs.Prelude.{IsOk};
 ghost use Rattle.std.specs.Borrow.{sem};
 ghost use Rattle.wasm_sink.specs.Sink.{IsUnchangedAtErr, IsSameSink, Writes, HasRoom};
