@@ -1,13 +1,13 @@
-/* Reads a module from standard input, normalises it where it lies, and writes it to standard output.
+/* Reads a module from standard input, normalises it in place, and writes it to standard output.
  *
- * The exit status is 0 where it was written, 1 where it was refused, 3 without memory, and 4 where reading or writing
+ * The exit status is 0 if the module was written, 1 if it is malformed, 3 if memory ran out, and 4 if a read or a write
  * failed. */
 #include "nosgrivel.h"
 #include <stdio.h>
 #include <stdlib.h>
 
-/* All of a file, and how many bytes that are; NULL where there is no memory. The block has room for one byte more, so
- * that there is a block for an empty file too. */
+/* Reads all of a file, and sets *len to its length. Returns NULL if memory ran out. The block is never empty, even if
+ * the file is, because no pointer may be null. */
 static uint8_t *read_all(FILE *file, size_t *len) {
     size_t room = 1 << 16;
     uint8_t *bytes = malloc(room);

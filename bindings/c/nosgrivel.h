@@ -1,19 +1,20 @@
-/* The normalisers of Nosgrivel, a proved WebAssembly encoder, for C.
+/* Nosgrivel, a proved WebAssembly encoder: its normalisers and checks, for C.
  *
- * What each call promises is proved of the library, for all inputs, where the caller keeps these rules:
+ * Every promise in this file is proved for all inputs, if the caller keeps these rules:
  *
- * - No pointer is null, even where its length is 0.
- * - `input` has `input_len` bytes, `output` has `output_len`, `bytes` has `len`, and `count` is one size_t. None of
- *   them overlaps another. During the call nothing else writes any of them, and nothing else reads `output`, `bytes`
- *   or `count`.
- * - No length is more than PTRDIFF_MAX.
- * - malloc, realloc and free are those of one allocator, and malloc aligns as C says.
- * - No call comes from a signal handler, or from the forked child of a process with threads.
+ * - No pointer is null, even if its length is 0.
+ * - `input` points to `input_len` bytes, `output` to `output_len` bytes, `bytes` to `len` bytes, and `count` to one
+ *   size_t. None of them overlaps another. During the call nothing else writes to any of them, and nothing else reads
+ *   `output`, `bytes` or `count`.
+ * - No length is greater than PTRDIFF_MAX.
+ * - malloc, realloc and free belong to one allocator, and malloc aligns as C demands.
+ * - No call is made from a signal handler, or in the forked child of a process with threads.
  *
- * A call keeps no pointer and no state, so any number of threads may call at a time.
+ * A call keeps no pointer and no state, so any number of threads may call at once. It frees all memory that it
+ * allocates.
  *
- * Normalising moves bytes. Offsets that custom sections keep then point elsewhere: those of relocatable object files
- * (`linking`, `reloc.*`) and of debug information (DWARF, `.debug_*`). Normalise what is linked and needs neither. */
+ * Normalising moves bytes, so offsets in custom sections become stale: those of relocatable object files (`linking`,
+ * `reloc.*`) and of debug information (DWARF, `.debug_*`). Normalise linked modules that need neither. */
 #ifndef NOSGRIVEL_H
 #define NOSGRIVEL_H
 
@@ -24,20 +25,34 @@
 extern "C" {
 #endif
 
-/* What a call answers, and what it leaves in *count. */
-#define NOSGRIVEL_NORMAL 0u     /* done, or the input is what was asked; *count: the length of the normal form */
-#define NOSGRIVEL_REFUSED 1u    /* the input isn't what was asked; *count: the length of its longest whole prefix */
-#define NOSGRIVEL_NOT_NORMAL 2u /* judge alone: the normal form is shorter; *count: its length */
-#define NOSGRIVEL_NO_MEMORY 3u  /* a request for memory was refused; all is as it was, *count too */
-#define NOSGRIVEL_TOO_LONG 5u   /* the normal form is longer than the output; *count: its length */
+/* The statuses, and the value of *count after each. */
 
-/* Write the normal form of the input to the beginning of the output: the same in the fewest bytes. It is never longer
- * than the input, so with output_len >= input_len TOO_LONG is never answered. Output past the normal form is left as it
- * was, and after any other status than NORMAL all of it is.
+/* Success. The minimal encoding was written, or the input is minimally encoded. *count: the length of the minimal
+ * encoding. */
+#define NOSGRIVEL_NORMAL 0u
+
+/* The input is malformed. Nothing was written. *count: the length of the longest prefix that decodes, so the offset of
+ * the first section, instruction, entry or code body that doesn't. The checks also return this status if the input is
+ * not minimally encoded; see below. */
+#define NOSGRIVEL_REFUSED 1u
+
+/* The input decodes, but its minimal encoding is shorter. Only the judges return this. *count: the length of the
+ * minimal encoding. */
+#define NOSGRIVEL_NOT_NORMAL 2u
+
+/* Memory ran out. Nothing was written. *count is unchanged. */
+#define NOSGRIVEL_NO_MEMORY 3u
+
+/* The output is too short. Nothing was written. *count: the length that it needs. Call again with that length. */
+#define NOSGRIVEL_TOO_LONG 5u
+
+/* Write the minimal encoding of the input to the start of the output. It is never longer than the input, so the status
+ * is never NOSGRIVEL_TOO_LONG if output_len >= input_len. After NOSGRIVEL_NORMAL the output past *count is unchanged;
+ * after any other status all of it is.
  *
- * A module: the header and sections. Each section's size and the body of each type section and code section is written
- * in the fewest bytes, and every other body as it is. Instructions: one after another, to the end of the input. A type
- * section, a code section: the body alone, without its id and size. */
+ * module: section sizes, type sections and code sections get their minimal encoding. All other bodies are copied.
+ * instructions: a list of instructions that ends with the input. They need not nest, and need no final `end`.
+ * type_section, code_section: the body of such a section, without its id and size. */
 uint32_t nosgrivel_normalise_module(
     const uint8_t *input, size_t input_len, uint8_t *output, size_t output_len, size_t *count);
 uint32_t nosgrivel_normalise_instructions(
@@ -47,33 +62,34 @@ uint32_t nosgrivel_normalise_type_section(
 uint32_t nosgrivel_normalise_code_section(
     const uint8_t *input, size_t input_len, uint8_t *output, size_t output_len, size_t *count);
 
-/* The same in the place of the input: TOO_LONG is never answered. After NORMAL the first *count bytes are the normal
- * form and the others are as they were; after any other status all are. */
+/* The same over the input. The status is never NOSGRIVEL_TOO_LONG. After NOSGRIVEL_NORMAL the first *count bytes are
+ * the minimal encoding, and the others are unchanged; after any other status all bytes are unchanged. */
 uint32_t nosgrivel_normalise_module_in_place(uint8_t *bytes, size_t len, size_t *count);
 uint32_t nosgrivel_normalise_instructions_in_place(uint8_t *bytes, size_t len, size_t *count);
 uint32_t nosgrivel_normalise_type_section_in_place(uint8_t *bytes, size_t len, size_t *count);
 uint32_t nosgrivel_normalise_code_section_in_place(uint8_t *bytes, size_t len, size_t *count);
 
-/* Write the canonical form of a module: every number, size, type, index and limit of every section in the fewest bytes.
- * Two modules have the same canonical form exactly if their sections hold the same. REFUSED where a section of any kind
- * can't be decoded; the order of sections isn't looked at. Else as nosgrivel_normalise_module and …_in_place. */
+/* Write the canonical form of a module: every number, size, type, index and limit has its minimal encoding. Two modules
+ * have the same canonical form if and only if their decoded sections are equal. The status is NOSGRIVEL_REFUSED if any
+ * section is malformed; section order is not checked. Otherwise as nosgrivel_normalise_module and
+ * nosgrivel_normalise_module_in_place. */
 uint32_t nosgrivel_canonicalise(
     const uint8_t *input, size_t input_len, uint8_t *output, size_t output_len, size_t *count);
 uint32_t nosgrivel_canonicalise_in_place(uint8_t *bytes, size_t len, size_t *count);
 
-/* Whether the input is its own normal form (NORMAL) or has a shorter one (NOT_NORMAL), and how long that is. What is
- * REFUSED has none. */
+/* Check whether the input is minimally encoded: NOSGRIVEL_NORMAL if it is, NOSGRIVEL_NOT_NORMAL if its minimal encoding
+ * is shorter. In both cases *count is the length of the minimal encoding, and the length that a normaliser needs. */
 uint32_t nosgrivel_judge_module(const uint8_t *input, size_t input_len, size_t *count);
 uint32_t nosgrivel_judge_instructions(const uint8_t *input, size_t input_len, size_t *count);
 uint32_t nosgrivel_judge_type_section(const uint8_t *input, size_t input_len, size_t *count);
 uint32_t nosgrivel_judge_code_section(const uint8_t *input, size_t input_len, size_t *count);
 
-/* The strict question: NORMAL where all of the input is whole and in its shortest encoding. REFUSED else, and *count
- * is the length of the longest prefix of sections, instructions, entries or code bodies that are, so the place of the
- * first that isn't.
+/* Check whether the input is minimally encoded, and locate the first part that isn't: NOSGRIVEL_NORMAL if it is,
+ * NOSGRIVEL_REFUSED if it is malformed or not minimally encoded. In the second case *count is the length of the longest
+ * prefix that is minimally encoded.
  *
- * Of a module the header and the sections' sizes are asked alone, and no body; nosgrivel_judge_module asks of those of
- * type sections and code sections too. */
+ * nosgrivel_check_module checks the header and the section sizes, and no body. nosgrivel_judge_module also decodes type
+ * sections and code sections. */
 uint32_t nosgrivel_check_module(const uint8_t *input, size_t input_len, size_t *count);
 uint32_t nosgrivel_check_instructions(const uint8_t *input, size_t input_len, size_t *count);
 uint32_t nosgrivel_check_type_section(const uint8_t *input, size_t input_len, size_t *count);

@@ -1,8 +1,8 @@
-/* Refuses each request for memory of each call in turn: the call answers NO_MEMORY, leaves the output and the count as
- * they were, and gives all memory back. Once no request is refused it answers as it must. An output that is too short
- * is left as it was too.
+/* Makes every allocation of every call fail once. The call must return NOSGRIVEL_NO_MEMORY, leave the output and the
+ * count unchanged, and free all memory. Once no allocation fails, the call must succeed. Also tests outputs that are
+ * too short.
  *
- * It is linked with --wrap for malloc, realloc and free, so that the archive's requests come here. */
+ * This program is linked with --wrap for malloc, realloc and free, so that the archive allocates here. */
 #include "nosgrivel.h"
 #include <stdio.h>
 #include <stdlib.h>
@@ -12,8 +12,8 @@ void *__real_malloc(size_t size);
 void *__real_realloc(void *block, size_t size);
 void __real_free(void *block);
 
-static long left = -1; /* how many requests are granted before one is refused; below 0: all */
-static long held;      /* how many blocks are held */
+static long left = -1; /* number of allocations that succeed before one fails; negative: all succeed */
+static long held;      /* number of blocks that are allocated */
 
 void *__wrap_malloc(size_t size) {
     void *block = left >= 0 && left-- == 0 ? NULL : __real_malloc(size);
@@ -34,8 +34,8 @@ typedef uint32_t normalise(const uint8_t *, size_t, uint8_t *, size_t, size_t *)
 typedef uint32_t in_place(uint8_t *, size_t, size_t *);
 typedef uint32_t question(const uint8_t *, size_t, size_t *);
 
-/* An input, its normal form, how far its bytes are whole and shortest, and the calls of its kind, the last two of which
- * there may not be. */
+/* An input, its minimal encoding, the length of its minimally encoded prefix, and the calls for it. `judge` and `check`
+ * may be NULL. */
 struct row {
     const char *name;
     const uint8_t *input, *normal;
@@ -56,7 +56,7 @@ static void expect(int holds, const char *name, const char *what, long at) {
     }
 }
 
-/* One of the four calls. */
+/* Makes one of the four calls. */
 static uint32_t answer(const struct row *row, int call, uint8_t *output, size_t *count) {
     switch (call) {
     case 0: return row->normalise(row->input, row->input_len, output, row->input_len, count);
@@ -76,7 +76,7 @@ static void granted(const struct row *row, int call, uint32_t status, size_t cou
     expect(memcmp(output + written, before + written, ROOM - written) == 0, row->name, "what follows", call);
 }
 
-/* Refuses the first request, then the second, .. until none is refused. */
+/* Makes the first allocation fail, then the second, and so on, until none fails. */
 static void sweep(const struct row *row, int call) {
     uint8_t output[ROOM], before[ROOM];
     memset(before, 0xAA, sizeof before);
@@ -115,10 +115,11 @@ static void short_outputs(const struct row *row) {
     }
 }
 
-/* Modules: a custom section, and a type section, a code section and a custom section of padded numbers. */
+/* A module: a minimally encoded custom section, and a type section, a code section and a custom section with padded
+ * numbers. */
 static const uint8_t module_input[] = {
     0x00, 0x61, 0x73, 0x6D, 0x01, 0x00, 0x00, 0x00, /* the header */
-    0x00, 0x01, 0x00,                               /* in its shortest encoding */
+    0x00, 0x01, 0x00,                               /* minimally encoded */
     0x01, 0x86, 0x00, 0x01, 0x4F, 0x00, 0x60, 0x00, 0x00,
     0x0A, 0x88, 0x00, 0x01, 0x85, 0x00, 0x00, 0x20, 0x81, 0x00, 0x0B,
     0x00, 0x81, 0x00, 0x00};
@@ -129,7 +130,7 @@ static const uint8_t module_normal[] = {
     0x0A, 0x06, 0x01, 0x04, 0x00, 0x20, 0x01, 0x0B,
     0x00, 0x01, 0x00};
 
-/* A memory section with padded numbers, the same in the fewest bytes. */
+/* A memory section with padded numbers, and its canonical form. */
 static const uint8_t canonical_input[] = {
     0x00, 0x61, 0x73, 0x6D, 0x01, 0x00, 0x00, 0x00,
     0x05, 0x85, 0x00, 0x81, 0x00, 0x00, 0x81, 0x00};
@@ -141,7 +142,7 @@ static const uint8_t canonical_normal[] = {
 static const uint8_t instructions_input[] = {0x01, 0x20, 0xC2, 0x80, 0x00, 0x0B};
 static const uint8_t instructions_normal[] = {0x01, 0x20, 0x42, 0x0B};
 
-/* two function types without parameters and results, the second in the long encoding of a final subtype */
+/* two function types without parameters and results, the second written as a final subtype */
 static const uint8_t type_section_input[] = {0x02, 0x60, 0x00, 0x00, 0x4F, 0x00, 0x60, 0x00, 0x00};
 static const uint8_t type_section_normal[] = {0x02, 0x60, 0x00, 0x00, 0x60, 0x00, 0x00};
 

@@ -1,6 +1,6 @@
-//! Links the proved static library, which `scripts/c-library` of this repository builds.
+//! Links the proved static library, which `scripts/c-library` builds.
 //!
-//! It is looked for in the folder that `NOSGRIVEL_LIB_DIR` names, and without that in `bindings/out`.
+//! Takes it from the folder that `NOSGRIVEL_LIB_DIR` names. The default is `bindings/out`.
 
 use std::env;
 use std::path::PathBuf;
@@ -13,14 +13,14 @@ fn main() {
     let target = variable("TARGET");
     assert!(
         target.starts_with("x86_64-") && target.contains("-linux-"),
-        "the proved library is built for Linux on x86-64 alone, and not for {target}"
+        "unsupported target: expected Linux on x86-64, found {target}"
     );
     let folder = env::var_os("NOSGRIVEL_LIB_DIR").map_or_else(default_folder, PathBuf::from);
     let library = folder.join(LIBRARY);
     println!("cargo:rerun-if-changed={}", library.display());
     assert!(
         library.is_file(),
-        "there is no {}: build it by scripts/c-library, or set NOSGRIVEL_LIB_DIR to its folder",
+        "{} not found: run scripts/c-library, or set NOSGRIVEL_LIB_DIR to its folder",
         library.display()
     );
     println!("cargo:rustc-link-search=native={}", folder.display());

@@ -1,4 +1,4 @@
-//! Reads a module from the file that is named, and writes its normal form to standard output.
+//! Reads a module from a file, and writes its minimal encoding to standard output.
 
 use std::io::Write;
 

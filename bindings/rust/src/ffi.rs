@@ -1,18 +1,18 @@
-//! What this crate calls of the static library. The contracts stand in `crates/nosgrivel_c/src`.
+//! The calls of the static library. `crates/nosgrivel_c/src` holds their contracts.
 
 pub const NORMAL: u32 = 0;
 pub const REFUSED: u32 = 1;
 pub const NOT_NORMAL: u32 = 2;
 pub const NO_MEMORY: u32 = 3;
 
-/// Normalises the bytes where they lie, and gives the length of the normal form by the last pointer.
+/// Rewrites the bytes as their minimal encoding, and writes its length to the last pointer.
 ///
-/// Neither pointer is null, the first has as many bytes as the length says, and they don't overlap.
+/// Neither pointer may be null or overlap the other. The first must point to as many bytes as the length says.
 pub type InPlace = unsafe extern "C" fn(*mut u8, usize, *mut usize) -> u32;
 
-/// Asks something of the input, and gives a length by the last pointer.
+/// Checks the input, and writes a length to the last pointer.
 ///
-/// Neither pointer is null, the first has as many bytes as the length says, and they don't overlap.
+/// Neither pointer may be null or overlap the other. The first must point to as many bytes as the length says.
 pub type Question = unsafe extern "C" fn(*const u8, usize, *mut usize) -> u32;
 
 extern "C" {

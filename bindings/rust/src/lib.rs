@@ -1,41 +1,40 @@
-//! The normalisers of Nosgrivel, a proved WebAssembly encoder.
+//! The normalisers and checks of Nosgrivel, a proved WebAssembly encoder.
 //!
-//! The binary format of WebAssembly has many encodings for one value: a linker, for one, pads numbers to five bytes. A
-//! normaliser takes every encoding and gives the shortest, or says how long the longest prefix is that is whole.
+//! The binary format of WebAssembly has many encodings of one value: a linker, for example, pads numbers to five bytes.
+//! A normaliser reads any encoding and writes the minimal one. If the input is malformed, it returns the length of the
+//! longest prefix that decodes.
 //!
 //! ```
-//! // A linker's encoding of `local.get 66`, and the shortest.
+//! // `local.get 66` as a linker pads it, and its minimal encoding.
 //! let normal = nosgrivel::normalise_instructions(&[0x20, 0xC2, 0x80, 0x00])?;
 //! assert_eq!(normal, [0x20, 0x42]);
 //! # Ok::<(), nosgrivel::Error>(())
 //! ```
 //!
-//! What the library under this crate promises is proved, for all inputs: the result encodes what the input does, every
-//! other encoding of that is longer, and only what encodes nothing is refused. This crate itself isn't proved: it is a
-//! few calls of the static library.
+//! The static library is proved, for all inputs: the result encodes the same as the input, every other encoding is
+//! longer, and only malformed inputs are refused. This crate isn't proved: it calls the static library.
 //!
-//! **Normalising moves bytes.** Offsets that custom sections keep then point elsewhere: those of relocatable object
-//! files (`linking`, `reloc.*`) and of debug information (DWARF, `.debug_*`). Normalise what is linked and needs
-//! neither.
+//! **Normalising moves bytes.** Offsets in custom sections become stale: those of relocatable object files (`linking`,
+//! `reloc.*`) and of debug information (DWARF, `.debug_*`). Normalise linked modules that need neither.
 //!
-//! Nothing is validated: instructions needn't nest, and indexes needn't be in range. Any number of threads may call at
-//! a time.
+//! Nothing is validated: instructions need not nest, and indexes may be out of range. Any number of threads may call at
+//! once.
 #![warn(missing_docs)]
 
 mod ffi;
 
 use std::fmt;
 
-/// Why an input has no normal form, or doesn't pass a check.
+/// The error of a call.
 #[derive(Clone, Copy, Debug, PartialEq, Eq, Hash)]
 pub enum Error {
-    /// The input encodes nothing; at a check, it isn't the shortest encoding of anything.
+    /// The input is malformed. A check also returns this if the input isn't minimally encoded.
     Refused {
-        /// How many bytes the longest prefix of the input has that is whole; at a check, that is whole and in its
-        /// shortest encoding.
+        /// Length in bytes of the longest prefix that decodes. From a check: of the longest prefix that is minimally
+        /// encoded.
         at: usize,
     },
-    /// There was no memory.
+    /// Memory ran out.
     NoMemory,
 }
 
@@ -50,10 +49,10 @@ impl fmt::Display for Error {
 
 impl std::error::Error for Error {}
 
-/// The normal form of a module: each section's size and the body of each type section and code section in the fewest
-/// bytes, and every other body as it is.
+/// Returns the minimal encoding of a module. Section sizes, type sections and code sections get their minimal encoding.
+/// All other bodies are copied.
 ///
-/// It is made in a copy of the module, whose room it keeps; so are those of the other kinds of input.
+/// The result is a copy of the module that was normalised in place, so its capacity is the module's length.
 ///
 /// ```
 /// let header = *b"\0asm\x01\0\0\0";
@@ -65,16 +64,16 @@ impl std::error::Error for Error {}
 ///
 /// # Errors
 ///
-/// [`Error::Refused`] with the number of bytes of the header and of the sections that are whole before the first that
-/// isn't, or 0 where the header isn't there. A type section whose body encodes no entries isn't whole, and neither is a
-/// code section whose body encodes no code bodies.
+/// [`Error::Refused`] with the offset of the first section that is cut or, if it is a type section or a code section,
+/// malformed. The offset is 0 if the header is malformed. [`Error::NoMemory`] if memory runs out.
 pub fn normalise_module(module: &[u8]) -> Result<Vec<u8>, Error> {
     normalised(ffi::nosgrivel_normalise_module_in_place, module)
 }
 
-/// The canonical form of a module: every number, size, type, index and limit of every section in the fewest bytes.
+/// Returns the canonical form of a module: every number, size, type, index and limit has its minimal encoding.
 ///
-/// Two modules have the same canonical form exactly if their sections hold the same. The order of sections isn't looked at.
+/// Two modules have the same canonical form if and only if their decoded sections are equal. Section order is not
+/// checked.
 ///
 /// ```
 /// let header = *b"\0asm\x01\0\0\0";
@@ -87,13 +86,13 @@ pub fn normalise_module(module: &[u8]) -> Result<Vec<u8>, Error> {
 ///
 /// # Errors
 ///
-/// [`Error::Refused`] with the number of bytes of the header and of the sections that are whole before the first that
-/// isn't, or 0 where the header isn't there. A section of any kind whose body can't be decoded isn't whole.
+/// [`Error::Refused`] with the offset of the first malformed section, or 0 if the header is malformed.
+/// [`Error::NoMemory`] if memory runs out.
 pub fn canonicalise(module: &[u8]) -> Result<Vec<u8>, Error> {
     normalised(ffi::nosgrivel_canonicalise_in_place, module)
 }
 
-/// Puts a module into its canonical form, in its own memory. After an error it is as it was.
+/// Rewrites a module as its canonical form. After an error the module is unchanged.
 ///
 /// # Errors
 ///
@@ -102,7 +101,7 @@ pub fn canonicalise_in_place(module: &mut Vec<u8>) -> Result<(), Error> {
     in_place(ffi::nosgrivel_canonicalise_in_place, module)
 }
 
-/// The normal form of a list of instructions.
+/// Returns the minimal encoding of a list of instructions.
 ///
 /// ```
 /// // `i32.const 0`, its number in five bytes, and `end`.
@@ -113,12 +112,12 @@ pub fn canonicalise_in_place(module: &mut Vec<u8>) -> Result<(), Error> {
 ///
 /// # Errors
 ///
-/// [`Error::Refused`] with the number of bytes of the instructions that are whole before the first that isn't.
+/// [`Error::Refused`] with the offset of the first malformed instruction. [`Error::NoMemory`] if memory runs out.
 pub fn normalise_instructions(instructions: &[u8]) -> Result<Vec<u8>, Error> {
     normalised(ffi::nosgrivel_normalise_instructions_in_place, instructions)
 }
 
-/// The normal form of the body of a type section, without the section's id and size.
+/// Returns the minimal encoding of the body of a type section, without the section's id and size.
 ///
 /// ```
 /// // A function type without parameters and results, as a final subtype without supertypes.
@@ -129,13 +128,13 @@ pub fn normalise_instructions(instructions: &[u8]) -> Result<Vec<u8>, Error> {
 ///
 /// # Errors
 ///
-/// [`Error::Refused`] with the number of bytes of the count and of the entries that are whole before the first that
-/// isn't, or before what is left over.
+/// [`Error::Refused`] with the offset of the first malformed entry or of the trailing bytes, or 0 if the count is
+/// malformed. [`Error::NoMemory`] if memory runs out.
 pub fn normalise_type_section(body: &[u8]) -> Result<Vec<u8>, Error> {
     normalised(ffi::nosgrivel_normalise_type_section_in_place, body)
 }
 
-/// The normal form of the body of a code section, without the section's id and size.
+/// Returns the minimal encoding of the body of a code section, without the section's id and size.
 ///
 /// ```
 /// // A function without locals, its size in two bytes: `end`.
@@ -146,13 +145,13 @@ pub fn normalise_type_section(body: &[u8]) -> Result<Vec<u8>, Error> {
 ///
 /// # Errors
 ///
-/// [`Error::Refused`] with the number of bytes of the count and of the code bodies that are whole before the first that
-/// isn't, or before what is left over.
+/// [`Error::Refused`] with the offset of the first malformed code body or of the trailing bytes, or 0 if the count is
+/// malformed. [`Error::NoMemory`] if memory runs out.
 pub fn normalise_code_section(body: &[u8]) -> Result<Vec<u8>, Error> {
     normalised(ffi::nosgrivel_normalise_code_section_in_place, body)
 }
 
-/// Puts a module into its normal form, in its own memory. After an error it is as it was.
+/// Rewrites a module as its minimal encoding. After an error the module is unchanged.
 ///
 /// ```
 /// let mut module = b"\0asm\x01\0\0\0\x03\x80\0".to_vec();
@@ -168,7 +167,7 @@ pub fn normalise_module_in_place(module: &mut Vec<u8>) -> Result<(), Error> {
     in_place(ffi::nosgrivel_normalise_module_in_place, module)
 }
 
-/// Puts a list of instructions into its normal form, in its own memory. After an error it is as it was.
+/// Rewrites a list of instructions as its minimal encoding. After an error the list is unchanged.
 ///
 /// ```
 /// let mut code = vec![0x20, 0xC2, 0x80, 0x00];
@@ -184,7 +183,7 @@ pub fn normalise_instructions_in_place(instructions: &mut Vec<u8>) -> Result<(),
     in_place(ffi::nosgrivel_normalise_instructions_in_place, instructions)
 }
 
-/// Puts the body of a type section into its normal form, in its own memory. After an error it is as it was.
+/// Rewrites the body of a type section as its minimal encoding. After an error the body is unchanged.
 ///
 /// ```
 /// let mut body = vec![0x01, 0x4F, 0x00, 0x60, 0x00, 0x00];
@@ -200,7 +199,7 @@ pub fn normalise_type_section_in_place(body: &mut Vec<u8>) -> Result<(), Error> 
     in_place(ffi::nosgrivel_normalise_type_section_in_place, body)
 }
 
-/// Puts the body of a code section into its normal form, in its own memory. After an error it is as it was.
+/// Rewrites the body of a code section as its minimal encoding. After an error the body is unchanged.
 ///
 /// ```
 /// let mut body = vec![0x01, 0x82, 0x00, 0x00, 0x0B];
@@ -216,7 +215,7 @@ pub fn normalise_code_section_in_place(body: &mut Vec<u8>) -> Result<(), Error> 
     in_place(ffi::nosgrivel_normalise_code_section_in_place, body)
 }
 
-/// Whether a module is its own normal form.
+/// Checks whether a module is its own minimal encoding, as [`normalise_module`] defines it.
 ///
 /// ```
 /// assert!(nosgrivel::is_normal_module(b"\0asm\x01\0\0\0\x03\0")?);
@@ -231,7 +230,7 @@ pub fn is_normal_module(module: &[u8]) -> Result<bool, Error> {
     is_normal(ffi::nosgrivel_judge_module, module)
 }
 
-/// Whether a list of instructions is its own normal form.
+/// Checks whether a list of instructions is minimally encoded.
 ///
 /// ```
 /// assert!(nosgrivel::is_normal_instructions(&[0x20, 0x42])?);
@@ -246,7 +245,7 @@ pub fn is_normal_instructions(instructions: &[u8]) -> Result<bool, Error> {
     is_normal(ffi::nosgrivel_judge_instructions, instructions)
 }
 
-/// Whether the body of a type section is its own normal form.
+/// Checks whether the body of a type section is minimally encoded.
 ///
 /// ```
 /// assert!(nosgrivel::is_normal_type_section(&[0x01, 0x60, 0x00, 0x00])?);
@@ -261,7 +260,7 @@ pub fn is_normal_type_section(body: &[u8]) -> Result<bool, Error> {
     is_normal(ffi::nosgrivel_judge_type_section, body)
 }
 
-/// Whether the body of a code section is its own normal form.
+/// Checks whether the body of a code section is minimally encoded.
 ///
 /// ```
 /// assert!(nosgrivel::is_normal_code_section(&[0x01, 0x02, 0x00, 0x0B])?);
@@ -276,9 +275,10 @@ pub fn is_normal_code_section(body: &[u8]) -> Result<bool, Error> {
     is_normal(ffi::nosgrivel_judge_code_section, body)
 }
 
-/// Asks that the header and the sections of a module are whole, each section's size in the fewest bytes.
+/// Checks whether the header and the size of each section of a module are minimally encoded, and locates the first part
+/// that isn't.
 ///
-/// No body is looked into; [`is_normal_module`] asks of those of type sections and code sections too.
+/// The bodies are not decoded; [`is_normal_module`] decodes those of type sections and code sections.
 ///
 /// ```
 /// use nosgrivel::Error;
@@ -289,13 +289,13 @@ pub fn is_normal_code_section(body: &[u8]) -> Result<bool, Error> {
 ///
 /// # Errors
 ///
-/// [`Error::Refused`] with the number of bytes of the header and of the sections before the first that isn't so, or 0
-/// where the header isn't there.
+/// [`Error::Refused`] with the offset of the first section that is cut or whose size isn't minimally encoded, or 0 if
+/// the header is malformed. [`Error::NoMemory`] if memory runs out.
 pub fn check_module(module: &[u8]) -> Result<(), Error> {
     check(ffi::nosgrivel_check_module, module)
 }
 
-/// Asks that each instruction is whole and in its shortest encoding.
+/// Checks whether each instruction is minimally encoded, and locates the first one that isn't.
 ///
 /// ```
 /// use nosgrivel::Error;
@@ -308,12 +308,13 @@ pub fn check_module(module: &[u8]) -> Result<(), Error> {
 ///
 /// # Errors
 ///
-/// [`Error::Refused`] with the number of bytes of the instructions before the first that isn't so.
+/// [`Error::Refused`] with the offset of the first instruction that is malformed or not minimally encoded.
+/// [`Error::NoMemory`] if memory runs out.
 pub fn check_instructions(instructions: &[u8]) -> Result<(), Error> {
     check(ffi::nosgrivel_check_instructions, instructions)
 }
 
-/// Asks that the count and each entry of the body of a type section is whole and in its shortest encoding.
+/// Checks whether the body of a type section is minimally encoded, and locates the first part that isn't.
 ///
 /// ```
 /// use nosgrivel::Error;
@@ -325,13 +326,13 @@ pub fn check_instructions(instructions: &[u8]) -> Result<(), Error> {
 ///
 /// # Errors
 ///
-/// [`Error::Refused`] with the number of bytes of the count and of the entries before the first that isn't so, or
-/// before what is left over.
+/// [`Error::Refused`] with the offset of the first entry that is malformed or not minimally encoded, or of the trailing
+/// bytes, or 0 for the count. [`Error::NoMemory`] if memory runs out.
 pub fn check_type_section(body: &[u8]) -> Result<(), Error> {
     check(ffi::nosgrivel_check_type_section, body)
 }
 
-/// Asks that the count and each code body of the body of a code section is whole and in its shortest encoding.
+/// Checks whether the body of a code section is minimally encoded, and locates the first part that isn't.
 ///
 /// ```
 /// use nosgrivel::Error;
@@ -343,8 +344,8 @@ pub fn check_type_section(body: &[u8]) -> Result<(), Error> {
 ///
 /// # Errors
 ///
-/// [`Error::Refused`] with the number of bytes of the count and of the code bodies before the first that isn't so, or
-/// before what is left over.
+/// [`Error::Refused`] with the offset of the first code body that is malformed or not minimally encoded, or of the
+/// trailing bytes, or 0 for the count. [`Error::NoMemory`] if memory runs out.
 pub fn check_code_section(body: &[u8]) -> Result<(), Error> {
     check(ffi::nosgrivel_check_code_section, body)
 }
@@ -361,7 +362,7 @@ fn normalised(call: ffi::InPlace, input: &[u8]) -> Result<Vec<u8>, Error> {
 
 fn in_place(call: ffi::InPlace, bytes: &mut Vec<u8>) -> Result<(), Error> {
     let mut count = 0;
-    // SAFETY: the pointers are those of two values that are borrowed for the call, the first with its length.
+    // SAFETY: both pointers come from values that are borrowed for the call, and the length is that of the first.
     let status = unsafe { call(bytes.as_mut_ptr(), bytes.len(), &mut count) };
     if status != ffi::NORMAL {
         return Err(error(status, count));
@@ -385,10 +386,10 @@ fn check(call: ffi::Question, input: &[u8]) -> Result<(), Error> {
     }
 }
 
-/// The status of a question, and the length that comes with it.
+/// Makes the call, and returns its status and its count.
 fn asked(call: ffi::Question, input: &[u8]) -> (u32, usize) {
     let mut count = 0;
-    // SAFETY: the pointers are those of two values that are borrowed for the call, the first with its length.
+    // SAFETY: both pointers come from values that are borrowed for the call, and the length is that of the first.
     let status = unsafe { call(input.as_ptr(), input.len(), &mut count) };
     (status, count)
 }

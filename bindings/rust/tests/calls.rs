@@ -1,4 +1,4 @@
-//! What no vector says: inputs of no bytes, errors as values, and threads.
+//! Tests of what no vector covers: empty inputs, errors as values, and threads.
 
 use nosgrivel::*;
 
@@ -23,7 +23,7 @@ fn no_bytes() {
     assert_eq!(canonicalise(&[]), Err(Error::Refused { at: 0 }));
 }
 
-/// A module with a global whose constant has two bytes more than it needs, and one whose export section ends too soon.
+/// A module with a global whose constant is two bytes too long, and one whose export section is cut.
 #[test]
 fn canonical_forms() {
     let header = b"\0asm\x01\0\0\0";
@@ -32,16 +32,16 @@ fn canonical_forms() {
         &[0x06, 0x08, 0x01, 0x7F, 0x00, 0x41, 0x80, 0x80, 0x00, 0x0B],
     ]
     .concat();
-    let shortest = [
+    let canonical = [
         &header[..],
         &[0x06, 0x06, 0x01, 0x7F, 0x00, 0x41, 0x00, 0x0B],
     ]
     .concat();
     assert_eq!(normalise_module(&longer).as_ref(), Ok(&longer));
-    assert_eq!(canonicalise(&longer).as_ref(), Ok(&shortest));
+    assert_eq!(canonicalise(&longer).as_ref(), Ok(&canonical));
     let mut bytes = longer.clone();
     assert_eq!(canonicalise_in_place(&mut bytes), Ok(()));
-    assert_eq!(bytes, shortest);
+    assert_eq!(bytes, canonical);
     let mut cut = [&header[..], &[0x07, 0x01, 0x01]].concat();
     assert_eq!(
         canonicalise_in_place(&mut cut),

@@ -1,4 +1,4 @@
-//! The vectors of the repository, which come from outside: an independent reference answered them.
+//! The vectors of the repository, whose answers come from an independent reference.
 
 use nosgrivel::*;
 
@@ -7,7 +7,7 @@ type InPlace = fn(&mut Vec<u8>) -> Result<(), Error>;
 type IsNormal = fn(&[u8]) -> Result<bool, Error>;
 type Check = fn(&[u8]) -> Result<(), Error>;
 
-/// The functions of a mode.
+/// Returns the functions of a mode.
 fn mode(word: &str) -> (Normalise, InPlace, IsNormal, Check) {
     match word {
         "module" => (
@@ -46,7 +46,7 @@ fn bytes(hex: &str) -> Vec<u8> {
         .collect()
 }
 
-/// `refused N`, or what comes after `ok`.
+/// Parses an answer: `refused N`, or `ok` and bytes.
 fn answer(column: &str) -> Result<Vec<u8>, Error> {
     match column.strip_prefix("refused ") {
         Some(at) => Err(Error::Refused {
@@ -56,7 +56,7 @@ fn answer(column: &str) -> Result<Vec<u8>, Error> {
     }
 }
 
-/// The rows of a file of vectors: the mode, the input, and the answer.
+/// Reads a file of vectors: the mode, the input and the answer of each row.
 fn rows(file: &str) -> Vec<(String, Vec<u8>, String)> {
     let folder = concat!(env!("CARGO_MANIFEST_DIR"), "/../../crates/replay/data/");
     let text = std::fs::read_to_string(format!("{folder}{file}")).expect("the vectors");

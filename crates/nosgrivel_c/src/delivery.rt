@@ -1,25 +1,30 @@
-//! What the calls answer, and how a result gets into the caller's memory.
+//! The statuses of the calls, and the copy of a result to the caller's memory.
 ghost use Rattle.std.specs.Prelude.{length};
 ghost use Rattle.nosgrivel_c.specs.Delivery.{IsDelivered, IsJudged, IsChecked, TellsRefusal};
 
 use wasm_codec::reader::ReadError;
 
-/// The normal form was written, or the input is its own; the count is its length.
+/// The call succeeded. The count is the length of the minimal encoding.
 pub const NORMAL: u32 = 0;
 
-/// The input isn't what was asked for, and the count is the length of its longest prefix that is whole.
+/// The input is malformed. The count is the length of the longest prefix that decodes.
+///
+/// A check also refuses an input that isn't minimally encoded. The count is then the length of the longest prefix that
+/// is.
 pub const REFUSED: u32 = 1;
 
-/// The input isn't its own normal form, and the count is the length of that.
+/// The input isn't minimally encoded. The count is the length of its minimal encoding.
 pub const NOT_NORMAL: u32 = 2;
 
-/// There was no memory, and nothing of the caller's was changed.
+/// Memory ran out. The caller's memory and the count are unchanged.
 pub const NO_MEMORY: u32 = 3;
 
-/// The normal form is longer than the output, and the count is its length.
+/// The output is too short for the result. The count is the length that it needs.
 pub const TOO_LONG: u32 = 5;
 
-/// Writes what a normaliser gave, if the output has room for it.
+/// Copies the result of a normaliser to the output, and returns the status.
+///
+/// Returns `TOO_LONG` if the output is too short.
 pub(crate) fn deliver(
     normal: Result<Vec<u8>, ReadError>,
     output: &mut [u8],
@@ -40,7 +45,9 @@ pub(crate) fn deliver(
     }
 }
 
-/// Holds what a normaliser gave against the input. It is no longer, and only the input itself is as long.
+/// Compares the result of a normaliser with the input, and returns the status.
+///
+/// The result is never longer, and it equals the input if it is as long.
 pub(crate) fn judge(normal: Result<Vec<u8>, ReadError>, input: &[u8], count: &mut usize) -> u32
     ensures { IsJudged (λ encoding. encoding.items) normal (length input.now) count.old count.new result }
 {
@@ -57,7 +64,7 @@ pub(crate) fn judge(normal: Result<Vec<u8>, ReadError>, input: &[u8], count: &mu
     }
 }
 
-/// Answers for what a check found: all of the input is in its shortest encoding, or where that ends.
+/// Returns the status of a check.
 pub(crate) fn answer(checked: Result<(), ReadError>, input: &[u8], count: &mut usize) -> u32
     ensures { IsChecked checked (length input.now) count.old count.new result }
 {
@@ -70,7 +77,7 @@ pub(crate) fn answer(checked: Result<(), ReadError>, input: &[u8], count: &mut u
     }
 }
 
-/// Says why there is no result.
+/// Returns the status for an error, and sets the count if the input was refused.
 fn refuse(error: ReadError, count: &mut usize) -> u32
     ensures { TellsRefusal error count.old count.new result }
 {

@@ -10,9 +10,9 @@ use std::alloc::Global;
 use wasm_instructions::normaliser::normalise_instructions;
 use wasm_readers::checks::check_instructions;
 
-/// Writes the normal form of a list of instructions: the same in the fewest bytes.
+/// Writes the minimal encoding of a list of instructions to the start of the output.
 ///
-/// Nothing asks that the instructions nest, or that an `end` comes last.
+/// The instructions need not nest, and the last one need not be `end`.
 #[unsafe(no_mangle)]
 pub extern "C" fn nosgrivel_normalise_instructions(
     alloc: Global,
@@ -20,93 +20,95 @@ pub extern "C" fn nosgrivel_normalise_instructions(
     output: &mut [u8],
     count: &mut usize,
 ) -> u32
-    // A normal form of the input stands at the beginning of the output, and the count is its length.
+    // The output begins with the minimal encoding of the input, and the count is its length.
     ensures written { result ≡ NORMAL →
         BeginsWithNormal (IsNormalForm Instructions instructions_bytes input.now) output.old output.new count.new }
-    // Only what encodes nothing is refused, and the count is the length of the longest prefix that is whole.
+    // Only a malformed input is refused, and the count is the length of the longest prefix that decodes.
     ensures refused { result ≡ REFUSED → IsLongestPrefix (EncodesSome Instructions) input.now count.new }
     ensures encodes_none { result ≡ REFUSED → EncodesSome Instructions input.now → ⊥ }
-    // A normal form is longer than the output, and the count is its length.
+    // The minimal encoding is longer than the output, and the count is its length.
     ensures too_long { result ≡ TOO_LONG →
         IsOutputTooShort (IsNormalForm Instructions instructions_bytes input.now) output.old count.new }
-    // That can't be where the output is as long as the input.
+    // The output is never too short if it is as long as the input.
     ensures room { length input.now ≤ length output.old → result ≢ TOO_LONG }
-    // Unless it was written, the output is as it was.
+    // Unless the status is `NORMAL`, the output is unchanged.
     ensures unchanged { result ≢ NORMAL → output.new ≡ output.old }
-    // Without memory the count is as it was.
+    // If memory ran out, the count is unchanged.
     ensures no_memory { result ≡ NO_MEMORY → count.new ≡ count.old }
-    // There is no other status.
+    // No other status is returned.
     ensures status { IsDelivery result }
 {
     deliver(normalise_instructions(alloc, input), output, count)
 }
 
-/// Writes the normal form of a list of instructions over its own bytes, since it is no longer.
+/// Writes the minimal encoding of a list of instructions over its own bytes.
 ///
-/// The normal form is made beside them and then copied, so that they are as they were where it can't be made.
+/// The call makes the encoding in memory of its own, and copies it if all goes well.
 #[unsafe(no_mangle)]
 pub extern "C" fn nosgrivel_normalise_instructions_in_place(
     alloc: Global,
     bytes: &mut [u8],
     count: &mut usize,
 ) -> u32
-    // A normal form of the bytes stands at their beginning, and the count is its length.
+    // The bytes begin with their minimal encoding, and the count is its length.
     ensures written { result ≡ NORMAL →
         BeginsWithNormal (IsNormalForm Instructions instructions_bytes bytes.old) bytes.old bytes.new count.new }
-    // Only what encodes nothing is refused, and the count is the length of the longest prefix that is whole.
+    // Only a malformed input is refused, and the count is the length of the longest prefix that decodes.
     ensures refused { result ≡ REFUSED → IsLongestPrefix (EncodesSome Instructions) bytes.old count.new }
     ensures encodes_none { result ≡ REFUSED → EncodesSome Instructions bytes.old → ⊥ }
-    // Unless it was written, the bytes are as they were.
+    // Unless the status is `NORMAL`, the bytes are unchanged.
     ensures unchanged { result ≢ NORMAL → bytes.new ≡ bytes.old }
-    // Without memory the count is as it was.
+    // If memory ran out, the count is unchanged.
     ensures no_memory { result ≡ NO_MEMORY → count.new ≡ count.old }
-    // There is no other status: the normal form fits.
+    // No other status is returned: the minimal encoding fits.
     ensures status { IsAnswer result }
 {
     let normal = normalise_instructions(alloc, bytes);
     deliver(normal, bytes, count)
 }
 
-/// Whether a list of instructions is its own normal form, and how long that is.
+/// Checks whether a list of instructions is minimally encoded, and returns the length of its minimal encoding.
 #[unsafe(no_mangle)]
 pub extern "C" fn nosgrivel_judge_instructions(
     alloc: Global,
     input: &[u8],
     count: &mut usize,
 ) -> u32
-    // The input is a normal form of itself, and the count is its length.
+    // The input is its own minimal encoding, and the count is its length.
     ensures normal { result ≡ NORMAL → IsNormalForm Instructions instructions_bytes input.now input.now }
     ensures len { result ≡ NORMAL → count.new ≡ length input.now }
-    // It has a normal form that is shorter, and the count is the length of that.
+    // The minimal encoding is shorter than the input, and the count is its length.
     ensures shorter { result ≡ NOT_NORMAL →
         IsShorter (IsNormalForm Instructions instructions_bytes input.now) input.now count.new }
-    // Only what encodes nothing is refused, and the count is the length of the longest prefix that is whole.
+    // Only a malformed input is refused, and the count is the length of the longest prefix that decodes.
     ensures refused { result ≡ REFUSED → IsLongestPrefix (EncodesSome Instructions) input.now count.new }
     ensures encodes_none { result ≡ REFUSED → EncodesSome Instructions input.now → ⊥ }
-    // Without memory the count is as it was.
+    // If memory ran out, the count is unchanged.
     ensures no_memory { result ≡ NO_MEMORY → count.new ≡ count.old }
-    // There is no other status.
+    // No other status is returned.
     ensures status { IsJudgement result }
 {
     judge(normalise_instructions(alloc, input), input, count)
 }
 
-/// Whether each instruction is whole and in its shortest encoding. Meanwhile a copy of the bytes is held.
+/// Checks whether each instruction is minimally encoded.
+///
+/// The call copies the input.
 #[unsafe(no_mangle)]
 pub extern "C" fn nosgrivel_check_instructions(
     alloc: Global,
     input: &[u8],
     count: &mut usize,
 ) -> u32
-    // The input is the shortest encoding of a list, and the count is its length.
+    // The input is the minimal encoding of a list, and the count is its length.
     ensures normal { result ≡ NORMAL → EncodesSome ShortestInstructions input.now }
     ensures len { result ≡ NORMAL → count.new ≡ length input.now }
-    // Only what isn't is refused, and the count is the length of the longest prefix that is whole and shortest.
+    // Any other input is refused, and the count is the length of the longest prefix that is minimally encoded.
     ensures refused { result ≡ REFUSED → IsLongestPrefix (EncodesSome ShortestInstructions) input.now count.new }
     ensures encodes_none { result ≡ REFUSED → EncodesSome ShortestInstructions input.now → ⊥ }
-    // Without memory the count is as it was.
+    // If memory ran out, the count is unchanged.
     ensures no_memory { result ≡ NO_MEMORY → count.new ≡ count.old }
-    // There is no other status.
+    // No other status is returned.
     ensures status { IsAnswer result }
 {
     answer(check_instructions(alloc, input), input, count)

@@ -1,14 +1,16 @@
-//! The normalisers and the strict question, for callers in C and in other languages that call as C does.
+//! The normalisers and the checks, for callers in C and in other languages with C's calling convention.
 //!
-//! For modules, lists of instructions, and the bodies of type sections and of code sections there are four calls each:
-//! `nosgrivel_normalise_…` writes the normal form of an input into an output, `…_in_place` into the input's own memory,
-//! `nosgrivel_judge_…` tells whether the input is its own normal form, and `nosgrivel_check_…` whether a strict reader
-//! takes it, and if not, where it stops. `nosgrivel_canonicalise`, also in place, writes the canonical form of a module, of
-//! which every section is decoded.
+//! Modules, lists of instructions, and the bodies of type sections and code sections have four calls each:
+//! - `nosgrivel_normalise_…` writes the minimal encoding of the input to an output,
+//! - `nosgrivel_normalise_…_in_place` writes it over the input,
+//! - `nosgrivel_judge_…` checks whether the input is minimally encoded, and returns the length of that encoding,
+//! - `nosgrivel_check_…` checks the same, and returns where the minimal encoding ends.
 //!
-//! Each call takes its input and its output as a pointer and a length, and a place for a count, and answers a status.
-//! No pointer is null, even where a length is 0, and none of them points into what another does. The C header in
-//! `bindings/c` says what else a caller owes.
+//! `nosgrivel_canonicalise` and `nosgrivel_canonicalise_in_place` write the canonical form of a module.
+//!
+//! Each call takes pointers and lengths for its input and its output, and a pointer to a count. It returns a status. No
+//! pointer may be null, even if its length is 0, and no two of them may overlap. `bindings/c/nosgrivel.h` lists all that
+//! a caller owes.
 #![tactic(auto)]
 
 pub mod canonical;

@@ -1,4 +1,4 @@
-//! Modules (Core 3.0, Modules), of which the bodies of type sections and of code sections are read.
+//! Modules (Core 3.0, Modules). The bodies of sections other than type and code sections are not decoded.
 ghost use Rattle.std.specs.Prelude.{◌≡◌, ◌≤◌, ◌≢◌, length};
 ghost use Rattle.wasm_codec.specs.Answers.{IsLongestPrefix, IsNormalForm, EncodesSome};
 ghost use Rattle.wasm_modules.specs.formats.Modules.{decoded_module, ShortestModule};
@@ -12,12 +12,11 @@ use std::alloc::Global;
 use wasm_modules::normaliser::normalise_module;
 use wasm_readers::checks::check_module;
 
-/// Writes the normal form of a module: the same in the fewest bytes.
+/// Writes the minimal encoding of a module to the start of the output.
 ///
-/// Each section's size and the body of each type section and code section is written in the fewest bytes, and every
-/// other body as it is. A type section whose body encodes no entries isn't whole, and neither is a code section whose
-/// body encodes no code bodies. Normalising moves bytes: offsets that custom sections keep, those of relocatable object
-/// files (`linking`, `reloc.*`) and of debug information (DWARF), then point elsewhere.
+/// Section sizes, type sections and code sections get their minimal encoding. All other bodies are copied. A module
+/// with a malformed type section or code section is refused. Bytes move, so offsets in custom sections become stale:
+/// those of relocatable object files (`linking`, `reloc.*`) and of debug information (DWARF).
 #[unsafe(no_mangle)]
 pub extern "C" fn nosgrivel_normalise_module(
     alloc: Global,
@@ -25,88 +24,88 @@ pub extern "C" fn nosgrivel_normalise_module(
     output: &mut [u8],
     count: &mut usize,
 ) -> u32
-    // A normal form of the input stands at the beginning of the output, and the count is its length.
+    // The output begins with the minimal encoding of the input, and the count is its length.
     ensures written { result ≡ NORMAL →
         BeginsWithNormal (IsNormalForm decoded_module.Encodes decoded_module.bytes input.now) output.old output.new count.new }
-    // Only what encodes nothing is refused, and the count is the length of the longest prefix that is whole.
+    // Only a malformed input is refused, and the count is the length of the longest prefix that decodes.
     ensures refused { result ≡ REFUSED → IsLongestPrefix IsDecodedModulePrefix input.now count.new }
     ensures encodes_none { result ≡ REFUSED → EncodesSome decoded_module.Encodes input.now → ⊥ }
-    // A normal form is longer than the output, and the count is its length.
+    // The minimal encoding is longer than the output, and the count is its length.
     ensures too_long { result ≡ TOO_LONG →
         IsOutputTooShort (IsNormalForm decoded_module.Encodes decoded_module.bytes input.now) output.old count.new }
-    // That can't be where the output is as long as the input.
+    // The output is never too short if it is as long as the input.
     ensures room { length input.now ≤ length output.old → result ≢ TOO_LONG }
-    // Unless it was written, the output is as it was.
+    // Unless the status is `NORMAL`, the output is unchanged.
     ensures unchanged { result ≢ NORMAL → output.new ≡ output.old }
-    // Without memory the count is as it was.
+    // If memory ran out, the count is unchanged.
     ensures no_memory { result ≡ NO_MEMORY → count.new ≡ count.old }
-    // There is no other status.
+    // No other status is returned.
     ensures status { IsDelivery result }
 {
     deliver(normalise_module(alloc, input), output, count)
 }
 
-/// Writes the normal form of a module over its own bytes, since it is no longer.
+/// Writes the minimal encoding of a module over its own bytes.
 ///
-/// The normal form is made beside them and then copied, so that they are as they were where it can't be made.
+/// The call makes the encoding in memory of its own, and copies it if all goes well.
 #[unsafe(no_mangle)]
 pub extern "C" fn nosgrivel_normalise_module_in_place(
     alloc: Global,
     bytes: &mut [u8],
     count: &mut usize,
 ) -> u32
-    // A normal form of the bytes stands at their beginning, and the count is its length.
+    // The bytes begin with their minimal encoding, and the count is its length.
     ensures written { result ≡ NORMAL →
         BeginsWithNormal (IsNormalForm decoded_module.Encodes decoded_module.bytes bytes.old) bytes.old bytes.new count.new }
-    // Only what encodes nothing is refused, and the count is the length of the longest prefix that is whole.
+    // Only a malformed input is refused, and the count is the length of the longest prefix that decodes.
     ensures refused { result ≡ REFUSED → IsLongestPrefix IsDecodedModulePrefix bytes.old count.new }
     ensures encodes_none { result ≡ REFUSED → EncodesSome decoded_module.Encodes bytes.old → ⊥ }
-    // Unless it was written, the bytes are as they were.
+    // Unless the status is `NORMAL`, the bytes are unchanged.
     ensures unchanged { result ≢ NORMAL → bytes.new ≡ bytes.old }
-    // Without memory the count is as it was.
+    // If memory ran out, the count is unchanged.
     ensures no_memory { result ≡ NO_MEMORY → count.new ≡ count.old }
-    // There is no other status: the normal form fits.
+    // No other status is returned: the minimal encoding fits.
     ensures status { IsAnswer result }
 {
     let normal = normalise_module(alloc, bytes);
     deliver(normal, bytes, count)
 }
 
-/// Whether a module is its own normal form, and how long that is.
+/// Checks whether a module is minimally encoded, and returns the length of its minimal encoding.
 #[unsafe(no_mangle)]
 pub extern "C" fn nosgrivel_judge_module(alloc: Global, input: &[u8], count: &mut usize) -> u32
-    // The input is a normal form of itself, and the count is its length.
+    // The input is its own minimal encoding, and the count is its length.
     ensures normal { result ≡ NORMAL → IsNormalForm decoded_module.Encodes decoded_module.bytes input.now input.now }
     ensures len { result ≡ NORMAL → count.new ≡ length input.now }
-    // It has a normal form that is shorter, and the count is the length of that.
+    // The minimal encoding is shorter than the input, and the count is its length.
     ensures shorter { result ≡ NOT_NORMAL →
         IsShorter (IsNormalForm decoded_module.Encodes decoded_module.bytes input.now) input.now count.new }
-    // Only what encodes nothing is refused, and the count is the length of the longest prefix that is whole.
+    // Only a malformed input is refused, and the count is the length of the longest prefix that decodes.
     ensures refused { result ≡ REFUSED → IsLongestPrefix IsDecodedModulePrefix input.now count.new }
     ensures encodes_none { result ≡ REFUSED → EncodesSome decoded_module.Encodes input.now → ⊥ }
-    // Without memory the count is as it was.
+    // If memory ran out, the count is unchanged.
     ensures no_memory { result ≡ NO_MEMORY → count.new ≡ count.old }
-    // There is no other status.
+    // No other status is returned.
     ensures status { IsJudgement result }
 {
     judge(normalise_module(alloc, input), input, count)
 }
 
-/// Whether the header and the sections of a module are whole, each section's size in the fewest bytes.
+/// Checks whether the header and the size of each section of a module are minimally encoded.
 ///
-/// No body is looked into: `nosgrivel_judge_module` asks of those of type sections and code sections as well. Meanwhile
-/// a copy of the bytes is held.
+/// The bodies are not decoded; `nosgrivel_judge_module` decodes those of type sections and code sections. The call
+/// copies the input.
 #[unsafe(no_mangle)]
 pub extern "C" fn nosgrivel_check_module(alloc: Global, input: &[u8], count: &mut usize) -> u32
-    // The input is the shortest encoding of a list of sections, and the count is its length.
+    // The input is the minimal encoding of a list of sections, and the count is its length.
     ensures normal { result ≡ NORMAL → EncodesSome ShortestModule input.now }
     ensures len { result ≡ NORMAL → count.new ≡ length input.now }
-    // Only what isn't is refused, and the count is the length of the longest prefix that is whole and shortest.
+    // Any other input is refused, and the count is the length of the longest prefix that is minimally encoded.
     ensures refused { result ≡ REFUSED → IsLongestPrefix IsShortestModulePrefix input.now count.new }
     ensures encodes_none { result ≡ REFUSED → EncodesSome ShortestModule input.now → ⊥ }
-    // Without memory the count is as it was.
+    // If memory ran out, the count is unchanged.
     ensures no_memory { result ≡ NO_MEMORY → count.new ≡ count.old }
-    // There is no other status.
+    // No other status is returned.
     ensures status { IsAnswer result }
 {
     answer(check_module(alloc, input), input, count)

@@ -1,30 +1,32 @@
-//! Where two canonical forms differ.
+//! The first difference between two canonical forms.
 ghost use Rattle.std.specs.Prelude.{◌≡◌, IfOk, IfSome, IfNone};
 
 use crate::sections::{LocatedSection, SectionTitle, locate_sections};
 use std::alloc::{AllocError, Global};
 use std::fmt;
 
-/// The first sections in which two modules differ.
+/// The first sections that differ.
 #[derive(Clone, Copy)]
 pub struct Difference<'a> {
-    /// How many sections before it are the same.
+    /// Number of equal sections before them.
     number: usize,
-    /// The section of the first module, where it has one more.
+    /// The section of the first module. `None` means that it has no more sections.
     first: Option<LocatedSection<'a>>,
-    /// The section of the second module, where it has one more.
+    /// The section of the second module. `None` means that it has no more sections.
     second: Option<LocatedSection<'a>>,
 }
 
-/// Where two canonical forms differ, if they do.
+/// Finds the first difference between two canonical forms. Returns `None` if they are equal.
+///
+/// Fails if memory runs out.
 pub fn find_difference<'a>(
     alloc: Global,
     first: &'a [u8],
     second: &'a [u8],
 ) -> Result<Option<Difference<'a>>, AllocError>
-    // None is told only where they are the same.
+    // `None` means that they are equal.
     ensures same { IfOk result (λ difference. IfNone difference (first.now ≡ second.now)) }
-    // One is told only where they aren't.
+    // A difference means that they are not.
     ensures differ { IfOk result (λ difference. IfSome difference (λ _. first.now ≡ second.now → ⊥)) }
 {
     if first == second {
@@ -35,7 +37,7 @@ pub fn find_difference<'a>(
     Ok(Some(difference_of(&firsts, &seconds)))
 }
 
-/// The first sections that differ.
+/// Finds the first sections that differ.
 fn difference_of<'a>(
     firsts: &[LocatedSection<'a>],
     seconds: &[LocatedSection<'a>],
@@ -54,12 +56,12 @@ fn difference_of<'a>(
     }
 }
 
-/// Whether two sections have one id and one body.
+/// Checks whether two sections have the same id and the same body.
 fn is_same(first: &LocatedSection<'_>, second: &LocatedSection<'_>) -> bool {
     first.section.id == second.section.id && first.section.body == second.section.body
 }
 
-/// How many bytes two lists begin with alike.
+/// Returns the length of the longest common prefix.
 fn common_len(first: &[u8], second: &[u8]) -> usize {
     for (index, (one, other)) in first.iter().zip(second).enumerate() {
         if one != other {
@@ -79,14 +81,14 @@ impl fmt::Display for Difference<'_> {
                 let (here, there) = (first.offset_of(common), second.offset_of(common));
                 write!(
                     f,
-                    "{title} section (section {number}), at offset {here:#x} of the first canonical form and {there:#x} of the second"
+                    "{title} section, offset {here:#x} in the first canonical form, offset {there:#x} in the second"
                 )
             }
             (Some(first), Some(second)) => {
                 let (here, there) = (SectionTitle(first.section), SectionTitle(second.section));
                 write!(
                     f,
-                    "section {number}, at offset {:#x}, is {here} in the first and {there} in the second",
+                    "section {number}, offset {:#x}: {here} in the first canonical form, {there} in the second",
                     first.at
                 )
             }
@@ -94,7 +96,7 @@ impl fmt::Display for Difference<'_> {
                 let title = SectionTitle(only.section);
                 write!(
                     f,
-                    "{title} section (section {number}), at offset {:#x}, is in the first alone",
+                    "{title} section, offset {:#x}: only in the first canonical form",
                     only.at
                 )
             }
@@ -102,11 +104,11 @@ impl fmt::Display for Difference<'_> {
                 let title = SectionTitle(only.section);
                 write!(
                     f,
-                    "{title} section (section {number}), at offset {:#x}, is in the second alone",
+                    "{title} section, offset {:#x}: only in the second canonical form",
                     only.at
                 )
             }
-            (None, None) => write!(f, "what follows the last section"),
+            (None, None) => write!(f, "bytes after the last section"),
         }
     }
 }

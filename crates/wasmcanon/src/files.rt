@@ -1,4 +1,4 @@
-//! Files that are read, and files that are put in the place of others.
+//! Files: inputs, and outputs that replace a file only once they are complete.
 use crate::options::Location;
 use crate::progress::{Progress, Source};
 use crate::run::{
@@ -10,8 +10,10 @@ use std::io::Write;
 use std::path::{Path, PathBuf};
 use std::{fs, io};
 
-/// Writes the canonical form of the module that is at one location to another, or that form without the custom sections
-/// that keep offsets. Where one is kept and bytes have moved, tells how its name begins.
+/// Reads the module at `input`, and writes its canonical form to `output`.
+///
+/// With `strip_offsets` the output has no custom sections that keep offsets. Otherwise, if bytes have moved and such a
+/// section is kept, returns the beginning of its name.
 pub fn canonicalise_file(
     rt: &HostRuntime,
     input: Location<'_>,
@@ -24,7 +26,7 @@ pub fn canonicalise_file(
     stale
 }
 
-/// Tells whether the module that is there is its canonical form.
+/// Checks whether the module at `input` is its own canonical form.
 pub fn check_file(rt: &HostRuntime, input: Location<'_>) -> Result<Verdict, Failure> {
     let mut source = open(rt, input, Progress::new(rt))?;
     let verdict = check(rt.alloc(), &mut source);
@@ -32,7 +34,7 @@ pub fn check_file(rt: &HostRuntime, input: Location<'_>) -> Result<Verdict, Fail
     verdict
 }
 
-/// The module that is there, and its canonical form.
+/// Reads the module at `input`, and returns it with its canonical form.
 pub fn read_forms_at(rt: &HostRuntime, input: Location<'_>) -> Result<Forms, Failure> {
     let mut source = open(rt, input, Progress::new(rt))?;
     let forms = read_forms(rt.alloc(), &mut source);
@@ -61,7 +63,7 @@ fn canonicalise_to(
     }
 }
 
-/// Writes the canonical form of what is read, or that form without the custom sections that keep offsets.
+/// Reads a module, and writes its canonical form, with or without the custom sections that keep offsets.
 fn write_form<W: Write>(
     alloc: Global,
     source: &mut Source,
@@ -77,8 +79,9 @@ fn write_form<W: Write>(
     }
 }
 
-/// A file that is there stays as it is unless all of the form is written: that goes to a new file beside it, which then takes
-/// its name. A device or a pipe is written to as it is.
+/// Writes the canonical form to a new file beside `path`, and renames it to `path` once it is complete.
+///
+/// If the run fails, the file at `path` is unchanged. A device or a pipe is written to directly.
 fn canonicalise_to_file(
     rt: &HostRuntime,
     source: &mut Source,
@@ -102,7 +105,7 @@ fn canonicalise_to_file(
     }
 }
 
-/// The failure of a file that can't be made or put in its place, for which there may have been no memory.
+/// Returns the failure for an error from creating or renaming a file: `Memory` if memory ran out, `Write` otherwise.
 fn write_failure(error: io::Error) -> Failure {
     if error.kind() == io::ErrorKind::OutOfMemory {
         Failure::Memory
@@ -111,16 +114,17 @@ fn write_failure(error: io::Error) -> Failure {
     }
 }
 
-/// Whether something other than a regular file is there.
+/// Checks whether `path` is a device, a pipe or a folder.
 fn is_special(rt: &HostRuntime, path: &str) -> bool {
     fs::metadata(rt, path).is_ok_and(|metadata| !metadata.is_file())
 }
 
-/// How many names are tried for a file beside another.
+/// Number of names to try for the new file.
 const MOST_NAMES: u32 = 100;
 
-/// A new file beside the one at the path. One that an earlier run left is kept, since another run may be writing it, and the
-/// next name is taken.
+/// Creates a new file beside `path`, and returns its name with it.
+///
+/// If the name is taken, tries the next one: another run may be writing that file.
 fn create_beside(rt: &HostRuntime, path: &str) -> io::Result<(String, File)> {
     for number in 0..MOST_NAMES {
         let beside = format!(in rt.alloc(); "{path}.{number}.wasmcanon")?;
@@ -133,7 +137,7 @@ fn create_beside(rt: &HostRuntime, path: &str) -> io::Result<(String, File)> {
     Err(io::Error::from(io::ErrorKind::AlreadyExists))
 }
 
-/// The path itself, or the one that a link there leads to, even where nothing is there.
+/// Follows a symbolic link at `path`, even if its target doesn't exist. Returns `path` if it is no link.
 fn follow_link(rt: &HostRuntime, path: &str) -> io::Result<PathBuf> {
     if let Ok(target) = fs::canonicalize(rt, path) {
         return Ok(target);
@@ -145,7 +149,7 @@ fn follow_link(rt: &HostRuntime, path: &str) -> io::Result<PathBuf> {
     }
 }
 
-/// A new file beside one whose place it takes once it is written.
+/// A new file that replaces another one once it is complete.
 #[derive(Drop)]
 struct Replacement {
     path: PathBuf,
@@ -154,7 +158,7 @@ struct Replacement {
 }
 
 impl Replacement {
-    /// A new file beside the one at the path, or beside the one that a link there leads to.
+    /// Creates a new file beside the file at `path`, or beside the target if `path` is a link. Copies the permissions.
     fn create(rt: &HostRuntime, path: &str) -> io::Result<Replacement> {
         let path = follow_link(rt, path)?;
         let (beside, file) = create_beside(rt, path.as_str())?;
@@ -169,7 +173,7 @@ impl Replacement {
         }
     }
 
-    /// Puts it in its place.
+    /// Renames the new file to the path that it replaces.
     fn put(self, rt: &HostRuntime) -> io::Result<()> {
         let result = fs::rename(rt, self.beside.as_str(), self.path.as_str());
         if result.is_err() {
@@ -178,7 +182,7 @@ impl Replacement {
         result
     }
 
-    /// Removes it.
+    /// Removes the new file.
     fn remove(self, rt: &HostRuntime) {
         let _ = fs::remove_file(rt, self.beside.as_str());
     }

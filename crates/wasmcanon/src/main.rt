@@ -1,8 +1,8 @@
-//! `wasmcanon` writes the canonical form of a WebAssembly module: every number, size, type, index and limit in the fewest
-//! bytes, in every section.
+//! `wasmcanon` writes the canonical form of a WebAssembly module: every number, size, type, index and limit has its
+//! minimal encoding.
 //!
-//! `run` has what is proved of it, over any reader and any writer. `wasmcanon --help` tells how it is called, and each exit
-//! status.
+//! The module `run` holds what is proved, for any reader and any writer. The module `options` holds the text of
+//! `wasmcanon --help`.
 #![tactic(auto)]
 
 mod diff;
@@ -41,25 +41,25 @@ fn main(rt: HostRuntime) -> ExitCode {
         Ok(words) => run_words(&rt, &words),
         Err(error) if error.kind() == io::ErrorKind::OutOfMemory => no_memory(&rt),
         Err(_) => {
-            let _ = eprintln!(rt; "error: an option isn't UTF-8");
+            let _ = eprintln!(rt; "error: invalid argument: expected UTF-8");
             USAGE_STATUS
         }
     };
     ExitCode::from(status)
 }
 
-/// The words of the command line, with the program's name.
+/// Reads the words of the command line, the program's name among them.
 fn read_words(rt: &HostRuntime) -> io::Result<Vec<String>> {
     let words: Vec<String> = env::args(rt)?.collect(rt.alloc())?;
     Ok(words)
 }
 
 fn no_memory(rt: &HostRuntime) -> u8 {
-    let _ = eprintln!(rt; "error: no memory");
+    let _ = eprintln!(rt; "error: out of memory");
     MEMORY_STATUS
 }
 
-/// Does what the words ask for, and gives the exit status.
+/// Runs the program with these words, and returns the exit status.
 fn run_words(rt: &HostRuntime, words: &[String]) -> u8 {
     let Ok(command) = command(rt.alloc()) else {
         return no_memory(rt);
@@ -74,7 +74,7 @@ fn run_words(rt: &HostRuntime, words: &[String]) -> u8 {
     }
 }
 
-/// Does what the options ask for, and gives the exit status.
+/// Runs the program with these options, and returns the exit status.
 fn run_options(rt: &HostRuntime, options: Options<'_>) -> u8 {
     match options.action {
         Action::Check => match check_file(rt, options.input) {
@@ -90,7 +90,7 @@ fn run_options(rt: &HostRuntime, options: Options<'_>) -> u8 {
         } => {
             if output == Location::Standard && !force && rt.stdout().is_terminal() {
                 let _ = eprintln!(rt;
-                    "error: standard output is a terminal: name a file by -o, or use --force"
+                    "error: standard output is a terminal: name a file with -o, or use --force"
                 );
                 return USAGE_STATUS;
             }
@@ -102,7 +102,7 @@ fn run_options(rt: &HostRuntime, options: Options<'_>) -> u8 {
     }
 }
 
-/// Warns of offsets that point elsewhere now, and gives the exit status.
+/// Warns of stale offsets, if there are any, and returns the exit status.
 fn warn_of_offsets(rt: &HostRuntime, options: Options<'_>, stale: Option<&'static str>) -> u8 {
     if let Some(name) = stale {
         let warning = OffsetWarning {
@@ -114,21 +114,21 @@ fn warn_of_offsets(rt: &HostRuntime, options: Options<'_>, stale: Option<&'stati
     0
 }
 
-/// Says on standard error where a module isn't canonical, and gives the exit status.
+/// Reports where a module isn't canonical, and returns the exit status.
 fn report_verdict(rt: &HostRuntime, options: Options<'_>, verdict: Verdict) -> u8 {
     match verdict {
         Verdict::Canonical => 0,
         Verdict::Longer { at } => {
             let input = InputName(options.input);
             let _ = eprintln!(rt;
-                "{input}: isn't canonical: the section at offset {at:#x} isn't in its shortest encoding"
+                "error: {input}: not canonical: section at offset {at:#x}: not minimally encoded"
             );
             NOT_CANONICAL_STATUS
         }
     }
 }
 
-/// Says on standard error where the canonical forms of two modules differ, and gives the exit status.
+/// Compares the canonical forms of two modules, reports where they differ, and returns the exit status.
 fn diff_files(rt: &HostRuntime, options: Options<'_>, other: Location<'_>) -> u8 {
     let first = match read_forms_at(rt, options.input) {
         Ok(forms) => forms.canonical,
@@ -148,14 +148,14 @@ fn diff_files(rt: &HostRuntime, options: Options<'_>, other: Location<'_>) -> u8
         Ok(None) => 0,
         Ok(Some(difference)) => {
             let (first, second) = (InputName(options.input), InputName(other));
-            let _ = eprintln!(rt; "{first} and {second} differ: {difference}");
+            let _ = eprintln!(rt; "error: {first} and {second} differ: {difference}");
             DIFFERENT_STATUS
         }
         Err(AllocError) => no_memory(rt),
     }
 }
 
-/// Writes the report of a module, and gives the exit status.
+/// Prints the report of a module, and returns the exit status.
 fn report_sizes(rt: &HostRuntime, options: Options<'_>, json: bool) -> u8 {
     let forms = match read_forms_at(rt, options.input) {
         Ok(forms) => forms,
@@ -178,7 +178,7 @@ fn print_report(rt: &HostRuntime, report: &Report<'_>, json: bool) -> io::Result
     }
 }
 
-/// Says on standard error why a run failed, and gives the exit status.
+/// Reports why a run failed, and returns the exit status.
 fn report_failure(rt: &HostRuntime, options: Options<'_>, failure: Failure) -> u8 {
     let status = failure.status();
     let message = FailureMessage { options, failure };

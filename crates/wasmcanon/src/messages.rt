@@ -1,14 +1,14 @@
-//! What the program says on standard error.
+//! The messages on standard error.
 use crate::options::{Action, Location, Options};
 use crate::run::Failure;
 use std::fmt;
 
-/// Why a run failed, with the names of what it read and wrote.
+/// The message for a run that failed.
 #[derive(Drop)]
 pub struct FailureMessage<'a> {
-    /// What the run was asked for.
+    /// The options of the run.
     pub options: Options<'a>,
-    /// How it failed.
+    /// The error.
     pub failure: Failure,
 }
 
@@ -18,31 +18,31 @@ impl fmt::Display for FailureMessage<'_> {
         match &self.failure {
             Failure::Refused { at: 0, .. } => write!(
                 f,
-                "{input}: doesn't begin with the header of a WebAssembly module"
+                "{input}: offset 0x0: not a WebAssembly module: expected the header 00 61 73 6D 01 00 00 00"
             ),
             Failure::Refused {
                 at: _,
                 place: Some(place),
             } => write!(f, "{input}: {place}"),
             Failure::Refused { at, place: None } => {
-                write!(f, "{input}: the section at offset {at:#x} can't be decoded")
+                write!(f, "{input}: offset {at:#x}: malformed section")
             }
-            Failure::Memory => write!(f, "no memory"),
-            Failure::Read(error) => write!(f, "{input}: can't be read: {error}"),
+            Failure::Memory => write!(f, "out of memory"),
+            Failure::Read(error) => write!(f, "{input}: read failed: {error}"),
             Failure::Write(error) => {
                 let output = OutputName(self.options.action);
-                write!(f, "{output}: can't be written: {error}")
+                write!(f, "{output}: write failed: {error}")
             }
         }
     }
 }
 
-/// A warning of offsets that point elsewhere, now that bytes have moved.
+/// The warning that a custom section keeps stale offsets.
 #[derive(Clone, Copy)]
 pub struct OffsetWarning<'a> {
     /// The module.
     pub input: InputName<'a>,
-    /// How the name of a section begins that keeps offsets.
+    /// The beginning of the section's name.
     pub name: &'static str,
 }
 
@@ -51,16 +51,16 @@ impl fmt::Display for OffsetWarning<'_> {
         let OffsetWarning { input, name } = *self;
         writeln!(
             f,
-            "warning: {input}: bytes have moved, and custom sections keep offsets of where they were: {name}"
+            "warning: {input}: custom sections {name}*: offsets are stale, because bytes have moved"
         )?;
         write!(
             f,
-            "help: leave out such sections by --strip-offsets, or make them anew after this program"
+            "help: drop such sections with --strip-offsets, or generate them again from the output"
         )
     }
 }
 
-/// What the input is called.
+/// The name of the input in messages.
 #[derive(Clone, Copy)]
 pub struct InputName<'a>(pub Location<'a>);
 
@@ -73,7 +73,7 @@ impl fmt::Display for InputName<'_> {
     }
 }
 
-/// What the output is called.
+/// The name of the output in messages.
 #[derive(Clone, Copy)]
 struct OutputName<'a>(Action<'a>);
 

@@ -1,4 +1,4 @@
-//! Custom sections that keep offsets into the module: these point elsewhere once bytes have moved.
+//! Custom sections that keep offsets into the module. Once bytes have moved, these offsets are stale.
 ghost use Rattle.std.specs.Prelude.{◌≡◌, List, true, false, IfOk, IfSome, IfNone};
 ghost use Rattle.wasm_modules.specs.formats.Sections.{SectionParts, parts_of, all_parts_of};
 ghost use Rattle.wasm_modules.specs.formats.Modules.{raw_module};
@@ -11,7 +11,9 @@ use wasm_modules::section::{HEADER, RawSection};
 use wasm_readers::modules::read_module;
 use wasm_writers::sections::append_section;
 
-/// How the name of the first custom section begins that keeps offsets, in a module that has one.
+/// Returns the beginning of the name of the first custom section that keeps offsets. `None` means that no section does.
+///
+/// Fails if memory runs out.
 pub fn first_offset_name(alloc: Global, module: &[u8]) -> Result<Option<&'static str>, AllocError> {
     let sections = match read_module(alloc, module) {
         Ok(sections) => sections,
@@ -26,21 +28,23 @@ pub fn first_offset_name(alloc: Global, module: &[u8]) -> Result<Option<&'static
     Ok(None)
 }
 
-/// The module without its custom sections that keep offsets.
+/// Returns the module without the custom sections that keep offsets.
+///
+/// Fails if memory runs out.
 pub fn without_offsets(alloc: Global, module: &[u8]) -> Result<Vec<u8>, AllocError>
-    // Of the sections that the module encodes, the others are written, each with its size in the fewest bytes.
+    // The result is the minimal encoding of the sections that don't keep offsets.
     ensures ok { IfOk result (λ left. (sections : List SectionParts) →
         raw_module.Encodes module.now sections → IsWithoutOffsets sections left.items) }
 {
     match read_module(alloc, module) {
         Ok(sections) => write_others(alloc, &sections),
         Err(ReadError::Memory) => Err(AllocError),
-        // There is no such section in what encodes no sections.
+        // A malformed module has no sections to drop.
         Err(ReadError::Refused { .. }) => Vec::from_slice(alloc, module),
     }
 }
 
-/// A module of the sections that don't keep offsets.
+/// Writes a module of the sections that don't keep offsets.
 fn write_others(alloc: Global, sections: &[RawSection<'_>]) -> Result<Vec<u8>, AllocError>
     ensures { IfOk result (λ left. IsWithoutOffsets (all_parts_of sections.now) left.items) }
 {
@@ -49,7 +53,7 @@ fn write_others(alloc: Global, sections: &[RawSection<'_>]) -> Result<Vec<u8>, A
         if offset_name_of(section).is_some() {
             continue;
         }
-        // A body that was read isn't too long for its size.
+        // A body that was read is never too long, so only memory can be lacking.
         if append_section(section.id, section, &mut left).is_err() {
             return Err(AllocError);
         }
@@ -57,7 +61,7 @@ fn write_others(alloc: Global, sections: &[RawSection<'_>]) -> Result<Vec<u8>, A
     Ok(left)
 }
 
-/// How the name of a section begins, where it is a custom one that keeps offsets.
+/// Returns the beginning of the section's name if it is a custom section that keeps offsets.
 fn offset_name_of(section: &RawSection<'_>) -> Option<&'static str>
     ensures found { IfSome result (λ _. KeepsOffsets (parts_of section.now)) }
     ensures none { IfNone result (KeepsOffsets (parts_of section.now) → ⊥) }
@@ -68,8 +72,8 @@ fn offset_name_of(section: &RawSection<'_>) -> Option<&'static str>
     }
 }
 
-/// How the name of a custom section begins, where it keeps offsets: of symbols and of places that a linker fills in, in debug
-/// information (DWARF) and in a source map, whether here or in another file, or of notes on instructions.
+/// Returns the beginning of the name if sections of this name keep offsets: relocations and symbols of a linker, debug
+/// information (DWARF) or a source map, here or in another file, and annotations of instructions.
 fn offset_name(name: &str) -> Option<&'static str>
     ensures found { IfSome result (λ _. IsOffsetName name.now) }
     ensures none { IfNone result (IsOffsetName name.now → ⊥) }
@@ -91,7 +95,7 @@ fn offset_name(name: &str) -> Option<&'static str>
     }
 }
 
-/// Whether a name begins so.
+/// Checks whether `name` begins with `beginning`.
 fn begins_with(name: &str, beginning: &str) -> bool
     ensures yes { result ≡ true → BeginsWith beginning.now name.now }
     ensures no { result ≡ false → BeginsWith beginning.now name.now → ⊥ }

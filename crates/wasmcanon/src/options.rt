@@ -1,8 +1,8 @@
-//! What the words of a command line ask for.
+//! The command line.
 use clap::{Arg, ArgAction, ArgMatches, Command};
 use std::alloc::{AllocError, Global};
 
-/// Where bytes are read from or written to.
+/// A place to read bytes from or to write them to.
 #[derive(Clone, Copy, PartialEq, Eq)]
 pub enum Location<'a> {
     /// Standard input or standard output.
@@ -12,7 +12,7 @@ pub enum Location<'a> {
 }
 
 impl<'a> Location<'a> {
-    /// The location that a word names: a path, or `-` for the standard one, as where there is no word.
+    /// Returns the location that a word names: a path, or the standard stream if the word is `-` or missing.
     pub fn named(word: Option<&'a str>) -> Location<'a> {
         match word {
             None | Some("-") => Location::Standard,
@@ -21,43 +21,43 @@ impl<'a> Location<'a> {
     }
 }
 
-/// What is done with a module.
+/// The action of a run on the module.
 #[derive(Clone, Copy)]
 pub enum Action<'a> {
-    /// Its canonical form is written.
+    /// Write its canonical form.
     Write {
-        /// Where it goes.
+        /// The output.
         output: Location<'a>,
-        /// Whether a terminal is written to.
+        /// Whether a terminal may be written to.
         force: bool,
-        /// Whether custom sections that keep offsets are left out.
+        /// Whether to drop custom sections that keep offsets.
         strip_offsets: bool,
     },
-    /// Whether it is its canonical form is told.
+    /// Check whether it is its own canonical form.
     Check,
-    /// Whether it has the same canonical form as another is told.
+    /// Check whether another module has the same canonical form.
     Diff {
-        /// Where the other is.
+        /// The other module.
         other: Location<'a>,
     },
-    /// How many bytes each section has, here and in the canonical form, and how many encodings are longer, is told.
+    /// Print the size of each section before and after, and count the items that are not minimally encoded.
     Report {
-        /// Whether it is told as JSON.
+        /// Whether to print JSON.
         json: bool,
     },
 }
 
-/// What a command line asks for.
+/// The options of a run.
 #[derive(Clone, Copy)]
 pub struct Options<'a> {
-    /// Where the module is.
+    /// The module.
     pub input: Location<'a>,
-    /// What is done with it.
+    /// The action.
     pub action: Action<'a>,
 }
 
 impl<'a> Options<'a> {
-    /// The options that the words of a command line were matched to.
+    /// Reads the options from the matches of a command line.
     pub fn from_matches(matches: &ArgMatches<'a>) -> Options<'a> {
         let input = Location::named(matches.get_str("input"));
         let action = if matches.get_flag("check") {
@@ -81,32 +81,62 @@ impl<'a> Options<'a> {
     }
 }
 
-const ABOUT: &str = "Writes the canonical form of a WebAssembly module: \
-    every number, size, type, index and limit in the fewest bytes";
+const USAGE: &str = "\
+wasmcanon [FILE] [-o FILE] [--strip-offsets] [--force]
+       wasmcanon --check [FILE]
+       wasmcanon --diff FILE OTHER
+       wasmcanon --report [--json] [FILE]";
 
-const EXAMPLES: &str = "\
+// bin/wasmcanon prints these lines as they are here, so they have no escapes.
+const HELP: &str = "\
+Writes the canonical form of a WebAssembly module: every number, size, type,
+index and limit has its minimal encoding.
+
+Usage: wasmcanon [FILE] [-o FILE] [--strip-offsets] [--force]
+       wasmcanon --check [FILE]
+       wasmcanon --diff FILE OTHER
+       wasmcanon --report [--json] [FILE]
+
+Arguments:
+  [FILE]   Input module [default: standard input; `-` too]
+  [OTHER]  Module to compare with FILE, for --diff
+
+Options:
+  -o, --output <FILE>  Output file [default: standard output]
+      --force          Write to standard output even if it is a terminal
+      --strip-offsets  Drop custom sections that keep offsets, such as debug
+                       information
+      --check          Check whether FILE is canonical; write nothing
+      --report         Print the size of each section before and after, and how
+                       many of its items are not minimally encoded
+      --diff           Check whether FILE and OTHER have the same canonical form
+      --json           Print the report as JSON
+  -h, --help           Print help
+  -V, --version        Print version
+
 Examples:
-  wasmcanon app.wasm -o app.canon.wasm    write the canonical form to another file
-  wasmcanon app.wasm -o app.wasm          put it in place of the module
-  wasmcanon < app.wasm | sha256sum        hash it
-  wasmcanon --strip-offsets app.wasm -o app.canon.wasm
-                                          leave out debug information, which bytes that move make wrong
-  wasmcanon --check app.wasm              succeed only where the module is its own canonical form
-  wasmcanon --diff a.wasm b.wasm          succeed only where both have the same canonical form
-  wasmcanon --report app.wasm             how many bytes each section would have
+  wasmcanon app.wasm -o app.canon.wasm  write the canonical form to another file
+  wasmcanon app.wasm -o app.wasm        replace the module
+  wasmcanon < app.wasm | sha256sum      hash the canonical form
+  wasmcanon --check app.wasm            fail unless the module is canonical
+  wasmcanon --diff a.wasm b.wasm        fail unless their canonical forms match
+  wasmcanon --report app.wasm           show how much each section would shrink
 
-Sections, and the items in a section, are numbered from 0. A report tells of each section how many of its items
-(types, imports, function bodies, ..) aren't in their shortest encoding, of how many, and at the end how many sizes
-of sections and counts of items aren't; in JSON by section.
+Canonicalising moves bytes, so offsets in custom sections become stale: those in
+`linking`, `reloc.*`, `.debug_*`, `external_debug_info`, `sourceMappingURL` and
+`metadata.code.*`. wasmcanon warns if bytes have moved and such a section is
+kept; --strip-offsets drops them all.
+
+Messages and reports number sections, and the items of a section, from 0.
 
 Exit status:
-  0  written, canonical, or the same
-  1  the input isn't a module; with --check it isn't canonical, with --diff they differ
-  2  other options
-  3  no memory
+  0  written; --check: canonical; --diff: same canonical form
+  1  malformed module; --check: not canonical; --diff: different canonical forms
+  2  invalid arguments, or a terminal as output without --force
+  3  out of memory
   4  a read or a write failed";
 
-/// The group of the arguments by which something is told and nothing is written. One of them is used at most.
+/// The group of the options that write no module. At most one of them is allowed.
 const QUESTION: &str = "question";
 
 /// An argument of the command line.
@@ -114,23 +144,22 @@ const QUESTION: &str = "question";
 struct Argument {
     name: &'static str,
     form: Form,
-    help: &'static str,
-    /// The groups that it is in.
+    /// The groups that the argument belongs to.
     groups: &'static [&'static str],
-    /// The arguments and groups without which it is used.
+    /// The arguments and groups that exclude this one.
     conflicts: &'static [&'static str],
-    /// The arguments with which it is used.
+    /// The arguments that this one requires.
     needs: &'static [&'static str],
 }
 
-/// How an argument is written.
+/// The form of an argument.
 #[derive(Clone, Copy)]
 enum Form {
-    /// By its place, as a word of this name.
+    /// By position. The word is its name in messages.
     Place(&'static str),
-    /// By a letter or by its name, and after it a word of this name.
+    /// As a short or a long option with a value. The word is the value's name in messages.
     Value(char, &'static str),
-    /// By its name alone.
+    /// As a long option without a value.
     Flag,
 }
 
@@ -138,7 +167,6 @@ const ARGUMENTS: [Argument; 9] = [
     Argument {
         name: "input",
         form: Form::Place("FILE"),
-        help: "The module; standard input where it is - or isn't named",
         groups: &[],
         conflicts: &[],
         needs: &[],
@@ -146,7 +174,6 @@ const ARGUMENTS: [Argument; 9] = [
     Argument {
         name: "other",
         form: Form::Place("OTHER"),
-        help: "With --diff, the other module",
         groups: &[],
         conflicts: &[],
         needs: &["diff"],
@@ -154,7 +181,6 @@ const ARGUMENTS: [Argument; 9] = [
     Argument {
         name: "output",
         form: Form::Value('o', "FILE"),
-        help: "Where the canonical form goes [default: standard output]",
         groups: &[],
         conflicts: &[QUESTION],
         needs: &[],
@@ -162,7 +188,6 @@ const ARGUMENTS: [Argument; 9] = [
     Argument {
         name: "force",
         form: Form::Flag,
-        help: "Write bytes to a terminal too",
         groups: &[],
         conflicts: &[],
         needs: &[],
@@ -170,7 +195,6 @@ const ARGUMENTS: [Argument; 9] = [
     Argument {
         name: "strip-offsets",
         form: Form::Flag,
-        help: "Leave out custom sections that keep offsets, such as debug information",
         groups: &[],
         conflicts: &[QUESTION],
         needs: &[],
@@ -178,7 +202,6 @@ const ARGUMENTS: [Argument; 9] = [
     Argument {
         name: "check",
         form: Form::Flag,
-        help: "Write nothing, and tell whether the module is canonical",
         groups: &[QUESTION],
         conflicts: &[],
         needs: &[],
@@ -186,7 +209,6 @@ const ARGUMENTS: [Argument; 9] = [
     Argument {
         name: "report",
         form: Form::Flag,
-        help: "Write how many bytes each section has, and how many in the canonical form; and how many encodings are longer",
         groups: &[QUESTION],
         conflicts: &[],
         needs: &[],
@@ -194,7 +216,6 @@ const ARGUMENTS: [Argument; 9] = [
     Argument {
         name: "diff",
         form: Form::Flag,
-        help: "Write nothing, and tell whether FILE and OTHER have the same canonical form",
         groups: &[QUESTION],
         conflicts: &[],
         needs: &["other"],
@@ -202,14 +223,15 @@ const ARGUMENTS: [Argument; 9] = [
     Argument {
         name: "json",
         form: Form::Flag,
-        help: "Write the report as JSON",
         groups: &[],
         conflicts: &[],
         needs: &["report"],
     },
 ];
 
-/// The command line of the program.
+/// Builds the command line.
+///
+/// Fails if memory runs out.
 pub fn command<'a>(alloc: Global) -> Result<Command<'a>, AllocError> {
     let mut arguments = Vec::new(alloc);
     for argument in &ARGUMENTS {
@@ -217,20 +239,19 @@ pub fn command<'a>(alloc: Global) -> Result<Command<'a>, AllocError> {
     }
     Command::new(alloc, "wasmcanon")
         .version("0.1.0")
-        .about(ABOUT)
-        .after_help(EXAMPLES)
+        .override_usage(USAGE)
+        .override_help(HELP)
         .args(arguments)
 }
 
 fn arg_of<'a>(alloc: Global, argument: &Argument) -> Result<Arg<'a>, AllocError> {
-    let arg = Arg::new(alloc, argument.name).help(argument.help);
-    written_as(arg, argument)
+    written_as(Arg::new(alloc, argument.name), argument)
         .groups(argument.groups)?
         .conflicts_with_all(argument.conflicts)?
         .requires_all(argument.needs)
 }
 
-/// The argument of the parser, written in its form.
+/// Gives the parser's argument the form of this one.
 fn written_as<'a>(arg: Arg<'a>, argument: &Argument) -> Arg<'a> {
     match argument.form {
         Form::Place(word) => arg.value_name(word),

@@ -1,4 +1,4 @@
-//! Where a module can't be decoded.
+//! The place where a module is malformed.
 use crate::sections::SectionKind;
 use std::alloc::Global;
 use std::fmt;
@@ -7,45 +7,45 @@ use wasm_modules::reader::read_section;
 use wasm_readers::modules::read_module;
 use wasm_sections::modules::{CodePlace, ItemPlace, first_broken_item, first_broken_part};
 
-/// A section that can't be decoded.
+/// The place of a malformed section.
 #[derive(Clone, Copy)]
 pub struct Place {
-    /// How many sections come before it.
+    /// Number of sections before it.
     pub number: usize,
-    /// How many bytes come before it.
+    /// Offset in bytes from the start of the module.
     pub at: usize,
-    /// What is wrong with it.
+    /// The malformed part.
     pub fault: SectionFault,
 }
 
-/// What is wrong with a section.
+/// The malformed part of a section.
 #[derive(Clone, Copy)]
 pub enum SectionFault {
-    /// Its size isn't there, or is more than the bytes that are left.
+    /// The size, which is missing or larger than the rest of the module.
     Cut,
-    /// Its body isn't that of a section with its id.
+    /// The body, or the id.
     Body {
-        /// The id.
+        /// Id of the section.
         id: u8,
-        /// How many bytes come before the body.
+        /// Offset of the body, in bytes from the start of the module.
         body_at: usize,
-        /// The first item that can't be decoded, in a body that is a list.
+        /// The first malformed item. `None` means that the body isn't a list.
         item: Option<ItemPlace>,
-        /// What is wrong with that item, where it is the body of a function.
+        /// The malformed part of the item. `None` means that the item isn't a function.
         function: Option<FunctionFault>,
     },
 }
 
-/// What is wrong with the body of a function.
+/// The malformed part of a function.
 #[derive(Clone, Copy)]
 pub enum FunctionFault {
-    /// Its size isn't there, or is more than what is left of the section.
+    /// The size, which is missing or larger than the rest of the section.
     Cut,
-    /// Its locals or its instructions can't be decoded.
+    /// The locals or the instructions.
     Code {
-        /// How many bytes of the section's body come before the locals.
+        /// Offset of the locals, in bytes from the start of the section's body.
         at: usize,
-        /// Where.
+        /// The place in the function's code.
         place: CodePlace,
     },
 }
@@ -53,7 +53,7 @@ pub enum FunctionFault {
 /// The id of code sections.
 const CODE_SECTION: u8 = 10;
 
-/// The section after so many bytes of a module, which can't be decoded. It isn't told where memory runs out.
+/// Locates the malformed part of the section at offset `at`. Returns `None` if memory runs out.
 pub fn find_place(alloc: Global, module: &[u8], at: usize) -> Option<Place> {
     let (before, rest) = module.split_at_checked(at)?;
     let Ok(sections) = read_module(alloc, before) else {
@@ -67,7 +67,7 @@ pub fn find_place(alloc: Global, module: &[u8], at: usize) -> Option<Place> {
     })
 }
 
-/// What is wrong with the section that these bytes begin with, before which so many bytes come.
+/// Locates the malformed part of the section at the start of `bytes`, whose offset in the module is `at`.
 fn find_fault(alloc: Global, bytes: &[u8], at: usize) -> Option<SectionFault> {
     let mut cursor = Cursor::new(bytes);
     let Ok(section) = read_section(&mut cursor) else {
@@ -88,7 +88,8 @@ fn find_fault(alloc: Global, bytes: &[u8], at: usize) -> Option<SectionFault> {
     })
 }
 
-/// What is wrong with the function body at this place in the body of a code section. It isn't told where memory runs out.
+/// Locates the malformed part of the function at this place in the body of a code section. Returns `None` if memory
+/// runs out.
 fn find_in_function(alloc: Global, body: &[u8], place: ItemPlace) -> Option<FunctionFault> {
     if place.at == 0 || place.index == place.count {
         return None;
@@ -114,7 +115,7 @@ impl fmt::Display for Place {
         match self.fault {
             SectionFault::Cut => write!(
                 f,
-                "section {number}: its size at offset {at:#x} is missing, or more than what is left"
+                "section {number}, offset {at:#x}: size is missing or larger than the rest of the module"
             ),
             SectionFault::Body {
                 id,
@@ -123,7 +124,7 @@ impl fmt::Display for Place {
                 function,
             } => match SectionKind::of(id) {
                 Some(kind) => {
-                    write!(f, "{} section (section {number})", kind.name)?;
+                    write!(f, "{} section", kind.name)?;
                     BodyPlace {
                         kind,
                         body_at,
@@ -134,14 +135,14 @@ impl fmt::Display for Place {
                 }
                 None => write!(
                     f,
-                    "section {number}: no section has the id {id} at offset {at:#x}"
+                    "section {number}, offset {at:#x}: unknown section id {id}: expected 0 to 13"
                 ),
             },
         }
     }
 }
 
-/// The rest of what is said of a body that can't be decoded.
+/// The rest of the message for a malformed body.
 #[derive(Clone, Copy)]
 struct BodyPlace {
     kind: SectionKind,
@@ -152,28 +153,26 @@ struct BodyPlace {
 
 impl fmt::Display for BodyPlace {
     fn fmt<W: fmt::Write>(&self, f: &mut fmt::Formatter<W>) -> fmt::Result {
-        let item = self.item.unwrap_or(ItemPlace {
-            count: 0,
-            index: 0,
-            at: 0,
-        });
+        let Some(item) = self.item else {
+            return write!(f, ", offset {:#x}: malformed body", self.body_at);
+        };
         let offset = self.body_at.saturating_add(item.at);
         let name = self.kind.item;
         if item.at == 0 {
-            return write!(f, ": can't be decoded at offset {offset:#x}");
+            return write!(f, ", offset {offset:#x}: malformed count");
         }
         if item.index == item.count {
             return write!(
                 f,
-                ": bytes are left over after its last {name} at offset {offset:#x}"
+                ", offset {offset:#x}: trailing bytes after the last {name}"
             );
         }
         write!(f, ", {name} {}", item.index)?;
         match self.function {
-            None => write!(f, ": can't be decoded at offset {offset:#x}"),
+            None => write!(f, ", offset {offset:#x}: malformed {name}"),
             Some(FunctionFault::Cut) => write!(
                 f,
-                ": its size at offset {offset:#x} is missing, or more than what is left of the section"
+                ", offset {offset:#x}: size is missing or larger than the rest of the section"
             ),
             Some(FunctionFault::Code { at, place }) => {
                 let code_at = self.body_at.saturating_add(at);
@@ -183,7 +182,7 @@ impl fmt::Display for BodyPlace {
     }
 }
 
-/// The rest of what is said of a function whose locals or instructions can't be decoded.
+/// The rest of the message for malformed locals or instructions.
 #[derive(Clone, Copy)]
 struct PartPlace {
     code_at: usize,
@@ -195,17 +194,17 @@ impl fmt::Display for PartPlace {
         match self.place {
             CodePlace::Instruction { at } => {
                 let offset = self.code_at.saturating_add(at);
-                write!(f, ", instruction at offset {offset:#x}: can't be decoded")
+                write!(f, ", offset {offset:#x}: malformed instruction")
             }
             CodePlace::Locals(group) => {
                 let offset = self.code_at.saturating_add(group.at);
                 if group.at == 0 {
-                    write!(f, ", locals at offset {offset:#x}: can't be decoded")
+                    write!(f, ", offset {offset:#x}: malformed count of local groups")
                 } else {
                     let index = group.index;
                     write!(
                         f,
-                        ", group of locals {index} at offset {offset:#x}: can't be decoded"
+                        ", local group {index}, offset {offset:#x}: malformed count or type"
                     )
                 }
             }

@@ -1,25 +1,25 @@
-//! What a large module is read from and written to, with what a terminal is told meanwhile: one line, which is gone at the end.
+//! The reader and the writer of a module, which show progress on a terminal: one line, erased at the end.
 use crate::options::Location;
 use std::fs::File;
 use std::io;
 use std::io::{IsTerminal, Read, Stdin, Write};
 
-/// How many bytes a module has at least of which something is told.
+/// Size in bytes from which a module's progress is shown.
 const LARGE: usize = 16 << 20;
 
-/// How many more bytes are read before more is told.
+/// Number of bytes to read before the line is written anew.
 const STEP: usize = 1 << 20;
 
-/// The line on a terminal.
+/// The progress line.
 #[derive(Clone, Copy)]
 pub struct Progress {
     rt: HostRuntime,
-    /// Whether it is written.
+    /// Whether the line is written.
     is_shown: bool,
 }
 
 impl Progress {
-    /// The line on standard error, which is written only if that is a terminal.
+    /// Returns a progress line on standard error. It is written only if standard error is a terminal.
     pub fn new(rt: &HostRuntime) -> Progress {
         Progress {
             rt: *rt,
@@ -27,7 +27,7 @@ impl Progress {
         }
     }
 
-    /// No line where the terminal takes what goes to this place.
+    /// Suppresses the line if the module's bytes go to a terminal too.
     pub fn beside(self, output: Location<'_>) -> Progress {
         let is_taken = output == Location::Standard && self.rt.stdout().is_terminal();
         Progress {
@@ -36,7 +36,7 @@ impl Progress {
         }
     }
 
-    /// Writes the line anew: what is done with so many bytes. Blanks cover what was there.
+    /// Writes the line: the phase, and the number of bytes. Blanks cover the previous line.
     fn tell(self, phase: &str, len: usize) {
         if self.is_shown && len >= LARGE {
             let (whole, tenth) = (len / 1_000_000, len / 100_000 % 10);
@@ -44,7 +44,7 @@ impl Progress {
         }
     }
 
-    /// Leaves nothing of a line of so many bytes.
+    /// Erases the line of a module of `len` bytes.
     fn erase(self, len: usize) {
         if self.is_shown && len >= LARGE {
             let _ = eprint!(self.rt; "\r{:60}\r", "");
@@ -52,12 +52,12 @@ impl Progress {
     }
 }
 
-/// Where a module is read from.
+/// The reader of a module.
 #[derive(Drop)]
 pub struct Source {
     stream: Stream,
     progress: Progress,
-    /// How many bytes were read.
+    /// Number of bytes read so far.
     len: usize,
 }
 
@@ -68,7 +68,9 @@ enum Stream {
 }
 
 impl Source {
-    /// What is there.
+    /// Opens a location for reading.
+    ///
+    /// Fails if a file can't be opened.
     pub fn open(rt: &HostRuntime, input: Location<'_>, progress: Progress) -> io::Result<Source> {
         let stream = match input {
             Location::Standard => Stream::Standard(rt.stdin()),
@@ -81,7 +83,7 @@ impl Source {
         })
     }
 
-    /// The writer, with what is told of it.
+    /// Wraps a writer, so that it shows progress.
     pub fn watch<'a, W>(&self, writer: &'a mut W) -> Watched<'a, W> {
         Watched {
             writer,
@@ -89,7 +91,7 @@ impl Source {
         }
     }
 
-    /// Ends it, and with it what is told.
+    /// Closes the reader and erases the line.
     pub fn end(self) {
         self.progress.erase(self.len);
     }
@@ -112,7 +114,7 @@ impl Read for Source {
     }
 }
 
-/// A writer, with what is told of it.
+/// A writer that shows progress.
 #[derive(Drop)]
 pub struct Watched<'a, W> {
     writer: &'a mut W,

@@ -1,5 +1,4 @@
-//! How many bytes the sections of a module have, and how many they have in its canonical form; and how many of their encodings
-//! are longer than they have to be.
+//! The report: the size of each section before and after, and the number of encodings that are not minimal.
 use crate::sections::{
     LocatedSection, SectionKind, SectionTitle, count_items, custom_name, has_list, locate_sections,
     longer_number,
@@ -9,7 +8,7 @@ use std::fmt;
 use wasm_modules::section::RawSection;
 use wasm_sections::modules::ItemCounts;
 
-/// The sections of a module, and the same in its canonical form.
+/// The report of a module.
 #[derive(Drop)]
 pub struct Report<'a> {
     before: usize,
@@ -17,18 +16,18 @@ pub struct Report<'a> {
     rows: Vec<ReportRow<'a>>,
 }
 
-/// A section, how many bytes it has in the canonical form, and which of its encodings are longer.
+/// A section, its size in the canonical form, and the encodings in it that are not minimal.
 #[derive(Clone, Copy)]
 struct ReportRow<'a> {
     section: LocatedSection<'a>,
     after: usize,
-    /// Its items; their number is 0 where they aren't told.
+    /// Number of items. The count is 0 if the body is malformed.
     items: ItemCounts,
-    /// Whether its items are a list whose count has more bytes than its shortest encoding.
+    /// Whether the section is a list whose count is not minimally encoded.
     has_longer_count: bool,
 }
 
-/// How many encodings of a kind there are, and how many of them are longer than they have to be.
+/// The number of encodings of one kind, and how many are not minimal.
 #[derive(Clone, Copy)]
 struct Tally {
     longer: u64,
@@ -38,7 +37,7 @@ struct Tally {
 impl Tally {
     const NONE: Tally = Tally { longer: 0, of: 0 };
 
-    /// The same with more.
+    /// Adds to both numbers.
     fn with(self, longer: u64, of: u64) -> Tally {
         Tally {
             longer: self.longer.saturating_add(longer),
@@ -48,7 +47,9 @@ impl Tally {
 }
 
 impl<'a> Report<'a> {
-    /// What is told of a module and its canonical form.
+    /// Compares a module with its canonical form.
+    ///
+    /// Fails if memory runs out.
     pub fn new(
         alloc: Global,
         module: &'a [u8],
@@ -67,7 +68,7 @@ impl<'a> Report<'a> {
         })
     }
 
-    /// The items of all sections.
+    /// Tallies the items of all sections.
     fn items(&self) -> Tally {
         let mut tally = Tally::NONE;
         for row in &self.rows {
@@ -76,7 +77,7 @@ impl<'a> Report<'a> {
         tally
     }
 
-    /// The sizes of the sections.
+    /// Tallies the section sizes.
     fn sizes(&self) -> Tally {
         let mut tally = Tally::NONE;
         for row in &self.rows {
@@ -85,7 +86,7 @@ impl<'a> Report<'a> {
         tally
     }
 
-    /// The counts of the items of sections that are lists.
+    /// Tallies the item counts of the sections that are lists.
     fn counts(&self) -> Tally {
         let mut tally = Tally::NONE;
         for row in &self.rows {
@@ -116,7 +117,7 @@ impl<'a> ReportRow<'a> {
     }
 }
 
-/// What sections with this id are called; nothing where there are none.
+/// Returns the name of this section id. Returns an empty text if the id is unknown.
 fn kind_name(id: u8) -> &'static str {
     match SectionKind::of(id) {
         Some(kind) => kind.name,
@@ -129,7 +130,7 @@ impl fmt::Display for Report<'_> {
         writeln!(
             f,
             "section {:>9} {:>9} {:>9} {:>7} {:>7}  kind",
-            "before", "after", "saved", "longer", "of"
+            "before", "after", "saved", "longer", "out of"
         )?;
         for (number, row) in self.rows.iter().enumerate() {
             writeln!(f, "{number:>7} {row}")?;
@@ -142,8 +143,8 @@ impl fmt::Display for Report<'_> {
             self.before, self.after, items.longer, items.of
         )?;
         let (sizes, counts) = (self.sizes(), self.counts());
-        writeln!(f, "{:>45} {:>7}  sizes", sizes.longer, sizes.of)?;
-        write!(f, "{:>45} {:>7}  counts", counts.longer, counts.of)
+        writeln!(f, "{:>45} {:>7}  section sizes", sizes.longer, sizes.of)?;
+        write!(f, "{:>45} {:>7}  item counts", counts.longer, counts.of)
     }
 }
 
@@ -159,7 +160,7 @@ impl fmt::Display for ReportRow<'_> {
     }
 }
 
-/// A report as JSON, for other programs.
+/// The report as JSON.
 #[derive(Clone, Copy)]
 pub struct JsonReport<'a>(pub &'a Report<'a>);
 
@@ -181,7 +182,7 @@ impl fmt::Display for JsonReport<'_> {
     }
 }
 
-/// A section of a report as JSON.
+/// A section of the report as JSON.
 #[derive(Clone, Copy)]
 struct JsonRow<'a> {
     number: usize,
@@ -214,7 +215,7 @@ impl fmt::Display for JsonRow<'_> {
     }
 }
 
-/// A text as JSON, in quotes. A quote, a backslash and a control character are written as escapes (RFC 8259, 7).
+/// A JSON string. Quotes, backslashes and control characters are escaped (RFC 8259, 7).
 #[derive(Clone, Copy)]
 struct JsonText<'a>(&'a str);
 

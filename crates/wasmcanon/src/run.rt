@@ -1,4 +1,4 @@
-//! One run of the program, over any reader and any writer.
+//! A run of the program, for any reader and any writer.
 ghost use Rattle.std.specs.Prelude.{◌≡◌, ℕ, List, IfOk, IfErr, IfSome, OnOk};
 ghost use Rattle.std.specs.Io.KnownBytes.{IsAtEnd, Keeps, Appends};
 ghost use Rattle.wasm_codec.specs.Answers.{IsLongestPrefix};
@@ -16,17 +16,17 @@ use std::io::{ErrorKind, Read, Write};
 use wasm_codec::reader::ReadError;
 use wasm_sections::modules::{check_whole_module, rewrite_whole_module};
 
-/// Why a run ended without its answer.
+/// Why a run failed.
 #[derive(Drop)]
 pub enum Failure {
-    /// The input isn't a module.
+    /// The input is malformed.
     Refused {
-        /// How many bytes the header and the sections before the first that isn't whole have.
+        /// Offset of the first malformed section, in bytes. 0 if the header is malformed.
         at: usize,
-        /// That section; there is none where the header isn't there.
+        /// The place in that section. `None` means that the header is malformed, or that memory ran out.
         place: Option<Place>,
     },
-    /// There was no memory.
+    /// Memory ran out.
     Memory,
     /// A read failed.
     Read(io::Error),
@@ -35,8 +35,7 @@ pub enum Failure {
 }
 
 impl Failure {
-    /// The exit status of the program: 1 for an input that is no module, 3 where there was no memory, and 4 where reading or
-    /// writing failed.
+    /// Returns the exit status: 1 if the input is malformed, 3 if memory ran out, 4 if a read or a write failed.
     pub fn status(&self) -> u8
         ensures { result ≡ status_of self.now }
     {
@@ -59,42 +58,45 @@ impl From<AllocError> for Failure {
 /// A module, and its canonical form.
 #[derive(Drop)]
 pub struct Forms {
-    /// The module as it was read.
+    /// The module.
     pub input: Vec<u8>,
-    /// The same in the fewest bytes.
+    /// Its canonical form.
     pub canonical: Vec<u8>,
 }
 
-/// Whether a module is its own canonical form.
+/// The verdict on a module.
 #[derive(Clone, Copy)]
 pub enum Verdict {
-    /// It is.
+    /// It is its own canonical form.
     Canonical,
     /// It isn't.
     Longer {
-        /// How many bytes the header and the sections before the first that isn't in its shortest encoding have.
+        /// Offset of the first section that isn't minimally encoded, in bytes.
         at: usize,
     },
 }
 
-/// Reads all of the input, and writes its canonical form. Where bytes have moved, tells how the name of the first custom
-/// section begins that keeps offsets.
+/// Reads a module, and writes its canonical form.
+///
+/// If bytes have moved and a custom section keeps offsets, returns the beginning of the first such section's name.
+/// Fails with `Refused` if the input is malformed, with `Memory` if memory runs out, and with `Read` or `Write` if a
+/// read or a write fails.
 pub fn canonicalise<R: Read, W: Write>(
     alloc: Global,
     reader: &mut R,
     writer: &mut W,
 ) -> Result<Option<&'static str>, Failure>
-    // The canonical form of the input is written, and nothing else.
+    // The canonical form of the input was appended, and nothing else.
     ensures ok { OnOk result (IfSome (R.remaining reader.old) (λ input.
         AppendsCanonicalForm input (W.contents writer.old) (W.contents writer.new))) }
-    // All of the input is read before it is judged or a byte is written.
+    // All of the input is read before it is refused or a byte is written.
     ensures read_to_end { OnceAllIsRead result (IsAtEnd (R.remaining reader.new)) }
-    // Only what is no module is refused.
+    // Only a malformed input is refused.
     ensures unencoded { IfRefused result (λ _. IfSome (R.remaining reader.old) IsNoModule) }
-    // `at` is the length of the longest prefix that is whole.
+    // `at` is the length of the longest prefix that decodes.
     ensures refused { IfRefused result (λ at. IfSome (R.remaining reader.old) (λ input.
         IsLongestPrefix (IsModulePrefixOf module_section) input at)) }
-    // After any failure but `Write` nothing is written.
+    // Nothing was written, unless the failure is `Write`.
     ensures nothing_written { BeforeAnyWrite result (Keeps (W.contents writer.old) (W.contents writer.new)) }
 {
     let forms = read_forms(alloc, reader)?;
@@ -105,8 +107,8 @@ pub fn canonicalise<R: Read, W: Write>(
     }
 }
 
-/// How the name of the first custom section begins that keeps offsets, where bytes have moved. It isn't told where memory
-/// runs out.
+/// If bytes have moved, returns the beginning of the name of the first custom section that keeps offsets. Returns
+/// `None` if memory runs out.
 fn stale_offsets(alloc: Global, forms: &Forms) -> Option<&'static str> {
     if forms.input == forms.canonical {
         return None;
@@ -114,23 +116,25 @@ fn stale_offsets(alloc: Global, forms: &Forms) -> Option<&'static str> {
     first_offset_name(alloc, &forms.canonical).unwrap_or(None)
 }
 
-/// Reads all of the input, and writes its canonical form without the custom sections that keep offsets.
+/// Reads a module, and writes its canonical form without the custom sections that keep offsets.
+///
+/// Fails as `canonicalise` does.
 pub fn canonicalise_without_offsets<R: Read, W: Write>(
     alloc: Global,
     reader: &mut R,
     writer: &mut W,
 ) -> Result<(), Failure>
-    // The sections of the canonical form of the input that don't keep offsets are written, and nothing else.
+    // The canonical form without the sections that keep offsets was appended, and nothing else.
     ensures ok { OnOk result (IfSome (R.remaining reader.old) (λ input.
         AppendsWithoutOffsets input (W.contents writer.old) (W.contents writer.new))) }
-    // All of the input is read before it is judged or a byte is written.
+    // All of the input is read before it is refused or a byte is written.
     ensures read_to_end { OnceAllIsRead result (IsAtEnd (R.remaining reader.new)) }
-    // Only what is no module is refused.
+    // Only a malformed input is refused.
     ensures unencoded { IfRefused result (λ _. IfSome (R.remaining reader.old) IsNoModule) }
-    // `at` is the length of the longest prefix that is whole.
+    // `at` is the length of the longest prefix that decodes.
     ensures refused { IfRefused result (λ at. IfSome (R.remaining reader.old) (λ input.
         IsLongestPrefix (IsModulePrefixOf module_section) input at)) }
-    // After any failure but `Write` nothing is written.
+    // Nothing was written, unless the failure is `Write`.
     ensures nothing_written { BeforeAnyWrite result (Keeps (W.contents writer.old) (W.contents writer.new)) }
 {
     let forms = read_forms(alloc, reader)?;
@@ -138,17 +142,19 @@ pub fn canonicalise_without_offsets<R: Read, W: Write>(
     writer.write_all(&left).map_err(Failure::Write)
 }
 
-/// Reads all of the input, and makes its canonical form.
+/// Reads a module, and returns it with its canonical form.
+///
+/// Fails as `canonicalise` does, but never with `Write`.
 pub fn read_forms<R: Read>(alloc: Global, reader: &mut R) -> Result<Forms, Failure>
-    // All known bytes are given.
+    // All bytes of the input are returned, if they are known.
     ensures all { IfOk result (λ forms. IfSome (R.remaining reader.old) (λ input. forms.input.items ≡ input)) }
     // With their canonical form.
     ensures ok { IfOk result (λ forms. IsCanonicalForm forms.input.items forms.canonical.items) }
-    // All of the input is read before it is judged.
+    // All of the input is read before it is refused.
     ensures read_to_end { OnceAllIsRead result (IsAtEnd (R.remaining reader.new)) }
-    // Only what is no module is refused.
+    // Only a malformed input is refused.
     ensures unencoded { IfRefused result (λ _. IfSome (R.remaining reader.old) IsNoModule) }
-    // `at` is the length of the longest prefix that is whole.
+    // `at` is the length of the longest prefix that decodes.
     ensures refused { IfRefused result (λ at. IfSome (R.remaining reader.old) (λ input.
         IsLongestPrefix (IsModulePrefixOf module_section) input at)) }
 {
@@ -157,13 +163,15 @@ pub fn read_forms<R: Read>(alloc: Global, reader: &mut R) -> Result<Forms, Failu
     Ok(Forms { input, canonical })
 }
 
-/// Reads all of the input, and tells whether it is its own canonical form.
+/// Reads a module, and checks whether it is its own canonical form.
+///
+/// Fails as `canonicalise` does, but never with `Write`.
 pub fn check<R: Read>(alloc: Global, reader: &mut R) -> Result<Verdict, Failure>
     // The verdict is right.
     ensures ok { IfOk result (λ verdict. IfSome (R.remaining reader.old) (λ input. Judges input verdict)) }
-    // Only what is no module is refused.
+    // Only a malformed input is refused.
     ensures unencoded { IfRefused result (λ _. IfSome (R.remaining reader.old) IsNoModule) }
-    // `at` is the length of the longest prefix that is whole.
+    // `at` is the length of the longest prefix that decodes.
     ensures refused { IfRefused result (λ at. IfSome (R.remaining reader.old) (λ input.
         IsLongestPrefix (IsModulePrefixOf module_section) input at)) }
 {
@@ -171,7 +179,7 @@ pub fn check<R: Read>(alloc: Global, reader: &mut R) -> Result<Verdict, Failure>
     judge(alloc, &input)
 }
 
-/// Whether the bytes of a module are its canonical form.
+/// Checks whether a module is its own canonical form.
 fn judge(alloc: Global, input: &[u8]) -> Result<Verdict, Failure>
     ensures ok { IfOk result (Judges input.now) }
     ensures unencoded { IfRefused result (λ _. IsNoModule input.now) }
@@ -188,7 +196,7 @@ fn judge(alloc: Global, input: &[u8]) -> Result<Verdict, Failure>
     }
 }
 
-/// The canonical form of a module.
+/// Returns the canonical form of a module.
 fn canonical_form(alloc: Global, input: &[u8]) -> Result<Vec<u8>, Failure>
     ensures ok { IfOk result (λ canonical. IsCanonicalForm input.now canonical.items) }
     ensures unencoded { IfRefused result (λ _. IsNoModule input.now) }
@@ -205,13 +213,13 @@ fn canonical_form(alloc: Global, input: &[u8]) -> Result<Vec<u8>, Failure>
     }
 }
 
-/// All that is left to read.
+/// Reads all of the input.
 fn read_all<R: Read>(alloc: Global, reader: &mut R) -> Result<Vec<u8>, Failure>
-    // All known bytes are given.
+    // All bytes of the input are returned, if they are known.
     ensures all { IfOk result (λ bytes. IfSome (R.remaining reader.old) (λ input. bytes.items ≡ input)) }
-    // None is left.
+    // No byte is left.
     ensures end { OnOk result (IsAtEnd (R.remaining reader.new)) }
-    // Otherwise there was no memory, or reading failed.
+    // The failure is `Memory` or `Read`.
     ensures failure { IfErr result IsReadFailure }
 {
     let mut bytes = Vec::new(alloc);

@@ -1,4 +1,4 @@
-//! Sections as they lie in the bytes of a module, with what they are called.
+//! The sections of a module: their offsets, and their names in messages.
 ghost use Rattle.std.specs.Prelude.{◌≡◌, ℕ, List, IfSome, IfNone};
 ghost use Rattle.wasm_modules.specs.formats.Sections.{parts_of};
 ghost use Rattle.wasmcanon.specs.Offsets.{IsNameOf};
@@ -11,17 +11,17 @@ use wasm_modules::section::RawSection;
 use wasm_sections::custom::read_custom_section;
 use wasm_sections::modules::{ItemCounts, count_longer_items};
 
-/// A kind of sections that the standard knows (Core 3.0, Modules).
+/// A kind of section (Core 3.0, Modules).
 #[derive(Clone, Copy)]
 pub struct SectionKind {
-    /// What such a section is called.
+    /// Name of the section.
     pub name: &'static str,
-    /// What an item of it is called.
+    /// Name of an item of the section.
     pub item: &'static str,
 }
 
 impl SectionKind {
-    /// The kind of the sections with this id.
+    /// Returns the kind with this id. `None` means that the id is unknown.
     pub fn of(id: u8) -> Option<SectionKind> {
         let (name, item) = match id {
             0 => ("custom", "byte"),
@@ -34,7 +34,7 @@ impl SectionKind {
             7 => ("export", "export"),
             8 => ("start", "function"),
             9 => ("element", "segment"),
-            10 => ("code", "function body"),
+            10 => ("code", "function"),
             11 => ("data", "segment"),
             12 => ("data count", "count"),
             13 => ("tag", "tag"),
@@ -44,13 +44,13 @@ impl SectionKind {
     }
 }
 
-/// The name of a section, where it is a custom one.
+/// Returns the name of a custom section. `None` means that the section is of another kind, or malformed.
 pub fn custom_name<'a>(section: RawSection<'a>) -> Option<&'a str>
-    // It is a custom section of this name.
+    // The section is a custom section of this name.
     ensures found { IfSome result (λ name. IsNameOf (parts_of section.entry) name.now) }
-    // Otherwise it has no name.
+    // `None` means that it has no name.
     ensures none { IfNone result ((name : List ℕ) → IsNameOf (parts_of section.entry) name → ⊥) }
-    // It has one name at most.
+    // It has at most one name.
     ensures one { (name other : List ℕ) → IsNameOf (parts_of section.entry) name → IsNameOf (parts_of section.entry) other → name ≡ other }
 {
     if section.id != 0 {
@@ -62,28 +62,30 @@ pub fn custom_name<'a>(section: RawSection<'a>) -> Option<&'a str>
     }
 }
 
-/// A section, and where it lies in the bytes of a module.
+/// A section and its offset in the module.
 #[derive(Clone, Copy)]
 pub struct LocatedSection<'a> {
-    /// How many bytes come before it.
+    /// Offset of the section's id, in bytes from the start of the module.
     pub at: usize,
-    /// How many bytes it has, with its id and its size.
+    /// Length in bytes, including the id and the size.
     pub len: usize,
-    /// Its id and its body.
+    /// The id and the body.
     pub section: RawSection<'a>,
-    /// Whether its size has more bytes than its shortest encoding.
+    /// Whether the size is not minimally encoded.
     pub has_longer_size: bool,
 }
 
 impl LocatedSection<'_> {
-    /// How many bytes of the module come before this place in the body.
+    /// Returns the offset in the module of this place in the body.
     pub fn offset_of(&self, place: usize) -> usize {
         let header_len = self.len.saturating_sub(self.section.body.len());
         self.at.saturating_add(header_len).saturating_add(place)
     }
 }
 
-/// The sections of a module, up to the first that isn't there as a whole.
+/// Lists the sections of a module, up to the first malformed one.
+///
+/// Fails if memory runs out.
 pub fn locate_sections<'a>(
     alloc: Global,
     module: &'a [u8],
@@ -110,8 +112,10 @@ pub fn locate_sections<'a>(
     Ok(sections)
 }
 
-/// How many items a section has, and how many of them aren't in their shortest encoding: those of its list, or the one number
-/// that its body begins with. It isn't told of a body that can't be decoded.
+/// Counts the items of a section, and those that are not minimally encoded. In a section that isn't a list, the one
+/// item is the number at the start of the body.
+///
+/// `None` means that the body is malformed. Fails if memory runs out.
 pub fn count_items(
     alloc: Global,
     section: RawSection<'_>,
@@ -126,12 +130,12 @@ pub fn count_items(
     Ok(counts)
 }
 
-/// Whether sections with this id are lists of items: neither custom ones nor those of a start function and of a data count.
+/// Checks whether sections with this id are lists of items. Custom, start and data count sections are not.
 pub fn has_list(id: u8) -> bool {
     !matches!(id, 0 | 8 | 12)
 }
 
-/// Whether the number that bytes begin with, if there is one, has more bytes than its shortest encoding.
+/// Checks whether the number at the start of the bytes is not minimally encoded. `None` means that there is no number.
 pub fn longer_number(bytes: &[u8]) -> Option<bool> {
     let mut cursor = Cursor::new(bytes);
     match cursor.u32() {
@@ -140,7 +144,7 @@ pub fn longer_number(bytes: &[u8]) -> Option<bool> {
     }
 }
 
-/// What a section is called, in a line of text: its kind, and the name of a custom one.
+/// A section's title in messages: its kind, and the name of a custom section.
 #[derive(Clone, Copy)]
 pub struct SectionTitle<'a>(pub RawSection<'a>);
 
@@ -157,10 +161,10 @@ impl fmt::Display for SectionTitle<'_> {
     }
 }
 
-/// How many characters of a name are written.
+/// Number of characters of a name to print.
 const SHORT_NAME_LEN: usize = 14;
 
-/// The beginning of a name, without characters that a terminal takes for something else.
+/// The beginning of a name. Control characters and characters outside ASCII are printed as `?`.
 #[derive(Clone, Copy)]
 struct ShortName<'a>(&'a str);
 

@@ -1,4 +1,4 @@
-//! The words that the program takes, its exit status and what it reports.
+//! The arguments, the exit status and the messages.
 ghost use Rattle.std.specs.Prelude.{◌≡◌, ◌↔◌, List, [], ◌∷◌, map, Some};
 ghost use Rattle.std.specs.Bool.{OnTrue};
 ghost use Rattle.std.specs.Io.KnownBytes.{Appends};
@@ -10,13 +10,13 @@ use crate::run::RunError;
 use std::fmt;
 use std::io::Write;
 
-/// What the program says of how it is called.
+/// The message for invalid arguments.
 pub const USAGE: &str = "usage: wasmnorm calls|types|module";
 
-/// The exit status for arguments that the program does not take.
+/// The exit status for invalid arguments.
 pub const USAGE_STATUS: u8 = 2;
 
-/// The mode that the arguments ask for, by one word.
+/// Returns the mode that the arguments name. `None` means that they are invalid.
 pub fn mode_of(args: &[&str]) -> Option<Mode>
     ensures { (mode : Mode) →
         (result ≡ Some mode) ↔ (map (λ arg. arg.now) args.now ≡ word_of mode ∷ []) }
@@ -32,7 +32,7 @@ pub fn mode_of(args: &[&str]) -> Option<Mode>
     }
 }
 
-/// The exit status of a run that ended so.
+/// Returns the exit status of a run with this outcome.
 pub fn status(outcome: &Result<(), RunError>) -> u8
     ensures { result ≡ status_of outcome.now }
 {
@@ -57,7 +57,7 @@ impl fmt::Display for RunError {
     }
 }
 
-/// Writes the line that says what went wrong, and answers whether all of it was written.
+/// Writes the message for an error and a line feed. Returns `false` if a write fails.
 pub fn report<W: Write>(error: &RunError, writer: &mut W) -> bool
     ensures { OnTrue result
         (Appends (W.contents writer.old) (W.contents writer.new) (line_of error.now)) }

@@ -1,9 +1,11 @@
-//! `wasmnorm` reads bytes of WebAssembly from standard input and writes their normal form to standard output.
+//! `wasmnorm` reads WebAssembly bytes from standard input, and writes their minimal encoding to standard output.
 //!
-//! Its argument says what the bytes are read as: `calls`, a list of instructions, `types`, the body of a
-//! type section, or `module`, a module of which the type sections and code sections are read. The exit
-//! status is 0 where the normal bytes were written, 1 where the input was refused, 2 for other arguments,
-//! 3 where there was no memory, and 4 where reading or writing failed.
+//! The argument names the form of the input: `calls` is a list of instructions, `types` the body of a type section, and
+//! `module` a module. In a module, `wasmnorm` shortens section sizes, type sections and code sections, and copies the
+//! bodies of all other sections.
+//!
+//! The exit status is 0 if the bytes were written, 1 if the input is malformed, 2 for invalid arguments, 3 if memory
+//! ran out, and 4 if a read or a write failed.
 #![tactic(auto)]
 
 ghost use Rattle.std.specs.Prelude.{◌≡◌};
@@ -35,21 +37,23 @@ fn main(rt: HostRuntime) -> ExitCode {
     ExitCode::from(code)
 }
 
-/// The mode that the words after the program's name ask for.
+/// Reads the mode from the program's arguments.
+///
+/// `None` means that the arguments are invalid. Fails if memory runs out, or if an argument isn't UTF-8.
 fn asked_mode(rt: &HostRuntime) -> io::Result<Option<Mode>> {
     let words: Vec<String> = env::args(rt)?.skip(1).collect(rt.alloc())?;
     let args: Vec<&str> = words.iter().map(|word| word.as_str()).collect(rt.alloc())?;
     Ok(mode_of(&args))
 }
 
-/// A run from standard input to standard output, which is flushed.
+/// Runs the program from standard input to standard output, and flushes the output.
 fn run_standard(rt: &HostRuntime, mode: Mode) -> Result<(), RunError> {
     let mut output = rt.stdout();
     run(rt.alloc(), mode, &mut rt.stdin(), &mut output)?;
     flush(&mut output)
 }
 
-/// The exit status of a run, once its error is reported on standard error.
+/// Reports the error of a run, if any, on standard error, and returns the exit status.
 fn reported_status(rt: &HostRuntime, outcome: Result<(), RunError>) -> u8
     ensures { result ≡ status_of outcome }
 {

@@ -1,4 +1,4 @@
-//! What the program reads its input as, and the normal form in each mode.
+//! The forms of the input, and the normaliser of each.
 ghost use Rattle.std.specs.Prelude.{List, ℕ, IfOk};
 ghost use Rattle.wasm_codec.specs.Answers.{IsOrMemory, IfRefused, IsLongestPrefix};
 ghost use Rattle.wasmnorm.specs.Modes.{IsEncoded, NormalForm, IsWholePrefix};
@@ -8,27 +8,29 @@ use wasm_instructions::normaliser::rewrite_instructions;
 use wasm_modules::normaliser::rewrite_module;
 use wasm_types::normaliser::rewrite_type_section;
 
-/// What the input is read as.
-#[derive(Clone, Copy)]
+/// The form of the input.
+#[derive(Clone, Copy, Debug, PartialEq, Eq)]
 pub enum Mode {
     /// A list of instructions.
     Calls,
     /// The body of a type section.
     Types,
-    /// A module, of which the type sections and code sections are read.
+    /// A module. The bodies of sections other than type and code sections are copied.
     Module,
 }
 
-/// The normal form of the input, written where it lies.
+/// Rewrites the input as its minimal encoding, in its own memory.
+///
+/// Fails with `Refused` if the input is malformed, and with `Memory` if memory runs out.
 pub fn normalise(mode: Mode, input: Vec<u8>) -> Result<Vec<u8>, ReadError>
-    // A normal form is given.
+    // The result is the minimal encoding of what the input encodes.
     ensures given { IfOk result (λ encoding. NormalForm mode input.items encoding.items) }
-    // Where the input has one, it is given, unless memory ran out.
+    // If the input encodes something, the result is returned, unless memory runs out.
     ensures complete { (encoding : List ℕ) → NormalForm mode input.items encoding →
         IsOrMemory (λ given. given.items) encoding result }
-    // Only what encodes nothing is refused.
+    // Only a malformed input is refused.
     ensures unencoded { IfRefused result (λ _. IsEncoded mode input.items → ⊥) }
-    // `at` is the length of the longest prefix that is whole.
+    // `at` is the length of the longest prefix that decodes.
     ensures prefix { IfRefused result (IsLongestPrefix (IsWholePrefix mode) input.items) }
 {
     match mode {

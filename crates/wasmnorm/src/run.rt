@@ -1,4 +1,4 @@
-//! One run of the program, over any reader and any writer.
+//! A run of the program, for any reader and any writer.
 ghost use Rattle.std.specs.Prelude.{◌≡◌, List, ℕ, IfSome, OnOk};
 ghost use Rattle.std.specs.Io.KnownBytes.{IsAtEnd, Keeps, Appends};
 ghost use Rattle.wasm_codec.specs.Answers.{IsLongestPrefix};
@@ -12,19 +12,19 @@ use std::alloc::{AllocError, Global};
 use std::io::{Read, Write};
 use wasm_codec::reader::ReadError;
 
-/// Why a run did not write the whole normal form of its input.
-#[derive(Clone, Copy)]
+/// Why a run failed.
+#[derive(Clone, Copy, Debug, PartialEq, Eq)]
 pub enum RunError {
-    /// The input encodes nothing of the mode.
+    /// The input is malformed.
     Refused {
-        /// How many bytes the longest whole prefix has.
+        /// Length in bytes of the longest prefix that decodes.
         at: usize,
     },
-    /// There was no memory.
+    /// Memory ran out.
     Memory,
-    /// A read failed, or the reads brought no end of the input.
+    /// A read failed, or the input has no end.
     Read,
-    /// A write failed, or took no byte.
+    /// A write failed, or wrote no byte.
     Write,
 }
 
@@ -47,35 +47,35 @@ impl From<ReadError> for RunError {
     }
 }
 
-/// Reads all of the input, and writes its normal form.
+/// Reads all of the input, and writes its minimal encoding.
 ///
-/// A call that the system interrupts has failed like any other. After `Memory` or `Read` some of the
-/// input may be read.
+/// Fails with `Refused` if the input is malformed, with `Memory` if memory runs out, and with `Read` or `Write` if a read
+/// or a write fails. An interrupted call is a failed call. After `Memory` or `Read`, part of the input may have been read.
 pub fn run<R: Read, W: Write>(
     alloc: Global,
     mode: Mode,
     reader: &mut R,
     writer: &mut W,
 ) -> Result<(), RunError>
-    // A normal form of the input is written, and nothing else.
+    // The minimal encoding of the input was appended, and nothing else.
     ensures ok { OnOk result (IfSome (R.remaining reader.old) (λ input.
         AppendsNormalForm mode input (W.contents writer.old) (W.contents writer.new))) }
-    // It is the shortest encoding of whatever the input encodes.
+    // Every minimal encoding of the input is the one that was appended.
     ensures complete { OnOk result (IfSome (R.remaining reader.old) (λ input.
         (encoding : List ℕ) → NormalForm mode input encoding →
         Appends (W.contents writer.old) (W.contents writer.new) encoding)) }
-    // All of the input is read before it is judged or a byte is written.
+    // All of the input is read before it is refused or a byte is written.
     ensures read_to_end { OnceAllIsRead result (IsAtEnd (R.remaining reader.new)) }
-    // Only what encodes nothing is refused.
+    // Only a malformed input is refused.
     ensures unencoded { IfRefused result (λ _. IfSome (R.remaining reader.old) (λ input.
         IsEncoded mode input → ⊥)) }
-    // `at` is the length of the longest prefix that is whole.
+    // `at` is the length of the longest prefix that decodes.
     ensures refused { IfRefused result (λ at. IfSome (R.remaining reader.old) (λ input.
         IsLongestPrefix (IsWholePrefix mode) input at)) }
-    // After any error but `Write` nothing is written.
+    // Nothing was written, unless the error is `Write`.
     ensures nothing_written { BeforeAnyWrite result
         (Keeps (W.contents writer.old) (W.contents writer.new)) }
-    // After `Write` a prefix of a normal form is, and not all of it.
+    // After `Write`, a proper prefix of the minimal encoding was appended.
     ensures beginning { IfWriteFailed result (IfSome (R.remaining reader.old) (λ input.
         AppendsBeginning mode input (W.contents writer.old) (W.contents writer.new))) }
 {

@@ -1,4 +1,4 @@
-//! Reading and writing everything, where an interrupted call fails.
+//! Reads and writes everything. An interrupted call is a failed call.
 ghost use Rattle.std.specs.Prelude.{◌≡◌, ◌<◌, IfOk, IfErr, IfSome, OnOk, OnErr, IsOkUnless, vec_len};
 ghost use Rattle.std.specs.Io.KnownBytes.{IsAtEnd, Appends, Keeps};
 ghost use Rattle.wasmnorm.specs.Streams.{AppendsPrefix, IsReadError};
@@ -7,21 +7,23 @@ use crate::run::RunError;
 use std::alloc::{AllocError, Global};
 use std::io::{Read, Write};
 
-/// How many bytes a read is given room for.
+/// Size in bytes of the buffer for a read.
 const CHUNK_LEN: usize = 64 * 1024;
 
-/// All that is left to read, in at most this many reads.
+/// Reads all of the input, in at most `most_reads` reads.
+///
+/// Fails with `Memory` if memory runs out, and with `Read` if a read fails or the last read doesn't reach the end.
 pub fn read_all<R: Read>(
     alloc: Global,
     reader: &mut R,
     most_reads: u32,
 ) -> Result<Vec<u8>, RunError>
-    // All known bytes are given.
+    // All bytes of the input are returned, if they are known.
     ensures all { IfOk result (λ bytes. IfSome (R.remaining reader.old) (λ input.
         bytes.items ≡ input)) }
-    // None is left.
+    // No byte is left.
     ensures end { OnOk result (IsAtEnd (R.remaining reader.new)) }
-    // Otherwise there was no memory, or reading failed.
+    // The error is `Memory` or `Read`.
     ensures error { IfErr result IsReadError }
 {
     let mut chunk = zeros(alloc, CHUNK_LEN)?;
@@ -36,18 +38,20 @@ pub fn read_all<R: Read>(
     Err(RunError::Read)
 }
 
-/// A list of zeros.
+/// Returns a list of `len` zeros.
 fn zeros(alloc: Global, len: usize) -> Result<Vec<u8>, AllocError>
     ensures { IfOk result (λ zeros. vec_len zeros ≡ len) }
 {
     vec![in alloc; 0; len]
 }
 
-/// Writes all of the bytes, in as many writes as it takes.
+/// Writes all of the bytes, in as many writes as necessary.
+///
+/// Fails with `Write` if a write fails or writes no byte.
 pub fn write_all<W: Write>(writer: &mut W, bytes: &[u8]) -> Result<(), RunError>
-    // All of the bytes are written.
+    // All bytes were appended.
     ensures ok { OnOk result (Appends (W.contents writer.old) (W.contents writer.new) bytes.now) }
-    // Where a write fails, or takes no byte, a prefix of them is.
+    // After an error, a proper prefix of them was appended.
     ensures err { OnErr result
         (AppendsPrefix (W.contents writer.old) (W.contents writer.new) bytes.now) }
     ensures error { IsOkUnless result RunError.Write }
@@ -63,9 +67,9 @@ pub fn write_all<W: Write>(writer: &mut W, bytes: &[u8]) -> Result<(), RunError>
     Ok(())
 }
 
-/// Flushes the writer: a flush that fails is a failed write.
+/// Flushes the writer. Fails with `Write` if that fails.
 pub fn flush<W: Write>(writer: &mut W) -> Result<(), RunError>
-    // What is written stays as it is.
+    // The written bytes are unchanged.
     ensures kept { Keeps (W.contents writer.old) (W.contents writer.new) }
     ensures error { IsOkUnless result RunError.Write }
 {

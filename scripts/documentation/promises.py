@@ -1,0 +1,157 @@
+"""The table of docs/PROMISES.md: the relations that public clauses cite, with the calls that promise them."""
+import dataclasses
+import os
+import re
+
+import sources
+from interface import BUILDERS
+from sources import ROOT
+
+PROMISES = ROOT / "docs/PROMISES.md"
+BEGIN, END = "<!-- made by scripts/api: begin -->", "<!-- made by scripts/api: end -->"
+
+
+@dataclasses.dataclass
+class Call:
+    """A call: its name, its group, the names and texts of its clauses, and its item."""
+
+    name: str
+    group: str
+    clauses: list
+    item: sources.Item
+
+
+# Calls that belong to no group, despite the beginnings of their names.
+ALONE = ("check_order", "read_list_to_end")
+GROUPED = re.compile(r"((?:nosgrivel_)?(?:read|normalise|rewrite|check|judge))_\w+?(_strict|_in_place)?$")
+
+
+def group_of(entry, item):
+    """The group of a call. The table names a whole group at once."""
+    if entry and entry.item.kind in ("struct", "type") and entry.name.endswith(BUILDERS):
+        return "InstructionSink" if entry.name == "InstructionSink" else "builders"
+    if entry and entry.item.kind != "fn":
+        return f"{entry.name}::"
+    found = GROUPED.match(item.name)
+    if item.name.startswith("nosgrivel_canonicalise"):
+        return "nosgrivel_canonicalise…"
+    return f"{found[1]}_…{found[2] or ''}" if found and item.name not in ALONE else ""
+
+
+def ensured(item):
+    return [(clause.name, clause.text) for clause in item.clauses if clause.word == "ensures"]
+
+
+def all_calls(interface):
+    """The calls of the library, implementations of its traits, C calls, and public functions of the programs."""
+    for entry, item in interface.public_functions():
+        name = item.name if entry.item.kind == "fn" else f"{entry.name}::{item.name}"
+        yield Call(name, group_of(entry, item), ensured(item), item)
+    for entry in interface.entries.values():
+        for type_text, _, found in entry.of_types:
+            stated = [(child.name, child.header.partition("=")[2]) for child in found.children if child.kind == "ghost"]
+            yield Call(f"{entry.name} for {type_text}", f"`{entry.name}` for", stated, found)
+    for crate, file in (("nosgrivel_c", "lib.rt"), ("wasmnorm", "main.rt"), ("wasmcanon", "main.rt")):
+        root = interface.crates.module(ROOT / "crates" / crate / "src" / file, None, crate)
+        for module in interface.modules(root):
+            for item in module.children:
+                if item.kind == "fn" and (item.public and crate != "nosgrivel_c" or 'extern "C"' in item.header):
+                    interface.module_of[id(item)] = module
+                    group = group_of(None, item) if crate == "nosgrivel_c" else f"{crate}::"
+                    yield Call(item.name, group, ensured(item), item)
+
+
+# Relations that the table leaves out: parts of others, conditions for writing, and reasons of errors, which the
+# documentation of the calls gives.
+PLUMBING = re.compile(r"""
+    (Is)?(Counted|Uncounted|Closed)\w* | IsClosed\w+ | StandsFor\w* | Holds\w+ | Is\w*Prefix(Of)?
+    | Is\w*Refusal\w* | IsNothingOr | AreClosed | AppendsPrefix | BeforeAnyWrite | CanEncodeList | Chain
+    | EncodesList | EncodesSome | Entries | GainsAll | GainsBodies | GainsItems | GivesItems | GivesSome
+    | HasAlignment | HasNo\w*List | If\w+ | IsAligned | IsAnswer | IsBodyOf | IsBytes | IsCanonicalForm
+    | IsCount | IsDecodedSection | IsDelivery | IsEncoded | IsFull | IsJudgement | IsLawful | IsMemoryOrTooLong
+    | IsNameOf | IsReadError | IsReadFailure | IsRefusedList | IsSection | IsShort | IsShortEncoding
+    | IsWithoutOffsets | NormalForm | OfBoth | OfItems | OnceAllIsRead | OnlyTooLong | Reads | Sees
+    | TakesBytes | WritesGiven
+""", re.X)
+NEVER_PLUMBING = ("IsRefusal", "IsLongestPrefix")
+
+
+def is_relation(call, definition):
+    """Whether the table has a row for this definition. Calls of a program count for its own definitions only."""
+    own = not call.group.startswith("wasm") or definition.file.parts[-3] == call.group.removesuffix("::")
+    plumbing = PLUMBING.fullmatch(definition.name) and definition.name not in NEVER_PLUMBING
+    return own and definition.name[0].isupper() and definition.file.parent.name == "specs" and not plumbing
+
+
+def relations(interface):
+    """The calls, and for each relation the calls that promise it with the names of their clauses."""
+    calls, found = list(all_calls(interface)), {}
+    for call in calls:
+        imports = interface.imports_of(call.item)
+        for name, text in call.clauses:
+            for definition in interface.specifications.cited(text, imports):
+                if is_relation(call, definition):
+                    name = re.sub(r"^prefix_free_\w+", "prefix_free_…", name)
+                    carried = found.setdefault((definition.file, definition.line), (definition, {}))[1]
+                    carried.setdefault(call.name, (call, []))[1].append(name)
+    return calls, found
+
+
+def carriers(calls, carried):
+    """The calls that promise a relation, with the clauses: grouped by clauses or by calls, whichever is shorter."""
+    by_clause, by_call = {}, {}
+    for call, names in carried.values():
+        by_call.setdefault(tuple(dict.fromkeys(names)), []).append(call)
+        for name in dict.fromkeys(names):
+            by_clause.setdefault(name, []).append(call)
+    merged = {}
+    for name, having in by_clause.items():
+        merged.setdefault(tuple(call.name for call in having), ([], having))[0].append(name)
+    texts = []
+    for way in (merged.values(), by_call.items()):
+        parts = [(named_calls(calls, having), ", ".join(f"`{name}`" if name else "result" for name in names))
+                 for names, having in way]
+        texts.append("; ".join(f"{who}: {clauses}" for who, clauses in parts))
+    return min(texts, key=lambda text: len(text.split()))
+
+
+def named_calls(calls, having):
+    """These calls in words, group by group."""
+    said, groups = [], {}
+    for call in having:
+        groups.setdefault(call.group, []).append(call)
+    for group, members in groups.items():
+        names = [f"`{call.name}`" for call in members]
+        is_whole = len(names) == sum(call.group == group for call in calls)
+        if group.endswith(" for"):
+            types = [f"`{call.name.partition(' for ')[2]}`" for call in members]
+            said.append(f"{group} {', '.join(types) if len(types) <= 3 else f'{len(types)} types'}")
+        elif "…" in group and len(names) > (1 if is_whole else 2):
+            said.append(f"`{group}`" if is_whole else f"{len(names)} of `{group}`")
+        elif group.startswith("wasm"):
+            said.append(f"{', '.join(names)} of `{group.removesuffix('::')}`")
+        elif group and len(names) > 3:
+            owner = group if group == "builders" else f"`{group.removesuffix('::')}`"
+            said.append(f"{len(names)} methods of {owner}")
+        else:
+            said += names
+    return ", ".join(said)
+
+
+def promise_table(interface):
+    calls, found = relations(interface)
+    rows = ["| Relation | Meaning | Calls: clauses |", "|---|---|---|"]
+    for definition, carried in found.values():
+        path = os.path.relpath(definition.file, PROMISES.parent)
+        says = re.split(r"(?<=\.) ", definition.comment)[0]
+        rows.append(f"| [`{definition.name}`]({path}#L{definition.line}) | {says} | {carriers(calls, carried)} |")
+    return "\n".join(rows)
+
+
+def promises_page(interface):
+    """The text of the page with the table, or None if the page has no place for it."""
+    text = PROMISES.read_text("utf-8") if PROMISES.exists() else ""
+    if BEGIN not in text or END not in text:
+        return None
+    before, _, rest = text.partition(BEGIN)
+    return f"{before}{BEGIN}\n\n{promise_table(interface)}\n\n{END}{rest.partition(END)[2]}"
