@@ -22,7 +22,8 @@ class Call:
 
 
 # Calls that belong to no group, despite the beginnings of their names.
-ALONE = ("check_order", "read_list_to_end")
+ALONE = ("check_list", "check_order", "normalise_list_to_end", "read_list_to_end", "read_list_to_end_as",
+         "read_strict", "rewrite_sized")
 GROUPED = re.compile(r"((?:nosgrivel_)?(?:read|normalise|rewrite|check|judge))_\w+?(_strict|_in_place)?$")
 
 
@@ -36,6 +37,11 @@ def group_of(entry, item):
     if item.name.startswith("nosgrivel_canonicalise"):
         return "nosgrivel_canonicalise…"
     return f"{found[1]}_…{found[2] or ''}" if found and item.name not in ALONE else ""
+
+
+# Calls that serve implementations of Decode and Readable. The table leaves them out.
+OF_IMPLEMENTATIONS = re.compile(r"(Decode|Readable|RewritableBody|Rewriter|Cursor)::.*|check_list|normalise_list_to_end"
+                                r"|read_list_to_end_as|rewrite_sized")
 
 
 def ensured(item):
@@ -61,12 +67,12 @@ def all_calls(interface):
                     yield Call(item.name, group, ensured(item), item)
 
 
-# Relations that the table leaves out: parts of others, conditions for writing, and reasons of errors, which the
-# documentation of the calls gives.
+# Relations that the table leaves out: parts of others, conditions for writing, reasons of errors, which the
+# documentation of the calls gives, and what implementations of Decode and Readable owe.
 PLUMBING = re.compile(r"""
     (Is)?(Counted|Uncounted|Closed)\w* | IsClosed\w+ | StandsFor\w* | Holds\w+ | Is\w*Prefix(Of)?
     | Is\w*Refusal\w* | IsNothingOr | AreClosed | AppendsPrefix | BeforeAnyWrite | CanEncodeList | Chain
-    | EncodesList | EncodesSome | Entries | GainsAll | GainsBodies | GainsItems | GivesItems | GivesSome
+    | AskedList | EncodesList | EncodesSome | Entries | GainsAll | GainsBodies | GainsItems | GivesItems | GivesSome
     | HasAlignment | HasNo\w*List | If\w+ | IsAligned | IsAnswer | IsBodyOf | IsBytes | IsCanonicalForm
     | IsCount | IsDecodedSection | IsDelivery | IsEncoded | IsFull | IsJudgement | IsLawful | IsMemoryOrTooLong
     | IsNameOf | IsReadError | IsReadFailure | IsRefusedList | IsSection | IsShort | IsShortEncoding
@@ -87,6 +93,8 @@ def relations(interface):
     """The calls, and for each relation the calls that promise it with the names of their clauses."""
     calls, found = list(all_calls(interface)), {}
     for call in calls:
+        if OF_IMPLEMENTATIONS.fullmatch(call.name):
+            continue
         imports = interface.imports_of(call.item)
         for name, text in call.clauses:
             for definition in interface.specifications.cited(text, imports):
@@ -138,14 +146,57 @@ def named_calls(calls, having):
     return ", ".join(said)
 
 
+# Relations that say of one kind of sections what `IsSectionAfter` says of all. They share its row.
+OF_SECTIONS = re.compile("IsTypeSection|IsCodeSection|IsSectionOfItems")
+PREFIX_FREE = re.compile(r"No encoding of .* is a proper prefix of another.*")
+
+
 def promise_table(interface):
     calls, found = relations(interface)
-    rows = ["| Relation | Meaning | Calls: clauses |", "|---|---|---|"]
+    rows, said, files = ["| Relation | Meaning | Calls: clauses |", "|---|---|---|"], {}, {}
+    after = next(carried for definition, carried in found.values() if definition.name == "IsSectionAfter")
     for definition, carried in found.values():
-        path = os.path.relpath(definition.file, PROMISES.parent)
-        says = re.split(r"(?<=\.) ", definition.comment)[0]
-        rows.append(f"| [`{definition.name}`]({path}#L{definition.line}) | {says} | {carriers(calls, carried)} |")
+        if OF_SECTIONS.fullmatch(definition.name):
+            after.update(carried)
+            continue
+        files.setdefault(definition.file, []).append((definition, carried))
+    for file, cited in files.items():
+        merged = {}
+        for definition, carried in sorted(cited, key=lambda pair: pair[0].line):
+            text = meaning(definition, said, len(carried))
+            alike = merged.setdefault(text, ([], {}))
+            alike[0].append(f"[`{definition.name}`]({os.path.relpath(file, PROMISES.parent)}#L{definition.line})")
+            alike[1].update(carried)
+        for text, (links, carried) in merged.items():
+            rows.append(f"| {', '.join(links)} | {text} | {carriers(calls, carried)} |")
     return "\n".join(rows)
+
+
+def meaning(definition, said, number):
+    """What a definition says that this number of calls promise, and a bundle's fields. A field has its name alone if an
+    earlier bundle of the file has that name, another one its words, or only one call promises the bundle."""
+    fields, alone, known = [], [], {}
+    for field in [field for field in definition.fields if field.comment]:
+        keys = (definition.file, field.name), (field.name, field.comment)
+        first = said.get(keys[0]) or said.get(keys[1])
+        if number == 1:
+            alone.append(f"`{field.name}`")
+        elif first:
+            known.setdefault(first, []).append(f"`{field.name}`")
+        else:
+            said[keys[0]] = said[keys[1]] = definition.name
+            fields.append(f"`{field.name}`: {in_short(field.comment)}")
+    says = re.split(r"(?<=\.) ", definition.comment)[0].replace(", called on the sink `s`", "")
+    says = re.sub(r"^What a [\w ]+ promises(?:, which|: it| that) (\w)", lambda found: found[1].upper(), says)
+    says = PREFIX_FREE.sub("No encoding of one of these kinds is a proper prefix of another.", says)
+    more = [f"{', '.join(names)} as in `{first}`." for first, names in known.items()]
+    more += [f"Fields: {', '.join(alone)}."] if alone else []
+    return " ".join(([] if len(fields) > 2 else [says]) + fields + more)
+
+
+def in_short(comment):
+    text = comment.removeprefix("It ")
+    return text[0].lower() + text[1:]
 
 
 def promises_page(interface):

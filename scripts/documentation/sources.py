@@ -243,25 +243,31 @@ DEFINITION = re.compile(
 
 @dataclasses.dataclass
 class Definition:
-    """A definition of a specification, with the comment above it."""
+    """A definition of a specification, with the comment above it. A record has fields: definitions of their own."""
 
     name: str
     file: pathlib.Path
     line: int
     comment: str
+    fields: list = dataclasses.field(default_factory=list)
 
 
 def definitions(file):
     """The public definitions of a .antt file, by their names."""
-    found, comment = {}, []
+    found, comment, record, indent = {}, [], None, 0
     for number, line in enumerate(file.read_text("utf-8").splitlines(), 1):
         stripped = line.strip()
         if stripped.startswith("--"):
             comment.append(stripped.lstrip("-").strip())
             continue
         match = DEFINITION.match(line)
-        if match and match["name"] not in found:
-            found[match["name"]] = Definition(match["name"], file, number, " ".join(comment))
+        if match:
+            definition = Definition(match["name"], file, number, " ".join(comment))
+            if record and len(match["indent"]) > indent:
+                record.fields.append(definition)
+            else:
+                found.setdefault(definition.name, definition)
+                record, indent = definition if match["record"] == "record" else None, len(match["indent"])
         comment = []
     return found
 

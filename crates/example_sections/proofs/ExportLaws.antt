@@ -1,8 +1,9 @@
--- The law of an export's format.
+-- The laws of the formats of an export.
 use Rattle.std.proofs.Common.{refl, arith}
+use Rattle.wasm_codec.specs.formats.Bodies.{bytes_to_end}
 use Rattle.wasm_codec.specs.formats.Grammar.{TakesBytes}
-use Rattle.wasm_codec.specs.Lawful.{IsLawful}
-use Rattle.wasm_codec.proofs.BodyLaws.{Lawful-byte-list}
+use Rattle.wasm_codec.specs.Lawful.{IsLawful, IsLawfulBody}
+use Rattle.wasm_codec.proofs.BodyLaws.{Lawful-bytes_to_end, Lawful-byte-list}
 use Rattle.wasm_codec.proofs.FormatLaws.{Lawful-after, Lawful-both, Lawful-u32, takes_bytes}
 use Rattle.example_sections.specs.Exports.{export}
 
@@ -11,3 +12,6 @@ Lawful-export = Lawful-both Lawful-byte-list (Lawful-after 0x00 (omega arith) La
 
 pub export_takes : TakesBytes export.Encodes
 export_takes = takes_bytes Lawful-export refl
+
+pub bytes_are_lawful : IsLawfulBody bytes_to_end
+bytes_are_lawful = Lawful-bytes_to_end

@@ -1,17 +1,26 @@
-//! Reads the export section back.
-ghost use Rattle.std.specs.Prelude.{◌≡◌, List, ℕ, IfOk, IfErr, refl};
+//! Reads the export section back, checks it and normalises it.
+ghost use Rattle.std.specs.Prelude.{◌≡◌, List, ℕ, IfErr, refl, true};
 ghost use Rattle.std.proofs.lemmas.List.{map_push};
 ghost use Rattle.wasm_codec.specs.Reading.{map_ok};
 ghost use Rattle.wasm_codec.specs.declared.reader.cursor.Fault.TheVariants.{Malformed};
-ghost use Rattle.wasm_encoder.specs.Answers.{IfRefused, IsLongestPrefix};
-ghost use Rattle.wasm_encoder.specs.Bodies.{byte_list};
-ghost use Rattle.wasm_encoder.specs.Lists.{EncodesList, IsListPrefix};
+ghost use Rattle.wasm_encoder.specs.Answers.{NeedsNoMemory};
+ghost use Rattle.wasm_encoder.specs.Bodies.{byte_list, bytes_to_end};
+ghost use Rattle.wasm_encoder.specs.Combinators.{items};
+ghost use Rattle.wasm_encoder.specs.Decoding.{IsMinimal, ChecksAll, RewritesAll};
+ghost use Rattle.wasm_encoder.specs.Grammar.{TakesBytes};
+ghost use Rattle.wasm_encoder.specs.Lawful.{IsLawful, IsLawfulBody};
+ghost use Rattle.wasm_encoder.specs.Lists.{AskedList, IsListPrefix, IsAskedPrefix};
 ghost use Rattle.wasm_encoder.specs.Places.{Reads};
+ghost use Rattle.wasm_encoder.specs.Rewriter.{Rewrites};
 ghost use Rattle.example_sections.specs.Exports.{export, parts_of, all_parts_of};
 
-use crate::exports::FUNCTION;
+use crate::exports::{ExportSection, FUNCTION};
 use std::alloc::Global;
-use wasm_encoder::{Cursor, Fault, ReadError, Readable, read_list_to_end};
+use wasm_encoder::reader::{
+    Item, RewritableBody, Rewriter, check_list, normalise_list_to_end, read_list_to_end_as,
+    rewrite_sized,
+};
+use wasm_encoder::{Cursor, Decode, Fault, ReadError, Readable, read_list_to_end};
 
 /// An exported function, as read.
 #[derive(Clone, Copy, Debug)]
@@ -20,16 +29,6 @@ pub struct ReadExport<'a> {
     pub name: &'a [u8],
     /// Function index.
     pub function: u32,
-}
-
-/// Reads the body of the section, in any encoding.
-pub fn read_exports<'a>(alloc: Global, body: &'a [u8]) -> Result<Vec<ReadExport<'a>>, ReadError>
-    // The body encodes the returned list.
-    ensures given { IfOk result (λ exports. EncodesList export.Encodes body.now (all_parts_of exports.items)) }
-    // `at` is the length of the longest well-formed prefix.
-    ensures prefix { IfRefused result (IsLongestPrefix (IsListPrefix export.Encodes) body.now) }
-{
-    read_list_to_end(alloc, body)
 }
 
 impl<'a> Readable<'a> for ReadExport<'a> {
@@ -43,8 +42,19 @@ impl<'a> Readable<'a> for ReadExport<'a> {
 
     ghost format = { export };
 
+    fn is_lawful()
+        ensures lawful { IsLawful export }
+        ensures some { TakesBytes export.Encodes }
+    {}
+
     fn read(_alloc: Global, cursor: &mut Cursor<'a>) -> Result<ReadExport<'a>, Fault> {
         read_export(cursor)
+    }
+
+    fn rewrite(rewriter: &mut Rewriter) -> Result<(), Fault>
+        ensures rewrites { Rewrites export rewriter.old rewriter.new result }
+    {
+        rewrite_export(rewriter)
     }
 }
 
@@ -67,4 +77,77 @@ fn read_bytes<'a>(cursor: &mut Cursor<'a>) -> Result<&'a [u8], Fault>
 {
     let size = cursor.u32()? as usize;
     cursor.take(size)
+}
+
+/// Replaces the length of the name and the index by their minimal encodings. The kind has one encoding.
+#[tactic(auto, using(std::proofs::Common::append_assoc))]
+fn rewrite_export(rewriter: &mut Rewriter) -> Result<(), Fault>
+    ensures rewrites { Rewrites export rewriter.old rewriter.new result }
+{
+    rewrite_sized::<Bytes>(rewriter)?;
+    if rewriter.byte()? != FUNCTION {
+        return Err(Fault::Malformed);
+    }
+    rewriter.u32()?;
+    Ok(())
+}
+
+/// Bytes up to the end, which stay as they are.
+struct Bytes;
+
+impl RewritableBody for Bytes {
+    ghost Value = { List ℕ };
+
+    ghost format = { bytes_to_end };
+
+    #[tactic(auto, using(crate::proofs::ExportLaws::bytes_are_lawful))]
+    fn is_lawful() {}
+
+    fn rewrite(rewriter: &mut Rewriter) -> Result<(), Fault> {
+        rewriter.rest();
+        Ok(())
+    }
+}
+
+/// The body of the section: a list of exports.
+impl<'a> Decode<'a> for ExportSection<'a> {
+    type Output = Vec<ReadExport<'a>>;
+
+    ghost Value = { List (List ℕ × ℕ) };
+
+    ghost view = { λ exports. all_parts_of exports.items };
+
+    ghost format = { items export };
+
+    ghost Minimal = { AskedList true export };
+
+    ghost IsPrefix = { IsListPrefix export.Encodes };
+
+    ghost IsMinimalPrefix = { IsAskedPrefix true export };
+
+    fn is_lawful()
+        ensures lawful { IsLawfulBody (items export) }
+        ensures minimal { IsMinimal (items export) (AskedList true export) }
+    {}
+
+    fn read_all(alloc: Global, bytes: &'a [u8]) -> Result<Vec<ReadExport<'a>>, ReadError> {
+        read_list_to_end(alloc, bytes)
+    }
+
+    fn read_all_strict(alloc: Global, bytes: &'a [u8]) -> Result<Vec<ReadExport<'a>>, ReadError> {
+        read_list_to_end_as::<ReadExport<'_>, true>(alloc, bytes)
+    }
+
+    fn check_all(alloc: Global, bytes: &[u8]) -> Result<(), ReadError>
+        ensures checks { ChecksAll (AskedList true export) (IsAskedPrefix true export) bytes.now result }
+    {
+        check_list::<Item<'_, ReadExport<'_>>>(alloc, bytes)
+    }
+
+    fn rewrite_all(bytes: Vec<u8>) -> Result<Vec<u8>, ReadError>
+        ensures rewrites { RewritesAll (items export) (IsListPrefix export.Encodes) bytes.items result }
+        ensures memory { NeedsNoMemory result }
+    {
+        normalise_list_to_end::<Item<'_, ReadExport<'_>>>(bytes)
+    }
 }

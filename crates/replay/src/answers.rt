@@ -3,11 +3,11 @@
 
 use crate::columns::columns;
 use crate::mismatch::Mismatch;
-use crate::readers::{count, normalise, read};
+use crate::readers::{normalise, read};
 use crate::words::runs;
 use crate::written::{Written, check_list, check_written};
 use std::alloc::Global;
-use wasm_encoder::{ReadError, read_instructions};
+use wasm_encoder::read_instructions;
 
 /// Holds a normaliser and its reader to the vector of a line.
 pub fn check(alloc: Global, line: &str) -> Result<(), Mismatch> {
@@ -34,9 +34,8 @@ fn check_taken(alloc: Global, what: &str, input: &[u8], normal: &str) -> Result<
 }
 
 fn check_normal(alloc: Global, what: &str, input: &[u8], normal: &[u8]) -> Result<(), Mismatch> {
-    match normalise(alloc, what, input) {
+    match normalise(alloc, what, input)? {
         Ok(written) if written.as_slice() == normal => Ok(()),
-        Err(ReadError::Memory) => Err(Mismatch::Memory),
         _ => Err(Mismatch::Normalised),
     }
 }
@@ -64,8 +63,9 @@ fn check_refused(
     at: Option<usize>,
 ) -> Result<(), Mismatch> {
     let at = at.ok_or(Mismatch::NotUnderstood)?;
-    if count(normalise(alloc, what, input))? != Err(at) {
-        return Err(Mismatch::Normalised);
+    match normalise(alloc, what, input)? {
+        Err(place) if place == at => {}
+        _ => return Err(Mismatch::Normalised),
     }
     if what != "module" && read(alloc, what, input)? != Err(at) {
         return Err(Mismatch::Read);

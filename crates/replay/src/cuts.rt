@@ -1,9 +1,10 @@
 //! Vectors of inputs that are cut at each place: what is read, its bytes, where its parts end, and what the strict reader
 //! answers to all of it.
 
+use crate::calls::{Count, count};
 use crate::columns::columns;
 use crate::mismatch::Mismatch;
-use crate::readers::{Count, count, normalise};
+use crate::readers::normalise;
 use crate::strict::parse_refusal;
 use std::alloc::Global;
 use wasm_encoder::{
@@ -188,7 +189,7 @@ fn check_normaliser(
     if what == "sections" {
         return Ok(());
     }
-    match (count(normalise(alloc, what, cut))?, expected) {
+    match (normalise(alloc, what, cut)?, expected) {
         (Ok(_), Ok(_)) => Ok(()),
         (Err(at), Err(place)) if at == place => Ok(()),
         _ => Err(Mismatch::Normalised),

@@ -7,10 +7,9 @@ mod modules;
 
 use crate::columns::columns;
 use crate::mismatch::Mismatch;
-use bodies::{Answer, normalise, read, read_strictly};
+use bodies::{Answers, all_answers};
 use modules::{check_module, check_order_of, module_of};
 use std::alloc::Global;
-use wasm_codec::reader::ReadError;
 
 /// Holds the readers, the normalisers and the builders to the vector of a line.
 pub fn check(alloc: Global, line: &str) -> Result<(), Mismatch> {
@@ -65,13 +64,31 @@ pub fn check_given(
     normal: &[u8],
     count: usize,
 ) -> Result<(), Mismatch> {
-    if read(alloc, section, body)? != Answer::Given(count) {
+    check_one(alloc, section, body, normal, count)?;
+    check_one(alloc, section, normal, normal, count)
+}
+
+/// The bytes hold so many items, and have this normal form. They are read strictly if they are it.
+fn check_one(
+    alloc: Global,
+    section: &str,
+    body: &[u8],
+    normal: &[u8],
+    count: usize,
+) -> Result<(), Mismatch> {
+    let answers = all_answers(alloc, section, body)?;
+    if answers.read != Ok(count) {
         return Err(Mismatch::Read);
     }
-    check_strict(alloc, section, body, count, body == normal)?;
-    check_strict(alloc, section, normal, count, true)?;
-    check_normal(alloc, section, body, normal)?;
-    check_normal(alloc, section, normal, normal)
+    match answers.strict {
+        Ok(given) if body == normal && given == count => {}
+        Err(_) if body != normal => {}
+        _ => return Err(Mismatch::ReadStrictly),
+    }
+    match answers.normal {
+        Ok(written) if written.as_slice() == normal => Ok(()),
+        _ => Err(Mismatch::Normalised),
+    }
 }
 
 /// Each part of the body from its beginning is refused, but for a custom section, which may hold any bytes after its name.
@@ -87,41 +104,14 @@ fn check_cuts(alloc: Global, section: &str, body: &[u8]) -> Result<(), Mismatch>
 
 /// The place where the reader and the normaliser refuse the part. The strict reader refuses it no later.
 pub fn check_cut(alloc: Global, section: &str, cut: &[u8]) -> Result<usize, Mismatch> {
-    let Answer::Refused(at) = read(alloc, section, cut)? else {
-        return Err(Mismatch::Cut);
-    };
-    match normalise(alloc, section, cut) {
-        Err(ReadError::Refused { at: place }) if place == at && at <= cut.len() => {}
-        Err(ReadError::Memory) => return Err(Mismatch::Memory),
-        _ => return Err(Mismatch::Cut),
-    }
-    match read_strictly(alloc, section, cut)? {
-        Answer::Refused(place) if place <= at => Ok(at),
+    cut_at(&all_answers(alloc, section, cut)?, cut.len())
+}
+
+/// The place where the reader and the normaliser refuse the part of this length. The strict reader refuses it no later.
+pub fn cut_at(answers: &Answers, len: usize) -> Result<usize, Mismatch> {
+    match (answers.read, &answers.normal, answers.strict) {
+        (Err(at), Err(place), Err(strict)) if *place == at && strict <= at && at <= len => Ok(at),
         _ => Err(Mismatch::Cut),
-    }
-}
-
-/// The strict reader gives so many items, or refuses the body.
-fn check_strict(
-    alloc: Global,
-    section: &str,
-    body: &[u8],
-    count: usize,
-    is_normal: bool,
-) -> Result<(), Mismatch> {
-    match read_strictly(alloc, section, body)? {
-        Answer::Given(given) if is_normal && given == count => Ok(()),
-        Answer::Refused(_) if !is_normal => Ok(()),
-        _ => Err(Mismatch::ReadStrictly),
-    }
-}
-
-/// The body has this normal form.
-fn check_normal(alloc: Global, section: &str, body: &[u8], normal: &[u8]) -> Result<(), Mismatch> {
-    match normalise(alloc, section, body) {
-        Ok(written) if written.as_slice() == normal => Ok(()),
-        Err(ReadError::Memory) => Err(Mismatch::Memory),
-        _ => Err(Mismatch::Normalised),
     }
 }
 
@@ -143,15 +133,15 @@ fn check_refused(
 
 /// The readers and the normaliser refuse the bytes, the wide ones at this place.
 fn check_refusal(alloc: Global, section: &str, body: &[u8], at: usize) -> Result<(), Mismatch> {
-    if read(alloc, section, body)? != Answer::Refused(at) {
+    let answers = all_answers(alloc, section, body)?;
+    if answers.read != Err(at) {
         return Err(Mismatch::Read);
     }
-    if let Answer::Given(_) = read_strictly(alloc, section, body)? {
+    if answers.strict.is_ok() {
         return Err(Mismatch::ReadStrictly);
     }
-    match normalise(alloc, section, body) {
-        Err(ReadError::Refused { at: place }) if place == at => Ok(()),
-        Err(ReadError::Memory) => Err(Mismatch::Memory),
+    match answers.normal {
+        Err(place) if place == at => Ok(()),
         _ => Err(Mismatch::Normalised),
     }
 }

@@ -3,6 +3,7 @@
 #![tactic(auto)]
 
 mod answers;
+mod calls;
 mod columns;
 mod cuts;
 mod decoded;

@@ -41,9 +41,15 @@ pub enum Mismatch {
     /// The strict reader takes what isn't in its shortest encoding, or refuses what is.
     #[error("the strict reader answers otherwise")]
     ReadStrictly,
+    /// The check accepts or refuses otherwise than the strict reader.
+    #[error("the check answers otherwise")]
+    Checked,
     /// The normal form is another, or the place of a refusal.
     #[error("the normaliser answers otherwise")]
     Normalised,
+    /// Rewriting in place gives something else than the normaliser.
+    #[error("the rewriter answers otherwise")]
+    Rewritten,
     /// The builders write another module of what the reader gives.
     #[error("the builders write otherwise")]
     Built,

@@ -1,54 +1,58 @@
 //! Readers and normalisers, by what they read.
 
+use crate::calls::{Count, Normal, count_of, normal_of, placed, same_normal, strict_of};
 use crate::mismatch::Mismatch;
 use std::alloc::Global;
 use wasm_encoder::{
-    ReadError, normalise_code_section, normalise_instructions, normalise_module,
-    normalise_type_section, read_code_section, read_code_section_strict, read_instructions,
-    read_instructions_strict, read_module, read_module_strict, read_type_section,
-    read_type_section_strict,
+    CodeSection, Instructions, Module, TypeSection, normalise_code_section, normalise_instructions,
+    normalise_module, normalise_type_section, rewrite_module,
 };
-
-/// How many items a reader gives, or where it refuses the bytes.
-pub type Count = Result<usize, usize>;
-
-/// What a reader answered.
-pub fn count<T: Drop>(answer: Result<Vec<T>, ReadError>) -> Result<Count, Mismatch> {
-    match answer {
-        Ok(items) => Ok(Ok(items.len())),
-        Err(ReadError::Refused { at }) => Ok(Err(at)),
-        Err(ReadError::Memory) => Err(Mismatch::Memory),
-    }
-}
 
 /// What the reader answers.
 pub fn read(alloc: Global, what: &str, input: &[u8]) -> Result<Count, Mismatch> {
     match what {
-        "calls" => count(read_instructions(alloc, input)),
-        "types" => count(read_type_section(alloc, input)),
-        "code" => count(read_code_section(alloc, input)),
-        "module" => count(read_module(alloc, input)),
+        "calls" => count_of::<Instructions>(alloc, input),
+        "types" => count_of::<TypeSection>(alloc, input),
+        "code" => count_of::<CodeSection>(alloc, input),
+        "module" => count_of::<Module>(alloc, input),
         _ => Err(Mismatch::NotUnderstood),
     }
 }
 
-/// What the strict reader answers.
+/// What the strict reader and the check answer.
 pub fn read_strictly(alloc: Global, what: &str, input: &[u8]) -> Result<Count, Mismatch> {
     match what {
-        "calls" => count(read_instructions_strict(alloc, input)),
-        "types" => count(read_type_section_strict(alloc, input)),
-        "code" => count(read_code_section_strict(alloc, input)),
-        "module" => count(read_module_strict(alloc, input)),
+        "calls" => strict_of::<Instructions>(alloc, input),
+        "types" => strict_of::<TypeSection>(alloc, input),
+        "code" => strict_of::<CodeSection>(alloc, input),
+        "module" => strict_of::<Module>(alloc, input),
         _ => Err(Mismatch::NotUnderstood),
     }
 }
 
-/// What the normaliser answers.
-pub fn normalise(alloc: Global, what: &str, input: &[u8]) -> Result<Vec<u8>, ReadError> {
+/// What the normalisers answer, by their own names and by the type, into new memory and in place.
+pub fn normalise(alloc: Global, what: &str, input: &[u8]) -> Result<Normal, Mismatch> {
     match what {
-        "calls" => normalise_instructions(alloc, input),
-        "types" => normalise_type_section(alloc, input),
-        "code" => normalise_code_section(alloc, input),
-        _ => normalise_module(alloc, input),
+        "calls" => same_normal(
+            normalise_instructions(alloc, input),
+            normal_of::<Instructions>(alloc, input)?,
+        ),
+        "types" => same_normal(
+            normalise_type_section(alloc, input),
+            normal_of::<TypeSection>(alloc, input)?,
+        ),
+        "code" => same_normal(
+            normalise_code_section(alloc, input),
+            normal_of::<CodeSection>(alloc, input)?,
+        ),
+        _ => normal_of_module(alloc, input),
     }
+}
+
+/// What the normaliser of a module, of its type section and of its code section answers. It rewrites more than that of
+/// `Module`, which is for sizes alone.
+fn normal_of_module(alloc: Global, input: &[u8]) -> Result<Normal, Mismatch> {
+    let copy = Vec::from_slice(alloc, input)?;
+    let rewritten = placed(rewrite_module(copy))?;
+    same_normal(normalise_module(alloc, input), rewritten)
 }

@@ -1,6 +1,7 @@
 //! Vectors of sections: `raw`, a section's id and body, and its bytes; `module`, the sections of a module, and the
 //! module; or `read`, the same of a module in longer encodings.
 
+use crate::calls::normal_of;
 use crate::mismatch::Mismatch;
 use crate::written::{Written, check_written};
 use std::alloc::Global;
@@ -108,5 +109,13 @@ fn check_reader(alloc: Global, sections: &[OwnedSection], bytes: &[u8]) -> Resul
             return Err(Mismatch::Read);
         }
     }
-    Ok(())
+    check_normal(alloc, sections, bytes)
+}
+
+/// The normal form of the bytes is the module of the sections.
+fn check_normal(alloc: Global, sections: &[OwnedSection], bytes: &[u8]) -> Result<(), Mismatch> {
+    match normal_of::<Module>(alloc, bytes)? {
+        Ok(normal) => check_module(alloc, sections, normal.as_slice()),
+        Err(_) => Err(Mismatch::Normalised),
+    }
 }

@@ -28,6 +28,17 @@ use wasm_writers::encode::EncodeError;
 /// exports.encode(&mut bytes)?;
 /// assert_eq!(rt; bytes.as_slice(), b"\x07\x01\x03add\x00\x00".as_slice());
 /// ```
+///
+/// Reading a body returns its exports, and accepts padded numbers:
+///
+/// ```
+/// # use wasm_encoder::{ExportKind, ExportSection, read};
+/// let body = b"\x01\x03mem\x02\x80\x00"; // one export; the index 0 in two bytes
+/// for export in &read::<ExportSection<'_>>(rt.alloc(), body)? {
+///     assert_eq!(rt; export.name, "mem");
+///     assert_eq!(rt; export.kind, ExportKind::Memory);
+/// }
+/// ```
 pub type ExportSection<'a> = ListSection<Export<'a>>;
 
 impl<'a> SectionItem for Export<'a> {

@@ -1,14 +1,23 @@
 //! Sections that are one number (Core 3.0, Start Section and Data Count Section).
-ghost use Rattle.std.specs.Prelude.{◌≡◌, ◌++◌, OnOk, IfErr, OnErr};
+ghost use Rattle.std.specs.Prelude.{◌≡◌, ◌++◌, OnOk, IfErr, OnErr, ℕ};
 ghost use Rattle.wasm_codec.specs.Encoding.{byte_list_bytes, IsShortest};
 ghost use Rattle.wasm_codec.specs.Leb128.{unsigned_leb128};
 ghost use Rattle.wasm_codec.specs.declared.encode.EncodeError.TheVariants.{Memory};
 ghost use Rattle.wasm_sections.specs.formats.ModuleSectionParts.{data_count, start};
 ghost use Rattle.wasm_sections.specs.SectionBytes.{IsSectionAfter};
 ghost use Rattle.wasm_sections.specs.formats.Sections.{start_body, data_count_body};
+ghost use Rattle.wasm_codec.specs.Decoding.{ChecksAll, RewritesAll, IsMinimal};
+ghost use Rattle.wasm_codec.specs.Lawful.{IsLawfulBody};
+ghost use Rattle.wasm_codec.specs.Answers.{NeedsNoMemory};
+ghost use Rattle.wasm_codec.specs.formats.Combinators.{narrow};
+ghost use Rattle.wasm_sections.specs.Prefixes.{IsNothingOr};
 
-use std::alloc::Allocator;
+use std::alloc::{Allocator, Global};
+use wasm_codec::decode::Decode;
 use wasm_codec::encode::leb128::{put_u32, u32_len};
+use wasm_codec::reader::ReadError;
+use wasm_sections::bodies::rewrite_body;
+use wasm_sections::numbers::{Number, read_number, read_number_strict};
 use wasm_writers::encode::{Encode, EncodeError};
 
 /// A start section: the function that instantiating the module calls (Core 3.0, Start Section).
@@ -79,4 +88,112 @@ fn append_number<A: Allocator>(number: u32, sink: &mut Vec<u8, A>) -> Result<(),
     put_u32(sink, u32_len(number) as u32);
     put_u32(sink, number);
     Ok(())
+}
+
+#[tactic(auto, unfolding(wasm_sections::specs::formats::Sections::start_body))]
+impl<'a> Decode<'a> for StartSection {
+    type Output = StartSection;
+
+    ghost Value = { ℕ };
+
+    ghost view = { λ section. section.function_index };
+
+    ghost format = { start_body };
+
+    ghost Minimal = { (narrow start_body).Encodes };
+
+    ghost IsPrefix = { IsNothingOr start_body };
+
+    ghost IsMinimalPrefix = { IsNothingOr (narrow start_body) };
+
+    #[inline(always)]
+    #[tactic(auto, using(wasm_sections::proofs::ValueReading::number_is_lawful), unfolding(wasm_sections::specs::formats::Sections::start_body))]
+    fn is_lawful()
+        ensures lawful { IsLawfulBody start_body }
+        ensures minimal { IsMinimal start_body (narrow start_body).Encodes }
+    {}
+
+    fn read_all(_alloc: Global, bytes: &'a [u8]) -> Result<StartSection, ReadError> {
+        match read_number(bytes) {
+            Ok(function_index) => Ok(StartSection { function_index }),
+            Err(error) => Err(error),
+        }
+    }
+
+    fn read_all_strict(_alloc: Global, bytes: &'a [u8]) -> Result<StartSection, ReadError> {
+        match read_number_strict(bytes) {
+            Ok(function_index) => Ok(StartSection { function_index }),
+            Err(error) => Err(error),
+        }
+    }
+
+    fn check_all(_alloc: Global, bytes: &[u8]) -> Result<(), ReadError>
+        ensures checks { ChecksAll (narrow start_body).Encodes (IsNothingOr (narrow start_body)) bytes.now result }
+    {
+        match read_number_strict(bytes) {
+            Ok(_) => Ok(()),
+            Err(error) => Err(error),
+        }
+    }
+
+    fn rewrite_all(bytes: Vec<u8>) -> Result<Vec<u8>, ReadError>
+        ensures rewrites { RewritesAll start_body (IsNothingOr start_body) bytes.items result }
+        ensures memory { NeedsNoMemory result }
+    {
+        rewrite_body::<Number>(bytes)
+    }
+}
+
+#[tactic(auto, unfolding(wasm_sections::specs::formats::Sections::data_count_body))]
+impl<'a> Decode<'a> for DataCountSection {
+    type Output = DataCountSection;
+
+    ghost Value = { ℕ };
+
+    ghost view = { λ section. section.count };
+
+    ghost format = { data_count_body };
+
+    ghost Minimal = { (narrow data_count_body).Encodes };
+
+    ghost IsPrefix = { IsNothingOr data_count_body };
+
+    ghost IsMinimalPrefix = { IsNothingOr (narrow data_count_body) };
+
+    #[inline(always)]
+    #[tactic(auto, using(wasm_sections::proofs::ValueReading::number_is_lawful), unfolding(wasm_sections::specs::formats::Sections::data_count_body))]
+    fn is_lawful()
+        ensures lawful { IsLawfulBody data_count_body }
+        ensures minimal { IsMinimal data_count_body (narrow data_count_body).Encodes }
+    {}
+
+    fn read_all(_alloc: Global, bytes: &'a [u8]) -> Result<DataCountSection, ReadError> {
+        match read_number(bytes) {
+            Ok(count) => Ok(DataCountSection { count }),
+            Err(error) => Err(error),
+        }
+    }
+
+    fn read_all_strict(_alloc: Global, bytes: &'a [u8]) -> Result<DataCountSection, ReadError> {
+        match read_number_strict(bytes) {
+            Ok(count) => Ok(DataCountSection { count }),
+            Err(error) => Err(error),
+        }
+    }
+
+    fn check_all(_alloc: Global, bytes: &[u8]) -> Result<(), ReadError>
+        ensures checks { ChecksAll (narrow data_count_body).Encodes (IsNothingOr (narrow data_count_body)) bytes.now result }
+    {
+        match read_number_strict(bytes) {
+            Ok(_) => Ok(()),
+            Err(error) => Err(error),
+        }
+    }
+
+    fn rewrite_all(bytes: Vec<u8>) -> Result<Vec<u8>, ReadError>
+        ensures rewrites { RewritesAll data_count_body (IsNothingOr data_count_body) bytes.items result }
+        ensures memory { NeedsNoMemory result }
+    {
+        rewrite_body::<Number>(bytes)
+    }
 }

@@ -13,6 +13,7 @@ pub mod RawFormatLaws
 pub mod PlaceLists
 pub mod BodyLaws
 pub mod AskedLaws
+pub mod DecodingLaws
 pub mod SizedLaws
 pub mod Windows
 pub mod Shortening

@@ -3,6 +3,7 @@ pub mod Leb128
 pub mod Lists
 pub mod Encoding
 pub mod Answers
+pub mod Decoding
 pub mod Places
 pub mod ReadDigits
 pub mod formats

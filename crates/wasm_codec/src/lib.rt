@@ -2,6 +2,7 @@
 //! and the rewriter replaces their encodings by minimal ones in place.
 #![tactic(auto)]
 
+pub mod decode;
 pub mod encode;
 pub mod list;
 pub mod reader;

@@ -68,6 +68,7 @@
 #![tactic(auto)]
 
 pub mod code;
+pub mod decode;
 pub mod encode;
 pub mod raw;
 pub mod reader;
@@ -76,36 +77,113 @@ mod type_section;
 pub mod types;
 pub mod wasm_core;
 
-pub use code::{CodeBody, CodeSection, Function};
-pub use encode::{Encode, EncodeError, encode_bytes, encode_list, encode_str, keep_or_undo};
-pub use raw::{RawSection, first_body};
-pub use reader::{
-    Cursor, Fault, ReadError, Readable, check_code_section, check_instructions, check_module,
-    check_type_section, normalise_code_section, normalise_instructions, normalise_module,
-    normalise_type_section, read_code_section, read_code_section_strict, read_instructions,
-    read_instructions_strict, read_list_to_end, read_module, read_module_strict, read_type_section,
-    read_type_section_strict, rewrite_code_section, rewrite_instructions, rewrite_module,
-    rewrite_type_section,
-};
-pub use sections::{
-    ConstExpr, CustomSection, DataCountSection, DataSection, ElementSection, Elements, EntityType,
-    ExportKind, ExportSection, FunctionSection, GlobalSection, GlobalType, ImportSection,
-    MemorySection, MemoryType, ModuleSection, StartSection, TableSection, TableType, TagSection,
-    TagType, check_order, normalise_whole_module, read_whole_module, read_whole_module_strict,
-};
-pub use types::{
-    AbstractHeapType, ArrayType, CompositeInnerType, CompositeType, ContType, CoreTypeEncoder,
-    FieldType, FuncType, HeapType, RefType, StorageType, StructType, SubType, TypeEntry,
-    TypeSection, ValType,
-};
+pub use code::CodeBody;
+pub use code::CodeSection;
+pub use code::Function;
+pub use decode::Decode;
+pub use decode::Instructions;
+pub use decode::check;
+pub use decode::normalise;
+pub use decode::read;
+pub use decode::read_strict;
+pub use decode::rewrite;
+pub use encode::Encode;
+pub use encode::EncodeError;
+pub use encode::encode_bytes;
+pub use encode::encode_list;
+pub use encode::encode_str;
+pub use encode::keep_or_undo;
+pub use raw::RawSection;
+pub use raw::first_body;
+pub use reader::Cursor;
+pub use reader::Fault;
+pub use reader::ReadError;
+pub use reader::Readable;
+pub use reader::check_code_section;
+pub use reader::check_instructions;
+pub use reader::check_module;
+pub use reader::check_type_section;
+pub use reader::normalise_code_section;
+pub use reader::normalise_instructions;
+pub use reader::normalise_module;
+pub use reader::normalise_type_section;
+pub use reader::read_code_section;
+pub use reader::read_code_section_strict;
+pub use reader::read_instructions;
+pub use reader::read_instructions_strict;
+pub use reader::read_list_to_end;
+pub use reader::read_module;
+pub use reader::read_module_strict;
+pub use reader::read_type_section;
+pub use reader::read_type_section_strict;
+pub use reader::rewrite_code_section;
+pub use reader::rewrite_instructions;
+pub use reader::rewrite_module;
+pub use reader::rewrite_type_section;
+pub use sections::ConstExpr;
+pub use sections::CustomSection;
+pub use sections::DataCountSection;
+pub use sections::DataSection;
+pub use sections::ElementSection;
+pub use sections::Elements;
+pub use sections::EntityType;
+pub use sections::ExportKind;
+pub use sections::ExportSection;
+pub use sections::FunctionSection;
+pub use sections::GlobalSection;
+pub use sections::GlobalType;
+pub use sections::ImportSection;
+pub use sections::MemorySection;
+pub use sections::MemoryType;
+pub use sections::ModuleSection;
+pub use sections::StartSection;
+pub use sections::TableSection;
+pub use sections::TableType;
+pub use sections::TagSection;
+pub use sections::TagType;
+pub use sections::WholeModule;
+pub use sections::check_order;
+pub use sections::check_whole_module;
+pub use sections::normalise_whole_module;
+pub use sections::read_whole_module;
+pub use sections::read_whole_module_strict;
+pub use sections::rewrite_whole_module;
+pub use types::AbstractHeapType;
+pub use types::ArrayType;
+pub use types::CompositeInnerType;
+pub use types::CompositeType;
+pub use types::ContType;
+pub use types::CoreTypeEncoder;
+pub use types::FieldType;
+pub use types::FuncType;
+pub use types::HeapType;
+pub use types::RefType;
+pub use types::StorageType;
+pub use types::StructType;
+pub use types::SubType;
+pub use types::TypeEntry;
+pub use types::TypeSection;
+pub use types::ValType;
 pub use wasm_codec::list;
 pub use wasm_codec::list::Items;
-pub use wasm_core::{Module, Section, SectionId};
-pub use wasm_instructions::operands::{
-    BlockType, Catch, Handle, Ieee32, Ieee64, Lane, MemArg, Ordering,
-};
-pub use wasm_instructions::table::{Call, Kind, Opcode, Operands, Prefix};
-pub use wasm_instructions::{operands, table};
+pub use wasm_core::Module;
+pub use wasm_core::Section;
+pub use wasm_core::SectionId;
+pub use wasm_instructions::operands;
+pub use wasm_instructions::operands::BlockType;
+pub use wasm_instructions::operands::Catch;
+pub use wasm_instructions::operands::Handle;
+pub use wasm_instructions::operands::Ieee32;
+pub use wasm_instructions::operands::Ieee64;
+pub use wasm_instructions::operands::Lane;
+pub use wasm_instructions::operands::MemArg;
+pub use wasm_instructions::operands::Ordering;
+pub use wasm_instructions::table;
+pub use wasm_instructions::table::Call;
+pub use wasm_instructions::table::Kind;
+pub use wasm_instructions::table::Opcode;
+pub use wasm_instructions::table::Operands;
+pub use wasm_instructions::table::Prefix;
 pub use wasm_readers::names::opcode_name;
 pub use wasm_sink::sink;
 pub use wasm_sink::sink::InstructionSink;

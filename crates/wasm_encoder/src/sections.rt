@@ -20,56 +20,18 @@ pub use wasm_builders::memories::MemorySection;
 pub use wasm_builders::numbers::{DataCountSection, StartSection};
 pub use wasm_builders::tables::TableSection;
 pub use wasm_builders::tags::TagSection;
-pub use wasm_sections::custom::{
-    CustomSection, normalise_custom_section, read_custom_section, read_custom_section_strict,
-    rewrite_custom_section,
-};
-pub use wasm_sections::data::{
-    DataSegment, DataSegmentMode, normalise_data_section, read_data_section,
-    read_data_section_strict, rewrite_data_section,
-};
-pub use wasm_sections::data_count::{
-    normalise_data_count_section, read_data_count_section, read_data_count_section_strict,
-    rewrite_data_count_section,
-};
-pub use wasm_sections::elements::{
-    Element, ElementMode, Elements, normalise_element_section, read_element_section,
-    read_element_section_strict, rewrite_element_section,
-};
-pub use wasm_sections::exports::{
-    Export, normalise_export_section, read_export_section, read_export_section_strict,
-    rewrite_export_section,
-};
-pub use wasm_sections::functions::{
-    normalise_function_section, read_function_section, read_function_section_strict,
-    rewrite_function_section,
-};
-pub use wasm_sections::globals::{
-    Global, normalise_global_section, read_global_section, read_global_section_strict,
-    rewrite_global_section,
-};
-pub use wasm_sections::imports::{
-    Import, normalise_import_section, read_import_section, read_import_section_strict,
-    rewrite_import_section,
-};
-pub use wasm_sections::memories::{
-    normalise_memory_section, read_memory_section, read_memory_section_strict,
-    rewrite_memory_section,
-};
+pub use wasm_sections::custom::CustomSection;
+pub use wasm_sections::data::{DataSegment, DataSegmentMode};
+pub use wasm_sections::elements::{Element, ElementMode, Elements};
+pub use wasm_sections::exports::Export;
+pub use wasm_sections::globals::Global;
+pub use wasm_sections::imports::Import;
 pub use wasm_sections::modules::{
-    ModuleError, ModuleSection, check_order, normalise_whole_module, read_whole_module,
-    read_whole_module_strict, rewrite_whole_module,
+    CodePlace, ItemCounts, ItemPlace, ModuleError, ModuleSection, WholeModule, check_order,
+    check_whole_module, count_longer_items, first_broken_item, first_broken_part,
+    normalise_whole_module, read_whole_module, read_whole_module_strict, rewrite_whole_module,
 };
-pub use wasm_sections::start::{
-    normalise_start_section, read_start_section, read_start_section_strict, rewrite_start_section,
-};
-pub use wasm_sections::tables::{
-    Table, normalise_table_section, read_table_section, read_table_section_strict,
-    rewrite_table_section,
-};
-pub use wasm_sections::tags::{
-    normalise_tag_section, read_tag_section, read_tag_section_strict, rewrite_tag_section,
-};
+pub use wasm_sections::tables::Table;
 pub use wasm_sections::types::{
     EntityType, ExportKind, GlobalType, MemoryType, TableType, TagKind, TagType,
 };

@@ -129,9 +129,6 @@ Shortest-instructions = Shortest-joined Lawful-instruction.shortest
 pub are_shortest : (bytes : List ℕ) (calls : List Instruction) → ShortestInstructions bytes calls ↔ (Instructions bytes calls × (bytes ≡ instructions_bytes calls))
 are_shortest = joined_narrow Lawful-instruction
 
-pub AtMostOne-shortest : AtMostOne ShortestInstructions
-AtMostOne-shortest bytes v w g h = AtMostOne-instructions bytes v w ((are_shortest bytes v).0 g).0 ((are_shortest bytes w).0 h).0
-
 -- one instruction more at the end
 pub record More (calls : List Instruction) (i : ℕ) (old new : List ℕ) : Type 0 where
   pub bytes : new ≡ old ++ instructions_bytes (take (i + 1) calls)

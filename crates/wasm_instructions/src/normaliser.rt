@@ -1,10 +1,11 @@
 //! The normaliser of lists of instructions (Core 3.0, Instructions).
-ghost use Rattle.std.specs.Prelude.{◌≡◌, ◌↔◌, ◌<◌, ◌≤◌, List, length, IfOk};
-ghost use Rattle.wasm_codec.specs.Answers.{IsOrMemory, NeedsNoMemory, IfRefused, IsLongestPrefix, EncodesSome, IsNormalForm};
-ghost use Rattle.wasm_codec.specs.Encoding.{IsShortestOrLonger};
+ghost use Rattle.std.specs.Prelude.{◌<◌, length};
+ghost use Rattle.wasm_codec.specs.Answers.{EncodesSome};
 ghost use Rattle.wasm_instructions.specs.formats.Instructions.{Instruction};
-ghost use Rattle.wasm_instructions.specs.formats.Instructions.{Instructions, ShortestInstructions, opcode, instruction, instructions_bytes};
+ghost use Rattle.wasm_instructions.specs.formats.Instructions.{Instructions, ShortestInstructions, opcode, instruction};
 ghost use Rattle.wasm_codec.specs.Rewriter.{Gives, Rewrites};
+ghost use Rattle.wasm_codec.specs.Decoding.{Normalises, NormalisesInPlace, RewritesAll};
+ghost use Rattle.wasm_codec.specs.formats.Bodies.{to_end};
 
 mod operands;
 mod scan;
@@ -30,34 +31,7 @@ use wasm_codec::rewriter::{Joinable, Rewritable, Rewriter, Scanned, normalise_jo
 /// assert_eq!(rt; minimal.as_slice(), b"\x20\x42\x0b".as_slice());
 /// ```
 pub fn normalise_instructions(alloc: Global, bytes: &[u8]) -> Result<Vec<u8>, ReadError>
-    // The result is the minimal encoding of a list that the bytes encode.
-    ensures given { IfOk result (λ encoding.
-        IsNormalForm Instructions instructions_bytes bytes.now encoding.items) }
-    // If the bytes encode a list, the result is the minimal encoding of that list, unless memory runs out.
-    ensures complete { (calls : List Instruction) → Instructions bytes.now calls →
-        IsOrMemory (λ encoding. encoding.items) (instructions_bytes calls) result }
-    // `at` is the length of the longest prefix that encodes a list.
-    ensures prefix { IfRefused result (IsLongestPrefix (EncodesSome Instructions) bytes.now) }
-    // The bytes encode at most one list.
-    ensures one { (calls others : List Instruction) →
-        Instructions bytes.now calls → Instructions bytes.now others → calls ≡ others }
-    // The result encodes a list if and only if the bytes do.
-    ensures same { IfOk result (λ encoding. (calls : List Instruction) →
-        Instructions encoding.items calls ↔ Instructions bytes.now calls) }
-    // The result is the minimal encoding of the list that it encodes.
-    ensures normal { IfOk result (λ encoding. (calls : List Instruction) →
-        Instructions encoding.items calls → encoding.items ≡ instructions_bytes calls) }
-    // Every other encoding of a list is longer than its minimal encoding.
-    ensures shortest { (calls : List Instruction) → Instructions bytes.now calls →
-        IsShortestOrLonger bytes.now (instructions_bytes calls) }
-    // The result is no longer than the bytes.
-    ensures no_longer { IfOk result (λ encoding. length encoding.items ≤ length bytes.now) }
-    // A minimal encoding is returned unchanged, unless memory runs out.
-    ensures stays { (calls : List Instruction) → ShortestInstructions bytes.now calls →
-        IsOrMemory (λ encoding. encoding.items) bytes.now result }
-    // If the result equals the bytes, they are a minimal encoding.
-    ensures was_shortest { IfOk result (λ encoding.
-        encoding.items ≡ bytes.now → EncodesSome ShortestInstructions bytes.now) }
+    ensures normalises { Normalises (to_end instruction) ShortestInstructions (EncodesSome Instructions) bytes.now result }
 {
     call_bytes_of(alloc, bytes)
 }
@@ -75,28 +49,14 @@ pub fn normalise_instructions(alloc: Global, bytes: &[u8]) -> Result<Vec<u8>, Re
 /// assert_eq!(rt; minimal.as_slice(), b"\x41\x00\x1a".as_slice());
 /// ```
 pub fn rewrite_instructions(bytes: Vec<u8>) -> Result<Vec<u8>, ReadError>
-    // The result is the minimal encoding of a list that the bytes encode.
-    ensures given { IfOk result (λ encoding.
-        IsNormalForm Instructions instructions_bytes bytes.items encoding.items) }
-    // If the bytes encode a list, the result is the minimal encoding of that list.
-    ensures complete { (calls : List Instruction) → Instructions bytes.items calls →
-        IsOrMemory (λ encoding. encoding.items) (instructions_bytes calls) result }
-    // `at` is the length of the longest prefix that encodes a list.
-    ensures prefix { IfRefused result (IsLongestPrefix (EncodesSome Instructions) bytes.items) }
-    // `at` is less than the number of bytes.
-    ensures within { IfRefused result (λ at. at < length bytes.items) }
-    // It never fails with `Memory`.
-    ensures memory { NeedsNoMemory result }
+    ensures normalises { NormalisesInPlace (to_end instruction) (EncodesSome Instructions) bytes.items result }
 {
     normalise_joined::<Call>(bytes)
 }
 
 /// Copies the bytes and rewrites the copy.
 fn call_bytes_of(alloc: Global, bytes: &[u8]) -> Result<Vec<u8>, ReadError>
-    ensures given { IfOk result (λ encoding.
-        IsNormalForm Instructions instructions_bytes bytes.now encoding.items) }
-    ensures prefix { IfRefused result (IsLongestPrefix (EncodesSome Instructions) bytes.now) }
-    ensures within { IfRefused result (λ at. at < length bytes.now) }
+    ensures rewrites { RewritesAll (to_end instruction) (EncodesSome Instructions) bytes.now result }
 {
     rewrite_instructions(Vec::from_slice(alloc, bytes)?)
 }

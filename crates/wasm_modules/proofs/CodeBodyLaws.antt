@@ -45,12 +45,3 @@ AtMostOne-code-section-body = AtMostOne-list (plain_reads Lawful-code_body.reads
 pub is_shortest_code : (bytes : List ℕ) (bodies : List CodeBody) → ShortestCodeSectionBody bytes bodies ↔ (code_section_body.Encodes bytes bodies × (bytes ≡ code_section_body.bytes bodies))
 unfolding code_section_body
 is_shortest_code = list_narrow Lawful-code_body
-
-pub AtMostOne-shortest-code : AtMostOne ShortestCodeSectionBody
-AtMostOne-shortest-code bytes v w g h = AtMostOne-code-section-body bytes v w ((is_shortest_code bytes v).0 g).0 ((is_shortest_code bytes w).0 h).0
-
--- what is given is no longer than the bytes
-pub no_longer_bodies : {X : Type 0} (view : X → List ℕ) (bytes : List ℕ) (result : Result X ReadError)
-    → IfOk result (λ x. IsNormalForm code_section_body.Encodes code_section_body.bytes bytes (view x)) → IfOk result (λ x. length (view x) ≤ length bytes)
-no_longer_bodies view bytes (Ok x) n = omega (arith, not_longer bytes (code_section_body.bytes n.value) (Lawful-code-section-body.shortest.least bytes n.value n.encoded), ap (length {A = ℕ}) n.is_shortest)
-no_longer_bodies view bytes (Err e) n = tt

@@ -103,12 +103,6 @@ Lawful-raw-module = Lawful-module-of Lawful-raw-section raw_section_takes
 pub Lawful-decoded-module : IsLawfulBody decoded_module
 Lawful-decoded-module = Lawful-module-of Lawful-decoded-section decoded_section_takes
 
-pub one_raw_module : AtMostOne raw_module.Encodes
-one_raw_module = encodes_one Lawful-raw-module
-
-pub one_decoded_module : AtMostOne decoded_module.Encodes
-one_decoded_module = encodes_one Lawful-decoded-module
-
 -- a module of sections in their shortest encodings is the shortest encoding of its list
 module _ {V : Type 0} {F : Format V} (r : IsLawful F) where
   pub is_shortest_module_of : (bytes : List ℕ) (sections : List V) → (module_of (narrow F)).Encodes bytes sections ↔ ((module_of F).Encodes bytes sections × (bytes ≡ (module_of F).bytes sections))
@@ -128,6 +122,3 @@ module _ {V : Type 0} {F : Format V} (r : IsLawful F) where
 
 pub is_shortest_module : (bytes : List ℕ) (sections : List SectionParts) → ShortestModule bytes sections ↔ (raw_module.Encodes bytes sections × (bytes ≡ raw_module.bytes sections))
 is_shortest_module = is_shortest_module_of Lawful-raw-section
-
-pub one_shortest_module : AtMostOne ShortestModule
-one_shortest_module = one_shortest_module_of Lawful-raw-section raw_section_takes

@@ -1,17 +1,16 @@
 //! The normaliser of modules (Core 3.0, Modules). In a decoded module, type sections are lists of entries, code
 //! sections are lists of code bodies, and other sections are bytes.
-ghost use Rattle.std.specs.Prelude.{◌≡◌, ◌↔◌, ◌≤◌, List, length, IfOk};
+ghost use Rattle.std.specs.Prelude.{◌≡◌, List};
 ghost use Rattle.std.specs.List.{AllByRecursion};
-ghost use Rattle.wasm_codec.specs.Answers.{NeedsNoMemory, IsOrMemory, IfRefused, IsLongestPrefix, IsNormalForm, EncodesSome};
 ghost use Rattle.wasm_codec.specs.formats.Bodies.{bytes_to_end};
 ghost use Rattle.wasm_codec.specs.formats.Combinators.{made, narrow};
-ghost use Rattle.wasm_codec.specs.Encoding.{IsShortestOrLonger};
 ghost use Rattle.wasm_codec.specs.Rewriter.{Rewrites};
 ghost use Rattle.wasm_types.specs.formats.Types.{type_body};
 ghost use Rattle.wasm_modules.specs.formats.Sections.{Content, DecodedSection, type_entries, code_bodies, raw_bytes};
 ghost use Rattle.wasm_modules.specs.DecodedModules.{IsDecodedModulePrefix, IsDecodedSection};
 ghost use Rattle.wasm_modules.specs.formats.CodeBodies.{code_section_body};
 ghost use Rattle.wasm_modules.specs.formats.Modules.{entries_part, bodies_part, bytes_part, decoded_section, decoded_module};
+ghost use Rattle.wasm_codec.specs.Decoding.{Normalises, NormalisesInPlace};
 
 pub mod framing;
 
@@ -42,34 +41,7 @@ use wasm_types::types::TypeEntry;
 /// assert_eq!(rt; minimal.as_slice(), b"\0asm\x01\0\0\0\x03\x02\x01\x00".as_slice());
 /// ```
 pub fn normalise_module(alloc: Global, bytes: &[u8]) -> Result<Vec<u8>, ReadError>
-    // The result is the minimal encoding of a decoded module that the bytes encode.
-    ensures given { IfOk result (λ encoding.
-        IsNormalForm decoded_module.Encodes decoded_module.bytes bytes.now encoding.items) }
-    // If the bytes encode a decoded module, the result is its minimal encoding, unless memory runs out.
-    ensures complete { (sections : List DecodedSection) → decoded_module.Encodes bytes.now sections →
-        IsOrMemory (λ encoding. encoding.items) (decoded_module.bytes sections) result }
-    // `at` is the length of the longest well-formed prefix.
-    ensures prefix { IfRefused result (IsLongestPrefix IsDecodedModulePrefix bytes.now) }
-    // The bytes encode at most one decoded module.
-    ensures one { (sections others : List DecodedSection) →
-        decoded_module.Encodes bytes.now sections → decoded_module.Encodes bytes.now others → sections ≡ others }
-    // The result encodes a decoded module if and only if the bytes do.
-    ensures same { IfOk result (λ encoding. (sections : List DecodedSection) →
-        decoded_module.Encodes encoding.items sections ↔ decoded_module.Encodes bytes.now sections) }
-    // The result is the minimal encoding of the decoded module that it encodes.
-    ensures normal { IfOk result (λ encoding. (sections : List DecodedSection) →
-        decoded_module.Encodes encoding.items sections → encoding.items ≡ decoded_module.bytes sections) }
-    // A minimal encoding is returned unchanged, unless memory runs out.
-    ensures stays { (sections : List DecodedSection) → (narrow decoded_module).Encodes bytes.now sections →
-        IsOrMemory (λ encoding. encoding.items) bytes.now result }
-    // If the result equals the bytes, they are a minimal encoding.
-    ensures was_shortest { IfOk result (λ encoding.
-        encoding.items ≡ bytes.now → EncodesSome (narrow decoded_module).Encodes bytes.now) }
-    // Every other encoding of a decoded module is longer than its minimal encoding.
-    ensures shortest { (sections : List DecodedSection) → decoded_module.Encodes bytes.now sections →
-        IsShortestOrLonger bytes.now (decoded_module.bytes sections) }
-    // The result is no longer than the bytes.
-    ensures no_longer { IfOk result (λ encoding. length encoding.items ≤ length bytes.now) }
+    ensures normalises { Normalises decoded_module (narrow decoded_module).Encodes IsDecodedModulePrefix bytes.now result }
     // The minimal encoding of decoded sections in range encodes them.
     ensures encodes { (sections : List DecodedSection) → AllByRecursion IsDecodedSection sections →
         bytes.now ≡ decoded_module.bytes sections → decoded_module.Encodes bytes.now sections }
@@ -90,19 +62,7 @@ pub fn normalise_module(alloc: Global, bytes: &[u8]) -> Result<Vec<u8>, ReadErro
 /// assert_eq!(rt; minimal.as_slice(), b"\0asm\x01\0\0\0\x01\x04\x01\x60\x00\x00".as_slice());
 /// ```
 pub fn rewrite_module(bytes: Vec<u8>) -> Result<Vec<u8>, ReadError>
-    // The result is the minimal encoding of a decoded module that the bytes encode.
-    ensures given { IfOk result (λ encoding.
-        IsNormalForm decoded_module.Encodes decoded_module.bytes bytes.items encoding.items) }
-    // If the bytes encode a decoded module, the result is its minimal encoding.
-    ensures complete { (sections : List DecodedSection) → decoded_module.Encodes bytes.items sections →
-        IsOrMemory (λ encoding. encoding.items) (decoded_module.bytes sections) result }
-    // `at` is the length of the longest well-formed prefix.
-    ensures prefix { IfRefused result (IsLongestPrefix IsDecodedModulePrefix bytes.items) }
-    // Refused bytes encode no decoded module.
-    ensures unencoded { IfRefused result (λ _.
-        (sections : List DecodedSection) → decoded_module.Encodes bytes.items sections → ⊥) }
-    // It never fails with `Memory`.
-    ensures memory { NeedsNoMemory result }
+    ensures normalises { NormalisesInPlace decoded_module IsDecodedModulePrefix bytes.items result }
 {
     rewrite_module_of::<Section>(bytes)
 }

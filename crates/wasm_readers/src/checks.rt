@@ -3,21 +3,22 @@
 //! A check accepts what the corresponding strict reader accepts, but returns no values. It works on a copy of the
 //! bytes.
 ghost use Rattle.std.specs.Prelude.{◌≡◌, ◌<◌, length, is_some, List, ℕ, true, IfOk};
-ghost use Rattle.wasm_codec.specs.Answers.{IfRefused, IsLongestPrefix, EncodesSome};
+ghost use Rattle.wasm_codec.specs.Answers.{IfRefused, IsLongestPrefix, EncodesSome, NeedsNoMemory};
 ghost use Rattle.wasm_codec.specs.formats.Grammar.{Joined};
 ghost use Rattle.wasm_codec.specs.Lists.{AskedList, IsAskedPrefix};
 ghost use Rattle.wasm_codec.specs.Places.{place};
-ghost use Rattle.wasm_codec.specs.formats.Bodies.{bytes_to_end};
+ghost use Rattle.wasm_codec.specs.formats.Bodies.{bytes_to_end, to_end};
 ghost use Rattle.wasm_codec.specs.formats.Combinators.{narrow, u32 as u32_format};
-ghost use Rattle.wasm_instructions.specs.formats.Instructions.{Instruction};
+ghost use Rattle.wasm_instructions.specs.formats.Instructions.{instruction};
 ghost use Rattle.wasm_instructions.specs.formats.Instructions.{ShortestInstructions};
-ghost use Rattle.wasm_modules.specs.Modules.{IsModulePrefixOf, IsShortestModulePrefix};
+ghost use Rattle.wasm_modules.specs.Modules.{IsModulePrefixOf, IsShortestModulePrefix, IsModulePrefix};
 ghost use Rattle.wasm_modules.specs.formats.Sections.{SectionParts};
 ghost use Rattle.wasm_modules.specs.declared.code.CodeBody.{CodeBody};
-ghost use Rattle.wasm_modules.specs.formats.CodeBodies.{ShortestCodeSectionBody, IsShortestCodeSectionBodyPrefix};
-ghost use Rattle.wasm_modules.specs.formats.Modules.{module_of, raw_section, ShortestModule};
-ghost use Rattle.wasm_types.specs.formats.Types.{ShortestTypeBody, IsShortestTypeBodyPrefix};
+ghost use Rattle.wasm_modules.specs.formats.CodeBodies.{ShortestCodeSectionBody, IsShortestCodeSectionBodyPrefix, code_section_body};
+ghost use Rattle.wasm_modules.specs.formats.Modules.{module_of, raw_section, ShortestModule, raw_module};
+ghost use Rattle.wasm_types.specs.formats.Types.{ShortestTypeBody, IsShortestTypeBodyPrefix, type_body};
 ghost use Rattle.wasm_types.specs.declared.types.composite.TypeEntry.{TypeEntry};
+ghost use Rattle.wasm_codec.specs.Decoding.{Checks, ChecksAll, RewritesAll};
 
 use std::alloc::Global;
 use std::marker::PhantomData;
@@ -29,6 +30,7 @@ use wasm_codec::rewriter::{
 };
 use wasm_instructions::table::Call;
 use wasm_modules::code::CodeBody;
+use wasm_modules::normaliser::framing::rewrite_module_of;
 use wasm_modules::reader::after_header;
 use wasm_modules::section::HEADER;
 use wasm_types::types::TypeEntry;
@@ -47,13 +49,7 @@ use wasm_types::types::TypeEntry;
 /// assert_eq!(rt; padded.err(), Some(ReadError::Refused { at: 0 }));
 /// ```
 pub fn check_type_section(alloc: Global, body: &[u8]) -> Result<(), ReadError>
-    // An accepted body is the minimal encoding of a list.
-    ensures given { IfOk result (λ _. EncodesSome ShortestTypeBody body.now) }
-    // `at` is the length of the longest well-formed, minimally encoded prefix.
-    ensures prefix { IfRefused result (IsLongestPrefix IsShortestTypeBodyPrefix body.now) }
-    // A refused body isn't the minimal encoding of any list.
-    ensures unencoded { IfRefused result (λ _.
-        (entries : List TypeEntry) → ShortestTypeBody body.now entries → ⊥) }
+    ensures checks { Checks type_body ShortestTypeBody IsShortestTypeBodyPrefix body.now result }
 {
     check_list::<TypeEntry>(alloc, body)
 }
@@ -73,13 +69,7 @@ pub fn check_type_section(alloc: Global, body: &[u8]) -> Result<(), ReadError>
 /// assert_eq!(rt; padded.err(), Some(ReadError::Refused { at: 1 }));
 /// ```
 pub fn check_code_section(alloc: Global, body: &[u8]) -> Result<(), ReadError>
-    // An accepted body is the minimal encoding of a list.
-    ensures given { IfOk result (λ _. EncodesSome ShortestCodeSectionBody body.now) }
-    // `at` is the length of the longest well-formed, minimally encoded prefix.
-    ensures prefix { IfRefused result (IsLongestPrefix IsShortestCodeSectionBodyPrefix body.now) }
-    // A refused body isn't the minimal encoding of any list.
-    ensures unencoded { IfRefused result (λ _.
-        (bodies : List CodeBody) → ShortestCodeSectionBody body.now bodies → ⊥) }
+    ensures checks { Checks code_section_body ShortestCodeSectionBody IsShortestCodeSectionBodyPrefix body.now result }
 {
     check_list::<CodeBody>(alloc, body)
 }
@@ -98,13 +88,7 @@ pub fn check_code_section(alloc: Global, body: &[u8]) -> Result<(), ReadError>
 /// assert_eq!(rt; padded.err(), Some(ReadError::Refused { at: 1 }));
 /// ```
 pub fn check_instructions(alloc: Global, bytes: &[u8]) -> Result<(), ReadError>
-    // Accepted bytes are the minimal encoding of a list.
-    ensures given { IfOk result (λ _. EncodesSome ShortestInstructions bytes.now) }
-    // `at` is the length of the longest prefix that is the minimal encoding of a list.
-    ensures prefix { IfRefused result (IsLongestPrefix (EncodesSome ShortestInstructions) bytes.now) }
-    // Refused bytes aren't the minimal encoding of any list.
-    ensures unencoded { IfRefused result (λ _.
-        (calls : List Instruction) → ShortestInstructions bytes.now calls → ⊥) }
+    ensures checks { Checks (to_end instruction) ShortestInstructions (EncodesSome ShortestInstructions) bytes.now result }
 {
     check_joined::<Call>(alloc, bytes)
 }
@@ -123,13 +107,7 @@ pub fn check_instructions(alloc: Global, bytes: &[u8]) -> Result<(), ReadError>
 /// assert_eq!(rt; padded.err(), Some(ReadError::Refused { at: 8 }));
 /// ```
 pub fn check_module(alloc: Global, bytes: &[u8]) -> Result<(), ReadError>
-    // Accepted bytes are the minimal encoding of a list of sections.
-    ensures given { IfOk result (λ _. EncodesSome ShortestModule bytes.now) }
-    // `at` is the length of the longest well-formed, minimally encoded prefix.
-    ensures prefix { IfRefused result (IsLongestPrefix IsShortestModulePrefix bytes.now) }
-    // Refused bytes aren't the minimal encoding of any list of sections.
-    ensures unencoded { IfRefused result (λ _.
-        (sections : List SectionParts) → ShortestModule bytes.now sections → ⊥) }
+    ensures checks { Checks raw_module ShortestModule IsShortestModulePrefix bytes.now result }
 {
     check_module_of::<Section>(alloc, bytes)
 }
@@ -139,10 +117,7 @@ pub fn check_module(alloc: Global, bytes: &[u8]) -> Result<(), ReadError>
 /// Fails with `Refused` at the offset of the first section that is malformed or not minimal, or at 0 if the header is
 /// missing. Fails with `Memory` if an allocation fails.
 pub fn check_module_of<T: Joinable>(alloc: Global, bytes: &[u8]) -> Result<(), ReadError>
-    ensures given { IfOk result (λ _. EncodesSome (module_of (narrow T.format)).Encodes bytes.now) }
-    ensures prefix { IfRefused result (IsLongestPrefix (IsModulePrefixOf (narrow T.format)) bytes.now) }
-    ensures unencoded { IfRefused result (λ _.
-        (sections : List T.Value) → (module_of (narrow T.format)).Encodes bytes.now sections → ⊥) }
+    ensures checks { ChecksAll (module_of (narrow T.format)).Encodes (IsModulePrefixOf (narrow T.format)) bytes.now result }
 {
     let Some(rest) = after_header(bytes) else {
         return Err(ReadError::Refused { at: 0 });
@@ -156,11 +131,19 @@ pub fn check_module_of<T: Joinable>(alloc: Global, bytes: &[u8]) -> Result<(), R
     }
 }
 
+/// Replaces a module by its minimal encoding in place. Only the sizes of sections can shrink: no body is decoded.
+///
+/// Fails with `Refused` as `read_module` does. Allocates nothing.
+pub fn rewrite_raw_module(bytes: Vec<u8>) -> Result<Vec<u8>, ReadError>
+    ensures rewrites { RewritesAll raw_module IsModulePrefix bytes.items result }
+    ensures memory { NeedsNoMemory result }
+{
+    rewrite_module_of::<Section>(bytes)
+}
+
 /// Checks that the bytes are a count and as many items, minimally encoded, without trailing bytes.
-fn check_list<T: Rewritable>(alloc: Global, bytes: &[u8]) -> Result<(), ReadError>
-    ensures given { IfOk result (λ _. EncodesSome (AskedList true T.format) bytes.now) }
-    ensures prefix { IfRefused result (IsLongestPrefix (IsAskedPrefix true T.format) bytes.now) }
-    ensures unencoded { IfRefused result (λ _. (items : List T.Value) → AskedList true T.format bytes.now items → ⊥) }
+pub fn check_list<T: Rewritable>(alloc: Global, bytes: &[u8]) -> Result<(), ReadError>
+    ensures checks { ChecksAll (AskedList true T.format) (IsAskedPrefix true T.format) bytes.now result }
 {
     if !begins_with_count(bytes) {
         return Err(ReadError::Refused { at: 0 });
@@ -229,7 +212,7 @@ impl<T: Joinable> Joinable for Shortest<T> {
 }
 
 /// A section of any id, with its body as bytes.
-struct Section;
+pub(crate) struct Section;
 
 impl Rewritable for Section {
     ghost Value = { SectionParts };

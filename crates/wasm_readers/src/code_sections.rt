@@ -1,12 +1,14 @@
 //! Readers of code section bodies (Core 3.0, Code Section).
-ghost use Rattle.std.specs.Prelude.{◌≡◌, ◌↔◌, List, IfOk, refl};
+ghost use Rattle.std.specs.Prelude.{refl};
 ghost use Rattle.wasm_codec.specs.Places.{Reads};
-ghost use Rattle.wasm_codec.specs.Lawful.{IsPrefixFree};
-ghost use Rattle.wasm_codec.specs.Encoding.{IsShortestOrLonger};
-ghost use Rattle.wasm_codec.specs.Answers.{IsOrMemory, IfRefused, IsLongestPrefix};
 ghost use Rattle.wasm_codec.specs.formats.Combinators.{items};
 ghost use Rattle.wasm_modules.specs.declared.code.CodeBody.{CodeBody};
 ghost use Rattle.wasm_modules.specs.formats.CodeBodies.{local_group, code_body, code_section_body, IsCodeSectionBodyPrefix, ShortestCodeSectionBody, IsShortestCodeSectionBodyPrefix};
+ghost use Rattle.wasm_codec.specs.Decoding.{Decodes, DecodesMinimal};
+ghost use Rattle.wasm_readers.specs.PrefixFree.{CodeBodiesArePrefixFree};
+ghost use Rattle.wasm_codec.specs.Lawful.{IsLawful};
+ghost use Rattle.wasm_codec.specs.formats.Grammar.{TakesBytes};
+ghost use Rattle.wasm_codec.specs.Rewriter.{Rewrites};
 
 use crate::lists::{read_list_to_end, read_list_to_end_as, read_to_end};
 use crate::readable::Readable;
@@ -14,6 +16,7 @@ use std::alloc::Global;
 use wasm_codec::list::Items;
 use wasm_codec::reader::ReadError;
 use wasm_codec::reader::cursor::{Cursor, Fault};
+use wasm_codec::rewriter::{Rewritable, Rewriter};
 use wasm_modules::code::CodeBody;
 use wasm_modules::code::normaliser::read_local_group;
 use wasm_types::types::ValType;
@@ -35,21 +38,8 @@ use wasm_types::types::ValType;
 /// ```
 #[tactic(auto, unfolding(wasm_modules::specs::formats::CodeBodies::code_section_body))]
 pub fn read_code_section(alloc: Global, body: &[u8]) -> Result<Vec<CodeBody>, ReadError>
-    // The body encodes the returned list.
-    ensures given { IfOk result (λ bodies. code_section_body.Encodes body.now bodies.items) }
-    // If the body encodes a list, that list is returned, unless memory runs out.
-    ensures complete { (bodies : List CodeBody) → code_section_body.Encodes body.now bodies →
-        IsOrMemory (λ given. given.items) bodies result }
-    // `at` is the length of the longest well-formed prefix.
-    ensures prefix { IfRefused result (IsLongestPrefix IsCodeSectionBodyPrefix body.now) }
-    // The body encodes at most one list.
-    ensures one { (bodies others : List CodeBody) →
-        code_section_body.Encodes body.now bodies → code_section_body.Encodes body.now others → bodies ≡ others }
-    // Every other encoding of a list is longer than its minimal encoding.
-    ensures shortest { (bodies : List CodeBody) → code_section_body.Encodes body.now bodies →
-        IsShortestOrLonger body.now (code_section_body.bytes bodies) }
-    // No encoding of a code body is a proper prefix of another.
-    ensures prefix_free_code_bodies { IsPrefixFree code_body.Encodes }
+    ensures decodes { Decodes (λ bodies. bodies.items) code_section_body IsCodeSectionBodyPrefix body.now result }
+    ensures prefix_free { CodeBodiesArePrefixFree }
 {
     read_list_to_end(alloc, body)
 }
@@ -70,20 +60,7 @@ pub fn read_code_section(alloc: Global, body: &[u8]) -> Result<Vec<CodeBody>, Re
 /// assert_eq!(rt; padded.err(), Some(ReadError::Refused { at: 1 }));
 /// ```
 pub fn read_code_section_strict(alloc: Global, body: &[u8]) -> Result<Vec<CodeBody>, ReadError>
-    // The body is the minimal encoding of the returned list.
-    ensures given { IfOk result (λ bodies. ShortestCodeSectionBody body.now bodies.items) }
-    // If the body is the minimal encoding of a list, that list is returned, unless memory runs out.
-    ensures complete { (bodies : List CodeBody) → ShortestCodeSectionBody body.now bodies →
-        IsOrMemory (λ given. given.items) bodies result }
-    // `at` is the length of the longest well-formed, minimally encoded prefix.
-    ensures prefix { IfRefused result (IsLongestPrefix IsShortestCodeSectionBodyPrefix body.now) }
-    // The body is the minimal encoding of at most one list.
-    ensures one { (bodies others : List CodeBody) →
-        ShortestCodeSectionBody body.now bodies → ShortestCodeSectionBody body.now others → bodies ≡ others }
-    // The body is the minimal encoding of a list if and only if it encodes the list, as `read_code_section` says, and
-    // `normalise_code_section` leaves it unchanged.
-    ensures shortest { (bodies : List CodeBody) → ShortestCodeSectionBody body.now bodies ↔
-        (code_section_body.Encodes body.now bodies × (body.now ≡ code_section_body.bytes bodies)) }
+    ensures decodes { DecodesMinimal (λ bodies. bodies.items) code_section_body ShortestCodeSectionBody IsShortestCodeSectionBodyPrefix body.now result }
 {
     read_list_to_end_as::<CodeBody, true>(alloc, body)
 }
@@ -101,6 +78,18 @@ impl<'a> Readable<'a> for CodeBody {
 
     fn read(alloc: Global, cursor: &mut Cursor<'a>) -> Result<CodeBody, Fault> {
         read_code_body(alloc, cursor)
+    }
+
+    #[inline(always)]
+    fn is_lawful()
+        ensures lawful { IsLawful code_body }
+        ensures some { TakesBytes code_body.Encodes }
+    {}
+
+    fn rewrite(rewriter: &mut Rewriter) -> Result<(), Fault>
+        ensures rewrites { Rewrites code_body rewriter.old rewriter.new result }
+    {
+        <CodeBody as Rewritable>::rewrite(rewriter)
     }
 }
 

@@ -1,14 +1,15 @@
 //! Readers of lists of instructions (Core 3.0, Instructions).
-ghost use Rattle.std.specs.Prelude.{◌≡◌, ◌↔◌, List, IfOk, refl};
+ghost use Rattle.std.specs.Prelude.{IfOk, refl};
 ghost use Rattle.wasm_codec.specs.Places.{Reads};
-ghost use Rattle.wasm_codec.specs.Lawful.{IsPrefixFree};
-ghost use Rattle.wasm_codec.specs.formats.Combinators.{u32 as u32_format, u64 as u64_format, s32, s64, index};
-ghost use Rattle.wasm_types.specs.formats.Types.{heap_type, ref_type, val_type};
-ghost use Rattle.wasm_codec.specs.Answers.{IsOrMemory, IfRefused, IsLongestPrefix, EncodesSome};
-ghost use Rattle.wasm_instructions.specs.formats.Instructions.{Instruction, Instructions, instructions_bytes, ShortestInstructions, operands_format, instruction};
+ghost use Rattle.wasm_codec.specs.Answers.{EncodesSome};
+ghost use Rattle.wasm_instructions.specs.formats.Instructions.{Instruction, Instructions, ShortestInstructions, instruction};
 ghost use Rattle.wasm_instructions.specs.Instructions.{IsCounted};
-ghost use Rattle.wasm_instructions.specs.formats.Operands.{block_type};
-ghost use Rattle.wasm_instructions.specs.declared.table.opcode.Kind.{Kind};
+ghost use Rattle.wasm_codec.specs.Decoding.{Decodes, DecodesMinimal};
+ghost use Rattle.wasm_readers.specs.PrefixFree.{InstructionsArePrefixFree};
+ghost use Rattle.wasm_codec.specs.formats.Bodies.{to_end};
+ghost use Rattle.wasm_codec.specs.Lawful.{IsLawful};
+ghost use Rattle.wasm_codec.specs.formats.Grammar.{TakesBytes};
+ghost use Rattle.wasm_codec.specs.Rewriter.{Rewrites};
 
 use crate::lists::{read_joined, read_joined_as};
 use crate::operands::read_operands;
@@ -16,6 +17,7 @@ use crate::readable::Readable;
 use std::alloc::Global;
 use wasm_codec::reader::ReadError;
 use wasm_codec::reader::cursor::{Cursor, Fault};
+use wasm_codec::rewriter::{Rewritable, Rewriter};
 use wasm_instructions::reader::read_opcode;
 use wasm_instructions::table::Call;
 
@@ -36,28 +38,8 @@ use wasm_instructions::table::Call;
 /// assert_eq!(rt; malformed.err(), Some(ReadError::Refused { at: 1 }));
 /// ```
 pub fn read_instructions(alloc: Global, bytes: &[u8]) -> Result<Vec<Call>, ReadError>
-    // The bytes encode the returned list.
-    ensures given { IfOk result (λ calls. Instructions bytes.now calls.items) }
-    // If the bytes encode a list, that list is returned, unless memory runs out.
-    ensures complete { (calls : List Instruction) → Instructions bytes.now calls →
-        IsOrMemory (λ given. given.items) calls result }
-    // `at` is the length of the longest prefix that encodes a list.
-    ensures prefix { IfRefused result (IsLongestPrefix (EncodesSome Instructions) bytes.now) }
-    // The bytes encode at most one list.
-    ensures one { (calls others : List Instruction) →
-        Instructions bytes.now calls → Instructions bytes.now others → calls ≡ others }
-    // In each of these formats, no encoding is a proper prefix of another.
-    ensures prefix_free_u32 { IsPrefixFree u32_format.Encodes }
-    ensures prefix_free_u64 { IsPrefixFree u64_format.Encodes }
-    ensures prefix_free_s32 { IsPrefixFree s32.Encodes }
-    ensures prefix_free_s64 { IsPrefixFree s64.Encodes }
-    ensures prefix_free_index { IsPrefixFree index.Encodes }
-    ensures prefix_free_heap_types { IsPrefixFree heap_type.Encodes }
-    ensures prefix_free_ref_types { IsPrefixFree ref_type.Encodes }
-    ensures prefix_free_val_types { IsPrefixFree val_type.Encodes }
-    ensures prefix_free_block_types { IsPrefixFree block_type.Encodes }
-    ensures prefix_free_operands { (kind : Kind) → IsPrefixFree (operands_format kind).Encodes }
-    ensures prefix_free_calls { IsPrefixFree instruction.Encodes }
+    ensures decodes { Decodes (λ calls. calls.items) (to_end instruction) (EncodesSome Instructions) bytes.now result }
+    ensures prefix_free { InstructionsArePrefixFree }
 {
     read_joined(alloc, bytes)
 }
@@ -77,20 +59,7 @@ pub fn read_instructions(alloc: Global, bytes: &[u8]) -> Result<Vec<Call>, ReadE
 /// assert_eq!(rt; padded.err(), Some(ReadError::Refused { at: 1 }));
 /// ```
 pub fn read_instructions_strict(alloc: Global, bytes: &[u8]) -> Result<Vec<Call>, ReadError>
-    // The bytes are the minimal encoding of the returned list.
-    ensures given { IfOk result (λ calls. ShortestInstructions bytes.now calls.items) }
-    // If the bytes are the minimal encoding of a list, that list is returned, unless memory runs out.
-    ensures complete { (calls : List Instruction) → ShortestInstructions bytes.now calls →
-        IsOrMemory (λ given. given.items) calls result }
-    // `at` is the length of the longest prefix that is the minimal encoding of a list.
-    ensures prefix { IfRefused result (IsLongestPrefix (EncodesSome ShortestInstructions) bytes.now) }
-    // The bytes are the minimal encoding of at most one list.
-    ensures one { (calls others : List Instruction) →
-        ShortestInstructions bytes.now calls → ShortestInstructions bytes.now others → calls ≡ others }
-    // The bytes are the minimal encoding of a list if and only if they encode the list, as `read_instructions` says,
-    // and `normalise_instructions` leaves them unchanged.
-    ensures shortest { (calls : List Instruction) → ShortestInstructions bytes.now calls ↔
-        (Instructions bytes.now calls × (bytes.now ≡ instructions_bytes calls)) }
+    ensures decodes { DecodesMinimal (λ calls. calls.items) (to_end instruction) ShortestInstructions (EncodesSome ShortestInstructions) bytes.now result }
 {
     read_joined_as::<Call, true>(alloc, bytes)
 }
@@ -123,5 +92,17 @@ impl<'a> Readable<'a> for Call {
 
     fn read(alloc: Global, cursor: &mut Cursor<'a>) -> Result<Call, Fault> {
         read_call(alloc, cursor)
+    }
+
+    #[inline(always)]
+    fn is_lawful()
+        ensures lawful { IsLawful instruction }
+        ensures some { TakesBytes instruction.Encodes }
+    {}
+
+    fn rewrite(rewriter: &mut Rewriter) -> Result<(), Fault>
+        ensures rewrites { Rewrites instruction rewriter.old rewriter.new result }
+    {
+        <Call as Rewritable>::rewrite(rewriter)
     }
 }

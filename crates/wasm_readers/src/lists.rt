@@ -93,6 +93,7 @@ fn read_asked<'a, T: Readable<'a>, const STRICT: bool>(
     ensures lawful { IsLawful (asked STRICT T.format) }
     ensures some { TakesBytes (asked STRICT T.format).Encodes }
 {
+    T::is_lawful();
     let item = T::read(alloc, cursor)?;
     if STRICT && !cursor.is_shortest() {
         return Err(Fault::Malformed);

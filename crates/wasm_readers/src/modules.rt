@@ -1,22 +1,24 @@
 //! Readers of modules: a header, and then sections (Core 3.0, Modules).
-ghost use Rattle.std.specs.Prelude.{◌≡◌, ◌↔◌, List, map, IfOk, refl};
+ghost use Rattle.std.specs.Prelude.{refl};
 ghost use Rattle.std.proofs.lemmas.List.{map_push};
-ghost use Rattle.std.specs.List.{AllByRecursion};
-ghost use Rattle.wasm_codec.specs.Reading.{map_ok};
-ghost use Rattle.wasm_codec.specs.Lawful.{IsPrefixFree};
-ghost use Rattle.wasm_codec.specs.Answers.{IsOrMemory, IfRefused, IsLongestPrefix};
-ghost use Rattle.wasm_codec.specs.Encoding.{IsShortestOrLonger};
-ghost use Rattle.wasm_modules.specs.formats.Sections.{SectionParts, DecodedSection, all_parts_of, parts_of};
+ghost use Rattle.wasm_modules.specs.formats.Sections.{SectionParts, all_parts_of, parts_of};
 ghost use Rattle.wasm_codec.specs.formats.Combinators.{asked};
-ghost use Rattle.wasm_modules.specs.Modules.{IsSection, IsModulePrefix, IsModulePrefixOf, IsShortestModulePrefix};
-ghost use Rattle.wasm_modules.specs.formats.Modules.{raw_section, module_of, raw_module, ShortestModule, decoded_section, decoded_module, HoldsContent};
-ghost use Rattle.wasm_modules.specs.DecodedModules.{IsDecodedSection, framed};
+ghost use Rattle.wasm_modules.specs.Modules.{IsModulePrefix, IsModulePrefixOf, IsShortestModulePrefix};
+ghost use Rattle.wasm_modules.specs.formats.Modules.{raw_section, module_of, raw_module, ShortestModule};
+ghost use Rattle.wasm_codec.specs.Decoding.{Decodes, DecodesMinimal, ReadsAll};
+ghost use Rattle.wasm_readers.specs.PrefixFree.{SectionsArePrefixFree};
+ghost use Rattle.wasm_readers.specs.ModulesReadBack.{ReadsBack, ReadsBackDecoded};
+ghost use Rattle.wasm_codec.specs.Lawful.{IsLawful};
+ghost use Rattle.wasm_codec.specs.formats.Grammar.{TakesBytes};
+ghost use Rattle.wasm_codec.specs.Rewriter.{Rewrites};
 
+use crate::checks::Section;
 use crate::lists::read_joined_as;
 use crate::readable::Readable;
 use std::alloc::Global;
 use wasm_codec::reader::ReadError;
 use wasm_codec::reader::cursor::{Cursor, Fault};
+use wasm_codec::rewriter::{Rewritable, Rewriter};
 use wasm_modules::reader::{after_header, read_section};
 use wasm_modules::section::{HEADER, RawSection};
 
@@ -35,39 +37,10 @@ use wasm_modules::section::{HEADER, RawSection};
 /// assert_eq!(rt; sections[0].body, b"\x01\x00".as_slice());
 /// ```
 pub fn read_module<'a>(alloc: Global, bytes: &'a [u8]) -> Result<Vec<RawSection<'a>>, ReadError>
-    // The bytes encode the returned list.
-    ensures given { IfOk result (λ sections. raw_module.Encodes bytes.now (all_parts_of sections.items)) }
-    // If the bytes encode a list, that list is returned, unless memory runs out.
-    ensures complete { (sections : List SectionParts) → raw_module.Encodes bytes.now sections →
-        IsOrMemory (λ given. all_parts_of given.items) sections result }
-    // `at` is the length of the longest well-formed prefix.
-    ensures prefix { IfRefused result (IsLongestPrefix IsModulePrefix bytes.now) }
-    // The bytes encode at most one list.
-    ensures one { (sections others : List SectionParts) →
-        raw_module.Encodes bytes.now sections → raw_module.Encodes bytes.now others → sections ≡ others }
-    // The minimal encoding of a list, as `Module` writes it, is read back.
-    ensures read_back { (sections : List SectionParts) → AllByRecursion IsSection sections →
-        bytes.now ≡ raw_module.bytes sections →
-        IsOrMemory (λ given. all_parts_of given.items) sections result }
-    // The minimal encoding of a list in range encodes it.
-    ensures encodes { (sections : List SectionParts) → AllByRecursion IsSection sections →
-        bytes.now ≡ raw_module.bytes sections → raw_module.Encodes bytes.now sections }
-    // The minimal encoding of a decoded module is read back as its sections, each with its body as bytes.
-    ensures decoded_read_back { (sections : List DecodedSection) → AllByRecursion IsDecodedSection sections →
-        bytes.now ≡ decoded_module.bytes sections →
-        IsOrMemory (λ given. all_parts_of given.items) (map framed sections) result }
-    // The minimal encoding of a decoded module encodes these sections.
-    ensures decoded_encodes { (sections : List DecodedSection) → AllByRecursion IsDecodedSection sections →
-        bytes.now ≡ decoded_module.bytes sections → raw_module.Encodes bytes.now (map framed sections) }
-    // The body of such a section encodes the section's decoded content.
-    ensures entries_read_back { (section : DecodedSection) → IsDecodedSection section →
-        HoldsContent (framed section) section.content }
-    // Every other encoding of a list is longer than its minimal encoding.
-    ensures shortest { (sections : List SectionParts) → raw_module.Encodes bytes.now sections →
-        IsShortestOrLonger bytes.now (raw_module.bytes sections) }
-    // In each of these formats, no encoding is a proper prefix of another.
-    ensures prefix_free_sections { IsPrefixFree raw_section.Encodes }
-    ensures prefix_free_decoded_sections { IsPrefixFree decoded_section.Encodes }
+    ensures decodes { Decodes (λ sections. all_parts_of sections.items) raw_module IsModulePrefix bytes.now result }
+    ensures reads_back { ReadsBack (λ sections. all_parts_of sections.items) bytes.now result }
+    ensures reads_back_decoded { ReadsBackDecoded (λ sections. all_parts_of sections.items) bytes.now result }
+    ensures prefix_free { SectionsArePrefixFree }
 {
     read_module_of::<RawSection<'_>, false>(alloc, bytes)
 }
@@ -90,24 +63,8 @@ pub fn read_module_strict<'a>(
     alloc: Global,
     bytes: &'a [u8],
 ) -> Result<Vec<RawSection<'a>>, ReadError>
-    // The bytes are the minimal encoding of the returned list.
-    ensures given { IfOk result (λ sections. ShortestModule bytes.now (all_parts_of sections.items)) }
-    // If the bytes are the minimal encoding of a list, that list is returned, unless memory runs out.
-    ensures complete { (sections : List SectionParts) → ShortestModule bytes.now sections →
-        IsOrMemory (λ given. all_parts_of given.items) sections result }
-    // `at` is the length of the longest well-formed, minimally encoded prefix.
-    ensures prefix { IfRefused result (IsLongestPrefix IsShortestModulePrefix bytes.now) }
-    // The bytes are the minimal encoding of at most one list.
-    ensures one { (sections others : List SectionParts) →
-        ShortestModule bytes.now sections → ShortestModule bytes.now others → sections ≡ others }
-    // The bytes are the minimal encoding of a list if and only if they encode the list, as `read_module` says, and
-    // equal what `Module` writes.
-    ensures shortest { (sections : List SectionParts) → ShortestModule bytes.now sections ↔
-        (raw_module.Encodes bytes.now sections × (bytes.now ≡ raw_module.bytes sections)) }
-    // The minimal encoding of a list, as `Module` writes it, is read back.
-    ensures read_back { (sections : List SectionParts) → AllByRecursion IsSection sections →
-        bytes.now ≡ raw_module.bytes sections →
-        IsOrMemory (λ given. all_parts_of given.items) sections result }
+    ensures decodes { DecodesMinimal (λ sections. all_parts_of sections.items) raw_module ShortestModule IsShortestModulePrefix bytes.now result }
+    ensures reads_back { ReadsBack (λ sections. all_parts_of sections.items) bytes.now result }
 {
     read_module_of::<RawSection<'_>, true>(alloc, bytes)
 }
@@ -120,10 +77,7 @@ pub fn read_module_of<'a, T: Readable<'a>, const STRICT: bool>(
     alloc: Global,
     bytes: &'a [u8],
 ) -> Result<Vec<T>, ReadError>
-    ensures given { IfOk result (λ sections. (module_of (asked STRICT T.format)).Encodes bytes.now (T.views sections.items)) }
-    ensures prefix { IfRefused result (IsLongestPrefix (IsModulePrefixOf (asked STRICT T.format)) bytes.now) }
-    ensures unencoded { IfRefused result (λ _.
-        (sections : List T.Value) → (module_of (asked STRICT T.format)).Encodes bytes.now sections → ⊥) }
+    ensures reads { ReadsAll (λ sections. T.views sections.items) (module_of (asked STRICT T.format)).Encodes (IsModulePrefixOf (asked STRICT T.format)) bytes.now result }
 {
     let Some(rest) = after_header(bytes) else {
         return Err(ReadError::Refused { at: 0 });
@@ -150,5 +104,17 @@ impl<'a> Readable<'a> for RawSection<'a> {
 
     fn read(_alloc: Global, cursor: &mut Cursor<'a>) -> Result<RawSection<'a>, Fault> {
         read_section(cursor)
+    }
+
+    #[inline(always)]
+    fn is_lawful()
+        ensures lawful { IsLawful raw_section }
+        ensures some { TakesBytes raw_section.Encodes }
+    {}
+
+    fn rewrite(rewriter: &mut Rewriter) -> Result<(), Fault>
+        ensures rewrites { Rewrites raw_section rewriter.old rewriter.new result }
+    {
+        <Section as Rewritable>::rewrite(rewriter)
     }
 }

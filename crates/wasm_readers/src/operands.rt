@@ -7,11 +7,15 @@ ghost use Rattle.wasm_instructions.specs.declared.operands.control.Catch.{Catch}
 ghost use Rattle.wasm_instructions.specs.declared.operands.control.Handle.{Handle};
 ghost use Rattle.wasm_instructions.specs.declared.table.opcode.Kind.TheVariants as kinds;
 ghost use Rattle.wasm_instructions.specs.Instructions.{IsAligned, IsCounted, kind_of};
+ghost use Rattle.wasm_codec.specs.Lawful.{IsLawful};
+ghost use Rattle.wasm_codec.specs.formats.Grammar.{TakesBytes};
+ghost use Rattle.wasm_codec.specs.Rewriter.{Rewrites};
 
 use crate::lists::read_list;
 use crate::readable::Readable;
 use std::alloc::Global;
 use wasm_codec::reader::cursor::{Cursor, Fault};
+use wasm_codec::rewriter::{Rewritable, Rewriter};
 use wasm_instructions::operands::{Catch, Handle};
 use wasm_instructions::reader::{
     read_block_type, read_castop, read_catch, read_f32, read_f64, read_handle, read_lanes,
@@ -197,6 +201,18 @@ impl<'a> Readable<'a> for Catch {
     fn read(_alloc: Global, cursor: &mut Cursor<'a>) -> Result<Catch, Fault> {
         read_catch(cursor)
     }
+
+    #[inline(always)]
+    fn is_lawful()
+        ensures lawful { IsLawful catch_clause }
+        ensures some { TakesBytes catch_clause.Encodes }
+    {}
+
+    fn rewrite(rewriter: &mut Rewriter) -> Result<(), Fault>
+        ensures rewrites { Rewrites catch_clause rewriter.old rewriter.new result }
+    {
+        <Catch as Rewritable>::rewrite(rewriter)
+    }
 }
 
 impl<'a> Readable<'a> for Handle {
@@ -212,5 +228,17 @@ impl<'a> Readable<'a> for Handle {
 
     fn read(_alloc: Global, cursor: &mut Cursor<'a>) -> Result<Handle, Fault> {
         read_handle(cursor)
+    }
+
+    #[inline(always)]
+    fn is_lawful()
+        ensures lawful { IsLawful handle_clause }
+        ensures some { TakesBytes handle_clause.Encodes }
+    {}
+
+    fn rewrite(rewriter: &mut Rewriter) -> Result<(), Fault>
+        ensures rewrites { Rewrites handle_clause rewriter.old rewriter.new result }
+    {
+        <Handle as Rewritable>::rewrite(rewriter)
     }
 }

@@ -13,12 +13,14 @@ ghost use Rattle.wasm_types.specs.declared.types.value.ValType.{ValType};
 ghost use Rattle.wasm_types.specs.declared.types.composite.FieldType.{FieldType};
 ghost use Rattle.wasm_types.specs.declared.types.composite.SubType.{SubType};
 ghost use Rattle.wasm_types.specs.declared.types.composite.TypeEntry.{TypeEntry};
+ghost use Rattle.wasm_codec.specs.Rewriter.{Rewrites};
 
 use crate::lists::read_list;
 use crate::readable::Readable;
 use std::alloc::Global;
 use wasm_codec::list::Items;
 use wasm_codec::reader::cursor::{Cursor, Fault};
+use wasm_codec::rewriter::{Rewritable, Rewriter};
 use wasm_types::reader::{read_field_type, read_val_type};
 use wasm_types::types::{
     ArrayType, CompositeInnerType, CompositeType, ContType, FieldType, FuncType, StructType,
@@ -38,11 +40,21 @@ impl<'a> Readable<'a> for ValType {
 
     fn read(_alloc: Global, cursor: &mut Cursor<'a>) -> Result<ValType, Fault>
         ensures reads { Reads val_type.at cursor.old cursor.new (map_ok (λ x. x) result) }
-        ensures lawful { IsLawful val_type }
-        ensures some { TakesBytes val_type.Encodes }
         ensures err { IfErr result (λ e. e ≡ Malformed) }
     {
         read_val_type(cursor)
+    }
+
+    #[inline(always)]
+    fn is_lawful()
+        ensures lawful { IsLawful val_type }
+        ensures some { TakesBytes val_type.Encodes }
+    {}
+
+    fn rewrite(rewriter: &mut Rewriter) -> Result<(), Fault>
+        ensures rewrites { Rewrites val_type rewriter.old rewriter.new result }
+    {
+        <ValType as Rewritable>::rewrite(rewriter)
     }
 }
 
@@ -59,11 +71,21 @@ impl<'a> Readable<'a> for FieldType {
 
     fn read(_alloc: Global, cursor: &mut Cursor<'a>) -> Result<FieldType, Fault>
         ensures reads { Reads field_type.at cursor.old cursor.new (map_ok (λ x. x) result) }
-        ensures lawful { IsLawful field_type }
-        ensures some { TakesBytes field_type.Encodes }
         ensures err { IfErr result (λ e. e ≡ Malformed) }
     {
         read_field_type(cursor)
+    }
+
+    #[inline(always)]
+    fn is_lawful()
+        ensures lawful { IsLawful field_type }
+        ensures some { TakesBytes field_type.Encodes }
+    {}
+
+    fn rewrite(rewriter: &mut Rewriter) -> Result<(), Fault>
+        ensures rewrites { Rewrites field_type rewriter.old rewriter.new result }
+    {
+        <FieldType as Rewritable>::rewrite(rewriter)
     }
 }
 
@@ -209,6 +231,18 @@ impl<'a> Readable<'a> for SubType {
     fn read(alloc: Global, cursor: &mut Cursor<'a>) -> Result<SubType, Fault> {
         read_sub_type(alloc, cursor)
     }
+
+    #[inline(always)]
+    fn is_lawful()
+        ensures lawful { IsLawful sub_type }
+        ensures some { TakesBytes sub_type.Encodes }
+    {}
+
+    fn rewrite(rewriter: &mut Rewriter) -> Result<(), Fault>
+        ensures rewrites { Rewrites sub_type rewriter.old rewriter.new result }
+    {
+        <SubType as Rewritable>::rewrite(rewriter)
+    }
 }
 
 impl<'a> Readable<'a> for TypeEntry {
@@ -224,5 +258,17 @@ impl<'a> Readable<'a> for TypeEntry {
 
     fn read(alloc: Global, cursor: &mut Cursor<'a>) -> Result<TypeEntry, Fault> {
         read_entry(alloc, cursor)
+    }
+
+    #[inline(always)]
+    fn is_lawful()
+        ensures lawful { IsLawful recursive_type }
+        ensures some { TakesBytes recursive_type.Encodes }
+    {}
+
+    fn rewrite(rewriter: &mut Rewriter) -> Result<(), Fault>
+        ensures rewrites { Rewrites recursive_type rewriter.old rewriter.new result }
+    {
+        <TypeEntry as Rewritable>::rewrite(rewriter)
     }
 }

@@ -20,7 +20,7 @@ use Rattle.wasm_codec.proofs.BodyLaws.{encodes_one, Lawful-bytes_to_end, Lawful-
 use Rattle.wasm_codec.proofs.Laws.{bind_some, some_is}
 use Rattle.wasm_codec.proofs.RewriterLaws.{is_after, after_is}
 use Rattle.wasm_sections.specs.formats.EntryParts.{CustomParts}
-use Rattle.wasm_sections.specs.Prefixes.{IsNothingOr, IsRefusedAt, ReadsWholeAs, TellsPrefixes}
+use Rattle.wasm_sections.specs.Prefixes.{IsNothingOr, IsRefusedAt, TellsPrefixes}
 use Rattle.wasm_sections.specs.formats.Names.{name}
 use Rattle.wasm_sections.specs.formats.Sections.{custom_of, parts_of_custom, custom_body}
 use Rattle.wasm_sections.proofs.NameLaws.{name_is_lawful}
@@ -109,16 +109,8 @@ custom_prefixes = record {
 
 -- ---- as the code has them
 
-pub complete_as : {X V : Type 0} (F : Format V) → AtMostOne F.Encodes → (view : X → V) (bytes : List ℕ) (result : Result X ReadError) → ReadsWholeAs view F bytes result → (v : V) → F.Encodes bytes v → IsOrMemory view v result
-complete_as F one view bytes (Ok x) g v h = one bytes (view x) v g h
-complete_as F one view bytes (Err errors.Memory) g v h = tt
-complete_as F one view bytes (Err (errors.Refused at)) g v h = g.unencoded v h
-
 pub all_taken : (taken left : List ℕ) (n : ℕ) → n ≡ length left → taken ≡ take n left → taken ≡ left
 all_taken taken left n all is = is ∙ ap (λ (k : ℕ). take k left) all ∙ take-length left
-
-pub one_short : AtMostOne (narrow custom_body).Encodes
-one_short bytes v w g h = encodes_one custom_is_lawful bytes v w g.0 h.0
 
 none_read : (p new : Place) (fault : Fault) → Reads name.at p new (Err fault) → fault ≡ faults.Malformed → name.at p ≡ None
 none_read p new faults.Malformed none is = none

@@ -88,9 +88,6 @@ module_section_takes = takes_bytes module_section_is_lawful refl
 pub Lawful-whole-module : IsLawfulBody whole_module
 Lawful-whole-module = Lawful-module-of module_section_is_lawful module_section_takes
 
-pub one_whole_module : AtMostOne whole_module.Encodes
-one_whole_module = one_module_of module_section_is_lawful module_section_takes
-
 -- the shortest encoding of sections in range encodes them
 pub whole_module_encoded : (bytes : List ℕ) (sections : List ModuleSectionParts) → AllByRecursion module_section.InRange sections → bytes ≡ whole_module.bytes sections → whole_module.Encodes bytes sections
 whole_module_encoded bytes sections fits e = subst (λ (t : List ℕ). whole_module.Encodes t sections) (sym e) (Lawful-whole-module.shortest.encodes sections fits)

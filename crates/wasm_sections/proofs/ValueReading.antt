@@ -1,7 +1,6 @@
 -- What is read of a value that is all of the bytes.
 use Rattle.std.proofs.Common.{◌≡◌, ℕ, ◌-◌, ◌<◌, ◌≤◌, true, false, List, [], ◌∷◌, ◌++◌, length, Option, Some, None, Result, Ok, Err, IfOk, refl, sym, ap, subst, ◌∙◌, length-append, inl, inr, arith}
 use Rattle.std.proofs.lemmas.List.{append-nil}
-use Rattle.wasm_codec.specs.Answers.{IsLongestPrefix, IfRefused}
 use Rattle.wasm_codec.specs.formats.Grammar.{IsBytes}
 use Rattle.wasm_codec.specs.Lawful.{IsLawful, IsLawfulBody}
 use Rattle.wasm_codec.specs.Places.{Place, place, keeps, u32_at, Reads}
@@ -11,11 +10,10 @@ use Rattle.wasm_codec.specs.formats.Combinators.{Format, u32, narrow}
 use Rattle.wasm_codec.proofs.Laws.{some_is}
 use Rattle.wasm_codec.proofs.FormatLaws.{Lawful-u32}
 use Rattle.wasm_codec.proofs.PlaceLists.{Lawful-narrow}
-use Rattle.wasm_codec.specs.declared.reader.ReadError.{ReadError}
 use Rattle.wasm_codec.specs.declared.reader.ReadError.TheVariants as errors
-use Rattle.wasm_codec.proofs.ListReading.{AtMostOne}
-use Rattle.wasm_codec.proofs.BodyLaws.{Lawful-body, encodes_one}
-use Rattle.wasm_sections.specs.Prefixes.{IsNothingOr, IsRefusedAt, ReadsWhole, TellsPrefixes}
+use Rattle.wasm_codec.proofs.BodyLaws.{Lawful-body}
+use Rattle.wasm_codec.specs.Decoding.{ReadsAll}
+use Rattle.wasm_sections.specs.Prefixes.{IsNothingOr, IsRefusedAt, TellsPrefixes}
 
 module _ {V : Type 0} {F : Format V} (r : IsLawful F) where
   -- what stands first is read
@@ -58,22 +56,14 @@ module _ {V : Type 0} {F : Format V} (r : IsLawful F) where
       empty [] le = refl
       empty (b ∷ l) le = absurd (omega arith)
 
-  pub one_value : AtMostOne F.Encodes
-  one_value = encodes_one (Lawful-body r)
+-- ---- what is returned
 
-  pub given_whole : (bytes : List ℕ) (result : Result V ReadError) → ReadsWhole F bytes result → IfOk result (F.Encodes bytes)
-  given_whole bytes (Ok v) g = g
-  given_whole bytes (Err e) g = tt
+module _ {X V : Type 0} (view : X → V) (F : Format V) (bytes : List ℕ) where
+  pub refuses : (at : ℕ) → IsRefusedAt F bytes at → ReadsAll view F.Encodes (IsNothingOr F) bytes (Err (errors.Refused at))
+  refuses at r = record { given = tt; prefix = r.prefix; unencoded = r.unencoded }
 
-  pub refused_whole : (bytes : List ℕ) (result : Result V ReadError) → ReadsWhole F bytes result → IfRefused result (IsLongestPrefix (IsNothingOr F) bytes)
-  refused_whole bytes (Ok v) g = tt
-  refused_whole bytes (Err errors.Memory) g = tt
-  refused_whole bytes (Err (errors.Refused at)) g = g.prefix
-
-  pub complete_whole : (bytes : List ℕ) (result : Result V ReadError) → ReadsWhole F bytes result → (v : V) → F.Encodes bytes v → result ≡ Ok v
-  complete_whole bytes (Ok w) g v h = ap Ok (one_value bytes w v g h)
-  complete_whole bytes (Err errors.Memory) g v h = absurd g
-  complete_whole bytes (Err (errors.Refused at)) g v h = absurd (g.unencoded v h)
+  pub returns_it : (x : X) → F.Encodes bytes (view x) → ReadsAll view F.Encodes (IsNothingOr F) bytes (Ok x)
+  returns_it x g = record { given = g; prefix = tt; unencoded = tt }
 
 pub prefixes_told : {V : Type 0} {F : Format V} → IsLawful F → TellsPrefixes F
 prefixes_told r = record {

@@ -1,21 +1,19 @@
 -- What is rewritten of a value that is all of the bytes, whose format may go on to the end.
-use Rattle.std.proofs.Common.{◌≡◌, ℕ, ◌-◌, ◌<◌, ◌≤◌, true, List, [], ◌∷◌, ◌++◌, length, Some, None, Result, Ok, Err, IfOk, refl, sym, ap, subst, ◌∙◌, arith}
+use Rattle.std.proofs.Common.{◌≡◌, ℕ, ◌-◌, ◌<◌, ◌≤◌, true, List, [], ◌∷◌, ◌++◌, length, Some, None, Ok, Err, refl, sym, ap, subst, ◌∙◌, arith}
 use Rattle.std.specs.Global.{Vec}
-use Rattle.wasm_codec.specs.Answers.{IsNormalForm, IsOrMemory}
+use Rattle.wasm_codec.specs.Answers.{IsNormalForm}
 use Rattle.wasm_codec.specs.formats.Grammar.{IsBytes}
 use Rattle.wasm_codec.specs.Lawful.{IsLawfulBody}
 use Rattle.wasm_codec.specs.Places.{Place, place, keeps}
 use Rattle.wasm_codec.specs.Rewriter.{Rewriting, rewriting, rewriting_after, Rewrites}
 use Rattle.wasm_codec.specs.declared.reader.cursor.Fault.{Fault}
 use Rattle.wasm_codec.specs.declared.reader.cursor.Fault.TheVariants as faults
-use Rattle.wasm_codec.specs.declared.reader.ReadError.{ReadError}
 use Rattle.wasm_codec.specs.declared.reader.ReadError.TheVariants as errors
-use Rattle.wasm_codec.specs.formats.Combinators.{Format, narrow}
-use Rattle.wasm_codec.proofs.BodyLaws.{encodes_one}
+use Rattle.wasm_codec.specs.formats.Combinators.{Format}
 use Rattle.wasm_codec.proofs.Laws.{some_is}
-use Rattle.wasm_codec.proofs.ListReading.{IfRefusedNone, gives_bytes, gives_itself}
 use Rattle.wasm_codec.proofs.RewriterLaws.{is_after}
-use Rattle.wasm_sections.specs.Prefixes.{IsRefusedAt, RewritesWhole, TellsPrefixes}
+use Rattle.wasm_codec.specs.Decoding.{RewritesAll}
+use Rattle.wasm_sections.specs.Prefixes.{IsNothingOr, IsRefusedAt, TellsPrefixes}
 
 module _ {V : Type 0} {F : Format V} (r : IsLawfulBody F) (t : TellsPrefixes F) (bytes : List ℕ) (old new : Rewriting) (begun : old ≡ rewriting [] (place true bytes) []) where
   clash : {A : Type 0} (x : A) → None ≡ Some x → ⊥
@@ -61,19 +59,11 @@ module _ {V : Type 0} {F : Format V} (r : IsLawfulBody F) (t : TellsPrefixes F) 
         empty [] le = refl
         empty (b ∷ l) le = absurd (omega arith)
 
--- ---- what is answered
+-- ---- what is returned
 
 module _ {V : Type 0} (F : Format V) (bytes : List ℕ) where
-  pub given_of : (result : Result (Vec ℕ) ReadError) → RewritesWhole F bytes result → IfOk result (λ given. IsNormalForm F.Encodes F.bytes bytes given.items)
-  given_of (Ok given) g = g
-  given_of (Err e) g = tt
+  pub refuses : (at : ℕ) → IsRefusedAt F bytes at → RewritesAll F (IsNothingOr F) bytes (Err (errors.Refused at))
+  refuses at r = record { given = tt; prefix = r.prefix; unencoded = r.unencoded }
 
-  pub unencoded_of : (result : Result (Vec ℕ) ReadError) → RewritesWhole F bytes result → IfRefusedNone F.Encodes bytes result
-  unencoded_of (Ok given) g = tt
-  unencoded_of (Err errors.Memory) g = tt
-  unencoded_of (Err (errors.Refused at)) g = g.unencoded
-
-module _ {V : Type 0} {F : Format V} (r : IsLawfulBody F) {X : Type 0} (view : X → List ℕ) (bytes : List ℕ) (result : Result X ReadError) (given : IfOk result (λ x. IsNormalForm F.Encodes F.bytes bytes (view x))) where
-  -- a shortest encoding stays as it is
-  pub body_stays : IfRefusedNone F.Encodes bytes result → (v : V) → (narrow F).Encodes bytes v → IsOrMemory view bytes result
-  body_stays none v g = gives_itself view bytes (F.bytes v) result g.1 (gives_bytes (encodes_one r) F.bytes view bytes result given none v g.0)
+  pub returns_it : (encoding : Vec ℕ) → IsNormalForm F.Encodes F.bytes bytes encoding.items → RewritesAll F (IsNothingOr F) bytes (Ok encoding)
+  returns_it encoding g = record { given = g; prefix = tt; unencoded = tt }

@@ -1,9 +1,6 @@
 -- Bodies that are a single value, with nothing left over.
-use Rattle.std.specs.Prelude.{◌≡◌, ◌⊎◌, ◌-◌, ◌<◌, ◌≤◌, ℕ, List, [], true, length, Some, None, Result, Ok, Err}
-use Rattle.std.specs.Global.{Vec}
-use Rattle.wasm_codec.specs.declared.reader.ReadError.{ReadError}
-use Rattle.wasm_codec.specs.declared.reader.ReadError.TheVariants as errors
-use Rattle.wasm_codec.specs.Answers.{EncodesSome, IsLongestPrefix, IsNormalForm}
+use Rattle.std.specs.Prelude.{◌≡◌, ◌⊎◌, ◌-◌, ◌<◌, ◌≤◌, ℕ, List, [], true, length, Some, None}
+use Rattle.wasm_codec.specs.Answers.{EncodesSome, IsLongestPrefix}
 use Rattle.wasm_codec.specs.formats.Grammar.{IsBytes}
 use Rattle.wasm_codec.specs.Places.{Place, place}
 use Rattle.wasm_codec.specs.formats.Combinators.{Format}
@@ -16,22 +13,6 @@ IsNothingOr F prefix = (prefix ≡ []) ⊎ EncodesSome F.Encodes prefix
 pub record IsRefusedAt {V : Type 0} (F : Format V) (bytes : List ℕ) (at : ℕ) : Type 0 where
   pub prefix : IsLongestPrefix (IsNothingOr F) bytes at
   pub unencoded : (v : V) → F.Encodes bytes v → ⊥
-
--- The call returns the value that the bytes encode, or refuses them at the right offset; it needs no memory.
-abbrev pub ReadsWholeAs : {X V : Type 0} → (X → V) → Format V → List ℕ → Result X ReadError → Type 0
-ReadsWholeAs view F bytes (Ok x) = F.Encodes bytes (view x)
-ReadsWholeAs view F bytes (Err errors.Memory) = ⊥
-ReadsWholeAs view F bytes (Err (errors.Refused at)) = IsRefusedAt F bytes at
-
--- The call returns the value that the bytes encode, or refuses them at the right offset; it needs no memory.
-abbrev pub ReadsWhole : {V : Type 0} → Format V → List ℕ → Result V ReadError → Type 0
-ReadsWhole F = ReadsWholeAs (λ v. v) F
-
--- The call returns the minimal encoding of the value, or refuses the bytes at the right offset; it needs no memory.
-abbrev pub RewritesWhole : {V : Type 0} → Format V → List ℕ → Result (Vec ℕ) ReadError → Type 0
-RewritesWhole F bytes (Ok given) = IsNormalForm F.Encodes F.bytes bytes given.items
-RewritesWhole F bytes (Err errors.Memory) = ⊥
-RewritesWhole F bytes (Err (errors.Refused at)) = IsRefusedAt F bytes at
 
 -- If the bytes encode no value, reading them yields the length of their longest prefix that is empty or a value.
 pub record TellsPrefixes {V : Type 0} (F : Format V) : Type 0 where

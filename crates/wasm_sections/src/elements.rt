@@ -1,8 +1,5 @@
 //! Element sections (Core 3.0, Element Section).
-ghost use Rattle.std.specs.Prelude.{◌≡◌, ◌↔◌, ◌<◌, ◌≤◌, true, List, length, refl, IfOk};
-ghost use Rattle.wasm_codec.specs.Answers.{NeedsNoMemory, IsOrMemory, IfRefused, IsLongestPrefix, IsNormalForm, EncodesSome};
-ghost use Rattle.wasm_codec.specs.Encoding.{IsShortestOrLonger};
-ghost use Rattle.wasm_codec.specs.Lists.{IsListPrefix, AskedList, IsAskedPrefix};
+ghost use Rattle.std.specs.Prelude.{◌≡◌, ◌<◌, true, List, length, refl};
 ghost use Rattle.wasm_codec.specs.Places.{Reads};
 ghost use Rattle.wasm_codec.specs.Rewriter.{Rewrites, Gives};
 ghost use Rattle.wasm_codec.specs.formats.Combinators.{◌⊗◌, made, items};
@@ -12,13 +9,12 @@ ghost use Rattle.wasm_sections.specs.formats.Elements.{is_funcref, typed_of, typ
 ghost use Rattle.wasm_types.specs.formats.Types.{ref_type};
 ghost use Rattle.wasm_instructions.specs.formats.Instructions.{Instruction};
 ghost use Rattle.wasm_sections.specs.formats.Expressions.{expr};
-ghost use Rattle.wasm_sections.specs.formats.Sections.{element_body};
+ghost use Rattle.wasm_codec.specs.Lawful.{IsLawful};
+ghost use Rattle.wasm_codec.specs.formats.Grammar.{TakesBytes};
 
 use crate::expressions::{read_expr, rewrite_expr};
-use crate::lists::{normalise_items, read_items, read_items_strict, rewrite_items};
 use std::alloc::Global;
 use wasm_codec::list::Items;
-use wasm_codec::reader::ReadError;
 use wasm_codec::reader::cursor::{Cursor, Fault};
 use wasm_codec::rewriter::{Rewritable, Rewriter, rewrite_list};
 use wasm_instructions::table::Call;
@@ -60,110 +56,6 @@ pub struct Element {
     pub mode: ElementMode,
     /// Elements of the segment.
     pub elements: Elements,
-}
-
-/// Reads an element section body, in any encoding (Core 3.0, Element Section).
-///
-/// Fails with `Refused` at the offset of the malformed count or segment, or of trailing bytes. Fails with `Memory` if
-/// an allocation fails.
-#[tactic(auto, using(crate::proofs::ElementLaws::element_is_lawful), unfolding(crate::specs::formats::Sections::element_body))]
-pub fn read_element_section(alloc: Global, body: &[u8]) -> Result<Vec<Element>, ReadError>
-    // The body encodes the returned list.
-    ensures given { IfOk result (λ segments. element_body.Encodes body.now (segments.items)) }
-    // If the body encodes a list, that list is returned, unless memory runs out.
-    ensures complete { (segments : List Element) → element_body.Encodes body.now segments →
-        IsOrMemory (λ given. given.items) segments result }
-    // `at` is the length of the longest well-formed prefix.
-    ensures prefix { IfRefused result (IsLongestPrefix (IsListPrefix element_segment.Encodes) body.now) }
-    // The body encodes at most one list.
-    ensures one { (segments others : List Element) →
-        element_body.Encodes body.now segments → element_body.Encodes body.now others → segments ≡ others }
-    // Every other encoding of a list is longer than its minimal encoding.
-    ensures shortest { (segments : List Element) → element_body.Encodes body.now segments →
-        IsShortestOrLonger body.now (element_body.bytes segments) }
-{
-    read_items(alloc, body)
-}
-
-/// Reads a minimally encoded element section body (Core 3.0, Element Section).
-///
-/// Fails with `Refused` at the offset of the count or segment that is malformed or not minimal, or of trailing bytes.
-/// Fails with `Memory` if an allocation fails.
-#[tactic(auto, using(crate::proofs::ElementLaws::element_is_lawful), unfolding(crate::specs::formats::Sections::element_body))]
-pub fn read_element_section_strict(alloc: Global, body: &[u8]) -> Result<Vec<Element>, ReadError>
-    // The body is the minimal encoding of the returned list.
-    ensures given { IfOk result (λ segments. AskedList true element_segment body.now (segments.items)) }
-    // If the body is the minimal encoding of a list, that list is returned, unless memory runs out.
-    ensures complete { (segments : List Element) → AskedList true element_segment body.now segments →
-        IsOrMemory (λ given. given.items) segments result }
-    // `at` is the length of the longest well-formed, minimally encoded prefix.
-    ensures prefix { IfRefused result (IsLongestPrefix (IsAskedPrefix true element_segment) body.now) }
-    // The body is the minimal encoding of at most one list.
-    ensures one { (segments others : List Element) →
-        AskedList true element_segment body.now segments → AskedList true element_segment body.now others → segments ≡ others }
-    // This holds if and only if the body encodes the value and equals its minimal encoding.
-    ensures shortest { (segments : List Element) → AskedList true element_segment body.now segments ↔
-        (element_body.Encodes body.now segments × (body.now ≡ element_body.bytes segments)) }
-{
-    read_items_strict(alloc, body)
-}
-
-/// Returns the minimal encoding of an element section body (Core 3.0, Element Section).
-///
-/// Fails with `Refused` as `read_element_section` does, and with `Memory` if the body can't be copied.
-#[tactic(auto, unfolding(crate::specs::formats::Sections::element_body))]
-pub fn normalise_element_section(alloc: Global, body: &[u8]) -> Result<Vec<u8>, ReadError>
-    // The result is the minimal encoding of a list that the body encodes.
-    ensures given { IfOk result (λ encoding.
-        IsNormalForm element_body.Encodes element_body.bytes body.now encoding.items) }
-    // If the body encodes a list, the result is the minimal encoding of that list, unless memory runs out.
-    ensures complete { (segments : List Element) → element_body.Encodes body.now segments →
-        IsOrMemory (λ encoding. encoding.items) (element_body.bytes segments) result }
-    // `at` is the length of the longest well-formed prefix.
-    ensures prefix { IfRefused result (IsLongestPrefix (IsListPrefix element_segment.Encodes) body.now) }
-    // The body encodes at most one list.
-    ensures one { (segments others : List Element) →
-        element_body.Encodes body.now segments → element_body.Encodes body.now others → segments ≡ others }
-    // The result encodes a list if and only if the body does.
-    ensures same { IfOk result (λ encoding. (segments : List Element) →
-        element_body.Encodes encoding.items segments ↔ element_body.Encodes body.now segments) }
-    // The result is the minimal encoding of the value that it encodes.
-    ensures normal { IfOk result (λ encoding. (segments : List Element) →
-        element_body.Encodes encoding.items segments → encoding.items ≡ element_body.bytes segments) }
-    // Every other encoding of a list is longer than its minimal encoding.
-    ensures shortest { (segments : List Element) → element_body.Encodes body.now segments →
-        IsShortestOrLonger body.now (element_body.bytes segments) }
-    // The result is no longer than the body.
-    ensures no_longer { IfOk result (λ encoding. length encoding.items ≤ length body.now) }
-    // A minimal encoding is returned unchanged, unless memory runs out.
-    ensures stays { (segments : List Element) → AskedList true element_segment body.now segments →
-        IsOrMemory (λ encoding. encoding.items) body.now result }
-    // If the result equals the input, the input is a minimal encoding.
-    ensures was_shortest { IfOk result (λ encoding.
-        encoding.items ≡ body.now → EncodesSome (AskedList true element_segment) body.now) }
-{
-    normalise_items::<Element>(alloc, body)
-}
-
-/// Replaces an element section body by its minimal encoding in place (Core 3.0, Element Section).
-///
-/// Fails with `Refused` as `read_element_section` does. Allocates nothing.
-#[tactic(auto, unfolding(crate::specs::formats::Sections::element_body))]
-pub fn rewrite_element_section(body: Vec<u8>) -> Result<Vec<u8>, ReadError>
-    // The result is the minimal encoding of a list that the body encodes.
-    ensures given { IfOk result (λ encoding.
-        IsNormalForm element_body.Encodes element_body.bytes body.items encoding.items) }
-    // If the body encodes a list, the result is the minimal encoding of that list.
-    ensures complete { (segments : List Element) → element_body.Encodes body.items segments →
-        IsOrMemory (λ encoding. encoding.items) (element_body.bytes segments) result }
-    // `at` is the length of the longest well-formed prefix.
-    ensures prefix { IfRefused result (IsLongestPrefix (IsListPrefix element_segment.Encodes) body.items) }
-    // A refused body encodes no list.
-    ensures unencoded { IfRefused result (λ _. (segments : List Element) → element_body.Encodes body.items segments → ⊥) }
-    // It never fails with `Memory`.
-    ensures memory { NeedsNoMemory result }
-{
-    rewrite_items::<Element>(body)
 }
 
 /// Returns whether a type is `funcref`, which forms 0 and 4 imply.
@@ -317,9 +209,21 @@ impl<'a> Readable<'a> for Element {
 
     ghost format = { element_segment };
 
+    #[inline(always)]
     #[tactic(auto, using(crate::proofs::ElementLaws::element_is_lawful, crate::proofs::ElementLaws::element_takes))]
+    fn is_lawful()
+        ensures lawful { IsLawful element_segment }
+        ensures some { TakesBytes element_segment.Encodes }
+    {}
+
     fn read(alloc: Global, cursor: &mut Cursor<'a>) -> Result<Element, Fault> {
         read_element(alloc, cursor)
+    }
+
+    fn rewrite(rewriter: &mut Rewriter) -> Result<(), Fault>
+        ensures rewrites { Rewrites element_segment rewriter.old rewriter.new result }
+    {
+        rewrite_element(rewriter)
     }
 }
 
@@ -434,19 +338,5 @@ fn rewrite_element(rewriter: &mut Rewriter) -> Result<(), Fault>
         6 => rewrite_expressions_of_table(rewriter, mark),
         7 => rewrite_typed(rewriter),
         _ => Err(Fault::Malformed),
-    }
-}
-
-impl Rewritable for Element {
-    ghost Value = { Element };
-
-    ghost format = { element_segment };
-
-    #[inline(always)]
-    #[tactic(auto, using(crate::proofs::ElementLaws::element_is_lawful, crate::proofs::ElementLaws::element_takes))]
-    fn is_lawful() {}
-
-    fn rewrite(rewriter: &mut Rewriter) -> Result<(), Fault> {
-        rewrite_element(rewriter)
     }
 }

@@ -1,13 +1,13 @@
 //! Modules with every section decoded (Core 3.0, Modules).
-ghost use Rattle.std.specs.Prelude.{◌≡◌, ◌↔◌, ◌≤◌, List, length, IfOk};
+ghost use Rattle.std.specs.Prelude.{◌≡◌, List};
 ghost use Rattle.std.specs.List.{AllByRecursion};
-ghost use Rattle.wasm_codec.specs.Answers.{NeedsNoMemory, IsOrMemory, IfRefused, IsLongestPrefix, IsNormalForm, EncodesSome};
-ghost use Rattle.wasm_codec.specs.Encoding.{IsShortestOrLonger};
+ghost use Rattle.wasm_codec.specs.Answers.{NeedsNoMemory};
 ghost use Rattle.wasm_codec.specs.formats.Combinators.{narrow};
 ghost use Rattle.wasm_modules.specs.Modules.{IsModulePrefixOf};
-ghost use Rattle.wasm_modules.specs.formats.Modules.{module_of};
 ghost use Rattle.wasm_sections.specs.formats.ModuleSectionParts.{ModuleSectionParts, all_module_section_parts};
 ghost use Rattle.wasm_sections.specs.formats.ModuleSections.{module_section, whole_module, ShortestWholeModule};
+ghost use Rattle.wasm_codec.specs.Decoding.{Decodes, DecodesMinimal, Checks, Normalises, NormalisesInPlace, ChecksAll, RewritesAll, IsMinimal};
+ghost use Rattle.wasm_codec.specs.Lawful.{IsLawfulBody};
 
 mod order;
 mod places;
@@ -28,10 +28,11 @@ pub use places::{
 };
 use rewriter::AnySection;
 use std::alloc::Global;
+use wasm_codec::decode::{Decode, check, normalise, read, read_strict, rewrite};
 use wasm_codec::list::Items;
 use wasm_codec::reader::ReadError;
 use wasm_modules::code::CodeBody;
-use wasm_modules::normaliser::framing::{normalise_module_of, rewrite_module_of};
+use wasm_modules::normaliser::framing::rewrite_module_of;
 use wasm_readers::checks::check_module_of;
 use wasm_readers::modules::read_module_of;
 use wasm_types::types::TypeEntry;
@@ -81,6 +82,67 @@ pub enum ModuleSection<'a> {
     Tags(Items<TagType>),
 }
 
+/// A module with every section decoded (Core 3.0, Modules).
+///
+/// `read::<WholeModule>` returns its sections. They come in any order and any number of times: `check_order` tells whether
+/// they make a module. `at` of a refusal is the offset of the first malformed section, or 0 if the header is missing.
+///
+/// # Examples
+///
+/// ```
+/// # use wasm_encoder::{WholeModule, normalise};
+/// let padded = b"\0asm\x01\0\0\0\x0c\x82\x00\x80\x00"; // a data count of 0 in two bytes
+/// let minimal = normalise::<WholeModule>(rt.alloc(), padded)?;
+/// assert_eq!(rt; minimal.as_slice(), b"\0asm\x01\0\0\0\x0c\x01\x00".as_slice());
+/// ```
+pub struct WholeModule;
+
+impl<'a> Decode<'a> for WholeModule {
+    type Output = Vec<ModuleSection<'a>>;
+
+    ghost Value = { List ModuleSectionParts };
+
+    ghost view = { λ sections. all_module_section_parts sections.items };
+
+    ghost format = { whole_module };
+
+    ghost Minimal = { ShortestWholeModule };
+
+    ghost IsPrefix = { IsModulePrefixOf module_section };
+
+    ghost IsMinimalPrefix = { IsModulePrefixOf (narrow module_section) };
+
+    #[inline(always)]
+    fn is_lawful()
+        ensures lawful { IsLawfulBody whole_module }
+        ensures minimal { IsMinimal whole_module ShortestWholeModule }
+    {}
+
+    fn read_all(alloc: Global, bytes: &'a [u8]) -> Result<Vec<ModuleSection<'a>>, ReadError> {
+        read_module_of::<ModuleSection<'_>, false>(alloc, bytes)
+    }
+
+    fn read_all_strict(
+        alloc: Global,
+        bytes: &'a [u8],
+    ) -> Result<Vec<ModuleSection<'a>>, ReadError> {
+        read_module_of::<ModuleSection<'_>, true>(alloc, bytes)
+    }
+
+    fn check_all(alloc: Global, bytes: &[u8]) -> Result<(), ReadError>
+        ensures checks { ChecksAll ShortestWholeModule (IsModulePrefixOf (narrow module_section)) bytes.now result }
+    {
+        check_module_of::<AnySection>(alloc, bytes)
+    }
+
+    fn rewrite_all(bytes: Vec<u8>) -> Result<Vec<u8>, ReadError>
+        ensures rewrites { RewritesAll whole_module (IsModulePrefixOf module_section) bytes.items result }
+        ensures memory { NeedsNoMemory result }
+    {
+        rewrite_module_of::<AnySection>(bytes)
+    }
+}
+
 /// Reads a module and decodes every section, in any encoding (Core 3.0, Modules).
 ///
 /// Sections may come in any order, and more than once: `check_order` checks that. Fails with `Refused` if the bytes are
@@ -99,24 +161,9 @@ pub fn read_whole_module<'a>(
     alloc: Global,
     bytes: &'a [u8],
 ) -> Result<Vec<ModuleSection<'a>>, ReadError>
-    // The bytes encode the returned list.
-    ensures given { IfOk result (λ sections. whole_module.Encodes bytes.now (all_module_section_parts sections.items)) }
-    // If the bytes encode a list, that list is returned, unless memory runs out.
-    ensures complete { (sections : List ModuleSectionParts) → whole_module.Encodes bytes.now sections →
-        IsOrMemory (λ given. all_module_section_parts given.items) sections result }
-    // `at` is the length of the longest well-formed prefix.
-    ensures prefix { IfRefused result (IsLongestPrefix (IsModulePrefixOf module_section) bytes.now) }
-    // Refused bytes encode no list of sections.
-    ensures unencoded { IfRefused result (λ _.
-        (sections : List ModuleSectionParts) → whole_module.Encodes bytes.now sections → ⊥) }
-    // The bytes encode at most one list.
-    ensures one { (sections others : List ModuleSectionParts) →
-        whole_module.Encodes bytes.now sections → whole_module.Encodes bytes.now others → sections ≡ others }
-    // Every other encoding of a list is longer than its minimal encoding.
-    ensures shortest { (sections : List ModuleSectionParts) → whole_module.Encodes bytes.now sections →
-        IsShortestOrLonger bytes.now (whole_module.bytes sections) }
+    ensures decodes { Decodes (λ sections. all_module_section_parts sections.items) whole_module (IsModulePrefixOf module_section) bytes.now result }
 {
-    read_module_of::<ModuleSection<'_>, false>(alloc, bytes)
+    read::<WholeModule>(alloc, bytes)
 }
 
 /// Reads a minimally encoded module and decodes every section (Core 3.0, Modules).
@@ -138,23 +185,9 @@ pub fn read_whole_module_strict<'a>(
     alloc: Global,
     bytes: &'a [u8],
 ) -> Result<Vec<ModuleSection<'a>>, ReadError>
-    // The bytes are the minimal encoding of the returned list.
-    ensures given { IfOk result (λ sections.
-        (module_of (narrow module_section)).Encodes bytes.now (all_module_section_parts sections.items)) }
-    // If the bytes are the minimal encoding of a list, that list is returned, unless memory runs out.
-    ensures complete { (sections : List ModuleSectionParts) → (module_of (narrow module_section)).Encodes bytes.now sections →
-        IsOrMemory (λ given. all_module_section_parts given.items) sections result }
-    // `at` is the length of the longest well-formed, minimally encoded prefix.
-    ensures prefix { IfRefused result (IsLongestPrefix (IsModulePrefixOf (narrow module_section)) bytes.now) }
-    // The bytes are the minimal encoding of at most one list.
-    ensures one { (sections others : List ModuleSectionParts) →
-        (module_of (narrow module_section)).Encodes bytes.now sections →
-        (module_of (narrow module_section)).Encodes bytes.now others → sections ≡ others }
-    // This holds if and only if the bytes encode the list and equal its minimal encoding.
-    ensures shortest { (sections : List ModuleSectionParts) → (module_of (narrow module_section)).Encodes bytes.now sections ↔
-        (whole_module.Encodes bytes.now sections × (bytes.now ≡ whole_module.bytes sections)) }
+    ensures decodes { DecodesMinimal (λ sections. all_module_section_parts sections.items) whole_module ShortestWholeModule (IsModulePrefixOf (narrow module_section)) bytes.now result }
 {
-    read_module_of::<ModuleSection<'_>, true>(alloc, bytes)
+    read_strict::<WholeModule>(alloc, bytes)
 }
 
 /// Checks that a module and all its sections are minimally encoded (Core 3.0, Modules).
@@ -162,18 +195,9 @@ pub fn read_whole_module_strict<'a>(
 /// Accepts and refuses as `read_whole_module_strict` does, but builds no list of sections. Fails with `Memory` if an
 /// allocation fails.
 pub fn check_whole_module(alloc: Global, bytes: &[u8]) -> Result<(), ReadError>
-    // Accepted bytes are the minimal encoding of a list of sections.
-    ensures given { IfOk result (λ _. EncodesSome ShortestWholeModule bytes.now) }
-    // `at` is the length of the longest well-formed, minimally encoded prefix.
-    ensures prefix { IfRefused result (IsLongestPrefix (IsModulePrefixOf (narrow module_section)) bytes.now) }
-    // Refused bytes aren't the minimal encoding of any list of sections.
-    ensures unencoded { IfRefused result (λ _.
-        (sections : List ModuleSectionParts) → ShortestWholeModule bytes.now sections → ⊥) }
-    // Bytes are minimal if and only if they encode the list and equal its minimal encoding.
-    ensures shortest { (sections : List ModuleSectionParts) → ShortestWholeModule bytes.now sections ↔
-        (whole_module.Encodes bytes.now sections × (bytes.now ≡ whole_module.bytes sections)) }
+    ensures checks { Checks whole_module ShortestWholeModule (IsModulePrefixOf (narrow module_section)) bytes.now result }
 {
-    check_module_of::<AnySection>(alloc, bytes)
+    check::<WholeModule>(alloc, bytes)
 }
 
 /// Returns the minimal encoding of a module: of every number, size, type and index in every section (Core 3.0,
@@ -190,39 +214,12 @@ pub fn check_whole_module(alloc: Global, bytes: &[u8]) -> Result<(), ReadError>
 /// assert_eq!(rt; minimal.as_slice(), b"\0asm\x01\0\0\0\x08\x01\x05".as_slice());
 /// ```
 pub fn normalise_whole_module(alloc: Global, bytes: &[u8]) -> Result<Vec<u8>, ReadError>
-    // The result is the minimal encoding of a list of sections that the bytes encode.
-    ensures given { IfOk result (λ encoding.
-        IsNormalForm whole_module.Encodes whole_module.bytes bytes.now encoding.items) }
-    // If the bytes encode a list, the result is the minimal encoding of that list, unless memory runs out.
-    ensures complete { (sections : List ModuleSectionParts) → whole_module.Encodes bytes.now sections →
-        IsOrMemory (λ encoding. encoding.items) (whole_module.bytes sections) result }
-    // `at` is the length of the longest well-formed prefix.
-    ensures prefix { IfRefused result (IsLongestPrefix (IsModulePrefixOf module_section) bytes.now) }
-    // The bytes encode at most one list.
-    ensures one { (sections others : List ModuleSectionParts) →
-        whole_module.Encodes bytes.now sections → whole_module.Encodes bytes.now others → sections ≡ others }
-    // The result encodes a list if and only if the input does.
-    ensures same { IfOk result (λ encoding. (sections : List ModuleSectionParts) →
-        whole_module.Encodes encoding.items sections ↔ whole_module.Encodes bytes.now sections) }
-    // The result is the minimal encoding of the value that it encodes.
-    ensures normal { IfOk result (λ encoding. (sections : List ModuleSectionParts) →
-        whole_module.Encodes encoding.items sections → encoding.items ≡ whole_module.bytes sections) }
-    // A minimal encoding is returned unchanged, unless memory runs out.
-    ensures stays { (sections : List ModuleSectionParts) → (narrow whole_module).Encodes bytes.now sections →
-        IsOrMemory (λ encoding. encoding.items) bytes.now result }
-    // If the result equals the input, the input is a minimal encoding.
-    ensures was_shortest { IfOk result (λ encoding.
-        encoding.items ≡ bytes.now → EncodesSome (narrow whole_module).Encodes bytes.now) }
-    // Every other encoding of a list is longer than its minimal encoding.
-    ensures shortest { (sections : List ModuleSectionParts) → whole_module.Encodes bytes.now sections →
-        IsShortestOrLonger bytes.now (whole_module.bytes sections) }
-    // The result is no longer than the input.
-    ensures no_longer { IfOk result (λ encoding. length encoding.items ≤ length bytes.now) }
+    ensures normalises { Normalises whole_module ShortestWholeModule (IsModulePrefixOf module_section) bytes.now result }
     // The minimal encoding of sections in range encodes them.
     ensures encodes { (sections : List ModuleSectionParts) → AllByRecursion module_section.InRange sections →
         bytes.now ≡ whole_module.bytes sections → whole_module.Encodes bytes.now sections }
 {
-    normalise_module_of::<AnySection>(alloc, bytes)
+    normalise::<WholeModule>(alloc, bytes)
 }
 
 /// Replaces a module by its minimal encoding in place (Core 3.0, Modules).
@@ -238,19 +235,7 @@ pub fn normalise_whole_module(alloc: Global, bytes: &[u8]) -> Result<Vec<u8>, Re
 /// assert_eq!(rt; minimal.as_slice(), b"\0asm\x01\0\0\0\x08\x01\x05".as_slice());
 /// ```
 pub fn rewrite_whole_module(bytes: Vec<u8>) -> Result<Vec<u8>, ReadError>
-    // The result is the minimal encoding of a list of sections that the bytes encode.
-    ensures given { IfOk result (λ encoding.
-        IsNormalForm whole_module.Encodes whole_module.bytes bytes.items encoding.items) }
-    // If the bytes encode a list, the result is the minimal encoding of that list.
-    ensures complete { (sections : List ModuleSectionParts) → whole_module.Encodes bytes.items sections →
-        IsOrMemory (λ encoding. encoding.items) (whole_module.bytes sections) result }
-    // `at` is the length of the longest well-formed prefix.
-    ensures prefix { IfRefused result (IsLongestPrefix (IsModulePrefixOf module_section) bytes.items) }
-    // Refused bytes encode no list of sections.
-    ensures unencoded { IfRefused result (λ _.
-        (sections : List ModuleSectionParts) → whole_module.Encodes bytes.items sections → ⊥) }
-    // It never fails with `Memory`.
-    ensures memory { NeedsNoMemory result }
+    ensures normalises { NormalisesInPlace whole_module (IsModulePrefixOf module_section) bytes.items result }
 {
-    rewrite_module_of::<AnySection>(bytes)
+    rewrite::<WholeModule>(bytes)
 }

@@ -1,6 +1,6 @@
 -- The promises of the instruction sink. The sink lends a list of bytes; a clause about that list after an `Err` speaks
 -- of the end of the loan.
-use Rattle.std.specs.Prelude.{ℕ, Result, List, [], ◌∷◌, ◌≡◌, ◌++◌, ◌+◌, ◌≤◌, IfOk, MatchResult}
+use Rattle.std.specs.Prelude.{ℕ, Result, List, [], ◌∷◌, ◌≡◌, ◌++◌, ◌+◌, ◌≤◌, ◌<◌, ◌↔◌, IfOk, IsOk, IsErrOf, MatchResult}
 use Rattle.std.specs.Borrow.{RestsIfErr, Fml, u8, RattleType}
 use Rattle.std.specs.Vec.{vec_len, vec_capacity}
 use Rattle.std.specs.contracts.vec.Vec as vec
@@ -9,10 +9,10 @@ use Rattle.wasm_sink.specs.declared.sink.InstructionSink.{InstructionSink}
 use Rattle.wasm_instructions.specs.declared.table.opcode.Opcode.{Opcode}
 use Rattle.wasm_instructions.specs.declared.table.opcode.Prefix.{Prefix}
 use Rattle.wasm_instructions.specs.declared.table.call.Operands.{Operands}
-use Rattle.wasm_instructions.specs.formats.Instructions.{Instruction, call, instruction, instructions_bytes}
-use Rattle.wasm_instructions.specs.Instructions.{IsCounted, HasEncoding}
-use Rattle.wasm_calls.specs.Lengths.{IsShortEncoding}
-use Rattle.wasm_codec.specs.Encoding.{IsShortest}
+use Rattle.wasm_instructions.specs.formats.Instructions.{Instruction, Instructions, call, instruction, instructions_bytes}
+use Rattle.wasm_instructions.specs.Instructions.{IsCounted, HasEncoding, HasNoList}
+use Rattle.wasm_calls.specs.Lengths.{HasNoLongList, IsShortEncoding}
+use Rattle.wasm_codec.specs.Encoding.{IsShortest, IsShortestOrLonger}
 use Rattle.wasm_calls.specs.Appending.{IsOperandsRefusal, IsCallRefusal, IsCallsRefusal}
 use Rattle.wasm_codec.specs.declared.encode.EncodeError.{EncodeError}
 use Rattle.wasm_codec.specs.declared.encode.EncodeError.TheVariants as errors
@@ -39,7 +39,7 @@ module _ {Z : Type 0} where
   GoesOn s c t = bytes_behind t ≡ bytes_behind s ++ instruction.bytes c
 
   -- A chain of calls: each starts from the sink that the call before returned, and appends its minimal encoding.
-  -- The clause `wrote` of a method or of `write_call` is such a step at `Ok`.
+  -- The fact `wrote` of a method or of `write_call` is such a step at `Ok`.
   abbrev pub Chain : InstructionSink Z → List Instruction → InstructionSink Z → Type 0
   Chain s [] t = bytes_behind t ≡ bytes_behind s
   Chain s (c ∷ calls) t = (next : InstructionSink Z) × GoesOn s c next × Chain next calls t
@@ -63,6 +63,52 @@ module _ {Z : Type 0} where
   -- The list has room for 24 more bytes, which any call without a list fits into.
   abbrev pub HasRoom : InstructionSink Z → Type 0
   HasRoom s = vec_len s.bytes.now + 24 ≤ vec_capacity s.bytes.now
+
+  -- A method of an instruction without a memory argument and without a list, called on the sink `s`.
+  pub record Emits (s : InstructionSink Z) (op : Opcode) (operands : Operands) (r : Result (InstructionSink Z) EncodeError) : Type 0 where
+    -- It appends the minimal encoding of its call, 1 to 20 bytes, or fails with `Memory`.
+    pub wrote : Writes s op operands r
+    -- The returned sink writes to the same list.
+    pub same : IsSameSink s r
+    -- It succeeds if the list has room for 24 more bytes.
+    pub room : HasRoom s → IsOk r
+
+  -- A method of an instruction with a memory argument of this alignment, called on the sink `s`.
+  pub record EmitsAligned (s : InstructionSink Z) (op : Opcode) (operands : Operands) (align : ℕ) (r : Result (InstructionSink Z) EncodeError) : Type 0 where
+    -- It appends the minimal encoding of its call, 1 to 20 bytes, or names the reason.
+    pub wrote : WritesBytes s op operands r
+    -- The returned sink writes to the same list.
+    pub same : IsSameSink s r
+    -- It fails with `Alignment` if and only if the alignment is 64 or more.
+    pub alignment : IsErrOf r errors.Alignment ↔ 64 ≤ align
+    -- It succeeds if the list has room for 24 more bytes and the alignment is below 64.
+    pub room : HasRoom s → align < 64 → IsOk r
+
+  -- `write_call`, called on the sink `s`.
+  pub record EmitsCall (s : InstructionSink Z) (c : Instruction) (r : Result (InstructionSink Z) EncodeError) : Type 0 where
+    -- It appends the call's minimal encoding, or names the reason.
+    pub wrote : AppendsCall s c r
+    -- The returned sink writes to the same list.
+    pub same : IsSameSink s r
+    -- It succeeds if the list has room for 24 more bytes and the call has no list.
+    pub room : HasRoom s → HasNoList c.operands → IsOk r
+    -- The appended bytes encode the call.
+    pub encodes : IfOk r (λ _. instruction.Encodes (instruction.bytes c) c)
+    -- A call without a list, or with a list of one type, has 1 to 20 bytes.
+    pub length : HasNoLongList c.operands → IsShortEncoding (instruction.bytes c)
+
+  -- `write_calls`, called on the sink `s`.
+  pub record EmitsCalls (s : InstructionSink Z) (calls : List Instruction) (r : Result (InstructionSink Z) EncodeError) : Type 0 where
+    -- It appends the minimal encodings of all calls, or names the reason.
+    pub wrote : AppendsCalls s calls r
+    -- The returned sink writes to the same list.
+    pub same : IsSameSink s r
+    -- After equal bytes, a chain of methods and of `write_call`, one for each call, appends the same bytes.
+    pub one_by_one : (start finish : InstructionSink Z) → bytes_behind start ≡ bytes_behind s → Chain start calls finish → IfOk r (λ t. bytes_behind t ≡ bytes_behind finish)
+    -- The appended bytes encode the calls.
+    pub encodes : IfOk r (λ _. Instructions (instructions_bytes calls) calls)
+    -- Every other encoding of the calls is longer than the appended bytes.
+    pub shortest : (bytes : List ℕ) → Instructions bytes calls → IsShortestOrLonger bytes (instructions_bytes calls)
 
 module _ (A : RattleType) (heap : Ghosts A.Denot) where
   -- After an `Err` the list behind the sink is as it was.

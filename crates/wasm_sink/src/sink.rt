@@ -1,11 +1,7 @@
 //! The instruction sink: one method for each instruction (Core 3.0, Instructions).
-ghost use Rattle.std.specs.Prelude.{◌≡◌, ℕ, List, IsOk, IfOk};
+ghost use Rattle.std.specs.Prelude.{◌≡◌};
 ghost use Rattle.std.specs.Borrow.{sem};
-ghost use Rattle.wasm_sink.specs.Sink.{IsUnchangedAtErr, IsSameSink, AppendsCall, AppendsCalls, Chain, bytes_behind, HasRoom};
-ghost use Rattle.wasm_instructions.specs.Instructions.{HasNoList};
-ghost use Rattle.wasm_instructions.specs.formats.Instructions.{Instructions, instruction, instructions_bytes};
-ghost use Rattle.wasm_calls.specs.Lengths.{HasNoLongList, IsShortEncoding};
-ghost use Rattle.wasm_codec.specs.Encoding.{IsShortestOrLonger};
+ghost use Rattle.wasm_sink.specs.Sink.{IsUnchangedAtErr, EmitsCall, EmitsCalls};
 
 mod aggregates;
 mod atomics;
@@ -64,13 +60,7 @@ impl<'a, A: Allocator> InstructionSink<'a, A> {
     ///
     /// Fails with `TooLong` if a list in it has more than 4,294,967,295 items.
     pub fn write_call(self, call: &Call) -> Result<InstructionSink<'a, A>, EncodeError>
-        ensures wrote { AppendsCall self.entry call.now result }
-        ensures same { IsSameSink self.entry result }
-        ensures room { HasRoom self.entry → HasNoList call.now.operands → IsOk result }
-        // The appended bytes encode the call.
-        ensures encodes { IfOk result (λ _. instruction.Encodes (instruction.bytes call.now) call.now) }
-        // A call without a list, or with a list of one type, has 1 to 20 bytes.
-        ensures length { HasNoLongList call.now.operands → IsShortEncoding (instruction.bytes call.now) }
+        ensures emits { EmitsCall self.entry call.now result }
         ensures* unchanged { sem 𝓛 (IsUnchangedAtErr A.row A.Allocator self.entry result) }
     {
         let InstructionSink { bytes } = self;
@@ -83,16 +73,7 @@ impl<'a, A: Allocator> InstructionSink<'a, A> {
     /// Fails with `TooLong` if a list in a call has more than 4,294,967,295 items.
     #[tactic(auto, using(crate::proofs::ChainLaws::same_as_chain))]
     pub fn write_calls(self, calls: &[Call]) -> Result<InstructionSink<'a, A>, EncodeError>
-        ensures wrote { AppendsCalls self.entry calls.now result }
-        ensures same { IsSameSink self.entry result }
-        // After equal bytes, a chain of methods and `write_call`, one for each of the calls, appends the same bytes.
-        ensures one_by_one { (start finish : InstructionSink A) → bytes_behind start ≡ bytes_behind self.entry →
-            Chain start calls.now finish → IfOk result (λ sink. bytes_behind sink ≡ bytes_behind finish) }
-        // The appended bytes encode the calls.
-        ensures encodes { IfOk result (λ _. Instructions (instructions_bytes calls.now) calls.now) }
-        // Every other encoding of the calls is longer.
-        ensures shortest { (bytes : List ℕ) → Instructions bytes calls.now →
-            IsShortestOrLonger bytes (instructions_bytes calls.now) }
+        ensures emits { EmitsCalls self.entry calls.now result }
         ensures* unchanged { sem 𝓛 (IsUnchangedAtErr A.row A.Allocator self.entry result) }
     {
         let InstructionSink { bytes } = self;

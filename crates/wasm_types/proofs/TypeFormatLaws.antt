@@ -183,9 +183,6 @@ pub is_shortest_body : (bytes : List ℕ) (entries : List TypeEntry) → Shortes
 unfolding type_body
 is_shortest_body = list_narrow Lawful-recursive-type
 
-pub AtMostOne-shortest-body : AtMostOne ShortestTypeBody
-AtMostOne-shortest-body bytes v w g h = AtMostOne-type-body bytes v w ((is_shortest_body bytes v).0 g).0 ((is_shortest_body bytes w).0 h).0
-
 -- ---- no value is encoded by no bytes
 
 pub val_type_takes : TakesBytes val_type.Encodes

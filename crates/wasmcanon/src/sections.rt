@@ -8,7 +8,7 @@ use std::fmt;
 use wasm_codec::reader::cursor::Cursor;
 use wasm_modules::reader::{after_header, read_section};
 use wasm_modules::section::RawSection;
-use wasm_sections::custom::read_custom_section;
+use wasm_sections::custom::read_custom;
 use wasm_sections::modules::{ItemCounts, count_longer_items};
 
 /// A kind of section (Core 3.0, Modules).
@@ -56,7 +56,7 @@ pub fn custom_name<'a>(section: RawSection<'a>) -> Option<&'a str>
     if section.id != 0 {
         return None;
     }
-    match read_custom_section(section.body) {
+    match read_custom(section.body) {
         Ok(custom) => Some(custom.name),
         Err(_) => None,
     }

@@ -1,8 +1,8 @@
 //! Modules: of one section, and of several; and whether their sections come in order.
 
-use super::bodies::{Answer, normalise, read};
+use super::bodies::{Answers, all_answers};
 use super::built::check_built;
-use super::{check_cut, check_given};
+use super::{check_given, cut_at};
 use crate::mismatch::Mismatch;
 use std::alloc::Global;
 use wasm_codec::reader::ReadError;
@@ -62,11 +62,12 @@ fn check_parts(alloc: Global, module: &[u8], normal: &[u8], count: usize) -> Res
     let mut sections: usize = 0;
     for len in 0..module.len() {
         let part = &module[..len];
-        if read(alloc, "module", part)? == Answer::Given(sections) {
-            check_beginning(alloc, part, normal)?;
+        let answers = all_answers(alloc, "module", part)?;
+        if answers.read == Ok(sections) {
+            check_beginning(&answers, normal)?;
             whole = len;
             sections = sections.saturating_add(1);
-        } else if check_cut(alloc, "module", part)? != whole {
+        } else if cut_at(&answers, len)? != whole {
             return Err(Mismatch::Cut);
         }
     }
@@ -78,10 +79,9 @@ fn check_parts(alloc: Global, module: &[u8], normal: &[u8], count: usize) -> Res
 }
 
 /// The normal form of a module's first sections is the beginning of that of the module.
-fn check_beginning(alloc: Global, part: &[u8], normal: &[u8]) -> Result<(), Mismatch> {
-    match normalise(alloc, "module", part) {
+fn check_beginning(answers: &Answers, normal: &[u8]) -> Result<(), Mismatch> {
+    match &answers.normal {
         Ok(written) if normal.starts_with(written.as_slice()) => Ok(()),
-        Err(ReadError::Memory) => Err(Mismatch::Memory),
         _ => Err(Mismatch::Cut),
     }
 }

@@ -1,7 +1,5 @@
 //! The normaliser of code section bodies (Core 3.0, Code Section).
-ghost use Rattle.std.specs.Prelude.{◌≡◌, ◌↔◌, ◌≤◌, ℕ, List, length, IfOk, IfErr};
-ghost use Rattle.wasm_codec.specs.Answers.{NeedsNoMemory, IsOrMemory, IfRefused, IsLongestPrefix, IsNormalForm, EncodesSome};
-ghost use Rattle.wasm_codec.specs.Encoding.{IsShortestOrLonger};
+ghost use Rattle.std.specs.Prelude.{◌≡◌, ℕ, List, IfErr};
 ghost use Rattle.wasm_codec.specs.Places.{Reads};
 ghost use Rattle.wasm_codec.specs.Rewriter.{Rewrites};
 ghost use Rattle.wasm_codec.specs.declared.reader.cursor.Fault.TheVariants.{Malformed};
@@ -9,6 +7,7 @@ ghost use Rattle.wasm_types.specs.declared.types.value.ValType.{ValType};
 ghost use Rattle.wasm_instructions.specs.formats.Instructions.{Instruction};
 ghost use Rattle.wasm_modules.specs.declared.code.CodeBody.{CodeBody};
 ghost use Rattle.wasm_modules.specs.formats.CodeBodies.{local_group, function_code, code_body, code_section_body, IsCodeSectionBodyPrefix, ShortestCodeSectionBody};
+ghost use Rattle.wasm_codec.specs.Decoding.{Normalises, NormalisesInPlace, RewritesAll};
 
 use super::CodeBody;
 use std::alloc::Global;
@@ -36,34 +35,7 @@ use wasm_types::types::ValType;
 /// assert_eq!(rt; minimal.as_slice(), b"\x01\x02\x00\x0b".as_slice());
 /// ```
 pub fn normalise_code_section(alloc: Global, body: &[u8]) -> Result<Vec<u8>, ReadError>
-    // The result is the minimal encoding of a list that the body encodes.
-    ensures given { IfOk result (λ encoding.
-        IsNormalForm code_section_body.Encodes code_section_body.bytes body.now encoding.items) }
-    // If the body encodes a list, the result is the minimal encoding of that list, unless memory runs out.
-    ensures complete { (bodies : List CodeBody) → code_section_body.Encodes body.now bodies →
-        IsOrMemory (λ encoding. encoding.items) (code_section_body.bytes bodies) result }
-    // `at` is the length of the longest well-formed prefix.
-    ensures prefix { IfRefused result (IsLongestPrefix IsCodeSectionBodyPrefix body.now) }
-    // The body encodes at most one list.
-    ensures one { (bodies others : List CodeBody) →
-        code_section_body.Encodes body.now bodies → code_section_body.Encodes body.now others → bodies ≡ others }
-    // The result encodes a list if and only if the body does.
-    ensures same { IfOk result (λ encoding. (bodies : List CodeBody) →
-        code_section_body.Encodes encoding.items bodies ↔ code_section_body.Encodes body.now bodies) }
-    // The result is the minimal encoding of the list that it encodes.
-    ensures normal { IfOk result (λ encoding. (bodies : List CodeBody) →
-        code_section_body.Encodes encoding.items bodies → encoding.items ≡ code_section_body.bytes bodies) }
-    // Every other encoding of a list is longer than its minimal encoding.
-    ensures shortest { (bodies : List CodeBody) → code_section_body.Encodes body.now bodies →
-        IsShortestOrLonger body.now (code_section_body.bytes bodies) }
-    // The result is no longer than the body.
-    ensures no_longer { IfOk result (λ encoding. length encoding.items ≤ length body.now) }
-    // A minimal encoding is returned unchanged, unless memory runs out.
-    ensures stays { (bodies : List CodeBody) → ShortestCodeSectionBody body.now bodies →
-        IsOrMemory (λ encoding. encoding.items) body.now result }
-    // If the result equals the body, the body is a minimal encoding.
-    ensures was_shortest { IfOk result (λ encoding.
-        encoding.items ≡ body.now → EncodesSome ShortestCodeSectionBody body.now) }
+    ensures normalises { Normalises code_section_body ShortestCodeSectionBody IsCodeSectionBodyPrefix body.now result }
 {
     bodies_bytes_of(alloc, body)
 }
@@ -82,28 +54,14 @@ pub fn normalise_code_section(alloc: Global, body: &[u8]) -> Result<Vec<u8>, Rea
 /// ```
 #[tactic(auto, unfolding(crate::specs::formats::CodeBodies::code_section_body))]
 pub fn rewrite_code_section(body: Vec<u8>) -> Result<Vec<u8>, ReadError>
-    // The result is the minimal encoding of a list that the body encodes.
-    ensures given { IfOk result (λ encoding.
-        IsNormalForm code_section_body.Encodes code_section_body.bytes body.items encoding.items) }
-    // If the body encodes a list, the result is the minimal encoding of that list.
-    ensures complete { (bodies : List CodeBody) → code_section_body.Encodes body.items bodies →
-        IsOrMemory (λ encoding. encoding.items) (code_section_body.bytes bodies) result }
-    // `at` is the length of the longest well-formed prefix.
-    ensures prefix { IfRefused result (IsLongestPrefix IsCodeSectionBodyPrefix body.items) }
-    // A refused body encodes no list.
-    ensures unencoded { IfRefused result (λ _. (bodies : List CodeBody) → code_section_body.Encodes body.items bodies → ⊥) }
-    // It never fails with `Memory`.
-    ensures memory { NeedsNoMemory result }
+    ensures normalises { NormalisesInPlace code_section_body IsCodeSectionBodyPrefix body.items result }
 {
     normalise_list_to_end::<CodeBody>(body)
 }
 
 /// Copies the body and rewrites the copy.
 fn bodies_bytes_of(alloc: Global, body: &[u8]) -> Result<Vec<u8>, ReadError>
-    ensures given { IfOk result (λ encoding.
-        IsNormalForm code_section_body.Encodes code_section_body.bytes body.now encoding.items) }
-    ensures prefix { IfRefused result (IsLongestPrefix IsCodeSectionBodyPrefix body.now) }
-    ensures none { IfRefused result (λ _. (bodies : List CodeBody) → code_section_body.Encodes body.now bodies → ⊥) }
+    ensures rewrites { RewritesAll code_section_body IsCodeSectionBodyPrefix body.now result }
 {
     rewrite_code_section(Vec::from_slice(alloc, body)?)
 }

@@ -20,6 +20,7 @@ use wasm_codec::reader::cursor::Fault;
 use wasm_codec::rewriter::{Rewritable, Rewriter};
 use wasm_instructions::normaliser::rewrite_instructions;
 use wasm_modules::code::CodeBody;
+use wasm_readers::readable::Item;
 use wasm_types::normaliser::rewrite_val_type;
 use wasm_types::types::TypeEntry;
 
@@ -107,16 +108,16 @@ fn look_over(id: u8, body: Vec<u8>) -> Option<Result<ItemCounts, ItemPlace>>
 {
     match id {
         1 => Some(look_over_list::<TypeEntry>(body)),
-        2 => Some(look_over_list::<Import<'_>>(body)),
+        2 => Some(look_over_list::<Item<'_, Import<'_>>>(body)),
         3 => Some(look_over_list::<u32>(body)),
-        4 => Some(look_over_list::<Table>(body)),
-        5 => Some(look_over_list::<MemoryType>(body)),
-        6 => Some(look_over_list::<GlobalEntry>(body)),
-        7 => Some(look_over_list::<Export<'_>>(body)),
-        9 => Some(look_over_list::<Element>(body)),
+        4 => Some(look_over_list::<Item<'_, Table>>(body)),
+        5 => Some(look_over_list::<Item<'_, MemoryType>>(body)),
+        6 => Some(look_over_list::<Item<'_, GlobalEntry>>(body)),
+        7 => Some(look_over_list::<Item<'_, Export<'_>>>(body)),
+        9 => Some(look_over_list::<Item<'_, Element>>(body)),
         10 => Some(look_over_list::<CodeBody>(body)),
-        11 => Some(look_over_list::<DataSegment<'_>>(body)),
-        13 => Some(look_over_list::<TagType>(body)),
+        11 => Some(look_over_list::<Item<'_, DataSegment<'_>>>(body)),
+        13 => Some(look_over_list::<Item<'_, TagType>>(body)),
         _ => None,
     }
 }

@@ -11,13 +11,16 @@ ghost use Rattle.wasm_sections.specs.formats.EntryParts.{custom_parts};
 ghost use Rattle.wasm_sections.specs.formats.ModuleSectionParts.{ModuleSectionParts, module_section_parts, all_module_section_parts};
 ghost use Rattle.wasm_sections.specs.formats.ModuleSections.{module_section};
 ghost use Rattle.wasm_sections.specs.formats.Sections.{custom_body};
+ghost use Rattle.wasm_codec.specs.Rewriter.{Rewrites};
 
 use super::ModuleSection;
+use super::rewriter::rewrite_module_section;
 use crate::custom::CustomSection;
 use crate::names::read_name;
 use std::alloc::Global;
 use wasm_codec::list::Items;
 use wasm_codec::reader::cursor::{Cursor, Fault};
+use wasm_codec::rewriter::Rewriter;
 use wasm_readers::lists::read_list;
 use wasm_readers::readable::Readable;
 
@@ -32,13 +35,21 @@ impl<'a> Readable<'a> for ModuleSection<'a> {
 
     ghost format = { module_section };
 
+    #[inline(always)]
     #[tactic(auto, using(crate::proofs::ModuleSectionLaws::module_section_is_lawful, crate::proofs::ModuleSectionLaws::module_section_takes))]
-    fn read(alloc: Global, cursor: &mut Cursor<'a>) -> Result<ModuleSection<'a>, Fault>
-        ensures reads { Reads module_section.at cursor.old cursor.new (map_ok module_section_parts result) }
+    fn is_lawful()
         ensures lawful { IsLawful module_section }
         ensures some { TakesBytes module_section.Encodes }
-    {
+    {}
+
+    fn read(alloc: Global, cursor: &mut Cursor<'a>) -> Result<ModuleSection<'a>, Fault> {
         read_module_section(alloc, cursor)
+    }
+
+    fn rewrite(rewriter: &mut Rewriter) -> Result<(), Fault>
+        ensures rewrites { Rewrites module_section rewriter.old rewriter.new result }
+    {
+        rewrite_module_section(rewriter)
     }
 }
 

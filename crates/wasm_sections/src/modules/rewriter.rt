@@ -22,6 +22,7 @@ use wasm_codec::rewriter::{
     Joinable, Rewritable, RewritableBody, Rewriter, Scanned, rewrite_list, rewrite_sized,
 };
 use wasm_modules::code::CodeBody;
+use wasm_readers::readable::Item;
 use wasm_types::types::TypeEntry;
 
 /// A section of any kind, decoded.
@@ -71,24 +72,24 @@ impl<T: Rewritable> RewritableBody for ListOf<T> {
 
 /// Rewrites a section to its minimal encoding.
 #[tactic(auto, unfolding(crate::specs::formats::ModuleSections::module_section))]
-fn rewrite_module_section(rewriter: &mut Rewriter) -> Result<(), Fault>
+pub(super) fn rewrite_module_section(rewriter: &mut Rewriter) -> Result<(), Fault>
     ensures rewrites { Rewrites module_section rewriter.old rewriter.new result }
 {
     match rewriter.byte()? {
         0 => rewrite_sized::<Custom>(rewriter),
         1 => rewrite_sized::<ListOf<TypeEntry>>(rewriter),
-        2 => rewrite_sized::<ListOf<Import<'_>>>(rewriter),
+        2 => rewrite_sized::<ListOf<Item<'_, Import<'_>>>>(rewriter),
         3 => rewrite_sized::<ListOf<u32>>(rewriter),
-        4 => rewrite_sized::<ListOf<Table>>(rewriter),
-        5 => rewrite_sized::<ListOf<MemoryType>>(rewriter),
-        6 => rewrite_sized::<ListOf<Global>>(rewriter),
-        7 => rewrite_sized::<ListOf<Export<'_>>>(rewriter),
+        4 => rewrite_sized::<ListOf<Item<'_, Table>>>(rewriter),
+        5 => rewrite_sized::<ListOf<Item<'_, MemoryType>>>(rewriter),
+        6 => rewrite_sized::<ListOf<Item<'_, Global>>>(rewriter),
+        7 => rewrite_sized::<ListOf<Item<'_, Export<'_>>>>(rewriter),
         8 => rewrite_sized::<Number>(rewriter),
-        9 => rewrite_sized::<ListOf<Element>>(rewriter),
+        9 => rewrite_sized::<ListOf<Item<'_, Element>>>(rewriter),
         10 => rewrite_sized::<ListOf<CodeBody>>(rewriter),
-        11 => rewrite_sized::<ListOf<DataSegment<'_>>>(rewriter),
+        11 => rewrite_sized::<ListOf<Item<'_, DataSegment<'_>>>>(rewriter),
         12 => rewrite_sized::<Number>(rewriter),
-        13 => rewrite_sized::<ListOf<TagType>>(rewriter),
+        13 => rewrite_sized::<ListOf<Item<'_, TagType>>>(rewriter),
         _ => Err(Fault::Malformed),
     }
 }

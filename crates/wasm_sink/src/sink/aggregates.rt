@@ -1,8 +1,7 @@
 //! Instructions on structs and arrays (Core 3.0, Aggregate Instructions), and those with descriptors (custom
 //! descriptors proposal).
-ghost use Rattle.std.specs.Prelude.{IsOk};
 ghost use Rattle.std.specs.Borrow.{sem};
-ghost use Rattle.wasm_sink.specs.Sink.{IsUnchangedAtErr, IsSameSink, Writes, HasRoom};
+ghost use Rattle.wasm_sink.specs.Sink.{IsUnchangedAtErr, Emits};
 ghost use Rattle.wasm_instructions.specs.formats.Opcodes.{after_fb};
 ghost use Rattle.wasm_instructions.specs.declared.table.call.Operands.TheVariants as operands;
 
@@ -15,9 +14,7 @@ use wasm_instructions::table::Prefix;
 impl<'a, A: Allocator> InstructionSink<'a, A> {
     /// `struct.new`: `0xFB 0x00`, then a type index.
     pub fn struct_new(self, ty: u32) -> Result<InstructionSink<'a, A>, EncodeError>
-        ensures wrote { Writes self.entry (after_fb 0x00) (operands.Index ty) result }
-        ensures same { IsSameSink self.entry result }
-        ensures room { HasRoom self.entry → IsOk result }
+        ensures emits { Emits self.entry (after_fb 0x00) (operands.Index ty) result }
         ensures* unchanged { sem 𝓛 (IsUnchangedAtErr A.row A.Allocator self.entry result) }
     {
         self.emit_index(Prefix::Fb, 0x00, ty)
@@ -25,9 +22,7 @@ impl<'a, A: Allocator> InstructionSink<'a, A> {
 
     /// `struct.new_default`: `0xFB 0x01`, then a type index.
     pub fn struct_new_default(self, ty: u32) -> Result<InstructionSink<'a, A>, EncodeError>
-        ensures wrote { Writes self.entry (after_fb 0x01) (operands.Index ty) result }
-        ensures same { IsSameSink self.entry result }
-        ensures room { HasRoom self.entry → IsOk result }
+        ensures emits { Emits self.entry (after_fb 0x01) (operands.Index ty) result }
         ensures* unchanged { sem 𝓛 (IsUnchangedAtErr A.row A.Allocator self.entry result) }
     {
         self.emit_index(Prefix::Fb, 0x01, ty)
@@ -35,9 +30,7 @@ impl<'a, A: Allocator> InstructionSink<'a, A> {
 
     /// `struct.get`: `0xFB 0x02`, then a type index and a field index.
     pub fn struct_get(self, ty: u32, field: u32) -> Result<InstructionSink<'a, A>, EncodeError>
-        ensures wrote { Writes self.entry (after_fb 0x02) (operands.TwoIndexes ty field) result }
-        ensures same { IsSameSink self.entry result }
-        ensures room { HasRoom self.entry → IsOk result }
+        ensures emits { Emits self.entry (after_fb 0x02) (operands.TwoIndexes ty field) result }
         ensures* unchanged { sem 𝓛 (IsUnchangedAtErr A.row A.Allocator self.entry result) }
     {
         self.emit_two_indexes(Prefix::Fb, 0x02, ty, field)
@@ -45,9 +38,7 @@ impl<'a, A: Allocator> InstructionSink<'a, A> {
 
     /// `struct.get_s`: `0xFB 0x03`, then a type index and a field index.
     pub fn struct_get_s(self, ty: u32, field: u32) -> Result<InstructionSink<'a, A>, EncodeError>
-        ensures wrote { Writes self.entry (after_fb 0x03) (operands.TwoIndexes ty field) result }
-        ensures same { IsSameSink self.entry result }
-        ensures room { HasRoom self.entry → IsOk result }
+        ensures emits { Emits self.entry (after_fb 0x03) (operands.TwoIndexes ty field) result }
         ensures* unchanged { sem 𝓛 (IsUnchangedAtErr A.row A.Allocator self.entry result) }
     {
         self.emit_two_indexes(Prefix::Fb, 0x03, ty, field)
@@ -55,9 +46,7 @@ impl<'a, A: Allocator> InstructionSink<'a, A> {
 
     /// `struct.get_u`: `0xFB 0x04`, then a type index and a field index.
     pub fn struct_get_u(self, ty: u32, field: u32) -> Result<InstructionSink<'a, A>, EncodeError>
-        ensures wrote { Writes self.entry (after_fb 0x04) (operands.TwoIndexes ty field) result }
-        ensures same { IsSameSink self.entry result }
-        ensures room { HasRoom self.entry → IsOk result }
+        ensures emits { Emits self.entry (after_fb 0x04) (operands.TwoIndexes ty field) result }
         ensures* unchanged { sem 𝓛 (IsUnchangedAtErr A.row A.Allocator self.entry result) }
     {
         self.emit_two_indexes(Prefix::Fb, 0x04, ty, field)
@@ -65,9 +54,7 @@ impl<'a, A: Allocator> InstructionSink<'a, A> {
 
     /// `struct.set`: `0xFB 0x05`, then a type index and a field index.
     pub fn struct_set(self, ty: u32, field: u32) -> Result<InstructionSink<'a, A>, EncodeError>
-        ensures wrote { Writes self.entry (after_fb 0x05) (operands.TwoIndexes ty field) result }
-        ensures same { IsSameSink self.entry result }
-        ensures room { HasRoom self.entry → IsOk result }
+        ensures emits { Emits self.entry (after_fb 0x05) (operands.TwoIndexes ty field) result }
         ensures* unchanged { sem 𝓛 (IsUnchangedAtErr A.row A.Allocator self.entry result) }
     {
         self.emit_two_indexes(Prefix::Fb, 0x05, ty, field)
@@ -75,9 +62,7 @@ impl<'a, A: Allocator> InstructionSink<'a, A> {
 
     /// `array.new`: `0xFB 0x06`, then a type index.
     pub fn array_new(self, ty: u32) -> Result<InstructionSink<'a, A>, EncodeError>
-        ensures wrote { Writes self.entry (after_fb 0x06) (operands.Index ty) result }
-        ensures same { IsSameSink self.entry result }
-        ensures room { HasRoom self.entry → IsOk result }
+        ensures emits { Emits self.entry (after_fb 0x06) (operands.Index ty) result }
         ensures* unchanged { sem 𝓛 (IsUnchangedAtErr A.row A.Allocator self.entry result) }
     {
         self.emit_index(Prefix::Fb, 0x06, ty)
@@ -85,9 +70,7 @@ impl<'a, A: Allocator> InstructionSink<'a, A> {
 
     /// `array.new_default`: `0xFB 0x07`, then a type index.
     pub fn array_new_default(self, ty: u32) -> Result<InstructionSink<'a, A>, EncodeError>
-        ensures wrote { Writes self.entry (after_fb 0x07) (operands.Index ty) result }
-        ensures same { IsSameSink self.entry result }
-        ensures room { HasRoom self.entry → IsOk result }
+        ensures emits { Emits self.entry (after_fb 0x07) (operands.Index ty) result }
         ensures* unchanged { sem 𝓛 (IsUnchangedAtErr A.row A.Allocator self.entry result) }
     {
         self.emit_index(Prefix::Fb, 0x07, ty)
@@ -99,9 +82,7 @@ impl<'a, A: Allocator> InstructionSink<'a, A> {
         ty: u32,
         length: u32,
     ) -> Result<InstructionSink<'a, A>, EncodeError>
-        ensures wrote { Writes self.entry (after_fb 0x08) (operands.TwoIndexes ty length) result }
-        ensures same { IsSameSink self.entry result }
-        ensures room { HasRoom self.entry → IsOk result }
+        ensures emits { Emits self.entry (after_fb 0x08) (operands.TwoIndexes ty length) result }
         ensures* unchanged { sem 𝓛 (IsUnchangedAtErr A.row A.Allocator self.entry result) }
     {
         self.emit_two_indexes(Prefix::Fb, 0x08, ty, length)
@@ -113,9 +94,7 @@ impl<'a, A: Allocator> InstructionSink<'a, A> {
         ty: u32,
         segment: u32,
     ) -> Result<InstructionSink<'a, A>, EncodeError>
-        ensures wrote { Writes self.entry (after_fb 0x09) (operands.TwoIndexes ty segment) result }
-        ensures same { IsSameSink self.entry result }
-        ensures room { HasRoom self.entry → IsOk result }
+        ensures emits { Emits self.entry (after_fb 0x09) (operands.TwoIndexes ty segment) result }
         ensures* unchanged { sem 𝓛 (IsUnchangedAtErr A.row A.Allocator self.entry result) }
     {
         self.emit_two_indexes(Prefix::Fb, 0x09, ty, segment)
@@ -127,9 +106,7 @@ impl<'a, A: Allocator> InstructionSink<'a, A> {
         ty: u32,
         segment: u32,
     ) -> Result<InstructionSink<'a, A>, EncodeError>
-        ensures wrote { Writes self.entry (after_fb 0x0a) (operands.TwoIndexes ty segment) result }
-        ensures same { IsSameSink self.entry result }
-        ensures room { HasRoom self.entry → IsOk result }
+        ensures emits { Emits self.entry (after_fb 0x0a) (operands.TwoIndexes ty segment) result }
         ensures* unchanged { sem 𝓛 (IsUnchangedAtErr A.row A.Allocator self.entry result) }
     {
         self.emit_two_indexes(Prefix::Fb, 0x0a, ty, segment)
@@ -137,9 +114,7 @@ impl<'a, A: Allocator> InstructionSink<'a, A> {
 
     /// `array.get`: `0xFB 0x0B`, then a type index.
     pub fn array_get(self, ty: u32) -> Result<InstructionSink<'a, A>, EncodeError>
-        ensures wrote { Writes self.entry (after_fb 0x0b) (operands.Index ty) result }
-        ensures same { IsSameSink self.entry result }
-        ensures room { HasRoom self.entry → IsOk result }
+        ensures emits { Emits self.entry (after_fb 0x0b) (operands.Index ty) result }
         ensures* unchanged { sem 𝓛 (IsUnchangedAtErr A.row A.Allocator self.entry result) }
     {
         self.emit_index(Prefix::Fb, 0x0b, ty)
@@ -147,9 +122,7 @@ impl<'a, A: Allocator> InstructionSink<'a, A> {
 
     /// `array.get_s`: `0xFB 0x0C`, then a type index.
     pub fn array_get_s(self, ty: u32) -> Result<InstructionSink<'a, A>, EncodeError>
-        ensures wrote { Writes self.entry (after_fb 0x0c) (operands.Index ty) result }
-        ensures same { IsSameSink self.entry result }
-        ensures room { HasRoom self.entry → IsOk result }
+        ensures emits { Emits self.entry (after_fb 0x0c) (operands.Index ty) result }
         ensures* unchanged { sem 𝓛 (IsUnchangedAtErr A.row A.Allocator self.entry result) }
     {
         self.emit_index(Prefix::Fb, 0x0c, ty)
@@ -157,9 +130,7 @@ impl<'a, A: Allocator> InstructionSink<'a, A> {
 
     /// `array.get_u`: `0xFB 0x0D`, then a type index.
     pub fn array_get_u(self, ty: u32) -> Result<InstructionSink<'a, A>, EncodeError>
-        ensures wrote { Writes self.entry (after_fb 0x0d) (operands.Index ty) result }
-        ensures same { IsSameSink self.entry result }
-        ensures room { HasRoom self.entry → IsOk result }
+        ensures emits { Emits self.entry (after_fb 0x0d) (operands.Index ty) result }
         ensures* unchanged { sem 𝓛 (IsUnchangedAtErr A.row A.Allocator self.entry result) }
     {
         self.emit_index(Prefix::Fb, 0x0d, ty)
@@ -167,9 +138,7 @@ impl<'a, A: Allocator> InstructionSink<'a, A> {
 
     /// `array.set`: `0xFB 0x0E`, then a type index.
     pub fn array_set(self, ty: u32) -> Result<InstructionSink<'a, A>, EncodeError>
-        ensures wrote { Writes self.entry (after_fb 0x0e) (operands.Index ty) result }
-        ensures same { IsSameSink self.entry result }
-        ensures room { HasRoom self.entry → IsOk result }
+        ensures emits { Emits self.entry (after_fb 0x0e) (operands.Index ty) result }
         ensures* unchanged { sem 𝓛 (IsUnchangedAtErr A.row A.Allocator self.entry result) }
     {
         self.emit_index(Prefix::Fb, 0x0e, ty)
@@ -177,9 +146,7 @@ impl<'a, A: Allocator> InstructionSink<'a, A> {
 
     /// `array.len`: `0xFB 0x0F`.
     pub fn array_len(self) -> Result<InstructionSink<'a, A>, EncodeError>
-        ensures wrote { Writes self.entry (after_fb 0x0f) operands.None result }
-        ensures same { IsSameSink self.entry result }
-        ensures room { HasRoom self.entry → IsOk result }
+        ensures emits { Emits self.entry (after_fb 0x0f) operands.None result }
         ensures* unchanged { sem 𝓛 (IsUnchangedAtErr A.row A.Allocator self.entry result) }
     {
         self.emit(Prefix::Fb, 0x0f)
@@ -187,9 +154,7 @@ impl<'a, A: Allocator> InstructionSink<'a, A> {
 
     /// `array.fill`: `0xFB 0x10`, then a type index.
     pub fn array_fill(self, ty: u32) -> Result<InstructionSink<'a, A>, EncodeError>
-        ensures wrote { Writes self.entry (after_fb 0x10) (operands.Index ty) result }
-        ensures same { IsSameSink self.entry result }
-        ensures room { HasRoom self.entry → IsOk result }
+        ensures emits { Emits self.entry (after_fb 0x10) (operands.Index ty) result }
         ensures* unchanged { sem 𝓛 (IsUnchangedAtErr A.row A.Allocator self.entry result) }
     {
         self.emit_index(Prefix::Fb, 0x10, ty)
@@ -201,9 +166,7 @@ impl<'a, A: Allocator> InstructionSink<'a, A> {
         destination_type: u32,
         source_type: u32,
     ) -> Result<InstructionSink<'a, A>, EncodeError>
-        ensures wrote { Writes self.entry (after_fb 0x11) (operands.TwoIndexes destination_type source_type) result }
-        ensures same { IsSameSink self.entry result }
-        ensures room { HasRoom self.entry → IsOk result }
+        ensures emits { Emits self.entry (after_fb 0x11) (operands.TwoIndexes destination_type source_type) result }
         ensures* unchanged { sem 𝓛 (IsUnchangedAtErr A.row A.Allocator self.entry result) }
     {
         self.emit_two_indexes(Prefix::Fb, 0x11, destination_type, source_type)
@@ -215,9 +178,7 @@ impl<'a, A: Allocator> InstructionSink<'a, A> {
         ty: u32,
         segment: u32,
     ) -> Result<InstructionSink<'a, A>, EncodeError>
-        ensures wrote { Writes self.entry (after_fb 0x12) (operands.TwoIndexes ty segment) result }
-        ensures same { IsSameSink self.entry result }
-        ensures room { HasRoom self.entry → IsOk result }
+        ensures emits { Emits self.entry (after_fb 0x12) (operands.TwoIndexes ty segment) result }
         ensures* unchanged { sem 𝓛 (IsUnchangedAtErr A.row A.Allocator self.entry result) }
     {
         self.emit_two_indexes(Prefix::Fb, 0x12, ty, segment)
@@ -229,9 +190,7 @@ impl<'a, A: Allocator> InstructionSink<'a, A> {
         ty: u32,
         segment: u32,
     ) -> Result<InstructionSink<'a, A>, EncodeError>
-        ensures wrote { Writes self.entry (after_fb 0x13) (operands.TwoIndexes ty segment) result }
-        ensures same { IsSameSink self.entry result }
-        ensures room { HasRoom self.entry → IsOk result }
+        ensures emits { Emits self.entry (after_fb 0x13) (operands.TwoIndexes ty segment) result }
         ensures* unchanged { sem 𝓛 (IsUnchangedAtErr A.row A.Allocator self.entry result) }
     {
         self.emit_two_indexes(Prefix::Fb, 0x13, ty, segment)
@@ -239,9 +198,7 @@ impl<'a, A: Allocator> InstructionSink<'a, A> {
 
     /// `struct.new_desc`: `0xFB 0x20`, then a type index.
     pub fn struct_new_desc(self, ty: u32) -> Result<InstructionSink<'a, A>, EncodeError>
-        ensures wrote { Writes self.entry (after_fb 0x20) (operands.Index ty) result }
-        ensures same { IsSameSink self.entry result }
-        ensures room { HasRoom self.entry → IsOk result }
+        ensures emits { Emits self.entry (after_fb 0x20) (operands.Index ty) result }
         ensures* unchanged { sem 𝓛 (IsUnchangedAtErr A.row A.Allocator self.entry result) }
     {
         self.emit_index(Prefix::Fb, 0x20, ty)
@@ -249,9 +206,7 @@ impl<'a, A: Allocator> InstructionSink<'a, A> {
 
     /// `struct.new_default_desc`: `0xFB 0x21`, then a type index.
     pub fn struct_new_default_desc(self, ty: u32) -> Result<InstructionSink<'a, A>, EncodeError>
-        ensures wrote { Writes self.entry (after_fb 0x21) (operands.Index ty) result }
-        ensures same { IsSameSink self.entry result }
-        ensures room { HasRoom self.entry → IsOk result }
+        ensures emits { Emits self.entry (after_fb 0x21) (operands.Index ty) result }
         ensures* unchanged { sem 𝓛 (IsUnchangedAtErr A.row A.Allocator self.entry result) }
     {
         self.emit_index(Prefix::Fb, 0x21, ty)

@@ -1,11 +1,9 @@
 //! Control instructions (Core 3.0, Control Instructions), and `try`, `catch`, `rethrow`, `delegate` and `catch_all`,
 //! which `try_table` replaces.
-ghost use Rattle.std.specs.Prelude.{IsOk, IfErr};
 ghost use Rattle.std.specs.Borrow.{sem};
 ghost use Rattle.std.specs.Iterator.{size};
-ghost use Rattle.wasm_sink.specs.Sink.{IsUnchangedAtErr, IsSameSink, Writes, HasRoom};
-ghost use Rattle.wasm_sink.specs.ListCalls.{WritesGiven, WritesItems};
-ghost use Rattle.wasm_calls.specs.Appending.{IsRefusedList};
+ghost use Rattle.wasm_sink.specs.Sink.{IsUnchangedAtErr, Emits};
+ghost use Rattle.wasm_sink.specs.ListCalls.{EmitsItems};
 ghost use Rattle.wasm_instructions.specs.formats.Opcodes.{without_prefix};
 ghost use Rattle.wasm_instructions.specs.declared.table.call.Operands.TheVariants as operands;
 
@@ -19,9 +17,7 @@ use wasm_instructions::table::Prefix;
 impl<'a, A: Allocator> InstructionSink<'a, A> {
     /// `unreachable`: `0x00`.
     pub fn unreachable(self) -> Result<InstructionSink<'a, A>, EncodeError>
-        ensures wrote { Writes self.entry (without_prefix 0x00) operands.None result }
-        ensures same { IsSameSink self.entry result }
-        ensures room { HasRoom self.entry → IsOk result }
+        ensures emits { Emits self.entry (without_prefix 0x00) operands.None result }
         ensures* unchanged { sem 𝓛 (IsUnchangedAtErr A.row A.Allocator self.entry result) }
     {
         self.emit(Prefix::None, 0x00)
@@ -29,9 +25,7 @@ impl<'a, A: Allocator> InstructionSink<'a, A> {
 
     /// `nop`: `0x01`.
     pub fn nop(self) -> Result<InstructionSink<'a, A>, EncodeError>
-        ensures wrote { Writes self.entry (without_prefix 0x01) operands.None result }
-        ensures same { IsSameSink self.entry result }
-        ensures room { HasRoom self.entry → IsOk result }
+        ensures emits { Emits self.entry (without_prefix 0x01) operands.None result }
         ensures* unchanged { sem 𝓛 (IsUnchangedAtErr A.row A.Allocator self.entry result) }
     {
         self.emit(Prefix::None, 0x01)
@@ -39,9 +33,7 @@ impl<'a, A: Allocator> InstructionSink<'a, A> {
 
     /// `block`: `0x02`, then a block type.
     pub fn block(self, block_type: BlockType) -> Result<InstructionSink<'a, A>, EncodeError>
-        ensures wrote { Writes self.entry (without_prefix 0x02) (operands.Block block_type) result }
-        ensures same { IsSameSink self.entry result }
-        ensures room { HasRoom self.entry → IsOk result }
+        ensures emits { Emits self.entry (without_prefix 0x02) (operands.Block block_type) result }
         ensures* unchanged { sem 𝓛 (IsUnchangedAtErr A.row A.Allocator self.entry result) }
     {
         self.emit_block(0x02, block_type)
@@ -49,9 +41,7 @@ impl<'a, A: Allocator> InstructionSink<'a, A> {
 
     /// `loop`: `0x03`, then a block type.
     pub fn loop_(self, block_type: BlockType) -> Result<InstructionSink<'a, A>, EncodeError>
-        ensures wrote { Writes self.entry (without_prefix 0x03) (operands.Block block_type) result }
-        ensures same { IsSameSink self.entry result }
-        ensures room { HasRoom self.entry → IsOk result }
+        ensures emits { Emits self.entry (without_prefix 0x03) (operands.Block block_type) result }
         ensures* unchanged { sem 𝓛 (IsUnchangedAtErr A.row A.Allocator self.entry result) }
     {
         self.emit_block(0x03, block_type)
@@ -59,9 +49,7 @@ impl<'a, A: Allocator> InstructionSink<'a, A> {
 
     /// `if`: `0x04`, then a block type.
     pub fn if_(self, block_type: BlockType) -> Result<InstructionSink<'a, A>, EncodeError>
-        ensures wrote { Writes self.entry (without_prefix 0x04) (operands.Block block_type) result }
-        ensures same { IsSameSink self.entry result }
-        ensures room { HasRoom self.entry → IsOk result }
+        ensures emits { Emits self.entry (without_prefix 0x04) (operands.Block block_type) result }
         ensures* unchanged { sem 𝓛 (IsUnchangedAtErr A.row A.Allocator self.entry result) }
     {
         self.emit_block(0x04, block_type)
@@ -69,9 +57,7 @@ impl<'a, A: Allocator> InstructionSink<'a, A> {
 
     /// `else`: `0x05`.
     pub fn else_(self) -> Result<InstructionSink<'a, A>, EncodeError>
-        ensures wrote { Writes self.entry (without_prefix 0x05) operands.None result }
-        ensures same { IsSameSink self.entry result }
-        ensures room { HasRoom self.entry → IsOk result }
+        ensures emits { Emits self.entry (without_prefix 0x05) operands.None result }
         ensures* unchanged { sem 𝓛 (IsUnchangedAtErr A.row A.Allocator self.entry result) }
     {
         self.emit(Prefix::None, 0x05)
@@ -79,9 +65,7 @@ impl<'a, A: Allocator> InstructionSink<'a, A> {
 
     /// `try`: `0x06`, then a block type.
     pub fn try_(self, block_type: BlockType) -> Result<InstructionSink<'a, A>, EncodeError>
-        ensures wrote { Writes self.entry (without_prefix 0x06) (operands.Block block_type) result }
-        ensures same { IsSameSink self.entry result }
-        ensures room { HasRoom self.entry → IsOk result }
+        ensures emits { Emits self.entry (without_prefix 0x06) (operands.Block block_type) result }
         ensures* unchanged { sem 𝓛 (IsUnchangedAtErr A.row A.Allocator self.entry result) }
     {
         self.emit_block(0x06, block_type)
@@ -89,9 +73,7 @@ impl<'a, A: Allocator> InstructionSink<'a, A> {
 
     /// `catch`: `0x07`, then a tag index.
     pub fn catch(self, tag: u32) -> Result<InstructionSink<'a, A>, EncodeError>
-        ensures wrote { Writes self.entry (without_prefix 0x07) (operands.Index tag) result }
-        ensures same { IsSameSink self.entry result }
-        ensures room { HasRoom self.entry → IsOk result }
+        ensures emits { Emits self.entry (without_prefix 0x07) (operands.Index tag) result }
         ensures* unchanged { sem 𝓛 (IsUnchangedAtErr A.row A.Allocator self.entry result) }
     {
         self.emit_index(Prefix::None, 0x07, tag)
@@ -99,9 +81,7 @@ impl<'a, A: Allocator> InstructionSink<'a, A> {
 
     /// `throw`: `0x08`, then a tag index.
     pub fn throw(self, tag: u32) -> Result<InstructionSink<'a, A>, EncodeError>
-        ensures wrote { Writes self.entry (without_prefix 0x08) (operands.Index tag) result }
-        ensures same { IsSameSink self.entry result }
-        ensures room { HasRoom self.entry → IsOk result }
+        ensures emits { Emits self.entry (without_prefix 0x08) (operands.Index tag) result }
         ensures* unchanged { sem 𝓛 (IsUnchangedAtErr A.row A.Allocator self.entry result) }
     {
         self.emit_index(Prefix::None, 0x08, tag)
@@ -109,9 +89,7 @@ impl<'a, A: Allocator> InstructionSink<'a, A> {
 
     /// `rethrow`: `0x09`, then a label index.
     pub fn rethrow(self, label: u32) -> Result<InstructionSink<'a, A>, EncodeError>
-        ensures wrote { Writes self.entry (without_prefix 0x09) (operands.Index label) result }
-        ensures same { IsSameSink self.entry result }
-        ensures room { HasRoom self.entry → IsOk result }
+        ensures emits { Emits self.entry (without_prefix 0x09) (operands.Index label) result }
         ensures* unchanged { sem 𝓛 (IsUnchangedAtErr A.row A.Allocator self.entry result) }
     {
         self.emit_index(Prefix::None, 0x09, label)
@@ -119,9 +97,7 @@ impl<'a, A: Allocator> InstructionSink<'a, A> {
 
     /// `throw_ref`: `0x0A`.
     pub fn throw_ref(self) -> Result<InstructionSink<'a, A>, EncodeError>
-        ensures wrote { Writes self.entry (without_prefix 0x0a) operands.None result }
-        ensures same { IsSameSink self.entry result }
-        ensures room { HasRoom self.entry → IsOk result }
+        ensures emits { Emits self.entry (without_prefix 0x0a) operands.None result }
         ensures* unchanged { sem 𝓛 (IsUnchangedAtErr A.row A.Allocator self.entry result) }
     {
         self.emit(Prefix::None, 0x0a)
@@ -129,9 +105,7 @@ impl<'a, A: Allocator> InstructionSink<'a, A> {
 
     /// `end`: `0x0B`.
     pub fn end(self) -> Result<InstructionSink<'a, A>, EncodeError>
-        ensures wrote { Writes self.entry (without_prefix 0x0b) operands.None result }
-        ensures same { IsSameSink self.entry result }
-        ensures room { HasRoom self.entry → IsOk result }
+        ensures emits { Emits self.entry (without_prefix 0x0b) operands.None result }
         ensures* unchanged { sem 𝓛 (IsUnchangedAtErr A.row A.Allocator self.entry result) }
     {
         self.emit(Prefix::None, 0x0b)
@@ -139,9 +113,7 @@ impl<'a, A: Allocator> InstructionSink<'a, A> {
 
     /// `br`: `0x0C`, then a label index.
     pub fn br(self, label: u32) -> Result<InstructionSink<'a, A>, EncodeError>
-        ensures wrote { Writes self.entry (without_prefix 0x0c) (operands.Index label) result }
-        ensures same { IsSameSink self.entry result }
-        ensures room { HasRoom self.entry → IsOk result }
+        ensures emits { Emits self.entry (without_prefix 0x0c) (operands.Index label) result }
         ensures* unchanged { sem 𝓛 (IsUnchangedAtErr A.row A.Allocator self.entry result) }
     {
         self.emit_index(Prefix::None, 0x0c, label)
@@ -149,9 +121,7 @@ impl<'a, A: Allocator> InstructionSink<'a, A> {
 
     /// `br_if`: `0x0D`, then a label index.
     pub fn br_if(self, label: u32) -> Result<InstructionSink<'a, A>, EncodeError>
-        ensures wrote { Writes self.entry (without_prefix 0x0d) (operands.Index label) result }
-        ensures same { IsSameSink self.entry result }
-        ensures room { HasRoom self.entry → IsOk result }
+        ensures emits { Emits self.entry (without_prefix 0x0d) (operands.Index label) result }
         ensures* unchanged { sem 𝓛 (IsUnchangedAtErr A.row A.Allocator self.entry result) }
     {
         self.emit_index(Prefix::None, 0x0d, label)
@@ -165,10 +135,7 @@ impl<'a, A: Allocator> InstructionSink<'a, A> {
         default: u32,
     ) -> Result<InstructionSink<'a, A>, EncodeError>
         requires { I.can_next labels }
-        ensures wrote { WritesItems I.next_gives self.entry (without_prefix 0x0e) (λ xs. operands.BrTable xs default) labels result }
-        ensures stands { WritesGiven I.next_gives self.entry (without_prefix 0x0e) (λ xs. operands.BrTable xs default) labels result }
-        ensures same { IsSameSink self.entry result }
-        ensures err { IfErr result (IsRefusedList (size (I.remaining labels))) }
+        ensures emits { EmitsItems I.next_gives self.entry (without_prefix 0x0e) (λ xs. operands.BrTable xs default) labels (size (I.remaining labels)) result }
         ensures* unchanged { sem 𝓛 (IsUnchangedAtErr A.row A.Allocator self.entry result) }
     {
         self.emit_branch_table(0x0e, labels, default)
@@ -176,9 +143,7 @@ impl<'a, A: Allocator> InstructionSink<'a, A> {
 
     /// `return`: `0x0F`.
     pub fn return_(self) -> Result<InstructionSink<'a, A>, EncodeError>
-        ensures wrote { Writes self.entry (without_prefix 0x0f) operands.None result }
-        ensures same { IsSameSink self.entry result }
-        ensures room { HasRoom self.entry → IsOk result }
+        ensures emits { Emits self.entry (without_prefix 0x0f) operands.None result }
         ensures* unchanged { sem 𝓛 (IsUnchangedAtErr A.row A.Allocator self.entry result) }
     {
         self.emit(Prefix::None, 0x0f)
@@ -186,9 +151,7 @@ impl<'a, A: Allocator> InstructionSink<'a, A> {
 
     /// `call`: `0x10`, then a function index.
     pub fn call(self, function: u32) -> Result<InstructionSink<'a, A>, EncodeError>
-        ensures wrote { Writes self.entry (without_prefix 0x10) (operands.Index function) result }
-        ensures same { IsSameSink self.entry result }
-        ensures room { HasRoom self.entry → IsOk result }
+        ensures emits { Emits self.entry (without_prefix 0x10) (operands.Index function) result }
         ensures* unchanged { sem 𝓛 (IsUnchangedAtErr A.row A.Allocator self.entry result) }
     {
         self.emit_index(Prefix::None, 0x10, function)
@@ -196,9 +159,7 @@ impl<'a, A: Allocator> InstructionSink<'a, A> {
 
     /// `call_indirect`: `0x11`, then a type index and a table index.
     pub fn call_indirect(self, table: u32, ty: u32) -> Result<InstructionSink<'a, A>, EncodeError>
-        ensures wrote { Writes self.entry (without_prefix 0x11) (operands.TwoIndexes ty table) result }
-        ensures same { IsSameSink self.entry result }
-        ensures room { HasRoom self.entry → IsOk result }
+        ensures emits { Emits self.entry (without_prefix 0x11) (operands.TwoIndexes ty table) result }
         ensures* unchanged { sem 𝓛 (IsUnchangedAtErr A.row A.Allocator self.entry result) }
     {
         self.emit_two_indexes(Prefix::None, 0x11, ty, table)
@@ -206,9 +167,7 @@ impl<'a, A: Allocator> InstructionSink<'a, A> {
 
     /// `return_call`: `0x12`, then a function index.
     pub fn return_call(self, function: u32) -> Result<InstructionSink<'a, A>, EncodeError>
-        ensures wrote { Writes self.entry (without_prefix 0x12) (operands.Index function) result }
-        ensures same { IsSameSink self.entry result }
-        ensures room { HasRoom self.entry → IsOk result }
+        ensures emits { Emits self.entry (without_prefix 0x12) (operands.Index function) result }
         ensures* unchanged { sem 𝓛 (IsUnchangedAtErr A.row A.Allocator self.entry result) }
     {
         self.emit_index(Prefix::None, 0x12, function)
@@ -220,9 +179,7 @@ impl<'a, A: Allocator> InstructionSink<'a, A> {
         table: u32,
         ty: u32,
     ) -> Result<InstructionSink<'a, A>, EncodeError>
-        ensures wrote { Writes self.entry (without_prefix 0x13) (operands.TwoIndexes ty table) result }
-        ensures same { IsSameSink self.entry result }
-        ensures room { HasRoom self.entry → IsOk result }
+        ensures emits { Emits self.entry (without_prefix 0x13) (operands.TwoIndexes ty table) result }
         ensures* unchanged { sem 𝓛 (IsUnchangedAtErr A.row A.Allocator self.entry result) }
     {
         self.emit_two_indexes(Prefix::None, 0x13, ty, table)
@@ -230,9 +187,7 @@ impl<'a, A: Allocator> InstructionSink<'a, A> {
 
     /// `call_ref`: `0x14`, then a type index.
     pub fn call_ref(self, ty: u32) -> Result<InstructionSink<'a, A>, EncodeError>
-        ensures wrote { Writes self.entry (without_prefix 0x14) (operands.Index ty) result }
-        ensures same { IsSameSink self.entry result }
-        ensures room { HasRoom self.entry → IsOk result }
+        ensures emits { Emits self.entry (without_prefix 0x14) (operands.Index ty) result }
         ensures* unchanged { sem 𝓛 (IsUnchangedAtErr A.row A.Allocator self.entry result) }
     {
         self.emit_index(Prefix::None, 0x14, ty)
@@ -240,9 +195,7 @@ impl<'a, A: Allocator> InstructionSink<'a, A> {
 
     /// `return_call_ref`: `0x15`, then a type index.
     pub fn return_call_ref(self, ty: u32) -> Result<InstructionSink<'a, A>, EncodeError>
-        ensures wrote { Writes self.entry (without_prefix 0x15) (operands.Index ty) result }
-        ensures same { IsSameSink self.entry result }
-        ensures room { HasRoom self.entry → IsOk result }
+        ensures emits { Emits self.entry (without_prefix 0x15) (operands.Index ty) result }
         ensures* unchanged { sem 𝓛 (IsUnchangedAtErr A.row A.Allocator self.entry result) }
     {
         self.emit_index(Prefix::None, 0x15, ty)
@@ -250,9 +203,7 @@ impl<'a, A: Allocator> InstructionSink<'a, A> {
 
     /// `delegate`: `0x18`, then a label index.
     pub fn delegate(self, label: u32) -> Result<InstructionSink<'a, A>, EncodeError>
-        ensures wrote { Writes self.entry (without_prefix 0x18) (operands.Index label) result }
-        ensures same { IsSameSink self.entry result }
-        ensures room { HasRoom self.entry → IsOk result }
+        ensures emits { Emits self.entry (without_prefix 0x18) (operands.Index label) result }
         ensures* unchanged { sem 𝓛 (IsUnchangedAtErr A.row A.Allocator self.entry result) }
     {
         self.emit_index(Prefix::None, 0x18, label)
@@ -260,9 +211,7 @@ impl<'a, A: Allocator> InstructionSink<'a, A> {
 
     /// `catch_all`: `0x19`.
     pub fn catch_all(self) -> Result<InstructionSink<'a, A>, EncodeError>
-        ensures wrote { Writes self.entry (without_prefix 0x19) operands.None result }
-        ensures same { IsSameSink self.entry result }
-        ensures room { HasRoom self.entry → IsOk result }
+        ensures emits { Emits self.entry (without_prefix 0x19) operands.None result }
         ensures* unchanged { sem 𝓛 (IsUnchangedAtErr A.row A.Allocator self.entry result) }
     {
         self.emit(Prefix::None, 0x19)
@@ -276,10 +225,7 @@ impl<'a, A: Allocator> InstructionSink<'a, A> {
         clauses: I,
     ) -> Result<InstructionSink<'a, A>, EncodeError>
         requires { I.can_next clauses }
-        ensures wrote { WritesItems I.next_gives self.entry (without_prefix 0x1f) (λ xs. operands.TryTable block_type xs) clauses result }
-        ensures stands { WritesGiven I.next_gives self.entry (without_prefix 0x1f) (λ xs. operands.TryTable block_type xs) clauses result }
-        ensures same { IsSameSink self.entry result }
-        ensures err { IfErr result (IsRefusedList (size (I.remaining clauses))) }
+        ensures emits { EmitsItems I.next_gives self.entry (without_prefix 0x1f) (λ xs. operands.TryTable block_type xs) clauses (size (I.remaining clauses)) result }
         ensures* unchanged { sem 𝓛 (IsUnchangedAtErr A.row A.Allocator self.entry result) }
     {
         self.emit_try_table(0x1f, block_type, clauses)

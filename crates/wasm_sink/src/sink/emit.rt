@@ -1,8 +1,7 @@
 //! One emitter for each kind of operands: it calls the kind's appender over the sink's list of bytes. It takes the
 //! opcode's number, and its prefix if opcodes of the kind differ in it.
-ghost use Rattle.std.specs.Prelude.{IsOk};
 ghost use Rattle.std.specs.Borrow.{sem};
-ghost use Rattle.wasm_sink.specs.Sink.{opcode_of, IsUnchangedAtErr, IsSameSink, Writes, HasRoom};
+ghost use Rattle.wasm_sink.specs.Sink.{opcode_of, IsUnchangedAtErr, Emits};
 ghost use Rattle.wasm_instructions.specs.Instructions.{IsCall};
 ghost use Rattle.wasm_instructions.specs.declared.table.call.Operands.TheVariants as operands;
 
@@ -27,9 +26,7 @@ impl<'a, A: Allocator> InstructionSink<'a, A> {
         number: u32,
     ) -> Result<InstructionSink<'a, A>, EncodeError>
         requires call { IsCall (opcode_of prefix number) operands.None }
-        ensures wrote { Writes self.entry (opcode_of prefix number) operands.None result }
-        ensures same { IsSameSink self.entry result }
-        ensures room { HasRoom self.entry → IsOk result }
+        ensures emits { Emits self.entry (opcode_of prefix number) operands.None result }
         ensures* unchanged { sem 𝓛 (IsUnchangedAtErr A.row A.Allocator self.entry result) }
     {
         let InstructionSink { bytes } = self;
@@ -45,9 +42,7 @@ impl<'a, A: Allocator> InstructionSink<'a, A> {
         index: u32,
     ) -> Result<InstructionSink<'a, A>, EncodeError>
         requires call { IsCall (opcode_of prefix number) (operands.Index index) }
-        ensures wrote { Writes self.entry (opcode_of prefix number) (operands.Index index) result }
-        ensures same { IsSameSink self.entry result }
-        ensures room { HasRoom self.entry → IsOk result }
+        ensures emits { Emits self.entry (opcode_of prefix number) (operands.Index index) result }
         ensures* unchanged { sem 𝓛 (IsUnchangedAtErr A.row A.Allocator self.entry result) }
     {
         let InstructionSink { bytes } = self;
@@ -64,9 +59,7 @@ impl<'a, A: Allocator> InstructionSink<'a, A> {
         second: u32,
     ) -> Result<InstructionSink<'a, A>, EncodeError>
         requires call { IsCall (opcode_of prefix number) (operands.TwoIndexes first second) }
-        ensures wrote { Writes self.entry (opcode_of prefix number) (operands.TwoIndexes first second) result }
-        ensures same { IsSameSink self.entry result }
-        ensures room { HasRoom self.entry → IsOk result }
+        ensures emits { Emits self.entry (opcode_of prefix number) (operands.TwoIndexes first second) result }
         ensures* unchanged { sem 𝓛 (IsUnchangedAtErr A.row A.Allocator self.entry result) }
     {
         let InstructionSink { bytes } = self;

@@ -1,8 +1,8 @@
 //! `drop` and `select` (Core 3.0, Parametric Instructions).
-ghost use Rattle.std.specs.Prelude.{◌∷◌, [], length, IsOk};
+ghost use Rattle.std.specs.Prelude.{◌∷◌, [], length};
 ghost use Rattle.std.specs.Borrow.{sem};
-ghost use Rattle.wasm_sink.specs.Sink.{IsUnchangedAtErr, IsSameSink, Writes, HasRoom};
-ghost use Rattle.wasm_sink.specs.ListCalls.{WritesList};
+ghost use Rattle.wasm_sink.specs.Sink.{IsUnchangedAtErr, Emits};
+ghost use Rattle.wasm_sink.specs.ListCalls.{EmitsList};
 ghost use Rattle.wasm_instructions.specs.formats.Opcodes.{without_prefix};
 ghost use Rattle.wasm_instructions.specs.declared.table.call.Operands.TheVariants as operands;
 
@@ -16,9 +16,7 @@ use wasm_types::types::ValType;
 impl<'a, A: Allocator> InstructionSink<'a, A> {
     /// `drop`: `0x1A`.
     pub fn drop(self) -> Result<InstructionSink<'a, A>, EncodeError>
-        ensures wrote { Writes self.entry (without_prefix 0x1a) operands.None result }
-        ensures same { IsSameSink self.entry result }
-        ensures room { HasRoom self.entry → IsOk result }
+        ensures emits { Emits self.entry (without_prefix 0x1a) operands.None result }
         ensures* unchanged { sem 𝓛 (IsUnchangedAtErr A.row A.Allocator self.entry result) }
     {
         self.emit(Prefix::None, 0x1a)
@@ -26,9 +24,7 @@ impl<'a, A: Allocator> InstructionSink<'a, A> {
 
     /// `select`: `0x1B`.
     pub fn select(self) -> Result<InstructionSink<'a, A>, EncodeError>
-        ensures wrote { Writes self.entry (without_prefix 0x1b) operands.None result }
-        ensures same { IsSameSink self.entry result }
-        ensures room { HasRoom self.entry → IsOk result }
+        ensures emits { Emits self.entry (without_prefix 0x1b) operands.None result }
         ensures* unchanged { sem 𝓛 (IsUnchangedAtErr A.row A.Allocator self.entry result) }
     {
         self.emit(Prefix::None, 0x1b)
@@ -36,9 +32,7 @@ impl<'a, A: Allocator> InstructionSink<'a, A> {
 
     /// `select` with one type: `0x1C`, then a list of one value type.
     pub fn typed_select(self, ty: ValType) -> Result<InstructionSink<'a, A>, EncodeError>
-        ensures wrote { Writes self.entry (without_prefix 0x1c) (operands.Types (ty ∷ [])) result }
-        ensures same { IsSameSink self.entry result }
-        ensures room { HasRoom self.entry → IsOk result }
+        ensures emits { Emits self.entry (without_prefix 0x1c) (operands.Types (ty ∷ [])) result }
         ensures* unchanged { sem 𝓛 (IsUnchangedAtErr A.row A.Allocator self.entry result) }
     {
         self.emit_type(0x1c, ty)
@@ -50,8 +44,7 @@ impl<'a, A: Allocator> InstructionSink<'a, A> {
         self,
         types: &[ValType],
     ) -> Result<InstructionSink<'a, A>, EncodeError>
-        ensures wrote { WritesList self.entry (without_prefix 0x1c) (operands.Types types.now) (length types.now) result }
-        ensures same { IsSameSink self.entry result }
+        ensures emits { EmitsList self.entry (without_prefix 0x1c) (operands.Types types.now) (length types.now) result }
         ensures* unchanged { sem 𝓛 (IsUnchangedAtErr A.row A.Allocator self.entry result) }
     {
         self.emit_types(0x1c, types)

@@ -1,8 +1,7 @@
 //! Instructions on references, and branches on them (Core 3.0, Reference Instructions and Control Instructions), and
 //! those with descriptors (custom descriptors proposal).
-ghost use Rattle.std.specs.Prelude.{IsOk};
 ghost use Rattle.std.specs.Borrow.{sem};
-ghost use Rattle.wasm_sink.specs.Sink.{IsUnchangedAtErr, IsSameSink, Writes, HasRoom};
+ghost use Rattle.wasm_sink.specs.Sink.{IsUnchangedAtErr, Emits};
 ghost use Rattle.wasm_instructions.specs.formats.Opcodes.{without_prefix, after_fb};
 ghost use Rattle.wasm_instructions.specs.declared.table.call.Operands.TheVariants as operands;
 
@@ -16,9 +15,7 @@ use wasm_types::types::{HeapType, RefType};
 impl<'a, A: Allocator> InstructionSink<'a, A> {
     /// `ref.null`: `0xD0`, then a heap type.
     pub fn ref_null(self, heap_type: HeapType) -> Result<InstructionSink<'a, A>, EncodeError>
-        ensures wrote { Writes self.entry (without_prefix 0xd0) (operands.Heap heap_type) result }
-        ensures same { IsSameSink self.entry result }
-        ensures room { HasRoom self.entry → IsOk result }
+        ensures emits { Emits self.entry (without_prefix 0xd0) (operands.Heap heap_type) result }
         ensures* unchanged { sem 𝓛 (IsUnchangedAtErr A.row A.Allocator self.entry result) }
     {
         self.emit_heap(Prefix::None, 0xd0, heap_type)
@@ -26,9 +23,7 @@ impl<'a, A: Allocator> InstructionSink<'a, A> {
 
     /// `ref.is_null`: `0xD1`.
     pub fn ref_is_null(self) -> Result<InstructionSink<'a, A>, EncodeError>
-        ensures wrote { Writes self.entry (without_prefix 0xd1) operands.None result }
-        ensures same { IsSameSink self.entry result }
-        ensures room { HasRoom self.entry → IsOk result }
+        ensures emits { Emits self.entry (without_prefix 0xd1) operands.None result }
         ensures* unchanged { sem 𝓛 (IsUnchangedAtErr A.row A.Allocator self.entry result) }
     {
         self.emit(Prefix::None, 0xd1)
@@ -36,9 +31,7 @@ impl<'a, A: Allocator> InstructionSink<'a, A> {
 
     /// `ref.func`: `0xD2`, then a function index.
     pub fn ref_func(self, function: u32) -> Result<InstructionSink<'a, A>, EncodeError>
-        ensures wrote { Writes self.entry (without_prefix 0xd2) (operands.Index function) result }
-        ensures same { IsSameSink self.entry result }
-        ensures room { HasRoom self.entry → IsOk result }
+        ensures emits { Emits self.entry (without_prefix 0xd2) (operands.Index function) result }
         ensures* unchanged { sem 𝓛 (IsUnchangedAtErr A.row A.Allocator self.entry result) }
     {
         self.emit_index(Prefix::None, 0xd2, function)
@@ -46,9 +39,7 @@ impl<'a, A: Allocator> InstructionSink<'a, A> {
 
     /// `ref.eq`: `0xD3`.
     pub fn ref_eq(self) -> Result<InstructionSink<'a, A>, EncodeError>
-        ensures wrote { Writes self.entry (without_prefix 0xd3) operands.None result }
-        ensures same { IsSameSink self.entry result }
-        ensures room { HasRoom self.entry → IsOk result }
+        ensures emits { Emits self.entry (without_prefix 0xd3) operands.None result }
         ensures* unchanged { sem 𝓛 (IsUnchangedAtErr A.row A.Allocator self.entry result) }
     {
         self.emit(Prefix::None, 0xd3)
@@ -56,9 +47,7 @@ impl<'a, A: Allocator> InstructionSink<'a, A> {
 
     /// `ref.as_non_null`: `0xD4`.
     pub fn ref_as_non_null(self) -> Result<InstructionSink<'a, A>, EncodeError>
-        ensures wrote { Writes self.entry (without_prefix 0xd4) operands.None result }
-        ensures same { IsSameSink self.entry result }
-        ensures room { HasRoom self.entry → IsOk result }
+        ensures emits { Emits self.entry (without_prefix 0xd4) operands.None result }
         ensures* unchanged { sem 𝓛 (IsUnchangedAtErr A.row A.Allocator self.entry result) }
     {
         self.emit(Prefix::None, 0xd4)
@@ -66,9 +55,7 @@ impl<'a, A: Allocator> InstructionSink<'a, A> {
 
     /// `br_on_null`: `0xD5`, then a label index.
     pub fn br_on_null(self, label: u32) -> Result<InstructionSink<'a, A>, EncodeError>
-        ensures wrote { Writes self.entry (without_prefix 0xd5) (operands.Index label) result }
-        ensures same { IsSameSink self.entry result }
-        ensures room { HasRoom self.entry → IsOk result }
+        ensures emits { Emits self.entry (without_prefix 0xd5) (operands.Index label) result }
         ensures* unchanged { sem 𝓛 (IsUnchangedAtErr A.row A.Allocator self.entry result) }
     {
         self.emit_index(Prefix::None, 0xd5, label)
@@ -76,9 +63,7 @@ impl<'a, A: Allocator> InstructionSink<'a, A> {
 
     /// `br_on_non_null`: `0xD6`, then a label index.
     pub fn br_on_non_null(self, label: u32) -> Result<InstructionSink<'a, A>, EncodeError>
-        ensures wrote { Writes self.entry (without_prefix 0xd6) (operands.Index label) result }
-        ensures same { IsSameSink self.entry result }
-        ensures room { HasRoom self.entry → IsOk result }
+        ensures emits { Emits self.entry (without_prefix 0xd6) (operands.Index label) result }
         ensures* unchanged { sem 𝓛 (IsUnchangedAtErr A.row A.Allocator self.entry result) }
     {
         self.emit_index(Prefix::None, 0xd6, label)
@@ -89,9 +74,7 @@ impl<'a, A: Allocator> InstructionSink<'a, A> {
         self,
         heap_type: HeapType,
     ) -> Result<InstructionSink<'a, A>, EncodeError>
-        ensures wrote { Writes self.entry (after_fb 0x14) (operands.Heap heap_type) result }
-        ensures same { IsSameSink self.entry result }
-        ensures room { HasRoom self.entry → IsOk result }
+        ensures emits { Emits self.entry (after_fb 0x14) (operands.Heap heap_type) result }
         ensures* unchanged { sem 𝓛 (IsUnchangedAtErr A.row A.Allocator self.entry result) }
     {
         self.emit_heap(Prefix::Fb, 0x14, heap_type)
@@ -102,9 +85,7 @@ impl<'a, A: Allocator> InstructionSink<'a, A> {
         self,
         heap_type: HeapType,
     ) -> Result<InstructionSink<'a, A>, EncodeError>
-        ensures wrote { Writes self.entry (after_fb 0x15) (operands.Heap heap_type) result }
-        ensures same { IsSameSink self.entry result }
-        ensures room { HasRoom self.entry → IsOk result }
+        ensures emits { Emits self.entry (after_fb 0x15) (operands.Heap heap_type) result }
         ensures* unchanged { sem 𝓛 (IsUnchangedAtErr A.row A.Allocator self.entry result) }
     {
         self.emit_heap(Prefix::Fb, 0x15, heap_type)
@@ -115,9 +96,7 @@ impl<'a, A: Allocator> InstructionSink<'a, A> {
         self,
         heap_type: HeapType,
     ) -> Result<InstructionSink<'a, A>, EncodeError>
-        ensures wrote { Writes self.entry (after_fb 0x16) (operands.Heap heap_type) result }
-        ensures same { IsSameSink self.entry result }
-        ensures room { HasRoom self.entry → IsOk result }
+        ensures emits { Emits self.entry (after_fb 0x16) (operands.Heap heap_type) result }
         ensures* unchanged { sem 𝓛 (IsUnchangedAtErr A.row A.Allocator self.entry result) }
     {
         self.emit_heap(Prefix::Fb, 0x16, heap_type)
@@ -128,9 +107,7 @@ impl<'a, A: Allocator> InstructionSink<'a, A> {
         self,
         heap_type: HeapType,
     ) -> Result<InstructionSink<'a, A>, EncodeError>
-        ensures wrote { Writes self.entry (after_fb 0x17) (operands.Heap heap_type) result }
-        ensures same { IsSameSink self.entry result }
-        ensures room { HasRoom self.entry → IsOk result }
+        ensures emits { Emits self.entry (after_fb 0x17) (operands.Heap heap_type) result }
         ensures* unchanged { sem 𝓛 (IsUnchangedAtErr A.row A.Allocator self.entry result) }
     {
         self.emit_heap(Prefix::Fb, 0x17, heap_type)
@@ -143,9 +120,7 @@ impl<'a, A: Allocator> InstructionSink<'a, A> {
         from: RefType,
         to: RefType,
     ) -> Result<InstructionSink<'a, A>, EncodeError>
-        ensures wrote { Writes self.entry (after_fb 0x18) (operands.Cast label from to) result }
-        ensures same { IsSameSink self.entry result }
-        ensures room { HasRoom self.entry → IsOk result }
+        ensures emits { Emits self.entry (after_fb 0x18) (operands.Cast label from to) result }
         ensures* unchanged { sem 𝓛 (IsUnchangedAtErr A.row A.Allocator self.entry result) }
     {
         self.emit_cast(0x18, label, from, to)
@@ -159,9 +134,7 @@ impl<'a, A: Allocator> InstructionSink<'a, A> {
         from: RefType,
         to: RefType,
     ) -> Result<InstructionSink<'a, A>, EncodeError>
-        ensures wrote { Writes self.entry (after_fb 0x19) (operands.Cast label from to) result }
-        ensures same { IsSameSink self.entry result }
-        ensures room { HasRoom self.entry → IsOk result }
+        ensures emits { Emits self.entry (after_fb 0x19) (operands.Cast label from to) result }
         ensures* unchanged { sem 𝓛 (IsUnchangedAtErr A.row A.Allocator self.entry result) }
     {
         self.emit_cast(0x19, label, from, to)
@@ -169,9 +142,7 @@ impl<'a, A: Allocator> InstructionSink<'a, A> {
 
     /// `any.convert_extern`: `0xFB 0x1A`.
     pub fn any_convert_extern(self) -> Result<InstructionSink<'a, A>, EncodeError>
-        ensures wrote { Writes self.entry (after_fb 0x1a) operands.None result }
-        ensures same { IsSameSink self.entry result }
-        ensures room { HasRoom self.entry → IsOk result }
+        ensures emits { Emits self.entry (after_fb 0x1a) operands.None result }
         ensures* unchanged { sem 𝓛 (IsUnchangedAtErr A.row A.Allocator self.entry result) }
     {
         self.emit(Prefix::Fb, 0x1a)
@@ -179,9 +150,7 @@ impl<'a, A: Allocator> InstructionSink<'a, A> {
 
     /// `extern.convert_any`: `0xFB 0x1B`.
     pub fn extern_convert_any(self) -> Result<InstructionSink<'a, A>, EncodeError>
-        ensures wrote { Writes self.entry (after_fb 0x1b) operands.None result }
-        ensures same { IsSameSink self.entry result }
-        ensures room { HasRoom self.entry → IsOk result }
+        ensures emits { Emits self.entry (after_fb 0x1b) operands.None result }
         ensures* unchanged { sem 𝓛 (IsUnchangedAtErr A.row A.Allocator self.entry result) }
     {
         self.emit(Prefix::Fb, 0x1b)
@@ -189,9 +158,7 @@ impl<'a, A: Allocator> InstructionSink<'a, A> {
 
     /// `ref.i31`: `0xFB 0x1C`.
     pub fn ref_i31(self) -> Result<InstructionSink<'a, A>, EncodeError>
-        ensures wrote { Writes self.entry (after_fb 0x1c) operands.None result }
-        ensures same { IsSameSink self.entry result }
-        ensures room { HasRoom self.entry → IsOk result }
+        ensures emits { Emits self.entry (after_fb 0x1c) operands.None result }
         ensures* unchanged { sem 𝓛 (IsUnchangedAtErr A.row A.Allocator self.entry result) }
     {
         self.emit(Prefix::Fb, 0x1c)
@@ -199,9 +166,7 @@ impl<'a, A: Allocator> InstructionSink<'a, A> {
 
     /// `i31.get_s`: `0xFB 0x1D`.
     pub fn i31_get_s(self) -> Result<InstructionSink<'a, A>, EncodeError>
-        ensures wrote { Writes self.entry (after_fb 0x1d) operands.None result }
-        ensures same { IsSameSink self.entry result }
-        ensures room { HasRoom self.entry → IsOk result }
+        ensures emits { Emits self.entry (after_fb 0x1d) operands.None result }
         ensures* unchanged { sem 𝓛 (IsUnchangedAtErr A.row A.Allocator self.entry result) }
     {
         self.emit(Prefix::Fb, 0x1d)
@@ -209,9 +174,7 @@ impl<'a, A: Allocator> InstructionSink<'a, A> {
 
     /// `i31.get_u`: `0xFB 0x1E`.
     pub fn i31_get_u(self) -> Result<InstructionSink<'a, A>, EncodeError>
-        ensures wrote { Writes self.entry (after_fb 0x1e) operands.None result }
-        ensures same { IsSameSink self.entry result }
-        ensures room { HasRoom self.entry → IsOk result }
+        ensures emits { Emits self.entry (after_fb 0x1e) operands.None result }
         ensures* unchanged { sem 𝓛 (IsUnchangedAtErr A.row A.Allocator self.entry result) }
     {
         self.emit(Prefix::Fb, 0x1e)
@@ -219,9 +182,7 @@ impl<'a, A: Allocator> InstructionSink<'a, A> {
 
     /// `ref.get_desc`: `0xFB 0x22`, then a type index.
     pub fn ref_get_desc(self, ty: u32) -> Result<InstructionSink<'a, A>, EncodeError>
-        ensures wrote { Writes self.entry (after_fb 0x22) (operands.Index ty) result }
-        ensures same { IsSameSink self.entry result }
-        ensures room { HasRoom self.entry → IsOk result }
+        ensures emits { Emits self.entry (after_fb 0x22) (operands.Index ty) result }
         ensures* unchanged { sem 𝓛 (IsUnchangedAtErr A.row A.Allocator self.entry result) }
     {
         self.emit_index(Prefix::Fb, 0x22, ty)
@@ -232,9 +193,7 @@ impl<'a, A: Allocator> InstructionSink<'a, A> {
         self,
         heap_type: HeapType,
     ) -> Result<InstructionSink<'a, A>, EncodeError>
-        ensures wrote { Writes self.entry (after_fb 0x23) (operands.Heap heap_type) result }
-        ensures same { IsSameSink self.entry result }
-        ensures room { HasRoom self.entry → IsOk result }
+        ensures emits { Emits self.entry (after_fb 0x23) (operands.Heap heap_type) result }
         ensures* unchanged { sem 𝓛 (IsUnchangedAtErr A.row A.Allocator self.entry result) }
     {
         self.emit_heap(Prefix::Fb, 0x23, heap_type)
@@ -245,9 +204,7 @@ impl<'a, A: Allocator> InstructionSink<'a, A> {
         self,
         heap_type: HeapType,
     ) -> Result<InstructionSink<'a, A>, EncodeError>
-        ensures wrote { Writes self.entry (after_fb 0x24) (operands.Heap heap_type) result }
-        ensures same { IsSameSink self.entry result }
-        ensures room { HasRoom self.entry → IsOk result }
+        ensures emits { Emits self.entry (after_fb 0x24) (operands.Heap heap_type) result }
         ensures* unchanged { sem 𝓛 (IsUnchangedAtErr A.row A.Allocator self.entry result) }
     {
         self.emit_heap(Prefix::Fb, 0x24, heap_type)
@@ -261,9 +218,7 @@ impl<'a, A: Allocator> InstructionSink<'a, A> {
         from: RefType,
         to: RefType,
     ) -> Result<InstructionSink<'a, A>, EncodeError>
-        ensures wrote { Writes self.entry (after_fb 0x25) (operands.Cast label from to) result }
-        ensures same { IsSameSink self.entry result }
-        ensures room { HasRoom self.entry → IsOk result }
+        ensures emits { Emits self.entry (after_fb 0x25) (operands.Cast label from to) result }
         ensures* unchanged { sem 𝓛 (IsUnchangedAtErr A.row A.Allocator self.entry result) }
     {
         self.emit_cast(0x25, label, from, to)
@@ -277,9 +232,7 @@ impl<'a, A: Allocator> InstructionSink<'a, A> {
         from: RefType,
         to: RefType,
     ) -> Result<InstructionSink<'a, A>, EncodeError>
-        ensures wrote { Writes self.entry (after_fb 0x26) (operands.Cast label from to) result }
-        ensures same { IsSameSink self.entry result }
-        ensures room { HasRoom self.entry → IsOk result }
+        ensures emits { Emits self.entry (after_fb 0x26) (operands.Cast label from to) result }
         ensures* unchanged { sem 𝓛 (IsUnchangedAtErr A.row A.Allocator self.entry result) }
     {
         self.emit_cast(0x26, label, from, to)

@@ -1,10 +1,8 @@
 //! Instructions on continuations (stack switching proposal).
-ghost use Rattle.std.specs.Prelude.{IsOk, IfErr};
 ghost use Rattle.std.specs.Borrow.{sem};
 ghost use Rattle.std.specs.Iterator.{size};
-ghost use Rattle.wasm_sink.specs.Sink.{IsUnchangedAtErr, IsSameSink, Writes, HasRoom};
-ghost use Rattle.wasm_sink.specs.ListCalls.{WritesGiven, WritesItems};
-ghost use Rattle.wasm_calls.specs.Appending.{IsRefusedList};
+ghost use Rattle.wasm_sink.specs.Sink.{IsUnchangedAtErr, Emits};
+ghost use Rattle.wasm_sink.specs.ListCalls.{EmitsItems};
 ghost use Rattle.wasm_instructions.specs.formats.Opcodes.{without_prefix};
 ghost use Rattle.wasm_instructions.specs.declared.table.call.Operands.TheVariants as operands;
 
@@ -18,9 +16,7 @@ use wasm_instructions::table::Prefix;
 impl<'a, A: Allocator> InstructionSink<'a, A> {
     /// `cont.new`: `0xE0`, then a type index.
     pub fn cont_new(self, ty: u32) -> Result<InstructionSink<'a, A>, EncodeError>
-        ensures wrote { Writes self.entry (without_prefix 0xe0) (operands.Index ty) result }
-        ensures same { IsSameSink self.entry result }
-        ensures room { HasRoom self.entry → IsOk result }
+        ensures emits { Emits self.entry (without_prefix 0xe0) (operands.Index ty) result }
         ensures* unchanged { sem 𝓛 (IsUnchangedAtErr A.row A.Allocator self.entry result) }
     {
         self.emit_index(Prefix::None, 0xe0, ty)
@@ -32,9 +28,7 @@ impl<'a, A: Allocator> InstructionSink<'a, A> {
         argument_type: u32,
         result_type: u32,
     ) -> Result<InstructionSink<'a, A>, EncodeError>
-        ensures wrote { Writes self.entry (without_prefix 0xe1) (operands.TwoIndexes argument_type result_type) result }
-        ensures same { IsSameSink self.entry result }
-        ensures room { HasRoom self.entry → IsOk result }
+        ensures emits { Emits self.entry (without_prefix 0xe1) (operands.TwoIndexes argument_type result_type) result }
         ensures* unchanged { sem 𝓛 (IsUnchangedAtErr A.row A.Allocator self.entry result) }
     {
         self.emit_two_indexes(Prefix::None, 0xe1, argument_type, result_type)
@@ -42,9 +36,7 @@ impl<'a, A: Allocator> InstructionSink<'a, A> {
 
     /// `suspend`: `0xE2`, then a tag index.
     pub fn suspend(self, tag: u32) -> Result<InstructionSink<'a, A>, EncodeError>
-        ensures wrote { Writes self.entry (without_prefix 0xe2) (operands.Index tag) result }
-        ensures same { IsSameSink self.entry result }
-        ensures room { HasRoom self.entry → IsOk result }
+        ensures emits { Emits self.entry (without_prefix 0xe2) (operands.Index tag) result }
         ensures* unchanged { sem 𝓛 (IsUnchangedAtErr A.row A.Allocator self.entry result) }
     {
         self.emit_index(Prefix::None, 0xe2, tag)
@@ -58,10 +50,7 @@ impl<'a, A: Allocator> InstructionSink<'a, A> {
         handlers: I,
     ) -> Result<InstructionSink<'a, A>, EncodeError>
         requires { I.can_next handlers }
-        ensures wrote { WritesItems I.next_gives self.entry (without_prefix 0xe3) (λ xs. operands.Resume ty xs) handlers result }
-        ensures stands { WritesGiven I.next_gives self.entry (without_prefix 0xe3) (λ xs. operands.Resume ty xs) handlers result }
-        ensures same { IsSameSink self.entry result }
-        ensures err { IfErr result (IsRefusedList (size (I.remaining handlers))) }
+        ensures emits { EmitsItems I.next_gives self.entry (without_prefix 0xe3) (λ xs. operands.Resume ty xs) handlers (size (I.remaining handlers)) result }
         ensures* unchanged { sem 𝓛 (IsUnchangedAtErr A.row A.Allocator self.entry result) }
     {
         self.emit_resume(0xe3, ty, handlers)
@@ -76,10 +65,7 @@ impl<'a, A: Allocator> InstructionSink<'a, A> {
         handlers: I,
     ) -> Result<InstructionSink<'a, A>, EncodeError>
         requires { I.can_next handlers }
-        ensures wrote { WritesItems I.next_gives self.entry (without_prefix 0xe4) (λ xs. operands.ResumeThrow ty tag xs) handlers result }
-        ensures stands { WritesGiven I.next_gives self.entry (without_prefix 0xe4) (λ xs. operands.ResumeThrow ty tag xs) handlers result }
-        ensures same { IsSameSink self.entry result }
-        ensures err { IfErr result (IsRefusedList (size (I.remaining handlers))) }
+        ensures emits { EmitsItems I.next_gives self.entry (without_prefix 0xe4) (λ xs. operands.ResumeThrow ty tag xs) handlers (size (I.remaining handlers)) result }
         ensures* unchanged { sem 𝓛 (IsUnchangedAtErr A.row A.Allocator self.entry result) }
     {
         self.emit_resume_throw(0xe4, ty, tag, handlers)
@@ -93,10 +79,7 @@ impl<'a, A: Allocator> InstructionSink<'a, A> {
         handlers: I,
     ) -> Result<InstructionSink<'a, A>, EncodeError>
         requires { I.can_next handlers }
-        ensures wrote { WritesItems I.next_gives self.entry (without_prefix 0xe5) (λ xs. operands.Resume ty xs) handlers result }
-        ensures stands { WritesGiven I.next_gives self.entry (without_prefix 0xe5) (λ xs. operands.Resume ty xs) handlers result }
-        ensures same { IsSameSink self.entry result }
-        ensures err { IfErr result (IsRefusedList (size (I.remaining handlers))) }
+        ensures emits { EmitsItems I.next_gives self.entry (without_prefix 0xe5) (λ xs. operands.Resume ty xs) handlers (size (I.remaining handlers)) result }
         ensures* unchanged { sem 𝓛 (IsUnchangedAtErr A.row A.Allocator self.entry result) }
     {
         self.emit_resume(0xe5, ty, handlers)
@@ -104,9 +87,7 @@ impl<'a, A: Allocator> InstructionSink<'a, A> {
 
     /// `switch`: `0xE6`, then a type index and a tag index.
     pub fn switch(self, ty: u32, tag: u32) -> Result<InstructionSink<'a, A>, EncodeError>
-        ensures wrote { Writes self.entry (without_prefix 0xe6) (operands.TwoIndexes ty tag) result }
-        ensures same { IsSameSink self.entry result }
-        ensures room { HasRoom self.entry → IsOk result }
+        ensures emits { Emits self.entry (without_prefix 0xe6) (operands.TwoIndexes ty tag) result }
         ensures* unchanged { sem 𝓛 (IsUnchangedAtErr A.row A.Allocator self.entry result) }
     {
         self.emit_two_indexes(Prefix::None, 0xe6, ty, tag)

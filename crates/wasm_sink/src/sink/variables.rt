@@ -1,7 +1,6 @@
 //! Instructions on locals and globals (Core 3.0, Variable Instructions).
-ghost use Rattle.std.specs.Prelude.{IsOk};
 ghost use Rattle.std.specs.Borrow.{sem};
-ghost use Rattle.wasm_sink.specs.Sink.{IsUnchangedAtErr, IsSameSink, Writes, HasRoom};
+ghost use Rattle.wasm_sink.specs.Sink.{IsUnchangedAtErr, Emits};
 ghost use Rattle.wasm_instructions.specs.formats.Opcodes.{without_prefix};
 ghost use Rattle.wasm_instructions.specs.declared.table.call.Operands.TheVariants as operands;
 
@@ -14,9 +13,7 @@ use wasm_instructions::table::Prefix;
 impl<'a, A: Allocator> InstructionSink<'a, A> {
     /// `local.get`: `0x20`, then a local index.
     pub fn local_get(self, local: u32) -> Result<InstructionSink<'a, A>, EncodeError>
-        ensures wrote { Writes self.entry (without_prefix 0x20) (operands.Index local) result }
-        ensures same { IsSameSink self.entry result }
-        ensures room { HasRoom self.entry → IsOk result }
+        ensures emits { Emits self.entry (without_prefix 0x20) (operands.Index local) result }
         ensures* unchanged { sem 𝓛 (IsUnchangedAtErr A.row A.Allocator self.entry result) }
     {
         self.emit_index(Prefix::None, 0x20, local)
@@ -24,9 +21,7 @@ impl<'a, A: Allocator> InstructionSink<'a, A> {
 
     /// `local.set`: `0x21`, then a local index.
     pub fn local_set(self, local: u32) -> Result<InstructionSink<'a, A>, EncodeError>
-        ensures wrote { Writes self.entry (without_prefix 0x21) (operands.Index local) result }
-        ensures same { IsSameSink self.entry result }
-        ensures room { HasRoom self.entry → IsOk result }
+        ensures emits { Emits self.entry (without_prefix 0x21) (operands.Index local) result }
         ensures* unchanged { sem 𝓛 (IsUnchangedAtErr A.row A.Allocator self.entry result) }
     {
         self.emit_index(Prefix::None, 0x21, local)
@@ -34,9 +29,7 @@ impl<'a, A: Allocator> InstructionSink<'a, A> {
 
     /// `local.tee`: `0x22`, then a local index.
     pub fn local_tee(self, local: u32) -> Result<InstructionSink<'a, A>, EncodeError>
-        ensures wrote { Writes self.entry (without_prefix 0x22) (operands.Index local) result }
-        ensures same { IsSameSink self.entry result }
-        ensures room { HasRoom self.entry → IsOk result }
+        ensures emits { Emits self.entry (without_prefix 0x22) (operands.Index local) result }
         ensures* unchanged { sem 𝓛 (IsUnchangedAtErr A.row A.Allocator self.entry result) }
     {
         self.emit_index(Prefix::None, 0x22, local)
@@ -44,9 +37,7 @@ impl<'a, A: Allocator> InstructionSink<'a, A> {
 
     /// `global.get`: `0x23`, then a global index.
     pub fn global_get(self, global: u32) -> Result<InstructionSink<'a, A>, EncodeError>
-        ensures wrote { Writes self.entry (without_prefix 0x23) (operands.Index global) result }
-        ensures same { IsSameSink self.entry result }
-        ensures room { HasRoom self.entry → IsOk result }
+        ensures emits { Emits self.entry (without_prefix 0x23) (operands.Index global) result }
         ensures* unchanged { sem 𝓛 (IsUnchangedAtErr A.row A.Allocator self.entry result) }
     {
         self.emit_index(Prefix::None, 0x23, global)
@@ -54,9 +45,7 @@ impl<'a, A: Allocator> InstructionSink<'a, A> {
 
     /// `global.set`: `0x24`, then a global index.
     pub fn global_set(self, global: u32) -> Result<InstructionSink<'a, A>, EncodeError>
-        ensures wrote { Writes self.entry (without_prefix 0x24) (operands.Index global) result }
-        ensures same { IsSameSink self.entry result }
-        ensures room { HasRoom self.entry → IsOk result }
+        ensures emits { Emits self.entry (without_prefix 0x24) (operands.Index global) result }
         ensures* unchanged { sem 𝓛 (IsUnchangedAtErr A.row A.Allocator self.entry result) }
     {
         self.emit_index(Prefix::None, 0x24, global)

@@ -18,10 +18,10 @@ passed_on view other v w (Refused at) (Err f) given h = absurd h
 
 pub returns-in_err-sections-clause-complete : goal.returns-in_err-sections-clause-complete
 returns-in_err-sections-clause-complete c = λ sections encoded.
-    passed_on {X = Vec RawSection Global} (λ given. all_parts_of given.items) _ sections _ _ _ c.from_residual.ensures.1 (c.in_err-sections.ensures.complete sections encoded)
+    passed_on {X = Vec RawSection Global} (λ given. all_parts_of given.items) _ sections _ _ _ c.from_residual.ensures.1 (c.in_err-sections.ensures.decodes.complete sections encoded)
 
 pub returns-in-Ok-clause-complete : goal.returns-in-Ok-clause-complete
 returns-in-Ok-clause-complete c = λ sections encoded.
     c.finish.ensures ∙ c.in-Ok.ensures
     ∙ ap (λ lent. raw_module.bytes (kept (all_parts_of lent))) c.deref.ensures.value
-    ∙ ap (λ parts. raw_module.bytes (kept parts)) (c.in_ok-sections.ensures.complete sections encoded)
+    ∙ ap (λ parts. raw_module.bytes (kept parts)) (c.in_ok-sections.ensures.decodes.complete sections encoded)

@@ -1,7 +1,12 @@
-use Rattle.wasm_instructions.specs.formats.Instructions.{Instructions, instructions_bytes}
-use Rattle.wasm_codec.proofs.ListReading.{none_within, gives_bytes}
-use Rattle.wasm_instructions.proofs.InstructionFormatLaws.{AtMostOne-instructions}
+use Rattle.wasm_codec.proofs.BodyLaws.{Lawful-to-end}
+use Rattle.wasm_codec.proofs.DecodingLaws.{normalises_in_place}
+use Rattle.wasm_codec.proofs.ListReading.{none_within}
+use Rattle.wasm_instructions.specs.formats.Instructions.{Instructions}
+use Rattle.wasm_instructions.proofs.InstructionFormatLaws.{Lawful-instruction, instruction_takes}
 use Rattle.wasm_instructions.proofs.normaliser.rewrite_instructions.Goals as goal
 
-pub returns-clause-complete : goal.returns-clause-complete
-returns-clause-complete c = gives_bytes AtMostOne-instructions instructions_bytes (λ encoding. encoding.items) c.args.bytes.items c.normalise_joined.result c.normalise_joined.ensures.given (none_within Instructions c.args.bytes.items c.normalise_joined.result c.normalise_joined.ensures.prefix c.normalise_joined.ensures.within)
+pub returns : goal.returns
+returns c =
+    let n = c.normalise_joined in
+    let none = none_within Instructions c.args.bytes.items n.result n.ensures.prefix n.ensures.within in
+    record { normalises = normalises_in_place (Lawful-to-end Lawful-instruction instruction_takes) c.args.bytes.items n.result (record { given = n.ensures.given; prefix = n.ensures.prefix; unencoded = none }) n.ensures.memory }

@@ -1,7 +1,6 @@
-use Rattle.wasm_codec.proofs.ListReading.{gives_bytes}
-use Rattle.wasm_modules.specs.formats.Modules.{decoded_module}
-use Rattle.wasm_modules.proofs.ModuleFormatLaws.{one_decoded_module}
+use Rattle.wasm_codec.proofs.DecodingLaws.{normalises_in_place}
+use Rattle.wasm_modules.proofs.ModuleFormatLaws.{Lawful-decoded-module}
 use Rattle.wasm_modules.proofs.normaliser.rewrite_module.Goals as goal
 
-pub returns-clause-complete : goal.returns-clause-complete
-returns-clause-complete c = gives_bytes one_decoded_module decoded_module.bytes (λ encoding. encoding.items) c.args.bytes.items c.rewrite_module_of.result c.rewrite_module_of.ensures.given c.rewrite_module_of.ensures.unencoded
+pub returns : goal.returns
+returns c = record { normalises = normalises_in_place Lawful-decoded-module c.args.bytes.items c.rewrite_module_of.result c.rewrite_module_of.ensures.rewrites c.rewrite_module_of.ensures.memory }

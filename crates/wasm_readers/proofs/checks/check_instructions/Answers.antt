@@ -1,6 +1,12 @@
+use Rattle.wasm_codec.proofs.BodyLaws.{Lawful-to-end}
+use Rattle.wasm_codec.proofs.DecodingLaws.{checks}
 use Rattle.wasm_codec.proofs.ListReading.{none_within}
 use Rattle.wasm_instructions.specs.formats.Instructions.{ShortestInstructions}
+use Rattle.wasm_instructions.proofs.InstructionFormatLaws.{Lawful-instruction, instruction_takes, are_shortest}
 use Rattle.wasm_readers.proofs.checks.check_instructions.Goals as goal
 
-pub returns-clause-unencoded : goal.returns-clause-unencoded
-returns-clause-unencoded c = none_within ShortestInstructions c.args.bytes.now c.check_joined.result c.check_joined.ensures.prefix c.check_joined.ensures.within
+pub returns : goal.returns
+returns c =
+    let e = c.check_joined.ensures in
+    let none = none_within ShortestInstructions c.args.bytes.now c.check_joined.result e.prefix e.within in
+    record { checks = checks (Lawful-to-end Lawful-instruction instruction_takes) c.args.bytes.now are_shortest c.check_joined.result (record { given = e.given; prefix = e.prefix; unencoded = none }) }

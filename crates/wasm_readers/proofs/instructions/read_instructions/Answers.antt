@@ -1,48 +1,32 @@
-use Rattle.wasm_instructions.specs.formats.Instructions.{Instructions}
-use Rattle.wasm_codec.proofs.ListReading.{none_within, gives_all}
+use Rattle.wasm_codec.proofs.BodyLaws.{Lawful-to-end}
+use Rattle.wasm_codec.proofs.DecodingLaws.{decodes}
+use Rattle.wasm_codec.proofs.ListReading.{none_within}
 use Rattle.wasm_codec.proofs.PlaceLists.{prefix_free}
 use Rattle.wasm_codec.proofs.FormatLaws.{Lawful-u32, Lawful-u64, Lawful-s32, Lawful-index}
 use Rattle.wasm_codec.proofs.RawFormatLaws.{Lawful-s64}
 use Rattle.wasm_types.proofs.TypeFormatLaws.{Lawful-heap-type, Lawful-ref-type, Lawful-val-type}
+use Rattle.wasm_instructions.specs.formats.Instructions.{Instructions}
 use Rattle.wasm_instructions.proofs.OperandFormatLaws.{Lawful-block-type}
-use Rattle.wasm_instructions.proofs.InstructionFormatLaws.{Lawful-operands, Lawful-instruction, AtMostOne-instructions}
+use Rattle.wasm_instructions.proofs.InstructionFormatLaws.{Lawful-operands, Lawful-instruction, instruction_takes}
 use Rattle.wasm_readers.proofs.instructions.read_instructions.Goals as goal
 
-pub returns-clause-complete : goal.returns-clause-complete
-returns-clause-complete c = gives_all AtMostOne-instructions (λ given. given.items) c.args.bytes.now c.read_joined.result c.read_joined.ensures.given (none_within Instructions c.args.bytes.now c.read_joined.result c.read_joined.ensures.prefix c.read_joined.ensures.within)
-
-pub returns-clause-one : goal.returns-clause-one
-returns-clause-one c = AtMostOne-instructions c.args.bytes.now
-
-pub returns-clause-prefix_free_u32 : goal.returns-clause-prefix_free_u32
-returns-clause-prefix_free_u32 c = prefix_free Lawful-u32
-
-pub returns-clause-prefix_free_u64 : goal.returns-clause-prefix_free_u64
-returns-clause-prefix_free_u64 c = prefix_free Lawful-u64
-
-pub returns-clause-prefix_free_s32 : goal.returns-clause-prefix_free_s32
-returns-clause-prefix_free_s32 c = prefix_free Lawful-s32
-
-pub returns-clause-prefix_free_s64 : goal.returns-clause-prefix_free_s64
-returns-clause-prefix_free_s64 c = prefix_free Lawful-s64
-
-pub returns-clause-prefix_free_index : goal.returns-clause-prefix_free_index
-returns-clause-prefix_free_index c = prefix_free Lawful-index
-
-pub returns-clause-prefix_free_heap_types : goal.returns-clause-prefix_free_heap_types
-returns-clause-prefix_free_heap_types c = prefix_free Lawful-heap-type
-
-pub returns-clause-prefix_free_ref_types : goal.returns-clause-prefix_free_ref_types
-returns-clause-prefix_free_ref_types c = prefix_free Lawful-ref-type
-
-pub returns-clause-prefix_free_val_types : goal.returns-clause-prefix_free_val_types
-returns-clause-prefix_free_val_types c = prefix_free Lawful-val-type
-
-pub returns-clause-prefix_free_block_types : goal.returns-clause-prefix_free_block_types
-returns-clause-prefix_free_block_types c = prefix_free Lawful-block-type
-
-pub returns-clause-prefix_free_operands : goal.returns-clause-prefix_free_operands
-returns-clause-prefix_free_operands c kind = prefix_free (Lawful-operands kind)
-
-pub returns-clause-prefix_free_calls : goal.returns-clause-prefix_free_calls
-returns-clause-prefix_free_calls c = prefix_free Lawful-instruction
+pub returns : goal.returns
+returns c =
+    let e = c.read_joined.ensures in
+    let none = none_within Instructions c.args.bytes.now c.read_joined.result e.prefix e.within in
+    record {
+      decodes = decodes (Lawful-to-end Lawful-instruction instruction_takes) c.args.bytes.now (λ calls. calls.items) c.read_joined.result (record { given = e.given; prefix = e.prefix; unencoded = none });
+      prefix_free = record {
+        u32 = prefix_free Lawful-u32;
+        u64 = prefix_free Lawful-u64;
+        s32 = prefix_free Lawful-s32;
+        s64 = prefix_free Lawful-s64;
+        index = prefix_free Lawful-index;
+        heap_types = prefix_free Lawful-heap-type;
+        ref_types = prefix_free Lawful-ref-type;
+        val_types = prefix_free Lawful-val-type;
+        block_types = prefix_free Lawful-block-type;
+        operands = λ kind. prefix_free (Lawful-operands kind);
+        calls = prefix_free Lawful-instruction;
+      };
+    }

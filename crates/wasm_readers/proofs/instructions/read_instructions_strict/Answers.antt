@@ -1,13 +1,12 @@
+use Rattle.wasm_codec.proofs.BodyLaws.{Lawful-to-end}
+use Rattle.wasm_codec.proofs.DecodingLaws.{decodes_minimal}
+use Rattle.wasm_codec.proofs.ListReading.{none_within}
 use Rattle.wasm_instructions.specs.formats.Instructions.{ShortestInstructions}
-use Rattle.wasm_codec.proofs.ListReading.{none_within, gives_all}
-use Rattle.wasm_instructions.proofs.InstructionFormatLaws.{AtMostOne-shortest, are_shortest}
+use Rattle.wasm_instructions.proofs.InstructionFormatLaws.{Lawful-instruction, instruction_takes, are_shortest}
 use Rattle.wasm_readers.proofs.instructions.read_instructions_strict.Goals as goal
 
-pub returns-clause-complete : goal.returns-clause-complete
-returns-clause-complete c = gives_all AtMostOne-shortest (λ given. given.items) c.args.bytes.now c.read_joined_as.result c.read_joined_as.ensures.given (none_within ShortestInstructions c.args.bytes.now c.read_joined_as.result c.read_joined_as.ensures.prefix c.read_joined_as.ensures.within)
-
-pub returns-clause-one : goal.returns-clause-one
-returns-clause-one c = AtMostOne-shortest c.args.bytes.now
-
-pub returns-clause-shortest : goal.returns-clause-shortest
-returns-clause-shortest c = are_shortest c.args.bytes.now
+pub returns : goal.returns
+returns c =
+    let e = c.read_joined_as.ensures in
+    let none = none_within ShortestInstructions c.args.bytes.now c.read_joined_as.result e.prefix e.within in
+    record { decodes = decodes_minimal (Lawful-to-end Lawful-instruction instruction_takes) c.args.bytes.now are_shortest (λ calls. calls.items) c.read_joined_as.result (record { given = e.given; prefix = e.prefix; unencoded = none }) }

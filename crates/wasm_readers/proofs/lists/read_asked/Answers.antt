@@ -2,10 +2,10 @@ use Rattle.wasm_codec.proofs.AskedLaws.{flag, Lawful-asked}
 use Rattle.wasm_readers.proofs.lists.read_asked.Goals as goal
 
 pub returns-in_err-item-clause-lawful : goal.returns-in_err-item-clause-lawful
-returns-in_err-item-clause-lawful g c = Lawful-asked (flag g.row.STRICT) c.read.ensures.lawful
+returns-in_err-item-clause-lawful g c = Lawful-asked (flag g.row.STRICT) c.is_lawful.ensures.lawful
 
 pub returns-then-not-is_shortest-clause-lawful : goal.returns-then-not-is_shortest-clause-lawful
-returns-then-not-is_shortest-clause-lawful g c = Lawful-asked (flag g.row.STRICT) c.read.ensures.lawful
+returns-then-not-is_shortest-clause-lawful g c = Lawful-asked (flag g.row.STRICT) c.is_lawful.ensures.lawful
 
 pub returns-clause-lawful : goal.returns-clause-lawful
-returns-clause-lawful g c = Lawful-asked (flag g.row.STRICT) c.read.ensures.lawful
+returns-clause-lawful g c = Lawful-asked (flag g.row.STRICT) c.is_lawful.ensures.lawful

@@ -1,15 +1,16 @@
 use Rattle.wasm_modules.proofs.HeaderLaws.{headed_longest, headed_none_whole}
 use Rattle.wasm_readers.proofs.modules.read_module_of.Goals as goal
 
-pub returns-in-Ok-clause-given : goal.returns-in-Ok-clause-given
-returns-in-Ok-clause-given g c = (c.in-Some.rest.now, c.in-Some.ensures.found, c.in-Ok.ensures.given)
+pub returns-in-Ok : goal.returns-in-Ok
+returns-in-Ok g c = record { reads = record { given = (c.in-Some.rest.now, c.in-Some.ensures.found, c.in-Ok.ensures.given); prefix = tt; unencoded = tt } }
 
-pub returns-in-Err-Refused-clause-prefix : goal.returns-in-Err-Refused-clause-prefix
-returns-in-Err-Refused-clause-prefix g c =
+pub returns-in-Err-Refused : goal.returns-in-Err-Refused
+returns-in-Err-Refused g c =
     let h = rw c.in-Err-Refused.field-0-is at c.in-Err-Refused.ensures in
-    headed_longest c.args.bytes.now c.in-Some.rest.now c.in-Err-Refused.at c.in-Some.ensures.found h.prefix
-
-pub returns-in-Err-Refused-clause-unencoded : goal.returns-in-Err-Refused-clause-unencoded
-returns-in-Err-Refused-clause-unencoded g c =
-    let h = rw c.in-Err-Refused.field-0-is at c.in-Err-Refused.ensures in
-    headed_none_whole c.args.bytes.now c.in-Some.rest.now c.in-Err-Refused.at c.in-Some.ensures.found h.within h.prefix
+    record {
+      reads = record {
+        given = tt;
+        prefix = headed_longest c.args.bytes.now c.in-Some.rest.now c.in-Err-Refused.at c.in-Some.ensures.found h.prefix;
+        unencoded = headed_none_whole c.args.bytes.now c.in-Some.rest.now c.in-Err-Refused.at c.in-Some.ensures.found h.within h.prefix;
+      };
+    }

@@ -1,12 +1,9 @@
-use Rattle.wasm_codec.proofs.ListReading.{gives_all}
-use Rattle.wasm_types.proofs.TypeFormatLaws.{is_shortest_body, AtMostOne-shortest-body}
+use Rattle.wasm_codec.proofs.BodyLaws.{Lawful-body}
+use Rattle.wasm_codec.proofs.DecodingLaws.{decodes_minimal}
+use Rattle.wasm_types.proofs.TypeFormatLaws.{Lawful-type-body, is_shortest_body}
 use Rattle.wasm_readers.proofs.type_sections.read_type_section_strict.Goals as goal
 
-pub returns-clause-complete : goal.returns-clause-complete
-returns-clause-complete c = gives_all AtMostOne-shortest-body (λ given. given.items) c.args.body.now c.read_list_to_end_as.result c.read_list_to_end_as.ensures.given c.read_list_to_end_as.ensures.unencoded
-
-pub returns-clause-one : goal.returns-clause-one
-returns-clause-one c = AtMostOne-shortest-body c.args.body.now
-
-pub returns-clause-shortest : goal.returns-clause-shortest
-returns-clause-shortest c = is_shortest_body c.args.body.now
+pub returns : goal.returns
+returns c =
+    let e = c.read_list_to_end_as.ensures in
+    record { decodes = decodes_minimal (Lawful-body Lawful-type-body) c.args.body.now is_shortest_body (λ entries. entries.items) c.read_list_to_end_as.result (record { given = e.given; prefix = e.prefix; unencoded = e.unencoded }) }

@@ -1,7 +1,7 @@
 //! Wait, notify, fence, and atomic loads and stores (threads proposal).
-ghost use Rattle.std.specs.Prelude.{◌≤◌, ◌<◌, ◌↔◌, IsOk, IsErrOf};
+ghost use Rattle.std.specs.Prelude.{◌<◌};
 ghost use Rattle.std.specs.Borrow.{sem};
-ghost use Rattle.wasm_sink.specs.Sink.{IsUnchangedAtErr, IsSameSink, Writes, WritesBytes, HasRoom};
+ghost use Rattle.wasm_sink.specs.Sink.{IsUnchangedAtErr, Emits, EmitsAligned};
 ghost use Rattle.wasm_instructions.specs.formats.Opcodes.{after_fe};
 ghost use Rattle.wasm_instructions.specs.declared.table.call.Operands.TheVariants as operands;
 
@@ -15,10 +15,7 @@ use wasm_instructions::table::Prefix;
 impl<'a, A: Allocator> InstructionSink<'a, A> {
     /// `memory.atomic.notify`: `0xFE 0x00`, then a memory argument. `Alignment` where `memarg.align` is 64 or more.
     pub fn memory_atomic_notify(self, memarg: MemArg) -> Result<InstructionSink<'a, A>, EncodeError>
-        ensures wrote { WritesBytes self.entry (after_fe 0x00) (operands.Mem memarg) result }
-        ensures same { IsSameSink self.entry result }
-        ensures alignment { IsErrOf result EncodeError.Alignment ↔ 64 ≤ memarg.align }
-        ensures room { HasRoom self.entry → memarg.align < 64 → IsOk result }
+        ensures emits { EmitsAligned self.entry (after_fe 0x00) (operands.Mem memarg) memarg.align result }
         ensures* unchanged { sem 𝓛 (IsUnchangedAtErr A.row A.Allocator self.entry result) }
     {
         self.emit_mem(Prefix::Fe, 0x00, memarg)
@@ -26,10 +23,7 @@ impl<'a, A: Allocator> InstructionSink<'a, A> {
 
     /// `memory.atomic.wait32`: `0xFE 0x01`, then a memory argument. `Alignment` where `memarg.align` is 64 or more.
     pub fn memory_atomic_wait32(self, memarg: MemArg) -> Result<InstructionSink<'a, A>, EncodeError>
-        ensures wrote { WritesBytes self.entry (after_fe 0x01) (operands.Mem memarg) result }
-        ensures same { IsSameSink self.entry result }
-        ensures alignment { IsErrOf result EncodeError.Alignment ↔ 64 ≤ memarg.align }
-        ensures room { HasRoom self.entry → memarg.align < 64 → IsOk result }
+        ensures emits { EmitsAligned self.entry (after_fe 0x01) (operands.Mem memarg) memarg.align result }
         ensures* unchanged { sem 𝓛 (IsUnchangedAtErr A.row A.Allocator self.entry result) }
     {
         self.emit_mem(Prefix::Fe, 0x01, memarg)
@@ -37,10 +31,7 @@ impl<'a, A: Allocator> InstructionSink<'a, A> {
 
     /// `memory.atomic.wait64`: `0xFE 0x02`, then a memory argument. `Alignment` where `memarg.align` is 64 or more.
     pub fn memory_atomic_wait64(self, memarg: MemArg) -> Result<InstructionSink<'a, A>, EncodeError>
-        ensures wrote { WritesBytes self.entry (after_fe 0x02) (operands.Mem memarg) result }
-        ensures same { IsSameSink self.entry result }
-        ensures alignment { IsErrOf result EncodeError.Alignment ↔ 64 ≤ memarg.align }
-        ensures room { HasRoom self.entry → memarg.align < 64 → IsOk result }
+        ensures emits { EmitsAligned self.entry (after_fe 0x02) (operands.Mem memarg) memarg.align result }
         ensures* unchanged { sem 𝓛 (IsUnchangedAtErr A.row A.Allocator self.entry result) }
     {
         self.emit_mem(Prefix::Fe, 0x02, memarg)
@@ -48,9 +39,7 @@ impl<'a, A: Allocator> InstructionSink<'a, A> {
 
     /// `atomic.fence`: `0xFE 0x03`, then an ordering.
     pub fn atomic_fence(self, ordering: Ordering) -> Result<InstructionSink<'a, A>, EncodeError>
-        ensures wrote { Writes self.entry (after_fe 0x03) (operands.Order ordering) result }
-        ensures same { IsSameSink self.entry result }
-        ensures room { HasRoom self.entry → IsOk result }
+        ensures emits { Emits self.entry (after_fe 0x03) (operands.Order ordering) result }
         ensures* unchanged { sem 𝓛 (IsUnchangedAtErr A.row A.Allocator self.entry result) }
     {
         self.emit_order(0x03, ordering)
@@ -58,9 +47,7 @@ impl<'a, A: Allocator> InstructionSink<'a, A> {
 
     /// `pause`: `0xFE 0x04`.
     pub fn pause(self) -> Result<InstructionSink<'a, A>, EncodeError>
-        ensures wrote { Writes self.entry (after_fe 0x04) operands.None result }
-        ensures same { IsSameSink self.entry result }
-        ensures room { HasRoom self.entry → IsOk result }
+        ensures emits { Emits self.entry (after_fe 0x04) operands.None result }
         ensures* unchanged { sem 𝓛 (IsUnchangedAtErr A.row A.Allocator self.entry result) }
     {
         self.emit(Prefix::Fe, 0x04)
@@ -68,10 +55,7 @@ impl<'a, A: Allocator> InstructionSink<'a, A> {
 
     /// `i32.atomic.load`: `0xFE 0x10`, then a memory argument. `Alignment` where `memarg.align` is 64 or more.
     pub fn i32_atomic_load(self, memarg: MemArg) -> Result<InstructionSink<'a, A>, EncodeError>
-        ensures wrote { WritesBytes self.entry (after_fe 0x10) (operands.Mem memarg) result }
-        ensures same { IsSameSink self.entry result }
-        ensures alignment { IsErrOf result EncodeError.Alignment ↔ 64 ≤ memarg.align }
-        ensures room { HasRoom self.entry → memarg.align < 64 → IsOk result }
+        ensures emits { EmitsAligned self.entry (after_fe 0x10) (operands.Mem memarg) memarg.align result }
         ensures* unchanged { sem 𝓛 (IsUnchangedAtErr A.row A.Allocator self.entry result) }
     {
         self.emit_mem(Prefix::Fe, 0x10, memarg)
@@ -79,10 +63,7 @@ impl<'a, A: Allocator> InstructionSink<'a, A> {
 
     /// `i64.atomic.load`: `0xFE 0x11`, then a memory argument. `Alignment` where `memarg.align` is 64 or more.
     pub fn i64_atomic_load(self, memarg: MemArg) -> Result<InstructionSink<'a, A>, EncodeError>
-        ensures wrote { WritesBytes self.entry (after_fe 0x11) (operands.Mem memarg) result }
-        ensures same { IsSameSink self.entry result }
-        ensures alignment { IsErrOf result EncodeError.Alignment ↔ 64 ≤ memarg.align }
-        ensures room { HasRoom self.entry → memarg.align < 64 → IsOk result }
+        ensures emits { EmitsAligned self.entry (after_fe 0x11) (operands.Mem memarg) memarg.align result }
         ensures* unchanged { sem 𝓛 (IsUnchangedAtErr A.row A.Allocator self.entry result) }
     {
         self.emit_mem(Prefix::Fe, 0x11, memarg)
@@ -90,10 +71,7 @@ impl<'a, A: Allocator> InstructionSink<'a, A> {
 
     /// `i32.atomic.load8_u`: `0xFE 0x12`, then a memory argument. `Alignment` where `memarg.align` is 64 or more.
     pub fn i32_atomic_load8_u(self, memarg: MemArg) -> Result<InstructionSink<'a, A>, EncodeError>
-        ensures wrote { WritesBytes self.entry (after_fe 0x12) (operands.Mem memarg) result }
-        ensures same { IsSameSink self.entry result }
-        ensures alignment { IsErrOf result EncodeError.Alignment ↔ 64 ≤ memarg.align }
-        ensures room { HasRoom self.entry → memarg.align < 64 → IsOk result }
+        ensures emits { EmitsAligned self.entry (after_fe 0x12) (operands.Mem memarg) memarg.align result }
         ensures* unchanged { sem 𝓛 (IsUnchangedAtErr A.row A.Allocator self.entry result) }
     {
         self.emit_mem(Prefix::Fe, 0x12, memarg)
@@ -101,10 +79,7 @@ impl<'a, A: Allocator> InstructionSink<'a, A> {
 
     /// `i32.atomic.load16_u`: `0xFE 0x13`, then a memory argument. `Alignment` where `memarg.align` is 64 or more.
     pub fn i32_atomic_load16_u(self, memarg: MemArg) -> Result<InstructionSink<'a, A>, EncodeError>
-        ensures wrote { WritesBytes self.entry (after_fe 0x13) (operands.Mem memarg) result }
-        ensures same { IsSameSink self.entry result }
-        ensures alignment { IsErrOf result EncodeError.Alignment ↔ 64 ≤ memarg.align }
-        ensures room { HasRoom self.entry → memarg.align < 64 → IsOk result }
+        ensures emits { EmitsAligned self.entry (after_fe 0x13) (operands.Mem memarg) memarg.align result }
         ensures* unchanged { sem 𝓛 (IsUnchangedAtErr A.row A.Allocator self.entry result) }
     {
         self.emit_mem(Prefix::Fe, 0x13, memarg)
@@ -112,10 +87,7 @@ impl<'a, A: Allocator> InstructionSink<'a, A> {
 
     /// `i64.atomic.load8_u`: `0xFE 0x14`, then a memory argument. `Alignment` where `memarg.align` is 64 or more.
     pub fn i64_atomic_load8_u(self, memarg: MemArg) -> Result<InstructionSink<'a, A>, EncodeError>
-        ensures wrote { WritesBytes self.entry (after_fe 0x14) (operands.Mem memarg) result }
-        ensures same { IsSameSink self.entry result }
-        ensures alignment { IsErrOf result EncodeError.Alignment ↔ 64 ≤ memarg.align }
-        ensures room { HasRoom self.entry → memarg.align < 64 → IsOk result }
+        ensures emits { EmitsAligned self.entry (after_fe 0x14) (operands.Mem memarg) memarg.align result }
         ensures* unchanged { sem 𝓛 (IsUnchangedAtErr A.row A.Allocator self.entry result) }
     {
         self.emit_mem(Prefix::Fe, 0x14, memarg)
@@ -123,10 +95,7 @@ impl<'a, A: Allocator> InstructionSink<'a, A> {
 
     /// `i64.atomic.load16_u`: `0xFE 0x15`, then a memory argument. `Alignment` where `memarg.align` is 64 or more.
     pub fn i64_atomic_load16_u(self, memarg: MemArg) -> Result<InstructionSink<'a, A>, EncodeError>
-        ensures wrote { WritesBytes self.entry (after_fe 0x15) (operands.Mem memarg) result }
-        ensures same { IsSameSink self.entry result }
-        ensures alignment { IsErrOf result EncodeError.Alignment ↔ 64 ≤ memarg.align }
-        ensures room { HasRoom self.entry → memarg.align < 64 → IsOk result }
+        ensures emits { EmitsAligned self.entry (after_fe 0x15) (operands.Mem memarg) memarg.align result }
         ensures* unchanged { sem 𝓛 (IsUnchangedAtErr A.row A.Allocator self.entry result) }
     {
         self.emit_mem(Prefix::Fe, 0x15, memarg)
@@ -134,10 +103,7 @@ impl<'a, A: Allocator> InstructionSink<'a, A> {
 
     /// `i64.atomic.load32_u`: `0xFE 0x16`, then a memory argument. `Alignment` where `memarg.align` is 64 or more.
     pub fn i64_atomic_load32_u(self, memarg: MemArg) -> Result<InstructionSink<'a, A>, EncodeError>
-        ensures wrote { WritesBytes self.entry (after_fe 0x16) (operands.Mem memarg) result }
-        ensures same { IsSameSink self.entry result }
-        ensures alignment { IsErrOf result EncodeError.Alignment ↔ 64 ≤ memarg.align }
-        ensures room { HasRoom self.entry → memarg.align < 64 → IsOk result }
+        ensures emits { EmitsAligned self.entry (after_fe 0x16) (operands.Mem memarg) memarg.align result }
         ensures* unchanged { sem 𝓛 (IsUnchangedAtErr A.row A.Allocator self.entry result) }
     {
         self.emit_mem(Prefix::Fe, 0x16, memarg)
@@ -145,10 +111,7 @@ impl<'a, A: Allocator> InstructionSink<'a, A> {
 
     /// `i32.atomic.store`: `0xFE 0x17`, then a memory argument. `Alignment` where `memarg.align` is 64 or more.
     pub fn i32_atomic_store(self, memarg: MemArg) -> Result<InstructionSink<'a, A>, EncodeError>
-        ensures wrote { WritesBytes self.entry (after_fe 0x17) (operands.Mem memarg) result }
-        ensures same { IsSameSink self.entry result }
-        ensures alignment { IsErrOf result EncodeError.Alignment ↔ 64 ≤ memarg.align }
-        ensures room { HasRoom self.entry → memarg.align < 64 → IsOk result }
+        ensures emits { EmitsAligned self.entry (after_fe 0x17) (operands.Mem memarg) memarg.align result }
         ensures* unchanged { sem 𝓛 (IsUnchangedAtErr A.row A.Allocator self.entry result) }
     {
         self.emit_mem(Prefix::Fe, 0x17, memarg)
@@ -156,10 +119,7 @@ impl<'a, A: Allocator> InstructionSink<'a, A> {
 
     /// `i64.atomic.store`: `0xFE 0x18`, then a memory argument. `Alignment` where `memarg.align` is 64 or more.
     pub fn i64_atomic_store(self, memarg: MemArg) -> Result<InstructionSink<'a, A>, EncodeError>
-        ensures wrote { WritesBytes self.entry (after_fe 0x18) (operands.Mem memarg) result }
-        ensures same { IsSameSink self.entry result }
-        ensures alignment { IsErrOf result EncodeError.Alignment ↔ 64 ≤ memarg.align }
-        ensures room { HasRoom self.entry → memarg.align < 64 → IsOk result }
+        ensures emits { EmitsAligned self.entry (after_fe 0x18) (operands.Mem memarg) memarg.align result }
         ensures* unchanged { sem 𝓛 (IsUnchangedAtErr A.row A.Allocator self.entry result) }
     {
         self.emit_mem(Prefix::Fe, 0x18, memarg)
@@ -167,10 +127,7 @@ impl<'a, A: Allocator> InstructionSink<'a, A> {
 
     /// `i32.atomic.store8`: `0xFE 0x19`, then a memory argument. `Alignment` where `memarg.align` is 64 or more.
     pub fn i32_atomic_store8(self, memarg: MemArg) -> Result<InstructionSink<'a, A>, EncodeError>
-        ensures wrote { WritesBytes self.entry (after_fe 0x19) (operands.Mem memarg) result }
-        ensures same { IsSameSink self.entry result }
-        ensures alignment { IsErrOf result EncodeError.Alignment ↔ 64 ≤ memarg.align }
-        ensures room { HasRoom self.entry → memarg.align < 64 → IsOk result }
+        ensures emits { EmitsAligned self.entry (after_fe 0x19) (operands.Mem memarg) memarg.align result }
         ensures* unchanged { sem 𝓛 (IsUnchangedAtErr A.row A.Allocator self.entry result) }
     {
         self.emit_mem(Prefix::Fe, 0x19, memarg)
@@ -178,10 +135,7 @@ impl<'a, A: Allocator> InstructionSink<'a, A> {
 
     /// `i32.atomic.store16`: `0xFE 0x1A`, then a memory argument. `Alignment` where `memarg.align` is 64 or more.
     pub fn i32_atomic_store16(self, memarg: MemArg) -> Result<InstructionSink<'a, A>, EncodeError>
-        ensures wrote { WritesBytes self.entry (after_fe 0x1a) (operands.Mem memarg) result }
-        ensures same { IsSameSink self.entry result }
-        ensures alignment { IsErrOf result EncodeError.Alignment ↔ 64 ≤ memarg.align }
-        ensures room { HasRoom self.entry → memarg.align < 64 → IsOk result }
+        ensures emits { EmitsAligned self.entry (after_fe 0x1a) (operands.Mem memarg) memarg.align result }
         ensures* unchanged { sem 𝓛 (IsUnchangedAtErr A.row A.Allocator self.entry result) }
     {
         self.emit_mem(Prefix::Fe, 0x1a, memarg)
@@ -189,10 +143,7 @@ impl<'a, A: Allocator> InstructionSink<'a, A> {
 
     /// `i64.atomic.store8`: `0xFE 0x1B`, then a memory argument. `Alignment` where `memarg.align` is 64 or more.
     pub fn i64_atomic_store8(self, memarg: MemArg) -> Result<InstructionSink<'a, A>, EncodeError>
-        ensures wrote { WritesBytes self.entry (after_fe 0x1b) (operands.Mem memarg) result }
-        ensures same { IsSameSink self.entry result }
-        ensures alignment { IsErrOf result EncodeError.Alignment ↔ 64 ≤ memarg.align }
-        ensures room { HasRoom self.entry → memarg.align < 64 → IsOk result }
+        ensures emits { EmitsAligned self.entry (after_fe 0x1b) (operands.Mem memarg) memarg.align result }
         ensures* unchanged { sem 𝓛 (IsUnchangedAtErr A.row A.Allocator self.entry result) }
     {
         self.emit_mem(Prefix::Fe, 0x1b, memarg)
@@ -200,10 +151,7 @@ impl<'a, A: Allocator> InstructionSink<'a, A> {
 
     /// `i64.atomic.store16`: `0xFE 0x1C`, then a memory argument. `Alignment` where `memarg.align` is 64 or more.
     pub fn i64_atomic_store16(self, memarg: MemArg) -> Result<InstructionSink<'a, A>, EncodeError>
-        ensures wrote { WritesBytes self.entry (after_fe 0x1c) (operands.Mem memarg) result }
-        ensures same { IsSameSink self.entry result }
-        ensures alignment { IsErrOf result EncodeError.Alignment ↔ 64 ≤ memarg.align }
-        ensures room { HasRoom self.entry → memarg.align < 64 → IsOk result }
+        ensures emits { EmitsAligned self.entry (after_fe 0x1c) (operands.Mem memarg) memarg.align result }
         ensures* unchanged { sem 𝓛 (IsUnchangedAtErr A.row A.Allocator self.entry result) }
     {
         self.emit_mem(Prefix::Fe, 0x1c, memarg)
@@ -211,10 +159,7 @@ impl<'a, A: Allocator> InstructionSink<'a, A> {
 
     /// `i64.atomic.store32`: `0xFE 0x1D`, then a memory argument. `Alignment` where `memarg.align` is 64 or more.
     pub fn i64_atomic_store32(self, memarg: MemArg) -> Result<InstructionSink<'a, A>, EncodeError>
-        ensures wrote { WritesBytes self.entry (after_fe 0x1d) (operands.Mem memarg) result }
-        ensures same { IsSameSink self.entry result }
-        ensures alignment { IsErrOf result EncodeError.Alignment ↔ 64 ≤ memarg.align }
-        ensures room { HasRoom self.entry → memarg.align < 64 → IsOk result }
+        ensures emits { EmitsAligned self.entry (after_fe 0x1d) (operands.Mem memarg) memarg.align result }
         ensures* unchanged { sem 𝓛 (IsUnchangedAtErr A.row A.Allocator self.entry result) }
     {
         self.emit_mem(Prefix::Fe, 0x1d, memarg)

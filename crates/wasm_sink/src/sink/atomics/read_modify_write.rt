@@ -1,7 +1,7 @@
 //! Atomic read-modify-write instructions (threads proposal).
-ghost use Rattle.std.specs.Prelude.{◌≤◌, ◌<◌, ◌↔◌, IsOk, IsErrOf};
+ghost use Rattle.std.specs.Prelude.{◌<◌};
 ghost use Rattle.std.specs.Borrow.{sem};
-ghost use Rattle.wasm_sink.specs.Sink.{IsUnchangedAtErr, IsSameSink, WritesBytes, HasRoom};
+ghost use Rattle.wasm_sink.specs.Sink.{IsUnchangedAtErr, EmitsAligned};
 ghost use Rattle.wasm_instructions.specs.formats.Opcodes.{after_fe};
 ghost use Rattle.wasm_instructions.specs.declared.table.call.Operands.TheVariants as operands;
 
@@ -15,10 +15,7 @@ use wasm_instructions::table::Prefix;
 impl<'a, A: Allocator> InstructionSink<'a, A> {
     /// `i32.atomic.rmw.add`: `0xFE 0x1E`, then a memory argument. `Alignment` where `memarg.align` is 64 or more.
     pub fn i32_atomic_rmw_add(self, memarg: MemArg) -> Result<InstructionSink<'a, A>, EncodeError>
-        ensures wrote { WritesBytes self.entry (after_fe 0x1e) (operands.Mem memarg) result }
-        ensures same { IsSameSink self.entry result }
-        ensures alignment { IsErrOf result EncodeError.Alignment ↔ 64 ≤ memarg.align }
-        ensures room { HasRoom self.entry → memarg.align < 64 → IsOk result }
+        ensures emits { EmitsAligned self.entry (after_fe 0x1e) (operands.Mem memarg) memarg.align result }
         ensures* unchanged { sem 𝓛 (IsUnchangedAtErr A.row A.Allocator self.entry result) }
     {
         self.emit_mem(Prefix::Fe, 0x1e, memarg)
@@ -26,10 +23,7 @@ impl<'a, A: Allocator> InstructionSink<'a, A> {
 
     /// `i64.atomic.rmw.add`: `0xFE 0x1F`, then a memory argument. `Alignment` where `memarg.align` is 64 or more.
     pub fn i64_atomic_rmw_add(self, memarg: MemArg) -> Result<InstructionSink<'a, A>, EncodeError>
-        ensures wrote { WritesBytes self.entry (after_fe 0x1f) (operands.Mem memarg) result }
-        ensures same { IsSameSink self.entry result }
-        ensures alignment { IsErrOf result EncodeError.Alignment ↔ 64 ≤ memarg.align }
-        ensures room { HasRoom self.entry → memarg.align < 64 → IsOk result }
+        ensures emits { EmitsAligned self.entry (after_fe 0x1f) (operands.Mem memarg) memarg.align result }
         ensures* unchanged { sem 𝓛 (IsUnchangedAtErr A.row A.Allocator self.entry result) }
     {
         self.emit_mem(Prefix::Fe, 0x1f, memarg)
@@ -40,10 +34,7 @@ impl<'a, A: Allocator> InstructionSink<'a, A> {
         self,
         memarg: MemArg,
     ) -> Result<InstructionSink<'a, A>, EncodeError>
-        ensures wrote { WritesBytes self.entry (after_fe 0x20) (operands.Mem memarg) result }
-        ensures same { IsSameSink self.entry result }
-        ensures alignment { IsErrOf result EncodeError.Alignment ↔ 64 ≤ memarg.align }
-        ensures room { HasRoom self.entry → memarg.align < 64 → IsOk result }
+        ensures emits { EmitsAligned self.entry (after_fe 0x20) (operands.Mem memarg) memarg.align result }
         ensures* unchanged { sem 𝓛 (IsUnchangedAtErr A.row A.Allocator self.entry result) }
     {
         self.emit_mem(Prefix::Fe, 0x20, memarg)
@@ -54,10 +45,7 @@ impl<'a, A: Allocator> InstructionSink<'a, A> {
         self,
         memarg: MemArg,
     ) -> Result<InstructionSink<'a, A>, EncodeError>
-        ensures wrote { WritesBytes self.entry (after_fe 0x21) (operands.Mem memarg) result }
-        ensures same { IsSameSink self.entry result }
-        ensures alignment { IsErrOf result EncodeError.Alignment ↔ 64 ≤ memarg.align }
-        ensures room { HasRoom self.entry → memarg.align < 64 → IsOk result }
+        ensures emits { EmitsAligned self.entry (after_fe 0x21) (operands.Mem memarg) memarg.align result }
         ensures* unchanged { sem 𝓛 (IsUnchangedAtErr A.row A.Allocator self.entry result) }
     {
         self.emit_mem(Prefix::Fe, 0x21, memarg)
@@ -68,10 +56,7 @@ impl<'a, A: Allocator> InstructionSink<'a, A> {
         self,
         memarg: MemArg,
     ) -> Result<InstructionSink<'a, A>, EncodeError>
-        ensures wrote { WritesBytes self.entry (after_fe 0x22) (operands.Mem memarg) result }
-        ensures same { IsSameSink self.entry result }
-        ensures alignment { IsErrOf result EncodeError.Alignment ↔ 64 ≤ memarg.align }
-        ensures room { HasRoom self.entry → memarg.align < 64 → IsOk result }
+        ensures emits { EmitsAligned self.entry (after_fe 0x22) (operands.Mem memarg) memarg.align result }
         ensures* unchanged { sem 𝓛 (IsUnchangedAtErr A.row A.Allocator self.entry result) }
     {
         self.emit_mem(Prefix::Fe, 0x22, memarg)
@@ -82,10 +67,7 @@ impl<'a, A: Allocator> InstructionSink<'a, A> {
         self,
         memarg: MemArg,
     ) -> Result<InstructionSink<'a, A>, EncodeError>
-        ensures wrote { WritesBytes self.entry (after_fe 0x23) (operands.Mem memarg) result }
-        ensures same { IsSameSink self.entry result }
-        ensures alignment { IsErrOf result EncodeError.Alignment ↔ 64 ≤ memarg.align }
-        ensures room { HasRoom self.entry → memarg.align < 64 → IsOk result }
+        ensures emits { EmitsAligned self.entry (after_fe 0x23) (operands.Mem memarg) memarg.align result }
         ensures* unchanged { sem 𝓛 (IsUnchangedAtErr A.row A.Allocator self.entry result) }
     {
         self.emit_mem(Prefix::Fe, 0x23, memarg)
@@ -96,10 +78,7 @@ impl<'a, A: Allocator> InstructionSink<'a, A> {
         self,
         memarg: MemArg,
     ) -> Result<InstructionSink<'a, A>, EncodeError>
-        ensures wrote { WritesBytes self.entry (after_fe 0x24) (operands.Mem memarg) result }
-        ensures same { IsSameSink self.entry result }
-        ensures alignment { IsErrOf result EncodeError.Alignment ↔ 64 ≤ memarg.align }
-        ensures room { HasRoom self.entry → memarg.align < 64 → IsOk result }
+        ensures emits { EmitsAligned self.entry (after_fe 0x24) (operands.Mem memarg) memarg.align result }
         ensures* unchanged { sem 𝓛 (IsUnchangedAtErr A.row A.Allocator self.entry result) }
     {
         self.emit_mem(Prefix::Fe, 0x24, memarg)
@@ -107,10 +86,7 @@ impl<'a, A: Allocator> InstructionSink<'a, A> {
 
     /// `i32.atomic.rmw.sub`: `0xFE 0x25`, then a memory argument. `Alignment` where `memarg.align` is 64 or more.
     pub fn i32_atomic_rmw_sub(self, memarg: MemArg) -> Result<InstructionSink<'a, A>, EncodeError>
-        ensures wrote { WritesBytes self.entry (after_fe 0x25) (operands.Mem memarg) result }
-        ensures same { IsSameSink self.entry result }
-        ensures alignment { IsErrOf result EncodeError.Alignment ↔ 64 ≤ memarg.align }
-        ensures room { HasRoom self.entry → memarg.align < 64 → IsOk result }
+        ensures emits { EmitsAligned self.entry (after_fe 0x25) (operands.Mem memarg) memarg.align result }
         ensures* unchanged { sem 𝓛 (IsUnchangedAtErr A.row A.Allocator self.entry result) }
     {
         self.emit_mem(Prefix::Fe, 0x25, memarg)
@@ -118,10 +94,7 @@ impl<'a, A: Allocator> InstructionSink<'a, A> {
 
     /// `i64.atomic.rmw.sub`: `0xFE 0x26`, then a memory argument. `Alignment` where `memarg.align` is 64 or more.
     pub fn i64_atomic_rmw_sub(self, memarg: MemArg) -> Result<InstructionSink<'a, A>, EncodeError>
-        ensures wrote { WritesBytes self.entry (after_fe 0x26) (operands.Mem memarg) result }
-        ensures same { IsSameSink self.entry result }
-        ensures alignment { IsErrOf result EncodeError.Alignment ↔ 64 ≤ memarg.align }
-        ensures room { HasRoom self.entry → memarg.align < 64 → IsOk result }
+        ensures emits { EmitsAligned self.entry (after_fe 0x26) (operands.Mem memarg) memarg.align result }
         ensures* unchanged { sem 𝓛 (IsUnchangedAtErr A.row A.Allocator self.entry result) }
     {
         self.emit_mem(Prefix::Fe, 0x26, memarg)
@@ -132,10 +105,7 @@ impl<'a, A: Allocator> InstructionSink<'a, A> {
         self,
         memarg: MemArg,
     ) -> Result<InstructionSink<'a, A>, EncodeError>
-        ensures wrote { WritesBytes self.entry (after_fe 0x27) (operands.Mem memarg) result }
-        ensures same { IsSameSink self.entry result }
-        ensures alignment { IsErrOf result EncodeError.Alignment ↔ 64 ≤ memarg.align }
-        ensures room { HasRoom self.entry → memarg.align < 64 → IsOk result }
+        ensures emits { EmitsAligned self.entry (after_fe 0x27) (operands.Mem memarg) memarg.align result }
         ensures* unchanged { sem 𝓛 (IsUnchangedAtErr A.row A.Allocator self.entry result) }
     {
         self.emit_mem(Prefix::Fe, 0x27, memarg)
@@ -146,10 +116,7 @@ impl<'a, A: Allocator> InstructionSink<'a, A> {
         self,
         memarg: MemArg,
     ) -> Result<InstructionSink<'a, A>, EncodeError>
-        ensures wrote { WritesBytes self.entry (after_fe 0x28) (operands.Mem memarg) result }
-        ensures same { IsSameSink self.entry result }
-        ensures alignment { IsErrOf result EncodeError.Alignment ↔ 64 ≤ memarg.align }
-        ensures room { HasRoom self.entry → memarg.align < 64 → IsOk result }
+        ensures emits { EmitsAligned self.entry (after_fe 0x28) (operands.Mem memarg) memarg.align result }
         ensures* unchanged { sem 𝓛 (IsUnchangedAtErr A.row A.Allocator self.entry result) }
     {
         self.emit_mem(Prefix::Fe, 0x28, memarg)
@@ -160,10 +127,7 @@ impl<'a, A: Allocator> InstructionSink<'a, A> {
         self,
         memarg: MemArg,
     ) -> Result<InstructionSink<'a, A>, EncodeError>
-        ensures wrote { WritesBytes self.entry (after_fe 0x29) (operands.Mem memarg) result }
-        ensures same { IsSameSink self.entry result }
-        ensures alignment { IsErrOf result EncodeError.Alignment ↔ 64 ≤ memarg.align }
-        ensures room { HasRoom self.entry → memarg.align < 64 → IsOk result }
+        ensures emits { EmitsAligned self.entry (after_fe 0x29) (operands.Mem memarg) memarg.align result }
         ensures* unchanged { sem 𝓛 (IsUnchangedAtErr A.row A.Allocator self.entry result) }
     {
         self.emit_mem(Prefix::Fe, 0x29, memarg)
@@ -174,10 +138,7 @@ impl<'a, A: Allocator> InstructionSink<'a, A> {
         self,
         memarg: MemArg,
     ) -> Result<InstructionSink<'a, A>, EncodeError>
-        ensures wrote { WritesBytes self.entry (after_fe 0x2a) (operands.Mem memarg) result }
-        ensures same { IsSameSink self.entry result }
-        ensures alignment { IsErrOf result EncodeError.Alignment ↔ 64 ≤ memarg.align }
-        ensures room { HasRoom self.entry → memarg.align < 64 → IsOk result }
+        ensures emits { EmitsAligned self.entry (after_fe 0x2a) (operands.Mem memarg) memarg.align result }
         ensures* unchanged { sem 𝓛 (IsUnchangedAtErr A.row A.Allocator self.entry result) }
     {
         self.emit_mem(Prefix::Fe, 0x2a, memarg)
@@ -188,10 +149,7 @@ impl<'a, A: Allocator> InstructionSink<'a, A> {
         self,
         memarg: MemArg,
     ) -> Result<InstructionSink<'a, A>, EncodeError>
-        ensures wrote { WritesBytes self.entry (after_fe 0x2b) (operands.Mem memarg) result }
-        ensures same { IsSameSink self.entry result }
-        ensures alignment { IsErrOf result EncodeError.Alignment ↔ 64 ≤ memarg.align }
-        ensures room { HasRoom self.entry → memarg.align < 64 → IsOk result }
+        ensures emits { EmitsAligned self.entry (after_fe 0x2b) (operands.Mem memarg) memarg.align result }
         ensures* unchanged { sem 𝓛 (IsUnchangedAtErr A.row A.Allocator self.entry result) }
     {
         self.emit_mem(Prefix::Fe, 0x2b, memarg)
@@ -199,10 +157,7 @@ impl<'a, A: Allocator> InstructionSink<'a, A> {
 
     /// `i32.atomic.rmw.and`: `0xFE 0x2C`, then a memory argument. `Alignment` where `memarg.align` is 64 or more.
     pub fn i32_atomic_rmw_and(self, memarg: MemArg) -> Result<InstructionSink<'a, A>, EncodeError>
-        ensures wrote { WritesBytes self.entry (after_fe 0x2c) (operands.Mem memarg) result }
-        ensures same { IsSameSink self.entry result }
-        ensures alignment { IsErrOf result EncodeError.Alignment ↔ 64 ≤ memarg.align }
-        ensures room { HasRoom self.entry → memarg.align < 64 → IsOk result }
+        ensures emits { EmitsAligned self.entry (after_fe 0x2c) (operands.Mem memarg) memarg.align result }
         ensures* unchanged { sem 𝓛 (IsUnchangedAtErr A.row A.Allocator self.entry result) }
     {
         self.emit_mem(Prefix::Fe, 0x2c, memarg)
@@ -210,10 +165,7 @@ impl<'a, A: Allocator> InstructionSink<'a, A> {
 
     /// `i64.atomic.rmw.and`: `0xFE 0x2D`, then a memory argument. `Alignment` where `memarg.align` is 64 or more.
     pub fn i64_atomic_rmw_and(self, memarg: MemArg) -> Result<InstructionSink<'a, A>, EncodeError>
-        ensures wrote { WritesBytes self.entry (after_fe 0x2d) (operands.Mem memarg) result }
-        ensures same { IsSameSink self.entry result }
-        ensures alignment { IsErrOf result EncodeError.Alignment ↔ 64 ≤ memarg.align }
-        ensures room { HasRoom self.entry → memarg.align < 64 → IsOk result }
+        ensures emits { EmitsAligned self.entry (after_fe 0x2d) (operands.Mem memarg) memarg.align result }
         ensures* unchanged { sem 𝓛 (IsUnchangedAtErr A.row A.Allocator self.entry result) }
     {
         self.emit_mem(Prefix::Fe, 0x2d, memarg)
@@ -224,10 +176,7 @@ impl<'a, A: Allocator> InstructionSink<'a, A> {
         self,
         memarg: MemArg,
     ) -> Result<InstructionSink<'a, A>, EncodeError>
-        ensures wrote { WritesBytes self.entry (after_fe 0x2e) (operands.Mem memarg) result }
-        ensures same { IsSameSink self.entry result }
-        ensures alignment { IsErrOf result EncodeError.Alignment ↔ 64 ≤ memarg.align }
-        ensures room { HasRoom self.entry → memarg.align < 64 → IsOk result }
+        ensures emits { EmitsAligned self.entry (after_fe 0x2e) (operands.Mem memarg) memarg.align result }
         ensures* unchanged { sem 𝓛 (IsUnchangedAtErr A.row A.Allocator self.entry result) }
     {
         self.emit_mem(Prefix::Fe, 0x2e, memarg)
@@ -238,10 +187,7 @@ impl<'a, A: Allocator> InstructionSink<'a, A> {
         self,
         memarg: MemArg,
     ) -> Result<InstructionSink<'a, A>, EncodeError>
-        ensures wrote { WritesBytes self.entry (after_fe 0x2f) (operands.Mem memarg) result }
-        ensures same { IsSameSink self.entry result }
-        ensures alignment { IsErrOf result EncodeError.Alignment ↔ 64 ≤ memarg.align }
-        ensures room { HasRoom self.entry → memarg.align < 64 → IsOk result }
+        ensures emits { EmitsAligned self.entry (after_fe 0x2f) (operands.Mem memarg) memarg.align result }
         ensures* unchanged { sem 𝓛 (IsUnchangedAtErr A.row A.Allocator self.entry result) }
     {
         self.emit_mem(Prefix::Fe, 0x2f, memarg)
@@ -252,10 +198,7 @@ impl<'a, A: Allocator> InstructionSink<'a, A> {
         self,
         memarg: MemArg,
     ) -> Result<InstructionSink<'a, A>, EncodeError>
-        ensures wrote { WritesBytes self.entry (after_fe 0x30) (operands.Mem memarg) result }
-        ensures same { IsSameSink self.entry result }
-        ensures alignment { IsErrOf result EncodeError.Alignment ↔ 64 ≤ memarg.align }
-        ensures room { HasRoom self.entry → memarg.align < 64 → IsOk result }
+        ensures emits { EmitsAligned self.entry (after_fe 0x30) (operands.Mem memarg) memarg.align result }
         ensures* unchanged { sem 𝓛 (IsUnchangedAtErr A.row A.Allocator self.entry result) }
     {
         self.emit_mem(Prefix::Fe, 0x30, memarg)
@@ -266,10 +209,7 @@ impl<'a, A: Allocator> InstructionSink<'a, A> {
         self,
         memarg: MemArg,
     ) -> Result<InstructionSink<'a, A>, EncodeError>
-        ensures wrote { WritesBytes self.entry (after_fe 0x31) (operands.Mem memarg) result }
-        ensures same { IsSameSink self.entry result }
-        ensures alignment { IsErrOf result EncodeError.Alignment ↔ 64 ≤ memarg.align }
-        ensures room { HasRoom self.entry → memarg.align < 64 → IsOk result }
+        ensures emits { EmitsAligned self.entry (after_fe 0x31) (operands.Mem memarg) memarg.align result }
         ensures* unchanged { sem 𝓛 (IsUnchangedAtErr A.row A.Allocator self.entry result) }
     {
         self.emit_mem(Prefix::Fe, 0x31, memarg)
@@ -280,10 +220,7 @@ impl<'a, A: Allocator> InstructionSink<'a, A> {
         self,
         memarg: MemArg,
     ) -> Result<InstructionSink<'a, A>, EncodeError>
-        ensures wrote { WritesBytes self.entry (after_fe 0x32) (operands.Mem memarg) result }
-        ensures same { IsSameSink self.entry result }
-        ensures alignment { IsErrOf result EncodeError.Alignment ↔ 64 ≤ memarg.align }
-        ensures room { HasRoom self.entry → memarg.align < 64 → IsOk result }
+        ensures emits { EmitsAligned self.entry (after_fe 0x32) (operands.Mem memarg) memarg.align result }
         ensures* unchanged { sem 𝓛 (IsUnchangedAtErr A.row A.Allocator self.entry result) }
     {
         self.emit_mem(Prefix::Fe, 0x32, memarg)
@@ -291,10 +228,7 @@ impl<'a, A: Allocator> InstructionSink<'a, A> {
 
     /// `i32.atomic.rmw.or`: `0xFE 0x33`, then a memory argument. `Alignment` where `memarg.align` is 64 or more.
     pub fn i32_atomic_rmw_or(self, memarg: MemArg) -> Result<InstructionSink<'a, A>, EncodeError>
-        ensures wrote { WritesBytes self.entry (after_fe 0x33) (operands.Mem memarg) result }
-        ensures same { IsSameSink self.entry result }
-        ensures alignment { IsErrOf result EncodeError.Alignment ↔ 64 ≤ memarg.align }
-        ensures room { HasRoom self.entry → memarg.align < 64 → IsOk result }
+        ensures emits { EmitsAligned self.entry (after_fe 0x33) (operands.Mem memarg) memarg.align result }
         ensures* unchanged { sem 𝓛 (IsUnchangedAtErr A.row A.Allocator self.entry result) }
     {
         self.emit_mem(Prefix::Fe, 0x33, memarg)
@@ -302,10 +236,7 @@ impl<'a, A: Allocator> InstructionSink<'a, A> {
 
     /// `i64.atomic.rmw.or`: `0xFE 0x34`, then a memory argument. `Alignment` where `memarg.align` is 64 or more.
     pub fn i64_atomic_rmw_or(self, memarg: MemArg) -> Result<InstructionSink<'a, A>, EncodeError>
-        ensures wrote { WritesBytes self.entry (after_fe 0x34) (operands.Mem memarg) result }
-        ensures same { IsSameSink self.entry result }
-        ensures alignment { IsErrOf result EncodeError.Alignment ↔ 64 ≤ memarg.align }
-        ensures room { HasRoom self.entry → memarg.align < 64 → IsOk result }
+        ensures emits { EmitsAligned self.entry (after_fe 0x34) (operands.Mem memarg) memarg.align result }
         ensures* unchanged { sem 𝓛 (IsUnchangedAtErr A.row A.Allocator self.entry result) }
     {
         self.emit_mem(Prefix::Fe, 0x34, memarg)
@@ -313,10 +244,7 @@ impl<'a, A: Allocator> InstructionSink<'a, A> {
 
     /// `i32.atomic.rmw8.or_u`: `0xFE 0x35`, then a memory argument. `Alignment` where `memarg.align` is 64 or more.
     pub fn i32_atomic_rmw8_or_u(self, memarg: MemArg) -> Result<InstructionSink<'a, A>, EncodeError>
-        ensures wrote { WritesBytes self.entry (after_fe 0x35) (operands.Mem memarg) result }
-        ensures same { IsSameSink self.entry result }
-        ensures alignment { IsErrOf result EncodeError.Alignment ↔ 64 ≤ memarg.align }
-        ensures room { HasRoom self.entry → memarg.align < 64 → IsOk result }
+        ensures emits { EmitsAligned self.entry (after_fe 0x35) (operands.Mem memarg) memarg.align result }
         ensures* unchanged { sem 𝓛 (IsUnchangedAtErr A.row A.Allocator self.entry result) }
     {
         self.emit_mem(Prefix::Fe, 0x35, memarg)
@@ -327,10 +255,7 @@ impl<'a, A: Allocator> InstructionSink<'a, A> {
         self,
         memarg: MemArg,
     ) -> Result<InstructionSink<'a, A>, EncodeError>
-        ensures wrote { WritesBytes self.entry (after_fe 0x36) (operands.Mem memarg) result }
-        ensures same { IsSameSink self.entry result }
-        ensures alignment { IsErrOf result EncodeError.Alignment ↔ 64 ≤ memarg.align }
-        ensures room { HasRoom self.entry → memarg.align < 64 → IsOk result }
+        ensures emits { EmitsAligned self.entry (after_fe 0x36) (operands.Mem memarg) memarg.align result }
         ensures* unchanged { sem 𝓛 (IsUnchangedAtErr A.row A.Allocator self.entry result) }
     {
         self.emit_mem(Prefix::Fe, 0x36, memarg)
@@ -338,10 +263,7 @@ impl<'a, A: Allocator> InstructionSink<'a, A> {
 
     /// `i64.atomic.rmw8.or_u`: `0xFE 0x37`, then a memory argument. `Alignment` where `memarg.align` is 64 or more.
     pub fn i64_atomic_rmw8_or_u(self, memarg: MemArg) -> Result<InstructionSink<'a, A>, EncodeError>
-        ensures wrote { WritesBytes self.entry (after_fe 0x37) (operands.Mem memarg) result }
-        ensures same { IsSameSink self.entry result }
-        ensures alignment { IsErrOf result EncodeError.Alignment ↔ 64 ≤ memarg.align }
-        ensures room { HasRoom self.entry → memarg.align < 64 → IsOk result }
+        ensures emits { EmitsAligned self.entry (after_fe 0x37) (operands.Mem memarg) memarg.align result }
         ensures* unchanged { sem 𝓛 (IsUnchangedAtErr A.row A.Allocator self.entry result) }
     {
         self.emit_mem(Prefix::Fe, 0x37, memarg)
@@ -352,10 +274,7 @@ impl<'a, A: Allocator> InstructionSink<'a, A> {
         self,
         memarg: MemArg,
     ) -> Result<InstructionSink<'a, A>, EncodeError>
-        ensures wrote { WritesBytes self.entry (after_fe 0x38) (operands.Mem memarg) result }
-        ensures same { IsSameSink self.entry result }
-        ensures alignment { IsErrOf result EncodeError.Alignment ↔ 64 ≤ memarg.align }
-        ensures room { HasRoom self.entry → memarg.align < 64 → IsOk result }
+        ensures emits { EmitsAligned self.entry (after_fe 0x38) (operands.Mem memarg) memarg.align result }
         ensures* unchanged { sem 𝓛 (IsUnchangedAtErr A.row A.Allocator self.entry result) }
     {
         self.emit_mem(Prefix::Fe, 0x38, memarg)
@@ -366,10 +285,7 @@ impl<'a, A: Allocator> InstructionSink<'a, A> {
         self,
         memarg: MemArg,
     ) -> Result<InstructionSink<'a, A>, EncodeError>
-        ensures wrote { WritesBytes self.entry (after_fe 0x39) (operands.Mem memarg) result }
-        ensures same { IsSameSink self.entry result }
-        ensures alignment { IsErrOf result EncodeError.Alignment ↔ 64 ≤ memarg.align }
-        ensures room { HasRoom self.entry → memarg.align < 64 → IsOk result }
+        ensures emits { EmitsAligned self.entry (after_fe 0x39) (operands.Mem memarg) memarg.align result }
         ensures* unchanged { sem 𝓛 (IsUnchangedAtErr A.row A.Allocator self.entry result) }
     {
         self.emit_mem(Prefix::Fe, 0x39, memarg)
@@ -377,10 +293,7 @@ impl<'a, A: Allocator> InstructionSink<'a, A> {
 
     /// `i32.atomic.rmw.xor`: `0xFE 0x3A`, then a memory argument. `Alignment` where `memarg.align` is 64 or more.
     pub fn i32_atomic_rmw_xor(self, memarg: MemArg) -> Result<InstructionSink<'a, A>, EncodeError>
-        ensures wrote { WritesBytes self.entry (after_fe 0x3a) (operands.Mem memarg) result }
-        ensures same { IsSameSink self.entry result }
-        ensures alignment { IsErrOf result EncodeError.Alignment ↔ 64 ≤ memarg.align }
-        ensures room { HasRoom self.entry → memarg.align < 64 → IsOk result }
+        ensures emits { EmitsAligned self.entry (after_fe 0x3a) (operands.Mem memarg) memarg.align result }
         ensures* unchanged { sem 𝓛 (IsUnchangedAtErr A.row A.Allocator self.entry result) }
     {
         self.emit_mem(Prefix::Fe, 0x3a, memarg)
@@ -388,10 +301,7 @@ impl<'a, A: Allocator> InstructionSink<'a, A> {
 
     /// `i64.atomic.rmw.xor`: `0xFE 0x3B`, then a memory argument. `Alignment` where `memarg.align` is 64 or more.
     pub fn i64_atomic_rmw_xor(self, memarg: MemArg) -> Result<InstructionSink<'a, A>, EncodeError>
-        ensures wrote { WritesBytes self.entry (after_fe 0x3b) (operands.Mem memarg) result }
-        ensures same { IsSameSink self.entry result }
-        ensures alignment { IsErrOf result EncodeError.Alignment ↔ 64 ≤ memarg.align }
-        ensures room { HasRoom self.entry → memarg.align < 64 → IsOk result }
+        ensures emits { EmitsAligned self.entry (after_fe 0x3b) (operands.Mem memarg) memarg.align result }
         ensures* unchanged { sem 𝓛 (IsUnchangedAtErr A.row A.Allocator self.entry result) }
     {
         self.emit_mem(Prefix::Fe, 0x3b, memarg)
@@ -402,10 +312,7 @@ impl<'a, A: Allocator> InstructionSink<'a, A> {
         self,
         memarg: MemArg,
     ) -> Result<InstructionSink<'a, A>, EncodeError>
-        ensures wrote { WritesBytes self.entry (after_fe 0x3c) (operands.Mem memarg) result }
-        ensures same { IsSameSink self.entry result }
-        ensures alignment { IsErrOf result EncodeError.Alignment ↔ 64 ≤ memarg.align }
-        ensures room { HasRoom self.entry → memarg.align < 64 → IsOk result }
+        ensures emits { EmitsAligned self.entry (after_fe 0x3c) (operands.Mem memarg) memarg.align result }
         ensures* unchanged { sem 𝓛 (IsUnchangedAtErr A.row A.Allocator self.entry result) }
     {
         self.emit_mem(Prefix::Fe, 0x3c, memarg)
@@ -416,10 +323,7 @@ impl<'a, A: Allocator> InstructionSink<'a, A> {
         self,
         memarg: MemArg,
     ) -> Result<InstructionSink<'a, A>, EncodeError>
-        ensures wrote { WritesBytes self.entry (after_fe 0x3d) (operands.Mem memarg) result }
-        ensures same { IsSameSink self.entry result }
-        ensures alignment { IsErrOf result EncodeError.Alignment ↔ 64 ≤ memarg.align }
-        ensures room { HasRoom self.entry → memarg.align < 64 → IsOk result }
+        ensures emits { EmitsAligned self.entry (after_fe 0x3d) (operands.Mem memarg) memarg.align result }
         ensures* unchanged { sem 𝓛 (IsUnchangedAtErr A.row A.Allocator self.entry result) }
     {
         self.emit_mem(Prefix::Fe, 0x3d, memarg)
@@ -430,10 +334,7 @@ impl<'a, A: Allocator> InstructionSink<'a, A> {
         self,
         memarg: MemArg,
     ) -> Result<InstructionSink<'a, A>, EncodeError>
-        ensures wrote { WritesBytes self.entry (after_fe 0x3e) (operands.Mem memarg) result }
-        ensures same { IsSameSink self.entry result }
-        ensures alignment { IsErrOf result EncodeError.Alignment ↔ 64 ≤ memarg.align }
-        ensures room { HasRoom self.entry → memarg.align < 64 → IsOk result }
+        ensures emits { EmitsAligned self.entry (after_fe 0x3e) (operands.Mem memarg) memarg.align result }
         ensures* unchanged { sem 𝓛 (IsUnchangedAtErr A.row A.Allocator self.entry result) }
     {
         self.emit_mem(Prefix::Fe, 0x3e, memarg)
@@ -444,10 +345,7 @@ impl<'a, A: Allocator> InstructionSink<'a, A> {
         self,
         memarg: MemArg,
     ) -> Result<InstructionSink<'a, A>, EncodeError>
-        ensures wrote { WritesBytes self.entry (after_fe 0x3f) (operands.Mem memarg) result }
-        ensures same { IsSameSink self.entry result }
-        ensures alignment { IsErrOf result EncodeError.Alignment ↔ 64 ≤ memarg.align }
-        ensures room { HasRoom self.entry → memarg.align < 64 → IsOk result }
+        ensures emits { EmitsAligned self.entry (after_fe 0x3f) (operands.Mem memarg) memarg.align result }
         ensures* unchanged { sem 𝓛 (IsUnchangedAtErr A.row A.Allocator self.entry result) }
     {
         self.emit_mem(Prefix::Fe, 0x3f, memarg)
@@ -458,10 +356,7 @@ impl<'a, A: Allocator> InstructionSink<'a, A> {
         self,
         memarg: MemArg,
     ) -> Result<InstructionSink<'a, A>, EncodeError>
-        ensures wrote { WritesBytes self.entry (after_fe 0x40) (operands.Mem memarg) result }
-        ensures same { IsSameSink self.entry result }
-        ensures alignment { IsErrOf result EncodeError.Alignment ↔ 64 ≤ memarg.align }
-        ensures room { HasRoom self.entry → memarg.align < 64 → IsOk result }
+        ensures emits { EmitsAligned self.entry (after_fe 0x40) (operands.Mem memarg) memarg.align result }
         ensures* unchanged { sem 𝓛 (IsUnchangedAtErr A.row A.Allocator self.entry result) }
     {
         self.emit_mem(Prefix::Fe, 0x40, memarg)
@@ -469,10 +364,7 @@ impl<'a, A: Allocator> InstructionSink<'a, A> {
 
     /// `i32.atomic.rmw.xchg`: `0xFE 0x41`, then a memory argument. `Alignment` where `memarg.align` is 64 or more.
     pub fn i32_atomic_rmw_xchg(self, memarg: MemArg) -> Result<InstructionSink<'a, A>, EncodeError>
-        ensures wrote { WritesBytes self.entry (after_fe 0x41) (operands.Mem memarg) result }
-        ensures same { IsSameSink self.entry result }
-        ensures alignment { IsErrOf result EncodeError.Alignment ↔ 64 ≤ memarg.align }
-        ensures room { HasRoom self.entry → memarg.align < 64 → IsOk result }
+        ensures emits { EmitsAligned self.entry (after_fe 0x41) (operands.Mem memarg) memarg.align result }
         ensures* unchanged { sem 𝓛 (IsUnchangedAtErr A.row A.Allocator self.entry result) }
     {
         self.emit_mem(Prefix::Fe, 0x41, memarg)
@@ -480,10 +372,7 @@ impl<'a, A: Allocator> InstructionSink<'a, A> {
 
     /// `i64.atomic.rmw.xchg`: `0xFE 0x42`, then a memory argument. `Alignment` where `memarg.align` is 64 or more.
     pub fn i64_atomic_rmw_xchg(self, memarg: MemArg) -> Result<InstructionSink<'a, A>, EncodeError>
-        ensures wrote { WritesBytes self.entry (after_fe 0x42) (operands.Mem memarg) result }
-        ensures same { IsSameSink self.entry result }
-        ensures alignment { IsErrOf result EncodeError.Alignment ↔ 64 ≤ memarg.align }
-        ensures room { HasRoom self.entry → memarg.align < 64 → IsOk result }
+        ensures emits { EmitsAligned self.entry (after_fe 0x42) (operands.Mem memarg) memarg.align result }
         ensures* unchanged { sem 𝓛 (IsUnchangedAtErr A.row A.Allocator self.entry result) }
     {
         self.emit_mem(Prefix::Fe, 0x42, memarg)
@@ -494,10 +383,7 @@ impl<'a, A: Allocator> InstructionSink<'a, A> {
         self,
         memarg: MemArg,
     ) -> Result<InstructionSink<'a, A>, EncodeError>
-        ensures wrote { WritesBytes self.entry (after_fe 0x43) (operands.Mem memarg) result }
-        ensures same { IsSameSink self.entry result }
-        ensures alignment { IsErrOf result EncodeError.Alignment ↔ 64 ≤ memarg.align }
-        ensures room { HasRoom self.entry → memarg.align < 64 → IsOk result }
+        ensures emits { EmitsAligned self.entry (after_fe 0x43) (operands.Mem memarg) memarg.align result }
         ensures* unchanged { sem 𝓛 (IsUnchangedAtErr A.row A.Allocator self.entry result) }
     {
         self.emit_mem(Prefix::Fe, 0x43, memarg)
@@ -508,10 +394,7 @@ impl<'a, A: Allocator> InstructionSink<'a, A> {
         self,
         memarg: MemArg,
     ) -> Result<InstructionSink<'a, A>, EncodeError>
-        ensures wrote { WritesBytes self.entry (after_fe 0x44) (operands.Mem memarg) result }
-        ensures same { IsSameSink self.entry result }
-        ensures alignment { IsErrOf result EncodeError.Alignment ↔ 64 ≤ memarg.align }
-        ensures room { HasRoom self.entry → memarg.align < 64 → IsOk result }
+        ensures emits { EmitsAligned self.entry (after_fe 0x44) (operands.Mem memarg) memarg.align result }
         ensures* unchanged { sem 𝓛 (IsUnchangedAtErr A.row A.Allocator self.entry result) }
     {
         self.emit_mem(Prefix::Fe, 0x44, memarg)
@@ -522,10 +405,7 @@ impl<'a, A: Allocator> InstructionSink<'a, A> {
         self,
         memarg: MemArg,
     ) -> Result<InstructionSink<'a, A>, EncodeError>
-        ensures wrote { WritesBytes self.entry (after_fe 0x45) (operands.Mem memarg) result }
-        ensures same { IsSameSink self.entry result }
-        ensures alignment { IsErrOf result EncodeError.Alignment ↔ 64 ≤ memarg.align }
-        ensures room { HasRoom self.entry → memarg.align < 64 → IsOk result }
+        ensures emits { EmitsAligned self.entry (after_fe 0x45) (operands.Mem memarg) memarg.align result }
         ensures* unchanged { sem 𝓛 (IsUnchangedAtErr A.row A.Allocator self.entry result) }
     {
         self.emit_mem(Prefix::Fe, 0x45, memarg)
@@ -536,10 +416,7 @@ impl<'a, A: Allocator> InstructionSink<'a, A> {
         self,
         memarg: MemArg,
     ) -> Result<InstructionSink<'a, A>, EncodeError>
-        ensures wrote { WritesBytes self.entry (after_fe 0x46) (operands.Mem memarg) result }
-        ensures same { IsSameSink self.entry result }
-        ensures alignment { IsErrOf result EncodeError.Alignment ↔ 64 ≤ memarg.align }
-        ensures room { HasRoom self.entry → memarg.align < 64 → IsOk result }
+        ensures emits { EmitsAligned self.entry (after_fe 0x46) (operands.Mem memarg) memarg.align result }
         ensures* unchanged { sem 𝓛 (IsUnchangedAtErr A.row A.Allocator self.entry result) }
     {
         self.emit_mem(Prefix::Fe, 0x46, memarg)
@@ -550,10 +427,7 @@ impl<'a, A: Allocator> InstructionSink<'a, A> {
         self,
         memarg: MemArg,
     ) -> Result<InstructionSink<'a, A>, EncodeError>
-        ensures wrote { WritesBytes self.entry (after_fe 0x47) (operands.Mem memarg) result }
-        ensures same { IsSameSink self.entry result }
-        ensures alignment { IsErrOf result EncodeError.Alignment ↔ 64 ≤ memarg.align }
-        ensures room { HasRoom self.entry → memarg.align < 64 → IsOk result }
+        ensures emits { EmitsAligned self.entry (after_fe 0x47) (operands.Mem memarg) memarg.align result }
         ensures* unchanged { sem 𝓛 (IsUnchangedAtErr A.row A.Allocator self.entry result) }
     {
         self.emit_mem(Prefix::Fe, 0x47, memarg)
@@ -564,10 +438,7 @@ impl<'a, A: Allocator> InstructionSink<'a, A> {
         self,
         memarg: MemArg,
     ) -> Result<InstructionSink<'a, A>, EncodeError>
-        ensures wrote { WritesBytes self.entry (after_fe 0x48) (operands.Mem memarg) result }
-        ensures same { IsSameSink self.entry result }
-        ensures alignment { IsErrOf result EncodeError.Alignment ↔ 64 ≤ memarg.align }
-        ensures room { HasRoom self.entry → memarg.align < 64 → IsOk result }
+        ensures emits { EmitsAligned self.entry (after_fe 0x48) (operands.Mem memarg) memarg.align result }
         ensures* unchanged { sem 𝓛 (IsUnchangedAtErr A.row A.Allocator self.entry result) }
     {
         self.emit_mem(Prefix::Fe, 0x48, memarg)
@@ -578,10 +449,7 @@ impl<'a, A: Allocator> InstructionSink<'a, A> {
         self,
         memarg: MemArg,
     ) -> Result<InstructionSink<'a, A>, EncodeError>
-        ensures wrote { WritesBytes self.entry (after_fe 0x49) (operands.Mem memarg) result }
-        ensures same { IsSameSink self.entry result }
-        ensures alignment { IsErrOf result EncodeError.Alignment ↔ 64 ≤ memarg.align }
-        ensures room { HasRoom self.entry → memarg.align < 64 → IsOk result }
+        ensures emits { EmitsAligned self.entry (after_fe 0x49) (operands.Mem memarg) memarg.align result }
         ensures* unchanged { sem 𝓛 (IsUnchangedAtErr A.row A.Allocator self.entry result) }
     {
         self.emit_mem(Prefix::Fe, 0x49, memarg)
@@ -593,10 +461,7 @@ impl<'a, A: Allocator> InstructionSink<'a, A> {
         self,
         memarg: MemArg,
     ) -> Result<InstructionSink<'a, A>, EncodeError>
-        ensures wrote { WritesBytes self.entry (after_fe 0x4a) (operands.Mem memarg) result }
-        ensures same { IsSameSink self.entry result }
-        ensures alignment { IsErrOf result EncodeError.Alignment ↔ 64 ≤ memarg.align }
-        ensures room { HasRoom self.entry → memarg.align < 64 → IsOk result }
+        ensures emits { EmitsAligned self.entry (after_fe 0x4a) (operands.Mem memarg) memarg.align result }
         ensures* unchanged { sem 𝓛 (IsUnchangedAtErr A.row A.Allocator self.entry result) }
     {
         self.emit_mem(Prefix::Fe, 0x4a, memarg)
@@ -608,10 +473,7 @@ impl<'a, A: Allocator> InstructionSink<'a, A> {
         self,
         memarg: MemArg,
     ) -> Result<InstructionSink<'a, A>, EncodeError>
-        ensures wrote { WritesBytes self.entry (after_fe 0x4b) (operands.Mem memarg) result }
-        ensures same { IsSameSink self.entry result }
-        ensures alignment { IsErrOf result EncodeError.Alignment ↔ 64 ≤ memarg.align }
-        ensures room { HasRoom self.entry → memarg.align < 64 → IsOk result }
+        ensures emits { EmitsAligned self.entry (after_fe 0x4b) (operands.Mem memarg) memarg.align result }
         ensures* unchanged { sem 𝓛 (IsUnchangedAtErr A.row A.Allocator self.entry result) }
     {
         self.emit_mem(Prefix::Fe, 0x4b, memarg)
@@ -623,10 +485,7 @@ impl<'a, A: Allocator> InstructionSink<'a, A> {
         self,
         memarg: MemArg,
     ) -> Result<InstructionSink<'a, A>, EncodeError>
-        ensures wrote { WritesBytes self.entry (after_fe 0x4c) (operands.Mem memarg) result }
-        ensures same { IsSameSink self.entry result }
-        ensures alignment { IsErrOf result EncodeError.Alignment ↔ 64 ≤ memarg.align }
-        ensures room { HasRoom self.entry → memarg.align < 64 → IsOk result }
+        ensures emits { EmitsAligned self.entry (after_fe 0x4c) (operands.Mem memarg) memarg.align result }
         ensures* unchanged { sem 𝓛 (IsUnchangedAtErr A.row A.Allocator self.entry result) }
     {
         self.emit_mem(Prefix::Fe, 0x4c, memarg)
@@ -638,10 +497,7 @@ impl<'a, A: Allocator> InstructionSink<'a, A> {
         self,
         memarg: MemArg,
     ) -> Result<InstructionSink<'a, A>, EncodeError>
-        ensures wrote { WritesBytes self.entry (after_fe 0x4d) (operands.Mem memarg) result }
-        ensures same { IsSameSink self.entry result }
-        ensures alignment { IsErrOf result EncodeError.Alignment ↔ 64 ≤ memarg.align }
-        ensures room { HasRoom self.entry → memarg.align < 64 → IsOk result }
+        ensures emits { EmitsAligned self.entry (after_fe 0x4d) (operands.Mem memarg) memarg.align result }
         ensures* unchanged { sem 𝓛 (IsUnchangedAtErr A.row A.Allocator self.entry result) }
     {
         self.emit_mem(Prefix::Fe, 0x4d, memarg)
@@ -653,10 +509,7 @@ impl<'a, A: Allocator> InstructionSink<'a, A> {
         self,
         memarg: MemArg,
     ) -> Result<InstructionSink<'a, A>, EncodeError>
-        ensures wrote { WritesBytes self.entry (after_fe 0x4e) (operands.Mem memarg) result }
-        ensures same { IsSameSink self.entry result }
-        ensures alignment { IsErrOf result EncodeError.Alignment ↔ 64 ≤ memarg.align }
-        ensures room { HasRoom self.entry → memarg.align < 64 → IsOk result }
+        ensures emits { EmitsAligned self.entry (after_fe 0x4e) (operands.Mem memarg) memarg.align result }
         ensures* unchanged { sem 𝓛 (IsUnchangedAtErr A.row A.Allocator self.entry result) }
     {
         self.emit_mem(Prefix::Fe, 0x4e, memarg)

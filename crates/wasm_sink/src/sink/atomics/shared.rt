@@ -1,8 +1,7 @@
 //! Atomic accesses to globals, tables, structs and arrays, and shared references to 31-bit integers
 //! (shared-everything-threads proposal).
-ghost use Rattle.std.specs.Prelude.{IsOk};
 ghost use Rattle.std.specs.Borrow.{sem};
-ghost use Rattle.wasm_sink.specs.Sink.{IsUnchangedAtErr, IsSameSink, Writes, HasRoom};
+ghost use Rattle.wasm_sink.specs.Sink.{IsUnchangedAtErr, Emits};
 ghost use Rattle.wasm_instructions.specs.formats.Opcodes.{after_fe};
 ghost use Rattle.wasm_instructions.specs.declared.table.call.Operands.TheVariants as operands;
 
@@ -20,9 +19,7 @@ impl<'a, A: Allocator> InstructionSink<'a, A> {
         ordering: Ordering,
         global: u32,
     ) -> Result<InstructionSink<'a, A>, EncodeError>
-        ensures wrote { Writes self.entry (after_fe 0x4f) (operands.OrderIndex ordering global) result }
-        ensures same { IsSameSink self.entry result }
-        ensures room { HasRoom self.entry → IsOk result }
+        ensures emits { Emits self.entry (after_fe 0x4f) (operands.OrderIndex ordering global) result }
         ensures* unchanged { sem 𝓛 (IsUnchangedAtErr A.row A.Allocator self.entry result) }
     {
         self.emit_order_index(0x4f, ordering, global)
@@ -34,9 +31,7 @@ impl<'a, A: Allocator> InstructionSink<'a, A> {
         ordering: Ordering,
         global: u32,
     ) -> Result<InstructionSink<'a, A>, EncodeError>
-        ensures wrote { Writes self.entry (after_fe 0x50) (operands.OrderIndex ordering global) result }
-        ensures same { IsSameSink self.entry result }
-        ensures room { HasRoom self.entry → IsOk result }
+        ensures emits { Emits self.entry (after_fe 0x50) (operands.OrderIndex ordering global) result }
         ensures* unchanged { sem 𝓛 (IsUnchangedAtErr A.row A.Allocator self.entry result) }
     {
         self.emit_order_index(0x50, ordering, global)
@@ -48,9 +43,7 @@ impl<'a, A: Allocator> InstructionSink<'a, A> {
         ordering: Ordering,
         global: u32,
     ) -> Result<InstructionSink<'a, A>, EncodeError>
-        ensures wrote { Writes self.entry (after_fe 0x51) (operands.OrderIndex ordering global) result }
-        ensures same { IsSameSink self.entry result }
-        ensures room { HasRoom self.entry → IsOk result }
+        ensures emits { Emits self.entry (after_fe 0x51) (operands.OrderIndex ordering global) result }
         ensures* unchanged { sem 𝓛 (IsUnchangedAtErr A.row A.Allocator self.entry result) }
     {
         self.emit_order_index(0x51, ordering, global)
@@ -62,9 +55,7 @@ impl<'a, A: Allocator> InstructionSink<'a, A> {
         ordering: Ordering,
         global: u32,
     ) -> Result<InstructionSink<'a, A>, EncodeError>
-        ensures wrote { Writes self.entry (after_fe 0x52) (operands.OrderIndex ordering global) result }
-        ensures same { IsSameSink self.entry result }
-        ensures room { HasRoom self.entry → IsOk result }
+        ensures emits { Emits self.entry (after_fe 0x52) (operands.OrderIndex ordering global) result }
         ensures* unchanged { sem 𝓛 (IsUnchangedAtErr A.row A.Allocator self.entry result) }
     {
         self.emit_order_index(0x52, ordering, global)
@@ -76,9 +67,7 @@ impl<'a, A: Allocator> InstructionSink<'a, A> {
         ordering: Ordering,
         global: u32,
     ) -> Result<InstructionSink<'a, A>, EncodeError>
-        ensures wrote { Writes self.entry (after_fe 0x53) (operands.OrderIndex ordering global) result }
-        ensures same { IsSameSink self.entry result }
-        ensures room { HasRoom self.entry → IsOk result }
+        ensures emits { Emits self.entry (after_fe 0x53) (operands.OrderIndex ordering global) result }
         ensures* unchanged { sem 𝓛 (IsUnchangedAtErr A.row A.Allocator self.entry result) }
     {
         self.emit_order_index(0x53, ordering, global)
@@ -90,9 +79,7 @@ impl<'a, A: Allocator> InstructionSink<'a, A> {
         ordering: Ordering,
         global: u32,
     ) -> Result<InstructionSink<'a, A>, EncodeError>
-        ensures wrote { Writes self.entry (after_fe 0x54) (operands.OrderIndex ordering global) result }
-        ensures same { IsSameSink self.entry result }
-        ensures room { HasRoom self.entry → IsOk result }
+        ensures emits { Emits self.entry (after_fe 0x54) (operands.OrderIndex ordering global) result }
         ensures* unchanged { sem 𝓛 (IsUnchangedAtErr A.row A.Allocator self.entry result) }
     {
         self.emit_order_index(0x54, ordering, global)
@@ -104,9 +91,7 @@ impl<'a, A: Allocator> InstructionSink<'a, A> {
         ordering: Ordering,
         global: u32,
     ) -> Result<InstructionSink<'a, A>, EncodeError>
-        ensures wrote { Writes self.entry (after_fe 0x55) (operands.OrderIndex ordering global) result }
-        ensures same { IsSameSink self.entry result }
-        ensures room { HasRoom self.entry → IsOk result }
+        ensures emits { Emits self.entry (after_fe 0x55) (operands.OrderIndex ordering global) result }
         ensures* unchanged { sem 𝓛 (IsUnchangedAtErr A.row A.Allocator self.entry result) }
     {
         self.emit_order_index(0x55, ordering, global)
@@ -118,9 +103,7 @@ impl<'a, A: Allocator> InstructionSink<'a, A> {
         ordering: Ordering,
         global: u32,
     ) -> Result<InstructionSink<'a, A>, EncodeError>
-        ensures wrote { Writes self.entry (after_fe 0x56) (operands.OrderIndex ordering global) result }
-        ensures same { IsSameSink self.entry result }
-        ensures room { HasRoom self.entry → IsOk result }
+        ensures emits { Emits self.entry (after_fe 0x56) (operands.OrderIndex ordering global) result }
         ensures* unchanged { sem 𝓛 (IsUnchangedAtErr A.row A.Allocator self.entry result) }
     {
         self.emit_order_index(0x56, ordering, global)
@@ -132,9 +115,7 @@ impl<'a, A: Allocator> InstructionSink<'a, A> {
         ordering: Ordering,
         global: u32,
     ) -> Result<InstructionSink<'a, A>, EncodeError>
-        ensures wrote { Writes self.entry (after_fe 0x57) (operands.OrderIndex ordering global) result }
-        ensures same { IsSameSink self.entry result }
-        ensures room { HasRoom self.entry → IsOk result }
+        ensures emits { Emits self.entry (after_fe 0x57) (operands.OrderIndex ordering global) result }
         ensures* unchanged { sem 𝓛 (IsUnchangedAtErr A.row A.Allocator self.entry result) }
     {
         self.emit_order_index(0x57, ordering, global)
@@ -146,9 +127,7 @@ impl<'a, A: Allocator> InstructionSink<'a, A> {
         ordering: Ordering,
         table: u32,
     ) -> Result<InstructionSink<'a, A>, EncodeError>
-        ensures wrote { Writes self.entry (after_fe 0x58) (operands.OrderIndex ordering table) result }
-        ensures same { IsSameSink self.entry result }
-        ensures room { HasRoom self.entry → IsOk result }
+        ensures emits { Emits self.entry (after_fe 0x58) (operands.OrderIndex ordering table) result }
         ensures* unchanged { sem 𝓛 (IsUnchangedAtErr A.row A.Allocator self.entry result) }
     {
         self.emit_order_index(0x58, ordering, table)
@@ -160,9 +139,7 @@ impl<'a, A: Allocator> InstructionSink<'a, A> {
         ordering: Ordering,
         table: u32,
     ) -> Result<InstructionSink<'a, A>, EncodeError>
-        ensures wrote { Writes self.entry (after_fe 0x59) (operands.OrderIndex ordering table) result }
-        ensures same { IsSameSink self.entry result }
-        ensures room { HasRoom self.entry → IsOk result }
+        ensures emits { Emits self.entry (after_fe 0x59) (operands.OrderIndex ordering table) result }
         ensures* unchanged { sem 𝓛 (IsUnchangedAtErr A.row A.Allocator self.entry result) }
     {
         self.emit_order_index(0x59, ordering, table)
@@ -174,9 +151,7 @@ impl<'a, A: Allocator> InstructionSink<'a, A> {
         ordering: Ordering,
         table: u32,
     ) -> Result<InstructionSink<'a, A>, EncodeError>
-        ensures wrote { Writes self.entry (after_fe 0x5a) (operands.OrderIndex ordering table) result }
-        ensures same { IsSameSink self.entry result }
-        ensures room { HasRoom self.entry → IsOk result }
+        ensures emits { Emits self.entry (after_fe 0x5a) (operands.OrderIndex ordering table) result }
         ensures* unchanged { sem 𝓛 (IsUnchangedAtErr A.row A.Allocator self.entry result) }
     {
         self.emit_order_index(0x5a, ordering, table)
@@ -188,9 +163,7 @@ impl<'a, A: Allocator> InstructionSink<'a, A> {
         ordering: Ordering,
         table: u32,
     ) -> Result<InstructionSink<'a, A>, EncodeError>
-        ensures wrote { Writes self.entry (after_fe 0x5b) (operands.OrderIndex ordering table) result }
-        ensures same { IsSameSink self.entry result }
-        ensures room { HasRoom self.entry → IsOk result }
+        ensures emits { Emits self.entry (after_fe 0x5b) (operands.OrderIndex ordering table) result }
         ensures* unchanged { sem 𝓛 (IsUnchangedAtErr A.row A.Allocator self.entry result) }
     {
         self.emit_order_index(0x5b, ordering, table)
@@ -203,9 +176,7 @@ impl<'a, A: Allocator> InstructionSink<'a, A> {
         ty: u32,
         field: u32,
     ) -> Result<InstructionSink<'a, A>, EncodeError>
-        ensures wrote { Writes self.entry (after_fe 0x5c) (operands.OrderTwoIndexes ordering ty field) result }
-        ensures same { IsSameSink self.entry result }
-        ensures room { HasRoom self.entry → IsOk result }
+        ensures emits { Emits self.entry (after_fe 0x5c) (operands.OrderTwoIndexes ordering ty field) result }
         ensures* unchanged { sem 𝓛 (IsUnchangedAtErr A.row A.Allocator self.entry result) }
     {
         self.emit_order_two_indexes(0x5c, ordering, ty, field)
@@ -218,9 +189,7 @@ impl<'a, A: Allocator> InstructionSink<'a, A> {
         ty: u32,
         field: u32,
     ) -> Result<InstructionSink<'a, A>, EncodeError>
-        ensures wrote { Writes self.entry (after_fe 0x5d) (operands.OrderTwoIndexes ordering ty field) result }
-        ensures same { IsSameSink self.entry result }
-        ensures room { HasRoom self.entry → IsOk result }
+        ensures emits { Emits self.entry (after_fe 0x5d) (operands.OrderTwoIndexes ordering ty field) result }
         ensures* unchanged { sem 𝓛 (IsUnchangedAtErr A.row A.Allocator self.entry result) }
     {
         self.emit_order_two_indexes(0x5d, ordering, ty, field)
@@ -233,9 +202,7 @@ impl<'a, A: Allocator> InstructionSink<'a, A> {
         ty: u32,
         field: u32,
     ) -> Result<InstructionSink<'a, A>, EncodeError>
-        ensures wrote { Writes self.entry (after_fe 0x5e) (operands.OrderTwoIndexes ordering ty field) result }
-        ensures same { IsSameSink self.entry result }
-        ensures room { HasRoom self.entry → IsOk result }
+        ensures emits { Emits self.entry (after_fe 0x5e) (operands.OrderTwoIndexes ordering ty field) result }
         ensures* unchanged { sem 𝓛 (IsUnchangedAtErr A.row A.Allocator self.entry result) }
     {
         self.emit_order_two_indexes(0x5e, ordering, ty, field)
@@ -248,9 +215,7 @@ impl<'a, A: Allocator> InstructionSink<'a, A> {
         ty: u32,
         field: u32,
     ) -> Result<InstructionSink<'a, A>, EncodeError>
-        ensures wrote { Writes self.entry (after_fe 0x5f) (operands.OrderTwoIndexes ordering ty field) result }
-        ensures same { IsSameSink self.entry result }
-        ensures room { HasRoom self.entry → IsOk result }
+        ensures emits { Emits self.entry (after_fe 0x5f) (operands.OrderTwoIndexes ordering ty field) result }
         ensures* unchanged { sem 𝓛 (IsUnchangedAtErr A.row A.Allocator self.entry result) }
     {
         self.emit_order_two_indexes(0x5f, ordering, ty, field)
@@ -263,9 +228,7 @@ impl<'a, A: Allocator> InstructionSink<'a, A> {
         ty: u32,
         field: u32,
     ) -> Result<InstructionSink<'a, A>, EncodeError>
-        ensures wrote { Writes self.entry (after_fe 0x60) (operands.OrderTwoIndexes ordering ty field) result }
-        ensures same { IsSameSink self.entry result }
-        ensures room { HasRoom self.entry → IsOk result }
+        ensures emits { Emits self.entry (after_fe 0x60) (operands.OrderTwoIndexes ordering ty field) result }
         ensures* unchanged { sem 𝓛 (IsUnchangedAtErr A.row A.Allocator self.entry result) }
     {
         self.emit_order_two_indexes(0x60, ordering, ty, field)
@@ -278,9 +241,7 @@ impl<'a, A: Allocator> InstructionSink<'a, A> {
         ty: u32,
         field: u32,
     ) -> Result<InstructionSink<'a, A>, EncodeError>
-        ensures wrote { Writes self.entry (after_fe 0x61) (operands.OrderTwoIndexes ordering ty field) result }
-        ensures same { IsSameSink self.entry result }
-        ensures room { HasRoom self.entry → IsOk result }
+        ensures emits { Emits self.entry (after_fe 0x61) (operands.OrderTwoIndexes ordering ty field) result }
         ensures* unchanged { sem 𝓛 (IsUnchangedAtErr A.row A.Allocator self.entry result) }
     {
         self.emit_order_two_indexes(0x61, ordering, ty, field)
@@ -293,9 +254,7 @@ impl<'a, A: Allocator> InstructionSink<'a, A> {
         ty: u32,
         field: u32,
     ) -> Result<InstructionSink<'a, A>, EncodeError>
-        ensures wrote { Writes self.entry (after_fe 0x62) (operands.OrderTwoIndexes ordering ty field) result }
-        ensures same { IsSameSink self.entry result }
-        ensures room { HasRoom self.entry → IsOk result }
+        ensures emits { Emits self.entry (after_fe 0x62) (operands.OrderTwoIndexes ordering ty field) result }
         ensures* unchanged { sem 𝓛 (IsUnchangedAtErr A.row A.Allocator self.entry result) }
     {
         self.emit_order_two_indexes(0x62, ordering, ty, field)
@@ -308,9 +267,7 @@ impl<'a, A: Allocator> InstructionSink<'a, A> {
         ty: u32,
         field: u32,
     ) -> Result<InstructionSink<'a, A>, EncodeError>
-        ensures wrote { Writes self.entry (after_fe 0x63) (operands.OrderTwoIndexes ordering ty field) result }
-        ensures same { IsSameSink self.entry result }
-        ensures room { HasRoom self.entry → IsOk result }
+        ensures emits { Emits self.entry (after_fe 0x63) (operands.OrderTwoIndexes ordering ty field) result }
         ensures* unchanged { sem 𝓛 (IsUnchangedAtErr A.row A.Allocator self.entry result) }
     {
         self.emit_order_two_indexes(0x63, ordering, ty, field)
@@ -323,9 +280,7 @@ impl<'a, A: Allocator> InstructionSink<'a, A> {
         ty: u32,
         field: u32,
     ) -> Result<InstructionSink<'a, A>, EncodeError>
-        ensures wrote { Writes self.entry (after_fe 0x64) (operands.OrderTwoIndexes ordering ty field) result }
-        ensures same { IsSameSink self.entry result }
-        ensures room { HasRoom self.entry → IsOk result }
+        ensures emits { Emits self.entry (after_fe 0x64) (operands.OrderTwoIndexes ordering ty field) result }
         ensures* unchanged { sem 𝓛 (IsUnchangedAtErr A.row A.Allocator self.entry result) }
     {
         self.emit_order_two_indexes(0x64, ordering, ty, field)
@@ -338,9 +293,7 @@ impl<'a, A: Allocator> InstructionSink<'a, A> {
         ty: u32,
         field: u32,
     ) -> Result<InstructionSink<'a, A>, EncodeError>
-        ensures wrote { Writes self.entry (after_fe 0x65) (operands.OrderTwoIndexes ordering ty field) result }
-        ensures same { IsSameSink self.entry result }
-        ensures room { HasRoom self.entry → IsOk result }
+        ensures emits { Emits self.entry (after_fe 0x65) (operands.OrderTwoIndexes ordering ty field) result }
         ensures* unchanged { sem 𝓛 (IsUnchangedAtErr A.row A.Allocator self.entry result) }
     {
         self.emit_order_two_indexes(0x65, ordering, ty, field)
@@ -353,9 +306,7 @@ impl<'a, A: Allocator> InstructionSink<'a, A> {
         ty: u32,
         field: u32,
     ) -> Result<InstructionSink<'a, A>, EncodeError>
-        ensures wrote { Writes self.entry (after_fe 0x66) (operands.OrderTwoIndexes ordering ty field) result }
-        ensures same { IsSameSink self.entry result }
-        ensures room { HasRoom self.entry → IsOk result }
+        ensures emits { Emits self.entry (after_fe 0x66) (operands.OrderTwoIndexes ordering ty field) result }
         ensures* unchanged { sem 𝓛 (IsUnchangedAtErr A.row A.Allocator self.entry result) }
     {
         self.emit_order_two_indexes(0x66, ordering, ty, field)
@@ -367,9 +318,7 @@ impl<'a, A: Allocator> InstructionSink<'a, A> {
         ordering: Ordering,
         ty: u32,
     ) -> Result<InstructionSink<'a, A>, EncodeError>
-        ensures wrote { Writes self.entry (after_fe 0x67) (operands.OrderIndex ordering ty) result }
-        ensures same { IsSameSink self.entry result }
-        ensures room { HasRoom self.entry → IsOk result }
+        ensures emits { Emits self.entry (after_fe 0x67) (operands.OrderIndex ordering ty) result }
         ensures* unchanged { sem 𝓛 (IsUnchangedAtErr A.row A.Allocator self.entry result) }
     {
         self.emit_order_index(0x67, ordering, ty)
@@ -381,9 +330,7 @@ impl<'a, A: Allocator> InstructionSink<'a, A> {
         ordering: Ordering,
         ty: u32,
     ) -> Result<InstructionSink<'a, A>, EncodeError>
-        ensures wrote { Writes self.entry (after_fe 0x68) (operands.OrderIndex ordering ty) result }
-        ensures same { IsSameSink self.entry result }
-        ensures room { HasRoom self.entry → IsOk result }
+        ensures emits { Emits self.entry (after_fe 0x68) (operands.OrderIndex ordering ty) result }
         ensures* unchanged { sem 𝓛 (IsUnchangedAtErr A.row A.Allocator self.entry result) }
     {
         self.emit_order_index(0x68, ordering, ty)
@@ -395,9 +342,7 @@ impl<'a, A: Allocator> InstructionSink<'a, A> {
         ordering: Ordering,
         ty: u32,
     ) -> Result<InstructionSink<'a, A>, EncodeError>
-        ensures wrote { Writes self.entry (after_fe 0x69) (operands.OrderIndex ordering ty) result }
-        ensures same { IsSameSink self.entry result }
-        ensures room { HasRoom self.entry → IsOk result }
+        ensures emits { Emits self.entry (after_fe 0x69) (operands.OrderIndex ordering ty) result }
         ensures* unchanged { sem 𝓛 (IsUnchangedAtErr A.row A.Allocator self.entry result) }
     {
         self.emit_order_index(0x69, ordering, ty)
@@ -409,9 +354,7 @@ impl<'a, A: Allocator> InstructionSink<'a, A> {
         ordering: Ordering,
         ty: u32,
     ) -> Result<InstructionSink<'a, A>, EncodeError>
-        ensures wrote { Writes self.entry (after_fe 0x6a) (operands.OrderIndex ordering ty) result }
-        ensures same { IsSameSink self.entry result }
-        ensures room { HasRoom self.entry → IsOk result }
+        ensures emits { Emits self.entry (after_fe 0x6a) (operands.OrderIndex ordering ty) result }
         ensures* unchanged { sem 𝓛 (IsUnchangedAtErr A.row A.Allocator self.entry result) }
     {
         self.emit_order_index(0x6a, ordering, ty)
@@ -423,9 +366,7 @@ impl<'a, A: Allocator> InstructionSink<'a, A> {
         ordering: Ordering,
         ty: u32,
     ) -> Result<InstructionSink<'a, A>, EncodeError>
-        ensures wrote { Writes self.entry (after_fe 0x6b) (operands.OrderIndex ordering ty) result }
-        ensures same { IsSameSink self.entry result }
-        ensures room { HasRoom self.entry → IsOk result }
+        ensures emits { Emits self.entry (after_fe 0x6b) (operands.OrderIndex ordering ty) result }
         ensures* unchanged { sem 𝓛 (IsUnchangedAtErr A.row A.Allocator self.entry result) }
     {
         self.emit_order_index(0x6b, ordering, ty)
@@ -437,9 +378,7 @@ impl<'a, A: Allocator> InstructionSink<'a, A> {
         ordering: Ordering,
         ty: u32,
     ) -> Result<InstructionSink<'a, A>, EncodeError>
-        ensures wrote { Writes self.entry (after_fe 0x6c) (operands.OrderIndex ordering ty) result }
-        ensures same { IsSameSink self.entry result }
-        ensures room { HasRoom self.entry → IsOk result }
+        ensures emits { Emits self.entry (after_fe 0x6c) (operands.OrderIndex ordering ty) result }
         ensures* unchanged { sem 𝓛 (IsUnchangedAtErr A.row A.Allocator self.entry result) }
     {
         self.emit_order_index(0x6c, ordering, ty)
@@ -451,9 +390,7 @@ impl<'a, A: Allocator> InstructionSink<'a, A> {
         ordering: Ordering,
         ty: u32,
     ) -> Result<InstructionSink<'a, A>, EncodeError>
-        ensures wrote { Writes self.entry (after_fe 0x6d) (operands.OrderIndex ordering ty) result }
-        ensures same { IsSameSink self.entry result }
-        ensures room { HasRoom self.entry → IsOk result }
+        ensures emits { Emits self.entry (after_fe 0x6d) (operands.OrderIndex ordering ty) result }
         ensures* unchanged { sem 𝓛 (IsUnchangedAtErr A.row A.Allocator self.entry result) }
     {
         self.emit_order_index(0x6d, ordering, ty)
@@ -465,9 +402,7 @@ impl<'a, A: Allocator> InstructionSink<'a, A> {
         ordering: Ordering,
         ty: u32,
     ) -> Result<InstructionSink<'a, A>, EncodeError>
-        ensures wrote { Writes self.entry (after_fe 0x6e) (operands.OrderIndex ordering ty) result }
-        ensures same { IsSameSink self.entry result }
-        ensures room { HasRoom self.entry → IsOk result }
+        ensures emits { Emits self.entry (after_fe 0x6e) (operands.OrderIndex ordering ty) result }
         ensures* unchanged { sem 𝓛 (IsUnchangedAtErr A.row A.Allocator self.entry result) }
     {
         self.emit_order_index(0x6e, ordering, ty)
@@ -479,9 +414,7 @@ impl<'a, A: Allocator> InstructionSink<'a, A> {
         ordering: Ordering,
         ty: u32,
     ) -> Result<InstructionSink<'a, A>, EncodeError>
-        ensures wrote { Writes self.entry (after_fe 0x6f) (operands.OrderIndex ordering ty) result }
-        ensures same { IsSameSink self.entry result }
-        ensures room { HasRoom self.entry → IsOk result }
+        ensures emits { Emits self.entry (after_fe 0x6f) (operands.OrderIndex ordering ty) result }
         ensures* unchanged { sem 𝓛 (IsUnchangedAtErr A.row A.Allocator self.entry result) }
     {
         self.emit_order_index(0x6f, ordering, ty)
@@ -493,9 +426,7 @@ impl<'a, A: Allocator> InstructionSink<'a, A> {
         ordering: Ordering,
         ty: u32,
     ) -> Result<InstructionSink<'a, A>, EncodeError>
-        ensures wrote { Writes self.entry (after_fe 0x70) (operands.OrderIndex ordering ty) result }
-        ensures same { IsSameSink self.entry result }
-        ensures room { HasRoom self.entry → IsOk result }
+        ensures emits { Emits self.entry (after_fe 0x70) (operands.OrderIndex ordering ty) result }
         ensures* unchanged { sem 𝓛 (IsUnchangedAtErr A.row A.Allocator self.entry result) }
     {
         self.emit_order_index(0x70, ordering, ty)
@@ -507,9 +438,7 @@ impl<'a, A: Allocator> InstructionSink<'a, A> {
         ordering: Ordering,
         ty: u32,
     ) -> Result<InstructionSink<'a, A>, EncodeError>
-        ensures wrote { Writes self.entry (after_fe 0x71) (operands.OrderIndex ordering ty) result }
-        ensures same { IsSameSink self.entry result }
-        ensures room { HasRoom self.entry → IsOk result }
+        ensures emits { Emits self.entry (after_fe 0x71) (operands.OrderIndex ordering ty) result }
         ensures* unchanged { sem 𝓛 (IsUnchangedAtErr A.row A.Allocator self.entry result) }
     {
         self.emit_order_index(0x71, ordering, ty)
@@ -517,9 +446,7 @@ impl<'a, A: Allocator> InstructionSink<'a, A> {
 
     /// `ref.i31_shared`: `0xFE 0x72`.
     pub fn ref_i31_shared(self) -> Result<InstructionSink<'a, A>, EncodeError>
-        ensures wrote { Writes self.entry (after_fe 0x72) operands.None result }
-        ensures same { IsSameSink self.entry result }
-        ensures room { HasRoom self.entry → IsOk result }
+        ensures emits { Emits self.entry (after_fe 0x72) operands.None result }
         ensures* unchanged { sem 𝓛 (IsUnchangedAtErr A.row A.Allocator self.entry result) }
     {
         self.emit(Prefix::Fe, 0x72)

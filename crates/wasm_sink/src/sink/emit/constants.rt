@@ -1,7 +1,6 @@
 //! Emitters of instructions with a constant or with lanes.
-ghost use Rattle.std.specs.Prelude.{IsOk};
 ghost use Rattle.std.specs.Borrow.{sem};
-ghost use Rattle.wasm_sink.specs.Sink.{IsUnchangedAtErr, IsSameSink, Writes, HasRoom};
+ghost use Rattle.wasm_sink.specs.Sink.{IsUnchangedAtErr, Emits};
 ghost use Rattle.wasm_instructions.specs.Instructions.{IsCall};
 ghost use Rattle.wasm_instructions.specs.formats.Opcodes.{after_fd, without_prefix};
 ghost use Rattle.wasm_instructions.specs.declared.table.call.Operands.TheVariants as operands;
@@ -24,9 +23,7 @@ impl<'a, A: Allocator> InstructionSink<'a, A> {
         value: i32,
     ) -> Result<InstructionSink<'a, A>, EncodeError>
         requires call { IsCall (without_prefix number) (operands.I32 value) }
-        ensures wrote { Writes self.entry (without_prefix number) (operands.I32 value) result }
-        ensures same { IsSameSink self.entry result }
-        ensures room { HasRoom self.entry → IsOk result }
+        ensures emits { Emits self.entry (without_prefix number) (operands.I32 value) result }
         ensures* unchanged { sem 𝓛 (IsUnchangedAtErr A.row A.Allocator self.entry result) }
     {
         let InstructionSink { bytes } = self;
@@ -41,9 +38,7 @@ impl<'a, A: Allocator> InstructionSink<'a, A> {
         value: i64,
     ) -> Result<InstructionSink<'a, A>, EncodeError>
         requires call { IsCall (without_prefix number) (operands.I64 value) }
-        ensures wrote { Writes self.entry (without_prefix number) (operands.I64 value) result }
-        ensures same { IsSameSink self.entry result }
-        ensures room { HasRoom self.entry → IsOk result }
+        ensures emits { Emits self.entry (without_prefix number) (operands.I64 value) result }
         ensures* unchanged { sem 𝓛 (IsUnchangedAtErr A.row A.Allocator self.entry result) }
     {
         let InstructionSink { bytes } = self;
@@ -58,9 +53,7 @@ impl<'a, A: Allocator> InstructionSink<'a, A> {
         value: Ieee32,
     ) -> Result<InstructionSink<'a, A>, EncodeError>
         requires call { IsCall (without_prefix number) (operands.F32 value) }
-        ensures wrote { Writes self.entry (without_prefix number) (operands.F32 value) result }
-        ensures same { IsSameSink self.entry result }
-        ensures room { HasRoom self.entry → IsOk result }
+        ensures emits { Emits self.entry (without_prefix number) (operands.F32 value) result }
         ensures* unchanged { sem 𝓛 (IsUnchangedAtErr A.row A.Allocator self.entry result) }
     {
         let InstructionSink { bytes } = self;
@@ -75,9 +68,7 @@ impl<'a, A: Allocator> InstructionSink<'a, A> {
         value: Ieee64,
     ) -> Result<InstructionSink<'a, A>, EncodeError>
         requires call { IsCall (without_prefix number) (operands.F64 value) }
-        ensures wrote { Writes self.entry (without_prefix number) (operands.F64 value) result }
-        ensures same { IsSameSink self.entry result }
-        ensures room { HasRoom self.entry → IsOk result }
+        ensures emits { Emits self.entry (without_prefix number) (operands.F64 value) result }
         ensures* unchanged { sem 𝓛 (IsUnchangedAtErr A.row A.Allocator self.entry result) }
     {
         let InstructionSink { bytes } = self;
@@ -92,9 +83,7 @@ impl<'a, A: Allocator> InstructionSink<'a, A> {
         value: i128,
     ) -> Result<InstructionSink<'a, A>, EncodeError>
         requires call { IsCall (after_fd number) (operands.V128 value) }
-        ensures wrote { Writes self.entry (after_fd number) (operands.V128 value) result }
-        ensures same { IsSameSink self.entry result }
-        ensures room { HasRoom self.entry → IsOk result }
+        ensures emits { Emits self.entry (after_fd number) (operands.V128 value) result }
         ensures* unchanged { sem 𝓛 (IsUnchangedAtErr A.row A.Allocator self.entry result) }
     {
         let InstructionSink { bytes } = self;
@@ -109,9 +98,7 @@ impl<'a, A: Allocator> InstructionSink<'a, A> {
         lanes: [Lane; 16],
     ) -> Result<InstructionSink<'a, A>, EncodeError>
         requires call { IsCall (after_fd number) (operands.Shuffle lanes) }
-        ensures wrote { Writes self.entry (after_fd number) (operands.Shuffle lanes) result }
-        ensures same { IsSameSink self.entry result }
-        ensures room { HasRoom self.entry → IsOk result }
+        ensures emits { Emits self.entry (after_fd number) (operands.Shuffle lanes) result }
         ensures* unchanged { sem 𝓛 (IsUnchangedAtErr A.row A.Allocator self.entry result) }
     {
         let InstructionSink { bytes } = self;
@@ -126,9 +113,7 @@ impl<'a, A: Allocator> InstructionSink<'a, A> {
         lane: Lane,
     ) -> Result<InstructionSink<'a, A>, EncodeError>
         requires call { IsCall (after_fd number) (operands.Lane lane) }
-        ensures wrote { Writes self.entry (after_fd number) (operands.Lane lane) result }
-        ensures same { IsSameSink self.entry result }
-        ensures room { HasRoom self.entry → IsOk result }
+        ensures emits { Emits self.entry (after_fd number) (operands.Lane lane) result }
         ensures* unchanged { sem 𝓛 (IsUnchangedAtErr A.row A.Allocator self.entry result) }
     {
         let InstructionSink { bytes } = self;

@@ -1,14 +1,13 @@
 //! Emitters of instructions with a list. They fail with `TooLong` if the list has more than 4,294,967,295 items.
-ghost use Rattle.std.specs.Prelude.{◌≡◌, Some, length, IfErr};
+ghost use Rattle.std.specs.Prelude.{◌≡◌, Some, length};
 ghost use Rattle.std.specs.Borrow.{sem};
-ghost use Rattle.wasm_sink.specs.Sink.{IsUnchangedAtErr, IsSameSink};
+ghost use Rattle.wasm_sink.specs.Sink.{IsUnchangedAtErr};
 ghost use Rattle.wasm_instructions.specs.Instructions.{IsCall};
 ghost use Rattle.wasm_instructions.specs.formats.Opcodes.{without_prefix, opcode_kind};
 ghost use Rattle.wasm_instructions.specs.declared.table.opcode.Kind.TheVariants as kinds;
 ghost use Rattle.wasm_instructions.specs.declared.table.call.Operands.TheVariants as operands;
 ghost use Rattle.std.specs.Iterator.{size};
-ghost use Rattle.wasm_sink.specs.ListCalls.{WritesGiven, WritesItems, WritesList};
-ghost use Rattle.wasm_calls.specs.Appending.{IsRefusedList};
+ghost use Rattle.wasm_sink.specs.ListCalls.{EmitsItems, EmitsList};
 
 use crate::sink::InstructionSink;
 use std::alloc::Allocator;
@@ -29,8 +28,7 @@ impl<'a, A: Allocator> InstructionSink<'a, A> {
         types: &[ValType],
     ) -> Result<InstructionSink<'a, A>, EncodeError>
         requires call { IsCall (without_prefix number) (operands.Types types.now) }
-        ensures wrote { WritesList self.entry (without_prefix number) (operands.Types types.now) (length types.now) result }
-        ensures same { IsSameSink self.entry result }
+        ensures emits { EmitsList self.entry (without_prefix number) (operands.Types types.now) (length types.now) result }
         ensures* unchanged { sem 𝓛 (IsUnchangedAtErr A.row A.Allocator self.entry result) }
     {
         let InstructionSink { bytes } = self;
@@ -47,10 +45,7 @@ impl<'a, A: Allocator> InstructionSink<'a, A> {
     ) -> Result<InstructionSink<'a, A>, EncodeError>
         requires call { opcode_kind (without_prefix number) ≡ Some kinds.BrTable }
         requires can { I.can_next labels }
-        ensures wrote { WritesItems I.next_gives self.entry (without_prefix number) (λ xs. operands.BrTable xs default) labels result }
-        ensures stands { WritesGiven I.next_gives self.entry (without_prefix number) (λ xs. operands.BrTable xs default) labels result }
-        ensures same { IsSameSink self.entry result }
-        ensures err { IfErr result (IsRefusedList (size (I.remaining labels))) }
+        ensures emits { EmitsItems I.next_gives self.entry (without_prefix number) (λ xs. operands.BrTable xs default) labels (size (I.remaining labels)) result }
         ensures* unchanged { sem 𝓛 (IsUnchangedAtErr A.row A.Allocator self.entry result) }
     {
         let InstructionSink { bytes } = self;
@@ -68,10 +63,7 @@ impl<'a, A: Allocator> InstructionSink<'a, A> {
     ) -> Result<InstructionSink<'a, A>, EncodeError>
         requires call { opcode_kind (without_prefix number) ≡ Some kinds.TryTable }
         requires can { I.can_next clauses }
-        ensures wrote { WritesItems I.next_gives self.entry (without_prefix number) (λ xs. operands.TryTable block_type xs) clauses result }
-        ensures stands { WritesGiven I.next_gives self.entry (without_prefix number) (λ xs. operands.TryTable block_type xs) clauses result }
-        ensures same { IsSameSink self.entry result }
-        ensures err { IfErr result (IsRefusedList (size (I.remaining clauses))) }
+        ensures emits { EmitsItems I.next_gives self.entry (without_prefix number) (λ xs. operands.TryTable block_type xs) clauses (size (I.remaining clauses)) result }
         ensures* unchanged { sem 𝓛 (IsUnchangedAtErr A.row A.Allocator self.entry result) }
     {
         let InstructionSink { bytes } = self;
@@ -89,10 +81,7 @@ impl<'a, A: Allocator> InstructionSink<'a, A> {
     ) -> Result<InstructionSink<'a, A>, EncodeError>
         requires call { opcode_kind (without_prefix number) ≡ Some kinds.Resume }
         requires can { I.can_next handlers }
-        ensures wrote { WritesItems I.next_gives self.entry (without_prefix number) (λ xs. operands.Resume index xs) handlers result }
-        ensures stands { WritesGiven I.next_gives self.entry (without_prefix number) (λ xs. operands.Resume index xs) handlers result }
-        ensures same { IsSameSink self.entry result }
-        ensures err { IfErr result (IsRefusedList (size (I.remaining handlers))) }
+        ensures emits { EmitsItems I.next_gives self.entry (without_prefix number) (λ xs. operands.Resume index xs) handlers (size (I.remaining handlers)) result }
         ensures* unchanged { sem 𝓛 (IsUnchangedAtErr A.row A.Allocator self.entry result) }
     {
         let InstructionSink { bytes } = self;
@@ -111,10 +100,7 @@ impl<'a, A: Allocator> InstructionSink<'a, A> {
     ) -> Result<InstructionSink<'a, A>, EncodeError>
         requires call { opcode_kind (without_prefix number) ≡ Some kinds.ResumeThrow }
         requires can { I.can_next handlers }
-        ensures wrote { WritesItems I.next_gives self.entry (without_prefix number) (λ xs. operands.ResumeThrow first second xs) handlers result }
-        ensures stands { WritesGiven I.next_gives self.entry (without_prefix number) (λ xs. operands.ResumeThrow first second xs) handlers result }
-        ensures same { IsSameSink self.entry result }
-        ensures err { IfErr result (IsRefusedList (size (I.remaining handlers))) }
+        ensures emits { EmitsItems I.next_gives self.entry (without_prefix number) (λ xs. operands.ResumeThrow first second xs) handlers (size (I.remaining handlers)) result }
         ensures* unchanged { sem 𝓛 (IsUnchangedAtErr A.row A.Allocator self.entry result) }
     {
         let InstructionSink { bytes } = self;

@@ -1,8 +1,8 @@
 //! Emitters of instructions with memory arguments. They fail with `Alignment` if the alignment is 64 or more, before
 //! they allocate.
-ghost use Rattle.std.specs.Prelude.{◌≤◌, ◌<◌, ◌↔◌, IsOk, IsErrOf};
+ghost use Rattle.std.specs.Prelude.{◌<◌};
 ghost use Rattle.std.specs.Borrow.{sem};
-ghost use Rattle.wasm_sink.specs.Sink.{opcode_of, IsUnchangedAtErr, IsSameSink, WritesBytes, HasRoom};
+ghost use Rattle.wasm_sink.specs.Sink.{opcode_of, IsUnchangedAtErr, EmitsAligned};
 ghost use Rattle.wasm_instructions.specs.Instructions.{IsCall};
 ghost use Rattle.wasm_instructions.specs.formats.Opcodes.{after_fd};
 ghost use Rattle.wasm_instructions.specs.declared.table.call.Operands.TheVariants as operands;
@@ -24,10 +24,7 @@ impl<'a, A: Allocator> InstructionSink<'a, A> {
         memarg: MemArg,
     ) -> Result<InstructionSink<'a, A>, EncodeError>
         requires call { IsCall (opcode_of prefix number) (operands.Mem memarg) }
-        ensures wrote { WritesBytes self.entry (opcode_of prefix number) (operands.Mem memarg) result }
-        ensures same { IsSameSink self.entry result }
-        ensures alignment { IsErrOf result EncodeError.Alignment ↔ 64 ≤ memarg.align }
-        ensures room { HasRoom self.entry → memarg.align < 64 → IsOk result }
+        ensures emits { EmitsAligned self.entry (opcode_of prefix number) (operands.Mem memarg) memarg.align result }
         ensures* unchanged { sem 𝓛 (IsUnchangedAtErr A.row A.Allocator self.entry result) }
     {
         let InstructionSink { bytes } = self;
@@ -43,10 +40,7 @@ impl<'a, A: Allocator> InstructionSink<'a, A> {
         lane: Lane,
     ) -> Result<InstructionSink<'a, A>, EncodeError>
         requires call { IsCall (after_fd number) (operands.MemLane memarg lane) }
-        ensures wrote { WritesBytes self.entry (after_fd number) (operands.MemLane memarg lane) result }
-        ensures same { IsSameSink self.entry result }
-        ensures alignment { IsErrOf result EncodeError.Alignment ↔ 64 ≤ memarg.align }
-        ensures room { HasRoom self.entry → memarg.align < 64 → IsOk result }
+        ensures emits { EmitsAligned self.entry (after_fd number) (operands.MemLane memarg lane) memarg.align result }
         ensures* unchanged { sem 𝓛 (IsUnchangedAtErr A.row A.Allocator self.entry result) }
     {
         let InstructionSink { bytes } = self;

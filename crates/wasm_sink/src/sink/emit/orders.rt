@@ -1,7 +1,6 @@
 //! Emitters of instructions with orderings (threads proposal).
-ghost use Rattle.std.specs.Prelude.{IsOk};
 ghost use Rattle.std.specs.Borrow.{sem};
-ghost use Rattle.wasm_sink.specs.Sink.{IsUnchangedAtErr, IsSameSink, Writes, HasRoom};
+ghost use Rattle.wasm_sink.specs.Sink.{IsUnchangedAtErr, Emits};
 ghost use Rattle.wasm_instructions.specs.Instructions.{IsCall};
 ghost use Rattle.wasm_instructions.specs.formats.Opcodes.{after_fe};
 ghost use Rattle.wasm_instructions.specs.declared.table.call.Operands.TheVariants as operands;
@@ -22,9 +21,7 @@ impl<'a, A: Allocator> InstructionSink<'a, A> {
         ordering: Ordering,
     ) -> Result<InstructionSink<'a, A>, EncodeError>
         requires call { IsCall (after_fe number) (operands.Order ordering) }
-        ensures wrote { Writes self.entry (after_fe number) (operands.Order ordering) result }
-        ensures same { IsSameSink self.entry result }
-        ensures room { HasRoom self.entry → IsOk result }
+        ensures emits { Emits self.entry (after_fe number) (operands.Order ordering) result }
         ensures* unchanged { sem 𝓛 (IsUnchangedAtErr A.row A.Allocator self.entry result) }
     {
         let InstructionSink { bytes } = self;
@@ -40,9 +37,7 @@ impl<'a, A: Allocator> InstructionSink<'a, A> {
         index: u32,
     ) -> Result<InstructionSink<'a, A>, EncodeError>
         requires call { IsCall (after_fe number) (operands.OrderIndex ordering index) }
-        ensures wrote { Writes self.entry (after_fe number) (operands.OrderIndex ordering index) result }
-        ensures same { IsSameSink self.entry result }
-        ensures room { HasRoom self.entry → IsOk result }
+        ensures emits { Emits self.entry (after_fe number) (operands.OrderIndex ordering index) result }
         ensures* unchanged { sem 𝓛 (IsUnchangedAtErr A.row A.Allocator self.entry result) }
     {
         let InstructionSink { bytes } = self;
@@ -59,9 +54,7 @@ impl<'a, A: Allocator> InstructionSink<'a, A> {
         second: u32,
     ) -> Result<InstructionSink<'a, A>, EncodeError>
         requires call { IsCall (after_fe number) (operands.OrderTwoIndexes ordering first second) }
-        ensures wrote { Writes self.entry (after_fe number) (operands.OrderTwoIndexes ordering first second) result }
-        ensures same { IsSameSink self.entry result }
-        ensures room { HasRoom self.entry → IsOk result }
+        ensures emits { Emits self.entry (after_fe number) (operands.OrderTwoIndexes ordering first second) result }
         ensures* unchanged { sem 𝓛 (IsUnchangedAtErr A.row A.Allocator self.entry result) }
     {
         let InstructionSink { bytes } = self;

@@ -1,7 +1,7 @@
 //! Emitters of instructions with block, heap, reference and value types.
-ghost use Rattle.std.specs.Prelude.{◌∷◌, [], IsOk};
+ghost use Rattle.std.specs.Prelude.{◌∷◌, []};
 ghost use Rattle.std.specs.Borrow.{sem};
-ghost use Rattle.wasm_sink.specs.Sink.{opcode_of, IsUnchangedAtErr, IsSameSink, Writes, HasRoom};
+ghost use Rattle.wasm_sink.specs.Sink.{opcode_of, IsUnchangedAtErr, Emits};
 ghost use Rattle.wasm_instructions.specs.Instructions.{IsCall};
 ghost use Rattle.wasm_instructions.specs.formats.Opcodes.{after_fb, without_prefix};
 ghost use Rattle.wasm_instructions.specs.declared.table.call.Operands.TheVariants as operands;
@@ -23,9 +23,7 @@ impl<'a, A: Allocator> InstructionSink<'a, A> {
         block_type: BlockType,
     ) -> Result<InstructionSink<'a, A>, EncodeError>
         requires call { IsCall (without_prefix number) (operands.Block block_type) }
-        ensures wrote { Writes self.entry (without_prefix number) (operands.Block block_type) result }
-        ensures same { IsSameSink self.entry result }
-        ensures room { HasRoom self.entry → IsOk result }
+        ensures emits { Emits self.entry (without_prefix number) (operands.Block block_type) result }
         ensures* unchanged { sem 𝓛 (IsUnchangedAtErr A.row A.Allocator self.entry result) }
     {
         let InstructionSink { bytes } = self;
@@ -41,9 +39,7 @@ impl<'a, A: Allocator> InstructionSink<'a, A> {
         heap_type: HeapType,
     ) -> Result<InstructionSink<'a, A>, EncodeError>
         requires call { IsCall (opcode_of prefix number) (operands.Heap heap_type) }
-        ensures wrote { Writes self.entry (opcode_of prefix number) (operands.Heap heap_type) result }
-        ensures same { IsSameSink self.entry result }
-        ensures room { HasRoom self.entry → IsOk result }
+        ensures emits { Emits self.entry (opcode_of prefix number) (operands.Heap heap_type) result }
         ensures* unchanged { sem 𝓛 (IsUnchangedAtErr A.row A.Allocator self.entry result) }
     {
         let InstructionSink { bytes } = self;
@@ -58,9 +54,7 @@ impl<'a, A: Allocator> InstructionSink<'a, A> {
         ty: ValType,
     ) -> Result<InstructionSink<'a, A>, EncodeError>
         requires call { IsCall (without_prefix number) (operands.Types (ty ∷ [])) }
-        ensures wrote { Writes self.entry (without_prefix number) (operands.Types (ty ∷ [])) result }
-        ensures same { IsSameSink self.entry result }
-        ensures room { HasRoom self.entry → IsOk result }
+        ensures emits { Emits self.entry (without_prefix number) (operands.Types (ty ∷ [])) result }
         ensures* unchanged { sem 𝓛 (IsUnchangedAtErr A.row A.Allocator self.entry result) }
     {
         let InstructionSink { bytes } = self;
@@ -77,9 +71,7 @@ impl<'a, A: Allocator> InstructionSink<'a, A> {
         to: RefType,
     ) -> Result<InstructionSink<'a, A>, EncodeError>
         requires call { IsCall (after_fb number) (operands.Cast label from to) }
-        ensures wrote { Writes self.entry (after_fb number) (operands.Cast label from to) result }
-        ensures same { IsSameSink self.entry result }
-        ensures room { HasRoom self.entry → IsOk result }
+        ensures emits { Emits self.entry (after_fb number) (operands.Cast label from to) result }
         ensures* unchanged { sem 𝓛 (IsUnchangedAtErr A.row A.Allocator self.entry result) }
     {
         let InstructionSink { bytes } = self;

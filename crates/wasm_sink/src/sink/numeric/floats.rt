@@ -1,7 +1,6 @@
 //! Operations on floating-point numbers (Core 3.0, Numeric Instructions).
-ghost use Rattle.std.specs.Prelude.{IsOk};
 ghost use Rattle.std.specs.Borrow.{sem};
-ghost use Rattle.wasm_sink.specs.Sink.{IsUnchangedAtErr, IsSameSink, Writes, HasRoom};
+ghost use Rattle.wasm_sink.specs.Sink.{IsUnchangedAtErr, Emits};
 ghost use Rattle.wasm_instructions.specs.formats.Opcodes.{without_prefix};
 ghost use Rattle.wasm_instructions.specs.declared.table.call.Operands.TheVariants as operands;
 
@@ -15,9 +14,7 @@ use wasm_instructions::table::Prefix;
 impl<'a, A: Allocator> InstructionSink<'a, A> {
     /// `f32.const`: `0x43`, then 4 bytes, the lowest first.
     pub fn f32_const(self, value: Ieee32) -> Result<InstructionSink<'a, A>, EncodeError>
-        ensures wrote { Writes self.entry (without_prefix 0x43) (operands.F32 value) result }
-        ensures same { IsSameSink self.entry result }
-        ensures room { HasRoom self.entry → IsOk result }
+        ensures emits { Emits self.entry (without_prefix 0x43) (operands.F32 value) result }
         ensures* unchanged { sem 𝓛 (IsUnchangedAtErr A.row A.Allocator self.entry result) }
     {
         self.emit_f32(0x43, value)
@@ -25,9 +22,7 @@ impl<'a, A: Allocator> InstructionSink<'a, A> {
 
     /// `f64.const`: `0x44`, then 8 bytes, the lowest first.
     pub fn f64_const(self, value: Ieee64) -> Result<InstructionSink<'a, A>, EncodeError>
-        ensures wrote { Writes self.entry (without_prefix 0x44) (operands.F64 value) result }
-        ensures same { IsSameSink self.entry result }
-        ensures room { HasRoom self.entry → IsOk result }
+        ensures emits { Emits self.entry (without_prefix 0x44) (operands.F64 value) result }
         ensures* unchanged { sem 𝓛 (IsUnchangedAtErr A.row A.Allocator self.entry result) }
     {
         self.emit_f64(0x44, value)
@@ -35,9 +30,7 @@ impl<'a, A: Allocator> InstructionSink<'a, A> {
 
     /// `f32.eq`: `0x5B`.
     pub fn f32_eq(self) -> Result<InstructionSink<'a, A>, EncodeError>
-        ensures wrote { Writes self.entry (without_prefix 0x5b) operands.None result }
-        ensures same { IsSameSink self.entry result }
-        ensures room { HasRoom self.entry → IsOk result }
+        ensures emits { Emits self.entry (without_prefix 0x5b) operands.None result }
         ensures* unchanged { sem 𝓛 (IsUnchangedAtErr A.row A.Allocator self.entry result) }
     {
         self.emit(Prefix::None, 0x5b)
@@ -45,9 +38,7 @@ impl<'a, A: Allocator> InstructionSink<'a, A> {
 
     /// `f32.ne`: `0x5C`.
     pub fn f32_ne(self) -> Result<InstructionSink<'a, A>, EncodeError>
-        ensures wrote { Writes self.entry (without_prefix 0x5c) operands.None result }
-        ensures same { IsSameSink self.entry result }
-        ensures room { HasRoom self.entry → IsOk result }
+        ensures emits { Emits self.entry (without_prefix 0x5c) operands.None result }
         ensures* unchanged { sem 𝓛 (IsUnchangedAtErr A.row A.Allocator self.entry result) }
     {
         self.emit(Prefix::None, 0x5c)
@@ -55,9 +46,7 @@ impl<'a, A: Allocator> InstructionSink<'a, A> {
 
     /// `f32.lt`: `0x5D`.
     pub fn f32_lt(self) -> Result<InstructionSink<'a, A>, EncodeError>
-        ensures wrote { Writes self.entry (without_prefix 0x5d) operands.None result }
-        ensures same { IsSameSink self.entry result }
-        ensures room { HasRoom self.entry → IsOk result }
+        ensures emits { Emits self.entry (without_prefix 0x5d) operands.None result }
         ensures* unchanged { sem 𝓛 (IsUnchangedAtErr A.row A.Allocator self.entry result) }
     {
         self.emit(Prefix::None, 0x5d)
@@ -65,9 +54,7 @@ impl<'a, A: Allocator> InstructionSink<'a, A> {
 
     /// `f32.gt`: `0x5E`.
     pub fn f32_gt(self) -> Result<InstructionSink<'a, A>, EncodeError>
-        ensures wrote { Writes self.entry (without_prefix 0x5e) operands.None result }
-        ensures same { IsSameSink self.entry result }
-        ensures room { HasRoom self.entry → IsOk result }
+        ensures emits { Emits self.entry (without_prefix 0x5e) operands.None result }
         ensures* unchanged { sem 𝓛 (IsUnchangedAtErr A.row A.Allocator self.entry result) }
     {
         self.emit(Prefix::None, 0x5e)
@@ -75,9 +62,7 @@ impl<'a, A: Allocator> InstructionSink<'a, A> {
 
     /// `f32.le`: `0x5F`.
     pub fn f32_le(self) -> Result<InstructionSink<'a, A>, EncodeError>
-        ensures wrote { Writes self.entry (without_prefix 0x5f) operands.None result }
-        ensures same { IsSameSink self.entry result }
-        ensures room { HasRoom self.entry → IsOk result }
+        ensures emits { Emits self.entry (without_prefix 0x5f) operands.None result }
         ensures* unchanged { sem 𝓛 (IsUnchangedAtErr A.row A.Allocator self.entry result) }
     {
         self.emit(Prefix::None, 0x5f)
@@ -85,9 +70,7 @@ impl<'a, A: Allocator> InstructionSink<'a, A> {
 
     /// `f32.ge`: `0x60`.
     pub fn f32_ge(self) -> Result<InstructionSink<'a, A>, EncodeError>
-        ensures wrote { Writes self.entry (without_prefix 0x60) operands.None result }
-        ensures same { IsSameSink self.entry result }
-        ensures room { HasRoom self.entry → IsOk result }
+        ensures emits { Emits self.entry (without_prefix 0x60) operands.None result }
         ensures* unchanged { sem 𝓛 (IsUnchangedAtErr A.row A.Allocator self.entry result) }
     {
         self.emit(Prefix::None, 0x60)
@@ -95,9 +78,7 @@ impl<'a, A: Allocator> InstructionSink<'a, A> {
 
     /// `f64.eq`: `0x61`.
     pub fn f64_eq(self) -> Result<InstructionSink<'a, A>, EncodeError>
-        ensures wrote { Writes self.entry (without_prefix 0x61) operands.None result }
-        ensures same { IsSameSink self.entry result }
-        ensures room { HasRoom self.entry → IsOk result }
+        ensures emits { Emits self.entry (without_prefix 0x61) operands.None result }
         ensures* unchanged { sem 𝓛 (IsUnchangedAtErr A.row A.Allocator self.entry result) }
     {
         self.emit(Prefix::None, 0x61)
@@ -105,9 +86,7 @@ impl<'a, A: Allocator> InstructionSink<'a, A> {
 
     /// `f64.ne`: `0x62`.
     pub fn f64_ne(self) -> Result<InstructionSink<'a, A>, EncodeError>
-        ensures wrote { Writes self.entry (without_prefix 0x62) operands.None result }
-        ensures same { IsSameSink self.entry result }
-        ensures room { HasRoom self.entry → IsOk result }
+        ensures emits { Emits self.entry (without_prefix 0x62) operands.None result }
         ensures* unchanged { sem 𝓛 (IsUnchangedAtErr A.row A.Allocator self.entry result) }
     {
         self.emit(Prefix::None, 0x62)
@@ -115,9 +94,7 @@ impl<'a, A: Allocator> InstructionSink<'a, A> {
 
     /// `f64.lt`: `0x63`.
     pub fn f64_lt(self) -> Result<InstructionSink<'a, A>, EncodeError>
-        ensures wrote { Writes self.entry (without_prefix 0x63) operands.None result }
-        ensures same { IsSameSink self.entry result }
-        ensures room { HasRoom self.entry → IsOk result }
+        ensures emits { Emits self.entry (without_prefix 0x63) operands.None result }
         ensures* unchanged { sem 𝓛 (IsUnchangedAtErr A.row A.Allocator self.entry result) }
     {
         self.emit(Prefix::None, 0x63)
@@ -125,9 +102,7 @@ impl<'a, A: Allocator> InstructionSink<'a, A> {
 
     /// `f64.gt`: `0x64`.
     pub fn f64_gt(self) -> Result<InstructionSink<'a, A>, EncodeError>
-        ensures wrote { Writes self.entry (without_prefix 0x64) operands.None result }
-        ensures same { IsSameSink self.entry result }
-        ensures room { HasRoom self.entry → IsOk result }
+        ensures emits { Emits self.entry (without_prefix 0x64) operands.None result }
         ensures* unchanged { sem 𝓛 (IsUnchangedAtErr A.row A.Allocator self.entry result) }
     {
         self.emit(Prefix::None, 0x64)
@@ -135,9 +110,7 @@ impl<'a, A: Allocator> InstructionSink<'a, A> {
 
     /// `f64.le`: `0x65`.
     pub fn f64_le(self) -> Result<InstructionSink<'a, A>, EncodeError>
-        ensures wrote { Writes self.entry (without_prefix 0x65) operands.None result }
-        ensures same { IsSameSink self.entry result }
-        ensures room { HasRoom self.entry → IsOk result }
+        ensures emits { Emits self.entry (without_prefix 0x65) operands.None result }
         ensures* unchanged { sem 𝓛 (IsUnchangedAtErr A.row A.Allocator self.entry result) }
     {
         self.emit(Prefix::None, 0x65)
@@ -145,9 +118,7 @@ impl<'a, A: Allocator> InstructionSink<'a, A> {
 
     /// `f64.ge`: `0x66`.
     pub fn f64_ge(self) -> Result<InstructionSink<'a, A>, EncodeError>
-        ensures wrote { Writes self.entry (without_prefix 0x66) operands.None result }
-        ensures same { IsSameSink self.entry result }
-        ensures room { HasRoom self.entry → IsOk result }
+        ensures emits { Emits self.entry (without_prefix 0x66) operands.None result }
         ensures* unchanged { sem 𝓛 (IsUnchangedAtErr A.row A.Allocator self.entry result) }
     {
         self.emit(Prefix::None, 0x66)
@@ -155,9 +126,7 @@ impl<'a, A: Allocator> InstructionSink<'a, A> {
 
     /// `f32.abs`: `0x8B`.
     pub fn f32_abs(self) -> Result<InstructionSink<'a, A>, EncodeError>
-        ensures wrote { Writes self.entry (without_prefix 0x8b) operands.None result }
-        ensures same { IsSameSink self.entry result }
-        ensures room { HasRoom self.entry → IsOk result }
+        ensures emits { Emits self.entry (without_prefix 0x8b) operands.None result }
         ensures* unchanged { sem 𝓛 (IsUnchangedAtErr A.row A.Allocator self.entry result) }
     {
         self.emit(Prefix::None, 0x8b)
@@ -165,9 +134,7 @@ impl<'a, A: Allocator> InstructionSink<'a, A> {
 
     /// `f32.neg`: `0x8C`.
     pub fn f32_neg(self) -> Result<InstructionSink<'a, A>, EncodeError>
-        ensures wrote { Writes self.entry (without_prefix 0x8c) operands.None result }
-        ensures same { IsSameSink self.entry result }
-        ensures room { HasRoom self.entry → IsOk result }
+        ensures emits { Emits self.entry (without_prefix 0x8c) operands.None result }
         ensures* unchanged { sem 𝓛 (IsUnchangedAtErr A.row A.Allocator self.entry result) }
     {
         self.emit(Prefix::None, 0x8c)
@@ -175,9 +142,7 @@ impl<'a, A: Allocator> InstructionSink<'a, A> {
 
     /// `f32.ceil`: `0x8D`.
     pub fn f32_ceil(self) -> Result<InstructionSink<'a, A>, EncodeError>
-        ensures wrote { Writes self.entry (without_prefix 0x8d) operands.None result }
-        ensures same { IsSameSink self.entry result }
-        ensures room { HasRoom self.entry → IsOk result }
+        ensures emits { Emits self.entry (without_prefix 0x8d) operands.None result }
         ensures* unchanged { sem 𝓛 (IsUnchangedAtErr A.row A.Allocator self.entry result) }
     {
         self.emit(Prefix::None, 0x8d)
@@ -185,9 +150,7 @@ impl<'a, A: Allocator> InstructionSink<'a, A> {
 
     /// `f32.floor`: `0x8E`.
     pub fn f32_floor(self) -> Result<InstructionSink<'a, A>, EncodeError>
-        ensures wrote { Writes self.entry (without_prefix 0x8e) operands.None result }
-        ensures same { IsSameSink self.entry result }
-        ensures room { HasRoom self.entry → IsOk result }
+        ensures emits { Emits self.entry (without_prefix 0x8e) operands.None result }
         ensures* unchanged { sem 𝓛 (IsUnchangedAtErr A.row A.Allocator self.entry result) }
     {
         self.emit(Prefix::None, 0x8e)
@@ -195,9 +158,7 @@ impl<'a, A: Allocator> InstructionSink<'a, A> {
 
     /// `f32.trunc`: `0x8F`.
     pub fn f32_trunc(self) -> Result<InstructionSink<'a, A>, EncodeError>
-        ensures wrote { Writes self.entry (without_prefix 0x8f) operands.None result }
-        ensures same { IsSameSink self.entry result }
-        ensures room { HasRoom self.entry → IsOk result }
+        ensures emits { Emits self.entry (without_prefix 0x8f) operands.None result }
         ensures* unchanged { sem 𝓛 (IsUnchangedAtErr A.row A.Allocator self.entry result) }
     {
         self.emit(Prefix::None, 0x8f)
@@ -205,9 +166,7 @@ impl<'a, A: Allocator> InstructionSink<'a, A> {
 
     /// `f32.nearest`: `0x90`.
     pub fn f32_nearest(self) -> Result<InstructionSink<'a, A>, EncodeError>
-        ensures wrote { Writes self.entry (without_prefix 0x90) operands.None result }
-        ensures same { IsSameSink self.entry result }
-        ensures room { HasRoom self.entry → IsOk result }
+        ensures emits { Emits self.entry (without_prefix 0x90) operands.None result }
         ensures* unchanged { sem 𝓛 (IsUnchangedAtErr A.row A.Allocator self.entry result) }
     {
         self.emit(Prefix::None, 0x90)
@@ -215,9 +174,7 @@ impl<'a, A: Allocator> InstructionSink<'a, A> {
 
     /// `f32.sqrt`: `0x91`.
     pub fn f32_sqrt(self) -> Result<InstructionSink<'a, A>, EncodeError>
-        ensures wrote { Writes self.entry (without_prefix 0x91) operands.None result }
-        ensures same { IsSameSink self.entry result }
-        ensures room { HasRoom self.entry → IsOk result }
+        ensures emits { Emits self.entry (without_prefix 0x91) operands.None result }
         ensures* unchanged { sem 𝓛 (IsUnchangedAtErr A.row A.Allocator self.entry result) }
     {
         self.emit(Prefix::None, 0x91)
@@ -225,9 +182,7 @@ impl<'a, A: Allocator> InstructionSink<'a, A> {
 
     /// `f32.add`: `0x92`.
     pub fn f32_add(self) -> Result<InstructionSink<'a, A>, EncodeError>
-        ensures wrote { Writes self.entry (without_prefix 0x92) operands.None result }
-        ensures same { IsSameSink self.entry result }
-        ensures room { HasRoom self.entry → IsOk result }
+        ensures emits { Emits self.entry (without_prefix 0x92) operands.None result }
         ensures* unchanged { sem 𝓛 (IsUnchangedAtErr A.row A.Allocator self.entry result) }
     {
         self.emit(Prefix::None, 0x92)
@@ -235,9 +190,7 @@ impl<'a, A: Allocator> InstructionSink<'a, A> {
 
     /// `f32.sub`: `0x93`.
     pub fn f32_sub(self) -> Result<InstructionSink<'a, A>, EncodeError>
-        ensures wrote { Writes self.entry (without_prefix 0x93) operands.None result }
-        ensures same { IsSameSink self.entry result }
-        ensures room { HasRoom self.entry → IsOk result }
+        ensures emits { Emits self.entry (without_prefix 0x93) operands.None result }
         ensures* unchanged { sem 𝓛 (IsUnchangedAtErr A.row A.Allocator self.entry result) }
     {
         self.emit(Prefix::None, 0x93)
@@ -245,9 +198,7 @@ impl<'a, A: Allocator> InstructionSink<'a, A> {
 
     /// `f32.mul`: `0x94`.
     pub fn f32_mul(self) -> Result<InstructionSink<'a, A>, EncodeError>
-        ensures wrote { Writes self.entry (without_prefix 0x94) operands.None result }
-        ensures same { IsSameSink self.entry result }
-        ensures room { HasRoom self.entry → IsOk result }
+        ensures emits { Emits self.entry (without_prefix 0x94) operands.None result }
         ensures* unchanged { sem 𝓛 (IsUnchangedAtErr A.row A.Allocator self.entry result) }
     {
         self.emit(Prefix::None, 0x94)
@@ -255,9 +206,7 @@ impl<'a, A: Allocator> InstructionSink<'a, A> {
 
     /// `f32.div`: `0x95`.
     pub fn f32_div(self) -> Result<InstructionSink<'a, A>, EncodeError>
-        ensures wrote { Writes self.entry (without_prefix 0x95) operands.None result }
-        ensures same { IsSameSink self.entry result }
-        ensures room { HasRoom self.entry → IsOk result }
+        ensures emits { Emits self.entry (without_prefix 0x95) operands.None result }
         ensures* unchanged { sem 𝓛 (IsUnchangedAtErr A.row A.Allocator self.entry result) }
     {
         self.emit(Prefix::None, 0x95)
@@ -265,9 +214,7 @@ impl<'a, A: Allocator> InstructionSink<'a, A> {
 
     /// `f32.min`: `0x96`.
     pub fn f32_min(self) -> Result<InstructionSink<'a, A>, EncodeError>
-        ensures wrote { Writes self.entry (without_prefix 0x96) operands.None result }
-        ensures same { IsSameSink self.entry result }
-        ensures room { HasRoom self.entry → IsOk result }
+        ensures emits { Emits self.entry (without_prefix 0x96) operands.None result }
         ensures* unchanged { sem 𝓛 (IsUnchangedAtErr A.row A.Allocator self.entry result) }
     {
         self.emit(Prefix::None, 0x96)
@@ -275,9 +222,7 @@ impl<'a, A: Allocator> InstructionSink<'a, A> {
 
     /// `f32.max`: `0x97`.
     pub fn f32_max(self) -> Result<InstructionSink<'a, A>, EncodeError>
-        ensures wrote { Writes self.entry (without_prefix 0x97) operands.None result }
-        ensures same { IsSameSink self.entry result }
-        ensures room { HasRoom self.entry → IsOk result }
+        ensures emits { Emits self.entry (without_prefix 0x97) operands.None result }
         ensures* unchanged { sem 𝓛 (IsUnchangedAtErr A.row A.Allocator self.entry result) }
     {
         self.emit(Prefix::None, 0x97)
@@ -285,9 +230,7 @@ impl<'a, A: Allocator> InstructionSink<'a, A> {
 
     /// `f32.copysign`: `0x98`.
     pub fn f32_copysign(self) -> Result<InstructionSink<'a, A>, EncodeError>
-        ensures wrote { Writes self.entry (without_prefix 0x98) operands.None result }
-        ensures same { IsSameSink self.entry result }
-        ensures room { HasRoom self.entry → IsOk result }
+        ensures emits { Emits self.entry (without_prefix 0x98) operands.None result }
         ensures* unchanged { sem 𝓛 (IsUnchangedAtErr A.row A.Allocator self.entry result) }
     {
         self.emit(Prefix::None, 0x98)
@@ -295,9 +238,7 @@ impl<'a, A: Allocator> InstructionSink<'a, A> {
 
     /// `f64.abs`: `0x99`.
     pub fn f64_abs(self) -> Result<InstructionSink<'a, A>, EncodeError>
-        ensures wrote { Writes self.entry (without_prefix 0x99) operands.None result }
-        ensures same { IsSameSink self.entry result }
-        ensures room { HasRoom self.entry → IsOk result }
+        ensures emits { Emits self.entry (without_prefix 0x99) operands.None result }
         ensures* unchanged { sem 𝓛 (IsUnchangedAtErr A.row A.Allocator self.entry result) }
     {
         self.emit(Prefix::None, 0x99)
@@ -305,9 +246,7 @@ impl<'a, A: Allocator> InstructionSink<'a, A> {
 
     /// `f64.neg`: `0x9A`.
     pub fn f64_neg(self) -> Result<InstructionSink<'a, A>, EncodeError>
-        ensures wrote { Writes self.entry (without_prefix 0x9a) operands.None result }
-        ensures same { IsSameSink self.entry result }
-        ensures room { HasRoom self.entry → IsOk result }
+        ensures emits { Emits self.entry (without_prefix 0x9a) operands.None result }
         ensures* unchanged { sem 𝓛 (IsUnchangedAtErr A.row A.Allocator self.entry result) }
     {
         self.emit(Prefix::None, 0x9a)
@@ -315,9 +254,7 @@ impl<'a, A: Allocator> InstructionSink<'a, A> {
 
     /// `f64.ceil`: `0x9B`.
     pub fn f64_ceil(self) -> Result<InstructionSink<'a, A>, EncodeError>
-        ensures wrote { Writes self.entry (without_prefix 0x9b) operands.None result }
-        ensures same { IsSameSink self.entry result }
-        ensures room { HasRoom self.entry → IsOk result }
+        ensures emits { Emits self.entry (without_prefix 0x9b) operands.None result }
         ensures* unchanged { sem 𝓛 (IsUnchangedAtErr A.row A.Allocator self.entry result) }
     {
         self.emit(Prefix::None, 0x9b)
@@ -325,9 +262,7 @@ impl<'a, A: Allocator> InstructionSink<'a, A> {
 
     /// `f64.floor`: `0x9C`.
     pub fn f64_floor(self) -> Result<InstructionSink<'a, A>, EncodeError>
-        ensures wrote { Writes self.entry (without_prefix 0x9c) operands.None result }
-        ensures same { IsSameSink self.entry result }
-        ensures room { HasRoom self.entry → IsOk result }
+        ensures emits { Emits self.entry (without_prefix 0x9c) operands.None result }
         ensures* unchanged { sem 𝓛 (IsUnchangedAtErr A.row A.Allocator self.entry result) }
     {
         self.emit(Prefix::None, 0x9c)
@@ -335,9 +270,7 @@ impl<'a, A: Allocator> InstructionSink<'a, A> {
 
     /// `f64.trunc`: `0x9D`.
     pub fn f64_trunc(self) -> Result<InstructionSink<'a, A>, EncodeError>
-        ensures wrote { Writes self.entry (without_prefix 0x9d) operands.None result }
-        ensures same { IsSameSink self.entry result }
-        ensures room { HasRoom self.entry → IsOk result }
+        ensures emits { Emits self.entry (without_prefix 0x9d) operands.None result }
         ensures* unchanged { sem 𝓛 (IsUnchangedAtErr A.row A.Allocator self.entry result) }
     {
         self.emit(Prefix::None, 0x9d)
@@ -345,9 +278,7 @@ impl<'a, A: Allocator> InstructionSink<'a, A> {
 
     /// `f64.nearest`: `0x9E`.
     pub fn f64_nearest(self) -> Result<InstructionSink<'a, A>, EncodeError>
-        ensures wrote { Writes self.entry (without_prefix 0x9e) operands.None result }
-        ensures same { IsSameSink self.entry result }
-        ensures room { HasRoom self.entry → IsOk result }
+        ensures emits { Emits self.entry (without_prefix 0x9e) operands.None result }
         ensures* unchanged { sem 𝓛 (IsUnchangedAtErr A.row A.Allocator self.entry result) }
     {
         self.emit(Prefix::None, 0x9e)
@@ -355,9 +286,7 @@ impl<'a, A: Allocator> InstructionSink<'a, A> {
 
     /// `f64.sqrt`: `0x9F`.
     pub fn f64_sqrt(self) -> Result<InstructionSink<'a, A>, EncodeError>
-        ensures wrote { Writes self.entry (without_prefix 0x9f) operands.None result }
-        ensures same { IsSameSink self.entry result }
-        ensures room { HasRoom self.entry → IsOk result }
+        ensures emits { Emits self.entry (without_prefix 0x9f) operands.None result }
         ensures* unchanged { sem 𝓛 (IsUnchangedAtErr A.row A.Allocator self.entry result) }
     {
         self.emit(Prefix::None, 0x9f)
@@ -365,9 +294,7 @@ impl<'a, A: Allocator> InstructionSink<'a, A> {
 
     /// `f64.add`: `0xA0`.
     pub fn f64_add(self) -> Result<InstructionSink<'a, A>, EncodeError>
-        ensures wrote { Writes self.entry (without_prefix 0xa0) operands.None result }
-        ensures same { IsSameSink self.entry result }
-        ensures room { HasRoom self.entry → IsOk result }
+        ensures emits { Emits self.entry (without_prefix 0xa0) operands.None result }
         ensures* unchanged { sem 𝓛 (IsUnchangedAtErr A.row A.Allocator self.entry result) }
     {
         self.emit(Prefix::None, 0xa0)
@@ -375,9 +302,7 @@ impl<'a, A: Allocator> InstructionSink<'a, A> {
 
     /// `f64.sub`: `0xA1`.
     pub fn f64_sub(self) -> Result<InstructionSink<'a, A>, EncodeError>
-        ensures wrote { Writes self.entry (without_prefix 0xa1) operands.None result }
-        ensures same { IsSameSink self.entry result }
-        ensures room { HasRoom self.entry → IsOk result }
+        ensures emits { Emits self.entry (without_prefix 0xa1) operands.None result }
         ensures* unchanged { sem 𝓛 (IsUnchangedAtErr A.row A.Allocator self.entry result) }
     {
         self.emit(Prefix::None, 0xa1)
@@ -385,9 +310,7 @@ impl<'a, A: Allocator> InstructionSink<'a, A> {
 
     /// `f64.mul`: `0xA2`.
     pub fn f64_mul(self) -> Result<InstructionSink<'a, A>, EncodeError>
-        ensures wrote { Writes self.entry (without_prefix 0xa2) operands.None result }
-        ensures same { IsSameSink self.entry result }
-        ensures room { HasRoom self.entry → IsOk result }
+        ensures emits { Emits self.entry (without_prefix 0xa2) operands.None result }
         ensures* unchanged { sem 𝓛 (IsUnchangedAtErr A.row A.Allocator self.entry result) }
     {
         self.emit(Prefix::None, 0xa2)
@@ -395,9 +318,7 @@ impl<'a, A: Allocator> InstructionSink<'a, A> {
 
     /// `f64.div`: `0xA3`.
     pub fn f64_div(self) -> Result<InstructionSink<'a, A>, EncodeError>
-        ensures wrote { Writes self.entry (without_prefix 0xa3) operands.None result }
-        ensures same { IsSameSink self.entry result }
-        ensures room { HasRoom self.entry → IsOk result }
+        ensures emits { Emits self.entry (without_prefix 0xa3) operands.None result }
         ensures* unchanged { sem 𝓛 (IsUnchangedAtErr A.row A.Allocator self.entry result) }
     {
         self.emit(Prefix::None, 0xa3)
@@ -405,9 +326,7 @@ impl<'a, A: Allocator> InstructionSink<'a, A> {
 
     /// `f64.min`: `0xA4`.
     pub fn f64_min(self) -> Result<InstructionSink<'a, A>, EncodeError>
-        ensures wrote { Writes self.entry (without_prefix 0xa4) operands.None result }
-        ensures same { IsSameSink self.entry result }
-        ensures room { HasRoom self.entry → IsOk result }
+        ensures emits { Emits self.entry (without_prefix 0xa4) operands.None result }
         ensures* unchanged { sem 𝓛 (IsUnchangedAtErr A.row A.Allocator self.entry result) }
     {
         self.emit(Prefix::None, 0xa4)
@@ -415,9 +334,7 @@ impl<'a, A: Allocator> InstructionSink<'a, A> {
 
     /// `f64.max`: `0xA5`.
     pub fn f64_max(self) -> Result<InstructionSink<'a, A>, EncodeError>
-        ensures wrote { Writes self.entry (without_prefix 0xa5) operands.None result }
-        ensures same { IsSameSink self.entry result }
-        ensures room { HasRoom self.entry → IsOk result }
+        ensures emits { Emits self.entry (without_prefix 0xa5) operands.None result }
         ensures* unchanged { sem 𝓛 (IsUnchangedAtErr A.row A.Allocator self.entry result) }
     {
         self.emit(Prefix::None, 0xa5)
@@ -425,9 +342,7 @@ impl<'a, A: Allocator> InstructionSink<'a, A> {
 
     /// `f64.copysign`: `0xA6`.
     pub fn f64_copysign(self) -> Result<InstructionSink<'a, A>, EncodeError>
-        ensures wrote { Writes self.entry (without_prefix 0xa6) operands.None result }
-        ensures same { IsSameSink self.entry result }
-        ensures room { HasRoom self.entry → IsOk result }
+        ensures emits { Emits self.entry (without_prefix 0xa6) operands.None result }
         ensures* unchanged { sem 𝓛 (IsUnchangedAtErr A.row A.Allocator self.entry result) }
     {
         self.emit(Prefix::None, 0xa6)

@@ -1,7 +1,6 @@
 //! Operations on 64-bit integers (Core 3.0, Numeric Instructions), and on 128-bit integers (wide arithmetic proposal).
-ghost use Rattle.std.specs.Prelude.{IsOk};
 ghost use Rattle.std.specs.Borrow.{sem};
-ghost use Rattle.wasm_sink.specs.Sink.{IsUnchangedAtErr, IsSameSink, Writes, HasRoom};
+ghost use Rattle.wasm_sink.specs.Sink.{IsUnchangedAtErr, Emits};
 ghost use Rattle.wasm_instructions.specs.formats.Opcodes.{without_prefix, after_fc};
 ghost use Rattle.wasm_instructions.specs.declared.table.call.Operands.TheVariants as operands;
 
@@ -14,9 +13,7 @@ use wasm_instructions::table::Prefix;
 impl<'a, A: Allocator> InstructionSink<'a, A> {
     /// `i64.const`: `0x42`, then a signed number of 64 bits.
     pub fn i64_const(self, value: i64) -> Result<InstructionSink<'a, A>, EncodeError>
-        ensures wrote { Writes self.entry (without_prefix 0x42) (operands.I64 value) result }
-        ensures same { IsSameSink self.entry result }
-        ensures room { HasRoom self.entry → IsOk result }
+        ensures emits { Emits self.entry (without_prefix 0x42) (operands.I64 value) result }
         ensures* unchanged { sem 𝓛 (IsUnchangedAtErr A.row A.Allocator self.entry result) }
     {
         self.emit_i64(0x42, value)
@@ -24,9 +21,7 @@ impl<'a, A: Allocator> InstructionSink<'a, A> {
 
     /// `i64.eqz`: `0x50`.
     pub fn i64_eqz(self) -> Result<InstructionSink<'a, A>, EncodeError>
-        ensures wrote { Writes self.entry (without_prefix 0x50) operands.None result }
-        ensures same { IsSameSink self.entry result }
-        ensures room { HasRoom self.entry → IsOk result }
+        ensures emits { Emits self.entry (without_prefix 0x50) operands.None result }
         ensures* unchanged { sem 𝓛 (IsUnchangedAtErr A.row A.Allocator self.entry result) }
     {
         self.emit(Prefix::None, 0x50)
@@ -34,9 +29,7 @@ impl<'a, A: Allocator> InstructionSink<'a, A> {
 
     /// `i64.eq`: `0x51`.
     pub fn i64_eq(self) -> Result<InstructionSink<'a, A>, EncodeError>
-        ensures wrote { Writes self.entry (without_prefix 0x51) operands.None result }
-        ensures same { IsSameSink self.entry result }
-        ensures room { HasRoom self.entry → IsOk result }
+        ensures emits { Emits self.entry (without_prefix 0x51) operands.None result }
         ensures* unchanged { sem 𝓛 (IsUnchangedAtErr A.row A.Allocator self.entry result) }
     {
         self.emit(Prefix::None, 0x51)
@@ -44,9 +37,7 @@ impl<'a, A: Allocator> InstructionSink<'a, A> {
 
     /// `i64.ne`: `0x52`.
     pub fn i64_ne(self) -> Result<InstructionSink<'a, A>, EncodeError>
-        ensures wrote { Writes self.entry (without_prefix 0x52) operands.None result }
-        ensures same { IsSameSink self.entry result }
-        ensures room { HasRoom self.entry → IsOk result }
+        ensures emits { Emits self.entry (without_prefix 0x52) operands.None result }
         ensures* unchanged { sem 𝓛 (IsUnchangedAtErr A.row A.Allocator self.entry result) }
     {
         self.emit(Prefix::None, 0x52)
@@ -54,9 +45,7 @@ impl<'a, A: Allocator> InstructionSink<'a, A> {
 
     /// `i64.lt_s`: `0x53`.
     pub fn i64_lt_s(self) -> Result<InstructionSink<'a, A>, EncodeError>
-        ensures wrote { Writes self.entry (without_prefix 0x53) operands.None result }
-        ensures same { IsSameSink self.entry result }
-        ensures room { HasRoom self.entry → IsOk result }
+        ensures emits { Emits self.entry (without_prefix 0x53) operands.None result }
         ensures* unchanged { sem 𝓛 (IsUnchangedAtErr A.row A.Allocator self.entry result) }
     {
         self.emit(Prefix::None, 0x53)
@@ -64,9 +53,7 @@ impl<'a, A: Allocator> InstructionSink<'a, A> {
 
     /// `i64.lt_u`: `0x54`.
     pub fn i64_lt_u(self) -> Result<InstructionSink<'a, A>, EncodeError>
-        ensures wrote { Writes self.entry (without_prefix 0x54) operands.None result }
-        ensures same { IsSameSink self.entry result }
-        ensures room { HasRoom self.entry → IsOk result }
+        ensures emits { Emits self.entry (without_prefix 0x54) operands.None result }
         ensures* unchanged { sem 𝓛 (IsUnchangedAtErr A.row A.Allocator self.entry result) }
     {
         self.emit(Prefix::None, 0x54)
@@ -74,9 +61,7 @@ impl<'a, A: Allocator> InstructionSink<'a, A> {
 
     /// `i64.gt_s`: `0x55`.
     pub fn i64_gt_s(self) -> Result<InstructionSink<'a, A>, EncodeError>
-        ensures wrote { Writes self.entry (without_prefix 0x55) operands.None result }
-        ensures same { IsSameSink self.entry result }
-        ensures room { HasRoom self.entry → IsOk result }
+        ensures emits { Emits self.entry (without_prefix 0x55) operands.None result }
         ensures* unchanged { sem 𝓛 (IsUnchangedAtErr A.row A.Allocator self.entry result) }
     {
         self.emit(Prefix::None, 0x55)
@@ -84,9 +69,7 @@ impl<'a, A: Allocator> InstructionSink<'a, A> {
 
     /// `i64.gt_u`: `0x56`.
     pub fn i64_gt_u(self) -> Result<InstructionSink<'a, A>, EncodeError>
-        ensures wrote { Writes self.entry (without_prefix 0x56) operands.None result }
-        ensures same { IsSameSink self.entry result }
-        ensures room { HasRoom self.entry → IsOk result }
+        ensures emits { Emits self.entry (without_prefix 0x56) operands.None result }
         ensures* unchanged { sem 𝓛 (IsUnchangedAtErr A.row A.Allocator self.entry result) }
     {
         self.emit(Prefix::None, 0x56)
@@ -94,9 +77,7 @@ impl<'a, A: Allocator> InstructionSink<'a, A> {
 
     /// `i64.le_s`: `0x57`.
     pub fn i64_le_s(self) -> Result<InstructionSink<'a, A>, EncodeError>
-        ensures wrote { Writes self.entry (without_prefix 0x57) operands.None result }
-        ensures same { IsSameSink self.entry result }
-        ensures room { HasRoom self.entry → IsOk result }
+        ensures emits { Emits self.entry (without_prefix 0x57) operands.None result }
         ensures* unchanged { sem 𝓛 (IsUnchangedAtErr A.row A.Allocator self.entry result) }
     {
         self.emit(Prefix::None, 0x57)
@@ -104,9 +85,7 @@ impl<'a, A: Allocator> InstructionSink<'a, A> {
 
     /// `i64.le_u`: `0x58`.
     pub fn i64_le_u(self) -> Result<InstructionSink<'a, A>, EncodeError>
-        ensures wrote { Writes self.entry (without_prefix 0x58) operands.None result }
-        ensures same { IsSameSink self.entry result }
-        ensures room { HasRoom self.entry → IsOk result }
+        ensures emits { Emits self.entry (without_prefix 0x58) operands.None result }
         ensures* unchanged { sem 𝓛 (IsUnchangedAtErr A.row A.Allocator self.entry result) }
     {
         self.emit(Prefix::None, 0x58)
@@ -114,9 +93,7 @@ impl<'a, A: Allocator> InstructionSink<'a, A> {
 
     /// `i64.ge_s`: `0x59`.
     pub fn i64_ge_s(self) -> Result<InstructionSink<'a, A>, EncodeError>
-        ensures wrote { Writes self.entry (without_prefix 0x59) operands.None result }
-        ensures same { IsSameSink self.entry result }
-        ensures room { HasRoom self.entry → IsOk result }
+        ensures emits { Emits self.entry (without_prefix 0x59) operands.None result }
         ensures* unchanged { sem 𝓛 (IsUnchangedAtErr A.row A.Allocator self.entry result) }
     {
         self.emit(Prefix::None, 0x59)
@@ -124,9 +101,7 @@ impl<'a, A: Allocator> InstructionSink<'a, A> {
 
     /// `i64.ge_u`: `0x5A`.
     pub fn i64_ge_u(self) -> Result<InstructionSink<'a, A>, EncodeError>
-        ensures wrote { Writes self.entry (without_prefix 0x5a) operands.None result }
-        ensures same { IsSameSink self.entry result }
-        ensures room { HasRoom self.entry → IsOk result }
+        ensures emits { Emits self.entry (without_prefix 0x5a) operands.None result }
         ensures* unchanged { sem 𝓛 (IsUnchangedAtErr A.row A.Allocator self.entry result) }
     {
         self.emit(Prefix::None, 0x5a)
@@ -134,9 +109,7 @@ impl<'a, A: Allocator> InstructionSink<'a, A> {
 
     /// `i64.clz`: `0x79`.
     pub fn i64_clz(self) -> Result<InstructionSink<'a, A>, EncodeError>
-        ensures wrote { Writes self.entry (without_prefix 0x79) operands.None result }
-        ensures same { IsSameSink self.entry result }
-        ensures room { HasRoom self.entry → IsOk result }
+        ensures emits { Emits self.entry (without_prefix 0x79) operands.None result }
         ensures* unchanged { sem 𝓛 (IsUnchangedAtErr A.row A.Allocator self.entry result) }
     {
         self.emit(Prefix::None, 0x79)
@@ -144,9 +117,7 @@ impl<'a, A: Allocator> InstructionSink<'a, A> {
 
     /// `i64.ctz`: `0x7A`.
     pub fn i64_ctz(self) -> Result<InstructionSink<'a, A>, EncodeError>
-        ensures wrote { Writes self.entry (without_prefix 0x7a) operands.None result }
-        ensures same { IsSameSink self.entry result }
-        ensures room { HasRoom self.entry → IsOk result }
+        ensures emits { Emits self.entry (without_prefix 0x7a) operands.None result }
         ensures* unchanged { sem 𝓛 (IsUnchangedAtErr A.row A.Allocator self.entry result) }
     {
         self.emit(Prefix::None, 0x7a)
@@ -154,9 +125,7 @@ impl<'a, A: Allocator> InstructionSink<'a, A> {
 
     /// `i64.popcnt`: `0x7B`.
     pub fn i64_popcnt(self) -> Result<InstructionSink<'a, A>, EncodeError>
-        ensures wrote { Writes self.entry (without_prefix 0x7b) operands.None result }
-        ensures same { IsSameSink self.entry result }
-        ensures room { HasRoom self.entry → IsOk result }
+        ensures emits { Emits self.entry (without_prefix 0x7b) operands.None result }
         ensures* unchanged { sem 𝓛 (IsUnchangedAtErr A.row A.Allocator self.entry result) }
     {
         self.emit(Prefix::None, 0x7b)
@@ -164,9 +133,7 @@ impl<'a, A: Allocator> InstructionSink<'a, A> {
 
     /// `i64.add`: `0x7C`.
     pub fn i64_add(self) -> Result<InstructionSink<'a, A>, EncodeError>
-        ensures wrote { Writes self.entry (without_prefix 0x7c) operands.None result }
-        ensures same { IsSameSink self.entry result }
-        ensures room { HasRoom self.entry → IsOk result }
+        ensures emits { Emits self.entry (without_prefix 0x7c) operands.None result }
         ensures* unchanged { sem 𝓛 (IsUnchangedAtErr A.row A.Allocator self.entry result) }
     {
         self.emit(Prefix::None, 0x7c)
@@ -174,9 +141,7 @@ impl<'a, A: Allocator> InstructionSink<'a, A> {
 
     /// `i64.sub`: `0x7D`.
     pub fn i64_sub(self) -> Result<InstructionSink<'a, A>, EncodeError>
-        ensures wrote { Writes self.entry (without_prefix 0x7d) operands.None result }
-        ensures same { IsSameSink self.entry result }
-        ensures room { HasRoom self.entry → IsOk result }
+        ensures emits { Emits self.entry (without_prefix 0x7d) operands.None result }
         ensures* unchanged { sem 𝓛 (IsUnchangedAtErr A.row A.Allocator self.entry result) }
     {
         self.emit(Prefix::None, 0x7d)
@@ -184,9 +149,7 @@ impl<'a, A: Allocator> InstructionSink<'a, A> {
 
     /// `i64.mul`: `0x7E`.
     pub fn i64_mul(self) -> Result<InstructionSink<'a, A>, EncodeError>
-        ensures wrote { Writes self.entry (without_prefix 0x7e) operands.None result }
-        ensures same { IsSameSink self.entry result }
-        ensures room { HasRoom self.entry → IsOk result }
+        ensures emits { Emits self.entry (without_prefix 0x7e) operands.None result }
         ensures* unchanged { sem 𝓛 (IsUnchangedAtErr A.row A.Allocator self.entry result) }
     {
         self.emit(Prefix::None, 0x7e)
@@ -194,9 +157,7 @@ impl<'a, A: Allocator> InstructionSink<'a, A> {
 
     /// `i64.div_s`: `0x7F`.
     pub fn i64_div_s(self) -> Result<InstructionSink<'a, A>, EncodeError>
-        ensures wrote { Writes self.entry (without_prefix 0x7f) operands.None result }
-        ensures same { IsSameSink self.entry result }
-        ensures room { HasRoom self.entry → IsOk result }
+        ensures emits { Emits self.entry (without_prefix 0x7f) operands.None result }
         ensures* unchanged { sem 𝓛 (IsUnchangedAtErr A.row A.Allocator self.entry result) }
     {
         self.emit(Prefix::None, 0x7f)
@@ -204,9 +165,7 @@ impl<'a, A: Allocator> InstructionSink<'a, A> {
 
     /// `i64.div_u`: `0x80`.
     pub fn i64_div_u(self) -> Result<InstructionSink<'a, A>, EncodeError>
-        ensures wrote { Writes self.entry (without_prefix 0x80) operands.None result }
-        ensures same { IsSameSink self.entry result }
-        ensures room { HasRoom self.entry → IsOk result }
+        ensures emits { Emits self.entry (without_prefix 0x80) operands.None result }
         ensures* unchanged { sem 𝓛 (IsUnchangedAtErr A.row A.Allocator self.entry result) }
     {
         self.emit(Prefix::None, 0x80)
@@ -214,9 +173,7 @@ impl<'a, A: Allocator> InstructionSink<'a, A> {
 
     /// `i64.rem_s`: `0x81`.
     pub fn i64_rem_s(self) -> Result<InstructionSink<'a, A>, EncodeError>
-        ensures wrote { Writes self.entry (without_prefix 0x81) operands.None result }
-        ensures same { IsSameSink self.entry result }
-        ensures room { HasRoom self.entry → IsOk result }
+        ensures emits { Emits self.entry (without_prefix 0x81) operands.None result }
         ensures* unchanged { sem 𝓛 (IsUnchangedAtErr A.row A.Allocator self.entry result) }
     {
         self.emit(Prefix::None, 0x81)
@@ -224,9 +181,7 @@ impl<'a, A: Allocator> InstructionSink<'a, A> {
 
     /// `i64.rem_u`: `0x82`.
     pub fn i64_rem_u(self) -> Result<InstructionSink<'a, A>, EncodeError>
-        ensures wrote { Writes self.entry (without_prefix 0x82) operands.None result }
-        ensures same { IsSameSink self.entry result }
-        ensures room { HasRoom self.entry → IsOk result }
+        ensures emits { Emits self.entry (without_prefix 0x82) operands.None result }
         ensures* unchanged { sem 𝓛 (IsUnchangedAtErr A.row A.Allocator self.entry result) }
     {
         self.emit(Prefix::None, 0x82)
@@ -234,9 +189,7 @@ impl<'a, A: Allocator> InstructionSink<'a, A> {
 
     /// `i64.and`: `0x83`.
     pub fn i64_and(self) -> Result<InstructionSink<'a, A>, EncodeError>
-        ensures wrote { Writes self.entry (without_prefix 0x83) operands.None result }
-        ensures same { IsSameSink self.entry result }
-        ensures room { HasRoom self.entry → IsOk result }
+        ensures emits { Emits self.entry (without_prefix 0x83) operands.None result }
         ensures* unchanged { sem 𝓛 (IsUnchangedAtErr A.row A.Allocator self.entry result) }
     {
         self.emit(Prefix::None, 0x83)
@@ -244,9 +197,7 @@ impl<'a, A: Allocator> InstructionSink<'a, A> {
 
     /// `i64.or`: `0x84`.
     pub fn i64_or(self) -> Result<InstructionSink<'a, A>, EncodeError>
-        ensures wrote { Writes self.entry (without_prefix 0x84) operands.None result }
-        ensures same { IsSameSink self.entry result }
-        ensures room { HasRoom self.entry → IsOk result }
+        ensures emits { Emits self.entry (without_prefix 0x84) operands.None result }
         ensures* unchanged { sem 𝓛 (IsUnchangedAtErr A.row A.Allocator self.entry result) }
     {
         self.emit(Prefix::None, 0x84)
@@ -254,9 +205,7 @@ impl<'a, A: Allocator> InstructionSink<'a, A> {
 
     /// `i64.xor`: `0x85`.
     pub fn i64_xor(self) -> Result<InstructionSink<'a, A>, EncodeError>
-        ensures wrote { Writes self.entry (without_prefix 0x85) operands.None result }
-        ensures same { IsSameSink self.entry result }
-        ensures room { HasRoom self.entry → IsOk result }
+        ensures emits { Emits self.entry (without_prefix 0x85) operands.None result }
         ensures* unchanged { sem 𝓛 (IsUnchangedAtErr A.row A.Allocator self.entry result) }
     {
         self.emit(Prefix::None, 0x85)
@@ -264,9 +213,7 @@ impl<'a, A: Allocator> InstructionSink<'a, A> {
 
     /// `i64.shl`: `0x86`.
     pub fn i64_shl(self) -> Result<InstructionSink<'a, A>, EncodeError>
-        ensures wrote { Writes self.entry (without_prefix 0x86) operands.None result }
-        ensures same { IsSameSink self.entry result }
-        ensures room { HasRoom self.entry → IsOk result }
+        ensures emits { Emits self.entry (without_prefix 0x86) operands.None result }
         ensures* unchanged { sem 𝓛 (IsUnchangedAtErr A.row A.Allocator self.entry result) }
     {
         self.emit(Prefix::None, 0x86)
@@ -274,9 +221,7 @@ impl<'a, A: Allocator> InstructionSink<'a, A> {
 
     /// `i64.shr_s`: `0x87`.
     pub fn i64_shr_s(self) -> Result<InstructionSink<'a, A>, EncodeError>
-        ensures wrote { Writes self.entry (without_prefix 0x87) operands.None result }
-        ensures same { IsSameSink self.entry result }
-        ensures room { HasRoom self.entry → IsOk result }
+        ensures emits { Emits self.entry (without_prefix 0x87) operands.None result }
         ensures* unchanged { sem 𝓛 (IsUnchangedAtErr A.row A.Allocator self.entry result) }
     {
         self.emit(Prefix::None, 0x87)
@@ -284,9 +229,7 @@ impl<'a, A: Allocator> InstructionSink<'a, A> {
 
     /// `i64.shr_u`: `0x88`.
     pub fn i64_shr_u(self) -> Result<InstructionSink<'a, A>, EncodeError>
-        ensures wrote { Writes self.entry (without_prefix 0x88) operands.None result }
-        ensures same { IsSameSink self.entry result }
-        ensures room { HasRoom self.entry → IsOk result }
+        ensures emits { Emits self.entry (without_prefix 0x88) operands.None result }
         ensures* unchanged { sem 𝓛 (IsUnchangedAtErr A.row A.Allocator self.entry result) }
     {
         self.emit(Prefix::None, 0x88)
@@ -294,9 +237,7 @@ impl<'a, A: Allocator> InstructionSink<'a, A> {
 
     /// `i64.rotl`: `0x89`.
     pub fn i64_rotl(self) -> Result<InstructionSink<'a, A>, EncodeError>
-        ensures wrote { Writes self.entry (without_prefix 0x89) operands.None result }
-        ensures same { IsSameSink self.entry result }
-        ensures room { HasRoom self.entry → IsOk result }
+        ensures emits { Emits self.entry (without_prefix 0x89) operands.None result }
         ensures* unchanged { sem 𝓛 (IsUnchangedAtErr A.row A.Allocator self.entry result) }
     {
         self.emit(Prefix::None, 0x89)
@@ -304,9 +245,7 @@ impl<'a, A: Allocator> InstructionSink<'a, A> {
 
     /// `i64.rotr`: `0x8A`.
     pub fn i64_rotr(self) -> Result<InstructionSink<'a, A>, EncodeError>
-        ensures wrote { Writes self.entry (without_prefix 0x8a) operands.None result }
-        ensures same { IsSameSink self.entry result }
-        ensures room { HasRoom self.entry → IsOk result }
+        ensures emits { Emits self.entry (without_prefix 0x8a) operands.None result }
         ensures* unchanged { sem 𝓛 (IsUnchangedAtErr A.row A.Allocator self.entry result) }
     {
         self.emit(Prefix::None, 0x8a)
@@ -314,9 +253,7 @@ impl<'a, A: Allocator> InstructionSink<'a, A> {
 
     /// `i64.extend8_s`: `0xC2`.
     pub fn i64_extend8_s(self) -> Result<InstructionSink<'a, A>, EncodeError>
-        ensures wrote { Writes self.entry (without_prefix 0xc2) operands.None result }
-        ensures same { IsSameSink self.entry result }
-        ensures room { HasRoom self.entry → IsOk result }
+        ensures emits { Emits self.entry (without_prefix 0xc2) operands.None result }
         ensures* unchanged { sem 𝓛 (IsUnchangedAtErr A.row A.Allocator self.entry result) }
     {
         self.emit(Prefix::None, 0xc2)
@@ -324,9 +261,7 @@ impl<'a, A: Allocator> InstructionSink<'a, A> {
 
     /// `i64.extend16_s`: `0xC3`.
     pub fn i64_extend16_s(self) -> Result<InstructionSink<'a, A>, EncodeError>
-        ensures wrote { Writes self.entry (without_prefix 0xc3) operands.None result }
-        ensures same { IsSameSink self.entry result }
-        ensures room { HasRoom self.entry → IsOk result }
+        ensures emits { Emits self.entry (without_prefix 0xc3) operands.None result }
         ensures* unchanged { sem 𝓛 (IsUnchangedAtErr A.row A.Allocator self.entry result) }
     {
         self.emit(Prefix::None, 0xc3)
@@ -334,9 +269,7 @@ impl<'a, A: Allocator> InstructionSink<'a, A> {
 
     /// `i64.extend32_s`: `0xC4`.
     pub fn i64_extend32_s(self) -> Result<InstructionSink<'a, A>, EncodeError>
-        ensures wrote { Writes self.entry (without_prefix 0xc4) operands.None result }
-        ensures same { IsSameSink self.entry result }
-        ensures room { HasRoom self.entry → IsOk result }
+        ensures emits { Emits self.entry (without_prefix 0xc4) operands.None result }
         ensures* unchanged { sem 𝓛 (IsUnchangedAtErr A.row A.Allocator self.entry result) }
     {
         self.emit(Prefix::None, 0xc4)
@@ -344,9 +277,7 @@ impl<'a, A: Allocator> InstructionSink<'a, A> {
 
     /// `i64.add128`: `0xFC 0x13`.
     pub fn i64_add128(self) -> Result<InstructionSink<'a, A>, EncodeError>
-        ensures wrote { Writes self.entry (after_fc 0x13) operands.None result }
-        ensures same { IsSameSink self.entry result }
-        ensures room { HasRoom self.entry → IsOk result }
+        ensures emits { Emits self.entry (after_fc 0x13) operands.None result }
         ensures* unchanged { sem 𝓛 (IsUnchangedAtErr A.row A.Allocator self.entry result) }
     {
         self.emit(Prefix::Fc, 0x13)
@@ -354,9 +285,7 @@ impl<'a, A: Allocator> InstructionSink<'a, A> {
 
     /// `i64.sub128`: `0xFC 0x14`.
     pub fn i64_sub128(self) -> Result<InstructionSink<'a, A>, EncodeError>
-        ensures wrote { Writes self.entry (after_fc 0x14) operands.None result }
-        ensures same { IsSameSink self.entry result }
-        ensures room { HasRoom self.entry → IsOk result }
+        ensures emits { Emits self.entry (after_fc 0x14) operands.None result }
         ensures* unchanged { sem 𝓛 (IsUnchangedAtErr A.row A.Allocator self.entry result) }
     {
         self.emit(Prefix::Fc, 0x14)
@@ -364,9 +293,7 @@ impl<'a, A: Allocator> InstructionSink<'a, A> {
 
     /// `i64.mul_wide_s`: `0xFC 0x15`.
     pub fn i64_mul_wide_s(self) -> Result<InstructionSink<'a, A>, EncodeError>
-        ensures wrote { Writes self.entry (after_fc 0x15) operands.None result }
-        ensures same { IsSameSink self.entry result }
-        ensures room { HasRoom self.entry → IsOk result }
+        ensures emits { Emits self.entry (after_fc 0x15) operands.None result }
         ensures* unchanged { sem 𝓛 (IsUnchangedAtErr A.row A.Allocator self.entry result) }
     {
         self.emit(Prefix::Fc, 0x15)
@@ -374,9 +301,7 @@ impl<'a, A: Allocator> InstructionSink<'a, A> {
 
     /// `i64.mul_wide_u`: `0xFC 0x16`.
     pub fn i64_mul_wide_u(self) -> Result<InstructionSink<'a, A>, EncodeError>
-        ensures wrote { Writes self.entry (after_fc 0x16) operands.None result }
-        ensures same { IsSameSink self.entry result }
-        ensures room { HasRoom self.entry → IsOk result }
+        ensures emits { Emits self.entry (after_fc 0x16) operands.None result }
         ensures* unchanged { sem 𝓛 (IsUnchangedAtErr A.row A.Allocator self.entry result) }
     {
         self.emit(Prefix::Fc, 0x16)

@@ -1,7 +1,6 @@
 //! Bitwise operations on vectors (Core 3.0, Vector Instructions).
-ghost use Rattle.std.specs.Prelude.{IsOk};
 ghost use Rattle.std.specs.Borrow.{sem};
-ghost use Rattle.wasm_sink.specs.Sink.{IsUnchangedAtErr, IsSameSink, Writes, HasRoom};
+ghost use Rattle.wasm_sink.specs.Sink.{IsUnchangedAtErr, Emits};
 ghost use Rattle.wasm_instructions.specs.formats.Opcodes.{after_fd};
 ghost use Rattle.wasm_instructions.specs.declared.table.call.Operands.TheVariants as operands;
 
@@ -14,9 +13,7 @@ use wasm_instructions::table::Prefix;
 impl<'a, A: Allocator> InstructionSink<'a, A> {
     /// `v128.not`: `0xFD 0x4D`.
     pub fn v128_not(self) -> Result<InstructionSink<'a, A>, EncodeError>
-        ensures wrote { Writes self.entry (after_fd 0x4d) operands.None result }
-        ensures same { IsSameSink self.entry result }
-        ensures room { HasRoom self.entry → IsOk result }
+        ensures emits { Emits self.entry (after_fd 0x4d) operands.None result }
         ensures* unchanged { sem 𝓛 (IsUnchangedAtErr A.row A.Allocator self.entry result) }
     {
         self.emit(Prefix::Fd, 0x4d)
@@ -24,9 +21,7 @@ impl<'a, A: Allocator> InstructionSink<'a, A> {
 
     /// `v128.and`: `0xFD 0x4E`.
     pub fn v128_and(self) -> Result<InstructionSink<'a, A>, EncodeError>
-        ensures wrote { Writes self.entry (after_fd 0x4e) operands.None result }
-        ensures same { IsSameSink self.entry result }
-        ensures room { HasRoom self.entry → IsOk result }
+        ensures emits { Emits self.entry (after_fd 0x4e) operands.None result }
         ensures* unchanged { sem 𝓛 (IsUnchangedAtErr A.row A.Allocator self.entry result) }
     {
         self.emit(Prefix::Fd, 0x4e)
@@ -34,9 +29,7 @@ impl<'a, A: Allocator> InstructionSink<'a, A> {
 
     /// `v128.andnot`: `0xFD 0x4F`.
     pub fn v128_andnot(self) -> Result<InstructionSink<'a, A>, EncodeError>
-        ensures wrote { Writes self.entry (after_fd 0x4f) operands.None result }
-        ensures same { IsSameSink self.entry result }
-        ensures room { HasRoom self.entry → IsOk result }
+        ensures emits { Emits self.entry (after_fd 0x4f) operands.None result }
         ensures* unchanged { sem 𝓛 (IsUnchangedAtErr A.row A.Allocator self.entry result) }
     {
         self.emit(Prefix::Fd, 0x4f)
@@ -44,9 +37,7 @@ impl<'a, A: Allocator> InstructionSink<'a, A> {
 
     /// `v128.or`: `0xFD 0x50`.
     pub fn v128_or(self) -> Result<InstructionSink<'a, A>, EncodeError>
-        ensures wrote { Writes self.entry (after_fd 0x50) operands.None result }
-        ensures same { IsSameSink self.entry result }
-        ensures room { HasRoom self.entry → IsOk result }
+        ensures emits { Emits self.entry (after_fd 0x50) operands.None result }
         ensures* unchanged { sem 𝓛 (IsUnchangedAtErr A.row A.Allocator self.entry result) }
     {
         self.emit(Prefix::Fd, 0x50)
@@ -54,9 +45,7 @@ impl<'a, A: Allocator> InstructionSink<'a, A> {
 
     /// `v128.xor`: `0xFD 0x51`.
     pub fn v128_xor(self) -> Result<InstructionSink<'a, A>, EncodeError>
-        ensures wrote { Writes self.entry (after_fd 0x51) operands.None result }
-        ensures same { IsSameSink self.entry result }
-        ensures room { HasRoom self.entry → IsOk result }
+        ensures emits { Emits self.entry (after_fd 0x51) operands.None result }
         ensures* unchanged { sem 𝓛 (IsUnchangedAtErr A.row A.Allocator self.entry result) }
     {
         self.emit(Prefix::Fd, 0x51)
@@ -64,9 +53,7 @@ impl<'a, A: Allocator> InstructionSink<'a, A> {
 
     /// `v128.bitselect`: `0xFD 0x52`.
     pub fn v128_bitselect(self) -> Result<InstructionSink<'a, A>, EncodeError>
-        ensures wrote { Writes self.entry (after_fd 0x52) operands.None result }
-        ensures same { IsSameSink self.entry result }
-        ensures room { HasRoom self.entry → IsOk result }
+        ensures emits { Emits self.entry (after_fd 0x52) operands.None result }
         ensures* unchanged { sem 𝓛 (IsUnchangedAtErr A.row A.Allocator self.entry result) }
     {
         self.emit(Prefix::Fd, 0x52)
@@ -74,9 +61,7 @@ impl<'a, A: Allocator> InstructionSink<'a, A> {
 
     /// `v128.any_true`: `0xFD 0x53`.
     pub fn v128_any_true(self) -> Result<InstructionSink<'a, A>, EncodeError>
-        ensures wrote { Writes self.entry (after_fd 0x53) operands.None result }
-        ensures same { IsSameSink self.entry result }
-        ensures room { HasRoom self.entry → IsOk result }
+        ensures emits { Emits self.entry (after_fd 0x53) operands.None result }
         ensures* unchanged { sem 𝓛 (IsUnchangedAtErr A.row A.Allocator self.entry result) }
     {
         self.emit(Prefix::Fd, 0x53)

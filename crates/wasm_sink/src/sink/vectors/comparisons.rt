@@ -1,7 +1,6 @@
 //! Comparisons of lanes (Core 3.0, Vector Instructions).
-ghost use Rattle.std.specs.Prelude.{IsOk};
 ghost use Rattle.std.specs.Borrow.{sem};
-ghost use Rattle.wasm_sink.specs.Sink.{IsUnchangedAtErr, IsSameSink, Writes, HasRoom};
+ghost use Rattle.wasm_sink.specs.Sink.{IsUnchangedAtErr, Emits};
 ghost use Rattle.wasm_instructions.specs.formats.Opcodes.{after_fd};
 ghost use Rattle.wasm_instructions.specs.declared.table.call.Operands.TheVariants as operands;
 
@@ -14,9 +13,7 @@ use wasm_instructions::table::Prefix;
 impl<'a, A: Allocator> InstructionSink<'a, A> {
     /// `i8x16.eq`: `0xFD 0x23`.
     pub fn i8x16_eq(self) -> Result<InstructionSink<'a, A>, EncodeError>
-        ensures wrote { Writes self.entry (after_fd 0x23) operands.None result }
-        ensures same { IsSameSink self.entry result }
-        ensures room { HasRoom self.entry → IsOk result }
+        ensures emits { Emits self.entry (after_fd 0x23) operands.None result }
         ensures* unchanged { sem 𝓛 (IsUnchangedAtErr A.row A.Allocator self.entry result) }
     {
         self.emit(Prefix::Fd, 0x23)
@@ -24,9 +21,7 @@ impl<'a, A: Allocator> InstructionSink<'a, A> {
 
     /// `i8x16.ne`: `0xFD 0x24`.
     pub fn i8x16_ne(self) -> Result<InstructionSink<'a, A>, EncodeError>
-        ensures wrote { Writes self.entry (after_fd 0x24) operands.None result }
-        ensures same { IsSameSink self.entry result }
-        ensures room { HasRoom self.entry → IsOk result }
+        ensures emits { Emits self.entry (after_fd 0x24) operands.None result }
         ensures* unchanged { sem 𝓛 (IsUnchangedAtErr A.row A.Allocator self.entry result) }
     {
         self.emit(Prefix::Fd, 0x24)
@@ -34,9 +29,7 @@ impl<'a, A: Allocator> InstructionSink<'a, A> {
 
     /// `i8x16.lt_s`: `0xFD 0x25`.
     pub fn i8x16_lt_s(self) -> Result<InstructionSink<'a, A>, EncodeError>
-        ensures wrote { Writes self.entry (after_fd 0x25) operands.None result }
-        ensures same { IsSameSink self.entry result }
-        ensures room { HasRoom self.entry → IsOk result }
+        ensures emits { Emits self.entry (after_fd 0x25) operands.None result }
         ensures* unchanged { sem 𝓛 (IsUnchangedAtErr A.row A.Allocator self.entry result) }
     {
         self.emit(Prefix::Fd, 0x25)
@@ -44,9 +37,7 @@ impl<'a, A: Allocator> InstructionSink<'a, A> {
 
     /// `i8x16.lt_u`: `0xFD 0x26`.
     pub fn i8x16_lt_u(self) -> Result<InstructionSink<'a, A>, EncodeError>
-        ensures wrote { Writes self.entry (after_fd 0x26) operands.None result }
-        ensures same { IsSameSink self.entry result }
-        ensures room { HasRoom self.entry → IsOk result }
+        ensures emits { Emits self.entry (after_fd 0x26) operands.None result }
         ensures* unchanged { sem 𝓛 (IsUnchangedAtErr A.row A.Allocator self.entry result) }
     {
         self.emit(Prefix::Fd, 0x26)
@@ -54,9 +45,7 @@ impl<'a, A: Allocator> InstructionSink<'a, A> {
 
     /// `i8x16.gt_s`: `0xFD 0x27`.
     pub fn i8x16_gt_s(self) -> Result<InstructionSink<'a, A>, EncodeError>
-        ensures wrote { Writes self.entry (after_fd 0x27) operands.None result }
-        ensures same { IsSameSink self.entry result }
-        ensures room { HasRoom self.entry → IsOk result }
+        ensures emits { Emits self.entry (after_fd 0x27) operands.None result }
         ensures* unchanged { sem 𝓛 (IsUnchangedAtErr A.row A.Allocator self.entry result) }
     {
         self.emit(Prefix::Fd, 0x27)
@@ -64,9 +53,7 @@ impl<'a, A: Allocator> InstructionSink<'a, A> {
 
     /// `i8x16.gt_u`: `0xFD 0x28`.
     pub fn i8x16_gt_u(self) -> Result<InstructionSink<'a, A>, EncodeError>
-        ensures wrote { Writes self.entry (after_fd 0x28) operands.None result }
-        ensures same { IsSameSink self.entry result }
-        ensures room { HasRoom self.entry → IsOk result }
+        ensures emits { Emits self.entry (after_fd 0x28) operands.None result }
         ensures* unchanged { sem 𝓛 (IsUnchangedAtErr A.row A.Allocator self.entry result) }
     {
         self.emit(Prefix::Fd, 0x28)
@@ -74,9 +61,7 @@ impl<'a, A: Allocator> InstructionSink<'a, A> {
 
     /// `i8x16.le_s`: `0xFD 0x29`.
     pub fn i8x16_le_s(self) -> Result<InstructionSink<'a, A>, EncodeError>
-        ensures wrote { Writes self.entry (after_fd 0x29) operands.None result }
-        ensures same { IsSameSink self.entry result }
-        ensures room { HasRoom self.entry → IsOk result }
+        ensures emits { Emits self.entry (after_fd 0x29) operands.None result }
         ensures* unchanged { sem 𝓛 (IsUnchangedAtErr A.row A.Allocator self.entry result) }
     {
         self.emit(Prefix::Fd, 0x29)
@@ -84,9 +69,7 @@ impl<'a, A: Allocator> InstructionSink<'a, A> {
 
     /// `i8x16.le_u`: `0xFD 0x2A`.
     pub fn i8x16_le_u(self) -> Result<InstructionSink<'a, A>, EncodeError>
-        ensures wrote { Writes self.entry (after_fd 0x2a) operands.None result }
-        ensures same { IsSameSink self.entry result }
-        ensures room { HasRoom self.entry → IsOk result }
+        ensures emits { Emits self.entry (after_fd 0x2a) operands.None result }
         ensures* unchanged { sem 𝓛 (IsUnchangedAtErr A.row A.Allocator self.entry result) }
     {
         self.emit(Prefix::Fd, 0x2a)
@@ -94,9 +77,7 @@ impl<'a, A: Allocator> InstructionSink<'a, A> {
 
     /// `i8x16.ge_s`: `0xFD 0x2B`.
     pub fn i8x16_ge_s(self) -> Result<InstructionSink<'a, A>, EncodeError>
-        ensures wrote { Writes self.entry (after_fd 0x2b) operands.None result }
-        ensures same { IsSameSink self.entry result }
-        ensures room { HasRoom self.entry → IsOk result }
+        ensures emits { Emits self.entry (after_fd 0x2b) operands.None result }
         ensures* unchanged { sem 𝓛 (IsUnchangedAtErr A.row A.Allocator self.entry result) }
     {
         self.emit(Prefix::Fd, 0x2b)
@@ -104,9 +85,7 @@ impl<'a, A: Allocator> InstructionSink<'a, A> {
 
     /// `i8x16.ge_u`: `0xFD 0x2C`.
     pub fn i8x16_ge_u(self) -> Result<InstructionSink<'a, A>, EncodeError>
-        ensures wrote { Writes self.entry (after_fd 0x2c) operands.None result }
-        ensures same { IsSameSink self.entry result }
-        ensures room { HasRoom self.entry → IsOk result }
+        ensures emits { Emits self.entry (after_fd 0x2c) operands.None result }
         ensures* unchanged { sem 𝓛 (IsUnchangedAtErr A.row A.Allocator self.entry result) }
     {
         self.emit(Prefix::Fd, 0x2c)
@@ -114,9 +93,7 @@ impl<'a, A: Allocator> InstructionSink<'a, A> {
 
     /// `i16x8.eq`: `0xFD 0x2D`.
     pub fn i16x8_eq(self) -> Result<InstructionSink<'a, A>, EncodeError>
-        ensures wrote { Writes self.entry (after_fd 0x2d) operands.None result }
-        ensures same { IsSameSink self.entry result }
-        ensures room { HasRoom self.entry → IsOk result }
+        ensures emits { Emits self.entry (after_fd 0x2d) operands.None result }
         ensures* unchanged { sem 𝓛 (IsUnchangedAtErr A.row A.Allocator self.entry result) }
     {
         self.emit(Prefix::Fd, 0x2d)
@@ -124,9 +101,7 @@ impl<'a, A: Allocator> InstructionSink<'a, A> {
 
     /// `i16x8.ne`: `0xFD 0x2E`.
     pub fn i16x8_ne(self) -> Result<InstructionSink<'a, A>, EncodeError>
-        ensures wrote { Writes self.entry (after_fd 0x2e) operands.None result }
-        ensures same { IsSameSink self.entry result }
-        ensures room { HasRoom self.entry → IsOk result }
+        ensures emits { Emits self.entry (after_fd 0x2e) operands.None result }
         ensures* unchanged { sem 𝓛 (IsUnchangedAtErr A.row A.Allocator self.entry result) }
     {
         self.emit(Prefix::Fd, 0x2e)
@@ -134,9 +109,7 @@ impl<'a, A: Allocator> InstructionSink<'a, A> {
 
     /// `i16x8.lt_s`: `0xFD 0x2F`.
     pub fn i16x8_lt_s(self) -> Result<InstructionSink<'a, A>, EncodeError>
-        ensures wrote { Writes self.entry (after_fd 0x2f) operands.None result }
-        ensures same { IsSameSink self.entry result }
-        ensures room { HasRoom self.entry → IsOk result }
+        ensures emits { Emits self.entry (after_fd 0x2f) operands.None result }
         ensures* unchanged { sem 𝓛 (IsUnchangedAtErr A.row A.Allocator self.entry result) }
     {
         self.emit(Prefix::Fd, 0x2f)
@@ -144,9 +117,7 @@ impl<'a, A: Allocator> InstructionSink<'a, A> {
 
     /// `i16x8.lt_u`: `0xFD 0x30`.
     pub fn i16x8_lt_u(self) -> Result<InstructionSink<'a, A>, EncodeError>
-        ensures wrote { Writes self.entry (after_fd 0x30) operands.None result }
-        ensures same { IsSameSink self.entry result }
-        ensures room { HasRoom self.entry → IsOk result }
+        ensures emits { Emits self.entry (after_fd 0x30) operands.None result }
         ensures* unchanged { sem 𝓛 (IsUnchangedAtErr A.row A.Allocator self.entry result) }
     {
         self.emit(Prefix::Fd, 0x30)
@@ -154,9 +125,7 @@ impl<'a, A: Allocator> InstructionSink<'a, A> {
 
     /// `i16x8.gt_s`: `0xFD 0x31`.
     pub fn i16x8_gt_s(self) -> Result<InstructionSink<'a, A>, EncodeError>
-        ensures wrote { Writes self.entry (after_fd 0x31) operands.None result }
-        ensures same { IsSameSink self.entry result }
-        ensures room { HasRoom self.entry → IsOk result }
+        ensures emits { Emits self.entry (after_fd 0x31) operands.None result }
         ensures* unchanged { sem 𝓛 (IsUnchangedAtErr A.row A.Allocator self.entry result) }
     {
         self.emit(Prefix::Fd, 0x31)
@@ -164,9 +133,7 @@ impl<'a, A: Allocator> InstructionSink<'a, A> {
 
     /// `i16x8.gt_u`: `0xFD 0x32`.
     pub fn i16x8_gt_u(self) -> Result<InstructionSink<'a, A>, EncodeError>
-        ensures wrote { Writes self.entry (after_fd 0x32) operands.None result }
-        ensures same { IsSameSink self.entry result }
-        ensures room { HasRoom self.entry → IsOk result }
+        ensures emits { Emits self.entry (after_fd 0x32) operands.None result }
         ensures* unchanged { sem 𝓛 (IsUnchangedAtErr A.row A.Allocator self.entry result) }
     {
         self.emit(Prefix::Fd, 0x32)
@@ -174,9 +141,7 @@ impl<'a, A: Allocator> InstructionSink<'a, A> {
 
     /// `i16x8.le_s`: `0xFD 0x33`.
     pub fn i16x8_le_s(self) -> Result<InstructionSink<'a, A>, EncodeError>
-        ensures wrote { Writes self.entry (after_fd 0x33) operands.None result }
-        ensures same { IsSameSink self.entry result }
-        ensures room { HasRoom self.entry → IsOk result }
+        ensures emits { Emits self.entry (after_fd 0x33) operands.None result }
         ensures* unchanged { sem 𝓛 (IsUnchangedAtErr A.row A.Allocator self.entry result) }
     {
         self.emit(Prefix::Fd, 0x33)
@@ -184,9 +149,7 @@ impl<'a, A: Allocator> InstructionSink<'a, A> {
 
     /// `i16x8.le_u`: `0xFD 0x34`.
     pub fn i16x8_le_u(self) -> Result<InstructionSink<'a, A>, EncodeError>
-        ensures wrote { Writes self.entry (after_fd 0x34) operands.None result }
-        ensures same { IsSameSink self.entry result }
-        ensures room { HasRoom self.entry → IsOk result }
+        ensures emits { Emits self.entry (after_fd 0x34) operands.None result }
         ensures* unchanged { sem 𝓛 (IsUnchangedAtErr A.row A.Allocator self.entry result) }
     {
         self.emit(Prefix::Fd, 0x34)
@@ -194,9 +157,7 @@ impl<'a, A: Allocator> InstructionSink<'a, A> {
 
     /// `i16x8.ge_s`: `0xFD 0x35`.
     pub fn i16x8_ge_s(self) -> Result<InstructionSink<'a, A>, EncodeError>
-        ensures wrote { Writes self.entry (after_fd 0x35) operands.None result }
-        ensures same { IsSameSink self.entry result }
-        ensures room { HasRoom self.entry → IsOk result }
+        ensures emits { Emits self.entry (after_fd 0x35) operands.None result }
         ensures* unchanged { sem 𝓛 (IsUnchangedAtErr A.row A.Allocator self.entry result) }
     {
         self.emit(Prefix::Fd, 0x35)
@@ -204,9 +165,7 @@ impl<'a, A: Allocator> InstructionSink<'a, A> {
 
     /// `i16x8.ge_u`: `0xFD 0x36`.
     pub fn i16x8_ge_u(self) -> Result<InstructionSink<'a, A>, EncodeError>
-        ensures wrote { Writes self.entry (after_fd 0x36) operands.None result }
-        ensures same { IsSameSink self.entry result }
-        ensures room { HasRoom self.entry → IsOk result }
+        ensures emits { Emits self.entry (after_fd 0x36) operands.None result }
         ensures* unchanged { sem 𝓛 (IsUnchangedAtErr A.row A.Allocator self.entry result) }
     {
         self.emit(Prefix::Fd, 0x36)
@@ -214,9 +173,7 @@ impl<'a, A: Allocator> InstructionSink<'a, A> {
 
     /// `i32x4.eq`: `0xFD 0x37`.
     pub fn i32x4_eq(self) -> Result<InstructionSink<'a, A>, EncodeError>
-        ensures wrote { Writes self.entry (after_fd 0x37) operands.None result }
-        ensures same { IsSameSink self.entry result }
-        ensures room { HasRoom self.entry → IsOk result }
+        ensures emits { Emits self.entry (after_fd 0x37) operands.None result }
         ensures* unchanged { sem 𝓛 (IsUnchangedAtErr A.row A.Allocator self.entry result) }
     {
         self.emit(Prefix::Fd, 0x37)
@@ -224,9 +181,7 @@ impl<'a, A: Allocator> InstructionSink<'a, A> {
 
     /// `i32x4.ne`: `0xFD 0x38`.
     pub fn i32x4_ne(self) -> Result<InstructionSink<'a, A>, EncodeError>
-        ensures wrote { Writes self.entry (after_fd 0x38) operands.None result }
-        ensures same { IsSameSink self.entry result }
-        ensures room { HasRoom self.entry → IsOk result }
+        ensures emits { Emits self.entry (after_fd 0x38) operands.None result }
         ensures* unchanged { sem 𝓛 (IsUnchangedAtErr A.row A.Allocator self.entry result) }
     {
         self.emit(Prefix::Fd, 0x38)
@@ -234,9 +189,7 @@ impl<'a, A: Allocator> InstructionSink<'a, A> {
 
     /// `i32x4.lt_s`: `0xFD 0x39`.
     pub fn i32x4_lt_s(self) -> Result<InstructionSink<'a, A>, EncodeError>
-        ensures wrote { Writes self.entry (after_fd 0x39) operands.None result }
-        ensures same { IsSameSink self.entry result }
-        ensures room { HasRoom self.entry → IsOk result }
+        ensures emits { Emits self.entry (after_fd 0x39) operands.None result }
         ensures* unchanged { sem 𝓛 (IsUnchangedAtErr A.row A.Allocator self.entry result) }
     {
         self.emit(Prefix::Fd, 0x39)
@@ -244,9 +197,7 @@ impl<'a, A: Allocator> InstructionSink<'a, A> {
 
     /// `i32x4.lt_u`: `0xFD 0x3A`.
     pub fn i32x4_lt_u(self) -> Result<InstructionSink<'a, A>, EncodeError>
-        ensures wrote { Writes self.entry (after_fd 0x3a) operands.None result }
-        ensures same { IsSameSink self.entry result }
-        ensures room { HasRoom self.entry → IsOk result }
+        ensures emits { Emits self.entry (after_fd 0x3a) operands.None result }
         ensures* unchanged { sem 𝓛 (IsUnchangedAtErr A.row A.Allocator self.entry result) }
     {
         self.emit(Prefix::Fd, 0x3a)
@@ -254,9 +205,7 @@ impl<'a, A: Allocator> InstructionSink<'a, A> {
 
     /// `i32x4.gt_s`: `0xFD 0x3B`.
     pub fn i32x4_gt_s(self) -> Result<InstructionSink<'a, A>, EncodeError>
-        ensures wrote { Writes self.entry (after_fd 0x3b) operands.None result }
-        ensures same { IsSameSink self.entry result }
-        ensures room { HasRoom self.entry → IsOk result }
+        ensures emits { Emits self.entry (after_fd 0x3b) operands.None result }
         ensures* unchanged { sem 𝓛 (IsUnchangedAtErr A.row A.Allocator self.entry result) }
     {
         self.emit(Prefix::Fd, 0x3b)
@@ -264,9 +213,7 @@ impl<'a, A: Allocator> InstructionSink<'a, A> {
 
     /// `i32x4.gt_u`: `0xFD 0x3C`.
     pub fn i32x4_gt_u(self) -> Result<InstructionSink<'a, A>, EncodeError>
-        ensures wrote { Writes self.entry (after_fd 0x3c) operands.None result }
-        ensures same { IsSameSink self.entry result }
-        ensures room { HasRoom self.entry → IsOk result }
+        ensures emits { Emits self.entry (after_fd 0x3c) operands.None result }
         ensures* unchanged { sem 𝓛 (IsUnchangedAtErr A.row A.Allocator self.entry result) }
     {
         self.emit(Prefix::Fd, 0x3c)
@@ -274,9 +221,7 @@ impl<'a, A: Allocator> InstructionSink<'a, A> {
 
     /// `i32x4.le_s`: `0xFD 0x3D`.
     pub fn i32x4_le_s(self) -> Result<InstructionSink<'a, A>, EncodeError>
-        ensures wrote { Writes self.entry (after_fd 0x3d) operands.None result }
-        ensures same { IsSameSink self.entry result }
-        ensures room { HasRoom self.entry → IsOk result }
+        ensures emits { Emits self.entry (after_fd 0x3d) operands.None result }
         ensures* unchanged { sem 𝓛 (IsUnchangedAtErr A.row A.Allocator self.entry result) }
     {
         self.emit(Prefix::Fd, 0x3d)
@@ -284,9 +229,7 @@ impl<'a, A: Allocator> InstructionSink<'a, A> {
 
     /// `i32x4.le_u`: `0xFD 0x3E`.
     pub fn i32x4_le_u(self) -> Result<InstructionSink<'a, A>, EncodeError>
-        ensures wrote { Writes self.entry (after_fd 0x3e) operands.None result }
-        ensures same { IsSameSink self.entry result }
-        ensures room { HasRoom self.entry → IsOk result }
+        ensures emits { Emits self.entry (after_fd 0x3e) operands.None result }
         ensures* unchanged { sem 𝓛 (IsUnchangedAtErr A.row A.Allocator self.entry result) }
     {
         self.emit(Prefix::Fd, 0x3e)
@@ -294,9 +237,7 @@ impl<'a, A: Allocator> InstructionSink<'a, A> {
 
     /// `i32x4.ge_s`: `0xFD 0x3F`.
     pub fn i32x4_ge_s(self) -> Result<InstructionSink<'a, A>, EncodeError>
-        ensures wrote { Writes self.entry (after_fd 0x3f) operands.None result }
-        ensures same { IsSameSink self.entry result }
-        ensures room { HasRoom self.entry → IsOk result }
+        ensures emits { Emits self.entry (after_fd 0x3f) operands.None result }
         ensures* unchanged { sem 𝓛 (IsUnchangedAtErr A.row A.Allocator self.entry result) }
     {
         self.emit(Prefix::Fd, 0x3f)
@@ -304,9 +245,7 @@ impl<'a, A: Allocator> InstructionSink<'a, A> {
 
     /// `i32x4.ge_u`: `0xFD 0x40`.
     pub fn i32x4_ge_u(self) -> Result<InstructionSink<'a, A>, EncodeError>
-        ensures wrote { Writes self.entry (after_fd 0x40) operands.None result }
-        ensures same { IsSameSink self.entry result }
-        ensures room { HasRoom self.entry → IsOk result }
+        ensures emits { Emits self.entry (after_fd 0x40) operands.None result }
         ensures* unchanged { sem 𝓛 (IsUnchangedAtErr A.row A.Allocator self.entry result) }
     {
         self.emit(Prefix::Fd, 0x40)
@@ -314,9 +253,7 @@ impl<'a, A: Allocator> InstructionSink<'a, A> {
 
     /// `f32x4.eq`: `0xFD 0x41`.
     pub fn f32x4_eq(self) -> Result<InstructionSink<'a, A>, EncodeError>
-        ensures wrote { Writes self.entry (after_fd 0x41) operands.None result }
-        ensures same { IsSameSink self.entry result }
-        ensures room { HasRoom self.entry → IsOk result }
+        ensures emits { Emits self.entry (after_fd 0x41) operands.None result }
         ensures* unchanged { sem 𝓛 (IsUnchangedAtErr A.row A.Allocator self.entry result) }
     {
         self.emit(Prefix::Fd, 0x41)
@@ -324,9 +261,7 @@ impl<'a, A: Allocator> InstructionSink<'a, A> {
 
     /// `f32x4.ne`: `0xFD 0x42`.
     pub fn f32x4_ne(self) -> Result<InstructionSink<'a, A>, EncodeError>
-        ensures wrote { Writes self.entry (after_fd 0x42) operands.None result }
-        ensures same { IsSameSink self.entry result }
-        ensures room { HasRoom self.entry → IsOk result }
+        ensures emits { Emits self.entry (after_fd 0x42) operands.None result }
         ensures* unchanged { sem 𝓛 (IsUnchangedAtErr A.row A.Allocator self.entry result) }
     {
         self.emit(Prefix::Fd, 0x42)
@@ -334,9 +269,7 @@ impl<'a, A: Allocator> InstructionSink<'a, A> {
 
     /// `f32x4.lt`: `0xFD 0x43`.
     pub fn f32x4_lt(self) -> Result<InstructionSink<'a, A>, EncodeError>
-        ensures wrote { Writes self.entry (after_fd 0x43) operands.None result }
-        ensures same { IsSameSink self.entry result }
-        ensures room { HasRoom self.entry → IsOk result }
+        ensures emits { Emits self.entry (after_fd 0x43) operands.None result }
         ensures* unchanged { sem 𝓛 (IsUnchangedAtErr A.row A.Allocator self.entry result) }
     {
         self.emit(Prefix::Fd, 0x43)
@@ -344,9 +277,7 @@ impl<'a, A: Allocator> InstructionSink<'a, A> {
 
     /// `f32x4.gt`: `0xFD 0x44`.
     pub fn f32x4_gt(self) -> Result<InstructionSink<'a, A>, EncodeError>
-        ensures wrote { Writes self.entry (after_fd 0x44) operands.None result }
-        ensures same { IsSameSink self.entry result }
-        ensures room { HasRoom self.entry → IsOk result }
+        ensures emits { Emits self.entry (after_fd 0x44) operands.None result }
         ensures* unchanged { sem 𝓛 (IsUnchangedAtErr A.row A.Allocator self.entry result) }
     {
         self.emit(Prefix::Fd, 0x44)
@@ -354,9 +285,7 @@ impl<'a, A: Allocator> InstructionSink<'a, A> {
 
     /// `f32x4.le`: `0xFD 0x45`.
     pub fn f32x4_le(self) -> Result<InstructionSink<'a, A>, EncodeError>
-        ensures wrote { Writes self.entry (after_fd 0x45) operands.None result }
-        ensures same { IsSameSink self.entry result }
-        ensures room { HasRoom self.entry → IsOk result }
+        ensures emits { Emits self.entry (after_fd 0x45) operands.None result }
         ensures* unchanged { sem 𝓛 (IsUnchangedAtErr A.row A.Allocator self.entry result) }
     {
         self.emit(Prefix::Fd, 0x45)
@@ -364,9 +293,7 @@ impl<'a, A: Allocator> InstructionSink<'a, A> {
 
     /// `f32x4.ge`: `0xFD 0x46`.
     pub fn f32x4_ge(self) -> Result<InstructionSink<'a, A>, EncodeError>
-        ensures wrote { Writes self.entry (after_fd 0x46) operands.None result }
-        ensures same { IsSameSink self.entry result }
-        ensures room { HasRoom self.entry → IsOk result }
+        ensures emits { Emits self.entry (after_fd 0x46) operands.None result }
         ensures* unchanged { sem 𝓛 (IsUnchangedAtErr A.row A.Allocator self.entry result) }
     {
         self.emit(Prefix::Fd, 0x46)
@@ -374,9 +301,7 @@ impl<'a, A: Allocator> InstructionSink<'a, A> {
 
     /// `f64x2.eq`: `0xFD 0x47`.
     pub fn f64x2_eq(self) -> Result<InstructionSink<'a, A>, EncodeError>
-        ensures wrote { Writes self.entry (after_fd 0x47) operands.None result }
-        ensures same { IsSameSink self.entry result }
-        ensures room { HasRoom self.entry → IsOk result }
+        ensures emits { Emits self.entry (after_fd 0x47) operands.None result }
         ensures* unchanged { sem 𝓛 (IsUnchangedAtErr A.row A.Allocator self.entry result) }
     {
         self.emit(Prefix::Fd, 0x47)
@@ -384,9 +309,7 @@ impl<'a, A: Allocator> InstructionSink<'a, A> {
 
     /// `f64x2.ne`: `0xFD 0x48`.
     pub fn f64x2_ne(self) -> Result<InstructionSink<'a, A>, EncodeError>
-        ensures wrote { Writes self.entry (after_fd 0x48) operands.None result }
-        ensures same { IsSameSink self.entry result }
-        ensures room { HasRoom self.entry → IsOk result }
+        ensures emits { Emits self.entry (after_fd 0x48) operands.None result }
         ensures* unchanged { sem 𝓛 (IsUnchangedAtErr A.row A.Allocator self.entry result) }
     {
         self.emit(Prefix::Fd, 0x48)
@@ -394,9 +317,7 @@ impl<'a, A: Allocator> InstructionSink<'a, A> {
 
     /// `f64x2.lt`: `0xFD 0x49`.
     pub fn f64x2_lt(self) -> Result<InstructionSink<'a, A>, EncodeError>
-        ensures wrote { Writes self.entry (after_fd 0x49) operands.None result }
-        ensures same { IsSameSink self.entry result }
-        ensures room { HasRoom self.entry → IsOk result }
+        ensures emits { Emits self.entry (after_fd 0x49) operands.None result }
         ensures* unchanged { sem 𝓛 (IsUnchangedAtErr A.row A.Allocator self.entry result) }
     {
         self.emit(Prefix::Fd, 0x49)
@@ -404,9 +325,7 @@ impl<'a, A: Allocator> InstructionSink<'a, A> {
 
     /// `f64x2.gt`: `0xFD 0x4A`.
     pub fn f64x2_gt(self) -> Result<InstructionSink<'a, A>, EncodeError>
-        ensures wrote { Writes self.entry (after_fd 0x4a) operands.None result }
-        ensures same { IsSameSink self.entry result }
-        ensures room { HasRoom self.entry → IsOk result }
+        ensures emits { Emits self.entry (after_fd 0x4a) operands.None result }
         ensures* unchanged { sem 𝓛 (IsUnchangedAtErr A.row A.Allocator self.entry result) }
     {
         self.emit(Prefix::Fd, 0x4a)
@@ -414,9 +333,7 @@ impl<'a, A: Allocator> InstructionSink<'a, A> {
 
     /// `f64x2.le`: `0xFD 0x4B`.
     pub fn f64x2_le(self) -> Result<InstructionSink<'a, A>, EncodeError>
-        ensures wrote { Writes self.entry (after_fd 0x4b) operands.None result }
-        ensures same { IsSameSink self.entry result }
-        ensures room { HasRoom self.entry → IsOk result }
+        ensures emits { Emits self.entry (after_fd 0x4b) operands.None result }
         ensures* unchanged { sem 𝓛 (IsUnchangedAtErr A.row A.Allocator self.entry result) }
     {
         self.emit(Prefix::Fd, 0x4b)
@@ -424,9 +341,7 @@ impl<'a, A: Allocator> InstructionSink<'a, A> {
 
     /// `f64x2.ge`: `0xFD 0x4C`.
     pub fn f64x2_ge(self) -> Result<InstructionSink<'a, A>, EncodeError>
-        ensures wrote { Writes self.entry (after_fd 0x4c) operands.None result }
-        ensures same { IsSameSink self.entry result }
-        ensures room { HasRoom self.entry → IsOk result }
+        ensures emits { Emits self.entry (after_fd 0x4c) operands.None result }
         ensures* unchanged { sem 𝓛 (IsUnchangedAtErr A.row A.Allocator self.entry result) }
     {
         self.emit(Prefix::Fd, 0x4c)
@@ -434,9 +349,7 @@ impl<'a, A: Allocator> InstructionSink<'a, A> {
 
     /// `i64x2.eq`: `0xFD 0xD6 0x01`.
     pub fn i64x2_eq(self) -> Result<InstructionSink<'a, A>, EncodeError>
-        ensures wrote { Writes self.entry (after_fd 0xd6) operands.None result }
-        ensures same { IsSameSink self.entry result }
-        ensures room { HasRoom self.entry → IsOk result }
+        ensures emits { Emits self.entry (after_fd 0xd6) operands.None result }
         ensures* unchanged { sem 𝓛 (IsUnchangedAtErr A.row A.Allocator self.entry result) }
     {
         self.emit(Prefix::Fd, 0xd6)
@@ -444,9 +357,7 @@ impl<'a, A: Allocator> InstructionSink<'a, A> {
 
     /// `i64x2.ne`: `0xFD 0xD7 0x01`.
     pub fn i64x2_ne(self) -> Result<InstructionSink<'a, A>, EncodeError>
-        ensures wrote { Writes self.entry (after_fd 0xd7) operands.None result }
-        ensures same { IsSameSink self.entry result }
-        ensures room { HasRoom self.entry → IsOk result }
+        ensures emits { Emits self.entry (after_fd 0xd7) operands.None result }
         ensures* unchanged { sem 𝓛 (IsUnchangedAtErr A.row A.Allocator self.entry result) }
     {
         self.emit(Prefix::Fd, 0xd7)
@@ -454,9 +365,7 @@ impl<'a, A: Allocator> InstructionSink<'a, A> {
 
     /// `i64x2.lt_s`: `0xFD 0xD8 0x01`.
     pub fn i64x2_lt_s(self) -> Result<InstructionSink<'a, A>, EncodeError>
-        ensures wrote { Writes self.entry (after_fd 0xd8) operands.None result }
-        ensures same { IsSameSink self.entry result }
-        ensures room { HasRoom self.entry → IsOk result }
+        ensures emits { Emits self.entry (after_fd 0xd8) operands.None result }
         ensures* unchanged { sem 𝓛 (IsUnchangedAtErr A.row A.Allocator self.entry result) }
     {
         self.emit(Prefix::Fd, 0xd8)
@@ -464,9 +373,7 @@ impl<'a, A: Allocator> InstructionSink<'a, A> {
 
     /// `i64x2.gt_s`: `0xFD 0xD9 0x01`.
     pub fn i64x2_gt_s(self) -> Result<InstructionSink<'a, A>, EncodeError>
-        ensures wrote { Writes self.entry (after_fd 0xd9) operands.None result }
-        ensures same { IsSameSink self.entry result }
-        ensures room { HasRoom self.entry → IsOk result }
+        ensures emits { Emits self.entry (after_fd 0xd9) operands.None result }
         ensures* unchanged { sem 𝓛 (IsUnchangedAtErr A.row A.Allocator self.entry result) }
     {
         self.emit(Prefix::Fd, 0xd9)
@@ -474,9 +381,7 @@ impl<'a, A: Allocator> InstructionSink<'a, A> {
 
     /// `i64x2.le_s`: `0xFD 0xDA 0x01`.
     pub fn i64x2_le_s(self) -> Result<InstructionSink<'a, A>, EncodeError>
-        ensures wrote { Writes self.entry (after_fd 0xda) operands.None result }
-        ensures same { IsSameSink self.entry result }
-        ensures room { HasRoom self.entry → IsOk result }
+        ensures emits { Emits self.entry (after_fd 0xda) operands.None result }
         ensures* unchanged { sem 𝓛 (IsUnchangedAtErr A.row A.Allocator self.entry result) }
     {
         self.emit(Prefix::Fd, 0xda)
@@ -484,9 +389,7 @@ impl<'a, A: Allocator> InstructionSink<'a, A> {
 
     /// `i64x2.ge_s`: `0xFD 0xDB 0x01`.
     pub fn i64x2_ge_s(self) -> Result<InstructionSink<'a, A>, EncodeError>
-        ensures wrote { Writes self.entry (after_fd 0xdb) operands.None result }
-        ensures same { IsSameSink self.entry result }
-        ensures room { HasRoom self.entry → IsOk result }
+        ensures emits { Emits self.entry (after_fd 0xdb) operands.None result }
         ensures* unchanged { sem 𝓛 (IsUnchangedAtErr A.row A.Allocator self.entry result) }
     {
         self.emit(Prefix::Fd, 0xdb)

@@ -1,7 +1,6 @@
 //! Operations on four 32-bit integers (Core 3.0, Vector Instructions).
-ghost use Rattle.std.specs.Prelude.{IsOk};
 ghost use Rattle.std.specs.Borrow.{sem};
-ghost use Rattle.wasm_sink.specs.Sink.{IsUnchangedAtErr, IsSameSink, Writes, HasRoom};
+ghost use Rattle.wasm_sink.specs.Sink.{IsUnchangedAtErr, Emits};
 ghost use Rattle.wasm_instructions.specs.formats.Opcodes.{after_fd};
 ghost use Rattle.wasm_instructions.specs.declared.table.call.Operands.TheVariants as operands;
 
@@ -14,9 +13,7 @@ use wasm_instructions::table::Prefix;
 impl<'a, A: Allocator> InstructionSink<'a, A> {
     /// `i32x4.extadd_pairwise_i16x8_s`: `0xFD 0x7E`.
     pub fn i32x4_extadd_pairwise_i16x8_s(self) -> Result<InstructionSink<'a, A>, EncodeError>
-        ensures wrote { Writes self.entry (after_fd 0x7e) operands.None result }
-        ensures same { IsSameSink self.entry result }
-        ensures room { HasRoom self.entry → IsOk result }
+        ensures emits { Emits self.entry (after_fd 0x7e) operands.None result }
         ensures* unchanged { sem 𝓛 (IsUnchangedAtErr A.row A.Allocator self.entry result) }
     {
         self.emit(Prefix::Fd, 0x7e)
@@ -24,9 +21,7 @@ impl<'a, A: Allocator> InstructionSink<'a, A> {
 
     /// `i32x4.extadd_pairwise_i16x8_u`: `0xFD 0x7F`.
     pub fn i32x4_extadd_pairwise_i16x8_u(self) -> Result<InstructionSink<'a, A>, EncodeError>
-        ensures wrote { Writes self.entry (after_fd 0x7f) operands.None result }
-        ensures same { IsSameSink self.entry result }
-        ensures room { HasRoom self.entry → IsOk result }
+        ensures emits { Emits self.entry (after_fd 0x7f) operands.None result }
         ensures* unchanged { sem 𝓛 (IsUnchangedAtErr A.row A.Allocator self.entry result) }
     {
         self.emit(Prefix::Fd, 0x7f)
@@ -34,9 +29,7 @@ impl<'a, A: Allocator> InstructionSink<'a, A> {
 
     /// `i32x4.abs`: `0xFD 0xA0 0x01`.
     pub fn i32x4_abs(self) -> Result<InstructionSink<'a, A>, EncodeError>
-        ensures wrote { Writes self.entry (after_fd 0xa0) operands.None result }
-        ensures same { IsSameSink self.entry result }
-        ensures room { HasRoom self.entry → IsOk result }
+        ensures emits { Emits self.entry (after_fd 0xa0) operands.None result }
         ensures* unchanged { sem 𝓛 (IsUnchangedAtErr A.row A.Allocator self.entry result) }
     {
         self.emit(Prefix::Fd, 0xa0)
@@ -44,9 +37,7 @@ impl<'a, A: Allocator> InstructionSink<'a, A> {
 
     /// `i32x4.neg`: `0xFD 0xA1 0x01`.
     pub fn i32x4_neg(self) -> Result<InstructionSink<'a, A>, EncodeError>
-        ensures wrote { Writes self.entry (after_fd 0xa1) operands.None result }
-        ensures same { IsSameSink self.entry result }
-        ensures room { HasRoom self.entry → IsOk result }
+        ensures emits { Emits self.entry (after_fd 0xa1) operands.None result }
         ensures* unchanged { sem 𝓛 (IsUnchangedAtErr A.row A.Allocator self.entry result) }
     {
         self.emit(Prefix::Fd, 0xa1)
@@ -54,9 +45,7 @@ impl<'a, A: Allocator> InstructionSink<'a, A> {
 
     /// `i32x4.all_true`: `0xFD 0xA3 0x01`.
     pub fn i32x4_all_true(self) -> Result<InstructionSink<'a, A>, EncodeError>
-        ensures wrote { Writes self.entry (after_fd 0xa3) operands.None result }
-        ensures same { IsSameSink self.entry result }
-        ensures room { HasRoom self.entry → IsOk result }
+        ensures emits { Emits self.entry (after_fd 0xa3) operands.None result }
         ensures* unchanged { sem 𝓛 (IsUnchangedAtErr A.row A.Allocator self.entry result) }
     {
         self.emit(Prefix::Fd, 0xa3)
@@ -64,9 +53,7 @@ impl<'a, A: Allocator> InstructionSink<'a, A> {
 
     /// `i32x4.bitmask`: `0xFD 0xA4 0x01`.
     pub fn i32x4_bitmask(self) -> Result<InstructionSink<'a, A>, EncodeError>
-        ensures wrote { Writes self.entry (after_fd 0xa4) operands.None result }
-        ensures same { IsSameSink self.entry result }
-        ensures room { HasRoom self.entry → IsOk result }
+        ensures emits { Emits self.entry (after_fd 0xa4) operands.None result }
         ensures* unchanged { sem 𝓛 (IsUnchangedAtErr A.row A.Allocator self.entry result) }
     {
         self.emit(Prefix::Fd, 0xa4)
@@ -74,9 +61,7 @@ impl<'a, A: Allocator> InstructionSink<'a, A> {
 
     /// `i32x4.extend_low_i16x8_s`: `0xFD 0xA7 0x01`.
     pub fn i32x4_extend_low_i16x8_s(self) -> Result<InstructionSink<'a, A>, EncodeError>
-        ensures wrote { Writes self.entry (after_fd 0xa7) operands.None result }
-        ensures same { IsSameSink self.entry result }
-        ensures room { HasRoom self.entry → IsOk result }
+        ensures emits { Emits self.entry (after_fd 0xa7) operands.None result }
         ensures* unchanged { sem 𝓛 (IsUnchangedAtErr A.row A.Allocator self.entry result) }
     {
         self.emit(Prefix::Fd, 0xa7)
@@ -84,9 +69,7 @@ impl<'a, A: Allocator> InstructionSink<'a, A> {
 
     /// `i32x4.extend_high_i16x8_s`: `0xFD 0xA8 0x01`.
     pub fn i32x4_extend_high_i16x8_s(self) -> Result<InstructionSink<'a, A>, EncodeError>
-        ensures wrote { Writes self.entry (after_fd 0xa8) operands.None result }
-        ensures same { IsSameSink self.entry result }
-        ensures room { HasRoom self.entry → IsOk result }
+        ensures emits { Emits self.entry (after_fd 0xa8) operands.None result }
         ensures* unchanged { sem 𝓛 (IsUnchangedAtErr A.row A.Allocator self.entry result) }
     {
         self.emit(Prefix::Fd, 0xa8)
@@ -94,9 +77,7 @@ impl<'a, A: Allocator> InstructionSink<'a, A> {
 
     /// `i32x4.extend_low_i16x8_u`: `0xFD 0xA9 0x01`.
     pub fn i32x4_extend_low_i16x8_u(self) -> Result<InstructionSink<'a, A>, EncodeError>
-        ensures wrote { Writes self.entry (after_fd 0xa9) operands.None result }
-        ensures same { IsSameSink self.entry result }
-        ensures room { HasRoom self.entry → IsOk result }
+        ensures emits { Emits self.entry (after_fd 0xa9) operands.None result }
         ensures* unchanged { sem 𝓛 (IsUnchangedAtErr A.row A.Allocator self.entry result) }
     {
         self.emit(Prefix::Fd, 0xa9)
@@ -104,9 +85,7 @@ impl<'a, A: Allocator> InstructionSink<'a, A> {
 
     /// `i32x4.extend_high_i16x8_u`: `0xFD 0xAA 0x01`.
     pub fn i32x4_extend_high_i16x8_u(self) -> Result<InstructionSink<'a, A>, EncodeError>
-        ensures wrote { Writes self.entry (after_fd 0xaa) operands.None result }
-        ensures same { IsSameSink self.entry result }
-        ensures room { HasRoom self.entry → IsOk result }
+        ensures emits { Emits self.entry (after_fd 0xaa) operands.None result }
         ensures* unchanged { sem 𝓛 (IsUnchangedAtErr A.row A.Allocator self.entry result) }
     {
         self.emit(Prefix::Fd, 0xaa)
@@ -114,9 +93,7 @@ impl<'a, A: Allocator> InstructionSink<'a, A> {
 
     /// `i32x4.shl`: `0xFD 0xAB 0x01`.
     pub fn i32x4_shl(self) -> Result<InstructionSink<'a, A>, EncodeError>
-        ensures wrote { Writes self.entry (after_fd 0xab) operands.None result }
-        ensures same { IsSameSink self.entry result }
-        ensures room { HasRoom self.entry → IsOk result }
+        ensures emits { Emits self.entry (after_fd 0xab) operands.None result }
         ensures* unchanged { sem 𝓛 (IsUnchangedAtErr A.row A.Allocator self.entry result) }
     {
         self.emit(Prefix::Fd, 0xab)
@@ -124,9 +101,7 @@ impl<'a, A: Allocator> InstructionSink<'a, A> {
 
     /// `i32x4.shr_s`: `0xFD 0xAC 0x01`.
     pub fn i32x4_shr_s(self) -> Result<InstructionSink<'a, A>, EncodeError>
-        ensures wrote { Writes self.entry (after_fd 0xac) operands.None result }
-        ensures same { IsSameSink self.entry result }
-        ensures room { HasRoom self.entry → IsOk result }
+        ensures emits { Emits self.entry (after_fd 0xac) operands.None result }
         ensures* unchanged { sem 𝓛 (IsUnchangedAtErr A.row A.Allocator self.entry result) }
     {
         self.emit(Prefix::Fd, 0xac)
@@ -134,9 +109,7 @@ impl<'a, A: Allocator> InstructionSink<'a, A> {
 
     /// `i32x4.shr_u`: `0xFD 0xAD 0x01`.
     pub fn i32x4_shr_u(self) -> Result<InstructionSink<'a, A>, EncodeError>
-        ensures wrote { Writes self.entry (after_fd 0xad) operands.None result }
-        ensures same { IsSameSink self.entry result }
-        ensures room { HasRoom self.entry → IsOk result }
+        ensures emits { Emits self.entry (after_fd 0xad) operands.None result }
         ensures* unchanged { sem 𝓛 (IsUnchangedAtErr A.row A.Allocator self.entry result) }
     {
         self.emit(Prefix::Fd, 0xad)
@@ -144,9 +117,7 @@ impl<'a, A: Allocator> InstructionSink<'a, A> {
 
     /// `i32x4.add`: `0xFD 0xAE 0x01`.
     pub fn i32x4_add(self) -> Result<InstructionSink<'a, A>, EncodeError>
-        ensures wrote { Writes self.entry (after_fd 0xae) operands.None result }
-        ensures same { IsSameSink self.entry result }
-        ensures room { HasRoom self.entry → IsOk result }
+        ensures emits { Emits self.entry (after_fd 0xae) operands.None result }
         ensures* unchanged { sem 𝓛 (IsUnchangedAtErr A.row A.Allocator self.entry result) }
     {
         self.emit(Prefix::Fd, 0xae)
@@ -154,9 +125,7 @@ impl<'a, A: Allocator> InstructionSink<'a, A> {
 
     /// `i32x4.sub`: `0xFD 0xB1 0x01`.
     pub fn i32x4_sub(self) -> Result<InstructionSink<'a, A>, EncodeError>
-        ensures wrote { Writes self.entry (after_fd 0xb1) operands.None result }
-        ensures same { IsSameSink self.entry result }
-        ensures room { HasRoom self.entry → IsOk result }
+        ensures emits { Emits self.entry (after_fd 0xb1) operands.None result }
         ensures* unchanged { sem 𝓛 (IsUnchangedAtErr A.row A.Allocator self.entry result) }
     {
         self.emit(Prefix::Fd, 0xb1)
@@ -164,9 +133,7 @@ impl<'a, A: Allocator> InstructionSink<'a, A> {
 
     /// `i32x4.mul`: `0xFD 0xB5 0x01`.
     pub fn i32x4_mul(self) -> Result<InstructionSink<'a, A>, EncodeError>
-        ensures wrote { Writes self.entry (after_fd 0xb5) operands.None result }
-        ensures same { IsSameSink self.entry result }
-        ensures room { HasRoom self.entry → IsOk result }
+        ensures emits { Emits self.entry (after_fd 0xb5) operands.None result }
         ensures* unchanged { sem 𝓛 (IsUnchangedAtErr A.row A.Allocator self.entry result) }
     {
         self.emit(Prefix::Fd, 0xb5)
@@ -174,9 +141,7 @@ impl<'a, A: Allocator> InstructionSink<'a, A> {
 
     /// `i32x4.min_s`: `0xFD 0xB6 0x01`.
     pub fn i32x4_min_s(self) -> Result<InstructionSink<'a, A>, EncodeError>
-        ensures wrote { Writes self.entry (after_fd 0xb6) operands.None result }
-        ensures same { IsSameSink self.entry result }
-        ensures room { HasRoom self.entry → IsOk result }
+        ensures emits { Emits self.entry (after_fd 0xb6) operands.None result }
         ensures* unchanged { sem 𝓛 (IsUnchangedAtErr A.row A.Allocator self.entry result) }
     {
         self.emit(Prefix::Fd, 0xb6)
@@ -184,9 +149,7 @@ impl<'a, A: Allocator> InstructionSink<'a, A> {
 
     /// `i32x4.min_u`: `0xFD 0xB7 0x01`.
     pub fn i32x4_min_u(self) -> Result<InstructionSink<'a, A>, EncodeError>
-        ensures wrote { Writes self.entry (after_fd 0xb7) operands.None result }
-        ensures same { IsSameSink self.entry result }
-        ensures room { HasRoom self.entry → IsOk result }
+        ensures emits { Emits self.entry (after_fd 0xb7) operands.None result }
         ensures* unchanged { sem 𝓛 (IsUnchangedAtErr A.row A.Allocator self.entry result) }
     {
         self.emit(Prefix::Fd, 0xb7)
@@ -194,9 +157,7 @@ impl<'a, A: Allocator> InstructionSink<'a, A> {
 
     /// `i32x4.max_s`: `0xFD 0xB8 0x01`.
     pub fn i32x4_max_s(self) -> Result<InstructionSink<'a, A>, EncodeError>
-        ensures wrote { Writes self.entry (after_fd 0xb8) operands.None result }
-        ensures same { IsSameSink self.entry result }
-        ensures room { HasRoom self.entry → IsOk result }
+        ensures emits { Emits self.entry (after_fd 0xb8) operands.None result }
         ensures* unchanged { sem 𝓛 (IsUnchangedAtErr A.row A.Allocator self.entry result) }
     {
         self.emit(Prefix::Fd, 0xb8)
@@ -204,9 +165,7 @@ impl<'a, A: Allocator> InstructionSink<'a, A> {
 
     /// `i32x4.max_u`: `0xFD 0xB9 0x01`.
     pub fn i32x4_max_u(self) -> Result<InstructionSink<'a, A>, EncodeError>
-        ensures wrote { Writes self.entry (after_fd 0xb9) operands.None result }
-        ensures same { IsSameSink self.entry result }
-        ensures room { HasRoom self.entry → IsOk result }
+        ensures emits { Emits self.entry (after_fd 0xb9) operands.None result }
         ensures* unchanged { sem 𝓛 (IsUnchangedAtErr A.row A.Allocator self.entry result) }
     {
         self.emit(Prefix::Fd, 0xb9)
@@ -214,9 +173,7 @@ impl<'a, A: Allocator> InstructionSink<'a, A> {
 
     /// `i32x4.dot_i16x8_s`: `0xFD 0xBA 0x01`.
     pub fn i32x4_dot_i16x8_s(self) -> Result<InstructionSink<'a, A>, EncodeError>
-        ensures wrote { Writes self.entry (after_fd 0xba) operands.None result }
-        ensures same { IsSameSink self.entry result }
-        ensures room { HasRoom self.entry → IsOk result }
+        ensures emits { Emits self.entry (after_fd 0xba) operands.None result }
         ensures* unchanged { sem 𝓛 (IsUnchangedAtErr A.row A.Allocator self.entry result) }
     {
         self.emit(Prefix::Fd, 0xba)
@@ -224,9 +181,7 @@ impl<'a, A: Allocator> InstructionSink<'a, A> {
 
     /// `i32x4.extmul_low_i16x8_s`: `0xFD 0xBC 0x01`.
     pub fn i32x4_extmul_low_i16x8_s(self) -> Result<InstructionSink<'a, A>, EncodeError>
-        ensures wrote { Writes self.entry (after_fd 0xbc) operands.None result }
-        ensures same { IsSameSink self.entry result }
-        ensures room { HasRoom self.entry → IsOk result }
+        ensures emits { Emits self.entry (after_fd 0xbc) operands.None result }
         ensures* unchanged { sem 𝓛 (IsUnchangedAtErr A.row A.Allocator self.entry result) }
     {
         self.emit(Prefix::Fd, 0xbc)
@@ -234,9 +189,7 @@ impl<'a, A: Allocator> InstructionSink<'a, A> {
 
     /// `i32x4.extmul_high_i16x8_s`: `0xFD 0xBD 0x01`.
     pub fn i32x4_extmul_high_i16x8_s(self) -> Result<InstructionSink<'a, A>, EncodeError>
-        ensures wrote { Writes self.entry (after_fd 0xbd) operands.None result }
-        ensures same { IsSameSink self.entry result }
-        ensures room { HasRoom self.entry → IsOk result }
+        ensures emits { Emits self.entry (after_fd 0xbd) operands.None result }
         ensures* unchanged { sem 𝓛 (IsUnchangedAtErr A.row A.Allocator self.entry result) }
     {
         self.emit(Prefix::Fd, 0xbd)
@@ -244,9 +197,7 @@ impl<'a, A: Allocator> InstructionSink<'a, A> {
 
     /// `i32x4.extmul_low_i16x8_u`: `0xFD 0xBE 0x01`.
     pub fn i32x4_extmul_low_i16x8_u(self) -> Result<InstructionSink<'a, A>, EncodeError>
-        ensures wrote { Writes self.entry (after_fd 0xbe) operands.None result }
-        ensures same { IsSameSink self.entry result }
-        ensures room { HasRoom self.entry → IsOk result }
+        ensures emits { Emits self.entry (after_fd 0xbe) operands.None result }
         ensures* unchanged { sem 𝓛 (IsUnchangedAtErr A.row A.Allocator self.entry result) }
     {
         self.emit(Prefix::Fd, 0xbe)
@@ -254,9 +205,7 @@ impl<'a, A: Allocator> InstructionSink<'a, A> {
 
     /// `i32x4.extmul_high_i16x8_u`: `0xFD 0xBF 0x01`.
     pub fn i32x4_extmul_high_i16x8_u(self) -> Result<InstructionSink<'a, A>, EncodeError>
-        ensures wrote { Writes self.entry (after_fd 0xbf) operands.None result }
-        ensures same { IsSameSink self.entry result }
-        ensures room { HasRoom self.entry → IsOk result }
+        ensures emits { Emits self.entry (after_fd 0xbf) operands.None result }
         ensures* unchanged { sem 𝓛 (IsUnchangedAtErr A.row A.Allocator self.entry result) }
     {
         self.emit(Prefix::Fd, 0xbf)
@@ -264,9 +213,7 @@ impl<'a, A: Allocator> InstructionSink<'a, A> {
 
     /// `i32x4.trunc_sat_f32x4_s`: `0xFD 0xF8 0x01`.
     pub fn i32x4_trunc_sat_f32x4_s(self) -> Result<InstructionSink<'a, A>, EncodeError>
-        ensures wrote { Writes self.entry (after_fd 0xf8) operands.None result }
-        ensures same { IsSameSink self.entry result }
-        ensures room { HasRoom self.entry → IsOk result }
+        ensures emits { Emits self.entry (after_fd 0xf8) operands.None result }
         ensures* unchanged { sem 𝓛 (IsUnchangedAtErr A.row A.Allocator self.entry result) }
     {
         self.emit(Prefix::Fd, 0xf8)
@@ -274,9 +221,7 @@ impl<'a, A: Allocator> InstructionSink<'a, A> {
 
     /// `i32x4.trunc_sat_f32x4_u`: `0xFD 0xF9 0x01`.
     pub fn i32x4_trunc_sat_f32x4_u(self) -> Result<InstructionSink<'a, A>, EncodeError>
-        ensures wrote { Writes self.entry (after_fd 0xf9) operands.None result }
-        ensures same { IsSameSink self.entry result }
-        ensures room { HasRoom self.entry → IsOk result }
+        ensures emits { Emits self.entry (after_fd 0xf9) operands.None result }
         ensures* unchanged { sem 𝓛 (IsUnchangedAtErr A.row A.Allocator self.entry result) }
     {
         self.emit(Prefix::Fd, 0xf9)
@@ -284,9 +229,7 @@ impl<'a, A: Allocator> InstructionSink<'a, A> {
 
     /// `i32x4.trunc_sat_f64x2_s_zero`: `0xFD 0xFC 0x01`.
     pub fn i32x4_trunc_sat_f64x2_s_zero(self) -> Result<InstructionSink<'a, A>, EncodeError>
-        ensures wrote { Writes self.entry (after_fd 0xfc) operands.None result }
-        ensures same { IsSameSink self.entry result }
-        ensures room { HasRoom self.entry → IsOk result }
+        ensures emits { Emits self.entry (after_fd 0xfc) operands.None result }
         ensures* unchanged { sem 𝓛 (IsUnchangedAtErr A.row A.Allocator self.entry result) }
     {
         self.emit(Prefix::Fd, 0xfc)
@@ -294,9 +237,7 @@ impl<'a, A: Allocator> InstructionSink<'a, A> {
 
     /// `i32x4.trunc_sat_f64x2_u_zero`: `0xFD 0xFD 0x01`.
     pub fn i32x4_trunc_sat_f64x2_u_zero(self) -> Result<InstructionSink<'a, A>, EncodeError>
-        ensures wrote { Writes self.entry (after_fd 0xfd) operands.None result }
-        ensures same { IsSameSink self.entry result }
-        ensures room { HasRoom self.entry → IsOk result }
+        ensures emits { Emits self.entry (after_fd 0xfd) operands.None result }
         ensures* unchanged { sem 𝓛 (IsUnchangedAtErr A.row A.Allocator self.entry result) }
     {
         self.emit(Prefix::Fd, 0xfd)

@@ -1,7 +1,6 @@
 //! Operations on two 64-bit integers (Core 3.0, Vector Instructions).
-ghost use Rattle.std.specs.Prelude.{IsOk};
 ghost use Rattle.std.specs.Borrow.{sem};
-ghost use Rattle.wasm_sink.specs.Sink.{IsUnchangedAtErr, IsSameSink, Writes, HasRoom};
+ghost use Rattle.wasm_sink.specs.Sink.{IsUnchangedAtErr, Emits};
 ghost use Rattle.wasm_instructions.specs.formats.Opcodes.{after_fd};
 ghost use Rattle.wasm_instructions.specs.declared.table.call.Operands.TheVariants as operands;
 
@@ -14,9 +13,7 @@ use wasm_instructions::table::Prefix;
 impl<'a, A: Allocator> InstructionSink<'a, A> {
     /// `i64x2.abs`: `0xFD 0xC0 0x01`.
     pub fn i64x2_abs(self) -> Result<InstructionSink<'a, A>, EncodeError>
-        ensures wrote { Writes self.entry (after_fd 0xc0) operands.None result }
-        ensures same { IsSameSink self.entry result }
-        ensures room { HasRoom self.entry → IsOk result }
+        ensures emits { Emits self.entry (after_fd 0xc0) operands.None result }
         ensures* unchanged { sem 𝓛 (IsUnchangedAtErr A.row A.Allocator self.entry result) }
     {
         self.emit(Prefix::Fd, 0xc0)
@@ -24,9 +21,7 @@ impl<'a, A: Allocator> InstructionSink<'a, A> {
 
     /// `i64x2.neg`: `0xFD 0xC1 0x01`.
     pub fn i64x2_neg(self) -> Result<InstructionSink<'a, A>, EncodeError>
-        ensures wrote { Writes self.entry (after_fd 0xc1) operands.None result }
-        ensures same { IsSameSink self.entry result }
-        ensures room { HasRoom self.entry → IsOk result }
+        ensures emits { Emits self.entry (after_fd 0xc1) operands.None result }
         ensures* unchanged { sem 𝓛 (IsUnchangedAtErr A.row A.Allocator self.entry result) }
     {
         self.emit(Prefix::Fd, 0xc1)
@@ -34,9 +29,7 @@ impl<'a, A: Allocator> InstructionSink<'a, A> {
 
     /// `i64x2.all_true`: `0xFD 0xC3 0x01`.
     pub fn i64x2_all_true(self) -> Result<InstructionSink<'a, A>, EncodeError>
-        ensures wrote { Writes self.entry (after_fd 0xc3) operands.None result }
-        ensures same { IsSameSink self.entry result }
-        ensures room { HasRoom self.entry → IsOk result }
+        ensures emits { Emits self.entry (after_fd 0xc3) operands.None result }
         ensures* unchanged { sem 𝓛 (IsUnchangedAtErr A.row A.Allocator self.entry result) }
     {
         self.emit(Prefix::Fd, 0xc3)
@@ -44,9 +37,7 @@ impl<'a, A: Allocator> InstructionSink<'a, A> {
 
     /// `i64x2.bitmask`: `0xFD 0xC4 0x01`.
     pub fn i64x2_bitmask(self) -> Result<InstructionSink<'a, A>, EncodeError>
-        ensures wrote { Writes self.entry (after_fd 0xc4) operands.None result }
-        ensures same { IsSameSink self.entry result }
-        ensures room { HasRoom self.entry → IsOk result }
+        ensures emits { Emits self.entry (after_fd 0xc4) operands.None result }
         ensures* unchanged { sem 𝓛 (IsUnchangedAtErr A.row A.Allocator self.entry result) }
     {
         self.emit(Prefix::Fd, 0xc4)
@@ -54,9 +45,7 @@ impl<'a, A: Allocator> InstructionSink<'a, A> {
 
     /// `i64x2.extend_low_i32x4_s`: `0xFD 0xC7 0x01`.
     pub fn i64x2_extend_low_i32x4_s(self) -> Result<InstructionSink<'a, A>, EncodeError>
-        ensures wrote { Writes self.entry (after_fd 0xc7) operands.None result }
-        ensures same { IsSameSink self.entry result }
-        ensures room { HasRoom self.entry → IsOk result }
+        ensures emits { Emits self.entry (after_fd 0xc7) operands.None result }
         ensures* unchanged { sem 𝓛 (IsUnchangedAtErr A.row A.Allocator self.entry result) }
     {
         self.emit(Prefix::Fd, 0xc7)
@@ -64,9 +53,7 @@ impl<'a, A: Allocator> InstructionSink<'a, A> {
 
     /// `i64x2.extend_high_i32x4_s`: `0xFD 0xC8 0x01`.
     pub fn i64x2_extend_high_i32x4_s(self) -> Result<InstructionSink<'a, A>, EncodeError>
-        ensures wrote { Writes self.entry (after_fd 0xc8) operands.None result }
-        ensures same { IsSameSink self.entry result }
-        ensures room { HasRoom self.entry → IsOk result }
+        ensures emits { Emits self.entry (after_fd 0xc8) operands.None result }
         ensures* unchanged { sem 𝓛 (IsUnchangedAtErr A.row A.Allocator self.entry result) }
     {
         self.emit(Prefix::Fd, 0xc8)
@@ -74,9 +61,7 @@ impl<'a, A: Allocator> InstructionSink<'a, A> {
 
     /// `i64x2.extend_low_i32x4_u`: `0xFD 0xC9 0x01`.
     pub fn i64x2_extend_low_i32x4_u(self) -> Result<InstructionSink<'a, A>, EncodeError>
-        ensures wrote { Writes self.entry (after_fd 0xc9) operands.None result }
-        ensures same { IsSameSink self.entry result }
-        ensures room { HasRoom self.entry → IsOk result }
+        ensures emits { Emits self.entry (after_fd 0xc9) operands.None result }
         ensures* unchanged { sem 𝓛 (IsUnchangedAtErr A.row A.Allocator self.entry result) }
     {
         self.emit(Prefix::Fd, 0xc9)
@@ -84,9 +69,7 @@ impl<'a, A: Allocator> InstructionSink<'a, A> {
 
     /// `i64x2.extend_high_i32x4_u`: `0xFD 0xCA 0x01`.
     pub fn i64x2_extend_high_i32x4_u(self) -> Result<InstructionSink<'a, A>, EncodeError>
-        ensures wrote { Writes self.entry (after_fd 0xca) operands.None result }
-        ensures same { IsSameSink self.entry result }
-        ensures room { HasRoom self.entry → IsOk result }
+        ensures emits { Emits self.entry (after_fd 0xca) operands.None result }
         ensures* unchanged { sem 𝓛 (IsUnchangedAtErr A.row A.Allocator self.entry result) }
     {
         self.emit(Prefix::Fd, 0xca)
@@ -94,9 +77,7 @@ impl<'a, A: Allocator> InstructionSink<'a, A> {
 
     /// `i64x2.shl`: `0xFD 0xCB 0x01`.
     pub fn i64x2_shl(self) -> Result<InstructionSink<'a, A>, EncodeError>
-        ensures wrote { Writes self.entry (after_fd 0xcb) operands.None result }
-        ensures same { IsSameSink self.entry result }
-        ensures room { HasRoom self.entry → IsOk result }
+        ensures emits { Emits self.entry (after_fd 0xcb) operands.None result }
         ensures* unchanged { sem 𝓛 (IsUnchangedAtErr A.row A.Allocator self.entry result) }
     {
         self.emit(Prefix::Fd, 0xcb)
@@ -104,9 +85,7 @@ impl<'a, A: Allocator> InstructionSink<'a, A> {
 
     /// `i64x2.shr_s`: `0xFD 0xCC 0x01`.
     pub fn i64x2_shr_s(self) -> Result<InstructionSink<'a, A>, EncodeError>
-        ensures wrote { Writes self.entry (after_fd 0xcc) operands.None result }
-        ensures same { IsSameSink self.entry result }
-        ensures room { HasRoom self.entry → IsOk result }
+        ensures emits { Emits self.entry (after_fd 0xcc) operands.None result }
         ensures* unchanged { sem 𝓛 (IsUnchangedAtErr A.row A.Allocator self.entry result) }
     {
         self.emit(Prefix::Fd, 0xcc)
@@ -114,9 +93,7 @@ impl<'a, A: Allocator> InstructionSink<'a, A> {
 
     /// `i64x2.shr_u`: `0xFD 0xCD 0x01`.
     pub fn i64x2_shr_u(self) -> Result<InstructionSink<'a, A>, EncodeError>
-        ensures wrote { Writes self.entry (after_fd 0xcd) operands.None result }
-        ensures same { IsSameSink self.entry result }
-        ensures room { HasRoom self.entry → IsOk result }
+        ensures emits { Emits self.entry (after_fd 0xcd) operands.None result }
         ensures* unchanged { sem 𝓛 (IsUnchangedAtErr A.row A.Allocator self.entry result) }
     {
         self.emit(Prefix::Fd, 0xcd)
@@ -124,9 +101,7 @@ impl<'a, A: Allocator> InstructionSink<'a, A> {
 
     /// `i64x2.add`: `0xFD 0xCE 0x01`.
     pub fn i64x2_add(self) -> Result<InstructionSink<'a, A>, EncodeError>
-        ensures wrote { Writes self.entry (after_fd 0xce) operands.None result }
-        ensures same { IsSameSink self.entry result }
-        ensures room { HasRoom self.entry → IsOk result }
+        ensures emits { Emits self.entry (after_fd 0xce) operands.None result }
         ensures* unchanged { sem 𝓛 (IsUnchangedAtErr A.row A.Allocator self.entry result) }
     {
         self.emit(Prefix::Fd, 0xce)
@@ -134,9 +109,7 @@ impl<'a, A: Allocator> InstructionSink<'a, A> {
 
     /// `i64x2.sub`: `0xFD 0xD1 0x01`.
     pub fn i64x2_sub(self) -> Result<InstructionSink<'a, A>, EncodeError>
-        ensures wrote { Writes self.entry (after_fd 0xd1) operands.None result }
-        ensures same { IsSameSink self.entry result }
-        ensures room { HasRoom self.entry → IsOk result }
+        ensures emits { Emits self.entry (after_fd 0xd1) operands.None result }
         ensures* unchanged { sem 𝓛 (IsUnchangedAtErr A.row A.Allocator self.entry result) }
     {
         self.emit(Prefix::Fd, 0xd1)
@@ -144,9 +117,7 @@ impl<'a, A: Allocator> InstructionSink<'a, A> {
 
     /// `i64x2.mul`: `0xFD 0xD5 0x01`.
     pub fn i64x2_mul(self) -> Result<InstructionSink<'a, A>, EncodeError>
-        ensures wrote { Writes self.entry (after_fd 0xd5) operands.None result }
-        ensures same { IsSameSink self.entry result }
-        ensures room { HasRoom self.entry → IsOk result }
+        ensures emits { Emits self.entry (after_fd 0xd5) operands.None result }
         ensures* unchanged { sem 𝓛 (IsUnchangedAtErr A.row A.Allocator self.entry result) }
     {
         self.emit(Prefix::Fd, 0xd5)
@@ -154,9 +125,7 @@ impl<'a, A: Allocator> InstructionSink<'a, A> {
 
     /// `i64x2.extmul_low_i32x4_s`: `0xFD 0xDC 0x01`.
     pub fn i64x2_extmul_low_i32x4_s(self) -> Result<InstructionSink<'a, A>, EncodeError>
-        ensures wrote { Writes self.entry (after_fd 0xdc) operands.None result }
-        ensures same { IsSameSink self.entry result }
-        ensures room { HasRoom self.entry → IsOk result }
+        ensures emits { Emits self.entry (after_fd 0xdc) operands.None result }
         ensures* unchanged { sem 𝓛 (IsUnchangedAtErr A.row A.Allocator self.entry result) }
     {
         self.emit(Prefix::Fd, 0xdc)
@@ -164,9 +133,7 @@ impl<'a, A: Allocator> InstructionSink<'a, A> {
 
     /// `i64x2.extmul_high_i32x4_s`: `0xFD 0xDD 0x01`.
     pub fn i64x2_extmul_high_i32x4_s(self) -> Result<InstructionSink<'a, A>, EncodeError>
-        ensures wrote { Writes self.entry (after_fd 0xdd) operands.None result }
-        ensures same { IsSameSink self.entry result }
-        ensures room { HasRoom self.entry → IsOk result }
+        ensures emits { Emits self.entry (after_fd 0xdd) operands.None result }
         ensures* unchanged { sem 𝓛 (IsUnchangedAtErr A.row A.Allocator self.entry result) }
     {
         self.emit(Prefix::Fd, 0xdd)
@@ -174,9 +141,7 @@ impl<'a, A: Allocator> InstructionSink<'a, A> {
 
     /// `i64x2.extmul_low_i32x4_u`: `0xFD 0xDE 0x01`.
     pub fn i64x2_extmul_low_i32x4_u(self) -> Result<InstructionSink<'a, A>, EncodeError>
-        ensures wrote { Writes self.entry (after_fd 0xde) operands.None result }
-        ensures same { IsSameSink self.entry result }
-        ensures room { HasRoom self.entry → IsOk result }
+        ensures emits { Emits self.entry (after_fd 0xde) operands.None result }
         ensures* unchanged { sem 𝓛 (IsUnchangedAtErr A.row A.Allocator self.entry result) }
     {
         self.emit(Prefix::Fd, 0xde)
@@ -184,9 +149,7 @@ impl<'a, A: Allocator> InstructionSink<'a, A> {
 
     /// `i64x2.extmul_high_i32x4_u`: `0xFD 0xDF 0x01`.
     pub fn i64x2_extmul_high_i32x4_u(self) -> Result<InstructionSink<'a, A>, EncodeError>
-        ensures wrote { Writes self.entry (after_fd 0xdf) operands.None result }
-        ensures same { IsSameSink self.entry result }
-        ensures room { HasRoom self.entry → IsOk result }
+        ensures emits { Emits self.entry (after_fd 0xdf) operands.None result }
         ensures* unchanged { sem 𝓛 (IsUnchangedAtErr A.row A.Allocator self.entry result) }
     {
         self.emit(Prefix::Fd, 0xdf)

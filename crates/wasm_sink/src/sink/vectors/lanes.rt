@@ -1,7 +1,6 @@
 //! Constants, lanes, shuffles and splats of vectors (Core 3.0, Vector Instructions).
-ghost use Rattle.std.specs.Prelude.{IsOk};
 ghost use Rattle.std.specs.Borrow.{sem};
-ghost use Rattle.wasm_sink.specs.Sink.{IsUnchangedAtErr, IsSameSink, Writes, HasRoom};
+ghost use Rattle.wasm_sink.specs.Sink.{IsUnchangedAtErr, Emits};
 ghost use Rattle.wasm_instructions.specs.formats.Opcodes.{after_fd};
 ghost use Rattle.wasm_instructions.specs.declared.table.call.Operands.TheVariants as operands;
 
@@ -15,9 +14,7 @@ use wasm_instructions::table::Prefix;
 impl<'a, A: Allocator> InstructionSink<'a, A> {
     /// `v128.const`: `0xFD 0x0C`, then 16 bytes, the lowest first.
     pub fn v128_const(self, value: i128) -> Result<InstructionSink<'a, A>, EncodeError>
-        ensures wrote { Writes self.entry (after_fd 0x0c) (operands.V128 value) result }
-        ensures same { IsSameSink self.entry result }
-        ensures room { HasRoom self.entry → IsOk result }
+        ensures emits { Emits self.entry (after_fd 0x0c) (operands.V128 value) result }
         ensures* unchanged { sem 𝓛 (IsUnchangedAtErr A.row A.Allocator self.entry result) }
     {
         self.emit_v128(0x0c, value)
@@ -25,9 +22,7 @@ impl<'a, A: Allocator> InstructionSink<'a, A> {
 
     /// `i8x16.shuffle`: `0xFD 0x0D`, then 16 lanes.
     pub fn i8x16_shuffle(self, lanes: [Lane; 16]) -> Result<InstructionSink<'a, A>, EncodeError>
-        ensures wrote { Writes self.entry (after_fd 0x0d) (operands.Shuffle lanes) result }
-        ensures same { IsSameSink self.entry result }
-        ensures room { HasRoom self.entry → IsOk result }
+        ensures emits { Emits self.entry (after_fd 0x0d) (operands.Shuffle lanes) result }
         ensures* unchanged { sem 𝓛 (IsUnchangedAtErr A.row A.Allocator self.entry result) }
     {
         self.emit_shuffle(0x0d, lanes)
@@ -35,9 +30,7 @@ impl<'a, A: Allocator> InstructionSink<'a, A> {
 
     /// `i8x16.swizzle`: `0xFD 0x0E`.
     pub fn i8x16_swizzle(self) -> Result<InstructionSink<'a, A>, EncodeError>
-        ensures wrote { Writes self.entry (after_fd 0x0e) operands.None result }
-        ensures same { IsSameSink self.entry result }
-        ensures room { HasRoom self.entry → IsOk result }
+        ensures emits { Emits self.entry (after_fd 0x0e) operands.None result }
         ensures* unchanged { sem 𝓛 (IsUnchangedAtErr A.row A.Allocator self.entry result) }
     {
         self.emit(Prefix::Fd, 0x0e)
@@ -45,9 +38,7 @@ impl<'a, A: Allocator> InstructionSink<'a, A> {
 
     /// `i8x16.splat`: `0xFD 0x0F`.
     pub fn i8x16_splat(self) -> Result<InstructionSink<'a, A>, EncodeError>
-        ensures wrote { Writes self.entry (after_fd 0x0f) operands.None result }
-        ensures same { IsSameSink self.entry result }
-        ensures room { HasRoom self.entry → IsOk result }
+        ensures emits { Emits self.entry (after_fd 0x0f) operands.None result }
         ensures* unchanged { sem 𝓛 (IsUnchangedAtErr A.row A.Allocator self.entry result) }
     {
         self.emit(Prefix::Fd, 0x0f)
@@ -55,9 +46,7 @@ impl<'a, A: Allocator> InstructionSink<'a, A> {
 
     /// `i16x8.splat`: `0xFD 0x10`.
     pub fn i16x8_splat(self) -> Result<InstructionSink<'a, A>, EncodeError>
-        ensures wrote { Writes self.entry (after_fd 0x10) operands.None result }
-        ensures same { IsSameSink self.entry result }
-        ensures room { HasRoom self.entry → IsOk result }
+        ensures emits { Emits self.entry (after_fd 0x10) operands.None result }
         ensures* unchanged { sem 𝓛 (IsUnchangedAtErr A.row A.Allocator self.entry result) }
     {
         self.emit(Prefix::Fd, 0x10)
@@ -65,9 +54,7 @@ impl<'a, A: Allocator> InstructionSink<'a, A> {
 
     /// `i32x4.splat`: `0xFD 0x11`.
     pub fn i32x4_splat(self) -> Result<InstructionSink<'a, A>, EncodeError>
-        ensures wrote { Writes self.entry (after_fd 0x11) operands.None result }
-        ensures same { IsSameSink self.entry result }
-        ensures room { HasRoom self.entry → IsOk result }
+        ensures emits { Emits self.entry (after_fd 0x11) operands.None result }
         ensures* unchanged { sem 𝓛 (IsUnchangedAtErr A.row A.Allocator self.entry result) }
     {
         self.emit(Prefix::Fd, 0x11)
@@ -75,9 +62,7 @@ impl<'a, A: Allocator> InstructionSink<'a, A> {
 
     /// `i64x2.splat`: `0xFD 0x12`.
     pub fn i64x2_splat(self) -> Result<InstructionSink<'a, A>, EncodeError>
-        ensures wrote { Writes self.entry (after_fd 0x12) operands.None result }
-        ensures same { IsSameSink self.entry result }
-        ensures room { HasRoom self.entry → IsOk result }
+        ensures emits { Emits self.entry (after_fd 0x12) operands.None result }
         ensures* unchanged { sem 𝓛 (IsUnchangedAtErr A.row A.Allocator self.entry result) }
     {
         self.emit(Prefix::Fd, 0x12)
@@ -85,9 +70,7 @@ impl<'a, A: Allocator> InstructionSink<'a, A> {
 
     /// `f32x4.splat`: `0xFD 0x13`.
     pub fn f32x4_splat(self) -> Result<InstructionSink<'a, A>, EncodeError>
-        ensures wrote { Writes self.entry (after_fd 0x13) operands.None result }
-        ensures same { IsSameSink self.entry result }
-        ensures room { HasRoom self.entry → IsOk result }
+        ensures emits { Emits self.entry (after_fd 0x13) operands.None result }
         ensures* unchanged { sem 𝓛 (IsUnchangedAtErr A.row A.Allocator self.entry result) }
     {
         self.emit(Prefix::Fd, 0x13)
@@ -95,9 +78,7 @@ impl<'a, A: Allocator> InstructionSink<'a, A> {
 
     /// `f64x2.splat`: `0xFD 0x14`.
     pub fn f64x2_splat(self) -> Result<InstructionSink<'a, A>, EncodeError>
-        ensures wrote { Writes self.entry (after_fd 0x14) operands.None result }
-        ensures same { IsSameSink self.entry result }
-        ensures room { HasRoom self.entry → IsOk result }
+        ensures emits { Emits self.entry (after_fd 0x14) operands.None result }
         ensures* unchanged { sem 𝓛 (IsUnchangedAtErr A.row A.Allocator self.entry result) }
     {
         self.emit(Prefix::Fd, 0x14)
@@ -105,9 +86,7 @@ impl<'a, A: Allocator> InstructionSink<'a, A> {
 
     /// `i8x16.extract_lane_s`: `0xFD 0x15`, then a lane.
     pub fn i8x16_extract_lane_s(self, lane: Lane) -> Result<InstructionSink<'a, A>, EncodeError>
-        ensures wrote { Writes self.entry (after_fd 0x15) (operands.Lane lane) result }
-        ensures same { IsSameSink self.entry result }
-        ensures room { HasRoom self.entry → IsOk result }
+        ensures emits { Emits self.entry (after_fd 0x15) (operands.Lane lane) result }
         ensures* unchanged { sem 𝓛 (IsUnchangedAtErr A.row A.Allocator self.entry result) }
     {
         self.emit_lane(0x15, lane)
@@ -115,9 +94,7 @@ impl<'a, A: Allocator> InstructionSink<'a, A> {
 
     /// `i8x16.extract_lane_u`: `0xFD 0x16`, then a lane.
     pub fn i8x16_extract_lane_u(self, lane: Lane) -> Result<InstructionSink<'a, A>, EncodeError>
-        ensures wrote { Writes self.entry (after_fd 0x16) (operands.Lane lane) result }
-        ensures same { IsSameSink self.entry result }
-        ensures room { HasRoom self.entry → IsOk result }
+        ensures emits { Emits self.entry (after_fd 0x16) (operands.Lane lane) result }
         ensures* unchanged { sem 𝓛 (IsUnchangedAtErr A.row A.Allocator self.entry result) }
     {
         self.emit_lane(0x16, lane)
@@ -125,9 +102,7 @@ impl<'a, A: Allocator> InstructionSink<'a, A> {
 
     /// `i8x16.replace_lane`: `0xFD 0x17`, then a lane.
     pub fn i8x16_replace_lane(self, lane: Lane) -> Result<InstructionSink<'a, A>, EncodeError>
-        ensures wrote { Writes self.entry (after_fd 0x17) (operands.Lane lane) result }
-        ensures same { IsSameSink self.entry result }
-        ensures room { HasRoom self.entry → IsOk result }
+        ensures emits { Emits self.entry (after_fd 0x17) (operands.Lane lane) result }
         ensures* unchanged { sem 𝓛 (IsUnchangedAtErr A.row A.Allocator self.entry result) }
     {
         self.emit_lane(0x17, lane)
@@ -135,9 +110,7 @@ impl<'a, A: Allocator> InstructionSink<'a, A> {
 
     /// `i16x8.extract_lane_s`: `0xFD 0x18`, then a lane.
     pub fn i16x8_extract_lane_s(self, lane: Lane) -> Result<InstructionSink<'a, A>, EncodeError>
-        ensures wrote { Writes self.entry (after_fd 0x18) (operands.Lane lane) result }
-        ensures same { IsSameSink self.entry result }
-        ensures room { HasRoom self.entry → IsOk result }
+        ensures emits { Emits self.entry (after_fd 0x18) (operands.Lane lane) result }
         ensures* unchanged { sem 𝓛 (IsUnchangedAtErr A.row A.Allocator self.entry result) }
     {
         self.emit_lane(0x18, lane)
@@ -145,9 +118,7 @@ impl<'a, A: Allocator> InstructionSink<'a, A> {
 
     /// `i16x8.extract_lane_u`: `0xFD 0x19`, then a lane.
     pub fn i16x8_extract_lane_u(self, lane: Lane) -> Result<InstructionSink<'a, A>, EncodeError>
-        ensures wrote { Writes self.entry (after_fd 0x19) (operands.Lane lane) result }
-        ensures same { IsSameSink self.entry result }
-        ensures room { HasRoom self.entry → IsOk result }
+        ensures emits { Emits self.entry (after_fd 0x19) (operands.Lane lane) result }
         ensures* unchanged { sem 𝓛 (IsUnchangedAtErr A.row A.Allocator self.entry result) }
     {
         self.emit_lane(0x19, lane)
@@ -155,9 +126,7 @@ impl<'a, A: Allocator> InstructionSink<'a, A> {
 
     /// `i16x8.replace_lane`: `0xFD 0x1A`, then a lane.
     pub fn i16x8_replace_lane(self, lane: Lane) -> Result<InstructionSink<'a, A>, EncodeError>
-        ensures wrote { Writes self.entry (after_fd 0x1a) (operands.Lane lane) result }
-        ensures same { IsSameSink self.entry result }
-        ensures room { HasRoom self.entry → IsOk result }
+        ensures emits { Emits self.entry (after_fd 0x1a) (operands.Lane lane) result }
         ensures* unchanged { sem 𝓛 (IsUnchangedAtErr A.row A.Allocator self.entry result) }
     {
         self.emit_lane(0x1a, lane)
@@ -165,9 +134,7 @@ impl<'a, A: Allocator> InstructionSink<'a, A> {
 
     /// `i32x4.extract_lane`: `0xFD 0x1B`, then a lane.
     pub fn i32x4_extract_lane(self, lane: Lane) -> Result<InstructionSink<'a, A>, EncodeError>
-        ensures wrote { Writes self.entry (after_fd 0x1b) (operands.Lane lane) result }
-        ensures same { IsSameSink self.entry result }
-        ensures room { HasRoom self.entry → IsOk result }
+        ensures emits { Emits self.entry (after_fd 0x1b) (operands.Lane lane) result }
         ensures* unchanged { sem 𝓛 (IsUnchangedAtErr A.row A.Allocator self.entry result) }
     {
         self.emit_lane(0x1b, lane)
@@ -175,9 +142,7 @@ impl<'a, A: Allocator> InstructionSink<'a, A> {
 
     /// `i32x4.replace_lane`: `0xFD 0x1C`, then a lane.
     pub fn i32x4_replace_lane(self, lane: Lane) -> Result<InstructionSink<'a, A>, EncodeError>
-        ensures wrote { Writes self.entry (after_fd 0x1c) (operands.Lane lane) result }
-        ensures same { IsSameSink self.entry result }
-        ensures room { HasRoom self.entry → IsOk result }
+        ensures emits { Emits self.entry (after_fd 0x1c) (operands.Lane lane) result }
         ensures* unchanged { sem 𝓛 (IsUnchangedAtErr A.row A.Allocator self.entry result) }
     {
         self.emit_lane(0x1c, lane)
@@ -185,9 +150,7 @@ impl<'a, A: Allocator> InstructionSink<'a, A> {
 
     /// `i64x2.extract_lane`: `0xFD 0x1D`, then a lane.
     pub fn i64x2_extract_lane(self, lane: Lane) -> Result<InstructionSink<'a, A>, EncodeError>
-        ensures wrote { Writes self.entry (after_fd 0x1d) (operands.Lane lane) result }
-        ensures same { IsSameSink self.entry result }
-        ensures room { HasRoom self.entry → IsOk result }
+        ensures emits { Emits self.entry (after_fd 0x1d) (operands.Lane lane) result }
         ensures* unchanged { sem 𝓛 (IsUnchangedAtErr A.row A.Allocator self.entry result) }
     {
         self.emit_lane(0x1d, lane)
@@ -195,9 +158,7 @@ impl<'a, A: Allocator> InstructionSink<'a, A> {
 
     /// `i64x2.replace_lane`: `0xFD 0x1E`, then a lane.
     pub fn i64x2_replace_lane(self, lane: Lane) -> Result<InstructionSink<'a, A>, EncodeError>
-        ensures wrote { Writes self.entry (after_fd 0x1e) (operands.Lane lane) result }
-        ensures same { IsSameSink self.entry result }
-        ensures room { HasRoom self.entry → IsOk result }
+        ensures emits { Emits self.entry (after_fd 0x1e) (operands.Lane lane) result }
         ensures* unchanged { sem 𝓛 (IsUnchangedAtErr A.row A.Allocator self.entry result) }
     {
         self.emit_lane(0x1e, lane)
@@ -205,9 +166,7 @@ impl<'a, A: Allocator> InstructionSink<'a, A> {
 
     /// `f32x4.extract_lane`: `0xFD 0x1F`, then a lane.
     pub fn f32x4_extract_lane(self, lane: Lane) -> Result<InstructionSink<'a, A>, EncodeError>
-        ensures wrote { Writes self.entry (after_fd 0x1f) (operands.Lane lane) result }
-        ensures same { IsSameSink self.entry result }
-        ensures room { HasRoom self.entry → IsOk result }
+        ensures emits { Emits self.entry (after_fd 0x1f) (operands.Lane lane) result }
         ensures* unchanged { sem 𝓛 (IsUnchangedAtErr A.row A.Allocator self.entry result) }
     {
         self.emit_lane(0x1f, lane)
@@ -215,9 +174,7 @@ impl<'a, A: Allocator> InstructionSink<'a, A> {
 
     /// `f32x4.replace_lane`: `0xFD 0x20`, then a lane.
     pub fn f32x4_replace_lane(self, lane: Lane) -> Result<InstructionSink<'a, A>, EncodeError>
-        ensures wrote { Writes self.entry (after_fd 0x20) (operands.Lane lane) result }
-        ensures same { IsSameSink self.entry result }
-        ensures room { HasRoom self.entry → IsOk result }
+        ensures emits { Emits self.entry (after_fd 0x20) (operands.Lane lane) result }
         ensures* unchanged { sem 𝓛 (IsUnchangedAtErr A.row A.Allocator self.entry result) }
     {
         self.emit_lane(0x20, lane)
@@ -225,9 +182,7 @@ impl<'a, A: Allocator> InstructionSink<'a, A> {
 
     /// `f64x2.extract_lane`: `0xFD 0x21`, then a lane.
     pub fn f64x2_extract_lane(self, lane: Lane) -> Result<InstructionSink<'a, A>, EncodeError>
-        ensures wrote { Writes self.entry (after_fd 0x21) (operands.Lane lane) result }
-        ensures same { IsSameSink self.entry result }
-        ensures room { HasRoom self.entry → IsOk result }
+        ensures emits { Emits self.entry (after_fd 0x21) (operands.Lane lane) result }
         ensures* unchanged { sem 𝓛 (IsUnchangedAtErr A.row A.Allocator self.entry result) }
     {
         self.emit_lane(0x21, lane)
@@ -235,9 +190,7 @@ impl<'a, A: Allocator> InstructionSink<'a, A> {
 
     /// `f64x2.replace_lane`: `0xFD 0x22`, then a lane.
     pub fn f64x2_replace_lane(self, lane: Lane) -> Result<InstructionSink<'a, A>, EncodeError>
-        ensures wrote { Writes self.entry (after_fd 0x22) (operands.Lane lane) result }
-        ensures same { IsSameSink self.entry result }
-        ensures room { HasRoom self.entry → IsOk result }
+        ensures emits { Emits self.entry (after_fd 0x22) (operands.Lane lane) result }
         ensures* unchanged { sem 𝓛 (IsUnchangedAtErr A.row A.Allocator self.entry result) }
     {
         self.emit_lane(0x22, lane)

@@ -1,7 +1,7 @@
 //! Loads and stores of vectors and of their lanes (Core 3.0, Vector Instructions).
-ghost use Rattle.std.specs.Prelude.{◌≤◌, ◌<◌, ◌↔◌, IsOk, IsErrOf};
+ghost use Rattle.std.specs.Prelude.{◌<◌};
 ghost use Rattle.std.specs.Borrow.{sem};
-ghost use Rattle.wasm_sink.specs.Sink.{IsUnchangedAtErr, IsSameSink, WritesBytes, HasRoom};
+ghost use Rattle.wasm_sink.specs.Sink.{IsUnchangedAtErr, EmitsAligned};
 ghost use Rattle.wasm_instructions.specs.formats.Opcodes.{after_fd};
 ghost use Rattle.wasm_instructions.specs.declared.table.call.Operands.TheVariants as operands;
 
@@ -15,10 +15,7 @@ use wasm_instructions::table::Prefix;
 impl<'a, A: Allocator> InstructionSink<'a, A> {
     /// `v128.load`: `0xFD 0x00`, then a memory argument. `Alignment` where `memarg.align` is 64 or more.
     pub fn v128_load(self, memarg: MemArg) -> Result<InstructionSink<'a, A>, EncodeError>
-        ensures wrote { WritesBytes self.entry (after_fd 0x00) (operands.Mem memarg) result }
-        ensures same { IsSameSink self.entry result }
-        ensures alignment { IsErrOf result EncodeError.Alignment ↔ 64 ≤ memarg.align }
-        ensures room { HasRoom self.entry → memarg.align < 64 → IsOk result }
+        ensures emits { EmitsAligned self.entry (after_fd 0x00) (operands.Mem memarg) memarg.align result }
         ensures* unchanged { sem 𝓛 (IsUnchangedAtErr A.row A.Allocator self.entry result) }
     {
         self.emit_mem(Prefix::Fd, 0x00, memarg)
@@ -26,10 +23,7 @@ impl<'a, A: Allocator> InstructionSink<'a, A> {
 
     /// `v128.load8x8_s`: `0xFD 0x01`, then a memory argument. `Alignment` where `memarg.align` is 64 or more.
     pub fn v128_load8x8_s(self, memarg: MemArg) -> Result<InstructionSink<'a, A>, EncodeError>
-        ensures wrote { WritesBytes self.entry (after_fd 0x01) (operands.Mem memarg) result }
-        ensures same { IsSameSink self.entry result }
-        ensures alignment { IsErrOf result EncodeError.Alignment ↔ 64 ≤ memarg.align }
-        ensures room { HasRoom self.entry → memarg.align < 64 → IsOk result }
+        ensures emits { EmitsAligned self.entry (after_fd 0x01) (operands.Mem memarg) memarg.align result }
         ensures* unchanged { sem 𝓛 (IsUnchangedAtErr A.row A.Allocator self.entry result) }
     {
         self.emit_mem(Prefix::Fd, 0x01, memarg)
@@ -37,10 +31,7 @@ impl<'a, A: Allocator> InstructionSink<'a, A> {
 
     /// `v128.load8x8_u`: `0xFD 0x02`, then a memory argument. `Alignment` where `memarg.align` is 64 or more.
     pub fn v128_load8x8_u(self, memarg: MemArg) -> Result<InstructionSink<'a, A>, EncodeError>
-        ensures wrote { WritesBytes self.entry (after_fd 0x02) (operands.Mem memarg) result }
-        ensures same { IsSameSink self.entry result }
-        ensures alignment { IsErrOf result EncodeError.Alignment ↔ 64 ≤ memarg.align }
-        ensures room { HasRoom self.entry → memarg.align < 64 → IsOk result }
+        ensures emits { EmitsAligned self.entry (after_fd 0x02) (operands.Mem memarg) memarg.align result }
         ensures* unchanged { sem 𝓛 (IsUnchangedAtErr A.row A.Allocator self.entry result) }
     {
         self.emit_mem(Prefix::Fd, 0x02, memarg)
@@ -48,10 +39,7 @@ impl<'a, A: Allocator> InstructionSink<'a, A> {
 
     /// `v128.load16x4_s`: `0xFD 0x03`, then a memory argument. `Alignment` where `memarg.align` is 64 or more.
     pub fn v128_load16x4_s(self, memarg: MemArg) -> Result<InstructionSink<'a, A>, EncodeError>
-        ensures wrote { WritesBytes self.entry (after_fd 0x03) (operands.Mem memarg) result }
-        ensures same { IsSameSink self.entry result }
-        ensures alignment { IsErrOf result EncodeError.Alignment ↔ 64 ≤ memarg.align }
-        ensures room { HasRoom self.entry → memarg.align < 64 → IsOk result }
+        ensures emits { EmitsAligned self.entry (after_fd 0x03) (operands.Mem memarg) memarg.align result }
         ensures* unchanged { sem 𝓛 (IsUnchangedAtErr A.row A.Allocator self.entry result) }
     {
         self.emit_mem(Prefix::Fd, 0x03, memarg)
@@ -59,10 +47,7 @@ impl<'a, A: Allocator> InstructionSink<'a, A> {
 
     /// `v128.load16x4_u`: `0xFD 0x04`, then a memory argument. `Alignment` where `memarg.align` is 64 or more.
     pub fn v128_load16x4_u(self, memarg: MemArg) -> Result<InstructionSink<'a, A>, EncodeError>
-        ensures wrote { WritesBytes self.entry (after_fd 0x04) (operands.Mem memarg) result }
-        ensures same { IsSameSink self.entry result }
-        ensures alignment { IsErrOf result EncodeError.Alignment ↔ 64 ≤ memarg.align }
-        ensures room { HasRoom self.entry → memarg.align < 64 → IsOk result }
+        ensures emits { EmitsAligned self.entry (after_fd 0x04) (operands.Mem memarg) memarg.align result }
         ensures* unchanged { sem 𝓛 (IsUnchangedAtErr A.row A.Allocator self.entry result) }
     {
         self.emit_mem(Prefix::Fd, 0x04, memarg)
@@ -70,10 +55,7 @@ impl<'a, A: Allocator> InstructionSink<'a, A> {
 
     /// `v128.load32x2_s`: `0xFD 0x05`, then a memory argument. `Alignment` where `memarg.align` is 64 or more.
     pub fn v128_load32x2_s(self, memarg: MemArg) -> Result<InstructionSink<'a, A>, EncodeError>
-        ensures wrote { WritesBytes self.entry (after_fd 0x05) (operands.Mem memarg) result }
-        ensures same { IsSameSink self.entry result }
-        ensures alignment { IsErrOf result EncodeError.Alignment ↔ 64 ≤ memarg.align }
-        ensures room { HasRoom self.entry → memarg.align < 64 → IsOk result }
+        ensures emits { EmitsAligned self.entry (after_fd 0x05) (operands.Mem memarg) memarg.align result }
         ensures* unchanged { sem 𝓛 (IsUnchangedAtErr A.row A.Allocator self.entry result) }
     {
         self.emit_mem(Prefix::Fd, 0x05, memarg)
@@ -81,10 +63,7 @@ impl<'a, A: Allocator> InstructionSink<'a, A> {
 
     /// `v128.load32x2_u`: `0xFD 0x06`, then a memory argument. `Alignment` where `memarg.align` is 64 or more.
     pub fn v128_load32x2_u(self, memarg: MemArg) -> Result<InstructionSink<'a, A>, EncodeError>
-        ensures wrote { WritesBytes self.entry (after_fd 0x06) (operands.Mem memarg) result }
-        ensures same { IsSameSink self.entry result }
-        ensures alignment { IsErrOf result EncodeError.Alignment ↔ 64 ≤ memarg.align }
-        ensures room { HasRoom self.entry → memarg.align < 64 → IsOk result }
+        ensures emits { EmitsAligned self.entry (after_fd 0x06) (operands.Mem memarg) memarg.align result }
         ensures* unchanged { sem 𝓛 (IsUnchangedAtErr A.row A.Allocator self.entry result) }
     {
         self.emit_mem(Prefix::Fd, 0x06, memarg)
@@ -92,10 +71,7 @@ impl<'a, A: Allocator> InstructionSink<'a, A> {
 
     /// `v128.load8_splat`: `0xFD 0x07`, then a memory argument. `Alignment` where `memarg.align` is 64 or more.
     pub fn v128_load8_splat(self, memarg: MemArg) -> Result<InstructionSink<'a, A>, EncodeError>
-        ensures wrote { WritesBytes self.entry (after_fd 0x07) (operands.Mem memarg) result }
-        ensures same { IsSameSink self.entry result }
-        ensures alignment { IsErrOf result EncodeError.Alignment ↔ 64 ≤ memarg.align }
-        ensures room { HasRoom self.entry → memarg.align < 64 → IsOk result }
+        ensures emits { EmitsAligned self.entry (after_fd 0x07) (operands.Mem memarg) memarg.align result }
         ensures* unchanged { sem 𝓛 (IsUnchangedAtErr A.row A.Allocator self.entry result) }
     {
         self.emit_mem(Prefix::Fd, 0x07, memarg)
@@ -103,10 +79,7 @@ impl<'a, A: Allocator> InstructionSink<'a, A> {
 
     /// `v128.load16_splat`: `0xFD 0x08`, then a memory argument. `Alignment` where `memarg.align` is 64 or more.
     pub fn v128_load16_splat(self, memarg: MemArg) -> Result<InstructionSink<'a, A>, EncodeError>
-        ensures wrote { WritesBytes self.entry (after_fd 0x08) (operands.Mem memarg) result }
-        ensures same { IsSameSink self.entry result }
-        ensures alignment { IsErrOf result EncodeError.Alignment ↔ 64 ≤ memarg.align }
-        ensures room { HasRoom self.entry → memarg.align < 64 → IsOk result }
+        ensures emits { EmitsAligned self.entry (after_fd 0x08) (operands.Mem memarg) memarg.align result }
         ensures* unchanged { sem 𝓛 (IsUnchangedAtErr A.row A.Allocator self.entry result) }
     {
         self.emit_mem(Prefix::Fd, 0x08, memarg)
@@ -114,10 +87,7 @@ impl<'a, A: Allocator> InstructionSink<'a, A> {
 
     /// `v128.load32_splat`: `0xFD 0x09`, then a memory argument. `Alignment` where `memarg.align` is 64 or more.
     pub fn v128_load32_splat(self, memarg: MemArg) -> Result<InstructionSink<'a, A>, EncodeError>
-        ensures wrote { WritesBytes self.entry (after_fd 0x09) (operands.Mem memarg) result }
-        ensures same { IsSameSink self.entry result }
-        ensures alignment { IsErrOf result EncodeError.Alignment ↔ 64 ≤ memarg.align }
-        ensures room { HasRoom self.entry → memarg.align < 64 → IsOk result }
+        ensures emits { EmitsAligned self.entry (after_fd 0x09) (operands.Mem memarg) memarg.align result }
         ensures* unchanged { sem 𝓛 (IsUnchangedAtErr A.row A.Allocator self.entry result) }
     {
         self.emit_mem(Prefix::Fd, 0x09, memarg)
@@ -125,10 +95,7 @@ impl<'a, A: Allocator> InstructionSink<'a, A> {
 
     /// `v128.load64_splat`: `0xFD 0x0A`, then a memory argument. `Alignment` where `memarg.align` is 64 or more.
     pub fn v128_load64_splat(self, memarg: MemArg) -> Result<InstructionSink<'a, A>, EncodeError>
-        ensures wrote { WritesBytes self.entry (after_fd 0x0a) (operands.Mem memarg) result }
-        ensures same { IsSameSink self.entry result }
-        ensures alignment { IsErrOf result EncodeError.Alignment ↔ 64 ≤ memarg.align }
-        ensures room { HasRoom self.entry → memarg.align < 64 → IsOk result }
+        ensures emits { EmitsAligned self.entry (after_fd 0x0a) (operands.Mem memarg) memarg.align result }
         ensures* unchanged { sem 𝓛 (IsUnchangedAtErr A.row A.Allocator self.entry result) }
     {
         self.emit_mem(Prefix::Fd, 0x0a, memarg)
@@ -136,10 +103,7 @@ impl<'a, A: Allocator> InstructionSink<'a, A> {
 
     /// `v128.store`: `0xFD 0x0B`, then a memory argument. `Alignment` where `memarg.align` is 64 or more.
     pub fn v128_store(self, memarg: MemArg) -> Result<InstructionSink<'a, A>, EncodeError>
-        ensures wrote { WritesBytes self.entry (after_fd 0x0b) (operands.Mem memarg) result }
-        ensures same { IsSameSink self.entry result }
-        ensures alignment { IsErrOf result EncodeError.Alignment ↔ 64 ≤ memarg.align }
-        ensures room { HasRoom self.entry → memarg.align < 64 → IsOk result }
+        ensures emits { EmitsAligned self.entry (after_fd 0x0b) (operands.Mem memarg) memarg.align result }
         ensures* unchanged { sem 𝓛 (IsUnchangedAtErr A.row A.Allocator self.entry result) }
     {
         self.emit_mem(Prefix::Fd, 0x0b, memarg)
@@ -152,10 +116,7 @@ impl<'a, A: Allocator> InstructionSink<'a, A> {
         memarg: MemArg,
         lane: Lane,
     ) -> Result<InstructionSink<'a, A>, EncodeError>
-        ensures wrote { WritesBytes self.entry (after_fd 0x54) (operands.MemLane memarg lane) result }
-        ensures same { IsSameSink self.entry result }
-        ensures alignment { IsErrOf result EncodeError.Alignment ↔ 64 ≤ memarg.align }
-        ensures room { HasRoom self.entry → memarg.align < 64 → IsOk result }
+        ensures emits { EmitsAligned self.entry (after_fd 0x54) (operands.MemLane memarg lane) memarg.align result }
         ensures* unchanged { sem 𝓛 (IsUnchangedAtErr A.row A.Allocator self.entry result) }
     {
         self.emit_mem_lane(0x54, memarg, lane)
@@ -168,10 +129,7 @@ impl<'a, A: Allocator> InstructionSink<'a, A> {
         memarg: MemArg,
         lane: Lane,
     ) -> Result<InstructionSink<'a, A>, EncodeError>
-        ensures wrote { WritesBytes self.entry (after_fd 0x55) (operands.MemLane memarg lane) result }
-        ensures same { IsSameSink self.entry result }
-        ensures alignment { IsErrOf result EncodeError.Alignment ↔ 64 ≤ memarg.align }
-        ensures room { HasRoom self.entry → memarg.align < 64 → IsOk result }
+        ensures emits { EmitsAligned self.entry (after_fd 0x55) (operands.MemLane memarg lane) memarg.align result }
         ensures* unchanged { sem 𝓛 (IsUnchangedAtErr A.row A.Allocator self.entry result) }
     {
         self.emit_mem_lane(0x55, memarg, lane)
@@ -184,10 +142,7 @@ impl<'a, A: Allocator> InstructionSink<'a, A> {
         memarg: MemArg,
         lane: Lane,
     ) -> Result<InstructionSink<'a, A>, EncodeError>
-        ensures wrote { WritesBytes self.entry (after_fd 0x56) (operands.MemLane memarg lane) result }
-        ensures same { IsSameSink self.entry result }
-        ensures alignment { IsErrOf result EncodeError.Alignment ↔ 64 ≤ memarg.align }
-        ensures room { HasRoom self.entry → memarg.align < 64 → IsOk result }
+        ensures emits { EmitsAligned self.entry (after_fd 0x56) (operands.MemLane memarg lane) memarg.align result }
         ensures* unchanged { sem 𝓛 (IsUnchangedAtErr A.row A.Allocator self.entry result) }
     {
         self.emit_mem_lane(0x56, memarg, lane)
@@ -200,10 +155,7 @@ impl<'a, A: Allocator> InstructionSink<'a, A> {
         memarg: MemArg,
         lane: Lane,
     ) -> Result<InstructionSink<'a, A>, EncodeError>
-        ensures wrote { WritesBytes self.entry (after_fd 0x57) (operands.MemLane memarg lane) result }
-        ensures same { IsSameSink self.entry result }
-        ensures alignment { IsErrOf result EncodeError.Alignment ↔ 64 ≤ memarg.align }
-        ensures room { HasRoom self.entry → memarg.align < 64 → IsOk result }
+        ensures emits { EmitsAligned self.entry (after_fd 0x57) (operands.MemLane memarg lane) memarg.align result }
         ensures* unchanged { sem 𝓛 (IsUnchangedAtErr A.row A.Allocator self.entry result) }
     {
         self.emit_mem_lane(0x57, memarg, lane)
@@ -216,10 +168,7 @@ impl<'a, A: Allocator> InstructionSink<'a, A> {
         memarg: MemArg,
         lane: Lane,
     ) -> Result<InstructionSink<'a, A>, EncodeError>
-        ensures wrote { WritesBytes self.entry (after_fd 0x58) (operands.MemLane memarg lane) result }
-        ensures same { IsSameSink self.entry result }
-        ensures alignment { IsErrOf result EncodeError.Alignment ↔ 64 ≤ memarg.align }
-        ensures room { HasRoom self.entry → memarg.align < 64 → IsOk result }
+        ensures emits { EmitsAligned self.entry (after_fd 0x58) (operands.MemLane memarg lane) memarg.align result }
         ensures* unchanged { sem 𝓛 (IsUnchangedAtErr A.row A.Allocator self.entry result) }
     {
         self.emit_mem_lane(0x58, memarg, lane)
@@ -232,10 +181,7 @@ impl<'a, A: Allocator> InstructionSink<'a, A> {
         memarg: MemArg,
         lane: Lane,
     ) -> Result<InstructionSink<'a, A>, EncodeError>
-        ensures wrote { WritesBytes self.entry (after_fd 0x59) (operands.MemLane memarg lane) result }
-        ensures same { IsSameSink self.entry result }
-        ensures alignment { IsErrOf result EncodeError.Alignment ↔ 64 ≤ memarg.align }
-        ensures room { HasRoom self.entry → memarg.align < 64 → IsOk result }
+        ensures emits { EmitsAligned self.entry (after_fd 0x59) (operands.MemLane memarg lane) memarg.align result }
         ensures* unchanged { sem 𝓛 (IsUnchangedAtErr A.row A.Allocator self.entry result) }
     {
         self.emit_mem_lane(0x59, memarg, lane)
@@ -248,10 +194,7 @@ impl<'a, A: Allocator> InstructionSink<'a, A> {
         memarg: MemArg,
         lane: Lane,
     ) -> Result<InstructionSink<'a, A>, EncodeError>
-        ensures wrote { WritesBytes self.entry (after_fd 0x5a) (operands.MemLane memarg lane) result }
-        ensures same { IsSameSink self.entry result }
-        ensures alignment { IsErrOf result EncodeError.Alignment ↔ 64 ≤ memarg.align }
-        ensures room { HasRoom self.entry → memarg.align < 64 → IsOk result }
+        ensures emits { EmitsAligned self.entry (after_fd 0x5a) (operands.MemLane memarg lane) memarg.align result }
         ensures* unchanged { sem 𝓛 (IsUnchangedAtErr A.row A.Allocator self.entry result) }
     {
         self.emit_mem_lane(0x5a, memarg, lane)
@@ -264,10 +207,7 @@ impl<'a, A: Allocator> InstructionSink<'a, A> {
         memarg: MemArg,
         lane: Lane,
     ) -> Result<InstructionSink<'a, A>, EncodeError>
-        ensures wrote { WritesBytes self.entry (after_fd 0x5b) (operands.MemLane memarg lane) result }
-        ensures same { IsSameSink self.entry result }
-        ensures alignment { IsErrOf result EncodeError.Alignment ↔ 64 ≤ memarg.align }
-        ensures room { HasRoom self.entry → memarg.align < 64 → IsOk result }
+        ensures emits { EmitsAligned self.entry (after_fd 0x5b) (operands.MemLane memarg lane) memarg.align result }
         ensures* unchanged { sem 𝓛 (IsUnchangedAtErr A.row A.Allocator self.entry result) }
     {
         self.emit_mem_lane(0x5b, memarg, lane)
@@ -275,10 +215,7 @@ impl<'a, A: Allocator> InstructionSink<'a, A> {
 
     /// `v128.load32_zero`: `0xFD 0x5C`, then a memory argument. `Alignment` where `memarg.align` is 64 or more.
     pub fn v128_load32_zero(self, memarg: MemArg) -> Result<InstructionSink<'a, A>, EncodeError>
-        ensures wrote { WritesBytes self.entry (after_fd 0x5c) (operands.Mem memarg) result }
-        ensures same { IsSameSink self.entry result }
-        ensures alignment { IsErrOf result EncodeError.Alignment ↔ 64 ≤ memarg.align }
-        ensures room { HasRoom self.entry → memarg.align < 64 → IsOk result }
+        ensures emits { EmitsAligned self.entry (after_fd 0x5c) (operands.Mem memarg) memarg.align result }
         ensures* unchanged { sem 𝓛 (IsUnchangedAtErr A.row A.Allocator self.entry result) }
     {
         self.emit_mem(Prefix::Fd, 0x5c, memarg)
@@ -286,10 +223,7 @@ impl<'a, A: Allocator> InstructionSink<'a, A> {
 
     /// `v128.load64_zero`: `0xFD 0x5D`, then a memory argument. `Alignment` where `memarg.align` is 64 or more.
     pub fn v128_load64_zero(self, memarg: MemArg) -> Result<InstructionSink<'a, A>, EncodeError>
-        ensures wrote { WritesBytes self.entry (after_fd 0x5d) (operands.Mem memarg) result }
-        ensures same { IsSameSink self.entry result }
-        ensures alignment { IsErrOf result EncodeError.Alignment ↔ 64 ≤ memarg.align }
-        ensures room { HasRoom self.entry → memarg.align < 64 → IsOk result }
+        ensures emits { EmitsAligned self.entry (after_fd 0x5d) (operands.Mem memarg) memarg.align result }
         ensures* unchanged { sem 𝓛 (IsUnchangedAtErr A.row A.Allocator self.entry result) }
     {
         self.emit_mem(Prefix::Fd, 0x5d, memarg)

@@ -5,4 +5,4 @@ use Rattle.wasmcanon.proofs.run.canonical_form.Goals as goal
 pub returns-in-Err-Refused-clause-unencoded : goal.returns-in-Err-Refused-clause-unencoded
 returns-in-Err-Refused-clause-unencoded c =
     let h = rw c.in-Err-Refused.field-0-is at c.in-Err-Refused.ensures in
-    record { none = λ sections encoded. h.unencoded sections (subst (λ (bytes : List ℕ). whole_module.Encodes bytes sections) (sym c.in_ok-copy.ensures.items) encoded) }
+    record { none = λ sections encoded. h.normalises.unencoded sections (subst (λ (bytes : List ℕ). whole_module.Encodes bytes sections) (sym c.in_ok-copy.ensures.items) encoded) }

@@ -18,14 +18,14 @@ refused_none G encoding_of view bytes (Err (errors.Refused at)) given = λ some.
 pub returns-in-Module-clause-complete : goal.returns-in-Module-clause-complete
 returns-in-Module-clause-complete c encoding normal =
     let n : NormalForm Module c.args.input.items encoding = rw c.in-Module.is at normal in
-    subst (λ (t : List ℕ). IsOrMemory (λ given. given.items) t c.rewrite_module.result) (sym n.is_shortest) (c.rewrite_module.ensures.complete n.value n.encoded)
+    subst (λ (t : List ℕ). IsOrMemory (λ given. given.items) t c.rewrite_module.result) (sym n.is_shortest) (c.rewrite_module.ensures.normalises.complete n.value n.encoded)
 
 pub returns-in-Module-clause-unencoded : goal.returns-in-Module-clause-unencoded
 returns-in-Module-clause-unencoded c =
-    rw c.in-Module.is (refused_none decoded_module.Encodes decoded_module.bytes (λ encoding. encoding.items) c.args.input.items c.rewrite_module.result c.rewrite_module.ensures.complete)
+    rw c.in-Module.is (refused_none decoded_module.Encodes decoded_module.bytes (λ encoding. encoding.items) c.args.input.items c.rewrite_module.result c.rewrite_module.ensures.normalises.complete)
 
 pub returns-in-Types-clause-prefix : goal.returns-in-Types-clause-prefix
-returns-in-Types-clause-prefix c = rw c.in-Types.is c.rewrite_type_section.ensures.prefix
+returns-in-Types-clause-prefix c = rw c.in-Types.is c.rewrite_type_section.ensures.normalises.prefix
 
 pub returns-in-Module-clause-prefix : goal.returns-in-Module-clause-prefix
-returns-in-Module-clause-prefix c = rw c.in-Module.is c.rewrite_module.ensures.prefix
+returns-in-Module-clause-prefix c = rw c.in-Module.is c.rewrite_module.ensures.normalises.prefix

@@ -1,8 +1,11 @@
-use Rattle.wasm_codec.proofs.ListReading.{gives_bytes}
+use Rattle.wasm_codec.proofs.BodyLaws.{Lawful-body}
+use Rattle.wasm_codec.proofs.DecodingLaws.{normalises_in_place}
 use Rattle.wasm_modules.specs.formats.CodeBodies.{code_section_body}
-use Rattle.wasm_modules.proofs.CodeBodyLaws.{AtMostOne-code-section-body}
+use Rattle.wasm_modules.proofs.CodeBodyLaws.{Lawful-code-section-body}
 use Rattle.wasm_modules.proofs.code.normaliser.rewrite_code_section.Goals as goal
 
-pub returns-clause-complete : goal.returns-clause-complete
+pub returns : goal.returns
 unfolding code_section_body
-returns-clause-complete c = gives_bytes AtMostOne-code-section-body code_section_body.bytes (λ encoding. encoding.items) c.args.body.items c.normalise_list_to_end.result c.normalise_list_to_end.ensures.given c.normalise_list_to_end.ensures.unencoded
+returns c =
+    let n = c.normalise_list_to_end in
+    record { normalises = normalises_in_place (Lawful-body Lawful-code-section-body) c.args.body.items n.result (record { given = n.ensures.given; prefix = n.ensures.prefix; unencoded = n.ensures.unencoded }) n.ensures.memory }

@@ -4,27 +4,22 @@ use Rattle.wasm_modules.specs.formats.Sections.{header}
 use Rattle.wasm_modules.proofs.HeaderLaws.{after_header_is, headed_normal, HeadedRefused, headed_refused}
 use Rattle.wasm_modules.proofs.normaliser.framing.rewrite_module_of.Goals as goal
 
-pub returns-in-Ok-clause-given : goal.returns-in-Ok-clause-given
-returns-in-Ok-clause-given g c =
+pub returns-in-Ok : goal.returns-in-Ok
+returns-in-Ok g c =
     let law = c.is_lawful.ensures in
     let body = c.in-Some._sections.now in
     let found : c.args.bytes.items ≡ header ++ body = rw (← c.deref.ensures.value) c.in-Some.ensures.found in
     let start = after_header_is c.args.bytes.items body c.skip.new.self found (c.skip.ensures ∙ ap (skipped 8) c.new-rewriter.ensures) in
-    rw c.finish.ensures (headed_normal law.lawful law.some c.args.bytes.items body c.skip.new.self c.rewrite_joined.new.rewriter found start c.are_bytes.ensures c.in-Ok.ensures.0 c.in-Ok.ensures.1)
+    let normal = headed_normal law.lawful law.some c.args.bytes.items body c.skip.new.self c.rewrite_joined.new.rewriter found start c.are_bytes.ensures c.in-Ok.ensures.0 c.in-Ok.ensures.1 in
+    record { rewrites = record { given = rw c.finish.ensures normal; prefix = tt; unencoded = tt }; memory = tt }
 
-pub returns-in-Err-clause-prefix : goal.returns-in-Err-clause-prefix
-returns-in-Err-clause-prefix g c =
+pub returns-in-Err : goal.returns-in-Err
+returns-in-Err g c =
     let law = c.is_lawful.ensures in
     let body = c.in-Some._sections.now in
     let found : c.args.bytes.items ≡ header ++ body = rw (← c.deref.ensures.value) c.in-Some.ensures.found in
     let start = after_header_is c.args.bytes.items body c.skip.new.self found (c.skip.ensures ∙ ap (skipped 8) c.new-rewriter.ensures) in
     let len : length c.args.bytes.items ≡ c.len-len.result = omega arith in
-    (subst (λ (n : ℕ). HeadedRefused g.S.Rewritable.format.Encodes c.args.bytes.items (n - c.in-Err.left)) len (headed_refused law.lawful law.some c.args.bytes.items body c.skip.new.self c.in-Err.left found start c.in-Err.ensures.0)).prefix
-
-pub returns-in-Err-clause-unencoded : goal.returns-in-Err-clause-unencoded
-returns-in-Err-clause-unencoded g c =
-    let law = c.is_lawful.ensures in
-    let body = c.in-Some._sections.now in
-    let found : c.args.bytes.items ≡ header ++ body = rw (← c.deref.ensures.value) c.in-Some.ensures.found in
-    let start = after_header_is c.args.bytes.items body c.skip.new.self found (c.skip.ensures ∙ ap (skipped 8) c.new-rewriter.ensures) in
-    (headed_refused law.lawful law.some c.args.bytes.items body c.skip.new.self c.in-Err.left found start c.in-Err.ensures.0).unencoded
+    let refused = headed_refused law.lawful law.some c.args.bytes.items body c.skip.new.self c.in-Err.left found start c.in-Err.ensures.0 in
+    let at = subst (λ (n : ℕ). HeadedRefused g.S.Rewritable.format.Encodes c.args.bytes.items (n - c.in-Err.left)) len refused in
+    record { rewrites = record { given = tt; prefix = at.prefix; unencoded = refused.unencoded }; memory = tt }

@@ -17,10 +17,12 @@ returns g c =
     let ran = c.in_ok-append_branch_table.ensures.ok in (
       search (rules),
       record {
-        wrote = (ran.0, ran.1, rw (sym c.without_prefix-op.ensures) ran.2, shortest_call (without_prefix c.args.number) (operands.BrTable ran.0 c.args.default) c.requires.call (search (rules)) ran.4 ran.3, ran.3);
-        stands = λ xs yields. rw (sym (given g.I.Iterator.next_gives c.args.labels ran.0 xs ran.1 yields), sym c.without_prefix-op.ensures) ran.2;
-        same = refl;
-        err = tt;
+        emits = record {
+          wrote = (ran.0, ran.1, rw (sym c.without_prefix-op.ensures) ran.2, shortest_call (without_prefix c.args.number) (operands.BrTable ran.0 c.args.default) c.requires.call (search (rules)) ran.4 ran.3, ran.3);
+          stands = λ xs yields. rw (sym (given g.I.Iterator.next_gives c.args.labels ran.0 xs ran.1 yields), sym c.without_prefix-op.ensures) ran.2;
+          same = refl;
+          err = tt;
+        };
         unchanged = tt;
       },
     )

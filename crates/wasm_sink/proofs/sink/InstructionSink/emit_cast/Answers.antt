@@ -8,9 +8,11 @@ pub returns : goal.returns
 returns g c = (
   search (rules),
   record {
-    wrote = (search (rules), shortest_call (after_fb c.args.number) (operands.Cast c.args.label c.args.from c.args.to) c.requires.call (search (rules)) tt tt, search (rules, short_call));
-    same = refl;
-    room = search (rules);
+    emits = record {
+      wrote = (search (rules), shortest_call (after_fb c.args.number) (operands.Cast c.args.label c.args.from c.args.to) c.requires.call (search (rules)) tt tt, search (rules, short_call));
+      same = refl;
+      room = search (rules);
+    };
     unchanged = tt;
   },
 )

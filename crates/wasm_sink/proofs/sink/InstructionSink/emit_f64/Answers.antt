@@ -6,9 +6,11 @@ pub returns : goal.returns
 returns g c = (
   search (rules),
   record {
-    wrote = (search (rules), search (rules, shortest_call), search (rules, short_call));
-    same = refl;
-    room = search (rules);
+    emits = record {
+      wrote = (search (rules), search (rules, shortest_call), search (rules, short_call));
+      same = refl;
+      room = search (rules);
+    };
     unchanged = tt;
   },
 )

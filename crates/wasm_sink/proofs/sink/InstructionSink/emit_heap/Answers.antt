@@ -13,9 +13,11 @@ pub returns : goal.returns
 returns g c = (
   search (rules),
   record {
-    wrote = (search (rules), shortest_call (opcode_of c.args.prefix c.args.number) (operands.Heap c.args.heap_type) c.requires.call (search (rules)) tt tt, search (rules, short_call));
-    same = refl;
-    room = search (rules);
+    emits = record {
+      wrote = (search (rules), shortest_call (opcode_of c.args.prefix c.args.number) (operands.Heap c.args.heap_type) c.requires.call (search (rules)) tt tt, search (rules, short_call));
+      same = refl;
+      room = search (rules);
+    };
     unchanged = tt;
   },
 )

@@ -13,10 +13,12 @@ pub returns : goal.returns
 returns g c = (
   search (rules),
   record {
-    wrote = (search (rules), shortest_call (opcode_of c.args.prefix c.args.number) (operands.Mem c.args.memarg) c.requires.call (search (rules)) tt tt, search (rules, short_call), search (rules));
-    same = refl;
-    alignment = search (rules);
-    room = search (rules);
+    emits = record {
+      wrote = (search (rules), shortest_call (opcode_of c.args.prefix c.args.number) (operands.Mem c.args.memarg) c.requires.call (search (rules)) tt tt, search (rules, short_call), search (rules));
+      same = refl;
+      alignment = search (rules);
+      room = search (rules);
+    };
     unchanged = tt;
   },
 )

@@ -8,10 +8,12 @@ pub returns : goal.returns
 returns g c = (
   search (rules),
   record {
-    wrote = (search (rules), shortest_call (after_fd c.args.number) (operands.MemLane c.args.memarg c.args.lane) c.requires.call (search (rules)) tt tt, search (rules, short_call), search (rules));
-    same = refl;
-    alignment = search (rules);
-    room = search (rules);
+    emits = record {
+      wrote = (search (rules), shortest_call (after_fd c.args.number) (operands.MemLane c.args.memarg c.args.lane) c.requires.call (search (rules)) tt tt, search (rules, short_call), search (rules));
+      same = refl;
+      alignment = search (rules);
+      room = search (rules);
+    };
     unchanged = tt;
   },
 )

@@ -8,8 +8,10 @@ pub returns : goal.returns
 returns g c = (
   search (rules),
   record {
-    wrote = (search (rules), shortest_call (without_prefix c.args.number) (operands.Types c.args.types.now) c.requires.call tt c.in_ok-append_type_list.ensures.fits.1 c.in_ok-append_type_list.ensures.fits.0.1, search (rules));
-    same = refl;
+    emits = record {
+      wrote = (search (rules), shortest_call (without_prefix c.args.number) (operands.Types c.args.types.now) c.requires.call tt c.in_ok-append_type_list.ensures.fits.1 c.in_ok-append_type_list.ensures.fits.0.1, search (rules));
+      same = refl;
+    };
     unchanged = tt;
   },
 )

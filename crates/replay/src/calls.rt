@@ -1,0 +1,119 @@
+//! The five calls for anything that is decoded from all of its bytes, each held to the others.
+
+use crate::mismatch::Mismatch;
+use std::alloc::Global;
+use wasm_encoder::{
+    CustomSection, DataCountSection, Decode, ReadError, StartSection, check, normalise, read,
+    read_strict, rewrite,
+};
+
+/// How many items a reader gives, or where it refuses the bytes.
+pub type Count = Result<usize, usize>;
+
+/// The normal form that a normaliser gives, or where it refuses the bytes.
+pub type Normal = Result<Vec<u8>, usize>;
+
+/// What a reader returns: a list, or one value.
+pub trait Counted: Drop {
+    /// Returns the number of items.
+    fn count(&self) -> usize;
+}
+
+impl<T: Drop> Counted for Vec<T> {
+    fn count(&self) -> usize {
+        self.len()
+    }
+}
+
+impl Counted for StartSection {
+    fn count(&self) -> usize {
+        1
+    }
+}
+
+impl Counted for DataCountSection {
+    fn count(&self) -> usize {
+        1
+    }
+}
+
+impl<'a> Counted for CustomSection<'a> {
+    fn count(&self) -> usize {
+        1
+    }
+}
+
+/// What a reader answered.
+pub fn count<T: Counted>(answer: Result<T, ReadError>) -> Result<Count, Mismatch> {
+    match answer {
+        Ok(items) => Ok(Ok(items.count())),
+        Err(ReadError::Refused { at }) => Ok(Err(at)),
+        Err(ReadError::Memory) => Err(Mismatch::Memory),
+    }
+}
+
+/// What the reader answers.
+pub fn count_of<'a, T: Decode<'a>>(alloc: Global, body: &'a [u8]) -> Result<Count, Mismatch>
+where
+    T::Output: Counted,
+{
+    count(read::<T>(alloc, body))
+}
+
+/// What the strict reader answers. The check accepts the same bytes, and refuses the others at the same offset.
+pub fn strict_of<'a, T: Decode<'a>>(alloc: Global, body: &'a [u8]) -> Result<Count, Mismatch>
+where
+    T::Output: Counted,
+{
+    let strict = count(read_strict::<T>(alloc, body))?;
+    is_checked::<T>(alloc, body, strict)?;
+    Ok(strict)
+}
+
+/// The check answers as the strict reader did.
+fn is_checked<'a, T: Decode<'a>>(
+    alloc: Global,
+    body: &[u8],
+    strict: Count,
+) -> Result<(), Mismatch> {
+    match (check::<T>(alloc, body), strict) {
+        (Ok(()), Ok(_)) => Ok(()),
+        (Err(ReadError::Refused { at }), Err(place)) if at == place => Ok(()),
+        (Err(ReadError::Memory), _) => Err(Mismatch::Memory),
+        _ => Err(Mismatch::Checked),
+    }
+}
+
+/// What the normaliser answers. Rewriting a copy of the bytes in place gives the same.
+pub fn normal_of<'a, T: Decode<'a>>(alloc: Global, body: &[u8]) -> Result<Normal, Mismatch> {
+    let copy = Vec::from_slice(alloc, body)?;
+    let rewritten = placed(rewrite::<T>(copy))?;
+    same_normal(normalise::<T>(alloc, body), rewritten)
+}
+
+/// What a normaliser answers, if it is this.
+pub fn same_normal(answer: Result<Vec<u8>, ReadError>, normal: Normal) -> Result<Normal, Mismatch> {
+    if is_same(&placed(answer)?, &normal) {
+        Ok(normal)
+    } else {
+        Err(Mismatch::Rewritten)
+    }
+}
+
+/// The bytes that a normaliser gives, or where it refuses its input.
+pub fn placed(answer: Result<Vec<u8>, ReadError>) -> Result<Normal, Mismatch> {
+    match answer {
+        Ok(bytes) => Ok(Ok(bytes)),
+        Err(ReadError::Refused { at }) => Ok(Err(at)),
+        Err(ReadError::Memory) => Err(Mismatch::Memory),
+    }
+}
+
+/// Whether both are the same bytes, or the same offset.
+fn is_same(one: &Normal, other: &Normal) -> bool {
+    match (one, other) {
+        (Ok(bytes), Ok(others)) => bytes.as_slice() == others.as_slice(),
+        (Err(at), Err(place)) => at == place,
+        _ => false,
+    }
+}

@@ -1,0 +1,6 @@
+use Rattle.wasm_codec.proofs.BodyLaws.{Lawful-body}
+use Rattle.wasm_modules.proofs.CodeBodyLaws.{Lawful-code-section-body, is_shortest_code}
+use Rattle.wasm_encoder.proofs.decode.CodeSectionDecode.is_lawful.Goals as goal
+
+pub returns : goal.returns
+returns c = record { lawful = Lawful-body Lawful-code-section-body; minimal = is_shortest_code }

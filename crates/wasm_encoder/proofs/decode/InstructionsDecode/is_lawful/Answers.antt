@@ -1,0 +1,6 @@
+use Rattle.wasm_codec.proofs.BodyLaws.{Lawful-to-end}
+use Rattle.wasm_instructions.proofs.InstructionFormatLaws.{Lawful-instruction, instruction_takes, are_shortest}
+use Rattle.wasm_encoder.proofs.decode.InstructionsDecode.is_lawful.Goals as goal
+
+pub returns : goal.returns
+returns c = record { lawful = Lawful-to-end Lawful-instruction instruction_takes; minimal = are_shortest }

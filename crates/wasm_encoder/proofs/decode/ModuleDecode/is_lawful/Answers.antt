@@ -1,0 +1,5 @@
+use Rattle.wasm_modules.proofs.ModuleFormatLaws.{Lawful-raw-module, is_shortest_module}
+use Rattle.wasm_encoder.proofs.decode.ModuleDecode.is_lawful.Goals as goal
+
+pub returns : goal.returns
+returns c = record { lawful = Lawful-raw-module; minimal = is_shortest_module }

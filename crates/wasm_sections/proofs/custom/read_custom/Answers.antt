@@ -1,0 +1,7 @@
+use Rattle.wasm_codec.proofs.DecodingLaws.{decodes}
+use Rattle.wasm_sections.specs.formats.EntryParts.{custom_parts}
+use Rattle.wasm_sections.proofs.CustomLaws.{custom_is_lawful}
+use Rattle.wasm_sections.proofs.custom.read_custom.Goals as goal
+
+pub returns : goal.returns
+returns c = record { decodes = decodes custom_is_lawful c.args.body.now custom_parts c.read_name_and_bytes.result c.read_name_and_bytes.ensures.reads; memory = c.read_name_and_bytes.ensures.memory }

@@ -1,0 +1,13 @@
+use Rattle.wasm_sections.specs.formats.EntryParts.{custom_parts}
+use Rattle.wasm_sections.specs.formats.Sections.{custom_body}
+use Rattle.wasm_sections.proofs.ValueReading.{refuses, returns_it}
+use Rattle.wasm_sections.proofs.CustomLaws.{custom_wanting, custom_there, all_taken}
+use Rattle.wasm_sections.proofs.custom.read_name_and_bytes.Goals as goal
+
+pub returns-in_default : goal.returns-in_default
+returns-in_default c = record { reads = refuses custom_parts custom_body c.args.body.now 0 (custom_wanting c.args.body.now c.new-cursor.result c.new-cursor.ensures c.read_name.new.cursor c.in_default.field-0 c.in_default.ensures.reads c.in_default.ensures.err); memory = tt }
+
+pub returns : goal.returns
+returns c =
+    let rest = all_taken c.in-Ok-take.bytes.now c.read_name.new.cursor.left c.len-left.result c.len-left.ensures c.in-Ok-take.ensures.ok.0 in
+    record { reads = returns_it custom_parts custom_body c.args.body.now (record { name = c.in-Ok.name; bytes = c.in-Ok-take.bytes }) (custom_there c.args.body.now c.new-cursor.result c.new-cursor.ensures c.in-Ok.name.now c.in-Ok-take.bytes.now c.read_name.new.cursor c.in-Ok.ensures.reads c.fork-start.ensures.bytes rest); memory = tt }
