@@ -15,7 +15,7 @@ class Interposed:
         """The program or the tests of this name, behind a C file of this folder, whose library is made in `room`."""
         self.path = ROOT / "crates" / name.removesuffix("_tests") / "out" / name
         if not self.path.is_file():
-            sys.exit(f"{self.path} isn't there: rt ci makes it\n0 passed, 1 failed")
+            sys.exit(f"{self.path} doesn't exist: rt ci makes it\n0 passed, 1 failed")
         self.library = room / f"{name}.so"
         words = [toolchain() / "clang", "-O1", "-shared", "-fPIC", "-fuse-ld=lld", "-o", self.library]
         subprocess.run([*words, ROOT / "scripts" / code], check=True)

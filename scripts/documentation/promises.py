@@ -76,7 +76,7 @@ PLUMBING = re.compile(r"""
     | HasAlignment | HasNo\w*List | If\w+ | IsAligned | IsAnswer | IsBodyOf | IsBytes | IsCanonicalForm
     | IsCount | IsDecodedSection | IsDelivery | IsEncoded | IsFull | IsJudgement | IsLawful | IsMemoryOrTooLong
     | IsNameOf | IsReadError | IsReadFailure | IsRefusedList | IsSection | IsShort | IsShortEncoding
-    | IsWithoutOffsets | NormalForm | OfBoth | OfItems | OnceAllIsRead | OnlyTooLong | Reads | Sees
+    | IsWithoutOffsets | NormalForm | OfBoth | OfItems | OnceAllIsRead | OnlyTooLong | Reads | ReadsAll | Sees
     | TakesBytes | WritesGiven
 """, re.X)
 NEVER_PLUMBING = ("IsRefusal", "IsLongestPrefix")

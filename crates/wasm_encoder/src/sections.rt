@@ -20,7 +20,7 @@ pub use wasm_builders::memories::MemorySection;
 pub use wasm_builders::numbers::{DataCountSection, StartSection};
 pub use wasm_builders::tables::TableSection;
 pub use wasm_builders::tags::TagSection;
-pub use wasm_sections::custom::CustomSection;
+pub use wasm_sections::custom::{CustomSection, read_custom};
 pub use wasm_sections::data::{DataSegment, DataSegmentMode};
 pub use wasm_sections::elements::{Element, ElementMode, Elements};
 pub use wasm_sections::exports::Export;
@@ -31,6 +31,7 @@ pub use wasm_sections::modules::{
     check_whole_module, count_longer_items, first_broken_item, first_broken_part,
     normalise_whole_module, read_whole_module, read_whole_module_strict, rewrite_whole_module,
 };
+pub use wasm_sections::numbers::{read_number, read_number_strict};
 pub use wasm_sections::tables::Table;
 pub use wasm_sections::types::{
     EntityType, ExportKind, GlobalType, MemoryType, TableType, TagKind, TagType,
