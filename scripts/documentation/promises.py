@@ -22,8 +22,7 @@ class Call:
 
 
 # Calls that belong to no group, despite the beginnings of their names.
-ALONE = ("check_list", "check_order", "normalise_list_to_end", "read_list_to_end", "read_list_to_end_as",
-         "read_strict", "rewrite_sized")
+ALONE = ("check_list_to_end", "check_order", "read_list_to_end", "read_strict", "rewrite_list_to_end", "rewrite_sized")
 GROUPED = re.compile(r"((?:nosgrivel_)?(?:read|normalise|rewrite|check|judge))_\w+?(_strict|_in_place)?$")
 
 
@@ -40,8 +39,8 @@ def group_of(entry, item):
 
 
 # Calls that serve implementations of Decode and Readable. The table leaves them out.
-OF_IMPLEMENTATIONS = re.compile(r"(Decode|Readable|RewritableBody|Rewriter|Cursor)::.*|check_list|normalise_list_to_end"
-                                r"|read_list_to_end_as|rewrite_sized")
+OF_IMPLEMENTATIONS = re.compile(r"(Decode|Readable|RewritableBody|Rewriter|Cursor)::.*|check_list_to_end"
+                                r"|read_list_to_end|rewrite_list_to_end|rewrite_sized")
 
 
 def ensured(item):
@@ -70,11 +69,11 @@ def all_calls(interface):
 # Relations that the table leaves out: parts of others, conditions for writing, reasons of errors, which the
 # documentation of the calls gives, and what implementations of Decode and Readable owe.
 PLUMBING = re.compile(r"""
-    (Is)?(Counted|Uncounted|Closed)\w* | IsClosed\w+ | StandsFor\w* | Holds\w+ | Is\w*Prefix(Of)?
+    (Is)?(Counted|Uncounted|Closed)\w* | IsClosed\w+ | StandsFor\w* | Holds\w+ | Is\w*Prefix(Of|MinimalIf)?
     | Is\w*Refusal\w* | IsNothingOr | AreClosed | AppendsPrefix | BeforeAnyWrite | CanEncodeList | Chain
-    | AskedList | EncodesList | EncodesSome | Entries | GainsAll | GainsBodies | GainsItems | GivesItems | GivesSome
+    | ListMinimalIf | EncodedItems | EncodesList | EncodesSome | GainsAll | GainsBodies | GainsItems | GivesItems | GivesSome
     | HasAlignment | HasNo\w*List | If\w+ | IsAligned | IsAnswer | IsBodyOf | IsBytes | IsCanonicalForm
-    | IsCount | IsDecodedSection | IsDelivery | IsEncoded | IsFull | IsJudgement | IsLawful | IsMemoryOrTooLong
+    | IsCount | IsTypedSection | IsDelivery | IsEncoded | IsFull | IsJudgement | IsLawful | IsMemoryOrTooLong
     | IsNameOf | IsReadError | IsReadFailure | IsRefusedList | IsSection | IsShort | IsShortEncoding
     | IsWithoutOffsets | NormalForm | OfBoth | OfItems | OnceAllIsRead | OnlyTooLong | Reads | ReadsAll | Sees
     | TakesBytes | WritesGiven

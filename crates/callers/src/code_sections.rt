@@ -1,6 +1,6 @@
 //! Code sections that are filled, written and read back.
 ghost use Rattle.std.specs.Prelude.{◌≡◌, ◌++◌, ◌∷◌, [], List, OnOk};
-ghost use Rattle.wasm_encoder.specs.Answers.{IsOrMemory};
+ghost use Rattle.wasm_encoder.specs.Outcomes.{IsOrMemory};
 ghost use Rattle.wasm_encoder.specs.CodeSections.{FunctionStandsFor, StandsForBodies, followed};
 ghost use Rattle.wasm_encoder.specs.EncodedLists.{CountedSection, body_bytes};
 ghost use Rattle.wasm_encoder.specs.ModuleFormats.{raw_module};

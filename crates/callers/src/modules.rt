@@ -1,10 +1,10 @@
 //! Type sections in modules, and modules that are minimally encoded.
 ghost use Rattle.std.specs.Prelude.{◌≡◌, ◌++◌, ◌∷◌, [], List, OnOk};
 ghost use Rattle.std.specs.List.{AllByRecursion};
-ghost use Rattle.wasm_encoder.specs.Answers.{IsOrMemory};
-ghost use Rattle.wasm_encoder.specs.DecodedModules.{IsDecodedSection};
-ghost use Rattle.wasm_encoder.specs.ModuleFormats.{decoded_module, raw_module};
-ghost use Rattle.wasm_encoder.specs.Sections.{DecodedSection, SectionParts, section_of};
+ghost use Rattle.wasm_encoder.specs.Outcomes.{IsOrMemory};
+ghost use Rattle.wasm_encoder.specs.TypedModules.{IsTypedSection};
+ghost use Rattle.wasm_encoder.specs.ModuleFormats.{typed_module, raw_module};
+ghost use Rattle.wasm_encoder.specs.Sections.{TypedSection, SectionParts, section_of};
 ghost use Rattle.wasm_encoder.specs.EncodedLists.{body_bytes};
 
 use std::alloc::Global;
@@ -20,8 +20,8 @@ pub fn written(types: &TypeSection, built: &mut Module) -> Result<(), EncodeErro
 
 /// Normalises a minimally encoded module, which stays as it is.
 pub fn normalised(alloc: Global, bytes: &[u8]) -> Result<Vec<u8>, ReadError>
-    ensures { (sections : List DecodedSection) → AllByRecursion IsDecodedSection sections →
-        bytes.now ≡ decoded_module.bytes sections → IsOrMemory (λ given. given.items) bytes.now result }
+    ensures { (sections : List TypedSection) → AllByRecursion IsTypedSection sections →
+        bytes.now ≡ typed_module.bytes sections → IsOrMemory (λ given. given.items) bytes.now result }
 {
     normalise_module(alloc, bytes)
 }

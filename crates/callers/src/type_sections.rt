@@ -1,6 +1,6 @@
 //! Type sections that are filled, written and read back.
 ghost use Rattle.std.specs.Prelude.{◌≡◌, ◌++◌, ◌∷◌, [], List, OnOk};
-ghost use Rattle.wasm_encoder.specs.Answers.{IsOrMemory};
+ghost use Rattle.wasm_encoder.specs.Outcomes.{IsOrMemory};
 ghost use Rattle.wasm_encoder.specs.EncodedLists.{body_bytes};
 ghost use Rattle.wasm_encoder.specs.TypeFormats.{type_body};
 ghost use Rattle.wasm_encoder.specs.TypeSections.{StandsFor, final_entry};

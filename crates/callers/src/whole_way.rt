@@ -1,6 +1,6 @@
 //! A type section from its first entry to reading it back out of a module.
 ghost use Rattle.std.specs.Prelude.{◌≡◌, ◌++◌, ◌∷◌, [], List, IfOk, OnOk};
-ghost use Rattle.wasm_encoder.specs.Answers.{IsOrMemory};
+ghost use Rattle.wasm_encoder.specs.Outcomes.{IsOrMemory};
 ghost use Rattle.wasm_encoder.specs.EncodedLists.{CountedSection, GivesItems, body_bytes};
 ghost use Rattle.wasm_encoder.specs.ModuleFormats.{raw_module};
 ghost use Rattle.wasm_encoder.specs.Sections.{all_parts_of, header, section_of};

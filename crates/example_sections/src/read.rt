@@ -3,13 +3,13 @@ ghost use Rattle.std.specs.Prelude.{◌≡◌, List, ℕ, IfErr, refl, true};
 ghost use Rattle.std.proofs.lemmas.List.{map_push};
 ghost use Rattle.wasm_codec.specs.Reading.{map_ok};
 ghost use Rattle.wasm_codec.specs.declared.reader.cursor.Fault.TheVariants.{Malformed};
-ghost use Rattle.wasm_encoder.specs.Answers.{NeedsNoMemory};
+ghost use Rattle.wasm_encoder.specs.Outcomes.{NeedsNoMemory};
 ghost use Rattle.wasm_encoder.specs.Bodies.{byte_list, bytes_to_end};
 ghost use Rattle.wasm_encoder.specs.Combinators.{items};
 ghost use Rattle.wasm_encoder.specs.Decoding.{IsMinimal, ChecksAll, RewritesAll};
 ghost use Rattle.wasm_encoder.specs.Grammar.{TakesBytes};
 ghost use Rattle.wasm_encoder.specs.Lawful.{IsLawful, IsLawfulBody};
-ghost use Rattle.wasm_encoder.specs.Lists.{AskedList, IsListPrefix, IsAskedPrefix};
+ghost use Rattle.wasm_encoder.specs.Lists.{ListMinimalIf, IsListPrefix, IsListPrefixMinimalIf};
 ghost use Rattle.wasm_encoder.specs.Places.{Reads};
 ghost use Rattle.wasm_encoder.specs.Rewriter.{Rewrites};
 ghost use Rattle.example_sections.specs.Exports.{export, parts_of, all_parts_of};
@@ -17,7 +17,7 @@ ghost use Rattle.example_sections.specs.Exports.{export, parts_of, all_parts_of}
 use crate::exports::{ExportSection, FUNCTION};
 use std::alloc::Global;
 use wasm_encoder::reader::{
-    Item, RewritableBody, Rewriter, check_list, normalise_list_to_end, read_list_to_end_as,
+    Item, RewritableBody, Rewriter, check_list_to_end, rewrite_list_to_end,
     rewrite_sized,
 };
 use wasm_encoder::{Cursor, Decode, Fault, ReadError, Readable, read_list_to_end};
@@ -119,35 +119,35 @@ impl<'a> Decode<'a> for ExportSection<'a> {
 
     ghost format = { items export };
 
-    ghost Minimal = { AskedList true export };
+    ghost Minimal = { ListMinimalIf true export };
 
     ghost IsPrefix = { IsListPrefix export.Encodes };
 
-    ghost IsMinimalPrefix = { IsAskedPrefix true export };
+    ghost IsMinimalPrefix = { IsListPrefixMinimalIf true export };
 
     fn is_lawful()
         ensures lawful { IsLawfulBody (items export) }
-        ensures minimal { IsMinimal (items export) (AskedList true export) }
+        ensures minimal { IsMinimal (items export) (ListMinimalIf true export) }
     {}
 
     fn read_all(alloc: Global, bytes: &'a [u8]) -> Result<Vec<ReadExport<'a>>, ReadError> {
-        read_list_to_end(alloc, bytes)
+        read_list_to_end::<ReadExport<'_>, false>(alloc, bytes)
     }
 
     fn read_all_strict(alloc: Global, bytes: &'a [u8]) -> Result<Vec<ReadExport<'a>>, ReadError> {
-        read_list_to_end_as::<ReadExport<'_>, true>(alloc, bytes)
+        read_list_to_end::<ReadExport<'_>, true>(alloc, bytes)
     }
 
     fn check_all(alloc: Global, bytes: &[u8]) -> Result<(), ReadError>
-        ensures checks { ChecksAll (AskedList true export) (IsAskedPrefix true export) bytes.now result }
+        ensures checks { ChecksAll (ListMinimalIf true export) (IsListPrefixMinimalIf true export) bytes.now result }
     {
-        check_list::<Item<'_, ReadExport<'_>>>(alloc, bytes)
+        check_list_to_end::<Item<'_, ReadExport<'_>>>(alloc, bytes)
     }
 
     fn rewrite_all(bytes: Vec<u8>) -> Result<Vec<u8>, ReadError>
         ensures rewrites { RewritesAll (items export) (IsListPrefix export.Encodes) bytes.items result }
         ensures memory { NeedsNoMemory result }
     {
-        normalise_list_to_end::<Item<'_, ReadExport<'_>>>(bytes)
+        rewrite_list_to_end::<Item<'_, ReadExport<'_>>>(bytes)
     }
 }

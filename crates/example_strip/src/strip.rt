@@ -1,6 +1,6 @@
 //! Modules without their custom sections.
 ghost use Rattle.std.specs.Prelude.{◌≡◌, List, IfOk};
-ghost use Rattle.wasm_encoder.specs.Answers.{IfRefused, IsLongestPrefix, IsOrMemory};
+ghost use Rattle.wasm_encoder.specs.Outcomes.{IfRefused, IsLongestPrefix, IsOrMemory};
 ghost use Rattle.wasm_encoder.specs.ModuleFormats.{raw_module};
 ghost use Rattle.wasm_encoder.specs.Modules.{IsModulePrefix};
 ghost use Rattle.wasm_encoder.specs.Sections.{SectionParts, all_parts_of};

@@ -3,7 +3,7 @@ use Rattle.std.proofs.Common.{◌≡◌, ℕ, List, length, Result, Ok, Err, inl
 use Rattle.wasm_codec.specs.declared.reader.ReadError.{ReadError}
 use Rattle.wasm_codec.specs.declared.reader.ReadError.TheVariants as errors
 use Rattle.wasm_codec.specs.formats.Grammar.{Grammar}
-use Rattle.wasm_codec.specs.Answers.{IsOrMemory, EncodesSome, IfRefused}
+use Rattle.wasm_codec.specs.Outcomes.{IsOrMemory, EncodesSome, IfRefused}
 use Rattle.nosgrivel_c.specs.declared.delivery.TheConstants.{REFUSED}
 use Rattle.nosgrivel_c.specs.Delivery.{TellsRefusal, IsDelivered, IsJudged, IsChecked}
 

@@ -1,6 +1,6 @@
 //! Lists of instructions (Core 3.0, Instructions).
 ghost use Rattle.std.specs.Prelude.{◌≡◌, ◌≤◌, ◌≢◌, length};
-ghost use Rattle.wasm_codec.specs.Answers.{IsLongestPrefix, IsNormalForm, EncodesSome};
+ghost use Rattle.wasm_codec.specs.Outcomes.{IsLongestPrefix, IsNormalForm, EncodesSome};
 ghost use Rattle.wasm_instructions.specs.formats.Instructions.{Instructions, ShortestInstructions, instructions_bytes};
 ghost use Rattle.nosgrivel_c.specs.Delivery.{BeginsWithNormal, IsOutputTooShort, IsShorter, IsDelivery, IsAnswer, IsJudgement};
 ghost use Rattle.nosgrivel_c.specs.declared.delivery.TheConstants.{NORMAL, REFUSED, NOT_NORMAL, NO_MEMORY, TOO_LONG};

@@ -1,8 +1,8 @@
 //! Modules (Core 3.0, Modules). The bodies of sections other than type and code sections are not decoded.
 ghost use Rattle.std.specs.Prelude.{◌≡◌, ◌≤◌, ◌≢◌, length};
-ghost use Rattle.wasm_codec.specs.Answers.{IsLongestPrefix, IsNormalForm, EncodesSome};
-ghost use Rattle.wasm_modules.specs.formats.Modules.{decoded_module, ShortestModule};
-ghost use Rattle.wasm_modules.specs.DecodedModules.{IsDecodedModulePrefix};
+ghost use Rattle.wasm_codec.specs.Outcomes.{IsLongestPrefix, IsNormalForm, EncodesSome};
+ghost use Rattle.wasm_modules.specs.formats.Modules.{typed_module, ShortestModule};
+ghost use Rattle.wasm_modules.specs.TypedModules.{IsTypedModulePrefix};
 ghost use Rattle.wasm_modules.specs.Modules.{IsShortestModulePrefix};
 ghost use Rattle.nosgrivel_c.specs.Delivery.{BeginsWithNormal, IsOutputTooShort, IsShorter, IsDelivery, IsAnswer, IsJudgement};
 ghost use Rattle.nosgrivel_c.specs.declared.delivery.TheConstants.{NORMAL, REFUSED, NOT_NORMAL, NO_MEMORY, TOO_LONG};
@@ -26,13 +26,13 @@ pub extern "C" fn nosgrivel_normalise_module(
 ) -> u32
     // The output begins with the minimal encoding of the input, and the count is its length.
     ensures written { result ≡ NORMAL →
-        BeginsWithNormal (IsNormalForm decoded_module.Encodes decoded_module.bytes input.now) output.old output.new count.new }
+        BeginsWithNormal (IsNormalForm typed_module.Encodes typed_module.bytes input.now) output.old output.new count.new }
     // Only a malformed input is refused, and the count is the length of the longest prefix that decodes.
-    ensures refused { result ≡ REFUSED → IsLongestPrefix IsDecodedModulePrefix input.now count.new }
-    ensures encodes_none { result ≡ REFUSED → EncodesSome decoded_module.Encodes input.now → ⊥ }
+    ensures refused { result ≡ REFUSED → IsLongestPrefix IsTypedModulePrefix input.now count.new }
+    ensures encodes_none { result ≡ REFUSED → EncodesSome typed_module.Encodes input.now → ⊥ }
     // The minimal encoding is longer than the output, and the count is its length.
     ensures too_long { result ≡ TOO_LONG →
-        IsOutputTooShort (IsNormalForm decoded_module.Encodes decoded_module.bytes input.now) output.old count.new }
+        IsOutputTooShort (IsNormalForm typed_module.Encodes typed_module.bytes input.now) output.old count.new }
     // The output is never too short if it is as long as the input.
     ensures room { length input.now ≤ length output.old → result ≢ TOO_LONG }
     // Unless the status is `NORMAL`, the output is unchanged.
@@ -56,10 +56,10 @@ pub extern "C" fn nosgrivel_normalise_module_in_place(
 ) -> u32
     // The bytes begin with their minimal encoding, and the count is its length.
     ensures written { result ≡ NORMAL →
-        BeginsWithNormal (IsNormalForm decoded_module.Encodes decoded_module.bytes bytes.old) bytes.old bytes.new count.new }
+        BeginsWithNormal (IsNormalForm typed_module.Encodes typed_module.bytes bytes.old) bytes.old bytes.new count.new }
     // Only a malformed input is refused, and the count is the length of the longest prefix that decodes.
-    ensures refused { result ≡ REFUSED → IsLongestPrefix IsDecodedModulePrefix bytes.old count.new }
-    ensures encodes_none { result ≡ REFUSED → EncodesSome decoded_module.Encodes bytes.old → ⊥ }
+    ensures refused { result ≡ REFUSED → IsLongestPrefix IsTypedModulePrefix bytes.old count.new }
+    ensures encodes_none { result ≡ REFUSED → EncodesSome typed_module.Encodes bytes.old → ⊥ }
     // Unless the status is `NORMAL`, the bytes are unchanged.
     ensures unchanged { result ≢ NORMAL → bytes.new ≡ bytes.old }
     // If memory ran out, the count is unchanged.
@@ -75,14 +75,14 @@ pub extern "C" fn nosgrivel_normalise_module_in_place(
 #[unsafe(no_mangle)]
 pub extern "C" fn nosgrivel_judge_module(alloc: Global, input: &[u8], count: &mut usize) -> u32
     // The input is its own minimal encoding, and the count is its length.
-    ensures normal { result ≡ NORMAL → IsNormalForm decoded_module.Encodes decoded_module.bytes input.now input.now }
+    ensures normal { result ≡ NORMAL → IsNormalForm typed_module.Encodes typed_module.bytes input.now input.now }
     ensures len { result ≡ NORMAL → count.new ≡ length input.now }
     // The minimal encoding is shorter than the input, and the count is its length.
     ensures shorter { result ≡ NOT_NORMAL →
-        IsShorter (IsNormalForm decoded_module.Encodes decoded_module.bytes input.now) input.now count.new }
+        IsShorter (IsNormalForm typed_module.Encodes typed_module.bytes input.now) input.now count.new }
     // Only a malformed input is refused, and the count is the length of the longest prefix that decodes.
-    ensures refused { result ≡ REFUSED → IsLongestPrefix IsDecodedModulePrefix input.now count.new }
-    ensures encodes_none { result ≡ REFUSED → EncodesSome decoded_module.Encodes input.now → ⊥ }
+    ensures refused { result ≡ REFUSED → IsLongestPrefix IsTypedModulePrefix input.now count.new }
+    ensures encodes_none { result ≡ REFUSED → EncodesSome typed_module.Encodes input.now → ⊥ }
     // If memory ran out, the count is unchanged.
     ensures no_memory { result ≡ NO_MEMORY → count.new ≡ count.old }
     // No other status is returned.

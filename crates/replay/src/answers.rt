@@ -5,7 +5,7 @@ use crate::columns::columns;
 use crate::mismatch::Mismatch;
 use crate::readers::{normalise, read};
 use crate::words::runs;
-use crate::written::{Written, check_list, check_written};
+use crate::written::{Written, check_list_to_end, check_written};
 use std::alloc::Global;
 use wasm_encoder::read_instructions;
 
@@ -51,7 +51,7 @@ fn check_calls(alloc: Global, what: &str, input: &[u8], normal: &[u8]) -> Result
     if (1..1000).contains(&normal.len()) {
         check_written(alloc, calls, normal)
     } else {
-        check_list(alloc, &mut Vec::new(alloc), calls, normal)
+        check_list_to_end(alloc, &mut Vec::new(alloc), calls, normal)
     }
 }
 

@@ -26,7 +26,7 @@ pub enum Written<'a> {
 
 /// The bytes are written to an empty list, and after another byte, whichever requests for memory are refused before.
 pub fn check_written(alloc: Global, written: Written<'_>, bytes: &[u8]) -> Result<(), Mismatch> {
-    check_list(alloc, &mut Vec::new(alloc), written, bytes)?;
+    check_list_to_end(alloc, &mut Vec::new(alloc), written, bytes)?;
     for granted in 0..16 {
         if is_written(alloc, granted, written, bytes)? {
             return if granted > 1 {
@@ -48,11 +48,11 @@ pub fn check_growth(
 ) -> Result<(), Mismatch> {
     let ration = Rationed::new(alloc, 1);
     let mut list = Vec::with_capacity(&ration, room)?;
-    check_list(alloc, &mut list, written, bytes)
+    check_list_to_end(alloc, &mut list, written, bytes)
 }
 
 /// The bytes are written to this list, which is empty.
-pub fn check_list<A: Allocator>(
+pub fn check_list_to_end<A: Allocator>(
     alloc: Global,
     list: &mut Vec<u8, A>,
     written: Written<'_>,

@@ -10,7 +10,7 @@ use Rattle.wasm_instructions.specs.declared.table.call.Operands.TheVariants as o
 use Rattle.wasm_instructions.specs.declared.table.call.Operands.{Operands}
 use Rattle.wasm_sections.specs.Closed.{IsClosed}
 use Rattle.wasm_sections.specs.formats.Expressions.{nested_by}
-use Rattle.wasm_sections.specs.formats.Parts.{goes_on}
+use Rattle.wasm_sections.specs.formats.PartCombinators.{goes_on}
 
 pub is_i32_const : (value : ℤ) → IsCall (without_prefix 0x41) (operands.I32 value)
 unfolding ranges

@@ -11,7 +11,7 @@ use Rattle.wasm_codec.proofs.NumberLaws.{written}
 use Rattle.wasm_sections.specs.formats.ModuleSectionParts.{ModuleSectionParts, data_count, start}
 use Rattle.wasm_sections.specs.SectionBytes.{IsBodyOf, IsSectionAfter}
 use Rattle.wasm_sections.proofs.SectionWriting.{data_count_section, section_written, start_section}
-use Rattle.wasm_writers.specs.EncodedLists.{Entries, IsFull, IsMemoryOrTooLong, IsRefusalOfOne, IsUncounted}
+use Rattle.wasm_writers.specs.EncodedLists.{EncodedItems, IsFull, IsMemoryOrTooLong, IsRefusalOfOne, IsUncounted}
 use Rattle.wasm_writers.proofs.EncodedListLaws.{both_or, counted_or, of_one}
 
 pub index_is_lawful : IsLawful u32
@@ -35,21 +35,21 @@ data_count_written n fits = number_section 12 data_count data_count_section n fi
 
 -- ---- why an item isn't added
 
-pub named_refused : {T : Type 0} (name : T → List ℕ) (old : Entries) (value : T) (e : EncodeError) → IsRefusalOfOne (λ v. IsCount (length (name v))) OnlyTooLong old value e → IsMemoryOrTooLong (IsFull old ⊎ IsUncounted (length (name value))) e
+pub named_refused : {T : Type 0} (name : T → List ℕ) (old : EncodedItems) (value : T) (e : EncodeError) → IsRefusalOfOne (λ v. IsCount (length (name v))) OnlyTooLong old value e → IsMemoryOrTooLong (IsFull old ⊎ IsUncounted (length (name value))) e
 named_refused name old value e refused = of_one (λ v. IsCount (length (name v))) old value e (counted_or (length (name value))) refused
 
 -- what can always be written isn't too long
-pub always_counted : {T : Type 0} (Can : T → Type 0) (old : Entries) (value : T) (e : EncodeError) → Can value → IsRefusalOfOne Can OnlyTooLong old value e → IsMemoryOrTooLong (IsFull old) e
+pub always_counted : {T : Type 0} (Can : T → Type 0) (old : EncodedItems) (value : T) (e : EncodeError) → Can value → IsRefusalOfOne Can OnlyTooLong old value e → IsMemoryOrTooLong (IsFull old) e
 always_counted Can old value e can (inl refused) = refused
 always_counted Can old value e can (inr (cannot, is)) = absurd (cannot can)
 
 -- it can't be written
-pub cannot_be_written : {T : Type 0} (Can : T → Type 0) (old : Entries) (value : T) (e : EncodeError) → IsRefusalOfOne Can OnlyTooLong old value e → IsMemoryOrTooLong (IsFull old ⊎ (Can value → ⊥)) e
+pub cannot_be_written : {T : Type 0} (Can : T → Type 0) (old : EncodedItems) (value : T) (e : EncodeError) → IsRefusalOfOne Can OnlyTooLong old value e → IsMemoryOrTooLong (IsFull old ⊎ (Can value → ⊥)) e
 cannot_be_written Can old value e (inl (inl memory)) = inl memory
 cannot_be_written Can old value e (inl (inr (is, full))) = inr (is, inl full)
 cannot_be_written Can old value e (inr (cannot, is)) = inr (is, inr cannot)
 
-pub twice_named_refused : {T : Type 0} (first second : T → List ℕ) (old : Entries) (value : T) (e : EncodeError) → IsRefusalOfOne (λ v. IsCount (length (first v)) × IsCount (length (second v))) OnlyTooLong old value e
+pub twice_named_refused : {T : Type 0} (first second : T → List ℕ) (old : EncodedItems) (value : T) (e : EncodeError) → IsRefusalOfOne (λ v. IsCount (length (first v)) × IsCount (length (second v))) OnlyTooLong old value e
     → IsMemoryOrTooLong (IsFull old ⊎ (IsUncounted (length (first value)) ⊎ IsUncounted (length (second value)))) e
 twice_named_refused first second old value e refused =
     of_one (λ v. IsCount (length (first v)) × IsCount (length (second v))) old value e (both_or (counted_or (length (first value))) (counted_or (length (second value)))) refused

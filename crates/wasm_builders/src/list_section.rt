@@ -7,19 +7,19 @@ ghost use Rattle.wasm_codec.specs.formats.Combinators.{Format, items};
 ghost use Rattle.wasm_codec.specs.declared.encode.EncodeError.TheVariants.{Memory, TooLong};
 ghost use Rattle.wasm_sections.specs.formats.ModuleSectionParts.{ModuleSectionParts};
 ghost use Rattle.wasm_sections.specs.SectionBytes.{IsBodyOf};
-ghost use Rattle.wasm_writers.specs.EncodedLists.{Entries, CountedSection, IsRefusalOfOne, IsRefusalOfEach, body_bytes};
+ghost use Rattle.wasm_writers.specs.EncodedLists.{EncodedItems, CountedSection, IsRefusalOfOne, IsRefusalOfEach, body_bytes};
 ghost use Rattle.wasm_builders.specs.ListSections.{StandsForItems, GainsItem, GainsItems, HoldsItems, IsSectionOfItems};
 ghost use Rattle.wasm_codec.specs.Decoding.{ChecksAll, RewritesAll, IsMinimal};
-ghost use Rattle.wasm_codec.specs.Answers.{NeedsNoMemory};
-ghost use Rattle.wasm_codec.specs.Lists.{AskedList, IsListPrefix, IsAskedPrefix};
+ghost use Rattle.wasm_codec.specs.Outcomes.{NeedsNoMemory};
+ghost use Rattle.wasm_codec.specs.Lists.{ListMinimalIf, IsListPrefix, IsListPrefixMinimalIf};
 
 use std::alloc::{Allocator, Global};
 use std::marker::{Model, PhantomData};
 use wasm_codec::decode::Decode;
 use wasm_codec::reader::ReadError;
-use wasm_codec::rewriter::normalise_list_to_end;
-use wasm_readers::checks::check_list;
-use wasm_readers::lists::{read_list_to_end, read_list_to_end_as};
+use wasm_codec::rewriter::rewrite_list_to_end;
+use wasm_readers::checks::check_list_to_end;
+use wasm_readers::lists::read_list_to_end;
 use wasm_readers::readable::{Item, Readable};
 use wasm_writers::encode::{Encode, EncodeError};
 use wasm_writers::encoded_list::EncodedList;
@@ -97,9 +97,9 @@ pub struct ListSection<T: SectionItem> {
 }
 
 impl<T: SectionItem> Model for ListSection<T> {
-    ghost use Rattle.wasm_writers.specs.EncodedLists.{Entries};
+    ghost use Rattle.wasm_writers.specs.EncodedLists.{EncodedItems};
 
-    ghost Value = { Entries };
+    ghost Value = { EncodedItems };
 
     ghost view = { λ section. section.items };
 }
@@ -184,39 +184,39 @@ impl<'a, T: SectionItem + Readable<'a>> Decode<'a> for ListSection<T> {
 
     ghost format = { items T.Readable.format };
 
-    ghost Minimal = { AskedList true T.Readable.format };
+    ghost Minimal = { ListMinimalIf true T.Readable.format };
 
     ghost IsPrefix = { IsListPrefix T.Readable.format.Encodes };
 
-    ghost IsMinimalPrefix = { IsAskedPrefix true T.Readable.format };
+    ghost IsMinimalPrefix = { IsListPrefixMinimalIf true T.Readable.format };
 
     #[inline(always)]
     fn is_lawful()
         ensures lawful { IsLawfulBody (items T.Readable.format) }
-        ensures minimal { IsMinimal (items T.Readable.format) (AskedList true T.Readable.format) }
+        ensures minimal { IsMinimal (items T.Readable.format) (ListMinimalIf true T.Readable.format) }
     {
         <T as Readable>::is_lawful();
     }
 
     fn read_all(alloc: Global, bytes: &'a [u8]) -> Result<Vec<T>, ReadError> {
-        read_list_to_end(alloc, bytes)
+        read_list_to_end::<T, false>(alloc, bytes)
     }
 
     fn read_all_strict(alloc: Global, bytes: &'a [u8]) -> Result<Vec<T>, ReadError> {
-        read_list_to_end_as::<T, true>(alloc, bytes)
+        read_list_to_end::<T, true>(alloc, bytes)
     }
 
     fn check_all(alloc: Global, bytes: &[u8]) -> Result<(), ReadError>
-        ensures checks { ChecksAll (AskedList true T.Readable.format) (IsAskedPrefix true T.Readable.format) bytes.now result }
+        ensures checks { ChecksAll (ListMinimalIf true T.Readable.format) (IsListPrefixMinimalIf true T.Readable.format) bytes.now result }
     {
-        check_list::<Item<'a, T>>(alloc, bytes)
+        check_list_to_end::<Item<'a, T>>(alloc, bytes)
     }
 
     fn rewrite_all(bytes: Vec<u8>) -> Result<Vec<u8>, ReadError>
         ensures rewrites { RewritesAll (items T.Readable.format) (IsListPrefix T.Readable.format.Encodes) bytes.items result }
         ensures memory { NeedsNoMemory result }
     {
-        normalise_list_to_end::<Item<'a, T>>(bytes)
+        rewrite_list_to_end::<Item<'a, T>>(bytes)
     }
 }
 

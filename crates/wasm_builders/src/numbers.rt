@@ -1,5 +1,5 @@
 //! Sections that are one number (Core 3.0, Start Section and Data Count Section).
-ghost use Rattle.std.specs.Prelude.{◌≡◌, ◌++◌, OnOk, IfErr, OnErr, ℕ};
+ghost use Rattle.std.specs.Prelude.{◌≡◌, ◌++◌, OnOk, IfErr, OnErr, ℕ, ⊤};
 ghost use Rattle.wasm_codec.specs.Encoding.{byte_list_bytes, IsShortest};
 ghost use Rattle.wasm_codec.specs.Leb128.{unsigned_leb128};
 ghost use Rattle.wasm_codec.specs.declared.encode.EncodeError.TheVariants.{Memory};
@@ -8,8 +8,8 @@ ghost use Rattle.wasm_sections.specs.SectionBytes.{IsSectionAfter};
 ghost use Rattle.wasm_sections.specs.formats.Sections.{start_body, data_count_body};
 ghost use Rattle.wasm_codec.specs.Decoding.{ChecksAll, RewritesAll, IsMinimal};
 ghost use Rattle.wasm_codec.specs.Lawful.{IsLawfulBody};
-ghost use Rattle.wasm_codec.specs.Answers.{NeedsNoMemory};
-ghost use Rattle.wasm_codec.specs.formats.Combinators.{narrow};
+ghost use Rattle.wasm_codec.specs.Outcomes.{NeedsNoMemory};
+ghost use Rattle.wasm_codec.specs.formats.Combinators.{minimal_only};
 ghost use Rattle.wasm_sections.specs.Prefixes.{IsNothingOr};
 
 use std::alloc::{Allocator, Global};
@@ -100,17 +100,19 @@ impl<'a> Decode<'a> for StartSection {
 
     ghost format = { start_body };
 
-    ghost Minimal = { (narrow start_body).Encodes };
+    ghost Minimal = { (minimal_only start_body).Encodes };
 
     ghost IsPrefix = { IsNothingOr start_body };
 
-    ghost IsMinimalPrefix = { IsNothingOr (narrow start_body) };
+    ghost IsMinimalPrefix = { IsNothingOr (minimal_only start_body) };
+
+    ghost ReadsInPlace = { ⊤ };
 
     #[inline(always)]
     #[tactic(auto, using(wasm_sections::proofs::ValueReading::number_is_lawful), unfolding(wasm_sections::specs::formats::Sections::start_body))]
     fn is_lawful()
         ensures lawful { IsLawfulBody start_body }
-        ensures minimal { IsMinimal start_body (narrow start_body).Encodes }
+        ensures minimal { IsMinimal start_body (minimal_only start_body).Encodes }
     {}
 
     fn read_all(_alloc: Global, bytes: &'a [u8]) -> Result<StartSection, ReadError> {
@@ -128,7 +130,7 @@ impl<'a> Decode<'a> for StartSection {
     }
 
     fn check_all(_alloc: Global, bytes: &[u8]) -> Result<(), ReadError>
-        ensures checks { ChecksAll (narrow start_body).Encodes (IsNothingOr (narrow start_body)) bytes.now result }
+        ensures checks { ChecksAll (minimal_only start_body).Encodes (IsNothingOr (minimal_only start_body)) bytes.now result }
     {
         match read_number_strict(bytes) {
             Ok(_) => Ok(()),
@@ -154,17 +156,19 @@ impl<'a> Decode<'a> for DataCountSection {
 
     ghost format = { data_count_body };
 
-    ghost Minimal = { (narrow data_count_body).Encodes };
+    ghost Minimal = { (minimal_only data_count_body).Encodes };
 
     ghost IsPrefix = { IsNothingOr data_count_body };
 
-    ghost IsMinimalPrefix = { IsNothingOr (narrow data_count_body) };
+    ghost IsMinimalPrefix = { IsNothingOr (minimal_only data_count_body) };
+
+    ghost ReadsInPlace = { ⊤ };
 
     #[inline(always)]
     #[tactic(auto, using(wasm_sections::proofs::ValueReading::number_is_lawful), unfolding(wasm_sections::specs::formats::Sections::data_count_body))]
     fn is_lawful()
         ensures lawful { IsLawfulBody data_count_body }
-        ensures minimal { IsMinimal data_count_body (narrow data_count_body).Encodes }
+        ensures minimal { IsMinimal data_count_body (minimal_only data_count_body).Encodes }
     {}
 
     fn read_all(_alloc: Global, bytes: &'a [u8]) -> Result<DataCountSection, ReadError> {
@@ -182,7 +186,7 @@ impl<'a> Decode<'a> for DataCountSection {
     }
 
     fn check_all(_alloc: Global, bytes: &[u8]) -> Result<(), ReadError>
-        ensures checks { ChecksAll (narrow data_count_body).Encodes (IsNothingOr (narrow data_count_body)) bytes.now result }
+        ensures checks { ChecksAll (minimal_only data_count_body).Encodes (IsNothingOr (minimal_only data_count_body)) bytes.now result }
     {
         match read_number_strict(bytes) {
             Ok(_) => Ok(()),

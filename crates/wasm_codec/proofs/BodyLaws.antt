@@ -8,7 +8,7 @@ use Rattle.wasm_codec.specs.formats.Grammar.{Grammar, IsBytes, After, Joined}
 use Rattle.wasm_codec.specs.Reading.{◌>>=◌}
 use Rattle.wasm_codec.specs.Encoding.{IsShortestOrLonger}
 use Rattle.wasm_codec.specs.formats.Numbers.{EncodesU32}
-use Rattle.wasm_codec.specs.Leb128.{turned, digits_of, unsigned_leb128}
+use Rattle.wasm_codec.specs.Leb128.{complemented, digits_of, unsigned_leb128}
 use Rattle.wasm_codec.proofs.Laws.{bind_some, some, some_is, in_a_row, least_then, IsBytes-after, Shortest-then, Shortest-map, Shortest-for}
 use Rattle.wasm_codec.specs.Reading.{BeginsWith}
 use Rattle.wasm_codec.proofs.Joining.{Shortest-joined}
@@ -178,7 +178,7 @@ unfolding digits_of
 digits_of-mono turn top zero n m le = omega arith
 digits_of-mono turn top (suc more) n m le = by (digits_of-mono turn top more (n / 128) (m / 128) (omega arith)) (ltb n top) refl (ltb m top) refl where
   by : length (digits_of turn top more (n / 128)) ≤ length (digits_of turn top more (m / 128)) → (s : Bool) → ltb n top ≡ s → (t : Bool) → ltb m top ≡ t
-      → length (cond s (turned turn n ∷ []) ((128 + turned turn (n % 128)) ∷ digits_of turn top more (n / 128))) ≤ length (cond t (turned turn m ∷ []) ((128 + turned turn (m % 128)) ∷ digits_of turn top more (m / 128)))
+      → length (cond s (complemented turn n ∷ []) ((128 + complemented turn (n % 128)) ∷ digits_of turn top more (n / 128))) ≤ length (cond t (complemented turn m ∷ []) ((128 + complemented turn (m % 128)) ∷ digits_of turn top more (m / 128)))
   by fewer true small true less = omega arith
   by fewer true small false less = omega arith
   by fewer false small true less = absurd (omega (arith, ltb-false _ _ small, ltb-true _ _ less))

@@ -4,13 +4,13 @@ use Rattle.std.proofs.lemmas.Bool.{lt-ltb, le-ltb}
 use Rattle.std.proofs.lemmas.List.{take_at, drop_at, length-take-le, length-drop, take-append-drop, drop-drop}
 use Rattle.std.specs.List.{flat_map}
 use Rattle.wasm_codec.specs.formats.Grammar.{IsBytes, TakesBytes, Joined}
-use Rattle.wasm_codec.specs.Answers.{IsLongestPrefix, IsNormalForm, EncodesSome}
+use Rattle.wasm_codec.specs.Outcomes.{IsLongestPrefix, IsNormalForm, EncodesSome}
 use Rattle.wasm_codec.specs.Lawful.{IsLawful, IsLawfulBody}
 use Rattle.wasm_codec.specs.Leb128.{unsigned_leb128}
 use Rattle.wasm_codec.specs.Places.{place}
 use Rattle.wasm_codec.specs.formats.Combinators.{Format, u32}
 use Rattle.wasm_codec.specs.formats.Bodies.{body_at, sized, to_end}
-use Rattle.wasm_codec.specs.Rewriter.{Rewriting, rewriting, rewritten_at, rewriting_after, narrowed, widened, resized, IsOpen, StopsAt}
+use Rattle.wasm_codec.specs.Rewriter.{Rewriting, rewriting, rewritten_at, rewriting_after, limited, widened, resized, IsOpen, StopsAt}
 use Rattle.wasm_codec.proofs.FormatLaws.{not_longer}
 use Rattle.wasm_codec.proofs.Laws.{IsBytes-back}
 use Rattle.wasm_codec.proofs.BodyLaws.{Lawful-to-end, IsBytes-prefix, body_sound, unsigned_leb128-mono}
@@ -26,7 +26,7 @@ too_few old mid size e lt =
     let g = is_given u32 old size mid e in
     rw (g.is_read, lt-ltb (length mid.place.left) size lt) refl
 
-pub opened : (old mid : Rewriting) (size mark : ℕ) → rewritten_at u32 old ≡ Some (size, mid) → size ≤ length mid.place.left → mark ≡ length old.done → IsOpen old (narrowed size mid) mark size (length mid.place.left - size)
+pub opened : (old mid : Rewriting) (size mark : ℕ) → rewritten_at u32 old ≡ Some (size, mid) → size ≤ length mid.place.left → mark ≡ length old.done → IsOpen old (limited size mid) mark size (length mid.place.left - size)
 opened old mid size mark e le mark-is =
     let g = is_given u32 old size mid e in
     let body = take size mid.place.left in

@@ -5,7 +5,7 @@ use Rattle.wasm_codec.specs.declared.reader.ReadError.{ReadError}
 use Rattle.wasm_codec.specs.formats.Grammar.{Grammar}
 use Rattle.wasm_codec.specs.formats.Combinators.{Format}
 use Rattle.wasm_codec.specs.Lawful.{IsLawfulBody}
-use Rattle.wasm_codec.specs.Answers.{IsNormalForm, NeedsNoMemory}
+use Rattle.wasm_codec.specs.Outcomes.{IsNormalForm, NeedsNoMemory}
 use Rattle.wasm_codec.specs.Decoding.{IsMinimal, ReadsAll, ChecksAll, RewritesAll, Decodes, DecodesMinimal, Checks, NormalisesInPlace, Normalises}
 use Rattle.wasm_codec.proofs.FormatLaws.{not_longer}
 use Rattle.wasm_codec.proofs.BodyLaws.{encodes_one}

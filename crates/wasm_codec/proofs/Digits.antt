@@ -5,7 +5,7 @@ use Rattle.std.proofs.lemmas.Nat.{div_below}
 use Rattle.wasm_codec.specs.formats.Grammar.{IsBytes}
 use Rattle.wasm_codec.specs.Reading.{◌>>=◌, BeginsWith, IsReadBy}
 use Rattle.wasm_codec.specs.formats.Numbers.{IsDigits, last, Number}
-use Rattle.wasm_codec.specs.Leb128.{digits_at, plain_number_at, turned, digits_of}
+use Rattle.wasm_codec.specs.Leb128.{digits_at, plain_number_at, complemented, digits_of}
 use Rattle.wasm_codec.specs.Encoding.{IsShortestOrLonger}
 use Rattle.wasm_codec.specs.Rewriter.{cut}
 use Rattle.wasm_codec.proofs.Laws.{bind_some, some_is}
@@ -66,40 +66,40 @@ less_one top more n lt =
     let q : n < top * (128 * 128 ^ more) = rw p at lt in
     div_below n 128 (top * 128 ^ more) (omega arith) (omega arith)
 
--- the number that digits stand for, each turned or not
+-- the number that digits stand for, each complemented or not
 unfoldable pub magnitude : Bool → List ℕ → ℕ
 magnitude turn [] = 0
-magnitude turn (b ∷ bytes) = turned turn (b % 128) + 128 * magnitude turn bytes
+magnitude turn (b ∷ bytes) = complemented turn (b % 128) + 128 * magnitude turn bytes
 
 -- digits that stand for n, the last for a number below top
 pub record Stands (turn : Bool) (top : ℕ) (digits : List ℕ) (n : ℕ) : Type 0 where
   pub are : IsDigits digits
-  pub ends : turned turn (last digits) < top
+  pub ends : complemented turn (last digits) < top
   pub value : magnitude turn digits ≡ n
 
-twice : (turn : Bool) (k : ℕ) → k < 128 → (turned turn k < 128) × (turned turn (turned turn k) ≡ k)
+twice : (turn : Bool) (k : ℕ) → k < 128 → (complemented turn k < 128) × (complemented turn (complemented turn k) ≡ k)
 twice true k lt = (omega arith, omega arith)
 twice false k lt = (omega arith, refl)
 
-Stands-one : (turn : Bool) (top n : ℕ) → top ≤ 128 → n < top → Stands turn top (turned turn n ∷ []) n
+Stands-one : (turn : Bool) (top n : ℕ) → top ≤ 128 → n < top → Stands turn top (complemented turn n ∷ []) n
 unfolding magnitude
 Stands-one turn top n wide lt =
     let t = twice turn n (omega arith) in
-    let low : turned turn n % 128 ≡ turned turn n = omega (arith, t.0) in
+    let low : complemented turn n % 128 ≡ complemented turn n = omega (arith, t.0) in
     record { are = t.0; ends = omega (arith, t.1); value = rw low (omega (arith, t.1)) }
 
 last-longer : (b : ℕ) (digits : List ℕ) → IsDigits digits → last (b ∷ digits) ≡ last digits
 last-longer b [] d = absurd d
 last-longer b (c ∷ digits) d = refl
 
-Stands-more : (turn : Bool) (top n : ℕ) (digits : List ℕ) → Stands turn top digits (n / 128) → Stands turn top ((128 + turned turn (n % 128)) ∷ digits) n
+Stands-more : (turn : Bool) (top n : ℕ) (digits : List ℕ) → Stands turn top digits (n / 128) → Stands turn top ((128 + complemented turn (n % 128)) ∷ digits) n
 unfolding magnitude
 Stands-more turn top n digits h =
     let t = twice turn (n % 128) (omega arith) in
-    let low : (128 + turned turn (n % 128)) % 128 ≡ turned turn (n % 128) = omega (arith, t.0) in
+    let low : (128 + complemented turn (n % 128)) % 128 ≡ complemented turn (n % 128) = omega (arith, t.0) in
     record {
-      are = longer (128 + turned turn (n % 128)) digits (omega arith) (omega (arith, t.0)) h.are;
-      ends = rw (last-longer (128 + turned turn (n % 128)) digits h.are) h.ends;
+      are = longer (128 + complemented turn (n % 128)) digits (omega arith) (omega (arith, t.0)) h.are;
+      ends = rw (last-longer (128 + complemented turn (n % 128)) digits h.are) h.ends;
       value = rw (low, h.value, t.1) (omega arith);
     }
 
@@ -107,7 +107,7 @@ pub digits_stand : (turn : Bool) (top : ℕ) → top ≤ 128 → (more n : ℕ) 
 unfolding digits_of
 digits_stand turn top wide zero n lt = Stands-one turn top n wide (omega arith)
 digits_stand turn top wide (suc more) n lt = by (λ small. digits_stand turn top wide more (n / 128) small) (ltb n top) refl where
-  by : (n / 128 < top * 128 ^ more → Stands turn top (digits_of turn top more (n / 128)) (n / 128)) → (t : Bool) → ltb n top ≡ t → Stands turn top (cond t (turned turn n ∷ []) ((128 + turned turn (n % 128)) ∷ digits_of turn top more (n / 128))) n
+  by : (n / 128 < top * 128 ^ more → Stands turn top (digits_of turn top more (n / 128)) (n / 128)) → (t : Bool) → ltb n top ≡ t → Stands turn top (cond t (complemented turn n ∷ []) ((128 + complemented turn (n % 128)) ∷ digits_of turn top more (n / 128))) n
   by again true test = Stands-one turn top n wide (ltb-true _ _ test)
   by again false test = Stands-more turn top n (digits_of turn top more (n / 128)) (again (less_one top more n lt))
 
@@ -117,29 +117,29 @@ unfolding digits_of
 length-digits_of turn top zero more n lt = omega arith
 length-digits_of turn top (suc room) zero n lt = rw (lt-ltb n top (omega arith)) (omega arith)
 length-digits_of turn top (suc room) (suc more) n lt = by (length-digits_of turn top room more (n / 128) (less_one top more n lt)) (ltb n top) where
-  by : length (digits_of turn top room (n / 128)) ≤ suc more → (t : Bool) → length (cond t (turned turn n ∷ []) ((128 + turned turn (n % 128)) ∷ digits_of turn top room (n / 128))) ≤ suc (suc more)
+  by : length (digits_of turn top room (n / 128)) ≤ suc more → (t : Bool) → length (cond t (complemented turn n ∷ []) ((128 + complemented turn (n % 128)) ∷ digits_of turn top room (n / 128))) ≤ suc (suc more)
   by le true = omega arith
   by le false = omega arith
 
 -- a last digit that stands for n below top
-one-is : (turn : Bool) (top b n : ℕ) → Stands turn top (b ∷ []) n → (n < top) × (b ≡ turned turn n)
+one-is : (turn : Bool) (top b n : ℕ) → Stands turn top (b ∷ []) n → (n < top) × (b ≡ complemented turn n)
 unfolding magnitude
 one-is turn top b n h =
     let small : b < 128 = h.are in
     let t = twice turn b small in
     let low : b % 128 ≡ b = omega arith in
-    let v : turned turn b + 128 * 0 ≡ n = rw low at h.value in
-    let n-is : n ≡ turned turn b = omega arith in
+    let v : complemented turn b + 128 * 0 ≡ n = rw low at h.value in
+    let n-is : n ≡ complemented turn b = omega arith in
     (rw n-is h.ends, rw n-is (sym t.1))
 
-more-is : (turn : Bool) (top b c n : ℕ) (bytes : List ℕ) → Stands turn top (b ∷ c ∷ bytes) n → (b ≡ 128 + turned turn (n % 128)) × Stands turn top (c ∷ bytes) (n / 128)
+more-is : (turn : Bool) (top b c n : ℕ) (bytes : List ℕ) → Stands turn top (b ∷ c ∷ bytes) n → (b ≡ 128 + complemented turn (n % 128)) × Stands turn top (c ∷ bytes) (n / 128)
 unfolding magnitude
 more-is turn top b c n bytes h =
     let high : 128 ≤ b = h.are.0 in
     let byte : b < 256 = h.are.1 in
     let t = twice turn (b % 128) (omega arith) in
-    let v : turned turn (b % 128) + 128 * magnitude turn (c ∷ bytes) ≡ n = h.value in
-    let low : n % 128 ≡ turned turn (b % 128) = omega (arith, t.0) in
+    let v : complemented turn (b % 128) + 128 * magnitude turn (c ∷ bytes) ≡ n = h.value in
+    let low : n % 128 ≡ complemented turn (b % 128) = omega (arith, t.0) in
     (rw (low, t.1) (omega arith), record { are = h.are.2; ends = h.ends; value = omega (arith, t.0) })
 
 pub digits_least : (turn : Bool) (top : ℕ) → (more : ℕ) (bytes : List ℕ) (n : ℕ) → top ≤ 128 → n < top * 128 ^ more → Stands turn top bytes n → IsShortestOrLonger bytes (digits_of turn top more n)
@@ -151,7 +151,7 @@ digits_least turn top (suc more) (b ∷ []) n wide lt h =
     let p = one-is turn top b n h in inl (rw (lt-ltb n top p.0) (ap (λ (k : ℕ). k ∷ []) p.1))
 digits_least turn top (suc more) (b ∷ c ∷ bytes) n wide lt h =
     by (digits_least turn top more (c ∷ bytes) (n / 128) wide (less_one top more n lt) (more-is turn top b c n bytes h).1) (ltb n top) where
-      by : IsShortestOrLonger (c ∷ bytes) (digits_of turn top more (n / 128)) → (t : Bool) → IsShortestOrLonger (b ∷ c ∷ bytes) (cond t (turned turn n ∷ []) ((128 + turned turn (n % 128)) ∷ digits_of turn top more (n / 128)))
+      by : IsShortestOrLonger (c ∷ bytes) (digits_of turn top more (n / 128)) → (t : Bool) → IsShortestOrLonger (b ∷ c ∷ bytes) (cond t (complemented turn n ∷ []) ((128 + complemented turn (n % 128)) ∷ digits_of turn top more (n / 128)))
       by again true = inr (omega arith)
       by (inl p) false = inl (rw (← p, (more-is turn top b c n bytes h).0) refl)
       by (inr p) false = inr (omega arith)
@@ -162,18 +162,18 @@ digits_least turn top (suc more) (b ∷ c ∷ bytes) n wide lt h =
 pub some_digits : (turn : Bool) (top room n : ℕ) → 0 < length (digits_of turn top room n)
 unfolding digits_of
 some_digits turn top zero n = omega arith
-some_digits turn top (suc room) n = by (turned turn n) (128 + turned turn (n % 128)) (digits_of turn top room (n / 128)) (ltb n top) where
+some_digits turn top (suc room) n = by (complemented turn n) (128 + complemented turn (n % 128)) (digits_of turn top room (n / 128)) (ltb n top) where
   by : (a b : ℕ) (more : List ℕ) (t : Bool) → 0 < length (cond t (a ∷ []) (b ∷ more))
   by a b more true = omega arith
   by a b more false = omega arith
 
 -- the low bits of the first digit, where it stands for the whole number
-low-is : (turn : Bool) (top b : ℕ) (bytes : List ℕ) (n : ℕ) → n < 128 → Stands turn top (b ∷ bytes) n → b % 128 ≡ turned turn n
+low-is : (turn : Bool) (top b : ℕ) (bytes : List ℕ) (n : ℕ) → n < 128 → Stands turn top (b ∷ bytes) n → b % 128 ≡ complemented turn n
 unfolding magnitude
 low-is turn top b bytes n lt h =
     let t = twice turn (b % 128) (omega arith) in
-    let v : turned turn (b % 128) + 128 * magnitude turn bytes ≡ n = h.value in
-    let n-is : n ≡ turned turn (b % 128) = omega arith in
+    let v : complemented turn (b % 128) + 128 * magnitude turn bytes ≡ n = h.value in
+    let n-is : n ≡ complemented turn (b % 128) = omega arith in
     rw n-is (sym t.1)
 
 -- digits are cut to the fewest by keeping as many, the last without its high bit
@@ -186,11 +186,11 @@ digits_cut turn top (suc more) (b ∷ []) n wide lt h =
 digits_cut turn top (suc more) (b ∷ c ∷ bytes) n wide lt h =
     by (digits_cut turn top more (c ∷ bytes) (n / 128) wide (less_one top more n lt) (more-is turn top b c n bytes h).1) (some_digits turn top more (n / 128)) (ltb n top) refl where
       by : cut (length (digits_of turn top more (n / 128))) (c ∷ bytes) ≡ digits_of turn top more (n / 128) → 0 < length (digits_of turn top more (n / 128)) → (t : Bool) → ltb n top ≡ t
-          → cut (length (cond t (turned turn n ∷ []) ((128 + turned turn (n % 128)) ∷ digits_of turn top more (n / 128)))) (b ∷ c ∷ bytes) ≡ cond t (turned turn n ∷ []) ((128 + turned turn (n % 128)) ∷ digits_of turn top more (n / 128))
+          → cut (length (cond t (complemented turn n ∷ []) ((128 + complemented turn (n % 128)) ∷ digits_of turn top more (n / 128)))) (b ∷ c ∷ bytes) ≡ cond t (complemented turn n ∷ []) ((128 + complemented turn (n % 128)) ∷ digits_of turn top more (n / 128))
       by again some true test = ap (λ (k : ℕ). k ∷ []) (low-is turn top b (c ∷ bytes) n (omega (arith, ltb-true _ _ test)) h)
       by again some false test = cut_more (digits_of turn top more (n / 128)) again some
         where
-          cut_more : (digits : List ℕ) → cut (length digits) (c ∷ bytes) ≡ digits → 0 < length digits → cut (suc (length digits)) (b ∷ c ∷ bytes) ≡ (128 + turned turn (n % 128)) ∷ digits
+          cut_more : (digits : List ℕ) → cut (length digits) (c ∷ bytes) ≡ digits → 0 < length digits → cut (suc (length digits)) (b ∷ c ∷ bytes) ≡ (128 + complemented turn (n % 128)) ∷ digits
           cut_more [] e le = absurd (omega arith)
           cut_more (d ∷ digits) e le = rw e (ap (λ (k : ℕ). k ∷ d ∷ digits) (more-is turn top b c n bytes h).0)
 

@@ -19,7 +19,7 @@ use Rattle.wasm_codec.proofs.Counting.{Shortest-counted}
 use Rattle.wasm_codec.proofs.Joining.{Shortest-joined}
 use Rattle.wasm_codec.specs.formats.Grammar.{TakesBytes}
 use Rattle.wasm_codec.specs.Places.{Place, place, Reader, keeps, unless, byte_at, map_unless, only_at, times_at, number_at, u32_at, u64_at, s32_at, index_at}
-use Rattle.wasm_codec.specs.formats.Combinators.{Format, any_byte, just, a_byte, nothing, never, ◌▷◌, first_of, ◌⊗>◌, ◌⊗◌, bytes_of, made, made_as, either_range, Choice, any_of, or_else, no_other, alternative, either, after, after_long, tagged, variant, variant_after, flagged, with_value, optional, choose, is_byte, find, one_byte, byte_or, u32, u64, s32, begins_index, index, items, by_kind}
+use Rattle.wasm_codec.specs.formats.Combinators.{Format, any_byte, just, a_byte, nothing, never, ◌▷◌, first_of, ◌⊗>◌, ◌⊗◌, bytes_of, made, made_with_long_forms, either_range, Choice, any_of, or_else, no_other, alternative, either, after, after_long, tagged, variant, variant_after, flagged, with_value, optional, choose, is_byte, find, one_byte, byte_or, u32, u64, s32, begins_index, index, items, by_kind}
 use Rattle.wasm_codec.proofs.NumberReading.{byte_took, digits_parts}
 use Rattle.wasm_codec.specs.Lawful.{Shortest, head_of, ReadsPlaces, IsLawful}
 
@@ -221,7 +221,7 @@ Lawful-made {A} {B} {F} make parts inverse r = record {
       let p : parts b ≡ Some g.0 = ap parts (sym g.2) ∙ inverse g.0 in
       rw (r.reads.complete prefix g.0 rest s g.1, p, g.2) refl
 
-pub Lawful-made-as : {A B : Type 0} {F : Format A} (long : A → Bool) (make : A → B) (bytes : B → List ℕ) (R : B → Type 0) → IsLawful F → Shortest (Mapped make F.Encodes) R bytes → ((t : List ℕ) (b : B) → Mapped make F.Encodes t b → R b) → ((prefix : List ℕ) (a : A) → F.Encodes prefix a → IsShorter (long a) (bytes (make a)) (F.bytes a)) → IsLawful (made_as long make bytes R F)
+pub Lawful-made-as : {A B : Type 0} {F : Format A} (long : A → Bool) (make : A → B) (bytes : B → List ℕ) (R : B → Type 0) → IsLawful F → Shortest (Mapped make F.Encodes) R bytes → ((t : List ℕ) (b : B) → Mapped make F.Encodes t b → R b) → ((prefix : List ℕ) (a : A) → F.Encodes prefix a → IsShorter (long a) (bytes (make a)) (F.bytes a)) → IsLawful (made_with_long_forms long make bytes R F)
 Lawful-made-as {A} {B} {F} long make bytes R r s fits shorter = record {
   reads = record { sound = Sound-made long make r; complete = complete };
   shortest = s;
@@ -612,7 +612,7 @@ pub begins_counted : (prefix back : List ℕ) → any_byte (head_of prefix) ≡ 
 begins_counted [] back e = absurd cc
 begins_counted (b ∷ prefix) back e = refl
 
--- as many items as were asked for
+-- as many items as were minimal_if for
 abbrev Times : {A : Type 0} → Grammar A → ℕ → Grammar (List A)
 Times G n bytes vs = (length vs ≡ n) × Joined G bytes vs
 

@@ -5,7 +5,7 @@ use Rattle.std.proofs.lemmas.Bool.{cases_lt}
 use Rattle.std.specs.List.{flat_map, AllByRecursion}
 use Rattle.wasm_codec.specs.formats.Grammar.{Grammar, TakesBytes, Joined}
 use Rattle.wasm_codec.specs.Reading.{PlainReader, IsReadBy}
-use Rattle.wasm_codec.specs.Answers.{IsLongestPrefix}
+use Rattle.wasm_codec.specs.Outcomes.{IsLongestPrefix}
 use Rattle.wasm_codec.specs.Encoding.{IsShortestOrLonger}
 use Rattle.wasm_codec.proofs.Laws.{least_then, one_reading}
 use Rattle.wasm_codec.specs.Lawful.{Shortest}

@@ -12,7 +12,7 @@ pub mod FormatLaws
 pub mod RawFormatLaws
 pub mod PlaceLists
 pub mod BodyLaws
-pub mod AskedLaws
+pub mod MinimalIfLaws
 pub mod DecodingLaws
 pub mod SizedLaws
 pub mod Windows

@@ -6,7 +6,7 @@ use Rattle.wasm_codec.specs.declared.reader.cursor.Fault.{Fault}
 use Rattle.wasm_codec.specs.declared.reader.cursor.Fault.TheVariants as faults
 use Rattle.wasm_codec.specs.formats.Grammar.{Grammar, IsBytes, TakesBytes, Joined, Counted}
 use Rattle.wasm_codec.specs.Reading.{PlainReader, plain_times_at, plain_counted_at, ReadsPlain, BeginsWith, IsReadBy, FindsAt}
-use Rattle.wasm_codec.specs.Answers.{UnlessMemory, IsAfterLongest}
+use Rattle.wasm_codec.specs.Outcomes.{UnlessMemory, IsAfterLongest}
 use Rattle.wasm_codec.specs.Lists.{EncodesList, list_at, IsCountedPrefix}
 use Rattle.wasm_codec.proofs.Laws.{BeginsWith-is, IsBytes-back, one_reading, some, some_is}
 use Rattle.wasm_codec.proofs.Joining.{Joined-split, next as comes_next}

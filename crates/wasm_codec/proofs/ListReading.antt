@@ -8,7 +8,7 @@ use Rattle.wasm_codec.specs.declared.reader.cursor.Fault.TheVariants as faults
 use Rattle.wasm_codec.specs.Reading.{PlainReader, ReadsPlain, IsReadBy}
 use Rattle.wasm_codec.specs.declared.reader.ReadError.{ReadError}
 use Rattle.wasm_codec.specs.declared.reader.ReadError.TheVariants as errors
-use Rattle.wasm_codec.specs.Answers.{answer_to, HoldsAtRefusal, IsOrMemory, IfRefused, IsLongestPrefix, EncodesSome, IsNormalForm}
+use Rattle.wasm_codec.specs.Outcomes.{error_of, HoldsAtRefusal, IsOrMemory, IfRefused, IsLongestPrefix, EncodesSome, IsNormalForm}
 use Rattle.wasm_codec.proofs.Laws.{IsBytes-back}
 use Rattle.wasm_codec.proofs.Joining.{Joined-more, Joined-longest}
 use Rattle.wasm_codec.specs.Lawful.{Shortest}
@@ -63,7 +63,7 @@ stopped {V} {G} r some bytes left vs p none =
 
 -- what is answered then
 pub stopped_by : {V : Type 0} {G : Grammar V} {read : PlainReader V} → IsReadBy G read → TakesBytes G → (bytes left new : List ℕ) (vs : List V) → Progress G bytes left vs → (fault : Fault) → ReadsPlain read left new (Err fault)
-    → (e : ReadError) → e ≡ answer_to fault (length bytes - length left) → HoldsAtRefusal e (IsLongestPrefix (EncodesSome (Joined G)) bytes)
+    → (e : ReadError) → e ≡ error_of fault (length bytes - length left) → HoldsAtRefusal e (IsLongestPrefix (EncodesSome (Joined G)) bytes)
 stopped_by r some bytes left new vs p faults.Memory none e is = rw is tt
 stopped_by r some bytes left new vs p faults.Malformed none e is = rw is (stopped r some bytes left vs p none)
 

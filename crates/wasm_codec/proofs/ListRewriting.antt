@@ -5,7 +5,7 @@ use Rattle.std.specs.List.{flat_map}
 use Rattle.wasm_codec.specs.declared.reader.cursor.Fault.{Fault}
 use Rattle.wasm_codec.specs.declared.reader.cursor.Fault.TheVariants as faults
 use Rattle.wasm_codec.specs.formats.Grammar.{IsBytes, TakesBytes}
-use Rattle.wasm_codec.specs.Answers.{IsLongestPrefix, IsAfterLongest, IsNormalForm}
+use Rattle.wasm_codec.specs.Outcomes.{IsLongestPrefix, IsAfterLongest, IsNormalForm}
 use Rattle.wasm_codec.specs.Lawful.{IsLawful, plain}
 use Rattle.wasm_codec.specs.Lists.{EncodesList, IsListPrefix, list_at, items_bytes}
 use Rattle.wasm_codec.specs.formats.Numbers.{EncodesU32}

@@ -88,7 +88,7 @@ Shortest-unsigned more limit wide room = record {
 
 -- ---- shortest encodings of signed numbers
 
--- a digit and the same digit turned are 127
+-- a digit and the same digit complemented are 127
 both : (digits : List ℕ) → magnitude true digits + unsigned digits + 1 ≡ 128 ^ length digits
 unfolding magnitude
 both [] = refl

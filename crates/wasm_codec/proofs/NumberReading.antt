@@ -233,22 +233,22 @@ bounds n unit digit b lt small same last =
       high = λ more. let p : 64 * unit ≤ digit * unit = mul-le 64 unit digit unit (omega arith) (omega arith) in omega arith;
     }
 
-pub record Parts (most : ℕ) (bytes digits rest : List ℕ) : Type 0 where
+pub record NumberParts (most : ℕ) (bytes digits rest : List ℕ) : Type 0 where
   pub parts : bytes ≡ digits ++ rest
   pub short : length digits ≤ most
 
-pub digits_parts : (most : ℕ) (bytes digits rest : List ℕ) → digits_at most bytes ≡ Some (digits, rest) → Parts most bytes digits rest
+pub digits_parts : (most : ℕ) (bytes digits rest : List ℕ) → digits_at most bytes ≡ Some (digits, rest) → NumberParts most bytes digits rest
 unfolding digits_at
 digits_parts zero bytes digits rest e = absurd cc
 digits_parts (suc most) [] digits rest e = absurd cc
 digits_parts (suc most) (b ∷ bytes) digits rest e = by (λ ds more. digits_parts most bytes ds more) (ltb b 128) e where
-  by : ((ds more : List ℕ) → digits_at most bytes ≡ Some (ds, more) → Parts most bytes ds more) → (t : Bool) → cond {A = Option (List ℕ × List ℕ)} t (Some (b ∷ [], bytes)) (digits_at most bytes >>= λ more. Some (b ∷ more.0, more.1)) ≡ Some (digits, rest) → Parts (suc most) (b ∷ bytes) digits rest
+  by : ((ds more : List ℕ) → digits_at most bytes ≡ Some (ds, more) → NumberParts most bytes ds more) → (t : Bool) → cond {A = Option (List ℕ × List ℕ)} t (Some (b ∷ [], bytes)) (digits_at most bytes >>= λ more. Some (b ∷ more.0, more.1)) ≡ Some (digits, rest) → NumberParts (suc most) (b ∷ bytes) digits rest
   by again true e =
-      subst (λ (x : List ℕ × List ℕ). Parts (suc most) (b ∷ bytes) x.0 x.1) (some_is (b ∷ [], bytes) (digits, rest) e) (record { parts = refl; short = omega arith })
+      subst (λ (x : List ℕ × List ℕ). NumberParts (suc most) (b ∷ bytes) x.0 x.1) (some_is (b ∷ [], bytes) (digits, rest) e) (record { parts = refl; short = omega arith })
   by again false e =
       let p = bind_some (digits_at most bytes) (λ more. Some (b ∷ more.0, more.1)) (digits, rest) e in
       let t = again p.0.0 p.0.1 p.1 in
-      subst (λ (x : List ℕ × List ℕ). Parts (suc most) (b ∷ bytes) x.0 x.1) (some_is (b ∷ p.0.0, p.0.1) (digits, rest) p.2) (record { parts = ap (λ (t : List ℕ). b ∷ t) t.parts; short = omega (arith, t.short) })
+      subst (λ (x : List ℕ × List ℕ). NumberParts (suc most) (b ∷ bytes) x.0 x.1) (some_is (b ∷ p.0.0, p.0.1) (digits, rest) p.2) (record { parts = ap (λ (t : List ℕ). b ∷ t) t.parts; short = omega (arith, t.short) })
 
 -- the last digit was read
 pub read_end : (most : ℕ) (old here new : Place) (i b n unit : ℕ) → i < most → b < 128 → n < unit → here.left ≡ drop i old.left → here.shortest ≡ old.shortest → reads_on most old.left i ≡ digits_at most old.left → n ≡ unsigned (take i old.left) → unit ≡ 128 ^ i → byte_at here ≡ Some (b, new)

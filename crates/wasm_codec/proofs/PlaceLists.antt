@@ -8,14 +8,14 @@ use Rattle.wasm_codec.specs.declared.reader.cursor.Fault.TheVariants as faults
 use Rattle.wasm_codec.specs.declared.reader.ReadError.{ReadError}
 use Rattle.wasm_codec.specs.formats.Grammar.{Grammar, IsBytes, Joined}
 use Rattle.wasm_codec.specs.Reading.{ReadsPlain, ◌>>=◌}
-use Rattle.wasm_codec.specs.Answers.{answer_to, HoldsAtRefusal, IsLongestPrefix, EncodesSome}
+use Rattle.wasm_codec.specs.Outcomes.{error_of, HoldsAtRefusal, IsLongestPrefix, EncodesSome}
 use Rattle.wasm_codec.specs.Encoding.{IsShortestOrLonger}
 use Rattle.wasm_codec.proofs.Laws.{BeginsWith-is, one_reading, bind_some, some, some_is}
 use Rattle.wasm_codec.specs.Reading.{BeginsWith, IsReadBy as ListReads}
 use Rattle.wasm_codec.specs.formats.Grammar.{TakesBytes}
 use Rattle.wasm_codec.proofs.ListReading.{Progress, Next, next, stopped_by}
 use Rattle.wasm_codec.specs.Places.{Place, place, Reader, Reads, keeps, times_at, counted_at}
-use Rattle.wasm_codec.specs.formats.Combinators.{Format, only_shortest, narrow}
+use Rattle.wasm_codec.specs.formats.Combinators.{Format, only_shortest, minimal_only}
 use Rattle.wasm_codec.proofs.FormatLaws.{BeginsWith-at, keeps_same}
 use Rattle.wasm_codec.specs.Lawful.{ReadsPlaces, IsLawful, plain, IsPrefixFree}
 
@@ -142,7 +142,7 @@ pub place_next : {V : Type 0} {F : Format V} → IsLawful F → TakesBytes F.Enc
 place_next r some bytes p q vs v fits left g e = next (plain_reads r.reads) some bytes p.left q.left vs v fits g (plain_some r p v q left e)
 
 pub place_stopped : {V : Type 0} {F : Format V} → IsLawful F → TakesBytes F.Encodes → (bytes : List ℕ) (p q : Place) (vs : List V) → IsBytes p.left → Progress F.Encodes bytes p.left vs → (fault : Fault) → Reads F.at p q (Err fault)
-    → (e : ReadError) → e ≡ answer_to fault (length bytes - length p.left) → HoldsAtRefusal e (IsLongestPrefix (EncodesSome (Joined F.Encodes)) bytes)
+    → (e : ReadError) → e ≡ error_of fault (length bytes - length p.left) → HoldsAtRefusal e (IsLongestPrefix (EncodesSome (Joined F.Encodes)) bytes)
 place_stopped r some bytes p q vs left g faults.Memory none e is = rw is tt
 place_stopped r some bytes p q vs left g faults.Malformed none e is = stopped_by (plain_reads r.reads) some bytes p.left q.left vs g faults.Malformed (plain_none r p left none) e is
 
@@ -157,8 +157,8 @@ is_shortest prefix encoding (inr lt) test = let e = eqb-true (length prefix) (le
 
 -- ---- shortest encodings alone
 
-pub Lawful-narrow : {A : Type 0} {F : Format A} → IsLawful F → IsLawful (narrow F)
-Lawful-narrow {A} {F} r = record {
+pub Lawful-minimal_only : {A : Type 0} {F : Format A} → IsLawful F → IsLawful (minimal_only F)
+Lawful-minimal_only {A} {F} r = record {
   reads = record { sound = sound; complete = complete };
   shortest = record {
     encodes = λ v fits. (r.shortest.encodes v fits, refl);
@@ -169,18 +169,18 @@ Lawful-narrow {A} {F} r = record {
   are_bytes = λ bytes v g. r.are_bytes bytes v g.0;
   begins = λ bytes v g. r.begins bytes v g.0;
 } where
-  sound : (p : Place) (v : A) (q : Place) → IsBytes p.left → (narrow F).at p ≡ Some (v, q) → BeginsWith (narrow F).Encodes p.left v q.left
+  sound : (p : Place) (v : A) (q : Place) → IsBytes p.left → (minimal_only F).at p ≡ Some (v, q) → BeginsWith (minimal_only F).Encodes p.left v q.left
   sound p v q fits e =
       let f = bind_some (F.at (place true p.left)) (λ x. only_shortest p.shortest x) (v, q) e in
       by f.0.0 f.0.1 (step r (place true p.left) f.0.0 f.0.1 fits f.1) f.0.1.shortest refl f.2
     where
-      by : (w : A) (after : Place) → Step F (place true p.left) w after → (t : Bool) → after.shortest ≡ t → cond t (some {A = A × Place} (w, place p.shortest after.left)) None ≡ Some (v, q) → BeginsWith (narrow F).Encodes p.left v q.left
+      by : (w : A) (after : Place) → Step F (place true p.left) w after → (t : Bool) → after.shortest ≡ t → cond t (some {A = A × Place} (w, place p.shortest after.left)) None ≡ Some (v, q) → BeginsWith (minimal_only F).Encodes p.left v q.left
       by w after one true is e =
           let same : one.prefix ≡ F.bytes w = is_shortest one.prefix (F.bytes w) (r.shortest.least one.prefix w one.encodes) (sym one.tells ∙ is) in
-          BeginsWith-at (narrow F).Encodes p.left w v (place p.shortest after.left) q e (record { prefix = one.prefix; encodes = (one.encodes, same); parts = one.parts })
+          BeginsWith-at (minimal_only F).Encodes p.left w v (place p.shortest after.left) q e (record { prefix = one.prefix; encodes = (one.encodes, same); parts = one.parts })
       by w after one false is e = absurd cc
 
-  complete : (prefix : List ℕ) (v : A) (rest : List ℕ) (s : Bool) → (narrow F).Encodes prefix v → (narrow F).at (place s (prefix ++ rest)) ≡ Some (v, place (keeps s prefix (F.bytes v)) rest)
+  complete : (prefix : List ℕ) (v : A) (rest : List ℕ) (s : Bool) → (minimal_only F).Encodes prefix v → (minimal_only F).at (place s (prefix ++ rest)) ≡ Some (v, place (keeps s prefix (F.bytes v)) rest)
   complete prefix v rest s g =
       let whole : keeps true prefix (F.bytes v) ≡ true = ap (λ (f : List ℕ). keeps true f (F.bytes v)) g.1 ∙ keeps_same true (F.bytes v) in
       rw (r.reads.complete prefix v rest true g.0, whole, and-true s) refl

@@ -4,7 +4,7 @@ use Rattle.std.proofs.lemmas.Bool.{leb-true, leb-false, eqb-true, eq-eqb, ne_eqb
 use Rattle.std.proofs.lemmas.List.{take_more}
 use Rattle.std.proofs.Math.Nat.{pow-le-pow_right, mul-le-mul, mul_left_comm}
 use Rattle.wasm_codec.specs.formats.Numbers.{IsDigits, EncodesU32, EncodesU64, EncodesS32, EncodesS64, SignedWithin, Number, Below, Within, unsigned, signed, last}
-use Rattle.wasm_codec.specs.Leb128.{turned, digits_of, unsigned_leb128, signed_leb128}
+use Rattle.wasm_codec.specs.Leb128.{complemented, digits_of, unsigned_leb128, signed_leb128}
 use Rattle.wasm_codec.specs.Rewriter.{cut}
 use Rattle.wasm_codec.specs.Scanning.{AreMore, AreFewest, repeats, KeepsDigits, IsShortNumber, IsPaddedNumber, ScansDigits, Scans, IsPadded}
 use Rattle.wasm_codec.specs.Lawful.{IsLawful}
@@ -56,7 +56,7 @@ digits_are [] b m lt = lt
 digits_are (a ∷ []) b m lt = (m.0.0, m.0.1, lt)
 digits_are (a ∷ c ∷ front) b m lt = (m.0.0, m.0.1, digits_are (c ∷ front) b m.1 lt)
 
-low_digit : (turn : Bool) (b : ℕ) → turned turn (b % 128) < 128
+low_digit : (turn : Bool) (b : ℕ) → complemented turn (b % 128) < 128
 low_digit true b = omega arith
 low_digit false b = omega arith
 
@@ -69,19 +69,19 @@ magnitude_below turn (b ∷ digits) =
     let p : 128 ^ suc (length digits) ≡ 128 * 128 ^ length digits = omega arith in
     rw p (omega arith)
 
-magnitude_last : (turn : Bool) (front : List ℕ) (b : ℕ) → magnitude turn (front ++ b ∷ []) < (turned turn (b % 128) + 1) * 128 ^ length front
+magnitude_last : (turn : Bool) (front : List ℕ) (b : ℕ) → magnitude turn (front ++ b ∷ []) < (complemented turn (b % 128) + 1) * 128 ^ length front
 unfolding magnitude
 magnitude_last turn [] b = omega arith
 magnitude_last turn (a ∷ front) b =
     let d = low_digit turn a in
     let again = magnitude_last turn front b in
     let p : 128 ^ suc (length front) ≡ 128 * 128 ^ length front = omega arith in
-    let times = (turned turn (b % 128) + 1) * 128 ^ length front in
-    let q : (turned turn (b % 128) + 1) * (128 * 128 ^ length front) ≡ 128 * times = mul_left_comm (turned turn (b % 128) + 1) 128 (128 ^ length front) in
+    let times = (complemented turn (b % 128) + 1) * 128 ^ length front in
+    let q : (complemented turn (b % 128) + 1) * (128 * 128 ^ length front) ≡ 128 * times = mul_left_comm (complemented turn (b % 128) + 1) 128 (128 ^ length front) in
     rw (p, q) (omega (arith, d, again))
 
 -- a last digit that stands for something
-magnitude_from : (turn : Bool) (front : List ℕ) (b : ℕ) → 0 < turned turn (b % 128) → 128 ^ length front ≤ magnitude turn (front ++ b ∷ [])
+magnitude_from : (turn : Bool) (front : List ℕ) (b : ℕ) → 0 < complemented turn (b % 128) → 128 ^ length front ≤ magnitude turn (front ++ b ∷ [])
 unfolding magnitude
 magnitude_from turn [] b some = omega arith
 magnitude_from turn (a ∷ front) b some =
@@ -90,7 +90,7 @@ magnitude_from turn (a ∷ front) b some =
     rw p (omega arith)
 
 -- the last two digits stand for 64 or more
-magnitude_from_two : (turn : Bool) (front : List ℕ) (b : ℕ) → 0 < length front → 64 ≤ turned turn (last front % 128) + 128 * turned turn (b % 128) → 64 * 128 ^ length front ≤ 128 * magnitude turn (front ++ b ∷ [])
+magnitude_from_two : (turn : Bool) (front : List ℕ) (b : ℕ) → 0 < length front → 64 ≤ complemented turn (last front % 128) + 128 * complemented turn (b % 128) → 64 * 128 ^ length front ≤ 128 * magnitude turn (front ++ b ∷ [])
 unfolding magnitude
 magnitude_from_two turn [] b some le = absurd (omega arith)
 magnitude_from_two turn (a ∷ []) b some le = omega arith
@@ -122,12 +122,12 @@ record SameNumber (signed : Bool) (front : List ℕ) (end : ℕ) (begin : List �
   turn : turns signed end ≡ turns signed last
   value : magnitude (turns signed end) (front ++ end ∷ []) ≡ magnitude (turns signed last) (begin ++ last ∷ [])
 
-magnitude_kept : (turn : Bool) (front : List ℕ) (b e : ℕ) → turned turn (e % 128) ≡ 0 → magnitude turn ((front ++ b ∷ []) ++ e ∷ []) ≡ magnitude turn (front ++ (b % 128) ∷ [])
+magnitude_kept : (turn : Bool) (front : List ℕ) (b e : ℕ) → complemented turn (e % 128) ≡ 0 → magnitude turn ((front ++ b ∷ []) ++ e ∷ []) ≡ magnitude turn (front ++ (b % 128) ∷ [])
 unfolding magnitude
 magnitude_kept turn [] b e none =
     let low : b % 128 % 128 ≡ b % 128 = omega arith in
     rw (none, low) refl
-magnitude_kept turn (a ∷ front) b e none = ap (λ (n : ℕ). turned turn (a % 128) + 128 * n) (magnitude_kept turn front b e none)
+magnitude_kept turn (a ∷ front) b e none = ap (λ (n : ℕ). complemented turn (a % 128) + 128 * n) (magnitude_kept turn front b e none)
 
 -- a last digit that repeats the sign is left out
 one_less : (signed : Bool) (front : List ℕ) (b e : ℕ) → repeats signed b e ≡ true → SameNumber signed (front ++ b ∷ []) e front (b % 128)
@@ -230,9 +230,9 @@ unsigned_found most limit room front end begin last c =
 -- ---- signed numbers
 
 -- where the last digit doesn't repeat the sign, it and the one before it stand for 64 or more
-two_digits : (turn : Bool) (before end : ℕ) → end < 128 → leb 64 end ≡ turn → repeats true before end ≡ false → 64 ≤ turned turn (before % 128) + 128 * turned turn (end % 128)
+two_digits : (turn : Bool) (before end : ℕ) → end < 128 → leb 64 end ≡ turn → repeats true before end ≡ false → 64 ≤ complemented turn (before % 128) + 128 * complemented turn (end % 128)
 two_digits turn before end lt turns e = by (leb 64 (before % 128)) refl turn turns e where
-  by : (t : Bool) → leb 64 (before % 128) ≡ t → (turn : Bool) → leb 64 end ≡ turn → cond t (eqb end 127) (eqb end 0) ≡ false → 64 ≤ turned turn (before % 128) + 128 * turned turn (end % 128)
+  by : (t : Bool) → leb 64 (before % 128) ≡ t → (turn : Bool) → leb 64 end ≡ turn → cond t (eqb end 127) (eqb end 0) ≡ false → 64 ≤ complemented turn (before % 128) + 128 * complemented turn (end % 128)
   by true test true high e = omega (arith, leb-true _ _ test, not_full end lt (eqb_not end 127 e), leb-true _ _ high)
   by true test false below e = omega (arith, leb-true _ _ test)
   by false test true high e = omega (arith, leb-false _ _ test)
@@ -303,13 +303,13 @@ record Bounds (most top limit : ℕ) : Type 0 where
   fewer : 0 < top → most < 9
 
 -- the last of the most digits is below top
-top_below : (turn : Bool) (most top limit : ℕ) (front : List ℕ) (end : ℕ) → Bounds most top limit → length front ≤ most → end < 128 → turned turn end < top → magnitude turn (front ++ end ∷ []) < limit
+top_below : (turn : Bool) (most top limit : ℕ) (front : List ℕ) (end : ℕ) → Bounds most top limit → length front ≤ most → end < 128 → complemented turn end < top → magnitude turn (front ++ end ∷ []) < limit
 top_below turn most top limit front end b few lt low =
     let same : end % 128 ≡ end = omega (arith, lt) in
     let below = magnitude_last turn front end in
     let wide : 128 ^ length front ≤ 128 ^ most = pow-le-pow_right (omega arith) few in
-    let digit : turned turn (end % 128) + 1 ≤ top = rw same (omega (arith, low)) in
-    let product : (turned turn (end % 128) + 1) * 128 ^ length front ≤ top * 128 ^ most = mul-le-mul digit wide in
+    let digit : complemented turn (end % 128) + 1 ≤ top = rw same (omega (arith, low)) in
+    let product : (complemented turn (end % 128) + 1) * 128 ^ length front ≤ top * 128 ^ most = mul-le-mul digit wide in
     omega (arith, below, product, b.tops)
 
 -- what the digits of a number are found to be
@@ -351,11 +351,11 @@ short_scanned {V} {F} law signed most top limit b finds bytes count s =
     len_there : length (take s.before bytes) ≡ s.before
     len_there = length-take-le s.before bytes (omega (arith, s.digits.within))
 
-    few_there : (count < suc most) ⊎ (turned (turns signed end) end < top) → length (take s.before bytes) < 9
+    few_there : (count < suc most) ⊎ (complemented (turns signed end) end < top) → length (take s.before bytes) < 9
     few_there (inl lt) = omega (arith, lt, s.digits.count_is, b.few, len_there)
     few_there (inr low) = omega (arith, s.digits.few, s.digits.count_is, b.fewer (omega (arith, low)), len_there)
 
-    below_there : (count < suc most) ⊎ (turned (turns signed end) end < top) → magnitude (turns signed end) (take s.before bytes ++ end ∷ []) < limit
+    below_there : (count < suc most) ⊎ (complemented (turns signed end) end < top) → magnitude (turns signed end) (take s.before bytes ++ end ∷ []) < limit
     below_there (inl lt) = omega (arith, few_below (turns signed end) most (take s.before bytes) end (omega (arith, lt, s.digits.count_is, len_there)), b.wide)
     below_there (inr low) = top_below (turns signed end) most top limit (take s.before bytes) end b (omega (arith, s.digits.few, s.digits.count_is, len_there)) s.digits.small low
 

@@ -4,7 +4,7 @@ use Rattle.std.proofs.lemmas.List.{append-nil, length-drop, length-take-le, drop
 use lib.Seq.{paste}
 use Rattle.std.proofs.lemmas.List.Edits.{take-paste, drop-paste}
 use Rattle.wasm_codec.specs.Places.{place, byte_at}
-use Rattle.wasm_codec.specs.Rewriter.{Rewriting, rewritten_at, seen, skipped, shortened, without, with_byte, narrowed, resized, cut, done_of}
+use Rattle.wasm_codec.specs.Rewriter.{Rewriting, rewritten_at, seen, skipped, shortened, without, with_byte, limited, resized, cut, done_of}
 use Rattle.wasm_codec.specs.Leb128.{unsigned_leb128}
 use Rattle.wasm_codec.specs.formats.Combinators.{a_byte}
 
@@ -124,8 +124,8 @@ length_left bytes written from position end s le fits r is =
 
 -- ---- the end of what is left
 
-pub narrows : (bytes : List ℕ) (written from position end : ℕ) (s : Bool) (size : ℕ) → position + size ≤ end → end ≤ length bytes → seen bytes written from position (position + size) s ≡ narrowed size (seen bytes written from position end s)
-narrows bytes written from position end s size le fits =
+pub limits_the_rest : (bytes : List ℕ) (written from position end : ℕ) (s : Bool) (size : ℕ) → position + size ≤ end → end ≤ length bytes → seen bytes written from position (position + size) s ≡ limited size (seen bytes written from position end s)
+limits_the_rest bytes written from position end s size le fits =
     let k : position + size - position ≡ size = omega arith in
     let first : take (position + size - position) (drop position bytes) ≡ take size (take (end - position) (drop position bytes)) = ap (λ (i : ℕ). take i (drop position bytes)) k ∙ sym (first_left bytes position end size le) in
     let m : end - (position + size) + (position + size) ≡ end = omega arith in

@@ -5,7 +5,7 @@ use Rattle.wasm_codec.specs.declared.reader.ReadError.{ReadError}
 use Rattle.wasm_codec.specs.formats.Grammar.{Grammar}
 use Rattle.wasm_codec.specs.formats.Combinators.{Format}
 use Rattle.wasm_codec.specs.Encoding.{IsShortestOrLonger}
-use Rattle.wasm_codec.specs.Answers.{IsOrMemory, NeedsNoMemory, IfRefused, IsLongestPrefix, IsNormalForm, EncodesSome}
+use Rattle.wasm_codec.specs.Outcomes.{IsOrMemory, NeedsNoMemory, IfRefused, IsLongestPrefix, IsNormalForm, EncodesSome}
 
 -- This grammar takes exactly the minimal encodings of a format.
 abbrev pub IsMinimal : {V : Type 0} → Format V → Grammar V → Type 0

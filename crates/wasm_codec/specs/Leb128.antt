@@ -4,14 +4,14 @@ use Rattle.wasm_codec.specs.Reading.{PlainReader, ◌>>=◌}
 use Rattle.wasm_codec.specs.formats.Numbers.{unsigned, signed}
 
 -- A digit as it is, or taken from 127: the digits of -1 - n are those of n, each taken from 127.
-abbrev pub turned : Bool → ℕ → ℕ
-turned true digit = 127 - digit
-turned false digit = digit
+abbrev pub complemented : Bool → ℕ → ℕ
+complemented true digit = 127 - digit
+complemented false digit = digit
 
 -- The fewest digits of a number, at most `more + 1`; the last stands for a number below `top`.
 unfoldable pub digits_of : Bool → ℕ → ℕ → ℕ → List ℕ
-digits_of turn top zero n = turned turn n ∷ []
-digits_of turn top (suc more) n = if nat_lt n top then turned turn n ∷ [] else (128 + turned turn (n % 128)) ∷ digits_of turn top more (n / 128)
+digits_of turn top zero n = complemented turn n ∷ []
+digits_of turn top (suc more) n = if nat_lt n top then complemented turn n ∷ [] else (128 + complemented turn (n % 128)) ∷ digits_of turn top more (n / 128)
 
 -- The minimal encoding of an unsigned number in LEB128.
 unfoldable pub unsigned_leb128 : ℕ → List ℕ

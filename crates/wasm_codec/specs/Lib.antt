@@ -2,7 +2,7 @@ pub mod Reading
 pub mod Leb128
 pub mod Lists
 pub mod Encoding
-pub mod Answers
+pub mod Outcomes
 pub mod Decoding
 pub mod Places
 pub mod ReadDigits

@@ -5,7 +5,7 @@ use Rattle.wasm_codec.specs.formats.Grammar.{Grammar, Joined, Counted}
 use Rattle.wasm_codec.specs.Reading.{PlainReader, plain_counted_at}
 use Rattle.wasm_codec.specs.formats.Numbers.{EncodesU32}
 use Rattle.wasm_codec.specs.Leb128.{unsigned_leb128}
-use Rattle.wasm_codec.specs.formats.Combinators.{Format, u32, asked}
+use Rattle.wasm_codec.specs.formats.Combinators.{Format, u32, minimal_if}
 use Rattle.wasm_codec.specs.Lawful.{plain}
 
 -- The bytes encode this list: a count, then as many items.
@@ -42,13 +42,13 @@ IsListPrefix G = IsCountedPrefix EncodesU32 G
 -- ---- minimal encodings alone, if `strict`
 
 -- The bytes encode this list; if `strict`, the count and each item are minimally encoded.
-abbrev pub AskedList : {A : Type 0} → Bool → Format A → Grammar (List A)
-AskedList strict F = Counted (asked strict u32).Encodes (asked strict F).Encodes
+abbrev pub ListMinimalIf : {A : Type 0} → Bool → Format A → Grammar (List A)
+ListMinimalIf strict F = Counted (minimal_if strict u32).Encodes (minimal_if strict F).Encodes
 
 -- Reads a list; if `strict`, reads minimal encodings alone.
-abbrev pub asked_list_at : {A : Type 0} → Bool → Format A → PlainReader (List A)
-asked_list_at strict F = plain_counted_at (plain (asked strict u32).at) (plain (asked strict F).at)
+abbrev pub list_minimal_if_at : {A : Type 0} → Bool → Format A → PlainReader (List A)
+list_minimal_if_at strict F = plain_counted_at (plain (minimal_if strict u32).at) (plain (minimal_if strict F).at)
 
 -- The prefix is empty, or a count and at most as many items, all minimally encoded if `strict`.
-abbrev pub IsAskedPrefix : {A : Type 0} → Bool → Format A → List ℕ → Type 0
-IsAskedPrefix strict F = IsCountedPrefix (asked strict u32).Encodes (asked strict F).Encodes
+abbrev pub IsListPrefixMinimalIf : {A : Type 0} → Bool → Format A → List ℕ → Type 0
+IsListPrefixMinimalIf strict F = IsCountedPrefix (minimal_if strict u32).Encodes (minimal_if strict F).Encodes

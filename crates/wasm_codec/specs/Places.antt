@@ -32,9 +32,9 @@ abbrev pub keeps : Bool → List ℕ → List ℕ → Bool
 keeps shortest prefix bytes = shortest && (length prefix == length bytes)
 
 -- If `strict`, everything read so far was minimally encoded.
-abbrev pub IsReadAsAsked : Bool → Place → Type 0
-IsReadAsAsked true p = p.shortest ≡ true
-IsReadAsAsked false p = Unit {0}
+abbrev pub WasMinimalIf : Bool → Place → Type 0
+WasMinimalIf true p = p.shortest ≡ true
+WasMinimalIf false p = Unit {0}
 
 -- The same place, but not minimally encoded so far if a long form was read.
 abbrev pub unless : Bool → Place → Place

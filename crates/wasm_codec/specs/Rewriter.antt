@@ -6,7 +6,7 @@ use Rattle.wasm_codec.specs.Reading.{◌>>=◌}
 use Rattle.wasm_codec.specs.Places.{Place, place}
 use Rattle.wasm_codec.specs.Leb128.{unsigned_leb128}
 use Rattle.std.specs.Global.{Vec}
-use Rattle.wasm_codec.specs.Answers.{IsLongestPrefix, IsNormalForm}
+use Rattle.wasm_codec.specs.Outcomes.{IsLongestPrefix, IsNormalForm}
 use Rattle.wasm_codec.specs.Lists.{EncodesList, IsListPrefix, items_bytes}
 use Rattle.wasm_codec.specs.formats.Grammar.{Joined}
 use Rattle.wasm_codec.specs.Lawful.{plain}
@@ -71,8 +71,8 @@ abbrev pub with_byte : ℕ → ℕ → Rewriting → Rewriting
 with_byte mark byte r = rewriting (set r.done mark byte) r.place r.rest
 
 -- The rewriting whose end comes after this number of bytes.
-abbrev pub narrowed : ℕ → Rewriting → Rewriting
-narrowed size r = rewriting r.done (place r.place.shortest (take size r.place.left)) (drop size r.place.left ++ r.rest)
+abbrev pub limited : ℕ → Rewriting → Rewriting
+limited size r = rewriting r.done (place r.place.shortest (take size r.place.left)) (drop size r.place.left ++ r.rest)
 
 -- The rewriting that goes on with this number of bytes after its end.
 abbrev pub widened : ℕ → Rewriting → Rewriting

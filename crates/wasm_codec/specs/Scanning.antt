@@ -2,7 +2,7 @@
 use Rattle.std.specs.Prelude.{◌≡◌, ℕ, ◌+◌, ◌<◌, ◌≤◌, ◌-◌, ◌%◌, ◌⊎◌, ◌&&◌, ◌==◌, Bool, true, false, if◌then◌else◌, nat_le, List, [], ◌∷◌, length, get_or, take, drop, Option, Some, None}
 use Rattle.std.specs.List.{AllByRecursion}
 use Rattle.wasm_codec.specs.formats.Numbers.{last}
-use Rattle.wasm_codec.specs.Leb128.{turned}
+use Rattle.wasm_codec.specs.Leb128.{complemented}
 use Rattle.wasm_codec.specs.Places.{place}
 use Rattle.wasm_codec.specs.Rewriter.{Rewriting, skipped, shortened, cut}
 use Rattle.wasm_codec.specs.formats.Combinators.{Format}
@@ -43,7 +43,7 @@ pub record Begins (most : ℕ) (bytes : List ℕ) (before count : ℕ) : Type 0 
 pub record IsShortNumber (signed : Bool) (most top : ℕ) (bytes : List ℕ) (count : ℕ) : Type 0 where
   pub before : ℕ
   pub digits : Begins most bytes before count
-  pub fewer : (count < most) ⊎ (turned (signed && nat_le 64 (get_or bytes before 0)) (get_or bytes before 0) < top)
+  pub fewer : (count < most) ⊎ (complemented (signed && nat_le 64 (get_or bytes before 0)) (get_or bytes before 0) < top)
   pub fewest : AreFewest signed (take before bytes) (get_or bytes before 0)
 
 -- The bytes begin with a number whose last digit only repeats the sign.

@@ -1,6 +1,6 @@
 //! What is decoded from all of its bytes, and the five calls that read, check and normalise it.
 ghost use Rattle.std.specs.Prelude.{ℕ, List};
-ghost use Rattle.wasm_codec.specs.Answers.{NeedsNoMemory};
+ghost use Rattle.wasm_codec.specs.Outcomes.{NeedsNoMemory};
 ghost use Rattle.wasm_codec.specs.Lawful.{IsLawfulBody};
 ghost use Rattle.wasm_codec.specs.formats.Combinators.{Format};
 ghost use Rattle.wasm_codec.specs.Decoding.{IsMinimal, ReadsAll, ChecksAll, RewritesAll, Decodes, DecodesMinimal, Checks, NormalisesInPlace, Normalises};
@@ -43,6 +43,9 @@ pub trait Decode<'a> {
     /// Which prefixes of the bytes are minimally encoded.
     ghost IsMinimalPrefix: { List ℕ → Type 0 };
 
+    /// Whether reading allocates nothing, and so never fails with `Memory`. By default it may.
+    ghost ReadsInPlace: { Type 0 } = { ⊥ };
+
     /// Tells the proof that the format is lawful. The call does nothing.
     fn is_lawful()
         ensures lawful { IsLawfulBody format }
@@ -50,11 +53,13 @@ pub trait Decode<'a> {
 
     /// Reads the value from all of the bytes, in any encoding.
     fn read_all(alloc: Global, bytes: &'a [u8]) -> Result<Self::Output, ReadError>
-        ensures reads { ReadsAll view format.Encodes IsPrefix bytes.now result };
+        ensures reads { ReadsAll view format.Encodes IsPrefix bytes.now result }
+        ensures memory { ReadsInPlace → NeedsNoMemory result };
 
     /// Reads the value from all of the bytes, if they are its minimal encoding.
     fn read_all_strict(alloc: Global, bytes: &'a [u8]) -> Result<Self::Output, ReadError>
-        ensures reads { ReadsAll view Minimal IsMinimalPrefix bytes.now result };
+        ensures reads { ReadsAll view Minimal IsMinimalPrefix bytes.now result }
+        ensures memory { ReadsInPlace → NeedsNoMemory result };
 
     /// Checks whether the bytes are the minimal encoding of a value.
     fn check_all(alloc: Global, bytes: &[u8]) -> Result<(), ReadError>
@@ -68,8 +73,8 @@ pub trait Decode<'a> {
 
 /// Reads the value that the bytes encode, in any encoding.
 ///
-/// Refuses with `at`, the length in bytes of the longest prefix that decodes, if the bytes are malformed. Fails with `Memory`
-/// if memory runs out.
+/// Refuses with `at`, the length in bytes of the longest prefix that decodes, if the bytes are malformed. Fails with
+/// `Memory` if memory runs out.
 ///
 /// # Examples
 ///
@@ -83,6 +88,7 @@ pub trait Decode<'a> {
 /// ```
 pub fn read<'a, T: Decode<'a>>(alloc: Global, bytes: &'a [u8]) -> Result<T::Output, ReadError>
     ensures decodes { Decodes T.view T.format T.IsPrefix bytes.now result }
+    ensures memory { T.ReadsInPlace → NeedsNoMemory result }
 {
     T::is_lawful();
     T::read_all(alloc, bytes)
@@ -90,8 +96,8 @@ pub fn read<'a, T: Decode<'a>>(alloc: Global, bytes: &'a [u8]) -> Result<T::Outp
 
 /// Reads the value that the bytes encode, if they are its minimal encoding.
 ///
-/// Refuses with `at`, the length in bytes of the longest prefix that is minimally encoded, otherwise. Fails with `Memory` if
-/// memory runs out.
+/// Otherwise refuses with `at`, the length in bytes of the longest prefix that is minimally encoded. Fails with
+/// `Memory` if memory runs out.
 ///
 /// # Examples
 ///
@@ -108,6 +114,7 @@ pub fn read_strict<'a, T: Decode<'a>>(
     bytes: &'a [u8],
 ) -> Result<T::Output, ReadError>
     ensures decodes { DecodesMinimal T.view T.format T.Minimal T.IsMinimalPrefix bytes.now result }
+    ensures memory { T.ReadsInPlace → NeedsNoMemory result }
 {
     T::is_lawful();
     T::read_all_strict(alloc, bytes)
@@ -115,8 +122,8 @@ pub fn read_strict<'a, T: Decode<'a>>(
 
 /// Checks whether the bytes are the minimal encoding of a value.
 ///
-/// Accepts what [`read_strict`] reads, refuses the rest at the same offset, and makes no value. Fails with `Memory` if memory
-/// runs out.
+/// Accepts what [`read_strict`] reads, refuses the rest at the same offset, and makes no value. Fails with `Memory` if
+/// memory runs out.
 ///
 /// # Examples
 ///

@@ -3,7 +3,7 @@
 //! A reader decodes all of its input: trailing bytes are malformed.
 ghost use Rattle.std.specs.Prelude.{◌≡◌};
 ghost use Rattle.wasm_codec.specs.declared.reader.ReadError.TheVariants.{Memory};
-ghost use Rattle.wasm_codec.specs.Answers.{answer_to};
+ghost use Rattle.wasm_codec.specs.Outcomes.{error_of};
 
 pub mod cursor;
 

@@ -8,7 +8,7 @@ ghost use Rattle.wasm_codec.specs.formats.Bodies.{bytes_to_end};
 ghost use Rattle.wasm_codec.specs.formats.Combinators.{a_byte, raw, little_endian, u32 as u32_format, u64 as u64_format, s32 as s32_format, s64 as s64_format, index as index_format};
 ghost use Rattle.wasm_codec.specs.declared.reader.cursor.Fault.TheVariants.{Malformed};
 ghost use Rattle.wasm_codec.specs.Scanning.{IsWithin, RewritesScanned};
-ghost use Rattle.wasm_codec.specs.Rewriter.{rewriting_after, Gives, Rewrites, OpensBody, without, with_byte, narrowed, widened, resized, rewriting, skipped, shortened, done_of};
+ghost use Rattle.wasm_codec.specs.Rewriter.{rewriting_after, Gives, Rewrites, OpensBody, without, with_byte, limited, widened, resized, rewriting, skipped, shortened, done_of};
 
 use std::marker::Model;
 
@@ -19,8 +19,8 @@ use crate::encode::leb128::u32_len;
 use crate::encode::write_u32;
 use crate::reader::cursor::{Cursor, Fault};
 pub use loops::{
-    Joinable, Rewritable, RewritableBody, normalise_joined, normalise_list_to_end, rewrite_joined,
-    rewrite_list, rewrite_sized, rewrite_to_end,
+    Joinable, Rewritable, RewritableBody, rewrite_items_to_end, rewrite_joined, rewrite_list,
+    rewrite_list_to_end, rewrite_sized, rewrite_to_end,
 };
 use scan::kept_digits;
 pub use scan::{Scanned, scan_s32, scan_s64, scan_u32, scan_u64};
@@ -204,9 +204,9 @@ impl Rewriter {
     }
 
     /// Limits the bytes left to the first `size` of them.
-    fn narrow(&mut self, size: usize)
+    fn limit(&mut self, size: usize)
         requires { size ≤ length self.old.place.left }
-        ensures { self.new ≡ narrowed size self.old }
+        ensures { self.new ≡ limited size self.old }
     {
         self.end = self.position + size;
     }
@@ -243,7 +243,7 @@ impl Rewriter {
         if len < size as usize {
             return Err(Fault::Malformed);
         }
-        self.narrow(size as usize);
+        self.limit(size as usize);
         Ok(Body {
             mark,
             size,

@@ -17,9 +17,9 @@ use Rattle.wasm_writers.specs.CodeCounts.{CountedBody}
 use Rattle.wasm_modules.specs.formats.CodeBodies.{local_group, code_body, code_section_body}
 use Rattle.wasm_modules.proofs.CodeBodyLaws.{Lawful-code_body, Lawful-code-section-body}
 use Rattle.wasm_writers.proofs.CodeBodyWriting.{calls_counted, calls_in_range, locals_in_range, in_range_by_parts}
-use Rattle.wasm_modules.specs.formats.Sections.{decoded_section_of, code_bodies, code_section_id}
-use Rattle.wasm_modules.specs.DecodedModules.{IsDecodedSection}
-use Rattle.wasm_encoder.specs.EncodedLists.{Entries, CountedSection, OfItems, body_bytes}
+use Rattle.wasm_modules.specs.formats.Sections.{typed_section_of, code_bodies, code_section_id}
+use Rattle.wasm_modules.specs.TypedModules.{IsTypedSection}
+use Rattle.wasm_encoder.specs.EncodedLists.{EncodedItems, CountedSection, OfItems, body_bytes}
 use Rattle.wasm_encoder.specs.CodeSections.{FunctionStandsFor, GainsBodies, GainsFunction, GoesOnWith, HoldsBodies, IsCodeSection, StandsForBodies, body_of, followed}
 use Rattle.wasm_sections.specs.formats.ModuleSectionParts.{code}
 use Rattle.wasm_sections.proofs.SectionWriting.{code_section}
@@ -54,7 +54,7 @@ goes_on (Err e) old new more is encoded = tt
 
 -- ---- sections
 
-pub stands_for_none : (section : Entries) → section.count ≡ 0 → section.bytes ≡ [] → StandsForBodies section []
+pub stands_for_none : (section : EncodedItems) → section.count ≡ 0 → section.bytes ≡ [] → StandsForBodies section []
 stands_for_none section count bytes = stands_none code_body CountedBody section count bytes
 
 function_is_body : (function : List ℕ) (body : CodeBody) → FunctionStandsFor function body → byte_list_bytes function ≡ code_body.bytes body
@@ -67,42 +67,42 @@ body_counted function body s few = (s.locals, s.calls, subst (λ (t : List ℕ).
 function_in_range : (function : List ℕ) (body : CodeBody) → FunctionStandsFor function body → IsCount (length function) → code_body.InRange body
 function_in_range function body s few = in_range_by_parts body (body_counted function body s few) s.locals_in_range s.calls_in_range
 
-function_stands : (old new : Entries) (function : List ℕ) (before : List CodeBody) (body : CodeBody) → new.count ≡ old.count + 1 → new.bytes ≡ old.bytes ++ byte_list_bytes function → IsCount (length function) → StandsForBodies old before → FunctionStandsFor function body → StandsForBodies new (before ++ body ∷ [])
+function_stands : (old new : EncodedItems) (function : List ℕ) (before : List CodeBody) (body : CodeBody) → new.count ≡ old.count + 1 → new.bytes ≡ old.bytes ++ byte_list_bytes function → IsCount (length function) → StandsForBodies old before → FunctionStandsFor function body → StandsForBodies new (before ++ body ∷ [])
 function_stands old new function before body count bytes few s f =
     stands_one_more code_body CountedBody old new before body s count (bytes ∙ ap (λ (t : List ℕ). old.bytes ++ t) (function_is_body function body f)) (body_counted function body f few) (function_in_range function body f few)
 
-pub gains_function : {T E : Type 0} (r : Result T E) (old new : Entries) (function : List ℕ) → OnOk r (new.count ≡ old.count + 1) → OnOk r (new.bytes ≡ old.bytes ++ byte_list_bytes function) → OnOk r (IsCount (length function)) → OnOk r (GainsFunction old function new)
+pub gains_function : {T E : Type 0} (r : Result T E) (old new : EncodedItems) (function : List ℕ) → OnOk r (new.count ≡ old.count + 1) → OnOk r (new.bytes ≡ old.bytes ++ byte_list_bytes function) → OnOk r (IsCount (length function)) → OnOk r (GainsFunction old function new)
 gains_function (Ok x) old new function count bytes few = record { count = count; bytes = bytes; stands = λ before body s f. function_stands old new function before body count bytes few s f }
 gains_function (Err e) old new function count bytes few = tt
 
-pub gains_bodies : {T E : Type 0} (r : Result T E) (old new : Entries) (more : List CodeBody) → OnOk r (new.count ≡ old.count + length more) → OnOk r (new.bytes ≡ old.bytes ++ flat_map code_body.bytes more) → OnOk r (All CountedBody more) → OnOk r (All (IsShortest code_body.Encodes code_body.bytes) more) → OnOk r (GainsBodies old more new)
+pub gains_bodies : {T E : Type 0} (r : Result T E) (old new : EncodedItems) (more : List CodeBody) → OnOk r (new.count ≡ old.count + length more) → OnOk r (new.bytes ≡ old.bytes ++ flat_map code_body.bytes more) → OnOk r (All CountedBody more) → OnOk r (All (IsShortest code_body.Encodes code_body.bytes) more) → OnOk r (GainsBodies old more new)
 gains_bodies (Ok x) old new more count bytes can written = gains_each code_body CountedBody old new more count bytes can (all_in_range code_body Lawful-code_body more written)
 gains_bodies (Err e) old new more count bytes can written = tt
 
 -- ---- what a section that stands for bodies writes
 
-pub section_is_body : (section : Entries) (bodies : List CodeBody) → StandsForBodies section bodies → body_bytes section ≡ code_section_body.bytes bodies
+pub section_is_body : (section : EncodedItems) (bodies : List CodeBody) → StandsForBodies section bodies → body_bytes section ≡ code_section_body.bytes bodies
 unfolding code_section_body
 section_is_body section bodies s = body_is code_body CountedBody section bodies s
 
-pub one_encoding : (section other : Entries) (bodies : List CodeBody) → StandsForBodies section bodies → StandsForBodies other bodies → body_bytes other ≡ body_bytes section
+pub one_encoding : (section other : EncodedItems) (bodies : List CodeBody) → StandsForBodies section bodies → StandsForBodies other bodies → body_bytes other ≡ body_bytes section
 one_encoding section other bodies s o = section_is_body other bodies o ∙ sym (section_is_body section bodies s)
 
-bodies_in_range : (section : Entries) (bodies : List CodeBody) → IsCount section.count → StandsForBodies section bodies → code_section_body.InRange bodies
+bodies_in_range : (section : EncodedItems) (bodies : List CodeBody) → IsCount section.count → StandsForBodies section bodies → code_section_body.InRange bodies
 unfolding code_section_body
 bodies_in_range section bodies few s = values_in_range code_body CountedBody section bodies few s
 
-pub body_encodes : (section : Entries) (bodies : List CodeBody) → IsCount section.count → StandsForBodies section bodies → code_section_body.Encodes (body_bytes section) bodies
+pub body_encodes : (section : EncodedItems) (bodies : List CodeBody) → IsCount section.count → StandsForBodies section bodies → code_section_body.Encodes (body_bytes section) bodies
 body_encodes section bodies few s = rw (section_is_body section bodies s) (Lawful-code-section-body.shortest.encodes bodies (bodies_in_range section bodies few s))
 
-pub body_shortest : (section : Entries) (bodies : List CodeBody) (bytes : List ℕ) → StandsForBodies section bodies → code_section_body.Encodes bytes bodies → IsShortestOrLonger bytes (body_bytes section)
+pub body_shortest : (section : EncodedItems) (bodies : List CodeBody) (bytes : List ℕ) → StandsForBodies section bodies → code_section_body.Encodes bytes bodies → IsShortestOrLonger bytes (body_bytes section)
 body_shortest section bodies bytes s g = rw (section_is_body section bodies s) (Lawful-code-section-body.shortest.least bytes bodies g)
 
-pub bodies_written : {T E : Type 0} (r : Result T E) (section : Entries) → IsCount section.count → OnOk r (CountedSection section) → OnOk r (HoldsBodies section × IsCodeSection section)
+pub bodies_written : {T E : Type 0} (r : Result T E) (section : EncodedItems) → IsCount section.count → OnOk r (CountedSection section) → OnOk r (HoldsBodies section × IsCodeSection section)
 unfolding code_section_body
 bodies_written r section few counted = both_written r section (StandsForBodies section) code_section_body 10 code code_section (λ bodies s. body_encodes section bodies few s) (section_is_body section) counted
 
-pub is_decoded : {T E : Type 0} (r : Result T E) (section : Entries) (bodies : List CodeBody) → IsCount section.count → OnOk r (CountedSection section) → StandsForBodies section bodies → OnOk r (IsDecodedSection (decoded_section_of (code_section_id, code_bodies bodies)))
+pub is_decoded : {T E : Type 0} (r : Result T E) (section : EncodedItems) (bodies : List CodeBody) → IsCount section.count → OnOk r (CountedSection section) → StandsForBodies section bodies → OnOk r (IsTypedSection (typed_section_of (code_section_id, code_bodies bodies)))
 is_decoded (Ok x) section bodies few counted s = record {
   content = (bodies_in_range section bodies few s, refl);
   section = record { id = lit≤ tt; body = subst (λ (t : List ℕ). IsCount (length t)) (section_is_body section bodies s) counted };

@@ -22,7 +22,7 @@ use Rattle.wasm_instructions.specs.declared.table.call.Operands.{Operands}
 use Rattle.wasm_instructions.specs.declared.table.call.Operands.TheVariants as operands
 use Rattle.wasm_modules.specs.declared.code.CodeBody.{CodeBody}
 use Rattle.wasm_writers.specs.CodeCounts.{CountedBody, func_bytes}
-use Rattle.wasm_encoder.specs.EncodedLists.{Entries, GivesSome, IsFull, IsMemoryOrTooLong, IsRefusalOfOne, IsRefusalOfEach, IsUncounted}
+use Rattle.wasm_encoder.specs.EncodedLists.{EncodedItems, GivesSome, IsFull, IsMemoryOrTooLong, IsRefusalOfOne, IsRefusalOfEach, IsUncounted}
 use Rattle.wasm_writers.proofs.EncodedListLaws.{which, both_or, counted_or, of_one, of_each}
 use Rattle.wasm_encoder.specs.TypeSections.{UncountedFunc, UncountedInner, UncountedSub, UncountedEntry}
 use Rattle.wasm_encoder.specs.CodeSections.{UncountedList, UncountedCall, UncountedBody}
@@ -136,22 +136,22 @@ pub only_where : {Can Why : Type 0} (e : EncodeError) → (Why → Can → ⊥) 
 only_where e never (inl memory) = inl memory
 only_where e never (inr (is, why)) = inr (never why, is)
 
-pub func_refused : (old : Entries) (f : FuncType) (e : EncodeError) → IsRefusalOfOne CountedFunc OnlyTooLong old f e → IsMemoryOrTooLong (IsFull old ⊎ UncountedFunc f) e
+pub func_refused : (old : EncodedItems) (f : FuncType) (e : EncodeError) → IsRefusalOfOne CountedFunc OnlyTooLong old f e → IsMemoryOrTooLong (IsFull old ⊎ UncountedFunc f) e
 func_refused old f e refused = of_one CountedFunc old f e (func_or f) refused
 
-pub sub_refused : (old : Entries) (s : SubType) (e : EncodeError) → IsRefusalOfOne CountedSub OnlyTooLong old s e → IsMemoryOrTooLong (IsFull old ⊎ UncountedSub s) e
+pub sub_refused : (old : EncodedItems) (s : SubType) (e : EncodeError) → IsRefusalOfOne CountedSub OnlyTooLong old s e → IsMemoryOrTooLong (IsFull old ⊎ UncountedSub s) e
 sub_refused old s e refused = of_one CountedSub old s e (sub_or s) refused
 
-pub entries_refused : {T : Type 0} (r : Result T EncodeError) (now old : Entries) (more : List TypeEntry) → now ≡ old → IfErr r (IsRefusalOfEach CountedEntry OnlyTooLong now more) → IfErr r (IsMemoryOrTooLong (IsUncounted (old.count + length more) ⊎ Any UncountedEntry more))
+pub entries_refused : {T : Type 0} (r : Result T EncodeError) (now old : EncodedItems) (more : List TypeEntry) → now ≡ old → IfErr r (IsRefusalOfEach CountedEntry OnlyTooLong now more) → IfErr r (IsMemoryOrTooLong (IsUncounted (old.count + length more) ⊎ Any UncountedEntry more))
 entries_refused (Ok x) now old more is refused = tt
-entries_refused (Err e) now old more is refused = subst (λ (list : Entries). IsMemoryOrTooLong (IsUncounted (list.count + length more) ⊎ Any UncountedEntry more) e) is (of_each CountedEntry UncountedEntry now more e entry_or refused)
+entries_refused (Err e) now old more is refused = subst (λ (list : EncodedItems). IsMemoryOrTooLong (IsUncounted (list.count + length more) ⊎ Any UncountedEntry more) e) is (of_each CountedEntry UncountedEntry now more e entry_or refused)
 
-pub function_refused : (old : Entries) (function : List ℕ) (e : EncodeError) → IsRefusalOfOne (λ (f : List ℕ). IsCount (length f)) OnlyTooLong old function e → IsMemoryOrTooLong (IsFull old ⊎ IsUncounted (length function)) e
+pub function_refused : (old : EncodedItems) (function : List ℕ) (e : EncodeError) → IsRefusalOfOne (λ (f : List ℕ). IsCount (length f)) OnlyTooLong old function e → IsMemoryOrTooLong (IsFull old ⊎ IsUncounted (length function)) e
 function_refused old function e refused = of_one (λ (f : List ℕ). IsCount (length f)) old function e (counted_or (length function)) refused
 
-pub bodies_refused : {T : Type 0} (r : Result T EncodeError) (now old : Entries) (bodies : List CodeBody) → now ≡ old → IfErr r (IsRefusalOfEach CountedBody OnlyTooLong now bodies) → IfErr r (IsMemoryOrTooLong (IsUncounted (old.count + length bodies) ⊎ Any UncountedBody bodies))
+pub bodies_refused : {T : Type 0} (r : Result T EncodeError) (now old : EncodedItems) (bodies : List CodeBody) → now ≡ old → IfErr r (IsRefusalOfEach CountedBody OnlyTooLong now bodies) → IfErr r (IsMemoryOrTooLong (IsUncounted (old.count + length bodies) ⊎ Any UncountedBody bodies))
 bodies_refused (Ok x) now old bodies is refused = tt
-bodies_refused (Err e) now old bodies is refused = subst (λ (list : Entries). IsMemoryOrTooLong (IsUncounted (list.count + length bodies) ⊎ Any UncountedBody bodies) e) is (of_each CountedBody UncountedBody now bodies e body_or refused)
+bodies_refused (Err e) now old bodies is refused = subst (λ (list : EncodedItems). IsMemoryOrTooLong (IsUncounted (list.count + length bodies) ⊎ Any UncountedBody bodies) e) is (of_each CountedBody UncountedBody now bodies e body_or refused)
 
 -- ---- of iterators
 
@@ -180,10 +180,10 @@ on_right : {A B C : Type 0} → (B → C) → A ⊎ B → A ⊎ C
 on_right f (inl a) = inl a
 on_right f (inr b) = inr (f b)
 
-pub fields_refused : {S A : Type 0} (gives : S → Option A → S → Type 0) (left : S → Count) (old : Entries) (fields : S) (e : EncodeError) → IsMemoryOrTooLong (IsFull old) e ⊎ IsItemsRefusal (λ x. Unit {0}) (λ x e. ⊥) gives left fields e → IsMemoryOrTooLong (IsFull old ⊎ IsUncounted (size (left fields))) e
+pub fields_refused : {S A : Type 0} (gives : S → Option A → S → Type 0) (left : S → Count) (old : EncodedItems) (fields : S) (e : EncodeError) → IsMemoryOrTooLong (IsFull old) e ⊎ IsItemsRefusal (λ x. Unit {0}) (λ x e. ⊥) gives left fields e → IsMemoryOrTooLong (IsFull old ⊎ IsUncounted (size (left fields))) e
 fields_refused gives left old fields e refused = or_else e (on_right (only_too_many gives left fields e) refused)
 
-pub both_refused : {S T A : Type 0} (gives_first : S → Option A → S → Type 0) (gives_second : T → Option A → T → Type 0) (first_left : S → Count) (second_left : T → Count) (old : Entries) (first : S) (second : T) (e : EncodeError)
+pub both_refused : {S T A : Type 0} (gives_first : S → Option A → S → Type 0) (gives_second : T → Option A → T → Type 0) (first_left : S → Count) (second_left : T → Count) (old : EncodedItems) (first : S) (second : T) (e : EncodeError)
     → IsMemoryOrTooLong (IsFull old) e ⊎ (IsItemsRefusal (λ x. Unit {0}) (λ x e. ⊥) gives_first first_left first e ⊎ IsItemsRefusal (λ x. Unit {0}) (λ x e. ⊥) gives_second second_left second e)
     → IsMemoryOrTooLong (IsFull old ⊎ (IsUncounted (size (first_left first)) ⊎ IsUncounted (size (second_left second)))) e
 both_refused gives_first gives_second first_left second_left old first second e refused = or_else e (on_right (λ items. or_else e (each items)) refused) where
@@ -191,7 +191,7 @@ both_refused gives_first gives_second first_left second_left old first second e 
   each (inl h) = inl (only_too_many gives_first first_left first e h)
   each (inr h) = inr (only_too_many gives_second second_left second e h)
 
-pub group_refused : {S : Type 0} (gives : S → Option SubType → S → Type 0) (left : S → Count) (old : Entries) (types : S) (e : EncodeError) → IsMemoryOrTooLong (IsFull old) e ⊎ IsItemsRefusal CountedSub OnlyTooLong gives left types e
+pub group_refused : {S : Type 0} (gives : S → Option SubType → S → Type 0) (left : S → Count) (old : EncodedItems) (types : S) (e : EncodeError) → IsMemoryOrTooLong (IsFull old) e ⊎ IsItemsRefusal CountedSub OnlyTooLong gives left types e
     → IsMemoryOrTooLong (IsFull old ⊎ (IsUncounted (size (left types)) ⊎ GivesSome gives types UncountedSub)) e
 group_refused gives left old types e refused = or_else e (on_right items refused) where
   items : IsItemsRefusal CountedSub OnlyTooLong gives left types e → IsMemoryOrTooLong (IsUncounted (size (left types)) ⊎ GivesSome gives types UncountedSub) e

@@ -2,7 +2,7 @@
 use Rattle.std.proofs.Common.{◌≡◌, ℕ, List, [], ◌∷◌, ◌++◌, Result, Ok, Err, OnOk, append_assoc, refl, sym, ap, ◌∙◌}
 use Rattle.std.proofs.lemmas.List.{append-nil}
 use Rattle.wasm_codec.specs.formats.Grammar.{Grammar, Joined}
-use Rattle.wasm_codec.specs.formats.Combinators.{narrow}
+use Rattle.wasm_codec.specs.formats.Combinators.{minimal_only}
 use Rattle.wasm_modules.specs.formats.Sections.{header}
 use Rattle.wasm_sections.specs.formats.ModuleSectionParts.{ModuleSectionParts}
 use Rattle.wasm_sections.specs.SectionBytes.{IsSectionAfter}
@@ -20,5 +20,5 @@ one_more G bytes more (v ∷ values) added j g =
 pub section_added : {T E : Type 0} (r : Result T E) (old new bytes : List ℕ) (id : ℕ) (sections : List ModuleSectionParts) (added : ModuleSectionParts) → OnOk r (new ≡ old ++ id ∷ bytes) → ShortestWholeModule old sections → IsSectionAfter id bytes added
     → OnOk r (ShortestWholeModule new (sections ++ added ∷ []))
 section_added (Ok x) old new bytes id sections added is j more =
-    (j.0 ++ id ∷ bytes, is ∙ ap (λ (t : List ℕ). t ++ id ∷ bytes) j.1 ∙ append_assoc header j.0 (id ∷ bytes), one_more (narrow module_section).Encodes j.0 (id ∷ bytes) sections added j.2 more)
+    (j.0 ++ id ∷ bytes, is ∙ ap (λ (t : List ℕ). t ++ id ∷ bytes) j.1 ∙ append_assoc header j.0 (id ∷ bytes), one_more (minimal_only module_section).Encodes j.0 (id ∷ bytes) sections added j.2 more)
 section_added (Err e) old new bytes id sections added is j more = tt

@@ -12,7 +12,7 @@ use Rattle.wasm_writers.specs.CodeCounts.{CountedBody, func_bytes}
 use Rattle.wasm_modules.specs.formats.CodeBodies.{local_group, code_body, code_section_body}
 use Rattle.wasm_sections.specs.formats.ModuleSectionParts.{code}
 use Rattle.wasm_sections.specs.SectionBytes.{IsSectionAfter}
-use Rattle.wasm_encoder.specs.EncodedLists.{Entries, StandsForAll, GainsEach, IsUncounted, body_bytes}
+use Rattle.wasm_encoder.specs.EncodedLists.{EncodedItems, StandsForAll, GainsEach, IsUncounted, body_bytes}
 
 -- The code body with these locals and these calls.
 abbrev pub body_of : List (ℕ × ValType) → List Instruction → CodeBody
@@ -36,25 +36,25 @@ pub record GoesOnWith (old : List ℕ) (more : List Instruction) (new : List ℕ
   pub stands : (body : CodeBody) → FunctionStandsFor old body → FunctionStandsFor new (followed body more)
 
 -- The section stands for these bodies: it has their number and encodings, and each can be written and is in range.
-abbrev pub StandsForBodies : Entries → List CodeBody → Type 0
+abbrev pub StandsForBodies : EncodedItems → List CodeBody → Type 0
 StandsForBodies = StandsForAll code_body CountedBody
 
 -- The body of the section encodes the code bodies that it stands for.
-abbrev pub HoldsBodies : Entries → Type 0
+abbrev pub HoldsBodies : EncodedItems → Type 0
 HoldsBodies section = (bodies : List CodeBody) → StandsForBodies section bodies → code_section_body.Encodes (body_bytes section) bodies
 
 -- After the id, the section's size and body are the minimal encoding of the module's section with these bodies.
-abbrev pub IsCodeSection : Entries → Type 0
+abbrev pub IsCodeSection : EncodedItems → Type 0
 IsCodeSection section = (bodies : List CodeBody) → StandsForBodies section bodies → IsSectionAfter 10 (byte_list_bytes (body_bytes section)) (code bodies)
 
 -- The new section is the old one and the body of this function.
-pub record GainsFunction (old : Entries) (function : List ℕ) (new : Entries) : Type 0 where
+pub record GainsFunction (old : EncodedItems) (function : List ℕ) (new : EncodedItems) : Type 0 where
   pub count : new.count ≡ old.count + 1
   pub bytes : new.bytes ≡ old.bytes ++ byte_list_bytes function
   pub stands : (before : List CodeBody) (body : CodeBody) → StandsForBodies old before → FunctionStandsFor function body → StandsForBodies new (before ++ body ∷ [])
 
 -- The new section is the old one and these more bodies.
-abbrev pub GainsBodies : Entries → List CodeBody → Entries → Type 0
+abbrev pub GainsBodies : EncodedItems → List CodeBody → EncodedItems → Type 0
 GainsBodies = GainsEach code_body CountedBody
 
 -- ---- functions that are too long to be written

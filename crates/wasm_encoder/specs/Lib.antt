@@ -6,7 +6,7 @@ pub use Rattle.wasm_codec.specs.Lawful
 pub use Rattle.wasm_codec.specs.formats.Numbers
 pub use Rattle.wasm_codec.specs.Leb128
 pub use Rattle.wasm_codec.specs.Encoding
-pub use Rattle.wasm_codec.specs.Answers
+pub use Rattle.wasm_codec.specs.Outcomes
 pub use Rattle.wasm_codec.specs.Decoding
 pub use Rattle.wasm_writers.specs.Iterators
 pub use Rattle.wasm_codec.specs.Lists
@@ -23,7 +23,7 @@ pub use Rattle.wasm_writers.specs.CodeCounts
 pub use Rattle.wasm_modules.specs.formats.Modules as ModuleFormats
 pub use Rattle.wasm_modules.specs.formats.Sections
 pub use Rattle.wasm_modules.specs.Modules
-pub use Rattle.wasm_modules.specs.DecodedModules
+pub use Rattle.wasm_modules.specs.TypedModules
 pub use Rattle.wasm_readers.specs.PrefixFree
 pub use Rattle.wasm_readers.specs.ModulesReadBack
 pub use Rattle.wasm_sink.specs.Sink

@@ -16,30 +16,30 @@ use Rattle.wasm_types.specs.formats.Types.{recursive_type, type_body}
 use Rattle.wasm_types.specs.TypeCounts.{CountedEntry}
 use Rattle.wasm_sections.specs.formats.ModuleSectionParts.{types as holding_types}
 use Rattle.wasm_sections.specs.SectionBytes.{IsSectionAfter}
-use Rattle.wasm_encoder.specs.EncodedLists.{Entries, StandsForAll, GainsOne, GainsEach, IsUncounted, body_bytes}
+use Rattle.wasm_encoder.specs.EncodedLists.{EncodedItems, StandsForAll, GainsOne, GainsEach, IsUncounted, body_bytes}
 
 -- The section stands for these entries: it has their number and encodings, and each can be written and is in range.
-abbrev pub StandsFor : Entries → List TypeEntry → Type 0
+abbrev pub StandsFor : EncodedItems → List TypeEntry → Type 0
 StandsFor = StandsForAll recursive_type CountedEntry
 
 -- The new section is the old one and one more entry.
-abbrev pub Gains : Entries → TypeEntry → Entries → Type 0
+abbrev pub Gains : EncodedItems → TypeEntry → EncodedItems → Type 0
 Gains = GainsOne recursive_type CountedEntry
 
 -- The new section is the old one and these more entries.
-abbrev pub GainsAll : Entries → List TypeEntry → Entries → Type 0
+abbrev pub GainsAll : EncodedItems → List TypeEntry → EncodedItems → Type 0
 GainsAll = GainsEach recursive_type CountedEntry
 
 -- The body of the section encodes the entries that it stands for.
-abbrev pub HoldsEntries : Entries → Type 0
+abbrev pub HoldsEntries : EncodedItems → Type 0
 HoldsEntries section = (entries : List TypeEntry) → StandsFor section entries → type_body.Encodes (body_bytes section) entries
 
 -- The size of the section's body, then the body (Sections).
-abbrev pub type_section_bytes : Entries → List ℕ
+abbrev pub type_section_bytes : EncodedItems → List ℕ
 type_section_bytes section = byte_list_bytes (body_bytes section)
 
 -- After the id, the section's size and body are the minimal encoding of the module's section with these entries.
-abbrev pub IsTypeSection : Entries → Type 0
+abbrev pub IsTypeSection : EncodedItems → Type 0
 IsTypeSection section = (entries : List TypeEntry) → StandsFor section entries → IsSectionAfter 1 (type_section_bytes section) (holding_types entries)
 
 -- ---- entries of one type: final, without supertypes, not shared, with no descriptor

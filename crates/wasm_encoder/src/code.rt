@@ -9,9 +9,9 @@ ghost use Rattle.wasm_calls.specs.Appending.{IsCallsRefusal};
 ghost use Rattle.wasm_modules.specs.declared.code.CodeBody.{CodeBody};
 ghost use Rattle.wasm_types.specs.declared.types.value.ValType.{ValType};
 ghost use Rattle.wasm_modules.specs.formats.CodeBodies.{code_section_body};
-ghost use Rattle.wasm_modules.specs.formats.Sections.{decoded_section_of, code_bodies, code_section_id};
-ghost use Rattle.wasm_modules.specs.DecodedModules.{IsDecodedSection};
-ghost use Rattle.wasm_encoder.specs.EncodedLists.{Entries, CountedSection, GivesItems, IsFull, IsMemoryOrTooLong, IsUncounted, OfItems, body_bytes};
+ghost use Rattle.wasm_modules.specs.formats.Sections.{typed_section_of, code_bodies, code_section_id};
+ghost use Rattle.wasm_modules.specs.TypedModules.{IsTypedSection};
+ghost use Rattle.wasm_encoder.specs.EncodedLists.{EncodedItems, CountedSection, GivesItems, IsFull, IsMemoryOrTooLong, IsUncounted, OfItems, body_bytes};
 ghost use Rattle.wasm_encoder.specs.Rows.{bytes_row};
 ghost use Rattle.wasm_encoder.specs.CodeSections.{FunctionStandsFor, GainsBodies, GainsFunction, GoesOnWith, HoldsBodies, IsCodeSection, StandsForBodies, UncountedBody, body_of};
 
@@ -169,9 +169,9 @@ pub struct CodeSection {
 }
 
 impl Model for CodeSection {
-    ghost use Rattle.wasm_encoder.specs.EncodedLists.{Entries};
+    ghost use Rattle.wasm_encoder.specs.EncodedLists.{EncodedItems};
 
-    ghost Value = { Entries };
+    ghost Value = { EncodedItems };
 
     ghost view = { λ section. section.bodies };
 }
@@ -261,7 +261,7 @@ impl Encode for CodeSection {
         ensures refused { IfErr result (IsRefusal CountedSection OnlyTooLong self.now) }
         ensures err { OnErr result (sink.new.items ≡ sink.old.items) }
         // Sections of equal code bodies have equal bytes.
-        ensures one_encoding { (other : Entries) (bodies : List CodeBody) →
+        ensures one_encoding { (other : EncodedItems) (bodies : List CodeBody) →
             StandsForBodies self.now bodies → StandsForBodies other bodies → body_bytes other ≡ body_bytes self.now }
         // The section's body is that of the code bodies.
         ensures is_body { (bodies : List CodeBody) → StandsForBodies self.now bodies →
@@ -274,7 +274,7 @@ impl Encode for CodeSection {
             code_section_body.Encodes bytes bodies → IsShortestOrLonger bytes (body_bytes self.now) }
         // The section is in the range of decoded sections, so a reader returns it.
         ensures decoded { (bodies : List CodeBody) → StandsForBodies self.now bodies →
-            OnOk result (IsDecodedSection (decoded_section_of (code_section_id, code_bodies bodies))) }
+            OnOk result (IsTypedSection (typed_section_of (code_section_id, code_bodies bodies))) }
     {
         self.bodies.encode(sink)
     }

@@ -4,7 +4,7 @@
 //! exports, and so on. [`Instructions`] stands for a list of instructions, [`Module`] for a module with undecoded sections,
 //! and `WholeModule` for one with every section decoded. Implement [`Decode`] for a type of your own.
 ghost use Rattle.std.specs.Prelude.{List};
-ghost use Rattle.wasm_codec.specs.Answers.{NeedsNoMemory, EncodesSome};
+ghost use Rattle.wasm_codec.specs.Outcomes.{NeedsNoMemory, EncodesSome};
 ghost use Rattle.wasm_codec.specs.Decoding.{IsMinimal, ChecksAll, RewritesAll};
 ghost use Rattle.wasm_codec.specs.Lawful.{IsLawfulBody};
 ghost use Rattle.wasm_codec.specs.formats.Bodies.{to_end};

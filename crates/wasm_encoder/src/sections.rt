@@ -5,7 +5,7 @@
 //! `new`, `len`, `is_empty`, `push`, `entries` and `try_clone`, and a method named after what it adds, such as
 //! `export`.
 ghost use Rattle.std.specs.Prelude.{◌≡◌};
-ghost use Rattle.wasm_writers.specs.EncodedLists.{Entries};
+ghost use Rattle.wasm_writers.specs.EncodedLists.{EncodedItems};
 
 use crate::wasm_core::Section;
 pub use wasm_builders::const_expr::ConstExpr;
@@ -27,7 +27,7 @@ pub use wasm_sections::exports::Export;
 pub use wasm_sections::globals::Global;
 pub use wasm_sections::imports::Import;
 pub use wasm_sections::modules::{
-    CodePlace, ItemCounts, ItemPlace, ModuleError, ModuleSection, WholeModule, check_order,
+    BrokenPart, ItemCounts, BrokenItem, ModuleError, ModuleSection, WholeModule, check_order,
     check_whole_module, count_longer_items, first_broken_item, first_broken_part,
     normalise_whole_module, read_whole_module, read_whole_module_strict, rewrite_whole_module,
 };

@@ -2,12 +2,12 @@
 ghost use Rattle.std.specs.Prelude.{◌≡◌, ℕ, List, ◌++◌, ◌∷◌, ◌+◌, ◌⊎◌, [], OnOk, OnErr, IfOk, IfErr, IsTrue, ◌↔◌, length, ◌^◌, ◌≤◌, IsErrOf};
 ghost use Rattle.std.specs.List.{Any};
 ghost use Rattle.std.specs.Iterator.{size};
-ghost use Rattle.wasm_encoder.specs.EncodedLists.{Entries, CountedSection, GivesItems, GivesSome, IsFull, IsMemoryOrTooLong, IsUncounted, OfItems, body_bytes};
+ghost use Rattle.wasm_encoder.specs.EncodedLists.{EncodedItems, CountedSection, GivesItems, GivesSome, IsFull, IsMemoryOrTooLong, IsUncounted, OfItems, body_bytes};
 ghost use Rattle.wasm_encoder.specs.TypeSections.{StandsFor, Gains, GainsAll, HoldsEntries, IsTypeSection, OfBoth, UncountedEntry, UncountedFunc, UncountedSub, type_section_bytes, final_entry, struct_entry, array_entry};
 ghost use Rattle.wasm_codec.specs.Encoding.{byte_list_bytes, IsRefusal, IsShortestOrLonger, OnlyTooLong};
 ghost use Rattle.wasm_types.specs.formats.Types.{type_body};
-ghost use Rattle.wasm_modules.specs.formats.Sections.{decoded_section_of, type_entries, type_section_id};
-ghost use Rattle.wasm_modules.specs.DecodedModules.{IsDecodedSection};
+ghost use Rattle.wasm_modules.specs.formats.Sections.{typed_section_of, type_entries, type_section_id};
+ghost use Rattle.wasm_modules.specs.TypedModules.{IsTypedSection};
 ghost use Rattle.wasm_types.specs.declared.types.value.ValType.{ValType};
 ghost use Rattle.wasm_types.specs.declared.types.composite.FieldType.{FieldType};
 ghost use Rattle.wasm_types.specs.declared.types.composite.SubType.{SubType};
@@ -47,9 +47,9 @@ pub struct TypeSection {
 }
 
 impl Model for TypeSection {
-    ghost use Rattle.wasm_encoder.specs.EncodedLists.{Entries};
+    ghost use Rattle.wasm_encoder.specs.EncodedLists.{EncodedItems};
 
-    ghost Value = { Entries };
+    ghost Value = { EncodedItems };
 
     ghost view = { λ section. section.entries };
 }
@@ -160,7 +160,7 @@ impl Encode for TypeSection {
         ensures refused { IfErr result (IsRefusal CountedSection OnlyTooLong self.now) }
         ensures err { OnErr result (sink.new.items ≡ sink.old.items) }
         // Sections of equal entries have equal bytes.
-        ensures one_encoding { (other : Entries) (entries : List TypeEntry) →
+        ensures one_encoding { (other : EncodedItems) (entries : List TypeEntry) →
             StandsFor self.now entries → StandsFor other entries → type_section_bytes other ≡ type_section_bytes self.now }
         // The bytes are the length of the entries' body, and the body.
         ensures is_body { (entries : List TypeEntry) → StandsFor self.now entries →
@@ -173,7 +173,7 @@ impl Encode for TypeSection {
             type_body.Encodes bytes entries → IsShortestOrLonger bytes (body_bytes self.now) }
         // The section is in the range of decoded sections, so a reader returns it.
         ensures decoded { (entries : List TypeEntry) → StandsFor self.now entries →
-            OnOk result (IsDecodedSection (decoded_section_of (type_section_id, type_entries entries))) }
+            OnOk result (IsTypedSection (typed_section_of (type_section_id, type_entries entries))) }
     {
         self.entries.encode(sink)
     }

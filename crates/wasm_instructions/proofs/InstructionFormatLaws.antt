@@ -15,7 +15,7 @@ use Rattle.wasm_codec.specs.formats.Combinators.{Format, by_kind}
 use Rattle.wasm_codec.proofs.FormatLaws.{Every-made, Every-after, Every-either, Lawful-byte, Lawful-nothing, Lawful-made, Lawful-then, Lawful-both, Lawful-items, Lawful-by-kind, Lawful-variant-after, Lawful-or-else, Lawful-u32, Lawful-s32, takes_bytes}
 use Rattle.wasm_codec.proofs.RawFormatLaws.{Lawful-s64, Lawful-byte-where, Lawful-little-endian}
 use Rattle.wasm_codec.proofs.PlaceLists.{plain_reads}
-use Rattle.wasm_codec.proofs.AskedLaws.{joined_narrow}
+use Rattle.wasm_codec.proofs.MinimalIfLaws.{joined_minimal_only}
 use Rattle.wasm_types.proofs.TypeFormatLaws.{Lawful-heap-type, Lawful-val-type}
 use Rattle.wasm_instructions.specs.formats.Operands.{ieee32, ieee64}
 use Rattle.wasm_instructions.specs.formats.Opcodes.{opcode_kind}
@@ -127,7 +127,7 @@ Shortest-instructions = Shortest-joined Lawful-instruction.shortest
 
 -- instructions in their shortest encodings are the shortest encoding of their list
 pub are_shortest : (bytes : List ℕ) (calls : List Instruction) → ShortestInstructions bytes calls ↔ (Instructions bytes calls × (bytes ≡ instructions_bytes calls))
-are_shortest = joined_narrow Lawful-instruction
+are_shortest = joined_minimal_only Lawful-instruction
 
 -- one instruction more at the end
 pub record More (calls : List Instruction) (i : ℕ) (old new : List ℕ) : Type 0 where

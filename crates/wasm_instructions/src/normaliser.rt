@@ -1,6 +1,6 @@
 //! The normaliser of lists of instructions (Core 3.0, Instructions).
 ghost use Rattle.std.specs.Prelude.{◌<◌, length};
-ghost use Rattle.wasm_codec.specs.Answers.{EncodesSome};
+ghost use Rattle.wasm_codec.specs.Outcomes.{EncodesSome};
 ghost use Rattle.wasm_instructions.specs.formats.Instructions.{Instruction};
 ghost use Rattle.wasm_instructions.specs.formats.Instructions.{Instructions, ShortestInstructions, opcode, instruction};
 ghost use Rattle.wasm_codec.specs.Rewriter.{Gives, Rewrites};
@@ -16,7 +16,7 @@ use scan::scan_call;
 use std::alloc::Global;
 use wasm_codec::reader::ReadError;
 use wasm_codec::reader::cursor::Fault;
-use wasm_codec::rewriter::{Joinable, Rewritable, Rewriter, Scanned, normalise_joined};
+use wasm_codec::rewriter::{Joinable, Rewritable, Rewriter, Scanned, rewrite_items_to_end};
 
 /// Returns the minimal encoding of a list of instructions (Core 3.0, Instructions).
 ///
@@ -51,7 +51,7 @@ pub fn normalise_instructions(alloc: Global, bytes: &[u8]) -> Result<Vec<u8>, Re
 pub fn rewrite_instructions(bytes: Vec<u8>) -> Result<Vec<u8>, ReadError>
     ensures normalises { NormalisesInPlace (to_end instruction) (EncodesSome Instructions) bytes.items result }
 {
-    normalise_joined::<Call>(bytes)
+    rewrite_items_to_end::<Call>(bytes)
 }
 
 /// Copies the bytes and rewrites the copy.

@@ -5,9 +5,9 @@ use Rattle.wasm_codec.specs.Lawful.{IsLawful}
 use Rattle.wasm_codec.proofs.ListReading.{AtMostOne}
 use Rattle.wasm_codec.proofs.ListLaws.{AtMostOne-list}
 use Rattle.wasm_codec.proofs.PlaceLists.{plain_reads}
-use Rattle.wasm_codec.proofs.AskedLaws.{list_narrow}
+use Rattle.wasm_codec.proofs.MinimalIfLaws.{list_minimal_only}
 use Rattle.wasm_codec.specs.declared.reader.ReadError.{ReadError}
-use Rattle.wasm_codec.specs.Answers.{IsNormalForm}
+use Rattle.wasm_codec.specs.Outcomes.{IsNormalForm}
 use Rattle.wasm_codec.proofs.FormatLaws.{not_longer, Lawful-u32, Lawful-both, Lawful-made, Lawful-items, takes_bytes}
 use Rattle.wasm_codec.specs.Lawful.{IsLawfulBody}
 use Rattle.wasm_codec.proofs.BodyLaws.{Lawful-sized, Lawful-to-end, Lawful-then-body}
@@ -44,4 +44,4 @@ AtMostOne-code-section-body = AtMostOne-list (plain_reads Lawful-code_body.reads
 -- the encodings by shortest ones alone are the shortest encodings
 pub is_shortest_code : (bytes : List ℕ) (bodies : List CodeBody) → ShortestCodeSectionBody bytes bodies ↔ (code_section_body.Encodes bytes bodies × (bytes ≡ code_section_body.bytes bodies))
 unfolding code_section_body
-is_shortest_code = list_narrow Lawful-code_body
+is_shortest_code = list_minimal_only Lawful-code_body

@@ -5,7 +5,7 @@ use lib.Pointwise.{pointwise, bytes_decides}
 use Rattle.std.proofs.lemmas.List.{append-nil, append_cancel_left, take_at, drop_at, take-append-drop}
 use Rattle.std.specs.List.{flat_map}
 use Rattle.wasm_codec.specs.formats.Grammar.{Grammar, After, Joined}
-use Rattle.wasm_codec.specs.Answers.{IsLongestPrefix, IsNormalForm, EncodesSome}
+use Rattle.wasm_codec.specs.Outcomes.{IsLongestPrefix, IsNormalForm, EncodesSome}
 use Rattle.wasm_codec.specs.formats.Grammar.{IsBytes, TakesBytes}
 use Rattle.wasm_codec.specs.Lawful.{IsLawful}
 use Rattle.wasm_codec.specs.Places.{place}

@@ -2,4 +2,4 @@ pub mod CodeBodyLaws
 pub mod HeaderLaws
 pub mod ModuleFormatLaws
 pub mod ModuleLaws
-pub mod DecodedModuleLaws
+pub mod TypedModuleLaws

@@ -1,3 +1,3 @@
 pub mod formats
 pub mod Modules
-pub mod DecodedModules
+pub mod TypedModules

@@ -1,7 +1,7 @@
 -- Modules as sections with their bodies as bytes (WebAssembly Core 3.0, Modules).
 use Rattle.std.specs.Prelude.{◌≡◌, ℕ, ◌^◌, ◌<◌, ◌⊎◌, Bool, true, List, [], length}
-use Rattle.wasm_codec.specs.Answers.{EncodesSome}
-use Rattle.wasm_codec.specs.formats.Combinators.{Format, asked}
+use Rattle.wasm_codec.specs.Outcomes.{EncodesSome}
+use Rattle.wasm_codec.specs.formats.Combinators.{Format, minimal_if}
 use Rattle.wasm_modules.specs.formats.Sections.{SectionParts}
 use Rattle.wasm_modules.specs.formats.Modules.{module_of, raw_section}
 
@@ -19,9 +19,9 @@ abbrev pub IsModulePrefix : List ℕ → Type 0
 IsModulePrefix = IsModulePrefixOf raw_section
 
 -- The prefix is empty, or the header and sections; if `strict`, each size is minimally encoded.
-abbrev pub IsAskedModulePrefix : Bool → List ℕ → Type 0
-IsAskedModulePrefix strict = IsModulePrefixOf (asked strict raw_section)
+abbrev pub IsModulePrefixMinimalIf : Bool → List ℕ → Type 0
+IsModulePrefixMinimalIf strict = IsModulePrefixOf (minimal_if strict raw_section)
 
 -- The prefix is empty, or it is the header and sections whose sizes are minimally encoded.
 abbrev pub IsShortestModulePrefix : List ℕ → Type 0
-IsShortestModulePrefix = IsAskedModulePrefix true
+IsShortestModulePrefix = IsModulePrefixMinimalIf true

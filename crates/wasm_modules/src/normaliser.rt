@@ -1,15 +1,15 @@
-//! The normaliser of modules (Core 3.0, Modules). In a decoded module, type sections are lists of entries, code
+//! The normaliser of modules (Core 3.0, Modules). In a typed module, type sections are lists of entries, code
 //! sections are lists of code bodies, and other sections are bytes.
 ghost use Rattle.std.specs.Prelude.{◌≡◌, List};
 ghost use Rattle.std.specs.List.{AllByRecursion};
 ghost use Rattle.wasm_codec.specs.formats.Bodies.{bytes_to_end};
-ghost use Rattle.wasm_codec.specs.formats.Combinators.{made, narrow};
+ghost use Rattle.wasm_codec.specs.formats.Combinators.{made, minimal_only};
 ghost use Rattle.wasm_codec.specs.Rewriter.{Rewrites};
 ghost use Rattle.wasm_types.specs.formats.Types.{type_body};
-ghost use Rattle.wasm_modules.specs.formats.Sections.{Content, DecodedSection, type_entries, code_bodies, raw_bytes};
-ghost use Rattle.wasm_modules.specs.DecodedModules.{IsDecodedModulePrefix, IsDecodedSection};
+ghost use Rattle.wasm_modules.specs.formats.Sections.{Content, TypedSection, type_entries, code_bodies, raw_bytes};
+ghost use Rattle.wasm_modules.specs.TypedModules.{IsTypedModulePrefix, IsTypedSection};
 ghost use Rattle.wasm_modules.specs.formats.CodeBodies.{code_section_body};
-ghost use Rattle.wasm_modules.specs.formats.Modules.{entries_part, bodies_part, bytes_part, decoded_section, decoded_module};
+ghost use Rattle.wasm_modules.specs.formats.Modules.{entries_part, bodies_part, bytes_part, typed_section, typed_module};
 ghost use Rattle.wasm_codec.specs.Decoding.{Normalises, NormalisesInPlace};
 
 pub mod framing;
@@ -41,10 +41,10 @@ use wasm_types::types::TypeEntry;
 /// assert_eq!(rt; minimal.as_slice(), b"\0asm\x01\0\0\0\x03\x02\x01\x00".as_slice());
 /// ```
 pub fn normalise_module(alloc: Global, bytes: &[u8]) -> Result<Vec<u8>, ReadError>
-    ensures normalises { Normalises decoded_module (narrow decoded_module).Encodes IsDecodedModulePrefix bytes.now result }
+    ensures normalises { Normalises typed_module (minimal_only typed_module).Encodes IsTypedModulePrefix bytes.now result }
     // The minimal encoding of decoded sections in range encodes them.
-    ensures encodes { (sections : List DecodedSection) → AllByRecursion IsDecodedSection sections →
-        bytes.now ≡ decoded_module.bytes sections → decoded_module.Encodes bytes.now sections }
+    ensures encodes { (sections : List TypedSection) → AllByRecursion IsTypedSection sections →
+        bytes.now ≡ typed_module.bytes sections → typed_module.Encodes bytes.now sections }
 {
     normalise_module_of::<Section>(alloc, bytes)
 }
@@ -62,7 +62,7 @@ pub fn normalise_module(alloc: Global, bytes: &[u8]) -> Result<Vec<u8>, ReadErro
 /// assert_eq!(rt; minimal.as_slice(), b"\0asm\x01\0\0\0\x01\x04\x01\x60\x00\x00".as_slice());
 /// ```
 pub fn rewrite_module(bytes: Vec<u8>) -> Result<Vec<u8>, ReadError>
-    ensures normalises { NormalisesInPlace decoded_module IsDecodedModulePrefix bytes.items result }
+    ensures normalises { NormalisesInPlace typed_module IsTypedModulePrefix bytes.items result }
 {
     rewrite_module_of::<Section>(bytes)
 }
@@ -71,9 +71,9 @@ pub fn rewrite_module(bytes: Vec<u8>) -> Result<Vec<u8>, ReadError>
 struct Section;
 
 impl Rewritable for Section {
-    ghost Value = { DecodedSection };
+    ghost Value = { TypedSection };
 
-    ghost format = { decoded_section };
+    ghost format = { typed_section };
 
     #[inline(always)]
     fn is_lawful() {}
@@ -85,9 +85,9 @@ impl Rewritable for Section {
 }
 
 /// Rewrites a section and its content.
-#[tactic(auto, using(std::proofs::Common::append_assoc), unfolding(crate::specs::formats::Modules::decoded_section))]
+#[tactic(auto, using(std::proofs::Common::append_assoc), unfolding(crate::specs::formats::Modules::typed_section))]
 fn rewrite_section(rewriter: &mut Rewriter) -> Result<(), Fault>
-    ensures rewrites { Rewrites decoded_section rewriter.old rewriter.new result }
+    ensures rewrites { Rewrites typed_section rewriter.old rewriter.new result }
 {
     let id = rewriter.byte()?;
     if id == TYPE_SECTION_ID {

@@ -2,9 +2,9 @@
 use Rattle.std.proofs.Common.{◌≡◌, ℕ, ◌+◌, ◌-◌, ◌<◌, ◌≤◌, true, false, List, [], ◌++◌, length, Option, Some, None, Err, refl, sym, ap, ◌∙◌, append_assoc, length-append, inl, inr, arith}
 use Rattle.std.specs.Prelude.{is_some}
 use Rattle.wasm_codec.specs.formats.Grammar.{Grammar, IsBytes}
-use Rattle.wasm_codec.specs.Answers.{HoldsAtRefusal, IsLongestPrefix, IsNormalForm, EncodesSome}
+use Rattle.wasm_codec.specs.Outcomes.{HoldsAtRefusal, IsLongestPrefix, IsNormalForm, EncodesSome}
 use Rattle.wasm_codec.specs.Lawful.{IsLawful}
-use Rattle.wasm_codec.specs.Lists.{EncodesList, IsListPrefix, IsCountedPrefix, AskedList, IsAskedPrefix, items_bytes}
+use Rattle.wasm_codec.specs.Lists.{EncodesList, IsListPrefix, IsCountedPrefix, ListMinimalIf, IsListPrefixMinimalIf, items_bytes}
 use Rattle.wasm_codec.specs.formats.Numbers.{EncodesU32}
 use Rattle.wasm_codec.specs.Places.{Place, place, keeps}
 use Rattle.wasm_codec.specs.Rewriter.{Rewriting, rewriting_after, Rewrites}
@@ -12,10 +12,10 @@ use Rattle.wasm_codec.specs.declared.reader.cursor.Fault.{Fault}
 use Rattle.wasm_codec.specs.declared.reader.cursor.Fault.TheVariants as faults
 use Rattle.wasm_codec.specs.declared.reader.ReadError.{ReadError}
 use Rattle.wasm_codec.specs.declared.reader.ReadError.TheVariants as errors
-use Rattle.wasm_codec.specs.formats.Combinators.{Format, narrow, u32}
+use Rattle.wasm_codec.specs.formats.Combinators.{Format, minimal_only, u32}
 use Rattle.wasm_codec.proofs.FormatLaws.{Lawful-u32, not_longer}
 use Rattle.wasm_codec.proofs.Laws.{one_reading}
-use Rattle.wasm_codec.proofs.PlaceLists.{step, plain_reads, Lawful-narrow}
+use Rattle.wasm_codec.proofs.PlaceLists.{step, plain_reads, Lawful-minimal_only}
 use Rattle.wasm_codec.proofs.RewriterLaws.{is_after, after_is}
 
 clash : {A : Type 0} (o : Option A) (x : A) → o ≡ None → o ≡ Some x → ⊥
@@ -54,24 +54,24 @@ an_item {V} {F} r old new fits e =
     }
 
 -- as many bytes were written as were read
-pub item_taken : {V : Type 0} {F : Format V} → IsLawful F → (old new : Rewriting) → IsBytes old.place.left → rewriting_after F old ≡ Some new → length old.place.left - length new.place.left ≤ length new.done - length old.done → rewriting_after (narrow F) old ≡ Some new
+pub item_taken : {V : Type 0} {F : Format V} → IsLawful F → (old new : Rewriting) → IsBytes old.place.left → rewriting_after F old ≡ Some new → length old.place.left - length new.place.left ≤ length new.done - length old.done → rewriting_after (minimal_only F) old ≡ Some new
 item_taken {V} {F} r old new fits e as_many =
     let i = an_item r old new fits e in
     let same : i.prefix ≡ F.bytes i.value = elim (r.shortest.least i.prefix i.value i.encodes) [ inl p ↦ p | inr longer ↦ absurd (omega (arith, i.read_len, i.written_len)) ] in
-    let read : (narrow F).at (place old.place.shortest (i.prefix ++ new.place.left)) ≡ Some (i.value, place (keeps old.place.shortest i.prefix (F.bytes i.value)) new.place.left) = (Lawful-narrow r).reads.complete i.prefix i.value new.place.left old.place.shortest (i.encodes, same) in
-    let there : (narrow F).at old.place ≡ Some (i.value, new.place) = ap (λ (l : List ℕ). (narrow F).at (place old.place.shortest l)) i.parts ∙ read ∙ ap (λ (s : _). Some (i.value, place s new.place.left)) (sym i.tells) in
-    after_is (narrow F) old new i.value there i.written i.rest
+    let read : (minimal_only F).at (place old.place.shortest (i.prefix ++ new.place.left)) ≡ Some (i.value, place (keeps old.place.shortest i.prefix (F.bytes i.value)) new.place.left) = (Lawful-minimal_only r).reads.complete i.prefix i.value new.place.left old.place.shortest (i.encodes, same) in
+    let there : (minimal_only F).at old.place ≡ Some (i.value, new.place) = ap (λ (l : List ℕ). (minimal_only F).at (place old.place.shortest l)) i.parts ∙ read ∙ ap (λ (s : _). Some (i.value, place s new.place.left)) (sym i.tells) in
+    after_is (minimal_only F) old new i.value there i.written i.rest
 
-none_unless : {V : Type 0} (F : Format V) → IsLawful F → (p : Place) → IsBytes p.left → ((prefix rest : List ℕ) (v : V) → F.Encodes prefix v → prefix ≡ F.bytes v → p.left ≡ prefix ++ rest → ⊥) → (narrow F).at p ≡ None
-none_unless {V} F r p fits never = by ((narrow F).at p) refl where
-  by : (o : Option (V × Place)) → (narrow F).at p ≡ o → o ≡ None
+none_unless : {V : Type 0} (F : Format V) → IsLawful F → (p : Place) → IsBytes p.left → ((prefix rest : List ℕ) (v : V) → F.Encodes prefix v → prefix ≡ F.bytes v → p.left ≡ prefix ++ rest → ⊥) → (minimal_only F).at p ≡ None
+none_unless {V} F r p fits never = by ((minimal_only F).at p) refl where
+  by : (o : Option (V × Place)) → (minimal_only F).at p ≡ o → o ≡ None
   by None e = refl
   by (Some x) e =
-      let one = (Lawful-narrow r).reads.sound p x.0 x.1 fits e in
+      let one = (Lawful-minimal_only r).reads.sound p x.0 x.1 fits e in
       absurd (never one.prefix x.1.left x.0 one.encodes.0 one.encodes.1 one.parts)
 
 -- fewer bytes were written than were read
-pub item_refused : {V : Type 0} {F : Format V} → IsLawful F → (old new : Rewriting) → IsBytes old.place.left → rewriting_after F old ≡ Some new → length new.done - length old.done < length old.place.left - length new.place.left → (narrow F).at old.place ≡ None
+pub item_refused : {V : Type 0} {F : Format V} → IsLawful F → (old new : Rewriting) → IsBytes old.place.left → rewriting_after F old ≡ Some new → length new.done - length old.done < length old.place.left - length new.place.left → (minimal_only F).at old.place ≡ None
 item_refused {V} {F} r old new fits e fewer =
     let i = an_item r old new fits e in
     none_unless F r old.place fits (λ prefix rest v g shortest parts.
@@ -79,27 +79,27 @@ item_refused {V} {F} r old new fits e fewer =
     absurd (omega (arith, i.read_len, i.written_len, ap (length {A = ℕ}) one.0, ap (length {A = ℕ}) shortest, ap (λ (w : V). length (F.bytes w)) one.1)))
 
 -- nothing is read there
-pub nothing_there : {V : Type 0} {F : Format V} → IsLawful F → (p : Place) → IsBytes p.left → F.at p ≡ None → (narrow F).at p ≡ None
+pub nothing_there : {V : Type 0} {F : Format V} → IsLawful F → (p : Place) → IsBytes p.left → F.at p ≡ None → (minimal_only F).at p ≡ None
 nothing_there {V} {F} r p fits none = none_unless F r p fits (λ prefix rest v g shortest parts.
     clash (F.at p) (v, place (keeps p.shortest prefix (F.bytes v)) rest) none (ap (λ (l : List ℕ). F.at (place p.shortest l)) parts ∙ r.reads.complete prefix v rest p.shortest g))
 
-pub refused_again : {V : Type 0} {F : Format V} → IsLawful F → (old mid new : Rewriting) → IsBytes old.place.left → (fault : Fault) → Rewrites F old mid (Err fault) → Rewrites (narrow F) old new (Err fault)
+pub refused_again : {V : Type 0} {F : Format V} → IsLawful F → (old mid new : Rewriting) → IsBytes old.place.left → (fault : Fault) → Rewrites F old mid (Err fault) → Rewrites (minimal_only F) old new (Err fault)
 refused_again r old mid new fits faults.Malformed none = nothing_there r old.place fits none
 refused_again r old mid new fits faults.Memory none = none
 
 -- ---- a count, and then items
 
 -- the count that the bytes begin with is in its shortest encoding
-counted_short : (bytes prefix rest : List ℕ) (n : ℕ) → IsBytes bytes → is_some ((narrow u32).at (place true bytes)) ≡ true → EncodesU32 prefix n → bytes ≡ prefix ++ rest → (narrow u32).Encodes prefix n
-counted_short bytes prefix rest n fits there g parts = by ((narrow u32).at (place true bytes)) refl there where
-  by : (o : Option (ℕ × Place)) → (narrow u32).at (place true bytes) ≡ o → is_some o ≡ true → (narrow u32).Encodes prefix n
+counted_short : (bytes prefix rest : List ℕ) (n : ℕ) → IsBytes bytes → is_some ((minimal_only u32).at (place true bytes)) ≡ true → EncodesU32 prefix n → bytes ≡ prefix ++ rest → (minimal_only u32).Encodes prefix n
+counted_short bytes prefix rest n fits there g parts = by ((minimal_only u32).at (place true bytes)) refl there where
+  by : (o : Option (ℕ × Place)) → (minimal_only u32).at (place true bytes) ≡ o → is_some o ≡ true → (minimal_only u32).Encodes prefix n
   by None e is = absurd cc
   by (Some x) e is =
-      let one = (Lawful-narrow Lawful-u32).reads.sound (place true bytes) x.0 x.1 fits e in
+      let one = (Lawful-minimal_only Lawful-u32).reads.sound (place true bytes) x.0 x.1 fits e in
       let same = one_reading (plain_reads Lawful-u32.reads) one.prefix prefix x.1.left rest x.0 n one.encodes.0 g (sym one.parts ∙ parts) in
       (g, sym same.0 ∙ one.encodes.1 ∙ ap u32.bytes same.1)
 
-short_prefix : {V : Type 0} (G : Grammar V) (bytes prefix rest : List ℕ) → IsBytes bytes → is_some ((narrow u32).at (place true bytes)) ≡ true → bytes ≡ prefix ++ rest → IsListPrefix G prefix → IsCountedPrefix (narrow u32).Encodes G prefix
+short_prefix : {V : Type 0} (G : Grammar V) (bytes prefix rest : List ℕ) → IsBytes bytes → is_some ((minimal_only u32).at (place true bytes)) ≡ true → bytes ≡ prefix ++ rest → IsListPrefix G prefix → IsCountedPrefix (minimal_only u32).Encodes G prefix
 short_prefix G bytes prefix rest fits there parts (inl none) = inl none
 short_prefix G bytes prefix rest fits there parts (inr h) = inr (record {
   count = h.count;
@@ -112,36 +112,36 @@ short_prefix G bytes prefix rest fits there parts (inr h) = inr (record {
   encoded = h.encoded;
 })
 
-wide_prefix : {V : Type 0} (G : Grammar V) (prefix : List ℕ) → IsCountedPrefix (narrow u32).Encodes G prefix → IsListPrefix G prefix
+wide_prefix : {V : Type 0} (G : Grammar V) (prefix : List ℕ) → IsCountedPrefix (minimal_only u32).Encodes G prefix → IsListPrefix G prefix
 wide_prefix G prefix (inl none) = inl none
 wide_prefix G prefix (inr h) = inr (record { count = h.count; items = h.items; head = h.head; back = h.back; parts = h.parts; counted = h.counted.0; few = h.few; encoded = h.encoded })
 
-pub list_taken : {V : Type 0} (F : Format V) (bytes given : List ℕ) → IsBytes bytes → is_some ((narrow u32).at (place true bytes)) ≡ true → IsNormalForm (EncodesList (narrow F).Encodes) (items_bytes F.bytes) bytes given → EncodesSome (AskedList true F) bytes
+pub list_taken : {V : Type 0} (F : Format V) (bytes given : List ℕ) → IsBytes bytes → is_some ((minimal_only u32).at (place true bytes)) ≡ true → IsNormalForm (EncodesList (minimal_only F).Encodes) (items_bytes F.bytes) bytes given → EncodesSome (ListMinimalIf true F) bytes
 list_taken F bytes given fits there n =
     let g = n.encoded in
     (n.value, (g.0, g.1, g.2, counted_short bytes g.0 g.1 (length n.value) fits there g.3 g.2, g.4))
 
-list_prefix : {V : Type 0} (F : Format V) (bytes : List ℕ) (at : ℕ) → IsBytes bytes → is_some ((narrow u32).at (place true bytes)) ≡ true → IsLongestPrefix (IsListPrefix (narrow F).Encodes) bytes at → IsLongestPrefix (IsAskedPrefix true F) bytes at
+list_prefix : {V : Type 0} (F : Format V) (bytes : List ℕ) (at : ℕ) → IsBytes bytes → is_some ((minimal_only u32).at (place true bytes)) ≡ true → IsLongestPrefix (IsListPrefix (minimal_only F).Encodes) bytes at → IsLongestPrefix (IsListPrefixMinimalIf true F) bytes at
 list_prefix F bytes at fits there l = record {
   prefix = l.prefix;
   rest = l.rest;
   parts = l.parts;
   len_is = l.len_is;
-  whole = short_prefix (narrow F).Encodes bytes l.prefix l.rest fits there l.parts l.whole;
-  longest = λ other after e w. l.longest other after e (wide_prefix (narrow F).Encodes other w);
+  whole = short_prefix (minimal_only F).Encodes bytes l.prefix l.rest fits there l.parts l.whole;
+  longest = λ other after e w. l.longest other after e (wide_prefix (minimal_only F).Encodes other w);
 }
 
-list_unencoded : {V : Type 0} (F : Format V) (bytes : List ℕ) → ((items : List V) → EncodesList (narrow F).Encodes bytes items → ⊥) → (items : List V) → AskedList true F bytes items → ⊥
+list_unencoded : {V : Type 0} (F : Format V) (bytes : List ℕ) → ((items : List V) → EncodesList (minimal_only F).Encodes bytes items → ⊥) → (items : List V) → ListMinimalIf true F bytes items → ⊥
 list_unencoded F bytes none items g = none items (g.0, g.1, g.2, g.3.0, g.4)
 
 -- there is no such count
-no_count : (bytes prefix rest : List ℕ) (n : ℕ) → is_some ((narrow u32).at (place true bytes)) ≡ false → (narrow u32).Encodes prefix n → bytes ≡ prefix ++ rest → ⊥
+no_count : (bytes prefix rest : List ℕ) (n : ℕ) → is_some ((minimal_only u32).at (place true bytes)) ≡ false → (minimal_only u32).Encodes prefix n → bytes ≡ prefix ++ rest → ⊥
 no_count bytes prefix rest n none g parts =
-    let read = ap (λ (l : List ℕ). (narrow u32).at (place true l)) parts ∙ (Lawful-narrow Lawful-u32).reads.complete prefix n rest true g in
+    let read = ap (λ (l : List ℕ). (minimal_only u32).at (place true l)) parts ∙ (Lawful-minimal_only Lawful-u32).reads.complete prefix n rest true g in
     let there : true ≡ false = sym (ap is_some read) ∙ none in
     absurd cc
 
-pub no_list_prefix : {V : Type 0} (F : Format V) (bytes : List ℕ) → is_some ((narrow u32).at (place true bytes)) ≡ false → IsLongestPrefix (IsAskedPrefix true F) bytes 0
+pub no_list_prefix : {V : Type 0} (F : Format V) (bytes : List ℕ) → is_some ((minimal_only u32).at (place true bytes)) ≡ false → IsLongestPrefix (IsListPrefixMinimalIf true F) bytes 0
 no_list_prefix {V} F bytes none = record {
   prefix = [];
   rest = bytes;
@@ -150,18 +150,18 @@ no_list_prefix {V} F bytes none = record {
   whole = inl refl;
   longest = λ other after e w. longest other after e w;
 } where
-  longest : (other after : List ℕ) → bytes ≡ other ++ after → IsAskedPrefix true F other → length other ≤ 0
+  longest : (other after : List ℕ) → bytes ≡ other ++ after → IsListPrefixMinimalIf true F other → length other ≤ 0
   longest other after e (inl empty) = rw empty (omega arith)
   longest other after e (inr h) = absurd (no_count bytes h.head (h.back ++ after) h.count none h.counted (e ∙ ap (λ (t : List ℕ). t ++ after) h.parts ∙ append_assoc h.head h.back after))
 
-pub no_list : {V : Type 0} (F : Format V) (bytes : List ℕ) → is_some ((narrow u32).at (place true bytes)) ≡ false → (items : List V) → AskedList true F bytes items → ⊥
+pub no_list : {V : Type 0} (F : Format V) (bytes : List ℕ) → is_some ((minimal_only u32).at (place true bytes)) ≡ false → (items : List V) → ListMinimalIf true F bytes items → ⊥
 no_list F bytes none items g = no_count bytes g.0 g.1 (length items) none g.3 g.2
 
 -- the same at a refusal
-pub refused_prefix : {V : Type 0} (F : Format V) (bytes : List ℕ) (error : ReadError) → IsBytes bytes → is_some ((narrow u32).at (place true bytes)) ≡ true → HoldsAtRefusal error (IsLongestPrefix (IsListPrefix (narrow F).Encodes) bytes) → HoldsAtRefusal error (IsLongestPrefix (IsAskedPrefix true F) bytes)
+pub refused_prefix : {V : Type 0} (F : Format V) (bytes : List ℕ) (error : ReadError) → IsBytes bytes → is_some ((minimal_only u32).at (place true bytes)) ≡ true → HoldsAtRefusal error (IsLongestPrefix (IsListPrefix (minimal_only F).Encodes) bytes) → HoldsAtRefusal error (IsLongestPrefix (IsListPrefixMinimalIf true F) bytes)
 refused_prefix F bytes errors.Memory fits there l = tt
 refused_prefix F bytes (errors.Refused at) fits there l = list_prefix F bytes at fits there l
 
-pub refused_unencoded : {V : Type 0} (F : Format V) (bytes : List ℕ) (error : ReadError) → HoldsAtRefusal error (λ _. (items : List V) → EncodesList (narrow F).Encodes bytes items → ⊥) → HoldsAtRefusal error (λ _. (items : List V) → AskedList true F bytes items → ⊥)
+pub refused_unencoded : {V : Type 0} (F : Format V) (bytes : List ℕ) (error : ReadError) → HoldsAtRefusal error (λ _. (items : List V) → EncodesList (minimal_only F).Encodes bytes items → ⊥) → HoldsAtRefusal error (λ _. (items : List V) → ListMinimalIf true F bytes items → ⊥)
 refused_unencoded F bytes errors.Memory none = tt
 refused_unencoded F bytes (errors.Refused at) none = list_unencoded F bytes none

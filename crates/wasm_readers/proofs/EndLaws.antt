@@ -4,7 +4,7 @@ use Rattle.std.proofs.lemmas.List.{append-nil}
 use Rattle.wasm_codec.specs.declared.reader.cursor.Fault.{Fault}
 use Rattle.wasm_codec.specs.declared.reader.cursor.Fault.TheVariants as faults
 use Rattle.wasm_codec.specs.formats.Grammar.{IsBytes, TakesBytes, Joined}
-use Rattle.wasm_codec.specs.Answers.{UnlessMemory, EncodesSome, IsAfterLongest, IsLongestPrefix}
+use Rattle.wasm_codec.specs.Outcomes.{UnlessMemory, EncodesSome, IsAfterLongest, IsLongestPrefix}
 use Rattle.wasm_codec.specs.Places.{Place, Reader, Reads}
 use Rattle.wasm_codec.specs.Lawful.{IsLawful}
 use Rattle.wasm_codec.specs.formats.Combinators.{Format}

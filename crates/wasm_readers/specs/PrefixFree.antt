@@ -6,7 +6,7 @@ use Rattle.wasm_instructions.specs.declared.table.opcode.Kind.{Kind}
 use Rattle.wasm_instructions.specs.formats.Operands.{block_type}
 use Rattle.wasm_instructions.specs.formats.Instructions.{operands_format, instruction}
 use Rattle.wasm_modules.specs.formats.CodeBodies.{code_body}
-use Rattle.wasm_modules.specs.formats.Modules.{raw_section, decoded_section}
+use Rattle.wasm_modules.specs.formats.Modules.{raw_section, typed_section}
 
 -- No encoding of a type of one of these kinds is a proper prefix of another of its kind.
 pub record TypesArePrefixFree : Type 0 where
@@ -35,4 +35,4 @@ pub record CodeBodiesArePrefixFree : Type 0 where
 -- No encoding of a section, raw or decoded, is a proper prefix of another of its kind.
 pub record SectionsArePrefixFree : Type 0 where
   pub sections : IsPrefixFree raw_section.Encodes
-  pub decoded_sections : IsPrefixFree decoded_section.Encodes
+  pub decoded_sections : IsPrefixFree typed_section.Encodes

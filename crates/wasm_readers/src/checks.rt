@@ -3,12 +3,12 @@
 //! A check accepts what the corresponding strict reader accepts, but returns no values. It works on a copy of the
 //! bytes.
 ghost use Rattle.std.specs.Prelude.{◌≡◌, ◌<◌, length, is_some, List, ℕ, true, IfOk};
-ghost use Rattle.wasm_codec.specs.Answers.{IfRefused, IsLongestPrefix, EncodesSome, NeedsNoMemory};
+ghost use Rattle.wasm_codec.specs.Outcomes.{IfRefused, IsLongestPrefix, EncodesSome, NeedsNoMemory};
 ghost use Rattle.wasm_codec.specs.formats.Grammar.{Joined};
-ghost use Rattle.wasm_codec.specs.Lists.{AskedList, IsAskedPrefix};
+ghost use Rattle.wasm_codec.specs.Lists.{ListMinimalIf, IsListPrefixMinimalIf};
 ghost use Rattle.wasm_codec.specs.Places.{place};
 ghost use Rattle.wasm_codec.specs.formats.Bodies.{bytes_to_end, to_end};
-ghost use Rattle.wasm_codec.specs.formats.Combinators.{narrow, u32 as u32_format};
+ghost use Rattle.wasm_codec.specs.formats.Combinators.{minimal_only, u32 as u32_format};
 ghost use Rattle.wasm_instructions.specs.formats.Instructions.{instruction};
 ghost use Rattle.wasm_instructions.specs.formats.Instructions.{ShortestInstructions};
 ghost use Rattle.wasm_modules.specs.Modules.{IsModulePrefixOf, IsShortestModulePrefix, IsModulePrefix};
@@ -25,8 +25,8 @@ use std::marker::PhantomData;
 use wasm_codec::reader::ReadError;
 use wasm_codec::reader::cursor::{Cursor, Fault};
 use wasm_codec::rewriter::{
-    Joinable, Rewritable, RewritableBody, Rewriter, Scanned, normalise_joined,
-    normalise_list_to_end, rewrite_sized,
+    Joinable, Rewritable, RewritableBody, Rewriter, Scanned, rewrite_items_to_end,
+    rewrite_list_to_end, rewrite_sized,
 };
 use wasm_instructions::table::Call;
 use wasm_modules::code::CodeBody;
@@ -51,7 +51,7 @@ use wasm_types::types::TypeEntry;
 pub fn check_type_section(alloc: Global, body: &[u8]) -> Result<(), ReadError>
     ensures checks { Checks type_body ShortestTypeBody IsShortestTypeBodyPrefix body.now result }
 {
-    check_list::<TypeEntry>(alloc, body)
+    check_list_to_end::<TypeEntry>(alloc, body)
 }
 
 /// Checks that a code section body is minimally encoded (Core 3.0, Code Section).
@@ -71,7 +71,7 @@ pub fn check_type_section(alloc: Global, body: &[u8]) -> Result<(), ReadError>
 pub fn check_code_section(alloc: Global, body: &[u8]) -> Result<(), ReadError>
     ensures checks { Checks code_section_body ShortestCodeSectionBody IsShortestCodeSectionBodyPrefix body.now result }
 {
-    check_list::<CodeBody>(alloc, body)
+    check_list_to_end::<CodeBody>(alloc, body)
 }
 
 /// Checks that a list of instructions is minimally encoded (Core 3.0, Instructions).
@@ -90,7 +90,7 @@ pub fn check_code_section(alloc: Global, body: &[u8]) -> Result<(), ReadError>
 pub fn check_instructions(alloc: Global, bytes: &[u8]) -> Result<(), ReadError>
     ensures checks { Checks (to_end instruction) ShortestInstructions (EncodesSome ShortestInstructions) bytes.now result }
 {
-    check_joined::<Call>(alloc, bytes)
+    check_items_to_end::<Call>(alloc, bytes)
 }
 
 /// Checks that the section sizes of a module are minimally encoded (Core 3.0, Modules).
@@ -117,12 +117,12 @@ pub fn check_module(alloc: Global, bytes: &[u8]) -> Result<(), ReadError>
 /// Fails with `Refused` at the offset of the first section that is malformed or not minimal, or at 0 if the header is
 /// missing. Fails with `Memory` if an allocation fails.
 pub fn check_module_of<T: Joinable>(alloc: Global, bytes: &[u8]) -> Result<(), ReadError>
-    ensures checks { ChecksAll (module_of (narrow T.format)).Encodes (IsModulePrefixOf (narrow T.format)) bytes.now result }
+    ensures checks { ChecksAll (module_of (minimal_only T.format)).Encodes (IsModulePrefixOf (minimal_only T.format)) bytes.now result }
 {
     let Some(rest) = after_header(bytes) else {
         return Err(ReadError::Refused { at: 0 });
     };
-    match check_joined::<T>(alloc, rest) {
+    match check_items_to_end::<T>(alloc, rest) {
         Ok(()) => Ok(()),
         Err(ReadError::Memory) => Err(ReadError::Memory),
         Err(ReadError::Refused { at }) => Err(ReadError::Refused {
@@ -142,19 +142,19 @@ pub fn rewrite_raw_module(bytes: Vec<u8>) -> Result<Vec<u8>, ReadError>
 }
 
 /// Checks that the bytes are a count and as many items, minimally encoded, without trailing bytes.
-pub fn check_list<T: Rewritable>(alloc: Global, bytes: &[u8]) -> Result<(), ReadError>
-    ensures checks { ChecksAll (AskedList true T.format) (IsAskedPrefix true T.format) bytes.now result }
+pub fn check_list_to_end<T: Rewritable>(alloc: Global, bytes: &[u8]) -> Result<(), ReadError>
+    ensures checks { ChecksAll (ListMinimalIf true T.format) (IsListPrefixMinimalIf true T.format) bytes.now result }
 {
     if !begins_with_count(bytes) {
         return Err(ReadError::Refused { at: 0 });
     }
-    let _list = normalise_list_to_end::<Shortest<T>>(Vec::from_slice(alloc, bytes)?)?;
+    let _list = rewrite_list_to_end::<Shortest<T>>(Vec::from_slice(alloc, bytes)?)?;
     Ok(())
 }
 
 /// Checks whether the bytes begin with a minimally encoded u32.
 fn begins_with_count(bytes: &[u8]) -> bool
-    ensures { result ≡ is_some ((narrow u32_format).at (place true bytes.now)) }
+    ensures { result ≡ is_some ((minimal_only u32_format).at (place true bytes.now)) }
 {
     let mut cursor = Cursor::new(bytes);
     match cursor.u32() {
@@ -164,12 +164,12 @@ fn begins_with_count(bytes: &[u8]) -> bool
 }
 
 /// Checks that the bytes are items one after another, without a count, minimally encoded.
-fn check_joined<T: Joinable>(alloc: Global, bytes: &[u8]) -> Result<(), ReadError>
-    ensures given { IfOk result (λ _. EncodesSome (Joined (narrow T.format).Encodes) bytes.now) }
-    ensures prefix { IfRefused result (IsLongestPrefix (EncodesSome (Joined (narrow T.format).Encodes)) bytes.now) }
+fn check_items_to_end<T: Joinable>(alloc: Global, bytes: &[u8]) -> Result<(), ReadError>
+    ensures given { IfOk result (λ _. EncodesSome (Joined (minimal_only T.format).Encodes) bytes.now) }
+    ensures prefix { IfRefused result (IsLongestPrefix (EncodesSome (Joined (minimal_only T.format).Encodes)) bytes.now) }
     ensures within { IfRefused result (λ at. at < length bytes.now) }
 {
-    let _items = normalise_joined::<Shortest<T>>(Vec::from_slice(alloc, bytes)?)?;
+    let _items = rewrite_items_to_end::<Shortest<T>>(Vec::from_slice(alloc, bytes)?)?;
     Ok(())
 }
 
@@ -181,7 +181,7 @@ struct Shortest<T> {
 impl<T: Rewritable> Rewritable for Shortest<T> {
     ghost Value = { T.Value };
 
-    ghost format = { narrow T.format };
+    ghost format = { minimal_only T.format };
 
     #[inline(always)]
     fn is_lawful() {

@@ -10,7 +10,7 @@ ghost use Rattle.wasm_codec.specs.Lawful.{IsLawful};
 ghost use Rattle.wasm_codec.specs.formats.Grammar.{TakesBytes};
 ghost use Rattle.wasm_codec.specs.Rewriter.{Rewrites};
 
-use crate::lists::{read_list_to_end, read_list_to_end_as, read_to_end};
+use crate::lists::{read_items, read_list_to_end};
 use crate::readable::Readable;
 use std::alloc::Global;
 use wasm_codec::list::Items;
@@ -41,7 +41,7 @@ pub fn read_code_section(alloc: Global, body: &[u8]) -> Result<Vec<CodeBody>, Re
     ensures decodes { Decodes (λ bodies. bodies.items) code_section_body IsCodeSectionBodyPrefix body.now result }
     ensures prefix_free { CodeBodiesArePrefixFree }
 {
-    read_list_to_end(alloc, body)
+    read_list_to_end::<CodeBody, false>(alloc, body)
 }
 
 /// Reads a minimally encoded code section body (Core 3.0, Code Section).
@@ -62,7 +62,7 @@ pub fn read_code_section(alloc: Global, body: &[u8]) -> Result<Vec<CodeBody>, Re
 pub fn read_code_section_strict(alloc: Global, body: &[u8]) -> Result<Vec<CodeBody>, ReadError>
     ensures decodes { DecodesMinimal (λ bodies. bodies.items) code_section_body ShortestCodeSectionBody IsShortestCodeSectionBodyPrefix body.now result }
 {
-    read_list_to_end_as::<CodeBody, true>(alloc, body)
+    read_list_to_end::<CodeBody, true>(alloc, body)
 }
 
 impl<'a> Readable<'a> for CodeBody {
@@ -99,7 +99,7 @@ fn read_code_body(alloc: Global, cursor: &mut Cursor<'_>) -> Result<CodeBody, Fa
 {
     let mut code = cursor.body()?;
     let locals = read_locals(alloc, &mut code)?;
-    let calls = read_to_end(alloc, &mut code)?;
+    let calls = read_items(alloc, &mut code)?;
     cursor.set_shortest(code.is_shortest());
     Ok(CodeBody { locals, calls })
 }

@@ -1,7 +1,7 @@
 //! Readers of lists of instructions (Core 3.0, Instructions).
 ghost use Rattle.std.specs.Prelude.{IfOk, refl};
 ghost use Rattle.wasm_codec.specs.Places.{Reads};
-ghost use Rattle.wasm_codec.specs.Answers.{EncodesSome};
+ghost use Rattle.wasm_codec.specs.Outcomes.{EncodesSome};
 ghost use Rattle.wasm_instructions.specs.formats.Instructions.{Instruction, Instructions, ShortestInstructions, instruction};
 ghost use Rattle.wasm_instructions.specs.Instructions.{IsCounted};
 ghost use Rattle.wasm_codec.specs.Decoding.{Decodes, DecodesMinimal};
@@ -11,7 +11,7 @@ ghost use Rattle.wasm_codec.specs.Lawful.{IsLawful};
 ghost use Rattle.wasm_codec.specs.formats.Grammar.{TakesBytes};
 ghost use Rattle.wasm_codec.specs.Rewriter.{Rewrites};
 
-use crate::lists::{read_joined, read_joined_as};
+use crate::lists::read_items_to_end;
 use crate::operands::read_operands;
 use crate::readable::Readable;
 use std::alloc::Global;
@@ -41,7 +41,7 @@ pub fn read_instructions(alloc: Global, bytes: &[u8]) -> Result<Vec<Call>, ReadE
     ensures decodes { Decodes (λ calls. calls.items) (to_end instruction) (EncodesSome Instructions) bytes.now result }
     ensures prefix_free { InstructionsArePrefixFree }
 {
-    read_joined(alloc, bytes)
+    read_items_to_end::<Call, false>(alloc, bytes)
 }
 
 /// Reads a minimally encoded list of instructions (Core 3.0, Instructions).
@@ -61,7 +61,7 @@ pub fn read_instructions(alloc: Global, bytes: &[u8]) -> Result<Vec<Call>, ReadE
 pub fn read_instructions_strict(alloc: Global, bytes: &[u8]) -> Result<Vec<Call>, ReadError>
     ensures decodes { DecodesMinimal (λ calls. calls.items) (to_end instruction) ShortestInstructions (EncodesSome ShortestInstructions) bytes.now result }
 {
-    read_joined_as::<Call, true>(alloc, bytes)
+    read_items_to_end::<Call, true>(alloc, bytes)
 }
 
 /// Reads an instruction (Core 3.0, Instructions).

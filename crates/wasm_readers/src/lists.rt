@@ -5,12 +5,12 @@ ghost use Rattle.std.specs.Prelude.{◌≡◌, ◌^◌, ◌<◌, List, [], lengt
 ghost use Rattle.wasm_codec.specs.declared.reader.cursor.Fault.TheVariants.{Malformed};
 ghost use Rattle.wasm_codec.specs.formats.Grammar.{IsBytes, TakesBytes, Joined};
 ghost use Rattle.wasm_codec.specs.Reading.{ReadsPlain, FindsAt, map_ok};
-ghost use Rattle.wasm_codec.specs.Places.{Reads, counted_at, IsReadAsAsked};
+ghost use Rattle.wasm_codec.specs.Places.{Reads, counted_at, WasMinimalIf};
 ghost use Rattle.wasm_codec.specs.Lawful.{IsLawful, plain};
-ghost use Rattle.wasm_codec.specs.formats.Combinators.{items, asked, u32 as u32_format};
+ghost use Rattle.wasm_codec.specs.formats.Combinators.{items, minimal_if, u32 as u32_format};
 ghost use Rattle.wasm_codec.specs.formats.Bodies.{to_end};
-ghost use Rattle.wasm_codec.specs.Answers.{IfRefused, IsLongestPrefix, IsAfterLongest, UnlessMemory, EncodesSome};
-ghost use Rattle.wasm_codec.specs.Lists.{EncodesList, list_at, IsListPrefix, AskedList, asked_list_at, IsAskedPrefix};
+ghost use Rattle.wasm_codec.specs.Outcomes.{IfRefused, IsLongestPrefix, IsAfterLongest, UnlessMemory, EncodesSome};
+ghost use Rattle.wasm_codec.specs.Lists.{EncodesList, list_at, IsListPrefix, ListMinimalIf, list_minimal_if_at, IsListPrefixMinimalIf};
 
 use crate::readable::Readable;
 use std::alloc::Global;
@@ -34,46 +34,46 @@ pub fn read_list<'a, T: Readable<'a>>(
     // A u32 can count the items.
     ensures counted { IfOk result (λ items. length items < 2 ^ 32) }
 {
-    read_list_as::<T, false>(alloc, cursor)
+    read_list_minimal_if::<T, false>(alloc, cursor)
 }
 
 /// Reads a list, minimally encoded if `STRICT` is set.
-fn read_list_as<'a, T: Readable<'a>, const STRICT: bool>(
+fn read_list_minimal_if<'a, T: Readable<'a>, const STRICT: bool>(
     alloc: Global,
     cursor: &mut Cursor<'a>,
 ) -> Result<Items<T>, Fault>
-    requires passed { IsReadAsAsked STRICT cursor.old }
-    ensures reads { Reads (counted_at (asked STRICT u32_format).at (asked STRICT T.format).at) cursor.old cursor.new (map_ok T.views result) }
-    ensures left { ReadsPlain (asked_list_at STRICT T.format) cursor.old.left cursor.new.left (map_ok T.views result) }
-    ensures finds { UnlessMemory result (FindsAt (AskedList STRICT T.format) (asked_list_at STRICT T.format) cursor.old.left) }
-    ensures prefix { UnlessMemory result (IsAfterLongest (IsAskedPrefix STRICT T.format) cursor.old.left cursor.new.left) }
+    requires passed { WasMinimalIf STRICT cursor.old }
+    ensures reads { Reads (counted_at (minimal_if STRICT u32_format).at (minimal_if STRICT T.format).at) cursor.old cursor.new (map_ok T.views result) }
+    ensures left { ReadsPlain (list_minimal_if_at STRICT T.format) cursor.old.left cursor.new.left (map_ok T.views result) }
+    ensures finds { UnlessMemory result (FindsAt (ListMinimalIf STRICT T.format) (list_minimal_if_at STRICT T.format) cursor.old.left) }
+    ensures prefix { UnlessMemory result (IsAfterLongest (IsListPrefixMinimalIf STRICT T.format) cursor.old.left cursor.new.left) }
     ensures counted { IfOk result (λ items. length items < 2 ^ 32) }
 {
-    let count: u32 = read_or_stay::<u32, STRICT>(alloc, cursor)?;
+    let count: u32 = read_next_item::<u32, STRICT>(alloc, cursor)?;
     let mut items = Vec::new(alloc);
     for _ in 0..count {
-        let item = read_or_stay::<T, STRICT>(alloc, cursor)?;
+        let item = read_next_item::<T, STRICT>(alloc, cursor)?;
         items.push(item)?;
     }
     Ok(Items::from(items))
 }
 
 /// Reads the next item, minimally encoded if `STRICT` is set. If it fails, the cursor stays where it was.
-fn read_or_stay<'a, T: Readable<'a>, const STRICT: bool>(
+fn read_next_item<'a, T: Readable<'a>, const STRICT: bool>(
     alloc: Global,
     cursor: &mut Cursor<'a>,
 ) -> Result<T, Fault>
-    requires passed { IsReadAsAsked STRICT cursor.old }
-    ensures reads { Reads (asked STRICT T.format).at cursor.old cursor.new (map_ok T.view result) }
-    ensures left { ReadsPlain (plain (asked STRICT T.format).at) cursor.old.left cursor.new.left (map_ok T.view result) }
-    ensures passed { IsReadAsAsked STRICT cursor.new }
+    requires passed { WasMinimalIf STRICT cursor.old }
+    ensures reads { Reads (minimal_if STRICT T.format).at cursor.old cursor.new (map_ok T.view result) }
+    ensures left { ReadsPlain (plain (minimal_if STRICT T.format).at) cursor.old.left cursor.new.left (map_ok T.view result) }
+    ensures passed { WasMinimalIf STRICT cursor.new }
     ensures stays { IfErr result (λ _. cursor.new ≡ cursor.old) }
     ensures bytes { IsBytes cursor.old.left }
-    ensures lawful { IsLawful (asked STRICT T.format) }
-    ensures some { TakesBytes (asked STRICT T.format).Encodes }
+    ensures lawful { IsLawful (minimal_if STRICT T.format) }
+    ensures some { TakesBytes (minimal_if STRICT T.format).Encodes }
 {
     let start = cursor.fork();
-    match read_asked::<T, STRICT>(alloc, cursor) {
+    match read_item::<T, STRICT>(alloc, cursor) {
         Ok(item) => Ok(item),
         Err(fault) => {
             *cursor = start;
@@ -83,15 +83,15 @@ fn read_or_stay<'a, T: Readable<'a>, const STRICT: bool>(
 }
 
 /// Reads the next item, minimally encoded if `STRICT` is set.
-fn read_asked<'a, T: Readable<'a>, const STRICT: bool>(
+fn read_item<'a, T: Readable<'a>, const STRICT: bool>(
     alloc: Global,
     cursor: &mut Cursor<'a>,
 ) -> Result<T, Fault>
-    requires passed { IsReadAsAsked STRICT cursor.old }
-    ensures reads { Reads (asked STRICT T.format).at cursor.old cursor.new (map_ok T.view result) }
-    ensures passed { IfOk result (λ _. IsReadAsAsked STRICT cursor.new) }
-    ensures lawful { IsLawful (asked STRICT T.format) }
-    ensures some { TakesBytes (asked STRICT T.format).Encodes }
+    requires passed { WasMinimalIf STRICT cursor.old }
+    ensures reads { Reads (minimal_if STRICT T.format).at cursor.old cursor.new (map_ok T.view result) }
+    ensures passed { IfOk result (λ _. WasMinimalIf STRICT cursor.new) }
+    ensures lawful { IsLawful (minimal_if STRICT T.format) }
+    ensures some { TakesBytes (minimal_if STRICT T.format).Encodes }
 {
     T::is_lawful();
     let item = T::read(alloc, cursor)?;
@@ -101,7 +101,8 @@ fn read_asked<'a, T: Readable<'a>, const STRICT: bool>(
     Ok(item)
 }
 
-/// Reads a list from all of the bytes: a count, and then the items (Core 3.0, Lists).
+/// Reads a list from all of the bytes: a count, and then the items, minimally encoded if `STRICT` is set (Core 3.0,
+/// Lists).
 ///
 /// Fails with `Refused` if the bytes are malformed: `at` is the offset of the first malformed or missing item, or of
 /// trailing bytes. It is 0 if the count is malformed. Fails with `Memory` if an allocation fails.
@@ -110,35 +111,22 @@ fn read_asked<'a, T: Readable<'a>, const STRICT: bool>(
 ///
 /// ```
 /// # use wasm_encoder::{ReadError, read_list_to_end};
-/// let indexes: Vec<u32> = read_list_to_end(rt.alloc(), b"\x02\x07\x80\x01")?;
+/// let indexes = read_list_to_end::<u32, false>(rt.alloc(), b"\x02\x07\x80\x01")?;
 /// assert_eq!(rt; indexes.as_slice(), [7, 128].as_slice());
-/// let trailing = read_list_to_end::<u32>(rt.alloc(), b"\x01\x07\x00");
+/// let trailing = read_list_to_end::<u32, false>(rt.alloc(), b"\x01\x07\x00");
 /// assert_eq!(rt; trailing.err(), Some(ReadError::Refused { at: 2 }));
 /// ```
-pub fn read_list_to_end<'a, T: Readable<'a>>(
+pub fn read_list_to_end<'a, T: Readable<'a>, const STRICT: bool>(
     alloc: Global,
     bytes: &'a [u8],
 ) -> Result<Vec<T>, ReadError>
-    ensures given { IfOk result (λ items. EncodesList T.format.Encodes bytes.now (T.views items.items)) }
-    ensures prefix { IfRefused result (IsLongestPrefix (IsListPrefix T.format.Encodes) bytes.now) }
-    ensures unencoded { IfRefused result (λ _. (items : List T.Value) → EncodesList T.format.Encodes bytes.now items → ⊥) }
-    ensures counted { IfOk result (λ items. length items.items < 2 ^ 32) }
-{
-    read_list_to_end_as::<T, false>(alloc, bytes)
-}
-
-/// Reads a list from all of the bytes, minimally encoded if `STRICT` is set.
-pub fn read_list_to_end_as<'a, T: Readable<'a>, const STRICT: bool>(
-    alloc: Global,
-    bytes: &'a [u8],
-) -> Result<Vec<T>, ReadError>
-    ensures given { IfOk result (λ items. AskedList STRICT T.format bytes.now (T.views items.items)) }
-    ensures prefix { IfRefused result (IsLongestPrefix (IsAskedPrefix STRICT T.format) bytes.now) }
-    ensures unencoded { IfRefused result (λ _. (items : List T.Value) → AskedList STRICT T.format bytes.now items → ⊥) }
+    ensures given { IfOk result (λ items. ListMinimalIf STRICT T.format bytes.now (T.views items.items)) }
+    ensures prefix { IfRefused result (IsLongestPrefix (IsListPrefixMinimalIf STRICT T.format) bytes.now) }
+    ensures unencoded { IfRefused result (λ _. (items : List T.Value) → ListMinimalIf STRICT T.format bytes.now items → ⊥) }
     ensures counted { IfOk result (λ items. length items.items < 2 ^ 32) }
 {
     let mut cursor = Cursor::new(bytes);
-    match read_list_as::<T, STRICT>(alloc, &mut cursor) {
+    match read_list_minimal_if::<T, STRICT>(alloc, &mut cursor) {
         Ok(items) => {
             if cursor.len() > 0 {
                 let at = bytes.len() - cursor.len();
@@ -154,28 +142,19 @@ pub fn read_list_to_end_as<'a, T: Readable<'a>, const STRICT: bool>(
     }
 }
 
-/// Reads items one after another, without a count, from all of the bytes.
+/// Reads items one after another, without a count, from all of the bytes, minimally encoded if `STRICT` is set.
 ///
 /// Fails with `Refused` at the offset of the first malformed item, and with `Memory` if an allocation fails.
-pub fn read_joined<'a, T: Readable<'a>>(alloc: Global, bytes: &'a [u8]) -> Result<Vec<T>, ReadError>
-    ensures given { IfOk result (λ items. Joined T.format.Encodes bytes.now (T.views items.items)) }
-    ensures prefix { IfRefused result (IsLongestPrefix (EncodesSome (Joined T.format.Encodes)) bytes.now) }
-    ensures within { IfRefused result (λ at. at < length bytes.now) }
-{
-    read_joined_as::<T, false>(alloc, bytes)
-}
-
-/// Reads items one after another from all of the bytes, minimally encoded if `STRICT` is set.
-pub fn read_joined_as<'a, T: Readable<'a>, const STRICT: bool>(
+pub fn read_items_to_end<'a, T: Readable<'a>, const STRICT: bool>(
     alloc: Global,
     bytes: &'a [u8],
 ) -> Result<Vec<T>, ReadError>
-    ensures given { IfOk result (λ items. Joined (asked STRICT T.format).Encodes bytes.now (T.views items.items)) }
-    ensures prefix { IfRefused result (IsLongestPrefix (EncodesSome (Joined (asked STRICT T.format).Encodes)) bytes.now) }
+    ensures given { IfOk result (λ items. Joined (minimal_if STRICT T.format).Encodes bytes.now (T.views items.items)) }
+    ensures prefix { IfRefused result (IsLongestPrefix (EncodesSome (Joined (minimal_if STRICT T.format).Encodes)) bytes.now) }
     ensures within { IfRefused result (λ at. at < length bytes.now) }
 {
     let mut cursor = Cursor::new(bytes);
-    match read_to_end_as::<T, STRICT>(alloc, &mut cursor) {
+    match read_items_minimal_if::<T, STRICT>(alloc, &mut cursor) {
         Ok(items) => Ok(items.into_vec()),
         Err(Fault::Malformed) => {
             let at = bytes.len() - cursor.len();
@@ -188,7 +167,7 @@ pub fn read_joined_as<'a, T: Readable<'a>, const STRICT: bool>(
 /// Reads items one after another, without a count, up to the end of the cursor's bytes.
 ///
 /// If an item is malformed, the cursor stays at its start.
-pub fn read_to_end<'a, T: Readable<'a>>(
+pub fn read_items<'a, T: Readable<'a>>(
     alloc: Global,
     cursor: &mut Cursor<'a>,
 ) -> Result<Items<T>, Fault>
@@ -199,24 +178,24 @@ pub fn read_to_end<'a, T: Readable<'a>>(
     ensures prefix { UnlessMemory result (IsAfterLongest (EncodesSome (Joined T.format.Encodes)) cursor.old.left cursor.new.left) }
     ensures stopped { IfErr result (λ fault. fault ≡ Malformed → 0 < length cursor.new.left) }
 {
-    read_to_end_as::<T, false>(alloc, cursor)
+    read_items_minimal_if::<T, false>(alloc, cursor)
 }
 
 /// Reads items up to the end of the cursor's bytes, minimally encoded if `STRICT` is set.
-fn read_to_end_as<'a, T: Readable<'a>, const STRICT: bool>(
+fn read_items_minimal_if<'a, T: Readable<'a>, const STRICT: bool>(
     alloc: Global,
     cursor: &mut Cursor<'a>,
 ) -> Result<Items<T>, Fault>
-    requires passed { IsReadAsAsked STRICT cursor.old }
-    ensures reads { Reads (to_end (asked STRICT T.format)).at cursor.old cursor.new (map_ok T.views result) }
-    ensures given { IfOk result (λ items. Joined (asked STRICT T.format).Encodes cursor.old.left (T.views items)) }
+    requires passed { WasMinimalIf STRICT cursor.old }
+    ensures reads { Reads (to_end (minimal_if STRICT T.format)).at cursor.old cursor.new (map_ok T.views result) }
+    ensures given { IfOk result (λ items. Joined (minimal_if STRICT T.format).Encodes cursor.old.left (T.views items)) }
     ensures ended { IfOk result (λ _. cursor.new.left ≡ []) }
-    ensures prefix { UnlessMemory result (IsAfterLongest (EncodesSome (Joined (asked STRICT T.format).Encodes)) cursor.old.left cursor.new.left) }
+    ensures prefix { UnlessMemory result (IsAfterLongest (EncodesSome (Joined (minimal_if STRICT T.format).Encodes)) cursor.old.left cursor.new.left) }
     ensures stopped { IfErr result (λ fault. fault ≡ Malformed → 0 < length cursor.new.left) }
 {
     let mut items = Vec::new(alloc);
     while cursor.len() > 0 {
-        let item = read_or_stay::<T, STRICT>(alloc, cursor)?;
+        let item = read_next_item::<T, STRICT>(alloc, cursor)?;
         items.push(item)?;
     }
     Ok(Items::from(items))

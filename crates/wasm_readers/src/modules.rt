@@ -2,18 +2,18 @@
 ghost use Rattle.std.specs.Prelude.{refl};
 ghost use Rattle.std.proofs.lemmas.List.{map_push};
 ghost use Rattle.wasm_modules.specs.formats.Sections.{SectionParts, all_parts_of, parts_of};
-ghost use Rattle.wasm_codec.specs.formats.Combinators.{asked};
+ghost use Rattle.wasm_codec.specs.formats.Combinators.{minimal_if};
 ghost use Rattle.wasm_modules.specs.Modules.{IsModulePrefix, IsModulePrefixOf, IsShortestModulePrefix};
 ghost use Rattle.wasm_modules.specs.formats.Modules.{raw_section, module_of, raw_module, ShortestModule};
 ghost use Rattle.wasm_codec.specs.Decoding.{Decodes, DecodesMinimal, ReadsAll};
 ghost use Rattle.wasm_readers.specs.PrefixFree.{SectionsArePrefixFree};
-ghost use Rattle.wasm_readers.specs.ModulesReadBack.{ReadsBack, ReadsBackDecoded};
+ghost use Rattle.wasm_readers.specs.ModulesReadBack.{ReadsBack, ReadsBackTyped};
 ghost use Rattle.wasm_codec.specs.Lawful.{IsLawful};
 ghost use Rattle.wasm_codec.specs.formats.Grammar.{TakesBytes};
 ghost use Rattle.wasm_codec.specs.Rewriter.{Rewrites};
 
 use crate::checks::Section;
-use crate::lists::read_joined_as;
+use crate::lists::read_items_to_end;
 use crate::readable::Readable;
 use std::alloc::Global;
 use wasm_codec::reader::ReadError;
@@ -39,7 +39,7 @@ use wasm_modules::section::{HEADER, RawSection};
 pub fn read_module<'a>(alloc: Global, bytes: &'a [u8]) -> Result<Vec<RawSection<'a>>, ReadError>
     ensures decodes { Decodes (λ sections. all_parts_of sections.items) raw_module IsModulePrefix bytes.now result }
     ensures reads_back { ReadsBack (λ sections. all_parts_of sections.items) bytes.now result }
-    ensures reads_back_decoded { ReadsBackDecoded (λ sections. all_parts_of sections.items) bytes.now result }
+    ensures reads_back_typed { ReadsBackTyped (λ sections. all_parts_of sections.items) bytes.now result }
     ensures prefix_free { SectionsArePrefixFree }
 {
     read_module_of::<RawSection<'_>, false>(alloc, bytes)
@@ -77,12 +77,12 @@ pub fn read_module_of<'a, T: Readable<'a>, const STRICT: bool>(
     alloc: Global,
     bytes: &'a [u8],
 ) -> Result<Vec<T>, ReadError>
-    ensures reads { ReadsAll (λ sections. T.views sections.items) (module_of (asked STRICT T.format)).Encodes (IsModulePrefixOf (asked STRICT T.format)) bytes.now result }
+    ensures reads { ReadsAll (λ sections. T.views sections.items) (module_of (minimal_if STRICT T.format)).Encodes (IsModulePrefixOf (minimal_if STRICT T.format)) bytes.now result }
 {
     let Some(rest) = after_header(bytes) else {
         return Err(ReadError::Refused { at: 0 });
     };
-    match read_joined_as::<T, STRICT>(alloc, rest) {
+    match read_items_to_end::<T, STRICT>(alloc, rest) {
         Ok(sections) => Ok(sections),
         Err(ReadError::Memory) => Err(ReadError::Memory),
         Err(ReadError::Refused { at }) => Err(ReadError::Refused {

@@ -2,9 +2,9 @@
 ghost use Rattle.std.specs.Prelude.{◌≡◌, is_some};
 ghost use Rattle.wasm_instructions.specs.formats.Opcodes.{opcode_kind};
 
-mod places;
+mod opcodes;
 
-use places::{AFTER_FB, AFTER_FC, AFTER_FD, AFTER_FE, WITHOUT_PREFIX};
+use opcodes::{AFTER_FB, AFTER_FC, AFTER_FD, AFTER_FE, WITHOUT_PREFIX};
 use wasm_instructions::table::{Opcode, Prefix};
 
 /// Returns the name of an instruction in the text format, such as `local.get` (Core 3.0, Text Format, Instructions).

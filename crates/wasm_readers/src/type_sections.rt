@@ -4,7 +4,7 @@ ghost use Rattle.wasm_types.specs.declared.types.composite.TypeEntry.{TypeEntry}
 ghost use Rattle.wasm_codec.specs.Decoding.{Decodes, DecodesMinimal};
 ghost use Rattle.wasm_readers.specs.PrefixFree.{TypesArePrefixFree};
 
-use crate::lists::{read_list_to_end, read_list_to_end_as};
+use crate::lists::read_list_to_end;
 use std::alloc::Global;
 use wasm_codec::reader::ReadError;
 use wasm_types::types::TypeEntry;
@@ -28,7 +28,7 @@ pub fn read_type_section(alloc: Global, body: &[u8]) -> Result<Vec<TypeEntry>, R
     ensures decodes { Decodes (λ entries. entries.items) type_body IsTypeBodyPrefix body.now result }
     ensures prefix_free { TypesArePrefixFree }
 {
-    read_list_to_end(alloc, body)
+    read_list_to_end::<TypeEntry, false>(alloc, body)
 }
 
 /// Reads a minimally encoded type section body (Core 3.0, Type Section).
@@ -49,5 +49,5 @@ pub fn read_type_section(alloc: Global, body: &[u8]) -> Result<Vec<TypeEntry>, R
 pub fn read_type_section_strict(alloc: Global, body: &[u8]) -> Result<Vec<TypeEntry>, ReadError>
     ensures decodes { DecodesMinimal (λ entries. entries.items) type_body ShortestTypeBody IsShortestTypeBodyPrefix body.now result }
 {
-    read_list_to_end_as::<TypeEntry, true>(alloc, body)
+    read_list_to_end::<TypeEntry, true>(alloc, body)
 }

@@ -2,7 +2,7 @@
 use Rattle.std.proofs.Common.{◌≡◌, ℕ, ◌≤◌, true, false, List, [], ◌++◌, length, take, length-append, Option, Some, None, Result, Ok, Err, refl, sym, ap, subst, ◌∙◌, append_assoc, inl, inr, arith}
 use Rattle.std.proofs.Math.Seq.{take-length}
 use Rattle.std.proofs.lemmas.List.{append-nil}
-use Rattle.wasm_codec.specs.Answers.{IsOrMemory}
+use Rattle.wasm_codec.specs.Outcomes.{IsOrMemory}
 use Rattle.wasm_codec.specs.Encoding.{IsShortestOrLonger}
 use Rattle.wasm_codec.specs.formats.Grammar.{IsBytes}
 use Rattle.wasm_codec.specs.declared.reader.cursor.Fault.{Fault}
@@ -10,17 +10,17 @@ use Rattle.wasm_codec.specs.declared.reader.cursor.Fault.TheVariants as faults
 use Rattle.wasm_codec.specs.declared.reader.ReadError.{ReadError}
 use Rattle.wasm_codec.specs.declared.reader.ReadError.TheVariants as errors
 use Rattle.wasm_codec.proofs.ListReading.{AtMostOne}
-use Rattle.wasm_codec.proofs.PlaceLists.{Lawful-narrow}
+use Rattle.wasm_codec.proofs.PlaceLists.{Lawful-minimal_only}
 use Rattle.wasm_codec.specs.Lawful.{IsLawful, IsLawfulBody}
 use Rattle.wasm_codec.specs.Places.{Place, place, keeps, Reads}
 use Rattle.wasm_codec.specs.Rewriter.{Rewriting, rewriting_after}
 use Rattle.wasm_codec.specs.formats.Bodies.{bytes_to_end}
-use Rattle.wasm_codec.specs.formats.Combinators.{Format, ◌⊗◌, narrow}
+use Rattle.wasm_codec.specs.formats.Combinators.{Format, ◌⊗◌, minimal_only}
 use Rattle.wasm_codec.proofs.BodyLaws.{encodes_one, Lawful-bytes_to_end, Lawful-made-body, Lawful-then-body}
 use Rattle.wasm_codec.proofs.Laws.{bind_some, some_is}
 use Rattle.wasm_codec.proofs.RewriterLaws.{is_after, after_is}
 use Rattle.wasm_sections.specs.formats.EntryParts.{CustomParts}
-use Rattle.wasm_sections.specs.Prefixes.{IsNothingOr, IsRefusedAt, TellsPrefixes}
+use Rattle.wasm_sections.specs.Prefixes.{IsNothingOr, IsRefusedAt, AreLawfulPrefixes}
 use Rattle.wasm_sections.specs.formats.Names.{name}
 use Rattle.wasm_sections.specs.formats.Sections.{custom_of, parts_of_custom, custom_body}
 use Rattle.wasm_sections.proofs.NameLaws.{name_is_lawful}
@@ -80,7 +80,7 @@ begins_with_name : (other : List ℕ) (v : CustomParts) → custom_body.Encodes 
 unfolding custom_body
 begins_with_name other v g = record { text = g.0.0; front = g.1.0; back = g.1.1; parts = g.1.2; encodes = g.1.3 }
 
-begins_with_short_name : (other : List ℕ) (v : CustomParts) → (narrow custom_body).Encodes other v → Begins (narrow name) other
+begins_with_short_name : (other : List ℕ) (v : CustomParts) → (minimal_only custom_body).Encodes other v → Begins (minimal_only name) other
 unfolding custom_body
 begins_with_short_name other v g =
     let h = g.0.1 in
@@ -100,7 +100,7 @@ name_none p none = by (name.at p) refl where
       let read : custom_body.at p ≡ Some (custom_of (x.0, x.1.left), place x.1.shortest []) = rw e refl in
       absurd (clash (custom_body.at p) (custom_of (x.0, x.1.left), place x.1.shortest []) none read)
 
-pub custom_prefixes : TellsPrefixes custom_body
+pub custom_prefixes : AreLawfulPrefixes custom_body
 custom_prefixes = record {
   none = λ bytes none. (no_name name_is_lawful custom_body begins_with_name bytes (name_none (place true bytes) none)).prefix;
   more = λ bytes v q fits read some. absurd (omega (arith, some, ap (length {A = ℕ}) (nothing_left (place true bytes) v q read)));
@@ -120,17 +120,17 @@ module _ (bytes : List ℕ) (p : Place) (start : p ≡ place true bytes) where
   pub custom_wanting : (new : Place) (fault : Fault) → Reads name.at p new (Err fault) → fault ≡ faults.Malformed → IsRefusedAt custom_body bytes 0
   custom_wanting new fault none is = no_name name_is_lawful custom_body begins_with_name bytes (ap name.at (sym start) ∙ none_read p new fault none is)
 
-  pub short_wanting : (new : Place) (fault : Fault) → Reads name.at p new (Err fault) → fault ≡ faults.Malformed → IsRefusedAt (narrow custom_body) bytes 0
+  pub short_wanting : (new : Place) (fault : Fault) → Reads name.at p new (Err fault) → fault ≡ faults.Malformed → IsRefusedAt (minimal_only custom_body) bytes 0
   short_wanting new fault none is =
       let at : name.at (place true bytes) ≡ None = ap name.at (sym start) ∙ none_read p new fault none is in
-      no_name (Lawful-narrow name_is_lawful) (narrow custom_body) begins_with_short_name bytes (rw at refl)
+      no_name (Lawful-minimal_only name_is_lawful) (minimal_only custom_body) begins_with_short_name bytes (rw at refl)
 
   module _ (text rest : List ℕ) (mid : Place) (read : name.at p ≡ Some (text, mid)) where
     at_start : name.at (place true bytes) ≡ Some (text, mid)
     at_start = ap name.at (sym start) ∙ read
 
-    pub short_long : mid.shortest ≡ false → IsRefusedAt (narrow custom_body) bytes 0
-    short_long long = no_name (Lawful-narrow name_is_lawful) (narrow custom_body) begins_with_short_name bytes (rw (at_start, long) refl)
+    pub short_long : mid.shortest ≡ false → IsRefusedAt (minimal_only custom_body) bytes 0
+    short_long long = no_name (Lawful-minimal_only name_is_lawful) (minimal_only custom_body) begins_with_short_name bytes (rw (at_start, long) refl)
 
     pub custom_there : IsBytes p.left → rest ≡ mid.left → custom_body.Encodes bytes (record { name = text; data_bytes = rest })
     unfolding custom_body
@@ -138,9 +138,9 @@ module _ (bytes : List ℕ) (p : Place) (start : p ≡ place true bytes) where
         let q : custom_body.at (place true bytes) ≡ Some (custom_of (text, rest), place mid.shortest []) = rw (at_start, is) refl in
         custom_is_lawful.reads.sound (place true bytes) (custom_of (text, rest)) (place mid.shortest []) (subst (λ (x : Place). IsBytes x.left) start fits) q refl
 
-    pub short_there : IsBytes p.left → rest ≡ mid.left → mid.shortest ≡ true → (narrow custom_body).Encodes bytes (record { name = text; data_bytes = rest })
+    pub short_there : IsBytes p.left → rest ≡ mid.left → mid.shortest ≡ true → (minimal_only custom_body).Encodes bytes (record { name = text; data_bytes = rest })
     unfolding custom_body
     short_there fits is short =
-        let q : (narrow name).at (place true bytes) ≡ Some (text, place true mid.left) = rw (at_start, short) refl in
-        let one = (Lawful-narrow name_is_lawful).reads.sound (place true bytes) text (place true mid.left) (subst (λ (x : Place). IsBytes x.left) start fits) q in
+        let q : (minimal_only name).at (place true bytes) ≡ Some (text, place true mid.left) = rw (at_start, short) refl in
+        let one = (Lawful-minimal_only name_is_lawful).reads.sound (place true bytes) text (place true mid.left) (subst (λ (x : Place). IsBytes x.left) start fits) q in
         (custom_there fits is, one.parts ∙ ap (λ (l : List ℕ). l ++ mid.left) one.encodes.1 ∙ ap (λ (l : List ℕ). name.bytes text ++ l) (sym is))

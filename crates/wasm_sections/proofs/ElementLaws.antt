@@ -22,7 +22,7 @@ use Rattle.wasm_sections.specs.declared.elements.Elements.TheVariants as held
 use Rattle.wasm_sections.specs.declared.elements.Element.{Element}
 use Rattle.wasm_sections.specs.formats.Expressions.{expr}
 use Rattle.wasm_sections.specs.formats.Elements.{funcref, is_func, is_funcref, element, Exprs, part_0, functions_part, part_2, part_4, expressions_part, part_6, functions_number, expressions_number, element_number, kind_and_functions, element_form, element_segment}
-use Rattle.wasm_sections.proofs.PartLaws.{Lawful-numbered}
+use Rattle.wasm_sections.proofs.PartCombinatorLaws.{Lawful-numbered}
 use Rattle.wasm_sections.proofs.ExpressionLaws.{expr_is_lawful}
 
 Lawful-kind-and-functions : IsLawful kind_and_functions

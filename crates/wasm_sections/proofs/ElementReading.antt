@@ -32,9 +32,9 @@ plain mode held_of None = refl
 plain mode held_of (Some x) = refl
 
 -- and one with a place
-placed : {B : Type 0} (table : ℕ) (held_of : B → Elements) (second : Reader B) (r : Read (List Instruction)) → in_parts (mapped (modes.Active table) r) (λ p. mapped held_of (second p)) ≡ mapped (λ (p : List Instruction × B). element (modes.Active table p.0) (held_of p.1)) (both r second)
-placed table held_of second None = refl
-placed {B} table held_of second (Some x) = by (second x.1) where
+active_read : {B : Type 0} (table : ℕ) (held_of : B → Elements) (second : Reader B) (r : Read (List Instruction)) → in_parts (mapped (modes.Active table) r) (λ p. mapped held_of (second p)) ≡ mapped (λ (p : List Instruction × B). element (modes.Active table p.0) (held_of p.1)) (both r second)
+active_read table held_of second None = refl
+active_read {B} table held_of second (Some x) = by (second x.1) where
   by : (o : Read B) → mapped (element (modes.Active table x.0)) (mapped held_of o) ≡ mapped (λ (p : List Instruction × B). element (modes.Active table p.0) (held_of p.1)) (o >>= λ b. Some ((x.0, b.0), b.1))
   by None = refl
   by (Some y) = refl
@@ -42,17 +42,17 @@ placed {B} table held_of second (Some x) = by (second x.1) where
 -- whose table is told
 named : {B : Type 0} (held_of : B → Elements) (second : Reader B) (r : Read ℕ) → in_parts (r >>= λ x. place_at x.0 x.1) (λ p. mapped held_of (second p)) ≡ mapped (λ (p : ℕ × (List Instruction × B)). element (modes.Active p.0 p.1.0) (held_of p.1.1)) (both r (λ p. both (expr.at p) second))
 named held_of second None = refl
-named {B} held_of second (Some x) = placed x.0 held_of second (expr.at x.1) ∙ by (both (expr.at x.1) second) where
+named {B} held_of second (Some x) = active_read x.0 held_of second (expr.at x.1) ∙ by (both (expr.at x.1) second) where
   by : (o : Read (List Instruction × B)) → mapped (λ (p : List Instruction × B). element (modes.Active x.0 p.0) (held_of p.1)) o ≡ mapped (λ (p : ℕ × (List Instruction × B)). element (modes.Active p.0 p.1.0) (held_of p.1.1)) (o >>= λ b. Some ((x.0, b.0), b.1))
   by None = refl
   by (Some y) = refl
 
 by_parts : (n : ℕ) (p : Place) → in_parts (mode_at n p) (elements_at n) ≡ (element_form n).at p
-by_parts zero p = placed 0 held.Functions (items u32).at (expr.at p)
+by_parts zero p = active_read 0 held.Functions (items u32).at (expr.at p)
 by_parts (suc zero) p = plain modes.Passive held.Functions (kind_and_functions.at p)
 by_parts (suc (suc zero)) p = named held.Functions kind_and_functions.at (u32_at p)
 by_parts (suc (suc (suc zero))) p = plain modes.Declared held.Functions (kind_and_functions.at p)
-by_parts (suc (suc (suc (suc zero)))) p = placed 0 (held.Expressions funcref) (items expr).at (expr.at p)
+by_parts (suc (suc (suc (suc zero)))) p = active_read 0 (held.Expressions funcref) (items expr).at (expr.at p)
 by_parts (suc (suc (suc (suc (suc zero))))) p = plain modes.Passive typed_of ((ref_type ⊗ items expr).at p)
 by_parts (suc (suc (suc (suc (suc (suc zero)))))) p = named typed_of (ref_type ⊗ items expr).at (u32_at p)
 by_parts (suc (suc (suc (suc (suc (suc (suc zero))))))) p = plain modes.Declared typed_of ((ref_type ⊗ items expr).at p)

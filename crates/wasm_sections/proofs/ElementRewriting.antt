@@ -2,7 +2,7 @@
 use Rattle.std.proofs.Common.{◌≡◌, ℕ, ◌+◌, ◌%◌, ◌/◌, ◌≤◌, ◌<◌, Bool, true, false, eqb, ◌&&◌, nat_lt, if◌then◌else◌, List, [], ◌∷◌, ◌++◌, length, take, drop, Some, None, Option, Ok, refl, sym, ap, ◌∙◌, append_assoc, length-append, length-take-le, length-drop, arith}
 use Rattle.std.proofs.lemmas.List.{take_at, drop_at, set_at}
 use Rattle.wasm_codec.specs.formats.Grammar.{TakesBytes, IsBytes}
-use Rattle.wasm_codec.specs.Leb128.{unsigned_leb128, digits_of, turned}
+use Rattle.wasm_codec.specs.Leb128.{unsigned_leb128, digits_of, complemented}
 use Rattle.wasm_codec.specs.Places.{Place, place, Reads}
 use Rattle.wasm_codec.specs.Rewriter.{Rewriting, rewritten_at, rewriting_after, without, with_byte}
 use Rattle.wasm_codec.specs.formats.Combinators.{Format, u32, items}
@@ -71,7 +71,7 @@ either_some false a b bytes = omega arith
 
 digit_there : (n : ℕ) → 0 < length (unsigned_leb128 n)
 unfolding unsigned_leb128 digits_of
-digit_there n = either_some (nat_lt n 128) (turned false n) (128 + turned false (n % 128)) (digits_of false 128 8 (n / 128))
+digit_there n = either_some (nat_lt n 128) (complemented false n) (128 + complemented false (n % 128)) (digits_of false 128 8 (n / 128))
 
 -- what was written is as long as before, and longer
 longer_by_index : (p q : Rewriting) (table : ℕ) → rewritten_at u32 p ≡ Some (table, q) → length p.done + 1 ≤ length q.done

@@ -20,9 +20,9 @@ use Rattle.wasm_sections.specs.declared.elements.ElementMode.TheVariants as mode
 use Rattle.wasm_sections.specs.declared.elements.Elements.{Elements}
 use Rattle.wasm_sections.specs.declared.elements.Elements.TheVariants as held
 use Rattle.wasm_sections.specs.declared.elements.Element.{Element}
-use Rattle.wasm_sections.specs.Closed.{IsClosed, IsClosedPlace, IsClosedElement, AreClosed, IsWrittenExpr}
-use Rattle.wasm_sections.specs.SegmentBytes.{place_bytes, is_short, element_mode_bytes, ElementModeFits, elements_bytes, ElementsFit}
-use Rattle.wasm_sections.specs.formats.Parts.{part_if}
+use Rattle.wasm_sections.specs.Closed.{IsClosed, IsClosedMode, IsClosedElement, AreClosed, IsWrittenExpr}
+use Rattle.wasm_sections.specs.SegmentBytes.{table_and_offset_bytes, is_short, element_mode_bytes, ElementModeFits, elements_bytes, ElementsFit}
+use Rattle.wasm_sections.specs.formats.PartCombinators.{part_if}
 use Rattle.wasm_sections.specs.formats.Expressions.{expr}
 use Rattle.wasm_sections.specs.formats.Elements.{funcref, is_funcref, element, element_number, kind_and_functions, element_segment}
 use Rattle.wasm_sections.proofs.ElementLaws.{both_true, funcref_of, element_is_lawful}
@@ -30,7 +30,7 @@ use Rattle.wasm_sections.proofs.ExpressionLaws.{expr_is_lawful}
 use Rattle.wasm_sections.proofs.ExpressionWriting.{in_expr}
 use Rattle.wasm_sections.proofs.TypeWriting.{two}
 
-place_then : (form : ℕ) (index : Option ℕ) (offset : List Instruction) (rest : List ℕ) → place_bytes form index offset ++ rest ≡ unsigned_leb128 form ++ ((part_if (is_some index) u32).bytes index ++ (expr.bytes offset ++ rest))
+place_then : (form : ℕ) (index : Option ℕ) (offset : List Instruction) (rest : List ℕ) → table_and_offset_bytes form index offset ++ rest ≡ unsigned_leb128 form ++ ((part_if (is_some index) u32).bytes index ++ (expr.bytes offset ++ rest))
 place_then form index offset rest =
     append_assoc (unsigned_leb128 form) ((part_if (is_some index) u32).bytes index ++ expr.bytes offset) rest ∙ ap (λ (l : List ℕ). unsigned_leb128 form ++ l) (append_assoc ((part_if (is_some index) u32).bytes index) (expr.bytes offset) rest)
 
@@ -81,15 +81,15 @@ element_there (modes.Active table offset) (held.Expressions ty es) fits hold = b
       let small : table < 2 ^ 32 = fits.0 (rw is refl) in
       rw is ((small, (fits.1, (typed, hold.1))), refl)
 
-pub element_written : (e : Element) (form : ℕ) (short : Bool) → form ≡ element_number e → short ≡ is_short form → (IsClosedPlace e.mode → ElementModeFits form e.mode) → (AreClosed e.elements → ElementsFit short e.elements) → IsClosedElement e → IsShortest element_segment.Encodes element_segment.bytes e
+pub element_written : (e : Element) (form : ℕ) (short : Bool) → form ≡ element_number e → short ≡ is_short form → (IsClosedMode e.mode → ElementModeFits form e.mode) → (AreClosed e.elements → ElementsFit short e.elements) → IsClosedElement e → IsShortest element_segment.Encodes element_segment.bytes e
 element_written e form short is shortly fits hold closed =
     let own : ElementsFit (is_short (element_number e)) e.elements = subst (λ (n : ℕ). ElementsFit (is_short n) e.elements) is (subst (λ (s : Bool). ElementsFit s e.elements) shortly (hold closed.1)) in
     written element_is_lawful.shortest e (element_there e.mode e.elements (subst (λ (n : ℕ). ElementModeFits n e.mode) is (fits closed.0)) own)
 
-pub element_mode_fits : (form : ℕ) (mode : ElementMode) (table : ℕ) (offset calls : List Instruction) → mode ≡ modes.Active table offset → calls ≡ offset → (is_short form ≡ false → table < 2 ^ 32) → (IsClosed calls → IsShortest expr.Encodes expr.bytes calls) → IsClosedPlace mode → ElementModeFits form mode
+pub element_mode_fits : (form : ℕ) (mode : ElementMode) (table : ℕ) (offset calls : List Instruction) → mode ≡ modes.Active table offset → calls ≡ offset → (is_short form ≡ false → table < 2 ^ 32) → (IsClosed calls → IsShortest expr.Encodes expr.bytes calls) → IsClosedMode mode → ElementModeFits form mode
 element_mode_fits form mode table offset calls is these small made closed =
     let whole : IsClosed offset → IsShortest expr.Encodes expr.bytes offset = subst (λ (l : List Instruction). IsClosed l → IsShortest expr.Encodes expr.bytes l) these made in
-    let ends : IsClosed offset = subst IsClosedPlace is closed in
+    let ends : IsClosed offset = subst IsClosedMode is closed in
     subst (ElementModeFits form) (sym is) (small, in_expr offset (whole ends))
 
 pub functions_fit : (short : Bool) (elements : Elements) (fs given : List ℕ) → elements ≡ held.Functions fs → given ≡ fs → IsCount (length given) → All (IsShortest EncodesU32 unsigned_leb128) given → ElementsFit short elements

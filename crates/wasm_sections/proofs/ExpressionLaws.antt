@@ -12,9 +12,9 @@ use Rattle.wasm_instructions.specs.formats.Opcodes.{opcode_kind, ranges, without
 use Rattle.wasm_instructions.specs.formats.Instructions.{Instruction, call, instruction}
 use Rattle.wasm_instructions.specs.Instructions.{kind_of, IsCall}
 use Rattle.wasm_instructions.proofs.InstructionFormatLaws.{Lawful-instruction, instruction_takes, encodes_call}
-use Rattle.wasm_sections.specs.formats.Parts.{goes_on, ends, AreEnded}
+use Rattle.wasm_sections.specs.formats.PartCombinators.{goes_on, ends, AreEnded}
 use Rattle.wasm_sections.specs.formats.Expressions.{opens, closed, delegated, nested_by, nested, end_call, expr}
-use Rattle.wasm_sections.proofs.PartLaws.{Lawful-until}
+use Rattle.wasm_sections.proofs.PartCombinatorLaws.{Lawful-until}
 
 -- only 0x0B ends them
 byte_ends : (depth b : ℕ) → nested_by depth b ≡ ends → b ≡ 0x0b

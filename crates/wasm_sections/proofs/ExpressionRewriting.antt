@@ -11,7 +11,7 @@ use Rattle.wasm_codec.proofs.FormatLaws.{read_in_range}
 use Rattle.wasm_codec.proofs.RewriterLaws.{is_after, after_is}
 use Rattle.wasm_instructions.specs.formats.Instructions.{Instruction, instruction}
 use Rattle.wasm_instructions.proofs.InstructionFormatLaws.{Lawful-instruction}
-use Rattle.wasm_sections.specs.formats.Parts.{goes_on, ends, fails, until_at}
+use Rattle.wasm_sections.specs.formats.PartCombinators.{goes_on, ends, fails, until_at}
 use Rattle.wasm_sections.specs.formats.Expressions.{nested_by, expr}
 use Rattle.wasm_sections.proofs.ExpressionLaws.{only_end}
 use Rattle.wasm_sections.proofs.UntilReading.{Gone, by_opcode, none_gone, gone_on, gone_ends, gone_fails, gone_none, gone_out, first_tells, no_byte}

@@ -14,7 +14,7 @@ use Rattle.wasm_sections.specs.declared.types.EntityType.TheVariants as entities
 use Rattle.wasm_sections.specs.declared.types.ExportKind.{ExportKind}
 use Rattle.wasm_sections.specs.declared.types.ExportKind.TheVariants as exports
 use Rattle.wasm_sections.specs.formats.Externals.{Flags, flags_byte, all_flags, limits_flags, paged_byte, all_paged, memory_flags, MemoryParts, memory_of, memory_parts, MemoryInRange, memory_format, memory_type, TableParts, table_of, table_parts, TableInRange, table_format, table_type, global_byte, global_flags, global_type_of, global_type, tag_kind_byte, tag_of, tag_type, function_part, table_part, memory_part, global_part, tag_part, exact_function_part, entity_byte, entity_type, export_kind_byte, export_kind}
-use Rattle.wasm_sections.proofs.PartLaws.{Lawful-part-if, part_tells, part_range, part_in_range}
+use Rattle.wasm_sections.proofs.PartCombinatorLaws.{Lawful-part-if, part_tells, part_range, part_in_range}
 
 -- ---- limits
 

@@ -1,5 +1,5 @@
 pub mod ListLaws
-pub mod PartLaws
+pub mod PartCombinatorLaws
 pub mod NameLaws
 pub mod NameReading
 pub mod ExternalLaws

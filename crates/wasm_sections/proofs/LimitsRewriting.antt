@@ -8,7 +8,7 @@ use Rattle.wasm_codec.specs.formats.Combinators.{Format, made_of}
 use Rattle.wasm_codec.proofs.FormatLaws.{read_in_range}
 use Rattle.wasm_codec.proofs.RewriterLaws.{is_after, after_is}
 use Rattle.std.proofs.lemmas.List.{append-nil}
-use Rattle.wasm_sections.specs.formats.Parts.{part_if}
+use Rattle.wasm_sections.specs.formats.PartCombinators.{part_if}
 use Rattle.wasm_sections.specs.formats.Externals.{memory_of, memory_parts, MemoryInRange, memory_format, memory_type, table_of, table_parts, TableInRange, table_format, table_type}
 use Rattle.wasm_sections.proofs.ExternalLaws.{memory_back, table_back, Lawful-memory-format, Lawful-table-format}
 

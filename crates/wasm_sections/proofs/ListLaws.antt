@@ -1,11 +1,11 @@
 -- Bodies that are lists of items that are encoded lawfully.
 use Rattle.std.proofs.Common.{◌≡◌, ℕ, true, List, Result, IfOk}
 use Rattle.wasm_codec.specs.declared.reader.ReadError.{ReadError}
-use Rattle.wasm_codec.specs.Answers.{IsOrMemory, IsNormalForm, EncodesSome}
+use Rattle.wasm_codec.specs.Outcomes.{IsOrMemory, IsNormalForm, EncodesSome}
 use Rattle.wasm_codec.specs.Lawful.{IsLawful, IsLawfulBody}
-use Rattle.wasm_codec.specs.Lists.{AskedList}
+use Rattle.wasm_codec.specs.Lists.{ListMinimalIf}
 use Rattle.wasm_codec.specs.formats.Combinators.{Format, items}
-use Rattle.wasm_codec.proofs.AskedLaws.{list_narrow}
+use Rattle.wasm_codec.proofs.MinimalIfLaws.{list_minimal_only}
 use Rattle.wasm_codec.proofs.FormatLaws.{Lawful-items}
 use Rattle.wasm_codec.proofs.BodyLaws.{Lawful-body}
 use Rattle.wasm_codec.proofs.ListLaws.{AtMostOne-list}

@@ -11,7 +11,7 @@ use Rattle.wasm_sections.specs.declared.data.DataSegmentMode.{DataSegmentMode}
 use Rattle.wasm_sections.specs.declared.data.DataSegmentMode.TheVariants as data_modes
 use Rattle.wasm_sections.specs.formats.EntryParts.{DataParts}
 use Rattle.wasm_sections.specs.formats.Segments.{active_data, passive_data, first_data_part, any_data_part, passive_data_part, data_number, data_form, data_segment}
-use Rattle.wasm_sections.proofs.PartLaws.{Lawful-numbered, number_takes}
+use Rattle.wasm_sections.proofs.PartCombinatorLaws.{Lawful-numbered, number_takes}
 use Rattle.wasm_sections.proofs.ExpressionLaws.{expr_is_lawful}
 
 -- what is left out takes a byte at least

@@ -7,7 +7,7 @@ use Rattle.wasm_codec.specs.Rewriter.{Rewriting, rewritten_at, rewriting_after, 
 use Rattle.wasm_codec.specs.formats.Bodies.{byte_list}
 use Rattle.wasm_codec.specs.formats.Combinators.{Format, ◌⊗◌, u32}
 use Rattle.wasm_codec.proofs.RewriterLaws.{is_given, is_after, after_is}
-use Rattle.wasm_sections.specs.formats.Parts.{numbered, numbered_bytes}
+use Rattle.wasm_sections.specs.formats.PartCombinators.{numbered, numbered_bytes}
 use Rattle.wasm_sections.specs.formats.Expressions.{expr}
 use Rattle.wasm_sections.specs.formats.Segments.{active_data, passive_data, data_number, data_form, data_segment}
 
@@ -48,9 +48,9 @@ module _ {V : Type 0} (number_of : V → ℕ) (G : ℕ → Format V) (old start 
       let at : (numbered number_of G).at old.place ≡ Some (v, new.place) = rw (g.is_read, read, differs, left) (ap (λ (p : Place). Some (v, p)) (unless_true end)) in
       after_is (numbered number_of G) old new v at written rest
 
-pub placed_rewritten : (old start end : Rewriting) → rewritten_at u32 old ≡ Some (0, start) → rewriting_after (expr ⊗ byte_list) start ≡ Some end → rewriting_after data_segment old ≡ Some end
+pub active_rewritten : (old start end : Rewriting) → rewritten_at u32 old ≡ Some (0, start) → rewriting_after (expr ⊗ byte_list) start ≡ Some end → rewriting_after data_segment old ≡ Some end
 unfolding data_segment
-placed_rewritten old start end begun e =
+active_rewritten old start end begun e =
     let one = is_after (expr ⊗ byte_list) start end e in
     by_its_number data_number data_form old start 0 begun end (active_data 0 one.value) (rw one.given.is_read refl) one.given.written one.given.rest refl refl
 

@@ -10,8 +10,8 @@ use Rattle.wasm_sections.specs.declared.data.DataSegmentMode.{DataSegmentMode}
 use Rattle.wasm_sections.specs.declared.data.DataSegmentMode.TheVariants as data_modes
 use Rattle.wasm_sections.specs.Closed.{IsClosed, IsClosedData}
 use Rattle.wasm_sections.specs.formats.EntryParts.{DataParts}
-use Rattle.wasm_sections.specs.SegmentBytes.{place_bytes, data_mode_bytes, DataModeFits}
-use Rattle.wasm_sections.specs.formats.Parts.{part_if}
+use Rattle.wasm_sections.specs.SegmentBytes.{table_and_offset_bytes, data_mode_bytes, DataModeFits}
+use Rattle.wasm_sections.specs.formats.PartCombinators.{part_if}
 use Rattle.wasm_sections.specs.formats.Expressions.{expr}
 use Rattle.wasm_sections.specs.formats.Segments.{data_segment}
 use Rattle.wasm_sections.proofs.ExpressionWriting.{in_expr}
@@ -26,10 +26,10 @@ data_mode_fits mode memory offset calls is these small made closed =
     let ends : IsClosed offset = subst IsClosedData is closed in
     subst DataModeFits (sym is) (small, in_expr offset (whole ends))
 
-pub first_memory_appended : (mode : DataSegmentMode) (memory : ℕ) (offset calls : List Instruction) (old new : List ℕ) → mode ≡ data_modes.Active memory offset → calls ≡ offset → memory ≡ 0 → new ≡ old ++ place_bytes 0 None calls → new ≡ old ++ data_mode_bytes mode
+pub first_memory_appended : (mode : DataSegmentMode) (memory : ℕ) (offset calls : List Instruction) (old new : List ℕ) → mode ≡ data_modes.Active memory offset → calls ≡ offset → memory ≡ 0 → new ≡ old ++ table_and_offset_bytes 0 None calls → new ≡ old ++ data_mode_bytes mode
 first_memory_appended mode memory offset calls old new is these zero written = rw (is, zero, ← these) written
 
-pub other_memory_appended : (mode : DataSegmentMode) (memory : ℕ) (offset calls : List Instruction) (old new : List ℕ) → mode ≡ data_modes.Active memory offset → calls ≡ offset → eqb memory 0 ≡ false → new ≡ old ++ place_bytes 2 (Some memory) calls → new ≡ old ++ data_mode_bytes mode
+pub other_memory_appended : (mode : DataSegmentMode) (memory : ℕ) (offset calls : List Instruction) (old new : List ℕ) → mode ≡ data_modes.Active memory offset → calls ≡ offset → eqb memory 0 ≡ false → new ≡ old ++ table_and_offset_bytes 2 (Some memory) calls → new ≡ old ++ data_mode_bytes mode
 other_memory_appended mode memory offset calls old new is these other written = rw (is, other, ← these) written
 
 data_bytes_are : (mode : DataSegmentMode) (bytes : List ℕ) → data_mode_bytes mode ++ byte_list_bytes bytes ≡ data_segment.bytes (record { mode = mode; data_bytes = bytes })

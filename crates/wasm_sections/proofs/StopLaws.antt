@@ -2,7 +2,7 @@
 use Rattle.std.proofs.Common.{◌≡◌, ℕ, ◌+◌, ◌-◌, ◌<◌, ◌≤◌, ◌⊎◌, true, IfSome, IfNone, Result, Ok, Err, List, [], ◌∷◌, ◌++◌, length, drop, Some, ap, sym, subst, ◌∙◌, inl, inr, refl, append_assoc, length-append, arith}
 use Rattle.std.specs.Result.{result_ok, result_err}
 use Rattle.std.proofs.lemmas.List.{append-nil, drop_at}
-use Rattle.wasm_codec.specs.Answers.{EncodesSome, IsLongestPrefix}
+use Rattle.wasm_codec.specs.Outcomes.{EncodesSome, IsLongestPrefix}
 use Rattle.wasm_codec.specs.formats.Grammar.{Grammar, IsBytes, TakesBytes, Joined}
 use Rattle.wasm_codec.specs.formats.Numbers.{EncodesU32}
 use Rattle.wasm_codec.specs.Lawful.{IsLawful}
@@ -24,9 +24,9 @@ use Rattle.wasm_modules.specs.formats.CodeBodies.{local_group, function_code}
 use Rattle.wasm_modules.proofs.CodeBodyLaws.{Lawful-local-group, local_group_takes}
 use Rattle.wasm_readers.proofs.CheckLaws.{an_item}
 use Rattle.wasm_sections.specs.Stops.{HasItemsBefore, StopsAtItem, HasLonger, nothing, shortest, more, CountsLonger, Tells, HoldsItems, OfItems, types, imports, functions, tables, memories, globals, exports, elements, bodies, data_segments, tags, StopsInCode}
-use Rattle.wasm_sections.specs.declared.modules.places.CodePlace.TheVariants.{Locals, Instruction as AtInstruction}
+use Rattle.wasm_sections.specs.declared.modules.places.BrokenPart.TheVariants.{Locals, Instruction as AtInstruction}
 use Rattle.wasm_sections.specs.declared.modules.places.ItemCounts.{ItemCounts}
-use Rattle.wasm_sections.specs.declared.modules.places.ItemPlace.{ItemPlace}
+use Rattle.wasm_sections.specs.declared.modules.places.BrokenItem.{BrokenItem}
 use Rattle.wasm_types.specs.declared.types.value.ValType.{ValType}
 
 -- a list whose count isn't there stops at its beginning
@@ -137,19 +137,19 @@ pub counted_list : {V : Type 0} (F : Format V) (body : List ℕ) (count longer :
 counted_list F body count longer c = (c.items, (c.head, c.back, c.parts, subst (EncodesU32 c.head) (sym c.all) c.counted, joined_items c.longer_items))
 
 -- Where no place is told of a section's items, its body is a list; where no counts are told, it isn't.
-pub if_place : (body : List ℕ) {id : ℕ} (told : Result ItemCounts ItemPlace) → OfItems (λ V F. Tells F body told) id → IfSome (result_err told) (λ place. OfItems (λ V F. StopsAtItem F body place.count place.index place.at) id)
+pub if_place : (body : List ℕ) {id : ℕ} (told : Result ItemCounts BrokenItem) → OfItems (λ V F. Tells F body told) id → IfSome (result_err told) (λ place. OfItems (λ V F. StopsAtItem F body place.count place.index place.at) id)
 if_place body (Ok counts) items = tt
 if_place body (Err p) items = items
 
-pub if_counts : (body : List ℕ) {id : ℕ} (told : Result ItemCounts ItemPlace) → OfItems (λ V F. Tells F body told) id → IfSome (result_ok told) (λ counts. OfItems (λ V F. CountsLonger F body counts.count counts.longer) id)
+pub if_counts : (body : List ℕ) {id : ℕ} (told : Result ItemCounts BrokenItem) → OfItems (λ V F. Tells F body told) id → IfSome (result_ok told) (λ counts. OfItems (λ V F. CountsLonger F body counts.count counts.longer) id)
 if_counts body (Ok counts) items = items
 if_counts body (Err p) items = tt
 
-pub unless_place : (body : List ℕ) {id : ℕ} (told : Result ItemCounts ItemPlace) → OfItems (λ V F. Tells F body told) id → IfNone (result_err told) (HoldsItems id → OfItems (λ V F. EncodesSome (EncodesList F.Encodes) body) id)
+pub unless_place : (body : List ℕ) {id : ℕ} (told : Result ItemCounts BrokenItem) → OfItems (λ V F. Tells F body told) id → IfNone (result_err told) (HoldsItems id → OfItems (λ V F. EncodesSome (EncodesList F.Encodes) body) id)
 unless_place body (Ok counts) items = λ _. of_items (λ V F counted. counted_list F _ counts.count counts.longer counted) items
 unless_place body (Err p) items = tt
 
-pub unless_counts : (body : List ℕ) {id : ℕ} (told : Result ItemCounts ItemPlace) → OfItems (λ V F. Tells F body told) id → IfNone (result_ok told) (HoldsItems id → OfItems (λ V F. EncodesSome (EncodesList F.Encodes) body → ⊥) id)
+pub unless_counts : (body : List ℕ) {id : ℕ} (told : Result ItemCounts BrokenItem) → OfItems (λ V F. Tells F body told) id → IfNone (result_ok told) (HoldsItems id → OfItems (λ V F. EncodesSome (EncodesList F.Encodes) body → ⊥) id)
 unless_counts body (Ok counts) items = tt
 unless_counts body (Err p) items = λ _. of_items (λ V F stops some. stops.unencoded some.0 some.1) items
 
@@ -209,7 +209,7 @@ no_code_in_locals code count index at s within parts g =
           more_items (plain_reads Lawful-local-group.reads) local_group_takes h.back g.3.1 h.rest g.1 h.items parts.0 h.encoded g.3.4 one.2 (omega (arith, h.index_is, one.1)) (omega (arith, ap (length {A = ℕ}) one.0, h.at_is))
 
 -- code whose locals aren't whole stops there
-pub stops_in_locals : (code : List ℕ) (place : ItemPlace) → StopsAtItem local_group code place.count place.index place.at → (place.at ≡ 0) ⊎ (place.index < place.count) → StopsInCode code (Locals place)
+pub stops_in_locals : (code : List ℕ) (place : BrokenItem) → StopsAtItem local_group code place.count place.index place.at → (place.at ≡ 0) ⊎ (place.index < place.count) → StopsInCode code (Locals place)
 stops_in_locals code place s within = record { stops = record { stops = s; within = within }; unencoded = no_code_in_locals code place.count place.index place.at s within }
 
 -- The locals of code, and the instructions after them.
@@ -233,7 +233,7 @@ has_locals code count index at s some full = by s.before where
       record { head = h.head ++ h.back; groups = h.items; parts = parts ∙ ap (λ (t : List ℕ). (h.head ++ h.back) ++ t) (sym rest); len = len; locals = (h.head, h.back, refl, subst (EncodesU32 h.head) all h.counted, h.encoded) }
 
 -- code whose instructions aren't whole stops there
-pub stops_at_instruction : (code : List ℕ) (place : ItemPlace) (len : ℕ) → StopsAtItem local_group code place.count place.index place.at → 0 < place.at → place.count ≤ place.index → IsLongestPrefix (EncodesSome Instructions) (drop place.at code) len → len < length (drop place.at code) → StopsInCode code (AtInstruction (place.at + len))
+pub stops_at_instruction : (code : List ℕ) (place : BrokenItem) (len : ℕ) → StopsAtItem local_group code place.count place.index place.at → 0 < place.at → place.count ≤ place.index → IsLongestPrefix (EncodesSome Instructions) (drop place.at code) len → len < length (drop place.at code) → StopsInCode code (AtInstruction (place.at + len))
 stops_at_instruction code place len s some full prefix within =
     let h = has_locals code place.count place.index place.at s some full in
     record {
@@ -245,7 +245,7 @@ stops_at_instruction code place len s some full prefix within =
     }
 
 -- locals and instructions are code
-pub whole_code : (code : List ℕ) (place : ItemPlace) → StopsAtItem local_group code place.count place.index place.at → 0 < place.at → place.count ≤ place.index → EncodesSome Instructions (drop place.at code) → EncodesSome function_code.Encodes code
+pub whole_code : (code : List ℕ) (place : BrokenItem) → StopsAtItem local_group code place.count place.index place.at → 0 < place.at → place.count ≤ place.index → EncodesSome Instructions (drop place.at code) → EncodesSome function_code.Encodes code
 whole_code code place s some full calls =
     let h = has_locals code place.count place.index place.at s some full in
     ((h.groups, calls.0), (h.head, drop place.at code, h.parts, h.locals, calls.1))

@@ -21,7 +21,7 @@ use Rattle.wasm_sections.specs.declared.types.TagType.{TagType}
 use Rattle.wasm_sections.specs.declared.types.TagKind.{TagKind}
 use Rattle.wasm_sections.specs.declared.types.TagKind.TheVariants as tag_kinds
 use Rattle.wasm_sections.specs.declared.types.EntityType.TheVariants as entities
-use Rattle.wasm_sections.specs.formats.Parts.{part_if}
+use Rattle.wasm_sections.specs.formats.PartCombinators.{part_if}
 use Rattle.wasm_sections.specs.formats.Externals.{Flags, flags_byte, limits_flags, paged_byte, memory_flags, memory_type, table_type, global_byte, global_flags, global_type, tag_type, entity_type}
 use Rattle.wasm_sections.proofs.ExternalLaws.{Lawful-memory-type, Lawful-table-type, Lawful-global-type, Lawful-tag-type, Lawful-entity-type}
 

@@ -13,7 +13,7 @@ use Rattle.wasm_instructions.specs.declared.table.call.Operands.{Operands}
 use Rattle.wasm_instructions.specs.formats.Instructions.{Instruction, opcode, instruction, instruction_of, operands_format, is_one_byte}
 use Rattle.wasm_instructions.specs.formats.Opcodes.{without_prefix, after_fb, after_fc, after_fd, after_fe, opcode_kind}
 use Rattle.wasm_codec.specs.formats.Combinators.{◌⊗>◌, by_kind}
-use Rattle.wasm_sections.specs.formats.Parts.{Move, goes_on, ends, fails, moved, until_at}
+use Rattle.wasm_sections.specs.formats.PartCombinators.{Move, goes_on, ends, fails, moved, until_at}
 use Rattle.wasm_sections.specs.formats.Expressions.{opens, closed, delegated, nested, nested_by}
 
 -- these items were read, and what is read in all is this

@@ -6,14 +6,14 @@ use Rattle.wasm_codec.specs.Lawful.{IsLawful, IsLawfulBody}
 use Rattle.wasm_codec.specs.Places.{Place, place, keeps, u32_at, Reads}
 use Rattle.wasm_codec.specs.declared.reader.cursor.Fault.{Fault}
 use Rattle.wasm_codec.specs.declared.reader.cursor.Fault.TheVariants as faults
-use Rattle.wasm_codec.specs.formats.Combinators.{Format, u32, narrow}
+use Rattle.wasm_codec.specs.formats.Combinators.{Format, u32, minimal_only}
 use Rattle.wasm_codec.proofs.Laws.{some_is}
 use Rattle.wasm_codec.proofs.FormatLaws.{Lawful-u32}
-use Rattle.wasm_codec.proofs.PlaceLists.{Lawful-narrow}
+use Rattle.wasm_codec.proofs.PlaceLists.{Lawful-minimal_only}
 use Rattle.wasm_codec.specs.declared.reader.ReadError.TheVariants as errors
 use Rattle.wasm_codec.proofs.BodyLaws.{Lawful-body}
 use Rattle.wasm_codec.specs.Decoding.{ReadsAll}
-use Rattle.wasm_sections.specs.Prefixes.{IsNothingOr, IsRefusedAt, TellsPrefixes}
+use Rattle.wasm_sections.specs.Prefixes.{IsNothingOr, IsRefusedAt, AreLawfulPrefixes}
 
 module _ {V : Type 0} {F : Format V} (r : IsLawful F) where
   -- what stands first is read
@@ -65,8 +65,8 @@ module _ {X V : Type 0} (view : X → V) (F : Format V) (bytes : List ℕ) where
   pub returns_it : (x : X) → F.Encodes bytes (view x) → ReadsAll view F.Encodes (IsNothingOr F) bytes (Ok x)
   returns_it x g = record { given = g; prefix = tt; unencoded = tt }
 
-pub prefixes_told : {V : Type 0} {F : Format V} → IsLawful F → TellsPrefixes F
-prefixes_told r = record {
+pub prefixes_lawful : {V : Type 0} {F : Format V} → IsLawful F → AreLawfulPrefixes F
+prefixes_lawful r = record {
   none = λ bytes none. (nothing_there r bytes none).prefix;
   more = λ bytes v q fits read some. (left_over r bytes v q fits read some).prefix;
   within = λ bytes v q fits read.
@@ -74,22 +74,22 @@ prefixes_told r = record {
       omega (arith, ap (length {A = ℕ}) one.parts, length-append one.prefix q.left);
 }
 
-pub number_prefixes : TellsPrefixes u32
-number_prefixes = prefixes_told Lawful-u32
+pub number_prefixes : AreLawfulPrefixes u32
+number_prefixes = prefixes_lawful Lawful-u32
 
 pub number_is_lawful : IsLawfulBody u32
 number_is_lawful = Lawful-body Lawful-u32
 
 -- ---- numbers in their shortest encodings
 
-pub narrow_read : (bytes : List ℕ) (n : ℕ) (q : Place) → u32_at (place true bytes) ≡ Some (n, q) → q.shortest ≡ true → (narrow u32).at (place true bytes) ≡ Some (n, q)
-narrow_read bytes n q read short = rw (read, short) refl
+pub minimal_only_read : (bytes : List ℕ) (n : ℕ) (q : Place) → u32_at (place true bytes) ≡ Some (n, q) → q.shortest ≡ true → (minimal_only u32).at (place true bytes) ≡ Some (n, q)
+minimal_only_read bytes n q read short = rw (read, short) refl
 
-pub narrow_long : (bytes : List ℕ) (n : ℕ) (q : Place) → u32_at (place true bytes) ≡ Some (n, q) → q.shortest ≡ false → (narrow u32).at (place true bytes) ≡ None
-narrow_long bytes n q read long = rw (read, long) refl
+pub minimal_only_long : (bytes : List ℕ) (n : ℕ) (q : Place) → u32_at (place true bytes) ≡ Some (n, q) → q.shortest ≡ false → (minimal_only u32).at (place true bytes) ≡ None
+minimal_only_long bytes n q read long = rw (read, long) refl
 
-pub narrow_none : (bytes : List ℕ) → u32_at (place true bytes) ≡ None → (narrow u32).at (place true bytes) ≡ None
-narrow_none bytes none = rw none refl
+pub minimal_only_none : (bytes : List ℕ) → u32_at (place true bytes) ≡ None → (minimal_only u32).at (place true bytes) ≡ None
+minimal_only_none bytes none = rw none refl
 
 -- ---- as the code has them
 
@@ -118,14 +118,14 @@ module _ (bytes : List ℕ) (p : Place) (start : p ≡ place true bytes) where
   pub number_there : (n : ℕ) (q : Place) → IsBytes p.left → u32_at p ≡ Some (n, q) → length q.left ≤ 0 → u32.Encodes bytes n
   number_there n q fits read none = all_there Lawful-u32 bytes n q (are_bytes fits) (read_there n q read) none
 
-  pub short_wanting : (new : Place) (fault : Fault) → Reads u32_at p new (Err fault) → fault ≡ faults.Malformed → IsRefusedAt (narrow u32) bytes 0
-  short_wanting new fault none is = nothing_there (Lawful-narrow Lawful-u32) bytes (narrow_none bytes (ap u32_at (sym start) ∙ no_u32 p new fault none is))
+  pub short_wanting : (new : Place) (fault : Fault) → Reads u32_at p new (Err fault) → fault ≡ faults.Malformed → IsRefusedAt (minimal_only u32) bytes 0
+  short_wanting new fault none is = nothing_there (Lawful-minimal_only Lawful-u32) bytes (minimal_only_none bytes (ap u32_at (sym start) ∙ no_u32 p new fault none is))
 
-  pub short_long : (n : ℕ) (q : Place) → u32_at p ≡ Some (n, q) → q.shortest ≡ false → IsRefusedAt (narrow u32) bytes 0
-  short_long n q read long = nothing_there (Lawful-narrow Lawful-u32) bytes (narrow_long bytes n q (read_there n q read) long)
+  pub short_long : (n : ℕ) (q : Place) → u32_at p ≡ Some (n, q) → q.shortest ≡ false → IsRefusedAt (minimal_only u32) bytes 0
+  short_long n q read long = nothing_there (Lawful-minimal_only Lawful-u32) bytes (minimal_only_long bytes n q (read_there n q read) long)
 
-  pub short_left_over : (n at : ℕ) (q : Place) → IsBytes p.left → u32_at p ≡ Some (n, q) → q.shortest ≡ true → 0 < length q.left → at ≡ length bytes - length q.left → IsRefusedAt (narrow u32) bytes at
-  short_left_over n at q fits read short some is = subst (IsRefusedAt (narrow u32) bytes) (sym is) (left_over (Lawful-narrow Lawful-u32) bytes n q (are_bytes fits) (narrow_read bytes n q (read_there n q read) short) some)
+  pub short_left_over : (n at : ℕ) (q : Place) → IsBytes p.left → u32_at p ≡ Some (n, q) → q.shortest ≡ true → 0 < length q.left → at ≡ length bytes - length q.left → IsRefusedAt (minimal_only u32) bytes at
+  short_left_over n at q fits read short some is = subst (IsRefusedAt (minimal_only u32) bytes) (sym is) (left_over (Lawful-minimal_only Lawful-u32) bytes n q (are_bytes fits) (minimal_only_read bytes n q (read_there n q read) short) some)
 
-  pub short_there : (n : ℕ) (q : Place) → IsBytes p.left → u32_at p ≡ Some (n, q) → q.shortest ≡ true → length q.left ≤ 0 → (narrow u32).Encodes bytes n
-  short_there n q fits read short none = all_there (Lawful-narrow Lawful-u32) bytes n q (are_bytes fits) (narrow_read bytes n q (read_there n q read) short) none
+  pub short_there : (n : ℕ) (q : Place) → IsBytes p.left → u32_at p ≡ Some (n, q) → q.shortest ≡ true → length q.left ≤ 0 → (minimal_only u32).Encodes bytes n
+  short_there n q fits read short none = all_there (Lawful-minimal_only Lawful-u32) bytes n q (are_bytes fits) (minimal_only_read bytes n q (read_there n q read) short) none

@@ -1,7 +1,7 @@
 -- What is rewritten of a value that is all of the bytes, whose format may go on to the end.
 use Rattle.std.proofs.Common.{◌≡◌, ℕ, ◌-◌, ◌<◌, ◌≤◌, true, List, [], ◌∷◌, ◌++◌, length, Some, None, Ok, Err, refl, sym, ap, subst, ◌∙◌, arith}
 use Rattle.std.specs.Global.{Vec}
-use Rattle.wasm_codec.specs.Answers.{IsNormalForm}
+use Rattle.wasm_codec.specs.Outcomes.{IsNormalForm}
 use Rattle.wasm_codec.specs.formats.Grammar.{IsBytes}
 use Rattle.wasm_codec.specs.Lawful.{IsLawfulBody}
 use Rattle.wasm_codec.specs.Places.{Place, place, keeps}
@@ -13,9 +13,9 @@ use Rattle.wasm_codec.specs.formats.Combinators.{Format}
 use Rattle.wasm_codec.proofs.Laws.{some_is}
 use Rattle.wasm_codec.proofs.RewriterLaws.{is_after}
 use Rattle.wasm_codec.specs.Decoding.{RewritesAll}
-use Rattle.wasm_sections.specs.Prefixes.{IsNothingOr, IsRefusedAt, TellsPrefixes}
+use Rattle.wasm_sections.specs.Prefixes.{IsNothingOr, IsRefusedAt, AreLawfulPrefixes}
 
-module _ {V : Type 0} {F : Format V} (r : IsLawfulBody F) (t : TellsPrefixes F) (bytes : List ℕ) (old new : Rewriting) (begun : old ≡ rewriting [] (place true bytes) []) where
+module _ {V : Type 0} {F : Format V} (r : IsLawfulBody F) (t : AreLawfulPrefixes F) (bytes : List ℕ) (old new : Rewriting) (begun : old ≡ rewriting [] (place true bytes) []) where
   clash : {A : Type 0} (x : A) → None ≡ Some x → ⊥
   clash x e = absurd cc
 

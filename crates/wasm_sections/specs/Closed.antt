@@ -15,7 +15,7 @@ use Rattle.wasm_sections.specs.declared.elements.Element.{Element}
 use Rattle.wasm_sections.specs.formats.EntryParts.{DataParts}
 use Rattle.wasm_sections.specs.declared.globals.Global.{Global}
 use Rattle.wasm_sections.specs.declared.tables.Table.{Table}
-use Rattle.wasm_sections.specs.formats.Parts.{AreEnded}
+use Rattle.wasm_sections.specs.formats.PartCombinators.{AreEnded}
 use Rattle.wasm_sections.specs.formats.Expressions.{nested, end_call, expr}
 
 -- The instructions close each block that they open, and no more.
@@ -61,14 +61,14 @@ abbrev pub IsWrittenExpr : List Instruction → Type 0
 IsWrittenExpr calls = IsClosed calls → IsShortest expr.Encodes expr.bytes calls
 
 -- The offset of the element segment, if it is active, closes its blocks.
-abbrev pub IsClosedPlace : ElementMode → Type 0
-IsClosedPlace (modes.Active table offset) = IsClosed offset
-IsClosedPlace mode = Unit
+abbrev pub IsClosedMode : ElementMode → Type 0
+IsClosedMode (modes.Active table offset) = IsClosed offset
+IsClosedMode mode = Unit
 
 -- A u32 counts the items of each list in the element segment's offset.
-abbrev pub IsCountedPlace : ElementMode → Type 0
-IsCountedPlace (modes.Active table offset) = IsCountedExpr offset
-IsCountedPlace mode = Unit
+abbrev pub IsCountedMode : ElementMode → Type 0
+IsCountedMode (modes.Active table offset) = IsCountedExpr offset
+IsCountedMode mode = Unit
 
 -- Each expression among the elements closes its blocks.
 abbrev pub AreClosed : Elements → Type 0
@@ -82,8 +82,8 @@ AreCounted (held.Expressions ty es) = IsCount (length es) × All IsCountedExpr e
 
 -- Each expression of the element segment closes its blocks.
 abbrev pub IsClosedElement : Element → Type 0
-IsClosedElement e = IsClosedPlace e.mode × AreClosed e.elements
+IsClosedElement e = IsClosedMode e.mode × AreClosed e.elements
 
 -- A u32 counts the elements, and the items of each list in the segment's expressions.
 abbrev pub IsCountedElement : Element → Type 0
-IsCountedElement e = IsCountedPlace e.mode × AreCounted e.elements
+IsCountedElement e = IsCountedMode e.mode × AreCounted e.elements

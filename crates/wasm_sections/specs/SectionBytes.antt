@@ -2,7 +2,7 @@
 use Rattle.std.specs.Prelude.{ℕ, List, ◌∷◌, length}
 use Rattle.wasm_codec.specs.Encoding.{IsCount}
 use Rattle.wasm_codec.specs.formats.Bodies.{sized}
-use Rattle.wasm_codec.specs.formats.Combinators.{Format, narrow}
+use Rattle.wasm_codec.specs.formats.Combinators.{Format, minimal_only}
 use Rattle.wasm_sections.specs.formats.EntryParts.{custom_parts}
 use Rattle.wasm_sections.specs.formats.ModuleSectionParts.{ModuleSectionParts}
 use Rattle.wasm_sections.specs.declared.custom.CustomSection.{CustomSection}
@@ -11,11 +11,11 @@ use Rattle.wasm_sections.specs.formats.Sections.{custom_body}
 
 -- The id and these bytes are the minimal encoding of the section.
 abbrev pub IsSectionAfter : ℕ → List ℕ → ModuleSectionParts → Type 0
-IsSectionAfter id bytes section = (narrow module_section).Encodes (id ∷ bytes) section
+IsSectionAfter id bytes section = (minimal_only module_section).Encodes (id ∷ bytes) section
 
 -- Sections of this id have bodies of this format.
 abbrev pub IsBodyOf : {V : Type 0} → ℕ → (V → ModuleSectionParts) → Format V → Type 0
-IsBodyOf {V} id section F = (v : V) (bytes : List ℕ) → (narrow (sized F)).Encodes bytes v → IsSectionAfter id bytes (section v)
+IsBodyOf {V} id section F = (v : V) (bytes : List ℕ) → (minimal_only (sized F)).Encodes bytes v → IsSectionAfter id bytes (section v)
 
 -- A u32 counts the bytes of the custom section's name, and one those of its body.
 abbrev pub CountedCustom : CustomSection → Type 0

@@ -10,18 +10,18 @@ use Rattle.wasm_sections.specs.declared.elements.ElementMode.{ElementMode}
 use Rattle.wasm_sections.specs.declared.elements.ElementMode.TheVariants as modes
 use Rattle.wasm_sections.specs.declared.elements.Elements.{Elements}
 use Rattle.wasm_sections.specs.declared.elements.Elements.TheVariants as held
-use Rattle.wasm_sections.specs.formats.Parts.{part_if}
+use Rattle.wasm_sections.specs.formats.PartCombinators.{part_if}
 use Rattle.wasm_sections.specs.formats.Expressions.{expr}
 use Rattle.wasm_sections.specs.formats.Elements.{kind_and_functions}
 
 -- The number of a form, the index of a memory or table if it is named, and the offset in it.
-abbrev pub place_bytes : ℕ → Option ℕ → List Instruction → List ℕ
-place_bytes form index offset = unsigned_leb128 form ++ ((part_if (is_some index) u32).bytes index ++ expr.bytes offset)
+abbrev pub table_and_offset_bytes : ℕ → Option ℕ → List Instruction → List ℕ
+table_and_offset_bytes form index offset = unsigned_leb128 form ++ ((part_if (is_some index) u32).bytes index ++ expr.bytes offset)
 
 -- The bytes before those of a data segment.
 abbrev pub data_mode_bytes : DataSegmentMode → List ℕ
 data_mode_bytes data_modes.Passive = unsigned_leb128 1
-data_mode_bytes (data_modes.Active memory offset) = if memory == 0 then place_bytes 0 None offset else place_bytes 2 (Some memory) offset
+data_mode_bytes (data_modes.Active memory offset) = if memory == 0 then table_and_offset_bytes 0 None offset else table_and_offset_bytes 2 (Some memory) offset
 
 -- The memory index and the offset of the data segment are in range.
 abbrev pub DataModeFits : DataSegmentMode → Type 0
@@ -34,7 +34,7 @@ is_short form = form == 0 || form == 4
 
 -- The bytes before the elements of a segment in this form.
 abbrev pub element_mode_bytes : ℕ → ElementMode → List ℕ
-element_mode_bytes form (modes.Active table offset) = if is_short form then place_bytes form None offset else place_bytes form (Some table) offset
+element_mode_bytes form (modes.Active table offset) = if is_short form then table_and_offset_bytes form None offset else table_and_offset_bytes form (Some table) offset
 element_mode_bytes form mode = unsigned_leb128 form
 
 -- The table index and the offset of the element segment are in range.

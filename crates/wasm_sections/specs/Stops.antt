@@ -1,7 +1,7 @@
 -- The offset at which the body of a section stops to be a list (WebAssembly Core 3.0, Lists), and the number of its
 -- items that aren't minimally encoded.
 use Rattle.std.specs.Prelude.{◌≡◌, ◌+◌, ◌<◌, ◌≤◌, ◌⊎◌, ℕ, List, [], ◌∷◌, ◌++◌, length, Result, Ok, Err, ⊤}
-use Rattle.wasm_codec.specs.Answers.{EncodesSome, IsLongestPrefix}
+use Rattle.wasm_codec.specs.Outcomes.{EncodesSome, IsLongestPrefix}
 use Rattle.wasm_codec.specs.formats.Grammar.{Grammar, Joined}
 use Rattle.wasm_codec.specs.Lists.{EncodesList, IsListPrefix}
 use Rattle.wasm_codec.specs.formats.Numbers.{EncodesU32}
@@ -9,10 +9,10 @@ use Rattle.wasm_codec.specs.formats.Combinators.{Format, u32}
 use Rattle.wasm_types.specs.declared.types.value.ValType.{ValType}
 use Rattle.wasm_instructions.specs.formats.Instructions.{Instruction, Instructions}
 use Rattle.wasm_modules.specs.formats.CodeBodies.{code_body, local_group, function_code}
-use Rattle.wasm_sections.specs.declared.modules.places.CodePlace.{CodePlace}
-use Rattle.wasm_sections.specs.declared.modules.places.CodePlace.TheVariants as places
+use Rattle.wasm_sections.specs.declared.modules.places.BrokenPart.{BrokenPart}
+use Rattle.wasm_sections.specs.declared.modules.places.BrokenPart.TheVariants as places
 use Rattle.wasm_sections.specs.declared.modules.places.ItemCounts.{ItemCounts}
-use Rattle.wasm_sections.specs.declared.modules.places.ItemPlace.{ItemPlace}
+use Rattle.wasm_sections.specs.declared.modules.places.BrokenItem.{BrokenItem}
 use Rattle.wasm_sections.specs.formats.Elements.{element_segment}
 use Rattle.wasm_sections.specs.formats.Entries.{import_entry, table_entry, global_entry, export_entry}
 use Rattle.wasm_sections.specs.formats.Externals.{memory_type, tag_type}
@@ -55,7 +55,7 @@ pub record CountsLonger {V : Type 0} (F : Format V) (body : List ℕ) (count lon
   pub longer_items : HasLonger F back items longer
 
 -- The result is right: the counts of the list's items, or the place where the list stops.
-abbrev pub Tells : {V : Type 0} → Format V → List ℕ → Result ItemCounts ItemPlace → Type 0
+abbrev pub Tells : {V : Type 0} → Format V → List ℕ → Result ItemCounts BrokenItem → Type 0
 Tells F body (Ok counts) = CountsLonger F body counts.count counts.longer
 Tells F body (Err place) = StopsAtItem F body place.count place.index place.at
 
@@ -97,11 +97,11 @@ pub record StopsAtInstruction (code : List ℕ) (at : ℕ) : Type 0 where
   pub within : len < length calls
 
 -- The place lies in the locals or in the instructions, and the code decodes up to it and no further.
-abbrev pub StopsAtPart : List ℕ → CodePlace → Type 0
+abbrev pub StopsAtPart : List ℕ → BrokenPart → Type 0
 StopsAtPart code (places.Locals place) = StopsInLocals code place.count place.index place.at
 StopsAtPart code (places.Instruction at) = StopsAtInstruction code at
 
 -- The code is no function's code: it decodes up to this place and no further.
-pub record StopsInCode (code : List ℕ) (place : CodePlace) : Type 0 where
+pub record StopsInCode (code : List ℕ) (place : BrokenPart) : Type 0 where
   pub stops : StopsAtPart code place
   pub unencoded : (parts : List (ℕ × ValType) × List Instruction) → function_code.Encodes code parts → ⊥

@@ -1,7 +1,7 @@
 pub mod Nesting
 pub mod EntryParts
 pub mod ModuleSectionParts
-pub mod Parts
+pub mod PartCombinators
 pub mod Names
 pub mod Externals
 pub mod Expressions

@@ -1,6 +1,6 @@
 //! Section bodies that are a single value without trailing bytes, for any value.
-ghost use Rattle.wasm_codec.specs.Answers.{NeedsNoMemory};
-ghost use Rattle.wasm_sections.specs.Prefixes.{IsNothingOr, TellsPrefixes};
+ghost use Rattle.wasm_codec.specs.Outcomes.{NeedsNoMemory};
+ghost use Rattle.wasm_sections.specs.Prefixes.{IsNothingOr, AreLawfulPrefixes};
 ghost use Rattle.wasm_codec.specs.Decoding.{RewritesAll};
 
 use wasm_codec::reader::ReadError;
@@ -9,8 +9,8 @@ use wasm_codec::rewriter::{RewritableBody, Rewriter};
 /// A value that fills a section body.
 pub trait WholeBody: RewritableBody {
     /// Proves that decoding a value shows the longest prefix that decodes. Does nothing at run time.
-    fn tells_prefixes()
-        ensures { TellsPrefixes Self.format };
+    fn prefixes_are_lawful()
+        ensures { AreLawfulPrefixes Self.format };
 }
 
 /// Rewrites a body to its minimal encoding in place. Refuses at 0 if the value is malformed, or at the offset of trailing
@@ -20,7 +20,7 @@ pub fn rewrite_body<T: WholeBody>(body: Vec<u8>) -> Result<Vec<u8>, ReadError>
     ensures memory { NeedsNoMemory result }
 {
     T::is_lawful();
-    T::tells_prefixes();
+    T::prefixes_are_lawful();
     let len = body.len();
     let mut rewriter = Rewriter::new(body);
     rewriter.are_bytes();

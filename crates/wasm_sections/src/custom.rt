@@ -1,12 +1,12 @@
 //! Custom sections (Core 3.0, Custom Section).
 ghost use Rattle.std.specs.Prelude.{length};
-ghost use Rattle.wasm_codec.specs.formats.Combinators.{narrow};
+ghost use Rattle.wasm_codec.specs.formats.Combinators.{minimal_only};
 ghost use Rattle.wasm_sections.specs.formats.EntryParts.{CustomParts, custom_parts};
 ghost use Rattle.wasm_sections.specs.Prefixes.{IsNothingOr};
 ghost use Rattle.wasm_sections.specs.formats.Sections.{custom_body};
 ghost use Rattle.wasm_codec.specs.Decoding.{ReadsAll, ChecksAll, RewritesAll, IsMinimal, Decodes};
 ghost use Rattle.wasm_codec.specs.Lawful.{IsLawfulBody};
-ghost use Rattle.wasm_codec.specs.Answers.{NeedsNoMemory};
+ghost use Rattle.wasm_codec.specs.Outcomes.{NeedsNoMemory};
 
 use crate::bodies::{WholeBody, rewrite_body};
 use crate::names::{read_name, rewrite_name};
@@ -65,7 +65,8 @@ fn read_name_and_bytes<'a>(body: &'a [u8]) -> Result<CustomSection<'a>, ReadErro
 
 /// Reads a minimally encoded custom section body. Refuses at 0 if the name is malformed or its length not minimal.
 fn read_name_and_bytes_strict<'a>(body: &'a [u8]) -> Result<CustomSection<'a>, ReadError>
-    ensures reads { ReadsAll custom_parts (narrow custom_body).Encodes (IsNothingOr (narrow custom_body)) body.now result }
+    ensures reads { ReadsAll custom_parts (minimal_only custom_body).Encodes (IsNothingOr (minimal_only custom_body)) body.now result }
+    ensures memory { NeedsNoMemory result }
 {
     let mut cursor = Cursor::new(body);
     // `fork` shows the proof that all remaining items are bytes.
@@ -106,7 +107,7 @@ impl RewritableBody for Custom {
 impl WholeBody for Custom {
     #[inline(always)]
     #[tactic(auto, using(crate::proofs::CustomLaws::custom_prefixes))]
-    fn tells_prefixes() {}
+    fn prefixes_are_lawful() {}
 }
 
 impl<'a> Decode<'a> for CustomSection<'a> {
@@ -118,17 +119,19 @@ impl<'a> Decode<'a> for CustomSection<'a> {
 
     ghost format = { custom_body };
 
-    ghost Minimal = { (narrow custom_body).Encodes };
+    ghost Minimal = { (minimal_only custom_body).Encodes };
 
     ghost IsPrefix = { IsNothingOr custom_body };
 
-    ghost IsMinimalPrefix = { IsNothingOr (narrow custom_body) };
+    ghost IsMinimalPrefix = { IsNothingOr (minimal_only custom_body) };
+
+    ghost ReadsInPlace = { ⊤ };
 
     #[inline(always)]
     #[tactic(auto, using(crate::proofs::CustomLaws::custom_is_lawful))]
     fn is_lawful()
         ensures lawful { IsLawfulBody custom_body }
-        ensures minimal { IsMinimal custom_body (narrow custom_body).Encodes }
+        ensures minimal { IsMinimal custom_body (minimal_only custom_body).Encodes }
     {}
 
     fn read_all(_alloc: Global, bytes: &'a [u8]) -> Result<CustomSection<'a>, ReadError> {
@@ -140,7 +143,7 @@ impl<'a> Decode<'a> for CustomSection<'a> {
     }
 
     fn check_all(_alloc: Global, bytes: &[u8]) -> Result<(), ReadError>
-        ensures checks { ChecksAll (narrow custom_body).Encodes (IsNothingOr (narrow custom_body)) bytes.now result }
+        ensures checks { ChecksAll (minimal_only custom_body).Encodes (IsNothingOr (minimal_only custom_body)) bytes.now result }
     {
         match read_name_and_bytes_strict(bytes) {
             Ok(_) => Ok(()),

@@ -141,7 +141,7 @@ impl RewritableBody for RawBytes {
 
 /// Rewrites the offset and the contents of an active data segment to their minimal encodings.
 #[tactic(auto, using(std::proofs::Common::append_assoc))]
-fn rewrite_placed(rewriter: &mut Rewriter) -> Result<(), Fault>
+fn rewrite_active(rewriter: &mut Rewriter) -> Result<(), Fault>
     ensures rewrites { Rewrites (expr ⊗ byte_list) rewriter.old rewriter.new result }
 {
     rewrite_expr(rewriter)?;
@@ -150,17 +150,17 @@ fn rewrite_placed(rewriter: &mut Rewriter) -> Result<(), Fault>
 
 /// Rewrites a data segment to its minimal encoding. If it names memory 0, cuts out the form number 2, so that the
 /// memory index 0 becomes the number of the shorter form.
-#[tactic(auto, using(crate::proofs::SegmentRewriting::no_data_form, crate::proofs::SegmentRewriting::placed_rewritten, crate::proofs::SegmentRewriting::passive_rewritten, crate::proofs::SegmentRewriting::memory_left_out, crate::proofs::SegmentRewriting::memory_kept), unfolding(crate::specs::formats::Segments::data_segment))]
+#[tactic(auto, using(crate::proofs::SegmentRewriting::no_data_form, crate::proofs::SegmentRewriting::active_rewritten, crate::proofs::SegmentRewriting::passive_rewritten, crate::proofs::SegmentRewriting::memory_left_out, crate::proofs::SegmentRewriting::memory_kept), unfolding(crate::specs::formats::Segments::data_segment))]
 fn rewrite_data_segment(rewriter: &mut Rewriter) -> Result<(), Fault>
     ensures rewrites { Rewrites data_segment rewriter.old rewriter.new result }
 {
     let mark = rewriter.written_len();
     match rewriter.u32()? {
-        0 => rewrite_placed(rewriter),
+        0 => rewrite_active(rewriter),
         1 => rewrite_sized::<RawBytes>(rewriter),
         2 => {
             let memory = rewriter.u32()?;
-            rewrite_placed(rewriter)?;
+            rewrite_active(rewriter)?;
             if memory == 0 {
                 rewriter.cut_out(mark, 1);
             }

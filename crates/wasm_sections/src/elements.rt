@@ -246,7 +246,7 @@ impl Rewritable for Expression {
 
 /// Rewrites an offset and a list of elements to their minimal encodings.
 #[tactic(auto, using(std::proofs::Common::append_assoc))]
-fn rewrite_placed<T: Rewritable>(rewriter: &mut Rewriter) -> Result<(), Fault>
+fn rewrite_active<T: Rewritable>(rewriter: &mut Rewriter) -> Result<(), Fault>
     ensures rewrites { Rewrites (expr ⊗ items T.format) rewriter.old rewriter.new result }
 {
     rewrite_expr(rewriter)?;
@@ -329,11 +329,11 @@ fn rewrite_element(rewriter: &mut Rewriter) -> Result<(), Fault>
 {
     let mark = rewriter.written_len();
     match rewriter.u32()? {
-        0 => rewrite_placed::<u32>(rewriter),
+        0 => rewrite_active::<u32>(rewriter),
         1 => rewrite_functions(rewriter),
         2 => rewrite_functions_of_table(rewriter, mark),
         3 => rewrite_functions(rewriter),
-        4 => rewrite_placed::<Expression>(rewriter),
+        4 => rewrite_active::<Expression>(rewriter),
         5 => rewrite_typed(rewriter),
         6 => rewrite_expressions_of_table(rewriter, mark),
         7 => rewrite_typed(rewriter),

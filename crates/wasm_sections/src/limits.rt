@@ -4,7 +4,7 @@ ghost use Rattle.wasm_codec.specs.Places.{Reads};
 ghost use Rattle.wasm_codec.specs.Rewriter.{Gives, Rewrites};
 ghost use Rattle.wasm_codec.specs.formats.Combinators.{find, u32 as u32_format, u64 as u64_format};
 ghost use Rattle.wasm_codec.specs.declared.reader.cursor.Fault.TheVariants.{Malformed};
-ghost use Rattle.wasm_sections.specs.formats.Parts.{part_if};
+ghost use Rattle.wasm_sections.specs.formats.PartCombinators.{part_if};
 ghost use Rattle.wasm_sections.specs.formats.Externals.{flags_byte, all_flags, paged_byte, all_paged, limits_flags, memory_flags, memory_type, memory_format, table_type, table_format};
 
 use crate::types::{MemoryType, TableType};
@@ -77,7 +77,7 @@ fn read_memory_flags(cursor: &mut Cursor<'_>) -> Result<((bool, (bool, bool)), b
 }
 
 /// Reads a u64 if a flag says that there is one.
-#[tactic(auto, unfolding(crate::specs::formats::Parts::part_if))]
+#[tactic(auto, unfolding(crate::specs::formats::PartCombinators::part_if))]
 fn read_u64_if(cursor: &mut Cursor<'_>, there: bool) -> Result<Option<u64>, Fault>
     ensures reads { Reads (part_if there u64_format).at cursor.old cursor.new result }
     ensures err { IfErr result (λ e. e ≡ Malformed) }
@@ -89,7 +89,7 @@ fn read_u64_if(cursor: &mut Cursor<'_>, there: bool) -> Result<Option<u64>, Faul
 }
 
 /// Reads a u32 if a flag says that there is one.
-#[tactic(auto, unfolding(crate::specs::formats::Parts::part_if))]
+#[tactic(auto, unfolding(crate::specs::formats::PartCombinators::part_if))]
 fn read_u32_if(cursor: &mut Cursor<'_>, there: bool) -> Result<Option<u32>, Fault>
     ensures reads { Reads (part_if there u32_format).at cursor.old cursor.new result }
     ensures err { IfErr result (λ e. e ≡ Malformed) }
@@ -155,7 +155,7 @@ fn rewrite_memory_flags(rewriter: &mut Rewriter) -> Result<((bool, (bool, bool))
 }
 
 /// Rewrites a u64 to its minimal encoding if a flag says that there is one.
-#[tactic(auto, using(crate::proofs::LimitsRewriting::none_there), unfolding(crate::specs::formats::Parts::part_if))]
+#[tactic(auto, using(crate::proofs::LimitsRewriting::none_there), unfolding(crate::specs::formats::PartCombinators::part_if))]
 fn rewrite_u64_if(rewriter: &mut Rewriter, there: bool) -> Result<(), Fault>
     ensures rewrites { Rewrites (part_if there u64_format) rewriter.old rewriter.new result }
 {
@@ -166,7 +166,7 @@ fn rewrite_u64_if(rewriter: &mut Rewriter, there: bool) -> Result<(), Fault>
 }
 
 /// Rewrites a u32 to its minimal encoding if a flag says that there is one.
-#[tactic(auto, using(crate::proofs::LimitsRewriting::none_there), unfolding(crate::specs::formats::Parts::part_if))]
+#[tactic(auto, using(crate::proofs::LimitsRewriting::none_there), unfolding(crate::specs::formats::PartCombinators::part_if))]
 fn rewrite_u32_if(rewriter: &mut Rewriter, there: bool) -> Result<(), Fault>
     ensures rewrites { Rewrites (part_if there u32_format) rewriter.old rewriter.new result }
 {

@@ -1,8 +1,8 @@
 //! Modules with every section decoded (Core 3.0, Modules).
 ghost use Rattle.std.specs.Prelude.{◌≡◌, List};
 ghost use Rattle.std.specs.List.{AllByRecursion};
-ghost use Rattle.wasm_codec.specs.Answers.{NeedsNoMemory};
-ghost use Rattle.wasm_codec.specs.formats.Combinators.{narrow};
+ghost use Rattle.wasm_codec.specs.Outcomes.{NeedsNoMemory};
+ghost use Rattle.wasm_codec.specs.formats.Combinators.{minimal_only};
 ghost use Rattle.wasm_modules.specs.Modules.{IsModulePrefixOf};
 ghost use Rattle.wasm_sections.specs.formats.ModuleSectionParts.{ModuleSectionParts, all_module_section_parts};
 ghost use Rattle.wasm_sections.specs.formats.ModuleSections.{module_section, whole_module, ShortestWholeModule};
@@ -24,7 +24,7 @@ use crate::tables::Table;
 use crate::types::{MemoryType, TagType};
 pub use order::{ModuleError, check_order};
 pub use places::{
-    CodePlace, ItemCounts, ItemPlace, count_longer_items, first_broken_item, first_broken_part,
+    BrokenPart, ItemCounts, BrokenItem, count_longer_items, first_broken_item, first_broken_part,
 };
 use rewriter::AnySection;
 use std::alloc::Global;
@@ -110,7 +110,7 @@ impl<'a> Decode<'a> for WholeModule {
 
     ghost IsPrefix = { IsModulePrefixOf module_section };
 
-    ghost IsMinimalPrefix = { IsModulePrefixOf (narrow module_section) };
+    ghost IsMinimalPrefix = { IsModulePrefixOf (minimal_only module_section) };
 
     #[inline(always)]
     fn is_lawful()
@@ -130,7 +130,7 @@ impl<'a> Decode<'a> for WholeModule {
     }
 
     fn check_all(alloc: Global, bytes: &[u8]) -> Result<(), ReadError>
-        ensures checks { ChecksAll ShortestWholeModule (IsModulePrefixOf (narrow module_section)) bytes.now result }
+        ensures checks { ChecksAll ShortestWholeModule (IsModulePrefixOf (minimal_only module_section)) bytes.now result }
     {
         check_module_of::<AnySection>(alloc, bytes)
     }
@@ -185,7 +185,7 @@ pub fn read_whole_module_strict<'a>(
     alloc: Global,
     bytes: &'a [u8],
 ) -> Result<Vec<ModuleSection<'a>>, ReadError>
-    ensures decodes { DecodesMinimal (λ sections. all_module_section_parts sections.items) whole_module ShortestWholeModule (IsModulePrefixOf (narrow module_section)) bytes.now result }
+    ensures decodes { DecodesMinimal (λ sections. all_module_section_parts sections.items) whole_module ShortestWholeModule (IsModulePrefixOf (minimal_only module_section)) bytes.now result }
 {
     read_strict::<WholeModule>(alloc, bytes)
 }
@@ -195,7 +195,7 @@ pub fn read_whole_module_strict<'a>(
 /// Accepts and refuses as `read_whole_module_strict` does, but builds no list of sections. Fails with `Memory` if an
 /// allocation fails.
 pub fn check_whole_module(alloc: Global, bytes: &[u8]) -> Result<(), ReadError>
-    ensures checks { Checks whole_module ShortestWholeModule (IsModulePrefixOf (narrow module_section)) bytes.now result }
+    ensures checks { Checks whole_module ShortestWholeModule (IsModulePrefixOf (minimal_only module_section)) bytes.now result }
 {
     check::<WholeModule>(alloc, bytes)
 }

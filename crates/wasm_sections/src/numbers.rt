@@ -1,7 +1,7 @@
 //! Section bodies that are a single number (Core 3.0, Start Section and Data Count Section).
 ghost use Rattle.std.specs.Prelude.{ℕ, Ok};
-ghost use Rattle.wasm_codec.specs.Answers.{NeedsNoMemory};
-ghost use Rattle.wasm_codec.specs.formats.Combinators.{narrow, u32 as u32_format};
+ghost use Rattle.wasm_codec.specs.Outcomes.{NeedsNoMemory};
+ghost use Rattle.wasm_codec.specs.formats.Combinators.{minimal_only, u32 as u32_format};
 ghost use Rattle.wasm_sections.specs.Prefixes.{IsNothingOr};
 ghost use Rattle.wasm_codec.specs.Decoding.{ReadsAll};
 
@@ -33,7 +33,7 @@ pub fn read_number(body: &[u8]) -> Result<u32, ReadError>
 
 /// Reads a minimally encoded number that fills a section body. Fails as `read_number` does, and at 0 if it isn't minimal.
 pub fn read_number_strict(body: &[u8]) -> Result<u32, ReadError>
-    ensures reads { ReadsAll (λ number. number) (narrow u32_format).Encodes (IsNothingOr (narrow u32_format)) body.now result }
+    ensures reads { ReadsAll (λ number. number) (minimal_only u32_format).Encodes (IsNothingOr (minimal_only u32_format)) body.now result }
     ensures memory { NeedsNoMemory result }
 {
     let mut cursor = Cursor::new(body);
@@ -74,5 +74,5 @@ impl RewritableBody for Number {
 impl WholeBody for Number {
     #[inline(always)]
     #[tactic(auto, using(crate::proofs::ValueReading::number_prefixes))]
-    fn tells_prefixes() {}
+    fn prefixes_are_lawful() {}
 }

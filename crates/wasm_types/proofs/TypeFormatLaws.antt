@@ -17,7 +17,7 @@ use Rattle.wasm_codec.specs.formats.Grammar.{Mapped}
 use Rattle.wasm_codec.specs.formats.Grammar.{TakesBytes}
 use Rattle.wasm_codec.specs.formats.Combinators.{Choice, ◌⊗◌, made, or_else, after, flagged, u32, items}
 use Rattle.wasm_codec.proofs.FormatLaws.{IsFound, Every-made, Every-after, Every-either, Lawful-or-after, Lawful-or-after-long, Lawful-or-else, Lawful-variant-after, Lawful-made, Lawful-both, Lawful-variant, Lawful-flagged, Lawful-optional, Lawful-one-byte, Lawful-byte-or, Lawful-u32, Lawful-index, Lawful-items, Tagged-or, Tagged-never, takes_bytes, not_longer}
-use Rattle.wasm_codec.proofs.AskedLaws.{list_narrow}
+use Rattle.wasm_codec.proofs.MinimalIfLaws.{list_minimal_only}
 use Rattle.wasm_codec.proofs.ListLaws.{AtMostOne-list}
 use Rattle.wasm_codec.proofs.ListReading.{AtMostOne}
 use Rattle.wasm_codec.proofs.PlaceLists.{plain_reads}
@@ -181,7 +181,7 @@ AtMostOne-type-body = AtMostOne-list (plain_reads Lawful-recursive-type.reads)
 -- the encodings by shortest ones alone are the shortest encodings
 pub is_shortest_body : (bytes : List ℕ) (entries : List TypeEntry) → ShortestTypeBody bytes entries ↔ (type_body.Encodes bytes entries × (bytes ≡ type_body.bytes entries))
 unfolding type_body
-is_shortest_body = list_narrow Lawful-recursive-type
+is_shortest_body = list_minimal_only Lawful-recursive-type
 
 -- ---- no value is encoded by no bytes
 

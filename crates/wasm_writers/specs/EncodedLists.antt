@@ -10,28 +10,28 @@ use Rattle.wasm_codec.specs.Leb128.{unsigned_leb128}
 use Rattle.wasm_codec.specs.formats.Combinators.{Format}
 
 -- The number of values, and their bytes.
-pub record Entries : Type 0 where
+pub record EncodedItems : Type 0 where
   pub count : ℕ
   pub bytes : List ℕ
 
 -- The body of a section: the count, then the bytes of the values (Lists).
-abbrev pub body_bytes : Entries → List ℕ
+abbrev pub body_bytes : EncodedItems → List ℕ
 body_bytes list = unsigned_leb128 list.count ++ list.bytes
 
 -- A u32 counts the bytes of the section's body.
-abbrev pub CountedSection : Entries → Type 0
+abbrev pub CountedSection : EncodedItems → Type 0
 CountedSection section = IsCount (length (body_bytes section))
 
 module _ {V : Type 0} (F : Format V) (Can : V → Type 0) where
   -- The list stands for these values: it has their number and encodings, and each can be written and is in range.
-  pub record StandsForAll (list : Entries) (values : List V) : Type 0 where
+  pub record StandsForAll (list : EncodedItems) (values : List V) : Type 0 where
     pub count : list.count ≡ length values
     pub bytes : list.bytes ≡ flat_map F.bytes values
     pub can : All Can values
     pub in_range : All F.InRange values
 
   -- The new list is the old one and one more value.
-  pub record GainsOne (old : Entries) (value : V) (new : Entries) : Type 0 where
+  pub record GainsOne (old : EncodedItems) (value : V) (new : EncodedItems) : Type 0 where
     pub count : new.count ≡ old.count + 1
     pub bytes : new.bytes ≡ old.bytes ++ F.bytes value
     pub can : Can value
@@ -39,7 +39,7 @@ module _ {V : Type 0} (F : Format V) (Can : V → Type 0) where
     pub stands : (before : List V) → StandsForAll old before → StandsForAll new (before ++ value ∷ [])
 
   -- The new list is the old one and these more values.
-  pub record GainsEach (old : Entries) (more : List V) (new : Entries) : Type 0 where
+  pub record GainsEach (old : EncodedItems) (more : List V) (new : EncodedItems) : Type 0 where
     pub count : new.count ≡ old.count + length more
     pub bytes : new.bytes ≡ old.bytes ++ flat_map F.bytes more
     pub can : All Can more
@@ -64,7 +64,7 @@ abbrev pub IsUncounted : ℕ → Type 0
 IsUncounted n = 2 ^ 32 ≤ n
 
 -- The list already has the greatest number of values, 4,294,967,295.
-abbrev pub IsFull : Entries → Type 0
+abbrev pub IsFull : EncodedItems → Type 0
 IsFull list = list.count + 1 ≡ 2 ^ 32
 
 -- Memory ran out, or the error is `TooLong` for this reason.
@@ -73,9 +73,9 @@ IsMemoryOrTooLong Why e = (e ≡ Memory) ⊎ ((e ≡ TooLong) × Why)
 
 module _ {T : Type 0} (Can : T → Type 0) (refuses : T → EncodeError → Type 0) where
   -- Memory ran out, the list is full, or the value can't be written.
-  abbrev pub IsRefusalOfOne : Entries → T → EncodeError → Type 0
+  abbrev pub IsRefusalOfOne : EncodedItems → T → EncodeError → Type 0
   IsRefusalOfOne old value e = IsMemoryOrTooLong (IsFull old) e ⊎ Refuses Can refuses value e
 
   -- Memory ran out, a u32 wouldn't count the values, or one of them can't be written.
-  abbrev pub IsRefusalOfEach : Entries → List T → EncodeError → Type 0
+  abbrev pub IsRefusalOfEach : EncodedItems → List T → EncodeError → Type 0
   IsRefusalOfEach old values e = IsMemoryOrTooLong (IsUncounted (old.count + length values)) e ⊎ Any (λ x. Refuses Can refuses x e) values

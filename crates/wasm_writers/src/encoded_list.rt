@@ -5,7 +5,7 @@ ghost use Rattle.wasm_codec.specs.Encoding.{byte_list_bytes, CanEncodeList, IsCo
 ghost use Rattle.wasm_writers.specs.Iterators.{IsItemsRefusal};
 ghost use Rattle.wasm_codec.specs.Lists.{items_bytes};
 ghost use Rattle.wasm_codec.specs.declared.encode.EncodeError.TheVariants.{Memory, TooLong};
-ghost use Rattle.wasm_writers.specs.EncodedLists.{Entries, CountedSection, IsFull, IsMemoryOrTooLong, IsRefusalOfOne, IsRefusalOfEach, OfItems, body_bytes};
+ghost use Rattle.wasm_writers.specs.EncodedLists.{EncodedItems, CountedSection, IsFull, IsMemoryOrTooLong, IsRefusalOfOne, IsRefusalOfEach, OfItems, body_bytes};
 
 use crate::encode::{Encode, append_each, append_items};
 use std::alloc::{Allocator, Global};
@@ -23,9 +23,9 @@ pub struct EncodedList {
 }
 
 impl Model for EncodedList {
-    ghost use Rattle.wasm_writers.specs.EncodedLists.{Entries};
+    ghost use Rattle.wasm_writers.specs.EncodedLists.{EncodedItems};
 
-    ghost Value = { Entries };
+    ghost Value = { EncodedItems };
 
     ghost view = { λ list. record { count = list.count; bytes = list.bytes.items } };
 }
@@ -102,7 +102,7 @@ impl EncodedList {
         let count = self.count_after(values.len())?;
         let start = self.bytes.len();
         let appended = append_each(values, &mut self.bytes);
-        self.settle(start, count, appended)
+        self.commit(start, count, appended)
     }
 
     /// Returns the number of values plus `more`. Fails with `TooLong` if that is over 4,294,967,295.
@@ -140,7 +140,7 @@ impl EncodedList {
         let count = self.next_count()?;
         let start = self.bytes.len();
         let appended = append_tagged(tag, items, &mut self.bytes);
-        self.settle(start, count, appended)
+        self.commit(start, count, appended)
     }
 
     /// Adds a value that is the byte `tag` and the lists of the items that two iterators yield. On error the list is
@@ -167,12 +167,12 @@ impl EncodedList {
         let count = self.next_count()?;
         let start = self.bytes.len();
         let appended = append_tagged_pair(tag, first, second, &mut self.bytes);
-        self.settle(start, count, appended)
+        self.commit(start, count, appended)
     }
 
     /// Keeps the bytes from `start` on, and sets the number of values to `count`, if `appended` is `Ok`. Otherwise
     /// truncates the bytes back to `start`.
-    fn settle(
+    fn commit(
         &mut self,
         start: usize,
         count: u32,

@@ -3,7 +3,7 @@ use Rattle.std.proofs.Common.{◌≡◌, ◌∙◌, ℕ, ◌+◌, ◌⊎◌, tru
 use Rattle.std.specs.Prelude.{MatchOption, IfSome, IfNone, IfOk, OnOk, Result, Ok, Err, is_some, is_err}
 use Rattle.std.proofs.lemmas.List.{take_at, take-append-drop, flat_map_more}
 use lib.Pointwise.{pointwise, bytes_decides}
-use Rattle.wasm_codec.specs.Answers.{IsOrMemory}
+use Rattle.wasm_codec.specs.Outcomes.{IsOrMemory}
 use Rattle.wasm_codec.specs.Encoding.{byte_list_bytes}
 use Rattle.wasm_codec.specs.declared.reader.ReadError.{ReadError}
 use Rattle.wasm_codec.specs.declared.reader.ReadError.TheVariants.{Refused}

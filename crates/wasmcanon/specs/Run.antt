@@ -1,10 +1,10 @@
 -- The output of a run of `wasmcanon`, and its result.
 use Rattle.std.specs.Prelude.{ℕ, List, Option, Result, Ok, Err}
 use Rattle.std.specs.Io.KnownBytes.{Appends}
-use Rattle.wasm_codec.specs.Answers.{EncodesSome, IsNormalForm, IsLongestPrefix}
+use Rattle.wasm_codec.specs.Outcomes.{EncodesSome, IsNormalForm, IsLongestPrefix}
 use Rattle.wasm_sections.specs.formats.ModuleSectionParts.{ModuleSectionParts}
 use Rattle.wasm_sections.specs.formats.ModuleSections.{module_section, whole_module}
-use Rattle.wasm_codec.specs.formats.Combinators.{narrow}
+use Rattle.wasm_codec.specs.formats.Combinators.{minimal_only}
 use Rattle.wasm_modules.specs.Modules.{IsModulePrefixOf}
 use Rattle.wasm_modules.specs.formats.Sections.{SectionParts}
 use Rattle.wasm_modules.specs.formats.Modules.{raw_module}
@@ -44,7 +44,7 @@ pub record AppendsWithoutOffsets (input : List ℕ) (old new : Option (List ℕ)
 abbrev pub Judges : List ℕ → Verdict → Type 0
 Judges input verdicts.Canonical = IsCanonicalForm input input
 Judges input (verdicts.Longer at) =
-    IsModule input × (IsCanonicalForm input input → ⊥) × IsLongestPrefix (IsModulePrefixOf (narrow module_section)) input at
+    IsModule input × (IsCanonicalForm input input → ⊥) × IsLongestPrefix (IsModulePrefixOf (minimal_only module_section)) input at
 
 -- ---- results
 

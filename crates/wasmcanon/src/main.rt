@@ -10,7 +10,7 @@ mod files;
 mod messages;
 mod offsets;
 mod options;
-mod places;
+mod malformed;
 mod progress;
 mod report;
 mod run;

@@ -22,9 +22,9 @@ impl fmt::Display for FailureMessage<'_> {
             ),
             Failure::Refused {
                 at: _,
-                place: Some(place),
-            } => write!(f, "{input}: {place}"),
-            Failure::Refused { at, place: None } => {
+                section: Some(section),
+            } => write!(f, "{input}: {section}"),
+            Failure::Refused { at, section: None } => {
                 write!(f, "{input}: offset {at:#x}: malformed section")
             }
             Failure::Memory => write!(f, "out of memory"),

@@ -2,7 +2,7 @@
 use clap::{Arg, ArgAction, ArgMatches, Command};
 use std::alloc::{AllocError, Global};
 
-/// A place to read bytes from or to write them to.
+/// An input or an output of bytes.
 #[derive(Clone, Copy, PartialEq, Eq)]
 pub enum Location<'a> {
     /// Standard input or standard output.
@@ -156,7 +156,7 @@ struct Argument {
 #[derive(Clone, Copy)]
 enum Form {
     /// By position. The word is its name in messages.
-    Place(&'static str),
+    Named(&'static str),
     /// As a short or a long option with a value. The word is the value's name in messages.
     Value(char, &'static str),
     /// As a long option without a value.
@@ -166,14 +166,14 @@ enum Form {
 const ARGUMENTS: [Argument; 9] = [
     Argument {
         name: "input",
-        form: Form::Place("FILE"),
+        form: Form::Named("FILE"),
         groups: &[],
         conflicts: &[],
         needs: &[],
     },
     Argument {
         name: "other",
-        form: Form::Place("OTHER"),
+        form: Form::Named("OTHER"),
         groups: &[],
         conflicts: &[],
         needs: &["diff"],
@@ -254,7 +254,7 @@ fn arg_of<'a>(alloc: Global, argument: &Argument) -> Result<Arg<'a>, AllocError>
 /// Gives the parser's argument the form of this one.
 fn written_as<'a>(arg: Arg<'a>, argument: &Argument) -> Arg<'a> {
     match argument.form {
-        Form::Place(word) => arg.value_name(word),
+        Form::Named(word) => arg.value_name(word),
         Form::Value(letter, word) => arg.short(letter).long(argument.name).value_name(word),
         Form::Flag => arg.long(argument.name).action(ArgAction::SetTrue),
     }

@@ -1,15 +1,15 @@
 //! A run of the program, for any reader and any writer.
 ghost use Rattle.std.specs.Prelude.{◌≡◌, ℕ, List, IfOk, IfErr, IfSome, OnOk};
 ghost use Rattle.std.specs.Io.KnownBytes.{IsAtEnd, Keeps, Appends};
-ghost use Rattle.wasm_codec.specs.Answers.{IsLongestPrefix};
-ghost use Rattle.wasm_codec.specs.formats.Combinators.{narrow};
+ghost use Rattle.wasm_codec.specs.Outcomes.{IsLongestPrefix};
+ghost use Rattle.wasm_codec.specs.formats.Combinators.{minimal_only};
 ghost use Rattle.wasm_modules.specs.Modules.{IsModulePrefixOf};
 ghost use Rattle.wasm_sections.specs.formats.ModuleSections.{module_section};
 ghost use Rattle.wasmcanon.specs.Run.{IsNoModule, IsCanonicalForm, AppendsCanonicalForm, AppendsWithoutOffsets, IfRefused, OnceAllIsRead, BeforeAnyWrite, IsReadFailure, Judges, status_of};
 ghost use Rattle.wasmcanon.specs.declared.run.Failure.TheVariants.{Memory};
 
 use crate::offsets::{first_offset_name, without_offsets};
-use crate::places::{Place, find_place};
+use crate::malformed::{MalformedSection, find_malformed_section};
 use std::alloc::{AllocError, Global};
 use std::io;
 use std::io::{ErrorKind, Read, Write};
@@ -23,8 +23,8 @@ pub enum Failure {
     Refused {
         /// Offset of the first malformed section, in bytes. 0 if the header is malformed.
         at: usize,
-        /// The place in that section. `None` means that the header is malformed, or that memory ran out.
-        place: Option<Place>,
+        /// The malformed section. `None` means that the header is malformed, or that memory ran out.
+        section: Option<MalformedSection>,
     },
     /// Memory ran out.
     Memory,
@@ -208,7 +208,7 @@ fn canonical_form(alloc: Global, input: &[u8]) -> Result<Vec<u8>, Failure>
         Err(ReadError::Memory) => Err(Failure::Memory),
         Err(ReadError::Refused { at }) => Err(Failure::Refused {
             at,
-            place: find_place(alloc, input, at),
+            section: find_malformed_section(alloc, input, at),
         }),
     }
 }

@@ -76,10 +76,10 @@ pub struct LocatedSection<'a> {
 }
 
 impl LocatedSection<'_> {
-    /// Returns the offset in the module of this place in the body.
-    pub fn offset_of(&self, place: usize) -> usize {
+    /// Returns the offset in the module of this offset in the body.
+    pub fn offset_of(&self, in_body: usize) -> usize {
         let header_len = self.len.saturating_sub(self.section.body.len());
-        self.at.saturating_add(header_len).saturating_add(place)
+        self.at.saturating_add(header_len).saturating_add(in_body)
     }
 }
 

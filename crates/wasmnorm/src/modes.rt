@@ -1,6 +1,6 @@
 //! The forms of the input, and the normaliser of each.
 ghost use Rattle.std.specs.Prelude.{List, ℕ, IfOk};
-ghost use Rattle.wasm_codec.specs.Answers.{IsOrMemory, IfRefused, IsLongestPrefix};
+ghost use Rattle.wasm_codec.specs.Outcomes.{IsOrMemory, IfRefused, IsLongestPrefix};
 ghost use Rattle.wasmnorm.specs.Modes.{IsEncoded, NormalForm, IsWholePrefix};
 
 use wasm_codec::reader::ReadError;

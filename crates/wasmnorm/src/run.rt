@@ -1,7 +1,7 @@
 //! A run of the program, for any reader and any writer.
 ghost use Rattle.std.specs.Prelude.{◌≡◌, List, ℕ, IfSome, OnOk};
 ghost use Rattle.std.specs.Io.KnownBytes.{IsAtEnd, Keeps, Appends};
-ghost use Rattle.wasm_codec.specs.Answers.{IsLongestPrefix};
+ghost use Rattle.wasm_codec.specs.Outcomes.{IsLongestPrefix};
 ghost use Rattle.wasmnorm.specs.Modes.{IsEncoded, NormalForm, IsWholePrefix};
 ghost use Rattle.wasmnorm.specs.Run.{AppendsNormalForm, AppendsBeginning, IfRefused, OnceAllIsRead, BeforeAnyWrite, IfWriteFailed, run_error};
 ghost use Rattle.wasmnorm.specs.declared.run.RunError.TheVariants.{Memory};

@@ -96,8 +96,8 @@ made make parts F = record {
 
 -- The same for a value that is made in several ways: some are long forms, `bytes` are written, and values `InRange`
 -- have some.
-abbrev pub made_as : {A B : Type 0} → (A → Bool) → (A → B) → (B → List ℕ) → (B → Type 0) → Format A → Format B
-made_as long make bytes InRange F = record { Encodes = Mapped make F.Encodes; at = map_unless long make F.at; bytes = bytes; InRange = InRange; first = F.first }
+abbrev pub made_with_long_forms : {A B : Type 0} → (A → Bool) → (A → B) → (B → List ℕ) → (B → Type 0) → Format A → Format B
+made_with_long_forms long make bytes InRange F = record { Encodes = Mapped make F.Encodes; at = map_unless long make F.at; bytes = bytes; InRange = InRange; first = F.first }
 
 -- The same for values `InRange`, each of which has its parts.
 abbrev pub made_of : {A B : Type 0} → (A → B) → (B → A) → (B → Type 0) → Format A → Format B
@@ -328,8 +328,8 @@ abbrev pub only_shortest : {A : Type 0} → Bool → A × Place → Option (A ×
 only_shortest s v = if v.1.shortest then Some (v.0, place s v.1.left) else None
 
 -- The minimal encodings alone.
-abbrev pub narrow : {A : Type 0} → Format A → Format A
-narrow F = record {
+abbrev pub minimal_only : {A : Type 0} → Format A → Format A
+minimal_only F = record {
   Encodes = λ bytes v. F.Encodes bytes v × (bytes ≡ F.bytes v);
   at = λ p. F.at (place true p.left) >>= λ v. only_shortest p.shortest v;
   bytes = F.bytes;
@@ -338,9 +338,9 @@ narrow F = record {
 }
 
 -- The minimal encodings alone if `strict`, else all.
-abbrev pub asked : {A : Type 0} → Bool → Format A → Format A
-asked true F = narrow F
-asked false F = F
+abbrev pub minimal_if : {A : Type 0} → Bool → Format A → Format A
+minimal_if true F = minimal_only F
+minimal_if false F = F
 
 -- ---- formats by kind
 

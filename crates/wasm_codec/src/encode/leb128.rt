@@ -1,7 +1,7 @@
 //! Writers of LEB128 numbers into reserved room (Core 3.0, Integers).
 ghost use Rattle.std.specs.Prelude.{◌≡◌, ◌++◌, ◌∷◌, [], ◌+◌, ◌%◌, ◌/◌, ◌*◌, ◌^◌, ◌<◌, ◌≤◌, length, pos, vec_len, vec_capacity};
 ghost use Rattle.wasm_codec.specs.Encoding.{IsShortest};
-ghost use Rattle.wasm_codec.specs.Leb128.{turned, digits_of, unsigned_leb128, signed_leb128};
+ghost use Rattle.wasm_codec.specs.Leb128.{complemented, digits_of, unsigned_leb128, signed_leb128};
 ghost use Rattle.wasm_codec.specs.formats.Numbers.{EncodesU32, EncodesU64, EncodesS32, EncodesS64, EncodesIndex};
 
 use std::alloc::Allocator;
@@ -9,9 +9,9 @@ use std::alloc::Allocator;
 /// Returns the digit, or 127 minus the digit if `turn` is set. The digits of -1 - n are those of n, each subtracted
 /// from 127.
 #[inline(always)]
-pub(crate) fn turned(turn: bool, digit: u8) -> u8
+pub(crate) fn complemented(turn: bool, digit: u8) -> u8
     requires { digit < 128 }
-    ensures value { result ≡ turned turn digit }
+    ensures value { result ≡ complemented turn digit }
     ensures below { result < 128 }
 {
     if turn { 127 - digit } else { digit }
@@ -21,12 +21,12 @@ pub(crate) fn turned(turn: bool, digit: u8) -> u8
 #[inline(always)]
 fn put_digit<A: Allocator>(bytes: &mut Vec<u8, A>, turn: bool, n: u64) -> u64
     requires { vec_len bytes.old + 1 ≤ vec_capacity bytes.old }
-    ensures items { bytes.new.items ≡ bytes.old.items ++ (128 + turned turn (n % 128)) ∷ [] }
+    ensures items { bytes.new.items ≡ bytes.old.items ++ (128 + complemented turn (n % 128)) ∷ [] }
     ensures len { vec_len bytes.new ≡ vec_len bytes.old + 1 }
     ensures capacity { vec_capacity bytes.new ≡ vec_capacity bytes.old }
     ensures rest { result ≡ n / 128 }
 {
-    bytes.push_reserved(128 + turned(turn, (n % 128) as u8));
+    bytes.push_reserved(128 + complemented(turn, (n % 128) as u8));
     n / 128
 }
 
@@ -41,26 +41,26 @@ fn put_few<A: Allocator>(bytes: &mut Vec<u8, A>, turn: bool, top: u64, n: u64)
     ensures capacity { vec_capacity bytes.new ≡ vec_capacity bytes.old }
 {
     if n < top {
-        bytes.push_reserved(turned(turn, n as u8));
+        bytes.push_reserved(complemented(turn, n as u8));
         return;
     }
     let second = put_digit(bytes, turn, n);
     if second < top {
-        bytes.push_reserved(turned(turn, second as u8));
+        bytes.push_reserved(complemented(turn, second as u8));
         return;
     }
     let third = put_digit(bytes, turn, second);
     if third < top {
-        bytes.push_reserved(turned(turn, third as u8));
+        bytes.push_reserved(complemented(turn, third as u8));
         return;
     }
     let fourth = put_digit(bytes, turn, third);
     if fourth < top {
-        bytes.push_reserved(turned(turn, fourth as u8));
+        bytes.push_reserved(complemented(turn, fourth as u8));
         return;
     }
     let fifth = put_digit(bytes, turn, fourth);
-    bytes.push_reserved(turned(turn, fifth as u8));
+    bytes.push_reserved(complemented(turn, fifth as u8));
 }
 
 /// Writes the minimal digits of a number that has at most ten. The last digit represents a number below `top`.

@@ -2,7 +2,7 @@
 ghost use Rattle.std.specs.Prelude.{◌≡◌, ◌<◌, List, ℕ, length, IfOk};
 ghost use Rattle.std.specs.List.{flat_map};
 ghost use Rattle.wasm_codec.specs.formats.Grammar.{TakesBytes, Joined};
-ghost use Rattle.wasm_codec.specs.Answers.{IfRefused, NeedsNoMemory, IsLongestPrefix, IsNormalForm, EncodesSome};
+ghost use Rattle.wasm_codec.specs.Outcomes.{IfRefused, NeedsNoMemory, IsLongestPrefix, IsNormalForm, EncodesSome};
 ghost use Rattle.wasm_codec.specs.Lawful.{IsLawful, IsLawfulBody};
 ghost use Rattle.wasm_codec.specs.Lists.{EncodesList, items_bytes, IsListPrefix};
 ghost use Rattle.wasm_codec.specs.formats.Combinators.{Format, items, u32 as u32_format};
@@ -172,7 +172,7 @@ fn short_run_ahead<T: Joinable, const AHEAD: usize>(bytes: &[u8], begun: usize) 
 /// Returns the minimal encoding of the items that the bytes encode one after another, without a count.
 ///
 /// It never fails with `Memory`. Fails with `Refused` at the offset of the first malformed item.
-pub fn normalise_joined<T: Joinable>(bytes: Vec<u8>) -> Result<Vec<u8>, ReadError>
+pub fn rewrite_items_to_end<T: Joinable>(bytes: Vec<u8>) -> Result<Vec<u8>, ReadError>
     ensures given { IfOk result (λ given. IsNormalForm (Joined T.format.Encodes) (flat_map T.format.bytes) bytes.items given.items) }
     ensures prefix { IfRefused result (IsLongestPrefix (EncodesSome (Joined T.format.Encodes)) bytes.items) }
     ensures within { IfRefused result (λ at. at < length bytes.items) }
@@ -192,7 +192,7 @@ pub fn normalise_joined<T: Joinable>(bytes: Vec<u8>) -> Result<Vec<u8>, ReadErro
 ///
 /// It never fails with `Memory`. Fails with `Refused` at the offset of the first malformed or missing item, or of
 /// trailing bytes. The offset is 0 if the count is malformed.
-pub fn normalise_list_to_end<T: Rewritable>(bytes: Vec<u8>) -> Result<Vec<u8>, ReadError>
+pub fn rewrite_list_to_end<T: Rewritable>(bytes: Vec<u8>) -> Result<Vec<u8>, ReadError>
     ensures given { IfOk result (λ given. IsNormalForm (EncodesList T.format.Encodes) (items_bytes T.format.bytes) bytes.items given.items) }
     ensures prefix { IfRefused result (IsLongestPrefix (IsListPrefix T.format.Encodes) bytes.items) }
     ensures unencoded { IfRefused result (λ _. (items : List T.Value) → EncodesList T.format.Encodes bytes.items items → ⊥) }

@@ -3,7 +3,7 @@ ghost use Rattle.std.specs.Prelude.{◌≡◌, ◌-◌, ◌<◌, ◌≤◌, ◌^
 ghost use Rattle.wasm_codec.specs.Scanning.{IsWithin, KeepsDigits, Scans, ScansDigits, behind_byte, repeats};
 ghost use Rattle.wasm_codec.specs.formats.Combinators.{u32 as u32_format, u64 as u64_format, s32 as s32_format, s64 as s64_format};
 
-use crate::encode::leb128::turned;
+use crate::encode::leb128::complemented;
 
 /// An item at the start of bytes, as scanned.
 #[derive(Clone, Copy)]
@@ -70,7 +70,7 @@ fn scan_digits(bytes: &[u8], signed: bool, most: usize, top: u8) -> Option<Scann
             });
         }
         if byte < 128 {
-            if index + 1 == most && turned(signed && byte >= 64, byte) >= top {
+            if index + 1 == most && complemented(signed && byte >= 64, byte) >= top {
                 return None;
             }
             return Some(Scanned::Shortest(index + 1));

@@ -7,7 +7,7 @@ use Rattle.wasm_instructions.specs.declared.table.opcode.Kind.TheVariants as kin
 use Rattle.wasm_instructions.specs.declared.table.call.Operands.{Operands}
 use Rattle.wasm_instructions.specs.declared.table.call.Operands.TheVariants as operands
 use Rattle.wasm_codec.specs.formats.Grammar.{Grammar}
-use Rattle.wasm_codec.specs.formats.Combinators.{Format, a_byte, nothing, ◌⊗◌, ◌⊗>◌, made, any_of, or_else, variant_after, byte_where, u32, s32, s64, little_endian, items, narrow, by_kind, AllOf, all_bytes}
+use Rattle.wasm_codec.specs.formats.Combinators.{Format, a_byte, nothing, ◌⊗◌, ◌⊗>◌, made, any_of, or_else, variant_after, byte_where, u32, s32, s64, little_endian, items, minimal_only, by_kind, AllOf, all_bytes}
 use Rattle.wasm_types.specs.formats.Types.{heap_type, reference, val_type}
 use Rattle.wasm_instructions.specs.formats.Operands.{block_type, catch_clause, handle_clause, castop, mem_arg, ordering, vector, lanes, ieee32, ieee64}
 use Rattle.wasm_instructions.specs.OperandParts.{fb_part, fc_part, fd_part, fe_part, one_byte_part, block_part, index_part, two_indexes_part, br_table_part, types_part, try_table_part, mem_part, i32_part, i64_part, f32_part, f64_part, heap_part, resume_part, resume_throw_part, cast_part, v128_part, shuffle_part, lane_part, mem_lane_part, order_part, order_index_part, order_two_indexes_part}
@@ -108,4 +108,4 @@ instructions_bytes = all_bytes instruction
 
 -- The bytes encode these instructions, each of them minimally.
 abbrev pub ShortestInstructions : Grammar (List Instruction)
-ShortestInstructions = AllOf (narrow instruction)
+ShortestInstructions = AllOf (minimal_only instruction)

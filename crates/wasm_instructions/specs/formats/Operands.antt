@@ -13,7 +13,7 @@ use Rattle.wasm_instructions.specs.declared.operands.memory.Ordering.TheVariants
 use Rattle.wasm_instructions.specs.declared.operands.constants.Ieee32.{Ieee32}
 use Rattle.wasm_instructions.specs.declared.operands.constants.Ieee64.{Ieee64}
 use Rattle.wasm_codec.specs.formats.Numbers.{Within}
-use Rattle.wasm_codec.specs.formats.Combinators.{Format, never, ◌⊗◌, ◌⊗>◌, made, made_as, made_of, any_of, or_else, no_other, variant, tagged, choose, one_byte, byte_or, u32, u64, index, raw, little_endian}
+use Rattle.wasm_codec.specs.formats.Combinators.{Format, never, ◌⊗◌, ◌⊗>◌, made, made_with_long_forms, made_of, any_of, or_else, no_other, variant, tagged, choose, one_byte, byte_or, u32, u64, index, raw, little_endian}
 use Rattle.wasm_types.specs.formats.Types.{val_type}
 use Rattle.wasm_instructions.specs.OperandParts.{function_type_part, result_part, catch_byte, tag_and_label, label_alone, handle_byte, on_label_part, on_switch_part, all_nullables, mem_arg_bytes, MemArgInRange, is_named_first, to_halves}
 
@@ -88,7 +88,7 @@ after_alignment n =
 -- memarg ::= n:u32 o:u64 => (0, {align n, offset o})  (if n < 2^6)
 --          | n:u32 x:memidx o:u64 => (x, {align n - 2^6, offset o})  (if 2^6 ≤ n < 2^7)
 unfoldable pub mem_arg : Format MemArg
-mem_arg = made_as is_named_first (λ p. p.1) mem_arg_bytes MemArgInRange (u32 ⊗> after_alignment)
+mem_arg = made_with_long_forms is_named_first (λ p. p.1) mem_arg_bytes MemArgInRange (u32 ⊗> after_alignment)
 
 -- ---- orderings (proposal: shared types)
 

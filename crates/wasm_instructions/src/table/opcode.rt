@@ -4,7 +4,7 @@ ghost use Rattle.wasm_instructions.specs.OpcodeTables.{IsTable};
 ghost use Rattle.wasm_instructions.specs.formats.Opcodes.{opcode_kind, kind_among, ranges};
 ghost use Rattle.wasm_instructions.specs.formats.Opcodes.{without_prefix, after_fb, after_fc, after_fd, after_fe};
 
-use super::places::{AFTER_FB, AFTER_FC, AFTER_FD, AFTER_FE, WITHOUT_PREFIX};
+use super::kinds::{AFTER_FB, AFTER_FC, AFTER_FD, AFTER_FE, WITHOUT_PREFIX};
 
 /// The prefix byte of an opcode.
 #[derive(Clone, Copy, Debug, PartialEq, Eq)]

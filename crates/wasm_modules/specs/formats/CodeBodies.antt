@@ -7,7 +7,7 @@ use Rattle.wasm_instructions.specs.formats.Instructions.{Instruction}
 use Rattle.wasm_instructions.specs.formats.Instructions.{instruction}
 use Rattle.wasm_codec.specs.formats.Combinators.{Format, ◌⊗◌, made, u32, items}
 use Rattle.wasm_codec.specs.formats.Grammar.{Grammar}
-use Rattle.wasm_codec.specs.Lists.{IsListPrefix, AskedList, IsAskedPrefix}
+use Rattle.wasm_codec.specs.Lists.{IsListPrefix, ListMinimalIf, IsListPrefixMinimalIf}
 use Rattle.wasm_codec.specs.formats.Bodies.{sized, to_end}
 use Rattle.wasm_modules.specs.declared.code.CodeBody.{CodeBody}
 
@@ -45,8 +45,8 @@ IsCodeSectionBodyPrefix = IsListPrefix code_body.Encodes
 
 -- The bytes encode these code bodies, with the count and each body minimally encoded.
 abbrev pub ShortestCodeSectionBody : Grammar (List CodeBody)
-ShortestCodeSectionBody = AskedList true code_body
+ShortestCodeSectionBody = ListMinimalIf true code_body
 
 -- The prefix is empty, or it is a count and at most as many code bodies, all minimally encoded.
 abbrev pub IsShortestCodeSectionBodyPrefix : List ℕ → Type 0
-IsShortestCodeSectionBodyPrefix = IsAskedPrefix true code_body
+IsShortestCodeSectionBodyPrefix = IsListPrefixMinimalIf true code_body

@@ -2,12 +2,12 @@
 use Rattle.std.specs.Prelude.{ℕ, ◌==◌, Bool, true, List, Option, Some, None}
 use Rattle.wasm_types.specs.declared.types.composite.TypeEntry.{TypeEntry}
 use Rattle.wasm_types.specs.formats.Types.{type_body}
-use Rattle.wasm_codec.specs.formats.Combinators.{Format, a_byte, ◌⊗>◌, ◌⊗◌, made, choose, asked}
+use Rattle.wasm_codec.specs.formats.Combinators.{Format, a_byte, ◌⊗>◌, ◌⊗◌, made, choose, minimal_if}
 use Rattle.wasm_codec.specs.formats.Grammar.{Grammar}
 use Rattle.wasm_codec.specs.formats.Bodies.{bytes_to_end, sized, byte_list, to_end, headed}
 use Rattle.wasm_modules.specs.declared.code.CodeBody.{CodeBody}
 use Rattle.wasm_modules.specs.formats.CodeBodies.{code_section_body}
-use Rattle.wasm_modules.specs.formats.Sections.{header, type_section_id, code_section_id, SectionParts, section_of, Content, type_entries, code_bodies, raw_bytes, DecodedSection, decoded_section_of}
+use Rattle.wasm_modules.specs.formats.Sections.{header, type_section_id, code_section_id, SectionParts, section_of, Content, type_entries, code_bodies, raw_bytes, TypedSection, typed_section_of}
 
 -- ---- sections
 
@@ -38,14 +38,14 @@ held_by id =
     (choose (id == code_section_id) (made code_bodies bodies_part code_section_body)
     (made raw_bytes bytes_part bytes_to_end))
 
-abbrev pub content_parts : DecodedSection → Option (ℕ × Content)
+abbrev pub content_parts : TypedSection → Option (ℕ × Content)
 content_parts s = Some (s.id, s.content)
 
 -- A section with its content: type entries, code bodies or bytes.
 -- typesec ::= ty*:section_1(list(rectype)) ⇒ ty*, codesec ::= code*:section_10(list(code)) ⇒ code*,
 -- and any other section with its bytes as they are
-unfoldable pub decoded_section : Format DecodedSection
-decoded_section = made decoded_section_of content_parts (a_byte ⊗> (λ id. sized (held_by id)))
+unfoldable pub typed_section : Format TypedSection
+typed_section = made typed_section_of content_parts (a_byte ⊗> (λ id. sized (held_by id)))
 
 -- The body of the section encodes this content.
 abbrev pub HoldsContent : SectionParts → Content → Type 0
@@ -64,13 +64,13 @@ abbrev pub raw_module : Format (List SectionParts)
 raw_module = module_of raw_section
 
 -- A module whose sections have their bodies as bytes; if `strict`, each size is minimally encoded.
-abbrev pub asked_module : Bool → Format (List SectionParts)
-asked_module strict = module_of (asked strict raw_section)
+abbrev pub module_minimal_if : Bool → Format (List SectionParts)
+module_minimal_if strict = module_of (minimal_if strict raw_section)
 
 -- The bytes encode these sections, each with its size minimally encoded.
 abbrev pub ShortestModule : Grammar (List SectionParts)
-ShortestModule = (asked_module true).Encodes
+ShortestModule = (module_minimal_if true).Encodes
 
 -- A module whose type and code sections are decoded.
-abbrev pub decoded_module : Format (List DecodedSection)
-decoded_module = module_of decoded_section
+abbrev pub typed_module : Format (List TypedSection)
+typed_module = module_of typed_section

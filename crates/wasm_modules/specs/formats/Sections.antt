@@ -40,10 +40,10 @@ pub data Content : Type 0 where
   raw_bytes : List ℕ → Content
 
 -- A section as its id and its content.
-pub record DecodedSection : Type 0 where
+pub record TypedSection : Type 0 where
   pub id : ℕ
   pub content : Content
 
 -- The section with this id and this content.
-abbrev pub decoded_section_of : ℕ × Content → DecodedSection
-decoded_section_of parts = record { id = parts.0; content = parts.1 }
+abbrev pub typed_section_of : ℕ × Content → TypedSection
+typed_section_of parts = record { id = parts.0; content = parts.1 }

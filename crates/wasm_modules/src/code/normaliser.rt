@@ -14,7 +14,7 @@ use std::alloc::Global;
 use wasm_codec::reader::ReadError;
 use wasm_codec::reader::cursor::{Cursor, Fault};
 use wasm_codec::rewriter::{
-    Rewritable, RewritableBody, Rewriter, normalise_list_to_end, rewrite_list, rewrite_sized,
+    Rewritable, RewritableBody, Rewriter, rewrite_list_to_end, rewrite_list, rewrite_sized,
     rewrite_to_end,
 };
 use wasm_instructions::table::Call;
@@ -56,7 +56,7 @@ pub fn normalise_code_section(alloc: Global, body: &[u8]) -> Result<Vec<u8>, Rea
 pub fn rewrite_code_section(body: Vec<u8>) -> Result<Vec<u8>, ReadError>
     ensures normalises { NormalisesInPlace code_section_body IsCodeSectionBodyPrefix body.items result }
 {
-    normalise_list_to_end::<CodeBody>(body)
+    rewrite_list_to_end::<CodeBody>(body)
 }
 
 /// Copies the body and rewrites the copy.

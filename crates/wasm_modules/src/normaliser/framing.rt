@@ -1,6 +1,6 @@
 //! The normaliser of modules, generic over the format of their sections (Core 3.0, Modules).
-ghost use Rattle.wasm_codec.specs.Answers.{NeedsNoMemory};
-ghost use Rattle.wasm_codec.specs.formats.Combinators.{narrow};
+ghost use Rattle.wasm_codec.specs.Outcomes.{NeedsNoMemory};
+ghost use Rattle.wasm_codec.specs.formats.Combinators.{minimal_only};
 ghost use Rattle.wasm_modules.specs.Modules.{IsModulePrefixOf};
 ghost use Rattle.wasm_modules.specs.formats.Modules.{module_of};
 ghost use Rattle.wasm_codec.specs.Decoding.{Normalises, RewritesAll};
@@ -16,7 +16,7 @@ use wasm_codec::rewriter::{Joinable, Rewriter, rewrite_joined};
 /// Fails with `Refused` if the bytes are malformed: `at` is the offset of the first malformed section, or 0 if the
 /// header is missing. Fails with `Memory` if the bytes can't be copied.
 pub fn normalise_module_of<S: Joinable>(alloc: Global, bytes: &[u8]) -> Result<Vec<u8>, ReadError>
-    ensures normalises { Normalises (module_of S.format) (narrow (module_of S.format)).Encodes (IsModulePrefixOf S.format) bytes.now result }
+    ensures normalises { Normalises (module_of S.format) (minimal_only (module_of S.format)).Encodes (IsModulePrefixOf S.format) bytes.now result }
 {
     S::is_lawful();
     copied_and_rewritten::<S>(alloc, bytes)

@@ -12,7 +12,7 @@ use Rattle.wasm_sections.specs.declared.elements.ElementMode.TheVariants as mode
 use Rattle.wasm_sections.specs.declared.elements.Elements.{Elements}
 use Rattle.wasm_sections.specs.declared.elements.Elements.TheVariants as held
 use Rattle.wasm_sections.specs.declared.elements.Element.{Element}
-use Rattle.wasm_sections.specs.formats.Parts.{numbered}
+use Rattle.wasm_sections.specs.formats.PartCombinators.{numbered}
 use Rattle.wasm_sections.specs.formats.Expressions.{expr}
 
 -- The type `funcref`.

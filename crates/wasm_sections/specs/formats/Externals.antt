@@ -15,7 +15,7 @@ use Rattle.wasm_sections.specs.declared.types.EntityType.{EntityType}
 use Rattle.wasm_sections.specs.declared.types.EntityType.TheVariants as entities
 use Rattle.wasm_sections.specs.declared.types.ExportKind.{ExportKind}
 use Rattle.wasm_sections.specs.declared.types.ExportKind.TheVariants as exports
-use Rattle.wasm_sections.specs.formats.Parts.{part_if}
+use Rattle.wasm_sections.specs.formats.PartCombinators.{part_if}
 
 -- ---- limits
 

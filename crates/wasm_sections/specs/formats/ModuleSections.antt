@@ -2,7 +2,7 @@
 use Rattle.std.specs.Prelude.{List}
 use Rattle.wasm_codec.specs.formats.Bodies.{sized}
 use Rattle.wasm_codec.specs.formats.Grammar.{Grammar}
-use Rattle.wasm_codec.specs.formats.Combinators.{Format, made, any_of, no_other, tagged, narrow}
+use Rattle.wasm_codec.specs.formats.Combinators.{Format, made, any_of, no_other, tagged, minimal_only}
 use Rattle.wasm_sections.specs.formats.ModuleSectionParts.{ModuleSectionParts, custom, types, imports, functions, tables, memories, globals, exports, start, elements, code, data_segments, data_count, tags}
 use Rattle.wasm_types.specs.formats.Types.{type_body}
 use Rattle.wasm_modules.specs.formats.CodeBodies.{code_section_body}
@@ -38,4 +38,4 @@ whole_module = module_of module_section
 
 -- The bytes encode these sections, each of them minimally.
 abbrev pub ShortestWholeModule : Grammar (List ModuleSectionParts)
-ShortestWholeModule = (module_of (narrow module_section)).Encodes
+ShortestWholeModule = (module_of (minimal_only module_section)).Encodes

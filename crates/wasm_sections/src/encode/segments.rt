@@ -7,9 +7,9 @@ ghost use Rattle.wasm_codec.specs.Encoding.{CanEncodeList, IsListRefusal, IsRefu
 ghost use Rattle.wasm_codec.specs.formats.Grammar.{IsBytes};
 ghost use Rattle.wasm_codec.specs.declared.encode.EncodeError.TheVariants.{Memory};
 ghost use Rattle.wasm_codec.specs.formats.Combinators.{items};
-ghost use Rattle.wasm_sections.specs.Closed.{AreClosed, AreCounted, IsClosed, IsClosedData, IsClosedElement, IsClosedPlace, IsCountedData, IsCountedDataMode, IsCountedElement, IsCountedExpr, IsCountedPlace, IsWrittenExpr};
+ghost use Rattle.wasm_sections.specs.Closed.{AreClosed, AreCounted, IsClosed, IsClosedData, IsClosedElement, IsClosedMode, IsCountedData, IsCountedDataMode, IsCountedElement, IsCountedExpr, IsCountedMode, IsWrittenExpr};
 ghost use Rattle.wasm_sections.specs.formats.EntryParts.{data_parts};
-ghost use Rattle.wasm_sections.specs.SegmentBytes.{DataModeFits, ElementModeFits, ElementsFit, data_mode_bytes, element_mode_bytes, elements_bytes, is_short, place_bytes};
+ghost use Rattle.wasm_sections.specs.SegmentBytes.{DataModeFits, ElementModeFits, ElementsFit, data_mode_bytes, element_mode_bytes, elements_bytes, is_short, table_and_offset_bytes};
 ghost use Rattle.wasm_sections.specs.formats.Elements.{element_segment};
 ghost use Rattle.wasm_sections.specs.formats.Expressions.{expr};
 ghost use Rattle.wasm_sections.specs.formats.Segments.{data_segment};
@@ -29,13 +29,13 @@ use wasm_writers::encode::{Encode, EncodeError, encode_bytes, encode_list, encod
 
 /// Appends the number of a form, the memory or table index if the form has one, and the offset. On error a part of them
 /// may remain.
-fn append_place<A: Allocator>(
+fn append_table_and_offset<A: Allocator>(
     form: u32,
     index: Option<u32>,
     offset: &[Call],
     sink: &mut Vec<u8, A>,
 ) -> Result<(), EncodeError>
-    ensures ok { OnOk result (sink.new.items ≡ sink.old.items ++ place_bytes form index offset.now) }
+    ensures ok { OnOk result (sink.new.items ≡ sink.old.items ++ table_and_offset_bytes form index offset.now) }
     ensures can { OnOk result (IsCountedExpr offset.now) }
     ensures index { OnOk result (IfSome index (IsShortest EncodesU32 unsigned_leb128)) }
     ensures written { OnOk result (IsClosed offset.now → IsShortest expr.Encodes expr.bytes offset.now) }
@@ -73,9 +73,9 @@ fn append_data_mode<A: Allocator>(
             offset,
         } => {
             if *memory_index == 0 {
-                append_place(0, None, offset.as_slice(), sink)
+                append_table_and_offset(0, None, offset.as_slice(), sink)
             } else {
-                append_place(2, Some(*memory_index), offset.as_slice(), sink)
+                append_table_and_offset(2, Some(*memory_index), offset.as_slice(), sink)
             }
         }
         DataSegmentMode::Passive => {
@@ -138,9 +138,9 @@ fn append_element_mode<A: Allocator>(
     sink: &mut Vec<u8, A>,
 ) -> Result<(), EncodeError>
     ensures ok { OnOk result (sink.new.items ≡ sink.old.items ++ element_mode_bytes form mode.now) }
-    ensures can { OnOk result (IsCountedPlace mode.now) }
-    ensures fits { OnOk result (IsClosedPlace mode.now → ElementModeFits form mode.now) }
-    ensures refused { IfErr result (IsRefusal IsCountedPlace OnlyTooLong mode.now) }
+    ensures can { OnOk result (IsCountedMode mode.now) }
+    ensures fits { OnOk result (IsClosedMode mode.now → ElementModeFits form mode.now) }
+    ensures refused { IfErr result (IsRefusal IsCountedMode OnlyTooLong mode.now) }
     ensures kept { take (length sink.old.items) sink.new.items ≡ sink.old.items }
 {
     match mode {
@@ -149,9 +149,9 @@ fn append_element_mode<A: Allocator>(
             offset,
         } => {
             if is_short(form) {
-                append_place(form, None, offset.as_slice(), sink)
+                append_table_and_offset(form, None, offset.as_slice(), sink)
             } else {
-                append_place(form, Some(*table_index), offset.as_slice(), sink)
+                append_table_and_offset(form, Some(*table_index), offset.as_slice(), sink)
             }
         }
         ElementMode::Passive | ElementMode::Declared => {

@@ -4,7 +4,7 @@ ghost use Rattle.wasm_codec.specs.Encoding.{IsShortest};
 ghost use Rattle.wasm_codec.specs.Leb128.{unsigned_leb128};
 ghost use Rattle.wasm_codec.specs.formats.Numbers.{EncodesU32, EncodesU64};
 ghost use Rattle.wasm_codec.specs.formats.Combinators.{u64 as u64_format, u32 as u32_format};
-ghost use Rattle.wasm_sections.specs.formats.Parts.{part_if};
+ghost use Rattle.wasm_sections.specs.formats.PartCombinators.{part_if};
 ghost use Rattle.wasm_sections.specs.formats.Externals.{flags_byte, paged_byte, memory_type, table_type, global_type, global_byte, tag_type, entity_type, export_kind};
 
 use crate::types::{EntityType, ExportKind, GlobalType, MemoryType, TableType, TagType};
@@ -40,7 +40,7 @@ fn memory_byte(has_maximum: bool, shared: bool, wide: bool, paged: bool) -> u8
 }
 
 /// Appends a u64, if present, in at most 10 bytes.
-#[tactic(auto, unfolding(crate::specs::formats::Parts::part_if))]
+#[tactic(auto, unfolding(crate::specs::formats::PartCombinators::part_if))]
 fn put_u64_if<A: Allocator>(bytes: &mut Vec<u8, A>, value: Option<u64>)
     requires { vec_len bytes.old + 10 ≤ vec_capacity bytes.old }
     ensures items { bytes.new.items ≡ bytes.old.items ++ (part_if (is_some value) u64_format).bytes value }
@@ -54,7 +54,7 @@ fn put_u64_if<A: Allocator>(bytes: &mut Vec<u8, A>, value: Option<u64>)
 }
 
 /// Appends a u32, if present, in at most 5 bytes.
-#[tactic(auto, unfolding(crate::specs::formats::Parts::part_if))]
+#[tactic(auto, unfolding(crate::specs::formats::PartCombinators::part_if))]
 pub(crate) fn put_u32_if<A: Allocator>(bytes: &mut Vec<u8, A>, value: Option<u32>)
     requires { vec_len bytes.old + 5 ≤ vec_capacity bytes.old }
     ensures items { bytes.new.items ≡ bytes.old.items ++ (part_if (is_some value) u32_format).bytes value }

@@ -1,6 +1,6 @@
 //! Places of malformed items in section bodies, and counts of items that aren't minimally encoded.
 ghost use Rattle.std.specs.Prelude.{ℕ, List, ◌<◌, length, IfOk, IfSome, IfNone};
-ghost use Rattle.wasm_codec.specs.Answers.{EncodesSome, IsLongestPrefix};
+ghost use Rattle.wasm_codec.specs.Outcomes.{EncodesSome, IsLongestPrefix};
 ghost use Rattle.wasm_codec.specs.Lists.{EncodesList};
 ghost use Rattle.wasm_types.specs.declared.types.value.ValType.{ValType};
 ghost use Rattle.wasm_instructions.specs.formats.Instructions.{Instructions};
@@ -26,7 +26,7 @@ use wasm_types::types::TypeEntry;
 
 /// The place of the first malformed item of a list, or of the trailing bytes.
 #[derive(Clone, Copy, Debug, PartialEq, Eq)]
-pub struct ItemPlace {
+pub struct BrokenItem {
     /// Number of items that the list announces. 0 if this number is malformed.
     pub count: u32,
     /// Index of the malformed item, from 0. Equal to `count` if all items decode and trailing bytes follow.
@@ -46,9 +46,9 @@ pub struct ItemCounts {
 
 /// The place of the first malformed part of a function's code.
 #[derive(Clone, Copy, Debug, PartialEq, Eq)]
-pub enum CodePlace {
+pub enum BrokenPart {
     /// A group of locals, or the number of groups.
-    Locals(ItemPlace),
+    Locals(BrokenItem),
     /// An instruction.
     Instruction {
         /// Offset in bytes from the start of the code.
@@ -64,7 +64,7 @@ pub fn first_broken_item(
     alloc: Global,
     id: u8,
     body: &[u8],
-) -> Result<Option<ItemPlace>, AllocError>
+) -> Result<Option<BrokenItem>, AllocError>
     // `at` is the length of the longest well-formed prefix, and the body encodes no list.
     ensures stops { IfOk result (λ place. IfSome place (λ place.
         OfItems (λ V F. StopsAtItem F body.now place.count place.index place.at) id)) }
@@ -102,7 +102,7 @@ pub fn count_longer_items(
 
 /// Counts the items in the body of the section with this id, or locates the malformed one. `None` means that the
 /// section isn't a list.
-fn look_over(id: u8, body: Vec<u8>) -> Option<Result<ItemCounts, ItemPlace>>
+fn look_over(id: u8, body: Vec<u8>) -> Option<Result<ItemCounts, BrokenItem>>
     ensures tells { IfSome result (λ told. OfItems (λ V F. Tells F body.items told) id) }
     ensures no_list { IfNone result (HoldsItems id → ⊥) }
 {
@@ -123,7 +123,7 @@ fn look_over(id: u8, body: Vec<u8>) -> Option<Result<ItemCounts, ItemPlace>>
 }
 
 /// Counts the items of a list and those that aren't minimally encoded, or locates the malformed one.
-fn look_over_list<T: Rewritable>(body: Vec<u8>) -> Result<ItemCounts, ItemPlace>
+fn look_over_list<T: Rewritable>(body: Vec<u8>) -> Result<ItemCounts, BrokenItem>
     ensures { Tells T.format body.items result }
 {
     T::is_lawful();
@@ -131,7 +131,7 @@ fn look_over_list<T: Rewritable>(body: Vec<u8>) -> Result<ItemCounts, ItemPlace>
     let mut rewriter = Rewriter::new(body);
     rewriter.are_bytes();
     let Ok(count) = rewriter.u32() else {
-        return Err(ItemPlace {
+        return Err(BrokenItem {
             count: 0,
             index: 0,
             at: 0,
@@ -141,7 +141,7 @@ fn look_over_list<T: Rewritable>(body: Vec<u8>) -> Result<ItemCounts, ItemPlace>
     for index in 0..count {
         let (left, mark) = (rewriter.len(), rewriter.written_len());
         if let Err(_) = T::rewrite(&mut rewriter) {
-            return Err(ItemPlace {
+            return Err(BrokenItem {
                 count,
                 index,
                 at: len - left,
@@ -153,7 +153,7 @@ fn look_over_list<T: Rewritable>(body: Vec<u8>) -> Result<ItemCounts, ItemPlace>
     }
     let left = rewriter.len();
     if left > 0 {
-        return Err(ItemPlace {
+        return Err(BrokenItem {
             count,
             index: count,
             at: len - left,
@@ -166,7 +166,7 @@ fn look_over_list<T: Rewritable>(body: Vec<u8>) -> Result<ItemCounts, ItemPlace>
 /// Section).
 ///
 /// `None` means that the code decodes. Fails with `AllocError` if an allocation fails.
-pub fn first_broken_part(alloc: Global, code: &[u8]) -> Result<Option<CodePlace>, AllocError>
+pub fn first_broken_part(alloc: Global, code: &[u8]) -> Result<Option<BrokenPart>, AllocError>
     // The parts before the place decode, the next one doesn't, and the code is malformed.
     ensures stops { IfOk result (λ place. IfSome place (StopsInCode code.now)) }
     // `None` means that the code encodes locals and instructions.
@@ -176,10 +176,10 @@ pub fn first_broken_part(alloc: Global, code: &[u8]) -> Result<Option<CodePlace>
         return Ok(None);
     };
     if place.at == 0 || place.index < place.count {
-        return Ok(Some(CodePlace::Locals(place)));
+        return Ok(Some(BrokenPart::Locals(place)));
     }
     match first_broken_instruction(alloc, &code[place.at..])? {
-        Some(at) => Ok(Some(CodePlace::Instruction { at: place.at + at })),
+        Some(at) => Ok(Some(BrokenPart::Instruction { at: place.at + at })),
         None => Ok(None),
     }
 }

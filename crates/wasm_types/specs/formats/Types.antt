@@ -18,7 +18,7 @@ use Rattle.wasm_types.specs.declared.types.composite.SubType.{SubType}
 use Rattle.wasm_types.specs.declared.types.composite.TypeEntry.{TypeEntry}
 use Rattle.wasm_types.specs.declared.types.composite.TypeEntry.TheVariants as entries
 use Rattle.wasm_codec.specs.formats.Grammar.{Grammar}
-use Rattle.wasm_codec.specs.Lists.{IsListPrefix, AskedList, IsAskedPrefix}
+use Rattle.wasm_codec.specs.Lists.{IsListPrefix, ListMinimalIf, IsListPrefixMinimalIf}
 use Rattle.wasm_codec.specs.formats.Combinators.{Format, ◌⊗◌, made, any_of, or_else, no_other, after, after_long, tagged, variant, variant_after, flagged, optional, one_byte, byte_or, u32, index, items}
 use Rattle.wasm_types.specs.TypeParts.{abstract_types, abstract_parts, concrete_part, exact_part, nullable_part, has_short_form, number_types, ref_part, packed_types, val_part, func_parts, struct_part, array_part, cont_part, inner_byte, sub_parts, has_supertypes, rec_part, sub_part}
 
@@ -200,8 +200,8 @@ IsTypeBodyPrefix = IsListPrefix recursive_type.Encodes
 
 -- The bytes encode these type entries, with the count and each entry minimally encoded.
 abbrev pub ShortestTypeBody : Grammar (List TypeEntry)
-ShortestTypeBody = AskedList true recursive_type
+ShortestTypeBody = ListMinimalIf true recursive_type
 
 -- The prefix is empty, or it is a count and at most as many type entries, all minimally encoded.
 abbrev pub IsShortestTypeBodyPrefix : List ℕ → Type 0
-IsShortestTypeBodyPrefix = IsAskedPrefix true recursive_type
+IsShortestTypeBodyPrefix = IsListPrefixMinimalIf true recursive_type

@@ -2,10 +2,10 @@ use Rattle.std.proofs.Common.{◌≡◌, ◌++◌, ◌∷◌, [], ℕ, List, ref
 use Rattle.std.specs.Prelude.{OnOk}
 use Rattle.wasm_encoder.specs.Encoding.{byte_list_bytes}
 use Rattle.wasm_encoder.specs.Leb128.{unsigned_leb128, digits_of}
-use Rattle.wasm_encoder.specs.EncodedLists.{Entries, body_bytes}
+use Rattle.wasm_encoder.specs.EncodedLists.{EncodedItems, body_bytes}
 use Rattle.callers.proofs.instructions.encoded.Goals as goal
 
-section_bytes : (section : Entries) → section.count ≡ 1 → section.bytes ≡ 7 ∷ 0 ∷ 32 ∷ 0 ∷ 32 ∷ 1 ∷ 106 ∷ 11 ∷ []
+section_bytes : (section : EncodedItems) → section.count ≡ 1 → section.bytes ≡ 7 ∷ 0 ∷ 32 ∷ 0 ∷ 32 ∷ 1 ∷ 106 ∷ 11 ∷ []
     → byte_list_bytes (body_bytes section) ≡ 9 ∷ 1 ∷ 7 ∷ 0 ∷ 32 ∷ 0 ∷ 32 ∷ 1 ∷ 106 ∷ 11 ∷ []
 unfolding unsigned_leb128 digits_of
 section_bytes section count bytes = rw (count, bytes) refl

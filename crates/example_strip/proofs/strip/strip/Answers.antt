@@ -2,7 +2,7 @@ use Rattle.std.proofs.Common.{◌≡◌, ◌∙◌, Result, Ok, Err, Vec, Global
 use Rattle.std.specs.Result.{IsErrAnd}
 use Rattle.wasm_codec.specs.declared.reader.ReadError.{ReadError}
 use Rattle.wasm_codec.specs.declared.reader.ReadError.TheVariants.{Memory, Refused}
-use Rattle.wasm_encoder.specs.Answers.{IsOrMemory}
+use Rattle.wasm_encoder.specs.Outcomes.{IsOrMemory}
 use Rattle.wasm_encoder.specs.ModuleFormats.{raw_module}
 use Rattle.wasm_encoder.specs.Sections.{all_parts_of}
 use Rattle.wasm_modules.specs.declared.section.RawSection.{RawSection}

@@ -7,6 +7,6 @@ use Rattle.wasm_instructions.proofs.normaliser.rewrite_instructions.Goals as goa
 
 pub returns : goal.returns
 returns c =
-    let n = c.normalise_joined in
+    let n = c.rewrite_items_to_end in
     let none = none_within Instructions c.args.bytes.items n.result n.ensures.prefix n.ensures.within in
     record { normalises = normalises_in_place (Lawful-to-end Lawful-instruction instruction_takes) c.args.bytes.items n.result (record { given = n.ensures.given; prefix = n.ensures.prefix; unencoded = none }) n.ensures.memory }

@@ -7,6 +7,6 @@ use Rattle.wasm_readers.proofs.checks.check_instructions.Goals as goal
 
 pub returns : goal.returns
 returns c =
-    let e = c.check_joined.ensures in
-    let none = none_within ShortestInstructions c.args.bytes.now c.check_joined.result e.prefix e.within in
-    record { checks = checks (Lawful-to-end Lawful-instruction instruction_takes) c.args.bytes.now are_shortest c.check_joined.result (record { given = e.given; prefix = e.prefix; unencoded = none }) }
+    let e = c.check_items_to_end.ensures in
+    let none = none_within ShortestInstructions c.args.bytes.now c.check_items_to_end.result e.prefix e.within in
+    record { checks = checks (Lawful-to-end Lawful-instruction instruction_takes) c.args.bytes.now are_shortest c.check_items_to_end.result (record { given = e.given; prefix = e.prefix; unencoded = none }) }

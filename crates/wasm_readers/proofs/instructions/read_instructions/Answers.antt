@@ -12,10 +12,10 @@ use Rattle.wasm_readers.proofs.instructions.read_instructions.Goals as goal
 
 pub returns : goal.returns
 returns c =
-    let e = c.read_joined.ensures in
-    let none = none_within Instructions c.args.bytes.now c.read_joined.result e.prefix e.within in
+    let e = c.read_items_to_end.ensures in
+    let none = none_within Instructions c.args.bytes.now c.read_items_to_end.result e.prefix e.within in
     record {
-      decodes = decodes (Lawful-to-end Lawful-instruction instruction_takes) c.args.bytes.now (λ calls. calls.items) c.read_joined.result (record { given = e.given; prefix = e.prefix; unencoded = none });
+      decodes = decodes (Lawful-to-end Lawful-instruction instruction_takes) c.args.bytes.now (λ calls. calls.items) c.read_items_to_end.result (record { given = e.given; prefix = e.prefix; unencoded = none });
       prefix_free = record {
         u32 = prefix_free Lawful-u32;
         u64 = prefix_free Lawful-u64;

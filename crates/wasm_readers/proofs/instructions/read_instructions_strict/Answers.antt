@@ -7,6 +7,6 @@ use Rattle.wasm_readers.proofs.instructions.read_instructions_strict.Goals as go
 
 pub returns : goal.returns
 returns c =
-    let e = c.read_joined_as.ensures in
-    let none = none_within ShortestInstructions c.args.bytes.now c.read_joined_as.result e.prefix e.within in
-    record { decodes = decodes_minimal (Lawful-to-end Lawful-instruction instruction_takes) c.args.bytes.now are_shortest (λ calls. calls.items) c.read_joined_as.result (record { given = e.given; prefix = e.prefix; unencoded = none }) }
+    let e = c.read_items_to_end.ensures in
+    let none = none_within ShortestInstructions c.args.bytes.now c.read_items_to_end.result e.prefix e.within in
+    record { decodes = decodes_minimal (Lawful-to-end Lawful-instruction instruction_takes) c.args.bytes.now are_shortest (λ calls. calls.items) c.read_items_to_end.result (record { given = e.given; prefix = e.prefix; unencoded = none }) }

@@ -4,10 +4,10 @@ use Rattle.wasm_codec.proofs.DecodingLaws.{decodes}
 use Rattle.wasm_codec.proofs.ListReading.{IsBytes-from}
 use Rattle.wasm_codec.proofs.PlaceLists.{prefix_free}
 use Rattle.wasm_modules.specs.formats.Sections.{all_parts_of}
-use Rattle.wasm_modules.specs.DecodedModules.{framed}
+use Rattle.wasm_modules.specs.TypedModules.{framed}
 use Rattle.wasm_modules.proofs.ModuleFormatLaws.{Lawful-raw-section, Lawful-decoded-section, Lawful-raw-module}
 use Rattle.wasm_modules.proofs.ModuleLaws.{all_encoded}
-use Rattle.wasm_modules.proofs.DecodedModuleLaws.{module_framed, all_framed, is_held}
+use Rattle.wasm_modules.proofs.TypedModuleLaws.{module_framed, all_framed, is_held}
 use Rattle.wasm_readers.proofs.modules.read_module.Goals as goal
 
 pub returns : goal.returns
@@ -17,7 +17,7 @@ returns c =
     record {
       decodes = all;
       reads_back = λ sections fits e. all.complete sections (all_encoded c.args.bytes.now sections are fits e);
-      reads_back_decoded = record {
+      reads_back_typed = record {
         encodes = λ sections fits e. all_encoded c.args.bytes.now sections are fits e;
         decoded_encodes = λ sections fits e. all_encoded c.args.bytes.now (map framed sections) are (all_framed sections fits) (e ∙ module_framed sections fits);
         decoded_read_back = λ sections fits e. all.complete (map framed sections) (all_encoded c.args.bytes.now (map framed sections) are (all_framed sections fits) (e ∙ module_framed sections fits));

@@ -1,5 +1,5 @@
 use Rattle.std.proofs.Common.{◌≡◌, true, sym, ◌∙◌}
-use Rattle.wasm_codec.specs.formats.Combinators.{narrow}
+use Rattle.wasm_codec.specs.formats.Combinators.{minimal_only}
 use Rattle.wasm_sections.specs.formats.EntryParts.{custom_parts}
 use Rattle.wasm_sections.specs.formats.Sections.{custom_body}
 use Rattle.wasm_sections.proofs.ValueReading.{refuses, returns_it}
@@ -7,13 +7,13 @@ use Rattle.wasm_sections.proofs.CustomLaws.{short_wanting, short_long, short_the
 use Rattle.wasm_sections.proofs.custom.read_name_and_bytes_strict.Goals as goal
 
 pub returns-in_default : goal.returns-in_default
-returns-in_default c = record { reads = refuses custom_parts (narrow custom_body) c.args.body.now 0 (short_wanting c.args.body.now c.new-cursor.result c.new-cursor.ensures c.read_name.new.cursor c.in_default.field-0 c.in_default.ensures.reads c.in_default.ensures.err) }
+returns-in_default c = record { reads = refuses custom_parts (minimal_only custom_body) c.args.body.now 0 (short_wanting c.args.body.now c.new-cursor.result c.new-cursor.ensures c.read_name.new.cursor c.in_default.field-0 c.in_default.ensures.reads c.in_default.ensures.err); memory = tt }
 
 pub returns-then-not-is_shortest : goal.returns-then-not-is_shortest
-returns-then-not-is_shortest c = record { reads = refuses custom_parts (narrow custom_body) c.args.body.now 0 (short_long c.args.body.now c.new-cursor.result c.new-cursor.ensures c.in-Ok.name.now c.in-Ok.name.now c.read_name.new.cursor c.in-Ok.ensures.reads (sym c.is_shortest.ensures ∙ c.if-not-is_shortest.true)) }
+returns-then-not-is_shortest c = record { reads = refuses custom_parts (minimal_only custom_body) c.args.body.now 0 (short_long c.args.body.now c.new-cursor.result c.new-cursor.ensures c.in-Ok.name.now c.in-Ok.name.now c.read_name.new.cursor c.in-Ok.ensures.reads (sym c.is_shortest.ensures ∙ c.if-not-is_shortest.true)); memory = tt }
 
 pub returns : goal.returns
 returns c =
     let short : c.read_name.new.cursor.shortest ≡ true = sym c.is_shortest.ensures ∙ c.if-not-is_shortest.false in
     let rest = all_taken c.in-Ok-take.bytes.now c.read_name.new.cursor.left c.len-left.result c.len-left.ensures c.in-Ok-take.ensures.ok.0 in
-    record { reads = returns_it custom_parts (narrow custom_body) c.args.body.now (record { name = c.in-Ok.name; bytes = c.in-Ok-take.bytes }) (short_there c.args.body.now c.new-cursor.result c.new-cursor.ensures c.in-Ok.name.now c.in-Ok-take.bytes.now c.read_name.new.cursor c.in-Ok.ensures.reads c.fork-start.ensures.bytes rest short) }
+    record { reads = returns_it custom_parts (minimal_only custom_body) c.args.body.now (record { name = c.in-Ok.name; bytes = c.in-Ok-take.bytes }) (short_there c.args.body.now c.new-cursor.result c.new-cursor.ensures c.in-Ok.name.now c.in-Ok-take.bytes.now c.read_name.new.cursor c.in-Ok.ensures.reads c.fork-start.ensures.bytes rest short); memory = tt }

@@ -1,6 +1,6 @@
 use Rattle.std.proofs.Common.{◌≡◌, ◌∙◌, List, Result, Ok, Err, subst, sym, ap}
 use Rattle.std.specs.Prelude.{IfOk}
-use Rattle.wasm_codec.specs.Answers.{IsOrMemory}
+use Rattle.wasm_codec.specs.Outcomes.{IsOrMemory}
 use Rattle.wasm_codec.specs.declared.reader.ReadError.{ReadError}
 use Rattle.wasm_codec.specs.declared.reader.ReadError.TheVariants.{Refused}
 use Rattle.wasm_modules.specs.formats.Sections.{SectionParts, all_parts_of}

@@ -1,5 +1,5 @@
 use Rattle.std.proofs.Common.{◌≡◌, ◌∙◌, ℕ, List, Result, Err, ap, subst}
-use Rattle.wasm_codec.specs.Answers.{IfRefused}
+use Rattle.wasm_codec.specs.Outcomes.{IfRefused}
 use Rattle.wasm_codec.specs.declared.reader.ReadError.{ReadError}
 use Rattle.wasm_codec.specs.declared.reader.ReadError.TheVariants.{Refused}
 use Rattle.wasm_sections.specs.formats.ModuleSectionParts.{ModuleSectionParts}

@@ -2,8 +2,8 @@ use Rattle.std.proofs.Common.{List, ℕ, Result, Ok, Err, sym, subst}
 use Rattle.wasm_codec.specs.declared.reader.ReadError.{ReadError}
 use Rattle.wasm_codec.specs.declared.reader.ReadError.TheVariants as errors
 use Rattle.wasm_codec.specs.formats.Grammar.{Grammar}
-use Rattle.wasm_codec.specs.Answers.{IsOrMemory, IfRefused, EncodesSome}
-use Rattle.wasm_modules.specs.formats.Modules.{decoded_module}
+use Rattle.wasm_codec.specs.Outcomes.{IsOrMemory, IfRefused, EncodesSome}
+use Rattle.wasm_modules.specs.formats.Modules.{typed_module}
 use Rattle.wasmnorm.specs.Modes.{NormalForm}
 use Rattle.wasmnorm.specs.declared.modes.Mode.TheVariants.{Module}
 use Rattle.wasmnorm.proofs.modes.normalise.Goals as goal
@@ -22,7 +22,7 @@ returns-in-Module-clause-complete c encoding normal =
 
 pub returns-in-Module-clause-unencoded : goal.returns-in-Module-clause-unencoded
 returns-in-Module-clause-unencoded c =
-    rw c.in-Module.is (refused_none decoded_module.Encodes decoded_module.bytes (λ encoding. encoding.items) c.args.input.items c.rewrite_module.result c.rewrite_module.ensures.normalises.complete)
+    rw c.in-Module.is (refused_none typed_module.Encodes typed_module.bytes (λ encoding. encoding.items) c.args.input.items c.rewrite_module.result c.rewrite_module.ensures.normalises.complete)
 
 pub returns-in-Types-clause-prefix : goal.returns-in-Types-clause-prefix
 returns-in-Types-clause-prefix c = rw c.in-Types.is c.rewrite_type_section.ensures.normalises.prefix

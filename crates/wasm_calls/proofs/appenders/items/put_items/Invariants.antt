@@ -1,7 +1,7 @@
 use Rattle.std.proofs.Common.{◌≡◌, ◌++◌, ◌+◌, ◌*◌, ◌≤◌, length, vec_len, vec_capacity, true}
 use Rattle.std.specs.List.{AllByRecursion, flat_map}
 use Rattle.std.specs.Iterator.{size}
-use Rattle.wasm_codec.proofs.AskedLaws.{flag}
+use Rattle.wasm_codec.proofs.MinimalIfLaws.{flag}
 use Rattle.wasm_calls.proofs.appenders.items.put_items.Given as goal
 
 abbrev pub invariant-loop-item : goal.invariant-loop-item

@@ -7,5 +7,5 @@ use Rattle.wasm_modules.proofs.code.normaliser.rewrite_code_section.Goals as goa
 pub returns : goal.returns
 unfolding code_section_body
 returns c =
-    let n = c.normalise_list_to_end in
+    let n = c.rewrite_list_to_end in
     record { normalises = normalises_in_place (Lawful-body Lawful-code-section-body) c.args.body.items n.result (record { given = n.ensures.given; prefix = n.ensures.prefix; unencoded = n.ensures.unencoded }) n.ensures.memory }

@@ -9,16 +9,16 @@ use Rattle.wasm_sections.proofs.TypeWriting.{kept_after, where_ok, where_both_ok
 use Rattle.wasm_sections.proofs.encode.segments.append_data_mode.Goals as goal
 
 pub returns-then-memory_index-eq0-clause-ok : goal.returns-then-memory_index-eq0-clause-ok
-returns-then-memory_index-eq0-clause-ok g c = where_ok c.append_place.result (first_memory_appended c.args.mode.now c.in-Active.memory_index c.in-Active.offset c.as_slice.result.now c.args.sink.now.items c.append_place.new.sink.items c.in-Active.is c.as_slice.ensures.value c.if-memory_index-eq0.true) c.append_place.ensures.ok
+returns-then-memory_index-eq0-clause-ok g c = where_ok c.append_table_and_offset.result (first_memory_appended c.args.mode.now c.in-Active.memory_index c.in-Active.offset c.as_slice.result.now c.args.sink.now.items c.append_table_and_offset.new.sink.items c.in-Active.is c.as_slice.ensures.value c.if-memory_index-eq0.true) c.append_table_and_offset.ensures.ok
 
 pub returns-else-memory_index-eq0-clause-ok : goal.returns-else-memory_index-eq0-clause-ok
-returns-else-memory_index-eq0-clause-ok g c = where_ok c.append_place-else-memory_index-eq0.result (other_memory_appended c.args.mode.now c.in-Active.memory_index c.in-Active.offset c.as_slice-else-memory_index-eq0.result.now c.args.sink.now.items c.append_place-else-memory_index-eq0.new.sink.items c.in-Active.is c.as_slice-else-memory_index-eq0.ensures.value (ne_eqb c.in-Active.memory_index 0 c.if-memory_index-eq0.false)) c.append_place-else-memory_index-eq0.ensures.ok
+returns-else-memory_index-eq0-clause-ok g c = where_ok c.append_table_and_offset-else-memory_index-eq0.result (other_memory_appended c.args.mode.now c.in-Active.memory_index c.in-Active.offset c.as_slice-else-memory_index-eq0.result.now c.args.sink.now.items c.append_table_and_offset-else-memory_index-eq0.new.sink.items c.in-Active.is c.as_slice-else-memory_index-eq0.ensures.value (ne_eqb c.in-Active.memory_index 0 c.if-memory_index-eq0.false)) c.append_table_and_offset-else-memory_index-eq0.ensures.ok
 
 pub returns-then-memory_index-eq0-clause-fits : goal.returns-then-memory_index-eq0-clause-fits
-returns-then-memory_index-eq0-clause-fits g c = where_ok c.append_place.result (data_mode_fits c.args.mode.now c.in-Active.memory_index c.in-Active.offset c.as_slice.result.now c.in-Active.is c.as_slice.ensures.value (omega (arith, c.if-memory_index-eq0.true))) c.append_place.ensures.written
+returns-then-memory_index-eq0-clause-fits g c = where_ok c.append_table_and_offset.result (data_mode_fits c.args.mode.now c.in-Active.memory_index c.in-Active.offset c.as_slice.result.now c.in-Active.is c.as_slice.ensures.value (omega (arith, c.if-memory_index-eq0.true))) c.append_table_and_offset.ensures.written
 
 pub returns-else-memory_index-eq0-clause-fits : goal.returns-else-memory_index-eq0-clause-fits
-returns-else-memory_index-eq0-clause-fits g c = where_both_ok c.append_place-else-memory_index-eq0.result (λ index. data_mode_fits c.args.mode.now c.in-Active.memory_index c.in-Active.offset c.as_slice-else-memory_index-eq0.result.now c.in-Active.is c.as_slice-else-memory_index-eq0.ensures.value (in_range_of u32 Lawful-u32 c.in-Active.memory_index index)) c.append_place-else-memory_index-eq0.ensures.index c.append_place-else-memory_index-eq0.ensures.written
+returns-else-memory_index-eq0-clause-fits g c = where_both_ok c.append_table_and_offset-else-memory_index-eq0.result (λ index. data_mode_fits c.args.mode.now c.in-Active.memory_index c.in-Active.offset c.as_slice-else-memory_index-eq0.result.now c.in-Active.is c.as_slice-else-memory_index-eq0.ensures.value (in_range_of u32 Lawful-u32 c.in-Active.memory_index index)) c.append_table_and_offset-else-memory_index-eq0.ensures.index c.append_table_and_offset-else-memory_index-eq0.ensures.written
 
 pub returns-in_ok-reserve-in-Passive-clause-kept : goal.returns-in_ok-reserve-in-Passive-clause-kept
 returns-in_ok-reserve-in-Passive-clause-kept g c =

@@ -1,6 +1,6 @@
 use Rattle.std.proofs.Common.{ℕ, List, subst, IfSome, IfNone}
 use Rattle.std.specs.Result.{result_ok}
-use Rattle.wasm_codec.specs.Answers.{EncodesSome}
+use Rattle.wasm_codec.specs.Outcomes.{EncodesSome}
 use Rattle.wasm_codec.specs.Lists.{EncodesList}
 use Rattle.wasm_sections.specs.Stops.{CountsLonger, HoldsItems, OfItems}
 use Rattle.wasm_sections.proofs.StopLaws.{if_counts, unless_counts}

@@ -1,6 +1,6 @@
 use Rattle.std.proofs.Common.{ℕ, List, subst, IfSome, IfNone}
 use Rattle.std.specs.Result.{result_err}
-use Rattle.wasm_codec.specs.Answers.{EncodesSome}
+use Rattle.wasm_codec.specs.Outcomes.{EncodesSome}
 use Rattle.wasm_codec.specs.Lists.{EncodesList}
 use Rattle.wasm_sections.specs.Stops.{StopsAtItem, HoldsItems, OfItems}
 use Rattle.wasm_sections.proofs.StopLaws.{if_place, unless_place}

@@ -1,6 +1,6 @@
 use Rattle.std.proofs.Common.{◌≡◌, ℕ, ◌-◌, ◌<◌, List, length, take, drop, length-drop, subst, inl, inr, arith}
 use Rattle.std.proofs.lemmas.List.{take_all}
-use Rattle.wasm_codec.specs.Answers.{EncodesSome, IsLongestPrefix}
+use Rattle.wasm_codec.specs.Outcomes.{EncodesSome, IsLongestPrefix}
 use Rattle.wasm_instructions.specs.formats.Instructions.{Instructions}
 use Rattle.wasm_modules.specs.formats.CodeBodies.{local_group}
 use Rattle.wasm_sections.specs.Stops.{StopsAtItem, CountsLonger}

@@ -7,5 +7,5 @@ use Rattle.wasm_types.proofs.normaliser.type_sections.rewrite_type_section.Goals
 pub returns : goal.returns
 unfolding type_body
 returns c =
-    let n = c.normalise_list_to_end in
+    let n = c.rewrite_list_to_end in
     record { normalises = normalises_in_place (Lawful-body Lawful-type-body) c.args.body.items n.result (record { given = n.ensures.given; prefix = n.ensures.prefix; unencoded = n.ensures.unencoded }) n.ensures.memory }

@@ -1,9 +1,9 @@
 use Rattle.std.proofs.Common.{◌≡◌, ◌-◌, ℕ, length, ap, subst, arith}
 use Rattle.wasm_codec.specs.formats.Grammar.{IsBytes, Joined}
-use Rattle.wasm_codec.specs.Answers.{IsLongestPrefix, EncodesSome}
+use Rattle.wasm_codec.specs.Outcomes.{IsLongestPrefix, EncodesSome}
 use Rattle.wasm_codec.specs.Rewriter.{Rewriting, StopsAt}
 use Rattle.wasm_codec.proofs.BodyRewriting.{joined_given, joined_stopped, stopped_within}
-use Rattle.wasm_codec.proofs.rewriter.loops.normalise_joined.Goals as goal
+use Rattle.wasm_codec.proofs.rewriter.loops.rewrite_items_to_end.Goals as goal
 
 pub returns-in-Ok-clause-given : goal.returns-in-Ok-clause-given
 returns-in-Ok-clause-given g c =

@@ -7,9 +7,9 @@ use Rattle.wasm_codec.specs.declared.reader.ReadError.{ReadError}
 use Rattle.wasm_codec.specs.declared.reader.ReadError.TheVariants as errors
 
 -- The error for a fault in the item that begins at this offset.
-abbrev pub answer_to : Fault → ℕ → ReadError
-answer_to faults.Memory at = errors.Memory
-answer_to faults.Malformed at = errors.Refused at
+abbrev pub error_of : Fault → ℕ → ReadError
+error_of faults.Memory at = errors.Memory
+error_of faults.Malformed at = errors.Refused at
 
 -- The call returns exactly this value, or it fails with `Memory`.
 abbrev pub IsOrMemory : {X V : Type 0} → (X → V) → V → Result X ReadError → Type 0

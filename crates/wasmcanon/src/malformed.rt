@@ -1,15 +1,15 @@
-//! The place where a module is malformed.
+//! The part of a module that is malformed, and its offset.
 use crate::sections::SectionKind;
 use std::alloc::Global;
 use std::fmt;
 use wasm_codec::reader::cursor::Cursor;
 use wasm_modules::reader::read_section;
 use wasm_readers::modules::read_module;
-use wasm_sections::modules::{CodePlace, ItemPlace, first_broken_item, first_broken_part};
+use wasm_sections::modules::{BrokenPart, BrokenItem, first_broken_item, first_broken_part};
 
-/// The place of a malformed section.
+/// A malformed section.
 #[derive(Clone, Copy)]
-pub struct Place {
+pub struct MalformedSection {
     /// Number of sections before it.
     pub number: usize,
     /// Offset in bytes from the start of the module.
@@ -30,7 +30,7 @@ pub enum SectionFault {
         /// Offset of the body, in bytes from the start of the module.
         body_at: usize,
         /// The first malformed item. `None` means that the body isn't a list.
-        item: Option<ItemPlace>,
+        item: Option<BrokenItem>,
         /// The malformed part of the item. `None` means that the item isn't a function.
         function: Option<FunctionFault>,
     },
@@ -45,8 +45,8 @@ pub enum FunctionFault {
     Code {
         /// Offset of the locals, in bytes from the start of the section's body.
         at: usize,
-        /// The place in the function's code.
-        place: CodePlace,
+        /// The malformed part of the code.
+        part: BrokenPart,
     },
 }
 
@@ -54,13 +54,13 @@ pub enum FunctionFault {
 const CODE_SECTION: u8 = 10;
 
 /// Locates the malformed part of the section at offset `at`. Returns `None` if memory runs out.
-pub fn find_place(alloc: Global, module: &[u8], at: usize) -> Option<Place> {
+pub fn find_malformed_section(alloc: Global, module: &[u8], at: usize) -> Option<MalformedSection> {
     let (before, rest) = module.split_at_checked(at)?;
     let Ok(sections) = read_module(alloc, before) else {
         return None;
     };
     let fault = find_fault(alloc, rest, at)?;
-    Some(Place {
+    Some(MalformedSection {
         number: sections.len(),
         at,
         fault,
@@ -77,7 +77,7 @@ fn find_fault(alloc: Global, bytes: &[u8], at: usize) -> Option<SectionFault> {
     let before_body = bytes.len().saturating_sub(body_and_rest);
     let item = first_broken_item(alloc, section.id, section.body).ok()?;
     let function = match item {
-        Some(place) if section.id == CODE_SECTION => find_in_function(alloc, section.body, place),
+        Some(item) if section.id == CODE_SECTION => find_in_function(alloc, section.body, item),
         _ => None,
     };
     Some(SectionFault::Body {
@@ -88,13 +88,12 @@ fn find_fault(alloc: Global, bytes: &[u8], at: usize) -> Option<SectionFault> {
     })
 }
 
-/// Locates the malformed part of the function at this place in the body of a code section. Returns `None` if memory
-/// runs out.
-fn find_in_function(alloc: Global, body: &[u8], place: ItemPlace) -> Option<FunctionFault> {
-    if place.at == 0 || place.index == place.count {
+/// Locates the malformed part of the function `item` in the body of a code section. Returns `None` if memory runs out.
+fn find_in_function(alloc: Global, body: &[u8], item: BrokenItem) -> Option<FunctionFault> {
+    if item.at == 0 || item.index == item.count {
         return None;
     }
-    let (_before, rest) = body.split_at_checked(place.at)?;
+    let (_before, rest) = body.split_at_checked(item.at)?;
     let mut cursor = Cursor::new(rest);
     let Ok(mut code) = cursor.body() else {
         return Some(FunctionFault::Cut);
@@ -102,14 +101,14 @@ fn find_in_function(alloc: Global, body: &[u8], place: ItemPlace) -> Option<Func
     let code_and_rest = cursor.len().saturating_add(code.len());
     let len = code.len();
     let code = code.take(len).ok()?;
-    let place = first_broken_part(alloc, code).ok()??;
+    let part = first_broken_part(alloc, code).ok()??;
     Some(FunctionFault::Code {
         at: body.len().saturating_sub(code_and_rest),
-        place,
+        part,
     })
 }
 
-impl fmt::Display for Place {
+impl fmt::Display for MalformedSection {
     fn fmt<W: fmt::Write>(&self, f: &mut fmt::Formatter<W>) -> fmt::Result {
         let (number, at) = (self.number, self.at);
         match self.fault {
@@ -125,7 +124,7 @@ impl fmt::Display for Place {
             } => match SectionKind::of(id) {
                 Some(kind) => {
                     write!(f, "{} section", kind.name)?;
-                    BodyPlace {
+                    MalformedBody {
                         kind,
                         body_at,
                         item,
@@ -144,14 +143,14 @@ impl fmt::Display for Place {
 
 /// The rest of the message for a malformed body.
 #[derive(Clone, Copy)]
-struct BodyPlace {
+struct MalformedBody {
     kind: SectionKind,
     body_at: usize,
-    item: Option<ItemPlace>,
+    item: Option<BrokenItem>,
     function: Option<FunctionFault>,
 }
 
-impl fmt::Display for BodyPlace {
+impl fmt::Display for MalformedBody {
     fn fmt<W: fmt::Write>(&self, f: &mut fmt::Formatter<W>) -> fmt::Result {
         let Some(item) = self.item else {
             return write!(f, ", offset {:#x}: malformed body", self.body_at);
@@ -174,9 +173,9 @@ impl fmt::Display for BodyPlace {
                 f,
                 ", offset {offset:#x}: size is missing or larger than the rest of the section"
             ),
-            Some(FunctionFault::Code { at, place }) => {
+            Some(FunctionFault::Code { at, part }) => {
                 let code_at = self.body_at.saturating_add(at);
-                PartPlace { code_at, place }.fmt(f)
+                MalformedPart { code_at, part }.fmt(f)
             }
         }
     }
@@ -184,19 +183,19 @@ impl fmt::Display for BodyPlace {
 
 /// The rest of the message for malformed locals or instructions.
 #[derive(Clone, Copy)]
-struct PartPlace {
+struct MalformedPart {
     code_at: usize,
-    place: CodePlace,
+    part: BrokenPart,
 }
 
-impl fmt::Display for PartPlace {
+impl fmt::Display for MalformedPart {
     fn fmt<W: fmt::Write>(&self, f: &mut fmt::Formatter<W>) -> fmt::Result {
-        match self.place {
-            CodePlace::Instruction { at } => {
+        match self.part {
+            BrokenPart::Instruction { at } => {
                 let offset = self.code_at.saturating_add(at);
                 write!(f, ", offset {offset:#x}: malformed instruction")
             }
-            CodePlace::Locals(group) => {
+            BrokenPart::Locals(group) => {
                 let offset = self.code_at.saturating_add(group.at);
                 if group.at == 0 {
                     write!(f, ", offset {offset:#x}: malformed count of local groups")
