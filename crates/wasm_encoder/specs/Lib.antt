@@ -26,6 +26,24 @@ pub use Rattle.wasm_modules.specs.Modules
 pub use Rattle.wasm_modules.specs.TypedModules
 pub use Rattle.wasm_readers.specs.PrefixFree
 pub use Rattle.wasm_readers.specs.ModulesReadBack
+pub use Rattle.wasm_codec.specs.Reading
+pub use Rattle.wasm_codec.specs.Scanning
+pub use Rattle.wasm_instructions.specs.Instructions
+pub use Rattle.wasm_writers.specs.MemArgs
+pub use Rattle.wasm_sections.specs.formats.Externals as ExternalFormats
+pub use Rattle.wasm_sections.specs.formats.Entries as EntryFormats
+pub use Rattle.wasm_sections.specs.formats.EntryParts
+pub use Rattle.wasm_sections.specs.formats.Elements as ElementFormats
+pub use Rattle.wasm_sections.specs.formats.Segments as SegmentFormats
+pub use Rattle.wasm_sections.specs.formats.Sections as SectionFormats
+pub use Rattle.wasm_sections.specs.formats.ModuleSectionParts
+pub use Rattle.wasm_sections.specs.formats.ModuleSections as ModuleSectionFormats
+pub use Rattle.wasm_sections.specs.SectionBytes
+pub use Rattle.wasm_sections.specs.Closed
+pub use Rattle.wasm_sections.specs.Prefixes
+pub use Rattle.wasm_sections.specs.ModuleOrder
+pub use Rattle.wasm_sections.specs.Stops
+pub use Rattle.wasm_builders.specs.ListSections
 pub use Rattle.wasm_sink.specs.Sink
 pub use Rattle.wasm_sink.specs.ListCalls
 pub mod EncodedLists

@@ -14,7 +14,7 @@ use std::alloc::Global;
 use wasm_codec::reader::ReadError;
 use wasm_codec::reader::cursor::{Cursor, Fault};
 use wasm_codec::rewriter::{
-    Rewritable, RewritableBody, Rewriter, rewrite_list_to_end, rewrite_list, rewrite_sized,
+    Rewritable, RewritableBody, Rewriter, rewrite_list, rewrite_list_to_end, rewrite_sized,
     rewrite_to_end,
 };
 use wasm_instructions::table::Call;
