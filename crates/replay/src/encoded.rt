@@ -11,20 +11,29 @@ use crate::type_tokens::{
     abstract_heap_type, field_type, heap_type, ref_type, storage_type, val_type,
 };
 use crate::words::items as list_items;
-use crate::written::{Written, check_growth, check_written};
+use crate::written::{Written, check_growth, check_growth_of_full, check_written};
 use std::alloc::{Allocator, Global};
 use wasm_encoder::{
     Encode, EncodeError, RefType, SectionId, ValType, encode_bytes, encode_list, encode_str,
 };
 
-/// Holds `encode` to the vector. One growth is enough, but for a list.
+/// Holds `encode` to the vector. One growth is enough, but for a list with items of several bytes.
 pub fn check(alloc: Global, token: &str, hex: &str) -> Result<(), Mismatch> {
     let bytes = hex::decode(alloc, hex)?;
-    check_written(alloc, Written::Token(token), bytes.as_slice())?;
-    if token.starts_with("list:") {
-        return Ok(());
+    let bytes = bytes.as_slice();
+    let written = Written::Token(token);
+    check_written(alloc, written, bytes)?;
+    match token.split_once(':') {
+        Some(("list", _)) if !has_short_items(bytes) => return Ok(()),
+        Some(("list" | "bytes" | "str", _)) => check_growth_of_full(alloc, written, bytes)?,
+        _ => {}
     }
-    check_growth(alloc, 0, Written::Token(token), bytes.as_slice())
+    check_growth(alloc, 0, written, bytes)
+}
+
+/// Whether the bytes are a count of one byte, and as many items of one byte.
+fn has_short_items(list: &[u8]) -> bool {
+    matches!(list, [count, items @ ..] if items.len() == usize::from(*count))
 }
 
 /// Encodes the value that a token stands for.

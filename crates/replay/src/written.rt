@@ -51,6 +51,19 @@ pub fn check_growth(
     check_list_to_end(alloc, &mut list, written, bytes)
 }
 
+/// The bytes are written to a list without room, after another byte, where one request for memory is granted.
+pub fn check_growth_of_full(
+    alloc: Global,
+    written: Written<'_>,
+    bytes: &[u8],
+) -> Result<(), Mismatch> {
+    if is_written(alloc, 2, written, bytes)? {
+        Ok(())
+    } else {
+        Err(Mismatch::Memory)
+    }
+}
+
 /// The bytes are written to this list, which is empty.
 pub fn check_list_to_end<A: Allocator>(
     alloc: Global,

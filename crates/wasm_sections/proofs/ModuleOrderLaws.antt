@@ -1,7 +1,8 @@
--- Sections that are passed in order.
-use Rattle.std.proofs.Common.{◌≡◌, ◌↔◌, ℕ, Bool, true, false, eqb, ◌+◌, ◌<◌, ◌≤◌, ◌⊎◌, List, [], ◌∷◌, ◌++◌, length, take, get_or, map, refl, sym, ap, subst, ◌∙◌, append_assoc, inl, inr, arith}
+-- Sections that are in order so far, and lists of which all items so far pass.
+use Rattle.std.proofs.Common.{◌≡◌, ◌↔◌, ℕ, Bool, true, false, eqb, ◌+◌, ◌<◌, ◌≤◌, ◌⊎◌, List, [], ◌∷◌, ◌++◌, length, take, get_or, map, All, refl, sym, ap, subst, ◌∙◌, append_assoc, inl, inr, arith}
 use Rattle.std.proofs.lemmas.Bool.{eqb-true}
-use Rattle.std.proofs.lemmas.List.{append-nil, take-map, take_all, map_push}
+use Rattle.std.proofs.lemmas.List.{append-nil, take-map, take_all, take_more, map_push}
+use Rattle.std.proofs.lemmas.List.Elements.{All-push}
 use Rattle.std.proofs.Math.Seq.{take-add, drop-cons}
 use Rattle.wasm_sections.specs.formats.ModuleSectionParts.{ModuleSectionParts}
 use Rattle.wasm_sections.specs.ModuleOrder.{rank, later, AreInOrder}
@@ -57,3 +58,14 @@ all_in_order sections count last before all = subst (AreInOrder 0) (append-nil (
 
 pub all_taken : {A B : Type 0} (view : A → B) (xs : List A) (i : ℕ) → length xs ≤ i → take i (map view xs) ≡ map view xs
 all_taken view xs i le = take-map view i xs ∙ ap (map view) (take_all i xs le)
+
+-- ---- what holds of all items so far
+
+module _ {X : Type 0} (P : X → Type 0) (xs : List X) (i : ℕ) where
+  -- one more item
+  pub all_more : (x : X) → i < length xs → x ≡ get_or xs i x → All P (take i xs) → P x → All P (take (i + 1) xs)
+  all_more x lt is before here = subst (All P) (sym (take_more xs i x lt ∙ ap (λ y. take i xs ++ y ∷ []) (sym is))) (All-push P (take i xs) x before here)
+
+  -- all items
+  pub all_items : length xs ≤ i → All P (take i xs) → All P xs
+  all_items le = subst (All P) (take_all i xs le)

@@ -1,6 +1,10 @@
 -- The rules for the sections of a module besides their encoding: their order and their counts (WebAssembly Core 3.0,
 -- Modules).
-use Rattle.std.specs.Prelude.{◌≡◌, ℕ, ◌==◌, ◌<◌, ◌+◌, ◌⊎◌, List, [], ◌∷◌, length, take, if◌then◌else◌}
+use Rattle.std.specs.Prelude.{◌≡◌, ℕ, Bool, false, ◌||◌, ◌==◌, ◌<◌, ◌+◌, ◌⊎◌, List, [], ◌∷◌, length, take, position, slice_get, Option, Some, None, IfSome, IfNone, IsSomeAnd, All, if◌then◌else◌}
+use Rattle.wasm_instructions.specs.declared.table.opcode.Prefix.{Prefix}
+use Rattle.wasm_instructions.specs.declared.table.opcode.Prefix.TheVariants as prefixes
+use Rattle.wasm_instructions.specs.formats.Instructions.{Instruction}
+use Rattle.wasm_modules.specs.declared.code.CodeBody.{CodeBody}
 use Rattle.wasm_sections.specs.formats.ModuleSectionParts.{ModuleSectionParts, custom, types, imports, functions, tables, memories, globals, exports, start, elements, code, data_segments, data_count, tags}
 use Rattle.wasm_sections.specs.declared.modules.order.ModuleError.{ModuleError}
 use Rattle.wasm_sections.specs.declared.modules.order.ModuleError.TheVariants as errors
@@ -31,17 +35,19 @@ abbrev pub AreInOrder : ℕ → List ModuleSectionParts → Type 0
 AreInOrder last [] = Unit
 AreInOrder last (s ∷ sections) = ((rank s ≡ 0) ⊎ (last < rank s)) × AreInOrder (later last (rank s)) sections
 
+-- ---- what the sections hold. If they are in order, the first of a kind is the only one.
+
 -- The number of functions in the first function section.
 abbrev pub function_count : List ModuleSectionParts → ℕ
 function_count [] = 0
 function_count (functions fs ∷ sections) = length fs
 function_count (s ∷ sections) = function_count sections
 
--- The number of code bodies in the first code section.
-abbrev pub body_count : List ModuleSectionParts → ℕ
-body_count [] = 0
-body_count (code bs ∷ sections) = length bs
-body_count (s ∷ sections) = body_count sections
+-- The bodies of the first code section.
+abbrev pub code_bodies : List ModuleSectionParts → List CodeBody
+code_bodies [] = []
+code_bodies (code bs ∷ sections) = bs
+code_bodies (s ∷ sections) = code_bodies sections
 
 -- The number of data segments in the first data section.
 abbrev pub segment_count : List ModuleSectionParts → ℕ
@@ -49,20 +55,49 @@ segment_count [] = 0
 segment_count (data_segments ds ∷ sections) = length ds
 segment_count (s ∷ sections) = segment_count sections
 
--- Each data count is this number.
-abbrev pub DataCountsAre : ℕ → List ModuleSectionParts → Type 0
-DataCountsAre n [] = Unit
-DataCountsAre n (data_count told ∷ sections) = (told ≡ n) × DataCountsAre n sections
-DataCountsAre n (s ∷ sections) = DataCountsAre n sections
+-- The number in the first data count section.
+abbrev pub first_data_count : List ModuleSectionParts → Option ℕ
+first_data_count [] = None
+first_data_count (data_count n ∷ sections) = Some n
+first_data_count (s ∷ sections) = first_data_count sections
 
--- The sections come in order, at most once unless custom, and function, body and segment counts agree.
+-- ---- data segments that code names
+
+-- After this prefix byte, the number is that of an instruction with the index of a data segment.
+abbrev pub has_data_index : Prefix → ℕ → Bool
+has_data_index prefixes.Fb number = number == 0x09 || number == 0x12  -- array.new_data, array.init_data
+has_data_index prefixes.Fc number = number == 0x08 || number == 0x09  -- memory.init, data.drop
+has_data_index prefix number = false
+
+-- The instruction names a data segment.
+abbrev pub names_data : Instruction → Bool
+names_data i = has_data_index i.op.prefix i.op.number
+
+-- The index of the first instruction of a code body that names a data segment.
+abbrev pub first_data_use : CodeBody → Option ℕ
+first_data_use body = position names_data body.calls
+
+-- No instruction of the code bodies names a data segment.
+abbrev pub NameNoData : List CodeBody → Type 0
+NameNoData bodies = All (λ body. first_data_use body ≡ None) bodies
+
+-- The first of the code bodies that names a data segment is `body`, and `instruction` is the first in it that does.
+abbrev pub IsFirstDataUse : List CodeBody → ℕ → ℕ → Type 0
+IsFirstDataUse bodies body instruction = NameNoData (take body bodies) × IsSomeAnd (slice_get bodies body) (λ b. first_data_use b ≡ Some instruction)
+
+-- ---- modules
+
+-- Sections come in order, at most once unless custom, counts agree, and code that names data segments has a data count.
+-- module ::= .. n?:datacntsec .. ⇒ .. (if (n = |data*|)?) (if n? ≠ ε ∨ dataidx(func*) = ε)
 pub record IsModule (sections : List ModuleSectionParts) : Type 0 where
   pub in_order : AreInOrder 0 sections
-  pub bodies : function_count sections ≡ body_count sections
-  pub segments : DataCountsAre (segment_count sections) sections
+  pub bodies : function_count sections ≡ length (code_bodies sections)
+  pub segments : IfSome (first_data_count sections) (λ n. n ≡ segment_count sections)
+  pub data_uses : IfNone (first_data_count sections) (NameNoData (code_bodies sections))
 
--- The error names the first section out of order, or counts that differ.
+-- The error names the first section or instruction at fault, or counts that differ.
 abbrev pub IsWhyNot : List ModuleSectionParts → ModuleError → Type 0
 IsWhyNot sections (errors.OutOfOrder index) = AreInOrder 0 (take index sections) × (AreInOrder 0 (take (index + 1) sections) → ⊥)
-IsWhyNot sections (errors.FunctionCount fs bs) = (fs ≡ function_count sections) × (bs ≡ body_count sections) × (fs ≡ bs → ⊥)
-IsWhyNot sections (errors.DataCount told ds) = (ds ≡ segment_count sections) × (told ≡ ds → ⊥) × (DataCountsAre ds sections → ⊥)
+IsWhyNot sections (errors.FunctionCount fs bs) = (fs ≡ function_count sections) × (bs ≡ length (code_bodies sections)) × (fs ≡ bs → ⊥)
+IsWhyNot sections (errors.DataCount told ds) = (first_data_count sections ≡ Some told) × (ds ≡ segment_count sections) × (told ≡ ds → ⊥)
+IsWhyNot sections (errors.MissingDataCount body instruction) = (first_data_count sections ≡ None) × IsFirstDataUse (code_bodies sections) body instruction

@@ -1,5 +1,5 @@
 //! Custom sections (Core 3.0, Custom Section).
-ghost use Rattle.std.specs.Prelude.{length};
+ghost use Rattle.std.specs.Prelude.{length, ⊤};
 ghost use Rattle.wasm_codec.specs.formats.Combinators.{minimal_only};
 ghost use Rattle.wasm_sections.specs.formats.EntryParts.{CustomParts, custom_parts};
 ghost use Rattle.wasm_sections.specs.Prefixes.{IsNothingOr};

@@ -24,7 +24,7 @@ use crate::tables::Table;
 use crate::types::{MemoryType, TagType};
 pub use order::{ModuleError, check_order};
 pub use places::{
-    BrokenPart, ItemCounts, BrokenItem, count_longer_items, first_broken_item, first_broken_part,
+    BrokenItem, BrokenPart, ItemCounts, count_longer_items, first_broken_item, first_broken_part,
 };
 use rewriter::AnySection;
 use std::alloc::Global;

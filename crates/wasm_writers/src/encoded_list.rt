@@ -10,7 +10,7 @@ ghost use Rattle.wasm_writers.specs.EncodedLists.{EncodedItems, CountedSection, 
 use crate::encode::{Encode, append_each, append_items};
 use std::alloc::{Allocator, Global};
 use std::marker::Model;
-use wasm_codec::encode::leb128::u32_len;
+use wasm_codec::encode::leb128::{put_u32, u32_len};
 use wasm_codec::encode::{EncodeError, keep_or_undo};
 
 /// A list of encoded values.
@@ -246,24 +246,14 @@ impl Encode for EncodedList {
         // The number of values fits a u32.
         ensures few { IsCount self.now.count }
     {
-        let start = sink.len();
-        let result = append_sized(self, sink);
-        keep_or_undo(sink, start, result)
+        let size = u32_len(self.count) + self.bytes.len();
+        let Ok(told) = u32::try_from(size) else {
+            return Err(EncodeError::TooLong);
+        };
+        sink.reserve(10 + self.bytes.len())?;
+        put_u32(sink, told);
+        put_u32(sink, self.count);
+        sink.extend_from_slice(self.bytes.as_slice())?;
+        Ok(())
     }
-}
-
-/// Appends the size, the number and the values of a list. On error a part of it may remain.
-fn append_sized<A: Allocator>(list: &EncodedList, sink: &mut Vec<u8, A>) -> Result<(), EncodeError>
-    ensures ok { OnOk result (sink.new.items ≡ sink.old.items ++ byte_list_bytes (body_bytes list.now)) }
-    ensures can { OnOk result (CountedSection list.now) }
-    ensures refused { IfErr result (IsRefusal CountedSection OnlyTooLong list.now) }
-    ensures few { IsCount list.now.count }
-    ensures kept { take (length sink.old.items) sink.new.items ≡ sink.old.items }
-{
-    let size = u32_len(list.count) + list.bytes.len();
-    sink.reserve(10)?;
-    size.encode(sink)?;
-    list.count.encode(sink)?;
-    sink.extend_from_slice(list.bytes.as_slice())?;
-    Ok(())
 }
