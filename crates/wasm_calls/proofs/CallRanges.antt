@@ -103,9 +103,6 @@ pub call_in_range : (op : Opcode) (o : Operands) → IsCall op o → NumbersInRa
 unfolding instruction
 call_in_range op o is fits in_lists counted = ((opcode_in_range op (in_table_short op (kind_of o) is), rw is (operands_in_range o fits in_lists counted)), refl)
 
-pub op_short : (op : Opcode) (o : Operands) → instruction.InRange (call op o) → IsShort op
-op_short op o fits = in_table_short op (kind_of o) (encodes_call (instruction.bytes (call op o)) (call op o) (Lawful-instruction.shortest.encodes (call op o) fits))
-
 pub is_call : (op : Opcode) (o : Operands) → instruction.InRange (call op o) → IsCall op o
 is_call op o fits = encodes_call (instruction.bytes (call op o)) (call op o) (Lawful-instruction.shortest.encodes (call op o) fits)
 

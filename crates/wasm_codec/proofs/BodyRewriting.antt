@@ -1,6 +1,6 @@
 -- The laws of bodies that are rewritten, and of what is rewritten up to the end.
-use Rattle.std.proofs.Common.{◌≡◌, ℕ, ◌+◌, ◌-◌, ◌<◌, ◌≤◌, true, List, [], ◌++◌, length, take, drop, Some, None, refl, sym, ap, subst, ◌∙◌, append_assoc, length-append, arith}
-use Rattle.std.proofs.lemmas.Bool.{lt-ltb, le-ltb}
+use Rattle.std.proofs.Common.{◌≡◌, ℕ, ◌+◌, ◌-◌, ◌<◌, ◌≤◌, true, List, [], ◌++◌, length, take, drop, Some, refl, sym, ap, subst, ◌∙◌, append_assoc, length-append, arith}
+use Rattle.std.proofs.lemmas.Bool.{le-ltb}
 use Rattle.std.proofs.lemmas.List.{take_at, drop_at, length-take-le, length-drop, take-append-drop, drop-drop}
 use Rattle.std.specs.List.{flat_map}
 use Rattle.wasm_codec.specs.formats.Grammar.{IsBytes, TakesBytes, Joined}
@@ -9,7 +9,7 @@ use Rattle.wasm_codec.specs.Lawful.{IsLawful, IsLawfulBody}
 use Rattle.wasm_codec.specs.Leb128.{unsigned_leb128}
 use Rattle.wasm_codec.specs.Places.{place}
 use Rattle.wasm_codec.specs.formats.Combinators.{Format, u32}
-use Rattle.wasm_codec.specs.formats.Bodies.{body_at, sized, to_end}
+use Rattle.wasm_codec.specs.formats.Bodies.{sized, to_end}
 use Rattle.wasm_codec.specs.Rewriter.{Rewriting, rewriting, rewritten_at, rewriting_after, limited, widened, resized, IsOpen, StopsAt}
 use Rattle.wasm_codec.proofs.FormatLaws.{not_longer}
 use Rattle.wasm_codec.proofs.Laws.{IsBytes-back}
@@ -20,11 +20,6 @@ use Rattle.wasm_codec.proofs.RewriterLaws.{is_given, is_after, after_is}
 use Rattle.wasm_codec.proofs.SizedLaws.{sized_read}
 
 -- ---- the size of a body
-
-pub too_few : (old mid : Rewriting) (size : ℕ) → rewritten_at u32 old ≡ Some (size, mid) → length mid.place.left < size → body_at old.place ≡ None
-too_few old mid size e lt =
-    let g = is_given u32 old size mid e in
-    rw (g.is_read, lt-ltb (length mid.place.left) size lt) refl
 
 pub opened : (old mid : Rewriting) (size mark : ℕ) → rewritten_at u32 old ≡ Some (size, mid) → size ≤ length mid.place.left → mark ≡ length old.done → IsOpen old (limited size mid) mark size (length mid.place.left - size)
 opened old mid size mark e le mark-is =

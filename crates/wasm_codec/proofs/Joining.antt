@@ -16,12 +16,6 @@ Joined-more G bytes [] last v g h = (last, [], rw g (sym (append-nil last)), h, 
 Joined-more G bytes (w ∷ ws) last v g h =
     (g.0, g.1 ++ last, ap (λ (t : List ℕ). t ++ last) g.2 ∙ append_assoc g.0 g.1 last, g.3, Joined-more G g.1 ws last v g.4 h)
 
--- more items at the end
-pub Joined-append : {V : Type 0} (G : Grammar V) (a : List ℕ) (vs : List V) (b : List ℕ) (ws : List V) → Joined G a vs → Joined G b ws → Joined G (a ++ b) (vs ++ ws)
-Joined-append G a [] b ws g h = subst (λ (t : List ℕ). Joined G (t ++ b) ws) (sym g) h
-Joined-append G a (v ∷ vs) b ws g h =
-    (g.0, g.1 ++ b, ap (λ (t : List ℕ). t ++ b) g.2 ∙ append_assoc g.0 g.1 b, g.3, Joined-append G g.1 vs b ws g.4 h)
-
 -- what a longer list of encodings has past a shorter one
 pub record Longer {V : Type 0} (G : Grammar V) (a : List ℕ) (vs : List V) (b : List ℕ) (ws : List V) : Type 0 where
   pub back : List ℕ
@@ -68,22 +62,6 @@ Joined-split {V} {G} r some a b x y (v ∷ vs) (w ∷ ws) g h e le =
       items = put_item_before v w vs ws rest.more one.1 rest.items;
       encodes = rest.encodes;
     }
-
-none_left : (a back : List ℕ) → a ≡ a ++ back → back ≡ []
-none_left a [] e = refl
-none_left a (c ∷ back) e = absurd (omega (arith, ap (length {A = ℕ}) e, length-append a (c ∷ back)))
-
-Joined-none : {V : Type 0} (G : Grammar V) → TakesBytes G → (back : List ℕ) (vs : List V) → back ≡ [] → Joined G back vs → vs ≡ []
-Joined-none G some back [] e g = refl
-Joined-none {V} G some back (v ∷ vs) e g =
-    absurd (some v (subst (λ (t : List ℕ). G t v) (empty_prefix g.0 g.1 (sym g.2 ∙ e)) g.3))
-
--- bytes encode at most one list
-pub Joined-one : {V : Type 0} {G : Grammar V} {read : PlainReader V} → IsReadBy G read → TakesBytes G → (bytes : List ℕ) (vs ws : List V) → Joined G bytes vs → Joined G bytes ws → vs ≡ ws
-Joined-one {V} {G} r some bytes vs ws g h =
-    let s = Joined-split r some bytes bytes [] [] vs ws g h refl (omega arith) in
-    let none : s.more ≡ [] = Joined-none G some s.back s.more (none_left bytes s.back s.bytes) s.encodes in
-    sym (s.items ∙ ap (λ (t : List V). vs ++ t) none ∙ append-nil vs)
 
 -- an encoding comes next, where a longer list is encoded
 pub next : {V : Type 0} {G : Grammar V} {read : PlainReader V} → IsReadBy G read → (back y : List ℕ) (more : List V) → Joined G back more → 0 < length back → read (back ++ y) ≡ None → ⊥

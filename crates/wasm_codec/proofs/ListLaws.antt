@@ -11,15 +11,12 @@ use Rattle.wasm_codec.specs.Lists.{EncodesList, list_at, IsCountedPrefix}
 use Rattle.wasm_codec.proofs.Laws.{BeginsWith-is, IsBytes-back, one_reading, some, some_is}
 use Rattle.wasm_codec.proofs.Joining.{Joined-split, next as comes_next}
 use Rattle.wasm_codec.proofs.Counting.{IsReadBy-counted, after_items, items_go_on, items_fail, items_all}
-use Rattle.wasm_codec.proofs.ListReading.{AtMostOne, Progress, begin, next}
+use Rattle.wasm_codec.proofs.ListReading.{Progress, begin, next}
 use Rattle.wasm_codec.proofs.FormatLaws.{Lawful-u32}
 use Rattle.wasm_codec.proofs.PlaceLists.{plain_reads}
 
 pub IsReadBy-list : {V : Type 0} {G : Grammar V} {read : PlainReader V} → IsReadBy G read → IsReadBy (EncodesList G) (list_at read)
 IsReadBy-list r = IsReadBy-counted (plain_reads Lawful-u32.reads) r
-
-pub AtMostOne-list : {V : Type 0} {G : Grammar V} {read : PlainReader V} → IsReadBy G read → AtMostOne (EncodesList G)
-AtMostOne-list r bytes v w g h = (one_reading (IsReadBy-list r) bytes bytes [] [] v w g h refl).1
 
 -- What is read of items is what is encoded, and each takes bytes.
 pub record ItemLaws {V : Type 0} (G : Grammar V) (read : PlainReader V) : Type 0 where

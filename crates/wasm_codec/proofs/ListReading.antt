@@ -1,14 +1,11 @@
 -- A loop that reads items as long as there are bytes left, over any grammar.
 use Rattle.std.proofs.Common.{◌≡◌, ℕ, suc, ◌-◌, ◌<◌, ◌≤◌, List, [], ◌∷◌, ◌++◌, length, get_or, take, drop, Some, None, Result, Ok, Err, IfOk, ◌↔◌, refl, sym, ap, subst, ◌∙◌, append_assoc, length-append, arith}
 use Rattle.std.proofs.lemmas.List.{append-nil, take-append-drop}
-use Rattle.std.specs.List.{flat_map}
 use Rattle.wasm_codec.specs.formats.Grammar.{Grammar, Joined, IsBytes, TakesBytes}
-use Rattle.wasm_codec.specs.declared.reader.cursor.Fault.{Fault}
-use Rattle.wasm_codec.specs.declared.reader.cursor.Fault.TheVariants as faults
-use Rattle.wasm_codec.specs.Reading.{PlainReader, ReadsPlain, IsReadBy}
+use Rattle.wasm_codec.specs.Reading.{PlainReader, IsReadBy}
 use Rattle.wasm_codec.specs.declared.reader.ReadError.{ReadError}
 use Rattle.wasm_codec.specs.declared.reader.ReadError.TheVariants as errors
-use Rattle.wasm_codec.specs.Outcomes.{error_of, HoldsAtRefusal, IsOrMemory, IfRefused, IsLongestPrefix, EncodesSome, IsNormalForm}
+use Rattle.wasm_codec.specs.Outcomes.{IsOrMemory, IfRefused, IsLongestPrefix, EncodesSome, IsNormalForm}
 use Rattle.wasm_codec.proofs.Laws.{IsBytes-back}
 use Rattle.wasm_codec.proofs.Joining.{Joined-more, Joined-longest}
 use Rattle.wasm_codec.specs.Lawful.{Shortest}
@@ -61,22 +58,10 @@ stopped {V} {G} r some bytes left vs p none =
     let len : length p.prefix ≡ length bytes - length left = omega (arith, ap (length {A = ℕ}) p.parts, length-append p.prefix left) in
     subst (IsLongestPrefix (EncodesSome (Joined G)) bytes) len (Joined-longest r some bytes p.prefix left vs p.parts p.encodes none)
 
--- what is answered then
-pub stopped_by : {V : Type 0} {G : Grammar V} {read : PlainReader V} → IsReadBy G read → TakesBytes G → (bytes left new : List ℕ) (vs : List V) → Progress G bytes left vs → (fault : Fault) → ReadsPlain read left new (Err fault)
-    → (e : ReadError) → e ≡ error_of fault (length bytes - length left) → HoldsAtRefusal e (IsLongestPrefix (EncodesSome (Joined G)) bytes)
-stopped_by r some bytes left new vs p faults.Memory none e is = rw is tt
-stopped_by r some bytes left new vs p faults.Malformed none e is = rw is (stopped r some bytes left vs p none)
-
 pub IsBytes-drop : (bytes : List ℕ) (n : ℕ) → IsBytes bytes → IsBytes (drop n bytes)
 IsBytes-drop bytes n fits = IsBytes-back (take n bytes) (drop n bytes) (rw (take-append-drop n bytes) fits)
 
 -- ---- normal forms
-
--- the items that were read were written, and these bytes are left
-pub record Written {V : Type 0} (G : Grammar V) (encoding_of : V → List ℕ) (bytes left encoding : List ℕ) : Type 0 where
-  pub values : List V
-  pub progress : Progress G bytes left values
-  pub is_shortest : encoding ≡ flat_map encoding_of values
 
 -- ---- what is answered
 

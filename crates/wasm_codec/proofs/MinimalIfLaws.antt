@@ -2,7 +2,7 @@
 use Rattle.std.proofs.Common.{◌≡◌, ℕ, Bool, true, false, not, nat_eq, List, [], ◌∷◌, ◌++◌, length, ◌↔◌, refl, sym, ap, ◌∙◌, length-append, inl, inr, arith}
 use Rattle.std.proofs.lemmas.List.{append_cancel_left}
 use Rattle.std.specs.List.{flat_map}
-use Rattle.wasm_codec.specs.formats.Grammar.{TakesBytes, Joined}
+use Rattle.wasm_codec.specs.formats.Grammar.{Joined}
 use Rattle.wasm_codec.specs.Encoding.{IsShortestOrLonger}
 use Rattle.wasm_codec.specs.Lists.{ListMinimalIf}
 use Rattle.wasm_codec.specs.formats.Combinators.{Format, u32, items, minimal_only, minimal_if}
@@ -18,9 +18,6 @@ flag n = not (nat_eq n 0)
 pub Lawful-minimal_if : {A : Type 0} {F : Format A} (strict : Bool) → IsLawful F → IsLawful (minimal_if strict F)
 Lawful-minimal_if true r = Lawful-minimal_only r
 Lawful-minimal_if false r = r
-
-pub minimal_only_takes : {A : Type 0} (F : Format A) → TakesBytes F.Encodes → TakesBytes (minimal_only F).Encodes
-minimal_only_takes F takes v g = takes v g.0
 
 -- ---- the shortest encoding of a list is those of its items
 

@@ -5,15 +5,13 @@ use Rattle.std.proofs.lemmas.Bool.{eqb-true}
 use Rattle.std.proofs.Math.Bool.{and-true}
 use Rattle.wasm_codec.specs.declared.reader.cursor.Fault.{Fault}
 use Rattle.wasm_codec.specs.declared.reader.cursor.Fault.TheVariants as faults
-use Rattle.wasm_codec.specs.declared.reader.ReadError.{ReadError}
-use Rattle.wasm_codec.specs.formats.Grammar.{Grammar, IsBytes, Joined}
+use Rattle.wasm_codec.specs.formats.Grammar.{Grammar, IsBytes}
 use Rattle.wasm_codec.specs.Reading.{ReadsPlain, ◌>>=◌}
-use Rattle.wasm_codec.specs.Outcomes.{error_of, HoldsAtRefusal, IsLongestPrefix, EncodesSome}
 use Rattle.wasm_codec.specs.Encoding.{IsShortestOrLonger}
 use Rattle.wasm_codec.proofs.Laws.{BeginsWith-is, one_reading, bind_some, some, some_is}
 use Rattle.wasm_codec.specs.Reading.{BeginsWith, IsReadBy as ListReads}
 use Rattle.wasm_codec.specs.formats.Grammar.{TakesBytes}
-use Rattle.wasm_codec.proofs.ListReading.{Progress, Next, next, stopped_by}
+use Rattle.wasm_codec.proofs.ListReading.{Progress, Next, next}
 use Rattle.wasm_codec.specs.Places.{Place, place, Reader, Reads, keeps, times_at, counted_at}
 use Rattle.wasm_codec.specs.formats.Combinators.{Format, only_shortest, minimal_only}
 use Rattle.wasm_codec.proofs.FormatLaws.{BeginsWith-at, keeps_same}
@@ -141,15 +139,7 @@ plain_code r p q fits (Err fault) e = plain_fault r p q fits fault e
 pub place_next : {V : Type 0} {F : Format V} → IsLawful F → TakesBytes F.Encodes → (bytes : List ℕ) (p q : Place) (vs : List V) (v : V) → IsBytes bytes → IsBytes p.left → Progress F.Encodes bytes p.left vs → F.at p ≡ Some (v, q) → Next F.Encodes bytes p.left q.left vs v
 place_next r some bytes p q vs v fits left g e = next (plain_reads r.reads) some bytes p.left q.left vs v fits g (plain_some r p v q left e)
 
-pub place_stopped : {V : Type 0} {F : Format V} → IsLawful F → TakesBytes F.Encodes → (bytes : List ℕ) (p q : Place) (vs : List V) → IsBytes p.left → Progress F.Encodes bytes p.left vs → (fault : Fault) → Reads F.at p q (Err fault)
-    → (e : ReadError) → e ≡ error_of fault (length bytes - length p.left) → HoldsAtRefusal e (IsLongestPrefix (EncodesSome (Joined F.Encodes)) bytes)
-place_stopped r some bytes p q vs left g faults.Memory none e is = rw is tt
-place_stopped r some bytes p q vs left g faults.Malformed none e is = stopped_by (plain_reads r.reads) some bytes p.left q.left vs g faults.Malformed (plain_none r p left none) e is
-
 -- ---- normal forms
-
-both_true : (a b : Bool) → a ≡ true → a ≡ b → b ≡ true
-both_true a b e f = sym f ∙ e
 
 pub is_shortest : (prefix encoding : List ℕ) → IsShortestOrLonger prefix encoding → keeps true prefix encoding ≡ true → prefix ≡ encoding
 is_shortest prefix encoding (inl e) test = e

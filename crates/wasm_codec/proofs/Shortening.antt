@@ -129,9 +129,6 @@ reads_more : {V : Type 0} (F : Format V) (values : List V) (bytes mid left : Lis
 reads_more F [] bytes mid left v reads read = (left, (ap (λ (l : List ℕ). F.at (place true l)) reads ∙ read, refl))
 reads_more F (w ∷ values) bytes mid left v (next, (first, reads)) read = (next, (first, reads_more F values next mid left v reads read))
 
-pub no_run : {V : Type 0} (F : Format V) (bytes : List ℕ) → BeginsShort F bytes 0
-no_run F bytes = record { values = []; within = omega arith; reads = refl }
-
 pub takes_some : {V : Type 0} (G : Grammar V) → TakesBytes G → (prefix : List ℕ) (v : V) → G prefix v → 0 < length prefix
 takes_some G some [] v g = absurd (some v g)
 takes_some G some (b ∷ prefix) v g = omega arith

@@ -234,6 +234,7 @@ impl Rewriter {
 
     /// Reads the size of a body, and continues within the body. Fails with `Malformed` if the size exceeds the bytes
     /// left.
+    #[tactic(auto, using(crate::proofs::BodyRewriting::opened))]
     pub fn open_body(&mut self) -> Result<Body, Fault>
         ensures { OpensBody self.old self.new result }
     {
@@ -376,6 +377,7 @@ impl Rewriter {
     }
 
     /// Skips a little-endian number of `count` bytes. Fails with `Malformed` if fewer are left.
+    #[tactic(auto, using(crate::proofs::RawRewriting::number_stays, crate::proofs::RawRewriting::no_number))]
     pub fn number(&mut self, count: usize) -> Result<(), Fault>
         ensures { Rewrites (little_endian count) self.old self.new result }
     {

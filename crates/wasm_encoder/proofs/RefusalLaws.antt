@@ -1,5 +1,5 @@
 -- Why values aren't added: which part of what can be written fails.
-use Rattle.std.proofs.Common.{◌≡◌, ℕ, zero, suc, ◌+◌, ◌^◌, ◌<◌, ◌≤◌, ◌⊎◌, List, [], ◌∷◌, length, get_or, Option, Result, Ok, Err, IfErr, refl, subst, inl, inr, arith}
+use Rattle.std.proofs.Common.{◌≡◌, ℕ, suc, ◌+◌, ◌⊎◌, List, [], ◌∷◌, length, Option, Result, Ok, Err, IfErr, refl, subst, inl, inr, arith}
 use Rattle.std.specs.List.{All, AllByRecursion, Any}
 use Rattle.std.specs.Iterator.{Count, size}
 use Rattle.std.proofs.lemmas.List.Elements.{All-nil, All-cons}
@@ -12,7 +12,6 @@ use Rattle.wasm_types.specs.declared.types.composite.TypeEntry.{TypeEntry}
 use Rattle.wasm_types.specs.declared.types.composite.TypeEntry.TheVariants as entries
 use Rattle.wasm_types.specs.TypeCounts.{CountedFunc, CountedInner, CountedSub, CountedEntry}
 use Rattle.wasm_codec.specs.declared.encode.EncodeError.{EncodeError}
-use Rattle.wasm_codec.specs.declared.encode.EncodeError.TheVariants.{Memory, TooLong}
 use Rattle.wasm_codec.specs.Encoding.{IsCount, OnlyTooLong}
 use Rattle.wasm_writers.specs.Iterators.{IsItemsRefusal}
 use Rattle.wasm_calls.specs.Appending.{CountedCall}
@@ -78,63 +77,7 @@ calls_or (call ∷ calls) = more (list_or call.operands) (calls_or calls) where
 body_or : (b : CodeBody) → CountedBody b ⊎ UncountedBody b
 body_or b = three_or (counted_or (length b.locals)) (calls_or b.calls) (counted_or (length (func_bytes b)))
 
--- ---- and not both
-
-not_both : (n : ℕ) → IsUncounted n → IsCount n → ⊥
-not_both n long few = let le : 2 ^ 32 ≤ n = long in let lt : n < 2 ^ 32 = few in absurd (omega (arith, le, lt))
-
-neither : {A B C D : Type 0} → (C → A → ⊥) → (D → B → ⊥) → C ⊎ D → A × B → ⊥
-neither first second (inl c) can = first c can.0
-neither first second (inr d) can = second d can.1
-
-none_of_three : {A B C D E F : Type 0} → (D → A → ⊥) → (E → B → ⊥) → (F → C → ⊥) → D ⊎ (E ⊎ F) → A × B × C → ⊥
-none_of_three first second third (inl d) can = first d can.0
-none_of_three first second third (inr (inl e)) can = second e can.1
-none_of_three first second third (inr (inr f)) can = third f can.2
-
-not_all : {A : Type 0} (P Q : A → Type 0) → ((x : A) → Q x → P x → ⊥) → (xs : List A) → Any Q xs → All P xs → ⊥
-not_all P Q never xs (k, x, lt, at, q) all = never x q (subst P at (all k x lt))
-
-pub uncounted_func : (f : FuncType) → UncountedFunc f → CountedFunc f → ⊥
-uncounted_func f = neither (not_both (length f.params)) (not_both (length f.results))
-
-uncounted_inner : (i : CompositeInnerType) → UncountedInner i → CountedInner i → ⊥
-uncounted_inner (inner.Func f) long can = uncounted_func f long can
-uncounted_inner (inner.Struct s) long can = not_both (length s.fields) long can
-uncounted_inner (inner.Array a) long can = long
-uncounted_inner (inner.Cont c) long can = long
-
-pub uncounted_sub : (s : SubType) → UncountedSub s → CountedSub s → ⊥
-uncounted_sub s = neither (not_both (length s.supertype_idxs)) (uncounted_inner s.composite_type.inner)
-
-pub uncounted_entry : (e : TypeEntry) → UncountedEntry e → CountedEntry e → ⊥
-uncounted_entry (entries.Sub s) long can = uncounted_sub s long can
-uncounted_entry (entries.Rec types) long can = neither (not_both (length types)) (not_all CountedSub UncountedSub uncounted_sub types) long can
-
-uncounted_list : (o : Operands) → UncountedList o → IsCounted o → ⊥
-uncounted_list (operands.BrTable labels default) long can = not_both (length labels) long can
-uncounted_list (operands.Types types) long can = not_both (length types) long can
-uncounted_list (operands.TryTable ty clauses) long can = not_both (length clauses) long can
-uncounted_list (operands.Resume index handlers) long can = not_both (length handlers) long can
-uncounted_list (operands.ResumeThrow index tag handlers) long can = not_both (length handlers) long can
-uncounted_list o long can = long
-
-uncounted_calls : (calls : List Instruction) → Any UncountedCall calls → AllByRecursion CountedCall calls → ⊥
-uncounted_calls calls (k, call, lt, at, q) all = uncounted_list call.operands q (at_place calls k call lt at all) where
-  at_place : (calls : List Instruction) (k : ℕ) (call : Instruction) → k < length calls → get_or calls k call ≡ call → AllByRecursion CountedCall calls → CountedCall call
-  at_place [] k call lt at all = absurd (omega (arith, lt))
-  at_place (c ∷ calls) zero call lt at all = subst CountedCall at all.0
-  at_place (c ∷ calls) (suc k) call lt at all = at_place calls k call (omega (arith, lt)) at all.1
-
-pub uncounted_body : (b : CodeBody) → UncountedBody b → CountedBody b → ⊥
-uncounted_body b = none_of_three (not_both (length b.locals)) (uncounted_calls b.calls) (not_both (length (func_bytes b)))
-
 -- ---- what is answered
-
--- an error that isn't for lack of memory is for something that can't be: what is said why, is so only where it can't
-pub only_where : {Can Why : Type 0} (e : EncodeError) → (Why → Can → ⊥) → IsMemoryOrTooLong Why e → (e ≡ Memory) ⊎ ((Can → ⊥) × (e ≡ TooLong))
-only_where e never (inl memory) = inl memory
-only_where e never (inr (is, why)) = inr (never why, is)
 
 pub func_refused : (old : EncodedItems) (f : FuncType) (e : EncodeError) → IsRefusalOfOne CountedFunc OnlyTooLong old f e → IsMemoryOrTooLong (IsFull old ⊎ UncountedFunc f) e
 func_refused old f e refused = of_one CountedFunc old f e (func_or f) refused

@@ -42,10 +42,3 @@ after_opcode op k old mid new (Ok done) reads is e =
     one.given.written ∙ ap (λ (t : List ℕ). t ++ (operands_format k).bytes one.value) g.written ∙ append_assoc old.done (opcode.bytes op) ((operands_format k).bytes one.value)
     ∙ ap (λ (j : Kind). old.done ++ (opcode.bytes op ++ (operands_format j).bytes one.value)) (sym same) in
     after_is instruction old new (call op one.value) (rw (g.is_read, is, one.given.is_read) refl) whole (one.given.rest ∙ g.rest)
-
--- what is no opcode of the table
-pub no_opcode : (op : Opcode) (old mid new : Rewriting) → rewritten_at opcode old ≡ Some (op, mid) → opcode_kind op ≡ None → Rewrites instruction old new (Err faults.Malformed)
-unfolding instruction
-no_opcode op old mid new reads is =
-    let g = is_given opcode old op mid reads in
-    rw (g.is_read, is) refl

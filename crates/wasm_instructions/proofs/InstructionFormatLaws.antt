@@ -6,15 +6,13 @@ use Rattle.wasm_instructions.specs.declared.table.opcode.Kind.{Kind}
 use Rattle.wasm_instructions.specs.declared.table.opcode.Kind.TheVariants as kinds
 use Rattle.wasm_instructions.specs.declared.table.call.Operands.{Operands}
 use Rattle.wasm_instructions.specs.declared.table.call.Operands.TheVariants as operands
-use Rattle.wasm_codec.proofs.Joining.{Joined-more, Joined-one, Shortest-joined}
+use Rattle.wasm_codec.proofs.Joining.{Joined-more, Shortest-joined}
 use Rattle.wasm_codec.specs.formats.Grammar.{TakesBytes}
-use Rattle.wasm_codec.proofs.ListReading.{AtMostOne}
 use Rattle.wasm_codec.specs.Encoding.{IsShortestOrLonger}
 use Rattle.wasm_codec.specs.Places.{place, keeps}
 use Rattle.wasm_codec.specs.formats.Combinators.{Format, by_kind}
 use Rattle.wasm_codec.proofs.FormatLaws.{Every-made, Every-after, Every-either, Lawful-byte, Lawful-nothing, Lawful-made, Lawful-then, Lawful-both, Lawful-items, Lawful-by-kind, Lawful-variant-after, Lawful-or-else, Lawful-u32, Lawful-s32, takes_bytes}
 use Rattle.wasm_codec.proofs.RawFormatLaws.{Lawful-s64, Lawful-byte-where, Lawful-little-endian}
-use Rattle.wasm_codec.proofs.PlaceLists.{plain_reads}
 use Rattle.wasm_codec.proofs.MinimalIfLaws.{joined_minimal_only}
 use Rattle.wasm_types.proofs.TypeFormatLaws.{Lawful-heap-type, Lawful-val-type}
 use Rattle.wasm_instructions.specs.formats.Operands.{ieee32, ieee64}
@@ -119,9 +117,6 @@ encodes_call bytes i g = subst (λ (i : Instruction). IsCall i.op i.operands) g.
 
 -- ---- instructions to the end
 
-pub AtMostOne-instructions : AtMostOne Instructions
-AtMostOne-instructions = Joined-one (plain_reads Lawful-instruction.reads) instruction_takes
-
 pub Shortest-instructions : Shortest Instructions (AllByRecursion instruction.InRange) instructions_bytes
 Shortest-instructions = Shortest-joined Lawful-instruction.shortest
 
@@ -143,3 +138,6 @@ instructions_more calls i call old mid new lt at so_far encoded more one =
       bytes = rw longer (more ∙ ap (λ (t : List ℕ). t ++ instruction.bytes call) so_far ∙ flat_map_more instruction.bytes old (take i calls) call);
       encodes = rw longer (subst (λ (t : List ℕ). Instructions t (take i calls ++ call ∷ [])) (sym joined) (Joined-more instruction.Encodes (instructions_bytes (take i calls)) (take i calls) (instruction.bytes call) call encoded one));
     }
+
+-- the laws of instructions, for functions that name them
+pub ruleset instruction_laws = (Lawful-instruction, instruction_takes)

@@ -271,3 +271,6 @@ named_is_longer prefix p g = by (ltb p.0 64) refl (ltb p.0 128) refl g.4 where
 pub Lawful-mem-arg : IsLawful mem_arg
 unfolding mem_arg
 Lawful-mem-arg = Lawful-made-as is_named_first (λ p. p.1) mem_arg_bytes MemArgInRange (Lawful-then Lawful-u32 Lawful-after-alignment) Shortest-mem-arg (λ bytes arg g. (mem_arg_is bytes arg g).0) named_is_longer
+
+-- the laws of operands that are items of lists, for functions that name them
+pub ruleset item_laws = (Lawful-catch, catch_takes, Lawful-handle, handle_takes)

@@ -67,6 +67,7 @@ impl Rewritable for Call {
     ghost format = { instruction };
 
     #[inline(always)]
+    #[tactic(auto, using(crate::proofs::InstructionFormatLaws::instruction_laws))]
     fn is_lawful() {}
 
     fn rewrite(rewriter: &mut Rewriter) -> Result<(), Fault> {
@@ -104,7 +105,7 @@ fn rewrite_opcode(rewriter: &mut Rewriter) -> Result<Opcode, Fault>
 }
 
 /// Rewrites an opcode and its operands.
-#[tactic(auto, unfolding(crate::specs::formats::Instructions::instruction))]
+#[tactic(auto, using(crate::proofs::CallRewriting::after_opcode), unfolding(crate::specs::formats::Instructions::instruction))]
 fn rewrite_call(rewriter: &mut Rewriter) -> Result<(), Fault>
     ensures rewrites { Rewrites instruction rewriter.old rewriter.new result }
 {

@@ -1,14 +1,9 @@
 -- The laws of code bodies and of bodies of code sections.
-use Rattle.std.proofs.Common.{◌≡◌, ℕ, ◌≤◌, ◌↔◌, List, length, Result, Ok, Err, IfOk, refl, ap, arith}
+use Rattle.std.proofs.Common.{◌≡◌, ℕ, ◌↔◌, List, refl}
 use Rattle.wasm_codec.specs.formats.Grammar.{TakesBytes}
 use Rattle.wasm_codec.specs.Lawful.{IsLawful}
-use Rattle.wasm_codec.proofs.ListReading.{AtMostOne}
-use Rattle.wasm_codec.proofs.ListLaws.{AtMostOne-list}
-use Rattle.wasm_codec.proofs.PlaceLists.{plain_reads}
 use Rattle.wasm_codec.proofs.MinimalIfLaws.{list_minimal_only}
-use Rattle.wasm_codec.specs.declared.reader.ReadError.{ReadError}
-use Rattle.wasm_codec.specs.Outcomes.{IsNormalForm}
-use Rattle.wasm_codec.proofs.FormatLaws.{not_longer, Lawful-u32, Lawful-both, Lawful-made, Lawful-items, takes_bytes}
+use Rattle.wasm_codec.proofs.FormatLaws.{Lawful-u32, Lawful-both, Lawful-made, Lawful-items, takes_bytes}
 use Rattle.wasm_codec.specs.Lawful.{IsLawfulBody}
 use Rattle.wasm_codec.proofs.BodyLaws.{Lawful-sized, Lawful-to-end, Lawful-then-body}
 use Rattle.wasm_types.proofs.TypeFormatLaws.{Lawful-val-type}
@@ -36,10 +31,6 @@ code_body_takes = takes_bytes Lawful-code_body refl
 pub Lawful-code-section-body : IsLawful code_section_body
 unfolding code_section_body
 Lawful-code-section-body = Lawful-items Lawful-code_body
-
-pub AtMostOne-code-section-body : AtMostOne code_section_body.Encodes
-unfolding code_section_body
-AtMostOne-code-section-body = AtMostOne-list (plain_reads Lawful-code_body.reads)
 
 -- the encodings by shortest ones alone are the shortest encodings
 pub is_shortest_code : (bytes : List ℕ) (bodies : List CodeBody) → ShortestCodeSectionBody bytes bodies ↔ (code_section_body.Encodes bytes bodies × (bytes ≡ code_section_body.bytes bodies))

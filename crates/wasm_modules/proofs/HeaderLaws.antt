@@ -49,20 +49,6 @@ headed_none_whole bytes body n e lt l vs g =
     let le = (headed_longest bytes body n e l).longest bytes [] (sym (append-nil bytes)) (inr (vs, g)) in
     absurd (omega (arith, le, ap (length {A = ℕ}) e, length-append header body))
 
--- without the header no prefix but the empty one is whole
-pub no_header : {V : Type 0} {G : Grammar V} (bytes : List ℕ) → ((rest : List ℕ) → bytes ≡ header ++ rest → ⊥) → IsLongestPrefix (IsHeadedPrefix G) bytes 0
-no_header {V} {G} bytes without = record {
-  prefix = [];
-  rest = bytes;
-  parts = refl;
-  len_is = refl;
-  whole = inl refl;
-  longest = λ other after p w. longest other after p w;
-} where
-  longest : (other after : List ℕ) → bytes ≡ other ++ after → IsHeadedPrefix G other → length other ≤ 0
-  longest other after p (inl none) = rw none (omega arith)
-  longest other after p (inr w) = absurd (without (w.1.0 ++ after) (p ∙ ap (λ (t : List ℕ). t ++ after) w.1.1 ∙ append_assoc header w.1.0 after))
-
 -- what the code finds of the header: the bytes after it, or that it isn't there
 abbrev Stripped : {X : Type 0} → (X → List ℕ) → List ℕ → Option X → Type 0
 Stripped now bytes r = MatchOption r (pointwise eqb (take 8 bytes) header ≡ false) (λ x. (pointwise eqb (take 8 bytes) header ≡ true) × (now x ≡ drop 8 bytes) × (length (now x) + 8 ≡ length bytes))

@@ -5,7 +5,6 @@ use Rattle.wasm_types.specs.formats.Types.{ref_type, val_type, abstract_type}
 use Rattle.wasm_codec.specs.formats.Grammar.{TakesBytes}
 use Rattle.wasm_codec.specs.Lawful.{IsLawful}
 use Rattle.wasm_codec.proofs.FormatLaws.{Every-after, Every-made, Lawful-after, Lawful-or-after, Lawful-or-else, Lawful-made, Lawful-both, Lawful-u32, takes_bytes}
-use Rattle.wasm_codec.specs.formats.Combinators.{u32}
 use Rattle.wasm_sections.specs.formats.Names.{name}
 use Rattle.wasm_sections.specs.formats.Externals.{memory_flags, memory_type, tag_type, table_type, global_type}
 use Rattle.wasm_sections.specs.formats.Entries.{export_of, export_entry, import_of, import_entry, filled_of, filled_part, unfilled, table_entry, global_of, global_entry}
@@ -28,9 +27,6 @@ import_is_lawful = Lawful-made import_of (λ i. Some (i.module_name, (i.field, i
 pub import_takes : TakesBytes import_entry.Encodes
 unfolding import_entry name
 import_takes = takes_bytes import_is_lawful refl
-
-pub index_is_lawful : IsLawful u32
-index_is_lawful = Lawful-u32
 
 pub memory_is_lawful : IsLawful memory_type
 memory_is_lawful = Lawful-memory-type

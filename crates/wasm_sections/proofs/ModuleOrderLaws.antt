@@ -11,9 +11,6 @@ use Rattle.wasm_sections.specs.ModuleOrder.{rank, later, AreInOrder}
 abbrev pub GoOn : List ModuleSectionParts → ℕ → ℕ → Type 0
 GoOn sections count last = (rest : List ModuleSectionParts) → AreInOrder 0 (take count sections ++ rest) ↔ AreInOrder last rest
 
-pub go_on_from_none : (sections : List ModuleSectionParts) → GoOn sections 0 0
-go_on_from_none sections = λ rest. (λ o. o, λ o. o)
-
 module _ (sections : List ModuleSectionParts) (count last : ℕ) (s : ModuleSectionParts) (before : GoOn sections count last) (next : take (count + 1) sections ≡ take count sections ++ s ∷ []) where
   pub go_on : (rank s ≡ 0) ⊎ (last < rank s) → GoOn sections (count + 1) (later last (rank s))
   go_on fits = λ rest. (λ o. ((before (s ∷ rest)).0 (subst (AreInOrder 0) (parts rest) o)).1, λ o. subst (AreInOrder 0) (sym (parts rest)) ((before (s ∷ rest)).1 (fits, o))) where

@@ -4,7 +4,7 @@ use Rattle.std.specs.List.{AllByRecursion}
 use Rattle.wasm_codec.specs.formats.Grammar.{TakesBytes}
 use Rattle.wasm_codec.specs.Lawful.{IsLawful, IsLawfulBody}
 use Rattle.wasm_codec.proofs.ListReading.{AtMostOne}
-use Rattle.wasm_modules.proofs.ModuleFormatLaws.{Lawful-module-of, one_module_of}
+use Rattle.wasm_modules.proofs.ModuleFormatLaws.{Lawful-module-of}
 use Rattle.wasm_codec.proofs.FormatLaws.{Every-made, Lawful-made, Lawful-items, Lawful-u32, Tagged-or, Tagged-never, takes_bytes}
 use Rattle.wasm_codec.proofs.BodyLaws.{Lawful-body, Lawful-sized}
 use Rattle.wasm_types.proofs.TypeFormatLaws.{Lawful-type-body}

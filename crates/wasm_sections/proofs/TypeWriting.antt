@@ -50,9 +50,6 @@ four old a b c d one more most new p q r s = two old a (b ++ (c ++ d)) one new p
 pub kept_after : (old more new : List ℕ) → new ≡ old ++ more → take (length old) new ≡ old
 kept_after old more new e = ap (take (length old)) e ∙ take-append_seam old more
 
-pub kept_by_three : (old a b c one more most new : List ℕ) → one ≡ old ++ a → more ≡ one ++ b → most ≡ more ++ c → new ≡ most → take (length old) new ≡ old
-kept_by_three old a b c one more most new p q r left = kept_after old (a ++ (b ++ c)) new (left ∙ three old a b c one more most p q r)
-
 pub kept_either : {T E : Type 0} (r : Result T E) (old more new : List ℕ) → OnOk r (new ≡ old ++ more) → OnErr r (new ≡ old) → take (length old) new ≡ old
 kept_either (Ok x) old more new written left = kept_after old more new written
 kept_either (Err e) old more new written left = kept_after old [] new (left ∙ sym (append-nil old))

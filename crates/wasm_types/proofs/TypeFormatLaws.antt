@@ -18,9 +18,6 @@ use Rattle.wasm_codec.specs.formats.Grammar.{TakesBytes}
 use Rattle.wasm_codec.specs.formats.Combinators.{Choice, ◌⊗◌, made, or_else, after, flagged, u32, items}
 use Rattle.wasm_codec.proofs.FormatLaws.{IsFound, Every-made, Every-after, Every-either, Lawful-or-after, Lawful-or-after-long, Lawful-or-else, Lawful-variant-after, Lawful-made, Lawful-both, Lawful-variant, Lawful-flagged, Lawful-optional, Lawful-one-byte, Lawful-byte-or, Lawful-u32, Lawful-index, Lawful-items, Tagged-or, Tagged-never, takes_bytes, not_longer}
 use Rattle.wasm_codec.proofs.MinimalIfLaws.{list_minimal_only}
-use Rattle.wasm_codec.proofs.ListLaws.{AtMostOne-list}
-use Rattle.wasm_codec.proofs.ListReading.{AtMostOne}
-use Rattle.wasm_codec.proofs.PlaceLists.{plain_reads}
 use Rattle.wasm_types.specs.formats.Types.{abstract_byte, abstract_type, abstract_of, heap_type, reference, short_form, ref_type, number_byte, val_type, result_type, packed_byte, storage_type, mutability_byte, mutability, field_of, field_type, func_of, struct_of, array_of, cont_of, inner_type, composite_of, composite_type, sub_of, sub_type, recursive_type, type_body, ShortestTypeBody}
 use Rattle.wasm_types.specs.TypeParts.{abstract_types, abstract_parts, concrete_part, exact_part, nullable_part, has_short_form, number_types, ref_part, packed_types, val_part, func_parts, struct_part, array_part, cont_part, inner_byte, sub_parts, has_supertypes, rec_part, sub_part}
 use Rattle.wasm_codec.specs.Lawful.{IsLawful}
@@ -174,10 +171,6 @@ pub Lawful-type-body : IsLawful type_body
 unfolding type_body
 Lawful-type-body = Lawful-items Lawful-recursive-type
 
-pub AtMostOne-type-body : AtMostOne type_body.Encodes
-unfolding type_body
-AtMostOne-type-body = AtMostOne-list (plain_reads Lawful-recursive-type.reads)
-
 -- the encodings by shortest ones alone are the shortest encodings
 pub is_shortest_body : (bytes : List ℕ) (entries : List TypeEntry) → ShortestTypeBody bytes entries ↔ (type_body.Encodes bytes entries × (bytes ≡ type_body.bytes entries))
 unfolding type_body
@@ -200,3 +193,6 @@ sub_type_takes = takes_bytes Lawful-sub-type refl
 pub recursive_type_takes : TakesBytes recursive_type.Encodes
 unfolding recursive_type sub_type composite_type inner_type
 recursive_type_takes = takes_bytes Lawful-recursive-type refl
+
+-- the laws of types that are items of lists, for functions that name them
+pub ruleset type_laws = (Lawful-val-type, val_type_takes, Lawful-field-type, field_type_takes, Lawful-sub-type, sub_type_takes, Lawful-recursive-type, recursive_type_takes)

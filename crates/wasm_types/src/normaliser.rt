@@ -96,7 +96,7 @@ fn rewrite_composite_type(rewriter: &mut Rewriter) -> Result<(), Fault>
 }
 
 /// Rewrites a final subtype that begins with `0x4F`. If it has no supertypes, that byte and the empty list are dropped.
-#[tactic(auto, unfolding(crate::specs::formats::Types::sub_type))]
+#[tactic(auto, using(crate::proofs::FinalTypes::left_out, crate::proofs::FinalTypes::kept), unfolding(crate::specs::formats::Types::sub_type))]
 fn rewrite_final_type(rewriter: &mut Rewriter) -> Result<(), Fault>
     requires { (after : Place) × (byte_at rewriter.old.place ≡ Some (0x4f, after)) }
     ensures rewrites { Rewrites sub_type rewriter.old rewriter.new result }
@@ -157,6 +157,7 @@ impl Rewritable for ValType {
     ghost format = { val_type };
 
     #[inline(always)]
+    #[tactic(auto, using(crate::proofs::TypeFormatLaws::type_laws))]
     fn is_lawful() {}
 
     fn rewrite(rewriter: &mut Rewriter) -> Result<(), Fault> {
@@ -170,6 +171,7 @@ impl Rewritable for FieldType {
     ghost format = { field_type };
 
     #[inline(always)]
+    #[tactic(auto, using(crate::proofs::TypeFormatLaws::type_laws))]
     fn is_lawful() {}
 
     fn rewrite(rewriter: &mut Rewriter) -> Result<(), Fault> {
@@ -183,6 +185,7 @@ impl Rewritable for SubType {
     ghost format = { sub_type };
 
     #[inline(always)]
+    #[tactic(auto, using(crate::proofs::TypeFormatLaws::type_laws))]
     fn is_lawful() {}
 
     fn rewrite(rewriter: &mut Rewriter) -> Result<(), Fault> {
@@ -196,6 +199,7 @@ impl Rewritable for TypeEntry {
     ghost format = { recursive_type };
 
     #[inline(always)]
+    #[tactic(auto, using(crate::proofs::TypeFormatLaws::type_laws))]
     fn is_lawful() {}
 
     fn rewrite(rewriter: &mut Rewriter) -> Result<(), Fault> {

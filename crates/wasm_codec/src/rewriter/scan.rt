@@ -46,6 +46,7 @@ impl Scanned {
 /// If it has exactly `most` digits, it is scanned only if it is padded or its last digit represents a number below
 /// `top`.
 #[inline(always)]
+#[tactic(auto, using(crate::proofs::ScannedNumbers::more_taken, crate::proofs::ScannedNumbers::last_taken))]
 fn scan_digits(bytes: &[u8], signed: bool, most: usize, top: u8) -> Option<Scanned>
     requires { 1 < most }
     ensures { ScansDigits signed most top bytes.now result }
@@ -109,6 +110,7 @@ fn repeats(signed: bool, before: u8, last: u8) -> bool
 
 /// Scans the u32 that the bytes begin with.
 #[inline(always)]
+#[tactic(auto, using(crate::proofs::ScannedNumbers::u32_scanned))]
 pub fn scan_u32(bytes: &[u8]) -> Option<Scanned>
     ensures { Scans u32_format bytes.now result }
 {
@@ -117,6 +119,7 @@ pub fn scan_u32(bytes: &[u8]) -> Option<Scanned>
 
 /// Scans the u64 that the bytes begin with.
 #[inline(always)]
+#[tactic(auto, using(crate::proofs::ScannedNumbers::u64_scanned))]
 pub fn scan_u64(bytes: &[u8]) -> Option<Scanned>
     ensures { Scans u64_format bytes.now result }
 {
@@ -125,6 +128,7 @@ pub fn scan_u64(bytes: &[u8]) -> Option<Scanned>
 
 /// Scans the s32 that the bytes begin with.
 #[inline(always)]
+#[tactic(auto, using(crate::proofs::ScannedNumbers::s32_scanned))]
 pub fn scan_s32(bytes: &[u8]) -> Option<Scanned>
     ensures { Scans s32_format bytes.now result }
 {
@@ -133,6 +137,7 @@ pub fn scan_s32(bytes: &[u8]) -> Option<Scanned>
 
 /// Scans the s64 that the bytes begin with.
 #[inline(always)]
+#[tactic(auto, using(crate::proofs::ScannedNumbers::s64_scanned))]
 pub fn scan_s64(bytes: &[u8]) -> Option<Scanned>
     ensures { Scans s64_format bytes.now result }
 {

@@ -206,6 +206,7 @@ impl Rewritable for Catch {
     ghost format = { catch_clause };
 
     #[inline(always)]
+    #[tactic(auto, using(crate::proofs::OperandFormatLaws::item_laws))]
     fn is_lawful() {}
 
     #[tactic(auto, using(std::proofs::Common::append_assoc), unfolding(crate::specs::formats::Operands::catch_clause))]
@@ -231,6 +232,7 @@ impl Rewritable for Handle {
     ghost format = { handle_clause };
 
     #[inline(always)]
+    #[tactic(auto, using(crate::proofs::OperandFormatLaws::item_laws))]
     fn is_lawful() {}
 
     #[tactic(auto, using(std::proofs::Common::append_assoc), unfolding(crate::specs::formats::Operands::handle_clause))]

@@ -199,6 +199,7 @@ impl Call {
     }
 
     /// Returns the opcode.
+    #[tactic(auto, using(crate::proofs::OpcodeLaws::in_table_short))]
     pub fn op(&self) -> Opcode
         ensures value { result ≡ self.now.op }
         ensures short { IsShort result }

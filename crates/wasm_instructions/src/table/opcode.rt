@@ -166,6 +166,7 @@ impl Opcode {
 
 /// Returns the kind of an opcode by its number and the table of its prefix, or `None` past the end of the table.
 #[inline(always)]
+#[tactic(auto, using(crate::proofs::OpcodeLaws::place_is, crate::proofs::OpcodeLaws::no_place))]
 fn kind_at(prefix: Prefix, places: &[Option<Kind>], number: u32) -> Option<Kind>
     requires { IsTable places.now (ranges prefix) }
     ensures { result ≡ kind_among (ranges prefix) number }
