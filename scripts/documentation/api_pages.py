@@ -3,9 +3,9 @@ import os
 import re
 import textwrap
 
-import sources
-from interface import TOP, WORDS, parts_of
-from sources import ROOT
+from documentation import sources
+from documentation.interface import TOP, WORDS, parts_of
+from documentation.sources import ROOT
 
 API = ROOT / "docs/api"
 MADE = "<!-- Made by scripts/api from the sources. Edit those, and run it again. -->"

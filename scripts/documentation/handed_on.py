@@ -1,8 +1,8 @@
 """Definitions that clauses of public calls cite, and that callers can't name through the specs of `wasm_encoder`."""
 import re
 
-from promises import all_calls
-from sources import ROOT
+from documentation.promises import all_calls
+from documentation.sources import ROOT
 
 SPECS = ROOT / "crates/wasm_encoder/specs"
 # Groups of calls whose own specs callers name: programs, and the static library.
@@ -37,5 +37,5 @@ def kept_back(interface):
                 known = module.startswith("wasm_encoder.") or module in modules or (module, definition.name) in names
                 if not known:
                     found.setdefault((module, definition.name), f"{call.name}: {clause or 'ensures'}")
-    return [f"crates/wasm_encoder/specs: {module}.{name} isn't re-exported, but {call} cites it"
+    return [("crates/wasm_encoder/specs", f"{module}.{name} isn't re-exported, but {call} cites it")
             for (module, name), call in sorted(found.items())]

@@ -2,7 +2,7 @@
 import dataclasses
 import re
 
-import sources
+from documentation import sources
 
 TOP = "wasm_encoder"
 # The chapters, which are the public modules of the crate, in the order of reading. Other modules follow them.

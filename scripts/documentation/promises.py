@@ -3,9 +3,9 @@ import dataclasses
 import os
 import re
 
-import sources
-from interface import BUILDERS
-from sources import ROOT
+from documentation import sources
+from documentation.interface import BUILDERS
+from documentation.sources import ROOT
 
 PROMISES = ROOT / "docs/PROMISES.md"
 BEGIN, END = "<!-- made by scripts/api: begin -->", "<!-- made by scripts/api: end -->"
@@ -24,6 +24,10 @@ class Call:
 # Calls that belong to no group, despite the beginnings of their names.
 ALONE = ("check_list_to_end", "check_order", "read_list_to_end", "read_strict", "rewrite_list_to_end", "rewrite_sized")
 GROUPED = re.compile(r"((?:nosgrivel_)?(?:read|normalise|rewrite|check|judge))_\w+?(_strict|_in_place)?$")
+
+
+def without_colons(group):
+    return re.sub("::$", "", group)
 
 
 def group_of(entry, item):
@@ -83,7 +87,7 @@ NEVER_PLUMBING = ("IsRefusal", "IsLongestPrefix")
 
 def is_relation(call, definition):
     """Whether the table has a row for this definition. Calls of a program count for its own definitions only."""
-    own = not call.group.startswith("wasm") or definition.file.parts[-3] == call.group.removesuffix("::")
+    own = not call.group.startswith("wasm") or definition.file.parts[-3] == without_colons(call.group)
     plumbing = PLUMBING.fullmatch(definition.name) and definition.name not in NEVER_PLUMBING
     return own and definition.name[0].isupper() and definition.file.parent.name == "specs" and not plumbing
 
@@ -136,9 +140,9 @@ def named_calls(calls, having):
         elif "…" in group and len(names) > (1 if is_whole else 2):
             said.append(f"`{group}`" if is_whole else f"{len(names)} of `{group}`")
         elif group.startswith("wasm"):
-            said.append(f"{', '.join(names)} of `{group.removesuffix('::')}`")
+            said.append(f"{', '.join(names)} of `{without_colons(group)}`")
         elif group and len(names) > 3:
-            owner = group if group == "builders" else f"`{group.removesuffix('::')}`"
+            owner = group if group == "builders" else f"`{without_colons(group)}`"
             said.append(f"{len(names)} methods of {owner}")
         else:
             said += names
@@ -194,7 +198,7 @@ def meaning(definition, said, number):
 
 
 def in_short(comment):
-    text = comment.removeprefix("It ")
+    text = re.sub("^It ", "", comment)
     return text[0].lower() + text[1:]
 
 

@@ -124,12 +124,12 @@ class Reader:
             line_end = len(self.text) if line_end < 0 else line_end
             if self.text.startswith("///", at):
                 docs_line = docs_line or self.line(at)
-                docs.append(self.text[at + 3:line_end].removeprefix(" "))
+                docs.append(re.sub("^ ", "", self.text[at + 3:line_end]))
                 at = line_end
             elif self.text.startswith("//", at):
                 if self.text.startswith("//!", at):
                     outer.docs_line = outer.docs_line or self.line(at)
-                    outer.docs.append(self.text[at + 3:line_end].removeprefix(" "))
+                    outer.docs.append(re.sub("^ ", "", self.text[at + 3:line_end]))
                 at = line_end
             elif self.text.startswith("#", at):
                 start = self.text.index("[", at)

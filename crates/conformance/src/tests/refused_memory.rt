@@ -1,6 +1,6 @@
 //! Calls that take their memory from `Global` and that the vectors of `replay`, which are replayed without memory too, don't
-//! make. `scripts/refused-growths` runs each test while the first, the second, .. request for memory is refused; without it none
-//! is. Where one is refused, the answer says so, the test prints `refused`, and the same call is made again, with memory. The
+//! make. `scripts/gate refused-growths` runs each test while the first, the second, .. request for memory is refused; without it
+//! none is. Where one is refused, the answer says so, the test prints `refused`, and the same call is made again, with memory. The
 //! answer is then the right one.
 
 mod code;

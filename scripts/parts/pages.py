@@ -1,6 +1,4 @@
-#!/usr/bin/env python3
-"""Checks the pages: links and paths, commands and their output, code, and numbers in prose. Run it after `rt ci`, which
-builds the programs. The last line is 'N passed, M failed'.
+"""The pages: links, paths, commands and their output, code, and numbers in prose.
 
 A block ```console has lines `$ command`, each followed by its output; a line `..` matches any lines. A block ```sh has
 commands without output. Those of OF_THE_GATE, which prove or measure, don't run here; the others must succeed. Commands
@@ -9,17 +7,12 @@ unless --unproved follows. A block ```rust is text of a source, whatever its com
 """
 import collections
 import os
-import pathlib
 import re
 import shutil
 import subprocess
-import sys
-import tempfile
 
-sys.dont_write_bytecode = True
-sys.path.insert(0, str(pathlib.Path(__file__).resolve().parent / "documentation"))
-import sources  # noqa: E402
-from sources import ROOT  # noqa: E402
+from documentation import sources
+from parts.common import ROOT, last_lines, program as built, room, run as run_command
 
 PAGES = [ROOT / "README.md", *sorted(ROOT.glob("docs/*.md")), *sorted(ROOT.glob("bench/*.md")),
          *(ROOT / folder / "README.md" for folder in ("bindings", "built", "linked"))]
@@ -29,7 +22,7 @@ LINES_OF_README = 120
 WORDS = 12200
 
 # Commands that prove or measure, or that the gate runs.
-OF_THE_GATE = re.compile(r"(bash \.ci/run|rt \w+|scripts/(quick|c-library|bench|planted|bindings)|cd \S+)( |$)")
+OF_THE_GATE = re.compile(r"(bash \.ci/run|rt \w+|scripts/(gate|c-library|bench)|cd \S+)( |$)")
 # The tools and built files that commands need.
 ARCHIVE = "bindings/out/libnosgrivel.a"
 NEEDS = {"cc ": ["cc", ARCHIVE], "cargo ": ["cargo", ARCHIVE], "node ": ["node"], "xxd": ["xxd"], "clang ": ["clang"]}
@@ -38,15 +31,20 @@ LANGUAGES = ("console", "sh", "rust", "c", "toml", "text", "wat", "json", "js")
 TOPS = ("crates/", "docs/", "scripts/", "bin/", "bench/", "bindings/", "built/", "linked/", ".ci/")
 BUILT = re.compile(r"(^|/)out(/|$)")
 
-passed, faults, left_out = collections.Counter(), [], []
 
+class Judge:
+    """Counts the checks by their kinds."""
 
-def judge(kind, where, wrong):
-    """Counts a check. `wrong` is the message, or empty if all is well."""
-    if wrong:
-        faults.append(f"{where}: {wrong}")
-    else:
-        passed[kind] += 1
+    def __init__(self, report):
+        self.report, self.kinds = report, collections.Counter()
+
+    def __call__(self, kind, where, wrong):
+        """Counts a check. `wrong` is the message, or empty if all is well."""
+        if self.report.check(where, not wrong, wrong):
+            self.kinds[kind] += 1
+
+    def leave_out(self, where, why):
+        self.report.skipped(where, why)
 
 
 class Markdown:
@@ -82,12 +80,12 @@ def without_code(line):
 # ---- links and paths
 
 
-def check_links(page, pages):
+def check_links(judge, page, pages):
     for number, line in page.prose:
         targets = re.findall(r"\]\(([^)\s]+)\)", line) + re.findall(r"^\[[^\]]+\]: (\S+)", line)
         for target in targets:
             if re.match(r"[a-z]+:", target):
-                left_out.append(f"the link {target}")
+                judge.leave_out(page.place(number), f"the link {target} leads outside of the repository")
                 continue
             judge("links", page.place(number), leads_nowhere(page, target, pages))
     labels = {found[1].lower() for _, line in page.prose for found in [re.match(r"\[([^\]]+)\]: ", line)] if found}
@@ -112,7 +110,7 @@ def leads_nowhere(page, target, pages):
     return "" if anchor in pages[file].anchors() else f"the link {target}: no heading of this anchor"
 
 
-def check_paths(page):
+def check_paths(judge, page):
     crates, around = sorted(path.name for path in ROOT.glob("crates/*")), None
     for number, line in page.prose:
         found = re.match(r"(?:.* )?[Ii]n `(\w+)`:", line)
@@ -137,7 +135,7 @@ def check_paths(page):
 # ---- commands
 
 
-class Room:
+class Tree:
     """A copy of the tree, in which commands run."""
 
     def __init__(self, folder):
@@ -164,7 +162,7 @@ class Room:
                 f'case "$#:${{1-}}" in\n'
                 f"    1:-h | 1:--help | 1:-V | 1:--version | *:--unproved) exec '{ROOT}/bin/{program}' \"$@\" ;;\n"
                 "esac\n"
-                f"exec '{ROOT}/crates/{program}/out/{program}' \"$@\"\n")
+                f"exec '{built(program)}' \"$@\"\n")
         for file in (self.folder / "bin" / program, self.programs / program):
             file.unlink(missing_ok=True)
             file.write_text(text, "utf-8")
@@ -174,8 +172,8 @@ class Room:
         """The status, and the output: standard output, and both outputs in either order."""
         env = {**os.environ, "PATH": f"{self.programs}:{os.environ['PATH']}", "LC_ALL": "C.UTF-8"}
         try:
-            ran = subprocess.run(["bash", "-c", command], cwd=self.folder, env=env, stdin=subprocess.DEVNULL,
-                                 capture_output=True, text=True, errors="replace", timeout=SECONDS)
+            ran = run_command("bash", "-c", command, cwd=self.folder, env=env, text=True, errors="replace",
+                              timeout=SECONDS)
         except subprocess.TimeoutExpired:
             return 124, [f"no end after {SECONDS} seconds"]
         return ran.returncode, [ran.stdout, ran.stdout + ran.stderr, ran.stderr + ran.stdout]
@@ -190,8 +188,8 @@ def lacks(command):
                     return name
     for program in ("wasmnorm", "wasmcanon"):
         if re.search(rf"(^|[\s|;&(]|bin/){program} (?!--unproved|--help|--version)", command):
-            if not (ROOT / f"crates/{program}/out/{program}").exists():
-                return f"crates/{program}/out/{program}"
+            if not built(program).exists():
+                return built(program).relative_to(ROOT)
     return None
 
 
@@ -202,7 +200,7 @@ def is_same(expected, printed):
     return re.fullmatch(pattern, text) is not None
 
 
-def check_console(page, block, room):
+def check_console(judge, page, block, tree):
     commands = []
     for number, line in enumerate(block.lines, block.line):
         if line.startswith("$ "):
@@ -216,30 +214,31 @@ def check_console(page, block, room):
     for number, command, expected in commands:
         missing = lacks(command)
         if missing:
-            left_out.append(f"{page.place(number)}: `{command}`: {missing} isn't here")
+            judge.leave_out(page.place(number), f"`{command}`: {missing} not found")
             continue
-        _, printed = room.run(command)
+        _, printed = tree.run(command)
         same = any(is_same(expected, text) for text in printed)
-        shown = "".join(f"\n    {line}" for line in printed[-1].splitlines()[:20])
+        shown = last_lines(printed[-1])
         judge("commands", page.place(number), "" if same else f"`{command}` prints something else:{shown}")
 
 
-def check_sh(page, block, room):
+def check_sh(judge, page, block, tree):
     commands = [line.strip() for line in block.lines if line.strip() and not line.strip().startswith("#")]
     if all(OF_THE_GATE.match(command) for command in commands):
-        passed["commands of the gate"] += len(commands)
+        for _ in commands:
+            judge("commands of the gate", page.place(block.line), "")
         return
     whole = "\n".join(commands)
     missing = next((name for name in map(lacks, commands) if name), None)
     if missing:
-        left_out.append(f"{page.place(block.line)}: {missing} isn't here")
+        judge.leave_out(page.place(block.line), f"{missing} not found")
         return
-    status, printed = room.run(f"set -e\n{whole}")
-    shown = "".join(f"\n    {line}" for line in printed[-1].splitlines()[-20:])
+    status, printed = tree.run(f"set -e\n{whole}")
+    shown = last_lines(printed[-1])
     judge("commands", page.place(block.line), "" if status == 0 else f"a command ends with status {status}:{shown}")
 
 
-def check_unfenced(page):
+def check_unfenced(judge, page):
     """Indented lines without a fence aren't commands."""
     commands = ("$ ", "bin/", "scripts/", "bash ", "cargo ", "cc ", "cd ", "clang ", "git ", "make ", "node ",
                 "printf ", "python3 ", "rt ", "sh ", "wasmcanon ", "wasmnorm ")
@@ -271,7 +270,7 @@ def texts():
     return found
 
 
-def check_code(page, block, known):
+def check_code(judge, page, block, known):
     parts = items_of("\n".join(block.lines))
     for first, code in parts:
         text = plain(code)
@@ -313,7 +312,7 @@ COUNTED = re.compile(r"(?<![\w.,-])(\d[\d,]*) (opcodes|kinds of operands|C calls
                      r"|lines of code|source files|definitions|clauses|proofs|pages|scripts|decisions)\b")
 
 
-def check_numbers(page, known):
+def check_numbers(judge, page, known):
     for number, line in page.prose:
         if page.name.startswith("bench/"):
             continue
@@ -323,7 +322,7 @@ def check_numbers(page, known):
             judge("numbers", page.place(number), "" if is_right else f"{value} {words}: {expected}")
 
 
-def check_limits():
+def check_limits(judge):
     readme = (ROOT / "README.md").read_text("utf-8")
     version = subprocess.run(["rt", "version"], capture_output=True, text=True, check=True).stdout.strip()
     judge("limits", "README.md", "" if f"`{version}`" in readme else f"expected the kit's line `{version}`")
@@ -333,37 +332,31 @@ def check_limits():
     judge("limits", "README.md and docs", "" if words <= WORDS else f"{words} words, more than {WORDS}")
 
 
-def main():
-    if len(sys.argv) > 1:
-        sys.exit(__doc__)
+def check_blocks(judge, page, tree, code):
+    for block in page.blocks:
+        if block.info not in LANGUAGES:
+            judge("blocks", page.place(block.line - 1), f"a block of `{block.info}`: expected {LANGUAGES}")
+        elif block.info == "console":
+            check_console(judge, page, block, tree)
+        elif block.info == "sh":
+            check_sh(judge, page, block, tree)
+        elif block.info == "rust":
+            check_code(judge, page, block, code)
+
+
+def run(report):
+    judge = Judge(report)
     pages = {file: Markdown(file) for file in [*PAGES, *MADE]}
     known, code = counts(), texts()
     for file in MADE:
-        check_links(pages[file], pages)
-    with tempfile.TemporaryDirectory() as folder:
-        room = Room(pathlib.Path(folder))
-        for file in PAGES:
-            page = pages[file]
-            check_links(page, pages)
-            check_paths(page)
-            check_unfenced(page)
-            check_numbers(page, known)
-            for block in page.blocks:
-                if block.info not in LANGUAGES:
-                    judge("blocks", page.place(block.line - 1), f"a block of `{block.info}`: expected {LANGUAGES}")
-                elif block.info == "console":
-                    check_console(page, block, room)
-                elif block.info == "sh":
-                    check_sh(page, block, room)
-                elif block.info == "rust":
-                    check_code(page, block, code)
-    check_limits()
-    for text in left_out:
-        print(f"left out: {text}")
-    print(*faults, sep="\n", end="\n" if faults else "")
-    print(", ".join(f"{count} {kind}" for kind, count in passed.items()))
-    print(f"{passed.total()} passed, {len(faults)} failed")
-    sys.exit(bool(faults))
-
-
-main()
+        check_links(judge, pages[file], pages)
+    with room() as folder:
+        tree = Tree(folder)
+        for page in (pages[file] for file in PAGES):
+            check_links(judge, page, pages)
+            check_paths(judge, page)
+            check_unfenced(judge, page)
+            check_numbers(judge, page, known)
+            check_blocks(judge, page, tree, code)
+    check_limits(judge)
+    report.note(", ".join(f"{count} {kind}" for kind, count in judge.kinds.items()))

@@ -1,18 +1,14 @@
-#!/usr/bin/env python3
-"""Makes reads and writes of the program wasmnorm fail. `rt ci` built the program; failed_streams.c intercepts its calls.
+"""`wasmnorm` while reads and writes fail.
 
-Each mode gets an input in a longer encoding, byte by byte. The first read fails, then the second, and so on, until none does:
-after a failed read nothing is written. The same for writes, which also may write no byte: after a failed write the bytes before
-it are written. An interrupted call is a failed call. Long inputs take many calls.
-
-The last line is 'N passed, M failed'.
+`rt ci` built the program, and failed_streams.c intercepts its calls. Each mode gets an input in a longer encoding, byte
+by byte. The first read fails, then the second, and so on, until none does: after a failed read nothing is written. The
+same holds for writes, which also may write no byte: after a failed write the bytes before it are written. An
+interrupted call is a failed call. Long inputs take many calls.
 """
 import errno
-import pathlib
-import sys
-import tempfile
 
-from interposed import Interposed
+from parts.common import room
+from parts.interposed import Interposed
 
 # An input of each mode and its minimal encoding, worked out by hand.
 SAMPLES = {
@@ -28,18 +24,17 @@ WRITE_FAILED = (4, "write failed\n")
 
 
 class Runs:
-    def __init__(self, program):
-        self.program, self.passed, self.failed = program, 0, 0
+    """Runs of the program, and the report on them."""
+
+    def __init__(self, report, program):
+        self.report, self.program = report, program
 
     def holds(self, name, mode, data, wanted, output, **numbers):
         """Runs the program, and compares its status, its standard error and its output."""
         ran = self.program.run(mode, numbers=numbers, input=data)
         found = (ran.returncode, ran.stderr.decode())
-        if (found, ran.stdout) == (wanted, output):
-            self.passed += 1
-        else:
-            self.failed += 1
-            print(f"{mode}, {name}, {numbers}: {found}, not {wanted}; output {ran.stdout[:40]!r}, not {output[:40]!r}")
+        why = f"{found}, not {wanted}; output {ran.stdout[:40]!r}, not {output[:40]!r}"
+        self.report.check(f"{mode}, {name}, {numbers}", (found, ran.stdout) == (wanted, output), why)
 
 
 def try_reads(runs, mode, data, normal):
@@ -56,7 +51,8 @@ def try_writes(runs, mode, data, normal):
         for writes in range(calls):
             for error in (errno.EPIPE, errno.EINTR, 0):
                 begun = normal[:writes * step]
-                runs.holds("a write fails", mode, data, WRITE_FAILED, begun, step=step, writes=writes, write_error=error)
+                runs.holds("a write fails", mode, data, WRITE_FAILED, begun, step=step, writes=writes,
+                           write_error=error)
         runs.holds("no write fails", mode, data, (0, ""), normal, step=step, writes=calls)
 
 
@@ -65,16 +61,10 @@ def try_long_inputs(runs):
         runs.holds("a long input", "calls", b"\1" * length, (0, ""), b"\1" * length, step=step)
 
 
-def main():
-    with tempfile.TemporaryDirectory() as room:
-        runs = Runs(Interposed("wasmnorm", "failed_streams.c", pathlib.Path(room)))
+def run(report):
+    with room() as folder:
+        runs = Runs(report, Interposed("wasmnorm", "failed_streams.c", folder))
         for mode, (data, normal) in SAMPLES.items():
             try_reads(runs, mode, data, normal)
             try_writes(runs, mode, data, normal)
         try_long_inputs(runs)
-    print(f"{runs.passed} passed, {runs.failed} failed")
-    return int(runs.failed > 0)
-
-
-if __name__ == "__main__":
-    sys.exit(main())

@@ -1,6 +1,7 @@
-/* Lets reads and writes of the program that the loader puts this library before move at most STEP bytes, and lets those of standard
- * input and output fail: reads after READS of them with the error READ_ERROR, writes after WRITES of them with WRITE_ERROR, or with
- * no byte taken where that is 0. Without a number nothing fails. The names with __ are those by which glibc has its own calls too. */
+/* The loader puts this library before a program. Its reads and writes then move at most STEP bytes, and those of
+ * standard input and output fail: reads after READS of them with the error READ_ERROR, writes after WRITES of them
+ * with WRITE_ERROR, or with no byte written if that is 0. Without a number nothing fails. The names with __ are
+ * those by which glibc has its own calls too. */
 #include <errno.h>
 
 long __read(int file, void *bytes, unsigned long size);

@@ -1,6 +1,7 @@
-/* Refuses requests for memory of the program that the loader puts this library before: the request with the number REFUSED, or
- * one in EVERY, as chance has it that begins with SEED. Requests while a file is open aren't refused, so that a program reads its
- * files. Standard error is told of each refusal. The names with __ are those by which glibc has its own calls too. */
+/* The loader puts this library before a program. It refuses requests for memory: the request with the number
+ * REFUSED, or one in EVERY, by chance that begins with SEED. It refuses none while a file is open, so that a program
+ * reads its files. It writes a line to standard error for each refusal. The names with __ are those by which glibc
+ * has its own calls too. */
 void *__libc_malloc(unsigned long size);
 void *__libc_realloc(void *block, unsigned long size);
 int __open(const char *path, int flags, ...);

@@ -1,0 +1,1 @@
+"""Reads the sources, and writes what documents them."""

@@ -1,0 +1,120 @@
+"""The static library from C and Rust.
+
+scripts/c-library builds it. The archive defines and needs certain names alone. The example in C runs, also beside a
+plain normaliser. Every call runs while each allocation fails once, under the address and undefined-behaviour
+sanitizers. The Rust crate passes its tests. If a tool is missing, the checks that need it are skipped.
+"""
+import os
+import re
+
+from parts.common import ROOT, CannotRun, kit, lacks, last_lines, room, run as run_command, said, text_of
+
+OUT = ROOT / "bindings/out"
+ARCHIVE = OUT / "libnosgrivel.a"
+HEADER = ROOT / "bindings/c/nosgrivel.h"
+# The functions of the heap, and those that the compiler calls to move and to fill bytes.
+NEEDED = {"free", "malloc", "memcpy", "memmove", "memset", "realloc"}
+SANITIZERS = ["-g", "-fsanitize=address,undefined", "-fno-sanitize-recover=all"]
+FLAGS = ["-std=c11", "-Wall", "-Wextra", "-Werror", "-I", ROOT / "bindings/c"]
+
+# A module in a longer encoding, its minimal encoding, and a malformed module.
+LONGER = b"\0asm\1\0\0\0" + bytes.fromhex("0186 00014F006000 00 03 8100 80")
+MINIMAL = b"\0asm\1\0\0\0" + bytes.fromhex("0104 01600000 03 01 80")
+MALFORMED = b"\0asm\1\0\0\0" + bytes.fromhex("03 8000 00")
+
+
+def expect(report, name, *words, **how):
+    """Counts whether a command succeeds."""
+    ran = run_command(*words, **how)
+    return report.check(name, ran.returncode == 0, f"failed{last_lines(said(ran))}")
+
+
+def try_names(report, folder):
+    """Lists the names of the archive with the kit's nm, which is its clang by another name."""
+    names = folder / "llvm-nm"
+    names.symlink_to(kit() / "toolchain/bin/clang")
+
+    def listed(*options):
+        lines = run_command(names, *options, "-j", ARCHIVE).stdout.decode().splitlines()
+        return {line for line in lines if line and not line.endswith(":")}
+
+    declared = {found for found in re.findall(r"(nosgrivel_[a-z_]*)\(", HEADER.read_text("utf-8"))}
+    differing = sorted(declared ^ listed("--extern-only", "--defined-only"))
+    report.check("the names that the archive defines", declared and not differing, f"differ: {differing}")
+    more = sorted(listed("--undefined-only") - NEEDED)
+    report.check("the names that the archive needs", not more, f"too many: {more}")
+
+
+def try_c(report, folder):
+    example, plain = folder / "example", folder / "plain"
+    expect(report, "the example in C is built",
+           "cc", *FLAGS, "-O1", "-o", example, ROOT / "bindings/c/example.c", ARCHIVE)
+    fault = fault_of_example(example)
+    report.check("the example in C", not fault, fault)
+    if not lacks(report, "rustc", "the example isn't compared with the plain normaliser"):
+        expect(report, "the plain normaliser is built",
+               "rustc", "-C", "opt-level=3", "-o", plain, ROOT / "bench/plain_normaliser.rs")
+        fault = fault_beside_plain(example, plain)
+        report.check("the example in C and the plain normaliser", not fault, fault)
+    try_failing_allocations(report, folder)
+
+
+def fault_of_example(example):
+    if not example.exists():
+        return "not built"
+    right, wrong = (run_command(example, input=data) for data in (LONGER, MALFORMED))
+    if (right.returncode, right.stdout) != (0, MINIMAL):
+        return f"status {right.returncode}, output {right.stdout!r}, not {MINIMAL!r}"
+    if wrong.returncode == 0 or wrong.stdout or text_of(wrong.stderr) != "refused at 11":
+        return f"status {wrong.returncode} for a malformed module: {text_of(wrong.stderr)}"
+    return ""
+
+
+def fault_beside_plain(example, plain):
+    """Compares the example with the plain normaliser of the benchmark, on a module of two million bytes."""
+    if not example.exists() or not plain.exists():
+        return "not built"
+    data = (ROOT / "bench/linked_code.wasm").read_bytes()
+    one, two = (run_command(program, input=data) for program in (example, plain))
+    statuses = (one.returncode, two.returncode)
+    if statuses != (0, 0):
+        return f"they end with the statuses {statuses}"
+    return "" if one.stdout == two.stdout else "they write different bytes"
+
+
+def try_failing_allocations(report, folder):
+    (folder / "none.c").write_text("int main(void) { return 0; }\n", "utf-8")
+    if run_command("cc", *SANITIZERS, "-o", folder / "none", folder / "none.c").returncode:
+        report.skipped("failing allocations", "cc has no sanitizers")
+        return
+    built = expect(report, "the program of failing allocations is built",
+                   "cc", *FLAGS, *SANITIZERS, "-Wl,--wrap=malloc,--wrap=realloc,--wrap=free", "-o", folder / "refused",
+                   ROOT / "bindings/c/refused_memory.c", ARCHIVE)
+    if built:
+        expect(report, "failing allocations", folder / "refused")
+
+
+def try_rust(report):
+    environment = {**os.environ, "NOSGRIVEL_LIB_DIR": str(OUT), "CARGO_TARGET_DIR": str(OUT / "target")}
+    how = {"cwd": ROOT / "bindings/rust", "env": environment}
+    expect(report, "the tests in Rust", "cargo", "test", "--offline", **how)
+    if run_command("cargo", "clippy", "--version").returncode:
+        report.skipped("clippy", "cargo clippy not found")
+    else:
+        expect(report, "clippy", "cargo", "clippy", "--offline", "--all-targets", "--", "-D", "warnings", **how)
+    how["env"] = {**environment, "RUSTDOCFLAGS": "-D warnings"}
+    expect(report, "the Rust crate's pages", "cargo", "doc", "--offline", "--no-deps", **how)
+
+
+def run(report, words):
+    if run_command(ROOT / "scripts/c-library", *words, OUT, stdout=None, stderr=None).returncode:
+        raise CannotRun("scripts/c-library failed")
+    with room() as folder:
+        try_names(report, folder)
+        if not lacks(report, "cc", "the tests in C"):
+            try_c(report, folder)
+        if not lacks(report, "c++", "the header in C++"):
+            expect(report, "the header in C++",
+                   "c++", "-Wall", "-Wextra", "-Werror", "-fsyntax-only", "-x", "c++", HEADER)
+    if not lacks(report, "cargo", "the tests in Rust"):
+        try_rust(report)

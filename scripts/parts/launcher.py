@@ -1,0 +1,363 @@
+"""The launchers bin/wasmnorm and bin/wasmcanon: when they prove or build, their messages and arguments.
+
+They run in a small repository of their own, with a command rt that proves nothing: it logs its calls, and builds a
+program that writes its first argument and its sources.
+"""
+import os
+import re
+import shutil
+import time
+
+from parts.common import ROOT, room, run as run_command
+
+USAGE = "usage: wasmnorm calls|types|module"
+# Stamps that are two seconds old are kept.
+UNTIL_STAMPS_ARE_KEPT = 2.1
+
+# The stand-in for rt. It sources the file `edit` during a build, if that file exists.
+STAND_IN = r"""#!/bin/bash
+room='{room}'
+echo "$1 ${{PWD##*/}}" >>"$room/calls"
+sources() {{ cat src/main.rt ../low/src/*.rt | tr -d '\n'; }}
+case $1 in
+    version) cat "$room/kit/version" ;;
+    lib) [ ! -e "$room/no_proof" ] || {{ echo "not proved"; exit 1; }} ;;
+    run)
+        mkdir -p out
+        printf '#!/bin/sh\ncat >/dev/null\necho "$1 of %s"\n' "$(sources)" >"out/${{PWD##*/}}"
+        chmod +x "out/${{PWD##*/}}"
+        [ ! -e "$room/edit" ] || . "$room/edit" ;;
+    try)
+        echo "$*" >"$room/try"
+        if [ ! -e "$room/no_program" ]; then
+            mkdir -p "$TMPDIR/try/native"
+            program=$TMPDIR/try/native/program
+            printf '#!/bin/sh\necho "unproved %s: $*: $PWD: $(cat)"\nexit 7\n' "$(sources)" >"$program"
+            chmod 700 "$program"
+        fi
+        [ ! -e "$room/edit" ] || . "$room/edit"
+        sleep 0.3
+        rm -rf "$TMPDIR/try"
+        cat "$room/try.err" >&2 ;;
+esac
+"""
+
+# The files of the small repository, beside copies of the launchers and of what they read.
+FILES = {
+    "bench/linked_json.wasm": "a module",
+    "crates.txt": "low: thiserror\nwasmnorm: low\nwasmcanon: low clap\nother: low\n",
+    "crates/wasmnorm/src/main.rt": "A",
+    "crates/low/src/lib.rt": "1",
+    "crates/low/proofs/Lib.antt": "law",
+    "crates/other/src/lib.rt": "X",
+    "crates/wasmcanon/src/main.rt": "C",
+}
+COPIED = ["bin/launch.bash", "bin/wasmnorm", "bin/wasmcanon", "bindings/rust/Cargo.toml",
+          "crates/wasmcanon/src/options.rt"]
+
+
+class Launchers:
+    """The small repository, and the last run of a launcher: its status, its outputs, and the calls of rt."""
+
+    def __init__(self, report, folder):
+        self.report, self.room, self.root = report, folder, folder / "clone"
+        self.path = f"{folder}/kit:{os.environ['PATH']}"
+        self.status, self.out, self.err, self.calls = 0, "", "", []
+        self.put(folder / "kit/version", "kit 1 logic 1\n")
+        self.put(folder / "kit/rt", STAND_IN.format(room=folder))
+        (folder / "kit/rt").chmod(0o755)
+        self.ends_with("run=ended status=0 runners=1 proved=no\n")
+        for name, text in FILES.items():
+            self.write(name, text)
+        for name in COPIED:
+            (self.root / name).parent.mkdir(parents=True, exist_ok=True)
+            shutil.copy(ROOT / name, self.root / name)
+
+    def put(self, file, text):
+        file.parent.mkdir(parents=True, exist_ok=True)
+        file.write_text(text, "utf-8")
+
+    def write(self, name, text):
+        self.put(self.root / name, text)
+
+    def ends_with(self, text):
+        """Sets what `rt try` writes to standard error."""
+        self.put(self.room / "try.err", text)
+
+    def launch(self, *words, program="wasmnorm", launcher=None):
+        """Runs a launcher in the room."""
+        calls = self.room / "calls"
+        calls.write_text("", "utf-8")
+        environment = {**os.environ, "PATH": self.path, "PWD": str(self.room)}
+        command = launcher or self.root / "bin" / program
+        ran = run_command(command, *words, input=b"bytes", cwd=self.room, env=environment)
+        self.status, self.calls = ran.returncode, calls.read_text("utf-8").splitlines()
+        self.out, self.err = (text.decode("utf-8", "replace").rstrip("\n") for text in (ran.stdout, ran.stderr))
+
+    def check(self, name, right):
+        why = f"status {self.status}, output {self.out!r}, error {self.err!r}, rt: {'; '.join(self.calls)}"
+        self.report.check(name, right, why)
+
+    def answers(self, name, status, out):
+        self.check(name, (self.status, self.out) == (status, out))
+
+    def says(self, name, text):
+        self.check(name, re.search(text, self.err, re.MULTILINE))
+
+    def complains(self, name, text):
+        self.check(name, self.err == text)
+
+    def is_silent(self, name):
+        self.check(name, not self.calls)
+
+    def proves(self, name):
+        self.check(name, any(call.startswith(("lib", "run")) for call in self.calls))
+
+    def proves_nothing(self, name):
+        self.check(name, not any(call.startswith(("lib", "run")) for call in self.calls))
+
+    def builds(self, name, *calls):
+        """Checks the calls of rt, in their order, without those that ask for its version."""
+        self.check(name, [call for call in self.calls if "version" not in call] == list(calls))
+
+    def tried(self, name, words):
+        self.check(name, (self.room / "try").read_text("utf-8").rstrip("\n") == words)
+
+    def leaves_nothing(self, name):
+        self.check(name, not list((self.root / "crates/wasmnorm/out").rglob("room*")))
+
+    def fits(self, name):
+        self.check(name, all(len(line) <= 80 for line in self.out.splitlines()))
+
+    def stays(self, name, sources):
+        """Runs the program, which has these sources, without a proof before it."""
+        self.launch("calls")
+        self.answers(name, 0, f"calls of {sources}")
+        self.proves_nothing(f"{name}: no proof")
+
+    def proves_again(self, name, sources):
+        """Runs the program, which has these sources, with a proof before it."""
+        self.launch("calls")
+        self.answers(name, 0, f"calls of {sources}")
+        self.proves(f"{name}: a proof")
+
+
+def words(it):
+    it.launch("--help")
+    it.check("--help", it.status == 0)
+    it.check("--help: the usage", USAGE in it.out)
+    it.check("--help: an example", "2042" in it.out)
+    it.check("--help: the statuses", re.search("^Exit status", it.out, re.MULTILINE))
+    it.fits("--help: lines of 80 columns")
+    it.is_silent("--help: no rt")
+    it.launch("--version")
+    it.answers("--version", 0, "wasmnorm 0.1.0, not built yet")
+    it.is_silent("--version: no rt")
+    for wrong in ([], [""], ["instructions"], ["calls", "calls"], ["calls", "x"], ["x", "calls"], [b"\xff"],
+                  ["--help", "calls"], ["--unproved"], ["--unproved", "x"], ["calls", "--unproved"],
+                  ["--unproved", "calls", "x"], ["--unproved calls"]):
+        it.launch(*wrong)
+        it.answers(f"words {wrong}", 2, "")
+        it.complains(f"words {wrong}: the usage", USAGE)
+        it.is_silent(f"words {wrong}: no rt")
+
+
+def words_of_wasmcanon(it):
+    for option in ("--help", "-h"):
+        it.launch(option, program="wasmcanon")
+        it.check(f"wasmcanon {option}", it.status == 0)
+        it.check(f"wasmcanon {option}: the text of the source", begins_with_help_of_the_source(it))
+        it.check(f"wasmcanon {option}: the usage", re.search("^Usage: wasmcanon .*$", it.out, re.MULTILINE))
+        it.check(f"wasmcanon {option}: the statuses", re.search("^  [45]  .*$", it.out, re.MULTILINE))
+        it.check(f"wasmcanon {option}: no code", not re.search(";$|^const", it.out, re.MULTILINE))
+        it.fits(f"wasmcanon {option}: lines of 80 columns")
+        it.is_silent(f"wasmcanon {option}: no rt")
+    for option in ("--version", "-V"):
+        it.launch(option, program="wasmcanon")
+        it.answers(f"wasmcanon {option}", 0, "wasmcanon 0.1.0, not built yet")
+        it.is_silent(f"wasmcanon {option}: no rt")
+
+
+def begins_with_help_of_the_source(it):
+    source = (it.root / "crates/wasmcanon/src/options.rt").read_text("utf-8")
+    text = re.search(r'^const HELP.*\n((?:.*\n)*?.*)";$', source, re.MULTILINE)[1].splitlines()
+    return len(text) > 40 and it.out.splitlines()[:len(text)] == text
+
+
+def first_use(it):
+    it.put(it.room / "no_proof", "")
+    it.launch("calls")
+    it.answers("a failed proof", 5, "")
+    it.says("a failed proof: the output of rt", "not proved")
+    (it.room / "no_proof").unlink()
+    it.launch("calls")
+    it.answers("the first use", 0, "calls of A1")
+    it.builds("the first use: the crates in order", "lib low", "run wasmnorm")
+    it.says("the first use: how long", "10 minutes")
+    it.launch("types")
+    it.answers("the second use", 0, "types of A1")
+    it.complains("the second use: nothing said", "")
+    it.proves_nothing("the second use: no proof")
+    it.launch("--version")
+    it.answers("--version once built", 0, "wasmnorm 0.1.0, proved with kit 1 logic 1")
+
+
+def unchanged(it):
+    """Once the stamps are kept, rt isn't called at all."""
+    time.sleep(UNTIL_STAMPS_ARE_KEPT)
+    it.stays("old times are noted", "A1")
+    it.launch("calls")
+    it.answers("unchanged", 0, "calls of A1")
+    it.is_silent("unchanged: no rt")
+    it.root = it.root.rename(it.room / "moved")
+    it.launch("calls")
+    it.answers("a moved clone", 0, "calls of A1")
+    it.is_silent("a moved clone: no rt")
+    moved, it.root = it.root, it.room / "copy"
+    run_command("cp", "-r", moved, it.root, check=True)
+    it.stays("a copied clone", "A1")
+    it.root = moved
+    (it.room / "link").symlink_to(it.root / "bin/wasmnorm")
+    it.launch("calls", launcher=it.room / "link")
+    it.answers("through a link", 0, "calls of A1")
+    for file in [*it.root.glob("crates/*/src/*.rt"), it.root / "crates.txt"]:
+        file.touch()
+    it.stays("touched files", "A1")
+    shutil.copy(it.root / "crates/low/src/lib.rt", it.room / "new")
+    (it.room / "new").replace(it.root / "crates/low/src/lib.rt")
+    it.stays("an equal file in the place of a file", "A1")
+    it.write("crates/other/src/lib.rt", "Y")
+    it.stays("a file of another crate", "A1")
+    with (it.root / "crates.txt").open("a") as listed:
+        listed.write("# a comment\n")
+    it.stays("a comment in crates.txt", "A1")
+
+
+def same_time(text, it):
+    """A file with this text and the times of a source."""
+    (it.room / "old").write_text(text, "utf-8")
+    shutil.copystat(it.root / "crates/low/src/lib.rt", it.room / "old")
+    return it.room / "old"
+
+
+def changed_files(it):
+    low = it.root / "crates/low/src/lib.rt"
+    it.write("crates/wasmnorm/src/main.rt", "B")
+    it.proves_again("a changed file", "B1")
+    low.write_text("2", "utf-8")
+    os.utime(low, (978307200, 978307200))
+    it.proves_again("a changed file that is older", "B2")
+    time.sleep(UNTIL_STAMPS_ARE_KEPT)
+    it.stays("old times again", "B2")
+    run_command("cp", "-p", same_time("3", it), low, check=True)
+    it.proves_again("a file that is restored with the same time and length", "B3")
+    time.sleep(UNTIL_STAMPS_ARE_KEPT)
+    it.stays("old times once more", "B3")
+    same_time("4", it).replace(low)
+    it.proves_again("a file that is moved in with the same time and length", "B4")
+
+
+def changed_trees(it):
+    it.write("crates/low/src/more.rt", "5")
+    it.proves_again("an added file", "B45")
+    (it.root / "crates/low/src/more.rt").unlink()
+    it.proves_again("a removed file", "B4")
+    (it.root / "crates/low/proofs/Lib.antt").rename(it.root / "crates/low/proofs/Law.antt")
+    it.proves_again("a renamed file", "B4")
+    it.write("crates.txt", "low: thiserror\nwasmnorm: low other\nwasmcanon: low clap\nother: low\n")
+    it.proves_again("a crate more", "B4")
+    it.check("a crate more: it is proved", "lib other" in it.calls)
+    it.put(it.room / "kit/version", "kit 2 logic 1\n")
+    (it.room / "kit/rt").touch()
+    it.proves_again("another kit", "B4")
+    it.put(it.room / "edit", "printf 6 >../low/src/lib.rt\n")
+    it.write("crates/low/src/lib.rt", "5")
+    it.launch("calls")
+    it.answers("an edit during the proof", 5, "")
+    (it.room / "edit").unlink()
+    it.proves_again("after an edit during the proof", "B6")
+
+
+def without_kit(it):
+    path, it.path = it.path, "/usr/bin:/bin"
+    if not shutil.which("rt", path=it.path):
+        it.launch("calls")
+        it.answers("without the kit", 0, "calls of B6")
+        it.write("crates/low/src/lib.rt", "7")
+        it.launch("calls")
+        it.answers("changed, without the kit", 5, "")
+    it.path = path
+
+
+def unproved(it):
+    """Runs bin/wasmnorm without proof. The launcher exits with the program's status, which is 7."""
+    it.write("crates/low/src/lib.rt", "6")
+    it.launch("--unproved", "module")
+    it.answers("unproved, the first use", 7, f"unproved B6: module: {it.room}: bytes")
+    it.says("unproved, the first use: it says so", "without proof: running the sources as they are")
+    it.says("unproved, the first use: how long", "building without proof: about half a minute")
+    it.builds("unproved, the first use: no proof", "try wasmnorm")
+    it.tried("unproved, the first use: the trial", "try -- module")
+    it.leaves_nothing("unproved, the first use: no other file is left")
+    it.launch("--unproved", "types")
+    it.answers("unproved, the second use", 7, f"unproved B6: types: {it.room}: bytes")
+    it.complains("unproved, the second use: it says so", "wasmnorm: without proof: running the sources as they are")
+    it.proves_nothing("unproved, the second use: no build")
+    it.stays("proved, once it ran without proof", "B6")
+    it.write("crates/low/src/lib.rt", "7")
+    it.launch("--unproved", "calls")
+    it.answers("unproved, a changed file", 7, f"unproved B7: calls: {it.room}: bytes")
+    it.builds("unproved, a changed file: a build", "try wasmnorm")
+    it.proves_again("proved, after a build without proof", "B7")
+
+
+def failures_unproved(it):
+    it.write("crates/low/src/lib.rt", "8")
+    it.put(it.room / "no_program", "")
+    fails_unproved(it, "no program")
+    (it.room / "no_program").unlink()
+    it.ends_with("error: a name\nrun=none proved=no\n")
+    fails_unproved(it, "a refused crate")
+    it.says("unproved, a refused crate: the output of rt", "error: a name")
+    it.ends_with("run=ended status=0 runners=1 proved=no\n")
+    it.put(it.room / "edit", "printf 9 >../low/src/lib.rt\n")
+    fails_unproved(it, "an edit during the build")
+    (it.room / "edit").unlink()
+    it.launch("--unproved", "calls")
+    it.answers("unproved, after an edit during the build", 7, f"unproved B9: calls: {it.room}: bytes")
+
+
+def fails_unproved(it, name):
+    it.launch("--unproved", "calls")
+    it.answers(f"unproved, {name}", 5, "")
+    it.builds(f"unproved, {name}: no proof", "try wasmnorm")
+    it.leaves_nothing(f"unproved, {name}: no other file is left")
+
+
+def runs_of_wasmcanon(it):
+    """The launcher passes all arguments, and runs the program in the folder of the caller."""
+    it.launch("--check", "file", program="wasmcanon")
+    it.answers("wasmcanon, the first use", 0, "--check of C9")
+    it.builds("wasmcanon, the first use: the crates in order", "lib low", "run wasmcanon")
+    it.write("crates/wasmcanon/out/kept/wasmcanon", '#!/bin/sh\npwd\necho "$#: $2"\n')
+    it.launch("a", "b c", "", program="wasmcanon")
+    it.answers("wasmcanon, its arguments and its folder", 0, f"{it.room}\n3: b c")
+    it.proves_nothing("wasmcanon, the second use: no proof")
+    it.complains("wasmcanon, the second use: no message", "")
+    it.launch("--unproved", "--diff", "a b", "-", program="wasmcanon")
+    it.answers("wasmcanon unproved, the first use", 7, f"unproved C9: --diff a b -: {it.room}: bytes")
+    it.builds("wasmcanon unproved, the first use: no proof", "try wasmcanon")
+    it.tried("wasmcanon unproved, the first use: the trial", "try -- --check")
+    it.launch("--unproved", program="wasmcanon")
+    it.answers("wasmcanon unproved, no arguments", 7, f"unproved C9: : {it.room}: bytes")
+    it.proves_nothing("wasmcanon unproved, the second use: no build")
+    it.launch("a", "--unproved", "b", program="wasmcanon")
+    it.answers("wasmcanon, a later --unproved", 0, f"{it.room}\n3: --unproved")
+
+
+def run(report):
+    with room() as folder:
+        it = Launchers(report, folder)
+        for use in (words, words_of_wasmcanon, first_use, unchanged, changed_files, changed_trees, without_kit,
+                    unproved, failures_unproved, runs_of_wasmcanon):
+            use(it)

@@ -1,0 +1,368 @@
+"""Options, files, exit statuses, messages, reports and progress of `wasmcanon`.
+
+`rt ci` builds two programs, with LLVM and with Rattle's own compiler; this part runs both.
+"""
+import json
+import os
+import pty
+import re
+import subprocess
+
+from parts.common import ROOT, both_programs, room, run as run_command, under
+
+HEADER = b"\0asm\1\0\0\0"
+ZEROS = bytes(49_999_998)
+# The files that the program is given, by their names.
+FILES = {
+    # A module with a size of two bytes, a final subtype that is written out, and a memory whose minimum has two bytes;
+    # its canonical form; and the module cut within its last section.
+    "long": HEADER + b"\1\x86\0\1\x4F\0\x60\0\0\5\4\1\0\x81\0",
+    "canonical": HEADER + b"\1\4\1\x60\0\0\5\3\1\0\1",
+    "cut": HEADER + b"\1\x86\0\1\x4F\0\x60\0\0\5\4\1\0\x81",
+    # The module with a custom section .debug_ before its sections, and one whose memory has a minimum of 2.
+    "debug": HEADER + b"\0\x08\7.debug_\1\x86\0\1\x4F\0\x60\0\0\5\4\1\0\x81\0",
+    "other": HEADER + b"\1\4\1\x60\0\0\5\3\1\0\2",
+    # Their first sections, and a module of a custom section whose name is an escape character.
+    "nothing": b"",
+    "header": HEADER,
+    "types": HEADER + b"\1\4\1\x60\0\0",
+    "cut_type": HEADER + b"\1\x86\0\1\x4F\0\x60\0",
+    "escape": HEADER + b"\0\2\1\x1B",
+    # Custom sections: one of 50 MB with a size of five bytes, its canonical form, and two of which .debug_ is dropped.
+    "big": HEADER + b"\0\x80\xE1\xEB\x97\0\1a" + ZEROS,
+    "big_canonical": HEADER + b"\0\x80\xE1\xEB\x17\1a" + ZEROS,
+    "customs": HEADER + b"\0\x08\7.debug_\0\x82\0\1a",
+    "custom": HEADER + b"\0\2\1a",
+    # A custom section of 2,000 bytes with a size of three bytes.
+    "large": HEADER + b"\0\xD2\x8F\0\1a" + bytes(2000),
+    # A custom section whose name's length has two bytes, a function section whose count has two, a start section whose
+    # index has two, and a code section with an i32.const whose number has two in the second of two functions.
+    "numbers": HEADER + b"\0\4\x81\0ax\3\4\x82\0\0\0\x08\2\x80\0\x0A\x0A\2\2\0\x0B\5\0\x41\x80\0\x0B",
+}
+
+REPORT = b"""\
+section    before     after     saved  longer  out of  kind
+      0         9         6         3       1       1  type
+      1         6         5         1       1       1  memory
+  total        23        19         4       2       2  items
+                                            1       2  section sizes
+                                            0       2  item counts
+"""
+REPORT_OF_NUMBERS = b"""\
+section    before     after     saved  longer  out of  kind
+      0         6         5         1       1       1  custom "a"
+      1         6         5         1       0       2  function
+      2         4         3         1       1       1  start
+      3        12        11         1       1       2  code
+  total        36        32         4       3       6  items
+                                            0       4  section sizes
+                                            1       2  item counts
+"""
+# Of each section in the report of numbers: the longer items, the items, and whether the size or the count is longer.
+ENCODINGS = [(1, 1, False, False), (0, 2, False, True), (1, 1, False, False), (1, 2, False, False)]
+
+NO_HEADER = "offset 0x0: not a WebAssembly module: expected the header 00 61 73 6D 01 00 00 00"
+NO_SIZE = "size is missing or larger than the rest of the"
+NOT_CANONICAL = "not canonical: section at offset 0x8: not minimally encoded"
+STALE = """\
+warning: {file}: custom sections .debug_*: offsets are stale, because bytes have moved
+help: drop such sections with --strip-offsets, or generate them again from the output
+"""
+
+# Malformed modules: what each is, the message, and the bytes after the header and an empty type section.
+MALFORMED = [
+    ("an instruction that is cut", "code section, function 0, offset 0x12: malformed instruction",
+     b"\x0A\6\1\4\1\1\x7F\x41"),
+    ("a group of locals of no type", "code section, function 0, local group 1, offset 0x12: malformed count or type",
+     b"\x0A\x08\1\6\2\1\x7F\1\0\x0B"),
+    ("a function body without bytes", "code section, function 0, offset 0xf: malformed count of local groups",
+     b"\x0A\2\1\0"),
+    ("a function body that is cut", f"code section, function 0, offset 0xe: {NO_SIZE} section", b"\x0A\3\1\5\0"),
+    ("an export of another kind", "export section, export 0, offset 0xe: malformed export", b"\7\5\1\1a\5\0"),
+    ("trailing bytes", "function section, offset 0xf: trailing bytes after the last function", b"\3\3\1\0\0"),
+    ("a count that is cut", "memory section, offset 0xd: malformed count", b"\5\1\x80"),
+    ("an index that is cut", "start section, offset 0xd: malformed body", b"\x08\1\x80"),
+    ("a name that is cut", "custom section, offset 0xd: malformed body", b"\0\2\5a"),
+    ("another id", "section 1, offset 0xb: unknown section id 14: expected 0 to 13", b"\x0E\0"),
+    ("a body that is cut", f"section 1, offset 0xb: {NO_SIZE} module", b"\x0B\5\0"),
+    ("no size", f"section 1, offset 0xb: {NO_SIZE} module", b"\x0B"),
+]
+
+
+class Runs:
+    """Runs of one program in a room with FILES, the last run among them, and the report on them."""
+
+    def __init__(self, report, program, folder):
+        self.report, self.program, self.room = report, program, folder
+        self.status, self.out, self.err = 0, b"", ""
+
+    def holds(self, name, right):
+        why = f"status {self.status}, output {self.out[:80]!r}, error {self.err!r}"
+        self.report.check(f"{self.program.name}: {name}", right, why)
+
+    def run(self, *words, **how):
+        """Runs the program in the room. Its status and outputs are kept."""
+        ran = run_command(self.program, *words, cwd=self.room, **how)
+        self.status, self.out, self.err = ran.returncode, ran.stdout or b"", ran.stderr.decode("utf-8", "replace")
+
+    def answers(self, status, error, *words):
+        """Whether the program ends with this status and an error that begins so; without `error`, with none."""
+        self.run(*words)
+        return self.status == status and (self.err.startswith(error) if error else not self.err)
+
+    def writes(self, *words, data=FILES["canonical"]):
+        return self.answers(0, "", *words) and self.out == data
+
+    def puts(self, *words):
+        """Whether the program writes the canonical form to the file `there`."""
+        return (self.answers(0, "", *words) and not self.out and self.there() == FILES["canonical"]
+                and self.leaves_nothing_beside())
+
+    def refuses(self, status, error, *words):
+        """Whether the program fails so, and leaves the file `there` as it was."""
+        return (self.answers(status, error, *words) and not self.out and self.there() == b"kept"
+                and self.leaves_nothing_beside())
+
+    def there(self):
+        return (self.room / "there").read_bytes()
+
+    def leaves_nothing_beside(self):
+        return not list(self.room.glob("*.wasmcanon"))
+
+    def fresh(self, mode=0o644):
+        """Makes the file `there`, which the program is to replace."""
+        (self.room / "there").unlink(missing_ok=True)
+        (self.room / "there").write_bytes(b"kept")
+        (self.room / "there").chmod(mode)
+
+    def link(self, name, target):
+        (self.room / name).unlink(missing_ok=True)
+        (self.room / name).symlink_to(target)
+
+
+def try_outputs(runs):
+    runs.holds("a file", runs.writes("long"))
+    runs.holds("what is canonical", runs.writes("canonical"))
+    for name, words in (("standard input", []), ("standard input by its name", ["-", "-o", "-"])):
+        with open(runs.room / "long", "rb") as source:
+            runs.run(*words, stdin=source)
+        runs.holds(name, runs.status == 0 and runs.out == FILES["canonical"])
+    runs.fresh()
+    runs.holds("a new file", runs.puts("long", "-o", "there"))
+    runs.fresh()
+    runs.holds("a new file by the long option", runs.puts("--output=there", "long"))
+    runs.fresh(0o640)
+    right = runs.puts("long", "-o", "there")
+    runs.holds("the permissions of a file", right and (runs.room / "there").stat().st_mode & 0o777 == 0o640)
+    runs.fresh()
+    runs.link("link", "there")
+    runs.holds("a link", runs.puts("long", "-o", "link") and (runs.room / "link").is_symlink())
+    (runs.room / "there").unlink()
+    runs.holds("a link that leads nowhere", runs.puts("long", "-o", "link") and (runs.room / "link").is_symlink())
+    runs.fresh()
+    runs.holds("a file that a killed run left", goes_past_a_stale_file(runs))
+    runs.fresh()
+    (runs.room / "there").write_bytes(FILES["long"])
+    runs.holds("a file in its own place", runs.puts("there", "-o", "there"))
+    runs.link("device", "/dev/null")
+    runs.holds("a device", runs.answers(0, "", "long", "-o", "device"))
+
+
+def goes_past_a_stale_file(runs):
+    stale = runs.room / "there.0.wasmcanon"
+    stale.touch()
+    right = runs.answers(0, "", "long", "-o", "there") and runs.there() == FILES["canonical"] and stale.exists()
+    stale.unlink()
+    return right and runs.leaves_nothing_beside()
+
+
+def try_checks(runs):
+    runs.holds("a canonical module, checked", runs.answers(0, "", "--check", "canonical"))
+    runs.holds("a longer module, checked", runs.answers(1, f"error: long: {NOT_CANONICAL}", "--check", "long"))
+    message = "error: cut: section 1, offset 0x11: size is missing"
+    runs.holds("no module, checked", runs.answers(1, message, "--check", "cut"))
+
+
+def try_offsets(runs):
+    runs.fresh()
+    runs.run("debug", "-o", "there")
+    runs.holds("a warning of offsets", runs.status == 0 and runs.err == STALE.format(file="debug"))
+    runs.run("there")
+    runs.holds("no warning if no bytes move", runs.status == 0 and not runs.err and b"debug_" in runs.out)
+    runs.holds("offsets left out", runs.writes("--strip-offsets", "debug"))
+    runs.holds("other custom sections", runs.writes("--strip-offsets", "customs", data=FILES["custom"]))
+
+
+def try_differences(runs):
+    runs.holds("two modules with one canonical form", runs.answers(0, "", "--diff", "long", "canonical"))
+    for name, first, second, message in (
+        ("two modules that differ", "long", "other",
+         "memory section, offset 0x12 in the first canonical form, offset 0x12 in the second"),
+        ("the second has a section more", "types", "canonical",
+         "memory section, offset 0xe: only in the second canonical form"),
+        ("the first has a section more", "canonical", "header",
+         "type section, offset 0x8: only in the first canonical form"),
+        ("another section", "escape", "canonical",
+         'section 0, offset 0x8: custom "?" in the first canonical form, type in the second'),
+    ):
+        error = f"error: {first} and {second} differ: {message}"
+        runs.holds(name, runs.answers(1, error, "--diff", first, second))
+    runs.holds("the second is no module",
+               runs.answers(1, "error: cut: section 1, offset 0x11: ", "--diff", "long", "cut"))
+
+
+def try_reports(runs):
+    for name, file, wanted in (("a report", "long", REPORT), ("a report of numbers", "numbers", REPORT_OF_NUMBERS)):
+        runs.run("--report", file)
+        runs.holds(name, runs.status == 0 and runs.out == wanted)
+    told = json_report(runs, "debug")
+    names = [section["name"] for section in told["sections"]]
+    runs.holds("a report as JSON", (told["before"], told["after"], names) == (33, 29, [".debug_", None, None]))
+    encodings = [section["encodings"] for section in json_report(runs, "numbers")["sections"]]
+    found = [(it["longer_items"], it["items"], it["longer_size"], it["longer_count"]) for it in encodings]
+    runs.holds("a report of longer encodings as JSON", found == ENCODINGS)
+
+
+def json_report(runs, file):
+    """The report on a file as JSON; if there is none, one that differs from all."""
+    runs.run("--report", "--json", file)
+    try:
+        return json.loads(runs.out) if runs.status == 0 else {"before": 0, "after": 0, "sections": []}
+    except ValueError:
+        return {"before": 0, "after": 0, "sections": []}
+
+
+def try_refusals(runs):
+    runs.fresh()
+    refusals = [
+        ("no module", 1, "cut: section 1, offset 0x11: size is missing", ["cut", "-o", "there"]),
+        ("no header", 1, f"kept: {NO_HEADER}", ["kept", "-o", "there"]),
+        ("no input", 4, "none: read failed: ", ["none", "-o", "there"]),
+        ("a folder for an input", 4, f"{runs.room}: read failed: ", [runs.room, "-o", "there"]),
+        ("no folder for the output", 4, "none/x: write failed: ", ["long", "-o", "none/x"]),
+        ("no output's name", 2, "", ["long", "-o"]),
+        ("an unknown option", 2, "", ["--chek", "long"]),
+        ("a second file without --diff", 2, "", ["long", "other"]),
+        ("a check that is to write", 2, "", ["--check", "long", "-o", "there"]),
+    ]
+    for words in (["--diff"], ["--json"], ["--check", "--report"], ["--check", "--strip-offsets"]):
+        refusals.append((" ".join(words), 2, "", [*words, "long"]))
+    for name, status, error, words in refusals:
+        runs.holds(name, runs.refuses(status, f"error: {error}", *words))
+
+
+def is_malformed(runs, message, data, *words):
+    (runs.room / "broken").write_bytes(HEADER + b"\1\1\0" + data)
+    return runs.answers(1, f"error: broken: {message}", *(words or ["--check", "broken"]))
+
+
+def try_malformed(runs):
+    runs.holds("no bytes", runs.answers(1, f"error: nothing: {NO_HEADER}", "--check", "nothing"))
+    cut = f"error: cut_type: section 0, offset 0x8: {NO_SIZE} module"
+    runs.holds("a section that is cut", runs.answers(1, cut, "--check", "cut_type"))
+    message = "code section, function 1, offset 0x13: malformed instruction"
+    data = b"\x0A\x08\2\2\0\x0B\3\0\xFF\x0B"
+    runs.holds("an unknown opcode", is_malformed(runs, message, data))
+    alike = (is_malformed(runs, message, data, "--report", "broken")
+             and is_malformed(runs, message, data, "--diff", "long", "broken"))
+    runs.holds("the same in a report and a comparison", alike)
+    for name, message, data in MALFORMED:
+        runs.holds(name, is_malformed(runs, message, data))
+
+
+def try_help(runs):
+    runs.holds("the help", runs.answers(0, "", "--help") and is_help(runs.out.decode()))
+    usage = usage_in(runs.out.decode())
+    runs.holds("the usage of an error", usage and runs.answers(2, "error: ", "--chek") and usage_in(runs.err) == usage)
+    right = runs.answers(0, "", "--version")
+    launched = run_command(ROOT / "bin/wasmcanon", "--version").stdout
+    runs.holds("the version", right and runs.out.strip() + b"," in launched)
+
+
+def is_help(text):
+    """Whether the launcher's help begins with this text, and the text names each option in lines of 80 columns."""
+    lines = text.splitlines()
+    launched = run_command(ROOT / "bin/wasmcanon", "--help").stdout.decode().splitlines()
+    source = (ROOT / "crates/wasmcanon/src/options.rt").read_text("utf-8")
+    options = set(re.findall(r'^ *name: "(.*)",$', source, re.MULTILINE)) - {"input", "other"}
+    named = all(any(re.match(rf"  .*--{option} ", line) for line in lines) for option in options)
+    return lines and launched[:len(lines)] == lines and max(map(len, lines)) <= 80 and named
+
+
+def usage_in(text):
+    return re.findall(r"^Usage: (?s:.*?)(?:^$|\Z)", text, re.MULTILINE)
+
+
+def try_failing_writes(runs):
+    if os.path.exists("/dev/full"):
+        with open("/dev/full", "wb") as full:
+            runs.run("long", stdout=full)
+        runs.holds("a device that is full", runs.status == 4 and write_failed(runs))
+    whole = run_command(runs.program, "large", cwd=runs.room).stdout
+    with open(runs.room / "out", "wb") as output:
+        ran = run_command(*under("trap '' XFSZ; ulimit -f 1", runs.program, "large"), cwd=runs.room, stdout=output)
+    begun, runs.status, runs.err = (runs.room / "out").read_bytes(), ran.returncode, ran.stderr.decode()
+    runs.holds("a write that fails", runs.status == 4 and write_failed(runs) and begun and whole.startswith(begun))
+
+
+def write_failed(runs):
+    return re.search("^error: standard output: write failed", runs.err, re.MULTILINE)
+
+
+def on_a_terminal(runs, *words, both=False):
+    """Runs the program with standard error on a terminal, and if `both` standard output too. Returns its status, each
+    phase that it showed with the last number of bytes, and the lines that remain on the terminal."""
+    ours, theirs = pty.openpty()
+    process = subprocess.Popen([runs.program, *words], cwd=runs.room, stdin=subprocess.DEVNULL, stderr=theirs,
+                               stdout=theirs if both else subprocess.DEVNULL)
+    os.close(theirs)
+    text = bytearray()
+    try:
+        while True:
+            more = os.read(ours, 1 << 16)
+            if not more:
+                break
+            text += more
+    except OSError:  # the end of a terminal
+        pass
+    os.close(ours)
+    phases = dict(re.findall(rb"wasmcanon: (\w+) ([\d.]+ MB)", text))
+    runs.status, runs.out, runs.err = process.wait(), b"", ""
+    told = [str(runs.status), *(f"{phase.decode()} {size.decode()}" for phase, size in phases.items())]
+    return ["; ".join(told), *([] if both else remaining_lines(text))]
+
+
+def remaining_lines(text):
+    """The lines that a terminal shows: after a carriage return, a part covers what was there."""
+    for line in text.replace(b"\r\n", b"\n").split(b"\n"):
+        shown = b""
+        for part in line.split(b"\r"):
+            shown = part + shown[len(part):]
+        if shown.strip():
+            yield shown.decode().rstrip()
+
+
+def try_progress(runs):
+    runs.fresh()
+    told = on_a_terminal(runs, "big", "-o", "there")
+    right = told == ["0; reading 49.2 MB; canonicalising 50.0 MB; writing 50.0 MB"]
+    runs.holds("progress of a big module", right and runs.there() == FILES["big_canonical"])
+    runs.holds("a big module without a terminal", runs.writes("big", data=FILES["big_canonical"]))
+    told = on_a_terminal(runs, "--check", "big")
+    wanted = ["1; reading 49.2 MB; canonicalising 50.0 MB", f"error: big: {NOT_CANONICAL}"]
+    runs.holds("progress before a message", told == wanted)
+    runs.holds("no progress of a small module", on_a_terminal(runs, "long") == ["0"])
+    runs.holds("no progress among bytes", on_a_terminal(runs, "--force", "big", both=True) == ["0"])
+    runs.holds("a terminal", on_a_terminal(runs, "long", both=True) == ["2"])
+    runs.holds("a terminal, by force", on_a_terminal(runs, "--force", "long", both=True) == ["0"])
+
+
+def run(report):
+    with room() as folder:
+        for name, data in {**FILES, "kept": b"kept"}.items():
+            (folder / name).write_bytes(data)
+        for program in both_programs(report, "wasmcanon"):
+            runs = Runs(report, program, folder)
+            for attempt in (try_outputs, try_checks, try_offsets, try_differences, try_reports, try_refusals,
+                            try_malformed, try_help, try_failing_writes, try_progress):
+                attempt(runs)
