@@ -1,33 +1,147 @@
--- A refusal says that nothing is encoded, since the normaliser gives what is, and the check takes it.
-use Rattle.std.proofs.Common.{◌≡◌, ℕ, List, length, Result, Ok, Err, inl, inr, arith}
+-- What a call promises follows from what the normaliser or the check promises that it calls, and from its status.
+use Rattle.std.proofs.Common.{◌≡◌, ◌≤◌, ◌<◌, ◌⊎◌, ℕ, List, length, Result, Ok, Err, inl, inr, refl, sym, subst, arith}
+use Rattle.std.specs.Global.{Vec}
 use Rattle.wasm_codec.specs.declared.reader.ReadError.{ReadError}
 use Rattle.wasm_codec.specs.declared.reader.ReadError.TheVariants as errors
 use Rattle.wasm_codec.specs.formats.Grammar.{Grammar}
-use Rattle.wasm_codec.specs.Outcomes.{IsOrMemory, EncodesSome, IfRefused}
-use Rattle.nosgrivel_c.specs.declared.delivery.TheConstants.{REFUSED}
-use Rattle.nosgrivel_c.specs.Delivery.{TellsRefusal, IsDelivered, IsJudged, IsChecked}
+use Rattle.wasm_codec.specs.formats.Combinators.{Format}
+use Rattle.wasm_codec.specs.Outcomes.{IsLongestPrefix, IsNormalForm}
+use Rattle.wasm_codec.specs.Decoding.{Checks, Normalises}
+use Rattle.nosgrivel_c.specs.declared.delivery.TheConstants.{NORMAL}
+use Rattle.nosgrivel_c.specs.Delivery.{IsAnswer, IsChecked, IsDelivered, IsDelivery, IsJudged, c_too_long}
+use Rattle.nosgrivel_c.specs.Calls.{ChecksNormal, JudgesNormal, WritesInPlace, WritesNormal}
 
--- an error that is answered by a refusal
-refuses_none : {X V A : Type 0} (G : Grammar V) (given : V → A) (view : X → A) (bytes : List ℕ) (error : ReadError) (old new status : ℕ)
-    → ((v : V) → G bytes v → IsOrMemory view (given v) (Err error)) → TellsRefusal error old new status → status ≡ REFUSED → EncodesSome G bytes → ⊥
-refuses_none G given view bytes (errors.Refused at) old new status complete r s some = complete some.0 some.1
-refuses_none G given view bytes errors.Memory old new status complete r s some = absurd (omega (arith, r.0, s))
+module _ {V : Type 0} (F : Format V) (Minimal : Grammar V) (IsPrefix : List ℕ → Type 0) (input : List ℕ) where
+  -- the longest prefix has the length that was reported
+  at_count : (at count : ℕ) → count ≡ at → IsLongestPrefix IsPrefix input at → IsLongestPrefix IsPrefix input count
+  at_count at count is longest = subst (λ (len : ℕ). IsLongestPrefix IsPrefix input len) (sym is) longest
 
--- by a call that writes
-pub delivered_none : {X V : Type 0} (G : Grammar V) (encoding_of : V → List ℕ) (view : X → List ℕ) (bytes : List ℕ) (result : Result X ReadError) (old new : List ℕ) (before count status : ℕ)
-    → ((v : V) → G bytes v → IsOrMemory view (encoding_of v) result) → IsDelivered view result old new before count status → status ≡ REFUSED → EncodesSome G bytes → ⊥
-delivered_none G encoding_of view bytes (Ok x) old new before count status complete d s some = elim d.1 [ inl w ↦ omega (arith, w.0, s) | inr w ↦ omega (arith, w.0, s) ]
-delivered_none G encoding_of view bytes (Err error) old new before count status complete d s some = refuses_none G encoding_of view bytes error before count status complete d.0 s some
+  pub writes_normal : (result : Result (Vec ℕ) ReadError) (old new : List ℕ) (before count status : ℕ) → Normalises F Minimal IsPrefix input result → IsDelivered (λ encoding. encoding.items) result old new before count status
+      → WritesNormal F IsPrefix input old new before count status
+  writes_normal (Ok encoding) old new before count status n (len, inl (is, fits, output)) = record {
+    written = λ s. record { encoding = encoding.items; normal = n.given; len = len; fits = fits; output = output };
+    refused = λ s. absurd (omega (arith, is, s));
+    encodes_none = λ s some. omega (arith, is, s);
+    too_long = λ s. absurd (omega (arith, is, s));
+    room = λ le s. omega (arith, is, s);
+    unchanged = λ s. absurd (s is);
+    no_memory = λ s. absurd (omega (arith, is, s));
+    status = inl is;
+  }
+  writes_normal (Ok encoding) old new before count status n (len, inr (is, long, same)) = record {
+    written = λ s. absurd (omega (arith, is, s));
+    refused = λ s. absurd (omega (arith, is, s));
+    encodes_none = λ s some. omega (arith, is, s);
+    too_long = λ s. record { encoding = encoding.items; normal = n.given; len = len; long = long };
+    room = λ le s. omega (arith, le, long, len, n.no_longer);
+    unchanged = λ s. same;
+    no_memory = λ s. absurd (omega (arith, is, s));
+    status = inr (inr (inr is));
+  }
+  writes_normal (Err (errors.Refused at)) old new before count status n ((is, told), same) = record {
+    written = λ s. absurd (omega (arith, is, s));
+    refused = λ s. at_count at count told n.prefix;
+    encodes_none = λ s some. n.unencoded some.0 some.1;
+    too_long = λ s. absurd (omega (arith, is, s));
+    room = λ le s. omega (arith, is, s);
+    unchanged = λ s. same;
+    no_memory = λ s. absurd (omega (arith, is, s));
+    status = inr (inl is);
+  }
+  writes_normal (Err errors.Memory) old new before count status n ((is, told), same) = record {
+    written = λ s. absurd (omega (arith, is, s));
+    refused = λ s. absurd (omega (arith, is, s));
+    encodes_none = λ s some. omega (arith, is, s);
+    too_long = λ s. absurd (omega (arith, is, s));
+    room = λ le s. omega (arith, is, s);
+    unchanged = λ s. same;
+    no_memory = λ s. told;
+    status = inr (inr (inl is));
+  }
 
--- by one that judges
-pub judged_none : {X V : Type 0} (G : Grammar V) (encoding_of : V → List ℕ) (view : X → List ℕ) (bytes : List ℕ) (result : Result X ReadError) (before count status : ℕ)
-    → ((v : V) → G bytes v → IsOrMemory view (encoding_of v) result) → IsJudged view result (length bytes) before count status → status ≡ REFUSED → EncodesSome G bytes → ⊥
-judged_none G encoding_of view bytes (Ok x) before count status complete d s some = elim d.1 [ inl w ↦ omega (arith, w.0, s) | inr w ↦ omega (arith, w.0, s) ]
-judged_none G encoding_of view bytes (Err error) before count status complete d s some = refuses_none G encoding_of view bytes error before count status complete d s some
+  fits : (status : ℕ) → IsDelivery status → (status ≡ c_too_long → ⊥) → IsAnswer status
+  fits status (inl normal) never = inl normal
+  fits status (inr (inl refused)) never = inr (inl refused)
+  fits status (inr (inr (inl memory))) never = inr (inr memory)
+  fits status (inr (inr (inr long))) never = absurd (never long)
 
--- by one that checks
-pub checked_none : {X V : Type 0} (G : Grammar V) (bytes : List ℕ) (result : Result X ReadError) (before count status : ℕ)
-    → IfRefused result (λ _. (v : V) → G bytes v → ⊥) → IsChecked result (length bytes) before count status → status ≡ REFUSED → EncodesSome G bytes → ⊥
-checked_none G bytes (Ok x) before count status none d s some = absurd (omega (arith, d.0, s))
-checked_none G bytes (Err (errors.Refused at)) before count status none d s some = none some.0 some.1
-checked_none G bytes (Err errors.Memory) before count status none d s some = absurd (omega (arith, d.0, s))
+  pub writes_in_place : (result : Result (Vec ℕ) ReadError) (new : List ℕ) (before count status : ℕ) → Normalises F Minimal IsPrefix input result → IsDelivered (λ encoding. encoding.items) result input new before count status
+      → WritesInPlace F IsPrefix input new before count status
+  writes_in_place result new before count status n delivered =
+      let writes = writes_normal result input new before count status n delivered in
+      record {
+        written = writes.written;
+        refused = writes.refused;
+        encodes_none = writes.encodes_none;
+        unchanged = writes.unchanged;
+        no_memory = writes.no_memory;
+        status = fits status writes.status (writes.room (omega arith));
+      }
+
+  pub judges_normal : (result : Result (Vec ℕ) ReadError) (before count status : ℕ) → Normalises F Minimal IsPrefix input result → IsJudged (λ encoding. encoding.items) result (length input) before count status
+      → JudgesNormal F IsPrefix input before count status
+  judges_normal (Ok encoding) before count status n (len, inl (is, whole)) = record {
+    normal = λ s. elim (n.shortest n.given.value n.given.encoded) [
+      | inl same ↦ record { value = n.given.value; encoded = n.given.encoded; is_shortest = same }
+      | inr longer ↦ absurd (omega (arith, longer, len, whole, subst (λ (t : List ℕ). length encoding.items ≡ length t) n.given.is_shortest refl))
+    ];
+    len = λ s. whole;
+    shorter = λ s. absurd (omega (arith, is, s));
+    refused = λ s. absurd (omega (arith, is, s));
+    encodes_none = λ s some. omega (arith, is, s);
+    no_memory = λ s. absurd (omega (arith, is, s));
+    status = inl is;
+  }
+  judges_normal (Ok encoding) before count status n (len, inr (is, other)) = record {
+    normal = λ s. absurd (omega (arith, is, s));
+    len = λ s. absurd (omega (arith, is, s));
+    shorter = λ s. record { encoding = encoding.items; normal = n.given; len = len; short = omega (arith, len, other, n.no_longer) };
+    refused = λ s. absurd (omega (arith, is, s));
+    encodes_none = λ s some. omega (arith, is, s);
+    no_memory = λ s. absurd (omega (arith, is, s));
+    status = inr (inr (inl is));
+  }
+  judges_normal (Err (errors.Refused at)) before count status n (is, told) = record {
+    normal = λ s. absurd (omega (arith, is, s));
+    len = λ s. absurd (omega (arith, is, s));
+    shorter = λ s. absurd (omega (arith, is, s));
+    refused = λ s. at_count at count told n.prefix;
+    encodes_none = λ s some. n.unencoded some.0 some.1;
+    no_memory = λ s. absurd (omega (arith, is, s));
+    status = inr (inl is);
+  }
+  judges_normal (Err errors.Memory) before count status n (is, told) = record {
+    normal = λ s. absurd (omega (arith, is, s));
+    len = λ s. absurd (omega (arith, is, s));
+    shorter = λ s. absurd (omega (arith, is, s));
+    refused = λ s. absurd (omega (arith, is, s));
+    encodes_none = λ s some. omega (arith, is, s);
+    no_memory = λ s. told;
+    status = inr (inr (inr is));
+  }
+
+  pub checks_normal : (result : Result (Unit {0}) ReadError) (before count status : ℕ) → Checks F Minimal IsPrefix input result → IsChecked result (length input) before count status → ChecksNormal Minimal IsPrefix input before count status
+  checks_normal (Ok x) before count status c (is, whole) = record {
+    normal = λ s. c.given;
+    len = λ s. whole;
+    refused = λ s. absurd (omega (arith, is, s));
+    encodes_none = λ s some. omega (arith, is, s);
+    no_memory = λ s. absurd (omega (arith, is, s));
+    status = inl is;
+  }
+  checks_normal (Err (errors.Refused at)) before count status c (is, told) = record {
+    normal = λ s. absurd (omega (arith, is, s));
+    len = λ s. absurd (omega (arith, is, s));
+    refused = λ s. at_count at count told c.prefix;
+    encodes_none = λ s some. c.unencoded some.0 some.1;
+    no_memory = λ s. absurd (omega (arith, is, s));
+    status = inr (inl is);
+  }
+  checks_normal (Err errors.Memory) before count status c (is, told) = record {
+    normal = λ s. absurd (omega (arith, is, s));
+    len = λ s. absurd (omega (arith, is, s));
+    refused = λ s. absurd (omega (arith, is, s));
+    encodes_none = λ s some. omega (arith, is, s);
+    no_memory = λ s. told;
+    status = inr (inr is);
+  }

@@ -1,10 +1,7 @@
 //! Canonical forms of modules (Core 3.0, Modules). Every section is decoded.
-ghost use Rattle.std.specs.Prelude.{◌≡◌, ◌≤◌, ◌≢◌, length};
-ghost use Rattle.wasm_codec.specs.Outcomes.{IsLongestPrefix, IsNormalForm, EncodesSome};
 ghost use Rattle.wasm_modules.specs.Modules.{IsModulePrefixOf};
 ghost use Rattle.wasm_sections.specs.formats.ModuleSections.{module_section, whole_module};
-ghost use Rattle.nosgrivel_c.specs.Delivery.{BeginsWithNormal, IsOutputTooShort, IsDelivery, IsAnswer};
-ghost use Rattle.nosgrivel_c.specs.declared.delivery.TheConstants.{NORMAL, REFUSED, NO_MEMORY, TOO_LONG};
+ghost use Rattle.nosgrivel_c.specs.Calls.{WritesInPlace, WritesNormal};
 
 use crate::delivery::deliver;
 use std::alloc::Global;
@@ -23,23 +20,7 @@ pub extern "C" fn nosgrivel_canonicalise(
     output: &mut [u8],
     count: &mut usize,
 ) -> u32
-    // The output begins with the canonical form of the input, and the count is its length.
-    ensures written { result ≡ NORMAL →
-        BeginsWithNormal (IsNormalForm whole_module.Encodes whole_module.bytes input.now) output.old output.new count.new }
-    // Only a malformed input is refused, and the count is the length of the longest prefix that decodes.
-    ensures refused { result ≡ REFUSED → IsLongestPrefix (IsModulePrefixOf module_section) input.now count.new }
-    ensures encodes_none { result ≡ REFUSED → EncodesSome whole_module.Encodes input.now → ⊥ }
-    // The canonical form is longer than the output, and the count is its length.
-    ensures too_long { result ≡ TOO_LONG →
-        IsOutputTooShort (IsNormalForm whole_module.Encodes whole_module.bytes input.now) output.old count.new }
-    // The output is never too short if it is as long as the input.
-    ensures room { length input.now ≤ length output.old → result ≢ TOO_LONG }
-    // Unless the status is `NORMAL`, the output is unchanged.
-    ensures unchanged { result ≢ NORMAL → output.new ≡ output.old }
-    // If memory ran out, the count is unchanged.
-    ensures no_memory { result ≡ NO_MEMORY → count.new ≡ count.old }
-    // No other status is returned.
-    ensures status { IsDelivery result }
+    ensures writes { WritesNormal whole_module (IsModulePrefixOf module_section) input.now output.old output.new count.old count.new result }
 {
     deliver(normalise_whole_module(alloc, input), output, count)
 }
@@ -53,18 +34,7 @@ pub extern "C" fn nosgrivel_canonicalise_in_place(
     bytes: &mut [u8],
     count: &mut usize,
 ) -> u32
-    // The bytes begin with their canonical form, and the count is its length.
-    ensures written { result ≡ NORMAL →
-        BeginsWithNormal (IsNormalForm whole_module.Encodes whole_module.bytes bytes.old) bytes.old bytes.new count.new }
-    // Only a malformed input is refused, and the count is the length of the longest prefix that decodes.
-    ensures refused { result ≡ REFUSED → IsLongestPrefix (IsModulePrefixOf module_section) bytes.old count.new }
-    ensures encodes_none { result ≡ REFUSED → EncodesSome whole_module.Encodes bytes.old → ⊥ }
-    // Unless the status is `NORMAL`, the bytes are unchanged.
-    ensures unchanged { result ≢ NORMAL → bytes.new ≡ bytes.old }
-    // If memory ran out, the count is unchanged.
-    ensures no_memory { result ≡ NO_MEMORY → count.new ≡ count.old }
-    // No other status is returned: the canonical form fits.
-    ensures status { IsAnswer result }
+    ensures writes { WritesInPlace whole_module (IsModulePrefixOf module_section) bytes.old bytes.new count.old count.new result }
 {
     let canonical = normalise_whole_module(alloc, bytes);
     deliver(canonical, bytes, count)

@@ -1,9 +1,6 @@
 //! Bodies of code sections (Core 3.0, Code Section).
-ghost use Rattle.std.specs.Prelude.{◌≡◌, ◌≤◌, ◌≢◌, length};
-ghost use Rattle.wasm_codec.specs.Outcomes.{IsLongestPrefix, IsNormalForm, EncodesSome};
 ghost use Rattle.wasm_modules.specs.formats.CodeBodies.{code_section_body, IsCodeSectionBodyPrefix, ShortestCodeSectionBody, IsShortestCodeSectionBodyPrefix};
-ghost use Rattle.nosgrivel_c.specs.Delivery.{BeginsWithNormal, IsOutputTooShort, IsShorter, IsDelivery, IsAnswer, IsJudgement};
-ghost use Rattle.nosgrivel_c.specs.declared.delivery.TheConstants.{NORMAL, REFUSED, NOT_NORMAL, NO_MEMORY, TOO_LONG};
+ghost use Rattle.nosgrivel_c.specs.Calls.{ChecksNormal, JudgesNormal, WritesInPlace, WritesNormal};
 
 use crate::delivery::{answer, deliver, judge};
 use std::alloc::Global;
@@ -20,23 +17,7 @@ pub extern "C" fn nosgrivel_normalise_code_section(
     output: &mut [u8],
     count: &mut usize,
 ) -> u32
-    // The output begins with the minimal encoding of the input, and the count is its length.
-    ensures written { result ≡ NORMAL → BeginsWithNormal
-        (IsNormalForm code_section_body.Encodes code_section_body.bytes input.now) output.old output.new count.new }
-    // Only a malformed input is refused, and the count is the length of the longest prefix that decodes.
-    ensures refused { result ≡ REFUSED → IsLongestPrefix IsCodeSectionBodyPrefix input.now count.new }
-    ensures encodes_none { result ≡ REFUSED → EncodesSome code_section_body.Encodes input.now → ⊥ }
-    // The minimal encoding is longer than the output, and the count is its length.
-    ensures too_long { result ≡ TOO_LONG →
-        IsOutputTooShort (IsNormalForm code_section_body.Encodes code_section_body.bytes input.now) output.old count.new }
-    // The output is never too short if it is as long as the input.
-    ensures room { length input.now ≤ length output.old → result ≢ TOO_LONG }
-    // Unless the status is `NORMAL`, the output is unchanged.
-    ensures unchanged { result ≢ NORMAL → output.new ≡ output.old }
-    // If memory ran out, the count is unchanged.
-    ensures no_memory { result ≡ NO_MEMORY → count.new ≡ count.old }
-    // No other status is returned.
-    ensures status { IsDelivery result }
+    ensures writes { WritesNormal code_section_body IsCodeSectionBodyPrefix input.now output.old output.new count.old count.new result }
 {
     deliver(normalise_code_section(alloc, input), output, count)
 }
@@ -50,18 +31,7 @@ pub extern "C" fn nosgrivel_normalise_code_section_in_place(
     bytes: &mut [u8],
     count: &mut usize,
 ) -> u32
-    // The bytes begin with their minimal encoding, and the count is its length.
-    ensures written { result ≡ NORMAL → BeginsWithNormal
-        (IsNormalForm code_section_body.Encodes code_section_body.bytes bytes.old) bytes.old bytes.new count.new }
-    // Only a malformed input is refused, and the count is the length of the longest prefix that decodes.
-    ensures refused { result ≡ REFUSED → IsLongestPrefix IsCodeSectionBodyPrefix bytes.old count.new }
-    ensures encodes_none { result ≡ REFUSED → EncodesSome code_section_body.Encodes bytes.old → ⊥ }
-    // Unless the status is `NORMAL`, the bytes are unchanged.
-    ensures unchanged { result ≢ NORMAL → bytes.new ≡ bytes.old }
-    // If memory ran out, the count is unchanged.
-    ensures no_memory { result ≡ NO_MEMORY → count.new ≡ count.old }
-    // No other status is returned: the minimal encoding fits.
-    ensures status { IsAnswer result }
+    ensures writes { WritesInPlace code_section_body IsCodeSectionBodyPrefix bytes.old bytes.new count.old count.new result }
 {
     let normal = normalise_code_section(alloc, bytes);
     deliver(normal, bytes, count)
@@ -74,20 +44,7 @@ pub extern "C" fn nosgrivel_judge_code_section(
     input: &[u8],
     count: &mut usize,
 ) -> u32
-    // The input is its own minimal encoding, and the count is its length.
-    ensures normal { result ≡ NORMAL →
-        IsNormalForm code_section_body.Encodes code_section_body.bytes input.now input.now }
-    ensures len { result ≡ NORMAL → count.new ≡ length input.now }
-    // The minimal encoding is shorter than the input, and the count is its length.
-    ensures shorter { result ≡ NOT_NORMAL →
-        IsShorter (IsNormalForm code_section_body.Encodes code_section_body.bytes input.now) input.now count.new }
-    // Only a malformed input is refused, and the count is the length of the longest prefix that decodes.
-    ensures refused { result ≡ REFUSED → IsLongestPrefix IsCodeSectionBodyPrefix input.now count.new }
-    ensures encodes_none { result ≡ REFUSED → EncodesSome code_section_body.Encodes input.now → ⊥ }
-    // If memory ran out, the count is unchanged.
-    ensures no_memory { result ≡ NO_MEMORY → count.new ≡ count.old }
-    // No other status is returned.
-    ensures status { IsJudgement result }
+    ensures judges { JudgesNormal code_section_body IsCodeSectionBodyPrefix input.now count.old count.new result }
 {
     judge(normalise_code_section(alloc, input), input, count)
 }
@@ -101,16 +58,7 @@ pub extern "C" fn nosgrivel_check_code_section(
     input: &[u8],
     count: &mut usize,
 ) -> u32
-    // The input is the minimal encoding of a list, and the count is its length.
-    ensures normal { result ≡ NORMAL → EncodesSome ShortestCodeSectionBody input.now }
-    ensures len { result ≡ NORMAL → count.new ≡ length input.now }
-    // Any other input is refused, and the count is the length of the longest prefix that is minimally encoded.
-    ensures refused { result ≡ REFUSED → IsLongestPrefix IsShortestCodeSectionBodyPrefix input.now count.new }
-    ensures encodes_none { result ≡ REFUSED → EncodesSome ShortestCodeSectionBody input.now → ⊥ }
-    // If memory ran out, the count is unchanged.
-    ensures no_memory { result ≡ NO_MEMORY → count.new ≡ count.old }
-    // No other status is returned.
-    ensures status { IsAnswer result }
+    ensures checks { ChecksNormal ShortestCodeSectionBody IsShortestCodeSectionBodyPrefix input.now count.old count.new result }
 {
     answer(check_code_section(alloc, input), input, count)
 }

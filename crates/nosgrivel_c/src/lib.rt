@@ -11,7 +11,7 @@
 //! Each call takes pointers and lengths for its input and its output, and a pointer to a count. It returns a status. No
 //! pointer may be null, even if its length is 0, and no two of them may overlap. `bindings/c/nosgrivel.h` lists all that
 //! a caller owes.
-#![tactic(auto)]
+#![tactic(auto, using(crate::proofs::DeliveryLaws::writes_normal, crate::proofs::DeliveryLaws::writes_in_place, crate::proofs::DeliveryLaws::judges_normal, crate::proofs::DeliveryLaws::checks_normal))]
 
 pub mod canonical;
 pub mod code_section;

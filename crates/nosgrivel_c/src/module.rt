@@ -1,11 +1,8 @@
 //! Modules (Core 3.0, Modules). The bodies of sections other than type and code sections are not decoded.
-ghost use Rattle.std.specs.Prelude.{◌≡◌, ◌≤◌, ◌≢◌, length};
-ghost use Rattle.wasm_codec.specs.Outcomes.{IsLongestPrefix, IsNormalForm, EncodesSome};
 ghost use Rattle.wasm_modules.specs.formats.Modules.{typed_module, ShortestModule};
 ghost use Rattle.wasm_modules.specs.TypedModules.{IsTypedModulePrefix};
 ghost use Rattle.wasm_modules.specs.Modules.{IsShortestModulePrefix};
-ghost use Rattle.nosgrivel_c.specs.Delivery.{BeginsWithNormal, IsOutputTooShort, IsShorter, IsDelivery, IsAnswer, IsJudgement};
-ghost use Rattle.nosgrivel_c.specs.declared.delivery.TheConstants.{NORMAL, REFUSED, NOT_NORMAL, NO_MEMORY, TOO_LONG};
+ghost use Rattle.nosgrivel_c.specs.Calls.{ChecksNormal, JudgesNormal, WritesInPlace, WritesNormal};
 
 use crate::delivery::{answer, deliver, judge};
 use std::alloc::Global;
@@ -24,23 +21,7 @@ pub extern "C" fn nosgrivel_normalise_module(
     output: &mut [u8],
     count: &mut usize,
 ) -> u32
-    // The output begins with the minimal encoding of the input, and the count is its length.
-    ensures written { result ≡ NORMAL →
-        BeginsWithNormal (IsNormalForm typed_module.Encodes typed_module.bytes input.now) output.old output.new count.new }
-    // Only a malformed input is refused, and the count is the length of the longest prefix that decodes.
-    ensures refused { result ≡ REFUSED → IsLongestPrefix IsTypedModulePrefix input.now count.new }
-    ensures encodes_none { result ≡ REFUSED → EncodesSome typed_module.Encodes input.now → ⊥ }
-    // The minimal encoding is longer than the output, and the count is its length.
-    ensures too_long { result ≡ TOO_LONG →
-        IsOutputTooShort (IsNormalForm typed_module.Encodes typed_module.bytes input.now) output.old count.new }
-    // The output is never too short if it is as long as the input.
-    ensures room { length input.now ≤ length output.old → result ≢ TOO_LONG }
-    // Unless the status is `NORMAL`, the output is unchanged.
-    ensures unchanged { result ≢ NORMAL → output.new ≡ output.old }
-    // If memory ran out, the count is unchanged.
-    ensures no_memory { result ≡ NO_MEMORY → count.new ≡ count.old }
-    // No other status is returned.
-    ensures status { IsDelivery result }
+    ensures writes { WritesNormal typed_module IsTypedModulePrefix input.now output.old output.new count.old count.new result }
 {
     deliver(normalise_module(alloc, input), output, count)
 }
@@ -54,18 +35,7 @@ pub extern "C" fn nosgrivel_normalise_module_in_place(
     bytes: &mut [u8],
     count: &mut usize,
 ) -> u32
-    // The bytes begin with their minimal encoding, and the count is its length.
-    ensures written { result ≡ NORMAL →
-        BeginsWithNormal (IsNormalForm typed_module.Encodes typed_module.bytes bytes.old) bytes.old bytes.new count.new }
-    // Only a malformed input is refused, and the count is the length of the longest prefix that decodes.
-    ensures refused { result ≡ REFUSED → IsLongestPrefix IsTypedModulePrefix bytes.old count.new }
-    ensures encodes_none { result ≡ REFUSED → EncodesSome typed_module.Encodes bytes.old → ⊥ }
-    // Unless the status is `NORMAL`, the bytes are unchanged.
-    ensures unchanged { result ≢ NORMAL → bytes.new ≡ bytes.old }
-    // If memory ran out, the count is unchanged.
-    ensures no_memory { result ≡ NO_MEMORY → count.new ≡ count.old }
-    // No other status is returned: the minimal encoding fits.
-    ensures status { IsAnswer result }
+    ensures writes { WritesInPlace typed_module IsTypedModulePrefix bytes.old bytes.new count.old count.new result }
 {
     let normal = normalise_module(alloc, bytes);
     deliver(normal, bytes, count)
@@ -74,19 +44,7 @@ pub extern "C" fn nosgrivel_normalise_module_in_place(
 /// Checks whether a module is minimally encoded, and returns the length of its minimal encoding.
 #[unsafe(no_mangle)]
 pub extern "C" fn nosgrivel_judge_module(alloc: Global, input: &[u8], count: &mut usize) -> u32
-    // The input is its own minimal encoding, and the count is its length.
-    ensures normal { result ≡ NORMAL → IsNormalForm typed_module.Encodes typed_module.bytes input.now input.now }
-    ensures len { result ≡ NORMAL → count.new ≡ length input.now }
-    // The minimal encoding is shorter than the input, and the count is its length.
-    ensures shorter { result ≡ NOT_NORMAL →
-        IsShorter (IsNormalForm typed_module.Encodes typed_module.bytes input.now) input.now count.new }
-    // Only a malformed input is refused, and the count is the length of the longest prefix that decodes.
-    ensures refused { result ≡ REFUSED → IsLongestPrefix IsTypedModulePrefix input.now count.new }
-    ensures encodes_none { result ≡ REFUSED → EncodesSome typed_module.Encodes input.now → ⊥ }
-    // If memory ran out, the count is unchanged.
-    ensures no_memory { result ≡ NO_MEMORY → count.new ≡ count.old }
-    // No other status is returned.
-    ensures status { IsJudgement result }
+    ensures judges { JudgesNormal typed_module IsTypedModulePrefix input.now count.old count.new result }
 {
     judge(normalise_module(alloc, input), input, count)
 }
@@ -97,16 +55,7 @@ pub extern "C" fn nosgrivel_judge_module(alloc: Global, input: &[u8], count: &mu
 /// copies the input.
 #[unsafe(no_mangle)]
 pub extern "C" fn nosgrivel_check_module(alloc: Global, input: &[u8], count: &mut usize) -> u32
-    // The input is the minimal encoding of a list of sections, and the count is its length.
-    ensures normal { result ≡ NORMAL → EncodesSome ShortestModule input.now }
-    ensures len { result ≡ NORMAL → count.new ≡ length input.now }
-    // Any other input is refused, and the count is the length of the longest prefix that is minimally encoded.
-    ensures refused { result ≡ REFUSED → IsLongestPrefix IsShortestModulePrefix input.now count.new }
-    ensures encodes_none { result ≡ REFUSED → EncodesSome ShortestModule input.now → ⊥ }
-    // If memory ran out, the count is unchanged.
-    ensures no_memory { result ≡ NO_MEMORY → count.new ≡ count.old }
-    // No other status is returned.
-    ensures status { IsAnswer result }
+    ensures checks { ChecksNormal ShortestModule IsShortestModulePrefix input.now count.old count.new result }
 {
     answer(check_module(alloc, input), input, count)
 }

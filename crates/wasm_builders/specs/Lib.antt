@@ -1,1 +1,5 @@
+pub mod SectionKinds
 pub mod ListSections
+pub mod ElementSections
+pub mod Making
+pub mod Numbers

@@ -1,11 +1,11 @@
 //! Constant expressions (Core 3.0, Expressions).
 ghost use Rattle.std.specs.Prelude.{◌≡◌, ◌∷◌, [], IfOk, IfErr, IsOk, ◌↔◌};
-ghost use Rattle.wasm_codec.specs.declared.encode.EncodeError.TheVariants.{Memory};
 ghost use Rattle.wasm_instructions.specs.formats.Instructions.{call};
 ghost use Rattle.wasm_instructions.specs.formats.Opcodes.{without_prefix};
-ghost use Rattle.wasm_instructions.specs.Instructions.{IsCall, IsAligned};
+ghost use Rattle.wasm_instructions.specs.Instructions.{IsAligned, IsCall};
 ghost use Rattle.wasm_instructions.specs.declared.table.call.Operands.TheVariants as operands;
 ghost use Rattle.wasm_sections.specs.Closed.{IsClosed};
+ghost use Rattle.wasm_builders.specs.Making.{Makes};
 
 use std::alloc::Global;
 use std::marker::Model;
@@ -47,6 +47,7 @@ impl Model for ConstExpr {
     ghost invariant = { λ expr. IsClosed expr.calls };
 }
 
+#[tactic(auto, using(crate::proofs::ExprLaws::alone_closed), unfolding(wasm_instructions::specs::formats::Opcodes::ranges))]
 impl ConstExpr {
     /// Makes an expression of `calls`. Returns `calls` as the error if they leave a block open or close more than they
     /// open.
@@ -72,97 +73,64 @@ impl ConstExpr {
     }
 
     /// Makes the expression `i32.const value`. Fails with `Memory` if it can't allocate.
-    #[tactic(auto, using(crate::proofs::ExprLaws::alone_closed))]
     pub fn i32_const(alloc: Global, value: i32) -> Result<ConstExpr, EncodeError>
-        ensures ok { IfOk result (λ expr. expr ≡ call (without_prefix 0x41) (operands.I32 value) ∷ []) }
-        ensures err { IfErr result (λ e. e ≡ Memory) }
+        ensures makes { Makes (call (without_prefix 0x41) (operands.I32 value) ∷ []) result }
     {
-        ConstExpr::of(
-            alloc,
-            Call::from_parts(Opcode::without_prefix(0x41), Operands::I32(value)),
-        )
+        ConstExpr::of(alloc, 0x41, Operands::I32(value))
     }
 
     /// Makes the expression `i64.const value`. Fails with `Memory` if it can't allocate.
-    #[tactic(auto, using(crate::proofs::ExprLaws::alone_closed))]
     pub fn i64_const(alloc: Global, value: i64) -> Result<ConstExpr, EncodeError>
-        ensures ok { IfOk result (λ expr. expr ≡ call (without_prefix 0x42) (operands.I64 value) ∷ []) }
-        ensures err { IfErr result (λ e. e ≡ Memory) }
+        ensures makes { Makes (call (without_prefix 0x42) (operands.I64 value) ∷ []) result }
     {
-        ConstExpr::of(
-            alloc,
-            Call::from_parts(Opcode::without_prefix(0x42), Operands::I64(value)),
-        )
+        ConstExpr::of(alloc, 0x42, Operands::I64(value))
     }
 
     /// Makes the expression `f32.const value`. Fails with `Memory` if it can't allocate.
-    #[tactic(auto, using(crate::proofs::ExprLaws::alone_closed))]
     pub fn f32_const(alloc: Global, value: Ieee32) -> Result<ConstExpr, EncodeError>
-        ensures ok { IfOk result (λ expr. expr ≡ call (without_prefix 0x43) (operands.F32 value) ∷ []) }
-        ensures err { IfErr result (λ e. e ≡ Memory) }
+        ensures makes { Makes (call (without_prefix 0x43) (operands.F32 value) ∷ []) result }
     {
-        ConstExpr::of(
-            alloc,
-            Call::from_parts(Opcode::without_prefix(0x43), Operands::F32(value)),
-        )
+        ConstExpr::of(alloc, 0x43, Operands::F32(value))
     }
 
     /// Makes the expression `f64.const value`. Fails with `Memory` if it can't allocate.
-    #[tactic(auto, using(crate::proofs::ExprLaws::alone_closed))]
     pub fn f64_const(alloc: Global, value: Ieee64) -> Result<ConstExpr, EncodeError>
-        ensures ok { IfOk result (λ expr. expr ≡ call (without_prefix 0x44) (operands.F64 value) ∷ []) }
-        ensures err { IfErr result (λ e. e ≡ Memory) }
+        ensures makes { Makes (call (without_prefix 0x44) (operands.F64 value) ∷ []) result }
     {
-        ConstExpr::of(
-            alloc,
-            Call::from_parts(Opcode::without_prefix(0x44), Operands::F64(value)),
-        )
+        ConstExpr::of(alloc, 0x44, Operands::F64(value))
     }
 
     /// Makes the expression `global.get index`, with a global index. Fails with `Memory` if it can't allocate.
-    #[tactic(auto, using(crate::proofs::ExprLaws::alone_closed))]
     pub fn global_get(alloc: Global, index: u32) -> Result<ConstExpr, EncodeError>
-        ensures ok { IfOk result (λ expr. expr ≡ call (without_prefix 0x23) (operands.Index index) ∷ []) }
-        ensures err { IfErr result (λ e. e ≡ Memory) }
+        ensures makes { Makes (call (without_prefix 0x23) (operands.Index index) ∷ []) result }
     {
-        ConstExpr::of(
-            alloc,
-            Call::from_parts(Opcode::without_prefix(0x23), Operands::Index(index)),
-        )
+        ConstExpr::of(alloc, 0x23, Operands::Index(index))
     }
 
     /// Makes the expression `ref.null ty`. Fails with `Memory` if it can't allocate.
-    #[tactic(auto, using(crate::proofs::ExprLaws::alone_closed))]
     pub fn ref_null(alloc: Global, ty: HeapType) -> Result<ConstExpr, EncodeError>
-        ensures ok { IfOk result (λ expr. expr ≡ call (without_prefix 0xd0) (operands.Heap ty) ∷ []) }
-        ensures err { IfErr result (λ e. e ≡ Memory) }
+        ensures makes { Makes (call (without_prefix 0xd0) (operands.Heap ty) ∷ []) result }
     {
-        ConstExpr::of(
-            alloc,
-            Call::from_parts(Opcode::without_prefix(0xD0), Operands::Heap(ty)),
-        )
+        ConstExpr::of(alloc, 0xD0, Operands::Heap(ty))
     }
 
     /// Makes the expression `ref.func index`, with a function index. Fails with `Memory` if it can't allocate.
-    #[tactic(auto, using(crate::proofs::ExprLaws::alone_closed))]
     pub fn ref_func(alloc: Global, index: u32) -> Result<ConstExpr, EncodeError>
-        ensures ok { IfOk result (λ expr. expr ≡ call (without_prefix 0xd2) (operands.Index index) ∷ []) }
-        ensures err { IfErr result (λ e. e ≡ Memory) }
+        ensures makes { Makes (call (without_prefix 0xd2) (operands.Index index) ∷ []) result }
     {
-        ConstExpr::of(
-            alloc,
-            Call::from_parts(Opcode::without_prefix(0xD2), Operands::Index(index)),
-        )
+        ConstExpr::of(alloc, 0xD2, Operands::Index(index))
     }
 
     /// Makes an expression of one instruction. Fails with `Memory` if it can't allocate.
-    fn of(alloc: Global, call: Call) -> Result<ConstExpr, EncodeError>
-        requires { IsClosed (call ∷ []) }
-        ensures ok { IfOk result (λ expr. expr ≡ call ∷ []) }
-        ensures err { IfErr result (λ e. e ≡ Memory) }
+    #[tactic(auto)]
+    fn of(alloc: Global, number: u8, immediates: Operands) -> Result<ConstExpr, EncodeError>
+        requires call { IsCall (without_prefix number) immediates }
+        requires aligned { IsAligned immediates }
+        requires closed { IsClosed (call (without_prefix number) immediates ∷ []) }
+        ensures makes { Makes (call (without_prefix number) immediates ∷ []) result }
     {
         let mut calls = Vec::new(alloc);
-        calls.push(call)?;
+        calls.push(Call::from_parts(Opcode::without_prefix(number), immediates))?;
         Ok(ConstExpr {
             calls: Items::from(calls),
         })

@@ -1,16 +1,10 @@
 //! The data section (Core 3.0, Data Section).
-ghost use Rattle.std.specs.Prelude.{◌≡◌, ◌⊎◌, ⊤, OnOk, OnErr, IfErr, length};
-ghost use Rattle.wasm_codec.specs.Encoding.{IsShortest};
-ghost use Rattle.wasm_codec.specs.Lawful.{IsLawful};
-ghost use Rattle.wasm_sections.specs.formats.ModuleSectionParts.{data_segments};
-ghost use Rattle.wasm_sections.specs.declared.data.DataSegment.{DataSegment};
+ghost use Rattle.std.specs.Prelude.{◌≡◌};
+ghost use Rattle.wasm_builders.specs.SectionKinds.{data_section};
 ghost use Rattle.wasm_sections.specs.Closed.{IsClosedData, IsCountedData};
 ghost use Rattle.wasm_sections.specs.formats.EntryParts.{DataParts, data_parts};
-ghost use Rattle.wasm_codec.specs.formats.Combinators.{items};
-ghost use Rattle.wasm_sections.specs.SectionBytes.{IsBodyOf};
-ghost use Rattle.wasm_sections.specs.formats.Segments.{active_data, passive_data, data_segment};
-ghost use Rattle.wasm_writers.specs.EncodedLists.{IsFull, IsMemoryOrTooLong};
-ghost use Rattle.wasm_builders.specs.ListSections.{GainsItem};
+ghost use Rattle.wasm_sections.specs.formats.Segments.{active_data, passive_data};
+ghost use Rattle.wasm_builders.specs.ListSections.{AddsCounted, LawfulIf};
 
 use crate::const_expr::ConstExpr;
 use crate::list_section::{ListSection, SectionItem, add};
@@ -37,13 +31,9 @@ impl<'a> SectionItem for DataSegment<'a> {
 
     ghost view = { data_parts };
 
-    ghost format = { data_segment };
+    ghost section = { data_section };
 
     ghost Fits = { λ segment. IsClosedData segment.mode };
-
-    ghost id = { 11 };
-
-    ghost holding = { data_segments };
 
     fn section_id() -> u8
         ensures { result ≡ 11 }
@@ -52,34 +42,26 @@ impl<'a> SectionItem for DataSegment<'a> {
     }
 
     #[inline(always)]
-    #[tactic(auto, using(wasm_sections::proofs::SegmentLaws::data_is_lawful))]
+    #[tactic(auto, using(crate::proofs::ItemLaws::data_lawful))]
     fn is_lawful()
-        ensures lawful { IsLawful data_segment }
-        ensures bytes { (item : DataSegment) → data_segment.bytes (data_parts item) ≡ data_segment.bytes (data_parts item) }
-        ensures written { (item : DataSegment) →
-            (IsClosedData item.mode → IsShortest data_segment.Encodes data_segment.bytes (data_parts item)) →
-            IsClosedData item.mode → IsShortest data_segment.Encodes data_segment.bytes (data_parts item) }
-        ensures body { IsBodyOf 11 data_segments (items data_segment) }
+        ensures lawful { LawfulIf data_parts data_section (λ segment. IsClosedData segment.mode) }
     {}
 }
 
+#[tactic(auto, using(crate::proofs::ItemLaws::adds_counted))]
 impl<'a> ListSection<DataSegment<'a>> {
     /// Adds an active segment: instantiating the module copies `bytes` into the memory `memory_index`, from address
     /// `offset` on. The encoding omits memory 0, which is shorter.
     ///
     /// Fails with `TooLong` if the section already has 4,294,967,295 segments, `bytes` is longer than 4,294,967,295
     /// bytes, or a list in an instruction of `offset` has more items than that.
-    #[tactic(auto, using(crate::proofs::ItemLaws::cannot_be_written))]
     pub fn active(
         &mut self,
         memory_index: u32,
         offset: ConstExpr,
         bytes: &[u8],
     ) -> Result<(), EncodeError>
-        ensures ok { OnOk result (GainsItem data_segment self.old (active_data memory_index (offset, bytes.now)) self.new) }
-        ensures err { OnErr result (self.new ≡ self.old) }
-        ensures refused { IfErr result (IsMemoryOrTooLong (IsFull self.old ⊎
-            (IsCountedData (active_data memory_index (offset, bytes.now)) → ⊥))) }
+        ensures adds { AddsCounted data_section IsCountedData self.old (active_data memory_index (offset, bytes.now)) self.new result }
     {
         let mode = DataSegmentMode::Active {
             memory_index,
@@ -92,12 +74,8 @@ impl<'a> ListSection<DataSegment<'a>> {
     ///
     /// Fails with `TooLong` if the section already has 4,294,967,295 segments or `bytes` is longer than 4,294,967,295
     /// bytes.
-    #[tactic(auto, using(crate::proofs::ItemLaws::cannot_be_written))]
     pub fn passive(&mut self, bytes: &[u8]) -> Result<(), EncodeError>
-        ensures ok { OnOk result (GainsItem data_segment self.old (passive_data bytes.now) self.new) }
-        ensures err { OnErr result (self.new ≡ self.old) }
-        ensures refused { IfErr result (IsMemoryOrTooLong (IsFull self.old ⊎
-            (IsCountedData (passive_data bytes.now) → ⊥))) }
+        ensures adds { AddsCounted data_section IsCountedData self.old (passive_data bytes.now) self.new result }
     {
         let mode = DataSegmentMode::Passive;
         add(&mut self.items, &DataSegment { mode, bytes })

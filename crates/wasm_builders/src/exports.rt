@@ -1,15 +1,9 @@
 //! The export section (Core 3.0, Export Section).
-ghost use Rattle.std.specs.Prelude.{◌≡◌, ⊤, OnOk, OnErr, IfErr, ◌⊎◌, length};
-ghost use Rattle.wasm_codec.specs.Encoding.{IsShortest};
-ghost use Rattle.wasm_codec.specs.Lawful.{IsLawful};
-ghost use Rattle.wasm_sections.specs.formats.ModuleSectionParts.{exports};
-ghost use Rattle.wasm_sections.specs.declared.exports.Export.{Export};
+ghost use Rattle.std.specs.Prelude.{◌≡◌, length};
+ghost use Rattle.wasm_builders.specs.SectionKinds.{export_section};
 ghost use Rattle.wasm_sections.specs.formats.EntryParts.{ExportParts, export_parts};
-ghost use Rattle.wasm_codec.specs.formats.Combinators.{items};
-ghost use Rattle.wasm_sections.specs.SectionBytes.{IsBodyOf};
-ghost use Rattle.wasm_sections.specs.formats.Entries.{export_of, export_entry};
-ghost use Rattle.wasm_writers.specs.EncodedLists.{IsFull, IsMemoryOrTooLong, IsUncounted};
-ghost use Rattle.wasm_builders.specs.ListSections.{GainsItem};
+ghost use Rattle.wasm_sections.specs.formats.Entries.{export_of};
+ghost use Rattle.wasm_builders.specs.ListSections.{AddsOr, IsUncounted, LawfulEntry};
 
 use crate::list_section::{ListSection, SectionItem, add};
 use wasm_sections::exports::Export;
@@ -46,11 +40,7 @@ impl<'a> SectionItem for Export<'a> {
 
     ghost view = { export_parts };
 
-    ghost format = { export_entry };
-
-    ghost id = { 7 };
-
-    ghost holding = { exports };
+    ghost section = { export_section };
 
     fn section_id() -> u8
         ensures { result ≡ 7 }
@@ -59,13 +49,9 @@ impl<'a> SectionItem for Export<'a> {
     }
 
     #[inline(always)]
-    #[tactic(auto, using(wasm_sections::proofs::EntryLaws::export_is_lawful))]
+    #[tactic(auto, using(crate::proofs::ItemLaws::exports_lawful))]
     fn is_lawful()
-        ensures lawful { IsLawful export_entry }
-        ensures bytes { (item : Export) → export_entry.bytes (export_parts item) ≡ export_entry.bytes (export_parts item) }
-        ensures written { (item : Export) → IsShortest export_entry.Encodes export_entry.bytes (export_parts item) → ⊤ →
-            IsShortest export_entry.Encodes export_entry.bytes (export_parts item) }
-        ensures body { IsBodyOf 7 exports (items export_entry) }
+        ensures lawful { LawfulEntry export_parts export_section }
     {}
 }
 
@@ -74,11 +60,9 @@ impl<'a> ListSection<Export<'a>> {
     ///
     /// Fails with `TooLong` if the section already has 4,294,967,295 exports or `name` is longer than 4,294,967,295
     /// bytes.
-    #[tactic(auto, using(crate::proofs::ItemLaws::named_refused))]
+    #[tactic(auto, using(crate::proofs::ItemLaws::adds_named))]
     pub fn export(&mut self, name: &str, kind: ExportKind, index: u32) -> Result<(), EncodeError>
-        ensures ok { OnOk result (GainsItem export_entry self.old (export_of (name.now, (kind, index))) self.new) }
-        ensures err { OnErr result (self.new ≡ self.old) }
-        ensures refused { IfErr result (IsMemoryOrTooLong (IsFull self.old ⊎ IsUncounted (length name.now))) }
+        ensures adds { AddsOr export_section (IsUncounted (length name.now)) self.old (export_of (name.now, (kind, index))) self.new result }
     {
         add(&mut self.items, &Export { name, kind, index })
     }

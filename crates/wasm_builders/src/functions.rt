@@ -1,9 +1,6 @@
 //! The function section (Core 3.0, Function Section).
-ghost use Rattle.std.specs.Prelude.{◌≡◌, ℕ, OnOk, OnErr, IfErr, refl};
-ghost use Rattle.wasm_codec.specs.formats.Combinators.{u32 as u32_format};
-ghost use Rattle.wasm_sections.specs.formats.ModuleSectionParts.{functions};
-ghost use Rattle.wasm_writers.specs.EncodedLists.{IsFull, IsMemoryOrTooLong};
-ghost use Rattle.wasm_builders.specs.ListSections.{GainsItem};
+ghost use Rattle.wasm_builders.specs.SectionKinds.{function_section};
+ghost use Rattle.wasm_builders.specs.ListSections.{AddsItem};
 
 use crate::list_section::{ListSection, SectionItem};
 use wasm_writers::encode::EncodeError;
@@ -24,22 +21,16 @@ use wasm_writers::encode::EncodeError;
 pub type FunctionSection = ListSection<u32>;
 
 impl SectionItem for u32 {
-    ghost Value = { ℕ };
-
     ghost view = { λ index. index };
 
-    ghost format = { u32_format };
-
-    ghost id = { 3 };
-
-    ghost holding = { functions };
+    ghost section = { function_section };
 
     fn section_id() -> u8 {
         3
     }
 
     #[inline(always)]
-    #[tactic(auto, using(crate::proofs::ItemLaws::index_is_lawful))]
+    #[tactic(auto, using(crate::proofs::ItemLaws::functions_lawful))]
     fn is_lawful() {}
 }
 
@@ -48,9 +39,7 @@ impl ListSection<u32> {
     ///
     /// Fails with `TooLong` if the section already has 4,294,967,295 functions.
     pub fn function(&mut self, type_index: u32) -> Result<(), EncodeError>
-        ensures ok { OnOk result (GainsItem u32_format self.old type_index self.new) }
-        ensures err { OnErr result (self.new ≡ self.old) }
-        ensures refused { IfErr result (IsMemoryOrTooLong (IsFull self.old)) }
+        ensures adds { AddsItem function_section self.old type_index self.new result }
     {
         self.push(&type_index)
     }

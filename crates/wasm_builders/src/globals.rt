@@ -1,11 +1,8 @@
 //! The global section (Core 3.0, Global Section).
-ghost use Rattle.std.specs.Prelude.{◌≡◌, ◌⊎◌, OnOk, OnErr, IfErr};
-ghost use Rattle.wasm_sections.specs.formats.ModuleSectionParts.{globals};
-ghost use Rattle.wasm_sections.specs.declared.globals.Global.{Global};
-ghost use Rattle.wasm_sections.specs.Closed.{IsClosedGlobal, IsCountedExpr};
-ghost use Rattle.wasm_sections.specs.formats.Entries.{global_of, global_entry};
-ghost use Rattle.wasm_writers.specs.EncodedLists.{IsFull, IsMemoryOrTooLong};
-ghost use Rattle.wasm_builders.specs.ListSections.{GainsItem};
+ghost use Rattle.wasm_builders.specs.SectionKinds.{global_section};
+ghost use Rattle.wasm_sections.specs.Closed.{IsClosedGlobal, IsCountedGlobal};
+ghost use Rattle.wasm_sections.specs.formats.Entries.{global_of};
+ghost use Rattle.wasm_builders.specs.ListSections.{AddsCounted};
 
 use crate::const_expr::ConstExpr;
 use crate::list_section::{ListSection, SectionItem};
@@ -29,24 +26,18 @@ use wasm_writers::encode::EncodeError;
 pub type GlobalSection = ListSection<Global>;
 
 impl SectionItem for Global {
-    ghost Value = { Global };
-
     ghost view = { λ item. item };
 
-    ghost format = { global_entry };
+    ghost section = { global_section };
 
     ghost Fits = { IsClosedGlobal };
-
-    ghost id = { 6 };
-
-    ghost holding = { globals };
 
     fn section_id() -> u8 {
         6
     }
 
     #[inline(always)]
-    #[tactic(auto, using(wasm_sections::proofs::EntryLaws::global_is_lawful))]
+    #[tactic(auto, using(crate::proofs::ItemLaws::globals_lawful))]
     fn is_lawful() {}
 }
 
@@ -55,11 +46,8 @@ impl ListSection<Global> {
     ///
     /// Fails with `TooLong` if the section already has 4,294,967,295 globals or a list in an instruction of `init` has
     /// more than 4,294,967,295 items.
-    #[tactic(auto, using(crate::proofs::ItemLaws::cannot_be_written))]
     pub fn global(&mut self, ty: GlobalType, init: ConstExpr) -> Result<(), EncodeError>
-        ensures ok { OnOk result (GainsItem global_entry self.old (global_of (ty, init)) self.new) }
-        ensures err { OnErr result (self.new ≡ self.old) }
-        ensures refused { IfErr result (IsMemoryOrTooLong (IsFull self.old ⊎ (IsCountedExpr init → ⊥))) }
+        ensures adds { AddsCounted global_section IsCountedGlobal self.old (global_of (ty, init)) self.new result }
     {
         let init = init.into_calls();
         self.push(&Global { ty, init })

@@ -1,15 +1,9 @@
 //! The import section (Core 3.0, Import Section).
-ghost use Rattle.std.specs.Prelude.{◌≡◌, ⊤, OnOk, OnErr, IfErr, ◌⊎◌, length};
-ghost use Rattle.wasm_codec.specs.Encoding.{IsShortest};
-ghost use Rattle.wasm_codec.specs.Lawful.{IsLawful};
-ghost use Rattle.wasm_sections.specs.formats.ModuleSectionParts.{imports};
-ghost use Rattle.wasm_sections.specs.declared.imports.Import.{Import};
+ghost use Rattle.std.specs.Prelude.{◌≡◌, ◌⊎◌, length};
+ghost use Rattle.wasm_builders.specs.SectionKinds.{import_section};
 ghost use Rattle.wasm_sections.specs.formats.EntryParts.{ImportParts, import_parts};
-ghost use Rattle.wasm_codec.specs.formats.Combinators.{items};
-ghost use Rattle.wasm_sections.specs.SectionBytes.{IsBodyOf};
-ghost use Rattle.wasm_sections.specs.formats.Entries.{import_of, import_entry};
-ghost use Rattle.wasm_writers.specs.EncodedLists.{IsFull, IsMemoryOrTooLong, IsUncounted};
-ghost use Rattle.wasm_builders.specs.ListSections.{GainsItem};
+ghost use Rattle.wasm_sections.specs.formats.Entries.{import_of};
+ghost use Rattle.wasm_builders.specs.ListSections.{AddsOr, IsUncounted, LawfulEntry};
 
 use crate::list_section::{ListSection, SectionItem, add};
 use wasm_sections::imports::Import;
@@ -35,11 +29,7 @@ impl<'a> SectionItem for Import<'a> {
 
     ghost view = { import_parts };
 
-    ghost format = { import_entry };
-
-    ghost id = { 2 };
-
-    ghost holding = { imports };
+    ghost section = { import_section };
 
     fn section_id() -> u8
         ensures { result ≡ 2 }
@@ -48,13 +38,9 @@ impl<'a> SectionItem for Import<'a> {
     }
 
     #[inline(always)]
-    #[tactic(auto, using(wasm_sections::proofs::EntryLaws::import_is_lawful))]
+    #[tactic(auto, using(crate::proofs::ItemLaws::imports_lawful))]
     fn is_lawful()
-        ensures lawful { IsLawful import_entry }
-        ensures bytes { (item : Import) → import_entry.bytes (import_parts item) ≡ import_entry.bytes (import_parts item) }
-        ensures written { (item : Import) → IsShortest import_entry.Encodes import_entry.bytes (import_parts item) → ⊤ →
-            IsShortest import_entry.Encodes import_entry.bytes (import_parts item) }
-        ensures body { IsBodyOf 2 imports (items import_entry) }
+        ensures lawful { LawfulEntry import_parts import_section }
     {}
 }
 
@@ -63,17 +49,15 @@ impl<'a> ListSection<Import<'a>> {
     ///
     /// Fails with `TooLong` if the section already has 4,294,967,295 imports or a name is longer than 4,294,967,295
     /// bytes.
-    #[tactic(auto, using(crate::proofs::ItemLaws::twice_named_refused))]
+    #[tactic(auto, using(crate::proofs::ItemLaws::adds_twice_named))]
     pub fn import(
         &mut self,
         module_name: &str,
         field: &str,
         ty: EntityType,
     ) -> Result<(), EncodeError>
-        ensures ok { OnOk result (GainsItem import_entry self.old (import_of (module_name.now, (field.now, ty))) self.new) }
-        ensures err { OnErr result (self.new ≡ self.old) }
-        ensures refused { IfErr result (IsMemoryOrTooLong (IsFull self.old ⊎
-            (IsUncounted (length module_name.now) ⊎ IsUncounted (length field.now)))) }
+        ensures adds { AddsOr import_section (IsUncounted (length module_name.now) ⊎ IsUncounted (length field.now))
+            self.old (import_of (module_name.now, (field.now, ty))) self.new result }
     {
         add(
             &mut self.items,

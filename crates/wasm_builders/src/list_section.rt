@@ -1,14 +1,12 @@
 //! The builder of a section that is a list, over any kind of item (Core 3.0, Lists).
-ghost use Rattle.std.specs.Prelude.{◌≡◌, ◌++◌, ◌+◌, ◌^◌, ◌≤◌, ◌↔◌, ℕ, List, [], OnOk, OnErr, IfOk, IfErr, IsErrOf, IsTrue, ⊤, length, map, true};
-ghost use Rattle.std.specs.List.{All, flat_map};
-ghost use Rattle.wasm_codec.specs.Encoding.{byte_list_bytes, IsRefusal, IsShortest, IsShortestOrLonger, OnlyTooLong};
-ghost use Rattle.wasm_codec.specs.Lawful.{IsLawful, IsLawfulBody};
-ghost use Rattle.wasm_codec.specs.formats.Combinators.{Format, items};
-ghost use Rattle.wasm_codec.specs.declared.encode.EncodeError.TheVariants.{Memory, TooLong};
-ghost use Rattle.wasm_sections.specs.formats.ModuleSectionParts.{ModuleSectionParts};
-ghost use Rattle.wasm_sections.specs.SectionBytes.{IsBodyOf};
-ghost use Rattle.wasm_writers.specs.EncodedLists.{EncodedItems, CountedSection, IsRefusalOfOne, IsRefusalOfEach, body_bytes};
-ghost use Rattle.wasm_builders.specs.ListSections.{StandsForItems, GainsItem, GainsItems, HoldsItems, IsSectionOfItems};
+ghost use Rattle.std.specs.Prelude.{◌≡◌, ◌↔◌, List, [], IsTrue, ⊤, true};
+ghost use Rattle.wasm_codec.specs.Encoding.{byte_list_bytes, OnlyTooLong};
+ghost use Rattle.wasm_codec.specs.Lawful.{IsLawfulBody};
+ghost use Rattle.wasm_codec.specs.formats.Combinators.{items};
+ghost use Rattle.wasm_writers.specs.EncodedLists.{CountedSection, IsRefusalOfOne, IsRefusalOfEach, body_bytes};
+ghost use Rattle.wasm_builders.specs.SectionKinds.{SectionOf};
+ghost use Rattle.wasm_builders.specs.ListSections.{StandsForItems, AddsIf, AddsEachIf, EncodesItems, IsWrittenList, LawfulItem};
+ghost use Rattle.wasm_builders.specs.Making.{Makes};
 ghost use Rattle.wasm_codec.specs.Decoding.{ChecksAll, RewritesAll, IsMinimal};
 ghost use Rattle.wasm_codec.specs.Outcomes.{NeedsNoMemory};
 ghost use Rattle.wasm_codec.specs.Lists.{ListMinimalIf, IsListPrefix, IsListPrefixMinimalIf};
@@ -42,35 +40,26 @@ use wasm_writers::encoded_list::EncodedList;
 /// assert_eq!(rt; bytes.as_slice(), b"\x05\x01\x01f\x00\x00".as_slice());
 /// ```
 pub trait SectionItem: Encode {
-    /// The value that an item encodes: the item itself, unless it borrows.
-    ghost Value: { Type 0 };
+    /// The value that an item encodes. By default the item itself.
+    ghost Value: { Type 0 } = { Self };
 
     /// The value that this item encodes.
     ghost view: { Self → Value };
 
-    /// The format of items: which bytes encode which value.
-    ghost format: { Format Value };
+    /// The section: its id, the format of its items, and the decoded section that holds them.
+    ghost section: { SectionOf Value };
 
     /// What an item needs to have an encoding, besides having been written. By default nothing.
     ghost Fits: { Self → Type 0 } = { λ _. ⊤ };
 
-    /// The id of the section.
-    ghost id: { ℕ };
-
-    /// The decoded section that holds these items.
-    ghost holding: { List Value → ModuleSectionParts };
-
     /// Returns the id of the section.
     fn section_id() -> u8
-        ensures { result ≡ id };
+        ensures { result ≡ section.id };
 
     /// Proves that items are written in their minimal encoding and that a section of this id holds a list of items.
     /// Does nothing when it runs.
     fn is_lawful()
-        ensures lawful { IsLawful format }
-        ensures bytes { (item : Self) → Self.bytes item ≡ format.bytes (view item) }
-        ensures written { (item : Self) → Self.IsWritten item → Fits item → IsShortest format.Encodes format.bytes (view item) }
-        ensures body { IsBodyOf id holding (items format) };
+        ensures lawful { LawfulItem Self.bytes Self.IsWritten Fits view section };
 }
 
 /// A section that is a list: you add items, and it keeps them encoded.
@@ -107,7 +96,7 @@ impl<T: SectionItem> Model for ListSection<T> {
 impl<T: SectionItem> ListSection<T> {
     /// Returns a section without items. Allocates nothing.
     pub fn new(alloc: Global) -> ListSection<T>
-        ensures { StandsForItems T.format result [] }
+        ensures { StandsForItems T.section.format result [] }
     {
         ListSection {
             items: EncodedList::new(alloc),
@@ -131,8 +120,7 @@ impl<T: SectionItem> ListSection<T> {
 
     /// Copies the section. Fails with `Memory` if it can't allocate.
     pub fn try_clone(&self) -> Result<ListSection<T>, EncodeError>
-        ensures ok { IfOk result (λ section. section ≡ self.now) }
-        ensures err { IfErr result (λ e. e ≡ Memory) }
+        ensures makes { Makes self.now result }
     {
         let items = self.items.try_clone()?;
         Ok(ListSection {
@@ -146,12 +134,8 @@ impl<T: SectionItem> ListSection<T> {
     /// Fails with `TooLong` if the section already has 4,294,967,295 items or a list, a name or bytes in the item are
     /// longer than 4,294,967,295.
     pub fn push(&mut self, item: &T) -> Result<(), EncodeError>
-        ensures count { OnOk result (self.new.count ≡ self.old.count + 1) }
-        ensures bytes { OnOk result (self.new.bytes ≡ self.old.bytes ++ T.format.bytes (T.view item.now)) }
-        // If the item has an encoding, the section encodes the item too.
-        ensures ok { OnOk result (T.Fits item.now → GainsItem T.format self.old (T.view item.now) self.new) }
-        ensures err { OnErr result (self.new ≡ self.old) }
-        ensures refused { IfErr result (IsRefusalOfOne T.CanEncode T.refuses self.old item.now) }
+        ensures adds { AddsIf T.section.format (T.Fits item.now) self.old (T.view item.now) self.new
+            (IsRefusalOfOne T.CanEncode T.refuses self.old item.now) result }
     {
         add(&mut self.items, item)
     }
@@ -161,13 +145,8 @@ impl<T: SectionItem> ListSection<T> {
     /// Fails with `TooLong` if the section would have more than 4,294,967,295 items, before it encodes any, or if a
     /// list, a name or bytes in an item are longer than 4,294,967,295.
     pub fn entries(&mut self, items: &[T]) -> Result<(), EncodeError>
-        ensures count { OnOk result (self.new.count ≡ self.old.count + length items.now) }
-        ensures bytes { OnOk result (self.new.bytes ≡ self.old.bytes ++ flat_map T.format.bytes (map T.view items.now)) }
-        // If the items have encodings, the section encodes the items too.
-        ensures ok { OnOk result (All T.Fits items.now → GainsItems T.format self.old (map T.view items.now) self.new) }
-        ensures err { OnErr result (self.new ≡ self.old) }
-        ensures refused { IfErr result (IsRefusalOfEach T.CanEncode T.refuses self.old items.now) }
-        ensures too_many { 2 ^ 32 ≤ self.old.count + length items.now → IsErrOf result EncodeError.TooLong }
+        ensures adds { AddsEachIf T.section.format T.view T.Fits self.old items.now self.new
+            (IsRefusalOfEach T.CanEncode T.refuses self.old items.now) result }
     {
         T::is_lawful();
         self.items.add_all(items)
@@ -221,12 +200,10 @@ impl<'a, T: SectionItem + Readable<'a>> Decode<'a> for ListSection<T> {
 }
 
 /// Adds an item to a list of encoded items. On error the list is unchanged.
+#[tactic(auto, using(crate::proofs::ListSectionLaws::adds_one))]
 pub(crate) fn add<T: SectionItem>(list: &mut EncodedList, item: &T) -> Result<(), EncodeError>
-    ensures count { OnOk result (list.new.count ≡ list.old.count + 1) }
-    ensures bytes { OnOk result (list.new.bytes ≡ list.old.bytes ++ T.format.bytes (T.view item.now)) }
-    ensures ok { OnOk result (T.Fits item.now → GainsItem T.format list.old (T.view item.now) list.new) }
-    ensures err { OnErr result (list.new ≡ list.old) }
-    ensures refused { IfErr result (IsRefusalOfOne T.CanEncode T.refuses list.old item.now) }
+    ensures adds { AddsIf T.section.format (T.Fits item.now) list.old (T.view item.now) list.new
+        (IsRefusalOfOne T.CanEncode T.refuses list.old item.now) result }
 {
     T::is_lawful();
     list.add(item)
@@ -238,28 +215,14 @@ pub(crate) fn add<T: SectionItem>(list: &mut EncodedList, item: &T) -> Result<()
 impl<T: SectionItem> Encode for ListSection<T> {
     ghost bytes = { λ section. byte_list_bytes (body_bytes section) };
 
-    ghost IsWritten = { λ section. HoldsItems T.format section × IsSectionOfItems T.format T.id T.holding section };
+    ghost IsWritten = { IsWrittenList T.section };
 
     ghost CanEncode = { CountedSection };
 
     ghost refuses = { OnlyTooLong };
 
     fn encode<A: Allocator>(&self, sink: &mut Vec<u8, A>) -> Result<(), EncodeError>
-        ensures ok { OnOk result (sink.new.items ≡ sink.old.items ++ byte_list_bytes (body_bytes self.now)) }
-        ensures can { OnOk result (CountedSection self.now) }
-        // The body encodes the items. With the id it is the minimal encoding of a section that holds them.
-        ensures written { OnOk result (HoldsItems T.format self.now × IsSectionOfItems T.format T.id T.holding self.now) }
-        ensures refused { IfErr result (IsRefusal CountedSection OnlyTooLong self.now) }
-        ensures err { OnErr result (sink.new.items ≡ sink.old.items) }
-        // The body is that of the items.
-        ensures is_body { (values : List T.Value) → StandsForItems T.format self.now values →
-            body_bytes self.now ≡ (items T.format).bytes values }
-        // The body encodes the items.
-        ensures encodes { (values : List T.Value) → StandsForItems T.format self.now values →
-            (items T.format).Encodes (body_bytes self.now) values }
-        // Every other encoding of the items is longer.
-        ensures shortest { (values : List T.Value) (bytes : List ℕ) → StandsForItems T.format self.now values →
-            (items T.format).Encodes bytes values → IsShortestOrLonger bytes (body_bytes self.now) }
+        ensures encodes { EncodesItems T.section self.now sink.old.items sink.new.items result }
     {
         T::is_lawful();
         self.items.encode(sink)

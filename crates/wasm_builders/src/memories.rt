@@ -1,10 +1,6 @@
 //! The memory section (Core 3.0, Memory Section).
-ghost use Rattle.std.specs.Prelude.{◌≡◌, OnOk, OnErr, IfErr};
-ghost use Rattle.wasm_sections.specs.formats.ModuleSectionParts.{memories};
-ghost use Rattle.wasm_sections.specs.declared.types.MemoryType.{MemoryType};
-ghost use Rattle.wasm_sections.specs.formats.Externals.{memory_type};
-ghost use Rattle.wasm_writers.specs.EncodedLists.{IsFull, IsMemoryOrTooLong};
-ghost use Rattle.wasm_builders.specs.ListSections.{GainsItem};
+ghost use Rattle.wasm_builders.specs.SectionKinds.{memory_section};
+ghost use Rattle.wasm_builders.specs.ListSections.{AddsItem};
 
 use crate::list_section::{ListSection, SectionItem};
 use wasm_sections::types::MemoryType;
@@ -27,22 +23,16 @@ use wasm_writers::encode::EncodeError;
 pub type MemorySection = ListSection<MemoryType>;
 
 impl SectionItem for MemoryType {
-    ghost Value = { MemoryType };
-
     ghost view = { λ ty. ty };
 
-    ghost format = { memory_type };
-
-    ghost id = { 5 };
-
-    ghost holding = { memories };
+    ghost section = { memory_section };
 
     fn section_id() -> u8 {
         5
     }
 
     #[inline(always)]
-    #[tactic(auto, using(wasm_sections::proofs::EntryLaws::memory_is_lawful))]
+    #[tactic(auto, using(crate::proofs::ItemLaws::memories_lawful))]
     fn is_lawful() {}
 }
 
@@ -51,9 +41,7 @@ impl ListSection<MemoryType> {
     ///
     /// Fails with `TooLong` if the section already has 4,294,967,295 memories.
     pub fn memory(&mut self, ty: MemoryType) -> Result<(), EncodeError>
-        ensures ok { OnOk result (GainsItem memory_type self.old ty self.new) }
-        ensures err { OnErr result (self.new ≡ self.old) }
-        ensures refused { IfErr result (IsMemoryOrTooLong (IsFull self.old)) }
+        ensures adds { AddsItem memory_section self.old ty self.new result }
     {
         self.push(&ty)
     }

@@ -1,16 +1,16 @@
 //! Sections that are one number (Core 3.0, Start Section and Data Count Section).
 ghost use Rattle.std.specs.Prelude.{◌≡◌, ◌++◌, OnOk, IfErr, OnErr, ℕ, ⊤};
-ghost use Rattle.wasm_codec.specs.Encoding.{byte_list_bytes, IsShortest};
+ghost use Rattle.wasm_codec.specs.Encoding.{byte_list_bytes};
 ghost use Rattle.wasm_codec.specs.Leb128.{unsigned_leb128};
 ghost use Rattle.wasm_codec.specs.declared.encode.EncodeError.TheVariants.{Memory};
 ghost use Rattle.wasm_sections.specs.formats.ModuleSectionParts.{data_count, start};
-ghost use Rattle.wasm_sections.specs.SectionBytes.{IsSectionAfter};
 ghost use Rattle.wasm_sections.specs.formats.Sections.{start_body, data_count_body};
 ghost use Rattle.wasm_codec.specs.Decoding.{ChecksAll, RewritesAll, IsMinimal};
 ghost use Rattle.wasm_codec.specs.Lawful.{IsLawfulBody};
 ghost use Rattle.wasm_codec.specs.Outcomes.{NeedsNoMemory};
 ghost use Rattle.wasm_codec.specs.formats.Combinators.{minimal_only};
 ghost use Rattle.wasm_sections.specs.Prefixes.{IsNothingOr};
+ghost use Rattle.wasm_builders.specs.Numbers.{IsWrittenNumber};
 
 use std::alloc::{Allocator, Global};
 use wasm_codec::decode::Decode;
@@ -57,8 +57,7 @@ pub struct DataCountSection {
 impl Encode for StartSection {
     ghost bytes = { λ section. byte_list_bytes (start_body.bytes section.function_index) };
 
-    ghost IsWritten = { λ section. IsShortest start_body.Encodes start_body.bytes section.function_index ×
-        IsSectionAfter 8 (byte_list_bytes (start_body.bytes section.function_index)) (start section.function_index) };
+    ghost IsWritten = { λ section. IsWrittenNumber start_body 8 start section.function_index };
 
     fn encode<A: Allocator>(&self, sink: &mut Vec<u8, A>) -> Result<(), EncodeError> {
         append_number(self.function_index, sink)
@@ -70,8 +69,7 @@ impl Encode for StartSection {
 impl Encode for DataCountSection {
     ghost bytes = { λ section. byte_list_bytes (data_count_body.bytes section.count) };
 
-    ghost IsWritten = { λ section. IsShortest data_count_body.Encodes data_count_body.bytes section.count ×
-        IsSectionAfter 12 (byte_list_bytes (data_count_body.bytes section.count)) (data_count section.count) };
+    ghost IsWritten = { λ section. IsWrittenNumber data_count_body 12 data_count section.count };
 
     fn encode<A: Allocator>(&self, sink: &mut Vec<u8, A>) -> Result<(), EncodeError> {
         append_number(self.count, sink)
@@ -90,7 +88,7 @@ fn append_number<A: Allocator>(number: u32, sink: &mut Vec<u8, A>) -> Result<(),
     Ok(())
 }
 
-#[tactic(auto, unfolding(wasm_sections::specs::formats::Sections::start_body))]
+#[tactic(auto, using(wasm_sections::proofs::ValueReading::number_is_lawful), unfolding(wasm_sections::specs::formats::Sections::start_body))]
 impl<'a> Decode<'a> for StartSection {
     type Output = StartSection;
 
@@ -109,33 +107,26 @@ impl<'a> Decode<'a> for StartSection {
     ghost ReadsInPlace = { ⊤ };
 
     #[inline(always)]
-    #[tactic(auto, using(wasm_sections::proofs::ValueReading::number_is_lawful), unfolding(wasm_sections::specs::formats::Sections::start_body))]
     fn is_lawful()
         ensures lawful { IsLawfulBody start_body }
         ensures minimal { IsMinimal start_body (minimal_only start_body).Encodes }
     {}
 
     fn read_all(_alloc: Global, bytes: &'a [u8]) -> Result<StartSection, ReadError> {
-        match read_number(bytes) {
-            Ok(function_index) => Ok(StartSection { function_index }),
-            Err(error) => Err(error),
-        }
+        let function_index = read_number(bytes)?;
+        Ok(StartSection { function_index })
     }
 
     fn read_all_strict(_alloc: Global, bytes: &'a [u8]) -> Result<StartSection, ReadError> {
-        match read_number_strict(bytes) {
-            Ok(function_index) => Ok(StartSection { function_index }),
-            Err(error) => Err(error),
-        }
+        let function_index = read_number_strict(bytes)?;
+        Ok(StartSection { function_index })
     }
 
     fn check_all(_alloc: Global, bytes: &[u8]) -> Result<(), ReadError>
         ensures checks { ChecksAll (minimal_only start_body).Encodes (IsNothingOr (minimal_only start_body)) bytes.now result }
     {
-        match read_number_strict(bytes) {
-            Ok(_) => Ok(()),
-            Err(error) => Err(error),
-        }
+        read_number_strict(bytes)?;
+        Ok(())
     }
 
     fn rewrite_all(bytes: Vec<u8>) -> Result<Vec<u8>, ReadError>
@@ -146,7 +137,7 @@ impl<'a> Decode<'a> for StartSection {
     }
 }
 
-#[tactic(auto, unfolding(wasm_sections::specs::formats::Sections::data_count_body))]
+#[tactic(auto, using(wasm_sections::proofs::ValueReading::number_is_lawful), unfolding(wasm_sections::specs::formats::Sections::data_count_body))]
 impl<'a> Decode<'a> for DataCountSection {
     type Output = DataCountSection;
 
@@ -165,33 +156,26 @@ impl<'a> Decode<'a> for DataCountSection {
     ghost ReadsInPlace = { ⊤ };
 
     #[inline(always)]
-    #[tactic(auto, using(wasm_sections::proofs::ValueReading::number_is_lawful), unfolding(wasm_sections::specs::formats::Sections::data_count_body))]
     fn is_lawful()
         ensures lawful { IsLawfulBody data_count_body }
         ensures minimal { IsMinimal data_count_body (minimal_only data_count_body).Encodes }
     {}
 
     fn read_all(_alloc: Global, bytes: &'a [u8]) -> Result<DataCountSection, ReadError> {
-        match read_number(bytes) {
-            Ok(count) => Ok(DataCountSection { count }),
-            Err(error) => Err(error),
-        }
+        let count = read_number(bytes)?;
+        Ok(DataCountSection { count })
     }
 
     fn read_all_strict(_alloc: Global, bytes: &'a [u8]) -> Result<DataCountSection, ReadError> {
-        match read_number_strict(bytes) {
-            Ok(count) => Ok(DataCountSection { count }),
-            Err(error) => Err(error),
-        }
+        let count = read_number_strict(bytes)?;
+        Ok(DataCountSection { count })
     }
 
     fn check_all(_alloc: Global, bytes: &[u8]) -> Result<(), ReadError>
         ensures checks { ChecksAll (minimal_only data_count_body).Encodes (IsNothingOr (minimal_only data_count_body)) bytes.now result }
     {
-        match read_number_strict(bytes) {
-            Ok(_) => Ok(()),
-            Err(error) => Err(error),
-        }
+        read_number_strict(bytes)?;
+        Ok(())
     }
 
     fn rewrite_all(bytes: Vec<u8>) -> Result<Vec<u8>, ReadError>

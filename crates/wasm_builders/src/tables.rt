@@ -1,11 +1,8 @@
 //! The table section (Core 3.0, Table Section).
-ghost use Rattle.std.specs.Prelude.{◌≡◌, ◌⊎◌, OnOk, OnErr, IfErr};
-ghost use Rattle.wasm_sections.specs.formats.ModuleSectionParts.{tables};
-ghost use Rattle.wasm_sections.specs.declared.tables.Table.{Table};
-ghost use Rattle.wasm_sections.specs.Closed.{IsClosedTable, IsCountedExpr};
-ghost use Rattle.wasm_sections.specs.formats.Entries.{filled_of, unfilled, table_entry};
-ghost use Rattle.wasm_writers.specs.EncodedLists.{IsFull, IsMemoryOrTooLong};
-ghost use Rattle.wasm_builders.specs.ListSections.{GainsItem};
+ghost use Rattle.wasm_builders.specs.SectionKinds.{table_section};
+ghost use Rattle.wasm_sections.specs.Closed.{IsClosedTable, IsCountedTable};
+ghost use Rattle.wasm_sections.specs.formats.Entries.{filled_of, unfilled};
+ghost use Rattle.wasm_builders.specs.ListSections.{AddsItem, AddsCounted};
 
 use crate::const_expr::ConstExpr;
 use crate::list_section::{ListSection, SectionItem};
@@ -31,36 +28,28 @@ use wasm_writers::encode::EncodeError;
 pub type TableSection = ListSection<Table>;
 
 impl SectionItem for Table {
-    ghost Value = { Table };
-
     ghost view = { λ item. item };
 
-    ghost format = { table_entry };
+    ghost section = { table_section };
 
     ghost Fits = { IsClosedTable };
-
-    ghost id = { 4 };
-
-    ghost holding = { tables };
 
     fn section_id() -> u8 {
         4
     }
 
     #[inline(always)]
-    #[tactic(auto, using(wasm_sections::proofs::EntryLaws::table_is_lawful))]
+    #[tactic(auto, using(crate::proofs::ItemLaws::tables_lawful))]
     fn is_lawful() {}
 }
 
+#[tactic(auto, using(crate::proofs::ItemLaws::adds_always))]
 impl ListSection<Table> {
     /// Adds a table without an initializer: its elements start as null.
     ///
     /// Fails with `TooLong` if the section already has 4,294,967,295 tables.
-    #[tactic(auto, using(crate::proofs::ItemLaws::always_counted))]
     pub fn table(&mut self, ty: TableType) -> Result<(), EncodeError>
-        ensures ok { OnOk result (GainsItem table_entry self.old (unfilled ty) self.new) }
-        ensures err { OnErr result (self.new ≡ self.old) }
-        ensures refused { IfErr result (IsMemoryOrTooLong (IsFull self.old)) }
+        ensures adds { AddsItem table_section self.old (unfilled ty) self.new result }
     {
         self.push(&Table { ty, init: None })
     }
@@ -69,11 +58,8 @@ impl ListSection<Table> {
     ///
     /// Fails with `TooLong` if the section already has 4,294,967,295 tables or a list in an instruction of `init` has
     /// more than 4,294,967,295 items.
-    #[tactic(auto, using(crate::proofs::ItemLaws::cannot_be_written))]
     pub fn table_with_init(&mut self, ty: TableType, init: ConstExpr) -> Result<(), EncodeError>
-        ensures ok { OnOk result (GainsItem table_entry self.old (filled_of (ty, init)) self.new) }
-        ensures err { OnErr result (self.new ≡ self.old) }
-        ensures refused { IfErr result (IsMemoryOrTooLong (IsFull self.old ⊎ (IsCountedExpr init → ⊥))) }
+        ensures adds { AddsCounted table_section IsCountedTable self.old (filled_of (ty, init)) self.new result }
     {
         let init = Some(init.into_calls());
         self.push(&Table { ty, init })

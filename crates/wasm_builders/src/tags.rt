@@ -1,10 +1,6 @@
 //! The tag section (Core 3.0, Tag Section).
-ghost use Rattle.std.specs.Prelude.{◌≡◌, OnOk, OnErr, IfErr};
-ghost use Rattle.wasm_sections.specs.formats.ModuleSectionParts.{tags};
-ghost use Rattle.wasm_sections.specs.declared.types.TagType.{TagType};
-ghost use Rattle.wasm_sections.specs.formats.Externals.{tag_type};
-ghost use Rattle.wasm_writers.specs.EncodedLists.{IsFull, IsMemoryOrTooLong};
-ghost use Rattle.wasm_builders.specs.ListSections.{GainsItem};
+ghost use Rattle.wasm_builders.specs.SectionKinds.{tag_section};
+ghost use Rattle.wasm_builders.specs.ListSections.{AddsItem};
 
 use crate::list_section::{ListSection, SectionItem};
 use wasm_sections::types::TagType;
@@ -26,22 +22,16 @@ use wasm_writers::encode::EncodeError;
 pub type TagSection = ListSection<TagType>;
 
 impl SectionItem for TagType {
-    ghost Value = { TagType };
-
     ghost view = { λ ty. ty };
 
-    ghost format = { tag_type };
-
-    ghost id = { 13 };
-
-    ghost holding = { tags };
+    ghost section = { tag_section };
 
     fn section_id() -> u8 {
         13
     }
 
     #[inline(always)]
-    #[tactic(auto, using(wasm_sections::proofs::EntryLaws::tag_is_lawful))]
+    #[tactic(auto, using(crate::proofs::ItemLaws::tags_lawful))]
     fn is_lawful() {}
 }
 
@@ -50,9 +40,7 @@ impl ListSection<TagType> {
     ///
     /// Fails with `TooLong` if the section already has 4,294,967,295 tags.
     pub fn tag(&mut self, ty: TagType) -> Result<(), EncodeError>
-        ensures ok { OnOk result (GainsItem tag_type self.old ty self.new) }
-        ensures err { OnErr result (self.new ≡ self.old) }
-        ensures refused { IfErr result (IsMemoryOrTooLong (IsFull self.old)) }
+        ensures adds { AddsItem tag_section self.old ty self.new result }
     {
         self.push(&ty)
     }

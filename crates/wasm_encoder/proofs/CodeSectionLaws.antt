@@ -1,10 +1,13 @@
 -- The laws of functions and code sections that are being built.
-use Rattle.std.proofs.Common.{◌≡◌, ℕ, ◌+◌, List, [], ◌∷◌, ◌++◌, length, Option, Result, Ok, Err, OnOk, append_assoc, refl, sym, ap, ◌∙◌, subst, lit≤}
-use Rattle.std.specs.List.{All, AllByRecursion, flat_map}
+use Rattle.std.proofs.Common.{◌≡◌, ℕ, ◌+◌, ◌^◌, ◌≤◌, ◌⊎◌, List, [], ◌∷◌, ◌++◌, length, Option, Result, Ok, Err, OnOk, OnErr, IfErr, append_assoc, refl, sym, ap, ◌∙◌, subst, lit≤}
+use Rattle.std.specs.Prelude.{IsErrOf}
+use Rattle.std.specs.List.{All, AllByRecursion, Any, flat_map}
 use Rattle.std.proofs.lemmas.Grind.{flat_map-append}
 use Rattle.std.proofs.lemmas.List.{append-nil}
 use Rattle.wasm_types.specs.declared.types.value.ValType.{ValType}
-use Rattle.wasm_codec.specs.Encoding.{byte_list_bytes, IsCount, IsShortest, IsShortestOrLonger}
+use Rattle.wasm_codec.specs.declared.encode.EncodeError.{EncodeError}
+use Rattle.wasm_codec.specs.declared.encode.EncodeError.TheVariants.{TooLong}
+use Rattle.wasm_codec.specs.Encoding.{byte_list_bytes, IsCount, IsRefusal, IsShortest, OnlyTooLong}
 use Rattle.wasm_codec.specs.formats.Numbers.{EncodesU32}
 use Rattle.wasm_codec.specs.Leb128.{unsigned_leb128}
 use Rattle.wasm_types.specs.formats.Types.{val_type}
@@ -19,11 +22,12 @@ use Rattle.wasm_modules.proofs.CodeBodyLaws.{Lawful-code_body, Lawful-code-secti
 use Rattle.wasm_writers.proofs.CodeBodyWriting.{calls_counted, calls_in_range, locals_in_range, in_range_by_parts}
 use Rattle.wasm_modules.specs.formats.Sections.{typed_section_of, code_bodies, code_section_id}
 use Rattle.wasm_modules.specs.TypedModules.{IsTypedSection}
-use Rattle.wasm_encoder.specs.EncodedLists.{EncodedItems, CountedSection, OfItems, body_bytes}
-use Rattle.wasm_encoder.specs.CodeSections.{FunctionStandsFor, GainsBodies, GainsFunction, GoesOnWith, HoldsBodies, IsCodeSection, StandsForBodies, body_of, followed}
+use Rattle.wasm_encoder.specs.EncodedLists.{Adds, AddsAll, EncodesSection, EncodedItems, CountedSection, IsFull, IsMemoryOrTooLong, IsRefusalOfEach, IsRefusalOfOne, IsUncounted, OfItems, body_bytes}
+use Rattle.wasm_encoder.specs.CodeSections.{FunctionStandsFor, GainsBodies, GainsFunction, GoesOnWith, StandsForBodies, UncountedBody, body_of, followed}
 use Rattle.wasm_sections.specs.formats.ModuleSectionParts.{code}
 use Rattle.wasm_sections.proofs.SectionWriting.{code_section}
-use Rattle.wasm_builders.proofs.ListSectionLaws.{both_written}
+use Rattle.wasm_builders.proofs.ListSectionLaws.{section_encodes as encodes_section}
+use Rattle.wasm_encoder.proofs.RefusalLaws.{bodies_refused, function_refused, if_refused}
 use Rattle.wasm_writers.proofs.EncodedListLaws.{stands_none, stands_one_more, gains_each, body_is, values_in_range, all_in_range}
 
 -- ---- functions
@@ -48,9 +52,14 @@ function_more old new more body is encoded s = record {
   calls_in_range = all_more instruction.InRange body.calls more s.calls_in_range (calls_in_range more encoded);
 }
 
-pub goes_on : {T E : Type 0} (r : Result T E) (old new : List ℕ) (more : List Instruction) → OnOk r (new ≡ old ++ instructions_bytes more) → OnOk r (Instructions (instructions_bytes more) more) → OnOk r (GoesOnWith old more new)
+goes_on : {T E : Type 0} (r : Result T E) (old new : List ℕ) (more : List Instruction) → OnOk r (new ≡ old ++ instructions_bytes more) → OnOk r (Instructions (instructions_bytes more) more) → OnOk r (GoesOnWith old more new)
 goes_on (Ok x) old new more is encoded = record { bytes = is; stands = λ body s. function_more old new more body is encoded s }
 goes_on (Err e) old new more is encoded = tt
+
+pub appends_calls : (was old new : List ℕ) (more : List Instruction) (Refused : EncodeError → Type 0) (r : Result (Unit {0}) EncodeError) → was ≡ old
+    → OnOk r (new ≡ was ++ instructions_bytes more) → OnOk r (Instructions (instructions_bytes more) more) → OnErr r (new ≡ was) → IfErr r Refused → Adds GoesOnWith old more new Refused r
+appends_calls was old new more Refused r same is encoded unchanged refused =
+    subst (λ (function : List ℕ). Adds GoesOnWith function more new Refused r) same (record { gains = goes_on r was new more is encoded; same = unchanged; refused = refused })
 
 -- ---- sections
 
@@ -71,17 +80,36 @@ function_stands : (old new : EncodedItems) (function : List ℕ) (before : List 
 function_stands old new function before body count bytes few s f =
     stands_one_more code_body CountedBody old new before body s count (bytes ∙ ap (λ (t : List ℕ). old.bytes ++ t) (function_is_body function body f)) (body_counted function body f few) (function_in_range function body f few)
 
-pub gains_function : {T E : Type 0} (r : Result T E) (old new : EncodedItems) (function : List ℕ) → OnOk r (new.count ≡ old.count + 1) → OnOk r (new.bytes ≡ old.bytes ++ byte_list_bytes function) → OnOk r (IsCount (length function)) → OnOk r (GainsFunction old function new)
+gains_function : {T E : Type 0} (r : Result T E) (old new : EncodedItems) (function : List ℕ) → OnOk r (new.count ≡ old.count + 1) → OnOk r (new.bytes ≡ old.bytes ++ byte_list_bytes function) → OnOk r (IsCount (length function)) → OnOk r (GainsFunction old function new)
 gains_function (Ok x) old new function count bytes few = record { count = count; bytes = bytes; stands = λ before body s f. function_stands old new function before body count bytes few s f }
 gains_function (Err e) old new function count bytes few = tt
 
-pub gains_bodies : {T E : Type 0} (r : Result T E) (old new : EncodedItems) (more : List CodeBody) → OnOk r (new.count ≡ old.count + length more) → OnOk r (new.bytes ≡ old.bytes ++ flat_map code_body.bytes more) → OnOk r (All CountedBody more) → OnOk r (All (IsShortest code_body.Encodes code_body.bytes) more) → OnOk r (GainsBodies old more new)
+gains_bodies : {T E : Type 0} (r : Result T E) (old new : EncodedItems) (more : List CodeBody) → OnOk r (new.count ≡ old.count + length more) → OnOk r (new.bytes ≡ old.bytes ++ flat_map code_body.bytes more) → OnOk r (All CountedBody more) → OnOk r (All (IsShortest code_body.Encodes code_body.bytes) more) → OnOk r (GainsBodies old more new)
 gains_bodies (Ok x) old new more count bytes can written = gains_each code_body CountedBody old new more count bytes can (all_in_range code_body Lawful-code_body more written)
 gains_bodies (Err e) old new more count bytes can written = tt
 
+pub adds_function : (was old new : EncodedItems) (function : List ℕ) (r : Result (Unit {0}) EncodeError) → was ≡ old → OnOk r (new.count ≡ was.count + 1) → OnOk r (new.bytes ≡ was.bytes ++ byte_list_bytes function) → OnOk r (IsCount (length function)) → OnErr r (new ≡ was)
+    → IfErr r (IsRefusalOfOne (λ (f : List ℕ). IsCount (length f)) OnlyTooLong was function) → Adds GainsFunction old function new (IsMemoryOrTooLong (IsFull old ⊎ IsUncounted (length function))) r
+adds_function was old new function r same count bytes few unchanged refused =
+    subst (λ (list : EncodedItems). Adds GainsFunction list function new (IsMemoryOrTooLong (IsFull list ⊎ IsUncounted (length function))) r) same (record {
+      gains = gains_function r was new function count bytes few;
+      same = unchanged;
+      refused = if_refused (IsRefusalOfOne (λ (f : List ℕ). IsCount (length f)) OnlyTooLong was function) (IsMemoryOrTooLong (IsFull was ⊎ IsUncounted (length function))) r (function_refused was function) refused;
+    })
+
+pub adds_bodies : (was old new : EncodedItems) (more : List CodeBody) (r : Result (Unit {0}) EncodeError) → was ≡ old → OnOk r (new.count ≡ was.count + length more) → OnOk r (new.bytes ≡ was.bytes ++ flat_map code_body.bytes more) → OnOk r (All CountedBody more)
+    → OnOk r (All (IsShortest code_body.Encodes code_body.bytes) more) → OnErr r (new ≡ was) → IfErr r (IsRefusalOfEach CountedBody OnlyTooLong was more) → (2 ^ 32 ≤ was.count + length more → IsErrOf r TooLong) → AddsAll GainsBodies UncountedBody old more new r
+adds_bodies was old new more r same count bytes can written unchanged refused too_many =
+    subst (λ (list : EncodedItems). AddsAll GainsBodies UncountedBody list more new r) same (record {
+      gains = gains_bodies r was new more count bytes can written;
+      same = unchanged;
+      refused = if_refused (IsRefusalOfEach CountedBody OnlyTooLong was more) (IsMemoryOrTooLong (IsUncounted (was.count + length more) ⊎ Any UncountedBody more)) r (bodies_refused was more) refused;
+      too_many = too_many;
+    })
+
 -- ---- what a section that stands for bodies writes
 
-pub section_is_body : (section : EncodedItems) (bodies : List CodeBody) → StandsForBodies section bodies → body_bytes section ≡ code_section_body.bytes bodies
+section_is_body : (section : EncodedItems) (bodies : List CodeBody) → StandsForBodies section bodies → body_bytes section ≡ code_section_body.bytes bodies
 unfolding code_section_body
 section_is_body section bodies s = body_is code_body CountedBody section bodies s
 
@@ -92,15 +120,15 @@ bodies_in_range : (section : EncodedItems) (bodies : List CodeBody) → IsCount 
 unfolding code_section_body
 bodies_in_range section bodies few s = values_in_range code_body CountedBody section bodies few s
 
-pub body_encodes : (section : EncodedItems) (bodies : List CodeBody) → IsCount section.count → StandsForBodies section bodies → code_section_body.Encodes (body_bytes section) bodies
+body_encodes : (section : EncodedItems) (bodies : List CodeBody) → IsCount section.count → StandsForBodies section bodies → code_section_body.Encodes (body_bytes section) bodies
 body_encodes section bodies few s = rw (section_is_body section bodies s) (Lawful-code-section-body.shortest.encodes bodies (bodies_in_range section bodies few s))
 
-pub body_shortest : (section : EncodedItems) (bodies : List CodeBody) (bytes : List ℕ) → StandsForBodies section bodies → code_section_body.Encodes bytes bodies → IsShortestOrLonger bytes (body_bytes section)
-body_shortest section bodies bytes s g = rw (section_is_body section bodies s) (Lawful-code-section-body.shortest.least bytes bodies g)
-
-pub bodies_written : {T E : Type 0} (r : Result T E) (section : EncodedItems) → IsCount section.count → OnOk r (CountedSection section) → OnOk r (HoldsBodies section × IsCodeSection section)
+pub section_encodes : (was section : EncodedItems) (old new : List ℕ) (r : Result (Unit {0}) EncodeError) → was ≡ section → IsCount was.count → OnOk r (new ≡ old ++ byte_list_bytes (body_bytes was)) → OnOk r (CountedSection was)
+    → IfErr r (IsRefusal CountedSection OnlyTooLong was) → OnErr r (new ≡ old) → EncodesSection code_section_body (StandsForBodies section) 10 code section old new r
 unfolding code_section_body
-bodies_written r section few counted = both_written r section (StandsForBodies section) code_section_body 10 code code_section (λ bodies s. body_encodes section bodies few s) (section_is_body section) counted
+section_encodes was section old new r same few ok can refused err =
+    subst (λ (list : EncodedItems). EncodesSection code_section_body (StandsForBodies list) 10 code list old new r) same
+    (encodes_section code_section_body (StandsForBodies was) 10 code code_section was (section_is_body was) (λ bodies s. body_encodes was bodies few s) Lawful-code-section-body.shortest.least old new r ok can refused err)
 
 pub is_decoded : {T E : Type 0} (r : Result T E) (section : EncodedItems) (bodies : List CodeBody) → IsCount section.count → OnOk r (CountedSection section) → StandsForBodies section bodies → OnOk r (IsTypedSection (typed_section_of (code_section_id, code_bodies bodies)))
 is_decoded (Ok x) section bodies few counted s = record {

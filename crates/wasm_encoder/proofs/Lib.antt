@@ -4,6 +4,5 @@ pub mod TypeSectionLaws
 pub mod IteratorLaws
 pub mod RefusalLaws
 pub mod GivenLists
-pub mod RawModuleLaws
 pub mod OnLiterals
 pub mod WholeModuleLaws

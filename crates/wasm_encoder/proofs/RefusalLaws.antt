@@ -85,16 +85,19 @@ func_refused old f e refused = of_one CountedFunc old f e (func_or f) refused
 pub sub_refused : (old : EncodedItems) (s : SubType) (e : EncodeError) → IsRefusalOfOne CountedSub OnlyTooLong old s e → IsMemoryOrTooLong (IsFull old ⊎ UncountedSub s) e
 sub_refused old s e refused = of_one CountedSub old s e (sub_or s) refused
 
-pub entries_refused : {T : Type 0} (r : Result T EncodeError) (now old : EncodedItems) (more : List TypeEntry) → now ≡ old → IfErr r (IsRefusalOfEach CountedEntry OnlyTooLong now more) → IfErr r (IsMemoryOrTooLong (IsUncounted (old.count + length more) ⊎ Any UncountedEntry more))
-entries_refused (Ok x) now old more is refused = tt
-entries_refused (Err e) now old more is refused = subst (λ (list : EncodedItems). IsMemoryOrTooLong (IsUncounted (list.count + length more) ⊎ Any UncountedEntry more) e) is (of_each CountedEntry UncountedEntry now more e entry_or refused)
+-- the same of what is returned
+pub if_refused : (Reason Why : EncodeError → Type 0) (r : Result (Unit {0}) EncodeError) → ((e : EncodeError) → Reason e → Why e) → IfErr r Reason → IfErr r Why
+if_refused Reason Why (Ok x) which refused = tt
+if_refused Reason Why (Err e) which refused = which e refused
+
+pub entries_refused : (old : EncodedItems) (more : List TypeEntry) (e : EncodeError) → IsRefusalOfEach CountedEntry OnlyTooLong old more e → IsMemoryOrTooLong (IsUncounted (old.count + length more) ⊎ Any UncountedEntry more) e
+entries_refused old more e refused = of_each CountedEntry UncountedEntry old more e entry_or refused
 
 pub function_refused : (old : EncodedItems) (function : List ℕ) (e : EncodeError) → IsRefusalOfOne (λ (f : List ℕ). IsCount (length f)) OnlyTooLong old function e → IsMemoryOrTooLong (IsFull old ⊎ IsUncounted (length function)) e
 function_refused old function e refused = of_one (λ (f : List ℕ). IsCount (length f)) old function e (counted_or (length function)) refused
 
-pub bodies_refused : {T : Type 0} (r : Result T EncodeError) (now old : EncodedItems) (bodies : List CodeBody) → now ≡ old → IfErr r (IsRefusalOfEach CountedBody OnlyTooLong now bodies) → IfErr r (IsMemoryOrTooLong (IsUncounted (old.count + length bodies) ⊎ Any UncountedBody bodies))
-bodies_refused (Ok x) now old bodies is refused = tt
-bodies_refused (Err e) now old bodies is refused = subst (λ (list : EncodedItems). IsMemoryOrTooLong (IsUncounted (list.count + length bodies) ⊎ Any UncountedBody bodies) e) is (of_each CountedBody UncountedBody now bodies e body_or refused)
+pub bodies_refused : (old : EncodedItems) (bodies : List CodeBody) (e : EncodeError) → IsRefusalOfEach CountedBody OnlyTooLong old bodies e → IsMemoryOrTooLong (IsUncounted (old.count + length bodies) ⊎ Any UncountedBody bodies) e
+bodies_refused old bodies e refused = of_each CountedBody UncountedBody old bodies e body_or refused
 
 -- ---- of iterators
 

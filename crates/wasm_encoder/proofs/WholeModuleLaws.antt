@@ -1,9 +1,13 @@
 -- The laws of modules that are being built of sections with what they hold.
-use Rattle.std.proofs.Common.{◌≡◌, ℕ, List, [], ◌∷◌, ◌++◌, Result, Ok, Err, OnOk, append_assoc, refl, sym, ap, ◌∙◌}
+use Rattle.std.proofs.Common.{◌≡◌, ℕ, List, [], ◌∷◌, ◌++◌, Result, Ok, Err, OnOk, OnErr, IfErr, append_assoc, refl, sym, ap, subst, ◌∙◌}
 use Rattle.std.proofs.lemmas.List.{append-nil}
 use Rattle.wasm_codec.specs.formats.Grammar.{Grammar, Joined}
 use Rattle.wasm_codec.specs.formats.Combinators.{minimal_only}
+use Rattle.wasm_codec.specs.declared.encode.EncodeError.{EncodeError}
 use Rattle.wasm_modules.specs.formats.Sections.{header}
+use Rattle.wasm_modules.proofs.ModuleFormatLaws.{Lawful-raw-module}
+use Rattle.wasm_modules.proofs.ModuleLaws.{goes_on}
+use Rattle.wasm_encoder.specs.BuiltModules.{AppendsSection}
 use Rattle.wasm_sections.specs.formats.ModuleSectionParts.{ModuleSectionParts}
 use Rattle.wasm_sections.specs.SectionBytes.{IsSectionAfter}
 use Rattle.wasm_sections.specs.formats.ModuleSections.{ShortestWholeModule, module_section}
@@ -17,8 +21,23 @@ one_more G bytes more [] added none g = (more, [], ap (λ (t : List ℕ). t ++ m
 one_more G bytes more (v ∷ values) added j g =
     (j.0, j.1 ++ more, ap (λ (t : List ℕ). t ++ more) j.2 ∙ append_assoc j.0 j.1 more, j.3, one_more G j.1 more values added j.4 g)
 
-pub section_added : {T E : Type 0} (r : Result T E) (old new bytes : List ℕ) (id : ℕ) (sections : List ModuleSectionParts) (added : ModuleSectionParts) → OnOk r (new ≡ old ++ id ∷ bytes) → ShortestWholeModule old sections → IsSectionAfter id bytes added
+section_added : {T E : Type 0} (r : Result T E) (old new bytes : List ℕ) (id : ℕ) (sections : List ModuleSectionParts) (added : ModuleSectionParts) → OnOk r (new ≡ old ++ id ∷ bytes) → ShortestWholeModule old sections → IsSectionAfter id bytes added
     → OnOk r (ShortestWholeModule new (sections ++ added ∷ []))
 section_added (Ok x) old new bytes id sections added is j more =
     (j.0 ++ id ∷ bytes, is ∙ ap (λ (t : List ℕ). t ++ id ∷ bytes) j.1 ∙ append_assoc header j.0 (id ∷ bytes), one_more (minimal_only module_section).Encodes j.0 (id ∷ bytes) sections added j.2 more)
 section_added (Err e) old new bytes id sections added is j more = tt
+
+pub appends_section : (was old new encoding : List ℕ) (id : ℕ) (Can Written : Type 0) (Refused : EncodeError → Type 0) (r : Result (Unit {0}) EncodeError) → was ≡ old → OnOk r (new ≡ was ++ id ∷ encoding) → OnOk r Can → OnOk r Written → IfErr r Refused → OnErr r (new ≡ was)
+    → AppendsSection id encoding Can Written Refused old new r
+appends_section was old new encoding id Can Written Refused r same ok can written refused err = subst (λ (m : List ℕ). AppendsSection id encoding Can Written Refused m new r) same (record {
+  ok = ok;
+  can = can;
+  written = written;
+  refused = refused;
+  err = err;
+  goes_on = λ sections body is_module is_body. goes_on r was new encoding body sections id ok is_module is_body;
+  first = λ body is_header is_body. goes_on r was new encoding body [] id ok is_header is_body;
+  whole = λ sections added is_module is_section. section_added r was new encoding id sections added ok is_module is_section;
+  encodes = Lawful-raw-module.shortest.encodes;
+  shortest = λ sections bytes g. Lawful-raw-module.shortest.least bytes sections g;
+})

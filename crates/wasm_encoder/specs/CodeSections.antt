@@ -1,7 +1,9 @@
 -- Functions and code sections that are built (WebAssembly Core 3.0, Code Section).
-use Rattle.std.specs.Prelude.{◌≡◌, ℕ, ◌+◌, ◌⊎◌, List, [], ◌∷◌, ◌++◌, length}
+use Rattle.std.specs.Prelude.{◌≡◌, ℕ, ◌+◌, ◌^◌, ◌≤◌, ◌⊎◌, List, [], ◌∷◌, ◌++◌, length, Option, Result, IfOk, IfErr, IsErrOf}
 use Rattle.std.specs.List.{AllByRecursion, Any}
 use Rattle.wasm_types.specs.declared.types.value.ValType.{ValType}
+use Rattle.wasm_codec.specs.declared.encode.EncodeError.{EncodeError}
+use Rattle.wasm_codec.specs.declared.encode.EncodeError.TheVariants.{TooLong}
 use Rattle.wasm_codec.specs.Encoding.{byte_list_bytes, IsCount}
 use Rattle.wasm_calls.specs.Appending.{CountedCall}
 use Rattle.wasm_instructions.specs.formats.Instructions.{Instruction, instruction, instructions_bytes}
@@ -12,7 +14,7 @@ use Rattle.wasm_writers.specs.CodeCounts.{CountedBody, func_bytes}
 use Rattle.wasm_modules.specs.formats.CodeBodies.{local_group, code_body, code_section_body}
 use Rattle.wasm_sections.specs.formats.ModuleSectionParts.{code}
 use Rattle.wasm_sections.specs.SectionBytes.{IsSectionAfter}
-use Rattle.wasm_encoder.specs.EncodedLists.{EncodedItems, StandsForAll, GainsEach, IsUncounted, body_bytes}
+use Rattle.wasm_encoder.specs.EncodedLists.{EncodedItems, StandsForAll, GainsEach, GivesItems, OfItems, IsMemoryOrTooLong, IsUncounted, body_bytes}
 
 -- The code body with these locals and these calls.
 abbrev pub body_of : List (ℕ × ValType) → List Instruction → CodeBody
@@ -25,6 +27,17 @@ pub record FunctionStandsFor (function : List ℕ) (body : CodeBody) : Type 0 wh
   pub calls : AllByRecursion CountedCall body.calls
   pub locals_in_range : AllByRecursion local_group.InRange body.locals
   pub calls_in_range : AllByRecursion instruction.InRange body.calls
+
+-- A call that makes a function without instructions; an iterator with this length gives its groups of locals.
+pub record MakesFunction {S : Type 0} (gives : S → Option (ℕ × ValType) → S → Type 0) (locals : S) (len : ℕ) (result : Result (List ℕ) EncodeError) : Type 0 where
+  -- Its groups of locals are those that the iterator gives until it ends.
+  pub given : IfOk result (λ function. OfItems gives locals (λ groups. FunctionStandsFor function (body_of groups [])))
+  -- If it is known what the iterator gives, as for `slice.iter().copied()`, these are the groups of locals.
+  pub stands : (groups : List (ℕ × ValType)) → GivesItems gives locals groups → IfOk result (λ function. FunctionStandsFor function (body_of groups []))
+  -- It fails with `Memory`, or with `TooLong` if there are too many groups.
+  pub refused : IfErr result (IsMemoryOrTooLong (IsUncounted len))
+  -- It fails with `TooLong` if there are too many groups.
+  pub too_many : 2 ^ 32 ≤ len → IsErrOf result TooLong
 
 -- The body with these instructions at its end.
 abbrev pub followed : CodeBody → List Instruction → CodeBody

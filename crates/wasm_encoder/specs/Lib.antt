@@ -46,6 +46,7 @@ pub use Rattle.wasm_sections.specs.Stops
 pub use Rattle.wasm_builders.specs.ListSections
 pub use Rattle.wasm_sink.specs.Sink
 pub use Rattle.wasm_sink.specs.ListCalls
+pub mod BuiltModules
 pub mod EncodedLists
 pub mod CodeSections
 pub mod RawSections

@@ -1,5 +1,5 @@
 -- Type sections that are built: the number of their entries, and their bytes (WebAssembly Core 3.0, Type Section).
-use Rattle.std.specs.Prelude.{ℕ, ◌⊎◌, List, [], length, Option, None, Bool, true, false}
+use Rattle.std.specs.Prelude.{◌≡◌, ◌++◌, ◌∷◌, ℕ, ◌⊎◌, List, [], length, Option, None, Bool, true, false, Result, OnOk, OnErr, IfErr}
 use Rattle.std.specs.List.{Any}
 use Rattle.std.specs.Iterator.{Drains}
 use Rattle.wasm_types.specs.declared.types.value.ValType.{ValType}
@@ -11,12 +11,13 @@ use Rattle.wasm_types.specs.declared.types.composite.CompositeInnerType.{Composi
 use Rattle.wasm_types.specs.declared.types.composite.CompositeInnerType.TheVariants as inner
 use Rattle.wasm_types.specs.declared.types.composite.TypeEntry.{TypeEntry}
 use Rattle.wasm_types.specs.declared.types.composite.TypeEntry.TheVariants as entries
+use Rattle.wasm_codec.specs.declared.encode.EncodeError.{EncodeError}
 use Rattle.wasm_codec.specs.Encoding.{byte_list_bytes}
 use Rattle.wasm_types.specs.formats.Types.{recursive_type, type_body}
 use Rattle.wasm_types.specs.TypeCounts.{CountedEntry}
 use Rattle.wasm_sections.specs.formats.ModuleSectionParts.{types as holding_types}
 use Rattle.wasm_sections.specs.SectionBytes.{IsSectionAfter}
-use Rattle.wasm_encoder.specs.EncodedLists.{EncodedItems, StandsForAll, GainsOne, GainsEach, IsUncounted, body_bytes}
+use Rattle.wasm_encoder.specs.EncodedLists.{Adds, EncodedItems, StandsForAll, GainsOne, GainsEach, GivesItems, OfItems, IsFull, IsMemoryOrTooLong, IsUncounted, body_bytes}
 
 -- The section stands for these entries: it has their number and encodings, and each can be written and is in range.
 abbrev pub StandsFor : EncodedItems → List TypeEntry → Type 0
@@ -62,6 +63,38 @@ module _ {P R : Type 0} (gives_params : P → Option ValType → P → Type 0) (
   -- The property holds of the function type that the two iterators give.
   abbrev pub OfBoth : P → R → (FuncType → Type 0) → Type 0
   OfBoth params results Holds = (ps : List ValType) × (rs : List ValType) × Drains gives_params params ps × Drains gives_results results rs × Holds (record { params = ps; results = rs })
+
+-- ---- methods that add an entry
+
+-- A method that adds an entry. It fails with `TooLong` only if the section is full.
+abbrev pub AddsEntry : EncodedItems → TypeEntry → EncodedItems → Result (Unit {0}) EncodeError → Type 0
+AddsEntry old entry new = Adds Gains old entry new (IsMemoryOrTooLong (IsFull old))
+
+-- A method that adds an entry. It fails with `TooLong` if the section is full, or the entry is too long for this reason.
+abbrev pub AddsEntryOr : Type 0 → EncodedItems → TypeEntry → EncodedItems → Result (Unit {0}) EncodeError → Type 0
+AddsEntryOr Long old entry new = Adds Gains old entry new (IsMemoryOrTooLong (IsFull old ⊎ Long))
+
+-- A method that adds an entry of the items that an iterator gives.
+pub record AddsGiven {S A : Type 0} (gives : S → Option A → S → Type 0) (items : S) (entry_of : List A → TypeEntry) (Long : Type 0) (old new : EncodedItems) (result : Result (Unit {0}) EncodeError) : Type 0 where
+  -- The entry is that of the items that the iterator gives until it ends.
+  pub gains : OnOk result (OfItems gives items (λ xs. Gains old (entry_of xs) new))
+  -- If it is known what the iterator gives, as for `vec.into_iter()`, the entry is that of these items.
+  pub stands : (before : List TypeEntry) (given : List A) → StandsFor old before → GivesItems gives items given → OnOk result (StandsFor new (before ++ entry_of given ∷ []))
+  -- On error the section is unchanged.
+  pub same : OnErr result (new ≡ old)
+  -- It fails with `Memory`, or with `TooLong` if the section is full or for this reason.
+  pub refused : IfErr result (IsMemoryOrTooLong (IsFull old ⊎ Long))
+
+-- A method that adds the function type of the parameters and results that two iterators give.
+pub record AddsFunction {P R : Type 0} (gives_params : P → Option ValType → P → Type 0) (gives_results : R → Option ValType → R → Type 0) (params : P) (results : R) (Long : Type 0) (old new : EncodedItems) (result : Result (Unit {0}) EncodeError) : Type 0 where
+  -- The entry is that of the types that the iterators give until they end.
+  pub gains : OnOk result (OfBoth gives_params gives_results params results (λ ty. Gains old (final_entry (inner.Func ty)) new))
+  -- If it is known what the iterators give, as for `slice.iter().copied()`, these are the parameters and the results.
+  pub stands : (before : List TypeEntry) (ps rs : List ValType) → StandsFor old before → GivesItems gives_params params ps → GivesItems gives_results results rs → OnOk result (StandsFor new (before ++ final_entry (inner.Func (record { params = ps; results = rs })) ∷ []))
+  -- On error the section is unchanged.
+  pub same : OnErr result (new ≡ old)
+  -- It fails with `Memory`, or with `TooLong` if the section is full or for this reason.
+  pub refused : IfErr result (IsMemoryOrTooLong (IsFull old ⊎ Long))
 
 -- ---- types with a list that is too long
 

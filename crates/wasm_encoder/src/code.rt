@@ -1,19 +1,17 @@
 //! Functions and the code section (Core 3.0, Code Section).
-ghost use Rattle.std.specs.Prelude.{◌≡◌, ◌++◌, ◌+◌, ◌^◌, ◌≤◌, ◌↔◌, ◌⊎◌, ℕ, List, [], IsTrue, OnOk, OnErr, IfOk, IfErr, IsErrOf, length};
-ghost use Rattle.std.specs.List.{Any};
+ghost use Rattle.std.specs.Prelude.{◌≡◌, ◌↔◌, ◌⊎◌, List, [], IsTrue, OnOk, length};
 ghost use Rattle.std.specs.Borrow.{Lends, follows, sem};
 ghost use Rattle.std.specs.Iterator.{size};
-ghost use Rattle.wasm_codec.specs.Encoding.{byte_list_bytes, IsCount, IsRefusal, IsShortestOrLonger, OnlyTooLong, too_long_at_once};
-ghost use Rattle.wasm_codec.specs.declared.encode.EncodeError.TheVariants.{Memory};
+ghost use Rattle.wasm_codec.specs.Encoding.{byte_list_bytes, IsCount, OnlyTooLong, too_long_at_once};
 ghost use Rattle.wasm_calls.specs.Appending.{IsCallsRefusal};
 ghost use Rattle.wasm_modules.specs.declared.code.CodeBody.{CodeBody};
-ghost use Rattle.wasm_types.specs.declared.types.value.ValType.{ValType};
 ghost use Rattle.wasm_modules.specs.formats.CodeBodies.{code_section_body};
 ghost use Rattle.wasm_modules.specs.formats.Sections.{typed_section_of, code_bodies, code_section_id};
 ghost use Rattle.wasm_modules.specs.TypedModules.{IsTypedSection};
-ghost use Rattle.wasm_encoder.specs.EncodedLists.{EncodedItems, CountedSection, GivesItems, IsFull, IsMemoryOrTooLong, IsUncounted, OfItems, body_bytes};
+ghost use Rattle.wasm_sections.specs.formats.ModuleSectionParts.{code};
+ghost use Rattle.wasm_encoder.specs.EncodedLists.{Adds, AddsAll, EncodesSection, EncodedItems, CountedSection, IsFull, IsMemoryOrTooLong, IsUncounted, Makes, body_bytes};
 ghost use Rattle.wasm_encoder.specs.Rows.{bytes_row};
-ghost use Rattle.wasm_encoder.specs.CodeSections.{FunctionStandsFor, GainsBodies, GainsFunction, GoesOnWith, HoldsBodies, IsCodeSection, StandsForBodies, UncountedBody, body_of};
+ghost use Rattle.wasm_encoder.specs.CodeSections.{GainsBodies, GainsFunction, GoesOnWith, HoldsBodies, IsCodeSection, MakesFunction, StandsForBodies, UncountedBody};
 
 use crate::wasm_core::{Section, SectionId};
 use std::alloc::{Allocator, Global};
@@ -61,19 +59,13 @@ impl Function {
     ///
     /// Fails with `TooLong` if there are more than 4,294,967,295 groups, before it asks for one, and with `Memory` if
     /// it can't allocate.
-    #[tactic(auto, using(crate::proofs::CodeSectionLaws::locals_stand, crate::proofs::RefusalLaws::locals_refused))]
+    #[tactic(auto, using(crate::proofs::GivenLists::function_made, crate::proofs::GivenLists::function_not_made))]
     pub fn new<L: ExactSizeIterator<Item = (u32, ValType)>>(
         alloc: Global,
         locals: L,
     ) -> Result<Function, EncodeError>
         requires { L.can_next locals }
-        ensures ok { IfOk result (λ function. OfItems L.next_gives locals (λ groups.
-            FunctionStandsFor function (body_of groups []))) }
-        // If it is known what the iterator yields, as for `slice.iter().copied()`, these are the groups of locals.
-        ensures stands { (groups : List (ℕ × ValType)) → GivesItems L.next_gives locals groups →
-            IfOk result (λ function. FunctionStandsFor function (body_of groups [])) }
-        ensures refused { IfErr result (IsMemoryOrTooLong (IsUncounted (size (L.remaining locals)))) }
-        ensures too_many { 2 ^ 32 ≤ size (L.remaining locals) → IsErrOf result EncodeError.TooLong }
+        ensures makes { MakesFunction L.next_gives locals (size (L.remaining locals)) result }
     {
         let mut bytes = Vec::new(alloc);
         append_items(locals, &mut bytes)?;
@@ -103,11 +95,9 @@ impl Function {
     ///
     /// Fails with `TooLong` if a list in a call has more than 4,294,967,295 items, and with `Memory` if the function
     /// can't grow.
-    #[tactic(auto, using(crate::proofs::CodeSectionLaws::goes_on))]
+    #[tactic(auto, using(crate::proofs::CodeSectionLaws::appends_calls))]
     pub fn calls(&mut self, calls: &[Call]) -> Result<(), EncodeError>
-        ensures ok { OnOk result (GoesOnWith self.old calls.now self.new) }
-        ensures err { OnErr result (self.new ≡ self.old) }
-        ensures refused { IfErr result (IsCallsRefusal calls.now) }
+        ensures appends { Adds GoesOnWith self.old calls.now self.new (IsCallsRefusal calls.now) result }
     {
         append_calls(&mut self.bytes, calls)
     }
@@ -121,8 +111,7 @@ impl Function {
 
     /// Copies the function. Fails with `Memory` if it can't allocate.
     pub fn try_clone(&self) -> Result<Function, EncodeError>
-        ensures ok { IfOk result (λ function. function ≡ self.now) }
-        ensures err { IfErr result (λ e. e ≡ Memory) }
+        ensures makes { Makes self.now result }
     {
         let bytes = Vec::from_slice(*self.bytes.allocator(), self.bytes.as_slice())?;
         Ok(Function { bytes })
@@ -205,11 +194,10 @@ impl CodeSection {
     ///
     /// Fails with `TooLong` if the section already has 4,294,967,295 bodies or `function` is longer than 4,294,967,295
     /// bytes.
-    #[tactic(auto, using(crate::proofs::CodeSectionLaws::gains_function, crate::proofs::RefusalLaws::function_refused))]
+    #[tactic(auto, using(crate::proofs::CodeSectionLaws::adds_function))]
     pub fn function(&mut self, function: &Function) -> Result<(), EncodeError>
-        ensures ok { OnOk result (GainsFunction self.old function.now self.new) }
-        ensures err { OnErr result (self.new ≡ self.old) }
-        ensures refused { IfErr result (IsMemoryOrTooLong (IsFull self.old ⊎ IsUncounted (length function.now))) }
+        ensures adds { Adds GainsFunction self.old function.now self.new
+            (IsMemoryOrTooLong (IsFull self.old ⊎ IsUncounted (length function.now))) result }
     {
         self.bodies.add(function)
     }
@@ -218,21 +206,16 @@ impl CodeSection {
     ///
     /// Fails with `TooLong` if the section would have more than 4,294,967,295 bodies, before it encodes any. It also
     /// fails with `TooLong` if a body is longer than 4,294,967,295 bytes, or if a list in it has more items than that.
-    #[tactic(auto, using(crate::proofs::CodeSectionLaws::gains_bodies))]
+    #[tactic(auto, using(crate::proofs::CodeSectionLaws::adds_bodies))]
     pub fn bodies(&mut self, bodies: &[CodeBody]) -> Result<(), EncodeError>
-        ensures ok { OnOk result (GainsBodies self.old bodies.now self.new) }
-        ensures err { OnErr result (self.new ≡ self.old) }
-        ensures refused { IfErr result (IsMemoryOrTooLong (
-            IsUncounted (self.old.count + length bodies.now) ⊎ Any UncountedBody bodies.now)) }
-        ensures too_many { 2 ^ 32 ≤ self.old.count + length bodies.now → IsErrOf result EncodeError.TooLong }
+        ensures adds { AddsAll GainsBodies UncountedBody self.old bodies.now self.new result }
     {
         self.bodies.add_all(bodies)
     }
 
     /// Copies the section. Fails with `Memory` if it can't allocate.
     pub fn try_clone(&self) -> Result<CodeSection, EncodeError>
-        ensures ok { IfOk result (λ section. section ≡ self.now) }
-        ensures err { IfErr result (λ e. e ≡ Memory) }
+        ensures makes { Makes self.now result }
     {
         let bodies = self.bodies.try_clone()?;
         Ok(CodeSection { bodies })
@@ -242,7 +225,7 @@ impl CodeSection {
 /// The size of the section's body in bytes, the number of code bodies, and the code bodies (Core 3.0, Code Section).
 ///
 /// Fails with `TooLong` if the section's body is longer than 4,294,967,295 bytes.
-#[tactic(auto, using(crate::proofs::CodeSectionLaws::one_encoding, crate::proofs::CodeSectionLaws::section_is_body, crate::proofs::CodeSectionLaws::body_encodes, crate::proofs::CodeSectionLaws::body_shortest, crate::proofs::CodeSectionLaws::bodies_written, crate::proofs::CodeSectionLaws::is_decoded))]
+#[tactic(auto, using(crate::proofs::CodeSectionLaws::one_encoding, crate::proofs::CodeSectionLaws::section_encodes, crate::proofs::CodeSectionLaws::is_decoded))]
 impl Encode for CodeSection {
     ghost bytes = { λ section. byte_list_bytes (body_bytes section) };
 
@@ -253,25 +236,10 @@ impl Encode for CodeSection {
     ghost refuses = { OnlyTooLong };
 
     fn encode<A: Allocator>(&self, sink: &mut Vec<u8, A>) -> Result<(), EncodeError>
-        ensures ok { OnOk result (sink.new.items ≡ sink.old.items ++ byte_list_bytes (body_bytes self.now)) }
-        ensures can { OnOk result (CountedSection self.now) }
-        // The section's body encodes the code bodies. With the id it is the minimal encoding of a section that holds
-        // them.
-        ensures written { OnOk result (HoldsBodies self.now × IsCodeSection self.now) }
-        ensures refused { IfErr result (IsRefusal CountedSection OnlyTooLong self.now) }
-        ensures err { OnErr result (sink.new.items ≡ sink.old.items) }
+        ensures encodes { EncodesSection code_section_body (StandsForBodies self.now) 10 code self.now sink.old.items sink.new.items result }
         // Sections of equal code bodies have equal bytes.
         ensures one_encoding { (other : EncodedItems) (bodies : List CodeBody) →
             StandsForBodies self.now bodies → StandsForBodies other bodies → body_bytes other ≡ body_bytes self.now }
-        // The section's body is that of the code bodies.
-        ensures is_body { (bodies : List CodeBody) → StandsForBodies self.now bodies →
-            body_bytes self.now ≡ code_section_body.bytes bodies }
-        // The section's body encodes the code bodies.
-        ensures encodes { (bodies : List CodeBody) → StandsForBodies self.now bodies →
-            code_section_body.Encodes (body_bytes self.now) bodies }
-        // Every other encoding of the code bodies is longer.
-        ensures shortest { (bodies : List CodeBody) (bytes : List ℕ) → StandsForBodies self.now bodies →
-            code_section_body.Encodes bytes bodies → IsShortestOrLonger bytes (body_bytes self.now) }
         // The section is in the range of decoded sections, so a reader returns it.
         ensures decoded { (bodies : List CodeBody) → StandsForBodies self.now bodies →
             OnOk result (IsTypedSection (typed_section_of (code_section_id, code_bodies bodies))) }

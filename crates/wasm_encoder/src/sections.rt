@@ -38,7 +38,7 @@ pub use wasm_sections::types::{
 };
 
 impl<T: SectionItem> Section for ListSection<T> {
-    ghost id = { λ _. T.id };
+    ghost id = { λ _. T.section.id };
 
     fn id(&self) -> u8 {
         T::section_id()

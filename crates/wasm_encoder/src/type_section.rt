@@ -1,20 +1,16 @@
 //! The type section (Core 3.0, Type Section).
-ghost use Rattle.std.specs.Prelude.{◌≡◌, ℕ, List, ◌++◌, ◌∷◌, ◌+◌, ◌⊎◌, [], OnOk, OnErr, IfOk, IfErr, IsTrue, ◌↔◌, length, ◌^◌, ◌≤◌, IsErrOf};
-ghost use Rattle.std.specs.List.{Any};
+ghost use Rattle.std.specs.Prelude.{◌≡◌, List, ◌⊎◌, [], OnOk, IsTrue, ◌↔◌};
 ghost use Rattle.std.specs.Iterator.{size};
-ghost use Rattle.wasm_encoder.specs.EncodedLists.{EncodedItems, CountedSection, GivesItems, GivesSome, IsFull, IsMemoryOrTooLong, IsUncounted, OfItems, body_bytes};
-ghost use Rattle.wasm_encoder.specs.TypeSections.{StandsFor, Gains, GainsAll, HoldsEntries, IsTypeSection, OfBoth, UncountedEntry, UncountedFunc, UncountedSub, type_section_bytes, final_entry, struct_entry, array_entry};
-ghost use Rattle.wasm_codec.specs.Encoding.{byte_list_bytes, IsRefusal, IsShortestOrLonger, OnlyTooLong};
+ghost use Rattle.wasm_encoder.specs.EncodedLists.{AddsAll, EncodesSection, EncodedItems, CountedSection, GivesSome, IsUncounted, Makes};
+ghost use Rattle.wasm_encoder.specs.TypeSections.{AddsEntry, AddsEntryOr, AddsFunction, AddsGiven, StandsFor, GainsAll, HoldsEntries, IsTypeSection, UncountedEntry, UncountedFunc, UncountedSub, type_section_bytes, final_entry, struct_entry, array_entry};
+ghost use Rattle.wasm_codec.specs.Encoding.{OnlyTooLong};
 ghost use Rattle.wasm_types.specs.formats.Types.{type_body};
 ghost use Rattle.wasm_modules.specs.formats.Sections.{typed_section_of, type_entries, type_section_id};
 ghost use Rattle.wasm_modules.specs.TypedModules.{IsTypedSection};
-ghost use Rattle.wasm_types.specs.declared.types.value.ValType.{ValType};
-ghost use Rattle.wasm_types.specs.declared.types.composite.FieldType.{FieldType};
-ghost use Rattle.wasm_types.specs.declared.types.composite.SubType.{SubType};
+ghost use Rattle.wasm_sections.specs.formats.ModuleSectionParts.{types as holding_types};
 ghost use Rattle.wasm_types.specs.declared.types.composite.TypeEntry.{TypeEntry};
 ghost use Rattle.wasm_types.specs.declared.types.composite.CompositeInnerType.TheVariants as inner;
 ghost use Rattle.wasm_types.specs.declared.types.composite.TypeEntry.TheVariants as entries;
-ghost use Rattle.wasm_codec.specs.declared.encode.EncodeError.TheVariants.{Memory};
 
 use crate::wasm_core::{Section, SectionId};
 use std::alloc::{Allocator, Global};
@@ -116,8 +112,7 @@ impl TypeSection {
 
     /// Copies the section. Fails with `Memory` if it can't allocate.
     pub fn try_clone(&self) -> Result<TypeSection, EncodeError>
-        ensures ok { IfOk result (λ section. section ≡ self.now) }
-        ensures err { IfErr result (λ e. e ≡ Memory) }
+        ensures makes { Makes self.now result }
     {
         let entries = self.entries.try_clone()?;
         Ok(TypeSection { entries })
@@ -127,13 +122,9 @@ impl TypeSection {
     ///
     /// Fails with `TooLong` if the section would have more than 4,294,967,295 entries, before it encodes any, or if a
     /// list in an entry has more items than that.
-    #[tactic(auto, using(crate::proofs::TypeSectionLaws::gains_entries))]
+    #[tactic(auto, using(crate::proofs::TypeSectionLaws::adds_entries))]
     pub fn entries(&mut self, entries: &[TypeEntry]) -> Result<(), EncodeError>
-        ensures ok { OnOk result (GainsAll self.old entries.now self.new) }
-        ensures err { OnErr result (self.new ≡ self.old) }
-        ensures refused { IfErr result (IsMemoryOrTooLong (
-            IsUncounted (self.old.count + length entries.now) ⊎ Any UncountedEntry entries.now)) }
-        ensures too_many { 2 ^ 32 ≤ self.old.count + length entries.now → IsErrOf result EncodeError.TooLong }
+        ensures adds { AddsAll GainsAll UncountedEntry self.old entries.now self.new result }
     {
         self.entries.add_all(entries)
     }
@@ -142,7 +133,7 @@ impl TypeSection {
 /// The size of the body in bytes, the number of entries, and the entries (Core 3.0, Sections and Type Section).
 ///
 /// Fails with `TooLong` if the body is longer than 4,294,967,295 bytes.
-#[tactic(auto, using(crate::proofs::TypeSectionLaws::one_encoding, crate::proofs::TypeSectionLaws::section_is_body, crate::proofs::TypeSectionLaws::body_encodes, crate::proofs::TypeSectionLaws::body_shortest, crate::proofs::TypeSectionLaws::entries_written, crate::proofs::TypeSectionLaws::is_decoded))]
+#[tactic(auto, using(crate::proofs::TypeSectionLaws::one_encoding, crate::proofs::TypeSectionLaws::encodes_entries, crate::proofs::TypeSectionLaws::is_decoded))]
 impl Encode for TypeSection {
     ghost bytes = { type_section_bytes };
 
@@ -153,24 +144,10 @@ impl Encode for TypeSection {
     ghost refuses = { OnlyTooLong };
 
     fn encode<A: Allocator>(&self, sink: &mut Vec<u8, A>) -> Result<(), EncodeError>
-        ensures ok { OnOk result (sink.new.items ≡ sink.old.items ++ type_section_bytes self.now) }
-        ensures can { OnOk result (CountedSection self.now) }
-        // The body encodes the entries. With the id it is the minimal encoding of a section that holds them.
-        ensures written { OnOk result (HoldsEntries self.now × IsTypeSection self.now) }
-        ensures refused { IfErr result (IsRefusal CountedSection OnlyTooLong self.now) }
-        ensures err { OnErr result (sink.new.items ≡ sink.old.items) }
+        ensures encodes { EncodesSection type_body (StandsFor self.now) 1 holding_types self.now sink.old.items sink.new.items result }
         // Sections of equal entries have equal bytes.
         ensures one_encoding { (other : EncodedItems) (entries : List TypeEntry) →
             StandsFor self.now entries → StandsFor other entries → type_section_bytes other ≡ type_section_bytes self.now }
-        // The bytes are the length of the entries' body, and the body.
-        ensures is_body { (entries : List TypeEntry) → StandsFor self.now entries →
-            type_section_bytes self.now ≡ byte_list_bytes (type_body.bytes entries) }
-        // The body encodes the entries.
-        ensures encodes { (entries : List TypeEntry) → StandsFor self.now entries →
-            type_body.Encodes (body_bytes self.now) entries }
-        // Every other encoding of the entries is longer.
-        ensures shortest { (entries : List TypeEntry) (bytes : List ℕ) → StandsFor self.now entries →
-            type_body.Encodes bytes entries → IsShortestOrLonger bytes (body_bytes self.now) }
         // The section is in the range of decoded sections, so a reader returns it.
         ensures decoded { (entries : List TypeEntry) → StandsFor self.now entries →
             OnOk result (IsTypedSection (typed_section_of (type_section_id, type_entries entries))) }
@@ -187,16 +164,14 @@ impl Section for TypeSection {
     }
 }
 
-#[tactic(auto, using(crate::proofs::TypeSectionLaws::gains_sub_ok, crate::proofs::TypeSectionLaws::gains_final_ok, crate::proofs::RefusalLaws::func_refused, crate::proofs::RefusalLaws::sub_refused))]
+#[tactic(auto, using(crate::proofs::TypeSectionLaws::adds_func, crate::proofs::TypeSectionLaws::adds_sub, crate::proofs::TypeSectionLaws::adds_array, crate::proofs::TypeSectionLaws::adds_cont))]
 impl<'a> CoreTypeEncoder<'a> {
     /// Adds a function type that is final, without supertypes and not shared (Core 3.0, Composite Types).
     ///
     /// Fails with `TooLong` if the section already has 4,294,967,295 entries or `ty` has more parameters or results
     /// than that.
     pub fn func_type(self, ty: &FuncType) -> Result<(), EncodeError>
-        ensures ok { OnOk result (Gains self.entry.section.now (final_entry (inner.Func ty.now)) self.exit.0.now) }
-        ensures err { OnErr result (self.exit.0.now ≡ self.entry.section.now) }
-        ensures refused { IfErr result (IsMemoryOrTooLong (IsFull self.entry.section.now ⊎ UncountedFunc ty.now)) }
+        ensures adds { AddsEntryOr (UncountedFunc ty.now) self.entry.section.now (final_entry (inner.Func ty.now)) self.exit.0.now result }
     {
         let CoreTypeEncoder { section } = self;
         section.entries.add(ty)
@@ -206,9 +181,7 @@ impl<'a> CoreTypeEncoder<'a> {
     ///
     /// Fails with `TooLong` if the section already has 4,294,967,295 entries.
     pub fn array(self, ty: &StorageType, mutable: bool) -> Result<(), EncodeError>
-        ensures ok { OnOk result (Gains self.entry.section.now (array_entry ty.now mutable) self.exit.0.now) }
-        ensures err { OnErr result (self.exit.0.now ≡ self.entry.section.now) }
-        ensures refused { IfErr result (IsMemoryOrTooLong (IsFull self.entry.section.now)) }
+        ensures adds { AddsEntry self.entry.section.now (array_entry ty.now mutable) self.exit.0.now result }
     {
         let CoreTypeEncoder { section } = self;
         let field = FieldType {
@@ -222,9 +195,7 @@ impl<'a> CoreTypeEncoder<'a> {
     ///
     /// Fails with `TooLong` if the section already has 4,294,967,295 entries.
     pub fn cont(self, ty: &ContType) -> Result<(), EncodeError>
-        ensures ok { OnOk result (Gains self.entry.section.now (final_entry (inner.Cont ty.now)) self.exit.0.now) }
-        ensures err { OnErr result (self.exit.0.now ≡ self.entry.section.now) }
-        ensures refused { IfErr result (IsMemoryOrTooLong (IsFull self.entry.section.now)) }
+        ensures adds { AddsEntry self.entry.section.now (final_entry (inner.Cont ty.now)) self.exit.0.now result }
     {
         let CoreTypeEncoder { section } = self;
         section.entries.add(ty)
@@ -235,9 +206,7 @@ impl<'a> CoreTypeEncoder<'a> {
     /// Fails with `TooLong` if the section already has 4,294,967,295 entries or a list in `ty` has more items than
     /// that.
     pub fn subtype(self, ty: &SubType) -> Result<(), EncodeError>
-        ensures ok { OnOk result (Gains self.entry.section.now (entries.Sub ty.now) self.exit.0.now) }
-        ensures err { OnErr result (self.exit.0.now ≡ self.entry.section.now) }
-        ensures refused { IfErr result (IsMemoryOrTooLong (IsFull self.entry.section.now ⊎ UncountedSub ty.now)) }
+        ensures adds { AddsEntryOr (UncountedSub ty.now) self.entry.section.now (entries.Sub ty.now) self.exit.0.now result }
     {
         let CoreTypeEncoder { section } = self;
         section.entries.add(ty)
@@ -248,7 +217,7 @@ impl<'a> CoreTypeEncoder<'a> {
     ///
     /// Fails with `TooLong` if the section already has 4,294,967,295 entries or a `len` is over 4,294,967,295, before
     /// it asks for a type.
-    #[tactic(auto, using(crate::proofs::RefusalLaws::both_refused))]
+    #[tactic(auto, using(crate::proofs::GivenLists::adds_function))]
     pub fn function<P: ExactSizeIterator<Item = ValType>, R: ExactSizeIterator<Item = ValType>>(
         self,
         params: P,
@@ -256,16 +225,8 @@ impl<'a> CoreTypeEncoder<'a> {
     ) -> Result<(), EncodeError>
         requires params { P.can_next params }
         requires results { R.can_next results }
-        ensures ok { OnOk result (OfBoth P.next_gives R.next_gives params results (λ ty.
-            Gains self.entry.section.now (final_entry (inner.Func ty)) self.exit.0.now)) }
-        // If it is known what the iterators yield, as for `slice.iter().copied()`, these are the parameters and the
-        // results.
-        ensures stands { (before : List TypeEntry) (ps rs : List ValType) → StandsFor self.entry.section.now before →
-            GivesItems P.next_gives params ps → GivesItems R.next_gives results rs → OnOk result (StandsFor self.exit.0.now
-            (before ++ final_entry (inner.Func (record { params = ps; results = rs })) ∷ [])) }
-        ensures err { OnErr result (self.exit.0.now ≡ self.entry.section.now) }
-        ensures refused { IfErr result (IsMemoryOrTooLong (IsFull self.entry.section.now ⊎
-            (IsUncounted (size (P.remaining params)) ⊎ IsUncounted (size (R.remaining results))))) }
+        ensures adds { AddsFunction P.next_gives R.next_gives params results
+            (IsUncounted (size (P.remaining params)) ⊎ IsUncounted (size (R.remaining results))) self.entry.section.now self.exit.0.now result }
     {
         let CoreTypeEncoder { section } = self;
         section.entries.add_tagged_pair(0x60, params, results)
@@ -276,20 +237,13 @@ impl<'a> CoreTypeEncoder<'a> {
     ///
     /// Fails with `TooLong` if the section already has 4,294,967,295 entries or `len` is over 4,294,967,295, before it
     /// asks for a field.
-    #[tactic(auto, using(crate::proofs::RefusalLaws::fields_refused))]
+    #[tactic(auto, using(crate::proofs::GivenLists::adds_struct))]
     pub fn struct_<F: ExactSizeIterator<Item = FieldType>>(
         self,
         fields: F,
     ) -> Result<(), EncodeError>
         requires { F.can_next fields }
-        ensures ok { OnOk result (OfItems F.next_gives fields (λ fields.
-            Gains self.entry.section.now (struct_entry fields) self.exit.0.now)) }
-        // If it is known what the iterator yields, these are the fields.
-        ensures stands { (before : List TypeEntry) (given : List FieldType) → StandsFor self.entry.section.now before →
-            GivesItems F.next_gives fields given →
-            OnOk result (StandsFor self.exit.0.now (before ++ struct_entry given ∷ [])) }
-        ensures err { OnErr result (self.exit.0.now ≡ self.entry.section.now) }
-        ensures refused { IfErr result (IsMemoryOrTooLong (IsFull self.entry.section.now ⊎ IsUncounted (size (F.remaining fields)))) }
+        ensures adds { AddsGiven F.next_gives fields struct_entry (IsUncounted (size (F.remaining fields))) self.entry.section.now self.exit.0.now result }
     {
         let CoreTypeEncoder { section } = self;
         section.entries.add_tagged(0x5f, fields)
@@ -300,18 +254,11 @@ impl<'a> CoreTypeEncoder<'a> {
     ///
     /// Fails with `TooLong` if the section already has 4,294,967,295 entries or `len` is over 4,294,967,295, before it
     /// asks for a type, or if a list in a type has more items than that.
-    #[tactic(auto, using(crate::proofs::RefusalLaws::group_refused))]
+    #[tactic(auto, using(crate::proofs::GivenLists::adds_group))]
     pub fn rec<S: ExactSizeIterator<Item = SubType>>(self, types: S) -> Result<(), EncodeError>
         requires { S.can_next types }
-        ensures ok { OnOk result (OfItems S.next_gives types (λ types.
-            Gains self.entry.section.now (entries.Rec types) self.exit.0.now)) }
-        // If it is known what the iterator yields, as for `vec.into_iter()`, these are the types.
-        ensures stands { (before : List TypeEntry) (given : List SubType) → StandsFor self.entry.section.now before →
-            GivesItems S.next_gives types given →
-            OnOk result (StandsFor self.exit.0.now (before ++ entries.Rec given ∷ [])) }
-        ensures err { OnErr result (self.exit.0.now ≡ self.entry.section.now) }
-        ensures refused { IfErr result (IsMemoryOrTooLong (IsFull self.entry.section.now ⊎
-            (IsUncounted (size (S.remaining types)) ⊎ GivesSome S.next_gives types UncountedSub))) }
+        ensures adds { AddsGiven S.next_gives types entries.Rec
+            (IsUncounted (size (S.remaining types)) ⊎ GivesSome S.next_gives types UncountedSub) self.entry.section.now self.exit.0.now result }
     {
         let CoreTypeEncoder { section } = self;
         section.entries.add_tagged(0x4e, types)

@@ -1,12 +1,10 @@
 //! Sections and modules (Core 3.0, Modules).
-ghost use Rattle.std.specs.Prelude.{◌≡◌, ◌++◌, ◌∷◌, ℕ, List, [], IfOk, IfErr, OnOk, OnErr, length};
-ghost use Rattle.std.specs.List.{AllByRecursion};
-ghost use Rattle.wasm_codec.specs.Encoding.{byte_list_bytes, IsRefusal, IsShortestOrLonger};
-ghost use Rattle.wasm_modules.specs.formats.Sections.{header, SectionParts, section_of};
-ghost use Rattle.wasm_modules.specs.formats.Modules.{raw_module, raw_section};
-ghost use Rattle.wasm_sections.specs.formats.ModuleSectionParts.{ModuleSectionParts};
-ghost use Rattle.wasm_sections.specs.SectionBytes.{IsSectionAfter};
+ghost use Rattle.std.specs.Prelude.{◌≡◌, ◌∷◌, ℕ, List, [], IfOk, IfErr, length};
+ghost use Rattle.wasm_codec.specs.Encoding.{IsRefusal};
+ghost use Rattle.wasm_modules.specs.formats.Sections.{header};
 ghost use Rattle.wasm_sections.specs.formats.ModuleSections.{ShortestWholeModule};
+ghost use Rattle.wasm_encoder.specs.BuiltModules.{AppendsTo, AppendsSection};
+ghost use Rattle.wasm_encoder.specs.EncodedLists.{Makes};
 ghost use Rattle.wasm_encoder.specs.SectionIds.{section_id};
 ghost use Rattle.wasm_codec.specs.declared.encode.EncodeError.TheVariants.{Memory};
 
@@ -40,11 +38,8 @@ pub trait Section: Encode {
     ///
     /// Fails with `Memory` if `dst` can't grow, and with the errors of the section's `encode`.
     fn append_to<A: Allocator>(&self, dst: &mut Vec<u8, A>) -> Result<(), EncodeError>
-        ensures ok { OnOk result (dst.new.items ≡ dst.old.items ++ id self.now ∷ Self.bytes self.now) }
-        ensures can { OnOk result (Self.CanEncode self.now) }
-        ensures written { OnOk result (Self.IsWritten self.now) }
-        ensures refused { IfErr result (IsRefusal Self.CanEncode Self.refuses self.now) }
-        ensures err { OnErr result (dst.new.items ≡ dst.old.items) }
+        ensures appends { AppendsTo (id self.now) (Self.bytes self.now) (Self.CanEncode self.now) (Self.IsWritten self.now)
+            (IsRefusal Self.CanEncode Self.refuses self.now) dst.old.items dst.new.items result }
     {
         append_section(self.id(), self, dst)
     }
@@ -177,32 +172,10 @@ impl Module {
     ///
     /// Fails with `Memory` if the module can't grow, and with the errors of the section's `encode`. It calls the
     /// section's `id` and `encode`, never its `append_to`.
-    #[tactic(auto, using(wasm_modules::proofs::ModuleLaws::goes_on, wasm_modules::proofs::ModuleLaws::raw_shortest, crate::proofs::RawModuleLaws::first_section, crate::proofs::WholeModuleLaws::section_added))]
+    #[tactic(auto, using(crate::proofs::WholeModuleLaws::appends_section))]
     pub fn section<S: Section>(&mut self, section: &S) -> Result<(), EncodeError>
-        ensures ok { OnOk result (self.new ≡ self.old ++ S.id section.now ∷ S.bytes section.now) }
-        ensures can { OnOk result (S.CanEncode section.now) }
-        // For a builder: the body encodes the entries, and with the id it is the minimal encoding of a section that
-        // holds them.
-        ensures written { OnOk result (S.IsWritten section.now) }
-        ensures refused { IfErr result (IsRefusal S.CanEncode S.refuses section.now) }
-        ensures err { OnErr result (self.new ≡ self.old) }
-        // If the section's encoding is a body after its size, that section is appended to the module's sections.
-        ensures goes_on { (sections : List SectionParts) (body : List ℕ) → self.old ≡ raw_module.bytes sections →
-            S.bytes section.now ≡ byte_list_bytes body →
-            OnOk result (self.new ≡ raw_module.bytes (sections ++ section_of (S.id section.now, body) ∷ [])) }
-        // Appended to a new module, it is the only section.
-        ensures first { (body : List ℕ) → self.old ≡ header → S.bytes section.now ≡ byte_list_bytes body →
-            OnOk result (self.new ≡ raw_module.bytes (section_of (S.id section.now, body) ∷ [])) }
-        // If the module is the minimal encoding of decoded sections, and the new section is that of `added`, the module
-        // is the minimal encoding of these sections and `added`.
-        ensures whole { (sections : List ModuleSectionParts) (added : ModuleSectionParts) →
-            ShortestWholeModule self.old sections → IsSectionAfter (S.id section.now) (S.bytes section.now) added →
-            OnOk result (ShortestWholeModule self.new (sections ++ added ∷ [])) }
-        // The bytes of sections encode them, and every other encoding of them is longer.
-        ensures encodes { (sections : List SectionParts) → AllByRecursion raw_section.InRange sections →
-            raw_module.Encodes (raw_module.bytes sections) sections }
-        ensures shortest { (sections : List SectionParts) (bytes : List ℕ) → raw_module.Encodes bytes sections →
-            IsShortestOrLonger bytes (raw_module.bytes sections) }
+        ensures appends { AppendsSection (S.id section.now) (S.bytes section.now) (S.CanEncode section.now) (S.IsWritten section.now)
+            (IsRefusal S.CanEncode S.refuses section.now) self.old self.new result }
     {
         append_section(section.id(), section, &mut self.bytes)
     }
@@ -231,8 +204,7 @@ impl Module {
 
     /// Copies the module. Fails with `Memory` if it can't allocate.
     pub fn try_clone(&self) -> Result<Module, EncodeError>
-        ensures ok { IfOk result (λ m. m ≡ self.now) }
-        ensures err { IfErr result (λ e. e ≡ Memory) }
+        ensures makes { Makes self.now result }
     {
         let bytes = Vec::from_slice(*self.bytes.allocator(), self.bytes.as_slice())?;
         Ok(Module { bytes })

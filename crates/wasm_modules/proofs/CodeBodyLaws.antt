@@ -36,3 +36,6 @@ Lawful-code-section-body = Lawful-items Lawful-code_body
 pub is_shortest_code : (bytes : List ℕ) (bodies : List CodeBody) → ShortestCodeSectionBody bytes bodies ↔ (code_section_body.Encodes bytes bodies × (bytes ≡ code_section_body.bytes bodies))
 unfolding code_section_body
 is_shortest_code = list_minimal_only Lawful-code_body
+
+-- the laws of code bodies, for functions that name them
+pub ruleset code_laws = (Lawful-code_body, code_body_takes, Lawful-function-code)

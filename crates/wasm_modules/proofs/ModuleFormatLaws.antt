@@ -71,3 +71,6 @@ module _ {V : Type 0} {F : Format V} (r : IsLawful F) where
 
 pub is_shortest_module : (bytes : List ℕ) (sections : List SectionParts) → ShortestModule bytes sections ↔ (raw_module.Encodes bytes sections × (bytes ≡ raw_module.bytes sections))
 is_shortest_module = is_shortest_module_of Lawful-raw-section
+
+-- the laws of sections, for functions that name them
+pub ruleset section_laws = (Lawful-raw-section, raw_section_takes, Lawful-decoded-section, typed_section_takes)

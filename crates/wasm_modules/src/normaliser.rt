@@ -40,6 +40,7 @@ use wasm_types::types::TypeEntry;
 /// let minimal = normalise_module(rt.alloc(), b"\0asm\x01\0\0\0\x03\x82\x00\x01\x00")?; // a size in two bytes
 /// assert_eq!(rt; minimal.as_slice(), b"\0asm\x01\0\0\0\x03\x02\x01\x00".as_slice());
 /// ```
+#[tactic(auto, using(crate::proofs::TypedModuleLaws::all_encoded))]
 pub fn normalise_module(alloc: Global, bytes: &[u8]) -> Result<Vec<u8>, ReadError>
     ensures normalises { Normalises typed_module (minimal_only typed_module).Encodes IsTypedModulePrefix bytes.now result }
     // The minimal encoding of decoded sections in range encodes them.
@@ -76,6 +77,7 @@ impl Rewritable for Section {
     ghost format = { typed_section };
 
     #[inline(always)]
+    #[tactic(auto, using(crate::proofs::ModuleFormatLaws::section_laws))]
     fn is_lawful() {}
 
     #[inline(always)]

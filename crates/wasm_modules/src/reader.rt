@@ -11,6 +11,7 @@ use crate::section::{HEADER, RawSection};
 use wasm_codec::reader::cursor::{Cursor, Fault};
 
 /// Returns the bytes after the header, or `None` if the header is missing.
+#[tactic(auto, using(crate::proofs::HeaderLaws::header_found, crate::proofs::HeaderLaws::header_missing))]
 pub fn after_header(bytes: &[u8]) -> Option<&[u8]>
     ensures found { IfSome result (λ rest. bytes.now ≡ header ++ rest.now) }
     ensures rest { IfSome result (λ rest. rest.now ≡ drop 8 bytes.now) }

@@ -220,6 +220,7 @@ impl Rewritable for Section {
     ghost format = { raw_section };
 
     #[inline(always)]
+    #[tactic(auto, using(wasm_modules::proofs::ModuleFormatLaws::section_laws))]
     fn is_lawful() {}
 
     #[tactic(auto, using(std::proofs::Common::append_assoc), unfolding(wasm_modules::specs::formats::Modules::raw_section))]

@@ -81,6 +81,7 @@ impl<'a> Readable<'a> for CodeBody {
     }
 
     #[inline(always)]
+    #[tactic(auto, using(wasm_modules::proofs::CodeBodyLaws::code_laws))]
     fn is_lawful()
         ensures lawful { IsLawful code_body }
         ensures some { TakesBytes code_body.Encodes }

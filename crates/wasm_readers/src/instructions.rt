@@ -95,6 +95,7 @@ impl<'a> Readable<'a> for Call {
     }
 
     #[inline(always)]
+    #[tactic(auto, using(wasm_instructions::proofs::InstructionFormatLaws::instruction_laws))]
     fn is_lawful()
         ensures lawful { IsLawful instruction }
         ensures some { TakesBytes instruction.Encodes }

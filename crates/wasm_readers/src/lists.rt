@@ -59,6 +59,7 @@ fn read_list_minimal_if<'a, T: Readable<'a>, const STRICT: bool>(
 }
 
 /// Reads the next item, minimally encoded if `STRICT` is set. If it fails, the cursor stays where it was.
+#[tactic(auto, using(wasm_codec::proofs::PlaceLists::plain_code))]
 fn read_next_item<'a, T: Readable<'a>, const STRICT: bool>(
     alloc: Global,
     cursor: &mut Cursor<'a>,

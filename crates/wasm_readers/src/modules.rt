@@ -107,6 +107,7 @@ impl<'a> Readable<'a> for RawSection<'a> {
     }
 
     #[inline(always)]
+    #[tactic(auto, using(wasm_modules::proofs::ModuleFormatLaws::section_laws))]
     fn is_lawful()
         ensures lawful { IsLawful raw_section }
         ensures some { TakesBytes raw_section.Encodes }

@@ -203,6 +203,7 @@ impl<'a> Readable<'a> for Catch {
     }
 
     #[inline(always)]
+    #[tactic(auto, using(wasm_instructions::proofs::OperandFormatLaws::item_laws))]
     fn is_lawful()
         ensures lawful { IsLawful catch_clause }
         ensures some { TakesBytes catch_clause.Encodes }
@@ -231,6 +232,7 @@ impl<'a> Readable<'a> for Handle {
     }
 
     #[inline(always)]
+    #[tactic(auto, using(wasm_instructions::proofs::OperandFormatLaws::item_laws))]
     fn is_lawful()
         ensures lawful { IsLawful handle_clause }
         ensures some { TakesBytes handle_clause.Encodes }

@@ -46,6 +46,7 @@ impl<'a> Readable<'a> for ValType {
     }
 
     #[inline(always)]
+    #[tactic(auto, using(wasm_types::proofs::TypeFormatLaws::type_laws))]
     fn is_lawful()
         ensures lawful { IsLawful val_type }
         ensures some { TakesBytes val_type.Encodes }
@@ -77,6 +78,7 @@ impl<'a> Readable<'a> for FieldType {
     }
 
     #[inline(always)]
+    #[tactic(auto, using(wasm_types::proofs::TypeFormatLaws::type_laws))]
     fn is_lawful()
         ensures lawful { IsLawful field_type }
         ensures some { TakesBytes field_type.Encodes }
@@ -233,6 +235,7 @@ impl<'a> Readable<'a> for SubType {
     }
 
     #[inline(always)]
+    #[tactic(auto, using(wasm_types::proofs::TypeFormatLaws::type_laws))]
     fn is_lawful()
         ensures lawful { IsLawful sub_type }
         ensures some { TakesBytes sub_type.Encodes }
@@ -261,6 +264,7 @@ impl<'a> Readable<'a> for TypeEntry {
     }
 
     #[inline(always)]
+    #[tactic(auto, using(wasm_types::proofs::TypeFormatLaws::type_laws))]
     fn is_lawful()
         ensures lawful { IsLawful recursive_type }
         ensures some { TakesBytes recursive_type.Encodes }

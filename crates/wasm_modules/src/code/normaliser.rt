@@ -72,6 +72,7 @@ impl Rewritable for CodeBody {
     ghost format = { code_body };
 
     #[inline(always)]
+    #[tactic(auto, using(crate::proofs::CodeBodyLaws::code_laws))]
     fn is_lawful() {}
 
     #[inline(always)]
@@ -97,6 +98,7 @@ impl RewritableBody for FunctionCode {
     ghost format = { function_code };
 
     #[inline(always)]
+    #[tactic(auto, using(crate::proofs::CodeBodyLaws::code_laws))]
     fn is_lawful() {}
 
     #[inline(always)]

@@ -11,4 +11,4 @@ unfolding unsigned_leb128 digits_of
 section_bytes section count bytes = rw (count, bytes) refl
 
 pub returns : goal.returns
-returns c = subst (λ (t : List ℕ). OnOk c.encode.result (c.encode.new.sink.items ≡ c.args.sink.now.items ++ t)) (section_bytes c.args.code.now c.requires.count c.requires.bytes) c.encode.ensures.ok
+returns c = subst (λ (t : List ℕ). OnOk c.encode.result (c.encode.new.sink.items ≡ c.args.sink.now.items ++ t)) (section_bytes c.args.code.now c.requires.count c.requires.bytes) c.encode.ensures.encodes.ok

@@ -10,7 +10,7 @@ returns c =
     let types = section_of (1, body_bytes c.args.types.now) in
     let functions = section_of (3, body_bytes c.args.functions.now) in
     let exports = section_of (7, body_of c.args.exports.now.exports.now) in
-    let one = c.in_ok-section.ensures.goes_on [] (body_bytes c.args.types.now) c.in_ok-module.ensures.ok refl in
-    let two = c.in_ok-section-2.ensures.goes_on (types ∷ []) (body_bytes c.args.functions.now) one refl in
-    let three = c.in_ok-section-3.ensures.goes_on (types ∷ functions ∷ []) (body_of c.args.exports.now.exports.now) two refl in
-    c.in_ok-section-4.ensures.goes_on (types ∷ functions ∷ exports ∷ []) (body_bytes c.args.code.now) three refl
+    let one = c.in_ok-section.ensures.appends.goes_on [] (body_bytes c.args.types.now) c.in_ok-module.ensures.ok refl in
+    let two = c.in_ok-section-2.ensures.appends.goes_on (types ∷ []) (body_bytes c.args.functions.now) one refl in
+    let three = c.in_ok-section-3.ensures.appends.goes_on (types ∷ functions ∷ []) (body_of c.args.exports.now.exports.now) two refl in
+    c.in_ok-section-4.ensures.appends.goes_on (types ∷ functions ∷ exports ∷ []) (body_bytes c.args.code.now) three refl

@@ -1,8 +1,6 @@
-use Rattle.wasm_sections.specs.Closed.{IsClosed}
-use Rattle.wasm_sections.specs.formats.Entries.{filled_of, table_entry}
-use Rattle.wasm_builders.specs.ListSections.{GainsItem}
-use Rattle.wasm_builders.proofs.ItemLaws.{gains_fitting}
+use Rattle.std.proofs.Common.{refl}
+use Rattle.wasm_builders.proofs.ItemLaws.{adds_table}
 use Rattle.wasm_builders.proofs.tables.ListSection+Table.table_with_init.Goals as goal
 
-pub returns-clause-ok : goal.returns-clause-ok
-returns-clause-ok c = gains_fitting c.push.result IsClosed (λ calls. GainsItem table_entry c.args.self.now (filled_of (c.args.ty, calls)) c.push.new.self) c.into_calls.result c.args.init c.into_calls.ensures.value c.into_calls.ensures.closed c.push.ensures.ok
+pub returns : goal.returns
+returns c = record { adds = adds_table c.into_calls.result c.args.init c.into_calls.ensures.value c.into_calls.ensures.closed c.args.self.now c.args.self.now c.push.new.self c.push.result refl c.args.ty c.push.ensures.adds }

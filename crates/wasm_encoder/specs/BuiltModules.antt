@@ -1,0 +1,50 @@
+-- Modules that are built section by section (WebAssembly Core 3.0, Modules).
+use Rattle.std.specs.Prelude.{◌≡◌, ◌++◌, ◌∷◌, [], ℕ, List, Result, OnOk, OnErr, IfErr}
+use Rattle.std.specs.List.{AllByRecursion}
+use Rattle.wasm_codec.specs.declared.encode.EncodeError.{EncodeError}
+use Rattle.wasm_codec.specs.Encoding.{byte_list_bytes, IsShortestOrLonger}
+use Rattle.wasm_modules.specs.formats.Sections.{header, SectionParts, section_of}
+use Rattle.wasm_modules.specs.formats.Modules.{raw_module, raw_section}
+use Rattle.wasm_sections.specs.formats.ModuleSectionParts.{ModuleSectionParts}
+use Rattle.wasm_sections.specs.formats.ModuleSections.{ShortestWholeModule}
+use Rattle.wasm_sections.specs.SectionBytes.{IsSectionAfter}
+
+module _ (id : ℕ) (encoding : List ℕ) (Can Written : Type 0) (Refused : EncodeError → Type 0) (old new : List ℕ) (result : Result (Unit {0}) EncodeError) where
+  -- A call that appends a section of this id and encoding to bytes.
+  pub record AppendsTo : Type 0 where
+    -- It appends the id and the encoding.
+    pub ok : OnOk result (new ≡ old ++ id ∷ encoding)
+    -- The section has an encoding.
+    pub can : OnOk result Can
+    -- The section was written. For a builder: the body encodes the entries, and with the id it is the minimal encoding
+    -- of a section that holds them.
+    pub written : OnOk result Written
+    -- It fails with one of these errors.
+    pub refused : IfErr result Refused
+    -- On error the bytes are unchanged.
+    pub err : OnErr result (new ≡ old)
+
+  -- A call that appends such a section to a module.
+  pub record AppendsSection : Type 0 where
+    -- It appends the id and the encoding.
+    pub ok : OnOk result (new ≡ old ++ id ∷ encoding)
+    -- The section has an encoding.
+    pub can : OnOk result Can
+    -- The section was written. For a builder: the body encodes the entries, and with the id it is the minimal encoding
+    -- of a section that holds them.
+    pub written : OnOk result Written
+    -- It fails with one of these errors.
+    pub refused : IfErr result Refused
+    -- On error the module is unchanged.
+    pub err : OnErr result (new ≡ old)
+    -- If the encoding is a body after its size, a section with this body is appended to the module's sections.
+    pub goes_on : (sections : List SectionParts) (body : List ℕ) → old ≡ raw_module.bytes sections → encoding ≡ byte_list_bytes body → OnOk result (new ≡ raw_module.bytes (sections ++ section_of (id, body) ∷ []))
+    -- Appended to a new module, it is the only section.
+    pub first : (body : List ℕ) → old ≡ header → encoding ≡ byte_list_bytes body → OnOk result (new ≡ raw_module.bytes (section_of (id, body) ∷ []))
+    -- If the module is the minimal encoding of decoded sections, and the new section is that of `added`, the module is
+    -- the minimal encoding of these sections and `added`.
+    pub whole : (sections : List ModuleSectionParts) (added : ModuleSectionParts) → ShortestWholeModule old sections → IsSectionAfter id encoding added → OnOk result (ShortestWholeModule new (sections ++ added ∷ []))
+    -- The bytes of sections encode them.
+    pub encodes : (sections : List SectionParts) → AllByRecursion raw_section.InRange sections → raw_module.Encodes (raw_module.bytes sections) sections
+    -- Every other encoding of them is longer.
+    pub shortest : (sections : List SectionParts) (bytes : List ℕ) → raw_module.Encodes bytes sections → IsShortestOrLonger bytes (raw_module.bytes sections)
