@@ -28,7 +28,7 @@ use Rattle.wasm_sections.specs.formats.ModuleSectionParts.{ModuleSectionParts, d
 use Rattle.wasm_sections.specs.SectionBytes.{IsBodyOf, IsSectionAfter}
 use Rattle.wasm_sections.proofs.ElementLaws.{element_is_lawful}
 use Rattle.wasm_sections.proofs.EntryLaws.{export_is_lawful, global_is_lawful, import_is_lawful, memory_is_lawful, table_is_lawful, tag_is_lawful}
-use Rattle.wasm_sections.proofs.SectionWriting.{data_count_section, data_segments_section, elements_section, exports_section, functions_section, globals_section, imports_section, memories_section, section_written, start_section, tables_section, tags_section}
+use Rattle.wasm_sections.proofs.ModuleSectionLaws.{data_count_kind, data_segments_kind, elements_kind, exports_kind, functions_kind, globals_kind, imports_kind, memories_kind, start_kind, tables_kind, tags_kind, is_body_of, section_written}
 use Rattle.wasm_sections.proofs.SegmentLaws.{data_is_lawful}
 use Rattle.wasm_writers.specs.EncodedLists.{EncodedItems, IsFull, IsMemoryOrTooLong, IsUncounted}
 use Rattle.wasm_writers.proofs.EncodedListLaws.{both_or, counted_or, which}
@@ -49,10 +49,10 @@ number_section : (id : ℕ) (section : ℕ → ModuleSectionParts) → IsBodyOf 
 number_section id section of n fits = section_written section u32 of n (unsigned_leb128 n) (short_number n fits) (number_written n fits).encodes refl
 
 pub start_written : (n : ℕ) → n < 2 ^ 32 → IsSectionAfter 8 (byte_list_bytes (unsigned_leb128 n)) (start n)
-start_written n fits = number_section 8 start start_section n fits
+start_written n fits = number_section 8 start (is_body_of start_kind) n fits
 
 pub data_count_written : (n : ℕ) → n < 2 ^ 32 → IsSectionAfter 12 (byte_list_bytes (unsigned_leb128 n)) (data_count n)
-data_count_written n fits = number_section 12 data_count data_count_section n fits
+data_count_written n fits = number_section 12 data_count (is_body_of data_count_kind) n fits
 
 -- ---- sections of items
 
@@ -64,31 +64,31 @@ module _ {T V : Type 0} (view : T → V) (S : SectionOf V) (law : IsLawful S.for
   fitting_lawful Fits = record { lawful = law; bytes = λ item. refl; written = λ item written fits. written fits; body = body }
 
 pub imports_lawful : LawfulEntry import_parts import_section
-imports_lawful = entries_lawful import_parts import_section import_is_lawful imports_section
+imports_lawful = entries_lawful import_parts import_section import_is_lawful (is_body_of imports_kind)
 
 pub functions_lawful : LawfulEntry (λ (index : ℕ). index) function_section
-functions_lawful = entries_lawful (λ (index : ℕ). index) function_section Lawful-u32 functions_section
+functions_lawful = entries_lawful (λ (index : ℕ). index) function_section Lawful-u32 (is_body_of functions_kind)
 
 pub tables_lawful : LawfulIf (λ (table : Table). table) table_section IsClosedTable
-tables_lawful = fitting_lawful (λ (table : Table). table) table_section table_is_lawful tables_section IsClosedTable
+tables_lawful = fitting_lawful (λ (table : Table). table) table_section table_is_lawful (is_body_of tables_kind) IsClosedTable
 
 pub memories_lawful : LawfulEntry (λ (memory : MemoryType). memory) memory_section
-memories_lawful = entries_lawful (λ (memory : MemoryType). memory) memory_section memory_is_lawful memories_section
+memories_lawful = entries_lawful (λ (memory : MemoryType). memory) memory_section memory_is_lawful (is_body_of memories_kind)
 
 pub globals_lawful : LawfulIf (λ (global : Global). global) global_section IsClosedGlobal
-globals_lawful = fitting_lawful (λ (global : Global). global) global_section global_is_lawful globals_section IsClosedGlobal
+globals_lawful = fitting_lawful (λ (global : Global). global) global_section global_is_lawful (is_body_of globals_kind) IsClosedGlobal
 
 pub exports_lawful : LawfulEntry export_parts export_section
-exports_lawful = entries_lawful export_parts export_section export_is_lawful exports_section
+exports_lawful = entries_lawful export_parts export_section export_is_lawful (is_body_of exports_kind)
 
 pub elements_lawful : LawfulIf (λ (element : Element). element) element_section IsClosedElement
-elements_lawful = fitting_lawful (λ (element : Element). element) element_section element_is_lawful elements_section IsClosedElement
+elements_lawful = fitting_lawful (λ (element : Element). element) element_section element_is_lawful (is_body_of elements_kind) IsClosedElement
 
 pub data_lawful : LawfulIf data_parts data_section (λ segment. IsClosedData segment.mode)
-data_lawful = fitting_lawful data_parts data_section data_is_lawful data_segments_section (λ segment. IsClosedData segment.mode)
+data_lawful = fitting_lawful data_parts data_section data_is_lawful (is_body_of data_segments_kind) (λ segment. IsClosedData segment.mode)
 
 pub tags_lawful : LawfulEntry (λ (tag : TagType). tag) tag_section
-tags_lawful = entries_lawful (λ (tag : TagType). tag) tag_section tag_is_lawful tags_section
+tags_lawful = entries_lawful (λ (tag : TagType). tag) tag_section tag_is_lawful (is_body_of tags_kind)
 
 -- ---- methods that add an item
 

@@ -12,7 +12,7 @@ use Rattle.wasm_codec.specs.formats.Combinators.{Format, items}
 use Rattle.wasm_codec.proofs.FormatLaws.{Lawful-items}
 use Rattle.wasm_sections.specs.formats.ModuleSectionParts.{ModuleSectionParts}
 use Rattle.wasm_sections.specs.SectionBytes.{IsBodyOf, IsSectionAfter}
-use Rattle.wasm_sections.proofs.SectionWriting.{section_written}
+use Rattle.wasm_sections.proofs.ModuleSectionLaws.{section_written}
 use Rattle.wasm_types.proofs.WrittenTypes.{in_range_of}
 use Rattle.wasm_writers.specs.EncodedLists.{EncodedItems, CountedSection, IsRefusalOfEach, body_bytes}
 use Rattle.wasm_writers.proofs.EncodedListLaws.{gains_one, gains_each, body_is, values_in_range, all_in_range}

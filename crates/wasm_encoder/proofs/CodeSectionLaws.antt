@@ -25,7 +25,7 @@ use Rattle.wasm_modules.specs.TypedModules.{IsTypedSection}
 use Rattle.wasm_encoder.specs.EncodedLists.{Adds, AddsAll, EncodesSection, EncodedItems, CountedSection, IsFull, IsMemoryOrTooLong, IsRefusalOfEach, IsRefusalOfOne, IsUncounted, OfItems, body_bytes}
 use Rattle.wasm_encoder.specs.CodeSections.{FunctionStandsFor, GainsBodies, GainsFunction, GoesOnWith, StandsForBodies, UncountedBody, body_of, followed}
 use Rattle.wasm_sections.specs.formats.ModuleSectionParts.{code}
-use Rattle.wasm_sections.proofs.SectionWriting.{code_section}
+use Rattle.wasm_sections.proofs.ModuleSectionLaws.{code_kind, is_body_of}
 use Rattle.wasm_builders.proofs.ListSectionLaws.{section_encodes as encodes_section}
 use Rattle.wasm_encoder.proofs.RefusalLaws.{bodies_refused, function_refused, if_refused}
 use Rattle.wasm_writers.proofs.EncodedListLaws.{stands_none, stands_one_more, gains_each, body_is, values_in_range, all_in_range}
@@ -128,7 +128,7 @@ pub section_encodes : (was section : EncodedItems) (old new : List ℕ) (r : Res
 unfolding code_section_body
 section_encodes was section old new r same few ok can refused err =
     subst (λ (list : EncodedItems). EncodesSection code_section_body (StandsForBodies list) 10 code list old new r) same
-    (encodes_section code_section_body (StandsForBodies was) 10 code code_section was (section_is_body was) (λ bodies s. body_encodes was bodies few s) Lawful-code-section-body.shortest.least old new r ok can refused err)
+    (encodes_section code_section_body (StandsForBodies was) 10 code (is_body_of code_kind) was (section_is_body was) (λ bodies s. body_encodes was bodies few s) Lawful-code-section-body.shortest.least old new r ok can refused err)
 
 pub is_decoded : {T E : Type 0} (r : Result T E) (section : EncodedItems) (bodies : List CodeBody) → IsCount section.count → OnOk r (CountedSection section) → StandsForBodies section bodies → OnOk r (IsTypedSection (typed_section_of (code_section_id, code_bodies bodies)))
 is_decoded (Ok x) section bodies few counted s = record {

@@ -22,7 +22,7 @@ use Rattle.wasm_types.specs.TypeCounts.{CountedFunc, CountedInner, CountedSub, C
 use Rattle.wasm_types.proofs.TypeFormatLaws.{Lawful-inner-type, Lawful-sub-type, Lawful-recursive-type, Lawful-type-body}
 use Rattle.wasm_types.proofs.WrittenTypes.{in_range_of}
 use Rattle.wasm_sections.specs.formats.ModuleSectionParts.{types}
-use Rattle.wasm_sections.proofs.SectionWriting.{types_section}
+use Rattle.wasm_sections.proofs.ModuleSectionLaws.{types_kind, is_body_of}
 use Rattle.wasm_builders.proofs.ListSectionLaws.{section_encodes as encodes_section}
 use Rattle.wasm_encoder.proofs.RefusalLaws.{entries_refused, func_refused, if_refused, sub_refused}
 use Rattle.wasm_writers.proofs.EncodedListLaws.{stands_none, gains_one, gains_each, body_is, values_in_range, all_in_range}
@@ -139,7 +139,7 @@ pub encodes_entries : (was section : EncodedItems) (old new : List ℕ) (r : Res
 unfolding type_body
 encodes_entries was section old new r same few ok can refused err =
     subst (λ (list : EncodedItems). EncodesSection type_body (StandsFor list) 1 types list old new r) same
-    (encodes_section type_body (StandsFor was) 1 types types_section was (is_shortest was) (λ entries s. body_encodes was entries few s) Lawful-type-body.shortest.least old new r ok can refused err)
+    (encodes_section type_body (StandsFor was) 1 types (is_body_of types_kind) was (is_shortest was) (λ entries s. body_encodes was entries few s) Lawful-type-body.shortest.least old new r ok can refused err)
 
 pub is_decoded : {T E : Type 0} (r : Result T E) (section : EncodedItems) (entries : List TypeEntry) → IsCount section.count → OnOk r (CountedSection section) → StandsFor section entries → OnOk r (IsTypedSection (typed_section_of (type_section_id, type_entries entries)))
 is_decoded (Ok x) section entries few counted s = record {

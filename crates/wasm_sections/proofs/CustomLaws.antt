@@ -1,29 +1,29 @@
--- The law of custom sections, and what is read and rewritten of them.
-use Rattle.std.proofs.Common.{◌≡◌, ℕ, ◌≤◌, true, false, List, [], ◌++◌, length, take, length-append, Option, Some, None, Result, Ok, Err, refl, sym, ap, subst, ◌∙◌, append_assoc, inl, inr, arith}
+-- The laws of custom sections, and what is read and written of them.
+use Rattle.std.proofs.Common.{◌≡◌, ℕ, ◌≤◌, true, false, List, [], ◌++◌, length, take, length-append, Option, Some, None, Err, refl, sym, ap, subst, ◌∙◌, append_assoc, inl, inr, arith, ◌+◌}
 use Rattle.std.proofs.Math.Seq.{take-length}
 use Rattle.std.proofs.lemmas.List.{append-nil}
-use Rattle.wasm_codec.specs.Outcomes.{IsOrMemory}
-use Rattle.wasm_codec.specs.Encoding.{IsShortestOrLonger}
+use Rattle.wasm_codec.specs.Encoding.{IsShortestOrLonger, IsShortest}
 use Rattle.wasm_codec.specs.formats.Grammar.{IsBytes}
 use Rattle.wasm_codec.specs.declared.reader.cursor.Fault.{Fault}
-use Rattle.wasm_codec.specs.declared.reader.cursor.Fault.TheVariants as faults
-use Rattle.wasm_codec.specs.declared.reader.ReadError.{ReadError}
-use Rattle.wasm_codec.specs.declared.reader.ReadError.TheVariants as errors
-use Rattle.wasm_codec.proofs.ListReading.{AtMostOne}
-use Rattle.wasm_codec.proofs.PlaceLists.{Lawful-minimal_only}
 use Rattle.wasm_codec.specs.Lawful.{IsLawful, IsLawfulBody}
 use Rattle.wasm_codec.specs.Places.{Place, place, keeps, Reads}
 use Rattle.wasm_codec.specs.Rewriter.{Rewriting, rewriting_after}
 use Rattle.wasm_codec.specs.formats.Bodies.{bytes_to_end}
 use Rattle.wasm_codec.specs.formats.Combinators.{Format, ◌⊗◌, minimal_only}
-use Rattle.wasm_codec.proofs.BodyLaws.{encodes_one, Lawful-bytes_to_end, Lawful-made-body, Lawful-then-body}
+use Rattle.wasm_codec.specs.Leb128.{unsigned_leb128}
+use Rattle.wasm_codec.specs.declared.reader.cursor.Fault.TheVariants as faults
+use Rattle.wasm_codec.proofs.PlaceLists.{Lawful-minimal_only}
+use Rattle.wasm_codec.proofs.BodyLaws.{Lawful-bytes_to_end, Lawful-made-body, Lawful-then-body}
 use Rattle.wasm_codec.proofs.Laws.{bind_some, some_is}
 use Rattle.wasm_codec.proofs.RewriterLaws.{is_after, after_is}
+use Rattle.wasm_codec.proofs.NumberLaws.{written}
+use Rattle.wasm_types.proofs.WrittenTypes.{in_range_of}
 use Rattle.wasm_sections.specs.formats.EntryParts.{CustomParts}
 use Rattle.wasm_sections.specs.Prefixes.{IsNothingOr, IsRefusedAt, AreLawfulPrefixes}
 use Rattle.wasm_sections.specs.formats.Names.{name}
 use Rattle.wasm_sections.specs.formats.Sections.{custom_of, parts_of_custom, custom_body}
 use Rattle.wasm_sections.proofs.NameLaws.{name_is_lawful}
+use Rattle.wasm_sections.proofs.TypeWriting.{two}
 
 pub custom_is_lawful : IsLawfulBody custom_body
 unfolding custom_body
@@ -144,3 +144,20 @@ module _ (bytes : List ℕ) (p : Place) (start : p ≡ place true bytes) where
         let q : (minimal_only name).at (place true bytes) ≡ Some (text, place true mid.left) = rw (at_start, short) refl in
         let one = (Lawful-minimal_only name_is_lawful).reads.sound (place true bytes) text (place true mid.left) (subst (λ (x : Place). IsBytes x.left) start fits) q in
         (custom_there fits is, one.parts ∙ ap (λ (l : List ℕ). l ++ mid.left) one.encodes.1 ∙ ap (λ (l : List ℕ). name.bytes text ++ l) (sym is))
+
+-- ---- writing
+
+pub body_counted : (c : CustomParts) → length (unsigned_leb128 (length c.name)) + length c.name + length c.data_bytes ≡ length (custom_body.bytes c)
+unfolding custom_body name
+body_counted c = omega (arith, length-append (unsigned_leb128 (length c.name) ++ c.name) c.data_bytes, length-append (unsigned_leb128 (length c.name)) c.name)
+
+pub body_appended : (c : CustomParts) (old named new : List ℕ) → named ≡ old ++ name.bytes c.name → new ≡ named ++ c.data_bytes → new ≡ old ++ custom_body.bytes c
+unfolding custom_body
+body_appended c old named new p q = two old (name.bytes c.name) c.data_bytes named new p q
+
+custom_in_range : (c : CustomParts) → name.InRange c.name → IsBytes c.data_bytes → custom_body.InRange c
+unfolding custom_body
+custom_in_range c fits are = ((fits, are), refl)
+
+pub custom_written : (c : CustomParts) → IsShortest name.Encodes name.bytes c.name → IsBytes c.data_bytes → IsShortest custom_body.Encodes custom_body.bytes c
+custom_written c named are = written custom_is_lawful.shortest c (custom_in_range c (in_range_of name name_is_lawful c.name named) are)

@@ -1,29 +1,47 @@
--- The laws of element segments.
-use Rattle.std.proofs.Common.{◌≡◌, None, ℕ, zero, suc, ◌<◌, ◌≤◌, Bool, true, false, eqb, cond, ◌&&◌, List, ◌++◌, length, length-append, refl, sym, ap, subst, ◌∙◌, lit≤, arith}
+-- The laws of element segments, and what is read, rewritten and written of them.
+use Rattle.std.proofs.Common.{◌≡◌, None, ℕ, zero, suc, ◌<◌, ◌≤◌, Bool, true, false, eqb, cond, ◌&&◌, List, ◌++◌, length, length-append, refl, sym, ap, subst, ◌∙◌, lit≤, arith, Option, Some, ◌+◌, ◌%◌, ◌/◌, nat_lt, if◌then◌else◌, [], ◌∷◌, take, drop, Ok, append_assoc, length-take-le, length-drop, ◌^◌}
 use Rattle.std.proofs.lemmas.Bool.{eqb-true}
+use Rattle.std.proofs.lemmas.List.{take_at, drop_at, set_at}
+use Rattle.std.specs.Prelude.{is_some}
+use Rattle.std.specs.List.{All}
+use Rattle.wasm_codec.specs.formats.Combinators.{◌⊗◌, u32, items, Format}
+use Rattle.wasm_codec.specs.formats.Grammar.{TakesBytes, IsBytes}
+use Rattle.wasm_codec.specs.Places.{Place, Reader, u32_at, place, Reads}
+use Rattle.wasm_codec.specs.Lawful.{IsLawful}
+use Rattle.wasm_codec.specs.Reading.{◌>>=◌}
+use Rattle.wasm_codec.specs.Leb128.{unsigned_leb128, digits_of, complemented}
+use Rattle.wasm_codec.specs.Rewriter.{Rewriting, rewritten_at, rewriting_after, without, with_byte}
+use Rattle.wasm_codec.specs.formats.Numbers.{EncodesU32}
+use Rattle.wasm_codec.specs.Encoding.{IsCount, IsShortest}
+use Rattle.wasm_codec.proofs.FormatLaws.{takes_bytes, Lawful-never, Lawful-after, Lawful-made, Lawful-both, Lawful-u32, Lawful-items}
+use Rattle.wasm_codec.proofs.RewriterLaws.{is_given, is_after}
+use Rattle.wasm_codec.proofs.PlaceLists.{plain_some}
+use Rattle.wasm_codec.proofs.NumberLaws.{written}
 use Rattle.wasm_types.specs.declared.types.heap.AbstractHeapType.{AbstractHeapType}
-use Rattle.wasm_types.specs.declared.types.heap.AbstractHeapType.TheVariants as abstracts
 use Rattle.wasm_types.specs.declared.types.heap.HeapType.{HeapType}
 use Rattle.wasm_types.specs.declared.types.heap.HeapType.TheVariants.{Abstract, Concrete, Exact}
 use Rattle.wasm_types.specs.declared.types.heap.RefType.{RefType}
-use Rattle.wasm_types.specs.formats.Types.{ref_type}
+use Rattle.wasm_types.specs.formats.Types.{ref_type, abstract_type}
+use Rattle.wasm_types.specs.TypeRanges.{HeapTypeFits}
+use Rattle.wasm_types.specs.declared.types.heap.AbstractHeapType.TheVariants as abstracts
 use Rattle.wasm_types.proofs.TypeFormatLaws.{Lawful-ref-type}
+use Rattle.wasm_types.proofs.WrittenTypes.{all_in_range, in_range_of, ref_written}
 use Rattle.wasm_instructions.specs.formats.Instructions.{Instruction}
-use Rattle.wasm_codec.specs.formats.Combinators.{◌⊗◌, u32, items}
-use Rattle.wasm_codec.specs.formats.Grammar.{TakesBytes}
-use Rattle.wasm_codec.specs.Places.{Place}
-use Rattle.wasm_codec.specs.Lawful.{IsLawful}
-use Rattle.wasm_sections.proofs.SegmentLaws.{left_out}
-use Rattle.wasm_codec.proofs.FormatLaws.{takes_bytes, Lawful-never, Lawful-after, Lawful-made, Lawful-both, Lawful-u32, Lawful-items}
 use Rattle.wasm_sections.specs.declared.elements.ElementMode.{ElementMode}
-use Rattle.wasm_sections.specs.declared.elements.ElementMode.TheVariants as modes
 use Rattle.wasm_sections.specs.declared.elements.Elements.{Elements}
-use Rattle.wasm_sections.specs.declared.elements.Elements.TheVariants as held
 use Rattle.wasm_sections.specs.declared.elements.Element.{Element}
 use Rattle.wasm_sections.specs.formats.Expressions.{expr}
-use Rattle.wasm_sections.specs.formats.Elements.{funcref, is_func, is_funcref, element, Exprs, part_0, functions_part, part_2, part_4, expressions_part, part_6, functions_number, expressions_number, element_number, kind_and_functions, element_form, element_segment}
+use Rattle.wasm_sections.specs.formats.Elements.{funcref, is_func, is_funcref, element, Exprs, part_0, functions_part, part_2, part_4, expressions_part, part_6, functions_number, expressions_number, element_number, kind_and_functions, element_form, element_segment, typed_of}
+use Rattle.wasm_sections.specs.ElementForms.{place_at, mode_at, elements_at}
+use Rattle.wasm_sections.specs.Closed.{IsClosed, IsClosedMode, IsClosedElement, AreClosed, IsWrittenExpr}
+use Rattle.wasm_sections.specs.SegmentBytes.{table_and_offset_bytes, is_short, element_mode_bytes, ElementModeFits, elements_bytes, ElementsFit}
+use Rattle.wasm_sections.specs.formats.PartCombinators.{part_if}
+use Rattle.wasm_sections.specs.declared.elements.ElementMode.TheVariants as modes
+use Rattle.wasm_sections.specs.declared.elements.Elements.TheVariants as held
+use Rattle.wasm_sections.proofs.SegmentLaws.{left_out, by_its_number, by_another_number}
 use Rattle.wasm_sections.proofs.PartCombinatorLaws.{Lawful-numbered}
-use Rattle.wasm_sections.proofs.ExpressionLaws.{expr_is_lawful}
+use Rattle.wasm_sections.proofs.ExpressionLaws.{expr_is_lawful, in_expr}
+use Rattle.wasm_sections.proofs.TypeWriting.{two}
 
 Lawful-kind-and-functions : IsLawful kind_and_functions
 Lawful-kind-and-functions = Lawful-after 0x00 (lit≤ tt) (Lawful-items Lawful-u32)
@@ -132,3 +150,335 @@ no_element_form (suc (suc (suc (suc (suc zero))))) p a b c d e f g h = absurd (f
 no_element_form (suc (suc (suc (suc (suc (suc zero)))))) p a b c d e f g h = absurd (g refl)
 no_element_form (suc (suc (suc (suc (suc (suc (suc zero))))))) p a b c d e f g h = absurd (h refl)
 no_element_form (suc (suc (suc (suc (suc (suc (suc (suc n)))))))) p a b c d e f g h = refl
+
+-- ---- reading
+
+abbrev Read : Type 0 → Type 0
+Read A = Option (A × Place)
+
+abbrev mapped : {A B : Type 0} → (A → B) → Read A → Read B
+mapped make r = r >>= λ x. Some (make x.0, x.1)
+
+abbrev both : {A B : Type 0} → Read A → Reader B → Read (A × B)
+both r second = r >>= λ a. second a.1 >>= λ b. Some ((a.0, b.0), b.1)
+
+abbrev in_parts : Read ElementMode → Reader Elements → Read Element
+in_parts mode elements = mode >>= λ m. elements m.1 >>= λ e. Some (element m.0 e.0, e.1)
+
+-- a mode without a place
+plain : {B : Type 0} (mode : ElementMode) (held_of : B → Elements) (r : Read B) → mapped (element mode) (mapped held_of r) ≡ mapped (λ b. element mode (held_of b)) r
+plain mode held_of None = refl
+plain mode held_of (Some x) = refl
+
+-- and one with a place
+placed : {B : Type 0} (table : ℕ) (held_of : B → Elements) (second : Reader B) (r : Read (List Instruction)) → in_parts (mapped (modes.Active table) r) (λ p. mapped held_of (second p)) ≡ mapped (λ (p : List Instruction × B). element (modes.Active table p.0) (held_of p.1)) (both r second)
+placed table held_of second None = refl
+placed {B} table held_of second (Some x) = by (second x.1) where
+  by : (o : Read B) → mapped (element (modes.Active table x.0)) (mapped held_of o) ≡ mapped (λ (p : List Instruction × B). element (modes.Active table p.0) (held_of p.1)) (o >>= λ b. Some ((x.0, b.0), b.1))
+  by None = refl
+  by (Some y) = refl
+
+-- whose table is told
+named : {B : Type 0} (held_of : B → Elements) (second : Reader B) (r : Read ℕ) → in_parts (r >>= λ x. place_at x.0 x.1) (λ p. mapped held_of (second p)) ≡ mapped (λ (p : ℕ × (List Instruction × B)). element (modes.Active p.0 p.1.0) (held_of p.1.1)) (both r (λ p. both (expr.at p) second))
+named held_of second None = refl
+named {B} held_of second (Some x) = placed x.0 held_of second (expr.at x.1) ∙ by (both (expr.at x.1) second) where
+  by : (o : Read (List Instruction × B)) → mapped (λ (p : List Instruction × B). element (modes.Active x.0 p.0) (held_of p.1)) o ≡ mapped (λ (p : ℕ × (List Instruction × B)). element (modes.Active p.0 p.1.0) (held_of p.1.1)) (o >>= λ b. Some ((x.0, b.0), b.1))
+  by None = refl
+  by (Some y) = refl
+
+by_parts : (n : ℕ) (p : Place) → in_parts (mode_at n p) (elements_at n) ≡ (element_form n).at p
+by_parts zero p = placed 0 held.Functions (items u32).at (expr.at p)
+by_parts (suc zero) p = plain modes.Passive held.Functions (kind_and_functions.at p)
+by_parts (suc (suc zero)) p = named held.Functions kind_and_functions.at (u32_at p)
+by_parts (suc (suc (suc zero))) p = plain modes.Declared held.Functions (kind_and_functions.at p)
+by_parts (suc (suc (suc (suc zero)))) p = placed 0 (held.Expressions funcref) (items expr).at (expr.at p)
+by_parts (suc (suc (suc (suc (suc zero))))) p = plain modes.Passive typed_of ((ref_type ⊗ items expr).at p)
+by_parts (suc (suc (suc (suc (suc (suc zero)))))) p = named typed_of (ref_type ⊗ items expr).at (u32_at p)
+by_parts (suc (suc (suc (suc (suc (suc (suc zero))))))) p = plain modes.Declared typed_of ((ref_type ⊗ items expr).at p)
+by_parts (suc (suc (suc (suc (suc (suc (suc (suc n)))))))) p = refl
+
+pub form_read : (n : ℕ) (p q r : Place) (mode : ElementMode) (elements : Elements) → mode_at n p ≡ Some (mode, q) → elements_at n q ≡ Some (elements, r) → (element_form n).at p ≡ Some (element mode elements, r)
+form_read n p q r mode elements first second = sym (by_parts n p) ∙ rw (first, second) refl
+
+pub no_mode : (n : ℕ) (p : Place) → mode_at n p ≡ None → (element_form n).at p ≡ None
+no_mode n p none = sym (by_parts n p) ∙ rw none refl
+
+pub no_elements : (n : ℕ) (p q : Place) (mode : ElementMode) → mode_at n p ≡ Some (mode, q) → elements_at n q ≡ None → (element_form n).at p ≡ None
+no_elements n p q mode first none = sym (by_parts n p) ∙ rw (first, none) refl
+
+-- ---- rewriting
+
+pub expr_takes : TakesBytes expr.Encodes
+unfolding expr
+expr_takes = takes_bytes expr_is_lawful refl
+
+-- ---- a type that was read before it was rewritten
+
+given_is : {V : Type 0} (F : Format V) (p q : Rewriting) (v : V) → F.at p.place ≡ Some (v, q.place) → q.done ≡ p.done ++ F.bytes v → q.rest ≡ p.rest → rewritten_at F p ≡ Some (v, q)
+given_is F p q v read written rest = rw (read, ← written, ← rest) refl
+
+pub told_type : (old new : Rewriting) (here cursor : Place) (ty : RefType) → IsBytes old.place.left → here ≡ place true old.place.left → Reads ref_type.at here cursor (Ok ty) → rewriting_after ref_type old ≡ Some new → rewritten_at ref_type old ≡ Some (ty, new)
+told_type old new here cursor ty fits is read e =
+    let one = is_after ref_type old new e in
+    let plain_old = plain_some Lawful-ref-type old.place one.value new.place fits one.given.is_read in
+    let plain_true = plain_some Lawful-ref-type (place true old.place.left) ty cursor fits (ap ref_type.at (sym is) ∙ read) in
+    let same : one.value ≡ ty = ap (λ (o : Option (RefType × List ℕ)). elim o [ Some x ↦ x.0 | None ↦ ty ]) (sym plain_old ∙ plain_true) in
+    given_is ref_type old new ty (one.given.is_read ∙ ap (λ (t : RefType). Some (t, new.place)) same) (one.given.written ∙ ap (λ (t : RefType). old.done ++ ref_type.bytes t) same) one.given.rest
+
+-- ---- forms that name table 0, and are written without what they needn't tell
+
+-- a byte that was written is taken out
+without_is : (r : Rewriting) (front back : List ℕ) (b mark : ℕ) → r.done ≡ front ++ b ∷ back → mark ≡ length front → (without mark 1 r).done ≡ front ++ back
+without_is r front back b mark written at =
+    let first : take mark (front ++ b ∷ back) ≡ front = take_at front (b ∷ back) mark (sym at) in
+    let rest : drop (mark + 1) (front ++ b ∷ back) ≡ back = ap (drop (mark + 1)) (sym (append_assoc front (b ∷ []) back)) ∙ drop_at (front ++ b ∷ []) back (mark + 1) (omega (arith, at, length-append front (b ∷ []))) in
+    rw (written, first, rest) refl
+
+is_there : (r : Rewriting) (front back : List ℕ) (b mark : ℕ) → r.done ≡ front ++ b ∷ back → mark ≡ length front → mark + 1 ≤ length r.done
+is_there r front back b mark written at = omega (arith, at, ap (length {A = ℕ}) written, length-append front (b ∷ back))
+
+zero_digit : unsigned_leb128 0 ≡ 0 ∷ []
+unfolding unsigned_leb128 digits_of
+zero_digit = refl
+
+two_digit : unsigned_leb128 2 ≡ 2 ∷ []
+unfolding unsigned_leb128 digits_of
+two_digit = refl
+
+four_digit : unsigned_leb128 4 ≡ 4 ∷ []
+unfolding unsigned_leb128 digits_of
+four_digit = refl
+
+six_digit : unsigned_leb128 6 ≡ 6 ∷ []
+unfolding unsigned_leb128 digits_of
+six_digit = refl
+
+either_some : (t : Bool) (a b : ℕ) (bytes : List ℕ) → 0 < length (if t then a ∷ [] else b ∷ bytes)
+either_some true a b bytes = omega arith
+either_some false a b bytes = omega arith
+
+digit_there : (n : ℕ) → 0 < length (unsigned_leb128 n)
+unfolding unsigned_leb128 digits_of
+digit_there n = either_some (nat_lt n 128) (complemented false n) (128 + complemented false (n % 128)) (digits_of false 128 8 (n / 128))
+
+-- what was written is as long as before, and longer
+longer_by_index : (p q : Rewriting) (table : ℕ) → rewritten_at u32 p ≡ Some (table, q) → length p.done + 1 ≤ length q.done
+longer_by_index p q table e =
+    let g = is_given u32 p table q e in
+    omega (arith, ap (length {A = ℕ}) g.written, length-append p.done (unsigned_leb128 table), digit_there table)
+
+longer_by : {V : Type 0} (F : Format V) (p q : Rewriting) → rewriting_after F p ≡ Some q → length p.done ≤ length q.done
+longer_by F p q e =
+    let one = is_after F p q e in
+    omega (arith, ap (length {A = ℕ}) one.given.written, length-append p.done (F.bytes one.value))
+
+-- the number of the form is there
+pub number_written : (old start : Rewriting) (number mark : ℕ) → rewritten_at u32 old ≡ Some (number, start) → mark ≡ length old.done → mark < length start.done
+number_written old start number mark e is = let more = longer_by_index old start number e in omega (arith, more, is)
+
+-- After it stand the index of a table, an expression, and at a mark the byte of a kind or type, which is taken out, and then
+-- the number.
+module _ (start mid at end : Rewriting) (table mark kind : ℕ) (there : mark < length start.done) (named : rewritten_at u32 start ≡ Some (table, mid)) (placed : rewriting_after expr mid ≡ Some at) (kind_is : kind ≡ length at.done) where
+  beyond : mark + 2 ≤ length at.done
+  beyond =
+      let one = longer_by_index start mid table named in
+      let two = longer_by expr mid at placed in
+      omega (arith, one, two, there)
+
+  module _ (b : ℕ) (back : List ℕ) (written : end.done ≡ at.done ++ b ∷ back) where
+    shorter : length (without kind 1 end).done ≡ length at.done + length back
+    shorter = ap (length {A = ℕ}) (without_is end at.done back b kind written kind_is) ∙ length-append at.done back
+
+    number_there : mark + 1 ≤ length (without kind 1 end).done
+    number_there = omega (arith, beyond, shorter)
+
+    index_there : mark < length (without mark 1 (without kind 1 end)).done
+    index_there =
+        let cut = (without kind 1 end).done in
+        omega (arith, beyond, shorter, length-append (take mark cut) (drop (mark + 1) cut), length-take-le mark cut (omega (arith, number_there)), length-drop (mark + 1) cut)
+
+  -- the byte of a kind
+  module _ (functions : rewriting_after kind_and_functions at ≡ Some end) where
+    pub kind_there : kind + 1 ≤ length end.done
+    kind_there = let two = is_after kind_and_functions at end functions in is_there end at.done ((items u32).bytes two.value) 0 kind two.given.written kind_is
+
+    pub number_of_functions_there : mark + 1 ≤ length (without kind 1 end).done
+    number_of_functions_there = let two = is_after kind_and_functions at end functions in number_there 0 ((items u32).bytes two.value) two.given.written
+
+-- the byte of its kind or type was written at a mark, after the number of its form, the index and the expression
+module _ (n : ℕ) (old start mid at end : Rewriting) (mark kind b : ℕ) (back : List ℕ) (digit : unsigned_leb128 n ≡ n ∷ []) (begun : rewritten_at u32 old ≡ Some (n, start)) (named : rewritten_at u32 start ≡ Some (0, mid)) (placed : rewriting_after expr mid ≡ Some at) (mark_is : mark ≡ length old.done) (kind_is : kind ≡ length at.done) (written : end.done ≡ at.done ++ b ∷ back) where
+  abbrev offset_bytes : List ℕ
+  offset_bytes = expr.bytes (is_after expr mid at placed).value
+
+  regroup : (d e : List ℕ) → ((d ++ n ∷ []) ++ 0 ∷ []) ++ e ≡ d ++ n ∷ (0 ∷ e)
+  regroup d e = simp append_assoc
+
+  placed_is : at.done ≡ old.done ++ n ∷ (0 ∷ offset_bytes)
+  placed_is =
+      let g = is_given u32 old n start begun in
+      let z = is_given u32 start 0 mid named in
+      let one = is_after expr mid at placed in
+      let table : mid.done ≡ (old.done ++ n ∷ []) ++ 0 ∷ [] = z.written ∙ ap (λ (d : List ℕ). start.done ++ d) zero_digit ∙ ap (λ (d : List ℕ). d ++ 0 ∷ []) (g.written ∙ ap (λ (d : List ℕ). old.done ++ d) digit) in
+      one.given.written ∙ ap (λ (d : List ℕ). d ++ offset_bytes) table ∙ regroup old.done offset_bytes
+
+  kind_cut : (without kind 1 end).done ≡ old.done ++ n ∷ (0 ∷ (offset_bytes ++ back))
+  kind_cut = without_is end at.done back b kind written kind_is ∙ ap (λ (d : List ℕ). d ++ back) placed_is ∙ append_assoc old.done (n ∷ (0 ∷ offset_bytes)) back
+
+  number_cut : (without mark 1 (without kind 1 end)).done ≡ old.done ++ 0 ∷ (offset_bytes ++ back)
+  number_cut = without_is (without kind 1 end) old.done (0 ∷ (offset_bytes ++ back)) n mark kind_cut mark_is
+
+  index_set : (with_byte mark 4 (without mark 1 (without kind 1 end))).done ≡ old.done ++ 4 ∷ (offset_bytes ++ back)
+  index_set = rw number_cut (set_at old.done 0 (offset_bytes ++ back) 4 mark (sym mark_is))
+
+-- what was its index is the number of the form
+module _ (old start mid at end : Rewriting) (mark kind : ℕ) (begun : rewritten_at u32 old ≡ Some (2, start)) (named : rewritten_at u32 start ≡ Some (0, mid)) (placed : rewriting_after expr mid ≡ Some at) (functions : rewriting_after kind_and_functions at ≡ Some end) (mark_is : mark ≡ length old.done) (kind_is : kind ≡ length at.done) where
+  abbrev indexes : List ℕ
+  indexes = (items u32).bytes (is_after kind_and_functions at end functions).value
+
+  pub functions_of_table_0 : rewriting_after element_segment old ≡ Some (without mark 1 (without kind 1 end))
+  unfolding element_segment
+  functions_of_table_0 =
+      let g = is_given u32 old 2 start begun in
+      let z = is_given u32 start 0 mid named in
+      let one = is_after expr mid at placed in
+      let two = is_after kind_and_functions at end functions in
+      let written = number_cut 2 old start mid at end mark kind 0 indexes two_digit begun named placed mark_is kind_is two.given.written in
+      by_another_number element_number element_form old start 2 begun end.place (without mark 1 (without kind 1 end)) (element (modes.Active 0 one.value) (held.Functions two.value)) (rw (z.is_read, one.given.is_read, two.given.is_read) refl) refl refl (written ∙ ap (λ (d : List ℕ). old.done ++ (d ++ (expr.bytes one.value ++ indexes))) (sym zero_digit)) (two.given.rest ∙ one.given.rest ∙ z.rest ∙ g.rest)
+
+-- and 4 is put in its place, where the type is the one that isn't told
+module _ (start mid at typed end : Rewriting) (mark kind : ℕ) (ty : RefType) (named : rewritten_at u32 start ≡ Some (0, mid)) (placed : rewriting_after expr mid ≡ Some at) (told : rewritten_at ref_type at ≡ Some (ty, typed)) (func : true ≡ is_funcref ty) (expressions : rewriting_after (items expr) typed ≡ Some end) (kind_is : kind ≡ length at.done) where
+  type_byte : ref_type.bytes funcref ≡ 0x70 ∷ []
+  unfolding ref_type abstract_type
+  type_byte = refl
+
+  abbrev initials : List ℕ
+  initials = (items expr).bytes (is_after (items expr) typed end expressions).value
+
+  type_is : ty ≡ funcref
+  type_is = funcref_of ty.nullable ty.heap_type (sym func)
+
+  typed_is : end.done ≡ at.done ++ 0x70 ∷ initials
+  typed_is =
+      let t = is_given ref_type at ty typed told in
+      let bytes : ref_type.bytes ty ≡ 0x70 ∷ [] = ap ref_type.bytes type_is ∙ type_byte in
+      (is_after (items expr) typed end expressions).given.written ∙ ap (λ (d : List ℕ). d ++ initials) (t.written ∙ ap (λ (d : List ℕ). at.done ++ d) bytes) ∙ append_assoc at.done (0x70 ∷ []) initials
+
+  pub type_there : kind + 1 ≤ length end.done
+  type_there = is_there end at.done initials 0x70 kind typed_is kind_is
+
+  pub number_of_expressions_there : mark < length start.done → mark + 1 ≤ length (without kind 1 end).done
+  number_of_expressions_there there = number_there start mid at end 0 mark kind there named placed kind_is 0x70 initials typed_is
+
+  pub index_of_expressions_there : mark < length start.done → mark < length (without mark 1 (without kind 1 end)).done
+  index_of_expressions_there there = index_there start mid at end 0 mark kind there named placed kind_is 0x70 initials typed_is
+
+  module _ (old : Rewriting) (begun : rewritten_at u32 old ≡ Some (6, start)) (mark_is : mark ≡ length old.done) where
+    pub expressions_of_table_0 : rewriting_after element_segment old ≡ Some (with_byte mark 4 (without mark 1 (without kind 1 end)))
+    unfolding element_segment
+    expressions_of_table_0 =
+        let g = is_given u32 old 6 start begun in
+        let z = is_given u32 start 0 mid named in
+        let one = is_after expr mid at placed in
+        let t = is_given ref_type at ty typed told in
+        let two = is_after (items expr) typed end expressions in
+        let written = index_set 6 old start mid at end mark kind 0x70 initials six_digit begun named placed mark_is kind_is typed_is in
+        let value = λ (r : RefType). element (modes.Active 0 one.value) (held.Expressions r two.value) in
+        let read : (element_form 6).at start.place ≡ Some (value funcref, end.place) = rw (z.is_read, one.given.is_read, t.is_read, two.given.is_read) (ap (λ (r : RefType). Some (value r, end.place)) type_is) in
+        by_another_number element_number element_form old start 6 begun end.place (with_byte mark 4 (without mark 1 (without kind 1 end))) (value funcref) read refl refl (written ∙ ap (λ (d : List ℕ). old.done ++ (d ++ (expr.bytes one.value ++ initials))) (sym four_digit)) (two.given.rest ∙ t.rest ∙ one.given.rest ∙ z.rest ∙ g.rest)
+
+-- all is told of another table or type
+pub expressions_kept : (begun start mid at typed end : Rewriting) (table : ℕ) (ty : RefType) → rewritten_at u32 begun ≡ Some (6, start) → rewritten_at u32 start ≡ Some (table, mid) → rewriting_after expr mid ≡ Some at → rewritten_at ref_type at ≡ Some (ty, typed) → rewriting_after (items expr) typed ≡ Some end → eqb table 0 && is_funcref ty ≡ false
+    → rewriting_after element_segment begun ≡ Some end
+unfolding element_segment
+expressions_kept begun start mid at typed end table ty number named placed told expressions other =
+    let g = is_given u32 start table mid named in
+    let one = is_after expr mid at placed in
+    let t = is_given ref_type at ty typed told in
+    let two = is_after (items expr) typed end expressions in
+    let written : end.done ≡ start.done ++ (unsigned_leb128 table ++ (expr.bytes one.value ++ (ref_type.bytes ty ++ (items expr).bytes two.value))) =
+    two.given.written ∙ ap (λ (d : List ℕ). d ++ (items expr).bytes two.value) (t.written ∙ ap (λ (d : List ℕ). d ++ ref_type.bytes ty) (one.given.written ∙ ap (λ (d : List ℕ). d ++ expr.bytes one.value) g.written))
+    ∙ regroup start.done (unsigned_leb128 table) (expr.bytes one.value) (ref_type.bytes ty) ((items expr).bytes two.value) in
+    by_its_number element_number element_form begun start 6 number end (element (modes.Active table one.value) (held.Expressions ty two.value)) (rw (g.is_read, one.given.is_read, t.is_read, two.given.is_read) refl) written (two.given.rest ∙ t.rest ∙ one.given.rest ∙ g.rest) (rw other refl) (rw other refl)
+  where
+    regroup : (d t l r c : List ℕ) → (((d ++ t) ++ l) ++ r) ++ c ≡ d ++ (t ++ (l ++ (r ++ c)))
+    regroup d t l r c = simp append_assoc
+
+-- ---- writing
+
+place_then : (form : ℕ) (index : Option ℕ) (offset : List Instruction) (rest : List ℕ) → table_and_offset_bytes form index offset ++ rest ≡ unsigned_leb128 form ++ ((part_if (is_some index) u32).bytes index ++ (expr.bytes offset ++ rest))
+place_then form index offset rest =
+    append_assoc (unsigned_leb128 form) ((part_if (is_some index) u32).bytes index ++ expr.bytes offset) rest ∙ ap (λ (l : List ℕ). unsigned_leb128 form ++ l) (append_assoc ((part_if (is_some index) u32).bytes index) (expr.bytes offset) rest)
+
+abbrev AreBytes : ElementMode → Elements → Type 0
+AreBytes mode elements = element_mode_bytes (element_number (element mode elements)) mode ++ elements_bytes (is_short (element_number (element mode elements))) elements ≡ element_segment.bytes (element mode elements)
+
+element_bytes_are : (mode : ElementMode) (elements : Elements) → AreBytes mode elements
+unfolding element_segment part_if
+element_bytes_are modes.Passive (held.Functions fs) = refl
+element_bytes_are modes.Passive (held.Expressions ty es) = refl
+element_bytes_are modes.Declared (held.Functions fs) = refl
+element_bytes_are modes.Declared (held.Expressions ty es) = refl
+element_bytes_are (modes.Active table offset) (held.Functions fs) = by (eqb table 0) refl where
+  by : (t : Bool) → eqb table 0 ≡ t → AreBytes (modes.Active table offset) (held.Functions fs)
+  by true is = rw is (place_then 0 None offset ((items u32).bytes fs))
+  by false is = rw is (place_then 2 (Some table) offset (kind_and_functions.bytes fs))
+element_bytes_are (modes.Active table offset) (held.Expressions ty es) = by (eqb table 0 && is_funcref ty) refl where
+  by : (t : Bool) → eqb table 0 && is_funcref ty ≡ t → AreBytes (modes.Active table offset) (held.Expressions ty es)
+  by true is = rw is (place_then 4 None offset ((items expr).bytes es))
+  by false is = rw is (place_then 6 (Some table) offset (ref_type.bytes ty ++ (items expr).bytes es))
+
+pub element_appended : (e : Element) (form : ℕ) (short : Bool) (old some new : List ℕ) → form ≡ element_number e → short ≡ is_short form → some ≡ old ++ element_mode_bytes form e.mode → new ≡ some ++ elements_bytes short e.elements → new ≡ old ++ element_segment.bytes e
+element_appended e form short old some new is shortly p q =
+    let first : some ≡ old ++ element_mode_bytes (element_number e) e.mode = subst (λ (n : ℕ). some ≡ old ++ element_mode_bytes n e.mode) is p in
+    let second : new ≡ some ++ elements_bytes (is_short (element_number e)) e.elements = subst (λ (n : ℕ). new ≡ some ++ elements_bytes (is_short n) e.elements) is (subst (λ (s : Bool). new ≡ some ++ elements_bytes s e.elements) shortly q) in
+    two old (element_mode_bytes (element_number e) e.mode) (elements_bytes (is_short (element_number e)) e.elements) some new first second ∙ ap (λ (l : List ℕ). old ++ l) (element_bytes_are e.mode e.elements)
+
+element_there : (mode : ElementMode) (elements : Elements) → ElementModeFits (element_number (element mode elements)) mode → ElementsFit (is_short (element_number (element mode elements))) elements → element_segment.InRange (element mode elements)
+unfolding element_segment
+element_there modes.Passive (held.Functions fs) fits hold = (hold, refl)
+element_there modes.Passive (held.Expressions ty es) fits hold = ((hold.0 refl, hold.1), refl)
+element_there modes.Declared (held.Functions fs) fits hold = (hold, refl)
+element_there modes.Declared (held.Expressions ty es) fits hold = ((hold.0 refl, hold.1), refl)
+element_there (modes.Active table offset) (held.Functions fs) fits hold = by (eqb table 0) refl where
+  by : (t : Bool) → eqb table 0 ≡ t → element_segment.InRange (element (modes.Active table offset) (held.Functions fs))
+  by true is = rw is ((fits.1, hold), ap (λ (m : ℕ). element (modes.Active m offset) (held.Functions fs)) (sym (eqb-true table 0 is)))
+  by false is =
+      let small : table < 2 ^ 32 = fits.0 (rw is refl) in
+      rw is ((small, (fits.1, hold)), refl)
+element_there (modes.Active table offset) (held.Expressions ty es) fits hold = by (eqb table 0 && is_funcref ty) refl where
+  by : (t : Bool) → eqb table 0 && is_funcref ty ≡ t → element_segment.InRange (element (modes.Active table offset) (held.Expressions ty es))
+  by true is =
+      let both = both_true (eqb table 0) (is_funcref ty) is in
+      let same = ap (λ (m : ℕ). element (modes.Active m offset) (held.Expressions funcref es)) (sym (eqb-true table 0 both.0)) ∙ ap (λ (r : RefType). element (modes.Active table offset) (held.Expressions r es)) (sym (funcref_of ty.nullable ty.heap_type both.1)) in
+      rw is ((fits.1, hold.1), same)
+  by false is =
+      let typed : ref_type.InRange ty = hold.0 (rw is refl) in
+      let small : table < 2 ^ 32 = fits.0 (rw is refl) in
+      rw is ((small, (fits.1, (typed, hold.1))), refl)
+
+pub element_written : (e : Element) (form : ℕ) (short : Bool) → form ≡ element_number e → short ≡ is_short form → (IsClosedMode e.mode → ElementModeFits form e.mode) → (AreClosed e.elements → ElementsFit short e.elements) → IsClosedElement e → IsShortest element_segment.Encodes element_segment.bytes e
+element_written e form short is shortly fits hold closed =
+    let own : ElementsFit (is_short (element_number e)) e.elements = subst (λ (n : ℕ). ElementsFit (is_short n) e.elements) is (subst (λ (s : Bool). ElementsFit s e.elements) shortly (hold closed.1)) in
+    written element_is_lawful.shortest e (element_there e.mode e.elements (subst (λ (n : ℕ). ElementModeFits n e.mode) is (fits closed.0)) own)
+
+pub element_mode_fits : (form : ℕ) (mode : ElementMode) (table : ℕ) (offset calls : List Instruction) → mode ≡ modes.Active table offset → calls ≡ offset → (is_short form ≡ false → table < 2 ^ 32) → (IsClosed calls → IsShortest expr.Encodes expr.bytes calls) → IsClosedMode mode → ElementModeFits form mode
+element_mode_fits form mode table offset calls is these small made closed =
+    let whole : IsClosed offset → IsShortest expr.Encodes expr.bytes offset = subst (λ (l : List Instruction). IsClosed l → IsShortest expr.Encodes expr.bytes l) these made in
+    let ends : IsClosed offset = subst IsClosedMode is closed in
+    subst (ElementModeFits form) (sym is) (small, in_expr offset (whole ends))
+
+pub functions_fit : (short : Bool) (elements : Elements) (fs given : List ℕ) → elements ≡ held.Functions fs → given ≡ fs → IsCount (length given) → All (IsShortest EncodesU32 unsigned_leb128) given → ElementsFit short elements
+functions_fit short elements fs given is these few made =
+    subst (ElementsFit short) (sym is) (subst (λ (l : List ℕ). (items u32).InRange l) these (few, all_in_range u32 Lawful-u32 given made))
+
+pub expressions_fit : (short : Bool) (elements : Elements) (ty : RefType) (es given : List (List Instruction)) → elements ≡ held.Expressions ty es → given ≡ es → (short ≡ false → ref_type.InRange ty) → IsCount (length given) → All IsWrittenExpr given → AreClosed elements → ElementsFit short elements
+expressions_fit short elements ty es given is these typed few made closed =
+    let ends : All IsClosed given = subst (λ (l : List (List Instruction)). All IsClosed l) (sym these) (subst AreClosed is closed) in
+    subst (ElementsFit short) (sym is) (typed, subst (λ (l : List (List Instruction)). (items expr).InRange l) these (few, all_in_range expr expr_is_lawful given (λ k d lt. made k d lt (ends k d lt))))
+
+pub type_fits : (ty : RefType) → HeapTypeFits ty.heap_type → ref_type.InRange ty
+type_fits ty fits = in_range_of ref_type Lawful-ref-type ty (ref_written ty fits)
+
+pub not_both : (b : Bool) → b ≡ true → b ≡ false → ⊥
+not_both true e f = absurd cc
+not_both false e f = absurd cc

@@ -1,16 +1,34 @@
--- The laws of entries: what is read is what is encoded, the shortest encoding is known, and none is encoded by no bytes.
-use Rattle.std.proofs.Common.{Some, refl, lit≤}
-use Rattle.std.specs.Prelude.{is_some}
-use Rattle.wasm_types.specs.formats.Types.{ref_type, val_type, abstract_type}
-use Rattle.wasm_codec.specs.formats.Grammar.{TakesBytes}
+-- The laws of entries of sections, and what is written of them.
+use Rattle.std.proofs.Common.{Some, refl, lit≤, ◌≡◌, ℕ, ◌^◌, ◌<◌, true, List, [], ◌∷◌, ◌++◌, length, Option, None, sym, subst}
+use Rattle.std.specs.Prelude.{is_some, IfSome}
+use Rattle.std.specs.Str.{IsUtf8, is_utf8}
+use Rattle.std.proofs.lemmas.Str.{is_utf8-from_IsUtf8}
+use Rattle.wasm_codec.specs.formats.Grammar.{TakesBytes, IsBytes}
 use Rattle.wasm_codec.specs.Lawful.{IsLawful}
+use Rattle.wasm_codec.specs.formats.Combinators.{u32}
+use Rattle.wasm_codec.specs.Leb128.{unsigned_leb128}
+use Rattle.wasm_codec.specs.formats.Numbers.{EncodesU32}
+use Rattle.wasm_codec.specs.Encoding.{IsCount, IsShortest}
 use Rattle.wasm_codec.proofs.FormatLaws.{Every-after, Every-made, Lawful-after, Lawful-or-after, Lawful-or-else, Lawful-made, Lawful-both, Lawful-u32, takes_bytes}
+use Rattle.wasm_codec.proofs.NumberLaws.{written}
+use Rattle.wasm_types.specs.formats.Types.{ref_type, val_type, abstract_type}
+use Rattle.wasm_types.proofs.WrittenTypes.{in_range_of}
+use Rattle.wasm_instructions.specs.formats.Instructions.{Instruction}
 use Rattle.wasm_sections.specs.formats.Names.{name}
-use Rattle.wasm_sections.specs.formats.Externals.{memory_flags, memory_type, tag_type, table_type, global_type}
+use Rattle.wasm_sections.specs.formats.Externals.{memory_flags, memory_type, tag_type, table_type, global_type, export_kind_byte, export_kind, entity_type}
 use Rattle.wasm_sections.specs.formats.Entries.{export_of, export_entry, import_of, import_entry, filled_of, filled_part, unfilled, table_entry, global_of, global_entry}
+use Rattle.wasm_sections.specs.declared.types.ExportKind.{ExportKind}
+use Rattle.wasm_sections.specs.formats.EntryParts.{ExportParts, ImportParts}
+use Rattle.wasm_sections.specs.Closed.{IsClosed, IsClosedGlobal, IsClosedTable}
+use Rattle.wasm_sections.specs.declared.globals.Global.{Global}
+use Rattle.wasm_sections.specs.declared.tables.Table.{Table}
+use Rattle.wasm_sections.specs.declared.types.TableType.{TableType}
+use Rattle.wasm_sections.specs.formats.Expressions.{expr}
+use Rattle.wasm_sections.specs.declared.types.ExportKind.TheVariants as kinds
 use Rattle.wasm_sections.proofs.NameLaws.{name_is_lawful}
 use Rattle.wasm_sections.proofs.ExternalLaws.{Lawful-entity-type, Lawful-export-kind, Lawful-memory-type, Lawful-tag-type, Lawful-table-type, Lawful-global-type}
-use Rattle.wasm_sections.proofs.ExpressionLaws.{expr_is_lawful}
+use Rattle.wasm_sections.proofs.ExpressionLaws.{expr_is_lawful, in_expr}
+use Rattle.wasm_sections.proofs.TypeWriting.{three, two, four}
 
 pub export_is_lawful : IsLawful export_entry
 unfolding export_entry
@@ -60,3 +78,87 @@ global_is_lawful = Lawful-made global_of (λ g. Some (g.ty, g.init)) (λ p. refl
 pub global_takes : TakesBytes global_entry.Encodes
 unfolding global_entry global_type val_type ref_type abstract_type
 global_takes = takes_bytes global_is_lawful refl
+
+-- ---- writing
+
+pub utf8_test : (text : List ℕ) → IsUtf8 text → is_utf8 text ≡ true
+utf8_test text u = is_utf8-from_IsUtf8 text u
+
+pub name_written : (text : List ℕ) → IsBytes text → is_utf8 text ≡ true → IsCount (length text) → IsShortest name.Encodes name.bytes text
+unfolding name
+name_written text bytes utf8 few = written name_is_lawful.shortest text ((bytes, utf8), few)
+
+kind_there : (kind : ExportKind) → is_some (export_kind_byte kind) ≡ true
+kind_there kinds.Func = refl
+kind_there kinds.Table = refl
+kind_there kinds.Memory = refl
+kind_there kinds.Global = refl
+kind_there kinds.Tag = refl
+
+in_name : (text : List ℕ) → IsShortest name.Encodes name.bytes text → name.InRange text
+in_name text h = in_range_of name name_is_lawful text h
+
+export_there : (e : ExportParts) → name.InRange e.name → e.index < 2 ^ 32 → export_entry.InRange e
+unfolding export_entry export_kind
+export_there e fits small = ((fits, (kind_there e.kind, small)), refl)
+
+pub export_written : (e : ExportParts) → IsShortest name.Encodes name.bytes e.name → IsShortest EncodesU32 unsigned_leb128 e.index → IsShortest export_entry.Encodes export_entry.bytes e
+export_written e h i = written export_is_lawful.shortest e (export_there e (in_name e.name h) (in_range_of u32 Lawful-u32 e.index i))
+
+-- an export was appended part by part
+pub export_appended : (e : ExportParts) (old named kinded new : List ℕ) (byte : ℕ) → named ≡ old ++ name.bytes e.name → export_kind.bytes e.kind ≡ byte ∷ [] → kinded ≡ named ++ byte ∷ [] → new ≡ kinded ++ unsigned_leb128 e.index → new ≡ old ++ export_entry.bytes e
+unfolding export_entry
+export_appended e old named kinded new byte p k q r = rw k (three old (name.bytes e.name) (byte ∷ []) (unsigned_leb128 e.index) named kinded new p q r)
+
+import_there : (i : ImportParts) → name.InRange i.module_name → name.InRange i.field → entity_type.InRange i.ty → import_entry.InRange i
+unfolding import_entry
+import_there i first second ty = ((first, (second, ty)), refl)
+
+pub import_written : (i : ImportParts) → IsShortest name.Encodes name.bytes i.module_name → IsShortest name.Encodes name.bytes i.field → IsShortest entity_type.Encodes entity_type.bytes i.ty → IsShortest import_entry.Encodes import_entry.bytes i
+import_written i first second ty = written import_is_lawful.shortest i (import_there i (in_name i.module_name first) (in_name i.field second) (in_range_of entity_type Lawful-entity-type i.ty ty))
+
+pub import_appended : (i : ImportParts) (old one two new : List ℕ) → one ≡ old ++ name.bytes i.module_name → two ≡ one ++ name.bytes i.field → new ≡ two ++ entity_type.bytes i.ty → new ≡ old ++ import_entry.bytes i
+unfolding import_entry
+import_appended i old one two new p q r = three old (name.bytes i.module_name) (name.bytes i.field) (entity_type.bytes i.ty) one two new p q r
+
+-- ---- globals and tables
+
+pub global_appended : (g : Global) (calls : List Instruction) (old some new : List ℕ) → calls ≡ g.init → some ≡ old ++ global_type.bytes g.ty → new ≡ some ++ expr.bytes calls → new ≡ old ++ global_entry.bytes g
+unfolding global_entry
+global_appended g calls old some new these p q = rw (← these) (two old (global_type.bytes g.ty) (expr.bytes calls) some new p q)
+
+global_there : (g : Global) → global_type.InRange g.ty → expr.InRange g.init → global_entry.InRange g
+unfolding global_entry
+global_there g ty init = ((ty, init), refl)
+
+pub global_entry_written : (g : Global) (calls : List Instruction) → calls ≡ g.init → IsShortest global_type.Encodes global_type.bytes g.ty → (IsClosed calls → IsShortest expr.Encodes expr.bytes calls) → IsClosedGlobal g → IsShortest global_entry.Encodes global_entry.bytes g
+global_entry_written g calls these ty init closed =
+    let whole : IsClosed g.init → IsShortest expr.Encodes expr.bytes g.init = subst (λ (l : List Instruction). IsClosed l → IsShortest expr.Encodes expr.bytes l) these init in
+    written global_is_lawful.shortest g (global_there g (in_range_of global_type Lawful-global-type g.ty ty) (in_expr g.init (whole closed)))
+
+unfilled_there : (ty : TableType) → table_type.InRange ty → table_entry.InRange (unfilled ty)
+unfolding table_entry
+unfilled_there ty fits = (fits, refl)
+
+filled_there : (ty : TableType) (init : List Instruction) → table_type.InRange ty → expr.InRange init → table_entry.InRange (filled_of (ty, init))
+unfolding table_entry
+filled_there ty init fits made = ((fits, made), refl)
+
+pub unfilled_appended : (t : Table) (old new : List ℕ) → t.init ≡ None → new ≡ old ++ table_type.bytes t.ty → new ≡ old ++ table_entry.bytes t
+unfolding table_entry
+unfilled_appended t old new is p = rw is p
+
+pub unfilled_written : (t : Table) → t.init ≡ None → IsShortest table_type.Encodes table_type.bytes t.ty → IsShortest table_entry.Encodes table_entry.bytes t
+unfilled_written t is h = subst (λ (o : Option (List Instruction)). IsShortest table_entry.Encodes table_entry.bytes (record { ty = t.ty; init = o })) (sym is)
+    (written table_is_lawful.shortest (unfilled t.ty) (unfilled_there t.ty (in_range_of table_type Lawful-table-type t.ty h)))
+
+pub filled_appended : (t : Table) (init calls : List Instruction) (old first second typed new : List ℕ) → t.init ≡ Some init → calls ≡ init → first ≡ old ++ 0x40 ∷ [] → second ≡ first ++ 0x00 ∷ [] → typed ≡ second ++ table_type.bytes t.ty → new ≡ typed ++ expr.bytes calls → new ≡ old ++ table_entry.bytes t
+unfolding table_entry
+filled_appended t init calls old first second typed new is these p q r s = rw (is, ← these) (four old (0x40 ∷ []) (0x00 ∷ []) (table_type.bytes t.ty) (expr.bytes calls) first second typed new p q r s)
+
+pub filled_written : (t : Table) (init calls : List Instruction) → t.init ≡ Some init → calls ≡ init → IsShortest table_type.Encodes table_type.bytes t.ty → (IsClosed calls → IsShortest expr.Encodes expr.bytes calls) → IsClosedTable t → IsShortest table_entry.Encodes table_entry.bytes t
+filled_written t init calls is these ty made closed =
+    let whole : IsClosed init → IsShortest expr.Encodes expr.bytes init = subst (λ (l : List Instruction). IsClosed l → IsShortest expr.Encodes expr.bytes l) these made in
+    let ends : IsClosed init = subst (λ (o : Option (List Instruction)). IfSome o IsClosed) is closed in
+    subst (λ (o : Option (List Instruction)). IsShortest table_entry.Encodes table_entry.bytes (record { ty = t.ty; init = o })) (sym is)
+    (written table_is_lawful.shortest (filled_of (t.ty, init)) (filled_there t.ty init (in_range_of table_type Lawful-table-type t.ty ty) (in_expr init (whole ends))))

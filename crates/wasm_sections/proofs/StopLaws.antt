@@ -1,5 +1,5 @@
 -- The laws of bodies that stop to be whole at an item, and of the items in longer encodings.
-use Rattle.std.proofs.Common.{◌≡◌, ℕ, ◌+◌, ◌-◌, ◌<◌, ◌≤◌, ◌⊎◌, true, IfSome, IfNone, Result, Ok, Err, List, [], ◌∷◌, ◌++◌, length, drop, Some, ap, sym, subst, ◌∙◌, inl, inr, refl, append_assoc, length-append, arith}
+use Rattle.std.proofs.Common.{◌≡◌, ℕ, ◌+◌, ◌-◌, ◌<◌, ◌≤◌, ◌⊎◌, true, IfNone, Result, Ok, Err, List, [], ◌∷◌, ◌++◌, length, drop, Some, ap, sym, subst, ◌∙◌, inl, inr, refl, append_assoc, length-append, arith}
 use Rattle.std.specs.Result.{result_ok, result_err}
 use Rattle.std.proofs.lemmas.List.{append-nil, drop_at}
 use Rattle.wasm_codec.specs.Outcomes.{EncodesSome, IsLongestPrefix}
@@ -23,10 +23,12 @@ use Rattle.wasm_instructions.specs.formats.Instructions.{Instruction, Instructio
 use Rattle.wasm_modules.specs.formats.CodeBodies.{local_group, function_code}
 use Rattle.wasm_modules.proofs.CodeBodyLaws.{Lawful-local-group, local_group_takes}
 use Rattle.wasm_readers.proofs.CheckLaws.{an_item}
-use Rattle.wasm_sections.specs.Stops.{HasItemsBefore, StopsAtItem, HasLonger, nothing, shortest, more, CountsLonger, Tells, HoldsItems, OfItems, types, imports, functions, tables, memories, globals, exports, elements, bodies, data_segments, tags, StopsInCode}
-use Rattle.wasm_sections.specs.declared.modules.places.BrokenPart.TheVariants.{Locals, Instruction as AtInstruction}
-use Rattle.wasm_sections.specs.declared.modules.places.ItemCounts.{ItemCounts}
-use Rattle.wasm_sections.specs.declared.modules.places.BrokenItem.{BrokenItem}
+use Rattle.wasm_sections.specs.Stops.{HasItemsBefore, StopsAtItem, HasLonger, nothing, shortest, more, CountsLonger, Tells, TellsOfSection, StopsInCode}
+use Rattle.wasm_sections.specs.formats.ModuleSections.{HoldsItems, OfItems}
+use Rattle.wasm_sections.proofs.ModuleSectionLaws.{of_kind}
+use Rattle.wasm_sections.specs.declared.modules.locate.BrokenPart.TheVariants.{Locals, Instruction as AtInstruction}
+use Rattle.wasm_sections.specs.declared.modules.locate.ItemCounts.{ItemCounts}
+use Rattle.wasm_sections.specs.declared.modules.locate.BrokenItem.{BrokenItem}
 use Rattle.wasm_types.specs.declared.types.value.ValType.{ValType}
 
 -- a list whose count isn't there stops at its beginning
@@ -113,20 +115,6 @@ counting_longer {V} {F} r some body here next count i longer w lt e fewer =
 
 -- ---- what is told of a section's items
 
--- What follows from it for any format follows for the items of a section.
-pub of_items : {P Q : (V : Type 0) → Format V → Type 0} {id : ℕ} → ((V : Type 0) (F : Format V) → P V F → Q V F) → OfItems P id → OfItems Q id
-of_items follows (types is p) = types is (follows _ _ p)
-of_items follows (imports is p) = imports is (follows _ _ p)
-of_items follows (functions is p) = functions is (follows _ _ p)
-of_items follows (tables is p) = tables is (follows _ _ p)
-of_items follows (memories is p) = memories is (follows _ _ p)
-of_items follows (globals is p) = globals is (follows _ _ p)
-of_items follows (exports is p) = exports is (follows _ _ p)
-of_items follows (elements is p) = elements is (follows _ _ p)
-of_items follows (bodies is p) = bodies is (follows _ _ p)
-of_items follows (data_segments is p) = data_segments is (follows _ _ p)
-of_items follows (tags is p) = tags is (follows _ _ p)
-
 joined_items : {V : Type 0} {F : Format V} {bytes : List ℕ} {items : List V} {longer : ℕ} → HasLonger F bytes items longer → Joined F.Encodes bytes items
 joined_items nothing = refl
 joined_items {F = F} (shortest {bytes} {items} item before encodes) = Joined-more F.Encodes bytes items (F.bytes item) item (joined_items before) encodes
@@ -136,22 +124,19 @@ joined_items {F = F} (more {bytes} {items} item encoding before encodes longer) 
 pub counted_list : {V : Type 0} (F : Format V) (body : List ℕ) (count longer : ℕ) → CountsLonger F body count longer → EncodesSome (EncodesList F.Encodes) body
 counted_list F body count longer c = (c.items, (c.head, c.back, c.parts, subst (EncodesU32 c.head) (sym c.all) c.counted, joined_items c.longer_items))
 
--- Where no place is told of a section's items, its body is a list; where no counts are told, it isn't.
-pub if_place : (body : List ℕ) {id : ℕ} (told : Result ItemCounts BrokenItem) → OfItems (λ V F. Tells F body told) id → IfSome (result_err told) (λ place. OfItems (λ V F. StopsAtItem F body place.count place.index place.at) id)
-if_place body (Ok counts) items = tt
-if_place body (Err p) items = items
+module _ (body : List ℕ) {id : ℕ} where
+  -- what is told of the items of a list holds of the items of the section
+  listed : {P : (V : Type 0) → Format V → Type 0} (told : Result ItemCounts BrokenItem) → ((V : Type 0) (F : Format V) → Tells F body told → P V F) → TellsOfSection body (Some told) id → OfItems P id
+  listed told follows = of_kind (λ V F G h. follows V F h) (λ V F G none. absurd cc) (λ none. absurd cc)
 
-pub if_counts : (body : List ℕ) {id : ℕ} (told : Result ItemCounts BrokenItem) → OfItems (λ V F. Tells F body told) id → IfSome (result_ok told) (λ counts. OfItems (λ V F. CountsLonger F body counts.count counts.longer) id)
-if_counts body (Ok counts) items = items
-if_counts body (Err p) items = tt
+  -- if no place is told of a section's items, its body is a list; if no counts are told, it isn't
+  pub unless_place : (told : Result ItemCounts BrokenItem) → TellsOfSection body (Some told) id → IfNone (result_err told) (HoldsItems id → OfItems (λ V F. EncodesSome (EncodesList F.Encodes) body) id)
+  unless_place (Ok counts) t = λ _. listed (Ok counts) (λ V F counted. counted_list F body counts.count counts.longer counted) t
+  unless_place (Err p) t = tt
 
-pub unless_place : (body : List ℕ) {id : ℕ} (told : Result ItemCounts BrokenItem) → OfItems (λ V F. Tells F body told) id → IfNone (result_err told) (HoldsItems id → OfItems (λ V F. EncodesSome (EncodesList F.Encodes) body) id)
-unless_place body (Ok counts) items = λ _. of_items (λ V F counted. counted_list F _ counts.count counts.longer counted) items
-unless_place body (Err p) items = tt
-
-pub unless_counts : (body : List ℕ) {id : ℕ} (told : Result ItemCounts BrokenItem) → OfItems (λ V F. Tells F body told) id → IfNone (result_ok told) (HoldsItems id → OfItems (λ V F. EncodesSome (EncodesList F.Encodes) body → ⊥) id)
-unless_counts body (Ok counts) items = tt
-unless_counts body (Err p) items = λ _. of_items (λ V F stops some. stops.unencoded some.0 some.1) items
+  pub unless_counts : (told : Result ItemCounts BrokenItem) → TellsOfSection body (Some told) id → IfNone (result_ok told) (HoldsItems id → OfItems (λ V F. EncodesSome (EncodesList F.Encodes) body → ⊥) id)
+  unless_counts (Ok counts) t = tt
+  unless_counts (Err p) t = λ _. listed (Err p) (λ V F stops some. stops.unencoded some.0 some.1) t
 
 -- ---- within the code of a function
 

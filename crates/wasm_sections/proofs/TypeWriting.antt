@@ -1,6 +1,6 @@
 -- What is written of types of what is imported and exported.
-use Rattle.std.proofs.Common.{◌≡◌, ℕ, Bool, ◌+◌, ◌^◌, ◌<◌, true, false, List, [], ◌∷◌, ◌++◌, length, take, append_assoc, Option, Some, None, Result, Ok, Err, OnOk, OnErr, refl, sym, ap, ◌∙◌}
-use Rattle.std.proofs.lemmas.List.{append-nil}
+use Rattle.std.proofs.Common.{◌≡◌, ℕ, Bool, ◌+◌, ◌^◌, ◌<◌, true, false, List, [], ◌∷◌, ◌++◌, length, take, drop, append_assoc, Option, Some, None, Result, Ok, Err, OnOk, OnErr, refl, sym, ap, ◌∙◌}
+use Rattle.std.proofs.lemmas.List.{append-nil, take-append-drop}
 use Rattle.std.proofs.Math.Seq.{take-append_seam}
 use Rattle.std.specs.Prelude.{is_some, IfSome}
 use Rattle.wasm_codec.specs.Encoding.{IsShortest}
@@ -67,6 +67,13 @@ where_both_ok (Err e) f p q = p
 pub kept_at_last : {T E : Type 0} (r : Result T E) (old more mid last new : List ℕ) → mid ≡ old ++ more → OnOk r (new ≡ mid ++ last) → OnErr r (new ≡ mid) → take (length old) new ≡ old
 kept_at_last (Ok x) old more mid last new before written left = kept_after old (more ++ last) new (two old more last mid new before written)
 kept_at_last (Err e) old more mid last new before written left = kept_after old more new (left ∙ before)
+
+-- what stood before more that was appended stands there still
+pub kept_before : (old more mid new : List ℕ) → mid ≡ old ++ more → take (length mid) new ≡ mid → take (length old) new ≡ old
+kept_before old more mid new is kept =
+    let left = drop (length mid) new in
+    let whole : new ≡ old ++ (more ++ left) = sym (take-append-drop (length mid) new) ∙ ap (λ (t : List ℕ). t ++ left) (kept ∙ is) ∙ append_assoc old more left in
+    ap (take (length old)) whole ∙ take-append_seam old (more ++ left)
 
 -- ---- memories and tables
 

@@ -1,4 +1,3 @@
-pub mod SectionParts
 pub mod Closed
 pub mod SectionBytes
 pub mod SegmentBytes

@@ -1,23 +1,19 @@
 -- The offset at which the body of a section stops to be a list (WebAssembly Core 3.0, Lists), and the number of its
 -- items that aren't minimally encoded.
-use Rattle.std.specs.Prelude.{◌≡◌, ◌+◌, ◌<◌, ◌≤◌, ◌⊎◌, ℕ, List, [], ◌∷◌, ◌++◌, length, Result, Ok, Err, ⊤}
+use Rattle.std.specs.Prelude.{◌≡◌, ◌+◌, ◌<◌, ◌≤◌, ◌⊎◌, ℕ, List, [], ◌∷◌, ◌++◌, length, Result, Ok, Err, Option, IsNone, IsSomeAnd}
 use Rattle.wasm_codec.specs.Outcomes.{EncodesSome, IsLongestPrefix}
 use Rattle.wasm_codec.specs.formats.Grammar.{Grammar, Joined}
 use Rattle.wasm_codec.specs.Lists.{EncodesList, IsListPrefix}
 use Rattle.wasm_codec.specs.formats.Numbers.{EncodesU32}
-use Rattle.wasm_codec.specs.formats.Combinators.{Format, u32}
+use Rattle.wasm_codec.specs.formats.Combinators.{Format}
 use Rattle.wasm_types.specs.declared.types.value.ValType.{ValType}
 use Rattle.wasm_instructions.specs.formats.Instructions.{Instruction, Instructions}
-use Rattle.wasm_modules.specs.formats.CodeBodies.{code_body, local_group, function_code}
-use Rattle.wasm_sections.specs.declared.modules.places.BrokenPart.{BrokenPart}
-use Rattle.wasm_sections.specs.declared.modules.places.BrokenPart.TheVariants as places
-use Rattle.wasm_sections.specs.declared.modules.places.ItemCounts.{ItemCounts}
-use Rattle.wasm_sections.specs.declared.modules.places.BrokenItem.{BrokenItem}
-use Rattle.wasm_sections.specs.formats.Elements.{element_segment}
-use Rattle.wasm_sections.specs.formats.Entries.{import_entry, table_entry, global_entry, export_entry}
-use Rattle.wasm_sections.specs.formats.Externals.{memory_type, tag_type}
-use Rattle.wasm_sections.specs.formats.Segments.{data_segment}
-use Rattle.wasm_types.specs.formats.Types.{recursive_type}
+use Rattle.wasm_modules.specs.formats.CodeBodies.{local_group, function_code}
+use Rattle.wasm_sections.specs.formats.ModuleSections.{OfKind}
+use Rattle.wasm_sections.specs.declared.modules.locate.BrokenPart.{BrokenPart}
+use Rattle.wasm_sections.specs.declared.modules.locate.BrokenPart.TheVariants as places
+use Rattle.wasm_sections.specs.declared.modules.locate.ItemCounts.{ItemCounts}
+use Rattle.wasm_sections.specs.declared.modules.locate.BrokenItem.{BrokenItem}
 
 -- The bytes before this offset are the count and this number of items.
 pub record HasItemsBefore {V : Type 0} (G : Grammar V) (body : List ℕ) (count index at : ℕ) : Type 0 where
@@ -59,23 +55,13 @@ abbrev pub Tells : {V : Type 0} → Format V → List ℕ → Result ItemCounts 
 Tells F body (Ok counts) = CountsLonger F body counts.count counts.longer
 Tells F body (Err place) = StopsAtItem F body place.count place.index place.at
 
--- The property holds of the items of a section with this id.
-pub data OfItems (P : (V : Type 0) → Format V → Type 0) (id : ℕ) : Type 0 where
-  types : id ≡ 1 → P _ recursive_type → OfItems P id
-  imports : id ≡ 2 → P _ import_entry → OfItems P id
-  functions : id ≡ 3 → P _ u32 → OfItems P id
-  tables : id ≡ 4 → P _ table_entry → OfItems P id
-  memories : id ≡ 5 → P _ memory_type → OfItems P id
-  globals : id ≡ 6 → P _ global_entry → OfItems P id
-  exports : id ≡ 7 → P _ export_entry → OfItems P id
-  elements : id ≡ 9 → P _ element_segment → OfItems P id
-  bodies : id ≡ 10 → P _ code_body → OfItems P id
-  data_segments : id ≡ 11 → P _ data_segment → OfItems P id
-  tags : id ≡ 13 → P _ tag_type → OfItems P id
+-- The result is right, and there is one.
+abbrev pub IsToldOf : {V : Type 0} → Format V → List ℕ → Option (Result ItemCounts BrokenItem) → Type 0
+IsToldOf F body told = IsSomeAnd told (Tells F body)
 
--- Sections with this id hold a list of items.
-abbrev pub HoldsItems : ℕ → Type 0
-HoldsItems id = OfItems (λ V F. ⊤) id
+-- The result is right if the section with this id is a list, and else there is none.
+abbrev pub TellsOfSection : List ℕ → Option (Result ItemCounts BrokenItem) → ℕ → Type 0
+TellsOfSection body told id = OfKind (λ V F C. IsToldOf F body told) (λ V F C. IsNone told) (IsNone told) id
 
 -- ---- inside the code of a function
 

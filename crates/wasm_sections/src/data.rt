@@ -54,7 +54,7 @@ fn read_byte_list<'a>(cursor: &mut Cursor<'a>) -> Result<&'a [u8], Fault>
 }
 
 /// Reads a data segment. Notes a non-minimal form if the segment names memory 0.
-#[tactic(auto, using(crate::proofs::SegmentRewriting::no_data_form), unfolding(crate::specs::formats::Segments::data_segment))]
+#[tactic(auto, using(crate::proofs::SegmentLaws::no_data_form), unfolding(crate::specs::formats::Segments::data_segment))]
 fn read_data_segment<'a>(alloc: Global, cursor: &mut Cursor<'a>) -> Result<DataSegment<'a>, Fault>
     ensures reads { Reads data_segment.at cursor.old cursor.new (map_ok data_parts result) }
 {
@@ -150,7 +150,7 @@ fn rewrite_active(rewriter: &mut Rewriter) -> Result<(), Fault>
 
 /// Rewrites a data segment to its minimal encoding. If it names memory 0, cuts out the form number 2, so that the
 /// memory index 0 becomes the number of the shorter form.
-#[tactic(auto, using(crate::proofs::SegmentRewriting::no_data_form, crate::proofs::SegmentRewriting::active_rewritten, crate::proofs::SegmentRewriting::passive_rewritten, crate::proofs::SegmentRewriting::memory_left_out, crate::proofs::SegmentRewriting::memory_kept), unfolding(crate::specs::formats::Segments::data_segment))]
+#[tactic(auto, using(crate::proofs::SegmentLaws::no_data_form, crate::proofs::SegmentLaws::active_rewritten, crate::proofs::SegmentLaws::passive_rewritten, crate::proofs::SegmentLaws::memory_left_out, crate::proofs::SegmentLaws::memory_kept), unfolding(crate::specs::formats::Segments::data_segment))]
 fn rewrite_data_segment(rewriter: &mut Rewriter) -> Result<(), Fault>
     ensures rewrites { Rewrites data_segment rewriter.old rewriter.new result }
 {

@@ -176,7 +176,7 @@ fn read_elements(alloc: Global, cursor: &mut Cursor<'_>, form: u32) -> Result<El
 }
 
 /// Reads what follows the number of a form.
-#[tactic(auto, using(crate::proofs::ElementReading::form_read, crate::proofs::ElementReading::no_mode, crate::proofs::ElementReading::no_elements))]
+#[tactic(auto, using(crate::proofs::ElementLaws::form_read, crate::proofs::ElementLaws::no_mode, crate::proofs::ElementLaws::no_elements))]
 fn read_form(alloc: Global, cursor: &mut Cursor<'_>, form: u32) -> Result<Element, Fault>
     ensures reads { Reads (element_form form).at cursor.old cursor.new result }
 {
@@ -236,7 +236,7 @@ impl Rewritable for Expression {
     ghost format = { expr };
 
     #[inline(always)]
-    #[tactic(auto, using(crate::proofs::ExpressionLaws::expr_is_lawful, crate::proofs::ElementRewriting::expr_takes))]
+    #[tactic(auto, using(crate::proofs::ExpressionLaws::expr_is_lawful, crate::proofs::ElementLaws::expr_takes))]
     fn is_lawful() {}
 
     fn rewrite(rewriter: &mut Rewriter) -> Result<(), Fault> {
@@ -323,7 +323,7 @@ fn rewrite_expressions_of_table(rewriter: &mut Rewriter, mark: usize) -> Result<
 }
 
 /// Rewrites an element segment to its minimal encoding.
-#[tactic(auto, using(crate::proofs::ElementLaws::no_element_form, crate::proofs::ElementRewriting::number_written), unfolding(crate::specs::formats::Elements::element_segment))]
+#[tactic(auto, using(crate::proofs::ElementLaws::no_element_form, crate::proofs::ElementLaws::number_written), unfolding(crate::specs::formats::Elements::element_segment))]
 fn rewrite_element(rewriter: &mut Rewriter) -> Result<(), Fault>
     ensures rewrites { Rewrites element_segment rewriter.old rewriter.new result }
 {

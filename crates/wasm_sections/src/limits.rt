@@ -59,7 +59,7 @@ fn memory_flags_of(byte: u8) -> Option<((bool, (bool, bool)), bool)>
 }
 
 /// Reads the flags of limits.
-#[tactic(auto, using(crate::proofs::FlagReading::flags_read), unfolding(crate::specs::formats::Externals::limits_flags))]
+#[tactic(auto, using(crate::proofs::ExternalLaws::flags_read), unfolding(crate::specs::formats::Externals::limits_flags))]
 fn read_limits_flags(cursor: &mut Cursor<'_>) -> Result<(bool, (bool, bool)), Fault>
     ensures reads { Reads limits_flags.at cursor.old cursor.new result }
     ensures err { IfErr result (λ e. e ≡ Malformed) }
@@ -68,7 +68,7 @@ fn read_limits_flags(cursor: &mut Cursor<'_>) -> Result<(bool, (bool, bool)), Fa
 }
 
 /// Reads the flags of a memory's limits.
-#[tactic(auto, using(crate::proofs::FlagReading::flags_read), unfolding(crate::specs::formats::Externals::memory_flags))]
+#[tactic(auto, using(crate::proofs::ExternalLaws::flags_read), unfolding(crate::specs::formats::Externals::memory_flags))]
 fn read_memory_flags(cursor: &mut Cursor<'_>) -> Result<((bool, (bool, bool)), bool), Fault>
     ensures reads { Reads memory_flags.at cursor.old cursor.new result }
     ensures err { IfErr result (λ e. e ≡ Malformed) }
@@ -139,7 +139,7 @@ pub(crate) fn read_table_type(cursor: &mut Cursor<'_>) -> Result<TableType, Faul
 }
 
 /// Passes the flags of limits, which have one encoding, and returns them.
-#[tactic(auto, using(crate::proofs::FlagReading::flags_given), unfolding(crate::specs::formats::Externals::limits_flags))]
+#[tactic(auto, using(crate::proofs::ExternalLaws::flags_given), unfolding(crate::specs::formats::Externals::limits_flags))]
 fn rewrite_limits_flags(rewriter: &mut Rewriter) -> Result<(bool, (bool, bool)), Fault>
     ensures gives { Gives limits_flags rewriter.old rewriter.new result }
 {
@@ -147,7 +147,7 @@ fn rewrite_limits_flags(rewriter: &mut Rewriter) -> Result<(bool, (bool, bool)),
 }
 
 /// Passes the flags of a memory's limits, which have one encoding, and returns them.
-#[tactic(auto, using(crate::proofs::FlagReading::flags_given), unfolding(crate::specs::formats::Externals::memory_flags))]
+#[tactic(auto, using(crate::proofs::ExternalLaws::flags_given), unfolding(crate::specs::formats::Externals::memory_flags))]
 fn rewrite_memory_flags(rewriter: &mut Rewriter) -> Result<((bool, (bool, bool)), bool), Fault>
     ensures gives { Gives memory_flags rewriter.old rewriter.new result }
 {
@@ -155,7 +155,7 @@ fn rewrite_memory_flags(rewriter: &mut Rewriter) -> Result<((bool, (bool, bool))
 }
 
 /// Rewrites a u64 to its minimal encoding if a flag says that there is one.
-#[tactic(auto, using(crate::proofs::LimitsRewriting::none_there), unfolding(crate::specs::formats::PartCombinators::part_if))]
+#[tactic(auto, using(crate::proofs::ExternalLaws::none_there), unfolding(crate::specs::formats::PartCombinators::part_if))]
 fn rewrite_u64_if(rewriter: &mut Rewriter, there: bool) -> Result<(), Fault>
     ensures rewrites { Rewrites (part_if there u64_format) rewriter.old rewriter.new result }
 {
@@ -166,7 +166,7 @@ fn rewrite_u64_if(rewriter: &mut Rewriter, there: bool) -> Result<(), Fault>
 }
 
 /// Rewrites a u32 to its minimal encoding if a flag says that there is one.
-#[tactic(auto, using(crate::proofs::LimitsRewriting::none_there), unfolding(crate::specs::formats::PartCombinators::part_if))]
+#[tactic(auto, using(crate::proofs::ExternalLaws::none_there), unfolding(crate::specs::formats::PartCombinators::part_if))]
 fn rewrite_u32_if(rewriter: &mut Rewriter, there: bool) -> Result<(), Fault>
     ensures rewrites { Rewrites (part_if there u32_format) rewriter.old rewriter.new result }
 {
@@ -188,7 +188,7 @@ fn rewrite_memory_parts(rewriter: &mut Rewriter) -> Result<(), Fault>
 }
 
 /// Rewrites a memory type to its minimal encoding.
-#[tactic(auto, using(crate::proofs::LimitsRewriting::memory_rewritten, crate::proofs::LimitsRewriting::memory_refused))]
+#[tactic(auto, using(crate::proofs::ExternalLaws::memory_rewritten, crate::proofs::ExternalLaws::memory_refused))]
 pub(crate) fn rewrite_memory_type(rewriter: &mut Rewriter) -> Result<(), Fault>
     ensures rewrites { Rewrites memory_type rewriter.old rewriter.new result }
 {
@@ -208,7 +208,7 @@ fn rewrite_table_parts(rewriter: &mut Rewriter) -> Result<(), Fault>
 }
 
 /// Rewrites a table type to its minimal encoding.
-#[tactic(auto, using(crate::proofs::LimitsRewriting::table_rewritten, crate::proofs::LimitsRewriting::table_refused))]
+#[tactic(auto, using(crate::proofs::ExternalLaws::table_rewritten, crate::proofs::ExternalLaws::table_refused))]
 pub(crate) fn rewrite_table_type(rewriter: &mut Rewriter) -> Result<(), Fault>
     ensures rewrites { Rewrites table_type rewriter.old rewriter.new result }
 {

@@ -9,8 +9,9 @@ ghost use Rattle.wasm_sections.specs.formats.ModuleSections.{module_section, who
 ghost use Rattle.wasm_codec.specs.Decoding.{Decodes, DecodesMinimal, Checks, Normalises, NormalisesInPlace, ChecksAll, RewritesAll, IsMinimal};
 ghost use Rattle.wasm_codec.specs.Lawful.{IsLawfulBody};
 
+mod kinds;
+mod locate;
 mod order;
-mod places;
 mod reader;
 mod rewriter;
 
@@ -22,10 +23,11 @@ use crate::globals::Global as GlobalEntry;
 use crate::imports::Import;
 use crate::tables::Table;
 use crate::types::{MemoryType, TagType};
-pub use order::{ModuleError, check_order};
-pub use places::{
-    BrokenItem, BrokenPart, ItemCounts, count_longer_items, first_broken_item, first_broken_part,
+pub use kinds::{SectionNames, section_names};
+pub use locate::{
+    BrokenPart, ItemCounts, BrokenItem, count_longer_items, first_broken_item, first_broken_part,
 };
+pub use order::{ModuleError, check_order};
 use rewriter::AnySection;
 use std::alloc::Global;
 use wasm_codec::decode::{Decode, check, normalise, read, read_strict, rewrite};

@@ -10,7 +10,7 @@ use wasm_codec::reader::cursor::{Cursor, Fault};
 use wasm_codec::rewriter::{RewritableBody, Rewriter, rewrite_sized};
 
 /// Reads a name. Borrows its text from the bytes.
-#[tactic(auto, using(crate::proofs::NameReading::name_read, crate::proofs::NameReading::name_refused, crate::proofs::NameReading::no_size, crate::proofs::NameReading::no_bytes))]
+#[tactic(auto, using(crate::proofs::NameLaws::name_read, crate::proofs::NameLaws::name_refused, crate::proofs::NameLaws::no_size, crate::proofs::NameLaws::no_bytes))]
 pub(crate) fn read_name<'a>(cursor: &mut Cursor<'a>) -> Result<&'a str, Fault>
     ensures reads { Reads name.at cursor.old cursor.new (map_ok (λ text. text.now) result) }
     ensures err { IfErr result (λ e. e ≡ Malformed) }
@@ -43,7 +43,7 @@ impl RewritableBody for Text {
     #[tactic(auto, using(crate::proofs::NameLaws::text_is_lawful))]
     fn is_lawful() {}
 
-    #[tactic(auto, using(crate::proofs::NameReading::text_stays, crate::proofs::NameReading::text_refused))]
+    #[tactic(auto, using(crate::proofs::NameLaws::text_stays, crate::proofs::NameLaws::text_refused))]
     fn rewrite(rewriter: &mut Rewriter) -> Result<(), Fault> {
         let Ok(_) = str::from_utf8(rewriter.left()) else {
             return Err(Fault::Malformed);

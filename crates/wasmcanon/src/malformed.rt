@@ -1,11 +1,12 @@
 //! The part of a module that is malformed, and its offset.
-use crate::sections::SectionKind;
 use std::alloc::Global;
 use std::fmt;
 use wasm_codec::reader::cursor::Cursor;
 use wasm_modules::reader::read_section;
 use wasm_readers::modules::read_module;
-use wasm_sections::modules::{BrokenPart, BrokenItem, first_broken_item, first_broken_part};
+use wasm_sections::modules::{
+    BrokenPart, BrokenItem, SectionNames, first_broken_item, first_broken_part, section_names,
+};
 
 /// A malformed section.
 #[derive(Clone, Copy)]
@@ -121,11 +122,11 @@ impl fmt::Display for MalformedSection {
                 body_at,
                 item,
                 function,
-            } => match SectionKind::of(id) {
-                Some(kind) => {
-                    write!(f, "{} section", kind.name)?;
+            } => match section_names(id) {
+                Some(names) => {
+                    write!(f, "{} section", names.section)?;
                     MalformedBody {
-                        kind,
+                        names,
                         body_at,
                         item,
                         function,
@@ -144,7 +145,7 @@ impl fmt::Display for MalformedSection {
 /// The rest of the message for a malformed body.
 #[derive(Clone, Copy)]
 struct MalformedBody {
-    kind: SectionKind,
+    names: SectionNames,
     body_at: usize,
     item: Option<BrokenItem>,
     function: Option<FunctionFault>,
@@ -156,7 +157,7 @@ impl fmt::Display for MalformedBody {
             return write!(f, ", offset {:#x}: malformed body", self.body_at);
         };
         let offset = self.body_at.saturating_add(item.at);
-        let name = self.kind.item;
+        let name = self.names.item;
         if item.at == 0 {
             return write!(f, ", offset {offset:#x}: malformed count");
         }

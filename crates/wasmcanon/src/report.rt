@@ -1,12 +1,12 @@
 //! The report: the size of each section before and after, and the number of encodings that are not minimal.
 use crate::sections::{
-    LocatedSection, SectionKind, SectionTitle, count_items, custom_name, has_list, locate_sections,
+    LocatedSection, SectionTitle, count_items, custom_name, has_list, locate_sections,
     longer_number,
 };
 use std::alloc::{AllocError, Global};
 use std::fmt;
 use wasm_modules::section::RawSection;
-use wasm_sections::modules::ItemCounts;
+use wasm_sections::modules::{ItemCounts, section_names};
 
 /// The report of a module.
 #[derive(Drop)]
@@ -119,8 +119,8 @@ impl<'a> ReportRow<'a> {
 
 /// Returns the name of this section id. Returns an empty text if the id is unknown.
 fn kind_name(id: u8) -> &'static str {
-    match SectionKind::of(id) {
-        Some(kind) => kind.name,
+    match section_names(id) {
+        Some(names) => names.section,
         None => "",
     }
 }

@@ -1,4 +1,4 @@
-//! The sections of a module: their offsets, and their names in messages.
+//! The sections of a module: their offsets, and their titles in messages.
 ghost use Rattle.std.specs.Prelude.{◌≡◌, ℕ, List, IfSome, IfNone};
 ghost use Rattle.wasm_modules.specs.formats.Sections.{parts_of};
 ghost use Rattle.wasmcanon.specs.Offsets.{IsNameOf};
@@ -9,40 +9,7 @@ use wasm_codec::reader::cursor::Cursor;
 use wasm_modules::reader::{after_header, read_section};
 use wasm_modules::section::RawSection;
 use wasm_sections::custom::read_custom;
-use wasm_sections::modules::{ItemCounts, count_longer_items};
-
-/// A kind of section (Core 3.0, Modules).
-#[derive(Clone, Copy)]
-pub struct SectionKind {
-    /// Name of the section.
-    pub name: &'static str,
-    /// Name of an item of the section.
-    pub item: &'static str,
-}
-
-impl SectionKind {
-    /// Returns the kind with this id. `None` means that the id is unknown.
-    pub fn of(id: u8) -> Option<SectionKind> {
-        let (name, item) = match id {
-            0 => ("custom", "byte"),
-            1 => ("type", "type"),
-            2 => ("import", "import"),
-            3 => ("function", "function"),
-            4 => ("table", "table"),
-            5 => ("memory", "memory"),
-            6 => ("global", "global"),
-            7 => ("export", "export"),
-            8 => ("start", "function"),
-            9 => ("element", "segment"),
-            10 => ("code", "function"),
-            11 => ("data", "segment"),
-            12 => ("data count", "count"),
-            13 => ("tag", "tag"),
-            _ => return None,
-        };
-        Some(SectionKind { name, item })
-    }
-}
+use wasm_sections::modules::{ItemCounts, count_longer_items, section_names};
 
 /// Returns the name of a custom section. `None` means that the section is of another kind, or malformed.
 pub fn custom_name<'a>(section: RawSection<'a>) -> Option<&'a str>
@@ -150,8 +117,8 @@ pub struct SectionTitle<'a>(pub RawSection<'a>);
 
 impl fmt::Display for SectionTitle<'_> {
     fn fmt<W: fmt::Write>(&self, f: &mut fmt::Formatter<W>) -> fmt::Result {
-        match SectionKind::of(self.0.id) {
-            Some(kind) => write!(f, "{}", kind.name)?,
+        match section_names(self.0.id) {
+            Some(names) => write!(f, "{}", names.section)?,
             None => write!(f, "id {}", self.0.id)?,
         }
         match custom_name(self.0) {

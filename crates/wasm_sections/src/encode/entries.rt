@@ -17,7 +17,7 @@ use wasm_codec::reader::cursor::Cursor;
 use wasm_writers::encode::{Encode, EncodeError, encode_str};
 
 /// Appends a name. Appends nothing if it fails.
-#[tactic(auto, using(crate::proofs::EntryWriting::name_written), unfolding(crate::specs::formats::Names::name))]
+#[tactic(auto, using(crate::proofs::EntryLaws::name_written), unfolding(crate::specs::formats::Names::name))]
 pub(super) fn append_name<A: Allocator>(
     text: &str,
     sink: &mut Vec<u8, A>,
@@ -33,7 +33,7 @@ pub(super) fn append_name<A: Allocator>(
 }
 
 /// Proves that a text is valid UTF-8 and consists of bytes. Does nothing at run time.
-#[tactic(auto, using(crate::proofs::EntryWriting::utf8_test))]
+#[tactic(auto, using(crate::proofs::EntryLaws::utf8_test))]
 fn are_utf8(text: &str)
     ensures utf8 { is_utf8 text.now ≡ true }
     ensures bytes { IsBytes text.now }

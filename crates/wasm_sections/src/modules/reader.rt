@@ -1,9 +1,10 @@
 //! Readers of single decoded sections.
-ghost use Rattle.std.specs.Prelude.{◌≡◌, Some, refl};
+ghost use Rattle.std.specs.Prelude.{◌≡◌, Err, refl};
 ghost use Rattle.std.proofs.lemmas.List.{map_push};
 ghost use Rattle.wasm_codec.specs.formats.Grammar.{TakesBytes};
 ghost use Rattle.wasm_codec.specs.Lawful.{IsLawful};
-ghost use Rattle.wasm_codec.specs.Places.{Place, Reads, byte_at};
+ghost use Rattle.wasm_codec.specs.Places.{Reads};
+ghost use Rattle.wasm_codec.specs.declared.reader.cursor.Fault.TheVariants.{Malformed};
 ghost use Rattle.wasm_codec.specs.Reading.{map_ok};
 ghost use Rattle.wasm_codec.specs.formats.Bodies.{sized};
 ghost use Rattle.wasm_codec.specs.formats.Combinators.{items, u32 as u32_format};
@@ -14,13 +15,14 @@ ghost use Rattle.wasm_sections.specs.formats.Sections.{custom_body};
 ghost use Rattle.wasm_codec.specs.Rewriter.{Rewrites};
 
 use super::ModuleSection;
+use super::kinds::{SectionKind, SectionVisitor, visit_section};
 use super::rewriter::rewrite_module_section;
 use crate::custom::CustomSection;
 use crate::names::read_name;
 use std::alloc::Global;
 use wasm_codec::list::Items;
 use wasm_codec::reader::cursor::{Cursor, Fault};
-use wasm_codec::rewriter::Rewriter;
+use wasm_codec::rewriter::{Rewritable, RewritableBody, Rewriter};
 use wasm_readers::lists::read_list;
 use wasm_readers::readable::Readable;
 
@@ -54,7 +56,7 @@ impl<'a> Readable<'a> for ModuleSection<'a> {
 }
 
 /// Reads a size and a list that fills so many bytes.
-fn read_sized_list<'a, T: Readable<'a>>(
+pub(super) fn read_sized_list<'a, T: Readable<'a>>(
     alloc: Global,
     cursor: &mut Cursor<'a>,
 ) -> Result<Items<T>, Fault>
@@ -70,7 +72,7 @@ fn read_sized_list<'a, T: Readable<'a>>(
 }
 
 /// Reads a size and a number that fills so many bytes.
-fn read_sized_number(cursor: &mut Cursor<'_>) -> Result<u32, Fault>
+pub(super) fn read_sized_number(cursor: &mut Cursor<'_>) -> Result<u32, Fault>
     ensures reads { Reads (sized u32_format).at cursor.old cursor.new result }
 {
     let mut body = cursor.body()?;
@@ -83,7 +85,7 @@ fn read_sized_number(cursor: &mut Cursor<'_>) -> Result<u32, Fault>
 }
 
 /// Reads a size, a name, and the contents up to that size.
-fn read_sized_custom<'a>(cursor: &mut Cursor<'a>) -> Result<CustomSection<'a>, Fault>
+pub(super) fn read_sized_custom<'a>(cursor: &mut Cursor<'a>) -> Result<CustomSection<'a>, Fault>
     ensures reads { Reads (sized custom_body).at cursor.old cursor.new (map_ok custom_parts result) }
 {
     let mut body = cursor.body()?;
@@ -93,45 +95,51 @@ fn read_sized_custom<'a>(cursor: &mut Cursor<'a>) -> Result<CustomSection<'a>, F
     Ok(CustomSection { name, bytes })
 }
 
-/// Reads what follows the id of a section that is a list.
-#[tactic(auto, unfolding(crate::specs::formats::ModuleSections::module_section))]
-fn read_section_of_items<'a>(
+/// A reader of the content after a section's id.
+#[derive(Drop)]
+struct ContentReader<'a> {
     alloc: Global,
-    cursor: &mut Cursor<'a>,
-    id: u8,
-) -> Result<ModuleSection<'a>, Fault>
-    requires of_items { (id ≡ 0 → ⊥) × (id ≡ 8 → ⊥) × (id ≡ 12 → ⊥) }
-    ensures reads { (begun : Place) → byte_at begun ≡ Some (id, cursor.old) →
-        Reads module_section.at begun cursor.new (map_ok module_section_parts result) }
-{
-    match id {
-        1 => Ok(ModuleSection::Types(read_sized_list(alloc, cursor)?)),
-        2 => Ok(ModuleSection::Imports(read_sized_list(alloc, cursor)?)),
-        3 => Ok(ModuleSection::Functions(read_sized_list(alloc, cursor)?)),
-        4 => Ok(ModuleSection::Tables(read_sized_list(alloc, cursor)?)),
-        5 => Ok(ModuleSection::Memories(read_sized_list(alloc, cursor)?)),
-        6 => Ok(ModuleSection::Globals(read_sized_list(alloc, cursor)?)),
-        7 => Ok(ModuleSection::Exports(read_sized_list(alloc, cursor)?)),
-        9 => Ok(ModuleSection::Elements(read_sized_list(alloc, cursor)?)),
-        10 => Ok(ModuleSection::Code(read_sized_list(alloc, cursor)?)),
-        11 => Ok(ModuleSection::Data(read_sized_list(alloc, cursor)?)),
-        13 => Ok(ModuleSection::Tags(read_sized_list(alloc, cursor)?)),
-        _ => Err(Fault::Malformed),
+    cursor: Cursor<'a>,
+}
+
+impl<'a> SectionVisitor for ContentReader<'a> {
+    type Output = Result<ModuleSection<'a>, Fault>;
+
+    ghost visits_list = { λ V F C old new section. Reads C.at old.cursor new.cursor (map_ok module_section_parts section) };
+
+    ghost visits_body = { λ V F C old new section. Reads C.at old.cursor new.cursor (map_ok module_section_parts section) };
+
+    ghost visits_unknown = { λ old new section. section ≡ Err Malformed };
+
+    fn visit_list<T: Rewritable + SectionKind>(&mut self) -> Result<ModuleSection<'a>, Fault> {
+        T::read(self.alloc, &mut self.cursor)
+    }
+
+    fn visit_body<B: RewritableBody, K: SectionKind>(
+        &mut self,
+    ) -> Result<ModuleSection<'a>, Fault> {
+        K::read(self.alloc, &mut self.cursor)
+    }
+
+    fn visit_unknown(&mut self) -> Result<ModuleSection<'a>, Fault> {
+        Err(Fault::Malformed)
     }
 }
 
 /// Reads a section.
-#[tactic(auto, unfolding(crate::specs::formats::ModuleSections::module_section))]
+#[tactic(auto, using(crate::proofs::ModuleSectionLaws::read_by_kind), unfolding(crate::specs::formats::ModuleSections::module_section))]
 fn read_module_section<'a>(
     alloc: Global,
     cursor: &mut Cursor<'a>,
 ) -> Result<ModuleSection<'a>, Fault>
     ensures reads { Reads module_section.at cursor.old cursor.new (map_ok module_section_parts result) }
 {
-    match cursor.byte()? {
-        0 => Ok(ModuleSection::Custom(read_sized_custom(cursor)?)),
-        8 => Ok(ModuleSection::Start(read_sized_number(cursor)?)),
-        12 => Ok(ModuleSection::DataCount(read_sized_number(cursor)?)),
-        id => read_section_of_items(alloc, cursor, id),
-    }
+    let id = cursor.byte()?;
+    let mut reader = ContentReader {
+        alloc,
+        cursor: cursor.fork(),
+    };
+    let section = visit_section(id, &mut reader);
+    *cursor = reader.cursor;
+    section
 }

@@ -1,7 +1,7 @@
 use Rattle.std.proofs.Common.{◌≡◌, ℕ, Some, subst}
 use Rattle.wasm_codec.specs.Rewriter.{rewritten_at}
 use Rattle.wasm_codec.specs.formats.Combinators.{u32}
-use Rattle.wasm_sections.proofs.SegmentRewriting.{memory_left_out, number_there}
+use Rattle.wasm_sections.proofs.SegmentLaws.{memory_left_out, number_there}
 use Rattle.wasm_sections.proofs.data.rewrite_data_segment.Goals as goal
 
 pub cut_out-requires : goal.cut_out-requires

@@ -2,7 +2,7 @@ use Rattle.std.proofs.Common.{◌≡◌, ℕ, Some, refl, subst}
 use Rattle.std.proofs.lemmas.Bool.{ne_eqb}
 use Rattle.wasm_codec.specs.Rewriter.{rewritten_at}
 use Rattle.wasm_codec.specs.formats.Combinators.{u32}
-use Rattle.wasm_sections.proofs.ElementRewriting.{type_there, number_of_expressions_there, index_of_expressions_there, expressions_of_table_0, expressions_kept}
+use Rattle.wasm_sections.proofs.ElementLaws.{type_there, number_of_expressions_there, index_of_expressions_there, expressions_of_table_0, expressions_kept}
 use Rattle.wasm_sections.proofs.elements.rewrite_expressions_of_table.Goals.{else-table-eq0-via-then-table-eq0+else-is_funcref, else-table-eq0-via-else-table-eq0}
 use Rattle.wasm_sections.proofs.elements.rewrite_expressions_of_table.Goals as goal
 

@@ -1,7 +1,7 @@
 use Rattle.std.proofs.Common.{◌≡◌, ℕ, Some, subst}
 use Rattle.wasm_codec.specs.Rewriter.{rewritten_at}
 use Rattle.wasm_codec.specs.formats.Combinators.{u32}
-use Rattle.wasm_sections.proofs.ElementRewriting.{kind_there, number_of_functions_there, functions_of_table_0}
+use Rattle.wasm_sections.proofs.ElementLaws.{kind_there, number_of_functions_there, functions_of_table_0}
 use Rattle.wasm_sections.proofs.elements.rewrite_functions_of_table.Goals as goal
 
 pub cut_out-requires : goal.cut_out-requires

@@ -3,7 +3,7 @@ use Rattle.wasm_codec.specs.Places.{place}
 use Rattle.std.proofs.lemmas.Result.{err_from_is_err_and}
 use Rattle.wasm_types.proofs.TypeFormatLaws.{Lawful-ref-type}
 use Rattle.wasm_codec.proofs.Shortening.{no_number}
-use Rattle.wasm_sections.proofs.ElementRewriting.{told_type}
+use Rattle.wasm_sections.proofs.ElementLaws.{told_type}
 use Rattle.wasm_sections.proofs.elements.rewrite_told_type.Goals as goal
 
 pub returns-in_err-ty : goal.returns-in_err-ty

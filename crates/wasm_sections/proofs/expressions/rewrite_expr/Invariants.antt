@@ -1,5 +1,5 @@
 use Rattle.std.proofs.Common.{◌≤◌}
-use Rattle.wasm_sections.proofs.ExpressionRewriting.{ExprGoing}
+use Rattle.wasm_sections.proofs.ExpressionLaws.{ExprGoing}
 use Rattle.wasm_sections.proofs.expressions.rewrite_expr.Given as goal
 
 abbrev pub invariant-loop : goal.invariant-loop

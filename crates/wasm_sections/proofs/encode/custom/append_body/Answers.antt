@@ -1,5 +1,5 @@
 use Rattle.wasm_sections.specs.formats.EntryParts.{custom_parts}
-use Rattle.wasm_sections.proofs.CustomWriting.{custom_written, body_appended}
+use Rattle.wasm_sections.proofs.CustomLaws.{custom_written, body_appended}
 use Rattle.wasm_sections.proofs.TypeWriting.{kept_after}
 use Rattle.wasm_sections.proofs.encode.custom.append_body.Goals as goal
 

@@ -1,6 +1,6 @@
 use Rattle.std.proofs.Common.{◌≡◌, length, arith}
 use Rattle.wasm_sections.specs.formats.EntryParts.{custom_parts}
-use Rattle.wasm_sections.proofs.CustomWriting.{body_counted}
+use Rattle.wasm_sections.proofs.CustomLaws.{body_counted}
 use Rattle.wasm_sections.proofs.encode.custom.body_len.Goals as goal
 
 pub returns-clause-ok : goal.returns-clause-ok

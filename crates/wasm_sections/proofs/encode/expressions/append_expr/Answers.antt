@@ -1,5 +1,5 @@
 use Rattle.std.proofs.Common.{◌≡◌, [], ◌∷◌, ◌++◌}
-use Rattle.wasm_sections.proofs.ExpressionWriting.{expr_appended, expr_counted, expr_written}
+use Rattle.wasm_sections.proofs.ExpressionLaws.{expr_appended, expr_counted, expr_written}
 use Rattle.wasm_sections.proofs.TypeWriting.{kept_after}
 use Rattle.wasm_sections.proofs.encode.expressions.append_expr.Goals as goal
 

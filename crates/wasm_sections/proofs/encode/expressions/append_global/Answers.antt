@@ -1,5 +1,5 @@
 use Rattle.std.proofs.Common.{◌≡◌, ◌++◌}
-use Rattle.wasm_sections.proofs.ExpressionWriting.{global_appended, global_entry_written}
+use Rattle.wasm_sections.proofs.EntryLaws.{global_appended, global_entry_written}
 use Rattle.wasm_sections.proofs.TypeWriting.{where_ok, kept_at_last}
 use Rattle.wasm_sections.specs.formats.Expressions.{expr}
 use Rattle.wasm_sections.specs.formats.Externals.{global_type}

@@ -1,7 +1,7 @@
 use Rattle.std.proofs.lemmas.Result.{err_from_is_err_and}
 use Rattle.wasm_sections.specs.formats.EntryParts.{custom_parts}
 use Rattle.wasm_sections.proofs.CustomLaws.{all_taken}
-use Rattle.wasm_sections.proofs.ModuleSectionReading.{custom_read, no_custom}
+use Rattle.wasm_sections.proofs.ModuleSectionLaws.{custom_read, no_custom}
 use Rattle.wasm_sections.proofs.modules.reader.read_sized_custom.Goals as goal
 
 pub returns-in_err-name : goal.returns-in_err-name

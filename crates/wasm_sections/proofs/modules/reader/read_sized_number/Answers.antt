@@ -1,5 +1,5 @@
 use Rattle.wasm_codec.specs.formats.Combinators.{u32}
-use Rattle.wasm_sections.proofs.ModuleSectionReading.{body_read}
+use Rattle.wasm_sections.proofs.ModuleSectionLaws.{body_read}
 use Rattle.wasm_sections.proofs.modules.reader.read_sized_number.Goals as goal
 
 pub returns : goal.returns

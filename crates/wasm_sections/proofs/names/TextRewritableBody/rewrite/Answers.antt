@@ -1,4 +1,4 @@
-use Rattle.wasm_sections.proofs.NameReading.{text_stays}
+use Rattle.wasm_sections.proofs.NameLaws.{text_stays}
 use Rattle.wasm_sections.proofs.names.TextRewritableBody.rewrite.Goals as goal
 
 pub returns : goal.returns

@@ -1,4 +1,4 @@
-use Rattle.wasm_sections.proofs.ListLaws.{list_body_is_lawful}
+use Rattle.wasm_sections.proofs.ModuleSectionLaws.{list_body_is_lawful}
 use Rattle.wasm_sections.proofs.modules.rewriter.ListOfRewritableBody.is_lawful.Goals as goal
 
 pub returns : goal.returns
