@@ -4,7 +4,7 @@ import re
 import textwrap
 
 from documentation import sources
-from documentation.interface import TOP, WORDS, parts_of
+from documentation.interface import TOP, parts_of
 from documentation.sources import ROOT
 
 API = ROOT / "docs/api"

@@ -75,11 +75,11 @@ def all_calls(interface):
 PLUMBING = re.compile(r"""
     (Is)?(Counted|Uncounted|Closed)\w* | IsClosed\w+ | StandsFor\w* | Holds\w+ | Is\w*Prefix(Of|MinimalIf)?
     | Is\w*Refusal\w* | IsNothingOr | AreClosed | AppendsPrefix | BeforeAnyWrite | CanEncodeList | Chain
-    | ListMinimalIf | EncodedItems | EncodesList | EncodesSome | GainsAll | GainsBodies | GainsItems | GivesItems | GivesSome
+    | ListMinimalIf | EncodedItems | EncodesList | EncodesSome | Gains\w+ | GivesItems | GoesOnWith | GivesSome
     | HasAlignment | HasNo\w*List | If\w+ | IsAligned | IsAnswer | IsBodyOf | IsBytes | IsCanonicalForm
     | IsCount | IsTypedSection | IsDelivery | IsEncoded | IsFull | IsJudgement | IsLawful | IsMemoryOrTooLong
     | IsNameOf | IsReadError | IsReadFailure | IsRefusedList | IsSection | IsShort | IsShortEncoding
-    | IsWithoutOffsets | NormalForm | OfBoth | OfItems | OnceAllIsRead | OnlyTooLong | Reads | ReadsAll | Sees
+    | IsWithoutOffsets | LawfulItem | NormalForm | OfBoth | OfItems | OnceAllIsRead | OnlyTooLong | Reads | ReadsAll | Sees
     | TakesBytes | WritesGiven
 """, re.X)
 NEVER_PLUMBING = ("IsRefusal", "IsLongestPrefix")
@@ -149,20 +149,23 @@ def named_calls(calls, having):
     return ", ".join(said)
 
 
-# Relations that say of one kind of sections what `IsSectionAfter` says of all. They share its row.
-OF_SECTIONS = re.compile("IsTypeSection|IsCodeSection|IsSectionOfItems")
+# Relations that say of one kind of thing what another says of all. They share its row.
+OF_ONE_KIND = {"IsSectionAfter": re.compile("IsTypeSection|IsCodeSection|IsSectionOfItems"),
+               "Adds": re.compile(r"Adds\w+"), "Makes": re.compile(r"Makes\w+"), "AppendsTo": re.compile("AppendsSection"),
+               "IsShortest": re.compile(r"IsWritten\w+")}
 PREFIX_FREE = re.compile(r"No encoding of .* is a proper prefix of another.*")
 
 
 def promise_table(interface):
     calls, found = relations(interface)
     rows, said, files = ["| Relation | Meaning | Calls: clauses |", "|---|---|---|"], {}, {}
-    after = next(carried for definition, carried in found.values() if definition.name == "IsSectionAfter")
+    general = {definition.name: carried for definition, carried in found.values() if definition.name in OF_ONE_KIND}
     for definition, carried in found.values():
-        if OF_SECTIONS.fullmatch(definition.name):
-            after.update(carried)
-            continue
-        files.setdefault(definition.file, []).append((definition, carried))
+        of_all = next((name for name, kinds in OF_ONE_KIND.items() if kinds.fullmatch(definition.name)), None)
+        if of_all in general:
+            general[of_all].update(carried)
+        else:
+            files.setdefault(definition.file, []).append((definition, carried))
     for file, cited in files.items():
         merged = {}
         for definition, carried in sorted(cited, key=lambda pair: pair[0].line):

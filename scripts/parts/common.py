@@ -108,9 +108,14 @@ def counted(report, name, words, **how):
 
 
 def counted_here(report, name, main, words):
-    """Does as `counted` with a function that takes words and returns a status."""
+    """Does as `counted` with a function that takes words and returns a status. It may print its usage and exit."""
     with contextlib.redirect_stdout(Echo(sys.stdout)) as echo:
-        status = main(words)
+        try:
+            status = main(words)
+        except SystemExit as stop:
+            status = stop.code
+            if not status:
+                return
     add_counts(report, name, echo.last, status)
 
 

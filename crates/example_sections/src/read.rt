@@ -17,8 +17,7 @@ ghost use Rattle.example_sections.specs.Exports.{export, parts_of, all_parts_of}
 use crate::exports::{ExportSection, FUNCTION};
 use std::alloc::Global;
 use wasm_encoder::reader::{
-    Item, RewritableBody, Rewriter, check_list_to_end, rewrite_list_to_end,
-    rewrite_sized,
+    Item, RewritableBody, Rewriter, check_list_to_end, rewrite_list_to_end, rewrite_sized,
 };
 use wasm_encoder::{Cursor, Decode, Fault, ReadError, Readable, read_list_to_end};
 

@@ -1,13 +1,12 @@
 -- What a call promises follows from what the normaliser or the check promises that it calls, and from its status.
-use Rattle.std.proofs.Common.{◌≡◌, ◌≤◌, ◌<◌, ◌⊎◌, ℕ, List, length, Result, Ok, Err, inl, inr, refl, sym, subst, arith}
+use Rattle.std.proofs.Common.{◌≡◌, ℕ, List, length, Result, Ok, Err, inl, inr, refl, sym, subst, arith}
 use Rattle.std.specs.Global.{Vec}
 use Rattle.wasm_codec.specs.declared.reader.ReadError.{ReadError}
 use Rattle.wasm_codec.specs.declared.reader.ReadError.TheVariants as errors
 use Rattle.wasm_codec.specs.formats.Grammar.{Grammar}
 use Rattle.wasm_codec.specs.formats.Combinators.{Format}
-use Rattle.wasm_codec.specs.Outcomes.{IsLongestPrefix, IsNormalForm}
+use Rattle.wasm_codec.specs.Outcomes.{IsLongestPrefix}
 use Rattle.wasm_codec.specs.Decoding.{Checks, Normalises}
-use Rattle.nosgrivel_c.specs.declared.delivery.TheConstants.{NORMAL}
 use Rattle.nosgrivel_c.specs.Delivery.{IsAnswer, IsChecked, IsDelivered, IsDelivery, IsJudged, c_too_long}
 use Rattle.nosgrivel_c.specs.Calls.{ChecksNormal, JudgesNormal, WritesInPlace, WritesNormal}
 

@@ -122,21 +122,9 @@ module _ {V : Type 0} (F : Format V) (was old new : EncodedItems) (item : V) (r 
   full (Err e) (inl refused) = refused
   full (Err e) (inr (cannot, is)) = absurd (cannot tt)
 
-  full_only : (s : Result (Unit {0}) EncodeError) → IfErr s (λ e. IsMemoryOrTooLong (IsFull was) e ⊎ ((Unit {0} → ⊥) × ⊥)) → IfErr s (IsMemoryOrTooLong (IsFull was))
-  full_only (Ok x) none = tt
-  full_only (Err e) (inl refused) = refused
-  full_only (Err e) (inr (cannot, never)) = absurd never
-
-  adds_full : AddsIf F (Unit {0}) was item new (IsMemoryOrTooLong (IsFull was)) r → Adds (GainsItem F) old item new (IsMemoryOrTooLong (IsFull old)) r
-  adds_full adds = subst (λ (list : EncodedItems). Adds (GainsItem F) list item new (IsMemoryOrTooLong (IsFull list)) r) same (record { gains = gained_now r tt adds.gains; same = adds.same; refused = adds.refused })
-
-  -- an item that always has an encoding, whatever error its type names
+  -- an item that always has an encoding
   pub adds_always : AddsIf F (Unit {0}) was item new (IsRefused (Unit {0}) was) r → Adds (GainsItem F) old item new (IsMemoryOrTooLong (IsFull old)) r
-  adds_always adds = adds_full (record { count = adds.count; bytes = adds.bytes; gains = adds.gains; same = adds.same; refused = full r adds.refused })
-
-  -- an item whose type names no error
-  pub adds_any : AddsIf F (Unit {0}) was item new (λ e. IsMemoryOrTooLong (IsFull was) e ⊎ ((Unit {0} → ⊥) × ⊥)) r → Adds (GainsItem F) old item new (IsMemoryOrTooLong (IsFull old)) r
-  adds_any adds = adds_full (record { count = adds.count; bytes = adds.bytes; gains = adds.gains; same = adds.same; refused = full_only r adds.refused })
+  adds_always adds = subst (λ (list : EncodedItems). Adds (GainsItem F) list item new (IsMemoryOrTooLong (IsFull list)) r) same (record { gains = gained_now r tt adds.gains; same = adds.same; refused = full r adds.refused })
 
   pub adds_named : (name : List ℕ) → AddsIf F (Unit {0}) was item new (IsRefused (IsCount (length name)) was) r → Adds (GainsItem F) old item new (IsMemoryOrTooLong (IsFull old ⊎ IsUncounted (length name))) r
   adds_named name adds = adds_or tt (which (counted_or (length name))) adds

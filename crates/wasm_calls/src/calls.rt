@@ -51,6 +51,7 @@ fn append_one_by_one<A: Allocator>(
 /// Appends the minimal encoding of `call`, or nothing.
 ///
 /// Fails with `TooLong` if a list has more than 4,294,967,295 items, and with `Memory` if `bytes` can't grow.
+#[tactic(auto, using(crate::proofs::CallLaws::encoded, crate::proofs::CallLaws::short_encoding))]
 pub fn append_call<A: Allocator>(bytes: &mut Vec<u8, A>, call: &Call) -> Result<(), EncodeError>
     ensures ok { OnOk result (bytes.new.items ≡ bytes.old.items ++ instruction.bytes call.now) }
     ensures err { OnErr result (bytes.new.items ≡ bytes.old.items) }

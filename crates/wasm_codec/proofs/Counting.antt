@@ -10,7 +10,7 @@ use Rattle.wasm_codec.proofs.Laws.{bind_some, BeginsWith-is, IsBytes-after, in_a
 use Rattle.wasm_codec.proofs.Joining.{Shortest-joined}
 use Rattle.wasm_codec.specs.Lawful.{Shortest}
 
--- as many items as were minimal_if for
+-- as many items as were asked for
 abbrev Times : {A : Type 0} → Grammar A → ℕ → Grammar (List A)
 Times G n bytes vs = (length vs ≡ n) × Joined G bytes vs
 

@@ -612,7 +612,7 @@ pub begins_counted : (prefix back : List ℕ) → any_byte (head_of prefix) ≡ 
 begins_counted [] back e = absurd cc
 begins_counted (b ∷ prefix) back e = refl
 
--- as many items as were minimal_if for
+-- as many items as were asked for
 abbrev Times : {A : Type 0} → Grammar A → ℕ → Grammar (List A)
 Times G n bytes vs = (length vs ≡ n) × Joined G bytes vs
 

@@ -53,7 +53,7 @@ function_stands gives_params gives_results params results (Err e) old new ran be
 
 -- ---- what the calls promise that take iterators
 
-error_of : Result (Unit {0}) EncodeError → EncodeError
+abbrev error_of : Result (Unit {0}) EncodeError → EncodeError
 error_of (Ok x) = TooLong
 error_of (Err e) = e
 

@@ -27,17 +27,19 @@ section_added (Ok x) old new bytes id sections added is j more =
     (j.0 ++ id ∷ bytes, is ∙ ap (λ (t : List ℕ). t ++ id ∷ bytes) j.1 ∙ append_assoc header j.0 (id ∷ bytes), one_more (minimal_only module_section).Encodes j.0 (id ∷ bytes) sections added j.2 more)
 section_added (Err e) old new bytes id sections added is j more = tt
 
-pub appends_section : (was old new encoding : List ℕ) (id : ℕ) (Can Written : Type 0) (Refused : EncodeError → Type 0) (r : Result (Unit {0}) EncodeError) → was ≡ old → OnOk r (new ≡ was ++ id ∷ encoding) → OnOk r Can → OnOk r Written → IfErr r Refused → OnErr r (new ≡ was)
+pub appends_section : (was old new encoding : List ℕ) (byte id : ℕ) (Can Written : Type 0) (Refused : EncodeError → Type 0) (r : Result (Unit {0}) EncodeError) → was ≡ old → byte ≡ id → OnOk r (new ≡ was ++ byte ∷ encoding) → OnOk r Can → OnOk r Written → IfErr r Refused → OnErr r (new ≡ was)
     → AppendsSection id encoding Can Written Refused old new r
-appends_section was old new encoding id Can Written Refused r same ok can written refused err = subst (λ (m : List ℕ). AppendsSection id encoding Can Written Refused m new r) same (record {
-  ok = ok;
-  can = can;
-  written = written;
-  refused = refused;
-  err = err;
-  goes_on = λ sections body is_module is_body. goes_on r was new encoding body sections id ok is_module is_body;
-  first = λ body is_header is_body. goes_on r was new encoding body [] id ok is_header is_body;
-  whole = λ sections added is_module is_section. section_added r was new encoding id sections added ok is_module is_section;
-  encodes = Lawful-raw-module.shortest.encodes;
-  shortest = λ sections bytes g. Lawful-raw-module.shortest.least bytes sections g;
-})
+appends_section was old new encoding byte id Can Written Refused r same is ok can written refused err =
+    let appended : OnOk r (new ≡ was ++ id ∷ encoding) = subst (λ (n : ℕ). OnOk r (new ≡ was ++ n ∷ encoding)) is ok in
+    subst (λ (m : List ℕ). AppendsSection id encoding Can Written Refused m new r) same (record {
+      ok = appended;
+      can = can;
+      written = written;
+      refused = refused;
+      err = err;
+      goes_on = λ sections body is_module is_body. goes_on r was new encoding body sections id appended is_module is_body;
+      first = λ body is_header is_body. goes_on r was new encoding body [] id appended is_header is_body;
+      whole = λ sections added is_module is_section. section_added r was new encoding id sections added appended is_module is_section;
+      encodes = Lawful-raw-module.shortest.encodes;
+      shortest = λ sections bytes g. Lawful-raw-module.shortest.least bytes sections g;
+    })

@@ -43,7 +43,10 @@ pub use Rattle.wasm_sections.specs.Closed
 pub use Rattle.wasm_sections.specs.Prefixes
 pub use Rattle.wasm_sections.specs.ModuleOrder
 pub use Rattle.wasm_sections.specs.Stops
+pub use Rattle.wasm_builders.specs.SectionKinds
 pub use Rattle.wasm_builders.specs.ListSections
+pub use Rattle.wasm_builders.specs.ElementSections
+pub use Rattle.wasm_builders.specs.Numbers as NumberSections
 pub use Rattle.wasm_sink.specs.Sink
 pub use Rattle.wasm_sink.specs.ListCalls
 pub mod BuiltModules

@@ -59,7 +59,7 @@ impl Function {
     ///
     /// Fails with `TooLong` if there are more than 4,294,967,295 groups, before it asks for one, and with `Memory` if
     /// it can't allocate.
-    #[tactic(auto, using(crate::proofs::GivenLists::function_made, crate::proofs::GivenLists::function_not_made))]
+    #[tactic(auto, using(crate::proofs::GivenLists::function_not_made))]
     pub fn new<L: ExactSizeIterator<Item = (u32, ValType)>>(
         alloc: Global,
         locals: L,
@@ -206,7 +206,6 @@ impl CodeSection {
     ///
     /// Fails with `TooLong` if the section would have more than 4,294,967,295 bodies, before it encodes any. It also
     /// fails with `TooLong` if a body is longer than 4,294,967,295 bytes, or if a list in it has more items than that.
-    #[tactic(auto, using(crate::proofs::CodeSectionLaws::adds_bodies))]
     pub fn bodies(&mut self, bodies: &[CodeBody]) -> Result<(), EncodeError>
         ensures adds { AddsAll GainsBodies UncountedBody self.old bodies.now self.new result }
     {

@@ -27,7 +27,7 @@ pub use wasm_sections::exports::Export;
 pub use wasm_sections::globals::Global;
 pub use wasm_sections::imports::Import;
 pub use wasm_sections::modules::{
-    BrokenPart, ItemCounts, BrokenItem, ModuleError, ModuleSection, WholeModule, check_order,
+    BrokenItem, BrokenPart, ItemCounts, ModuleError, ModuleSection, WholeModule, check_order,
     check_whole_module, count_longer_items, first_broken_item, first_broken_part,
     normalise_whole_module, read_whole_module, read_whole_module_strict, rewrite_whole_module,
 };

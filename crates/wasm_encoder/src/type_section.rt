@@ -122,7 +122,6 @@ impl TypeSection {
     ///
     /// Fails with `TooLong` if the section would have more than 4,294,967,295 entries, before it encodes any, or if a
     /// list in an entry has more items than that.
-    #[tactic(auto, using(crate::proofs::TypeSectionLaws::adds_entries))]
     pub fn entries(&mut self, entries: &[TypeEntry]) -> Result<(), EncodeError>
         ensures adds { AddsAll GainsAll UncountedEntry self.old entries.now self.new result }
     {
@@ -217,7 +216,6 @@ impl<'a> CoreTypeEncoder<'a> {
     ///
     /// Fails with `TooLong` if the section already has 4,294,967,295 entries or a `len` is over 4,294,967,295, before
     /// it asks for a type.
-    #[tactic(auto, using(crate::proofs::GivenLists::adds_function))]
     pub fn function<P: ExactSizeIterator<Item = ValType>, R: ExactSizeIterator<Item = ValType>>(
         self,
         params: P,
@@ -237,7 +235,6 @@ impl<'a> CoreTypeEncoder<'a> {
     ///
     /// Fails with `TooLong` if the section already has 4,294,967,295 entries or `len` is over 4,294,967,295, before it
     /// asks for a field.
-    #[tactic(auto, using(crate::proofs::GivenLists::adds_struct))]
     pub fn struct_<F: ExactSizeIterator<Item = FieldType>>(
         self,
         fields: F,
@@ -254,7 +251,6 @@ impl<'a> CoreTypeEncoder<'a> {
     ///
     /// Fails with `TooLong` if the section already has 4,294,967,295 entries or `len` is over 4,294,967,295, before it
     /// asks for a type, or if a list in a type has more items than that.
-    #[tactic(auto, using(crate::proofs::GivenLists::adds_group))]
     pub fn rec<S: ExactSizeIterator<Item = SubType>>(self, types: S) -> Result<(), EncodeError>
         requires { S.can_next types }
         ensures adds { AddsGiven S.next_gives types entries.Rec

@@ -172,7 +172,6 @@ impl Module {
     ///
     /// Fails with `Memory` if the module can't grow, and with the errors of the section's `encode`. It calls the
     /// section's `id` and `encode`, never its `append_to`.
-    #[tactic(auto, using(crate::proofs::WholeModuleLaws::appends_section))]
     pub fn section<S: Section>(&mut self, section: &S) -> Result<(), EncodeError>
         ensures appends { AppendsSection (S.id section.now) (S.bytes section.now) (S.CanEncode section.now) (S.IsWritten section.now)
             (IsRefusal S.CanEncode S.refuses section.now) self.old self.new result }

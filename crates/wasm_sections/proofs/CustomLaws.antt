@@ -23,7 +23,7 @@ use Rattle.wasm_sections.specs.Prefixes.{IsNothingOr, IsRefusedAt, AreLawfulPref
 use Rattle.wasm_sections.specs.formats.Names.{name}
 use Rattle.wasm_sections.specs.formats.Sections.{custom_of, parts_of_custom, custom_body}
 use Rattle.wasm_sections.proofs.NameLaws.{name_is_lawful}
-use Rattle.wasm_sections.proofs.TypeWriting.{two}
+use Rattle.wasm_sections.proofs.ExternalLaws.{two}
 
 pub custom_is_lawful : IsLawfulBody custom_body
 unfolding custom_body

@@ -41,7 +41,7 @@ use Rattle.wasm_sections.specs.declared.elements.Elements.TheVariants as held
 use Rattle.wasm_sections.proofs.SegmentLaws.{left_out, by_its_number, by_another_number}
 use Rattle.wasm_sections.proofs.PartCombinatorLaws.{Lawful-numbered}
 use Rattle.wasm_sections.proofs.ExpressionLaws.{expr_is_lawful, in_expr}
-use Rattle.wasm_sections.proofs.TypeWriting.{two}
+use Rattle.wasm_sections.proofs.ExternalLaws.{two}
 
 Lawful-kind-and-functions : IsLawful kind_and_functions
 Lawful-kind-and-functions = Lawful-after 0x00 (lit≤ tt) (Lawful-items Lawful-u32)

@@ -26,9 +26,8 @@ use Rattle.wasm_sections.specs.declared.types.TableType.{TableType}
 use Rattle.wasm_sections.specs.formats.Expressions.{expr}
 use Rattle.wasm_sections.specs.declared.types.ExportKind.TheVariants as kinds
 use Rattle.wasm_sections.proofs.NameLaws.{name_is_lawful}
-use Rattle.wasm_sections.proofs.ExternalLaws.{Lawful-entity-type, Lawful-export-kind, Lawful-memory-type, Lawful-tag-type, Lawful-table-type, Lawful-global-type}
+use Rattle.wasm_sections.proofs.ExternalLaws.{Lawful-entity-type, Lawful-export-kind, Lawful-memory-type, Lawful-tag-type, Lawful-table-type, Lawful-global-type, three, two, four}
 use Rattle.wasm_sections.proofs.ExpressionLaws.{expr_is_lawful, in_expr}
-use Rattle.wasm_sections.proofs.TypeWriting.{three, two, four}
 
 pub export_is_lawful : IsLawful export_entry
 unfolding export_entry

@@ -1,14 +1,11 @@
 pub mod PartCombinatorLaws
 pub mod NameLaws
 pub mod ExternalLaws
-pub mod TypeWriting
-pub mod UntilReading
 pub mod ExpressionLaws
 pub mod EntryLaws
 pub mod SegmentLaws
 pub mod ElementLaws
 pub mod ValueReading
-pub mod WholeBodies
 pub mod CustomLaws
 pub mod ModuleSectionLaws
 pub mod StopLaws

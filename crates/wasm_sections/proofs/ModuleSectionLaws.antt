@@ -3,6 +3,7 @@ use Rattle.std.proofs.Common.{◌≡◌, ℕ, ◌<◌, ◌==◌, true, false, Li
 use Rattle.std.specs.List.{AllByRecursion}
 use Rattle.std.proofs.lemmas.Bool.{ne_eqb}
 use Rattle.std.proofs.lemmas.List.{append-nil}
+use Rattle.wasm_codec.specs.Decoding.{IsMinimal}
 use Rattle.wasm_codec.specs.Lawful.{IsLawful, IsLawfulBody}
 use Rattle.wasm_codec.specs.Places.{Place, byte_at, map_at, place, Reads, keeps}
 use Rattle.wasm_codec.specs.formats.Bodies.{sized, body_at}
@@ -23,12 +24,12 @@ use Rattle.wasm_types.specs.formats.Types.{recursive_type}
 use Rattle.wasm_types.proofs.TypeFormatLaws.{Lawful-recursive-type}
 use Rattle.wasm_modules.specs.formats.CodeBodies.{code_body}
 use Rattle.wasm_modules.proofs.CodeBodyLaws.{Lawful-code_body}
-use Rattle.wasm_modules.proofs.ModuleFormatLaws.{Lawful-module-of}
+use Rattle.wasm_modules.proofs.ModuleFormatLaws.{Lawful-module-of, is_shortest_module_of}
 use Rattle.wasm_sections.specs.formats.Elements.{element_segment}
 use Rattle.wasm_sections.specs.formats.Entries.{import_entry, table_entry, global_entry, export_entry}
 use Rattle.wasm_sections.specs.formats.Externals.{memory_type, tag_type}
 use Rattle.wasm_sections.specs.formats.ModuleSectionParts.{ModuleSectionParts, section_id, custom, types, imports, functions, tables, memories, globals, exports, start, elements, code, data_segments, data_count, tags, custom_part, type_entries_part, imports_part, function_indexes_part, tables_part, memories_part, globals_part, exports_part, start_part, elements_part, code_part, data_segments_part, data_count_part, tags_part}
-use Rattle.wasm_sections.specs.formats.ModuleSections.{module_section, whole_module, one_of, list_of, OfKind, of_custom, of_types, of_imports, of_functions, of_tables, of_memories, of_globals, of_exports, of_start, of_elements, of_code, of_data, of_data_count, of_tags, of_unknown}
+use Rattle.wasm_sections.specs.formats.ModuleSections.{module_section, whole_module, ShortestWholeModule, one_of, list_of, OfKind, of_custom, of_types, of_imports, of_functions, of_tables, of_memories, of_globals, of_exports, of_start, of_elements, of_code, of_data, of_data_count, of_tags, of_unknown}
 use Rattle.wasm_sections.specs.formats.Sections.{custom_body, custom_of}
 use Rattle.wasm_sections.specs.formats.Segments.{data_segment}
 use Rattle.wasm_sections.specs.formats.EntryParts.{CustomParts}
@@ -68,12 +69,15 @@ pub module_section_takes : TakesBytes module_section.Encodes
 unfolding module_section
 module_section_takes = takes_bytes module_section_is_lawful refl
 
-pub Lawful-whole-module : IsLawfulBody whole_module
-Lawful-whole-module = Lawful-module-of module_section_is_lawful module_section_takes
+pub whole_module_is_lawful : IsLawfulBody whole_module
+whole_module_is_lawful = Lawful-module-of module_section_is_lawful module_section_takes
+
+pub whole_module_is_minimal : IsMinimal whole_module ShortestWholeModule
+whole_module_is_minimal = is_shortest_module_of module_section_is_lawful
 
 -- the shortest encoding of sections in range encodes them
 pub whole_module_encoded : (bytes : List ℕ) (sections : List ModuleSectionParts) → AllByRecursion module_section.InRange sections → bytes ≡ whole_module.bytes sections → whole_module.Encodes bytes sections
-whole_module_encoded bytes sections fits e = subst (λ (t : List ℕ). whole_module.Encodes t sections) (sym e) (Lawful-whole-module.shortest.encodes sections fits)
+whole_module_encoded bytes sections fits e = subst (λ (t : List ℕ). whole_module.Encodes t sections) (sym e) (whole_module_is_lawful.shortest.encodes sections fits)
 
 -- ---- the kinds
 

@@ -25,7 +25,7 @@ use Rattle.wasm_sections.specs.SegmentBytes.{table_and_offset_bytes, data_mode_b
 use Rattle.wasm_sections.specs.declared.data.DataSegmentMode.TheVariants as data_modes
 use Rattle.wasm_sections.proofs.PartCombinatorLaws.{Lawful-numbered, number_takes}
 use Rattle.wasm_sections.proofs.ExpressionLaws.{expr_is_lawful, in_expr}
-use Rattle.wasm_sections.proofs.TypeWriting.{two}
+use Rattle.wasm_sections.proofs.ExternalLaws.{two}
 
 -- what is left out takes a byte at least
 pub left_out : {A : Type 0} {F : Format A} → IsLawful F → (bytes : List ℕ) (n : ℕ) (a : A) → (u32 ⊗ F).Encodes bytes (n, a) → F.InRange a × (length (F.bytes a) < length bytes)

@@ -25,7 +25,7 @@ use crate::tables::Table;
 use crate::types::{MemoryType, TagType};
 pub use kinds::{SectionNames, section_names};
 pub use locate::{
-    BrokenPart, ItemCounts, BrokenItem, count_longer_items, first_broken_item, first_broken_part,
+    BrokenItem, BrokenPart, ItemCounts, count_longer_items, first_broken_item, first_broken_part,
 };
 pub use order::{ModuleError, check_order};
 use rewriter::AnySection;
@@ -115,6 +115,7 @@ impl<'a> Decode<'a> for WholeModule {
     ghost IsMinimalPrefix = { IsModulePrefixOf (minimal_only module_section) };
 
     #[inline(always)]
+    #[tactic(auto, using(crate::proofs::ModuleSectionLaws::whole_module_is_lawful))]
     fn is_lawful()
         ensures lawful { IsLawfulBody whole_module }
         ensures minimal { IsMinimal whole_module ShortestWholeModule }

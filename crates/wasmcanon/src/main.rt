@@ -7,10 +7,10 @@
 
 mod diff;
 mod files;
+mod malformed;
 mod messages;
 mod offsets;
 mod options;
-mod malformed;
 mod progress;
 mod report;
 mod run;

@@ -5,7 +5,7 @@ use wasm_codec::reader::cursor::Cursor;
 use wasm_modules::reader::read_section;
 use wasm_readers::modules::read_module;
 use wasm_sections::modules::{
-    BrokenPart, BrokenItem, SectionNames, first_broken_item, first_broken_part, section_names,
+    BrokenItem, BrokenPart, SectionNames, first_broken_item, first_broken_part, section_names,
 };
 
 /// A malformed section.

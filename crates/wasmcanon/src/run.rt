@@ -8,8 +8,8 @@ ghost use Rattle.wasm_sections.specs.formats.ModuleSections.{module_section};
 ghost use Rattle.wasmcanon.specs.Run.{IsNoModule, IsCanonicalForm, AppendsCanonicalForm, AppendsWithoutOffsets, IfRefused, OnceAllIsRead, BeforeAnyWrite, IsReadFailure, Judges, status_of};
 ghost use Rattle.wasmcanon.specs.declared.run.Failure.TheVariants.{Memory};
 
-use crate::offsets::{first_offset_name, without_offsets};
 use crate::malformed::{MalformedSection, find_malformed_section};
+use crate::offsets::{first_offset_name, without_offsets};
 use std::alloc::{AllocError, Global};
 use std::io;
 use std::io::{ErrorKind, Read, Write};

@@ -1,7 +1,7 @@
-//! Calls that take their memory from `Global` and that the vectors of `replay`, which are replayed without memory too, don't
-//! make. `scripts/gate refused-growths` runs each test while the first, the second, .. request for memory is refused; without it
-//! none is. Where one is refused, the answer says so, the test prints `refused`, and the same call is made again, with memory. The
-//! answer is then the right one.
+//! Calls that take their memory from `Global`, and that the vectors of `replay` don't make, which it also replays
+//! without memory. `scripts/gate refused-growths` runs each test while the first request for memory is refused, then
+//! the second, and so on. In other runs none is refused. If a call reports lack of memory, the test prints `refused`
+//! and makes the call again with memory. The answer is then the right one.
 
 mod code;
 mod lists;

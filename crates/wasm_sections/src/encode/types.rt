@@ -31,7 +31,7 @@ fn limits_byte(has_maximum: bool, shared: bool, wide: bool) -> u8
 }
 
 /// Returns the flags byte of a memory's limits, with one flag more for the page size.
-#[tactic(auto, using(crate::proofs::TypeWriting::paged_is))]
+#[tactic(auto, using(crate::proofs::ExternalLaws::paged_is))]
 fn memory_byte(has_maximum: bool, shared: bool, wide: bool, paged: bool) -> u8
     ensures { paged_byte ((has_maximum, (shared, wide)), paged) ≡ Some result }
 {
@@ -109,7 +109,7 @@ fn mutability_byte(mutable: bool, shared: bool) -> u8
 }
 
 /// Appends a global type in 2 to 8 bytes.
-#[tactic(auto, using(crate::proofs::TypeWriting::global_put, crate::proofs::TypeWriting::global_written))]
+#[tactic(auto, using(crate::proofs::ExternalLaws::global_put, crate::proofs::ExternalLaws::global_written))]
 pub(crate) fn put_global_type<A: Allocator>(bytes: &mut Vec<u8, A>, ty: GlobalType)
     requires { vec_len bytes.old + 8 ≤ vec_capacity bytes.old }
     ensures items { bytes.new.items ≡ bytes.old.items ++ global_type.bytes ty }
@@ -120,7 +120,7 @@ pub(crate) fn put_global_type<A: Allocator>(bytes: &mut Vec<u8, A>, ty: GlobalTy
 }
 
 /// Appends a tag type in 2 to 6 bytes.
-#[tactic(auto, using(crate::proofs::TypeWriting::tag_put, crate::proofs::TypeWriting::tag_written))]
+#[tactic(auto, using(crate::proofs::ExternalLaws::tag_put, crate::proofs::ExternalLaws::tag_written))]
 pub(crate) fn put_tag_type<A: Allocator>(bytes: &mut Vec<u8, A>, ty: TagType)
     requires { vec_len bytes.old + 6 ≤ vec_capacity bytes.old }
     ensures items { bytes.new.items ≡ bytes.old.items ++ tag_type.bytes ty }

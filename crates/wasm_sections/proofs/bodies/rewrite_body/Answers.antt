@@ -1,10 +1,10 @@
 use Rattle.std.proofs.Common.{◌≡◌, ◌-◌, length, subst, arith}
 use Rattle.wasm_sections.specs.Prefixes.{IsRefusedAt}
-use Rattle.wasm_sections.proofs.WholeBodies.{refuses, returns_it, whole_none, whole_within, whole_left_over, whole_given}
+use Rattle.wasm_sections.proofs.ValueReading.{refuses_rewriting, returns_rewritten, whole_none, whole_within, whole_left_over, whole_given}
 use Rattle.wasm_sections.proofs.bodies.rewrite_body.Goals as goal
 
 pub returns-in-Err : goal.returns-in-Err
-returns-in-Err g c = record { rewrites = refuses g.T.RewritableBody.format c.args.body.items 0 (whole_none c.is_lawful.ensures c.prefixes_are_lawful.ensures c.args.body.items c.new-rewriter.result c.rewrite.new.rewriter c.new-rewriter.ensures c.in-Err.field-0 c.in-Err.ensures.rewrites); memory = tt }
+returns-in-Err g c = record { rewrites = refuses_rewriting g.T.RewritableBody.format c.args.body.items 0 (whole_none c.is_lawful.ensures c.prefixes_are_lawful.ensures c.args.body.items c.new-rewriter.result c.rewrite.new.rewriter c.new-rewriter.ensures c.in-Err.field-0 c.in-Err.ensures.rewrites); memory = tt }
 
 pub overflow_sub-result : goal.overflow_sub-result
 overflow_sub-result g c =
@@ -14,9 +14,9 @@ overflow_sub-result g c =
 pub returns-then-left-gt0 : goal.returns-then-left-gt0
 returns-then-left-gt0 g c =
     let at : length c.args.body.items - length c.rewrite.new.rewriter.place.left ≡ c.len-len.result - c.len-left.result = omega (arith, c.len-left.ensures) in
-    record { rewrites = refuses g.T.RewritableBody.format c.args.body.items (c.len-len.result - c.len-left.result) (subst (IsRefusedAt g.T.RewritableBody.format c.args.body.items) at (whole_left_over c.is_lawful.ensures c.prefixes_are_lawful.ensures c.args.body.items c.new-rewriter.result c.rewrite.new.rewriter c.new-rewriter.ensures c.are_bytes.ensures c.in_default.ensures.rewrites (omega (arith, c.if-left-gt0.true, c.len-left.ensures)))); memory = tt }
+    record { rewrites = refuses_rewriting g.T.RewritableBody.format c.args.body.items (c.len-len.result - c.len-left.result) (subst (IsRefusedAt g.T.RewritableBody.format c.args.body.items) at (whole_left_over c.is_lawful.ensures c.prefixes_are_lawful.ensures c.args.body.items c.new-rewriter.result c.rewrite.new.rewriter c.new-rewriter.ensures c.are_bytes.ensures c.in_default.ensures.rewrites (omega (arith, c.if-left-gt0.true, c.len-left.ensures)))); memory = tt }
 
 pub returns : goal.returns
 returns g c =
     let given = whole_given c.is_lawful.ensures c.prefixes_are_lawful.ensures c.args.body.items c.new-rewriter.result c.rewrite.new.rewriter c.new-rewriter.ensures c.are_bytes.ensures c.in_default.ensures.rewrites (omega (arith, c.if-left-gt0.false, c.len-left.ensures)) in
-    record { rewrites = returns_it g.T.RewritableBody.format c.args.body.items c.finish.result (rw c.finish.ensures given); memory = tt }
+    record { rewrites = returns_rewritten g.T.RewritableBody.format c.args.body.items c.finish.result (rw c.finish.ensures given); memory = tt }

@@ -2,8 +2,7 @@ use Rattle.std.proofs.Common.{◌≡◌, arith, ap, ◌∙◌}
 use Rattle.std.proofs.lemmas.Result.{err_from_is_err_and}
 use Rattle.wasm_sections.specs.formats.PartCombinators.{goes_on, ends, fails}
 use Rattle.wasm_sections.specs.formats.Expressions.{nested_by}
-use Rattle.wasm_sections.proofs.ExpressionLaws.{expr_begun, expr_goes_on, expr_ends, expr_fails, expr_unseen, expr_wanting, expr_out}
-use Rattle.wasm_sections.proofs.UntilReading.{byte_below}
+use Rattle.wasm_sections.proofs.ExpressionLaws.{expr_begun, expr_goes_on, expr_ends, expr_fails, expr_unseen, expr_wanting, expr_out, byte_below}
 use Rattle.wasm_sections.proofs.expressions.rewrite_expr.Goals as goal
 
 pub loop-init : goal.loop-init

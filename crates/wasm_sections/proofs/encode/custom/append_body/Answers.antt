@@ -1,6 +1,6 @@
 use Rattle.wasm_sections.specs.formats.EntryParts.{custom_parts}
 use Rattle.wasm_sections.proofs.CustomLaws.{custom_written, body_appended}
-use Rattle.wasm_sections.proofs.TypeWriting.{kept_after}
+use Rattle.wasm_sections.proofs.ExternalLaws.{kept_after}
 use Rattle.wasm_sections.proofs.encode.custom.append_body.Goals as goal
 
 pub returns-clause-shortest : goal.returns-clause-shortest

@@ -3,7 +3,7 @@ use Rattle.wasm_codec.specs.Encoding.{IsCount}
 use Rattle.wasm_codec.specs.Leb128.{unsigned_leb128}
 use Rattle.wasm_sections.specs.formats.EntryParts.{custom_parts}
 use Rattle.wasm_sections.proofs.ModuleSectionLaws.{custom_section_written}
-use Rattle.wasm_sections.proofs.TypeWriting.{kept_before}
+use Rattle.wasm_sections.proofs.ExternalLaws.{kept_before}
 use Rattle.wasm_sections.proofs.encode.custom.append_custom.Goals as goal
 
 pub returns-clause-whole : goal.returns-clause-whole

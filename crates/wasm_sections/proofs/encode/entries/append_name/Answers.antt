@@ -1,4 +1,4 @@
-use Rattle.wasm_sections.proofs.TypeWriting.{kept_either}
+use Rattle.wasm_sections.proofs.ExternalLaws.{kept_either}
 use Rattle.wasm_sections.proofs.encode.entries.append_name.Goals as goal
 
 pub returns-clause-kept : goal.returns-clause-kept

@@ -1,6 +1,6 @@
 use Rattle.std.proofs.Common.{◌≡◌, [], ◌∷◌, ◌++◌}
 use Rattle.wasm_sections.proofs.ExpressionLaws.{expr_appended, expr_counted, expr_written}
-use Rattle.wasm_sections.proofs.TypeWriting.{kept_after}
+use Rattle.wasm_sections.proofs.ExternalLaws.{kept_after}
 use Rattle.wasm_sections.proofs.encode.expressions.append_expr.Goals as goal
 
 pub returns-clause-ok : goal.returns-clause-ok

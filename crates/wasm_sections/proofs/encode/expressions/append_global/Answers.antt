@@ -1,6 +1,6 @@
 use Rattle.std.proofs.Common.{◌≡◌, ◌++◌}
 use Rattle.wasm_sections.proofs.EntryLaws.{global_appended, global_entry_written}
-use Rattle.wasm_sections.proofs.TypeWriting.{where_ok, kept_at_last}
+use Rattle.wasm_sections.proofs.ExternalLaws.{where_ok, kept_at_last}
 use Rattle.wasm_sections.specs.formats.Expressions.{expr}
 use Rattle.wasm_sections.specs.formats.Externals.{global_type}
 use Rattle.wasm_sections.proofs.encode.expressions.append_global.Goals as goal

@@ -5,7 +5,7 @@ use Rattle.std.proofs.lemmas.List.Elements.{All-push}
 use Rattle.wasm_writers.proofs.WrittenLists.{one_more}
 use Rattle.wasm_sections.specs.Closed.{IsCountedExpr, IsWrittenExpr}
 use Rattle.wasm_sections.specs.formats.Expressions.{expr}
-use Rattle.wasm_sections.proofs.TypeWriting.{kept_after}
+use Rattle.wasm_sections.proofs.ExternalLaws.{kept_after}
 use Rattle.wasm_sections.proofs.encode.segments.append_each_expression.Goals as goal
 
 pub loop-expression-preserved : goal.loop-expression-preserved

@@ -1,6 +1,6 @@
 use Rattle.std.proofs.Common.{◌≡◌, ◌++◌}
 use Rattle.wasm_sections.proofs.ElementLaws.{functions_fit, expressions_fit, type_fits, not_both}
-use Rattle.wasm_sections.proofs.TypeWriting.{kept_either, kept_at_last, where_both_ok}
+use Rattle.wasm_sections.proofs.ExternalLaws.{kept_either, kept_at_last, where_both_ok}
 use Rattle.wasm_sections.specs.formats.Expressions.{expr}
 use Rattle.wasm_codec.specs.formats.Combinators.{items}
 use Rattle.wasm_types.specs.formats.Types.{ref_type}

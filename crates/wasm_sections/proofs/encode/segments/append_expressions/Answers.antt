@@ -1,4 +1,4 @@
-use Rattle.wasm_sections.proofs.TypeWriting.{kept_before}
+use Rattle.wasm_sections.proofs.ExternalLaws.{kept_before}
 use Rattle.wasm_sections.proofs.encode.segments.append_expressions.Goals as goal
 
 pub returns-clause-kept : goal.returns-clause-kept

@@ -4,7 +4,7 @@ use Rattle.wasm_codec.specs.Leb128.{unsigned_leb128}
 use Rattle.wasm_codec.specs.formats.Combinators.{u32}
 use Rattle.wasm_sections.specs.formats.PartCombinators.{part_if}
 use Rattle.wasm_sections.specs.formats.Expressions.{expr}
-use Rattle.wasm_sections.proofs.TypeWriting.{two, three, where_ok, kept_at_last}
+use Rattle.wasm_sections.proofs.ExternalLaws.{two, three, where_ok, kept_at_last}
 use Rattle.wasm_sections.proofs.encode.segments.append_table_and_offset.Goals as goal
 
 pub returns-clause-ok : goal.returns-clause-ok

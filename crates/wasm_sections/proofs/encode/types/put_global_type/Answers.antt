@@ -1,4 +1,4 @@
-use Rattle.wasm_sections.proofs.TypeWriting.{global_put}
+use Rattle.wasm_sections.proofs.ExternalLaws.{global_put}
 use Rattle.wasm_sections.proofs.encode.types.put_global_type.Goals as goal
 
 pub returns-clause-items : goal.returns-clause-items

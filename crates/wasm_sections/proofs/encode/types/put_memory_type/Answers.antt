@@ -1,7 +1,7 @@
 use Rattle.std.proofs.Common.{◌≡◌, Some}
 use Rattle.std.specs.Prelude.{is_some}
 use Rattle.wasm_sections.specs.formats.Externals.{paged_byte}
-use Rattle.wasm_sections.proofs.TypeWriting.{memory_put, memory_written}
+use Rattle.wasm_sections.proofs.ExternalLaws.{memory_put, memory_written}
 use Rattle.wasm_sections.proofs.encode.types.put_memory_type.Goals as goal
 
 pub returns-clause-items : goal.returns-clause-items

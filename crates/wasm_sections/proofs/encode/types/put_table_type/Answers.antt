@@ -1,7 +1,7 @@
 use Rattle.std.proofs.Common.{◌≡◌, Some}
 use Rattle.std.specs.Prelude.{is_some}
 use Rattle.wasm_sections.specs.formats.Externals.{flags_byte}
-use Rattle.wasm_sections.proofs.TypeWriting.{table_put, table_written}
+use Rattle.wasm_sections.proofs.ExternalLaws.{table_put, table_written}
 use Rattle.wasm_sections.proofs.encode.types.put_table_type.Goals as goal
 
 pub returns-clause-items : goal.returns-clause-items

@@ -1,4 +1,4 @@
-use Rattle.wasm_sections.proofs.TypeWriting.{tag_written}
+use Rattle.wasm_sections.proofs.ExternalLaws.{tag_written}
 use Rattle.wasm_sections.proofs.encode.types.put_tag_type.Goals as goal
 
 pub returns-clause-written : goal.returns-clause-written

@@ -1,0 +1,57 @@
+"""Tries the planted edits of crates/NAME/planted.edits: the proof must refuse each.
+
+The edits of a crate are laid into one copy of it, which is checked once: the first edit of a function into the
+function, each further one into a copy of the function beside it. An edit of a constant is laid into copies of the
+constant and of a few functions that name it. Methods of traits can't be copied, so a crate takes as many such rounds
+as one of them has edits. An edit is refused if its own function isn't proved by itself. A function that only calls
+one that isn't proved is tried again alone. An edit that can't be applied or read is bad.
+
+An edit with a line `clause: NAME` is laid into a copy of its function that promises nothing else: that clause must
+refuse it.
+
+An edit is refused by the search if the search doesn't prove a goal of the function. It is refused by an answer if
+only answers fail, the proof terms in Answers.antt, which says less: a name in one may be gone.
+
+The libraries below a crate are those that rt lib keeps. After rt ci, they are those that it left, unless it put
+libraries of earlier runs back in their place, of which rt knows by their stamps whether they are up to date.
+"""
+import argparse
+import sys
+
+from parts.common import ROOT, counted_here
+from parts.planted_crates import Options, counted, try_all
+from parts.planted_kit import Fault
+from parts.planted_self_test import self_test
+
+
+def options_of(arguments):
+    parser = argparse.ArgumentParser(prog="gate planted", description=__doc__,
+                                     formatter_class=argparse.RawTextHelpFormatter)
+    parser.add_argument("edits", nargs="*", metavar="CRATE or CRATE:EDIT", help="the edits to try [default: all]")
+    parser.add_argument("--after-gate", action="store_true", help="take the libraries that rt ci left")
+    parser.add_argument("--clauses", action="store_true",
+                        help="try the right functions: each clause that an edit names must be proved by itself")
+    parser.add_argument("--searched", action="store_true",
+                        help="try an edit that only answers refuse once more without these answers")
+    parser.add_argument("--verbose", action="store_true", help="print the verdict on each edit")
+    parser.add_argument("--self-test", action="store_true", help="try a small crate of which every verdict is known")
+    return parser.parse_args(arguments, Options())
+
+
+def main(arguments):
+    """Tries the edits as the arguments say, and returns the exit status."""
+    options = options_of(arguments)
+    if options.self_test:
+        return self_test()
+    try:
+        verdicts = try_all(ROOT, options)
+    except Fault as fault:
+        print(f"planted: {fault}", file=sys.stderr)
+        return 2
+    passed = sum(it.kind == options.expected for it in verdicts)
+    print(f"all: {counted(verdicts)}\n{passed} passed, {len(verdicts) - passed} failed")
+    return int(passed < len(verdicts))
+
+
+def run(report, words):
+    counted_here(report, "planted", main, words)
