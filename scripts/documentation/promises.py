@@ -74,13 +74,14 @@ def all_calls(interface):
 # documentation of the calls gives, and what implementations of Decode and Readable owe.
 PLUMBING = re.compile(r"""
     (Is)?(Counted|Uncounted|Closed)\w* | IsClosed\w+ | StandsFor\w* | Holds\w+ | Is\w*Prefix(Of|MinimalIf)?
-    | Is\w*Refusal\w* | IsNothingOr | AreClosed | AppendsPrefix | BeforeAnyWrite | CanEncodeList | Chain
+    | Is\w*Refusal\w* | IsNothingOr | AddsEachIf | AppendsTo | AreClosed | AppendsPrefix | BeforeAnyWrite
+    | CanEncodeList | Chain
     | ListMinimalIf | EncodedItems | EncodesList | EncodesSome | Gains\w+ | GivesItems | GoesOnWith | GivesSome
     | HasAlignment | HasNo\w*List | If\w+ | IsAligned | IsAnswer | IsBodyOf | IsBytes | IsCanonicalForm
     | IsCount | IsTypedSection | IsDelivery | IsEncoded | IsFull | IsJudgement | IsLawful | IsMemoryOrTooLong
     | IsNameOf | IsReadError | IsReadFailure | IsRefusedList | IsSection | IsShort | IsShortEncoding
-    | IsWithoutOffsets | LawfulItem | NormalForm | OfBoth | OfItems | OnceAllIsRead | OnlyTooLong | Reads | ReadsAll | Sees
-    | TakesBytes | WritesGiven
+    | IsWithoutOffsets | LawfulItem | NormalForm | OfBoth | OfItems | OnceAllIsRead | OnlyTooLong | Reads | ReadsAll
+    | Sees | TakesBytes | WritesGiven
 """, re.X)
 NEVER_PLUMBING = ("IsRefusal", "IsLongestPrefix")
 
@@ -151,7 +152,7 @@ def named_calls(calls, having):
 
 # Relations that say of one kind of thing what another says of all. They share its row.
 OF_ONE_KIND = {"IsSectionAfter": re.compile("IsTypeSection|IsCodeSection|IsSectionOfItems"),
-               "Adds": re.compile(r"Adds\w+"), "Makes": re.compile(r"Makes\w+"), "AppendsTo": re.compile("AppendsSection"),
+               "Adds": re.compile(r"Adds(?!If|EachIf|Segment)\w+"), "AddsIf": re.compile("AddsSegment"),
                "IsShortest": re.compile(r"IsWritten\w+")}
 PREFIX_FREE = re.compile(r"No encoding of .* is a proper prefix of another.*")
 

@@ -12,8 +12,8 @@ refuse it.
 An edit is refused by the search if the search doesn't prove a goal of the function. It is refused by an answer if
 only answers fail, the proof terms in Answers.antt, which says less: a name in one may be gone.
 
-The libraries below a crate are those that rt lib keeps. After rt ci, they are those that it left, unless it put
-libraries of earlier runs back in their place, of which rt knows by their stamps whether they are up to date.
+The libraries below a crate are those that rt lib keeps. With --after-gate, they are those that rt ci left. If rt ci
+restored libraries of earlier runs, rt lib checks by their stamps whether they are up to date.
 """
 import argparse
 import sys

@@ -72,7 +72,7 @@ def differences(expected, found):
 
 
 def run_edges(report, crate):
-    """Runs the cases of program_runs. Each is a file, of which the program is told as standard input."""
+    """Runs the cases of program_runs. The program reads each case from a file as standard input."""
     output, error = b"", b""
     with room() as folder:
         cases = folder / "cases"
