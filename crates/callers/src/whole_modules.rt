@@ -2,7 +2,7 @@
 ghost use Rattle.std.specs.Prelude.{◌≡◌, ◌++◌, ◌∷◌, [], ℕ, List, IfOk, OnOk};
 ghost use Rattle.wasm_codec.specs.formats.Combinators.{u32 as u32_format};
 ghost use Rattle.wasm_encoder.specs.Outcomes.{IsOrMemory};
-ghost use Rattle.wasm_builders.specs.ListSections.{StandsForItems};
+ghost use Rattle.wasm_sections.specs.ListSections.{StandsForItems};
 ghost use Rattle.wasm_sections.specs.formats.EntryParts.{ExportParts, custom_parts};
 ghost use Rattle.wasm_sections.specs.formats.ModuleSectionParts.{ModuleSectionParts, all_module_section_parts, custom, exports as holding_exports, functions as holding_functions};
 ghost use Rattle.wasm_sections.specs.formats.Entries.{export_entry};

@@ -8,6 +8,7 @@ mod lists;
 mod modules;
 mod operands;
 mod own;
+mod reading;
 mod readme;
 mod refused_memory;
 mod type_sections;

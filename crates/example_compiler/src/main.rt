@@ -15,8 +15,8 @@ mod report;
 mod tokens;
 
 use anyhow::{Result, bail};
-use std::env;
-use std::io::{self, Write};
+use std::io::Write;
+use std::{env, io};
 
 fn main(rt: HostRuntime) -> Result<()> {
     let is_module_wanted = is_module_wanted(&rt)?;

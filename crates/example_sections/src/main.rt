@@ -13,9 +13,9 @@ mod exports;
 mod module;
 mod read;
 
+use crate::exports::{ExportSection, FunctionExport};
+use crate::read::ReadExport;
 use anyhow::Result;
-use exports::{ExportSection, FunctionExport};
-use read::ReadExport;
 use std::io;
 use wasm_encoder::{
     CodeSection, Function, FunctionSection, ReadError, SectionId, TypeSection, ValType, check,

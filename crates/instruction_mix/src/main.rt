@@ -9,9 +9,9 @@ mod apart;
 mod lists;
 mod mix;
 
-use apart::write_mix_apart;
-use lists::write_lists;
-use mix::write_mix;
+use crate::apart::write_mix_apart;
+use crate::lists::write_lists;
+use crate::mix::write_mix;
 use std::alloc::Allocator;
 use std::process::ExitCode;
 use std::{env, io};

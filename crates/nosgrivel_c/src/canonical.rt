@@ -5,7 +5,7 @@ ghost use Rattle.nosgrivel_c.specs.Calls.{WritesInPlace, WritesNormal};
 
 use crate::delivery::deliver;
 use std::alloc::Global;
-use wasm_sections::modules::normalise_whole_module;
+use wasm_whole_modules::modules::normalise_whole_module;
 
 /// Writes the canonical form of a module to the start of the output: every number, size, type, index and limit has its
 /// minimal encoding.

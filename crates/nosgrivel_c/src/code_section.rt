@@ -5,7 +5,7 @@ ghost use Rattle.nosgrivel_c.specs.Calls.{ChecksNormal, JudgesNormal, WritesInPl
 use crate::delivery::{answer, deliver, judge};
 use std::alloc::Global;
 use wasm_modules::code::normaliser::normalise_code_section;
-use wasm_readers::checks::check_code_section;
+use wasm_modules::code::reader::check_code_section;
 
 /// Writes the minimal encoding of the body of a code section to the start of the output.
 ///

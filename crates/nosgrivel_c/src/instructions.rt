@@ -7,7 +7,7 @@ ghost use Rattle.nosgrivel_c.specs.Calls.{ChecksNormal, JudgesNormal, WritesInPl
 use crate::delivery::{answer, deliver, judge};
 use std::alloc::Global;
 use wasm_instructions::normaliser::normalise_instructions;
-use wasm_readers::checks::check_instructions;
+use wasm_instructions::reader::instructions::check_instructions;
 
 /// Writes the minimal encoding of a list of instructions to the start of the output.
 ///

@@ -6,9 +6,9 @@ mod built;
 mod modules;
 
 use crate::columns::columns;
+use crate::decoded::bodies::{Answers, all_answers};
+use crate::decoded::modules::{check_module, check_order_of, module_of};
 use crate::mismatch::Mismatch;
-use bodies::{Answers, all_answers};
-use modules::{check_module, check_order_of, module_of};
 use std::alloc::Global;
 
 /// Holds the readers, the normalisers and the builders to the vector of a line.

@@ -20,9 +20,9 @@ mod type_tokens;
 mod words;
 mod written;
 
+use crate::suites::Suite;
 use std::rt::Files;
 use std::{fs, io};
-use suites::Suite;
 
 /// The files, and what their lines are.
 const FILES: [(&str, Suite); 17] = [

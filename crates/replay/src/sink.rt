@@ -6,9 +6,9 @@ mod methods;
 
 use crate::columns::columns;
 use crate::mismatch::Mismatch;
+use crate::sink::arguments::{Argument, arguments};
+use crate::sink::methods::is_called;
 use crate::written::{Written, check_growth, check_written};
-use arguments::{Argument, arguments};
-use methods::is_called;
 use std::alloc::{Allocator, Global};
 use wasm_encoder::{
     Call, InstructionSink, Items, Opcode, Operands, Prefix, normalise_instructions,

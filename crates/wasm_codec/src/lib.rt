@@ -4,6 +4,5 @@
 
 pub mod decode;
 pub mod encode;
-pub mod list;
 pub mod reader;
 pub mod rewriter;

@@ -7,7 +7,7 @@ ghost use Rattle.wasm_codec.specs.Outcomes.{error_of};
 
 pub mod cursor;
 
-use cursor::Fault;
+use crate::reader::cursor::Fault;
 use std::alloc::{AllocError, AllocFailed};
 use thiserror::Error;
 

@@ -10,20 +10,14 @@ ghost use Rattle.wasm_codec.specs.declared.reader.cursor.Fault.TheVariants.{Malf
 ghost use Rattle.wasm_codec.specs.Scanning.{IsWithin, RewritesScanned};
 ghost use Rattle.wasm_codec.specs.Rewriter.{rewriting_after, Gives, Rewrites, OpensBody, without, with_byte, limited, widened, resized, rewriting, skipped, shortened, done_of};
 
-use std::marker::Model;
-
-mod loops;
 mod scan;
 
 use crate::encode::leb128::u32_len;
 use crate::encode::write_u32;
 use crate::reader::cursor::{Cursor, Fault};
-pub use loops::{
-    Joinable, Rewritable, RewritableBody, rewrite_items_to_end, rewrite_joined, rewrite_list,
-    rewrite_list_to_end, rewrite_sized, rewrite_to_end,
-};
-use scan::kept_digits;
+use crate::rewriter::scan::kept_digits;
 pub use scan::{Scanned, scan_s32, scan_s64, scan_u32, scan_u64};
+use std::marker::Model;
 
 /// A body that is being rewritten.
 #[derive(Clone, Copy)]
@@ -435,7 +429,7 @@ fn move_down(bytes: &mut [u8], start: usize, end: usize, dest: usize)
 
 /// Tells the proof that each item of a slice of `u8` is a byte. The call does nothing.
 #[inline(always)]
-fn are_bytes(bytes: &[u8])
+pub fn are_bytes(bytes: &[u8])
     ensures { IsBytes bytes.now }
 {
     let _place = place_of(bytes);

@@ -11,24 +11,24 @@ use Rattle.wasm_codec.specs.Encoding.{byte_list_bytes, IsCount, IsRefusal, IsSho
 use Rattle.wasm_codec.specs.formats.Numbers.{EncodesU32}
 use Rattle.wasm_codec.specs.Leb128.{unsigned_leb128}
 use Rattle.wasm_types.specs.formats.Types.{val_type}
-use Rattle.wasm_writers.specs.Iterators.{AppendsItems}
+use Rattle.wasm_lists.specs.Iterators.{AppendsItems}
 use Rattle.wasm_codec.specs.formats.Combinators.{items}
-use Rattle.wasm_calls.specs.Appending.{CountedCall}
+use Rattle.wasm_instructions.specs.Appending.{CountedCall}
 use Rattle.wasm_instructions.specs.formats.Instructions.{Instruction, Instructions, instruction, instructions_bytes}
 use Rattle.wasm_modules.specs.declared.code.CodeBody.{CodeBody}
-use Rattle.wasm_writers.specs.CodeCounts.{CountedBody}
+use Rattle.wasm_modules.specs.CodeCounts.{CountedBody}
 use Rattle.wasm_modules.specs.formats.CodeBodies.{local_group, code_body, code_section_body}
 use Rattle.wasm_modules.proofs.CodeBodyLaws.{Lawful-code_body, Lawful-code-section-body}
-use Rattle.wasm_writers.proofs.CodeBodyWriting.{calls_counted, calls_in_range, locals_in_range, in_range_by_parts}
+use Rattle.wasm_modules.proofs.CodeBodyWriting.{calls_counted, calls_in_range, locals_in_range, in_range_by_parts}
 use Rattle.wasm_modules.specs.formats.Sections.{typed_section_of, code_bodies, code_section_id}
-use Rattle.wasm_modules.specs.TypedModules.{IsTypedSection}
+use Rattle.wasm_modules.specs.Modules.{IsTypedSection}
 use Rattle.wasm_encoder.specs.EncodedLists.{Adds, AddsAll, EncodesSection, EncodedItems, CountedSection, IsFull, IsMemoryOrTooLong, IsRefusalOfEach, IsRefusalOfOne, IsUncounted, OfItems, body_bytes}
 use Rattle.wasm_encoder.specs.CodeSections.{FunctionStandsFor, GainsBodies, GainsFunction, GoesOnWith, StandsForBodies, UncountedBody, body_of, followed}
 use Rattle.wasm_sections.specs.formats.ModuleSectionParts.{code}
 use Rattle.wasm_sections.proofs.ModuleSectionLaws.{code_kind, is_body_of}
-use Rattle.wasm_builders.proofs.ListSectionLaws.{section_encodes as encodes_section}
+use Rattle.wasm_sections.proofs.ListSectionLaws.{section_encodes as encodes_section}
 use Rattle.wasm_encoder.proofs.RefusalLaws.{bodies_refused, function_refused, if_refused}
-use Rattle.wasm_writers.proofs.EncodedListLaws.{stands_none, stands_one_more, gains_each, body_is, values_in_range, all_in_range}
+use Rattle.wasm_lists.proofs.EncodedListLaws.{stands_none, stands_one_more, gains_each, body_is, values_in_range, all_in_range}
 
 -- ---- functions
 

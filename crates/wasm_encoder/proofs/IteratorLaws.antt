@@ -1,7 +1,8 @@
 -- The laws of entries that are made of what iterators give.
 use Rattle.std.proofs.Common.{◌≡◌, ℕ, ◌+◌, List, ◌∷◌, ◌++◌, Option, Result, Ok, Err, OnOk, refl, subst, arith}
 use Rattle.std.specs.List.{All}
-use Rattle.wasm_types.proofs.WrittenTypes.{in_range_of, func_written, struct_ok, group_written}
+use Rattle.wasm_lists.proofs.WrittenLists.{in_range_of}
+use Rattle.wasm_types.proofs.WrittenTypes.{func_written, struct_ok, group_written}
 use Rattle.wasm_types.proofs.TypeFormatLaws.{Lawful-inner-type, Lawful-recursive-type}
 use Rattle.wasm_types.specs.declared.types.value.ValType.{ValType}
 use Rattle.wasm_types.specs.declared.types.composite.FuncType.{FuncType}

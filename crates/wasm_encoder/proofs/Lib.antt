@@ -1,4 +1,4 @@
-pub use Rattle.wasm_calls.proofs.DrainLaws
+pub use Rattle.wasm_instructions.proofs.DrainLaws
 pub mod CodeSectionLaws
 pub mod TypeSectionLaws
 pub mod IteratorLaws

@@ -13,16 +13,16 @@ use Rattle.wasm_types.specs.declared.types.composite.TypeEntry.TheVariants as en
 use Rattle.wasm_types.specs.TypeCounts.{CountedFunc, CountedInner, CountedSub, CountedEntry}
 use Rattle.wasm_codec.specs.declared.encode.EncodeError.{EncodeError}
 use Rattle.wasm_codec.specs.Encoding.{IsCount, OnlyTooLong}
-use Rattle.wasm_writers.specs.Iterators.{IsItemsRefusal}
-use Rattle.wasm_calls.specs.Appending.{CountedCall}
+use Rattle.wasm_lists.specs.Iterators.{IsItemsRefusal}
+use Rattle.wasm_instructions.specs.Appending.{CountedCall}
 use Rattle.wasm_instructions.specs.formats.Instructions.{Instruction}
 use Rattle.wasm_instructions.specs.Instructions.{IsCounted}
 use Rattle.wasm_instructions.specs.declared.table.call.Operands.{Operands}
 use Rattle.wasm_instructions.specs.declared.table.call.Operands.TheVariants as operands
 use Rattle.wasm_modules.specs.declared.code.CodeBody.{CodeBody}
-use Rattle.wasm_writers.specs.CodeCounts.{CountedBody, func_bytes}
+use Rattle.wasm_modules.specs.CodeCounts.{CountedBody, func_bytes}
 use Rattle.wasm_encoder.specs.EncodedLists.{EncodedItems, GivesSome, IsFull, IsMemoryOrTooLong, IsRefusalOfOne, IsRefusalOfEach, IsUncounted}
-use Rattle.wasm_writers.proofs.EncodedListLaws.{which, both_or, counted_or, of_one, of_each}
+use Rattle.wasm_lists.proofs.EncodedListLaws.{which, both_or, counted_or, of_one, of_each}
 use Rattle.wasm_encoder.specs.TypeSections.{UncountedFunc, UncountedInner, UncountedSub, UncountedEntry}
 use Rattle.wasm_encoder.specs.CodeSections.{UncountedList, UncountedCall, UncountedBody}
 

@@ -14,18 +14,18 @@ use Rattle.wasm_codec.specs.declared.encode.EncodeError.{EncodeError}
 use Rattle.wasm_codec.specs.declared.encode.EncodeError.TheVariants.{TooLong}
 use Rattle.wasm_codec.specs.Encoding.{byte_list_bytes, IsCount, IsRefusal, IsShortest, OnlyTooLong}
 use Rattle.wasm_modules.specs.formats.Sections.{typed_section_of, type_entries, type_section_id}
-use Rattle.wasm_modules.specs.TypedModules.{IsTypedSection}
+use Rattle.wasm_modules.specs.Modules.{IsTypedSection}
 use Rattle.wasm_encoder.specs.EncodedLists.{AddsAll, EncodesSection, EncodedItems, CountedSection, IsFull, IsMemoryOrTooLong, IsRefusalOfEach, IsRefusalOfOne, IsUncounted, body_bytes}
 use Rattle.wasm_encoder.specs.TypeSections.{AddsEntry, AddsEntryOr, StandsFor, Gains, GainsAll, UncountedEntry, UncountedFunc, UncountedSub, type_section_bytes, final_entry}
 use Rattle.wasm_types.specs.formats.Types.{composite_type, inner_type, recursive_type, sub_type, type_body}
 use Rattle.wasm_types.specs.TypeCounts.{CountedFunc, CountedInner, CountedSub, CountedEntry}
 use Rattle.wasm_types.proofs.TypeFormatLaws.{Lawful-inner-type, Lawful-sub-type, Lawful-recursive-type, Lawful-type-body}
-use Rattle.wasm_types.proofs.WrittenTypes.{in_range_of}
+use Rattle.wasm_lists.proofs.WrittenLists.{in_range_of}
 use Rattle.wasm_sections.specs.formats.ModuleSectionParts.{types}
 use Rattle.wasm_sections.proofs.ModuleSectionLaws.{types_kind, is_body_of}
-use Rattle.wasm_builders.proofs.ListSectionLaws.{section_encodes as encodes_section}
+use Rattle.wasm_sections.proofs.ListSectionLaws.{section_encodes as encodes_section}
 use Rattle.wasm_encoder.proofs.RefusalLaws.{entries_refused, func_refused, if_refused, sub_refused}
-use Rattle.wasm_writers.proofs.EncodedListLaws.{stands_none, gains_one, gains_each, body_is, values_in_range, all_in_range}
+use Rattle.wasm_lists.proofs.EncodedListLaws.{stands_none, gains_one, gains_each, body_is, values_in_range, all_in_range}
 
 pub stands_for_none : (section : EncodedItems) → section.count ≡ 0 → section.bytes ≡ [] → StandsFor section []
 stands_for_none section count bytes = stands_none recursive_type CountedEntry section count bytes

@@ -5,16 +5,21 @@ use Rattle.wasm_types.specs.declared.types.value.ValType.{ValType}
 use Rattle.wasm_codec.specs.declared.encode.EncodeError.{EncodeError}
 use Rattle.wasm_codec.specs.declared.encode.EncodeError.TheVariants.{TooLong}
 use Rattle.wasm_codec.specs.Encoding.{byte_list_bytes, IsCount}
-use Rattle.wasm_calls.specs.Appending.{CountedCall}
+use Rattle.wasm_instructions.specs.Appending.{CountedCall}
 use Rattle.wasm_instructions.specs.formats.Instructions.{Instruction, instruction, instructions_bytes}
 use Rattle.wasm_instructions.specs.declared.table.call.Operands.{Operands}
-use Rattle.wasm_instructions.specs.declared.table.call.Operands.TheVariants as operands
 use Rattle.wasm_modules.specs.declared.code.CodeBody.{CodeBody}
-use Rattle.wasm_writers.specs.CodeCounts.{CountedBody, func_bytes}
+use Rattle.wasm_modules.specs.CodeCounts.{CountedBody, func_bytes}
 use Rattle.wasm_modules.specs.formats.CodeBodies.{local_group, code_body, code_section_body}
 use Rattle.wasm_sections.specs.formats.ModuleSectionParts.{code}
 use Rattle.wasm_sections.specs.SectionBytes.{IsSectionAfter}
 use Rattle.wasm_encoder.specs.EncodedLists.{EncodedItems, StandsForAll, GainsEach, GivesItems, OfItems, IsMemoryOrTooLong, IsUncounted, body_bytes}
+use denote.RattleType.{RattleType}
+use Rattle.std.specs.Borrow.{u8}
+use Rattle.std.specs.contracts.impls.GlobalAllocator.TheImpl.{ghosts}
+use Rattle.wasm_instructions.specs.declared.table.call.Operands.TheVariants as operands
+use Rattle.std.specs.contracts.alloc.Global as global
+use Rattle.std.specs.contracts.vec.Vec as vec
 
 -- The code body with these locals and these calls.
 abbrev pub body_of : List (ℕ × ValType) → List Instruction → CodeBody
@@ -88,3 +93,7 @@ UncountedCall c = UncountedList c.operands
 -- The body has too many locals, a list in an instruction is too long, or it has too many bytes.
 abbrev pub UncountedBody : CodeBody → Type 0
 UncountedBody b = IsUncounted (length b.locals) ⊎ (Any UncountedCall b.calls ⊎ IsUncounted (length (func_bytes b)))
+
+-- A list of bytes, as the logic holds it.
+abbrev pub bytes_row : RattleType
+bytes_row = vec.the_row u8 global.the_row ghosts

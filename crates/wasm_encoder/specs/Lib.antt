@@ -8,7 +8,7 @@ pub use Rattle.wasm_codec.specs.Leb128
 pub use Rattle.wasm_codec.specs.Encoding
 pub use Rattle.wasm_codec.specs.Outcomes
 pub use Rattle.wasm_codec.specs.Decoding
-pub use Rattle.wasm_writers.specs.Iterators
+pub use Rattle.wasm_lists.specs.Iterators
 pub use Rattle.wasm_codec.specs.Lists
 pub use Rattle.wasm_codec.specs.Rewriter
 pub use Rattle.wasm_types.specs.formats.Types as TypeFormats
@@ -17,20 +17,22 @@ pub use Rattle.wasm_types.specs.TypeCounts
 pub use Rattle.wasm_instructions.specs.formats.Operands as OperandFormats
 pub use Rattle.wasm_instructions.specs.formats.Instructions as InstructionFormats
 pub use Rattle.wasm_instructions.specs.formats.Opcodes
-pub use Rattle.wasm_calls.specs.Appending
+pub use Rattle.wasm_instructions.specs.Appending
 pub use Rattle.wasm_modules.specs.formats.CodeBodies as CodeFormats
-pub use Rattle.wasm_writers.specs.CodeCounts
+pub use Rattle.wasm_modules.specs.CodeCounts
 pub use Rattle.wasm_modules.specs.formats.Modules as ModuleFormats
 pub use Rattle.wasm_modules.specs.formats.Sections
 pub use Rattle.wasm_modules.specs.Modules
-pub use Rattle.wasm_modules.specs.TypedModules
-pub use Rattle.wasm_readers.specs.PrefixFree
-pub use Rattle.wasm_readers.specs.ModulesReadBack
+pub use Rattle.wasm_types.specs.PrefixFree as PrefixFreeTypes
+pub use Rattle.wasm_instructions.specs.PrefixFree as PrefixFreeInstructions
+pub use Rattle.wasm_modules.specs.PrefixFree as PrefixFreeSections
 pub use Rattle.wasm_codec.specs.Reading
 pub use Rattle.wasm_codec.specs.Scanning
 pub use Rattle.wasm_instructions.specs.Instructions
-pub use Rattle.wasm_writers.specs.MemArgs
-pub use Rattle.wasm_sections.specs.formats.Externals as ExternalFormats
+pub use Rattle.wasm_instructions.specs.MemArgs
+pub use Rattle.wasm_entities.specs.formats.Names as NameFormats
+pub use Rattle.wasm_entities.specs.formats.Externals as ExternalFormats
+pub use Rattle.wasm_entities.specs.ClosedExpressions
 pub use Rattle.wasm_sections.specs.formats.Entries as EntryFormats
 pub use Rattle.wasm_sections.specs.formats.EntryParts
 pub use Rattle.wasm_sections.specs.formats.Elements as ElementFormats
@@ -39,20 +41,19 @@ pub use Rattle.wasm_sections.specs.formats.Sections as SectionFormats
 pub use Rattle.wasm_sections.specs.formats.ModuleSectionParts
 pub use Rattle.wasm_sections.specs.formats.ModuleSections as ModuleSectionFormats
 pub use Rattle.wasm_sections.specs.SectionBytes
-pub use Rattle.wasm_sections.specs.Closed
+pub use Rattle.wasm_sections.specs.ClosedEntries
 pub use Rattle.wasm_sections.specs.Prefixes
-pub use Rattle.wasm_sections.specs.ModuleOrder
-pub use Rattle.wasm_sections.specs.Stops
-pub use Rattle.wasm_builders.specs.SectionKinds
-pub use Rattle.wasm_builders.specs.ListSections
-pub use Rattle.wasm_builders.specs.ElementSections
-pub use Rattle.wasm_builders.specs.Numbers as NumberSections
+pub use Rattle.wasm_whole_modules.specs.ModuleOrder
+pub use Rattle.wasm_whole_modules.specs.Stops
+pub use Rattle.wasm_sections.specs.SectionKinds
+pub use Rattle.wasm_sections.specs.ListSections
+pub use Rattle.wasm_sections.specs.ElementSections
+pub use Rattle.wasm_sections.specs.NumberSections
 pub use Rattle.wasm_sink.specs.Sink
 pub use Rattle.wasm_sink.specs.ListCalls
 pub mod BuiltModules
 pub mod EncodedLists
 pub mod CodeSections
 pub mod RawSections
-pub mod Rows
 pub mod SectionIds
 pub mod TypeSections

@@ -3,26 +3,27 @@ ghost use Rattle.std.specs.Prelude.{◌≡◌, ◌↔◌, ◌⊎◌, List, [], I
 ghost use Rattle.std.specs.Borrow.{Lends, follows, sem};
 ghost use Rattle.std.specs.Iterator.{size};
 ghost use Rattle.wasm_codec.specs.Encoding.{byte_list_bytes, IsCount, OnlyTooLong, too_long_at_once};
-ghost use Rattle.wasm_calls.specs.Appending.{IsCallsRefusal};
+ghost use Rattle.wasm_instructions.specs.Appending.{IsCallsRefusal};
 ghost use Rattle.wasm_modules.specs.declared.code.CodeBody.{CodeBody};
 ghost use Rattle.wasm_modules.specs.formats.CodeBodies.{code_section_body};
 ghost use Rattle.wasm_modules.specs.formats.Sections.{typed_section_of, code_bodies, code_section_id};
-ghost use Rattle.wasm_modules.specs.TypedModules.{IsTypedSection};
+ghost use Rattle.wasm_modules.specs.Modules.{IsTypedSection};
 ghost use Rattle.wasm_sections.specs.formats.ModuleSectionParts.{code};
 ghost use Rattle.wasm_encoder.specs.EncodedLists.{Adds, AddsAll, EncodesSection, EncodedItems, CountedSection, IsFull, IsMemoryOrTooLong, IsUncounted, Makes, body_bytes};
-ghost use Rattle.wasm_encoder.specs.Rows.{bytes_row};
+ghost use Rattle.wasm_encoder.specs.CodeSections.{bytes_row};
 ghost use Rattle.wasm_encoder.specs.CodeSections.{GainsBodies, GainsFunction, GoesOnWith, HoldsBodies, IsCodeSection, MakesFunction, StandsForBodies, UncountedBody};
 
 use crate::wasm_core::{Section, SectionId};
 use std::alloc::{Allocator, Global};
 use std::marker::Model;
-use wasm_calls::calls::append_calls;
+use wasm_codec::encode::EncodeError;
+use wasm_instructions::calls::append_calls;
 use wasm_instructions::table::Call;
+use wasm_lists::encode::{Encode, append_items, encode_bytes};
+use wasm_lists::encoded_list::EncodedList;
 pub use wasm_modules::code::CodeBody;
 use wasm_sink::sink::InstructionSink;
 use wasm_types::types::ValType;
-use wasm_writers::encode::{Encode, EncodeError, append_items, encode_bytes};
-use wasm_writers::encoded_list::EncodedList;
 
 /// A function body: its locals, and instructions that you append (Core 3.0, Code Section).
 ///

@@ -25,17 +25,18 @@ use std::alloc::Global;
 pub use wasm_codec::decode::{Decode, check, normalise, read, read_strict, rewrite};
 use wasm_codec::reader::ReadError;
 use wasm_instructions::normaliser::rewrite_instructions;
+use wasm_instructions::reader::instructions::{
+    check_instructions, read_instructions, read_instructions_strict,
+};
 use wasm_instructions::table::Call;
 use wasm_modules::code::CodeBody;
 use wasm_modules::code::normaliser::rewrite_code_section;
-use wasm_readers::checks::{
-    check_code_section, check_instructions, check_module, check_type_section, rewrite_raw_module,
-};
-use wasm_readers::code_sections::{read_code_section, read_code_section_strict};
-use wasm_readers::instructions::{read_instructions, read_instructions_strict};
-use wasm_readers::modules::{read_module, read_module_strict};
-use wasm_readers::type_sections::{read_type_section, read_type_section_strict};
+use wasm_modules::code::reader::{check_code_section, read_code_section, read_code_section_strict};
+use wasm_modules::raw::{check_module, read_module, read_module_strict, rewrite_raw_module};
 use wasm_types::normaliser::rewrite_type_section;
+use wasm_types::reader::type_sections::{
+    check_type_section, read_type_section, read_type_section_strict,
+};
 use wasm_types::types::TypeEntry;
 
 /// A list of instructions with nothing between them and nothing after them (Core 3.0, Instructions).

@@ -20,9 +20,8 @@
 //!
 //! ```
 //! # use wasm_encoder::{ExportKind, ExportSection, MemorySection, MemoryType, Module};
-//! # let (maximum, memory64, shared, page_size_log2) = (None, false, false, None);
 //! let mut memories = MemorySection::new(rt.alloc());
-//! memories.memory(MemoryType { minimum: 1, maximum, memory64, shared, page_size_log2 })?;
+//! memories.memory(MemoryType::new(1))?;
 //! let mut exports = ExportSection::new(rt.alloc());
 //! exports.export("memory", ExportKind::Memory, 0)?;
 //! let mut module = Module::new(rt.alloc())?;
@@ -164,11 +163,10 @@ pub use types::SubType;
 pub use types::TypeEntry;
 pub use types::TypeSection;
 pub use types::ValType;
-pub use wasm_codec::list;
-pub use wasm_codec::list::Items;
 pub use wasm_core::Module;
 pub use wasm_core::Section;
 pub use wasm_core::SectionId;
+pub use wasm_instructions::names::opcode_name;
 pub use wasm_instructions::operands;
 pub use wasm_instructions::operands::BlockType;
 pub use wasm_instructions::operands::Catch;
@@ -184,6 +182,7 @@ pub use wasm_instructions::table::Kind;
 pub use wasm_instructions::table::Opcode;
 pub use wasm_instructions::table::Operands;
 pub use wasm_instructions::table::Prefix;
-pub use wasm_readers::names::opcode_name;
+pub use wasm_lists::list;
+pub use wasm_lists::list::Items;
 pub use wasm_sink::sink;
 pub use wasm_sink::sink::InstructionSink;

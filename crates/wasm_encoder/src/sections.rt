@@ -5,37 +5,33 @@
 //! `new`, `len`, `is_empty`, `push`, `entries` and `try_clone`, and a method named after what it adds, such as
 //! `export`.
 ghost use Rattle.std.specs.Prelude.{◌≡◌};
-ghost use Rattle.wasm_writers.specs.EncodedLists.{EncodedItems};
+ghost use Rattle.wasm_lists.specs.EncodedLists.{EncodedItems};
 
 use crate::wasm_core::Section;
-pub use wasm_builders::const_expr::ConstExpr;
-pub use wasm_builders::data::DataSection;
-pub use wasm_builders::elements::ElementSection;
-pub use wasm_builders::exports::ExportSection;
-pub use wasm_builders::functions::FunctionSection;
-pub use wasm_builders::globals::GlobalSection;
-pub use wasm_builders::imports::ImportSection;
-pub use wasm_builders::list_section::{ListSection, SectionItem};
-pub use wasm_builders::memories::MemorySection;
-pub use wasm_builders::numbers::{DataCountSection, StartSection};
-pub use wasm_builders::tables::TableSection;
-pub use wasm_builders::tags::TagSection;
+pub use wasm_entities::const_expr::ConstExpr;
+pub use wasm_entities::limits::{MemoryType, TableType};
+pub use wasm_entities::types::{EntityType, ExportKind, GlobalType, TagKind, TagType};
 pub use wasm_sections::custom::{CustomSection, read_custom};
-pub use wasm_sections::data::{DataSegment, DataSegmentMode};
-pub use wasm_sections::elements::{Element, ElementMode, Elements};
-pub use wasm_sections::exports::Export;
-pub use wasm_sections::globals::Global;
-pub use wasm_sections::imports::Import;
-pub use wasm_sections::modules::{
-    BrokenItem, BrokenPart, ItemCounts, ModuleError, ModuleSection, WholeModule, check_order,
-    check_whole_module, count_longer_items, first_broken_item, first_broken_part,
-    normalise_whole_module, read_whole_module, read_whole_module_strict, rewrite_whole_module,
+pub use wasm_sections::data::{DataSection, DataSegment, DataSegmentMode};
+pub use wasm_sections::elements::{Element, ElementMode, ElementSection, Elements};
+pub use wasm_sections::exports::{Export, ExportSection};
+pub use wasm_sections::functions::FunctionSection;
+pub use wasm_sections::globals::{Global, GlobalSection};
+pub use wasm_sections::imports::{Import, ImportSection};
+pub use wasm_sections::list_section::{ListSection, SectionItem};
+pub use wasm_sections::memories::MemorySection;
+pub use wasm_sections::module_sections::{ModuleSection, SectionNames, section_names};
+pub use wasm_sections::numbers::{DataCountSection, StartSection, read_number, read_number_strict};
+pub use wasm_sections::tables::{Table, TableSection};
+pub use wasm_sections::tags::TagSection;
+pub use wasm_whole_modules::locate::{
+    BrokenItem, BrokenPart, ItemCounts, count_longer_items, first_broken_item, first_broken_part,
 };
-pub use wasm_sections::numbers::{read_number, read_number_strict};
-pub use wasm_sections::tables::Table;
-pub use wasm_sections::types::{
-    EntityType, ExportKind, GlobalType, MemoryType, TableType, TagKind, TagType,
+pub use wasm_whole_modules::modules::{
+    WholeModule, check_whole_module, normalise_whole_module, read_whole_module,
+    read_whole_module_strict, rewrite_whole_module,
 };
+pub use wasm_whole_modules::order::{ModuleError, check_order};
 
 impl<T: SectionItem> Section for ListSection<T> {
     ghost id = { λ _. T.section.id };

@@ -6,7 +6,7 @@ ghost use Rattle.wasm_encoder.specs.TypeSections.{AddsEntry, AddsEntryOr, AddsFu
 ghost use Rattle.wasm_codec.specs.Encoding.{OnlyTooLong};
 ghost use Rattle.wasm_types.specs.formats.Types.{type_body};
 ghost use Rattle.wasm_modules.specs.formats.Sections.{typed_section_of, type_entries, type_section_id};
-ghost use Rattle.wasm_modules.specs.TypedModules.{IsTypedSection};
+ghost use Rattle.wasm_modules.specs.Modules.{IsTypedSection};
 ghost use Rattle.wasm_sections.specs.formats.ModuleSectionParts.{types as holding_types};
 ghost use Rattle.wasm_types.specs.declared.types.composite.TypeEntry.{TypeEntry};
 ghost use Rattle.wasm_types.specs.declared.types.composite.CompositeInnerType.TheVariants as inner;
@@ -15,11 +15,12 @@ ghost use Rattle.wasm_types.specs.declared.types.composite.TypeEntry.TheVariants
 use crate::wasm_core::{Section, SectionId};
 use std::alloc::{Allocator, Global};
 use std::marker::Model;
+use wasm_codec::encode::EncodeError;
+use wasm_lists::encode::Encode;
+use wasm_lists::encoded_list::EncodedList;
 use wasm_types::types::{
     ArrayType, ContType, FieldType, FuncType, StorageType, SubType, TypeEntry, ValType,
 };
-use wasm_writers::encode::{Encode, EncodeError};
-use wasm_writers::encoded_list::EncodedList;
 
 /// A type section: you add entries, and it keeps them encoded (Core 3.0, Type Section).
 ///

@@ -10,9 +10,9 @@ ghost use Rattle.wasm_codec.specs.declared.encode.EncodeError.TheVariants.{Memor
 
 use std::alloc::{Allocator, Global};
 use std::marker::Model;
-use wasm_modules::section::{HEADER, RawSection, TYPE_SECTION_ID};
-use wasm_writers::encode::{Encode, EncodeError};
-use wasm_writers::sections::append_section;
+use wasm_codec::encode::EncodeError;
+use wasm_lists::encode::Encode;
+use wasm_modules::section::{HEADER, RawSection, TYPE_SECTION_ID, append_section};
 
 /// A section of a module: an id, and an encoding that is the size of a body in bytes and the body.
 ///
@@ -128,9 +128,8 @@ impl Encode for SectionId {
 ///
 /// ```
 /// # use wasm_encoder::{ConstExpr, ExportKind, ExportSection, GlobalSection, GlobalType, Module, ValType};
-/// let ty = GlobalType { val_type: ValType::I32, mutable: false, shared: false };
 /// let mut globals = GlobalSection::new(rt.alloc());
-/// globals.global(ty, ConstExpr::i32_const(rt.alloc(), 42)?)?;
+/// globals.global(GlobalType::new(ValType::I32, false), ConstExpr::i32_const(rt.alloc(), 42)?)?;
 /// let mut exports = ExportSection::new(rt.alloc());
 /// exports.export("answer", ExportKind::Global, 0)?;
 /// let mut module = Module::new(rt.alloc())?;

@@ -1,3 +1,9 @@
+pub mod DrainLaws
+pub mod FormatLengths
+mod HeldLists
+mod CallLaws
+pub mod InstructionLengths
+pub mod CallRanges
 pub mod OpcodeLaws
 pub mod OperandFormatLaws
 pub mod InstructionFormatLaws
@@ -5,3 +11,4 @@ pub mod CallRewriting
 pub mod OperandRewriting
 pub mod ScannedCalls
 mod LittleEndianHalves
+pub mod NameLaws

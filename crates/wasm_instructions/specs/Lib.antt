@@ -1,6 +1,10 @@
+pub mod Lengths
+pub mod Appending
 pub mod OpcodeTables
 pub mod OperandParts
 pub mod Operands
 pub mod Instructions
 pub mod ScannedOpcodes
 pub mod formats
+pub mod MemArgs
+pub mod PrefixFree

@@ -1,8 +1,7 @@
 //! The normaliser of lists of instructions (Core 3.0, Instructions).
 ghost use Rattle.std.specs.Prelude.{◌<◌, length};
 ghost use Rattle.wasm_codec.specs.Outcomes.{EncodesSome};
-ghost use Rattle.wasm_instructions.specs.formats.Instructions.{Instruction};
-ghost use Rattle.wasm_instructions.specs.formats.Instructions.{Instructions, ShortestInstructions, opcode, instruction};
+ghost use Rattle.wasm_instructions.specs.formats.Instructions.{Instruction, Instructions, ShortestInstructions, opcode, instruction};
 ghost use Rattle.wasm_codec.specs.Rewriter.{Gives, Rewrites};
 ghost use Rattle.wasm_codec.specs.Decoding.{Normalises, NormalisesInPlace, RewritesAll};
 ghost use Rattle.wasm_codec.specs.formats.Bodies.{to_end};
@@ -10,13 +9,14 @@ ghost use Rattle.wasm_codec.specs.formats.Bodies.{to_end};
 mod operands;
 mod scan;
 
+use crate::normaliser::operands::rewrite_operands;
+use crate::normaliser::scan::scan_call;
 use crate::table::{Call, Opcode};
-use operands::rewrite_operands;
-use scan::scan_call;
 use std::alloc::Global;
 use wasm_codec::reader::ReadError;
 use wasm_codec::reader::cursor::Fault;
-use wasm_codec::rewriter::{Joinable, Rewritable, Rewriter, Scanned, rewrite_items_to_end};
+use wasm_codec::rewriter::{Rewriter, Scanned};
+use wasm_lists::rewriting::{Joinable, Rewritable, rewrite_items_to_end};
 
 /// Returns the minimal encoding of a list of instructions (Core 3.0, Instructions).
 ///

@@ -1,7 +1,8 @@
 //! Readers of opcodes and operands.
 
+pub mod instructions;
 mod opcodes;
-mod operands;
+pub mod operands;
 
 pub use opcodes::read_opcode;
 pub use operands::{

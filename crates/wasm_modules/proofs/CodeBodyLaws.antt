@@ -1,15 +1,21 @@
 -- The laws of code bodies and of bodies of code sections.
-use Rattle.std.proofs.Common.{◌≡◌, ℕ, ◌↔◌, List, refl}
+use Rattle.std.proofs.Common.{◌≡◌, ℕ, ◌↔◌, List, refl, [], Some, None, Err, ap, sym, ◌∙◌}
 use Rattle.wasm_codec.specs.formats.Grammar.{TakesBytes}
-use Rattle.wasm_codec.specs.Lawful.{IsLawful}
+use Rattle.wasm_codec.specs.Lawful.{IsLawful, IsLawfulBody}
 use Rattle.wasm_codec.proofs.MinimalIfLaws.{list_minimal_only}
 use Rattle.wasm_codec.proofs.FormatLaws.{Lawful-u32, Lawful-both, Lawful-made, Lawful-items, takes_bytes}
-use Rattle.wasm_codec.specs.Lawful.{IsLawfulBody}
 use Rattle.wasm_codec.proofs.BodyLaws.{Lawful-sized, Lawful-to-end, Lawful-then-body}
 use Rattle.wasm_types.proofs.TypeFormatLaws.{Lawful-val-type}
 use Rattle.wasm_instructions.proofs.InstructionFormatLaws.{Lawful-instruction, instruction_takes}
 use Rattle.wasm_modules.specs.declared.code.CodeBody.{CodeBody}
 use Rattle.wasm_modules.specs.formats.CodeBodies.{local_group, function_code, code_body_of, code_body_parts, code_body, code_section_body, ShortestCodeSectionBody}
+use Rattle.wasm_types.specs.declared.types.value.ValType.{ValType}
+use Rattle.wasm_instructions.specs.formats.Instructions.{Instruction, instruction}
+use Rattle.wasm_codec.specs.declared.reader.cursor.Fault.{Fault}
+use Rattle.wasm_codec.specs.Places.{Place, place, Reads}
+use Rattle.wasm_codec.specs.formats.Combinators.{items}
+use Rattle.wasm_codec.specs.formats.Bodies.{body_at, to_end, sized}
+use Rattle.wasm_codec.proofs.SizedLaws.{fault_of_part, made_read, made_none, both_read, first_none, second_none, sized_read, size_none, sized_none}
 
 pub Lawful-local-group : IsLawful local_group
 Lawful-local-group = Lawful-both Lawful-u32 Lawful-val-type
@@ -39,3 +45,29 @@ is_shortest_code = list_minimal_only Lawful-code_body
 
 -- the laws of code bodies, for functions that name them
 pub ruleset code_laws = (Lawful-code_body, code_body_takes, Lawful-function-code)
+
+-- the size and the bytes after it, as the code has them
+pub record CodeAt (old outer code : Place) : Type 0 where
+  pub body : body_at old ≡ Some (code.left, outer)
+  pub tells : code ≡ place outer.shortest code.left
+
+pub code_read : (old outer code mid end : Place) (locals : List (ℕ × ValType)) (calls : List Instruction) → CodeAt old outer code → (items local_group).at code ≡ Some (locals, mid) → (to_end instruction).at mid ≡ Some (calls, end) → end.left ≡ []
+    → code_body.at old ≡ Some (code_body_of (locals, calls), place end.shortest outer.left)
+unfolding code_body
+code_read old outer code mid end locals calls at l i none =
+    let inside = ap function_code.at (sym at.tells) ∙ both_read (items local_group) (to_end instruction) code mid end locals calls l i in
+    made_read code_body_of code_body_parts (sized function_code) old (place end.shortest outer.left) (locals, calls) (sized_read function_code old outer end code.left (locals, calls) at.body inside none)
+
+pub no_size : (old new last : Place) (fault : Fault) → Reads body_at old new (Err fault) → Reads code_body.at old last (Err fault)
+unfolding code_body
+no_size old new last fault none = fault_of_part body_at code_body.at old new old last fault none (λ e. made_none code_body_of code_body_parts (sized function_code) old (size_none function_code old e))
+
+no_code : (old outer code : Place) → CodeAt old outer code → function_code.at code ≡ None → code_body.at old ≡ None
+unfolding code_body
+no_code old outer code at e = made_none code_body_of code_body_parts (sized function_code) old (sized_none function_code old outer code.left at.body (ap function_code.at (sym at.tells) ∙ e))
+
+pub no_locals : (old outer code new last : Place) (fault : Fault) → CodeAt old outer code → Reads (items local_group).at code new (Err fault) → Reads code_body.at old last (Err fault)
+no_locals old outer code new last fault at none = fault_of_part (items local_group).at code_body.at code new old last fault none (λ e. no_code old outer code at (first_none (items local_group) (to_end instruction) code e))
+
+pub no_calls : (old outer code mid new last : Place) (locals : List (ℕ × ValType)) (fault : Fault) → CodeAt old outer code → (items local_group).at code ≡ Some (locals, mid) → Reads (to_end instruction).at mid new (Err fault) → Reads code_body.at old last (Err fault)
+no_calls old outer code mid new last locals fault at l none = fault_of_part (to_end instruction).at code_body.at mid new old last fault none (λ e. no_code old outer code at (second_none (items local_group) (to_end instruction) code mid locals l e))

@@ -1,5 +1,4 @@
 pub mod CodeBodyLaws
-pub mod HeaderLaws
 pub mod ModuleFormatLaws
 pub mod ModuleLaws
-pub mod TypedModuleLaws
+pub mod CodeBodyWriting

@@ -1,3 +1,4 @@
 pub mod formats
 pub mod Modules
-pub mod TypedModules
+pub mod CodeCounts
+pub mod PrefixFree

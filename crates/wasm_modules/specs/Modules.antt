@@ -1,9 +1,11 @@
 -- Modules as sections with their bodies as bytes (WebAssembly Core 3.0, Modules).
-use Rattle.std.specs.Prelude.{◌≡◌, ℕ, ◌^◌, ◌<◌, ◌⊎◌, Bool, true, List, [], length}
-use Rattle.wasm_codec.specs.Outcomes.{EncodesSome}
+use Rattle.std.specs.Prelude.{◌≡◌, ℕ, ◌^◌, ◌<◌, ◌⊎◌, Bool, true, List, [], length, map, Result}
+use Rattle.wasm_codec.specs.Outcomes.{EncodesSome, IsOrMemory}
 use Rattle.wasm_codec.specs.formats.Combinators.{Format, minimal_if}
-use Rattle.wasm_modules.specs.formats.Sections.{SectionParts}
-use Rattle.wasm_modules.specs.formats.Modules.{module_of, raw_section}
+use Rattle.wasm_modules.specs.formats.Sections.{SectionParts, Content, TypedSection}
+use Rattle.wasm_modules.specs.formats.Modules.{module_of, raw_section, held_by, typed_section, raw_module, typed_module, HoldsContent}
+use Rattle.std.specs.List.{AllByRecursion}
+use Rattle.wasm_codec.specs.declared.reader.ReadError.{ReadError}
 
 -- The id is a byte, and the size of the body fits in a u32.
 pub record IsSection (s : SectionParts) : Type 0 where
@@ -25,3 +27,35 @@ IsModulePrefixMinimalIf strict = IsModulePrefixOf (minimal_if strict raw_section
 -- The prefix is empty, or it is the header and sections whose sizes are minimally encoded.
 abbrev pub IsShortestModulePrefix : List ℕ → Type 0
 IsShortestModulePrefix = IsModulePrefixMinimalIf true
+
+-- The section with its body as bytes.
+abbrev pub framed : TypedSection → SectionParts
+framed s = record { id = s.id; body = (held_by s.id).bytes s.content }
+
+-- A section of this id can hold this content.
+abbrev pub CanHold : ℕ → Content → Type 0
+CanHold id c = (held_by id).InRange c
+
+-- The id is a byte, the content is in range, and the size of the body fits in a u32.
+pub record IsTypedSection (s : TypedSection) : Type 0 where
+  pub content : CanHold s.id s.content
+  pub section : IsSection (framed s)
+
+-- The prefix is empty, or it is the header and sections whose type and code bodies decode.
+abbrev pub IsTypedModulePrefix : List ℕ → Type 0
+IsTypedModulePrefix = IsModulePrefixOf typed_section
+
+-- If the bytes are a module of raw sections, as `Module` writes it, these sections are read back.
+abbrev pub ReadsBack : {X : Type 0} → (X → List SectionParts) → List ℕ → Result X ReadError → Type 0
+ReadsBack view bytes result = (sections : List SectionParts) → AllByRecursion IsSection sections → bytes ≡ raw_module.bytes sections → IsOrMemory view sections result
+
+-- A module of decoded sections, as `Module` writes it, is read back as raw sections.
+pub record ReadsBackTyped {X : Type 0} (view : X → List SectionParts) (bytes : List ℕ) (result : Result X ReadError) : Type 0 where
+  -- The bytes of raw sections in range encode them.
+  pub encodes : (sections : List SectionParts) → AllByRecursion IsSection sections → bytes ≡ raw_module.bytes sections → raw_module.Encodes bytes sections
+  -- The bytes of decoded sections in range encode them, each with its body as bytes.
+  pub decoded_encodes : (sections : List TypedSection) → AllByRecursion IsTypedSection sections → bytes ≡ typed_module.bytes sections → raw_module.Encodes bytes (map framed sections)
+  -- These are the sections that are read.
+  pub decoded_read_back : (sections : List TypedSection) → AllByRecursion IsTypedSection sections → bytes ≡ typed_module.bytes sections → IsOrMemory view (map framed sections) result
+  -- The body of each encodes what the section holds.
+  pub entries_read_back : (section : TypedSection) → IsTypedSection section → HoldsContent (framed section) section.content

@@ -1,8 +1,8 @@
-//! Modules of WebAssembly (Core 3.0, Modules): sections with their bodies as bytes, code bodies, and the normalisers of
-//! code sections and of modules.
+//! Modules of WebAssembly (Core 3.0, Modules) with their bodies as bytes, or with types and code decoded; code bodies; and
+//! what reads, writes and rewrites them.
 #![tactic(auto)]
 
 pub mod code;
 pub mod normaliser;
-pub mod reader;
+pub mod raw;
 pub mod section;

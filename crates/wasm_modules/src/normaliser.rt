@@ -7,7 +7,7 @@ ghost use Rattle.wasm_codec.specs.formats.Combinators.{made, minimal_only};
 ghost use Rattle.wasm_codec.specs.Rewriter.{Rewrites};
 ghost use Rattle.wasm_types.specs.formats.Types.{type_body};
 ghost use Rattle.wasm_modules.specs.formats.Sections.{Content, TypedSection, type_entries, code_bodies, raw_bytes};
-ghost use Rattle.wasm_modules.specs.TypedModules.{IsTypedModulePrefix, IsTypedSection};
+ghost use Rattle.wasm_modules.specs.Modules.{IsTypedModulePrefix, IsTypedSection};
 ghost use Rattle.wasm_modules.specs.formats.CodeBodies.{code_section_body};
 ghost use Rattle.wasm_modules.specs.formats.Modules.{entries_part, bodies_part, bytes_part, typed_section, typed_module};
 ghost use Rattle.wasm_codec.specs.Decoding.{Normalises, NormalisesInPlace};
@@ -15,14 +15,13 @@ ghost use Rattle.wasm_codec.specs.Decoding.{Normalises, NormalisesInPlace};
 pub mod framing;
 
 use crate::code::CodeBody;
+use crate::normaliser::framing::{normalise_module_of, rewrite_module_of};
 use crate::section::{CODE_SECTION_ID, TYPE_SECTION_ID};
-use framing::{normalise_module_of, rewrite_module_of};
 use std::alloc::Global;
 use wasm_codec::reader::ReadError;
 use wasm_codec::reader::cursor::Fault;
-use wasm_codec::rewriter::{
-    Joinable, Rewritable, RewritableBody, Rewriter, Scanned, rewrite_list, rewrite_sized,
-};
+use wasm_codec::rewriter::{Rewriter, Scanned};
+use wasm_lists::rewriting::{Joinable, Rewritable, RewritableBody, rewrite_list, rewrite_sized};
 use wasm_types::types::TypeEntry;
 
 /// Returns the minimal encoding of a module, with its type and code sections decoded (Core 3.0, Modules).
@@ -40,7 +39,7 @@ use wasm_types::types::TypeEntry;
 /// let minimal = normalise_module(rt.alloc(), b"\0asm\x01\0\0\0\x03\x82\x00\x01\x00")?; // a size in two bytes
 /// assert_eq!(rt; minimal.as_slice(), b"\0asm\x01\0\0\0\x03\x02\x01\x00".as_slice());
 /// ```
-#[tactic(auto, using(crate::proofs::TypedModuleLaws::all_encoded))]
+#[tactic(auto, using(crate::proofs::ModuleLaws::all_typed_encoded))]
 pub fn normalise_module(alloc: Global, bytes: &[u8]) -> Result<Vec<u8>, ReadError>
     ensures normalises { Normalises typed_module (minimal_only typed_module).Encodes IsTypedModulePrefix bytes.now result }
     // The minimal encoding of decoded sections in range encodes them.

@@ -1,4 +1,10 @@
 //! Sections with their bodies as bytes (Core 3.0, Sections).
+ghost use Rattle.std.specs.Prelude.{◌≡◌, ◌++◌, ◌∷◌, OnOk, OnErr, IfErr, length};
+ghost use Rattle.wasm_codec.specs.Encoding.{byte_list_bytes, IsCount, IsRefusal, OnlyTooLong, too_long_at_once};
+
+use std::alloc::Allocator;
+use wasm_codec::encode::{EncodeError, keep_or_undo};
+use wasm_lists::encode::{Encode, encode_bytes};
 
 /// Header of every module: the magic number and the version (Core 3.0, Modules).
 pub const HEADER: [u8; 8] = [0x00, 0x61, 0x73, 0x6D, 0x01, 0x00, 0x00, 0x00];
@@ -25,4 +31,40 @@ pub struct RawSection<'a> {
     pub id: u8,
     /// Body, without its size.
     pub body: &'a [u8],
+}
+
+/// The size of the body in bytes, and the body (Core 3.0, Sections).
+///
+/// Fails with `TooLong` if the body is longer than 4,294,967,295 bytes.
+impl<'a> Encode for RawSection<'a> {
+    ghost bytes = { λ section. byte_list_bytes section.body.now };
+
+    ghost CanEncode = { λ section. IsCount (length section.body.now) };
+
+    ghost refuses = { OnlyTooLong };
+
+    ghost at_once = { λ section. too_long_at_once (length section.body.now) };
+
+    fn encode<A: Allocator>(&self, sink: &mut Vec<u8, A>) -> Result<(), EncodeError> {
+        encode_bytes(self.body, sink)
+    }
+}
+
+/// Appends the id of a section and the section's encoding. On error `dst` is unchanged.
+pub fn append_section<S: Encode, A: Allocator>(
+    id: u8,
+    section: &S,
+    dst: &mut Vec<u8, A>,
+) -> Result<(), EncodeError>
+    ensures ok { OnOk result (dst.new.items ≡ dst.old.items ++ id ∷ S.bytes section.now) }
+    ensures can { OnOk result (S.CanEncode section.now) }
+    ensures written { OnOk result (S.IsWritten section.now) }
+    ensures refused { IfErr result (IsRefusal S.CanEncode S.refuses section.now) }
+    ensures err { OnErr result (dst.new.items ≡ dst.old.items) }
+{
+    let start = dst.len();
+    dst.reserve(1)?;
+    dst.push_reserved(id);
+    let result = section.encode(dst);
+    keep_or_undo(dst, start, result)
 }

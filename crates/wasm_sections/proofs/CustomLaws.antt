@@ -17,13 +17,13 @@ use Rattle.wasm_codec.proofs.BodyLaws.{Lawful-bytes_to_end, Lawful-made-body, La
 use Rattle.wasm_codec.proofs.Laws.{bind_some, some_is}
 use Rattle.wasm_codec.proofs.RewriterLaws.{is_after, after_is}
 use Rattle.wasm_codec.proofs.NumberLaws.{written}
-use Rattle.wasm_types.proofs.WrittenTypes.{in_range_of}
+use Rattle.wasm_lists.proofs.WrittenLists.{in_range_of}
 use Rattle.wasm_sections.specs.formats.EntryParts.{CustomParts}
 use Rattle.wasm_sections.specs.Prefixes.{IsNothingOr, IsRefusedAt, AreLawfulPrefixes}
-use Rattle.wasm_sections.specs.formats.Names.{name}
+use Rattle.wasm_entities.specs.formats.Names.{name}
 use Rattle.wasm_sections.specs.formats.Sections.{custom_of, parts_of_custom, custom_body}
-use Rattle.wasm_sections.proofs.NameLaws.{name_is_lawful}
-use Rattle.wasm_sections.proofs.ExternalLaws.{two}
+use Rattle.wasm_entities.proofs.NameLaws.{name_is_lawful}
+use Rattle.wasm_entities.proofs.ExternalLaws.{two}
 
 pub custom_is_lawful : IsLawfulBody custom_body
 unfolding custom_body

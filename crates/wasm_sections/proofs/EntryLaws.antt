@@ -1,33 +1,32 @@
 -- The laws of entries of sections, and what is written of them.
 use Rattle.std.proofs.Common.{Some, refl, lit≤, ◌≡◌, ℕ, ◌^◌, ◌<◌, true, List, [], ◌∷◌, ◌++◌, length, Option, None, sym, subst}
 use Rattle.std.specs.Prelude.{is_some, IfSome}
-use Rattle.std.specs.Str.{IsUtf8, is_utf8}
-use Rattle.std.proofs.lemmas.Str.{is_utf8-from_IsUtf8}
-use Rattle.wasm_codec.specs.formats.Grammar.{TakesBytes, IsBytes}
+use Rattle.wasm_codec.specs.formats.Grammar.{TakesBytes}
 use Rattle.wasm_codec.specs.Lawful.{IsLawful}
 use Rattle.wasm_codec.specs.formats.Combinators.{u32}
 use Rattle.wasm_codec.specs.Leb128.{unsigned_leb128}
 use Rattle.wasm_codec.specs.formats.Numbers.{EncodesU32}
-use Rattle.wasm_codec.specs.Encoding.{IsCount, IsShortest}
+use Rattle.wasm_codec.specs.Encoding.{IsShortest}
 use Rattle.wasm_codec.proofs.FormatLaws.{Every-after, Every-made, Lawful-after, Lawful-or-after, Lawful-or-else, Lawful-made, Lawful-both, Lawful-u32, takes_bytes}
 use Rattle.wasm_codec.proofs.NumberLaws.{written}
 use Rattle.wasm_types.specs.formats.Types.{ref_type, val_type, abstract_type}
-use Rattle.wasm_types.proofs.WrittenTypes.{in_range_of}
+use Rattle.wasm_lists.proofs.WrittenLists.{in_range_of}
 use Rattle.wasm_instructions.specs.formats.Instructions.{Instruction}
-use Rattle.wasm_sections.specs.formats.Names.{name}
-use Rattle.wasm_sections.specs.formats.Externals.{memory_flags, memory_type, tag_type, table_type, global_type, export_kind_byte, export_kind, entity_type}
+use Rattle.wasm_entities.specs.formats.Names.{name}
+use Rattle.wasm_entities.specs.formats.Externals.{table_type, global_type, export_kind_byte, export_kind, entity_type}
 use Rattle.wasm_sections.specs.formats.Entries.{export_of, export_entry, import_of, import_entry, filled_of, filled_part, unfilled, table_entry, global_of, global_entry}
-use Rattle.wasm_sections.specs.declared.types.ExportKind.{ExportKind}
+use Rattle.wasm_entities.specs.declared.types.ExportKind.{ExportKind}
 use Rattle.wasm_sections.specs.formats.EntryParts.{ExportParts, ImportParts}
-use Rattle.wasm_sections.specs.Closed.{IsClosed, IsClosedGlobal, IsClosedTable}
+use Rattle.wasm_entities.specs.ClosedExpressions.{IsClosed}
+use Rattle.wasm_sections.specs.ClosedEntries.{IsClosedGlobal, IsClosedTable}
 use Rattle.wasm_sections.specs.declared.globals.Global.{Global}
 use Rattle.wasm_sections.specs.declared.tables.Table.{Table}
-use Rattle.wasm_sections.specs.declared.types.TableType.{TableType}
-use Rattle.wasm_sections.specs.formats.Expressions.{expr}
-use Rattle.wasm_sections.specs.declared.types.ExportKind.TheVariants as kinds
-use Rattle.wasm_sections.proofs.NameLaws.{name_is_lawful}
-use Rattle.wasm_sections.proofs.ExternalLaws.{Lawful-entity-type, Lawful-export-kind, Lawful-memory-type, Lawful-tag-type, Lawful-table-type, Lawful-global-type, three, two, four}
-use Rattle.wasm_sections.proofs.ExpressionLaws.{expr_is_lawful, in_expr}
+use Rattle.wasm_entities.specs.declared.limits.TableType.{TableType}
+use Rattle.wasm_entities.specs.formats.Expressions.{expr}
+use Rattle.wasm_entities.specs.declared.types.ExportKind.TheVariants as kinds
+use Rattle.wasm_entities.proofs.NameLaws.{name_is_lawful, in_name}
+use Rattle.wasm_entities.proofs.ExternalLaws.{Lawful-entity-type, Lawful-export-kind, Lawful-table-type, Lawful-global-type, three, two, four}
+use Rattle.wasm_entities.proofs.ExpressionLaws.{expr_is_lawful, in_expr}
 
 pub export_is_lawful : IsLawful export_entry
 unfolding export_entry
@@ -44,20 +43,6 @@ import_is_lawful = Lawful-made import_of (λ i. Some (i.module_name, (i.field, i
 pub import_takes : TakesBytes import_entry.Encodes
 unfolding import_entry name
 import_takes = takes_bytes import_is_lawful refl
-
-pub memory_is_lawful : IsLawful memory_type
-memory_is_lawful = Lawful-memory-type
-
-pub memory_takes : TakesBytes memory_type.Encodes
-unfolding memory_type memory_flags
-memory_takes = takes_bytes Lawful-memory-type refl
-
-pub tag_is_lawful : IsLawful tag_type
-tag_is_lawful = Lawful-tag-type
-
-pub tag_takes : TakesBytes tag_type.Encodes
-unfolding tag_type
-tag_takes = takes_bytes Lawful-tag-type refl
 
 pub table_is_lawful : IsLawful table_entry
 unfolding table_entry table_type ref_type abstract_type
@@ -80,22 +65,12 @@ global_takes = takes_bytes global_is_lawful refl
 
 -- ---- writing
 
-pub utf8_test : (text : List ℕ) → IsUtf8 text → is_utf8 text ≡ true
-utf8_test text u = is_utf8-from_IsUtf8 text u
-
-pub name_written : (text : List ℕ) → IsBytes text → is_utf8 text ≡ true → IsCount (length text) → IsShortest name.Encodes name.bytes text
-unfolding name
-name_written text bytes utf8 few = written name_is_lawful.shortest text ((bytes, utf8), few)
-
 kind_there : (kind : ExportKind) → is_some (export_kind_byte kind) ≡ true
 kind_there kinds.Func = refl
 kind_there kinds.Table = refl
 kind_there kinds.Memory = refl
 kind_there kinds.Global = refl
 kind_there kinds.Tag = refl
-
-in_name : (text : List ℕ) → IsShortest name.Encodes name.bytes text → name.InRange text
-in_name text h = in_range_of name name_is_lawful text h
 
 export_there : (e : ExportParts) → name.InRange e.name → e.index < 2 ^ 32 → export_entry.InRange e
 unfolding export_entry export_kind

@@ -1,12 +1,8 @@
-pub mod PartCombinatorLaws
-pub mod NameLaws
-pub mod ExternalLaws
-pub mod ExpressionLaws
+pub mod ListSectionLaws
+pub mod ItemLaws
 pub mod EntryLaws
 pub mod SegmentLaws
 pub mod ElementLaws
 pub mod ValueReading
 pub mod CustomLaws
 pub mod ModuleSectionLaws
-pub mod StopLaws
-pub mod ModuleOrderLaws

@@ -1,8 +1,10 @@
-pub mod Closed
+pub mod SectionKinds
+pub mod ListSections
+pub mod ElementSections
+pub mod NumberSections
+pub mod ClosedEntries
 pub mod SectionBytes
 pub mod SegmentBytes
-pub mod ModuleOrder
 pub mod Prefixes
-pub mod Stops
 pub mod ElementForms
 pub mod formats

@@ -1,10 +1,5 @@
-pub mod Nesting
 pub mod EntryParts
 pub mod ModuleSectionParts
-pub mod PartCombinators
-pub mod Names
-pub mod Externals
-pub mod Expressions
 pub mod Entries
 pub mod Segments
 pub mod Elements

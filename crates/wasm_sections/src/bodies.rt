@@ -2,9 +2,13 @@
 ghost use Rattle.wasm_codec.specs.Outcomes.{NeedsNoMemory};
 ghost use Rattle.wasm_sections.specs.Prefixes.{IsNothingOr, AreLawfulPrefixes};
 ghost use Rattle.wasm_codec.specs.Decoding.{RewritesAll};
+ghost use Rattle.wasm_codec.specs.formats.Grammar.{IsBytes};
+ghost use Rattle.wasm_codec.specs.formats.Combinators.{items};
 
 use wasm_codec::reader::ReadError;
-use wasm_codec::rewriter::{RewritableBody, Rewriter};
+use wasm_codec::reader::cursor::Cursor;
+use wasm_codec::rewriter::Rewriter;
+use wasm_lists::rewriting::RewritableBody;
 
 /// A value that fills a section body.
 pub trait WholeBody: RewritableBody {
@@ -32,4 +36,12 @@ pub fn rewrite_body<T: WholeBody>(body: Vec<u8>) -> Result<Vec<u8>, ReadError>
         return Err(ReadError::Refused { at: len - left });
     }
     Ok(rewriter.finish())
+}
+
+/// Proves that the items of a slice are bytes. Does nothing at run time.
+pub(crate) fn are_bytes(bytes: &[u8])
+    ensures { IsBytes bytes.now }
+{
+    // `fork` shows the proof that the items are bytes.
+    let _start = Cursor::new(bytes).fork();
 }

@@ -1,5 +1,5 @@
 //! Custom sections (Core 3.0, Custom Section).
-ghost use Rattle.std.specs.Prelude.{length, ⊤};
+ghost use Rattle.std.specs.Prelude.{⊤, length, ◌≡◌, ◌++◌, OnOk, IfOk, IfErr, take};
 ghost use Rattle.wasm_codec.specs.formats.Combinators.{minimal_only};
 ghost use Rattle.wasm_sections.specs.formats.EntryParts.{CustomParts, custom_parts};
 ghost use Rattle.wasm_sections.specs.Prefixes.{IsNothingOr};
@@ -7,14 +7,21 @@ ghost use Rattle.wasm_sections.specs.formats.Sections.{custom_body};
 ghost use Rattle.wasm_codec.specs.Decoding.{ReadsAll, ChecksAll, RewritesAll, IsMinimal, Decodes};
 ghost use Rattle.wasm_codec.specs.Lawful.{IsLawfulBody};
 ghost use Rattle.wasm_codec.specs.Outcomes.{NeedsNoMemory};
+ghost use Rattle.wasm_codec.specs.Encoding.{byte_list_bytes, IsCount, IsCountRefusal, IsRefusal, IsShortest, IsTooLong, OnlyTooLong};
+ghost use Rattle.wasm_sections.specs.formats.ModuleSectionParts.{custom};
+ghost use Rattle.wasm_sections.specs.SectionBytes.{CountedCustom, IsSectionAfter};
 
-use crate::bodies::{WholeBody, rewrite_body};
-use crate::names::{read_name, rewrite_name};
-use std::alloc::Global;
+use crate::bodies::{WholeBody, are_bytes, rewrite_body};
+use std::alloc::{Allocator, Global};
 use wasm_codec::decode::Decode;
+use wasm_codec::encode::leb128::u32_len;
+use wasm_codec::encode::{EncodeError, keep_or_undo};
 use wasm_codec::reader::ReadError;
 use wasm_codec::reader::cursor::{Cursor, Fault};
-use wasm_codec::rewriter::{RewritableBody, Rewriter};
+use wasm_codec::rewriter::Rewriter;
+use wasm_entities::names::{append_name, read_name, rewrite_name};
+use wasm_lists::encode::Encode;
+use wasm_lists::rewriting::RewritableBody;
 
 /// A custom section, which `Module::section` accepts and `read_whole_module` returns (Core 3.0, Custom Section).
 ///
@@ -157,4 +164,70 @@ impl<'a> Decode<'a> for CustomSection<'a> {
     {
         rewrite_body::<Custom>(bytes)
     }
+}
+
+/// The size of the body in bytes, the name and the contents (Core 3.0, Custom Section).
+///
+/// Fails with `TooLong` if the body is longer than 4,294,967,295 bytes.
+impl<'a> Encode for CustomSection<'a> {
+    ghost bytes = { λ section. byte_list_bytes (custom_body.bytes (custom_parts section)) };
+
+    ghost IsWritten = { λ section. IsShortest custom_body.Encodes custom_body.bytes (custom_parts section) ×
+        IsSectionAfter 0 (byte_list_bytes (custom_body.bytes (custom_parts section))) (custom (custom_parts section)) };
+
+    ghost CanEncode = { CountedCustom };
+
+    ghost refuses = { OnlyTooLong };
+
+    fn encode<A: Allocator>(&self, sink: &mut Vec<u8, A>) -> Result<(), EncodeError> {
+        let start = sink.len();
+        let result = append_custom(self, sink);
+        keep_or_undo(sink, start, result)
+    }
+}
+
+/// Appends the size and the body of a custom section. On error a part of them may remain.
+fn append_custom<A: Allocator>(
+    section: &CustomSection<'_>,
+    sink: &mut Vec<u8, A>,
+) -> Result<(), EncodeError>
+    ensures ok { OnOk result (sink.new.items ≡ sink.old.items ++ byte_list_bytes (custom_body.bytes (custom_parts section.now))) }
+    ensures can { OnOk result (CountedCustom section.now) }
+    ensures shortest { OnOk result (IsShortest custom_body.Encodes custom_body.bytes (custom_parts section.now)) }
+    ensures whole { OnOk result (IsSectionAfter 0 (byte_list_bytes (custom_body.bytes (custom_parts section.now))) (custom (custom_parts section.now))) }
+    ensures refused { IfErr result (IsRefusal CountedCustom OnlyTooLong section.now) }
+    ensures kept { take (length sink.old.items) sink.new.items ≡ sink.old.items }
+{
+    let size = body_len(section)?;
+    size.encode(sink)?;
+    append_body(section, sink)
+}
+
+/// Returns the length of the body of a custom section, in bytes. Fails with `TooLong` if the name is longer than
+/// 4,294,967,295 bytes.
+fn body_len(section: &CustomSection<'_>) -> Result<usize, EncodeError>
+    ensures ok { IfOk result (λ size. size ≡ length (custom_body.bytes (custom_parts section.now))) }
+    ensures err { IfErr result (IsTooLong (length section.now.name.now)) }
+{
+    let Ok(name_len) = u32::try_from(section.name.len()) else {
+        return Err(EncodeError::TooLong);
+    };
+    Ok(u32_len(name_len) + section.name.len() + section.bytes.len())
+}
+
+/// Appends the body of a custom section. On error a part of it may remain.
+fn append_body<A: Allocator>(
+    section: &CustomSection<'_>,
+    sink: &mut Vec<u8, A>,
+) -> Result<(), EncodeError>
+    ensures ok { OnOk result (sink.new.items ≡ sink.old.items ++ custom_body.bytes (custom_parts section.now)) }
+    ensures can { OnOk result (IsCount (length section.now.name.now)) }
+    ensures shortest { OnOk result (IsShortest custom_body.Encodes custom_body.bytes (custom_parts section.now)) }
+    ensures refused { IfErr result (IsCountRefusal (length section.now.name.now)) }
+    ensures kept { take (length sink.old.items) sink.new.items ≡ sink.old.items }
+{
+    are_bytes(section.bytes);
+    append_name(section.name, sink)?;
+    sink.extend_from_slice(section.bytes)?;
+    Ok(())
 }

@@ -1,5 +1,5 @@
 //! Data sections (Core 3.0, Data Section).
-ghost use Rattle.std.specs.Prelude.{◌≡◌, List, length, refl, IfErr, ℕ};
+ghost use Rattle.std.specs.Prelude.{◌≡◌, List, length, refl, IfErr, ℕ, ◌++◌, OnOk, take};
 ghost use Rattle.wasm_codec.specs.Places.{Reads};
 ghost use Rattle.wasm_codec.specs.Rewriter.{Rewrites};
 ghost use Rattle.wasm_codec.specs.declared.reader.cursor.Fault.TheVariants.{Malformed};
@@ -8,18 +8,31 @@ ghost use Rattle.wasm_codec.specs.formats.Grammar.{TakesBytes};
 ghost use Rattle.wasm_codec.specs.Lawful.{IsLawful};
 ghost use Rattle.wasm_codec.specs.Reading.{map_ok};
 ghost use Rattle.wasm_codec.specs.formats.Bodies.{byte_list, bytes_to_end};
-ghost use Rattle.wasm_codec.specs.formats.Combinators.{◌⊗◌};
+ghost use Rattle.wasm_codec.specs.formats.Combinators.{◌⊗◌, items};
 ghost use Rattle.wasm_sections.specs.formats.EntryParts.{DataParts, data_parts, all_data_parts};
-ghost use Rattle.wasm_sections.specs.formats.Expressions.{expr};
-ghost use Rattle.wasm_sections.specs.formats.Segments.{data_segment};
+ghost use Rattle.wasm_entities.specs.formats.Expressions.{expr};
+ghost use Rattle.wasm_sections.specs.formats.Segments.{data_segment, active_data, passive_data};
+ghost use Rattle.wasm_codec.specs.Encoding.{IsRefusal, IsShortest, OnlyTooLong};
+ghost use Rattle.wasm_sections.specs.ClosedEntries.{IsClosedData, IsCountedData, IsCountedDataMode};
+ghost use Rattle.wasm_sections.specs.SegmentBytes.{DataModeFits, data_mode_bytes};
+ghost use Rattle.wasm_sections.specs.SectionKinds.{data_section};
+ghost use Rattle.wasm_sections.specs.ListSections.{AddsCounted, LawfulIf};
 
-use crate::expressions::{read_expr, rewrite_expr};
-use std::alloc::Global;
-use wasm_codec::list::Items;
+use crate::bodies::are_bytes;
+use crate::list_section::{ListSection, SectionItem, add};
+use crate::segments::append_table_and_offset;
+use std::alloc::{Allocator, Global};
+use wasm_codec::encode::leb128::put_u32;
+use wasm_codec::encode::{EncodeError, keep_or_undo};
 use wasm_codec::reader::cursor::{Cursor, Fault};
-use wasm_codec::rewriter::{RewritableBody, Rewriter, rewrite_sized};
+use wasm_codec::rewriter::Rewriter;
+use wasm_entities::const_expr::ConstExpr;
+use wasm_entities::expressions::{read_expr, rewrite_expr};
 use wasm_instructions::table::Call;
-use wasm_readers::readable::Readable;
+use wasm_lists::encode::{Encode, encode_bytes};
+use wasm_lists::list::Items;
+use wasm_lists::readable::Readable;
+use wasm_lists::rewriting::{RewritableBody, rewrite_sized};
 
 /// Mode of a data segment.
 #[derive(Debug, PartialEq, Eq, Drop)]
@@ -167,5 +180,144 @@ fn rewrite_data_segment(rewriter: &mut Rewriter) -> Result<(), Fault>
             Ok(())
         }
         _ => Err(Fault::Malformed),
+    }
+}
+
+/// Appends what precedes the contents of a data segment. On error a part of it may remain.
+fn append_data_mode<A: Allocator>(
+    mode: &DataSegmentMode,
+    sink: &mut Vec<u8, A>,
+) -> Result<(), EncodeError>
+    ensures ok { OnOk result (sink.new.items ≡ sink.old.items ++ data_mode_bytes mode.now) }
+    ensures can { OnOk result (IsCountedDataMode mode.now) }
+    ensures fits { OnOk result (IsClosedData mode.now → DataModeFits mode.now) }
+    ensures refused { IfErr result (IsRefusal IsCountedDataMode OnlyTooLong mode.now) }
+    ensures kept { take (length sink.old.items) sink.new.items ≡ sink.old.items }
+{
+    match mode {
+        DataSegmentMode::Active {
+            memory_index,
+            offset,
+        } => {
+            if *memory_index == 0 {
+                append_table_and_offset(0, None, offset.as_slice(), sink)
+            } else {
+                append_table_and_offset(2, Some(*memory_index), offset.as_slice(), sink)
+            }
+        }
+        DataSegmentMode::Passive => {
+            sink.reserve(5)?;
+            put_u32(sink, 1);
+            Ok(())
+        }
+    }
+}
+
+/// Appends a data segment. On error a part of it may remain.
+fn append_data_segment<A: Allocator>(
+    segment: &DataSegment<'_>,
+    sink: &mut Vec<u8, A>,
+) -> Result<(), EncodeError>
+    ensures ok { OnOk result (sink.new.items ≡ sink.old.items ++ data_segment.bytes (data_parts segment.now)) }
+    ensures can { OnOk result (IsCountedData (data_parts segment.now)) }
+    ensures written { OnOk result (IsClosedData segment.now.mode →
+        IsShortest data_segment.Encodes data_segment.bytes (data_parts segment.now)) }
+    ensures refused { IfErr result (IsRefusal (λ d. IsCountedData (data_parts d)) OnlyTooLong segment.now) }
+    ensures kept { take (length sink.old.items) sink.new.items ≡ sink.old.items }
+{
+    are_bytes(segment.bytes);
+    append_data_mode(&segment.mode, sink)?;
+    encode_bytes(segment.bytes, sink)
+}
+
+/// The number of the form, the memory index unless 0, the offset, and the contents after their length (Core 3.0, Data
+/// Section).
+///
+/// Fails with `TooLong` if the contents have more than 4,294,967,295 bytes, or a list in an instruction more items than
+/// that.
+impl<'a> Encode for DataSegment<'a> {
+    ghost bytes = { λ segment. data_segment.bytes (data_parts segment) };
+
+    ghost IsWritten = { λ segment. IsClosedData segment.mode → IsShortest data_segment.Encodes data_segment.bytes (data_parts segment) };
+
+    ghost CanEncode = { λ segment. IsCountedData (data_parts segment) };
+
+    ghost refuses = { OnlyTooLong };
+
+    fn encode<A: Allocator>(&self, sink: &mut Vec<u8, A>) -> Result<(), EncodeError> {
+        let start = sink.len();
+        let result = append_data_segment(self, sink);
+        keep_or_undo(sink, start, result)
+    }
+}
+
+/// A data section (Core 3.0, Data Section).
+///
+/// # Examples
+///
+/// ```
+/// # use wasm_encoder::{ConstExpr, DataSection, Encode};
+/// let mut data = DataSection::new(rt.alloc());
+/// data.active(0, ConstExpr::i32_const(rt.alloc(), 16)?, b"hi")?;
+/// data.passive(b"!")?;
+/// let mut bytes = Vec::new(rt.alloc());
+/// data.encode(&mut bytes)?;
+/// assert_eq!(rt; bytes.as_slice(), b"\x0b\x02\x00\x41\x10\x0b\x02hi\x01\x01!".as_slice());
+/// ```
+pub type DataSection<'a> = ListSection<DataSegment<'a>>;
+
+impl<'a> SectionItem for DataSegment<'a> {
+    ghost Value = { DataParts };
+
+    ghost view = { data_parts };
+
+    ghost section = { data_section };
+
+    ghost Fits = { λ segment. IsClosedData segment.mode };
+
+    fn section_id() -> u8
+        ensures { result ≡ 11 }
+    {
+        11
+    }
+
+    #[inline(always)]
+    #[tactic(auto, using(crate::proofs::ItemLaws::data_lawful))]
+    fn is_lawful()
+        ensures lawful { LawfulIf data_parts data_section (λ segment. IsClosedData segment.mode) }
+    {}
+}
+
+#[tactic(auto, using(crate::proofs::ItemLaws::adds_counted))]
+impl<'a> ListSection<DataSegment<'a>> {
+    /// Adds an active segment: instantiating the module copies `bytes` into the memory `memory_index`, from address
+    /// `offset` on. The encoding omits memory 0, which is shorter.
+    ///
+    /// Fails with `TooLong` if the section already has 4,294,967,295 segments, `bytes` is longer than 4,294,967,295
+    /// bytes, or a list in an instruction of `offset` has more items than that.
+    pub fn active(
+        &mut self,
+        memory_index: u32,
+        offset: ConstExpr,
+        bytes: &[u8],
+    ) -> Result<(), EncodeError>
+        ensures adds { AddsCounted data_section IsCountedData self.old (active_data memory_index (offset, bytes.now)) self.new result }
+    {
+        let mode = DataSegmentMode::Active {
+            memory_index,
+            offset: offset.into_calls(),
+        };
+        add(&mut self.items, &DataSegment { mode, bytes })
+    }
+
+    /// Adds a passive segment, which `memory.init` copies.
+    ///
+    /// Fails with `TooLong` if the section already has 4,294,967,295 segments or `bytes` is longer than 4,294,967,295
+    /// bytes.
+    pub fn passive(&mut self, bytes: &[u8]) -> Result<(), EncodeError>
+        ensures adds { AddsCounted data_section IsCountedData self.old (passive_data bytes.now) self.new result }
+    {
+        let mode = DataSegmentMode::Passive;
+        add(&mut self.items, &DataSegment { mode, bytes })
     }
 }

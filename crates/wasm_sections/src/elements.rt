@@ -1,5 +1,5 @@
 //! Element sections (Core 3.0, Element Section).
-ghost use Rattle.std.specs.Prelude.{◌≡◌, ◌<◌, true, List, length, refl};
+ghost use Rattle.std.specs.Prelude.{◌≡◌, ◌<◌, true, List, length, refl, ◌++◌, ◌⊎◌, OnOk, OnErr, IfErr, take};
 ghost use Rattle.wasm_codec.specs.Places.{Reads};
 ghost use Rattle.wasm_codec.specs.Rewriter.{Rewrites, Gives};
 ghost use Rattle.wasm_codec.specs.formats.Combinators.{◌⊗◌, made, items};
@@ -8,18 +8,38 @@ ghost use Rattle.wasm_sections.specs.ElementForms.{RewritesForm, place_at, mode_
 ghost use Rattle.wasm_sections.specs.formats.Elements.{is_funcref, typed_of, typed_part, element_number, element_form, kind_and_functions, element_segment};
 ghost use Rattle.wasm_types.specs.formats.Types.{ref_type};
 ghost use Rattle.wasm_instructions.specs.formats.Instructions.{Instruction};
-ghost use Rattle.wasm_sections.specs.formats.Expressions.{expr};
+ghost use Rattle.wasm_entities.specs.formats.Expressions.{expr};
 ghost use Rattle.wasm_codec.specs.Lawful.{IsLawful};
 ghost use Rattle.wasm_codec.specs.formats.Grammar.{TakesBytes};
+ghost use Rattle.std.specs.List.{All, Any, flat_map};
+ghost use Rattle.wasm_codec.specs.Encoding.{CanEncodeList, IsListRefusal, IsRefusal, IsShortest, OnlyTooLong, Refuses};
+ghost use Rattle.wasm_codec.specs.declared.encode.EncodeError.TheVariants.{Memory};
+ghost use Rattle.wasm_sections.specs.ClosedEntries.{AreClosed, AreCounted, IsClosedElement, IsClosedMode, IsCountedElement, IsCountedMode};
+ghost use Rattle.wasm_entities.specs.ClosedExpressions.{IsCountedExpr, IsWrittenExpr};
+ghost use Rattle.wasm_sections.specs.SegmentBytes.{ElementModeFits, ElementsFit, element_mode_bytes, elements_bytes, is_short};
+ghost use Rattle.wasm_sections.specs.SectionKinds.{element_section};
+ghost use Rattle.wasm_sections.specs.declared.elements.ElementMode.TheVariants as modes;
+ghost use Rattle.wasm_sections.specs.declared.elements.Elements.TheVariants as held;
+ghost use Rattle.wasm_entities.specs.Making.{Makes};
+ghost use Rattle.wasm_sections.specs.ElementSections.{AddsSegment};
 
-use crate::expressions::{read_expr, rewrite_expr};
-use std::alloc::Global;
-use wasm_codec::list::Items;
+use crate::bodies::are_bytes;
+use crate::list_section::{ListSection, SectionItem};
+use crate::segments::append_table_and_offset;
+use std::alloc::{Allocator, Global};
+use wasm_codec::encode::leb128::put_u32;
+use wasm_codec::encode::{EncodeError, keep_or_undo};
 use wasm_codec::reader::cursor::{Cursor, Fault};
-use wasm_codec::rewriter::{Rewritable, Rewriter, rewrite_list};
+use wasm_codec::rewriter::Rewriter;
+use wasm_entities::const_expr::ConstExpr;
+use wasm_entities::expressions::{encode_expr, read_expr, rewrite_expr};
 use wasm_instructions::table::Call;
-use wasm_readers::lists::read_list;
-use wasm_readers::readable::Readable;
+use wasm_lists::encode::{Encode, encode_list, encode_list_after};
+use wasm_lists::list::Items;
+use wasm_lists::readable::Readable;
+use wasm_lists::reading::read_list;
+use wasm_lists::rewriting::{Rewritable, rewrite_list};
+use wasm_types::encode::put_ref_type;
 use wasm_types::normaliser::rewrite_ref_type;
 use wasm_types::reader::read_ref_type;
 use wasm_types::types::{AbstractHeapType, HeapType, RefType};
@@ -47,6 +67,15 @@ pub enum Elements {
     Functions(Items<u32>),
     /// Expressions of a reference type, each without its final `end`.
     Expressions(RefType, Items<Items<Call>>),
+}
+
+impl Elements {
+    /// Makes elements of these function indices. Fails with `Memory` if it can't allocate.
+    pub fn functions(alloc: Global, indices: &[u32]) -> Result<Elements, EncodeError>
+        ensures makes { Makes (held.Functions indices.now) result }
+    {
+        Ok(Elements::Functions(Items::from_slice(alloc, indices)?))
+    }
 }
 
 /// An element segment (Core 3.0, Element Section).
@@ -236,7 +265,7 @@ impl Rewritable for Expression {
     ghost format = { expr };
 
     #[inline(always)]
-    #[tactic(auto, using(crate::proofs::ExpressionLaws::expr_is_lawful, crate::proofs::ElementLaws::expr_takes))]
+    #[tactic(auto, using(wasm_entities::proofs::ExpressionLaws::expr_is_lawful, crate::proofs::ElementLaws::expr_takes))]
     fn is_lawful() {}
 
     fn rewrite(rewriter: &mut Rewriter) -> Result<(), Fault> {
@@ -338,5 +367,232 @@ fn rewrite_element(rewriter: &mut Rewriter) -> Result<(), Fault>
         6 => rewrite_expressions_of_table(rewriter, mark),
         7 => rewrite_typed(rewriter),
         _ => Err(Fault::Malformed),
+    }
+}
+
+/// Returns whether a form has neither a table index nor the element kind or type.
+fn is_short(form: u32) -> bool
+    ensures { result ≡ is_short form }
+{
+    form == 0 || form == 4
+}
+
+/// Appends what precedes the element kind or type of a segment in this form. On error a part of it may remain.
+fn append_element_mode<A: Allocator>(
+    form: u32,
+    mode: &ElementMode,
+    sink: &mut Vec<u8, A>,
+) -> Result<(), EncodeError>
+    ensures ok { OnOk result (sink.new.items ≡ sink.old.items ++ element_mode_bytes form mode.now) }
+    ensures can { OnOk result (IsCountedMode mode.now) }
+    ensures fits { OnOk result (IsClosedMode mode.now → ElementModeFits form mode.now) }
+    ensures refused { IfErr result (IsRefusal IsCountedMode OnlyTooLong mode.now) }
+    ensures kept { take (length sink.old.items) sink.new.items ≡ sink.old.items }
+{
+    match mode {
+        ElementMode::Active {
+            table_index,
+            offset,
+        } => {
+            if is_short(form) {
+                append_table_and_offset(form, None, offset.as_slice(), sink)
+            } else {
+                append_table_and_offset(form, Some(*table_index), offset.as_slice(), sink)
+            }
+        }
+        ElementMode::Passive | ElementMode::Declared => {
+            sink.reserve(5)?;
+            put_u32(sink, form);
+            Ok(())
+        }
+    }
+}
+
+/// Appends expressions. On error a part of them may remain.
+fn append_each_expression<A: Allocator>(
+    expressions: &[Items<Call>],
+    sink: &mut Vec<u8, A>,
+) -> Result<(), EncodeError>
+    ensures ok { OnOk result (sink.new.items ≡ sink.old.items ++ flat_map expr.bytes expressions.now) }
+    ensures can { OnOk result (All IsCountedExpr expressions.now) }
+    ensures written { OnOk result (All IsWrittenExpr expressions.now) }
+    ensures refused { IfErr result (λ e. (e ≡ Memory) ⊎ Any (λ x. Refuses IsCountedExpr OnlyTooLong x e) expressions.now) }
+    ensures kept { take (length sink.old.items) sink.new.items ≡ sink.old.items }
+{
+    for expression in expressions {
+        encode_expr(expression.as_slice(), sink)?;
+    }
+    Ok(())
+}
+
+/// Appends the number of expressions and the expressions. Appends nothing if it fails.
+fn encode_expressions<A: Allocator>(
+    expressions: &[Items<Call>],
+    sink: &mut Vec<u8, A>,
+) -> Result<(), EncodeError>
+    ensures ok { OnOk result (sink.new.items ≡ sink.old.items ++ (items expr).bytes expressions.now) }
+    ensures can { OnOk result (CanEncodeList IsCountedExpr expressions.now) }
+    ensures written { OnOk result (All IsWrittenExpr expressions.now) }
+    ensures refused { IfErr result (IsListRefusal IsCountedExpr OnlyTooLong expressions.now) }
+    ensures err { OnErr result (sink.new.items ≡ sink.old.items) }
+{
+    let start = sink.len();
+    let result = append_expressions(expressions, sink);
+    keep_or_undo(sink, start, result)
+}
+
+/// Appends the number of expressions and the expressions. On error a part of them may remain.
+fn append_expressions<A: Allocator>(
+    expressions: &[Items<Call>],
+    sink: &mut Vec<u8, A>,
+) -> Result<(), EncodeError>
+    ensures ok { OnOk result (sink.new.items ≡ sink.old.items ++ (items expr).bytes expressions.now) }
+    ensures can { OnOk result (CanEncodeList IsCountedExpr expressions.now) }
+    ensures written { OnOk result (All IsWrittenExpr expressions.now) }
+    ensures refused { IfErr result (IsListRefusal IsCountedExpr OnlyTooLong expressions.now) }
+    ensures kept { take (length sink.old.items) sink.new.items ≡ sink.old.items }
+{
+    expressions.len().encode(sink)?;
+    append_each_expression(expressions, sink)
+}
+
+/// Appends the elements of a segment, after their kind or type unless the form is short. On error a part of them may
+/// remain.
+fn append_elements<A: Allocator>(
+    short: bool,
+    elements: &Elements,
+    sink: &mut Vec<u8, A>,
+) -> Result<(), EncodeError>
+    ensures ok { OnOk result (sink.new.items ≡ sink.old.items ++ elements_bytes short elements.now) }
+    ensures can { OnOk result (AreCounted elements.now) }
+    ensures fits { OnOk result (AreClosed elements.now → ElementsFit short elements.now) }
+    ensures refused { IfErr result (IsRefusal AreCounted OnlyTooLong elements.now) }
+    ensures kept { take (length sink.old.items) sink.new.items ≡ sink.old.items }
+{
+    match elements {
+        Elements::Functions(functions) => {
+            if short {
+                encode_list(functions.as_slice(), sink)
+            } else {
+                encode_list_after(0x00, functions.as_slice(), sink)
+            }
+        }
+        Elements::Expressions(ty, expressions) => {
+            if short {
+                return encode_expressions(expressions.as_slice(), sink);
+            }
+            sink.reserve(7)?;
+            put_ref_type(sink, *ty);
+            encode_expressions(expressions.as_slice(), sink)
+        }
+    }
+}
+
+/// Appends an element segment. On error a part of it may remain.
+fn append_element<A: Allocator>(element: &Element, sink: &mut Vec<u8, A>) -> Result<(), EncodeError>
+    ensures ok { OnOk result (sink.new.items ≡ sink.old.items ++ element_segment.bytes element.now) }
+    ensures can { OnOk result (IsCountedElement element.now) }
+    ensures written { OnOk result (IsClosedElement element.now →
+        IsShortest element_segment.Encodes element_segment.bytes element.now) }
+    ensures refused { IfErr result (IsRefusal IsCountedElement OnlyTooLong element.now) }
+    ensures kept { take (length sink.old.items) sink.new.items ≡ sink.old.items }
+{
+    let form = number_of(element);
+    append_element_mode(form, &element.mode, sink)?;
+    append_elements(is_short(form), &element.elements, sink)
+}
+
+/// The number of the form, the table index and offset, the element kind or type, and the elements (Core 3.0, Element
+/// Section). Form 0 and form 4 (both for table 0) omit the table index and the kind or type.
+///
+/// Fails with `TooLong` if there are more than 4,294,967,295 elements, or a list in an instruction has more items than
+/// that.
+impl Encode for Element {
+    ghost bytes = { element_segment.bytes };
+
+    ghost IsWritten = { λ element. IsClosedElement element → IsShortest element_segment.Encodes element_segment.bytes element };
+
+    ghost CanEncode = { IsCountedElement };
+
+    ghost refuses = { OnlyTooLong };
+
+    fn encode<A: Allocator>(&self, sink: &mut Vec<u8, A>) -> Result<(), EncodeError> {
+        let start = sink.len();
+        let result = append_element(self, sink);
+        keep_or_undo(sink, start, result)
+    }
+}
+
+/// An element section (Core 3.0, Element Section).
+///
+/// # Examples
+///
+/// ```
+/// # use wasm_encoder::{ConstExpr, ElementSection, Elements, Encode};
+/// let mut elements = ElementSection::new(rt.alloc());
+/// let offset = ConstExpr::i32_const(rt.alloc(), 0)?;
+/// elements.active(0, offset, Elements::functions(rt.alloc(), &[5])?)?;
+/// elements.passive(Elements::functions(rt.alloc(), &[1, 2])?)?;
+/// elements.declared(Elements::functions(rt.alloc(), &[5])?)?;
+/// let mut bytes = Vec::new(rt.alloc());
+/// elements.encode(&mut bytes)?;
+/// let expected = b"\x10\x03\x00\x41\x00\x0b\x01\x05\x01\x00\x02\x01\x02\x03\x00\x01\x05";
+/// assert_eq!(rt; bytes.as_slice(), expected.as_slice());
+/// ```
+pub type ElementSection = ListSection<Element>;
+
+impl SectionItem for Element {
+    ghost view = { λ item. item };
+
+    ghost section = { element_section };
+
+    ghost Fits = { IsClosedElement };
+
+    fn section_id() -> u8 {
+        9
+    }
+
+    #[inline(always)]
+    #[tactic(auto, using(crate::proofs::ItemLaws::elements_lawful))]
+    fn is_lawful() {}
+}
+
+/// Each method fails with `TooLong` if the section already has 4,294,967,295 segments, the segment has more than
+/// 4,294,967,295 elements, or a list in an instruction has more items than that.
+///
+/// The segment has an encoding only if every expression among `elements` closes its blocks.
+#[tactic(auto, using(crate::proofs::ItemLaws::adds_elements, crate::proofs::ItemLaws::adds_closed))]
+impl ListSection<Element> {
+    /// Adds an active segment: instantiating the module copies `elements` into the table `table_index`, from index
+    /// `offset` on. The encoding omits table 0 if that is shorter.
+    pub fn active(
+        &mut self,
+        table_index: u32,
+        offset: ConstExpr,
+        elements: Elements,
+    ) -> Result<(), EncodeError>
+        ensures adds { AddsSegment (modes.Active table_index offset) elements self.old self.new result }
+    {
+        let mode = ElementMode::Active {
+            table_index,
+            offset: offset.into_calls(),
+        };
+        self.push(&Element { mode, elements })
+    }
+
+    /// Adds a passive segment, which `table.init` copies.
+    pub fn passive(&mut self, elements: Elements) -> Result<(), EncodeError>
+        ensures adds { AddsSegment modes.Passive elements self.old self.new result }
+    {
+        let mode = ElementMode::Passive;
+        self.push(&Element { mode, elements })
+    }
+
+    /// Adds a declarative segment: it only declares functions that `ref.func` refers to.
+    pub fn declared(&mut self, elements: Elements) -> Result<(), EncodeError>
+        ensures adds { AddsSegment modes.Declared elements self.old self.new result }
+    {
+        let mode = ElementMode::Declared;
+        self.push(&Element { mode, elements })
     }
 }

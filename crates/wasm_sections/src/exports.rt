@@ -1,5 +1,5 @@
 //! Export sections (Core 3.0, Export Section).
-ghost use Rattle.std.specs.Prelude.{◌≡◌, refl, IfErr};
+ghost use Rattle.std.specs.Prelude.{◌≡◌, refl, IfErr, ◌++◌, OnOk, length, take};
 ghost use Rattle.wasm_codec.specs.Places.{Reads};
 ghost use Rattle.wasm_codec.specs.Rewriter.{Rewrites};
 ghost use Rattle.wasm_codec.specs.declared.reader.cursor.Fault.TheVariants.{Malformed};
@@ -8,15 +8,23 @@ ghost use Rattle.wasm_codec.specs.formats.Grammar.{TakesBytes};
 ghost use Rattle.wasm_codec.specs.Lawful.{IsLawful};
 ghost use Rattle.wasm_codec.specs.Reading.{map_ok};
 ghost use Rattle.wasm_sections.specs.formats.EntryParts.{ExportParts, export_parts, all_export_parts};
-ghost use Rattle.wasm_sections.specs.formats.Externals.{export_kind};
-ghost use Rattle.wasm_sections.specs.formats.Entries.{export_entry};
+ghost use Rattle.wasm_entities.specs.formats.Externals.{export_kind};
+ghost use Rattle.wasm_sections.specs.formats.Entries.{export_entry, export_of};
+ghost use Rattle.wasm_codec.specs.Encoding.{IsCount, IsCountRefusal, IsShortest, OnlyTooLong};
+ghost use Rattle.wasm_entities.specs.formats.Names.{name};
+ghost use Rattle.wasm_sections.specs.SectionKinds.{export_section};
+ghost use Rattle.wasm_sections.specs.ListSections.{AddsOr, IsUncounted, LawfulEntry};
 
-use crate::names::{read_name, rewrite_name};
-use crate::types::ExportKind;
-use std::alloc::Global;
+use crate::list_section::{ListSection, SectionItem, add};
+use std::alloc::{Allocator, Global};
+use wasm_codec::encode::leb128::put_u32;
+use wasm_codec::encode::{EncodeError, keep_or_undo};
 use wasm_codec::reader::cursor::{Cursor, Fault};
 use wasm_codec::rewriter::Rewriter;
-use wasm_readers::readable::Readable;
+use wasm_entities::names::{append_name, read_name, rewrite_name};
+use wasm_entities::types::{ExportKind, kind_byte};
+use wasm_lists::encode::Encode;
+use wasm_lists::readable::Readable;
 
 /// An export: a name for an item of the module (Core 3.0, Export Section).
 #[derive(Clone, Copy, Debug)]
@@ -30,7 +38,7 @@ pub struct Export<'a> {
 }
 
 /// Reads the kind of an export.
-#[tactic(auto, unfolding(crate::specs::formats::Externals::export_kind))]
+#[tactic(auto, unfolding(wasm_entities::specs::formats::Externals::export_kind))]
 fn read_export_kind(cursor: &mut Cursor<'_>) -> Result<ExportKind, Fault>
     ensures reads { Reads export_kind.at cursor.old cursor.new result }
     ensures err { IfErr result (λ e. e ≡ Malformed) }
@@ -87,7 +95,7 @@ impl<'a> Readable<'a> for Export<'a> {
 }
 
 /// Passes the kind of an export, which has one encoding.
-#[tactic(auto, unfolding(crate::specs::formats::Externals::export_kind))]
+#[tactic(auto, unfolding(wasm_entities::specs::formats::Externals::export_kind))]
 fn rewrite_export_kind(rewriter: &mut Rewriter) -> Result<(), Fault>
     ensures rewrites { Rewrites export_kind rewriter.old rewriter.new result }
 {
@@ -110,4 +118,99 @@ fn rewrite_export(rewriter: &mut Rewriter) -> Result<(), Fault>
     rewrite_export_kind(rewriter)?;
     rewriter.u32()?;
     Ok(())
+}
+
+/// Appends an export. On error a part of it may remain.
+fn append_export<A: Allocator>(
+    export: &Export<'_>,
+    sink: &mut Vec<u8, A>,
+) -> Result<(), EncodeError>
+    ensures ok { OnOk result (sink.new.items ≡ sink.old.items ++ export_entry.bytes (export_parts export.now)) }
+    ensures can { OnOk result (IsCount (length export.now.name.now)) }
+    ensures written { OnOk result (IsShortest export_entry.Encodes export_entry.bytes (export_parts export.now)) }
+    ensures refused { IfErr result (IsCountRefusal (length export.now.name.now)) }
+    ensures kept { take (length sink.old.items) sink.new.items ≡ sink.old.items }
+{
+    append_name(export.name, sink)?;
+    sink.reserve(6)?;
+    sink.push_reserved(kind_byte(export.kind));
+    put_u32(sink, export.index);
+    Ok(())
+}
+
+/// The name, the byte of the kind and the index (Core 3.0, Export Section).
+///
+/// Fails with `TooLong` if the name is longer than 4,294,967,295 bytes.
+impl<'a> Encode for Export<'a> {
+    ghost bytes = { λ export. export_entry.bytes (export_parts export) };
+
+    ghost IsWritten = { λ export. IsShortest export_entry.Encodes export_entry.bytes (export_parts export) };
+
+    ghost CanEncode = { λ export. IsCount (length export.name.now) };
+
+    ghost refuses = { OnlyTooLong };
+
+    fn encode<A: Allocator>(&self, sink: &mut Vec<u8, A>) -> Result<(), EncodeError> {
+        let start = sink.len();
+        let result = append_export(self, sink);
+        keep_or_undo(sink, start, result)
+    }
+}
+
+/// An export section (Core 3.0, Export Section).
+///
+/// # Examples
+///
+/// ```
+/// # use wasm_encoder::{Encode, ExportKind, ExportSection};
+/// let mut exports = ExportSection::new(rt.alloc());
+/// exports.export("add", ExportKind::Func, 0)?;
+/// let mut bytes = Vec::new(rt.alloc());
+/// exports.encode(&mut bytes)?;
+/// assert_eq!(rt; bytes.as_slice(), b"\x07\x01\x03add\x00\x00".as_slice());
+/// ```
+///
+/// Reading a body returns its exports, and accepts padded numbers:
+///
+/// ```
+/// # use wasm_encoder::{ExportKind, ExportSection, read};
+/// let body = b"\x01\x03mem\x02\x80\x00"; // one export; the index 0 in two bytes
+/// for export in &read::<ExportSection<'_>>(rt.alloc(), body)? {
+///     assert_eq!(rt; export.name, "mem");
+///     assert_eq!(rt; export.kind, ExportKind::Memory);
+/// }
+/// ```
+pub type ExportSection<'a> = ListSection<Export<'a>>;
+
+impl<'a> SectionItem for Export<'a> {
+    ghost Value = { ExportParts };
+
+    ghost view = { export_parts };
+
+    ghost section = { export_section };
+
+    fn section_id() -> u8
+        ensures { result ≡ 7 }
+    {
+        7
+    }
+
+    #[inline(always)]
+    #[tactic(auto, using(crate::proofs::ItemLaws::exports_lawful))]
+    fn is_lawful()
+        ensures lawful { LawfulEntry export_parts export_section }
+    {}
+}
+
+impl<'a> ListSection<Export<'a>> {
+    /// Adds an export named `name` of the item `index` of kind `kind`. `index` is in the index space of `kind`.
+    ///
+    /// Fails with `TooLong` if the section already has 4,294,967,295 exports or `name` is longer than 4,294,967,295
+    /// bytes.
+    #[tactic(auto, using(crate::proofs::ItemLaws::adds_named))]
+    pub fn export(&mut self, name: &str, kind: ExportKind, index: u32) -> Result<(), EncodeError>
+        ensures adds { AddsOr export_section (IsUncounted (length name.now)) self.old (export_of (name.now, (kind, index))) self.new result }
+    {
+        add(&mut self.items, &Export { name, kind, index })
+    }
 }

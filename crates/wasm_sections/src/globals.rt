@@ -1,21 +1,28 @@
 //! Global sections (Core 3.0, Global Section).
-ghost use Rattle.std.specs.Prelude.{refl};
+ghost use Rattle.std.specs.Prelude.{refl, ◌≡◌, ◌++◌, OnOk, IfErr, length, take};
 ghost use Rattle.wasm_codec.specs.Places.{Reads};
 ghost use Rattle.wasm_sections.specs.declared.globals.Global.{Global};
-ghost use Rattle.wasm_sections.specs.formats.Entries.{global_entry};
+ghost use Rattle.wasm_sections.specs.formats.Entries.{global_entry, global_of};
 ghost use Rattle.wasm_codec.specs.Lawful.{IsLawful};
 ghost use Rattle.wasm_codec.specs.formats.Grammar.{TakesBytes};
 ghost use Rattle.wasm_codec.specs.Rewriter.{Rewrites};
+ghost use Rattle.wasm_codec.specs.Encoding.{IsRefusal, IsShortest, OnlyTooLong};
+ghost use Rattle.wasm_sections.specs.ClosedEntries.{IsClosedGlobal, IsCountedGlobal};
+ghost use Rattle.wasm_sections.specs.SectionKinds.{global_section};
+ghost use Rattle.wasm_sections.specs.ListSections.{AddsCounted};
 
-use crate::entities::{read_global_type, rewrite_global_type};
-use crate::expressions::{read_expr, rewrite_expr};
-use crate::types::GlobalType;
-use std::alloc::Global as Heap;
-use wasm_codec::list::Items;
+use crate::list_section::{ListSection, SectionItem};
+use std::alloc::{Allocator, Global as Heap};
+use wasm_codec::encode::{EncodeError, keep_or_undo};
 use wasm_codec::reader::cursor::{Cursor, Fault};
 use wasm_codec::rewriter::Rewriter;
+use wasm_entities::const_expr::ConstExpr;
+use wasm_entities::expressions::{encode_expr, read_expr, rewrite_expr};
+use wasm_entities::types::{GlobalType, put_global_type, read_global_type, rewrite_global_type};
 use wasm_instructions::table::Call;
-use wasm_readers::readable::Readable;
+use wasm_lists::encode::Encode;
+use wasm_lists::list::Items;
+use wasm_lists::readable::Readable;
 
 /// A global defined by the module (Core 3.0, Global Section).
 #[derive(Debug, PartialEq, Eq, Drop)]
@@ -64,5 +71,81 @@ impl<'a> Readable<'a> for Global {
     {
         rewrite_global_type(rewriter)?;
         rewrite_expr(rewriter)
+    }
+}
+
+/// Appends a global. On error a part of it may remain.
+fn append_global<A: Allocator>(global: &Global, sink: &mut Vec<u8, A>) -> Result<(), EncodeError>
+    ensures ok { OnOk result (sink.new.items ≡ sink.old.items ++ global_entry.bytes global.now) }
+    ensures can { OnOk result (IsCountedGlobal global.now) }
+    ensures written { OnOk result (IsClosedGlobal global.now → IsShortest global_entry.Encodes global_entry.bytes global.now) }
+    ensures refused { IfErr result (IsRefusal IsCountedGlobal OnlyTooLong global.now) }
+    ensures kept { take (length sink.old.items) sink.new.items ≡ sink.old.items }
+{
+    sink.reserve(8)?;
+    put_global_type(sink, global.ty);
+    encode_expr(global.init.as_slice(), sink)
+}
+
+/// The type and the initial expression (Core 3.0, Global Section).
+///
+/// Fails with `TooLong` if a list in an instruction has more than 4,294,967,295 items.
+impl Encode for Global {
+    ghost bytes = { global_entry.bytes };
+
+    ghost IsWritten = { λ global. IsClosedGlobal global → IsShortest global_entry.Encodes global_entry.bytes global };
+
+    ghost CanEncode = { IsCountedGlobal };
+
+    ghost refuses = { OnlyTooLong };
+
+    fn encode<A: Allocator>(&self, sink: &mut Vec<u8, A>) -> Result<(), EncodeError> {
+        let start = sink.len();
+        let result = append_global(self, sink);
+        keep_or_undo(sink, start, result)
+    }
+}
+
+/// A global section: the globals that the module defines, with their initial values (Core 3.0, Global Section).
+///
+/// # Examples
+///
+/// ```
+/// # use wasm_encoder::{ConstExpr, Encode, GlobalSection, GlobalType, ValType};
+/// let ty = GlobalType::new(ValType::I64, true);
+/// let mut globals = GlobalSection::new(rt.alloc());
+/// globals.global(ty, ConstExpr::i64_const(rt.alloc(), -1)?)?;
+/// let mut bytes = Vec::new(rt.alloc());
+/// globals.encode(&mut bytes)?;
+/// assert_eq!(rt; bytes.as_slice(), b"\x06\x01\x7e\x01\x42\x7f\x0b".as_slice());
+/// ```
+pub type GlobalSection = ListSection<Global>;
+
+impl SectionItem for Global {
+    ghost view = { λ item. item };
+
+    ghost section = { global_section };
+
+    ghost Fits = { IsClosedGlobal };
+
+    fn section_id() -> u8 {
+        6
+    }
+
+    #[inline(always)]
+    #[tactic(auto, using(crate::proofs::ItemLaws::globals_lawful))]
+    fn is_lawful() {}
+}
+
+impl ListSection<Global> {
+    /// Adds a global with the initial value `init`.
+    ///
+    /// Fails with `TooLong` if the section already has 4,294,967,295 globals or a list in an instruction of `init` has
+    /// more than 4,294,967,295 items.
+    pub fn global(&mut self, ty: GlobalType, init: ConstExpr) -> Result<(), EncodeError>
+        ensures adds { AddsCounted global_section IsCountedGlobal self.old (global_of (ty, init)) self.new result }
+    {
+        let init = init.into_calls();
+        self.push(&Global { ty, init })
     }
 }

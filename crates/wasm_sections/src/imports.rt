@@ -1,5 +1,5 @@
 //! Import sections (Core 3.0, Import Section).
-ghost use Rattle.std.specs.Prelude.{◌≡◌, refl, IfErr};
+ghost use Rattle.std.specs.Prelude.{◌≡◌, refl, IfErr, ◌++◌, OnOk, length, take, ◌⊎◌};
 ghost use Rattle.wasm_codec.specs.Places.{Reads};
 ghost use Rattle.wasm_codec.specs.Rewriter.{Rewrites};
 ghost use Rattle.wasm_codec.specs.declared.reader.cursor.Fault.TheVariants.{Malformed};
@@ -8,15 +8,20 @@ ghost use Rattle.wasm_codec.specs.formats.Grammar.{TakesBytes};
 ghost use Rattle.wasm_codec.specs.Lawful.{IsLawful};
 ghost use Rattle.wasm_codec.specs.Reading.{map_ok};
 ghost use Rattle.wasm_sections.specs.formats.EntryParts.{ImportParts, import_parts, all_import_parts};
-ghost use Rattle.wasm_sections.specs.formats.Entries.{import_entry};
+ghost use Rattle.wasm_sections.specs.formats.Entries.{import_entry, import_of};
+ghost use Rattle.wasm_codec.specs.Encoding.{IsCount, IsRefusal, IsShortest, OnlyTooLong};
+ghost use Rattle.wasm_sections.specs.SectionKinds.{import_section};
+ghost use Rattle.wasm_sections.specs.ListSections.{AddsOr, IsUncounted, LawfulEntry};
 
-use crate::entities::{read_entity_type, rewrite_entity_type};
-use crate::names::{read_name, rewrite_name};
-use crate::types::EntityType;
-use std::alloc::Global;
+use crate::list_section::{ListSection, SectionItem, add};
+use std::alloc::{Allocator, Global};
+use wasm_codec::encode::{EncodeError, keep_or_undo};
 use wasm_codec::reader::cursor::{Cursor, Fault};
 use wasm_codec::rewriter::Rewriter;
-use wasm_readers::readable::Readable;
+use wasm_entities::names::{append_name, read_name, rewrite_name};
+use wasm_entities::types::{EntityType, put_entity_type, read_entity_type, rewrite_entity_type};
+use wasm_lists::encode::Encode;
+use wasm_lists::readable::Readable;
 
 /// An import: two names and a type (Core 3.0, Import Section).
 #[derive(Clone, Copy, Debug)]
@@ -70,5 +75,102 @@ impl<'a> Readable<'a> for Import<'a> {
         rewrite_name(rewriter)?;
         rewrite_name(rewriter)?;
         rewrite_entity_type(rewriter)
+    }
+}
+
+/// Appends an import. On error a part of it may remain.
+fn append_import<A: Allocator>(
+    import: &Import<'_>,
+    sink: &mut Vec<u8, A>,
+) -> Result<(), EncodeError>
+    ensures ok { OnOk result (sink.new.items ≡ sink.old.items ++ import_entry.bytes (import_parts import.now)) }
+    ensures can { OnOk result (IsCount (length import.now.module.now) × IsCount (length import.now.field.now)) }
+    ensures written { OnOk result (IsShortest import_entry.Encodes import_entry.bytes (import_parts import.now)) }
+    ensures refused { IfErr result (IsRefusal (λ i. IsCount (length i.module.now) × IsCount (length i.field.now)) OnlyTooLong import.now) }
+    ensures kept { take (length sink.old.items) sink.new.items ≡ sink.old.items }
+{
+    append_name(import.module, sink)?;
+    append_name(import.field, sink)?;
+    sink.reserve(29)?;
+    put_entity_type(sink, &import.ty);
+    Ok(())
+}
+
+/// The module name, the item name and the type (Core 3.0, Import Section).
+///
+/// Fails with `TooLong` if a name is longer than 4,294,967,295 bytes.
+impl<'a> Encode for Import<'a> {
+    ghost bytes = { λ import. import_entry.bytes (import_parts import) };
+
+    ghost IsWritten = { λ import. IsShortest import_entry.Encodes import_entry.bytes (import_parts import) };
+
+    ghost CanEncode = { λ import. IsCount (length import.module.now) × IsCount (length import.field.now) };
+
+    ghost refuses = { OnlyTooLong };
+
+    fn encode<A: Allocator>(&self, sink: &mut Vec<u8, A>) -> Result<(), EncodeError> {
+        let start = sink.len();
+        let result = append_import(self, sink);
+        keep_or_undo(sink, start, result)
+    }
+}
+
+/// An import section (Core 3.0, Import Section).
+///
+/// # Examples
+///
+/// ```
+/// # use wasm_encoder::{Encode, EntityType, ImportSection};
+/// let mut imports = ImportSection::new(rt.alloc());
+/// imports.import("env", "log", EntityType::Function(0))?;
+/// let mut bytes = Vec::new(rt.alloc());
+/// imports.encode(&mut bytes)?;
+/// assert_eq!(rt; bytes.as_slice(), b"\x0b\x01\x03env\x03log\x00\x00".as_slice());
+/// ```
+pub type ImportSection<'a> = ListSection<Import<'a>>;
+
+impl<'a> SectionItem for Import<'a> {
+    ghost Value = { ImportParts };
+
+    ghost view = { import_parts };
+
+    ghost section = { import_section };
+
+    fn section_id() -> u8
+        ensures { result ≡ 2 }
+    {
+        2
+    }
+
+    #[inline(always)]
+    #[tactic(auto, using(crate::proofs::ItemLaws::imports_lawful))]
+    fn is_lawful()
+        ensures lawful { LawfulEntry import_parts import_section }
+    {}
+}
+
+impl<'a> ListSection<Import<'a>> {
+    /// Adds an import of the item `field` of type `ty` from the module `module_name`.
+    ///
+    /// Fails with `TooLong` if the section already has 4,294,967,295 imports or a name is longer than 4,294,967,295
+    /// bytes.
+    #[tactic(auto, using(crate::proofs::ItemLaws::adds_twice_named))]
+    pub fn import(
+        &mut self,
+        module_name: &str,
+        field: &str,
+        ty: EntityType,
+    ) -> Result<(), EncodeError>
+        ensures adds { AddsOr import_section (IsUncounted (length module_name.now) ⊎ IsUncounted (length field.now))
+            self.old (import_of (module_name.now, (field.now, ty))) self.new result }
+    {
+        add(
+            &mut self.items,
+            &Import {
+                module: module_name,
+                field,
+                ty,
+            },
+        )
     }
 }

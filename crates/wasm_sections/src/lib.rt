@@ -1,22 +1,19 @@
-//! The sections of WebAssembly modules, except types and code: their contents, readers and normalisers (Core 3.0,
-//! Modules).
+//! The sections of WebAssembly modules, except types and code (Core 3.0, Modules). The file of a section has its items,
+//! reads, writes and rewrites them, and builds the section.
 #![tactic(auto)]
 
 pub mod bodies;
 pub mod custom;
 pub mod data;
 pub mod elements;
-mod encode;
-mod entities;
 pub mod exports;
-pub mod expressions;
+pub mod functions;
 pub mod globals;
 pub mod imports;
-mod limits;
+pub mod list_section;
 pub mod memories;
-pub mod modules;
-mod names;
+pub mod module_sections;
 pub mod numbers;
+mod segments;
 pub mod tables;
 pub mod tags;
-pub mod types;

@@ -1,43 +1,47 @@
-//! Memory sections (Core 3.0, Memory Section).
-ghost use Rattle.std.specs.Prelude.{refl};
-ghost use Rattle.wasm_codec.specs.Rewriter.{Rewrites};
-ghost use Rattle.wasm_sections.specs.declared.types.MemoryType.{MemoryType};
-ghost use Rattle.wasm_sections.specs.formats.Externals.{memory_type};
-ghost use Rattle.wasm_codec.specs.Lawful.{IsLawful};
-ghost use Rattle.wasm_codec.specs.formats.Grammar.{TakesBytes};
+//! The memory section (Core 3.0, Memory Section).
+ghost use Rattle.wasm_sections.specs.SectionKinds.{memory_section};
+ghost use Rattle.wasm_sections.specs.ListSections.{AddsItem};
 
-use crate::limits::{read_memory_type, rewrite_memory_type};
-use crate::types::MemoryType;
-use std::alloc::Global;
-use wasm_codec::reader::cursor::{Cursor, Fault};
-use wasm_codec::rewriter::Rewriter;
-use wasm_readers::readable::Readable;
+use crate::list_section::{ListSection, SectionItem};
+use wasm_codec::encode::EncodeError;
+use wasm_entities::limits::MemoryType;
 
-impl<'a> Readable<'a> for MemoryType {
-    ghost Value = { MemoryType };
+/// A memory section: the type of each memory that the module defines (Core 3.0, Memory Section).
+///
+/// # Examples
+///
+/// ```
+/// # use wasm_encoder::{Encode, MemorySection, MemoryType};
+/// let ty = MemoryType { maximum: Some(2), ..MemoryType::new(1) };
+/// let mut memories = MemorySection::new(rt.alloc());
+/// memories.memory(ty)?;
+/// let mut bytes = Vec::new(rt.alloc());
+/// memories.encode(&mut bytes)?;
+/// assert_eq!(rt; bytes.as_slice(), b"\x04\x01\x01\x01\x02".as_slice());
+/// ```
+pub type MemorySection = ListSection<MemoryType>;
 
-    ghost view = { λ memory. memory };
+impl SectionItem for MemoryType {
+    ghost view = { λ ty. ty };
 
-    ghost views = { λ memories. memories };
+    ghost section = { memory_section };
 
-    ghost views_each = { record { none = refl; more = λ memories memory. refl } };
-
-    ghost format = { memory_type };
-
-    #[inline(always)]
-    #[tactic(auto, using(crate::proofs::EntryLaws::memory_is_lawful, crate::proofs::EntryLaws::memory_takes))]
-    fn is_lawful()
-        ensures lawful { IsLawful memory_type }
-        ensures some { TakesBytes memory_type.Encodes }
-    {}
-
-    fn read(_alloc: Global, cursor: &mut Cursor<'a>) -> Result<MemoryType, Fault> {
-        read_memory_type(cursor)
+    fn section_id() -> u8 {
+        5
     }
 
-    fn rewrite(rewriter: &mut Rewriter) -> Result<(), Fault>
-        ensures rewrites { Rewrites memory_type rewriter.old rewriter.new result }
+    #[inline(always)]
+    #[tactic(auto, using(crate::proofs::ItemLaws::memories_lawful))]
+    fn is_lawful() {}
+}
+
+impl ListSection<MemoryType> {
+    /// Adds a memory.
+    ///
+    /// Fails with `TooLong` if the section already has 4,294,967,295 memories.
+    pub fn memory(&mut self, ty: MemoryType) -> Result<(), EncodeError>
+        ensures adds { AddsItem memory_section self.old ty self.new result }
     {
-        rewrite_memory_type(rewriter)
+        self.push(&ty)
     }
 }

@@ -1,22 +1,29 @@
 //! Table sections (Core 3.0, Table Section).
-ghost use Rattle.std.specs.Prelude.{refl};
+ghost use Rattle.std.specs.Prelude.{refl, ◌≡◌, ◌++◌, OnOk, IfErr, length, take};
 ghost use Rattle.wasm_codec.specs.Places.{Reads};
 ghost use Rattle.wasm_codec.specs.declared.reader.cursor.Fault.TheVariants.{Malformed};
 ghost use Rattle.wasm_sections.specs.declared.tables.Table.{Table};
-ghost use Rattle.wasm_sections.specs.formats.Entries.{table_entry};
+ghost use Rattle.wasm_sections.specs.formats.Entries.{table_entry, filled_of, unfilled};
 ghost use Rattle.wasm_codec.specs.Lawful.{IsLawful};
 ghost use Rattle.wasm_codec.specs.formats.Grammar.{TakesBytes};
 ghost use Rattle.wasm_codec.specs.Rewriter.{Rewrites};
+ghost use Rattle.wasm_codec.specs.Encoding.{IsRefusal, IsShortest, OnlyTooLong};
+ghost use Rattle.wasm_sections.specs.ClosedEntries.{IsClosedTable, IsCountedTable};
+ghost use Rattle.wasm_sections.specs.SectionKinds.{table_section};
+ghost use Rattle.wasm_sections.specs.ListSections.{AddsItem, AddsCounted};
 
-use crate::expressions::{read_expr, rewrite_expr};
-use crate::limits::{read_table_type, rewrite_table_type};
-use crate::types::TableType;
-use std::alloc::Global;
-use wasm_codec::list::Items;
+use crate::list_section::{ListSection, SectionItem};
+use std::alloc::{Allocator, Global};
+use wasm_codec::encode::{EncodeError, keep_or_undo};
 use wasm_codec::reader::cursor::{Cursor, Fault};
 use wasm_codec::rewriter::Rewriter;
+use wasm_entities::const_expr::ConstExpr;
+use wasm_entities::expressions::{encode_expr, read_expr, rewrite_expr};
+use wasm_entities::limits::{TableType, put_table_type, read_table_type, rewrite_table_type};
 use wasm_instructions::table::Call;
-use wasm_readers::readable::Readable;
+use wasm_lists::encode::Encode;
+use wasm_lists::list::Items;
+use wasm_lists::readable::Readable;
 
 /// A table defined by the module (Core 3.0, Table Section).
 #[derive(Debug, PartialEq, Eq, Drop)]
@@ -83,5 +90,99 @@ impl<'a> Readable<'a> for Table {
         }
         rewrite_table_type(rewriter)?;
         rewrite_expr(rewriter)
+    }
+}
+
+/// Appends a table. On error a part of it may remain.
+fn append_table<A: Allocator>(table: &Table, sink: &mut Vec<u8, A>) -> Result<(), EncodeError>
+    ensures ok { OnOk result (sink.new.items ≡ sink.old.items ++ table_entry.bytes table.now) }
+    ensures can { OnOk result (IsCountedTable table.now) }
+    ensures written { OnOk result (IsClosedTable table.now → IsShortest table_entry.Encodes table_entry.bytes table.now) }
+    ensures refused { IfErr result (IsRefusal IsCountedTable OnlyTooLong table.now) }
+    ensures kept { take (length sink.old.items) sink.new.items ≡ sink.old.items }
+{
+    let Some(init) = &table.init else {
+        sink.reserve(28)?;
+        put_table_type(sink, &table.ty);
+        return Ok(());
+    };
+    sink.reserve(30)?;
+    sink.push_reserved(0x40);
+    sink.push_reserved(0x00);
+    put_table_type(sink, &table.ty);
+    encode_expr(init.as_slice(), sink)
+}
+
+/// The type. With an initial expression: `0x40`, `0x00`, the type and the expression (Core 3.0, Table Section).
+///
+/// Fails with `TooLong` if a list in an instruction has more than 4,294,967,295 items.
+impl Encode for Table {
+    ghost bytes = { table_entry.bytes };
+
+    ghost IsWritten = { λ table. IsClosedTable table → IsShortest table_entry.Encodes table_entry.bytes table };
+
+    ghost CanEncode = { IsCountedTable };
+
+    ghost refuses = { OnlyTooLong };
+
+    fn encode<A: Allocator>(&self, sink: &mut Vec<u8, A>) -> Result<(), EncodeError> {
+        let start = sink.len();
+        let result = append_table(self, sink);
+        keep_or_undo(sink, start, result)
+    }
+}
+
+/// A table section: the tables that the module defines (Core 3.0, Table Section).
+///
+/// # Examples
+///
+/// ```
+/// # use wasm_encoder::{ConstExpr, Encode, RefType, TableSection, TableType};
+/// let ty = TableType::new(RefType::FUNCREF, 2);
+/// let mut tables = TableSection::new(rt.alloc());
+/// tables.table(ty)?;
+/// tables.table_with_init(ty, ConstExpr::ref_func(rt.alloc(), 0)?)?;
+/// let mut bytes = Vec::new(rt.alloc());
+/// tables.encode(&mut bytes)?;
+/// assert_eq!(rt; bytes.as_slice(), b"\x0c\x02\x70\x00\x02\x40\x00\x70\x00\x02\xd2\x00\x0b".as_slice());
+/// ```
+pub type TableSection = ListSection<Table>;
+
+impl SectionItem for Table {
+    ghost view = { λ item. item };
+
+    ghost section = { table_section };
+
+    ghost Fits = { IsClosedTable };
+
+    fn section_id() -> u8 {
+        4
+    }
+
+    #[inline(always)]
+    #[tactic(auto, using(crate::proofs::ItemLaws::tables_lawful))]
+    fn is_lawful() {}
+}
+
+#[tactic(auto, using(crate::proofs::ItemLaws::adds_always))]
+impl ListSection<Table> {
+    /// Adds a table without an initializer: its elements start as null.
+    ///
+    /// Fails with `TooLong` if the section already has 4,294,967,295 tables.
+    pub fn table(&mut self, ty: TableType) -> Result<(), EncodeError>
+        ensures adds { AddsItem table_section self.old (unfilled ty) self.new result }
+    {
+        self.push(&Table { ty, init: None })
+    }
+
+    /// Adds a table whose elements start as the value of `init`.
+    ///
+    /// Fails with `TooLong` if the section already has 4,294,967,295 tables or a list in an instruction of `init` has
+    /// more than 4,294,967,295 items.
+    pub fn table_with_init(&mut self, ty: TableType, init: ConstExpr) -> Result<(), EncodeError>
+        ensures adds { AddsCounted table_section IsCountedTable self.old (filled_of (ty, init)) self.new result }
+    {
+        let init = Some(init.into_calls());
+        self.push(&Table { ty, init })
     }
 }

@@ -1,43 +1,47 @@
-//! Tag sections (Core 3.0, Tag Section).
-ghost use Rattle.std.specs.Prelude.{refl};
-ghost use Rattle.wasm_codec.specs.Rewriter.{Rewrites};
-ghost use Rattle.wasm_sections.specs.declared.types.TagType.{TagType};
-ghost use Rattle.wasm_sections.specs.formats.Externals.{tag_type};
-ghost use Rattle.wasm_codec.specs.Lawful.{IsLawful};
-ghost use Rattle.wasm_codec.specs.formats.Grammar.{TakesBytes};
+//! The tag section (Core 3.0, Tag Section).
+ghost use Rattle.wasm_sections.specs.SectionKinds.{tag_section};
+ghost use Rattle.wasm_sections.specs.ListSections.{AddsItem};
 
-use crate::entities::{read_tag_type, rewrite_tag_type};
-use crate::types::TagType;
-use std::alloc::Global;
-use wasm_codec::reader::cursor::{Cursor, Fault};
-use wasm_codec::rewriter::Rewriter;
-use wasm_readers::readable::Readable;
+use crate::list_section::{ListSection, SectionItem};
+use wasm_codec::encode::EncodeError;
+use wasm_entities::types::TagType;
 
-impl<'a> Readable<'a> for TagType {
-    ghost Value = { TagType };
+/// A tag section: the type of each tag that the module defines (Core 3.0, Tag Section).
+///
+/// # Examples
+///
+/// ```
+/// # use wasm_encoder::{Encode, TagSection, TagType};
+/// # use wasm_encoder::sections::TagKind;
+/// let mut tags = TagSection::new(rt.alloc());
+/// tags.tag(TagType { kind: TagKind::Exception, func_type_idx: 0 })?;
+/// let mut bytes = Vec::new(rt.alloc());
+/// tags.encode(&mut bytes)?;
+/// assert_eq!(rt; bytes.as_slice(), b"\x03\x01\x00\x00".as_slice());
+/// ```
+pub type TagSection = ListSection<TagType>;
 
-    ghost view = { λ tag. tag };
+impl SectionItem for TagType {
+    ghost view = { λ ty. ty };
 
-    ghost views = { λ tags. tags };
+    ghost section = { tag_section };
 
-    ghost views_each = { record { none = refl; more = λ tags tag. refl } };
-
-    ghost format = { tag_type };
-
-    #[inline(always)]
-    #[tactic(auto, using(crate::proofs::EntryLaws::tag_is_lawful, crate::proofs::EntryLaws::tag_takes))]
-    fn is_lawful()
-        ensures lawful { IsLawful tag_type }
-        ensures some { TakesBytes tag_type.Encodes }
-    {}
-
-    fn read(_alloc: Global, cursor: &mut Cursor<'a>) -> Result<TagType, Fault> {
-        read_tag_type(cursor)
+    fn section_id() -> u8 {
+        13
     }
 
-    fn rewrite(rewriter: &mut Rewriter) -> Result<(), Fault>
-        ensures rewrites { Rewrites tag_type rewriter.old rewriter.new result }
+    #[inline(always)]
+    #[tactic(auto, using(crate::proofs::ItemLaws::tags_lawful))]
+    fn is_lawful() {}
+}
+
+impl ListSection<TagType> {
+    /// Adds a tag.
+    ///
+    /// Fails with `TooLong` if the section already has 4,294,967,295 tags.
+    pub fn tag(&mut self, ty: TagType) -> Result<(), EncodeError>
+        ensures adds { AddsItem tag_section self.old ty self.new result }
     {
-        rewrite_tag_type(rewriter)
+        self.push(&ty)
     }
 }

@@ -9,10 +9,10 @@ use Rattle.wasm_instructions.specs.Instructions.{NumbersInRange, IsCall, IsCount
 use Rattle.wasm_instructions.specs.formats.Instructions.{call, instruction}
 use Rattle.wasm_instructions.proofs.InstructionFormatLaws.{Lawful-instruction}
 use Rattle.wasm_instructions.proofs.OpcodeLaws.{in_table_short}
-use Rattle.wasm_calls.specs.Lengths.{HasNoLongList, IsShortEncoding}
-use Rattle.wasm_calls.proofs.CallRanges.{call_in_range}
-use Rattle.wasm_calls.proofs.InstructionLengths.{in_table_low}
-use Rattle.wasm_calls.proofs.InstructionLengths as lengths
+use Rattle.wasm_instructions.specs.Lengths.{HasNoLongList, IsShortEncoding}
+use Rattle.wasm_instructions.proofs.CallRanges.{call_in_range}
+use Rattle.wasm_instructions.proofs.InstructionLengths.{in_table_low}
+use Rattle.wasm_instructions.proofs.InstructionLengths as lengths
 use Rattle.wasm_sink.specs.ListCalls.{GivesItems}
 use Rattle.wasm_codec.specs.Encoding.{IsShortest}
 use Rattle.wasm_codec.proofs.NumberLaws.{written}

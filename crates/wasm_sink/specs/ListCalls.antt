@@ -7,7 +7,7 @@ use Rattle.wasm_instructions.specs.declared.table.opcode.Opcode.{Opcode}
 use Rattle.wasm_instructions.specs.declared.table.call.Operands.{Operands}
 use Rattle.wasm_codec.specs.declared.encode.EncodeError.{EncodeError}
 use Rattle.wasm_instructions.specs.formats.Instructions.{call}
-use Rattle.wasm_calls.specs.Appending.{IsRefusedList}
+use Rattle.wasm_instructions.specs.Appending.{IsRefusedList}
 use Rattle.wasm_sink.specs.Sink.{GoesOn, IsShortestCall, IsSameSink}
 
 module _ {S A : Type 0} (gives : S → Option A → S → Type 0) where

@@ -11,9 +11,9 @@ use Rattle.wasm_instructions.specs.declared.table.opcode.Prefix.{Prefix}
 use Rattle.wasm_instructions.specs.declared.table.call.Operands.{Operands}
 use Rattle.wasm_instructions.specs.formats.Instructions.{Instruction, Instructions, call, instruction, instructions_bytes}
 use Rattle.wasm_instructions.specs.Instructions.{IsCounted, HasEncoding, HasNoList}
-use Rattle.wasm_calls.specs.Lengths.{HasNoLongList, IsShortEncoding}
+use Rattle.wasm_instructions.specs.Lengths.{HasNoLongList, IsShortEncoding}
 use Rattle.wasm_codec.specs.Encoding.{IsShortest, IsShortestOrLonger}
-use Rattle.wasm_calls.specs.Appending.{IsOperandsRefusal, IsCallRefusal, IsCallsRefusal}
+use Rattle.wasm_instructions.specs.Appending.{IsOperandsRefusal, IsCallRefusal, IsCallsRefusal}
 use Rattle.wasm_codec.specs.declared.encode.EncodeError.{EncodeError}
 use Rattle.wasm_codec.specs.declared.encode.EncodeError.TheVariants as errors
 

@@ -17,8 +17,8 @@ mod variables;
 mod vectors;
 
 use std::alloc::Allocator;
-use wasm_calls::calls::{append_call, append_calls};
 use wasm_codec::encode::EncodeError;
+use wasm_instructions::calls::{append_call, append_calls};
 use wasm_instructions::table::Call;
 
 /// Appends instructions to a list of bytes.

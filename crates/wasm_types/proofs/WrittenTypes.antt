@@ -28,6 +28,7 @@ use Rattle.wasm_codec.specs.Leb128.{unsigned_leb128}
 use Rattle.wasm_codec.specs.formats.Combinators.{Format, flagged, optional, u32, index}
 use Rattle.wasm_codec.proofs.NumberLaws.{written}
 use Rattle.wasm_codec.proofs.FormatLaws.{Lawful-u32, Lawful-index}
+use Rattle.wasm_lists.proofs.WrittenLists.{in_range_of}
 use Rattle.wasm_types.specs.TypeRanges.{IsU32, HeapTypeFits, ValTypeFits, StorageTypeFits}
 use Rattle.wasm_types.specs.TypeCounts.{CountedSub}
 use Rattle.wasm_types.specs.formats.Types.{abstract_type, heap_type, reference, ref_type, val_type, result_type, storage_type, mutability, field_type, inner_type, composite_type, sub_type, recursive_type}
@@ -37,9 +38,6 @@ use Rattle.wasm_types.proofs.TypeFormatLaws.{Lawful-abstract-type, Lawful-heap-t
 
 is_written : {V : Type 0} (F : Format V) → IsLawful F → (v : V) → F.InRange v → IsShortest F.Encodes F.bytes v
 is_written F law v fits = written law.shortest v fits
-
-pub in_range_of : {V : Type 0} (F : Format V) → IsLawful F → (v : V) → IsShortest F.Encodes F.bytes v → F.InRange v
-in_range_of F law v h = law.in_range (F.bytes v) v h.encodes
 
 -- items that were written are in range
 pub all_in_range : {V : Type 0} (F : Format V) → IsLawful F → (vs : List V) → All (IsShortest F.Encodes F.bytes) vs → AllByRecursion F.InRange vs

@@ -1,5 +1,6 @@
 //! Writers of types into reserved room.
 
+mod composite_types;
 mod heap_types;
 
 pub use heap_types::{

@@ -1,5 +1,5 @@
-//! Types of WebAssembly (Core 3.0, Types), from heap types to the entries of a type section, and the normaliser of type
-//! sections.
+//! Types of WebAssembly (Core 3.0, Types), from heap types to the entries of a type section, and what reads, writes and
+//! rewrites them.
 #![tactic(auto)]
 
 pub mod encode;

@@ -14,13 +14,14 @@ mod heap_types;
 mod scan;
 mod type_sections;
 
+use crate::normaliser::heap_types::rewrite_field_type;
+use crate::normaliser::scan::scan_function_type;
 use crate::types::{FieldType, SubType, TypeEntry, ValType};
-use heap_types::rewrite_field_type;
 pub use heap_types::{rewrite_heap_type, rewrite_ref_type, rewrite_val_type};
-use scan::scan_function_type;
 pub use type_sections::{normalise_type_section, rewrite_type_section};
 use wasm_codec::reader::cursor::Fault;
-use wasm_codec::rewriter::{Rewritable, Rewriter, rewrite_list};
+use wasm_codec::rewriter::Rewriter;
+use wasm_lists::rewriting::{Rewritable, rewrite_list};
 
 /// Rewrites a function, structure, array or continuation type.
 #[tactic(auto, using(std::proofs::Common::append_assoc), unfolding(crate::specs::formats::Types::inner_type, crate::specs::formats::Types::result_type))]

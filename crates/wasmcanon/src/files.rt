@@ -1,4 +1,5 @@
 //! Files: inputs, and outputs that replace a file only once they are complete.
+
 use crate::options::Location;
 use crate::progress::{Progress, Source};
 use crate::run::{

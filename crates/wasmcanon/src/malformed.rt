@@ -1,12 +1,11 @@
 //! The part of a module that is malformed, and its offset.
+
 use std::alloc::Global;
 use std::fmt;
 use wasm_codec::reader::cursor::Cursor;
-use wasm_modules::reader::read_section;
-use wasm_readers::modules::read_module;
-use wasm_sections::modules::{
-    BrokenItem, BrokenPart, SectionNames, first_broken_item, first_broken_part, section_names,
-};
+use wasm_modules::raw::{read_module, read_section};
+use wasm_sections::module_sections::{SectionNames, section_names};
+use wasm_whole_modules::locate::{BrokenItem, BrokenPart, first_broken_item, first_broken_part};
 
 /// A malformed section.
 #[derive(Clone, Copy)]

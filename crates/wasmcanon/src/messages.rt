@@ -1,4 +1,5 @@
 //! The messages on standard error.
+
 use crate::options::{Action, Location, Options};
 use crate::run::Failure;
 use std::fmt;

@@ -7,9 +7,8 @@ ghost use Rattle.wasmcanon.specs.Offsets.{BeginsWith, IsOffsetName, KeepsOffsets
 use crate::sections::custom_name;
 use std::alloc::{AllocError, Global};
 use wasm_codec::reader::ReadError;
-use wasm_modules::section::{HEADER, RawSection};
-use wasm_readers::modules::read_module;
-use wasm_writers::sections::append_section;
+use wasm_modules::raw::read_module;
+use wasm_modules::section::{HEADER, RawSection, append_section};
 
 /// Returns the beginning of the name of the first custom section that keeps offsets. `None` means that no section does.
 ///

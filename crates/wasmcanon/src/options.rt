@@ -1,4 +1,5 @@
 //! The command line.
+
 use clap::{Arg, ArgAction, ArgMatches, Command};
 use std::alloc::{AllocError, Global};
 

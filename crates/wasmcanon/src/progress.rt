@@ -1,4 +1,5 @@
 //! The reader and the writer of a module, which show progress on a terminal: one line, erased at the end.
+
 use crate::options::Location;
 use std::fs::File;
 use std::io;

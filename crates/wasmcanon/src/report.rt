@@ -1,4 +1,5 @@
 //! The report: the size of each section before and after, and the number of encodings that are not minimal.
+
 use crate::sections::{
     LocatedSection, SectionTitle, count_items, custom_name, has_list, locate_sections,
     longer_number,
@@ -6,7 +7,8 @@ use crate::sections::{
 use std::alloc::{AllocError, Global};
 use std::fmt;
 use wasm_modules::section::RawSection;
-use wasm_sections::modules::{ItemCounts, section_names};
+use wasm_sections::module_sections::section_names;
+use wasm_whole_modules::locate::ItemCounts;
 
 /// The report of a module.
 #[derive(Drop)]

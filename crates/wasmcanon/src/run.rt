@@ -14,7 +14,7 @@ use std::alloc::{AllocError, Global};
 use std::io;
 use std::io::{ErrorKind, Read, Write};
 use wasm_codec::reader::ReadError;
-use wasm_sections::modules::{check_whole_module, rewrite_whole_module};
+use wasm_whole_modules::modules::{check_whole_module, rewrite_whole_module};
 
 /// Why a run failed.
 #[derive(Drop)]

@@ -6,10 +6,11 @@ ghost use Rattle.wasmcanon.specs.Offsets.{IsNameOf};
 use std::alloc::{AllocError, Global};
 use std::fmt;
 use wasm_codec::reader::cursor::Cursor;
-use wasm_modules::reader::{after_header, read_section};
+use wasm_modules::raw::{after_header, read_section};
 use wasm_modules::section::RawSection;
 use wasm_sections::custom::read_custom;
-use wasm_sections::modules::{ItemCounts, count_longer_items, section_names};
+use wasm_sections::module_sections::section_names;
+use wasm_whole_modules::locate::{ItemCounts, count_longer_items};
 
 /// Returns the name of a custom section. `None` means that the section is of another kind, or malformed.
 pub fn custom_name<'a>(section: RawSection<'a>) -> Option<&'a str>

@@ -16,12 +16,12 @@ mod modes;
 mod run;
 mod streams;
 
-use command::{USAGE, USAGE_STATUS, mode_of, report, status};
-use modes::Mode;
-use run::{RunError, run};
+use crate::command::{USAGE, USAGE_STATUS, mode_of, report, status};
+use crate::modes::Mode;
+use crate::run::{RunError, run};
+use crate::streams::flush;
 use std::process::ExitCode;
 use std::{env, io};
-use streams::flush;
 
 fn main(rt: HostRuntime) -> ExitCode {
     let code = match asked_mode(&rt) {

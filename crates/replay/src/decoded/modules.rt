@@ -1,14 +1,15 @@
 //! Modules: of one section, and of several; and whether their sections come in order.
 
-use super::bodies::{Answers, all_answers};
-use super::built::check_built;
-use super::{check_given, cut_at};
+use crate::decoded::bodies::{Answers, all_answers};
+use crate::decoded::built::check_built;
+use crate::decoded::{check_given, cut_at};
 use crate::mismatch::Mismatch;
 use std::alloc::Global;
 use wasm_codec::reader::ReadError;
+use wasm_lists::encode::encode_bytes;
 use wasm_modules::section::HEADER;
-use wasm_sections::modules::{check_order, read_whole_module};
-use wasm_writers::encode::encode_bytes;
+use wasm_whole_modules::modules::read_whole_module;
+use wasm_whole_modules::order::check_order;
 
 /// The id of a section.
 fn id_of(section: &str) -> u8 {

@@ -1,7 +1,7 @@
 //! Methods with a list, by name, and their operands as a call has them.
 
-use super::arguments::{block_type, catch, handler, index, value_type};
 use crate::mismatch::Mismatch;
+use crate::sink::arguments::{block_type, catch, handler, index, value_type};
 use crate::words::{Words, number};
 use std::alloc::{Allocator, Global};
 use wasm_encoder::{

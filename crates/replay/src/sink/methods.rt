@@ -1,12 +1,12 @@
 //! One method of the sink for each form of operands without a list.
 
-use super::arguments::Argument;
+use crate::sink::arguments::Argument;
 use std::alloc::Allocator;
 use wasm_encoder::{EncodeError, InstructionSink};
 
 /// Whether this method is called. Of every other method the contract says which call it appends, and
 /// `scripts/gate method-docs` compares its opcode with the vectors.
-pub(super) fn is_called(method: &str) -> bool {
+pub(crate) fn is_called(method: &str) -> bool {
     METHODS.contains(&method)
 }
 

@@ -3,8 +3,8 @@ ghost use Rattle.std.specs.Prelude.{◌≡◌, ◌++◌, ◌+◌, ◌-◌, ◌^�
 ghost use Rattle.wasm_codec.specs.Leb128.{unsigned_leb128};
 ghost use Rattle.wasm_codec.specs.declared.encode.EncodeError.TheVariants.{Memory};
 
-use super::EncodeError;
-use super::leb128::{put_u32, u32_len};
+use crate::encode::EncodeError;
+use crate::encode::leb128::{put_u32, u32_len};
 use std::alloc::{AllocError, Allocator};
 
 /// Inserts the number of bytes from `start` on before them, in its minimal encoding.

@@ -1,7 +1,7 @@
 //! Undoing an append that failed halfway.
 ghost use Rattle.std.specs.Prelude.{◌≡◌, take, OnOk, OnErr};
 
-use super::EncodeError;
+use crate::encode::EncodeError;
 use std::alloc::Allocator;
 
 /// Truncates `bytes` back to `start` items if `appended` is an error. Returns `appended`.

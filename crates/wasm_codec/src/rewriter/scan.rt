@@ -84,7 +84,7 @@ fn scan_digits(bytes: &[u8], signed: bool, most: usize, top: u8) -> Option<Scann
 /// Returns how many of the first `count` digits are needed if the digit after them is redundant.
 #[cold]
 #[inline(never)]
-pub(super) fn kept_digits(bytes: &[u8], signed: bool, count: usize) -> usize
+pub(crate) fn kept_digits(bytes: &[u8], signed: bool, count: usize) -> usize
     requires some { 0 < count }
     requires within { count ≤ length bytes.now }
     ensures { KeepsDigits signed bytes.now count result }

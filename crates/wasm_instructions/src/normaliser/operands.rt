@@ -10,13 +10,14 @@ ghost use Rattle.wasm_instructions.specs.declared.table.opcode.Kind.TheVariants 
 use crate::operands::{Catch, Handle};
 use crate::table::Kind;
 use wasm_codec::reader::cursor::Fault;
-use wasm_codec::rewriter::{Rewritable, Rewriter, rewrite_list};
+use wasm_codec::rewriter::Rewriter;
+use wasm_lists::rewriting::{Rewritable, rewrite_list};
 use wasm_types::normaliser::{rewrite_heap_type, rewrite_val_type};
 use wasm_types::types::ValType;
 
 /// Rewrites operands of a kind.
 #[tactic(auto, using(std::proofs::Common::append_assoc), unfolding(crate::specs::formats::Instructions::operands_format))]
-pub(super) fn rewrite_operands(rewriter: &mut Rewriter, kind: Kind) -> Result<(), Fault>
+pub(crate) fn rewrite_operands(rewriter: &mut Rewriter, kind: Kind) -> Result<(), Fault>
     ensures rewrites { Rewrites (operands_format kind) rewriter.old rewriter.new result }
 {
     match kind {

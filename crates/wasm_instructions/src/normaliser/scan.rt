@@ -7,13 +7,13 @@ ghost use Rattle.wasm_instructions.specs.formats.Operands.{block_type, mem_arg};
 
 mod opcodes;
 
+use crate::normaliser::scan::opcodes::{SCANNED, scanned_kind};
 use crate::table::Kind;
-use opcodes::{SCANNED, scanned_kind};
 use wasm_codec::rewriter::{Scanned, scan_s32, scan_s64, scan_u32, scan_u64};
 
 /// Scans the instruction that the bytes begin with. Returns `None` unless it is of a frequent kind.
 #[inline(always)]
-pub(super) fn scan_call(bytes: &[u8]) -> Option<Scanned>
+pub(crate) fn scan_call(bytes: &[u8]) -> Option<Scanned>
     ensures { Scans instruction bytes.now result }
 {
     if bytes.len() == 0 {

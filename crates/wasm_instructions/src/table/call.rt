@@ -4,11 +4,11 @@ ghost use Rattle.wasm_instructions.specs.Instructions.{NumbersInRange, IsAligned
 ghost use Rattle.wasm_instructions.specs.formats.Instructions.{call};
 ghost use Rattle.wasm_codec.specs.declared.encode.EncodeError.TheVariants.{Memory};
 
-use super::opcode::{Kind, Opcode};
 use crate::operands::{BlockType, Catch, Handle, Ieee32, Ieee64, Lane, MemArg, Ordering};
+use crate::table::opcode::{Kind, Opcode};
 use std::marker::Model;
 use wasm_codec::encode::EncodeError;
-use wasm_codec::list::Items;
+use wasm_lists::list::Items;
 use wasm_types::types::{HeapType, RefType, ValType};
 
 /// The operands of an instruction. It has one variant for each [`Kind`], with fields in the order of the binary format.

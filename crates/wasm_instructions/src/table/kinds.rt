@@ -1,6 +1,6 @@
 //! The kind of each opcode, by its number. A number past the end is no opcode.
 
-use super::opcode::Kind;
+use crate::table::opcode::Kind;
 
 const NO: Option<Kind> = None;
 
@@ -51,7 +51,7 @@ const ORDER_1: Option<Kind> = Some(Kind::OrderIndex);
 const ORDER_2: Option<Kind> = Some(Kind::OrderTwoIndexes);
 
 /// Opcodes of one byte.
-pub(super) const WITHOUT_PREFIX: [Option<Kind>; 256] = [
+pub(crate) const WITHOUT_PREFIX: [Option<Kind>; 256] = [
     PLAIN, PLAIN, BLOCK, BLOCK, BLOCK, PLAIN, BLOCK, INDEX, INDEX, INDEX, PLAIN, PLAIN, INDEX,
     INDEX, TABLE, PLAIN, INDEX, TWO, INDEX, TWO, INDEX, INDEX, NO, NO, INDEX, PLAIN, PLAIN, PLAIN,
     TYPES, NO, NO, TRY, INDEX, INDEX, INDEX, INDEX, INDEX, INDEX, INDEX, NO, MEM, MEM, MEM, MEM,
@@ -73,20 +73,20 @@ pub(super) const WITHOUT_PREFIX: [Option<Kind>; 256] = [
 ];
 
 /// Opcodes after `0xFB`.
-pub(super) const AFTER_FB: [Option<Kind>; 39] = [
+pub(crate) const AFTER_FB: [Option<Kind>; 39] = [
     INDEX, INDEX, TWO, TWO, TWO, TWO, INDEX, INDEX, TWO, TWO, TWO, INDEX, INDEX, INDEX, INDEX,
     PLAIN, INDEX, TWO, TWO, TWO, HEAP, HEAP, HEAP, HEAP, CAST, CAST, PLAIN, PLAIN, PLAIN, PLAIN,
     PLAIN, NO, INDEX, INDEX, INDEX, HEAP, HEAP, CAST, CAST,
 ];
 
 /// Opcodes after `0xFC`.
-pub(super) const AFTER_FC: [Option<Kind>; 23] = [
+pub(crate) const AFTER_FC: [Option<Kind>; 23] = [
     PLAIN, PLAIN, PLAIN, PLAIN, PLAIN, PLAIN, PLAIN, PLAIN, TWO, INDEX, TWO, INDEX, TWO, INDEX,
     TWO, INDEX, INDEX, INDEX, INDEX, PLAIN, PLAIN, PLAIN, PLAIN,
 ];
 
 /// Opcodes after `0xFD`.
-pub(super) const AFTER_FD: [Option<Kind>; 276] = [
+pub(crate) const AFTER_FD: [Option<Kind>; 276] = [
     MEM, MEM, MEM, MEM, MEM, MEM, MEM, MEM, MEM, MEM, MEM, MEM, V128, SHUFFLE, PLAIN, PLAIN, PLAIN,
     PLAIN, PLAIN, PLAIN, PLAIN, LANE, LANE, LANE, LANE, LANE, LANE, LANE, LANE, LANE, LANE, LANE,
     LANE, LANE, LANE, PLAIN, PLAIN, PLAIN, PLAIN, PLAIN, PLAIN, PLAIN, PLAIN, PLAIN, PLAIN, PLAIN,
@@ -110,7 +110,7 @@ pub(super) const AFTER_FD: [Option<Kind>; 276] = [
 ];
 
 /// Opcodes after `0xFE`.
-pub(super) const AFTER_FE: [Option<Kind>; 115] = [
+pub(crate) const AFTER_FE: [Option<Kind>; 115] = [
     MEM, MEM, MEM, ORDER, PLAIN, NO, NO, NO, NO, NO, NO, NO, NO, NO, NO, NO, MEM, MEM, MEM, MEM,
     MEM, MEM, MEM, MEM, MEM, MEM, MEM, MEM, MEM, MEM, MEM, MEM, MEM, MEM, MEM, MEM, MEM, MEM, MEM,
     MEM, MEM, MEM, MEM, MEM, MEM, MEM, MEM, MEM, MEM, MEM, MEM, MEM, MEM, MEM, MEM, MEM, MEM, MEM,

@@ -1,10 +1,9 @@
 //! Opcodes, and the table of the kinds of their operands (Core 3.0, Instructions).
 ghost use Rattle.std.specs.Prelude.{◌≡◌};
 ghost use Rattle.wasm_instructions.specs.OpcodeTables.{IsTable};
-ghost use Rattle.wasm_instructions.specs.formats.Opcodes.{opcode_kind, kind_among, ranges};
-ghost use Rattle.wasm_instructions.specs.formats.Opcodes.{without_prefix, after_fb, after_fc, after_fd, after_fe};
+ghost use Rattle.wasm_instructions.specs.formats.Opcodes.{opcode_kind, kind_among, ranges, without_prefix, after_fb, after_fc, after_fd, after_fe};
 
-use super::kinds::{AFTER_FB, AFTER_FC, AFTER_FD, AFTER_FE, WITHOUT_PREFIX};
+use crate::table::kinds::{AFTER_FB, AFTER_FC, AFTER_FD, AFTER_FE, WITHOUT_PREFIX};
 
 /// The prefix byte of an opcode.
 #[derive(Clone, Copy, Debug, PartialEq, Eq)]

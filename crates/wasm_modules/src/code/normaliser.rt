@@ -9,15 +9,15 @@ ghost use Rattle.wasm_modules.specs.declared.code.CodeBody.{CodeBody};
 ghost use Rattle.wasm_modules.specs.formats.CodeBodies.{local_group, function_code, code_body, code_section_body, IsCodeSectionBodyPrefix, ShortestCodeSectionBody};
 ghost use Rattle.wasm_codec.specs.Decoding.{Normalises, NormalisesInPlace, RewritesAll};
 
-use super::CodeBody;
+use crate::code::CodeBody;
 use std::alloc::Global;
 use wasm_codec::reader::ReadError;
 use wasm_codec::reader::cursor::{Cursor, Fault};
-use wasm_codec::rewriter::{
-    Rewritable, RewritableBody, Rewriter, rewrite_list, rewrite_list_to_end, rewrite_sized,
-    rewrite_to_end,
-};
+use wasm_codec::rewriter::Rewriter;
 use wasm_instructions::table::Call;
+use wasm_lists::rewriting::{
+    Rewritable, RewritableBody, rewrite_list, rewrite_list_to_end, rewrite_sized, rewrite_to_end,
+};
 use wasm_types::normaliser::rewrite_val_type;
 use wasm_types::reader::read_val_type;
 use wasm_types::types::ValType;

@@ -5,11 +5,12 @@ ghost use Rattle.wasm_modules.specs.Modules.{IsModulePrefixOf};
 ghost use Rattle.wasm_modules.specs.formats.Modules.{module_of};
 ghost use Rattle.wasm_codec.specs.Decoding.{Normalises, RewritesAll};
 
-use crate::reader::after_header;
+use crate::raw::after_header;
 use crate::section::HEADER;
 use std::alloc::Global;
 use wasm_codec::reader::ReadError;
-use wasm_codec::rewriter::{Joinable, Rewriter, rewrite_joined};
+use wasm_codec::rewriter::Rewriter;
+use wasm_lists::rewriting::{Joinable, rewrite_joined};
 
 /// Returns the minimal encoding of a module with sections of type `S`.
 ///

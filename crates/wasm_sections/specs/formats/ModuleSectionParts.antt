@@ -5,10 +5,10 @@ use Rattle.wasm_modules.specs.declared.code.CodeBody.{CodeBody}
 use Rattle.wasm_sections.specs.declared.elements.Element.{Element}
 use Rattle.wasm_sections.specs.declared.globals.Global.{Global}
 use Rattle.wasm_sections.specs.declared.tables.Table.{Table}
-use Rattle.wasm_sections.specs.declared.types.MemoryType.{MemoryType}
-use Rattle.wasm_sections.specs.declared.types.TagType.{TagType}
-use Rattle.wasm_sections.specs.declared.modules.ModuleSection.{ModuleSection}
-use Rattle.wasm_sections.specs.declared.modules.ModuleSection.TheVariants as sections
+use Rattle.wasm_entities.specs.declared.limits.MemoryType.{MemoryType}
+use Rattle.wasm_entities.specs.declared.types.TagType.{TagType}
+use Rattle.wasm_sections.specs.declared.module_sections.ModuleSection.{ModuleSection}
+use Rattle.wasm_sections.specs.declared.module_sections.ModuleSection.TheVariants as sections
 use Rattle.wasm_sections.specs.formats.EntryParts.{CustomParts, ExportParts, ImportParts, DataParts, custom_parts, all_export_parts, all_import_parts, all_data_parts}
 
 -- A section with its content.

@@ -9,7 +9,7 @@ use Rattle.wasm_modules.specs.formats.CodeBodies.{code_body}
 use Rattle.wasm_modules.specs.formats.Modules.{module_of}
 use Rattle.wasm_sections.specs.formats.Elements.{element_segment}
 use Rattle.wasm_sections.specs.formats.Entries.{import_entry, table_entry, global_entry, export_entry}
-use Rattle.wasm_sections.specs.formats.Externals.{memory_type, tag_type}
+use Rattle.wasm_entities.specs.formats.Externals.{memory_type, tag_type}
 use Rattle.wasm_sections.specs.formats.Sections.{custom_body}
 use Rattle.wasm_sections.specs.formats.Segments.{data_segment}
 

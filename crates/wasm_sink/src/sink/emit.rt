@@ -11,10 +11,10 @@ mod memory;
 mod orders;
 mod types;
 
-use super::InstructionSink;
+use crate::sink::InstructionSink;
 use std::alloc::Allocator;
-use wasm_calls::appenders::{append_index, append_opcode, append_two_indexes};
 use wasm_codec::encode::EncodeError;
+use wasm_instructions::appenders::{append_index, append_opcode, append_two_indexes};
 use wasm_instructions::table::{Opcode, Prefix};
 
 #[tactic(auto, using(crate::proofs::WrittenCalls::short_call, wasm_instructions::proofs::OpcodeLaws::in_table_short, crate::proofs::WrittenCalls::shortest_call))]

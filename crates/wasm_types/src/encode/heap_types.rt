@@ -1,13 +1,16 @@
 //! Writers of heap, reference, value, storage and field types into reserved room (Core 3.0, Heap Types to Composite
 //! Types).
-ghost use Rattle.std.specs.Prelude.{◌≡◌, [], ◌∷◌, ◌++◌, ◌+◌, ◌≤◌, vec_len, vec_capacity};
+ghost use Rattle.std.specs.Prelude.{[], ◌≡◌, ◌∷◌, ◌++◌, ◌+◌, ◌≤◌, vec_len, vec_capacity};
 ghost use Rattle.wasm_codec.specs.formats.Combinators.{flagged};
 ghost use Rattle.wasm_types.specs.TypeRanges.{HeapTypeFits, ValTypeFits, StorageTypeFits};
 ghost use Rattle.wasm_types.specs.formats.Types.{abstract_type, heap_type, ref_type, val_type, storage_type, field_type};
+ghost use Rattle.wasm_codec.specs.Encoding.{IsShortest};
 
 use crate::types::{AbstractHeapType, FieldType, HeapType, RefType, StorageType, ValType};
 use std::alloc::Allocator;
+use wasm_codec::encode::EncodeError;
 use wasm_codec::encode::leb128::{put_index, put_u32};
+use wasm_lists::encode::Encode;
 
 /// Returns the byte of an abstract heap type (Core 3.0, Heap Types).
 #[tactic(auto, unfolding(crate::specs::formats::Types::abstract_type))]
@@ -132,4 +135,76 @@ pub fn put_field_type<A: Allocator>(bytes: &mut Vec<u8, A>, field: FieldType)
 {
     put_storage_type(bytes, field.element_type);
     bytes.push_reserved(u8::from(field.mutable));
+}
+
+/// One byte (Core 3.0, Heap Types).
+#[tactic(auto, using(crate::proofs::WrittenTypes::abstract_written))]
+impl Encode for AbstractHeapType {
+    ghost bytes = { abstract_type.bytes };
+
+    ghost IsWritten = { IsShortest abstract_type.Encodes abstract_type.bytes };
+
+    fn encode<A: Allocator>(&self, sink: &mut Vec<u8, A>) -> Result<(), EncodeError> {
+        sink.reserve(1)?;
+        sink.push_reserved(abstract_byte(*self));
+        Ok(())
+    }
+}
+
+/// One byte for an abstract heap type, `0x65` before it if shared; an index as an s33, or `0x62` and an index (Core
+/// 3.0, Heap Types).
+#[tactic(auto, using(crate::proofs::WrittenTypes::heap_written))]
+impl Encode for HeapType {
+    ghost bytes = { heap_type.bytes };
+
+    ghost IsWritten = { IsShortest heap_type.Encodes heap_type.bytes };
+
+    fn encode<A: Allocator>(&self, sink: &mut Vec<u8, A>) -> Result<(), EncodeError> {
+        sink.reserve(6)?;
+        put_heap_type(sink, *self);
+        Ok(())
+    }
+}
+
+/// One byte for a nullable abstract type, two if shared; otherwise `0x63` or `0x64` and the heap type (Core 3.0,
+/// Reference Types).
+#[tactic(auto, using(crate::proofs::WrittenTypes::ref_written))]
+impl Encode for RefType {
+    ghost bytes = { ref_type.bytes };
+
+    ghost IsWritten = { IsShortest ref_type.Encodes ref_type.bytes };
+
+    fn encode<A: Allocator>(&self, sink: &mut Vec<u8, A>) -> Result<(), EncodeError> {
+        sink.reserve(7)?;
+        put_ref_type(sink, *self);
+        Ok(())
+    }
+}
+
+/// One byte, or a reference type (Core 3.0, Value Types).
+#[tactic(auto, using(crate::proofs::WrittenTypes::val_written))]
+impl Encode for ValType {
+    ghost bytes = { val_type.bytes };
+
+    ghost IsWritten = { IsShortest val_type.Encodes val_type.bytes };
+
+    fn encode<A: Allocator>(&self, sink: &mut Vec<u8, A>) -> Result<(), EncodeError> {
+        sink.reserve(7)?;
+        put_val_type(sink, *self);
+        Ok(())
+    }
+}
+
+/// One byte for a packed type, otherwise a value type (Core 3.0, Composite Types).
+#[tactic(auto, using(crate::proofs::WrittenTypes::storage_written))]
+impl Encode for StorageType {
+    ghost bytes = { storage_type.bytes };
+
+    ghost IsWritten = { IsShortest storage_type.Encodes storage_type.bytes };
+
+    fn encode<A: Allocator>(&self, sink: &mut Vec<u8, A>) -> Result<(), EncodeError> {
+        sink.reserve(7)?;
+        put_storage_type(sink, *self);
+        Ok(())
+    }
 }

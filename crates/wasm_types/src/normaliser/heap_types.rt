@@ -124,7 +124,7 @@ fn rewrite_storage_type(rewriter: &mut Rewriter) -> Result<(), Fault>
 
 /// Rewrites a field type.
 #[tactic(auto, using(std::proofs::Common::append_assoc), unfolding(crate::specs::formats::Types::field_type, crate::specs::formats::Types::mutability))]
-pub(super) fn rewrite_field_type(rewriter: &mut Rewriter) -> Result<(), Fault>
+pub(crate) fn rewrite_field_type(rewriter: &mut Rewriter) -> Result<(), Fault>
     ensures rewrites { Rewrites field_type rewriter.old rewriter.new result }
 {
     rewrite_storage_type(rewriter)?;

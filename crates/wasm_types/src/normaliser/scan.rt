@@ -9,7 +9,7 @@ use wasm_codec::rewriter::Scanned;
 /// Scans the function type that the bytes begin with. Returns `None` unless its counts and value types have one byte
 /// each.
 #[inline(always)]
-pub(super) fn scan_function_type(bytes: &[u8]) -> Option<Scanned>
+pub(crate) fn scan_function_type(bytes: &[u8]) -> Option<Scanned>
     ensures { Scans recursive_type bytes.now result }
 {
     if bytes.len() == 0 {

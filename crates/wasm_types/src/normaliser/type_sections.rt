@@ -5,7 +5,7 @@ ghost use Rattle.wasm_codec.specs.Decoding.{Normalises, NormalisesInPlace, Rewri
 use crate::types::TypeEntry;
 use std::alloc::Global;
 use wasm_codec::reader::ReadError;
-use wasm_codec::rewriter::rewrite_list_to_end;
+use wasm_lists::rewriting::rewrite_list_to_end;
 
 /// Returns the minimal encoding of the entries in a type section body (Core 3.0, Type Section).
 ///

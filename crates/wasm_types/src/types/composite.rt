@@ -3,10 +3,10 @@ ghost use Rattle.std.specs.Prelude.{◌≡◌, IfOk, IfErr};
 ghost use Rattle.std.specs.Iterator.{Drains, IsFinite};
 ghost use Rattle.wasm_codec.specs.declared.encode.EncodeError.TheVariants.{Memory};
 
-use super::value::{StorageType, ValType};
+use crate::types::value::{StorageType, ValType};
 use std::alloc::Global;
 use wasm_codec::encode::EncodeError;
-use wasm_codec::list::Items;
+use wasm_lists::list::Items;
 
 /// The type of a structure's field or an array's elements.
 #[derive(Clone, Copy, Debug, PartialEq, Eq, Hash, PartialOrd, Ord)]

@@ -2,12 +2,12 @@
 ghost use Rattle.std.specs.Prelude.{◌≡◌, IfOk, IfErr};
 ghost use Rattle.wasm_codec.specs.declared.encode.EncodeError.TheVariants.{Memory};
 
-use super::composite::{
+use crate::types::composite::{
     CompositeInnerType, CompositeType, FuncType, StructType, SubType, TypeEntry,
 };
 use std::alloc::Global;
 use wasm_codec::encode::EncodeError;
-use wasm_codec::list::Items;
+use wasm_lists::list::Items;
 
 impl StructType {
     /// Returns a copy. Fails with `Memory` if an allocation fails.

@@ -3,7 +3,7 @@ ghost use Rattle.std.specs.Prelude.{◌≡◌};
 ghost use Rattle.wasm_types.specs.Types.{is_defaultable, is_numeric, is_reference, is_vector, unpacked};
 ghost use Rattle.wasm_types.specs.declared.types.value.ValType.TheVariants.{Ref};
 
-use super::heap::RefType;
+use crate::types::heap::RefType;
 
 /// A value type (Core 3.0, Value Types).
 ///

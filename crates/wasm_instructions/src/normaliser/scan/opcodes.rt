@@ -1,7 +1,6 @@
 //! The opcodes that are scanned with their operands, in a table by their bytes.
 ghost use Rattle.std.specs.Prelude.{◌≡◌, Some, IfSome};
-ghost use Rattle.wasm_instructions.specs.formats.Opcodes.{without_prefix};
-ghost use Rattle.wasm_instructions.specs.formats.Opcodes.{opcode_kind};
+ghost use Rattle.wasm_instructions.specs.formats.Opcodes.{without_prefix, opcode_kind};
 ghost use Rattle.wasm_instructions.specs.ScannedOpcodes.{IsScanTable};
 
 use crate::table::Kind;
@@ -47,7 +46,7 @@ const F32: ScannedKind = ScannedKind::F32;
 
 const F64: ScannedKind = ScannedKind::F64;
 
-pub(super) const SCANNED: [ScannedKind; 256] = [
+pub(crate) const SCANNED: [ScannedKind; 256] = [
     PLAIN, PLAIN, BLOCK, BLOCK, BLOCK, PLAIN, BLOCK, INDEX, INDEX, INDEX, PLAIN, PLAIN, INDEX,
     INDEX, NO, PLAIN, INDEX, NO, INDEX, NO, INDEX, INDEX, NO, NO, INDEX, PLAIN, PLAIN, PLAIN, NO,
     NO, NO, NO, INDEX, INDEX, INDEX, INDEX, INDEX, INDEX, INDEX, NO, MEM, MEM, MEM, MEM, MEM, MEM,
@@ -69,7 +68,7 @@ pub(super) const SCANNED: [ScannedKind; 256] = [
 
 /// Returns the kind of operands that is scanned after an opcode of one byte, by the table.
 #[inline(always)]
-pub(super) fn scanned_kind(places: &[ScannedKind], byte: u8) -> Option<Kind>
+pub(crate) fn scanned_kind(places: &[ScannedKind], byte: u8) -> Option<Kind>
     requires { IsScanTable places.now }
     ensures { IfSome result (λ k. opcode_kind (without_prefix byte) ≡ Some k) }
 {

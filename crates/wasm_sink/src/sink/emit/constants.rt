@@ -7,10 +7,10 @@ ghost use Rattle.wasm_instructions.specs.declared.table.call.Operands.TheVariant
 
 use crate::sink::InstructionSink;
 use std::alloc::Allocator;
-use wasm_calls::appenders::{
+use wasm_codec::encode::EncodeError;
+use wasm_instructions::appenders::{
     append_f32, append_f64, append_i32, append_i64, append_lane, append_shuffle, append_v128,
 };
-use wasm_codec::encode::EncodeError;
 use wasm_instructions::operands::{Ieee32, Ieee64, Lane};
 use wasm_instructions::table::Opcode;
 

@@ -11,15 +11,15 @@ ghost use Rattle.wasm_sink.specs.ListCalls.{EmitsItems, EmitsList};
 
 use crate::sink::InstructionSink;
 use std::alloc::Allocator;
-use wasm_calls::appenders::{
+use wasm_codec::encode::EncodeError;
+use wasm_instructions::appenders::{
     append_branch_table, append_resume, append_resume_throw, append_try_table, append_type_list,
 };
-use wasm_codec::encode::EncodeError;
 use wasm_instructions::operands::{BlockType, Catch, Handle};
 use wasm_instructions::table::Opcode;
 use wasm_types::types::ValType;
 
-#[tactic(auto, using(wasm_instructions::proofs::OpcodeLaws::in_table_short, crate::proofs::WrittenCalls::shortest_call), unfolding(wasm_calls::specs::Appending::AppendsAll))]
+#[tactic(auto, using(wasm_instructions::proofs::OpcodeLaws::in_table_short, crate::proofs::WrittenCalls::shortest_call), unfolding(wasm_instructions::specs::Appending::AppendsAll))]
 impl<'a, A: Allocator> InstructionSink<'a, A> {
     /// Appends an instruction without a prefix, with a list of value types.
     pub(in crate::sink) fn emit_types(

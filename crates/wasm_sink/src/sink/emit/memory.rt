@@ -9,8 +9,8 @@ ghost use Rattle.wasm_instructions.specs.declared.table.call.Operands.TheVariant
 
 use crate::sink::InstructionSink;
 use std::alloc::Allocator;
-use wasm_calls::appenders::{append_mem, append_mem_lane};
 use wasm_codec::encode::EncodeError;
+use wasm_instructions::appenders::{append_mem, append_mem_lane};
 use wasm_instructions::operands::{Lane, MemArg};
 use wasm_instructions::table::{Opcode, Prefix};
 

@@ -7,8 +7,8 @@ ghost use Rattle.wasm_instructions.specs.declared.table.call.Operands.TheVariant
 
 use crate::sink::InstructionSink;
 use std::alloc::Allocator;
-use wasm_calls::appenders::{append_order, append_order_index, append_order_two_indexes};
 use wasm_codec::encode::EncodeError;
+use wasm_instructions::appenders::{append_order, append_order_index, append_order_two_indexes};
 use wasm_instructions::operands::Ordering;
 use wasm_instructions::table::Opcode;
 

@@ -8,8 +8,8 @@ ghost use Rattle.wasm_instructions.specs.declared.table.call.Operands.TheVariant
 
 use crate::sink::InstructionSink;
 use std::alloc::Allocator;
-use wasm_calls::appenders::{append_block, append_cast, append_heap, append_type};
 use wasm_codec::encode::EncodeError;
+use wasm_instructions::appenders::{append_block, append_cast, append_heap, append_type};
 use wasm_instructions::operands::BlockType;
 use wasm_instructions::table::{Opcode, Prefix};
 use wasm_types::types::{HeapType, RefType, ValType};

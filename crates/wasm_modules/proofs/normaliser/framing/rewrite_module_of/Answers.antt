@@ -1,7 +1,7 @@
 use Rattle.std.proofs.Common.{◌≡◌, ◌-◌, ◌++◌, ℕ, length, ap, ◌∙◌, subst, arith}
 use Rattle.wasm_codec.specs.Rewriter.{skipped}
 use Rattle.wasm_modules.specs.formats.Sections.{header}
-use Rattle.wasm_modules.proofs.HeaderLaws.{after_header_is, headed_normal, HeadedRefused, headed_refused}
+use Rattle.wasm_modules.proofs.ModuleFormatLaws.{after_header_is, headed_normal, HeadedRefused, headed_refused}
 use Rattle.wasm_modules.proofs.normaliser.framing.rewrite_module_of.Goals as goal
 
 pub returns-in-Ok : goal.returns-in-Ok

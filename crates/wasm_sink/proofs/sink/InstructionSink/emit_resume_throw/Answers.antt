@@ -4,7 +4,7 @@ use Rattle.wasm_instructions.specs.declared.table.opcode.Kind.TheVariants as kin
 use Rattle.wasm_instructions.specs.Instructions.{IsShort}
 use Rattle.wasm_instructions.specs.formats.Opcodes.{without_prefix}
 use Rattle.wasm_instructions.specs.declared.table.call.Operands.TheVariants as operands
-use Rattle.wasm_calls.specs.Appending.{AppendsAll}
+use Rattle.wasm_instructions.specs.Appending.{AppendsAll}
 use Rattle.wasm_sink.proofs.WrittenCalls.{given, shortest_call}
 use Rattle.wasm_sink.proofs.sink.InstructionSink.emit_resume_throw.Goals as goal
 

@@ -1,3 +1,0 @@
-pub mod ListSectionLaws
-pub mod ItemLaws
-pub mod ExprLaws

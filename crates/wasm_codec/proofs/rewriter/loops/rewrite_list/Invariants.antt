@@ -1,5 +1,0 @@
-use Rattle.wasm_codec.proofs.RewriterLaws.{ItemsRewritten}
-use Rattle.wasm_codec.proofs.rewriter.loops.rewrite_list.Given as goal
-
-abbrev pub invariant-loop : goal.invariant-loop
-invariant-loop g l = ItemsRewritten g.T.Rewritable.format l.fn.rewriter l.rewriter l.count l.counter

@@ -1,5 +1,0 @@
-use Rattle.wasm_codec.proofs.ListRewriting.{ListGoing}
-use Rattle.wasm_codec.proofs.rewriter.loops.rewrite_whole_list.Given as goal
-
-abbrev pub invariant-loop : goal.invariant-loop
-invariant-loop g l = ListGoing g.T.Rewritable.format l.fn.bytes.items l.rewriter l.count l.counter

@@ -1,0 +1,4 @@
+pub mod PartCombinatorLaws
+pub mod NameLaws
+pub mod ExternalLaws
+pub mod ExpressionLaws

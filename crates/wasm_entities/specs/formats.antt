@@ -1,0 +1,5 @@
+pub mod Nesting
+pub mod PartCombinators
+pub mod Names
+pub mod Externals
+pub mod Expressions

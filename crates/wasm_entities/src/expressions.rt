@@ -1,0 +1,149 @@
+//! Expressions: instructions up to the `end` that closes none of their blocks (Core 3.0, Expressions).
+ghost use Rattle.std.specs.Prelude.{◌≡◌, ◌+◌, ◌^◌, ◌<◌, IsTrue, IsFalse, ◌++◌, OnOk, OnErr, IfErr, length, take};
+ghost use Rattle.wasm_entities.specs.ClosedExpressions.{IsClosed, IsCountedExpr};
+ghost use Rattle.wasm_codec.specs.Places.{Reads};
+ghost use Rattle.wasm_codec.specs.Rewriter.{Rewrites};
+ghost use Rattle.wasm_entities.specs.formats.Nesting.{as_move};
+ghost use Rattle.wasm_entities.specs.formats.Expressions.{nested, nested_by, expr};
+ghost use Rattle.wasm_codec.specs.Encoding.{IsRefusal, IsShortest, OnlyTooLong};
+
+use std::alloc::{Allocator, Global};
+use wasm_codec::encode::{EncodeError, keep_or_undo};
+use wasm_codec::reader::cursor::{Cursor, Fault};
+use wasm_codec::rewriter::Rewriter;
+use wasm_instructions::calls::append_calls;
+use wasm_instructions::reader::instructions::read_call;
+use wasm_instructions::table::{Call, Opcode, Prefix};
+use wasm_lists::list::Items;
+use wasm_lists::rewriting::Rewritable;
+
+/// The effect of an instruction on the open blocks.
+#[derive(Clone, Copy)]
+pub(crate) enum Step {
+    /// This many blocks are open afterwards.
+    GoesOn(usize),
+    /// The instruction ends the expression.
+    Ends,
+    /// The instruction is malformed here.
+    Fails,
+}
+
+/// Returns the effect of an instruction when `depth` blocks are open.
+fn nested(depth: usize, op: Opcode) -> Step
+    requires { depth + 1 < 2 ^ 64 }
+    ensures { as_move result ≡ nested depth op }
+{
+    match op.prefix {
+        Prefix::None => nested_by(depth, op.number),
+        Prefix::Fb | Prefix::Fc | Prefix::Fd | Prefix::Fe => Step::GoesOn(depth),
+    }
+}
+
+/// Returns the effect of an instruction whose opcode is, or begins with, `byte`.
+fn nested_by(depth: usize, byte: u32) -> Step
+    requires { depth + 1 < 2 ^ 64 }
+    ensures { as_move result ≡ nested_by depth byte }
+{
+    match byte {
+        0x02 | 0x03 | 0x04 | 0x06 | 0x1f => Step::GoesOn(depth + 1),
+        0x0b => {
+            if depth == 0 {
+                Step::Ends
+            } else {
+                Step::GoesOn(depth - 1)
+            }
+        }
+        0x18 => {
+            if depth == 0 {
+                Step::Fails
+            } else {
+                Step::GoesOn(depth - 1)
+            }
+        }
+        _ => Step::GoesOn(depth),
+    }
+}
+
+/// Returns whether every block is closed and no `end` is left over, so that the instructions form an expression.
+pub fn is_closed(calls: &[Call]) -> bool
+    ensures closed { IsTrue result → IsClosed calls.now }
+    ensures open { IsFalse result → IsClosed calls.now → ⊥ }
+{
+    let mut depth = 0;
+    for call in calls {
+        match nested(depth, call.op()) {
+            Step::GoesOn(after) => depth = after,
+            Step::Ends | Step::Fails => return false,
+        }
+    }
+    depth == 0
+}
+
+/// Reads the instructions of an expression, without the final `end`.
+#[tactic(auto, unfolding(crate::specs::formats::Expressions::expr))]
+pub fn read_expr(alloc: Global, cursor: &mut Cursor<'_>) -> Result<Items<Call>, Fault>
+    ensures reads { Reads expr.at cursor.old cursor.new result }
+{
+    let mut calls = Vec::new(alloc);
+    let mut depth = 0;
+    let most = cursor.len();
+    for _ in 0..most {
+        let call = read_call(alloc, cursor)?;
+        match nested(depth, call.op()) {
+            Step::GoesOn(after) => depth = after,
+            Step::Ends => return Ok(Items::from(calls)),
+            Step::Fails => return Err(Fault::Malformed),
+        }
+        calls.push(call)?;
+    }
+    Err(Fault::Malformed)
+}
+
+/// Rewrites an expression to its minimal encoding.
+pub fn rewrite_expr(rewriter: &mut Rewriter) -> Result<(), Fault>
+    ensures rewrites { Rewrites expr rewriter.old rewriter.new result }
+{
+    let mut depth = 0;
+    let most = rewriter.len();
+    for _ in 0..most {
+        rewriter.are_bytes();
+        let first = rewriter.peek()?;
+        Call::rewrite(rewriter)?;
+        match nested_by(depth, u32::from(first)) {
+            Step::GoesOn(after) => depth = after,
+            Step::Ends => return Ok(()),
+            Step::Fails => return Err(Fault::Malformed),
+        }
+    }
+    Err(Fault::Malformed)
+}
+
+/// Appends the instructions of an expression and the final `end`. Appends nothing if it fails.
+///
+/// Fails with `TooLong` if a list in an instruction has more than 4,294,967,295 items.
+pub fn encode_expr<A: Allocator>(calls: &[Call], sink: &mut Vec<u8, A>) -> Result<(), EncodeError>
+    ensures ok { OnOk result (sink.new.items ≡ sink.old.items ++ expr.bytes calls.now) }
+    ensures can { OnOk result (IsCountedExpr calls.now) }
+    // If every block is closed, every other encoding of the expression is longer.
+    ensures written { OnOk result (IsClosed calls.now → IsShortest expr.Encodes expr.bytes calls.now) }
+    ensures refused { IfErr result (IsRefusal IsCountedExpr OnlyTooLong calls.now) }
+    ensures err { OnErr result (sink.new.items ≡ sink.old.items) }
+{
+    let start = sink.len();
+    let result = append_expr(calls, sink);
+    keep_or_undo(sink, start, result)
+}
+
+/// Appends the instructions of an expression and the final `end`. On error some of them may remain.
+fn append_expr<A: Allocator>(calls: &[Call], sink: &mut Vec<u8, A>) -> Result<(), EncodeError>
+    ensures ok { OnOk result (sink.new.items ≡ sink.old.items ++ expr.bytes calls.now) }
+    ensures can { OnOk result (IsCountedExpr calls.now) }
+    ensures written { OnOk result (IsClosed calls.now → IsShortest expr.Encodes expr.bytes calls.now) }
+    ensures refused { IfErr result (IsRefusal IsCountedExpr OnlyTooLong calls.now) }
+    ensures kept { take (length sink.old.items) sink.new.items ≡ sink.old.items }
+{
+    append_calls(sink, calls)?;
+    sink.reserve(1)?;
+    sink.push_reserved(0x0b);
+    Ok(())
+}

@@ -1,0 +1,364 @@
+//! The types of globals, tags and imports (Core 3.0, Types), and the kinds of exports (Export Section).
+ghost use Rattle.std.specs.Prelude.{[], ◌≡◌, false, IfErr, refl, ◌++◌, ◌+◌, ◌≤◌, ◌∷◌, Some, vec_len, vec_capacity};
+ghost use Rattle.wasm_codec.specs.Places.{Reads};
+ghost use Rattle.wasm_codec.specs.Rewriter.{Rewrites};
+ghost use Rattle.wasm_codec.specs.declared.reader.cursor.Fault.TheVariants.{Malformed};
+ghost use Rattle.wasm_entities.specs.formats.Externals.{global_flags, global_type, tag_type, entity_type, global_byte, export_kind};
+ghost use Rattle.wasm_entities.specs.declared.types.TagType.{TagType};
+ghost use Rattle.wasm_codec.specs.Lawful.{IsLawful};
+ghost use Rattle.wasm_codec.specs.formats.Grammar.{TakesBytes};
+ghost use Rattle.wasm_codec.specs.Encoding.{IsShortest};
+
+use crate::limits::{
+    MemoryType, TableType, put_memory_type, put_table_type, read_memory_type, read_table_type,
+    rewrite_memory_type, rewrite_table_type,
+};
+use std::alloc::{Allocator, Global};
+use wasm_codec::encode::EncodeError;
+use wasm_codec::encode::leb128::put_u32;
+use wasm_codec::reader::cursor::{Cursor, Fault};
+use wasm_codec::rewriter::Rewriter;
+use wasm_lists::encode::Encode;
+use wasm_lists::readable::Readable;
+use wasm_types::encode::put_val_type;
+use wasm_types::normaliser::rewrite_val_type;
+use wasm_types::reader::read_val_type;
+use wasm_types::types::ValType;
+
+/// The type of a global (Core 3.0, Global Types).
+#[derive(Clone, Copy, Debug, PartialEq, Eq)]
+pub struct GlobalType {
+    /// Type of the value.
+    pub val_type: ValType,
+    /// Whether the value can change.
+    pub mutable: bool,
+    /// Whether threads may share the global.
+    pub shared: bool,
+}
+
+impl GlobalType {
+    /// Returns the type of a global that isn't shared.
+    pub fn new(val_type: ValType, mutable: bool) -> GlobalType
+        ensures { result ≡ record { val_type = val_type; mutable = mutable; shared = false } }
+    {
+        GlobalType {
+            val_type,
+            mutable,
+            shared: false,
+        }
+    }
+}
+
+/// The kind of a tag (Core 3.0, Tag Types).
+#[derive(Clone, Copy, Debug, PartialEq, Eq)]
+pub enum TagKind {
+    /// Exceptions.
+    Exception,
+}
+
+/// The type of a tag (Core 3.0, Tag Types).
+#[derive(Clone, Copy, Debug, PartialEq, Eq)]
+pub struct TagType {
+    /// Kind of the tag.
+    pub kind: TagKind,
+    /// Type index of a function type whose parameters are the values of the exception.
+    pub func_type_idx: u32,
+}
+
+/// The type of an import (Core 3.0, External Types).
+#[derive(Clone, Copy, Debug, PartialEq, Eq)]
+pub enum EntityType {
+    /// A function. Holds its type index.
+    Function(u32),
+    /// A table.
+    Table(TableType),
+    /// A memory.
+    Memory(MemoryType),
+    /// A global.
+    Global(GlobalType),
+    /// A tag.
+    Tag(TagType),
+    /// A function of exactly this type, not of a subtype. Holds its type index.
+    FunctionExact(u32),
+}
+
+/// The kind of an export (Core 3.0, Export Section).
+#[derive(Clone, Copy, Debug, PartialEq, Eq)]
+pub enum ExportKind {
+    /// A function.
+    Func,
+    /// A table.
+    Table,
+    /// A memory.
+    Memory,
+    /// A global.
+    Global,
+    /// A tag.
+    Tag,
+}
+
+/// Reads whether a global is mutable and whether it is shared.
+#[tactic(auto, unfolding(crate::specs::formats::Externals::global_flags))]
+fn read_global_flags(cursor: &mut Cursor<'_>) -> Result<(bool, bool), Fault>
+    ensures reads { Reads global_flags.at cursor.old cursor.new result }
+    ensures err { IfErr result (λ e. e ≡ Malformed) }
+{
+    match cursor.byte()? {
+        0x00 => Ok((false, false)),
+        0x01 => Ok((true, false)),
+        0x02 => Ok((false, true)),
+        0x03 => Ok((true, true)),
+        _ => Err(Fault::Malformed),
+    }
+}
+
+/// Reads a global type.
+#[tactic(auto, unfolding(crate::specs::formats::Externals::global_type))]
+pub fn read_global_type(cursor: &mut Cursor<'_>) -> Result<GlobalType, Fault>
+    ensures reads { Reads global_type.at cursor.old cursor.new result }
+    ensures err { IfErr result (λ e. e ≡ Malformed) }
+{
+    let val_type = read_val_type(cursor)?;
+    let (mutable, shared) = read_global_flags(cursor)?;
+    Ok(GlobalType {
+        val_type,
+        mutable,
+        shared,
+    })
+}
+
+/// Reads a tag type.
+#[tactic(auto, unfolding(crate::specs::formats::Externals::tag_type))]
+pub(crate) fn read_tag_type(cursor: &mut Cursor<'_>) -> Result<TagType, Fault>
+    ensures reads { Reads tag_type.at cursor.old cursor.new result }
+    ensures err { IfErr result (λ e. e ≡ Malformed) }
+{
+    if cursor.byte()? != 0x00 {
+        return Err(Fault::Malformed);
+    }
+    let func_type_idx = cursor.u32()?;
+    Ok(TagType {
+        kind: TagKind::Exception,
+        func_type_idx,
+    })
+}
+
+/// Reads the type of an import.
+#[tactic(auto, unfolding(crate::specs::formats::Externals::entity_type))]
+pub fn read_entity_type(cursor: &mut Cursor<'_>) -> Result<EntityType, Fault>
+    ensures reads { Reads entity_type.at cursor.old cursor.new result }
+    ensures err { IfErr result (λ e. e ≡ Malformed) }
+{
+    match cursor.byte()? {
+        0x00 => Ok(EntityType::Function(cursor.u32()?)),
+        0x01 => Ok(EntityType::Table(read_table_type(cursor)?)),
+        0x02 => Ok(EntityType::Memory(read_memory_type(cursor)?)),
+        0x03 => Ok(EntityType::Global(read_global_type(cursor)?)),
+        0x04 => Ok(EntityType::Tag(read_tag_type(cursor)?)),
+        0x20 => Ok(EntityType::FunctionExact(cursor.u32()?)),
+        _ => Err(Fault::Malformed),
+    }
+}
+
+/// Passes the flags of a global, which have one encoding.
+#[tactic(auto, unfolding(crate::specs::formats::Externals::global_flags))]
+fn rewrite_global_flags(rewriter: &mut Rewriter) -> Result<(), Fault>
+    ensures rewrites { Rewrites global_flags rewriter.old rewriter.new result }
+{
+    match rewriter.byte()? {
+        0x00 => Ok(()),
+        0x01 => Ok(()),
+        0x02 => Ok(()),
+        0x03 => Ok(()),
+        _ => Err(Fault::Malformed),
+    }
+}
+
+/// Rewrites a global type to its minimal encoding.
+#[tactic(auto, using(std::proofs::Common::append_assoc), unfolding(crate::specs::formats::Externals::global_type))]
+pub fn rewrite_global_type(rewriter: &mut Rewriter) -> Result<(), Fault>
+    ensures rewrites { Rewrites global_type rewriter.old rewriter.new result }
+{
+    rewrite_val_type(rewriter)?;
+    rewrite_global_flags(rewriter)
+}
+
+/// Rewrites a tag type to its minimal encoding.
+#[tactic(auto, using(std::proofs::Common::append_assoc), unfolding(crate::specs::formats::Externals::tag_type))]
+pub(crate) fn rewrite_tag_type(rewriter: &mut Rewriter) -> Result<(), Fault>
+    ensures rewrites { Rewrites tag_type rewriter.old rewriter.new result }
+{
+    if rewriter.byte()? != 0x00 {
+        return Err(Fault::Malformed);
+    }
+    rewriter.u32()?;
+    Ok(())
+}
+
+/// Rewrites the type of an import to its minimal encoding.
+#[tactic(auto, using(std::proofs::Common::append_assoc), unfolding(crate::specs::formats::Externals::entity_type))]
+pub fn rewrite_entity_type(rewriter: &mut Rewriter) -> Result<(), Fault>
+    ensures rewrites { Rewrites entity_type rewriter.old rewriter.new result }
+{
+    match rewriter.byte()? {
+        0x00 | 0x20 => {
+            rewriter.u32()?;
+            Ok(())
+        }
+        0x01 => rewrite_table_type(rewriter),
+        0x02 => rewrite_memory_type(rewriter),
+        0x03 => rewrite_global_type(rewriter),
+        0x04 => rewrite_tag_type(rewriter),
+        _ => Err(Fault::Malformed),
+    }
+}
+
+impl<'a> Readable<'a> for TagType {
+    ghost Value = { TagType };
+
+    ghost view = { λ tag. tag };
+
+    ghost views = { λ tags. tags };
+
+    ghost views_each = { record { none = refl; more = λ tags tag. refl } };
+
+    ghost format = { tag_type };
+
+    #[inline(always)]
+    #[tactic(auto, using(crate::proofs::ExternalLaws::tag_is_lawful, crate::proofs::ExternalLaws::tag_takes))]
+    fn is_lawful()
+        ensures lawful { IsLawful tag_type }
+        ensures some { TakesBytes tag_type.Encodes }
+    {}
+
+    fn read(_alloc: Global, cursor: &mut Cursor<'a>) -> Result<TagType, Fault> {
+        read_tag_type(cursor)
+    }
+
+    fn rewrite(rewriter: &mut Rewriter) -> Result<(), Fault>
+        ensures rewrites { Rewrites tag_type rewriter.old rewriter.new result }
+    {
+        rewrite_tag_type(rewriter)
+    }
+}
+
+/// Returns the flags byte of a global: whether it is mutable, whether it is shared.
+fn mutability_byte(mutable: bool, shared: bool) -> u8
+    ensures { global_byte (mutable, shared) ≡ Some result }
+{
+    match (mutable, shared) {
+        (false, false) => 0x00,
+        (true, false) => 0x01,
+        (false, true) => 0x02,
+        (true, true) => 0x03,
+    }
+}
+
+/// Appends a global type in 2 to 8 bytes.
+#[tactic(auto, using(crate::proofs::ExternalLaws::global_put, crate::proofs::ExternalLaws::global_written))]
+pub fn put_global_type<A: Allocator>(bytes: &mut Vec<u8, A>, ty: GlobalType)
+    requires { vec_len bytes.old + 8 ≤ vec_capacity bytes.old }
+    ensures items { bytes.new.items ≡ bytes.old.items ++ global_type.bytes ty }
+    ensures written { IsShortest global_type.Encodes global_type.bytes ty }
+{
+    put_val_type(bytes, ty.val_type);
+    bytes.push_reserved(mutability_byte(ty.mutable, ty.shared));
+}
+
+/// Appends a tag type in 2 to 6 bytes.
+#[tactic(auto, using(crate::proofs::ExternalLaws::tag_put, crate::proofs::ExternalLaws::tag_written))]
+pub(crate) fn put_tag_type<A: Allocator>(bytes: &mut Vec<u8, A>, ty: TagType)
+    requires { vec_len bytes.old + 6 ≤ vec_capacity bytes.old }
+    ensures items { bytes.new.items ≡ bytes.old.items ++ tag_type.bytes ty }
+    ensures written { IsShortest tag_type.Encodes tag_type.bytes ty }
+{
+    bytes.push_reserved(0x00);
+    put_u32(bytes, ty.func_type_idx);
+}
+
+/// The value type and the flags (Core 3.0, Global Types).
+impl Encode for GlobalType {
+    ghost bytes = { global_type.bytes };
+
+    ghost IsWritten = { IsShortest global_type.Encodes global_type.bytes };
+
+    fn encode<A: Allocator>(&self, sink: &mut Vec<u8, A>) -> Result<(), EncodeError> {
+        sink.reserve(8)?;
+        put_global_type(sink, *self);
+        Ok(())
+    }
+}
+
+/// A zero byte and the index of the function type (Core 3.0, Tag Types).
+impl Encode for TagType {
+    ghost bytes = { tag_type.bytes };
+
+    ghost IsWritten = { IsShortest tag_type.Encodes tag_type.bytes };
+
+    fn encode<A: Allocator>(&self, sink: &mut Vec<u8, A>) -> Result<(), EncodeError> {
+        sink.reserve(6)?;
+        put_tag_type(sink, *self);
+        Ok(())
+    }
+}
+
+/// Appends the type of an import in 2 to 29 bytes.
+pub fn put_entity_type<A: Allocator>(bytes: &mut Vec<u8, A>, ty: &EntityType)
+    requires { vec_len bytes.old + 29 ≤ vec_capacity bytes.old }
+    ensures items { bytes.new.items ≡ bytes.old.items ++ entity_type.bytes ty.now }
+    ensures written { IsShortest entity_type.Encodes entity_type.bytes ty.now }
+{
+    match ty {
+        EntityType::Function(index) => {
+            bytes.push_reserved(0x00);
+            put_u32(bytes, *index);
+        }
+        EntityType::Table(table) => {
+            bytes.push_reserved(0x01);
+            put_table_type(bytes, table);
+        }
+        EntityType::Memory(memory) => {
+            bytes.push_reserved(0x02);
+            put_memory_type(bytes, memory);
+        }
+        EntityType::Global(global) => {
+            bytes.push_reserved(0x03);
+            put_global_type(bytes, *global);
+        }
+        EntityType::Tag(tag) => {
+            bytes.push_reserved(0x04);
+            put_tag_type(bytes, *tag);
+        }
+        EntityType::FunctionExact(index) => {
+            bytes.push_reserved(0x20);
+            put_u32(bytes, *index);
+        }
+    }
+}
+
+/// The byte of the kind and the type (Core 3.0, External Types).
+impl Encode for EntityType {
+    ghost bytes = { entity_type.bytes };
+
+    ghost IsWritten = { IsShortest entity_type.Encodes entity_type.bytes };
+
+    fn encode<A: Allocator>(&self, sink: &mut Vec<u8, A>) -> Result<(), EncodeError> {
+        sink.reserve(29)?;
+        put_entity_type(sink, self);
+        Ok(())
+    }
+}
+
+/// Returns the byte of an export's kind.
+#[tactic(auto, unfolding(crate::specs::formats::Externals::export_kind))]
+pub fn kind_byte(kind: ExportKind) -> u8
+    ensures { export_kind.bytes kind ≡ result ∷ [] }
+{
+    match kind {
+        ExportKind::Func => 0x00,
+        ExportKind::Table => 0x01,
+        ExportKind::Memory => 0x02,
+        ExportKind::Global => 0x03,
+        ExportKind::Tag => 0x04,
+    }
+}

@@ -1,0 +1,12 @@
+use Rattle.wasm_codec.proofs.BodyLaws.{Lawful-to-end}
+use Rattle.wasm_codec.proofs.DecodingLaws.{decodes_minimal}
+use Rattle.wasm_codec.proofs.ListReading.{none_within}
+use Rattle.wasm_instructions.specs.formats.Instructions.{ShortestInstructions}
+use Rattle.wasm_instructions.proofs.InstructionFormatLaws.{Lawful-instruction, instruction_takes, are_shortest}
+use Rattle.wasm_instructions.proofs.reader.instructions.read_instructions_strict.Goals as goal
+
+pub returns : goal.returns
+returns c =
+    let e = c.read_items_to_end.ensures in
+    let none = none_within ShortestInstructions c.args.bytes.now c.read_items_to_end.result e.prefix e.within in
+    record { decodes = decodes_minimal (Lawful-to-end Lawful-instruction instruction_takes) c.args.bytes.now are_shortest (λ calls. calls.items) c.read_items_to_end.result (record { given = e.given; prefix = e.prefix; unencoded = none }) }

@@ -1,0 +1,4 @@
+pub mod EndLaws
+pub mod CheckLaws
+pub mod WrittenLists
+pub mod EncodedListLaws

@@ -1,0 +1,20 @@
+use Rattle.std.proofs.Common.{arith}
+use Rattle.std.proofs.lemmas.Result.{err_from_is_err_and}
+use Rattle.wasm_lists.proofs.CheckLaws.{an_item, item_taken, item_refused, refused_again}
+use Rattle.wasm_lists.proofs.checking.ShortestRewritable.rewrite.Goals as goal
+
+pub returns-in_err-rewrite : goal.returns-in_err-rewrite
+returns-in_err-rewrite g c =
+    let p = err_from_is_err_and c.from_residual.result c.from_residual.ensures.1 in
+    rw (p.1, p.2) (record { rewrites = refused_again c.is_lawful.ensures.lawful c.args.rewriter.now c.rewrite.new.rewriter c.rewrite.new.rewriter c.are_bytes.ensures c.in_err-rewrite.field-0.0 c.in_err-rewrite.ensures.rewrites })
+
+pub overflow_sub-len : goal.overflow_sub-len
+overflow_sub-len g c =
+    let i = an_item c.is_lawful.ensures.lawful c.args.rewriter.now c.rewrite.new.rewriter c.are_bytes.ensures c.in_ok-rewrite.ensures.rewrites in
+    omega (arith, i.read_len)
+
+pub returns-then-written_len-mark : goal.returns-then-written_len-mark
+returns-then-written_len-mark g c = record { rewrites = item_refused c.is_lawful.ensures.lawful c.args.rewriter.now c.rewrite.new.rewriter c.are_bytes.ensures c.in_ok-rewrite.ensures.rewrites (omega arith) }
+
+pub returns : goal.returns
+returns g c = record { rewrites = item_taken c.is_lawful.ensures.lawful c.args.rewriter.now c.rewrite.new.rewriter c.are_bytes.ensures c.in_ok-rewrite.ensures.rewrites (omega arith) }

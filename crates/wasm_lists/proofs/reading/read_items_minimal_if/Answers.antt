@@ -1,0 +1,55 @@
+use Rattle.std.proofs.Common.{List, length, ap, arith}
+use Rattle.std.proofs.lemmas.Result.{err_from_is_err_and}
+use Rattle.wasm_codec.specs.Places.{Place}
+use Rattle.wasm_codec.specs.formats.Combinators.{minimal_if}
+use Rattle.wasm_codec.proofs.MinimalIfLaws.{flag}
+use Rattle.wasm_codec.proofs.ListReading.{end}
+use Rattle.wasm_lists.proofs.EndLaws.{none_passed, one_passed, wanting, all_passed, longest_passed, whole_passed, none_left}
+use Rattle.wasm_lists.proofs.reading.read_items_minimal_if.Goals as goal
+
+pub loop-alloc-init : goal.loop-alloc-init
+loop-alloc-init g c = rw (c.new-items.ensures.items, g.T.Readable.views_each.none) (record { some = none_passed (minimal_if (flag g.row.STRICT) g.T.Readable.format) c.args.cursor.now; minimal_if = c.requires.passed })
+
+pub returns-in_err-item : goal.returns-in_err-item
+returns-in_err-item g c =
+    let p = err_from_is_err_and c.from_residual.result c.from_residual.ensures.1 in
+    let fault = c.in_err-item.field-0.0 in
+    let vs = g.T.Readable.views c.loop-alloc.items.items in
+    let h = c.in_err-item.ensures in
+    let w = c.loop-alloc.invariant.some in
+    let old = c.args.cursor.now in
+    let here = c.loop-alloc.cursor in
+    let new = c.read_next_item.new.cursor in
+    rw (p.1, p.2) (record {
+      reads = wanting (minimal_if (flag g.row.STRICT) g.T.Readable.format) old here new vs fault w (omega arith) h.reads;
+      given = tt;
+      prefix = longest_passed (List g.row.T.Denot) h.lawful h.some old here new vs fault h.bytes w h.reads h.stays;
+      ended = tt;
+      stopped = λ malformed. omega (arith, ap (λ (p : Place). length p.left) h.stays);
+    })
+
+pub loop-alloc-smaller : goal.loop-alloc-smaller
+loop-alloc-smaller g c =
+    let h = c.in_ok-item.ensures in
+    (one_passed h.lawful h.some c.args.cursor.now c.loop-alloc.cursor c.read_next_item.new.cursor (g.T.Readable.views c.loop-alloc.items.items) (g.T.Readable.view c.in_ok-item.item) h.bytes c.loop-alloc.invariant.some h.reads).fewer
+
+pub loop-alloc-preserved : goal.loop-alloc-preserved
+loop-alloc-preserved g c =
+    let h = c.in_ok-item.ensures in
+    rw (c.in_ok-push.ensures.items, g.T.Readable.views_each.more c.loop-alloc.items.items c.in_ok-item.item)
+    (record {
+      some = (one_passed h.lawful h.some c.args.cursor.now c.loop-alloc.cursor c.read_next_item.new.cursor (g.T.Readable.views c.loop-alloc.items.items) (g.T.Readable.view c.in_ok-item.item) h.bytes c.loop-alloc.invariant.some h.reads).passed;
+      minimal_if = h.passed;
+    })
+
+pub returns : goal.returns
+returns g c =
+    let vs = g.T.Readable.views c.loop-alloc.items.items in
+    let w = c.loop-alloc.invariant.some in
+    rw c.from.ensures (record {
+      reads = all_passed (minimal_if (flag g.row.STRICT) g.T.Readable.format) c.args.cursor.now c.loop-alloc.cursor vs w (omega arith);
+      given = end (minimal_if (flag g.row.STRICT) g.T.Readable.format).Encodes c.args.cursor.now.left c.loop-alloc.cursor.left vs w.progress (omega arith);
+      prefix = whole_passed c.args.cursor.now c.loop-alloc.cursor vs w (omega arith);
+      ended = none_left c.loop-alloc.cursor.left (omega arith);
+      stopped = tt;
+    })

@@ -1,0 +1,88 @@
+use Rattle.std.proofs.Common.{◌≡◌, List, [], ◌∷◌, refl, ap, arith, length-append}
+use Rattle.std.proofs.lemmas.Result.{err_from_is_err_and}
+use Rattle.wasm_codec.specs.Places.{Place}
+use Rattle.wasm_codec.specs.Lawful.{plain}
+use Rattle.wasm_codec.specs.formats.Combinators.{u32, minimal_if}
+use Rattle.wasm_codec.proofs.ListLaws.{gone_none, gone_more, count_wanting, unread_count, item_wanting, unread_item, all_read, all_answered}
+use Rattle.wasm_codec.proofs.PlaceLists.{plain_reads, passed_none, passed_more, passed_fault, passed_all, no_count}
+use Rattle.wasm_codec.proofs.MinimalIfLaws.{flag}
+use Rattle.wasm_lists.proofs.reading.read_list_minimal_if.Goals as goal
+
+pub returns-in_err-count : goal.returns-in_err-count
+returns-in_err-count g c =
+    let p = err_from_is_err_and c.from_residual.result c.from_residual.ensures.1 in
+    let fault = c.in_err-count.field-0.0 in
+    let h = c.in_err-count.ensures in
+    let old = c.args.cursor.now in
+    let new = c.read_next_item.new.cursor in
+    let number = minimal_if (flag g.row.STRICT) u32 in
+    let item = minimal_if (flag g.row.STRICT) g.T.Readable.format in
+    let a = count_wanting {X = List g.row.T.Denot} (plain_reads h.lawful.reads) item.Encodes (plain item.at) old.left new.left fault h.left (ap (λ (p : Place). p.left) h.stays) in
+    rw (p.1, p.2) (record {
+      reads = no_count number.at item old new fault h.reads;
+      left = unread_count (plain number.at) (plain item.at) old.left new.left fault h.left;
+      finds = a.finds;
+      prefix = a.prefix;
+      counted = tt;
+    })
+
+pub loop-init : goal.loop-init
+loop-init g c =
+    let h = c.in_ok-count.ensures in
+    let number = minimal_if (flag g.row.STRICT) u32 in
+    let item = minimal_if (flag g.row.STRICT) g.T.Readable.format in
+    rw (c.new-items.ensures.items, g.T.Readable.views_each.none) (record {
+      passed = passed_none number.at item c.args.cursor.now c.read_next_item.new.cursor c.in_ok-count.count h.reads;
+      gone = gone_none (plain_reads h.lawful.reads) item.Encodes (plain item.at) c.args.cursor.now.left c.read_next_item.new.cursor.left c.in_ok-count.count h.bytes h.left;
+      len = refl;
+      minimal_if = h.passed;
+    })
+
+pub returns-in_err-item : goal.returns-in_err-item
+returns-in_err-item g c =
+    let p = err_from_is_err_and c.from_residual-in_err-item.result c.from_residual-in_err-item.ensures.1 in
+    let fault = c.in_err-item.field-0.0 in
+    let vs = g.T.Readable.views c.loop.items.items in
+    let h = c.in_err-item.ensures in
+    let old = c.args.cursor.now in
+    let here = c.loop.cursor in
+    let new = c.read_next_item-in-loop.new.cursor in
+    let number = minimal_if (flag g.row.STRICT) u32 in
+    let item = minimal_if (flag g.row.STRICT) g.T.Readable.format in
+    let a = item_wanting {X = List g.row.T.Denot} (plain_reads h.lawful.reads) h.some old.left here.left new.left c.in_ok-count.count c.loop.counter vs fault c.loop.invariant.gone c.loop-test.true h.left (ap (λ (p : Place). p.left) h.stays) in
+    rw (p.1, p.2) (record {
+      reads = passed_fault number.at item old here new c.in_ok-count.count c.loop.counter vs fault c.loop.invariant.passed c.loop-test.true h.reads;
+      left = unread_item old.left here.left new.left c.in_ok-count.count c.loop.counter vs fault c.loop.invariant.gone c.loop-test.true h.left;
+      finds = a.finds;
+      prefix = a.prefix;
+      counted = tt;
+    })
+
+pub loop-preserved : goal.loop-preserved
+loop-preserved g c =
+    let h = c.in_ok-item.ensures in
+    let vs = g.T.Readable.views c.loop.items.items in
+    let v = g.T.Readable.view c.in_ok-item.item in
+    let number = minimal_if (flag g.row.STRICT) u32 in
+    let item = minimal_if (flag g.row.STRICT) g.T.Readable.format in
+    rw (c.in_ok-push.ensures.items, g.T.Readable.views_each.more c.loop.items.items c.in_ok-item.item) (record {
+      passed = passed_more number.at item c.args.cursor.now c.loop.cursor c.read_next_item-in-loop.new.cursor c.in_ok-count.count c.loop.counter vs v c.loop.invariant.passed c.loop-test.true h.reads;
+      gone = gone_more (plain_reads h.lawful.reads) h.some c.args.cursor.now.left c.loop.cursor.left c.read_next_item-in-loop.new.cursor.left c.in_ok-count.count c.loop.counter vs v c.loop.invariant.gone c.loop-test.true h.left;
+      len = omega (arith, length-append c.loop.items.items (c.in_ok-item.item ∷ []), c.loop.invariant.len);
+      minimal_if = h.passed;
+    })
+
+pub returns : goal.returns
+returns g c =
+    let vs = g.T.Readable.views c.loop.items.items in
+    let full : c.loop.counter ≡ c.in_ok-count.count = omega arith in
+    let number = minimal_if (flag g.row.STRICT) u32 in
+    let item = minimal_if (flag g.row.STRICT) g.T.Readable.format in
+    let a = all_answered c.args.cursor.now.left c.loop.cursor.left c.in_ok-count.count c.loop.counter vs c.loop.items.items c.loop.invariant.gone full in
+    rw c.from.ensures (record {
+      reads = passed_all number.at item c.args.cursor.now c.loop.cursor c.in_ok-count.count c.loop.counter vs c.loop.invariant.passed c.loop-test.false;
+      left = all_read c.args.cursor.now.left c.loop.cursor.left c.in_ok-count.count c.loop.counter vs c.loop.invariant.gone c.loop-test.false;
+      finds = a.finds;
+      prefix = a.prefix;
+      counted = omega arith;
+    })

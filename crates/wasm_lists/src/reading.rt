@@ -1,0 +1,203 @@
+//! Readers of lists: a count and then the items, or items up to the end of the bytes (Core 3.0, Lists).
+//!
+//! If `STRICT` is set, a loop accepts minimal encodings only, and stops at the first other one.
+ghost use Rattle.std.specs.Prelude.{◌≡◌, ◌^◌, ◌<◌, List, [], length, IfOk, IfErr};
+ghost use Rattle.wasm_codec.specs.declared.reader.cursor.Fault.TheVariants.{Malformed};
+ghost use Rattle.wasm_codec.specs.formats.Grammar.{IsBytes, TakesBytes, Joined};
+ghost use Rattle.wasm_codec.specs.Reading.{ReadsPlain, FindsAt, map_ok};
+ghost use Rattle.wasm_codec.specs.Places.{Reads, counted_at, WasMinimalIf};
+ghost use Rattle.wasm_codec.specs.Lawful.{IsLawful, plain};
+ghost use Rattle.wasm_codec.specs.formats.Combinators.{items, minimal_if, u32 as u32_format};
+ghost use Rattle.wasm_codec.specs.formats.Bodies.{to_end};
+ghost use Rattle.wasm_codec.specs.Outcomes.{IfRefused, IsLongestPrefix, IsAfterLongest, UnlessMemory, EncodesSome};
+ghost use Rattle.wasm_codec.specs.Lists.{EncodesList, list_at, IsListPrefix, ListMinimalIf, list_minimal_if_at, IsListPrefixMinimalIf};
+
+use crate::list::Items;
+use crate::readable::Readable;
+use std::alloc::Global;
+use wasm_codec::reader::ReadError;
+use wasm_codec::reader::cursor::{Cursor, Fault};
+
+/// Reads a list: a count, and then the items (Core 3.0, Lists).
+///
+/// If the count or an item is missing or malformed, the cursor stays at its start.
+pub fn read_list<'a, T: Readable<'a>>(
+    alloc: Global,
+    cursor: &mut Cursor<'a>,
+) -> Result<Items<T>, Fault>
+    ensures reads { Reads (items T.format).at cursor.old cursor.new (map_ok T.views result) }
+    ensures left { ReadsPlain (list_at (plain T.format.at)) cursor.old.left cursor.new.left (map_ok T.views result) }
+    // A list is read if and only if the bytes left begin with its encoding.
+    ensures finds { UnlessMemory result (FindsAt (EncodesList T.format.Encodes) (list_at (plain T.format.at)) cursor.old.left) }
+    // The cursor stays after the longest well-formed prefix.
+    ensures prefix { UnlessMemory result (IsAfterLongest (IsListPrefix T.format.Encodes) cursor.old.left cursor.new.left) }
+    // A u32 can count the items.
+    ensures counted { IfOk result (λ items. length items < 2 ^ 32) }
+{
+    read_list_minimal_if::<T, false>(alloc, cursor)
+}
+
+/// Reads a list, minimally encoded if `STRICT` is set.
+fn read_list_minimal_if<'a, T: Readable<'a>, const STRICT: bool>(
+    alloc: Global,
+    cursor: &mut Cursor<'a>,
+) -> Result<Items<T>, Fault>
+    requires passed { WasMinimalIf STRICT cursor.old }
+    ensures reads { Reads (counted_at (minimal_if STRICT u32_format).at (minimal_if STRICT T.format).at) cursor.old cursor.new (map_ok T.views result) }
+    ensures left { ReadsPlain (list_minimal_if_at STRICT T.format) cursor.old.left cursor.new.left (map_ok T.views result) }
+    ensures finds { UnlessMemory result (FindsAt (ListMinimalIf STRICT T.format) (list_minimal_if_at STRICT T.format) cursor.old.left) }
+    ensures prefix { UnlessMemory result (IsAfterLongest (IsListPrefixMinimalIf STRICT T.format) cursor.old.left cursor.new.left) }
+    ensures counted { IfOk result (λ items. length items < 2 ^ 32) }
+{
+    let count: u32 = read_next_item::<u32, STRICT>(alloc, cursor)?;
+    let mut items = Vec::new(alloc);
+    for _ in 0..count {
+        let item = read_next_item::<T, STRICT>(alloc, cursor)?;
+        items.push(item)?;
+    }
+    Ok(Items::from(items))
+}
+
+/// Reads the next item, minimally encoded if `STRICT` is set. If it fails, the cursor stays where it was.
+#[tactic(auto, using(wasm_codec::proofs::PlaceLists::plain_code))]
+fn read_next_item<'a, T: Readable<'a>, const STRICT: bool>(
+    alloc: Global,
+    cursor: &mut Cursor<'a>,
+) -> Result<T, Fault>
+    requires passed { WasMinimalIf STRICT cursor.old }
+    ensures reads { Reads (minimal_if STRICT T.format).at cursor.old cursor.new (map_ok T.view result) }
+    ensures left { ReadsPlain (plain (minimal_if STRICT T.format).at) cursor.old.left cursor.new.left (map_ok T.view result) }
+    ensures passed { WasMinimalIf STRICT cursor.new }
+    ensures stays { IfErr result (λ _. cursor.new ≡ cursor.old) }
+    ensures bytes { IsBytes cursor.old.left }
+    ensures lawful { IsLawful (minimal_if STRICT T.format) }
+    ensures some { TakesBytes (minimal_if STRICT T.format).Encodes }
+{
+    let start = cursor.fork();
+    match read_item::<T, STRICT>(alloc, cursor) {
+        Ok(item) => Ok(item),
+        Err(fault) => {
+            *cursor = start;
+            Err(fault)
+        }
+    }
+}
+
+/// Reads the next item, minimally encoded if `STRICT` is set.
+fn read_item<'a, T: Readable<'a>, const STRICT: bool>(
+    alloc: Global,
+    cursor: &mut Cursor<'a>,
+) -> Result<T, Fault>
+    requires passed { WasMinimalIf STRICT cursor.old }
+    ensures reads { Reads (minimal_if STRICT T.format).at cursor.old cursor.new (map_ok T.view result) }
+    ensures passed { IfOk result (λ _. WasMinimalIf STRICT cursor.new) }
+    ensures lawful { IsLawful (minimal_if STRICT T.format) }
+    ensures some { TakesBytes (minimal_if STRICT T.format).Encodes }
+{
+    T::is_lawful();
+    let item = T::read(alloc, cursor)?;
+    if STRICT && !cursor.is_shortest() {
+        return Err(Fault::Malformed);
+    }
+    Ok(item)
+}
+
+/// Reads a list from all of the bytes: a count, and then the items, minimally encoded if `STRICT` is set (Core 3.0,
+/// Lists).
+///
+/// Fails with `Refused` if the bytes are malformed: `at` is the offset of the first malformed or missing item, or of
+/// trailing bytes. It is 0 if the count is malformed. Fails with `Memory` if an allocation fails.
+///
+/// # Examples
+///
+/// ```
+/// # use wasm_encoder::{ReadError, read_list_to_end};
+/// let indexes = read_list_to_end::<u32, false>(rt.alloc(), b"\x02\x07\x80\x01")?;
+/// assert_eq!(rt; indexes.as_slice(), [7, 128].as_slice());
+/// let trailing = read_list_to_end::<u32, false>(rt.alloc(), b"\x01\x07\x00");
+/// assert_eq!(rt; trailing.err(), Some(ReadError::Refused { at: 2 }));
+/// ```
+pub fn read_list_to_end<'a, T: Readable<'a>, const STRICT: bool>(
+    alloc: Global,
+    bytes: &'a [u8],
+) -> Result<Vec<T>, ReadError>
+    ensures given { IfOk result (λ items. ListMinimalIf STRICT T.format bytes.now (T.views items.items)) }
+    ensures prefix { IfRefused result (IsLongestPrefix (IsListPrefixMinimalIf STRICT T.format) bytes.now) }
+    ensures unencoded { IfRefused result (λ _. (items : List T.Value) → ListMinimalIf STRICT T.format bytes.now items → ⊥) }
+    ensures counted { IfOk result (λ items. length items.items < 2 ^ 32) }
+{
+    let mut cursor = Cursor::new(bytes);
+    match read_list_minimal_if::<T, STRICT>(alloc, &mut cursor) {
+        Ok(items) => {
+            if cursor.len() > 0 {
+                let at = bytes.len() - cursor.len();
+                return Err(ReadError::Refused { at });
+            }
+            Ok(items.into_vec())
+        }
+        Err(Fault::Malformed) => {
+            let at = bytes.len() - cursor.len();
+            Err(ReadError::Refused { at })
+        }
+        Err(Fault::Memory) => Err(ReadError::Memory),
+    }
+}
+
+/// Reads items one after another, without a count, from all of the bytes, minimally encoded if `STRICT` is set.
+///
+/// Fails with `Refused` at the offset of the first malformed item, and with `Memory` if an allocation fails.
+pub fn read_items_to_end<'a, T: Readable<'a>, const STRICT: bool>(
+    alloc: Global,
+    bytes: &'a [u8],
+) -> Result<Vec<T>, ReadError>
+    ensures given { IfOk result (λ items. Joined (minimal_if STRICT T.format).Encodes bytes.now (T.views items.items)) }
+    ensures prefix { IfRefused result (IsLongestPrefix (EncodesSome (Joined (minimal_if STRICT T.format).Encodes)) bytes.now) }
+    ensures within { IfRefused result (λ at. at < length bytes.now) }
+{
+    let mut cursor = Cursor::new(bytes);
+    match read_items_minimal_if::<T, STRICT>(alloc, &mut cursor) {
+        Ok(items) => Ok(items.into_vec()),
+        Err(Fault::Malformed) => {
+            let at = bytes.len() - cursor.len();
+            Err(ReadError::Refused { at })
+        }
+        Err(Fault::Memory) => Err(ReadError::Memory),
+    }
+}
+
+/// Reads items one after another, without a count, up to the end of the cursor's bytes.
+///
+/// If an item is malformed, the cursor stays at its start.
+pub fn read_items<'a, T: Readable<'a>>(
+    alloc: Global,
+    cursor: &mut Cursor<'a>,
+) -> Result<Items<T>, Fault>
+    ensures reads { Reads (to_end T.format).at cursor.old cursor.new (map_ok T.views result) }
+    ensures given { IfOk result (λ items. Joined T.format.Encodes cursor.old.left (T.views items)) }
+    ensures ended { IfOk result (λ _. cursor.new.left ≡ []) }
+    // The cursor stays after the longest well-formed prefix.
+    ensures prefix { UnlessMemory result (IsAfterLongest (EncodesSome (Joined T.format.Encodes)) cursor.old.left cursor.new.left) }
+    ensures stopped { IfErr result (λ fault. fault ≡ Malformed → 0 < length cursor.new.left) }
+{
+    read_items_minimal_if::<T, false>(alloc, cursor)
+}
+
+/// Reads items up to the end of the cursor's bytes, minimally encoded if `STRICT` is set.
+fn read_items_minimal_if<'a, T: Readable<'a>, const STRICT: bool>(
+    alloc: Global,
+    cursor: &mut Cursor<'a>,
+) -> Result<Items<T>, Fault>
+    requires passed { WasMinimalIf STRICT cursor.old }
+    ensures reads { Reads (to_end (minimal_if STRICT T.format)).at cursor.old cursor.new (map_ok T.views result) }
+    ensures given { IfOk result (λ items. Joined (minimal_if STRICT T.format).Encodes cursor.old.left (T.views items)) }
+    ensures ended { IfOk result (λ _. cursor.new.left ≡ []) }
+    ensures prefix { UnlessMemory result (IsAfterLongest (EncodesSome (Joined (minimal_if STRICT T.format).Encodes)) cursor.old.left cursor.new.left) }
+    ensures stopped { IfErr result (λ fault. fault ≡ Malformed → 0 < length cursor.new.left) }
+{
+    let mut items = Vec::new(alloc);
+    while cursor.len() > 0 {
+        let item = read_next_item::<T, STRICT>(alloc, cursor)?;
+        items.push(item)?;
+    }
+    Ok(Items::from(items))
+}

@@ -1,0 +1,229 @@
+//! Lists and bodies, rewritten in place.
+ghost use Rattle.std.specs.Prelude.{◌≡◌, ◌<◌, List, ℕ, length, IfOk};
+ghost use Rattle.std.specs.List.{flat_map};
+ghost use Rattle.wasm_codec.specs.formats.Grammar.{TakesBytes, Joined};
+ghost use Rattle.wasm_codec.specs.Outcomes.{IfRefused, NeedsNoMemory, IsLongestPrefix, IsNormalForm, EncodesSome};
+ghost use Rattle.wasm_codec.specs.Lawful.{IsLawful, IsLawfulBody};
+ghost use Rattle.wasm_codec.specs.Lists.{EncodesList, items_bytes, IsListPrefix};
+ghost use Rattle.wasm_codec.specs.formats.Combinators.{Format, items, u32 as u32_format};
+ghost use Rattle.wasm_codec.specs.formats.Bodies.{sized, to_end};
+ghost use Rattle.wasm_codec.specs.Scanning.{BeginsShort, Scans};
+ghost use Rattle.wasm_codec.specs.Rewriter.{Rewrites, RewritesAll, RewritesList};
+
+use wasm_codec::reader::ReadError;
+use wasm_codec::reader::cursor::Fault;
+use wasm_codec::rewriter::{Rewriter, Scanned, are_bytes, scan_u32};
+
+/// An item of a list that can be rewritten in place.
+pub trait Rewritable {
+    /// The decoded item, in contracts.
+    ghost Value: { Type 0 };
+
+    /// The bytes that encode each item.
+    ghost format: { Format Value };
+
+    /// Tells the proof that the format is lawful, and that each encoding of an item has at least one byte. The call
+    /// does nothing.
+    fn is_lawful()
+        ensures lawful { IsLawful format }
+        ensures some { TakesBytes format.Encodes };
+
+    /// Replaces the next item by its minimal encoding. Fails with `Malformed` if no item can be decoded.
+    fn rewrite(rewriter: &mut Rewriter) -> Result<(), Fault>
+        ensures rewrites { Rewrites format rewriter.old rewriter.new result };
+}
+
+/// An item of which any number can be rewritten one after another, up to the end of the bytes.
+pub trait Joinable: Rewritable {
+    /// Scans the item that the bytes begin with. Returns `None` if it isn't one of those that can be scanned.
+    fn scan(bytes: &[u8]) -> Option<Scanned>
+        ensures scans { Scans Self.format bytes.now result };
+}
+
+impl Rewritable for u32 {
+    ghost Value = { ℕ };
+
+    ghost format = { u32_format };
+
+    #[inline(always)]
+    fn is_lawful() {}
+
+    #[inline(always)]
+    fn rewrite(rewriter: &mut Rewriter) -> Result<(), Fault> {
+        rewriter.are_bytes();
+        if let Some(scanned) = scan_u32(rewriter.left()) {
+            rewriter.rewrite_scanned(scanned);
+            return Ok(());
+        }
+        rewriter.u32()?;
+        Ok(())
+    }
+}
+
+/// Rewrites a list: a count, and then the items (Core 3.0, Lists).
+pub fn rewrite_list<T: Rewritable>(rewriter: &mut Rewriter) -> Result<(), Fault>
+    ensures rewrites { Rewrites (items T.format) rewriter.old rewriter.new result }
+{
+    let count = rewriter.u32()?;
+    for _ in 0..count {
+        T::rewrite(rewriter)?;
+    }
+    Ok(())
+}
+
+/// A body that is rewritten up to its end.
+pub trait RewritableBody {
+    /// The decoded body, in contracts.
+    ghost Value: { Type 0 };
+
+    /// The bytes that encode each body.
+    ghost format: { Format Value };
+
+    /// Tells the proof that the format is lawful if nothing follows. The call does nothing.
+    fn is_lawful()
+        ensures { IsLawfulBody format };
+
+    /// Replaces the body by its minimal encoding. Trailing bytes are left over. Fails with `Malformed` if no body can
+    /// be decoded.
+    fn rewrite(rewriter: &mut Rewriter) -> Result<(), Fault>
+        ensures rewrites { Rewrites format rewriter.old rewriter.new result };
+}
+
+/// Rewrites a size and the body after it. Fails with `Malformed` if the body is malformed or has trailing bytes.
+pub fn rewrite_sized<T: RewritableBody>(rewriter: &mut Rewriter) -> Result<(), Fault>
+    ensures rewrites { Rewrites (sized T.format) rewriter.old rewriter.new result }
+{
+    T::is_lawful();
+    rewriter.are_bytes();
+    let body = rewriter.open_body()?;
+    T::rewrite(rewriter)?;
+    if rewriter.len() > 0 {
+        return Err(Fault::Malformed);
+    }
+    rewriter.close_body(body);
+    Ok(())
+}
+
+/// Rewrites items one after another, up to the end.
+pub fn rewrite_to_end<T: Joinable>(rewriter: &mut Rewriter) -> Result<(), Fault>
+    ensures rewrites { Rewrites (to_end T.format) rewriter.old rewriter.new result }
+{
+    match rewrite_joined::<T>(rewriter) {
+        Ok(()) => Ok(()),
+        Err(_) => Err(Fault::Malformed),
+    }
+}
+
+/// Rewrites items one after another, up to the end. Fails with the number of bytes left at the first malformed item.
+pub fn rewrite_joined<T: Joinable>(rewriter: &mut Rewriter) -> Result<(), usize>
+    ensures { RewritesAll T.format rewriter.old rewriter.new result }
+{
+    T::is_lawful();
+    rewriter.are_bytes();
+    while rewriter.len() > 0 {
+        let run = short_run::<T>(rewriter.left());
+        rewriter.skip(run);
+        let left = rewriter.len();
+        if left != 0 {
+            if let Err(_) = T::rewrite(rewriter) {
+                return Err(left);
+            }
+        }
+    }
+    Ok(())
+}
+
+/// Returns the length of the run of scanned, minimally encoded items that the bytes begin with.
+fn short_run<T: Joinable>(bytes: &[u8]) -> usize
+    ensures { BeginsShort T.format bytes.now result }
+{
+    // With 16 bytes ahead, the compiler drops most length checks.
+    let run = short_run_ahead::<T, 16>(bytes, 0);
+    if bytes.len() - run < 16 {
+        short_run_ahead::<T, 1>(bytes, run)
+    } else {
+        run
+    }
+}
+
+/// Extends a run that has `begun` bytes, while at least `AHEAD` bytes follow.
+#[inline(never)]
+fn short_run_ahead<T: Joinable, const AHEAD: usize>(bytes: &[u8], begun: usize) -> usize
+    requires { BeginsShort T.format bytes.now begun }
+    ensures { BeginsShort T.format bytes.now result }
+{
+    T::is_lawful();
+    are_bytes(bytes);
+    let mut run = begun;
+    if bytes.len() < AHEAD {
+        return run;
+    }
+    let last = bytes.len() - AHEAD;
+    while run <= last {
+        let end = if AHEAD > 1 { run + AHEAD } else { bytes.len() };
+        let Some(Scanned::Shortest(count)) = T::scan(&bytes[run..end]) else {
+            return run;
+        };
+        run += count;
+    }
+    run
+}
+
+/// Returns the minimal encoding of the items that the bytes encode one after another, without a count.
+///
+/// It never fails with `Memory`. Fails with `Refused` at the offset of the first malformed item.
+pub fn rewrite_items_to_end<T: Joinable>(bytes: Vec<u8>) -> Result<Vec<u8>, ReadError>
+    ensures given { IfOk result (λ given. IsNormalForm (Joined T.format.Encodes) (flat_map T.format.bytes) bytes.items given.items) }
+    ensures prefix { IfRefused result (IsLongestPrefix (EncodesSome (Joined T.format.Encodes)) bytes.items) }
+    ensures within { IfRefused result (λ at. at < length bytes.items) }
+    ensures memory { NeedsNoMemory result }
+{
+    T::is_lawful();
+    let len = bytes.len();
+    let mut rewriter = Rewriter::new(bytes);
+    rewriter.are_bytes();
+    match rewrite_joined::<T>(&mut rewriter) {
+        Ok(()) => Ok(rewriter.finish()),
+        Err(left) => Err(ReadError::Refused { at: len - left }),
+    }
+}
+
+/// Returns the minimal encoding of the list that the bytes encode.
+///
+/// It never fails with `Memory`. Fails with `Refused` at the offset of the first malformed or missing item, or of
+/// trailing bytes. The offset is 0 if the count is malformed.
+pub fn rewrite_list_to_end<T: Rewritable>(bytes: Vec<u8>) -> Result<Vec<u8>, ReadError>
+    ensures given { IfOk result (λ given. IsNormalForm (EncodesList T.format.Encodes) (items_bytes T.format.bytes) bytes.items given.items) }
+    ensures prefix { IfRefused result (IsLongestPrefix (IsListPrefix T.format.Encodes) bytes.items) }
+    ensures unencoded { IfRefused result (λ _. (items : List T.Value) → EncodesList T.format.Encodes bytes.items items → ⊥) }
+    ensures memory { NeedsNoMemory result }
+{
+    match rewrite_whole_list::<T>(bytes) {
+        Ok(encoding) => Ok(encoding),
+        Err(at) => Err(ReadError::Refused { at }),
+    }
+}
+
+/// Rewrites the list that the bytes encode. Fails with the length of the longest well-formed prefix.
+fn rewrite_whole_list<T: Rewritable>(bytes: Vec<u8>) -> Result<Vec<u8>, usize>
+    ensures { RewritesList T.format bytes.items result }
+{
+    T::is_lawful();
+    let len = bytes.len();
+    let mut rewriter = Rewriter::new(bytes);
+    rewriter.are_bytes();
+    let Ok(count) = rewriter.u32() else {
+        return Err(0);
+    };
+    for _ in 0..count {
+        let left = rewriter.len();
+        if let Err(_) = T::rewrite(&mut rewriter) {
+            return Err(len - left);
+        }
+    }
+    let left = rewriter.len();
+    if left > 0 {
+        return Err(len - left);
+    }
+    Ok(rewriter.finish())
+}

@@ -1,0 +1,248 @@
+//! Readers of the header and of sections of a module (Core 3.0, Modules).
+ghost use Rattle.std.specs.Prelude.{◌≡◌, ◌++◌, List, ℕ, drop, IfErr, IfSome, IfNone, refl, ◌<◌, true};
+ghost use Rattle.wasm_codec.specs.Reading.{map_ok};
+ghost use Rattle.wasm_codec.specs.Places.{Reads};
+ghost use Rattle.wasm_codec.specs.formats.Bodies.{byte_list, bytes_to_end};
+ghost use Rattle.wasm_modules.specs.formats.Sections.{header, parts_of, SectionParts, all_parts_of};
+ghost use Rattle.wasm_modules.specs.formats.Modules.{raw_section, module_of, raw_module, ShortestModule};
+ghost use Rattle.wasm_codec.specs.declared.reader.cursor.Fault.TheVariants.{Malformed};
+ghost use Rattle.std.proofs.lemmas.List.{map_push};
+ghost use Rattle.wasm_codec.specs.formats.Combinators.{minimal_if, minimal_only};
+ghost use Rattle.wasm_modules.specs.Modules.{IsModulePrefix, IsModulePrefixOf, IsShortestModulePrefix};
+ghost use Rattle.wasm_codec.specs.Decoding.{Decodes, DecodesMinimal, ReadsAll, Checks, ChecksAll, RewritesAll};
+ghost use Rattle.wasm_modules.specs.PrefixFree.{SectionsArePrefixFree};
+ghost use Rattle.wasm_modules.specs.Modules.{ReadsBack, ReadsBackTyped};
+ghost use Rattle.wasm_codec.specs.Lawful.{IsLawful};
+ghost use Rattle.wasm_codec.specs.formats.Grammar.{TakesBytes};
+ghost use Rattle.wasm_codec.specs.Rewriter.{Rewrites};
+ghost use Rattle.wasm_codec.specs.Outcomes.{NeedsNoMemory};
+
+use crate::normaliser::framing::rewrite_module_of;
+use crate::section::{HEADER, RawSection};
+use std::alloc::Global;
+use wasm_codec::reader::ReadError;
+use wasm_codec::reader::cursor::{Cursor, Fault};
+use wasm_codec::rewriter::{Rewriter, Scanned};
+use wasm_lists::checking::check_items_to_end;
+use wasm_lists::readable::Readable;
+use wasm_lists::reading::read_items_to_end;
+use wasm_lists::rewriting::{Joinable, Rewritable, RewritableBody, rewrite_sized};
+
+/// Returns the bytes after the header, or `None` if the header is missing.
+#[tactic(auto, using(crate::proofs::ModuleFormatLaws::header_found, crate::proofs::ModuleFormatLaws::header_missing))]
+pub fn after_header(bytes: &[u8]) -> Option<&[u8]>
+    ensures found { IfSome result (λ rest. bytes.now ≡ header ++ rest.now) }
+    ensures rest { IfSome result (λ rest. rest.now ≡ drop 8 bytes.now) }
+    ensures missing { IfNone result ((rest : List ℕ) → bytes.now ≡ header ++ rest → ⊥) }
+{
+    bytes.strip_prefix(&HEADER)
+}
+
+/// Reads a size, and as many bytes.
+fn read_byte_list<'a>(cursor: &mut Cursor<'a>) -> Result<&'a [u8], Fault>
+    ensures reads { Reads byte_list.at cursor.old cursor.new (map_ok (λ body. body.now) result) }
+    ensures err { IfErr result (λ e. e ≡ Malformed) }
+{
+    let size = cursor.u32()? as usize;
+    cursor.take(size)
+}
+
+/// Reads a section, with its body as bytes (Core 3.0, Sections).
+#[tactic(auto, unfolding(crate::specs::formats::Modules::raw_section))]
+pub fn read_section<'a>(cursor: &mut Cursor<'a>) -> Result<RawSection<'a>, Fault>
+    ensures reads { Reads raw_section.at cursor.old cursor.new (map_ok parts_of result) }
+    ensures err { IfErr result (λ e. e ≡ Malformed) }
+{
+    let id = cursor.byte()?;
+    let body = read_byte_list(cursor)?;
+    Ok(RawSection { id, body })
+}
+
+/// Reads the sections of a module, with their bodies borrowed from the bytes (Core 3.0, Modules).
+///
+/// Section bodies aren't decoded. Fails with `Refused` if the bytes are malformed: `at` is the offset of the first
+/// malformed section, or 0 if the header is missing. Fails with `Memory` if an allocation fails.
+///
+/// # Examples
+///
+/// ```
+/// # use wasm_encoder::read_module;
+/// let sections = read_module(rt.alloc(), b"\0asm\x01\0\0\0\x03\x82\x00\x01\x00")?; // a size in two bytes
+/// assert_eq!(rt; sections.len(), 1);
+/// assert_eq!(rt; sections[0].id, 3);
+/// assert_eq!(rt; sections[0].body, b"\x01\x00".as_slice());
+/// ```
+pub fn read_module<'a>(alloc: Global, bytes: &'a [u8]) -> Result<Vec<RawSection<'a>>, ReadError>
+    ensures decodes { Decodes (λ sections. all_parts_of sections.items) raw_module IsModulePrefix bytes.now result }
+    ensures reads_back { ReadsBack (λ sections. all_parts_of sections.items) bytes.now result }
+    ensures reads_back_typed { ReadsBackTyped (λ sections. all_parts_of sections.items) bytes.now result }
+    ensures prefix_free { SectionsArePrefixFree }
+{
+    read_module_of::<RawSection<'_>, false>(alloc, bytes)
+}
+
+/// Reads the sections of a module whose section sizes are minimally encoded (Core 3.0, Modules).
+///
+/// Section bodies aren't decoded. Fails with `Refused` if a section is malformed or its size isn't minimal: `at` is the
+/// offset of the first such section. It is 0 if the header is missing. Fails with `Memory` if an allocation fails.
+///
+/// # Examples
+///
+/// ```
+/// # use wasm_encoder::{ReadError, read_module_strict};
+/// let sections = read_module_strict(rt.alloc(), b"\0asm\x01\0\0\0\x03\x02\x01\x00")?;
+/// assert_eq!(rt; sections.len(), 1);
+/// let padded = read_module_strict(rt.alloc(), b"\0asm\x01\0\0\0\x03\x82\x00\x01\x00"); // a size in two bytes
+/// assert_eq!(rt; padded.err(), Some(ReadError::Refused { at: 8 }));
+/// ```
+pub fn read_module_strict<'a>(
+    alloc: Global,
+    bytes: &'a [u8],
+) -> Result<Vec<RawSection<'a>>, ReadError>
+    ensures decodes { DecodesMinimal (λ sections. all_parts_of sections.items) raw_module ShortestModule IsShortestModulePrefix bytes.now result }
+    ensures reads_back { ReadsBack (λ sections. all_parts_of sections.items) bytes.now result }
+{
+    read_module_of::<RawSection<'_>, true>(alloc, bytes)
+}
+
+/// Reads the sections of a module as items of type `T`, minimally encoded if `STRICT` is set.
+///
+/// Fails with `Refused` at the offset of the first malformed section, or at 0 if the header is missing. Fails with
+/// `Memory` if an allocation fails.
+pub fn read_module_of<'a, T: Readable<'a>, const STRICT: bool>(
+    alloc: Global,
+    bytes: &'a [u8],
+) -> Result<Vec<T>, ReadError>
+    ensures reads { ReadsAll (λ sections. T.views sections.items) (module_of (minimal_if STRICT T.format)).Encodes (IsModulePrefixOf (minimal_if STRICT T.format)) bytes.now result }
+{
+    let Some(rest) = after_header(bytes) else {
+        return Err(ReadError::Refused { at: 0 });
+    };
+    match read_items_to_end::<T, STRICT>(alloc, rest) {
+        Ok(sections) => Ok(sections),
+        Err(ReadError::Memory) => Err(ReadError::Memory),
+        Err(ReadError::Refused { at }) => Err(ReadError::Refused {
+            at: HEADER.len() + at,
+        }),
+    }
+}
+
+impl<'a> Readable<'a> for RawSection<'a> {
+    ghost Value = { SectionParts };
+
+    ghost view = { parts_of };
+
+    ghost views = { all_parts_of };
+
+    ghost views_each = { record { none = refl; more = λ sections section. map_push parts_of sections section } };
+
+    ghost format = { raw_section };
+
+    fn read(_alloc: Global, cursor: &mut Cursor<'a>) -> Result<RawSection<'a>, Fault> {
+        read_section(cursor)
+    }
+
+    #[inline(always)]
+    #[tactic(auto, using(crate::proofs::ModuleFormatLaws::section_laws))]
+    fn is_lawful()
+        ensures lawful { IsLawful raw_section }
+        ensures some { TakesBytes raw_section.Encodes }
+    {}
+
+    fn rewrite(rewriter: &mut Rewriter) -> Result<(), Fault>
+        ensures rewrites { Rewrites raw_section rewriter.old rewriter.new result }
+    {
+        <Section as Rewritable>::rewrite(rewriter)
+    }
+}
+
+/// Checks that the section sizes of a module are minimally encoded (Core 3.0, Modules).
+///
+/// Section bodies aren't decoded. Fails with `Refused` if a section is malformed or its size isn't minimal: `at` is the
+/// offset of the first such section. It is 0 if the header is missing. Fails with `Memory` if an allocation fails.
+///
+/// # Examples
+///
+/// ```
+/// # use wasm_encoder::{ReadError, check_module};
+/// check_module(rt.alloc(), b"\0asm\x01\0\0\0\x03\x02\x01\x00")?;
+/// let padded = check_module(rt.alloc(), b"\0asm\x01\0\0\0\x03\x82\x00\x01\x00"); // a size in two bytes
+/// assert_eq!(rt; padded.err(), Some(ReadError::Refused { at: 8 }));
+/// ```
+pub fn check_module(alloc: Global, bytes: &[u8]) -> Result<(), ReadError>
+    ensures checks { Checks raw_module ShortestModule IsShortestModulePrefix bytes.now result }
+{
+    check_module_of::<Section>(alloc, bytes)
+}
+
+/// Checks that a module with sections of type `T` is minimally encoded.
+///
+/// Fails with `Refused` at the offset of the first section that is malformed or not minimal, or at 0 if the header is
+/// missing. Fails with `Memory` if an allocation fails.
+pub fn check_module_of<T: Joinable>(alloc: Global, bytes: &[u8]) -> Result<(), ReadError>
+    ensures checks { ChecksAll (module_of (minimal_only T.format)).Encodes (IsModulePrefixOf (minimal_only T.format)) bytes.now result }
+{
+    let Some(rest) = after_header(bytes) else {
+        return Err(ReadError::Refused { at: 0 });
+    };
+    match check_items_to_end::<T>(alloc, rest) {
+        Ok(()) => Ok(()),
+        Err(ReadError::Memory) => Err(ReadError::Memory),
+        Err(ReadError::Refused { at }) => Err(ReadError::Refused {
+            at: HEADER.len() + at,
+        }),
+    }
+}
+
+/// Replaces a module by its minimal encoding in place. Only the sizes of sections can shrink: no body is decoded.
+///
+/// Fails with `Refused` as `read_module` does. Allocates nothing.
+pub fn rewrite_raw_module(bytes: Vec<u8>) -> Result<Vec<u8>, ReadError>
+    ensures rewrites { RewritesAll raw_module IsModulePrefix bytes.items result }
+    ensures memory { NeedsNoMemory result }
+{
+    rewrite_module_of::<Section>(bytes)
+}
+
+/// A section of any id, with its body as bytes.
+pub(crate) struct Section;
+
+impl Rewritable for Section {
+    ghost Value = { SectionParts };
+
+    ghost format = { raw_section };
+
+    #[inline(always)]
+    #[tactic(auto, using(crate::proofs::ModuleFormatLaws::section_laws))]
+    fn is_lawful() {}
+
+    #[tactic(auto, using(std::proofs::Common::append_assoc), unfolding(crate::specs::formats::Modules::raw_section))]
+    fn rewrite(rewriter: &mut Rewriter) -> Result<(), Fault> {
+        let _id = rewriter.byte()?;
+        rewrite_sized::<Bytes>(rewriter)
+    }
+}
+
+impl Joinable for Section {
+    #[inline(always)]
+    fn scan(_bytes: &[u8]) -> Option<Scanned> {
+        None
+    }
+}
+
+/// The body of a section, as bytes.
+struct Bytes;
+
+impl RewritableBody for Bytes {
+    ghost Value = { List ℕ };
+
+    ghost format = { bytes_to_end };
+
+    #[inline(always)]
+    fn is_lawful() {}
+
+    fn rewrite(rewriter: &mut Rewriter) -> Result<(), Fault> {
+        rewriter.rest();
+        Ok(())
+    }
+}

@@ -1,4 +1,0 @@
-pub mod CodeReading
-pub mod EndLaws
-pub mod CheckLaws
-pub mod NameLaws

@@ -1,9 +1,0 @@
-use Rattle.wasm_codec.proofs.BodyLaws.{Lawful-body}
-use Rattle.wasm_codec.proofs.DecodingLaws.{decodes_minimal}
-use Rattle.wasm_modules.proofs.CodeBodyLaws.{Lawful-code-section-body, is_shortest_code}
-use Rattle.wasm_readers.proofs.code_sections.read_code_section_strict.Goals as goal
-
-pub returns : goal.returns
-returns c =
-    let e = c.read_list_to_end.ensures in
-    record { decodes = decodes_minimal (Lawful-body Lawful-code-section-body) c.args.body.now is_shortest_code (λ bodies. bodies.items) c.read_list_to_end.result (record { given = e.given; prefix = e.prefix; unencoded = e.unencoded }) }

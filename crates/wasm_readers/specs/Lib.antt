@@ -1,2 +1,0 @@
-pub mod PrefixFree
-pub mod ModulesReadBack

@@ -1,0 +1,13 @@
+use Rattle.wasm_sections.specs.formats.EntryParts.{data_parts}
+use Rattle.wasm_sections.proofs.SegmentLaws.{data_written, data_appended}
+use Rattle.wasm_entities.proofs.ExternalLaws.{where_ok, kept_at_last}
+use Rattle.wasm_sections.proofs.data.append_data_segment.Goals as goal
+
+pub returns-clause-ok : goal.returns-clause-ok
+returns-clause-ok g c = where_ok c.encode_bytes.result (data_appended (data_parts c.args.segment.now) c.args.sink.now.items c.append_data_mode.new.sink.items c.encode_bytes.new.sink.items c.in_ok-append_data_mode.ensures.ok) c.encode_bytes.ensures.ok
+
+pub returns-clause-written : goal.returns-clause-written
+returns-clause-written g c = where_ok c.encode_bytes.result (data_written (data_parts c.args.segment.now) c.in_ok-append_data_mode.ensures.fits c.are_bytes.ensures) c.encode_bytes.ensures.can
+
+pub returns-clause-kept : goal.returns-clause-kept
+returns-clause-kept g c = kept_at_last c.encode_bytes.result _ _ _ _ _ c.in_ok-append_data_mode.ensures.ok c.encode_bytes.ensures.ok c.encode_bytes.ensures.err

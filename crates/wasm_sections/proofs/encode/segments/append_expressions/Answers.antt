@@ -1,5 +1,0 @@
-use Rattle.wasm_sections.proofs.ExternalLaws.{kept_before}
-use Rattle.wasm_sections.proofs.encode.segments.append_expressions.Goals as goal
-
-pub returns-clause-kept : goal.returns-clause-kept
-returns-clause-kept g c = kept_before _ _ _ _ c.in_ok-encode.ensures.ok c.append_each_expression.ensures.kept

@@ -1,0 +1,17 @@
+use Rattle.std.proofs.Common.{◌≡◌, ◌++◌}
+use Rattle.wasm_sections.proofs.EntryLaws.{global_appended, global_entry_written}
+use Rattle.wasm_entities.proofs.ExternalLaws.{where_ok, kept_at_last}
+use Rattle.wasm_entities.specs.formats.Expressions.{expr}
+use Rattle.wasm_entities.specs.formats.Externals.{global_type}
+use Rattle.wasm_sections.proofs.globals.append_global.Goals as goal
+
+pub returns-clause-ok : goal.returns-clause-ok
+returns-clause-ok g c = where_ok c.encode_expr.result (global_appended c.args.global.now c.as_slice.result.now c.args.sink.now.items c.put_global_type.new.bytes.items c.encode_expr.new.sink.items c.as_slice.ensures.value (rw (← c.in_ok-reserve.ensures.items) c.put_global_type.ensures.items)) c.encode_expr.ensures.ok
+
+pub returns-clause-written : goal.returns-clause-written
+returns-clause-written g c = where_ok c.encode_expr.result (global_entry_written c.args.global.now c.as_slice.result.now c.as_slice.ensures.value c.put_global_type.ensures.written) c.encode_expr.ensures.written
+
+pub returns-clause-kept : goal.returns-clause-kept
+returns-clause-kept g c =
+    let first : c.put_global_type.new.bytes.items ≡ c.args.sink.now.items ++ global_type.bytes c.args.global.now.ty = rw (← c.in_ok-reserve.ensures.items) c.put_global_type.ensures.items in
+    kept_at_last c.encode_expr.result _ _ _ (expr.bytes c.as_slice.result.now) _ first c.encode_expr.ensures.ok c.encode_expr.ensures.err

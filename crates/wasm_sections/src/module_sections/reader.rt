@@ -1,0 +1,146 @@
+//! Readers of single decoded sections.
+ghost use Rattle.std.specs.Prelude.{◌≡◌, Err, refl};
+ghost use Rattle.std.proofs.lemmas.List.{map_push};
+ghost use Rattle.wasm_codec.specs.formats.Grammar.{TakesBytes};
+ghost use Rattle.wasm_codec.specs.Lawful.{IsLawful};
+ghost use Rattle.wasm_codec.specs.Places.{Reads};
+ghost use Rattle.wasm_codec.specs.declared.reader.cursor.Fault.TheVariants.{Malformed};
+ghost use Rattle.wasm_codec.specs.Reading.{map_ok};
+ghost use Rattle.wasm_codec.specs.formats.Bodies.{sized};
+ghost use Rattle.wasm_codec.specs.formats.Combinators.{items, u32 as u32_format};
+ghost use Rattle.wasm_sections.specs.formats.EntryParts.{custom_parts};
+ghost use Rattle.wasm_sections.specs.formats.ModuleSectionParts.{ModuleSectionParts, module_section_parts, all_module_section_parts};
+ghost use Rattle.wasm_sections.specs.formats.ModuleSections.{module_section};
+ghost use Rattle.wasm_sections.specs.formats.Sections.{custom_body};
+ghost use Rattle.wasm_codec.specs.Rewriter.{Rewrites};
+
+use crate::custom::CustomSection;
+use crate::module_sections::ModuleSection;
+use crate::module_sections::kinds::{SectionKind, SectionVisitor, visit_section};
+use crate::module_sections::rewriter::rewrite_module_section;
+use std::alloc::Global;
+use wasm_codec::reader::cursor::{Cursor, Fault};
+use wasm_codec::rewriter::Rewriter;
+use wasm_entities::names::read_name;
+use wasm_lists::list::Items;
+use wasm_lists::readable::Readable;
+use wasm_lists::reading::read_list;
+use wasm_lists::rewriting::{Rewritable, RewritableBody};
+
+impl<'a> Readable<'a> for ModuleSection<'a> {
+    ghost Value = { ModuleSectionParts };
+
+    ghost view = { module_section_parts };
+
+    ghost views = { all_module_section_parts };
+
+    ghost views_each = { record { none = refl; more = λ sections section. map_push module_section_parts sections section } };
+
+    ghost format = { module_section };
+
+    #[inline(always)]
+    #[tactic(auto, using(crate::proofs::ModuleSectionLaws::module_section_is_lawful, crate::proofs::ModuleSectionLaws::module_section_takes))]
+    fn is_lawful()
+        ensures lawful { IsLawful module_section }
+        ensures some { TakesBytes module_section.Encodes }
+    {}
+
+    fn read(alloc: Global, cursor: &mut Cursor<'a>) -> Result<ModuleSection<'a>, Fault> {
+        read_module_section(alloc, cursor)
+    }
+
+    fn rewrite(rewriter: &mut Rewriter) -> Result<(), Fault>
+        ensures rewrites { Rewrites module_section rewriter.old rewriter.new result }
+    {
+        rewrite_module_section(rewriter)
+    }
+}
+
+/// Reads a size and a list that fills so many bytes.
+pub(crate) fn read_sized_list<'a, T: Readable<'a>>(
+    alloc: Global,
+    cursor: &mut Cursor<'a>,
+) -> Result<Items<T>, Fault>
+    ensures reads { Reads (sized (items T.format)).at cursor.old cursor.new (map_ok T.views result) }
+{
+    let mut body = cursor.body()?;
+    let items = read_list(alloc, &mut body)?;
+    if body.len() > 0 {
+        return Err(Fault::Malformed);
+    }
+    cursor.set_shortest(body.is_shortest());
+    Ok(items)
+}
+
+/// Reads a size and a number that fills so many bytes.
+pub(crate) fn read_sized_number(cursor: &mut Cursor<'_>) -> Result<u32, Fault>
+    ensures reads { Reads (sized u32_format).at cursor.old cursor.new result }
+{
+    let mut body = cursor.body()?;
+    let number = body.u32()?;
+    if body.len() > 0 {
+        return Err(Fault::Malformed);
+    }
+    cursor.set_shortest(body.is_shortest());
+    Ok(number)
+}
+
+/// Reads a size, a name, and the contents up to that size.
+pub(crate) fn read_sized_custom<'a>(cursor: &mut Cursor<'a>) -> Result<CustomSection<'a>, Fault>
+    ensures reads { Reads (sized custom_body).at cursor.old cursor.new (map_ok custom_parts result) }
+{
+    let mut body = cursor.body()?;
+    let name = read_name(&mut body)?;
+    let bytes = body.take(body.len())?;
+    cursor.set_shortest(body.is_shortest());
+    Ok(CustomSection { name, bytes })
+}
+
+/// A reader of the content after a section's id.
+#[derive(Drop)]
+struct ContentReader<'a> {
+    alloc: Global,
+    cursor: Cursor<'a>,
+}
+
+impl<'a> SectionVisitor for ContentReader<'a> {
+    type Output = Result<ModuleSection<'a>, Fault>;
+
+    ghost visits_list = { λ V F C old new section. Reads C.at old.cursor new.cursor (map_ok module_section_parts section) };
+
+    ghost visits_body = { λ V F C old new section. Reads C.at old.cursor new.cursor (map_ok module_section_parts section) };
+
+    ghost visits_unknown = { λ old new section. section ≡ Err Malformed };
+
+    fn visit_list<T: Rewritable + SectionKind>(&mut self) -> Result<ModuleSection<'a>, Fault> {
+        T::read(self.alloc, &mut self.cursor)
+    }
+
+    fn visit_body<B: RewritableBody, K: SectionKind>(
+        &mut self,
+    ) -> Result<ModuleSection<'a>, Fault> {
+        K::read(self.alloc, &mut self.cursor)
+    }
+
+    fn visit_unknown(&mut self) -> Result<ModuleSection<'a>, Fault> {
+        Err(Fault::Malformed)
+    }
+}
+
+/// Reads a section.
+#[tactic(auto, using(crate::proofs::ModuleSectionLaws::read_by_kind), unfolding(crate::specs::formats::ModuleSections::module_section))]
+fn read_module_section<'a>(
+    alloc: Global,
+    cursor: &mut Cursor<'a>,
+) -> Result<ModuleSection<'a>, Fault>
+    ensures reads { Reads module_section.at cursor.old cursor.new (map_ok module_section_parts result) }
+{
+    let id = cursor.byte()?;
+    let mut reader = ContentReader {
+        alloc,
+        cursor: cursor.fork(),
+    };
+    let section = visit_section(id, &mut reader);
+    *cursor = reader.cursor;
+    section
+}

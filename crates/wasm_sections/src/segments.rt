@@ -1,0 +1,37 @@
+//! What data segments and element segments share (Core 3.0, Data Section and Element Section).
+ghost use Rattle.std.specs.Prelude.{◌≡◌, ◌++◌, OnOk, IfErr, IfSome, length, take};
+ghost use Rattle.wasm_codec.specs.Leb128.{unsigned_leb128};
+ghost use Rattle.wasm_codec.specs.formats.Numbers.{EncodesU32};
+ghost use Rattle.wasm_codec.specs.Encoding.{IsRefusal, IsShortest, OnlyTooLong};
+ghost use Rattle.wasm_codec.specs.formats.Combinators.{items};
+ghost use Rattle.wasm_entities.specs.ClosedExpressions.{IsClosed, IsCountedExpr};
+ghost use Rattle.wasm_sections.specs.SegmentBytes.{table_and_offset_bytes};
+ghost use Rattle.wasm_entities.specs.formats.Expressions.{expr};
+
+use std::alloc::Allocator;
+use wasm_codec::encode::EncodeError;
+use wasm_codec::encode::leb128::put_u32;
+use wasm_entities::expressions::encode_expr;
+use wasm_entities::limits::put_u32_if;
+use wasm_instructions::table::Call;
+
+/// Appends the number of a form, the memory or table index if the form has one, and the offset. On error a part of them
+/// may remain.
+pub(crate) fn append_table_and_offset<A: Allocator>(
+    form: u32,
+    index: Option<u32>,
+    offset: &[Call],
+    sink: &mut Vec<u8, A>,
+) -> Result<(), EncodeError>
+    ensures ok { OnOk result (sink.new.items ≡ sink.old.items ++ table_and_offset_bytes form index offset.now) }
+    ensures can { OnOk result (IsCountedExpr offset.now) }
+    ensures index { OnOk result (IfSome index (IsShortest EncodesU32 unsigned_leb128)) }
+    ensures written { OnOk result (IsClosed offset.now → IsShortest expr.Encodes expr.bytes offset.now) }
+    ensures refused { IfErr result (IsRefusal IsCountedExpr OnlyTooLong offset.now) }
+    ensures kept { take (length sink.old.items) sink.new.items ≡ sink.old.items }
+{
+    sink.reserve(10)?;
+    put_u32(sink, form);
+    put_u32_if(sink, index);
+    encode_expr(offset, sink)
+}

@@ -1,0 +1,74 @@
+//! Readers of type section bodies (Core 3.0, Type Section).
+ghost use Rattle.wasm_types.specs.formats.Types.{type_body, IsTypeBodyPrefix, ShortestTypeBody, IsShortestTypeBodyPrefix};
+ghost use Rattle.wasm_types.specs.declared.types.composite.TypeEntry.{TypeEntry};
+ghost use Rattle.wasm_codec.specs.Decoding.{Decodes, DecodesMinimal, Checks};
+ghost use Rattle.wasm_types.specs.PrefixFree.{TypesArePrefixFree};
+ghost use Rattle.std.specs.Prelude.{◌<◌, true};
+
+use crate::types::TypeEntry;
+use std::alloc::Global;
+use wasm_codec::reader::ReadError;
+use wasm_lists::checking::check_list_to_end;
+use wasm_lists::reading::read_list_to_end;
+
+/// Reads a type section body, in any encoding (Core 3.0, Type Section).
+///
+/// Fails with `Refused` if the body is malformed: `at` is the offset of the first malformed or missing entry, or of
+/// trailing bytes. It is 0 if the count is malformed. Fails with `Memory` if an allocation fails.
+///
+/// # Examples
+///
+/// ```
+/// # use wasm_encoder::{TypeEntry, read_type_section};
+/// let entries = read_type_section(rt.alloc(), b"\x02\x60\x00\x00\x4e\x00")?; // (func); (rec)
+/// assert_eq!(rt; entries.len(), 2);
+/// assert!(rt; matches!(&entries[0], TypeEntry::Sub(ty) if ty.is_final));
+/// assert!(rt; matches!(&entries[1], TypeEntry::Rec(types) if types.is_empty()));
+/// ```
+#[tactic(auto, unfolding(crate::specs::formats::Types::type_body))]
+pub fn read_type_section(alloc: Global, body: &[u8]) -> Result<Vec<TypeEntry>, ReadError>
+    ensures decodes { Decodes (λ entries. entries.items) type_body IsTypeBodyPrefix body.now result }
+    ensures prefix_free { TypesArePrefixFree }
+{
+    read_list_to_end::<TypeEntry, false>(alloc, body)
+}
+
+/// Reads a minimally encoded type section body (Core 3.0, Type Section).
+///
+/// Fails with `Refused` if the body is malformed or not minimally encoded: `at` is the offset of the first entry that
+/// is malformed, missing or not minimal, or of trailing bytes. It is 0 if the count is malformed or not minimal. Fails
+/// with `Memory` if an allocation fails.
+///
+/// # Examples
+///
+/// ```
+/// # use wasm_encoder::{ReadError, read_type_section_strict};
+/// let entries = read_type_section_strict(rt.alloc(), b"\x01\x60\x00\x00")?; // (func)
+/// assert_eq!(rt; entries.len(), 1);
+/// let long_form = read_type_section_strict(rt.alloc(), b"\x01\x4f\x00\x60\x00\x00"); // (sub final (func))
+/// assert_eq!(rt; long_form.err(), Some(ReadError::Refused { at: 1 }));
+/// ```
+pub fn read_type_section_strict(alloc: Global, body: &[u8]) -> Result<Vec<TypeEntry>, ReadError>
+    ensures decodes { DecodesMinimal (λ entries. entries.items) type_body ShortestTypeBody IsShortestTypeBodyPrefix body.now result }
+{
+    read_list_to_end::<TypeEntry, true>(alloc, body)
+}
+
+/// Checks that a type section body is minimally encoded (Core 3.0, Type Section).
+///
+/// Fails with `Refused` if it isn't: `at` is the offset of the first entry that is malformed, missing or not minimal,
+/// or of trailing bytes. It is 0 if the count is malformed or not minimal. Fails with `Memory` if an allocation fails.
+///
+/// # Examples
+///
+/// ```
+/// # use wasm_encoder::{ReadError, check_type_section};
+/// check_type_section(rt.alloc(), b"\x01\x60\x00\x00")?; // (func)
+/// let padded = check_type_section(rt.alloc(), b"\x81\x00\x60\x00\x00"); // a count in two bytes
+/// assert_eq!(rt; padded.err(), Some(ReadError::Refused { at: 0 }));
+/// ```
+pub fn check_type_section(alloc: Global, body: &[u8]) -> Result<(), ReadError>
+    ensures checks { Checks type_body ShortestTypeBody IsShortestTypeBodyPrefix body.now result }
+{
+    check_list_to_end::<TypeEntry>(alloc, body)
+}

@@ -1,0 +1,2 @@
+pub mod ModuleOrder
+pub mod Stops

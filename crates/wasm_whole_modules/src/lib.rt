@@ -1,0 +1,7 @@
+//! Modules with every section decoded (Core 3.0, Modules): read, written in minimal encoding, checked, and searched for
+//! what is malformed.
+#![tactic(auto)]
+
+pub mod locate;
+pub mod modules;
+pub mod order;

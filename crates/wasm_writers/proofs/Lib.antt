@@ -1,4 +1,0 @@
-pub mod WrittenLists
-pub mod CodeBodyWriting
-pub mod SizeLaws
-pub mod EncodedListLaws

@@ -1,5 +1,0 @@
-use Rattle.wasm_calls.proofs.CallRanges.{ordering_written}
-use Rattle.wasm_writers.proofs.operands.OrderingEncode.encode.Goals as goal
-
-pub returns-clause-written : goal.returns-clause-written
-returns-clause-written g c = ordering_written c.args.self.now

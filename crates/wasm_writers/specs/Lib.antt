@@ -1,4 +1,0 @@
-pub mod CodeCounts
-pub mod Iterators
-pub mod MemArgs
-pub mod EncodedLists
