@@ -74,7 +74,7 @@ def all_calls(interface):
 # documentation of the calls gives, and what implementations of Decode and Readable owe.
 PLUMBING = re.compile(r"""
     (Is)?(Counted|Uncounted|Closed)\w* | IsClosed\w+ | StandsFor\w* | Holds\w+ | Is\w*Prefix(Of|MinimalIf)?
-    | Is\w*Refusal\w* | IsNothingOr | AddsEachIf | AppendsTo | AreClosed | AppendsPrefix | BeforeAnyWrite
+    | Is\w*Refusal\w* | IsNothingOr | AddsEachIf | AreClosed | AppendsPrefix | BeforeAnyWrite
     | CanEncodeList | Chain
     | ListMinimalIf | EncodedItems | EncodesList | EncodesSome | Gains\w+ | GivesItems | GoesOnWith | GivesSome
     | HasAlignment | HasNo\w*List | If\w+ | IsAligned | IsAnswer | IsBodyOf | IsBytes | IsCanonicalForm

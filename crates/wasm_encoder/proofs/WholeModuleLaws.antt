@@ -32,11 +32,7 @@ pub appends_section : (was old new encoding : List ℕ) (byte id : ℕ) (Can Wri
 appends_section was old new encoding byte id Can Written Refused r same is ok can written refused err =
     let appended : OnOk r (new ≡ was ++ id ∷ encoding) = subst (λ (n : ℕ). OnOk r (new ≡ was ++ n ∷ encoding)) is ok in
     subst (λ (m : List ℕ). AppendsSection id encoding Can Written Refused m new r) same (record {
-      ok = appended;
-      can = can;
-      written = written;
-      refused = refused;
-      err = err;
+      appended = record { ok = appended; can = can; written = written; refused = refused; err = err };
       goes_on = λ sections body is_module is_body. goes_on r was new encoding body sections id appended is_module is_body;
       first = λ body is_header is_body. goes_on r was new encoding body [] id appended is_header is_body;
       whole = λ sections added is_module is_section. section_added r was new encoding id sections added appended is_module is_section;

@@ -26,17 +26,8 @@ module _ (id : ℕ) (encoding : List ℕ) (Can Written : Type 0) (Refused : Enco
 
   -- A call that appends such a section to a module.
   pub record AppendsSection : Type 0 where
-    -- It appends the id and the encoding.
-    pub ok : OnOk result (new ≡ old ++ id ∷ encoding)
-    -- The section has an encoding.
-    pub can : OnOk result Can
-    -- The section was written. For a builder: the body encodes the entries, and with the id it is the minimal encoding
-    -- of a section that holds them.
-    pub written : OnOk result Written
-    -- It fails with one of these errors.
-    pub refused : IfErr result Refused
-    -- On error the module is unchanged.
-    pub err : OnErr result (new ≡ old)
+    -- It appends the section to the module's bytes.
+    pub appended : AppendsTo
     -- If the encoding is a body after its size, a section with this body is appended to the module's sections.
     pub goes_on : (sections : List SectionParts) (body : List ℕ) → old ≡ raw_module.bytes sections → encoding ≡ byte_list_bytes body → OnOk result (new ≡ raw_module.bytes (sections ++ section_of (id, body) ∷ []))
     -- Appended to a new module, it is the only section.
