@@ -83,17 +83,19 @@ uint32_t nosgrivel_judge_module(const uint8_t *input, size_t input_len, size_t *
 uint32_t nosgrivel_judge_instructions(const uint8_t *input, size_t input_len, size_t *count);
 uint32_t nosgrivel_judge_type_section(const uint8_t *input, size_t input_len, size_t *count);
 uint32_t nosgrivel_judge_code_section(const uint8_t *input, size_t input_len, size_t *count);
+uint32_t nosgrivel_judge_canonical(const uint8_t *input, size_t input_len, size_t *count);
 
 /* Check whether the input is minimally encoded, and locate the first part that isn't: NOSGRIVEL_NORMAL if it is,
  * NOSGRIVEL_REFUSED if it is malformed or not minimally encoded. In the second case *count is the length of the longest
  * prefix that is minimally encoded.
  *
  * nosgrivel_check_module checks the header and the section sizes, and no body. nosgrivel_judge_module also decodes type
- * sections and code sections. */
+ * sections and code sections; the two for canonical forms decode all sections. */
 uint32_t nosgrivel_check_module(const uint8_t *input, size_t input_len, size_t *count);
 uint32_t nosgrivel_check_instructions(const uint8_t *input, size_t input_len, size_t *count);
 uint32_t nosgrivel_check_type_section(const uint8_t *input, size_t input_len, size_t *count);
 uint32_t nosgrivel_check_code_section(const uint8_t *input, size_t input_len, size_t *count);
+uint32_t nosgrivel_check_canonical(const uint8_t *input, size_t input_len, size_t *count);
 
 #ifdef __cplusplus
 }

@@ -34,8 +34,7 @@ typedef uint32_t normalise(const uint8_t *, size_t, uint8_t *, size_t, size_t *)
 typedef uint32_t in_place(uint8_t *, size_t, size_t *);
 typedef uint32_t question(const uint8_t *, size_t, size_t *);
 
-/* An input, its minimal encoding, the length of its minimally encoded prefix, and the calls for it. `judge` and `check`
- * may be NULL. */
+/* An input, its minimal encoding, the length of its minimally encoded prefix, and the calls for it. */
 struct row {
     const char *name;
     const uint8_t *input, *normal;
@@ -157,10 +156,10 @@ static const uint8_t code_section_normal[] = {0x02, 0x02, 0x00, 0x0B, 0x04, 0x00
 int main(void) {
     static const struct row rows[] = {
         ROW(module, 11), ROW(instructions, 1), ROW(type_section, 4), ROW(code_section, 4),
-        {"canonical forms", canonical_input, canonical_normal, sizeof canonical_input, sizeof canonical_normal, 0,
-         nosgrivel_canonicalise, nosgrivel_canonicalise_in_place, NULL, NULL}};
+        {"canonical forms", canonical_input, canonical_normal, sizeof canonical_input, sizeof canonical_normal, 8,
+         nosgrivel_canonicalise, nosgrivel_canonicalise_in_place, nosgrivel_judge_canonical, nosgrivel_check_canonical}};
     for (size_t i = 0; i < sizeof rows / sizeof *rows; i++) {
-        for (int call = 0; call < (rows[i].judge ? 4 : 2); call++) sweep(&rows[i], call);
+        for (int call = 0; call < 4; call++) sweep(&rows[i], call);
         short_outputs(&rows[i]);
     }
     printf("%d calls swept, %d faults\n", swept, faults);

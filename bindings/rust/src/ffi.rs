@@ -43,9 +43,11 @@ extern "C" {
     pub fn nosgrivel_judge_instructions(input: *const u8, len: usize, count: *mut usize) -> u32;
     pub fn nosgrivel_judge_type_section(input: *const u8, len: usize, count: *mut usize) -> u32;
     pub fn nosgrivel_judge_code_section(input: *const u8, len: usize, count: *mut usize) -> u32;
+    pub fn nosgrivel_judge_canonical(input: *const u8, len: usize, count: *mut usize) -> u32;
 
     pub fn nosgrivel_check_module(input: *const u8, len: usize, count: *mut usize) -> u32;
     pub fn nosgrivel_check_instructions(input: *const u8, len: usize, count: *mut usize) -> u32;
     pub fn nosgrivel_check_type_section(input: *const u8, len: usize, count: *mut usize) -> u32;
     pub fn nosgrivel_check_code_section(input: *const u8, len: usize, count: *mut usize) -> u32;
+    pub fn nosgrivel_check_canonical(input: *const u8, len: usize, count: *mut usize) -> u32;
 }

@@ -275,6 +275,41 @@ pub fn is_normal_code_section(body: &[u8]) -> Result<bool, Error> {
     is_normal(ffi::nosgrivel_judge_code_section, body)
 }
 
+/// Checks whether a module is in its canonical form, as [`canonicalise`] defines it.
+///
+/// ```
+/// assert!(nosgrivel::is_canonical(b"\0asm\x01\0\0\0\x08\x01\x03")?);
+/// assert!(!nosgrivel::is_canonical(b"\0asm\x01\0\0\0\x08\x02\x83\0")?);
+/// # Ok::<(), nosgrivel::Error>(())
+/// ```
+///
+/// # Errors
+///
+/// As for [`canonicalise`].
+pub fn is_canonical(module: &[u8]) -> Result<bool, Error> {
+    is_normal(ffi::nosgrivel_judge_canonical, module)
+}
+
+/// Checks whether a module is in its canonical form, and locates the first section that isn't.
+///
+/// ```
+/// use nosgrivel::Error;
+///
+/// assert_eq!(nosgrivel::check_canonical(b"\0asm\x01\0\0\0\x08\x01\x03"), Ok(()));
+/// assert_eq!(
+///     nosgrivel::check_canonical(b"\0asm\x01\0\0\0\x08\x02\x83\0"),
+///     Err(Error::Refused { at: 8 })
+/// );
+/// ```
+///
+/// # Errors
+///
+/// [`Error::Refused`] with the offset of the first section that is malformed or not minimally encoded, or 0 if the
+/// header is malformed. [`Error::NoMemory`] if memory runs out.
+pub fn check_canonical(module: &[u8]) -> Result<(), Error> {
+    check(ffi::nosgrivel_check_canonical, module)
+}
+
 /// Checks whether the header and the size of each section of a module are minimally encoded, and locates the first part
 /// that isn't.
 ///

@@ -39,6 +39,10 @@ fn canonical_forms() {
     .concat();
     assert_eq!(normalise_module(&longer).as_ref(), Ok(&longer));
     assert_eq!(canonicalise(&longer).as_ref(), Ok(&canonical));
+    assert_eq!(is_canonical(&longer), Ok(false));
+    assert_eq!(is_canonical(&canonical), Ok(true));
+    assert_eq!(check_canonical(&longer), Err(Error::Refused { at: 8 }));
+    assert_eq!(check_canonical(&canonical), Ok(()));
     let mut bytes = longer.clone();
     assert_eq!(canonicalise_in_place(&mut bytes), Ok(()));
     assert_eq!(bytes, canonical);

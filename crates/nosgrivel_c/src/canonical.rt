@@ -1,11 +1,12 @@
 //! Canonical forms of modules (Core 3.0, Modules). Every section is decoded.
 ghost use Rattle.wasm_modules.specs.Modules.{IsModulePrefixOf};
-ghost use Rattle.wasm_sections.specs.formats.ModuleSections.{module_section, whole_module};
-ghost use Rattle.nosgrivel_c.specs.Calls.{WritesInPlace, WritesNormal};
+ghost use Rattle.wasm_codec.specs.formats.Combinators.{minimal_only};
+ghost use Rattle.wasm_sections.specs.formats.ModuleSections.{ShortestWholeModule, module_section, whole_module};
+ghost use Rattle.nosgrivel_c.specs.Calls.{ChecksNormal, JudgesNormal, WritesInPlace, WritesNormal};
 
-use crate::delivery::deliver;
+use crate::delivery::{answer, deliver, judge};
 use std::alloc::Global;
-use wasm_whole_modules::modules::normalise_whole_module;
+use wasm_whole_modules::modules::{check_whole_module, normalise_whole_module};
 
 /// Writes the canonical form of a module to the start of the output: every number, size, type, index and limit has its
 /// minimal encoding.
@@ -38,4 +39,22 @@ pub extern "C" fn nosgrivel_canonicalise_in_place(
 {
     let canonical = normalise_whole_module(alloc, bytes);
     deliver(canonical, bytes, count)
+}
+
+/// Checks whether a module is in its canonical form, and returns the length of that form.
+#[unsafe(no_mangle)]
+pub extern "C" fn nosgrivel_judge_canonical(alloc: Global, input: &[u8], count: &mut usize) -> u32
+    ensures judges { JudgesNormal whole_module (IsModulePrefixOf module_section) input.now count.old count.new result }
+{
+    judge(normalise_whole_module(alloc, input), input, count)
+}
+
+/// Checks whether a module is in its canonical form, and locates the first section that isn't.
+///
+/// The call copies the input.
+#[unsafe(no_mangle)]
+pub extern "C" fn nosgrivel_check_canonical(alloc: Global, input: &[u8], count: &mut usize) -> u32
+    ensures checks { ChecksNormal ShortestWholeModule (IsModulePrefixOf (minimal_only module_section)) input.now count.old count.new result }
+{
+    answer(check_whole_module(alloc, input), input, count)
 }

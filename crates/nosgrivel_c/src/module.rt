@@ -1,7 +1,6 @@
 //! Modules (Core 3.0, Modules). The bodies of sections other than type and code sections are not decoded.
 ghost use Rattle.wasm_modules.specs.formats.Modules.{typed_module, ShortestModule};
-ghost use Rattle.wasm_modules.specs.Modules.{IsTypedModulePrefix};
-ghost use Rattle.wasm_modules.specs.Modules.{IsShortestModulePrefix};
+ghost use Rattle.wasm_modules.specs.Modules.{IsShortestModulePrefix, IsTypedModulePrefix};
 ghost use Rattle.nosgrivel_c.specs.Calls.{ChecksNormal, JudgesNormal, WritesInPlace, WritesNormal};
 
 use crate::delivery::{answer, deliver, judge};
