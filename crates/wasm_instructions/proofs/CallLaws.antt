@@ -2,7 +2,7 @@
 use Rattle.std.proofs.Common.{◌≡◌, Result, Ok, Err, OnOk, subst}
 use Rattle.wasm_instructions.specs.declared.table.call.Operands.{Operands}
 use Rattle.wasm_instructions.specs.formats.Instructions.{instruction, Instruction, call}
-use Rattle.wasm_instructions.specs.Instructions.{IsCall, NumbersInRange, ItemsInRange, HasEncoding, kind_of}
+use Rattle.wasm_instructions.specs.Instructions.{IsCall, NumbersInRange, ItemsInRange, IsCounted, kind_of}
 use Rattle.wasm_instructions.specs.Lengths.{HasNoLongList, IsShortEncoding}
 use Rattle.wasm_instructions.proofs.InstructionFormatLaws.{Lawful-instruction}
 use Rattle.wasm_instructions.proofs.OpcodeLaws.{in_table_short}
@@ -10,10 +10,10 @@ use Rattle.wasm_instructions.proofs.InstructionLengths.{in_table_low, short_call
 use Rattle.wasm_instructions.proofs.CallRanges.{call_in_range}
 
 -- the bytes of a call that was written encode it
-pub encoded : {T E : Type 0} (i : Instruction) (o : Operands) (r : Result T E) → o ≡ i.operands → IsCall i.op o → NumbersInRange o → OnOk r (HasEncoding o × ItemsInRange o) → OnOk r (instruction.Encodes (instruction.bytes i) i)
+pub encoded : {T E : Type 0} (i : Instruction) (o : Operands) (r : Result T E) → o ≡ i.operands → IsCall i.op o → NumbersInRange o → OnOk r (IsCounted o × ItemsInRange o) → OnOk r (instruction.Encodes (instruction.bytes i) i)
 encoded i o (Ok v) same is_call numbers fits =
     subst (λ (k : Operands). instruction.Encodes (instruction.bytes (call i.op k)) (call i.op k)) same
-    (Lawful-instruction.shortest.encodes (call i.op o) (call_in_range i.op o is_call numbers fits.1 fits.0.1))
+    (Lawful-instruction.shortest.encodes (call i.op o) (call_in_range i.op o is_call numbers fits.1 fits.0))
 encoded i o (Err e) same is_call numbers fits = tt
 
 -- how long the bytes of a call without a long list are

@@ -1,21 +1,22 @@
 //! Writers of calls (Core 3.0, Instructions).
 ghost use Rattle.std.specs.Prelude.{◌≡◌, ◌++◌, ◌+◌, ◌≤◌, List, ℕ, length, take, IsOk, IfErr, OnOk, OnErr, vec_len, vec_capacity};
 ghost use Rattle.wasm_codec.specs.Encoding.{IsShortestOrLonger, IsShortest, OnlyTooLong};
-ghost use Rattle.wasm_instructions.specs.Appending.{IsOperandsRefusal, IsCallRefusal, IsCallsRefusal, CountedCall};
-ghost use Rattle.wasm_instructions.specs.Instructions.{HasNoList, HasEncoding, IsAligned, IsCounted, IsShort, ItemsInRange};
-ghost use Rattle.wasm_instructions.specs.formats.Instructions.{call, Instructions, instruction, instructions_bytes};
+ghost use Rattle.wasm_instructions.specs.Appending.{IsCallRefusal, IsCallsRefusal, CountedCall};
+ghost use Rattle.wasm_instructions.specs.Instructions.{HasNoList, IsCounted, IsShort, ItemsInRange, NumbersInRange, kind_of};
+ghost use Rattle.wasm_instructions.specs.formats.Instructions.{call, Instructions, instruction, instructions_bytes, operands_format};
 ghost use Rattle.wasm_instructions.specs.Lengths.{HasNoLongList, IsShortEncoding};
 
-use crate::appenders::{
-    Before, append_block, append_cast, append_f32, append_f64, append_heap, append_held,
-    append_i32, append_i64, append_index, append_lane, append_mem, append_mem_lane, append_opcode,
-    append_order, append_order_index, append_order_two_indexes, append_shuffle, append_two_indexes,
-    append_type_list, append_v128,
+use crate::appenders::{Before, append_held, append_opcode, append_type_list};
+use crate::encode::{
+    put_bits_32, put_bits_64, put_block_type, put_castop, put_lanes, put_mem_arg, put_ordering,
+    put_vector,
 };
 use crate::table::{Call, Opcode, Operands};
 use std::alloc::Allocator;
+use wasm_codec::encode::leb128::{put_i32, put_i64, put_u32};
 use wasm_codec::encode::{EncodeError, keep_or_undo};
 use wasm_lists::encode::Encode;
+use wasm_types::encode::put_heap_type;
 
 /// Appends the minimal encodings of `calls`, all of them or none.
 ///
@@ -75,18 +76,15 @@ fn append_operands<A: Allocator>(
     operands: &Operands,
 ) -> Result<(), EncodeError>
     requires short { IsShort op }
+    requires fits { NumbersInRange operands.now }
     ensures ok { OnOk result (bytes.new.items ≡ bytes.old.items ++ instruction.bytes (call op operands.now)) }
     ensures err { OnErr result (bytes.new.items ≡ bytes.old.items) }
-    ensures fits { OnOk result (HasEncoding operands.now × ItemsInRange operands.now) }
-    ensures refused { IfErr result (IsOperandsRefusal operands.now) }
-    ensures room { vec_len bytes.old + 24 ≤ vec_capacity bytes.old → HasNoList operands.now → IsAligned operands.now → IsOk result }
+    ensures counted { OnOk result (IsCounted operands.now × ItemsInRange operands.now) }
+    ensures refused { IfErr result (IsCallRefusal (call op operands.now)) }
+    ensures room { vec_len bytes.old + 24 ≤ vec_capacity bytes.old → HasNoList operands.now → IsOk result }
     ensures in_range { HasNoLongList operands.now → ItemsInRange operands.now }
 {
     match operands {
-        Operands::None => append_opcode(bytes, op),
-        Operands::Block(ty) => append_block(bytes, op, *ty),
-        Operands::Index(index) => append_index(bytes, op, *index),
-        Operands::TwoIndexes(first, second) => append_two_indexes(bytes, op, *first, *second),
         Operands::BrTable(labels, default) => {
             append_held(
                 bytes,
@@ -100,12 +98,6 @@ fn append_operands<A: Allocator>(
         Operands::TryTable(ty, clauses) => {
             append_held(bytes, op, Before::Block(*ty), clauses.as_slice(), None)
         }
-        Operands::Mem(arg) => append_mem(bytes, op, *arg),
-        Operands::I32(value) => append_i32(bytes, op, *value),
-        Operands::I64(value) => append_i64(bytes, op, *value),
-        Operands::F32(value) => append_f32(bytes, op, *value),
-        Operands::F64(value) => append_f64(bytes, op, *value),
-        Operands::Heap(ty) => append_heap(bytes, op, *ty),
         Operands::Resume(index, handlers) => {
             append_held(bytes, op, Before::Index(*index), handlers.as_slice(), None)
         }
@@ -118,16 +110,60 @@ fn append_operands<A: Allocator>(
                 None,
             )
         }
-        Operands::Cast(label, before, after) => append_cast(bytes, op, *label, *before, *after),
-        Operands::V128(value) => append_v128(bytes, op, *value),
-        Operands::Shuffle(lanes) => append_shuffle(bytes, op, *lanes),
-        Operands::Lane(lane) => append_lane(bytes, op, *lane),
-        Operands::MemLane(arg, lane) => append_mem_lane(bytes, op, *arg, *lane),
-        Operands::Order(ordering) => append_order(bytes, op, *ordering),
-        Operands::OrderIndex(ordering, index) => append_order_index(bytes, op, *ordering, *index),
-        Operands::OrderTwoIndexes(ordering, first, second) => {
-            append_order_two_indexes(bytes, op, *ordering, *first, *second)
+        _ => {
+            append_opcode(bytes, op)?;
+            put_operands(bytes, operands);
+            Ok(())
         }
+    }
+}
+
+/// Writes operands without a list, up to 18 bytes, into reserved room.
+#[tactic(auto, unfolding(crate::specs::formats::Instructions::operands_format))]
+fn put_operands<A: Allocator>(bytes: &mut Vec<u8, A>, operands: &Operands)
+    requires no_list { HasNoList operands.now }
+    requires fits { NumbersInRange operands.now }
+    requires room { vec_len bytes.old + 21 ≤ vec_capacity bytes.old }
+    ensures items { bytes.new.items ≡ bytes.old.items ++ (operands_format (kind_of operands.now)).bytes operands.now }
+{
+    match operands {
+        Operands::None => {}
+        Operands::Block(ty) => put_block_type(bytes, *ty),
+        Operands::Index(index) => put_u32(bytes, *index),
+        Operands::TwoIndexes(first, second) => {
+            put_u32(bytes, *first);
+            put_u32(bytes, *second);
+        }
+        Operands::Mem(arg) => put_mem_arg(bytes, *arg),
+        Operands::I32(value) => put_i32(bytes, *value),
+        Operands::I64(value) => put_i64(bytes, *value),
+        Operands::F32(value) => put_bits_32(bytes, value.bits()),
+        Operands::F64(value) => put_bits_64(bytes, value.bits()),
+        Operands::Heap(ty) => put_heap_type(bytes, *ty),
+        Operands::Cast(label, before, after) => {
+            put_castop(bytes, before.nullable, after.nullable);
+            put_u32(bytes, *label);
+            put_heap_type(bytes, before.heap_type);
+            put_heap_type(bytes, after.heap_type);
+        }
+        Operands::V128(value) => put_vector(bytes, *value),
+        Operands::Shuffle(lanes) => put_lanes(bytes, *lanes),
+        Operands::Lane(lane) => bytes.push_reserved(*lane),
+        Operands::MemLane(arg, lane) => {
+            put_mem_arg(bytes, *arg);
+            bytes.push_reserved(*lane);
+        }
+        Operands::Order(ordering) => put_ordering(bytes, *ordering),
+        Operands::OrderIndex(ordering, index) => {
+            put_ordering(bytes, *ordering);
+            put_u32(bytes, *index);
+        }
+        Operands::OrderTwoIndexes(ordering, first, second) => {
+            put_ordering(bytes, *ordering);
+            put_u32(bytes, *first);
+            put_u32(bytes, *second);
+        }
+        _ => unreachable!(),
     }
 }
 

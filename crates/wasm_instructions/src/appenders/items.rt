@@ -24,7 +24,7 @@ const ITEM_ROOM: usize = 11;
 const SHORT: u32 = 64;
 
 /// An item of a list of operands.
-pub(crate) trait Item: Copy + Drop {
+pub trait Item: Copy + Drop {
     /// The least number of bytes of an item's minimal encoding.
     const LEAST: usize;
 

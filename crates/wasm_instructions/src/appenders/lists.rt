@@ -2,40 +2,65 @@
 //! over 4,294,967,295, before they ask for an item, and with `Memory` if `bytes` can't grow. The count is that of the
 //! items that the iterator yields, even if they are fewer than `len`.
 ghost use Rattle.std.specs.List.{AllByRecursion};
-ghost use Rattle.std.specs.Prelude.{◌≡◌, ◌++◌, ◌<◌, ◌+◌, ◌≤◌, ◌^◌, length, take, OnOk, OnErr, IfErr, vec_len, vec_capacity};
+ghost use Rattle.std.specs.Prelude.{◌≡◌, ◌++◌, ◌∷◌, [], ◌<◌, ◌+◌, ◌≤◌, ◌^◌, length, take, IsOk, OnOk, OnErr, IfErr, vec_len, vec_capacity};
 ghost use Rattle.std.specs.Iterator.{size};
 ghost use Rattle.wasm_instructions.specs.Appending.{AppendsAll, IsRefusedList, after_bytes, before_bytes, list_bytes};
 ghost use Rattle.wasm_codec.specs.Lists.{items_bytes};
-ghost use Rattle.wasm_instructions.specs.Instructions.{HasEncoding, IsShort, ItemsInRange};
+ghost use Rattle.wasm_codec.specs.declared.encode.EncodeError.TheVariants.{Memory};
+ghost use Rattle.wasm_instructions.specs.Instructions.{IsCounted, IsShort, ItemsInRange};
 ghost use Rattle.wasm_instructions.specs.formats.Instructions.{call, instruction};
-ghost use Rattle.wasm_instructions.specs.Operands.{ValTypeFits, CatchFits, HandleFits};
+ghost use Rattle.wasm_instructions.specs.Operands.{ValTypeFits};
 ghost use Rattle.wasm_instructions.specs.declared.table.call.Operands.TheVariants as operands;
 
+use crate::appenders::append_opcode;
 use crate::appenders::items::{Item, put_list, reserve_list};
-use crate::appenders::types::append_type;
 use crate::encode::{put_block_type, put_opcode};
-use crate::operands::{BlockType, Catch, Handle};
+use crate::operands::BlockType;
 use crate::table::Opcode;
 use std::alloc::{AllocError, Allocator};
 use wasm_codec::encode::leb128::put_u32;
 use wasm_codec::encode::{EncodeError, keep_or_undo};
+use wasm_types::encode::put_val_type;
 use wasm_types::types::ValType;
 
-/// Appends a branch table: `labels`, and the label `default` for every other operand.
-#[tactic(auto, unfolding(crate::specs::Appending::AppendsAll, crate::specs::Appending::before_bytes, crate::specs::Appending::after_bytes, crate::specs::formats::Instructions::instruction, crate::specs::formats::Instructions::operands_format))]
-pub fn append_branch_table<I: ExactSizeIterator<Item = u32>, A: Allocator>(
+/// Appends an opcode, the operands before a list, the list, and the index after it, if there is one. Appends all or
+/// nothing.
+pub fn append_list_call<T: Item, I: ExactSizeIterator<Item = T>, A: Allocator>(
     bytes: &mut Vec<u8, A>,
     op: Opcode,
-    labels: I,
-    default: u32,
+    before: Before,
+    items: I,
+    after: Option<u32>,
 ) -> Result<(), EncodeError>
     requires short { IsShort op }
-    requires can { I.can_next labels }
-    ensures ok { OnOk result (AppendsAll I.next_gives (λ label. label < 2 ^ 32) labels (λ xs. instruction.bytes (call op (operands.BrTable xs default))) bytes.old.items bytes.new.items) }
-    ensures refused { IfErr result (IsRefusedList (size (I.remaining labels))) }
+    requires can { I.can_next items }
+    ensures ok { OnOk result (AppendsAll I.next_gives T.InRange items (λ xs. list_bytes op before (items_bytes T.encoding xs) after) bytes.old.items bytes.new.items) }
+    ensures refused { IfErr result (IsRefusedList (size (I.remaining items))) }
     ensures err { OnErr result (bytes.new.items ≡ bytes.old.items) }
 {
-    append_list_call(bytes, op, Before::Nothing, labels, Some(default))
+    let start = bytes.len();
+    let appended = write_list(bytes, op, before, items, after);
+    keep_or_undo(bytes, start, appended)
+}
+
+/// Appends an instruction with a list of one value type.
+#[tactic(auto, unfolding(crate::specs::formats::Instructions::instruction, crate::specs::formats::Instructions::operands_format))]
+pub fn append_type<A: Allocator>(
+    bytes: &mut Vec<u8, A>,
+    op: Opcode,
+    ty: ValType,
+) -> Result<(), EncodeError>
+    requires short { IsShort op }
+    ensures ok { OnOk result (bytes.new.items ≡ bytes.old.items ++ instruction.bytes (call op (operands.Types (ty ∷ [])))) }
+    ensures err { OnErr result (bytes.new.items ≡ bytes.old.items) }
+    ensures memory { IfErr result (λ e. e ≡ Memory) }
+    ensures in_range { ValTypeFits ty }
+    ensures room { vec_len bytes.old + 24 ≤ vec_capacity bytes.old → IsOk result }
+{
+    append_opcode(bytes, op)?;
+    put_u32(bytes, 1);
+    put_val_type(bytes, ty);
+    Ok(())
 }
 
 /// Appends an instruction with a list of value types. A list of one type needs no more room than 24 bytes.
@@ -48,7 +73,7 @@ pub fn append_type_list<A: Allocator>(
     requires short { IsShort op }
     ensures ok { OnOk result (bytes.new.items ≡ bytes.old.items ++ instruction.bytes (call op (operands.Types types.now))) }
     ensures err { OnErr result (bytes.new.items ≡ bytes.old.items) }
-    ensures fits { OnOk result (HasEncoding (operands.Types types.now) × ItemsInRange (operands.Types types.now)) }
+    ensures counted { OnOk result (IsCounted (operands.Types types.now) × ItemsInRange (operands.Types types.now)) }
     ensures refused { IfErr result (IsRefusedList (length types.now)) }
     ensures in_range { length types.now ≡ 1 → AllByRecursion ValTypeFits types.now }
 {
@@ -58,77 +83,9 @@ pub fn append_type_list<A: Allocator>(
     }
 }
 
-/// Appends an instruction with the value types that an iterator yields.
-#[tactic(auto, unfolding(crate::specs::Appending::AppendsAll, crate::specs::Appending::before_bytes, crate::specs::Appending::after_bytes, crate::specs::formats::Instructions::instruction, crate::specs::formats::Instructions::operands_format))]
-pub fn append_types<I: ExactSizeIterator<Item = ValType>, A: Allocator>(
-    bytes: &mut Vec<u8, A>,
-    op: Opcode,
-    types: I,
-) -> Result<(), EncodeError>
-    requires short { IsShort op }
-    requires can { I.can_next types }
-    ensures ok { OnOk result (AppendsAll I.next_gives ValTypeFits types (λ xs. instruction.bytes (call op (operands.Types xs))) bytes.old.items bytes.new.items) }
-    ensures refused { IfErr result (IsRefusedList (size (I.remaining types))) }
-    ensures err { OnErr result (bytes.new.items ≡ bytes.old.items) }
-{
-    append_list_call(bytes, op, Before::Nothing, types, None)
-}
-
-/// Appends an instruction with a block type and catch clauses.
-#[tactic(auto, unfolding(crate::specs::Appending::AppendsAll, crate::specs::Appending::before_bytes, crate::specs::Appending::after_bytes, crate::specs::formats::Instructions::instruction, crate::specs::formats::Instructions::operands_format))]
-pub fn append_try_table<I: ExactSizeIterator<Item = Catch>, A: Allocator>(
-    bytes: &mut Vec<u8, A>,
-    op: Opcode,
-    block_type: BlockType,
-    clauses: I,
-) -> Result<(), EncodeError>
-    requires short { IsShort op }
-    requires can { I.can_next clauses }
-    ensures ok { OnOk result (AppendsAll I.next_gives CatchFits clauses (λ xs. instruction.bytes (call op (operands.TryTable block_type xs))) bytes.old.items bytes.new.items) }
-    ensures refused { IfErr result (IsRefusedList (size (I.remaining clauses))) }
-    ensures err { OnErr result (bytes.new.items ≡ bytes.old.items) }
-{
-    append_list_call(bytes, op, Before::Block(block_type), clauses, None)
-}
-
-/// Appends an instruction with an index and handlers.
-#[tactic(auto, unfolding(crate::specs::Appending::AppendsAll, crate::specs::Appending::before_bytes, crate::specs::Appending::after_bytes, crate::specs::formats::Instructions::instruction, crate::specs::formats::Instructions::operands_format))]
-pub fn append_resume<I: ExactSizeIterator<Item = Handle>, A: Allocator>(
-    bytes: &mut Vec<u8, A>,
-    op: Opcode,
-    index: u32,
-    handlers: I,
-) -> Result<(), EncodeError>
-    requires short { IsShort op }
-    requires can { I.can_next handlers }
-    ensures ok { OnOk result (AppendsAll I.next_gives HandleFits handlers (λ xs. instruction.bytes (call op (operands.Resume index xs))) bytes.old.items bytes.new.items) }
-    ensures refused { IfErr result (IsRefusedList (size (I.remaining handlers))) }
-    ensures err { OnErr result (bytes.new.items ≡ bytes.old.items) }
-{
-    append_list_call(bytes, op, Before::Index(index), handlers, None)
-}
-
-/// Appends an instruction with two indexes, `first` before `second`, and handlers.
-#[tactic(auto, unfolding(crate::specs::Appending::AppendsAll, crate::specs::Appending::before_bytes, crate::specs::Appending::after_bytes, crate::specs::formats::Instructions::instruction, crate::specs::formats::Instructions::operands_format))]
-pub fn append_resume_throw<I: ExactSizeIterator<Item = Handle>, A: Allocator>(
-    bytes: &mut Vec<u8, A>,
-    op: Opcode,
-    first: u32,
-    second: u32,
-    handlers: I,
-) -> Result<(), EncodeError>
-    requires short { IsShort op }
-    requires can { I.can_next handlers }
-    ensures ok { OnOk result (AppendsAll I.next_gives HandleFits handlers (λ xs. instruction.bytes (call op (operands.ResumeThrow first second xs))) bytes.old.items bytes.new.items) }
-    ensures refused { IfErr result (IsRefusedList (size (I.remaining handlers))) }
-    ensures err { OnErr result (bytes.new.items ≡ bytes.old.items) }
-{
-    append_list_call(bytes, op, Before::TwoIndexes(first, second), handlers, None)
-}
-
 /// The operands between an opcode and a list.
 #[derive(Clone, Copy)]
-pub(crate) enum Before {
+pub enum Before {
     /// None: the list follows the opcode.
     Nothing,
     /// A block type.
@@ -175,26 +132,6 @@ pub(crate) fn append_held<T: Item, A: Allocator>(
     ensures refused { IfErr result (IsRefusedList (length items.now)) }
 {
     append_list_call(bytes, op, before, items.iter().copied(), after)
-}
-
-/// Appends an opcode, the operands before a list, the list, and the index after it, if there is one. Appends all or
-/// nothing.
-fn append_list_call<T: Item, I: ExactSizeIterator<Item = T>, A: Allocator>(
-    bytes: &mut Vec<u8, A>,
-    op: Opcode,
-    before: Before,
-    items: I,
-    after: Option<u32>,
-) -> Result<(), EncodeError>
-    requires short { IsShort op }
-    requires can { I.can_next items }
-    ensures ok { OnOk result (AppendsAll I.next_gives T.InRange items (λ xs. list_bytes op before (items_bytes T.encoding xs) after) bytes.old.items bytes.new.items) }
-    ensures refused { IfErr result (IsRefusedList (size (I.remaining items))) }
-    ensures err { OnErr result (bytes.new.items ≡ bytes.old.items) }
-{
-    let start = bytes.len();
-    let appended = write_list(bytes, op, before, items, after);
-    keep_or_undo(bytes, start, appended)
 }
 
 /// Appends an instruction with a list, as [`append_list_call`] does. On error a part of it may remain.

@@ -3,12 +3,14 @@ ghost use Rattle.std.specs.Prelude.{◌≡◌, ◌++◌, ◌+◌, ◌<◌, ◌�
 ghost use Rattle.wasm_codec.specs.formats.Combinators.{little_endian};
 ghost use Rattle.wasm_instructions.specs.Operands.{BlockTypeFits, CatchFits, HandleFits};
 ghost use Rattle.wasm_instructions.specs.OperandParts.{MemArgInRange, to_bits};
-ghost use Rattle.wasm_instructions.specs.formats.Operands.{block_type, castop, catch_clause, handle_clause, mem_arg, ordering as ordering_format, vector};
+ghost use Rattle.wasm_instructions.specs.formats.Operands.{block_type, castop, catch_clause, handle_clause, lanes as lanes_format, mem_arg, ordering as ordering_format, vector};
 ghost use Rattle.wasm_codec.specs.declared.encode.EncodeError.TheVariants.{Alignment};
 ghost use Rattle.wasm_codec.specs.Encoding.{IsShortest};
+ghost use Rattle.wasm_instructions.specs.Instructions.{NumbersInRange};
+ghost use Rattle.wasm_instructions.specs.declared.table.call.Operands.TheVariants as operands;
 ghost use Rattle.wasm_instructions.specs.MemArgs.{HasAlignment, misaligned_at_once};
 
-use crate::operands::{BlockType, Catch, Handle, MemArg, Ordering};
+use crate::operands::{BlockType, Catch, Handle, Lane, MemArg, Ordering};
 use std::alloc::Allocator;
 use wasm_codec::encode::EncodeError;
 use wasm_codec::encode::leb128::{put_index, put_u32, put_u64};
@@ -199,6 +201,17 @@ pub fn put_vector<A: Allocator>(bytes: &mut Vec<u8, A>, value: i128)
     let bits = vector_bits(value);
     put_bits_64(bytes, (bits % (1 << 64)) as u64);
     put_bits_64(bytes, (bits / (1 << 64)) as u64);
+}
+
+/// Writes sixteen lane indexes in 16 bytes (Core 3.0, Vector Instructions).
+#[tactic(auto, unfolding(crate::specs::formats::Operands::lanes))]
+pub fn put_lanes<A: Allocator>(bytes: &mut Vec<u8, A>, lanes: [Lane; 16])
+    requires { vec_len bytes.old + 16 ≤ vec_capacity bytes.old }
+    ensures items { bytes.new.items ≡ bytes.old.items ++ lanes_format.bytes lanes }
+    ensures fits { NumbersInRange (operands.Shuffle lanes) }
+{
+    // It can't fail, because the room is reserved.
+    let _ = bytes.extend_from_slice(&lanes);
 }
 
 /// `0x40` for no result, a value type, or a type index as an s33 (Core 3.0, Control Instructions).

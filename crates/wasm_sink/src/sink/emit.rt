@@ -1,5 +1,5 @@
-//! One emitter for each kind of operands: it calls the kind's appender over the sink's list of bytes. It takes the
-//! opcode's number, and its prefix if opcodes of the kind differ in it.
+//! One emitter for each kind of operands: it appends the opcode, and then fills the reserved room with the operands. It
+//! takes the opcode's number, and its prefix if opcodes of the kind differ in it.
 ghost use Rattle.std.specs.Borrow.{sem};
 ghost use Rattle.wasm_sink.specs.Sink.{opcode_of, IsUnchangedAtErr, Emits};
 ghost use Rattle.wasm_instructions.specs.Instructions.{IsCall};
@@ -14,10 +14,11 @@ mod types;
 use crate::sink::InstructionSink;
 use std::alloc::Allocator;
 use wasm_codec::encode::EncodeError;
-use wasm_instructions::appenders::{append_index, append_opcode, append_two_indexes};
+use wasm_codec::encode::leb128::put_u32;
+use wasm_instructions::appenders::append_opcode;
 use wasm_instructions::table::{Opcode, Prefix};
 
-#[tactic(auto, using(crate::proofs::WrittenCalls::short_call, wasm_instructions::proofs::OpcodeLaws::in_table_short, crate::proofs::WrittenCalls::shortest_call))]
+#[tactic(auto, using(crate::proofs::WrittenCalls::short_opcode))]
 impl<'a, A: Allocator> InstructionSink<'a, A> {
     /// Appends an instruction without operands.
     pub(super) fn emit(
@@ -46,7 +47,8 @@ impl<'a, A: Allocator> InstructionSink<'a, A> {
         ensures* unchanged { sem 𝓛 (IsUnchangedAtErr A.row A.Allocator self.entry result) }
     {
         let InstructionSink { bytes } = self;
-        append_index(bytes, Opcode { prefix, number }, index)?;
+        append_opcode(bytes, Opcode { prefix, number })?;
+        put_u32(bytes, index);
         Ok(InstructionSink { bytes })
     }
 
@@ -63,7 +65,9 @@ impl<'a, A: Allocator> InstructionSink<'a, A> {
         ensures* unchanged { sem 𝓛 (IsUnchangedAtErr A.row A.Allocator self.entry result) }
     {
         let InstructionSink { bytes } = self;
-        append_two_indexes(bytes, Opcode { prefix, number }, first, second)?;
+        append_opcode(bytes, Opcode { prefix, number })?;
+        put_u32(bytes, first);
+        put_u32(bytes, second);
         Ok(InstructionSink { bytes })
     }
 }

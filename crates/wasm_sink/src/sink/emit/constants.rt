@@ -8,13 +8,13 @@ ghost use Rattle.wasm_instructions.specs.declared.table.call.Operands.TheVariant
 use crate::sink::InstructionSink;
 use std::alloc::Allocator;
 use wasm_codec::encode::EncodeError;
-use wasm_instructions::appenders::{
-    append_f32, append_f64, append_i32, append_i64, append_lane, append_shuffle, append_v128,
-};
+use wasm_codec::encode::leb128::{put_i32, put_i64};
+use wasm_instructions::appenders::append_opcode;
+use wasm_instructions::encode::{put_bits_32, put_bits_64, put_lanes, put_vector};
 use wasm_instructions::operands::{Ieee32, Ieee64, Lane};
 use wasm_instructions::table::Opcode;
 
-#[tactic(auto, using(crate::proofs::WrittenCalls::short_call, wasm_instructions::proofs::OpcodeLaws::in_table_short, crate::proofs::WrittenCalls::shortest_call))]
+#[tactic(auto, using(wasm_instructions::proofs::OpcodeLaws::in_table_short))]
 impl<'a, A: Allocator> InstructionSink<'a, A> {
     /// Appends an instruction without a prefix, with a signed 32-bit number.
     pub(in crate::sink) fn emit_i32(
@@ -27,7 +27,8 @@ impl<'a, A: Allocator> InstructionSink<'a, A> {
         ensures* unchanged { sem 𝓛 (IsUnchangedAtErr A.row A.Allocator self.entry result) }
     {
         let InstructionSink { bytes } = self;
-        append_i32(bytes, Opcode::without_prefix(number), value)?;
+        append_opcode(bytes, Opcode::without_prefix(number))?;
+        put_i32(bytes, value);
         Ok(InstructionSink { bytes })
     }
 
@@ -42,7 +43,8 @@ impl<'a, A: Allocator> InstructionSink<'a, A> {
         ensures* unchanged { sem 𝓛 (IsUnchangedAtErr A.row A.Allocator self.entry result) }
     {
         let InstructionSink { bytes } = self;
-        append_i64(bytes, Opcode::without_prefix(number), value)?;
+        append_opcode(bytes, Opcode::without_prefix(number))?;
+        put_i64(bytes, value);
         Ok(InstructionSink { bytes })
     }
 
@@ -57,7 +59,8 @@ impl<'a, A: Allocator> InstructionSink<'a, A> {
         ensures* unchanged { sem 𝓛 (IsUnchangedAtErr A.row A.Allocator self.entry result) }
     {
         let InstructionSink { bytes } = self;
-        append_f32(bytes, Opcode::without_prefix(number), value)?;
+        append_opcode(bytes, Opcode::without_prefix(number))?;
+        put_bits_32(bytes, value.bits());
         Ok(InstructionSink { bytes })
     }
 
@@ -72,7 +75,8 @@ impl<'a, A: Allocator> InstructionSink<'a, A> {
         ensures* unchanged { sem 𝓛 (IsUnchangedAtErr A.row A.Allocator self.entry result) }
     {
         let InstructionSink { bytes } = self;
-        append_f64(bytes, Opcode::without_prefix(number), value)?;
+        append_opcode(bytes, Opcode::without_prefix(number))?;
+        put_bits_64(bytes, value.bits());
         Ok(InstructionSink { bytes })
     }
 
@@ -87,7 +91,8 @@ impl<'a, A: Allocator> InstructionSink<'a, A> {
         ensures* unchanged { sem 𝓛 (IsUnchangedAtErr A.row A.Allocator self.entry result) }
     {
         let InstructionSink { bytes } = self;
-        append_v128(bytes, Opcode::after_fd(number), value)?;
+        append_opcode(bytes, Opcode::after_fd(number))?;
+        put_vector(bytes, value);
         Ok(InstructionSink { bytes })
     }
 
@@ -102,7 +107,8 @@ impl<'a, A: Allocator> InstructionSink<'a, A> {
         ensures* unchanged { sem 𝓛 (IsUnchangedAtErr A.row A.Allocator self.entry result) }
     {
         let InstructionSink { bytes } = self;
-        append_shuffle(bytes, Opcode::after_fd(number), lanes)?;
+        append_opcode(bytes, Opcode::after_fd(number))?;
+        put_lanes(bytes, lanes);
         Ok(InstructionSink { bytes })
     }
 
@@ -117,7 +123,8 @@ impl<'a, A: Allocator> InstructionSink<'a, A> {
         ensures* unchanged { sem 𝓛 (IsUnchangedAtErr A.row A.Allocator self.entry result) }
     {
         let InstructionSink { bytes } = self;
-        append_lane(bytes, Opcode::after_fd(number), lane)?;
+        append_opcode(bytes, Opcode::after_fd(number))?;
+        bytes.push_reserved(lane);
         Ok(InstructionSink { bytes })
     }
 }

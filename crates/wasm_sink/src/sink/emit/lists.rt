@@ -12,14 +12,12 @@ ghost use Rattle.wasm_sink.specs.ListCalls.{EmitsItems, EmitsList};
 use crate::sink::InstructionSink;
 use std::alloc::Allocator;
 use wasm_codec::encode::EncodeError;
-use wasm_instructions::appenders::{
-    append_branch_table, append_resume, append_resume_throw, append_try_table, append_type_list,
-};
+use wasm_instructions::appenders::{Before, append_list_call, append_type_list};
 use wasm_instructions::operands::{BlockType, Catch, Handle};
 use wasm_instructions::table::Opcode;
 use wasm_types::types::ValType;
 
-#[tactic(auto, using(wasm_instructions::proofs::OpcodeLaws::in_table_short, crate::proofs::WrittenCalls::shortest_call), unfolding(wasm_instructions::specs::Appending::AppendsAll))]
+#[tactic(auto, using(wasm_instructions::proofs::OpcodeLaws::in_table_short))]
 impl<'a, A: Allocator> InstructionSink<'a, A> {
     /// Appends an instruction without a prefix, with a list of value types.
     pub(in crate::sink) fn emit_types(
@@ -50,7 +48,7 @@ impl<'a, A: Allocator> InstructionSink<'a, A> {
     {
         let InstructionSink { bytes } = self;
         let op = Opcode::without_prefix(number);
-        append_branch_table(bytes, op, labels, default)?;
+        append_list_call(bytes, op, Before::Nothing, labels, Some(default))?;
         Ok(InstructionSink { bytes })
     }
 
@@ -68,7 +66,7 @@ impl<'a, A: Allocator> InstructionSink<'a, A> {
     {
         let InstructionSink { bytes } = self;
         let op = Opcode::without_prefix(number);
-        append_try_table(bytes, op, block_type, clauses)?;
+        append_list_call(bytes, op, Before::Block(block_type), clauses, None)?;
         Ok(InstructionSink { bytes })
     }
 
@@ -86,7 +84,7 @@ impl<'a, A: Allocator> InstructionSink<'a, A> {
     {
         let InstructionSink { bytes } = self;
         let op = Opcode::without_prefix(number);
-        append_resume(bytes, op, index, handlers)?;
+        append_list_call(bytes, op, Before::Index(index), handlers, None)?;
         Ok(InstructionSink { bytes })
     }
 
@@ -105,7 +103,7 @@ impl<'a, A: Allocator> InstructionSink<'a, A> {
     {
         let InstructionSink { bytes } = self;
         let op = Opcode::without_prefix(number);
-        append_resume_throw(bytes, op, first, second, handlers)?;
+        append_list_call(bytes, op, Before::TwoIndexes(first, second), handlers, None)?;
         Ok(InstructionSink { bytes })
     }
 }

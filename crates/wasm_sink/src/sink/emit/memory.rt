@@ -10,11 +10,12 @@ ghost use Rattle.wasm_instructions.specs.declared.table.call.Operands.TheVariant
 use crate::sink::InstructionSink;
 use std::alloc::Allocator;
 use wasm_codec::encode::EncodeError;
-use wasm_instructions::appenders::{append_mem, append_mem_lane};
+use wasm_instructions::appenders::append_opcode;
+use wasm_instructions::encode::put_mem_arg;
 use wasm_instructions::operands::{Lane, MemArg};
 use wasm_instructions::table::{Opcode, Prefix};
 
-#[tactic(auto, using(crate::proofs::WrittenCalls::short_call, wasm_instructions::proofs::OpcodeLaws::in_table_short, crate::proofs::WrittenCalls::shortest_call))]
+#[tactic(auto, using(crate::proofs::WrittenCalls::short_opcode, wasm_instructions::proofs::OpcodeLaws::in_table_short))]
 impl<'a, A: Allocator> InstructionSink<'a, A> {
     /// Appends an instruction with a memory argument.
     pub(in crate::sink) fn emit_mem(
@@ -28,7 +29,11 @@ impl<'a, A: Allocator> InstructionSink<'a, A> {
         ensures* unchanged { sem 𝓛 (IsUnchangedAtErr A.row A.Allocator self.entry result) }
     {
         let InstructionSink { bytes } = self;
-        append_mem(bytes, Opcode { prefix, number }, memarg)?;
+        if memarg.align >= 64 {
+            return Err(EncodeError::Alignment);
+        }
+        append_opcode(bytes, Opcode { prefix, number })?;
+        put_mem_arg(bytes, memarg);
         Ok(InstructionSink { bytes })
     }
 
@@ -44,7 +49,12 @@ impl<'a, A: Allocator> InstructionSink<'a, A> {
         ensures* unchanged { sem 𝓛 (IsUnchangedAtErr A.row A.Allocator self.entry result) }
     {
         let InstructionSink { bytes } = self;
-        append_mem_lane(bytes, Opcode::after_fd(number), memarg, lane)?;
+        if memarg.align >= 64 {
+            return Err(EncodeError::Alignment);
+        }
+        append_opcode(bytes, Opcode::after_fd(number))?;
+        put_mem_arg(bytes, memarg);
+        bytes.push_reserved(lane);
         Ok(InstructionSink { bytes })
     }
 }

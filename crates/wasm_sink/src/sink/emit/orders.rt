@@ -8,11 +8,13 @@ ghost use Rattle.wasm_instructions.specs.declared.table.call.Operands.TheVariant
 use crate::sink::InstructionSink;
 use std::alloc::Allocator;
 use wasm_codec::encode::EncodeError;
-use wasm_instructions::appenders::{append_order, append_order_index, append_order_two_indexes};
+use wasm_codec::encode::leb128::put_u32;
+use wasm_instructions::appenders::append_opcode;
+use wasm_instructions::encode::put_ordering;
 use wasm_instructions::operands::Ordering;
 use wasm_instructions::table::Opcode;
 
-#[tactic(auto, using(crate::proofs::WrittenCalls::short_call, wasm_instructions::proofs::OpcodeLaws::in_table_short, crate::proofs::WrittenCalls::shortest_call))]
+#[tactic(auto, using(wasm_instructions::proofs::OpcodeLaws::in_table_short))]
 impl<'a, A: Allocator> InstructionSink<'a, A> {
     /// Appends an instruction after `0xFE`, with an ordering.
     pub(in crate::sink) fn emit_order(
@@ -25,7 +27,8 @@ impl<'a, A: Allocator> InstructionSink<'a, A> {
         ensures* unchanged { sem 𝓛 (IsUnchangedAtErr A.row A.Allocator self.entry result) }
     {
         let InstructionSink { bytes } = self;
-        append_order(bytes, Opcode::after_fe(number), ordering)?;
+        append_opcode(bytes, Opcode::after_fe(number))?;
+        put_ordering(bytes, ordering);
         Ok(InstructionSink { bytes })
     }
 
@@ -41,7 +44,9 @@ impl<'a, A: Allocator> InstructionSink<'a, A> {
         ensures* unchanged { sem 𝓛 (IsUnchangedAtErr A.row A.Allocator self.entry result) }
     {
         let InstructionSink { bytes } = self;
-        append_order_index(bytes, Opcode::after_fe(number), ordering, index)?;
+        append_opcode(bytes, Opcode::after_fe(number))?;
+        put_ordering(bytes, ordering);
+        put_u32(bytes, index);
         Ok(InstructionSink { bytes })
     }
 
@@ -58,7 +63,10 @@ impl<'a, A: Allocator> InstructionSink<'a, A> {
         ensures* unchanged { sem 𝓛 (IsUnchangedAtErr A.row A.Allocator self.entry result) }
     {
         let InstructionSink { bytes } = self;
-        append_order_two_indexes(bytes, Opcode::after_fe(number), ordering, first, second)?;
+        append_opcode(bytes, Opcode::after_fe(number))?;
+        put_ordering(bytes, ordering);
+        put_u32(bytes, first);
+        put_u32(bytes, second);
         Ok(InstructionSink { bytes })
     }
 }

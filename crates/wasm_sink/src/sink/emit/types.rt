@@ -9,12 +9,15 @@ ghost use Rattle.wasm_instructions.specs.declared.table.call.Operands.TheVariant
 use crate::sink::InstructionSink;
 use std::alloc::Allocator;
 use wasm_codec::encode::EncodeError;
-use wasm_instructions::appenders::{append_block, append_cast, append_heap, append_type};
+use wasm_codec::encode::leb128::put_u32;
+use wasm_instructions::appenders::{append_opcode, append_type};
+use wasm_instructions::encode::{put_block_type, put_castop};
 use wasm_instructions::operands::BlockType;
 use wasm_instructions::table::{Opcode, Prefix};
+use wasm_types::encode::put_heap_type;
 use wasm_types::types::{HeapType, RefType, ValType};
 
-#[tactic(auto, using(crate::proofs::WrittenCalls::short_call, wasm_instructions::proofs::OpcodeLaws::in_table_short, crate::proofs::WrittenCalls::shortest_call))]
+#[tactic(auto, using(crate::proofs::WrittenCalls::short_opcode, wasm_instructions::proofs::OpcodeLaws::in_table_short))]
 impl<'a, A: Allocator> InstructionSink<'a, A> {
     /// Appends an instruction without a prefix, with a block type.
     pub(in crate::sink) fn emit_block(
@@ -27,7 +30,8 @@ impl<'a, A: Allocator> InstructionSink<'a, A> {
         ensures* unchanged { sem 𝓛 (IsUnchangedAtErr A.row A.Allocator self.entry result) }
     {
         let InstructionSink { bytes } = self;
-        append_block(bytes, Opcode::without_prefix(number), block_type)?;
+        append_opcode(bytes, Opcode::without_prefix(number))?;
+        put_block_type(bytes, block_type);
         Ok(InstructionSink { bytes })
     }
 
@@ -43,7 +47,8 @@ impl<'a, A: Allocator> InstructionSink<'a, A> {
         ensures* unchanged { sem 𝓛 (IsUnchangedAtErr A.row A.Allocator self.entry result) }
     {
         let InstructionSink { bytes } = self;
-        append_heap(bytes, Opcode { prefix, number }, heap_type)?;
+        append_opcode(bytes, Opcode { prefix, number })?;
+        put_heap_type(bytes, heap_type);
         Ok(InstructionSink { bytes })
     }
 
@@ -75,7 +80,11 @@ impl<'a, A: Allocator> InstructionSink<'a, A> {
         ensures* unchanged { sem 𝓛 (IsUnchangedAtErr A.row A.Allocator self.entry result) }
     {
         let InstructionSink { bytes } = self;
-        append_cast(bytes, Opcode::after_fb(number), label, from, to)?;
+        append_opcode(bytes, Opcode::after_fb(number))?;
+        put_castop(bytes, from.nullable, to.nullable);
+        put_u32(bytes, label);
+        put_heap_type(bytes, from.heap_type);
+        put_heap_type(bytes, to.heap_type);
         Ok(InstructionSink { bytes })
     }
 }

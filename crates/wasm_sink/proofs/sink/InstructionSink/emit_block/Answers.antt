@@ -1,18 +1,8 @@
 use Rattle.std.proofs.Common.{rules, refl}
-use Rattle.wasm_instructions.specs.formats.Opcodes.{without_prefix}
-use Rattle.wasm_instructions.specs.declared.table.call.Operands.TheVariants as operands
-use Rattle.wasm_sink.proofs.WrittenCalls.{short_call, shortest_call}
+use Rattle.wasm_instructions.specs.formats.Instructions.{operands_format}
+use Rattle.wasm_sink.proofs.WrittenCalls.{emitted}
 use Rattle.wasm_sink.proofs.sink.InstructionSink.emit_block.Goals as goal
 
 pub returns : goal.returns
-returns g c = (
-  search (rules),
-  record {
-    emits = record {
-      wrote = (search (rules), shortest_call (without_prefix c.args.number) (operands.Block c.args.block_type) c.requires.call (search (rules)) tt tt, search (rules, short_call));
-      same = refl;
-      room = search (rules);
-    };
-    unchanged = tt;
-  },
-)
+unfolding operands_format
+returns g c = (search (rules), record { emits = emitted _ _ _ _ _ _ c.requires.call c.without_prefix.ensures c.in_ok-append_opcode.ensures.ok c.put_block_type.ensures.items refl (search (rules)) tt tt tt; unchanged = tt })

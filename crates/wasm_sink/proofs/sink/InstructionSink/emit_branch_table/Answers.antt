@@ -4,17 +4,18 @@ use Rattle.wasm_instructions.specs.declared.table.opcode.Kind.TheVariants as kin
 use Rattle.wasm_instructions.specs.Instructions.{IsShort}
 use Rattle.wasm_instructions.specs.formats.Opcodes.{without_prefix}
 use Rattle.wasm_instructions.specs.declared.table.call.Operands.TheVariants as operands
-use Rattle.wasm_instructions.specs.Appending.{AppendsAll}
+use Rattle.wasm_instructions.specs.Appending.{AppendsAll, before_bytes, after_bytes}
+use Rattle.wasm_instructions.specs.formats.Instructions.{instruction, operands_format}
 use Rattle.wasm_sink.proofs.WrittenCalls.{given, shortest_call}
 use Rattle.wasm_sink.proofs.sink.InstructionSink.emit_branch_table.Goals as goal
 
-pub append_branch_table-requires-clause-short : goal.append_branch_table-requires-clause-short
-append_branch_table-requires-clause-short g c = subst IsShort (sym c.without_prefix-op.ensures) (in_table_short (without_prefix c.args.number) kinds.BrTable c.requires.call)
+pub append_list_call-requires-clause-short : goal.append_list_call-requires-clause-short
+append_list_call-requires-clause-short g c = subst IsShort (sym c.without_prefix-op.ensures) (in_table_short (without_prefix c.args.number) kinds.BrTable c.requires.call)
 
 pub returns : goal.returns
-unfolding AppendsAll
+unfolding AppendsAll before_bytes after_bytes instruction operands_format
 returns g c =
-    let ran = c.in_ok-append_branch_table.ensures.ok in (
+    let ran = c.in_ok-append_list_call.ensures.ok in (
       search (rules),
       record {
         emits = record {

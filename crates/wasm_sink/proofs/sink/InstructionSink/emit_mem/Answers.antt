@@ -1,24 +1,8 @@
 use Rattle.std.proofs.Common.{rules, refl}
-use Rattle.wasm_sink.specs.Sink.{opcode_of}
-use Rattle.wasm_instructions.proofs.OpcodeLaws.{in_table_short}
-use Rattle.wasm_instructions.specs.declared.table.opcode.Kind.TheVariants as kinds
-use Rattle.wasm_instructions.specs.declared.table.call.Operands.TheVariants as operands
-use Rattle.wasm_sink.proofs.WrittenCalls.{short_call, shortest_call}
+use Rattle.wasm_instructions.specs.formats.Instructions.{operands_format}
+use Rattle.wasm_sink.proofs.WrittenCalls.{emitted_aligned}
 use Rattle.wasm_sink.proofs.sink.InstructionSink.emit_mem.Goals as goal
 
-pub append_mem-requires : goal.append_mem-requires
-append_mem-requires g c = record { short = in_table_short (opcode_of c.args.prefix c.args.number) kinds.Mem c.requires.call }
-
 pub returns : goal.returns
-returns g c = (
-  search (rules),
-  record {
-    emits = record {
-      wrote = (search (rules), shortest_call (opcode_of c.args.prefix c.args.number) (operands.Mem c.args.memarg) c.requires.call (search (rules)) tt tt, search (rules, short_call), search (rules));
-      same = refl;
-      alignment = search (rules);
-      room = search (rules);
-    };
-    unchanged = tt;
-  },
-)
+unfolding operands_format
+returns g c = (search (rules), record { emits = emitted_aligned _ _ _ _ _ _ _ c.requires.call refl c.in_ok-append_opcode.ensures.ok c.put_mem_arg.ensures.items refl (search (rules)) tt (search (rules)) tt (search (rules)); unchanged = tt })

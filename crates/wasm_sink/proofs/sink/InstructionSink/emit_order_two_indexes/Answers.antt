@@ -1,16 +1,9 @@
-use Rattle.std.proofs.Common.{rules, refl}
-use Rattle.wasm_sink.proofs.WrittenCalls.{short_call, shortest_call}
+use Rattle.std.proofs.Common.{rules, refl, arith}
+use Rattle.std.proofs.lemmas.Grind.{common_steps}
+use Rattle.wasm_instructions.specs.formats.Instructions.{operands_format}
+use Rattle.wasm_sink.proofs.WrittenCalls.{emitted}
 use Rattle.wasm_sink.proofs.sink.InstructionSink.emit_order_two_indexes.Goals as goal
 
 pub returns : goal.returns
-returns g c = (
-  search (rules),
-  record {
-    emits = record {
-      wrote = (search (rules), search (rules, shortest_call), search (rules, short_call));
-      same = refl;
-      room = search (rules);
-    };
-    unchanged = tt;
-  },
-)
+unfolding operands_format
+returns g c = (search (rules), record { emits = emitted _ _ _ _ _ _ c.requires.call c.after_fe.ensures c.in_ok-append_opcode.ensures.ok (grind (arith, common_steps)) refl (search (rules)) tt tt tt; unchanged = tt })

@@ -1,25 +1,20 @@
-use Rattle.std.proofs.Common.{rules, refl, subst, sym}
-use Rattle.wasm_instructions.proofs.OpcodeLaws.{in_table_short}
-use Rattle.wasm_instructions.specs.declared.table.opcode.Kind.TheVariants as kinds
-use Rattle.wasm_instructions.specs.Instructions.{IsShort}
+use Rattle.std.proofs.Common.{rules, refl, sym}
 use Rattle.wasm_instructions.specs.formats.Opcodes.{without_prefix}
 use Rattle.wasm_instructions.specs.declared.table.call.Operands.TheVariants as operands
-use Rattle.wasm_instructions.specs.Appending.{AppendsAll}
+use Rattle.wasm_instructions.specs.Appending.{AppendsAll, before_bytes, after_bytes}
+use Rattle.wasm_instructions.specs.formats.Instructions.{instruction, operands_format}
 use Rattle.wasm_sink.proofs.WrittenCalls.{given, shortest_call}
 use Rattle.wasm_sink.proofs.sink.InstructionSink.emit_try_table.Goals as goal
 
-pub append_try_table-requires-clause-short : goal.append_try_table-requires-clause-short
-append_try_table-requires-clause-short g c = subst IsShort (sym c.without_prefix-op.ensures) (in_table_short (without_prefix c.args.number) kinds.TryTable c.requires.call)
-
 pub returns : goal.returns
-unfolding AppendsAll
+unfolding AppendsAll before_bytes after_bytes instruction operands_format
 returns g c =
-    let ran = c.in_ok-append_try_table.ensures.ok in (
+    let ran = c.in_ok-append_list_call.ensures.ok in (
       search (rules),
       record {
         emits = record {
-          wrote = (ran.0, ran.1, rw (sym c.without_prefix-op.ensures) ran.2, shortest_call (without_prefix c.args.number) (operands.TryTable c.args.block_type ran.0) c.requires.call (search (rules)) ran.4 ran.3, ran.3);
-          stands = λ xs yields. rw (sym (given g.I.Iterator.next_gives c.args.clauses ran.0 xs ran.1 yields), sym c.without_prefix-op.ensures) ran.2;
+          wrote = (ran.0, ran.1, search (rules), shortest_call (without_prefix c.args.number) (operands.TryTable c.args.block_type ran.0) c.requires.call (search (rules)) ran.4 ran.3, ran.3);
+          stands = λ xs yields. rw (sym (given g.I.Iterator.next_gives c.args.clauses ran.0 xs ran.1 yields)) (search (rules));
           same = refl;
           err = tt;
         };

@@ -9,7 +9,7 @@ returns g c = (
   search (rules),
   record {
     emits = record {
-      wrote = (search (rules), shortest_call (without_prefix c.args.number) (operands.Types c.args.types.now) c.requires.call tt c.in_ok-append_type_list.ensures.fits.1 c.in_ok-append_type_list.ensures.fits.0.1, search (rules));
+      wrote = (search (rules), shortest_call (without_prefix c.args.number) (operands.Types c.args.types.now) c.requires.call tt c.in_ok-append_type_list.ensures.counted.1 c.in_ok-append_type_list.ensures.counted.0, search (rules));
       same = refl;
     };
     unchanged = tt;
