@@ -1,57 +1,44 @@
-# Shared by bin/wasmnorm and bin/wasmcanon. Runs a program of this repository. If the program isn't built yet, or its
-# sources have changed, the kit's command rt proves and builds it first. Progress goes to standard error.
+# shellcheck shell=bash
+# Sourced by bin/wasmnorm, bin/wasmcanon and scripts/install. Runs a program of this repository. If the program isn't
+# built yet, or its sources have changed, it comes from the user's cache, or the kit's command rt proves and builds it.
+# Progress goes to standard error.
 #
-# The script that sources this file sets $self to its own path, $program to the name of the program and its crate,
-# $words to arguments that the program answers at once, $trial to arguments with which it reads a module from standard
-# input and writes less than 1 MiB, and $usual to the usual time of a proof from a fresh clone.
+# The script that sources this file sets $self to the path of the launcher, and $program to the name of the program and
+# its crate.
 here=$PWD
 cd "${self%/*}/.."
 root=$PWD
+speaker=$program
+. scripts/builds.bash
+# The program answers the argument $words at once. With $trial it reads a module from standard input, and writes
+# less than 1 MiB. $usual is the usual time of a proof from a fresh clone, and $help the source of its help text.
+case $program in
+    wasmnorm) words=--version trial=module usual="10 minutes" help=crates/wasmnorm/src/texts.rt ;;
+    wasmcanon) words=--version trial=--check usual="20 minutes" help=crates/wasmcanon/src/options.rt ;;
+esac
 hash rt 2>/dev/null || true
 kit=${BASH_CMDS[rt]-crates.txt} # without rt, a file that exists
 out=$root/crates/$program/out
 built=$out/$program
 kept=$out/kept # the program, the checksum and stamps of its sources, and the output of rt; without proof $out/unproved
 
-say() {
-    echo "$program: $*" >&2
-}
-
 need_rt() {
     [ "$kit" != crates.txt ] || { say "rt not found: put the kit's command rt on the PATH"; exit 5; }
 }
 
-# Prints the lines of crates.txt for the program's crate and its dependencies, lowest first.
-crate_lines() {
-    awk -F: -v program="$program" '/^[a-z]/ { split($1, name, " "); uses[name[1]] = $2; order[++count] = name[1] }
-        function reach(crate, list, n, i) {
-            if (crate in reached || !(crate in uses)) return
-            reached[crate] = 1
-            n = split(uses[crate], list, " ")
-            for (i = 1; i <= n; i++) reach(list[i])
-        }
-        END {
-            reach(program)
-            for (i = 1; i <= count; i++) if (order[i] in reached) print order[i] ":" uses[order[i]]
-        }' crates.txt
-}
-
-folders() { crate_lines | sed 's/:.*//; s|^|crates/|' | paste -sd ' '; }
-
 # Prints the kit's version and a checksum of the sources. Without the kit, takes the version of the last build.
 sources() {
     if [ "$kit" != crates.txt ]; then rt version; else head -n 1 "$kept/sources"; fi
-    {
-        crate_lines
-        find -L $(folders) -name out -prune -o -type f \( -name '*.rt' -o -name '*.antt' \) -print0 |
-            LC_ALL=C sort -z | xargs -0 sha256sum
-    } | sha256sum
+    checksum "$program"
 }
 
 # Prints the inode and the change time, which no command can set back, of the files in these folders, of crates.txt and
-# of the kit's command. Arguments: FOLDERS, and conditions for find.
+# HANDLES, and of the kit's command. Arguments: FOLDERS, and conditions for find.
 stamps() {
-    exec find -L $1 crates.txt "$kit" -name out -prune -o "${@:2}" -printf '%i %C@\n'
+    local list
+    read -ra list <<<"$1"
+    [ ! -e HANDLES ] || list+=(HANDLES)
+    exec find -L "${list[@]}" crates.txt "$kit" -name out -prune -o "${@:2}" -printf '%i %C@\n'
 }
 
 # Checks whether all stamps are as they were. If so, a built program is current, and nothing else is checked.
@@ -68,7 +55,7 @@ is_current() {
     local began folders now
     [ -x "$kept/$program" ] || return 1
     began=$(date +%s)
-    folders=$(folders)
+    folders=$(folders "$program")
     now=$(stamps "$folders")
     [ "$(sources)" = "$(cat "$kept/sources" 2>/dev/null)" ] || return 1
     if awk -v began="$began" '$2 > began - 1 { recent = 1 } END { exit recent }' <<<"$now"; then
@@ -80,7 +67,7 @@ is_current() {
 begin() {
     need_rt
     began=$SECONDS
-    before=$(stamps "$(folders)" -type f)
+    before=$(stamps "$(folders "$program")" -type f)
     now=$(sources)
     mkdir -p "$kept"
     : >"$kept/log"
@@ -88,14 +75,14 @@ begin() {
 
 # Keeps the program in this FILE, unless the sources have changed since the build began.
 keep() {
-    if [ "$(stamps "$(folders)" -type f)" != "$before" ]; then
+    if [ "$(stamps "$(folders "$program")" -type f)" != "$before" ]; then
         say "the sources changed during the build: run it again"
         exit 5
     fi
     rm -f "$kept/stamps" "$kept/sources"
     mv -f "$1" "$kept/$program"
     echo "$now" >"$kept/sources"
-    say "$2 in $((SECONDS - began)) seconds"
+    say "$2"
 }
 
 fail() {
@@ -104,24 +91,35 @@ fail() {
     exit 5
 }
 
+# Proves and builds a crate in its folder, and the program in the last one.
+prove() {
+    if [ "$1" = "$program" ]; then
+        (cd "crates/$1" && rt run -- "$words" </dev/null) >>"$kept/log" 2>&1 || true
+    else
+        (cd "crates/$1" && rt lib) >>"$kept/log" 2>&1
+    fi
+}
+
+# Takes the program from the cache, or else proves and builds it.
 build() {
     local began before now count crate number=0
     begin
-    count=$(crate_lines | wc -l)
-    say "proving and building the program and its dependencies: about $usual from a fresh clone"
+    if take_cached "$program" "$now" "$kept/next"; then
+        keep "$kept/next" "taken from the cache: these sources were proved with ${now%%$'\n'*}"
+        return
+    fi
+    count=$(crates_of "$program" | wc -l)
+    say "proving and building the program and its dependencies: about $usual on two cores from a fresh clone"
     rm -f "$built"
-    for crate in $(crate_lines | sed 's/:.*//'); do
+    trap stop_clock EXIT
+    for crate in $(crates_of "$program"); do
         number=$((number + 1))
-        say "$number of $count: $crate"
-        if [ "$crate" = "$program" ]; then
-            (cd "crates/$crate" && rt run -- $words </dev/null) >>"$kept/log" 2>&1 || true
-        else
-            (cd "crates/$crate" && rt lib) >>"$kept/log" 2>&1 || break
-        fi
+        with_clock "$number of $count: $crate" 60 prove "$crate" || break
     done
     [ -x "$built" ] || fail "build failed"
     cp "$built" "$kept/next"
-    keep "$kept/next" "proved and built"
+    keep "$kept/next" "proved and built in $((SECONDS - began)) seconds"
+    cache "$program" "$now" "$kept/$program"
 }
 
 # Links the program that rt try builds in a folder of this ROOM, before rt removes that folder.
@@ -132,36 +130,54 @@ watch() {
     done
 }
 
+# Runs the program with rt try. Its temporary files go to this ROOM.
+try() {
+    (cd "crates/$program" && TMPDIR=$1 rt try -- "$trial") <bench/linked_json.wasm >"$1/output" 2>"$kept/log" || true
+}
+
 # Builds the sources without proof. rt try builds a program with run-time checks, runs it and removes it, and limits its
 # output to 1 MiB. The program itself has no such limit, so it is kept for all later runs.
 build_unproved() {
     local began before now room watcher
     begin
-    say "building without proof: about half a minute"
     room=$(mktemp -d "$kept/room.XXXXXX")
     watch "$room" &
     watcher=$!
-    trap 'kill "$watcher" 2>/dev/null || true; rm -rf "$room"' EXIT
-    (cd "crates/$program" && TMPDIR=$room rt try -- $trial) \
-        <bench/linked_json.wasm >"$room/output" 2>"$kept/log" || true
+    trap 'stop_clock; kill "$watcher" 2>/dev/null || true; rm -rf "$room"' EXIT
+    with_clock "building without proof: about half a minute" 10 try "$room"
     kill "$watcher" 2>/dev/null || true
     wait "$watcher" 2>/dev/null || true
     grep -q '^run=ended ' "$kept/log" && [ -x "$room/kept" ] || fail "build without proof failed"
-    keep "$room/kept" "built without proof"
+    keep "$room/kept" "built without proof in $((SECONDS - began)) seconds"
     rm -rf "$room"
     trap - EXIT
+}
+
+# Prints the help text of the program from its source, and the lines on this launcher.
+print_help() {
+    sed -n '/^const HELP: /,/";$/ { /^const/d; s/";$//; p }' "$help"
+    cat <<END_OF_HELP
+  5  the program could not be built
+
+The first run proves and builds the program: about $usual on two cores.
+With --unproved as the first argument, $program runs without proof. The first
+such run builds the program: about half a minute.
+END_OF_HELP
 }
 
 # Prints the version of the program, and the kit that proved it.
 print_version() {
     local kit state="not built yet"
     if kit=$(head -n 1 "$kept/sources" 2>/dev/null); then state="proved with $kit"; fi
-    echo "$program $(sed -n 's/^version = "\(.*\)"/\1/p' bindings/rust/Cargo.toml), $state"
+    echo "$program $(cat VERSION), $state"
 }
+
+# Takes or builds the proved program, if it isn't current.
+ensure_proved() { is_untouched || is_current || build; }
 
 # Runs the proved program with these arguments, in the folder of the caller.
 run_proved() {
-    is_untouched || is_current || build
+    ensure_proved
     cd "$here"
     exec "$kept/$program" "$@"
 }
@@ -173,4 +189,14 @@ run_unproved() {
     is_untouched || is_current || build_unproved
     cd "$here"
     exec "$kept/$program" "$@"
+}
+
+# Runs the launcher with these arguments.
+launch() {
+    case ${1-} in
+        --help | -h) print_help ;;
+        --version | -V) print_version ;;
+        --unproved) shift; run_unproved "$@" ;;
+        *) run_proved "$@" ;;
+    esac
 }

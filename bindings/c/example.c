@@ -1,4 +1,4 @@
-/* Reads a module from standard input, normalises it in place, and writes it to standard output.
+/* Reads a module from standard input, normalises it in place, and writes it to standard output. This is C and C++.
  *
  * The exit status is 0 if the module was written, 1 if it is malformed, 3 if memory ran out, and 4 if a read or a write
  * failed. */
@@ -10,12 +10,12 @@
  * the file is, because no pointer may be null. */
 static uint8_t *read_all(FILE *file, size_t *len) {
     size_t room = 1 << 16;
-    uint8_t *bytes = malloc(room);
+    uint8_t *bytes = (uint8_t *)malloc(room);
     *len = 0;
     while (bytes != NULL) {
         *len += fread(bytes + *len, 1, room - *len, file);
         if (*len < room) break;
-        uint8_t *more = realloc(bytes, room *= 2);
+        uint8_t *more = (uint8_t *)realloc(bytes, room *= 2);
         if (more == NULL) free(bytes);
         bytes = more;
     }

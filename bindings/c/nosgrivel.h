@@ -21,34 +21,52 @@
 #include <stddef.h>
 #include <stdint.h>
 
+/* The version of this header. */
+#define NOSGRIVEL_VERSION_MAJOR 0
+#define NOSGRIVEL_VERSION_MINOR 1
+#define NOSGRIVEL_VERSION_PATCH 0
+#define NOSGRIVEL_VERSION "0.1.0"
+
+/* The version as one number, for comparisons. */
+#define NOSGRIVEL_VERSION_NUMBER \
+    (NOSGRIVEL_VERSION_MAJOR * 65536u + NOSGRIVEL_VERSION_MINOR * 256u + NOSGRIVEL_VERSION_PATCH)
+
 #ifdef __cplusplus
 extern "C" {
 #endif
 
-/* The statuses, and the value of *count after each. */
+/* Return the version of the library as such a number. It is NOSGRIVEL_VERSION_NUMBER if the header and the library
+ * belong together. */
+uint32_t nosgrivel_version(void);
 
-/* Success. The minimal encoding was written, or the input is minimally encoded. *count: the length of the minimal
- * encoding. */
+/* The statuses of all other calls, and the value of *count after each. `normalise` and `canonicalise` return 0, 1, 3 or
+ * 5, in place 0, 1 or 3, `judge` 0, 1, 2 or 3, and `check` 0, 1 or 3. No call returns 4, the exit status of programs
+ * that couldn't read or write. */
+
+/* Success. `normalise` and `canonicalise` have written the minimal encoding; for `judge` and `check` the input is
+ * minimally encoded. *count: the length of the minimal encoding. */
 #define NOSGRIVEL_NORMAL 0u
 
-/* The input is malformed. Nothing was written. *count: the length of the longest prefix that decodes, so the offset of
- * the first section, instruction, entry or code body that doesn't. The checks also return this status if the input is
- * not minimally encoded; see below. */
+/* The input is malformed; for `check`, it is malformed or not minimally encoded. Nothing was written. *count: the
+ * length of the longest prefix that decodes, so the offset of the first section, instruction, entry or code body that
+ * doesn't; for `check`, the length of the longest prefix that is minimally encoded. It is 0 if the header of a module,
+ * or the count of a body, is malformed. */
 #define NOSGRIVEL_REFUSED 1u
 
-/* The input decodes, but its minimal encoding is shorter. Only the judges return this. *count: the length of the
- * minimal encoding. */
+/* The input decodes, but its minimal encoding is shorter, so `normalise` would change it. Only `judge` returns this.
+ * *count: the length of the minimal encoding. */
 #define NOSGRIVEL_NOT_NORMAL 2u
 
-/* Memory ran out. Nothing was written. *count is unchanged. */
+/* malloc or realloc returned a null pointer. Nothing was written, and all memory of the call is free again. *count is
+ * unchanged. The call may succeed later. */
 #define NOSGRIVEL_NO_MEMORY 3u
 
-/* The output is too short. Nothing was written. *count: the length that it needs. Call again with that length. */
+/* The output is too short. Nothing was written. Only `normalise` and `canonicalise` return this, and never if
+ * output_len >= input_len. *count: the length that the output needs. Call again with that length. */
 #define NOSGRIVEL_TOO_LONG 5u
 
-/* Write the minimal encoding of the input to the start of the output. It is never longer than the input, so the status
- * is never NOSGRIVEL_TOO_LONG if output_len >= input_len. After NOSGRIVEL_NORMAL the output past *count is unchanged;
- * after any other status all of it is.
+/* Write the minimal encoding of the input to the start of the output. It is never longer than the input. After
+ * NOSGRIVEL_NORMAL the output past *count is unchanged; after any other status all of it is.
  *
  * module: section sizes, type sections and code sections get their minimal encoding. All other bodies are copied.
  * instructions: a list of instructions that ends with the input. They need not nest, and need no final `end`.
@@ -62,8 +80,8 @@ uint32_t nosgrivel_normalise_type_section(
 uint32_t nosgrivel_normalise_code_section(
     const uint8_t *input, size_t input_len, uint8_t *output, size_t output_len, size_t *count);
 
-/* The same over the input. The status is never NOSGRIVEL_TOO_LONG. After NOSGRIVEL_NORMAL the first *count bytes are
- * the minimal encoding, and the others are unchanged; after any other status all bytes are unchanged. */
+/* The same over the input. After NOSGRIVEL_NORMAL the first *count bytes are the minimal encoding, and the others are
+ * unchanged; after any other status all bytes are unchanged. */
 uint32_t nosgrivel_normalise_module_in_place(uint8_t *bytes, size_t len, size_t *count);
 uint32_t nosgrivel_normalise_instructions_in_place(uint8_t *bytes, size_t len, size_t *count);
 uint32_t nosgrivel_normalise_type_section_in_place(uint8_t *bytes, size_t len, size_t *count);

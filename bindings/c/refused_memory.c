@@ -1,6 +1,6 @@
 /* Makes every allocation of every call fail once. The call must return NOSGRIVEL_NO_MEMORY, leave the output and the
  * count unchanged, and free all memory. Once no allocation fails, the call must succeed. Also tests outputs that are
- * too short.
+ * too short, and the version.
  *
  * This program is linked with --wrap for malloc, realloc and free, so that the archive allocates here. */
 #include "nosgrivel.h"
@@ -158,6 +158,7 @@ int main(void) {
         ROW(module, 11), ROW(instructions, 1), ROW(type_section, 4), ROW(code_section, 4),
         {"canonical forms", canonical_input, canonical_normal, sizeof canonical_input, sizeof canonical_normal, 8,
          nosgrivel_canonicalise, nosgrivel_canonicalise_in_place, nosgrivel_judge_canonical, nosgrivel_check_canonical}};
+    expect(nosgrivel_version() == NOSGRIVEL_VERSION_NUMBER, "nosgrivel_version", "version", (long)nosgrivel_version());
     for (size_t i = 0; i < sizeof rows / sizeof *rows; i++) {
         for (int call = 0; call < 4; call++) sweep(&rows[i], call);
         short_outputs(&rows[i]);

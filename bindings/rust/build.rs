@@ -1,6 +1,7 @@
-//! Links the proved static library, which `scripts/c-library` builds.
+//! Links the proved static library.
 //!
-//! Takes it from the folder that `NOSGRIVEL_LIB_DIR` names. The default is `bindings/out`.
+//! Takes it from the folder that `NOSGRIVEL_LIB_DIR` names. The default is the folder in which `scripts/c-library` or
+//! `scripts/install` put it.
 
 use std::env;
 use std::path::PathBuf;
@@ -20,15 +21,22 @@ fn main() {
     println!("cargo:rerun-if-changed={}", library.display());
     assert!(
         library.is_file(),
-        "{} not found: run scripts/c-library, or set NOSGRIVEL_LIB_DIR to its folder",
+        "{} not found: run scripts/c-library or scripts/install, or set NOSGRIVEL_LIB_DIR to its folder",
         library.display()
     );
     println!("cargo:rustc-link-search=native={}", folder.display());
     println!("cargo:rustc-link-lib=static=nosgrivel");
 }
 
+/// Returns the folder of the library beside this crate: in a clone, or below the prefix of an installation.
 fn default_folder() -> PathBuf {
-    PathBuf::from(variable("CARGO_MANIFEST_DIR")).join("../out")
+    let here = PathBuf::from(variable("CARGO_MANIFEST_DIR"));
+    let (built, installed) = (here.join("../out"), here.join("../../../lib"));
+    if !built.join(LIBRARY).is_file() && installed.join(LIBRARY).is_file() {
+        installed
+    } else {
+        built
+    }
 }
 
 fn variable(name: &str) -> String {

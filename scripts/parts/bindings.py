@@ -7,10 +7,14 @@ sanitizers. The Rust crate passes its tests. If a tool is missing, the checks th
 import os
 import re
 
+from parts import proofs
 from parts.common import ROOT, CannotRun, kit, lacks, last_lines, room, run as run_command, said, text_of
+from parts.kept import keep, sources
 
 OUT = ROOT / "bindings/out"
 ARCHIVE = OUT / "libnosgrivel.a"
+# What rt built for the archive.
+BUILT = OUT / "nosgrivel_c.a"
 HEADER = ROOT / "bindings/c/nosgrivel.h"
 # The functions of the heap, and those that the compiler calls to move and to fill bytes.
 NEEDED = {"free", "malloc", "memcpy", "memmove", "memset", "realloc"}
@@ -59,10 +63,10 @@ def try_c(report, folder):
     try_failing_allocations(report, folder)
 
 
-def fault_of_example(example):
+def fault_of_example(example, **how):
     if not example.exists():
         return "not built"
-    right, wrong = (run_command(example, input=data) for data in (LONGER, MALFORMED))
+    right, wrong = (run_command(example, input=data, **how) for data in (LONGER, MALFORMED))
     if (right.returncode, right.stdout) != (0, MINIMAL):
         return f"status {right.returncode}, output {right.stdout!r}, not {MINIMAL!r}"
     if wrong.returncode == 0 or wrong.stdout or text_of(wrong.stderr) != "refused at 11":
@@ -109,6 +113,8 @@ def try_rust(report):
 def run(report, words):
     if run_command(ROOT / "scripts/c-library", *words, OUT, stdout=None, stderr=None).returncode:
         raise CannotRun("scripts/c-library failed")
+    if words and proofs.proved.get("nosgrivel_c") == sources("nosgrivel_c"):
+        keep("nosgrivel_c", proofs.proved["nosgrivel_c"], BUILT)
     with room() as folder:
         try_names(report, folder)
         if not lacks(report, "cc", "the tests in C"):

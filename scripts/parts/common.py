@@ -12,6 +12,9 @@ import tempfile
 from documentation.sources import ROOT
 
 VECTORS = ROOT / "crates/replay/data"
+VERSION = (ROOT / "VERSION").read_text("utf-8").strip()
+# The sources of the help texts.
+HELP = {"wasmnorm": "crates/wasmnorm/src/texts.rt", "wasmcanon": "crates/wasmcanon/src/options.rt"}
 LAST_LINE = re.compile(r"(\d+) passed, (\d+) failed(?:, \d+ skipped)?$")
 
 
@@ -60,6 +63,15 @@ def last_lines(text, count=20):
     return "".join(f"\n    {line}" for line in text.splitlines()[-count:])
 
 
+def copy_tree(folder):
+    """Copies what git has of the tree, and what it doesn't ignore, to a folder. Links become files."""
+    listed = subprocess.check_output(["git", "ls-files", "-z", "-co", "--exclude-standard"], cwd=ROOT)
+    for name in listed.decode().split("\0"):
+        if name and (ROOT / name).is_file():
+            (folder / name).parent.mkdir(parents=True, exist_ok=True)
+            shutil.copy2(ROOT / name, folder / name)
+
+
 def lacks(report, tool, why):
     """Whether the machine lacks a tool. Then counts as skipped what needs it."""
     if shutil.which(tool):
@@ -71,6 +83,12 @@ def lacks(report, tool, why):
 def program(name):
     """The program of a crate, as `rt ci` builds it with LLVM."""
     return ROOT / "crates" / name / "out" / name
+
+
+def help_of(name):
+    """The help text of a program, from its source."""
+    source = (ROOT / HELP[name]).read_text("utf-8")
+    return re.search(r'^const HELP.*\n((?:.*\n)*?.*)";$', source, re.MULTILINE)[1]
 
 
 def both_programs(report, name):

@@ -1,14 +1,15 @@
-"""The launchers bin/wasmnorm and bin/wasmcanon: when they prove or build, their messages and arguments.
+"""The launchers bin/wasmnorm and bin/wasmcanon, and scripts/c-library: when they prove, their messages and arguments.
 
 They run in a small repository of their own, with a command rt that proves nothing: it logs its calls, and builds a
 program that writes its first argument and its sources.
 """
 import os
+import pty
 import re
 import shutil
 import time
 
-from parts.common import ROOT, room, run as run_command
+from parts.common import HELP, ROOT, VERSION, help_of, kit, lacks, room, run as run_command
 
 USAGE = "usage: wasmnorm calls|types|module"
 # Stamps that are two seconds old are kept.
@@ -21,7 +22,13 @@ echo "$1 ${{PWD##*/}}" >>"$room/calls"
 sources() {{ cat src/main.rt ../low/src/*.rt | tr -d '\n'; }}
 case $1 in
     version) cat "$room/kit/version" ;;
-    lib) [ ! -e "$room/no_proof" ] || {{ echo "not proved"; exit 1; }} ;;
+    doc) echo "{kit}/START-HERE.md" ;;
+    lib)
+        [ ! -e "$room/no_proof" ] || {{ echo "not proved"; exit 1; }}
+        [ "${{PWD##*/}}" = nosgrivel_c ] || exit 0
+        echo "int nosgrivel_call(void) {{ return 0; }}" | cc -x c -c -o out/one.o -
+        ar rcs out/libnosgrivel_c.a out/one.o
+        [ ! -e "$room/edit" ] || . "$room/edit" ;;
     run)
         mkdir -p out
         printf '#!/bin/sh\ncat >/dev/null\necho "$1 of %s"\n' "$(sources)" >"out/${{PWD##*/}}"
@@ -51,9 +58,10 @@ FILES = {
     "crates/low/proofs/Lib.antt": "law",
     "crates/other/src/lib.rt": "X",
     "crates/wasmcanon/src/main.rt": "C",
+    "crates/nosgrivel_c/src/lib.rt": "S",
 }
-COPIED = ["bin/launch.bash", "bin/wasmnorm", "bin/wasmcanon", "bindings/rust/Cargo.toml",
-          "crates/wasmcanon/src/options.rt"]
+COPIED = ["bin/launch.bash", "bin/wasmnorm", "bin/wasmcanon", "scripts/builds.bash", "scripts/c-library",
+          "VERSION", *HELP.values()]
 
 
 class Launchers:
@@ -61,10 +69,12 @@ class Launchers:
 
     def __init__(self, report, folder):
         self.report, self.room, self.root = report, folder, folder / "clone"
+        # The user's cache, which is emptied before each run unless keeps_cache is set.
+        self.cache, self.keeps_cache = folder / "cache", False
         self.path = f"{folder}/kit:{os.environ['PATH']}"
         self.status, self.out, self.err, self.calls = 0, "", "", []
         self.put(folder / "kit/version", "kit 1 logic 1\n")
-        self.put(folder / "kit/rt", STAND_IN.format(room=folder))
+        self.put(folder / "kit/rt", STAND_IN.format(room=folder, kit=kit()))
         (folder / "kit/rt").chmod(0o755)
         self.ends_with("run=ended status=0 runners=1 proved=no\n")
         for name, text in FILES.items():
@@ -84,13 +94,15 @@ class Launchers:
         """Sets what `rt try` writes to standard error."""
         self.put(self.room / "try.err", text)
 
-    def launch(self, *words, program="wasmnorm", launcher=None):
-        """Runs a launcher in the room."""
+    def launch(self, *words, program="wasmnorm", launcher=None, **more):
+        """Runs a launcher in the room, with `more` in its environment."""
         calls = self.room / "calls"
         calls.write_text("", "utf-8")
-        environment = {**os.environ, "PATH": self.path, "PWD": str(self.room)}
+        if not self.keeps_cache:
+            shutil.rmtree(self.cache, ignore_errors=True)
+        environment = {**os.environ, "PATH": self.path, "PWD": str(self.room), "XDG_CACHE_HOME": str(self.cache)}
         command = launcher or self.root / "bin" / program
-        ran = run_command(command, *words, input=b"bytes", cwd=self.room, env=environment)
+        ran = run_command(command, *words, input=b"bytes", cwd=self.room, env={**environment, **more})
         self.status, self.calls = ran.returncode, calls.read_text("utf-8").splitlines()
         self.out, self.err = (text.decode("utf-8", "replace").rstrip("\n") for text in (ran.stdout, ran.stderr))
 
@@ -143,16 +155,21 @@ class Launchers:
 
 
 def words(it):
-    it.launch("--help")
-    it.check("--help", it.status == 0)
-    it.check("--help: the usage", USAGE in it.out)
-    it.check("--help: an example", "2042" in it.out)
-    it.check("--help: the statuses", re.search("^Exit status", it.out, re.MULTILINE))
-    it.fits("--help: lines of 80 columns")
-    it.is_silent("--help: no rt")
-    it.launch("--version")
-    it.answers("--version", 0, "wasmnorm 0.1.0, not built yet")
-    it.is_silent("--version: no rt")
+    for program in ("wasmnorm", "wasmcanon"):
+        for option in ("--help", "-h"):
+            it.launch(option, program=program)
+            name = f"{program} {option}"
+            it.check(name, it.status == 0)
+            it.check(f"{name}: the text of the source", begins_with_help_of_the_source(it, program))
+            it.check(f"{name}: the usage", re.search(f"^Usage: {program} .*$", it.out, re.MULTILINE))
+            it.check(f"{name}: the statuses", re.search("^  4  .*\n  5  .*$", it.out, re.MULTILINE))
+            it.check(f"{name}: no code", not re.search(";$|^const", it.out, re.MULTILINE))
+            it.fits(f"{name}: lines of 80 columns")
+            it.is_silent(f"{name}: no rt")
+        for option in ("--version", "-V"):
+            it.launch(option, program=program)
+            it.answers(f"{program} {option}", 0, f"{program} {VERSION}, not built yet")
+            it.is_silent(f"{program} {option}: no rt")
     for wrong in ([], [""], ["instructions"], ["calls", "calls"], ["calls", "x"], ["x", "calls"], [b"\xff"],
                   ["--help", "calls"], ["--unproved"], ["--unproved", "x"], ["calls", "--unproved"],
                   ["--unproved", "calls", "x"], ["--unproved calls"]):
@@ -162,26 +179,9 @@ def words(it):
         it.is_silent(f"words {wrong}: no rt")
 
 
-def words_of_wasmcanon(it):
-    for option in ("--help", "-h"):
-        it.launch(option, program="wasmcanon")
-        it.check(f"wasmcanon {option}", it.status == 0)
-        it.check(f"wasmcanon {option}: the text of the source", begins_with_help_of_the_source(it))
-        it.check(f"wasmcanon {option}: the usage", re.search("^Usage: wasmcanon .*$", it.out, re.MULTILINE))
-        it.check(f"wasmcanon {option}: the statuses", re.search("^  [45]  .*$", it.out, re.MULTILINE))
-        it.check(f"wasmcanon {option}: no code", not re.search(";$|^const", it.out, re.MULTILINE))
-        it.fits(f"wasmcanon {option}: lines of 80 columns")
-        it.is_silent(f"wasmcanon {option}: no rt")
-    for option in ("--version", "-V"):
-        it.launch(option, program="wasmcanon")
-        it.answers(f"wasmcanon {option}", 0, "wasmcanon 0.1.0, not built yet")
-        it.is_silent(f"wasmcanon {option}: no rt")
-
-
-def begins_with_help_of_the_source(it):
-    source = (it.root / "crates/wasmcanon/src/options.rt").read_text("utf-8")
-    text = re.search(r'^const HELP.*\n((?:.*\n)*?.*)";$', source, re.MULTILINE)[1].splitlines()
-    return len(text) > 40 and it.out.splitlines()[:len(text)] == text
+def begins_with_help_of_the_source(it, program):
+    text = help_of(program).splitlines()
+    return len(text) > 20 and it.out.splitlines()[:len(text)] == text
 
 
 def first_use(it):
@@ -194,12 +194,13 @@ def first_use(it):
     it.answers("the first use", 0, "calls of A1")
     it.builds("the first use: the crates in order", "lib low", "run wasmnorm")
     it.says("the first use: how long", "10 minutes")
+    it.says("the first use: progress", "^wasmnorm: 1 of 2: low\nwasmnorm: 2 of 2: wasmnorm$")
     it.launch("types")
     it.answers("the second use", 0, "types of A1")
     it.complains("the second use: nothing said", "")
     it.proves_nothing("the second use: no proof")
     it.launch("--version")
-    it.answers("--version once built", 0, "wasmnorm 0.1.0, proved with kit 1 logic 1")
+    it.answers("--version once built", 0, f"wasmnorm {VERSION}, proved with kit 1 logic 1")
 
 
 def unchanged(it):
@@ -355,9 +356,113 @@ def runs_of_wasmcanon(it):
     it.answers("wasmcanon, a later --unproved", 0, f"{it.room}\n3: --unproved")
 
 
+def caches(it):
+    """Another clone takes what one clone proved. Nothing else is taken."""
+    it.keeps_cache = True
+    it.put(it.root / "HANDLES", "Handles allowed: none.\n")
+    it.proves_again("a first clone", "B9")
+    first, it.root = it.root, it.room / "second"
+    shutil.copytree(first, it.root, ignore=shutil.ignore_patterns("out"))
+    it.stays("a second clone", "B9")
+    it.says("a second clone: it says so", "^wasmnorm: taken from the cache: .* with kit 2 logic 1$")
+    it.builds("a second clone: no call of rt")
+    it.launch("--version")
+    it.answers("a second clone: the kit", 0, f"wasmnorm {VERSION}, proved with kit 2 logic 1")
+    it.launch("--check", program="wasmcanon")
+    it.proves("another program of the second clone: a proof")
+    it.write("crates/low/src/lib.rt", "0")
+    it.proves_again("a changed clone", "B0")
+    it.write("crates/low/src/lib.rt", "9")
+    it.stays("the clone as it was", "B9")
+    it.put(it.root / "HANDLES", "Handles allowed: Threads.\n")
+    it.proves_again("other handles", "B9")
+    it.put(it.room / "kit/version", "kit 3 logic 1\n")
+    (it.room / "kit/rt").touch()
+    it.proves_again("another kit for the clone", "B9")
+    found = [sorted(file.name for file in entry.iterdir()) for entry in (it.cache / "nosgrivel").iterdir()]
+    it.check(f"complete entries of the cache: {found}", found == [["build", "sources"]] * 5)
+
+
+def damaged_caches(it):
+    third = it.room / "third"
+    for name, damage in {"cut": lambda entry: os.truncate(entry / "build", 20),
+                         "of other sources": lambda entry: it.put(entry / "sources", "kit 3 logic 1\n0\n0\n"),
+                         "without sources": lambda entry: (entry / "sources").unlink()}.items():
+        for entry in (it.cache / "nosgrivel").glob("wasmnorm-*"):
+            damage(entry)
+        clone(it, third)
+        it.proves_again(f"an entry of the cache that is {name}", "B9")
+        clone(it, third)
+        it.stays(f"an entry of the cache that was {name}", "B9")
+    shutil.rmtree(it.cache)
+    it.put(it.cache, "a file")
+    clone(it, third)
+    it.proves_again("no folder for a cache", "B9")
+    clone(it, third)
+    it.launch("calls", XDG_CACHE_HOME="", HOME=str(it.room / "home"))
+    it.check("the cache in the home", len(list(it.room.glob("home/.cache/nosgrivel/wasmnorm-*"))) == 1)
+    clone(it, third)
+    it.launch("calls", XDG_CACHE_HOME="cache", HOME=str(it.room / "home"))
+    it.proves_nothing("a relative folder of caches: the home")
+    it.cache.unlink()
+    it.put(it.room / "edit", "printf 7 >../low/src/lib.rt\n")
+    clone(it, third)
+    it.launch("calls")
+    it.check("an edit during the proof: no entry of the cache", it.status == 5 and not it.cache.exists())
+    (it.room / "edit").unlink()
+    it.launch("--unproved", "calls")
+    it.check("unproved: no entry of the cache", it.status == 7 and not it.cache.exists())
+
+
+def libraries(it):
+    """scripts/c-library takes what another clone proved, too."""
+    if lacks(it.report, "cc", "the cache of scripts/c-library"):
+        return
+    with (it.room / "second/crates.txt").open("a") as listed:
+        listed.write("nosgrivel_c staticlib: low\n")
+
+    def build():
+        it.launch("lib", launcher=it.root / "scripts/c-library")
+        return it.status == 0 and (it.room / "lib/libnosgrivel.a").stat().st_size > 0
+
+    clone(it, it.room / "third")
+    it.put(it.room / "edit", "printf 5 >../low/src/lib.rt\n")
+    it.check("c-library: an edit during the proof", not build() and not list(it.cache.rglob("build")))
+    (it.room / "edit").unlink()
+    it.check("c-library", build())
+    it.builds("c-library: a proof", "doc third", "lib nosgrivel_c")
+    clone(it, it.room / "fourth")
+    it.write("crates/low/src/lib.rt", "5")
+    it.check("c-library in another clone", build())
+    it.builds("c-library in another clone: no proof", "doc fourth")
+    it.says("c-library in another clone: it says so", "^c-library: taken from the cache: .* with kit 3 logic 1$")
+    it.write("crates/nosgrivel_c/src/lib.rt", "T")
+    it.check("c-library in a changed clone", build())
+    it.proves("c-library in a changed clone: a proof")
+
+
+def clone(it, root):
+    """Makes a new clone of the second one."""
+    shutil.rmtree(root, ignore_errors=True)
+    shutil.copytree(it.room / "second", root, ignore=shutil.ignore_patterns("out"))
+    it.root = root
+
+
+def on_a_terminal(it):
+    """On a terminal, progress is a line that is written again each second."""
+    shutil.rmtree(it.root / "crates/wasmnorm/out", ignore_errors=True)
+    terminal, error = pty.openpty()
+    environment = {**os.environ, "PATH": it.path, "XDG_CACHE_HOME": str(it.cache)}
+    run_command(it.root / "bin/wasmnorm", "--unproved", "calls", stderr=error, env=environment)
+    os.close(error)
+    it.err = os.read(terminal, 4096).decode("utf-8", "replace")
+    os.close(terminal)
+    it.says("progress on a terminal", "\rwasmnorm: building without proof: about half a minute: 0 s\r\n")
+
+
 def run(report):
     with room() as folder:
         it = Launchers(report, folder)
-        for use in (words, words_of_wasmcanon, first_use, unchanged, changed_files, changed_trees, without_kit,
-                    unproved, failures_unproved, runs_of_wasmcanon):
+        for use in (words, first_use, unchanged, changed_files, changed_trees, without_kit, unproved, failures_unproved,
+                    runs_of_wasmcanon, caches, damaged_caches, libraries, on_a_terminal):
             use(it)

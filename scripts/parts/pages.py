@@ -1,20 +1,22 @@
 """The pages: links, paths, commands and their output, code, and numbers in prose.
 
 A block ```console has lines `$ command`, each followed by its output; a line `..` matches any lines. A block ```sh has
-commands without output. Those of OF_THE_GATE, which prove or measure, don't run here; the others must succeed. Commands
-run in a copy of the tree, with app.wasm at its top. There, `wasmnorm` and `wasmcanon` are the programs of `rt ci`,
-unless --unproved follows. A block ```rust is text of a source, whatever its comments and line breaks.
+commands without output. Those of OF_THE_GATE, which prove, measure or name a PREFIX, don't run here; the others must
+succeed. Commands run in a copy of the tree, with app.wasm at its top. There, `wasmnorm` and `wasmcanon` are the
+programs of `rt ci`, unless --unproved follows. The modules of bench/ that they read are valid. A block ```rust is text
+of a source, whatever its comments and line breaks.
 """
 import collections
 import os
+import pathlib
 import re
 import shutil
 import subprocess
 
 from documentation import sources
-from parts.common import ROOT, last_lines, program as built, room, run as run_command
+from parts.common import ROOT, copy_tree, last_lines, program as built, room, run as run_command
 
-PAGES = [ROOT / "README.md", *sorted(ROOT.glob("docs/*.md")), *sorted(ROOT.glob("bench/*.md")),
+PAGES = [ROOT / "README.md", ROOT / "CHANGELOG.md", *sorted(ROOT.glob("docs/*.md")), *sorted(ROOT.glob("bench/*.md")),
          *(ROOT / folder / "README.md" for folder in ("bindings", "built", "linked"))]
 MADE = sorted(ROOT.glob("docs/api/*.md"))
 SECONDS = 300
@@ -22,7 +24,8 @@ LINES_OF_README = 120
 WORDS = 12200
 
 # Commands that prove or measure, or that the gate runs.
-OF_THE_GATE = re.compile(r"(bash \.ci/run|rt \w+|scripts/(gate|c-library|bench)|cd \S+)( |$)")
+OF_THE_GATE = re.compile(r"(bash \.ci/run|rt \w+|scripts/(gate|c-library|install|vendor|bench)|cd \S+)( |$)"
+                         r"|.*\bPREFIX/")
 # The tools and built files that commands need.
 ARCHIVE = "bindings/out/libnosgrivel.a"
 NEEDS = {"cc ": ["cc", ARCHIVE], "cargo ": ["cargo", ARCHIVE], "node ": ["node"], "xxd": ["xxd"], "clang ": ["clang"]}
@@ -142,11 +145,7 @@ class Tree:
         self.folder = folder / "tree"
         self.programs = folder / "programs"
         self.programs.mkdir()
-        listed = subprocess.check_output(["git", "ls-files", "-z", "-co", "--exclude-standard"], cwd=ROOT)
-        for name in listed.decode().split("\0"):
-            if name and (ROOT / name).is_file():
-                (self.folder / name).parent.mkdir(parents=True, exist_ok=True)
-                shutil.copy2(ROOT / name, self.folder / name)
+        copy_tree(self.folder)
         for out in ROOT.glob("crates/*/out"):
             (self.folder / out.relative_to(ROOT)).symlink_to(out)
         (self.folder / "bindings/out").mkdir(parents=True)
@@ -236,6 +235,23 @@ def check_sh(judge, page, block, tree):
     status, printed = tree.run(f"set -e\n{whole}")
     shown = last_lines(printed[-1])
     judge("commands", page.place(block.line), "" if status == 0 else f"a command ends with status {status}:{shown}")
+
+
+IS_VALID = "process.exit(WebAssembly.validate(require('fs').readFileSync(process.argv[1])) ? 0 : 1)"
+
+
+def check_modules(judge, page):
+    """Modules that commands read are valid."""
+    for block in page.blocks:
+        names = set(re.findall(r"[\w./]+\.wasm\b", "\n".join(block.lines)))
+        for file in sorted((ROOT / "bench" / pathlib.Path(name).name) for name in names):
+            if not file.exists():
+                continue
+            if not shutil.which("node"):
+                judge.leave_out(page.place(block.line), f"{file.name}: node not found")
+                continue
+            ran = run_command("node", "-e", IS_VALID, file)
+            judge("modules", page.place(block.line), f"{file.name} isn't a valid module" if ran.returncode else "")
 
 
 def check_unfenced(judge, page):
@@ -356,6 +372,7 @@ def run(report):
             check_links(judge, page, pages)
             check_paths(judge, page)
             check_unfenced(judge, page)
+            check_modules(judge, page)
             check_numbers(judge, page, known)
             check_blocks(judge, page, tree, code)
     check_limits(judge)

@@ -5,9 +5,11 @@
 import dataclasses
 import os
 
-from parts.common import both_programs, room, run as run_command, under
+from parts.common import VERSION, both_programs, help_of, room, run as run_command, under
 
 USAGE = b"usage: wasmnorm calls|types|module\n"
+HELP_LINES = f"{help_of('wasmnorm')}\n".encode()
+VERSION_LINE = f"wasmnorm {VERSION}\n".encode()
 HEADER = b"\0asm\1\0\0\0"
 
 
@@ -48,6 +50,11 @@ CASES = [
     Case("a word before the mode", [b"x", b"calls"], b"\1", 2, error=USAGE),
     Case("a word after the mode", [b"calls", b"x"], b"\1", 2, error=USAGE),
     Case("a mode twice", [b"calls", b"calls"], b"\1", 2, error=USAGE),
+    Case("the help", [b"--help"], b"\xFF", 0, HELP_LINES),
+    Case("the help by a letter", [b"-h"], b"", 0, HELP_LINES),
+    Case("the version", [b"--version"], b"", 0, VERSION_LINE),
+    Case("the version by a letter", [b"-V"], b"", 0, VERSION_LINE),
+    Case("the help with a mode", [b"--help", b"calls"], b"\1", 2, error=USAGE),
     Case("an argument that isn't UTF-8", [b"\xFF"], b"\1", 2, error=USAGE),
 ]
 

@@ -1,4 +1,5 @@
-"""All that runs without proof: tests of crates, programs with vectors and examples, `wasmnorm` at its edges, launchers.
+"""All that runs without proof: tests of crates, programs with vectors and examples, `wasmnorm` at its edges, launchers,
+long modules.
 
 It runs two tasks at a time, in about three minutes. It proves nothing: that is for `rt check` and the gate.
 """
@@ -8,7 +9,7 @@ import re
 import subprocess
 import time
 
-from parts import launcher
+from parts import launcher, long_modules
 from parts.common import ROOT, last_lines, room, said
 from parts.program_runs import CASES
 from parts.report import Report
@@ -34,6 +35,7 @@ def tasks():
         if crate not in ("wasmnorm", "replay"):
             yield "program", run_program, crate
     yield "launchers", run_launchers, "bin"
+    yield "long modules", run_long_modules, "bin"
 
 
 def run_tests(report, crate):
@@ -80,7 +82,7 @@ def run_edges(report, crate):
         for number, case in enumerate(CASES, 10):
             (cases / str(number)).write_bytes(case.input)
             (cases / f"{number}.args").write_bytes(b"".join(word + b"\n" for word in case.words))
-            output += f"== {number}\n".encode() + case.output + b"\n" * bool(case.output)
+            output += f"== {number}\n".encode() + case.output + b"\n" * (case.output[-1:] not in (b"", b"\n"))
             error += case.error + f"case={number} run=ended status={case.status} runners=1 proved=no\n".encode()
         ran = try_crate(folder, crate, "--cases", cases)
     told = b"".join(ran.stderr.splitlines(True)[:-1])
@@ -92,6 +94,10 @@ def run_edges(report, crate):
 
 def run_launchers(report, _):
     launcher.run(report)
+
+
+def run_long_modules(report, _):
+    long_modules.run(report)
 
 
 def timed(title, task, crate, verbose):

@@ -58,7 +58,7 @@ fn answer(column: &str) -> Result<Vec<u8>, Error> {
 
 /// Reads a file of vectors: the mode, the input and the answer of each row.
 fn rows(file: &str) -> Vec<(String, Vec<u8>, String)> {
-    let folder = concat!(env!("CARGO_MANIFEST_DIR"), "/../../crates/replay/data/");
+    let folder = concat!(env!("CARGO_MANIFEST_DIR"), "/tests/data/");
     let text = std::fs::read_to_string(format!("{folder}{file}")).expect("the vectors");
     text.lines()
         .map(|line| {

@@ -2,7 +2,7 @@
 //!
 //! The argument names the form of the input: `calls` is a list of instructions, `types` the body of a type section, and
 //! `module` a module. In a module, `wasmnorm` shortens section sizes, type sections and code sections, and copies the
-//! bodies of all other sections.
+//! bodies of all other sections. `--help` and `--version` print a text.
 //!
 //! The exit status is 0 if the bytes were written, 1 if the input is malformed, 2 for invalid arguments, 3 if memory
 //! ran out, and 4 if a read or a write failed.
@@ -15,17 +15,29 @@ mod command;
 mod modes;
 mod run;
 mod streams;
+mod texts;
 
 use crate::command::{USAGE, USAGE_STATUS, mode_of, report, status};
 use crate::modes::Mode;
 use crate::run::{RunError, run};
 use crate::streams::flush;
+use crate::texts::text_of;
 use std::process::ExitCode;
 use std::{env, io};
 
+/// What the arguments ask for.
+#[derive(Clone, Copy)]
+enum Request {
+    /// To normalise standard input.
+    Normalise(Mode),
+    /// To print a text.
+    Print(&'static str),
+}
+
 fn main(rt: HostRuntime) -> ExitCode {
-    let code = match asked_mode(&rt) {
-        Ok(Some(mode)) => reported_status(&rt, run_standard(&rt, mode)),
+    let code = match read_request(&rt) {
+        Ok(Some(Request::Normalise(mode))) => reported_status(&rt, run_standard(&rt, mode)),
+        Ok(Some(Request::Print(text))) => reported_status(&rt, print_text(&rt, text)),
         Err(error) if error.kind() == io::ErrorKind::OutOfMemory => {
             reported_status(&rt, Err(RunError::Memory))
         }
@@ -37,13 +49,27 @@ fn main(rt: HostRuntime) -> ExitCode {
     ExitCode::from(code)
 }
 
-/// Reads the mode from the program's arguments.
+/// Reads the request from the program's arguments.
 ///
 /// `None` means that the arguments are invalid. Fails if memory runs out, or if an argument isn't UTF-8.
-fn asked_mode(rt: &HostRuntime) -> io::Result<Option<Mode>> {
+fn read_request(rt: &HostRuntime) -> io::Result<Option<Request>> {
     let words: Vec<String> = env::args(rt)?.skip(1).collect(rt.alloc())?;
     let args: Vec<&str> = words.iter().map(|word| word.as_str()).collect(rt.alloc())?;
-    Ok(mode_of(&args))
+    if let Some(text) = text_of(&args) {
+        return Ok(Some(Request::Print(text)));
+    }
+    match mode_of(&args) {
+        Some(mode) => Ok(Some(Request::Normalise(mode))),
+        None => Ok(None),
+    }
+}
+
+/// Prints the text and a line feed on standard output.
+fn print_text(rt: &HostRuntime, text: &str) -> Result<(), RunError> {
+    match println!(rt; "{text}") {
+        Ok(()) => Ok(()),
+        Err(_) => Err(RunError::Write),
+    }
 }
 
 /// Runs the program from standard input to standard output, and flushes the output.

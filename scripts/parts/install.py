@@ -1,0 +1,153 @@
+"""scripts/install into an empty folder: the programs, pages, libraries, C and Rust, with no clone beside them.
+
+It runs in a copy of the tree and proves nothing, because the cache there holds what `rt ci` and the part `bindings`
+built. The copy is removed before what was installed is tried.
+"""
+import os
+import shutil
+
+from parts.bindings import BUILT, FLAGS, LONGER, MINIMAL, expect, fault_of_example
+from parts.common import (ROOT, VERSION, CannotRun, copy_tree, help_of, lacks, last_lines, program, room,
+                          run as run_command, said, text_of)
+from parts.kept import keep, sources
+from parts.proofs import PROGRAMS
+
+# The proved builds, by their crates.
+BUILDS = {**{name: program(name) for name in PROGRAMS}, "nosgrivel_c": BUILT}
+FILES = [*(f"bin/{name}" for name in PROGRAMS), *(f"share/man/man1/{name}.1" for name in PROGRAMS),
+         "include/nosgrivel.h", "lib/libnosgrivel.a", "lib/libnosgrivel.so", f"lib/libnosgrivel.so.{VERSION}",
+         f"lib/libnosgrivel.so.{VERSION.rpartition('.')[0]}", "lib/pkgconfig/nosgrivel.pc",
+         "share/nosgrivel/example.c", "share/doc/nosgrivel/LICENSE", "share/doc/nosgrivel/CHANGELOG.md"]
+# A memory section with a padded number, and its canonical form.
+PADDED, CANONICAL = MINIMAL[:8] + b"\5\4\1\0\x81\0", MINIMAL[:8] + b"\5\3\1\0\1"
+
+
+class Prefix:
+    """An installation, and the report on it."""
+
+    def __init__(self, report, folder):
+        self.report, self.room, self.prefix = report, folder, folder / "prefix"
+
+    def expect(self, name, *words, **how):
+        return expect(self.report, name, *words, **how)
+
+    def answers(self, name, words, output, **how):
+        ran = run_command(*words, **how)
+        right = (ran.returncode, ran.stdout) == (0, output)
+        self.report.check(name, right, f"status {ran.returncode}, output {ran.stdout[:200]}, {text_of(ran.stderr)}")
+
+
+def install(report, folder):
+    """Installs from a copy of the tree, twice, once below DESTDIR. Removes the copy."""
+    for crate, file in BUILDS.items():
+        if not file.exists():
+            raise CannotRun(f"{file.relative_to(ROOT)} not found: `scripts/gate proofs bindings` builds it")
+    tree = folder / "tree"
+    copy_tree(tree)
+    environment = {**os.environ, "XDG_CACHE_HOME": str(folder / "cache")}
+    for crate, file in BUILDS.items():
+        keep(crate, sources(crate, cwd=tree), file, cwd=tree, env=environment)
+    words = {"into a folder": (folder / "prefix", {}), "again": (folder / "prefix", {}),
+             "below DESTDIR": ("/usr", {"DESTDIR": str(folder / "root")})}
+    for name, (prefix, more) in words.items():
+        ran = run_command(tree / "scripts/install", prefix, env={**environment, **more}, cwd=folder)
+        report.check(name, ran.returncode == 0, f"status {ran.returncode}{last_lines(said(ran))}")
+        report.check(f"{name}: no proof", "proving" not in said(ran), said(ran))
+    for words, status in (([], 2), (["--help"], 0), (["--force"], 2), (["a", "b"], 2)):
+        ran = run_command(tree / "scripts/install", *words, cwd=folder)
+        right = ran.returncode == status and "usage: install PREFIX" in said(ran)
+        report.check(f"words {words}", right, f"status {ran.returncode}{last_lines(said(ran))}")
+    shutil.rmtree(tree)
+
+
+def try_files(it):
+    """Compares the lists of files, and the prefix in the pkg-config file."""
+    def below(folder):
+        found = {str(file.relative_to(folder)) for file in folder.rglob("*") if not file.is_dir()}
+        return sorted(name for name in found if not name.startswith("share/nosgrivel/rust/"))
+
+    for folder in (it.prefix, it.room / "root/usr"):
+        it.report.check(f"the files below {folder.name}", below(folder) == sorted(FILES), below(folder))
+    staged = (it.room / "root/usr/lib/pkgconfig/nosgrivel.pc").read_text("utf-8")
+    it.report.check("the prefix of a staged file", "prefix=/usr\n" in staged, staged)
+
+
+def try_programs(it):
+    for name in PROGRAMS:
+        file = it.prefix / "bin" / name
+        it.answers(f"{name} --version", [file, "--version"], f"{name} {VERSION}\n".encode())
+        it.answers(f"{name} --help", [file, "--help"], f"{help_of(name)}\n".encode())
+        page = it.prefix / "share/man/man1" / f"{name}.1"
+        it.report.check(f"the options in {page.name}", options(help_of(name)) == options(unescaped(page)), "differ")
+        if not lacks(it.report, "groff", "the manual pages aren't checked"):
+            ran = run_command("groff", "-man", "-ww", "-z", page)
+            it.report.check(f"the marks of {page.name}", not said(ran), said(ran))
+    it.answers("wasmnorm", [it.prefix / "bin/wasmnorm", "module"], MINIMAL, input=LONGER)
+    it.answers("wasmcanon", [it.prefix / "bin/wasmcanon"], CANONICAL, input=PADDED)
+
+
+def options(text):
+    return {word.strip("[]`,.;:") for word in text.split() if word.startswith("--")}
+
+
+def unescaped(page):
+    text = page.read_text("utf-8")
+    for mark, plain in (("\\fB", ""), ("\\fR", ""), ("\\-", "-"), ("\\e", "\\")):
+        text = text.replace(mark, plain)
+    return text
+
+
+def try_c(it):
+    """Builds the example against both libraries, as C and as C++, with the words of pkg-config."""
+    library = it.prefix / "lib"
+    found = {**os.environ, "PKG_CONFIG_PATH": str(library / "pkgconfig"), "LD_LIBRARY_PATH": str(library)}
+    words = [f"-I{it.prefix}/include", f"-L{it.prefix}/lib", "-lnosgrivel"]
+    if not lacks(it.report, "pkg-config", "the words for the compiler aren't checked"):
+        it.answers("pkg-config --modversion", ["pkg-config", "--modversion", "nosgrivel"], f"{VERSION}\n".encode(),
+                   env=found)
+        asked = run_command("pkg-config", "--cflags", "--libs", "nosgrivel", env=found)
+        it.report.check("pkg-config --cflags --libs", text_of(asked.stdout).split() == words, said(asked))
+    archive = [words[0], it.prefix / "lib/libnosgrivel.a"]
+    for compiler, language in (("cc", "c"), ("c++", "c++")):
+        if lacks(it.report, compiler, f"the example isn't built by {compiler}"):
+            continue
+        flags = FLAGS[1:-2] + (["-std=c11"] if language == "c" else [])
+        source = ["-x", language, it.prefix / "share/nosgrivel/example.c", "-x", "none"]
+        for kind, linked in (("shared", words), ("static", archive)):
+            name, example = f"the example in {language}, {kind}", it.room / f"example-{language}-{kind}"
+            if it.expect(name, compiler, *flags, "-o", example, *source, *linked):
+                fault = fault_of_example(example, env=found)
+                it.report.check(f"{name}: its answers", not fault, fault)
+    if not lacks(it.report, "readelf", "the shared library isn't read"):
+        read = text_of(run_command("readelf", "-Wd", "--dyn-syms", it.prefix / "lib/libnosgrivel.so").stdout)
+        named = f"soname: [libnosgrivel.so.{VERSION.rpartition('.')[0]}]" in read
+        it.report.check("the name in the shared library", named, read[:2000])
+        ours = {line.split()[7] for line in read.splitlines() if " GLOBAL DEFAULT " in line and " UND " not in line}
+        others = sorted(name for name in ours if not name.startswith("nosgrivel_"))
+        it.report.check("the names of the shared library", ours and not others, f"others: {others}")
+
+
+def try_rust(it):
+    """Tests the installed crate where it is, and runs a crate that depends on it."""
+    target = {**os.environ, "CARGO_TARGET_DIR": str(it.room / "target")}
+    target.pop("NOSGRIVEL_LIB_DIR", None)
+    crate, user = it.prefix / "share/nosgrivel/rust", it.room / "user"
+    it.expect("the tests in Rust", "cargo", "test", "--offline", "--tests", cwd=crate, env=target)
+    (user / "src").mkdir(parents=True)
+    (user / "Cargo.toml").write_text('[package]\nname = "user"\nversion = "0.0.0"\nedition = "2021"\n\n'
+                                     f'[dependencies]\nnosgrivel = {{ path = "{crate}" }}\n', "utf-8")
+    shutil.copy(crate / "examples/normalise.rs", user / "src/main.rs")
+    (it.room / "longer.wasm").write_bytes(LONGER)
+    it.answers("a program in Rust", ["cargo", "run", "--offline", "--quiet", "--", it.room / "longer.wasm"], MINIMAL,
+               cwd=user, env=target)
+
+
+def run(report):
+    with room() as folder:
+        it = Prefix(report, folder)
+        install(report, folder)
+        try_files(it)
+        try_programs(it)
+        try_c(it)
+        if not lacks(report, "cargo", "the tests in Rust"):
+            try_rust(it)
