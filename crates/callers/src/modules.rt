@@ -2,7 +2,7 @@
 ghost use Rattle.std.specs.Prelude.{◌≡◌, ◌++◌, ◌∷◌, [], List, OnOk};
 ghost use Rattle.std.specs.List.{AllByRecursion};
 ghost use Rattle.wasm_encoder.specs.Outcomes.{IsOrMemory};
-ghost use Rattle.wasm_encoder.specs.TypedModules.{IsTypedSection};
+ghost use Rattle.wasm_encoder.specs.Modules.{IsTypedSection};
 ghost use Rattle.wasm_encoder.specs.ModuleFormats.{typed_module, raw_module};
 ghost use Rattle.wasm_encoder.specs.Sections.{TypedSection, SectionParts, section_of};
 ghost use Rattle.wasm_encoder.specs.EncodedLists.{body_bytes};

@@ -92,7 +92,7 @@ fn check_one(
 }
 
 /// Each part of the body from its beginning is refused, but for a custom section, which may hold any bytes after its name.
-fn check_cuts(alloc: Global, section: &str, body: &[u8]) -> Result<(), Mismatch> {
+pub fn check_cuts(alloc: Global, section: &str, body: &[u8]) -> Result<(), Mismatch> {
     if section == "custom" {
         return Ok(());
     }
@@ -132,7 +132,7 @@ fn check_refused(
 }
 
 /// The readers and the normaliser refuse the bytes, the wide ones at this place.
-fn check_refusal(alloc: Global, section: &str, body: &[u8], at: usize) -> Result<(), Mismatch> {
+pub fn check_refusal(alloc: Global, section: &str, body: &[u8], at: usize) -> Result<(), Mismatch> {
     let answers = all_answers(alloc, section, body)?;
     if answers.read != Err(at) {
         return Err(Mismatch::Read);

@@ -5,6 +5,7 @@
 mod answers;
 mod calls;
 mod columns;
+mod contents;
 mod cuts;
 mod decoded;
 mod encoded;
@@ -25,7 +26,7 @@ use std::rt::Files;
 use std::{fs, io};
 
 /// The files, and what their lines are.
-const FILES: [(&str, Suite); 17] = [
+const FILES: [(&str, Suite); 18] = [
     ("sink.tsv", Suite::Sink),
     ("types.tsv", Suite::Types),
     ("answers.tsv", Suite::Answers),
@@ -39,6 +40,7 @@ const FILES: [(&str, Suite); 17] = [
     ("cuts.tsv", Suite::Cuts),
     ("worked_sections.tsv", Suite::Decoded),
     ("worked_modules.tsv", Suite::Decoded),
+    ("worked_contents.tsv", Suite::Contents),
     ("linked_sections.tsv", Suite::Decoded),
     ("every_section.tsv", Suite::Decoded),
     ("passive_elements.tsv", Suite::Decoded),

@@ -1,7 +1,7 @@
 //! What the vectors of a file are of, and what holds the library to them.
 
 use crate::mismatch::Mismatch;
-use crate::{answers, cuts, decoded, encoded, entries, kinds, sections, sink, strict};
+use crate::{answers, contents, cuts, decoded, encoded, entries, kinds, sections, sink, strict};
 use std::alloc::Global;
 
 /// The vectors of a file.
@@ -21,6 +21,8 @@ pub enum Suite {
     Kinds,
     /// What is read of the body of a section, or of a module with every section decoded.
     Decoded,
+    /// What is read of the contents of a custom section.
+    Contents,
 }
 
 impl Suite {
@@ -34,6 +36,7 @@ impl Suite {
             Suite::Cuts => cuts::check(alloc, line),
             Suite::Kinds => kinds::check(line),
             Suite::Decoded => decoded::check(alloc, line),
+            Suite::Contents => contents::check(alloc, line),
         }
     }
 }

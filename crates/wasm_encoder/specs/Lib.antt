@@ -49,6 +49,16 @@ pub use Rattle.wasm_sections.specs.SectionKinds
 pub use Rattle.wasm_sections.specs.ListSections
 pub use Rattle.wasm_sections.specs.ElementSections
 pub use Rattle.wasm_sections.specs.NumberSections
+pub use Rattle.wasm_custom_sections.specs.formats.NameParts
+pub use Rattle.wasm_custom_sections.specs.formats.Names as NameSectionFormats
+pub use Rattle.wasm_custom_sections.specs.formats.ProducerParts
+pub use Rattle.wasm_custom_sections.specs.formats.Producers as ProducerFormats
+pub use Rattle.wasm_custom_sections.specs.formats.TargetFeatures as FeatureFormats
+pub use Rattle.wasm_custom_sections.specs.formats.BranchHints as HintFormats
+pub use Rattle.wasm_custom_sections.specs.Gaining
+pub use Rattle.wasm_custom_sections.specs.NamedSections
+pub use Rattle.wasm_custom_sections.specs.NameSections
+pub use Rattle.wasm_custom_sections.specs.KnownSections
 pub use Rattle.wasm_sink.specs.Sink
 pub use Rattle.wasm_sink.specs.ListCalls
 pub mod BuiltModules

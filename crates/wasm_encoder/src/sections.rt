@@ -8,6 +8,15 @@ ghost use Rattle.std.specs.Prelude.{◌≡◌};
 ghost use Rattle.wasm_lists.specs.EncodedLists.{EncodedItems};
 
 use crate::wasm_core::Section;
+pub use wasm_custom_sections::branch_hints::{BranchHint, BranchHints, FunctionHints};
+pub use wasm_custom_sections::custom_list::{CustomItem, CustomList};
+pub use wasm_custom_sections::known::{KnownCustomSection, known_custom_section};
+pub use wasm_custom_sections::name_maps::{IndirectNameMap, IndirectNaming, NameMap, Naming};
+pub use wasm_custom_sections::names::{NameSection, NameSubsection};
+pub use wasm_custom_sections::producers::{Producer, Producers, ProducersField, ProducersSection};
+pub use wasm_custom_sections::target_features::{
+    FeaturePrefix, TargetFeature, TargetFeaturesSection,
+};
 pub use wasm_entities::const_expr::ConstExpr;
 pub use wasm_entities::limits::{MemoryType, TableType};
 pub use wasm_entities::types::{EntityType, ExportKind, GlobalType, TagKind, TagType};
@@ -32,6 +41,9 @@ pub use wasm_whole_modules::modules::{
     read_whole_module_strict, rewrite_whole_module,
 };
 pub use wasm_whole_modules::order::{ModuleError, check_order};
+
+/// The id of sections whose name says what they hold.
+const CUSTOM_SECTION_ID: u8 = 0;
 
 impl<T: SectionItem> Section for ListSection<T> {
     ghost id = { λ _. T.section.id };
@@ -62,5 +74,21 @@ impl<'a> Section for CustomSection<'a> {
 
     fn id(&self) -> u8 {
         0
+    }
+}
+
+impl Section for NameSection {
+    ghost id = { λ _. 0 };
+
+    fn id(&self) -> u8 {
+        CUSTOM_SECTION_ID
+    }
+}
+
+impl<T: CustomItem> Section for CustomList<T> {
+    ghost id = { λ _. 0 };
+
+    fn id(&self) -> u8 {
+        CUSTOM_SECTION_ID
     }
 }

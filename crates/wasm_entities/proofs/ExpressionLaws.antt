@@ -26,7 +26,7 @@ use Rattle.wasm_instructions.specs.Instructions.{kind_of, IsCall}
 use Rattle.wasm_instructions.proofs.InstructionFormatLaws.{Lawful-instruction, instruction_takes, encodes_call}
 use Rattle.wasm_instructions.proofs.CallRanges.{call_in_range}
 use Rattle.wasm_modules.proofs.CodeBodyWriting.{calls_in_range, calls_counted}
-use Rattle.wasm_entities.specs.formats.PartCombinators.{Move, goes_on, ends, fails, moved, until_at, AreEnded}
+use Rattle.wasm_entities.specs.formats.PartCombinators.{Move, goes_on, ends, fails, moved, until_at, AreEnded, GoesOnWith}
 use Rattle.wasm_entities.specs.formats.Expressions.{opens, closed, delegated, nested, nested_by, end_call, expr}
 use Rattle.wasm_entities.specs.ClosedExpressions.{IsClosed, IsCountedExpr}
 use Rattle.wasm_entities.proofs.PartCombinatorLaws.{Lawful-until}
@@ -286,3 +286,19 @@ in_expr calls h = in_range_of expr expr_is_lawful calls h
 -- an instruction that opens and closes no block is closed
 pub alone_closed : (number : ℕ) (o : Operands) → nested_by 0 number ≡ goes_on 0 → IsClosed (call (without_prefix number) o ∷ [])
 alone_closed number o e = rw e refl
+
+-- what goes on with one property goes on with another that follows from it
+goes_on_with : {S : Type 0} {P Q : S → Type 0} (m : Move S) → ((t : S) → P t → Q t) → GoesOnWith P m → GoesOnWith Q m
+goes_on_with (goes_on t) f h = f t h
+goes_on_with ends f h = h
+goes_on_with fails f h = h
+
+abbrev EndsFrom : ℕ → List Instruction → Type 0
+EndsFrom = AreEnded (λ depth c. nested depth c.op) end_call
+
+-- a closed expression stays closed if an instruction follows that opens and closes no block
+pub one_more_closed : (calls : List Instruction) (i : Instruction) → ((depth : ℕ) → nested depth i.op ≡ goes_on depth) → IsClosed calls → IsClosed (calls ++ i ∷ [])
+one_more_closed calls i flat = by calls 0 where
+  by : (calls : List Instruction) (depth : ℕ) → EndsFrom depth calls → EndsFrom depth (calls ++ i ∷ [])
+  by [] depth h = rw (flat depth) h
+  by (c ∷ calls) depth h = goes_on_with (nested depth c.op) (λ t. by calls t) h

@@ -7,6 +7,8 @@ ghost use Rattle.wasm_instructions.specs.declared.table.call.Operands.TheVariant
 ghost use Rattle.wasm_entities.specs.ClosedExpressions.{IsClosed};
 ghost use Rattle.wasm_entities.specs.Making.{Makes};
 
+mod longer;
+
 use crate::expressions::is_closed;
 use std::alloc::Global;
 use std::marker::Model;
@@ -18,8 +20,8 @@ use wasm_types::types::HeapType;
 
 /// A constant expression: its instructions without the final `end` (Core 3.0, Expressions).
 ///
-/// Every block in it is closed. Nothing checks that the instructions are constant. In contracts the expression is the
-/// list of its instructions.
+/// Methods such as [`with_i32_add`](ConstExpr::with_i32_add) append an instruction. Every block in an expression is
+/// closed. Nothing checks that the instructions are constant. In contracts the expression is the list of its instructions.
 ///
 /// # Examples
 ///
@@ -29,6 +31,16 @@ use wasm_types::types::HeapType;
 /// let mut bytes = Vec::new(rt.alloc());
 /// InstructionSink::new(&mut bytes).write_calls(sixteen.as_slice())?.end()?;
 /// assert_eq!(rt; bytes.as_slice(), b"\x41\x10\x0b".as_slice());
+/// ```
+///
+/// An expression of several instructions:
+///
+/// ```
+/// # use wasm_encoder::{ConstExpr, InstructionSink};
+/// let end = ConstExpr::global_get(rt.alloc(), 0)?.with_i32_const(16)?.with_i32_add()?;
+/// let mut bytes = Vec::new(rt.alloc());
+/// InstructionSink::new(&mut bytes).write_calls(end.as_slice())?.end()?;
+/// assert_eq!(rt; bytes.as_slice(), b"\x23\x00\x41\x10\x6a\x0b".as_slice());
 /// ```
 #[derive(Debug, Drop)]
 pub struct ConstExpr {

@@ -4,9 +4,9 @@ use crate::calls::{Count, Counted, Normal, count_of, normal_of, strict_of};
 use crate::mismatch::Mismatch;
 use std::alloc::Global;
 use wasm_encoder::{
-    CustomSection, DataCountSection, DataSection, Decode, ElementSection, ExportSection,
-    FunctionSection, GlobalSection, ImportSection, MemorySection, StartSection, TableSection,
-    TagSection, WholeModule,
+    BranchHints, CustomSection, DataCountSection, DataSection, Decode, ElementSection,
+    ExportSection, FunctionSection, GlobalSection, ImportSection, MemorySection, NameSection,
+    ProducersSection, StartSection, TableSection, TagSection, TargetFeaturesSection, WholeModule,
 };
 
 /// What the calls answer to some bytes.
@@ -34,6 +34,10 @@ pub fn all_answers(alloc: Global, section: &str, body: &[u8]) -> Result<Answers,
         "tag" => answers_of::<TagSection>(alloc, body),
         "start" => answers_of::<StartSection>(alloc, body),
         "data count" => answers_of::<DataCountSection>(alloc, body),
+        "names" => answers_of::<NameSection>(alloc, body),
+        "producers" => answers_of::<ProducersSection<'_>>(alloc, body),
+        "target features" => answers_of::<TargetFeaturesSection<'_>>(alloc, body),
+        "branch hints" => answers_of::<BranchHints>(alloc, body),
         "custom" => answers_of::<CustomSection<'_>>(alloc, body),
         "module" => answers_of::<WholeModule>(alloc, body),
         _ => Err(Mismatch::NotUnderstood),

@@ -1,0 +1,179 @@
+//! Custom sections that are built again of what is read.
+
+use crate::mismatch::Mismatch;
+use std::alloc::Global;
+use wasm_encoder::{
+    BranchHints, CustomSection, EncodeError, FunctionHints, IndirectNameMap, IndirectNaming,
+    KnownCustomSection, NameMap, NameSection, NameSubsection, Naming, Producers, ProducersField,
+    ProducersSection, ReadError, TargetFeature, TargetFeaturesSection, known_custom_section,
+};
+
+/// The builder writes the normal form, of what the reader gives. Subsections in another order can't be built.
+pub fn check_built(
+    alloc: Global,
+    section: &str,
+    contents: &[u8],
+    normal: &[u8],
+) -> Result<(), Mismatch> {
+    let section = CustomSection {
+        name: name_of(section),
+        bytes: contents,
+    };
+    let known = match known_custom_section(alloc, &section) {
+        Ok(known) => known,
+        Err(ReadError::Memory) => return Err(Mismatch::Memory),
+        Err(_) => return Err(Mismatch::Read),
+    };
+    match build(alloc, &known) {
+        Ok(Some(built)) if built.as_slice() == normal => Ok(()),
+        Ok(None) => Ok(()),
+        Err(EncodeError::Memory) => Err(Mismatch::Memory),
+        _ => Err(Mismatch::Built),
+    }
+}
+
+/// The name of such a section.
+fn name_of(section: &str) -> &'static str {
+    match section {
+        "names" => "name",
+        "producers" => "producers",
+        "target features" => "target_features",
+        "branch hints" => "metadata.code.branch_hint",
+        _ => "",
+    }
+}
+
+/// The contents that the builder writes, or `None` if they can't be built.
+fn build(alloc: Global, known: &KnownCustomSection<'_>) -> Result<Option<Vec<u8>>, EncodeError> {
+    match known {
+        KnownCustomSection::Names(subsections) => build_names(alloc, subsections.as_slice()),
+        KnownCustomSection::Producers(fields) => {
+            Ok(Some(build_producers(alloc, fields.as_slice())?))
+        }
+        KnownCustomSection::TargetFeatures(features) => {
+            Ok(Some(build_features(alloc, features.as_slice())?))
+        }
+        KnownCustomSection::BranchHints(functions) => {
+            Ok(Some(build_hints(alloc, functions.as_slice())?))
+        }
+        KnownCustomSection::Other(_) => Ok(None),
+    }
+}
+
+/// The subsections, or `None` if they aren't in ascending order or have unknown ids.
+fn build_names(
+    alloc: Global,
+    subsections: &[NameSubsection<'_>],
+) -> Result<Option<Vec<u8>>, EncodeError> {
+    let mut names = NameSection::new(alloc);
+    for subsection in subsections {
+        if !add_subsection(alloc, &mut names, subsection)? {
+            return Ok(None);
+        }
+    }
+    Ok(Some(Vec::from_slice(alloc, names.as_slice())?))
+}
+
+/// Adds a subsection. Returns `false` if it can't follow those before.
+fn add_subsection(
+    alloc: Global,
+    names: &mut NameSection,
+    subsection: &NameSubsection<'_>,
+) -> Result<bool, EncodeError> {
+    match subsection {
+        NameSubsection::Module(name) if names.next_id() == 0 => names.module(name)?,
+        NameSubsection::Functions(map) if names.next_id() <= 1 => {
+            names.functions(&name_map(alloc, map.as_slice())?)?;
+        }
+        NameSubsection::Locals(map) if names.next_id() <= 2 => {
+            names.locals(&indirect_map(alloc, map.as_slice())?)?;
+        }
+        NameSubsection::Labels(map) if names.next_id() <= 3 => {
+            names.labels(&indirect_map(alloc, map.as_slice())?)?;
+        }
+        NameSubsection::Types(map) if names.next_id() <= 4 => {
+            names.types(&name_map(alloc, map.as_slice())?)?;
+        }
+        NameSubsection::Tables(map) if names.next_id() <= 5 => {
+            names.tables(&name_map(alloc, map.as_slice())?)?;
+        }
+        NameSubsection::Memories(map) if names.next_id() <= 6 => {
+            names.memories(&name_map(alloc, map.as_slice())?)?;
+        }
+        NameSubsection::Globals(map) if names.next_id() <= 7 => {
+            names.globals(&name_map(alloc, map.as_slice())?)?;
+        }
+        NameSubsection::Elements(map) if names.next_id() <= 8 => {
+            names.elements(&name_map(alloc, map.as_slice())?)?;
+        }
+        NameSubsection::Data(map) if names.next_id() <= 9 => {
+            names.data(&name_map(alloc, map.as_slice())?)?;
+        }
+        NameSubsection::Fields(map) if names.next_id() <= 10 => {
+            names.fields(&indirect_map(alloc, map.as_slice())?)?;
+        }
+        NameSubsection::Tags(map) if names.next_id() <= 11 => {
+            names.tags(&name_map(alloc, map.as_slice())?)?;
+        }
+        _ => return Ok(false),
+    }
+    Ok(true)
+}
+
+/// A map of these names.
+fn name_map(alloc: Global, names: &[Naming<'_>]) -> Result<NameMap, EncodeError> {
+    let mut map = NameMap::new(alloc);
+    for naming in names {
+        map.append(naming.index, naming.name)?;
+    }
+    Ok(map)
+}
+
+/// A map of these items' names.
+fn indirect_map(
+    alloc: Global,
+    items: &[IndirectNaming<'_>],
+) -> Result<IndirectNameMap, EncodeError> {
+    let mut map = IndirectNameMap::new(alloc);
+    for item in items {
+        map.append(item.index, &name_map(alloc, item.names.as_slice())?)?;
+    }
+    Ok(map)
+}
+
+/// The contents of a section of these fields.
+fn build_producers(alloc: Global, fields: &[Producers<'_>]) -> Result<Vec<u8>, EncodeError> {
+    let mut section = ProducersSection::new(alloc);
+    for field in fields {
+        let values = values_of(alloc, field)?;
+        section.field(field.field, &values)?;
+    }
+    section.contents()
+}
+
+/// The values of a field.
+fn values_of(alloc: Global, field: &Producers<'_>) -> Result<ProducersField, EncodeError> {
+    let mut values = ProducersField::new(alloc);
+    for producer in field.values.as_slice() {
+        values.value(producer.name, producer.version)?;
+    }
+    Ok(values)
+}
+
+/// The contents of a section of these features.
+fn build_features(alloc: Global, features: &[TargetFeature<'_>]) -> Result<Vec<u8>, EncodeError> {
+    let mut section = TargetFeaturesSection::new(alloc);
+    for feature in features {
+        section.feature(feature.prefix, feature.name)?;
+    }
+    section.contents()
+}
+
+/// The contents of a section of these hints.
+fn build_hints(alloc: Global, functions: &[FunctionHints]) -> Result<Vec<u8>, EncodeError> {
+    let mut section = BranchHints::new(alloc);
+    for function in functions {
+        section.function_hints(function.function_index, function.hints.as_slice())?;
+    }
+    section.contents()
+}

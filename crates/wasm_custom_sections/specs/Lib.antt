@@ -1,0 +1,5 @@
+pub mod Gaining
+pub mod NamedSections
+pub mod NameSections
+pub mod KnownSections
+pub mod formats

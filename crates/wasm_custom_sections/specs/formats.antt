@@ -1,0 +1,6 @@
+pub mod NameParts
+pub mod Names
+pub mod ProducerParts
+pub mod Producers
+pub mod TargetFeatures
+pub mod BranchHints

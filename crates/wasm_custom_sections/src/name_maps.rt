@@ -1,0 +1,431 @@
+//! Names for indices, and lists of them (Core 3.0, Name Section).
+ghost use Rattle.std.specs.Prelude.{◌≡◌, ◌↔◌, ◌++◌, [], refl, IsTrue, OnOk, OnErr, IfErr, length, take};
+ghost use Rattle.std.proofs.lemmas.List.{map_push};
+ghost use Rattle.wasm_codec.specs.Encoding.{IsCount, IsCountRefusal, IsShortest, OnlyTooLong};
+ghost use Rattle.wasm_codec.specs.Lawful.{IsLawful};
+ghost use Rattle.wasm_codec.specs.Leb128.{unsigned_leb128};
+ghost use Rattle.wasm_codec.specs.Places.{Reads};
+ghost use Rattle.wasm_codec.specs.Reading.{map_ok};
+ghost use Rattle.wasm_codec.specs.Rewriter.{Rewrites};
+ghost use Rattle.wasm_codec.specs.declared.encode.EncodeError.TheVariants.{Memory};
+ghost use Rattle.wasm_codec.specs.declared.reader.cursor.Fault.TheVariants.{Malformed};
+ghost use Rattle.wasm_codec.specs.formats.Grammar.{TakesBytes};
+ghost use Rattle.wasm_entities.specs.Making.{Makes};
+ghost use Rattle.wasm_lists.specs.EncodedLists.{IsFull, IsMemoryOrTooLong, IsUncounted, body_bytes};
+ghost use Rattle.wasm_sections.specs.ListSections.{Adds, GainsItem, StandsForItems};
+ghost use Rattle.wasm_custom_sections.specs.Gaining.{AddsNamed, GainsWith};
+ghost use Rattle.wasm_custom_sections.specs.formats.NameParts.{NamingParts, naming_parts, all_naming_parts, IndirectParts, indirect_parts, all_indirect_parts};
+ghost use Rattle.wasm_custom_sections.specs.formats.Names.{naming, naming_of, indirect_naming, indirect_of};
+
+use crate::counted_bytes::CountedBytes;
+use std::alloc::{Allocator, Global};
+use std::marker::Model;
+use wasm_codec::encode::leb128::put_u32;
+use wasm_codec::encode::{EncodeError, keep_or_undo};
+use wasm_codec::reader::cursor::{Cursor, Fault};
+use wasm_codec::rewriter::Rewriter;
+use wasm_entities::names::{append_name, read_name, rewrite_name};
+use wasm_lists::encode::Encode;
+use wasm_lists::list::Items;
+use wasm_lists::readable::Readable;
+use wasm_lists::reading::read_list;
+use wasm_lists::rewriting::{Rewritable, rewrite_list};
+
+/// A name for an index (Core 3.0, Name Maps).
+#[derive(Clone, Copy, Debug)]
+pub struct Naming<'a> {
+    /// Index of the item.
+    pub index: u32,
+    /// Name of the item.
+    pub name: &'a str,
+}
+
+/// Names inside an item, such as those of a function's locals (Core 3.0, Indirect Name Maps).
+#[derive(Debug, Drop)]
+pub struct IndirectNaming<'a> {
+    /// Index of the item.
+    pub index: u32,
+    /// Names inside the item.
+    pub names: Items<Naming<'a>>,
+}
+
+/// Reads a name for an index.
+#[tactic(auto, unfolding(crate::specs::formats::Names::naming))]
+fn read_naming<'a>(cursor: &mut Cursor<'a>) -> Result<Naming<'a>, Fault>
+    ensures reads { Reads naming.at cursor.old cursor.new (map_ok naming_parts result) }
+    ensures err { IfErr result (λ e. e ≡ Malformed) }
+{
+    let index = cursor.u32()?;
+    let name = read_name(cursor)?;
+    Ok(Naming { index, name })
+}
+
+/// Rewrites a name for an index to its minimal encoding.
+#[tactic(auto, using(std::proofs::Common::append_assoc), unfolding(crate::specs::formats::Names::naming))]
+fn rewrite_naming(rewriter: &mut Rewriter) -> Result<(), Fault>
+    ensures rewrites { Rewrites naming rewriter.old rewriter.new result }
+{
+    rewriter.u32()?;
+    rewrite_name(rewriter)
+}
+
+impl<'a> Readable<'a> for Naming<'a> {
+    ghost Value = { NamingParts };
+
+    ghost view = { naming_parts };
+
+    ghost views = { all_naming_parts };
+
+    ghost views_each = { record { none = refl; more = λ names naming. map_push naming_parts names naming } };
+
+    ghost format = { naming };
+
+    #[inline(always)]
+    #[tactic(auto, using(crate::proofs::NamingLaws::naming_is_lawful, crate::proofs::NamingLaws::naming_takes))]
+    fn is_lawful()
+        ensures lawful { IsLawful naming }
+        ensures some { TakesBytes naming.Encodes }
+    {}
+
+    fn read(_alloc: Global, cursor: &mut Cursor<'a>) -> Result<Naming<'a>, Fault> {
+        read_naming(cursor)
+    }
+
+    fn rewrite(rewriter: &mut Rewriter) -> Result<(), Fault>
+        ensures rewrites { Rewrites naming rewriter.old rewriter.new result }
+    {
+        rewrite_naming(rewriter)
+    }
+}
+
+/// A name for an index, to rewrite.
+pub(crate) struct AnyNaming;
+
+impl Rewritable for AnyNaming {
+    ghost Value = { NamingParts };
+
+    ghost format = { naming };
+
+    #[inline(always)]
+    #[tactic(auto, using(crate::proofs::NamingLaws::naming_is_lawful, crate::proofs::NamingLaws::naming_takes))]
+    fn is_lawful() {}
+
+    fn rewrite(rewriter: &mut Rewriter) -> Result<(), Fault> {
+        rewrite_naming(rewriter)
+    }
+}
+
+/// Reads names inside an item.
+#[tactic(auto, unfolding(crate::specs::formats::Names::indirect_naming))]
+fn read_indirect_naming<'a>(
+    alloc: Global,
+    cursor: &mut Cursor<'a>,
+) -> Result<IndirectNaming<'a>, Fault>
+    ensures reads { Reads indirect_naming.at cursor.old cursor.new (map_ok indirect_parts result) }
+{
+    let index = cursor.u32()?;
+    let names = read_list(alloc, cursor)?;
+    Ok(IndirectNaming { index, names })
+}
+
+/// Rewrites names inside an item to their minimal encoding.
+#[tactic(auto, using(std::proofs::Common::append_assoc), unfolding(crate::specs::formats::Names::indirect_naming))]
+fn rewrite_indirect_naming(rewriter: &mut Rewriter) -> Result<(), Fault>
+    ensures rewrites { Rewrites indirect_naming rewriter.old rewriter.new result }
+{
+    rewriter.u32()?;
+    rewrite_list::<AnyNaming>(rewriter)
+}
+
+impl<'a> Readable<'a> for IndirectNaming<'a> {
+    ghost Value = { IndirectParts };
+
+    ghost view = { indirect_parts };
+
+    ghost views = { all_indirect_parts };
+
+    ghost views_each = { record { none = refl; more = λ items item. map_push indirect_parts items item } };
+
+    ghost format = { indirect_naming };
+
+    #[inline(always)]
+    #[tactic(auto, using(crate::proofs::NamingLaws::indirect_is_lawful, crate::proofs::NamingLaws::indirect_takes))]
+    fn is_lawful()
+        ensures lawful { IsLawful indirect_naming }
+        ensures some { TakesBytes indirect_naming.Encodes }
+    {}
+
+    fn read(alloc: Global, cursor: &mut Cursor<'a>) -> Result<IndirectNaming<'a>, Fault> {
+        read_indirect_naming(alloc, cursor)
+    }
+
+    fn rewrite(rewriter: &mut Rewriter) -> Result<(), Fault>
+        ensures rewrites { Rewrites indirect_naming rewriter.old rewriter.new result }
+    {
+        rewrite_indirect_naming(rewriter)
+    }
+}
+
+/// Names inside an item, to rewrite.
+pub(crate) struct AnyIndirectNaming;
+
+impl Rewritable for AnyIndirectNaming {
+    ghost Value = { IndirectParts };
+
+    ghost format = { indirect_naming };
+
+    #[inline(always)]
+    #[tactic(auto, using(crate::proofs::NamingLaws::indirect_is_lawful, crate::proofs::NamingLaws::indirect_takes))]
+    fn is_lawful() {}
+
+    fn rewrite(rewriter: &mut Rewriter) -> Result<(), Fault> {
+        rewrite_indirect_naming(rewriter)
+    }
+}
+
+/// Appends a name for an index. On error a part of it may remain.
+fn append_naming<A: Allocator>(item: &Naming<'_>, sink: &mut Vec<u8, A>) -> Result<(), EncodeError>
+    ensures ok { OnOk result (sink.new.items ≡ sink.old.items ++ naming.bytes (naming_parts item.now)) }
+    ensures can { OnOk result (IsCount (length item.now.name.now)) }
+    ensures written { OnOk result (IsShortest naming.Encodes naming.bytes (naming_parts item.now)) }
+    ensures refused { IfErr result (IsCountRefusal (length item.now.name.now)) }
+    ensures kept { take (length sink.old.items) sink.new.items ≡ sink.old.items }
+{
+    sink.reserve(5)?;
+    put_u32(sink, item.index);
+    append_name(item.name, sink)
+}
+
+/// The index and the name (Core 3.0, Name Maps).
+///
+/// Fails with `TooLong` if the name is longer than 4,294,967,295 bytes.
+impl<'a> Encode for Naming<'a> {
+    ghost bytes = { λ item. naming.bytes (naming_parts item) };
+
+    ghost IsWritten = { λ item. IsShortest naming.Encodes naming.bytes (naming_parts item) };
+
+    ghost CanEncode = { λ item. IsCount (length item.name.now) };
+
+    ghost refuses = { OnlyTooLong };
+
+    fn encode<A: Allocator>(&self, sink: &mut Vec<u8, A>) -> Result<(), EncodeError> {
+        let start = sink.len();
+        let result = append_naming(self, sink);
+        keep_or_undo(sink, start, result)
+    }
+}
+
+/// Names for indices, in the order in which you append them (Core 3.0, Name Maps).
+///
+/// The standard wants ascending indices, each at most once. Nothing checks that. In contracts the map is the number of
+/// its names and their bytes.
+///
+/// # Examples
+///
+/// ```
+/// # use wasm_encoder::{Encode, NameMap};
+/// let mut functions = NameMap::new(rt.alloc());
+/// functions.append(0, "main")?;
+/// let mut bytes = Vec::new(rt.alloc());
+/// functions.encode(&mut bytes)?;
+/// assert_eq!(rt; bytes.as_slice(), b"\x01\x00\x04main".as_slice());
+/// ```
+#[derive(Debug, Drop)]
+pub struct NameMap {
+    names: CountedBytes,
+}
+
+impl Model for NameMap {
+    ghost use Rattle.wasm_lists.specs.EncodedLists.{EncodedItems};
+
+    ghost Value = { EncodedItems };
+
+    ghost view = { λ map. map.names };
+}
+
+impl NameMap {
+    /// Returns a map without names. Allocates nothing.
+    #[tactic(auto, using(crate::proofs::GainingLaws::stands_for_none))]
+    pub fn new(alloc: Global) -> NameMap
+        ensures { StandsForItems naming result [] }
+    {
+        NameMap {
+            names: CountedBytes::new(alloc),
+        }
+    }
+
+    /// Returns the number of names.
+    pub fn len(&self) -> u32
+        ensures { result ≡ self.now.count }
+    {
+        self.names.len()
+    }
+
+    /// Returns whether the map has no names.
+    pub fn is_empty(&self) -> bool
+        ensures { IsTrue result ↔ (self.now.count ≡ 0) }
+    {
+        self.names.len() == 0
+    }
+
+    /// Appends the name `name` for the index `index`. On error the map is unchanged.
+    ///
+    /// Fails with `TooLong` if the map already has 4,294,967,295 names or `name` is longer than 4,294,967,295 bytes, and
+    /// with `Memory` if the map can't grow.
+    #[tactic(auto, using(crate::proofs::GainingLaws::adds_naming))]
+    pub fn append(&mut self, index: u32, name: &str) -> Result<(), EncodeError>
+        ensures adds { AddsNamed naming (length name.now) self.old (naming_of (index, name.now)) self.new result }
+    {
+        self.names.add(&Naming { index, name })
+    }
+
+    /// Copies the map. Fails with `Memory` if it can't allocate.
+    pub fn try_clone(&self) -> Result<NameMap, EncodeError>
+        ensures makes { Makes self.now result }
+    {
+        let names = self.names.try_clone()?;
+        Ok(NameMap { names })
+    }
+}
+
+/// The number of names, and the names (Core 3.0, Name Maps).
+impl Encode for NameMap {
+    ghost bytes = { body_bytes };
+
+    ghost IsWritten = { λ map. IsCount map.count };
+
+    fn encode<A: Allocator>(&self, sink: &mut Vec<u8, A>) -> Result<(), EncodeError>
+        ensures ok { OnOk result (sink.new.items ≡ sink.old.items ++ body_bytes self.now) }
+        ensures written { OnOk result (IsCount self.now.count) }
+        ensures refused { IfErr result (λ e. e ≡ Memory) }
+        ensures err { OnErr result (sink.new.items ≡ sink.old.items) }
+    {
+        self.names.encode(sink)
+    }
+}
+
+/// The names inside an item, which are encoded already.
+#[derive(Drop)]
+struct ItemNames<'a> {
+    index: u32,
+    names: &'a NameMap,
+}
+
+/// The index, the number of names, and the names (Core 3.0, Indirect Name Maps).
+impl<'a> Encode for ItemNames<'a> {
+    ghost bytes = { λ item. unsigned_leb128 item.index ++ body_bytes item.names.now };
+
+    ghost IsWritten = { λ item. IsCount item.index × IsCount item.names.now.count };
+
+    fn encode<A: Allocator>(&self, sink: &mut Vec<u8, A>) -> Result<(), EncodeError> {
+        let start = sink.len();
+        let result = append_item_names(self, sink);
+        keep_or_undo(sink, start, result)
+    }
+}
+
+/// Appends an index and a map. On error a part of it may remain.
+fn append_item_names<A: Allocator>(
+    item: &ItemNames<'_>,
+    sink: &mut Vec<u8, A>,
+) -> Result<(), EncodeError>
+    ensures ok { OnOk result (sink.new.items ≡ sink.old.items ++ (unsigned_leb128 item.now.index ++ body_bytes item.now.names.now)) }
+    ensures written { OnOk result (IsCount item.now.index × IsCount item.now.names.now.count) }
+    ensures refused { IfErr result (λ e. e ≡ Memory) }
+    ensures kept { take (length sink.old.items) sink.new.items ≡ sink.old.items }
+{
+    sink.reserve(5)?;
+    put_u32(sink, item.index);
+    item.names.encode(sink)
+}
+
+/// Names inside several items, in the order in which you append them (Core 3.0, Indirect Name Maps).
+///
+/// The standard wants ascending indices, each at most once. Nothing checks that. In contracts the map is the number of
+/// its items and their bytes.
+///
+/// # Examples
+///
+/// ```
+/// # use wasm_encoder::{Encode, IndirectNameMap, NameMap};
+/// let mut parameters = NameMap::new(rt.alloc());
+/// parameters.append(0, "x")?;
+/// let mut locals = IndirectNameMap::new(rt.alloc());
+/// locals.append(3, &parameters)?; // of the function 3
+/// let mut bytes = Vec::new(rt.alloc());
+/// locals.encode(&mut bytes)?;
+/// assert_eq!(rt; bytes.as_slice(), b"\x01\x03\x01\x00\x01x".as_slice());
+/// ```
+#[derive(Debug, Drop)]
+pub struct IndirectNameMap {
+    items: CountedBytes,
+}
+
+impl Model for IndirectNameMap {
+    ghost use Rattle.wasm_lists.specs.EncodedLists.{EncodedItems};
+
+    ghost Value = { EncodedItems };
+
+    ghost view = { λ map. map.items };
+}
+
+impl IndirectNameMap {
+    /// Returns a map without items. Allocates nothing.
+    #[tactic(auto, using(crate::proofs::GainingLaws::stands_for_none))]
+    pub fn new(alloc: Global) -> IndirectNameMap
+        ensures { StandsForItems indirect_naming result [] }
+    {
+        IndirectNameMap {
+            items: CountedBytes::new(alloc),
+        }
+    }
+
+    /// Returns the number of items.
+    pub fn len(&self) -> u32
+        ensures { result ≡ self.now.count }
+    {
+        self.items.len()
+    }
+
+    /// Returns whether the map has no items.
+    pub fn is_empty(&self) -> bool
+        ensures { IsTrue result ↔ (self.now.count ≡ 0) }
+    {
+        self.items.len() == 0
+    }
+
+    /// Appends the names inside the item `index`. On error the map is unchanged.
+    ///
+    /// Fails with `TooLong` if the map already has 4,294,967,295 items, and with `Memory` if the map can't grow.
+    #[tactic(auto, using(crate::proofs::GainingLaws::adds_names))]
+    pub fn append(&mut self, index: u32, names: &NameMap) -> Result<(), EncodeError>
+        ensures adds { Adds (GainsWith naming indirect_naming (λ values. indirect_of (index, values))) self.old names.now self.new
+            (IsMemoryOrTooLong (IsFull self.old)) result }
+    {
+        self.items.add(&ItemNames { index, names })
+    }
+
+    /// Copies the map. Fails with `Memory` if it can't allocate.
+    pub fn try_clone(&self) -> Result<IndirectNameMap, EncodeError>
+        ensures makes { Makes self.now result }
+    {
+        let items = self.items.try_clone()?;
+        Ok(IndirectNameMap { items })
+    }
+}
+
+/// The number of items, and the names of each (Core 3.0, Indirect Name Maps).
+impl Encode for IndirectNameMap {
+    ghost bytes = { body_bytes };
+
+    ghost IsWritten = { λ map. IsCount map.count };
+
+    fn encode<A: Allocator>(&self, sink: &mut Vec<u8, A>) -> Result<(), EncodeError>
+        ensures ok { OnOk result (sink.new.items ≡ sink.old.items ++ body_bytes self.now) }
+        ensures written { OnOk result (IsCount self.now.count) }
+        ensures refused { IfErr result (λ e. e ≡ Memory) }
+        ensures err { OnErr result (sink.new.items ≡ sink.old.items) }
+    {
+        self.items.encode(sink)
+    }
+}

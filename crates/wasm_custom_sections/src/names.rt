@@ -1,0 +1,533 @@
+//! The name section: names of a module, its items, locals, labels and fields (Core 3.0, Name Section, and the proposal
+//! of extended name sections).
+ghost use Rattle.std.specs.Prelude.{◌≡◌, ◌++◌, ◌∷◌, ◌+◌, ◌<◌, ◌≤◌, ◌⊎◌, [], refl, codes, List, OnOk, OnErr, IfErr, length, take};
+ghost use Rattle.std.proofs.lemmas.List.{map_push};
+ghost use Rattle.wasm_codec.specs.Decoding.{ChecksAll, IsMinimal, ReadsAll, RewritesAll};
+ghost use Rattle.wasm_codec.specs.Encoding.{byte_list_bytes, IsCount, IsRefusal, IsShortest, IsTooLong, OnlyTooLong};
+ghost use Rattle.wasm_codec.specs.Lawful.{IsLawful, IsLawfulBody};
+ghost use Rattle.wasm_codec.specs.Outcomes.{EncodesSome, NeedsNoMemory};
+ghost use Rattle.wasm_codec.specs.Places.{Reads};
+ghost use Rattle.wasm_codec.specs.Reading.{map_ok};
+ghost use Rattle.wasm_codec.specs.Rewriter.{Rewrites};
+ghost use Rattle.wasm_codec.specs.formats.Bodies.{sized};
+ghost use Rattle.wasm_codec.specs.formats.Combinators.{items, minimal_only};
+ghost use Rattle.wasm_codec.specs.formats.Grammar.{Joined, TakesBytes};
+ghost use Rattle.wasm_entities.specs.Making.{Makes};
+ghost use Rattle.wasm_entities.specs.formats.Names.{name as name_format};
+ghost use Rattle.wasm_custom_sections.specs.NamedSections.{CountedNamed, IsNamedSection, named_bytes};
+ghost use Rattle.wasm_custom_sections.specs.NameSections.{AddsName, AddsNames, HoldsNames, StandsForNames};
+ghost use Rattle.wasm_custom_sections.specs.formats.NameParts.{SubsectionParts, subsection_parts, all_subsection_parts, module_name, functions, locals, labels, types, tables, memories, globals, elements, data_segments, fields, tags};
+ghost use Rattle.wasm_custom_sections.specs.formats.Names.{indirect_naming, name_data, name_subsection, naming};
+
+use crate::name_maps::{
+    AnyIndirectNaming, AnyNaming, IndirectNameMap, IndirectNaming, NameMap, Naming,
+};
+use crate::sized::{
+    ListOf, NameBody, RawBody, append_sized, read_sized_bytes, read_sized_list, read_sized_name,
+};
+use std::alloc::{Allocator, Global};
+use std::marker::Model;
+use wasm_codec::decode::Decode;
+use wasm_codec::encode::{EncodeError, keep_or_undo};
+use wasm_codec::reader::ReadError;
+use wasm_codec::reader::cursor::{Cursor, Fault};
+use wasm_codec::rewriter::{Rewriter, Scanned};
+use wasm_entities::names::append_name;
+use wasm_lists::checking::check_items_to_end;
+use wasm_lists::encode::Encode;
+use wasm_lists::list::Items;
+use wasm_lists::readable::Readable;
+use wasm_lists::reading::read_items_to_end;
+use wasm_lists::rewriting::{Joinable, Rewritable, rewrite_items_to_end, rewrite_sized};
+use wasm_sections::custom::CustomSection;
+
+/// A subsection of a name section (Core 3.0, Name Section).
+///
+/// Names inside an item, such as those of a function's locals, are an [`IndirectNaming`].
+#[derive(Debug, Drop)]
+pub enum NameSubsection<'a> {
+    /// Name of the module, 0.
+    Module(&'a str),
+    /// Names of functions, 1.
+    Functions(Items<Naming<'a>>),
+    /// Names of the locals of functions, 2.
+    Locals(Items<IndirectNaming<'a>>),
+    /// Names of the labels of functions, 3.
+    Labels(Items<IndirectNaming<'a>>),
+    /// Names of types, 4.
+    Types(Items<Naming<'a>>),
+    /// Names of tables, 5.
+    Tables(Items<Naming<'a>>),
+    /// Names of memories, 6.
+    Memories(Items<Naming<'a>>),
+    /// Names of globals, 7.
+    Globals(Items<Naming<'a>>),
+    /// Names of element segments, 8.
+    Elements(Items<Naming<'a>>),
+    /// Names of data segments, 9.
+    Data(Items<Naming<'a>>),
+    /// Names of the fields of types, 10.
+    Fields(Items<IndirectNaming<'a>>),
+    /// Names of tags, 11.
+    Tags(Items<Naming<'a>>),
+    /// A subsection with an unknown id, 12 or more.
+    Unknown {
+        /// Id of the subsection.
+        id: u8,
+        /// Contents after the size.
+        bytes: &'a [u8],
+    },
+}
+
+/// Reads a subsection.
+fn read_subsection<'a>(alloc: Global, cursor: &mut Cursor<'a>) -> Result<NameSubsection<'a>, Fault>
+    ensures reads { Reads name_subsection.at cursor.old cursor.new (map_ok subsection_parts result) }
+{
+    let id = cursor.byte()?;
+    match id {
+        0 => Ok(NameSubsection::Module(read_sized_name(cursor)?)),
+        1 => Ok(NameSubsection::Functions(read_sized_list(alloc, cursor)?)),
+        2 => Ok(NameSubsection::Locals(read_sized_list(alloc, cursor)?)),
+        3 => Ok(NameSubsection::Labels(read_sized_list(alloc, cursor)?)),
+        4 => Ok(NameSubsection::Types(read_sized_list(alloc, cursor)?)),
+        5 => Ok(NameSubsection::Tables(read_sized_list(alloc, cursor)?)),
+        6 => Ok(NameSubsection::Memories(read_sized_list(alloc, cursor)?)),
+        7 => Ok(NameSubsection::Globals(read_sized_list(alloc, cursor)?)),
+        8 => Ok(NameSubsection::Elements(read_sized_list(alloc, cursor)?)),
+        9 => Ok(NameSubsection::Data(read_sized_list(alloc, cursor)?)),
+        10 => Ok(NameSubsection::Fields(read_sized_list(alloc, cursor)?)),
+        11 => Ok(NameSubsection::Tags(read_sized_list(alloc, cursor)?)),
+        12.. => {
+            let bytes = read_sized_bytes(cursor)?;
+            Ok(NameSubsection::Unknown { id, bytes })
+        }
+    }
+}
+
+/// Rewrites a subsection to its minimal encoding.
+fn rewrite_subsection(rewriter: &mut Rewriter) -> Result<(), Fault>
+    ensures rewrites { Rewrites name_subsection rewriter.old rewriter.new result }
+{
+    match rewriter.byte()? {
+        0 => rewrite_sized::<NameBody>(rewriter),
+        1 => rewrite_names(rewriter),
+        2 => rewrite_indirect_names(rewriter),
+        3 => rewrite_indirect_names(rewriter),
+        4 => rewrite_names(rewriter),
+        5 => rewrite_names(rewriter),
+        6 => rewrite_names(rewriter),
+        7 => rewrite_names(rewriter),
+        8 => rewrite_names(rewriter),
+        9 => rewrite_names(rewriter),
+        10 => rewrite_indirect_names(rewriter),
+        11 => rewrite_names(rewriter),
+        12.. => rewrite_sized::<RawBody>(rewriter),
+    }
+}
+
+/// Rewrites a size and a name map to their minimal encoding.
+fn rewrite_names(rewriter: &mut Rewriter) -> Result<(), Fault>
+    ensures rewrites { Rewrites (sized (items naming)) rewriter.old rewriter.new result }
+{
+    rewrite_sized::<ListOf<AnyNaming>>(rewriter)
+}
+
+/// Rewrites a size and an indirect name map to their minimal encoding.
+fn rewrite_indirect_names(rewriter: &mut Rewriter) -> Result<(), Fault>
+    ensures rewrites { Rewrites (sized (items indirect_naming)) rewriter.old rewriter.new result }
+{
+    rewrite_sized::<ListOf<AnyIndirectNaming>>(rewriter)
+}
+
+impl<'a> Readable<'a> for NameSubsection<'a> {
+    ghost Value = { SubsectionParts };
+
+    ghost view = { subsection_parts };
+
+    ghost views = { all_subsection_parts };
+
+    ghost views_each = { record { none = refl; more = λ subsections subsection. map_push subsection_parts subsections subsection } };
+
+    ghost format = { name_subsection };
+
+    #[inline(always)]
+    #[tactic(auto, using(crate::proofs::SubsectionLaws::subsection_is_lawful, crate::proofs::SubsectionLaws::subsection_takes))]
+    fn is_lawful()
+        ensures lawful { IsLawful name_subsection }
+        ensures some { TakesBytes name_subsection.Encodes }
+    {}
+
+    fn read(alloc: Global, cursor: &mut Cursor<'a>) -> Result<NameSubsection<'a>, Fault> {
+        read_subsection(alloc, cursor)
+    }
+
+    fn rewrite(rewriter: &mut Rewriter) -> Result<(), Fault>
+        ensures rewrites { Rewrites name_subsection rewriter.old rewriter.new result }
+    {
+        rewrite_subsection(rewriter)
+    }
+}
+
+/// A subsection of any kind, to rewrite.
+struct AnySubsection;
+
+impl Rewritable for AnySubsection {
+    ghost Value = { SubsectionParts };
+
+    ghost format = { name_subsection };
+
+    #[inline(always)]
+    #[tactic(auto, using(crate::proofs::SubsectionLaws::subsection_is_lawful, crate::proofs::SubsectionLaws::subsection_takes))]
+    fn is_lawful() {}
+
+    fn rewrite(rewriter: &mut Rewriter) -> Result<(), Fault> {
+        rewrite_subsection(rewriter)
+    }
+}
+
+impl Joinable for AnySubsection {
+    #[inline(always)]
+    fn scan(_bytes: &[u8]) -> Option<Scanned> {
+        None
+    }
+}
+
+/// A name section: names for debuggers and stack traces (Core 3.0, Name Section).
+///
+/// Its methods append one subsection each. Call each at most once, in the order in which they stand here, which is that
+/// of the ids: the proof refuses other orders. [`next_id`](NameSection::next_id) tells which ids may follow. On error
+/// the section is unchanged.
+///
+/// # Examples
+///
+/// ```
+/// # use wasm_encoder::{Encode, NameMap, NameSection};
+/// let mut functions = NameMap::new(rt.alloc());
+/// functions.append(0, "f")?;
+/// let mut names = NameSection::new(rt.alloc());
+/// names.module("m")?;
+/// names.functions(&functions)?;
+/// let mut bytes = Vec::new(rt.alloc());
+/// names.encode(&mut bytes)?; // the size, the name "name", and two subsections
+/// let expected = b"\x0f\x04name\x00\x02\x01m\x01\x04\x01\x00\x01f";
+/// assert_eq!(rt; bytes.as_slice(), expected.as_slice());
+/// ```
+///
+/// Reading the contents of such a section, after its name, returns the subsections:
+///
+/// ```
+/// # use wasm_encoder::{NameSection, NameSubsection, read};
+/// let subsections = read::<NameSection>(rt.alloc(), b"\x00\x02\x01m")?;
+/// assert!(rt; matches!(subsections[0], NameSubsection::Module("m")));
+/// ```
+#[derive(Debug, Drop)]
+pub struct NameSection {
+    bytes: Vec<u8>,
+    next: u8,
+}
+
+impl Model for NameSection {
+    ghost use Rattle.wasm_custom_sections.specs.NameSections.{BuiltNames};
+
+    ghost Value = { BuiltNames };
+
+    ghost view = { λ section. record { bytes = section.bytes.items; next = section.next } };
+}
+
+impl NameSection {
+    /// Returns a section without names. Allocates nothing.
+    #[tactic(auto, using(crate::proofs::NameSectionLaws::stands_for_none))]
+    pub fn new(alloc: Global) -> NameSection
+        ensures names { StandsForNames result [] }
+        ensures next { result.next ≡ 0 }
+    {
+        NameSection {
+            bytes: Vec::new(alloc),
+            next: 0,
+        }
+    }
+
+    /// Returns the least id that the next subsection may have.
+    pub fn next_id(&self) -> u8
+        ensures { result ≡ self.now.next }
+    {
+        self.next
+    }
+
+    /// Returns the encoded subsections, which are the contents of the section after its name.
+    pub fn as_slice(&self) -> &[u8]
+        ensures { result.now ≡ self.now.bytes }
+    {
+        self.bytes.as_slice()
+    }
+
+    /// Names the module.
+    ///
+    /// Fails with `TooLong` if `name` with its length is longer than 4,294,967,295 bytes, and with `Memory` if the
+    /// section can't grow.
+    #[tactic(auto, using(crate::proofs::NameSectionLaws::adds_module))]
+    pub fn module(&mut self, name: &str) -> Result<(), EncodeError>
+        requires in_order { self.old.next ≤ 0 }
+        ensures adds { AddsName self.old name.now self.new result }
+    {
+        self.add(0, &ModuleName { name })
+    }
+
+    /// Names functions.
+    ///
+    /// Fails with `TooLong` if the names are longer than 4,294,967,295 bytes, and with `Memory` if the section can't grow.
+    #[tactic(auto, using(crate::proofs::NameSectionLaws::adds_functions))]
+    pub fn functions(&mut self, names: &NameMap) -> Result<(), EncodeError>
+        requires in_order { self.old.next ≤ 1 }
+        ensures adds { AddsNames naming functions 1 self.old names.now self.new result }
+    {
+        self.add(1, names)
+    }
+
+    /// Names the locals of functions.
+    ///
+    /// Fails with `TooLong` if the names are longer than 4,294,967,295 bytes, and with `Memory` if the section can't grow.
+    #[tactic(auto, using(crate::proofs::NameSectionLaws::adds_locals))]
+    pub fn locals(&mut self, names: &IndirectNameMap) -> Result<(), EncodeError>
+        requires in_order { self.old.next ≤ 2 }
+        ensures adds { AddsNames indirect_naming locals 2 self.old names.now self.new result }
+    {
+        self.add(2, names)
+    }
+
+    /// Names the labels of functions.
+    ///
+    /// Fails with `TooLong` if the names are longer than 4,294,967,295 bytes, and with `Memory` if the section can't grow.
+    #[tactic(auto, using(crate::proofs::NameSectionLaws::adds_labels))]
+    pub fn labels(&mut self, names: &IndirectNameMap) -> Result<(), EncodeError>
+        requires in_order { self.old.next ≤ 3 }
+        ensures adds { AddsNames indirect_naming labels 3 self.old names.now self.new result }
+    {
+        self.add(3, names)
+    }
+
+    /// Names types.
+    ///
+    /// Fails with `TooLong` if the names are longer than 4,294,967,295 bytes, and with `Memory` if the section can't grow.
+    #[tactic(auto, using(crate::proofs::NameSectionLaws::adds_types))]
+    pub fn types(&mut self, names: &NameMap) -> Result<(), EncodeError>
+        requires in_order { self.old.next ≤ 4 }
+        ensures adds { AddsNames naming types 4 self.old names.now self.new result }
+    {
+        self.add(4, names)
+    }
+
+    /// Names tables.
+    ///
+    /// Fails with `TooLong` if the names are longer than 4,294,967,295 bytes, and with `Memory` if the section can't grow.
+    #[tactic(auto, using(crate::proofs::NameSectionLaws::adds_tables))]
+    pub fn tables(&mut self, names: &NameMap) -> Result<(), EncodeError>
+        requires in_order { self.old.next ≤ 5 }
+        ensures adds { AddsNames naming tables 5 self.old names.now self.new result }
+    {
+        self.add(5, names)
+    }
+
+    /// Names memories.
+    ///
+    /// Fails with `TooLong` if the names are longer than 4,294,967,295 bytes, and with `Memory` if the section can't grow.
+    #[tactic(auto, using(crate::proofs::NameSectionLaws::adds_memories))]
+    pub fn memories(&mut self, names: &NameMap) -> Result<(), EncodeError>
+        requires in_order { self.old.next ≤ 6 }
+        ensures adds { AddsNames naming memories 6 self.old names.now self.new result }
+    {
+        self.add(6, names)
+    }
+
+    /// Names globals.
+    ///
+    /// Fails with `TooLong` if the names are longer than 4,294,967,295 bytes, and with `Memory` if the section can't grow.
+    #[tactic(auto, using(crate::proofs::NameSectionLaws::adds_globals))]
+    pub fn globals(&mut self, names: &NameMap) -> Result<(), EncodeError>
+        requires in_order { self.old.next ≤ 7 }
+        ensures adds { AddsNames naming globals 7 self.old names.now self.new result }
+    {
+        self.add(7, names)
+    }
+
+    /// Names element segments.
+    ///
+    /// Fails with `TooLong` if the names are longer than 4,294,967,295 bytes, and with `Memory` if the section can't grow.
+    #[tactic(auto, using(crate::proofs::NameSectionLaws::adds_elements))]
+    pub fn elements(&mut self, names: &NameMap) -> Result<(), EncodeError>
+        requires in_order { self.old.next ≤ 8 }
+        ensures adds { AddsNames naming elements 8 self.old names.now self.new result }
+    {
+        self.add(8, names)
+    }
+
+    /// Names data segments.
+    ///
+    /// Fails with `TooLong` if the names are longer than 4,294,967,295 bytes, and with `Memory` if the section can't grow.
+    #[tactic(auto, using(crate::proofs::NameSectionLaws::adds_data))]
+    pub fn data(&mut self, names: &NameMap) -> Result<(), EncodeError>
+        requires in_order { self.old.next ≤ 9 }
+        ensures adds { AddsNames naming data_segments 9 self.old names.now self.new result }
+    {
+        self.add(9, names)
+    }
+
+    /// Names the fields of types.
+    ///
+    /// Fails with `TooLong` if the names are longer than 4,294,967,295 bytes, and with `Memory` if the section can't grow.
+    #[tactic(auto, using(crate::proofs::NameSectionLaws::adds_fields))]
+    pub fn fields(&mut self, names: &IndirectNameMap) -> Result<(), EncodeError>
+        requires in_order { self.old.next ≤ 10 }
+        ensures adds { AddsNames indirect_naming fields 10 self.old names.now self.new result }
+    {
+        self.add(10, names)
+    }
+
+    /// Names tags.
+    ///
+    /// Fails with `TooLong` if the names are longer than 4,294,967,295 bytes, and with `Memory` if the section can't grow.
+    #[tactic(auto, using(crate::proofs::NameSectionLaws::adds_tags))]
+    pub fn tags(&mut self, names: &NameMap) -> Result<(), EncodeError>
+        requires in_order { self.old.next ≤ 11 }
+        ensures adds { AddsNames naming tags 11 self.old names.now self.new result }
+    {
+        self.add(11, names)
+    }
+
+    /// Appends a subsection. On error the section is unchanged.
+    fn add<T: Encode>(&mut self, id: u8, content: &T) -> Result<(), EncodeError>
+        requires small { id < 12 }
+        ensures bytes { OnOk result (self.new.bytes ≡ self.old.bytes ++ id ∷ byte_list_bytes (T.bytes content.now)) }
+        ensures next { OnOk result (self.new.next ≡ id + 1) }
+        ensures counted { OnOk result (IsCount (length (T.bytes content.now))) }
+        ensures written { OnOk result (T.IsWritten content.now) }
+        ensures same { OnErr result (self.new ≡ self.old) }
+        ensures refused { IfErr result (λ e. IsRefusal T.CanEncode T.refuses content.now e ⊎ IsTooLong (length (T.bytes content.now)) e) }
+    {
+        let start = self.bytes.len();
+        let result = append_subsection(id, content, &mut self.bytes);
+        keep_or_undo(&mut self.bytes, start, result)?;
+        self.next = id + 1;
+        Ok(())
+    }
+
+    /// Copies the section. Fails with `Memory` if it can't allocate.
+    pub fn try_clone(&self) -> Result<NameSection, EncodeError>
+        ensures makes { Makes self.now result }
+    {
+        let bytes = Vec::from_slice(*self.bytes.allocator(), self.bytes.as_slice())?;
+        Ok(NameSection {
+            bytes,
+            next: self.next,
+        })
+    }
+}
+
+/// Appends an id, the size of a content in bytes, and the content. On error a part of them may remain.
+fn append_subsection<T: Encode>(id: u8, content: &T, bytes: &mut Vec<u8>) -> Result<(), EncodeError>
+    ensures ok { OnOk result (bytes.new.items ≡ bytes.old.items ++ id ∷ byte_list_bytes (T.bytes content.now)) }
+    ensures counted { OnOk result (IsCount (length (T.bytes content.now))) }
+    ensures written { OnOk result (T.IsWritten content.now) }
+    ensures refused { IfErr result (λ e. IsRefusal T.CanEncode T.refuses content.now e ⊎ IsTooLong (length (T.bytes content.now)) e) }
+    ensures kept { take (length bytes.old.items) bytes.new.items ≡ bytes.old.items }
+{
+    bytes.reserve(1)?;
+    bytes.push_reserved(id);
+    append_sized(content, bytes)
+}
+
+/// The name of a module.
+#[derive(Drop)]
+struct ModuleName<'a> {
+    name: &'a str,
+}
+
+impl<'a> Encode for ModuleName<'a> {
+    ghost bytes = { λ item. name_format.bytes item.name.now };
+
+    ghost IsWritten = { λ item. IsShortest name_format.Encodes name_format.bytes item.name.now };
+
+    ghost CanEncode = { λ item. IsCount (length item.name.now) };
+
+    ghost refuses = { OnlyTooLong };
+
+    fn encode<A: Allocator>(&self, sink: &mut Vec<u8, A>) -> Result<(), EncodeError> {
+        let start = sink.len();
+        let result = append_name(self.name, sink);
+        keep_or_undo(sink, start, result)
+    }
+}
+
+/// The size of the body in bytes, the name `name`, and the subsections (Core 3.0, Name Section).
+///
+/// Fails with `TooLong` if the body is longer than 4,294,967,295 bytes.
+impl Encode for NameSection {
+    ghost bytes = { λ section. named_bytes (codes "name") section.bytes };
+
+    ghost IsWritten = { λ section. HoldsNames section × IsNamedSection (codes "name") section.bytes };
+
+    ghost CanEncode = { λ section. CountedNamed (codes "name") section.bytes };
+
+    ghost refuses = { OnlyTooLong };
+
+    #[tactic(auto, using(crate::proofs::NameSectionLaws::holds_names))]
+    fn encode<A: Allocator>(&self, sink: &mut Vec<u8, A>) -> Result<(), EncodeError> {
+        let section = CustomSection {
+            name: "name",
+            bytes: self.bytes.as_slice(),
+        };
+        section.encode(sink)
+    }
+}
+
+/// The contents after the name, as `read::<NameSection>` returns them: subsections in any order and number.
+impl<'a> Decode<'a> for NameSection {
+    type Output = Vec<NameSubsection<'a>>;
+
+    ghost Value = { List SubsectionParts };
+
+    ghost view = { λ subsections. all_subsection_parts subsections.items };
+
+    ghost format = { name_data };
+
+    ghost Minimal = { Joined (minimal_only name_subsection).Encodes };
+
+    ghost IsPrefix = { EncodesSome (Joined name_subsection.Encodes) };
+
+    ghost IsMinimalPrefix = { EncodesSome (Joined (minimal_only name_subsection).Encodes) };
+
+    #[inline(always)]
+    #[tactic(auto, using(crate::proofs::SubsectionLaws::name_data_is_lawful, crate::proofs::SubsectionLaws::name_data_is_minimal))]
+    fn is_lawful()
+        ensures lawful { IsLawfulBody name_data }
+        ensures minimal { IsMinimal name_data (Joined (minimal_only name_subsection).Encodes) }
+    {}
+
+    #[tactic(auto, using(wasm_codec::proofs::ListReading::none_within))]
+    fn read_all(alloc: Global, bytes: &'a [u8]) -> Result<Vec<NameSubsection<'a>>, ReadError> {
+        read_items_to_end::<NameSubsection<'a>, false>(alloc, bytes)
+    }
+
+    #[tactic(auto, using(wasm_codec::proofs::ListReading::none_within))]
+    fn read_all_strict(
+        alloc: Global,
+        bytes: &'a [u8],
+    ) -> Result<Vec<NameSubsection<'a>>, ReadError> {
+        read_items_to_end::<NameSubsection<'a>, true>(alloc, bytes)
+    }
+
+    #[tactic(auto, using(wasm_codec::proofs::ListReading::none_within))]
+    fn check_all(alloc: Global, bytes: &[u8]) -> Result<(), ReadError>
+        ensures checks { ChecksAll (Joined (minimal_only name_subsection).Encodes) (EncodesSome (Joined (minimal_only name_subsection).Encodes)) bytes.now result }
+    {
+        check_items_to_end::<AnySubsection>(alloc, bytes)
+    }
+
+    #[tactic(auto, using(wasm_codec::proofs::ListReading::none_within))]
+    fn rewrite_all(bytes: Vec<u8>) -> Result<Vec<u8>, ReadError>
+        ensures rewrites { RewritesAll name_data (EncodesSome (Joined name_subsection.Encodes)) bytes.items result }
+        ensures memory { NeedsNoMemory result }
+    {
+        rewrite_items_to_end::<AnySubsection>(bytes)
+    }
+}

@@ -1,0 +1,134 @@
+//! Contents that follow their size in bytes: a list, a name, or any bytes.
+ghost use Rattle.std.specs.Prelude.{◌≡◌, ◌++◌, ◌⊎◌, ℕ, List, OnOk, IfErr, length, take};
+ghost use Rattle.wasm_codec.specs.Encoding.{byte_list_bytes, IsCount, IsRefusal, IsTooLong};
+ghost use Rattle.wasm_codec.specs.Lawful.{IsLawfulBody};
+ghost use Rattle.wasm_codec.specs.Places.{Reads};
+ghost use Rattle.wasm_codec.specs.Reading.{map_ok};
+ghost use Rattle.wasm_codec.specs.declared.encode.EncodeError.TheVariants.{Memory};
+ghost use Rattle.wasm_codec.specs.declared.reader.cursor.Fault.TheVariants.{Malformed};
+ghost use Rattle.wasm_codec.specs.formats.Bodies.{sized, byte_list, bytes_to_end};
+ghost use Rattle.wasm_codec.specs.formats.Combinators.{items};
+ghost use Rattle.wasm_entities.specs.formats.Names.{name};
+
+use std::alloc::Global;
+use std::marker::PhantomData;
+use wasm_codec::encode::{EncodeError, put_size_before};
+use wasm_codec::reader::cursor::{Cursor, Fault};
+use wasm_codec::rewriter::Rewriter;
+use wasm_entities::names::{read_name, rewrite_name};
+use wasm_lists::encode::Encode;
+use wasm_lists::list::Items;
+use wasm_lists::readable::Readable;
+use wasm_lists::reading::read_list;
+use wasm_lists::rewriting::{Rewritable, RewritableBody, rewrite_list};
+
+/// Reads a size and a list that fills so many bytes.
+pub(crate) fn read_sized_list<'a, T: Readable<'a>>(
+    alloc: Global,
+    cursor: &mut Cursor<'a>,
+) -> Result<Items<T>, Fault>
+    ensures reads { Reads (sized (items T.format)).at cursor.old cursor.new (map_ok T.views result) }
+{
+    let mut body = cursor.body()?;
+    let items = read_list(alloc, &mut body)?;
+    if body.len() > 0 {
+        return Err(Fault::Malformed);
+    }
+    cursor.set_shortest(body.is_shortest());
+    Ok(items)
+}
+
+/// Reads a size and a name that fills so many bytes.
+pub(crate) fn read_sized_name<'a>(cursor: &mut Cursor<'a>) -> Result<&'a str, Fault>
+    ensures reads { Reads (sized name).at cursor.old cursor.new (map_ok (λ text. text.now) result) }
+{
+    let mut body = cursor.body()?;
+    let text = read_name(&mut body)?;
+    if body.len() > 0 {
+        return Err(Fault::Malformed);
+    }
+    cursor.set_shortest(body.is_shortest());
+    Ok(text)
+}
+
+/// Reads bytes that follow their number.
+pub(crate) fn read_sized_bytes<'a>(cursor: &mut Cursor<'a>) -> Result<&'a [u8], Fault>
+    ensures reads { Reads byte_list.at cursor.old cursor.new (map_ok (λ bytes. bytes.now) result) }
+    ensures err { IfErr result (λ e. e ≡ Malformed) }
+{
+    let size = cursor.u32()? as usize;
+    cursor.take(size)
+}
+
+/// A list that fills a body.
+pub(crate) struct ListOf<T: Rewritable> {
+    _items: PhantomData<T>,
+}
+
+impl<T: Rewritable> RewritableBody for ListOf<T> {
+    ghost Value = { List T.Value };
+
+    ghost format = { items T.format };
+
+    #[inline(always)]
+    fn is_lawful() {
+        T::is_lawful();
+    }
+
+    fn rewrite(rewriter: &mut Rewriter) -> Result<(), Fault> {
+        rewrite_list::<T>(rewriter)
+    }
+}
+
+/// A name that fills a body.
+pub(crate) struct NameBody;
+
+impl RewritableBody for NameBody {
+    ghost Value = { List ℕ };
+
+    ghost format = { name };
+
+    #[inline(always)]
+    #[tactic(auto, using(crate::proofs::SizedContents::name_body_is_lawful))]
+    fn is_lawful() {}
+
+    fn rewrite(rewriter: &mut Rewriter) -> Result<(), Fault> {
+        rewrite_name(rewriter)
+    }
+}
+
+/// Any bytes, which stay as they are.
+pub(crate) struct RawBody;
+
+impl RewritableBody for RawBody {
+    ghost Value = { List ℕ };
+
+    ghost format = { bytes_to_end };
+
+    #[inline(always)]
+    #[tactic(auto, using(crate::proofs::SizedContents::raw_body_is_lawful))]
+    fn is_lawful() {}
+
+    fn rewrite(rewriter: &mut Rewriter) -> Result<(), Fault> {
+        rewriter.rest();
+        Ok(())
+    }
+}
+
+/// Appends the size of a value's encoding in bytes, and the encoding. On error a part of it may remain.
+///
+/// Fails with `TooLong` if the encoding is longer than 4,294,967,295 bytes, and with any error of the value.
+pub(crate) fn append_sized<T: Encode>(value: &T, bytes: &mut Vec<u8>) -> Result<(), EncodeError>
+    ensures ok { OnOk result (bytes.new.items ≡ bytes.old.items ++ byte_list_bytes (T.bytes value.now)) }
+    ensures counted { OnOk result (IsCount (length (T.bytes value.now))) }
+    ensures written { OnOk result (T.IsWritten value.now) }
+    ensures refused { IfErr result (λ e. IsRefusal T.CanEncode T.refuses value.now e ⊎ IsTooLong (length (T.bytes value.now)) e) }
+    ensures kept { take (length bytes.old.items) bytes.new.items ≡ bytes.old.items }
+{
+    let start = bytes.len();
+    value.encode(bytes)?;
+    if u32::try_from(bytes.len() - start).is_err() {
+        return Err(EncodeError::TooLong);
+    }
+    put_size_before(bytes, start)
+}
