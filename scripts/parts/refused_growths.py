@@ -24,7 +24,10 @@ MOST = 10_000
 MODULE = b"\0asm\1\0\0\0\1\x86\0\1\x4f\0\x60\0\0\5\4\1\0\x81\0"
 CANONICAL = b"\0asm\1\0\0\0\1\4\1\x60\0\0\5\3\1\0\1"
 REFUSED = "a request was refused\n"
-CALLS = [[], ["--strip-offsets"], ["--check"], ["--report"], ["--report", "--json"], ["--diff"]]
+CALLS = [[], ["--strip-offsets"], ["--strip", "a*"], ["--check"], ["--check", "--json"], ["--hash"], ["--report"],
+         ["--report", "--json"], ["--diff"]]
+# What is printed if memory runs out: nothing, or the failure of the module as JSON.
+NOTHING = ("", '[{"error":"out of memory","file":"module"}]\n')
 
 
 def told(program, *words, folder=None, **refused):
@@ -81,7 +84,7 @@ def canonical_faults(program, folder, words):
     for number in range(1, MOST):
         ran = told(program, *words, *files, refused=number, folder=folder)
         error = ran.stderr[len(REFUSED):] if ran.stderr.startswith(REFUSED) else ran.stderr
-        if (ran.returncode, ran.stdout, error) == (3, "", "error: out of memory\n"):
+        if (ran.returncode, error) == (3, "error: out of memory\n") and ran.stdout in NOTHING:
             without_memory += 1
         elif (ran.returncode, ran.stdout, error) != (right.returncode, right.stdout, right.stderr):
             return without_memory, f"request {number} refused: status {ran.returncode}: {ran.stderr}"

@@ -2,6 +2,7 @@
 
 `rt ci` builds two programs, with LLVM and with Rattle's own compiler; this part runs both.
 """
+import hashlib
 import json
 import os
 import pty
@@ -38,7 +39,43 @@ FILES = {
     # A custom section whose name's length has two bytes, a function section whose count has two, a start section whose
     # index has two, and a code section with an i32.const whose number has two in the second of two functions.
     "numbers": HEADER + b"\0\4\x81\0ax\3\4\x82\0\0\0\x08\2\x80\0\x0A\x0A\2\2\0\x0B\5\0\x41\x80\0\x0B",
+    # Custom sections of four names.
+    "named": HEADER + b"\0\5\4name\0\5\4nabe\0\x08\7.debug_\0\2\1e",
 }
+TYPE, IMPORT, FUNCTION = b"\1\4\1\x60\0\0", b"\2\1\0", b"\3\2\1\0"
+EXPORT, CODE, DATA_COUNT, DATA = b"\7\1\0", b"\x0A\4\1\2\0\x0B", b"\x0C\1\1", b"\x0B\3\1\1\0"
+# A function with memory.init 0 0 as its fourth instruction.
+INIT = b"\x0A\x0E\1\x0C\0\x41\0\x41\0\x41\0\xFC\x08\0\0\x0B"
+# Modules that break a rule: what each is, the message, and the bytes after the header.
+DISORDERED = [
+    ("an import section after the functions", "import section, offset 0x12: out of order: expected before the function "
+     "section", TYPE + FUNCTION + IMPORT),
+    ("a second type section", "type section, offset 0xe: second type section", TYPE + TYPE),
+    ("a custom section between two of one kind", "type section, offset 0x12: second type section",
+     TYPE + b"\0\2\1a" + TYPE),
+    ("tags before memories", "memory section, offset 0xb: out of order: expected before the tag section",
+     b"\x0D\1\0\5\1\0"),
+    ("a data count after the code", "data count section, offset 0x18: out of order: expected before the code section",
+     TYPE + FUNCTION + CODE + DATA_COUNT + DATA),
+    ("no code", "code section: wrong number of functions: expected 1 as in the function section, found 0",
+     TYPE + FUNCTION),
+    ("code without functions", "code section: wrong number of functions: expected 0 as in the function section, found "
+     "1", TYPE + CODE),
+    ("no data", "data section: wrong number of segments: expected 1 as in the data count section, found 0",
+     TYPE + DATA_COUNT),
+    ("no data count", "code section, function 0, instruction 3: data segment used without a data count section",
+     TYPE + FUNCTION + INIT + DATA),
+]
+# The sections in the standard's order, and code that names data segments.
+IN_ORDER = [TYPE + IMPORT + FUNCTION + b"\4\1\0\5\1\0\x0D\1\0\6\1\0" + EXPORT + b"\x08\1\0\x09\1\0" + DATA_COUNT
+            + CODE + DATA, TYPE + FUNCTION + DATA_COUNT + INIT + DATA]
+# What an input looks like that is no module, and its beginning.
+FOREIGN = [
+    ("no bytes", b""), ("a part of it", b"\0as"), ("a component", b"\0asm\x0D\0\1\0"),
+    ("another version", b"\0asm\2\0\0\0"), ("an `ar` archive", b"!<arch>\nfoo.o/"),
+    ("a gzip file", b"\x1F\x8B\x08\0\0\0\0\0\0"), ("LLVM bitcode", b"BC\xC0\xDE5\x14\0\0"),
+    ("the text format", b"(module $a)"), ("text", b"#!/bin/sh\necho \xC3\xA4"), ("7F 45 4C 46", b"\x7FELF\2\1\1\0\0"),
+]
 
 REPORT = b"""\
 section    before     after     saved  longer  out of  kind
@@ -81,11 +118,13 @@ MALFORMED = [
     ("an export of another kind", "export section, export 0, offset 0xe: malformed export", b"\7\5\1\1a\5\0"),
     ("trailing bytes", "function section, offset 0xf: trailing bytes after the last function", b"\3\3\1\0\0"),
     ("a count that is cut", "memory section, offset 0xd: malformed count", b"\5\1\x80"),
-    ("an index that is cut", "start section, offset 0xd: malformed body", b"\x08\1\x80"),
-    ("a name that is cut", "custom section, offset 0xd: malformed body", b"\0\2\5a"),
+    ("an index that is cut", "start section, offset 0xd: malformed function", b"\x08\1\x80"),
+    ("bytes after an index", "start section, offset 0xf: trailing bytes after the function", b"\x08\3\x80\0\0"),
+    ("bytes after a count", "data count section, offset 0xe: trailing bytes after the count", b"\x0C\2\0\0"),
+    ("a name that is cut", "custom section, offset 0xd: malformed name", b"\0\2\5a"),
     ("another id", "section 1, offset 0xb: unknown section id 14: expected 0 to 13", b"\x0E\0"),
-    ("a body that is cut", f"section 1, offset 0xb: {NO_SIZE} module", b"\x0B\5\0"),
-    ("no size", f"section 1, offset 0xb: {NO_SIZE} module", b"\x0B"),
+    ("a body that is cut", f"section 1, offset 0xc: {NO_SIZE} module", b"\x0B\5\0"),
+    ("no size", f"section 1, offset 0xc: {NO_SIZE} module", b"\x0B"),
 ]
 
 
@@ -171,15 +210,156 @@ def try_outputs(runs):
 def goes_past_a_stale_file(runs):
     stale = runs.room / "there.0.wasmcanon"
     stale.touch()
-    right = runs.answers(0, "", "long", "-o", "there") and runs.there() == FILES["canonical"] and stale.exists()
+    right = (runs.answers(0, "warning: there.0.wasmcanon: left by a killed run", "long", "-o", "there")
+             and runs.there() == FILES["canonical"] and stale.exists())
     stale.unlink()
     return right and runs.leaves_nothing_beside()
+
+
+def try_links(runs):
+    runs.link("a", "b")
+    runs.link("b", "gone")
+    (runs.room / "gone").unlink(missing_ok=True)
+    right = runs.answers(0, "", "long", "-o", "a") and (runs.room / "gone").read_bytes() == FILES["canonical"]
+    runs.holds("a chain of links that leads nowhere", right and (runs.room / "b").is_symlink())
+    runs.link("b", "a")
+    right = runs.answers(4, "error: a: write failed: ", "long", "-o", "a")
+    runs.holds("a loop of links", right and (runs.room / "a").is_symlink() and (runs.room / "b").is_symlink())
+    os.unlink(runs.room / "a")
+    os.symlink(b"\xFF", os.fsencode(runs.room / "a"))
+    right = runs.answers(4, "error: a: write failed: ", "long", "-o", "a")
+    runs.holds("a link to a name that isn't UTF-8", right and (runs.room / "a").is_symlink())
+    for name in ("a", "b", "gone"):
+        (runs.room / name).unlink()
+
+
+def try_read_only(runs):
+    runs.fresh(0o444)
+    message = "there: read-only file: use --force to replace it"
+    runs.holds("a read-only file", runs.refuses(2, f"error: {message}", "long", "-o", "there"))
+    right = runs.puts("long", "-o", "there", "--force")
+    runs.holds("a read-only file, by force", right and (runs.room / "there").stat().st_mode & 0o777 == 0o444)
+    runs.fresh()
+
+
+def try_order(runs):
+    for name, message, data in DISORDERED:
+        (runs.room / "disordered").write_bytes(HEADER + data)
+        right = all(runs.answers(1, f"error: disordered: {message}", *words, "disordered")
+                    for words in ([], ["--check"], ["--hash"], ["--report"], ["--diff", "long"]))
+        runs.holds(name, right and runs.err.endswith("\nhelp: --any-order takes such modules\n"))
+        runs.holds(f"{name}, in any order", runs.writes("--any-order", "disordered", data=HEADER + data))
+    for data in IN_ORDER:
+        (runs.room / "ordered").write_bytes(HEADER + data)
+        runs.holds("sections in order", runs.writes("ordered", data=HEADER + data))
+
+
+def try_several(runs):
+    for name in ("one", "two"):
+        (runs.room / name).write_bytes(FILES["long"])
+    (runs.room / "into").mkdir(exist_ok=True)
+    right = runs.answers(1, "error: cut: ", "one", "cut", "two", "-o", "into")
+    written = {file.name: file.read_bytes() for file in (runs.room / "into").iterdir()}
+    runs.holds("a folder", right and written == {name: FILES["canonical"] for name in ("one", "two")})
+    runs.holds("two of one name", runs.answers(2, "error: modules that go to a folder need names that differ", "one",
+                                               "into/one", "-o", "into/"))
+    runs.holds("standard input to a folder",
+               runs.answers(2, "error: modules that go to a folder need names", "-o", "into"))
+    runs.holds("no such folder", runs.answers(4, "error: gone/one: write failed: ", "one", "-o", "gone/"))
+    runs.holds("several to one file",
+               runs.answers(2, "error: several modules need -o FOLDER/", "one", "two", "-o", "there"))
+    right = runs.answers(1, "error: cut: ", "--in-place", "one", "cut", "two")
+    runs.holds("files in their places", right and all((runs.room / name).read_bytes() == FILES["canonical"]
+                                                      for name in ("one", "two")))
+    runs.holds("several checks", runs.answers(1, f"error: long: {NOT_CANONICAL}", "--check", "one", "long", "two"))
+    runs.holds("several checks, one not read", runs.answers(4, "error: none: read failed: ", "--check", "none", "long"))
+    runs.run("--report", "one", "long")
+    right = runs.out.startswith(b"one:\n") and b"\nlong:\n" + REPORT in runs.out
+    runs.holds("several reports", runs.status == 0 and right)
+    for words in (["--in-place"], ["--in-place", "-"], ["one", "two"], ["--check", "-", "-"], ["--diff", "-", "-"],
+                  ["--diff", "one"], ["--diff", "one", "two", "one"], ["--in-place", "one", "-o", "two"],
+                  ["--keep", "a", "one"], ["--no-custom", "one"], ["--strip", "a*b*", "one"]):
+        runs.holds(" ".join(words), runs.answers(2, "error: ", *words) and "\nUsage: wasmcanon " in runs.err)
+
+
+def sum_of(data):
+    return hashlib.sha256(data).hexdigest()
+
+
+def try_hashes(runs):
+    (runs.room / "back\\slash").write_bytes(FILES["long"])
+    hashed = sum_of(FILES["canonical"])
+    runs.run("--hash", "long", "canonical", "back\\slash")
+    wanted = f"{hashed}  long\n{hashed}  canonical\n\\{hashed}  back\\\\slash\n"
+    runs.holds("hashes", runs.status == 0 and runs.out.decode() == wanted)
+    (runs.room / "back\\slash").unlink()
+    runs.run("--hash", "cut", "long")
+    runs.holds("a hash beside a refusal", runs.status == 1 and runs.out.decode() == f"{hashed}  long\n")
+    runs.run("--hash", input=FILES["long"])
+    runs.holds("a hash of standard input", runs.status == 0 and runs.out.decode() == f"{hashed}  -\n")
+    runs.run("--hash", "--no-custom", "debug", "long", "named")
+    wanted = [f"{hashed}  debug", f"{hashed}  long", f"{sum_of(HEADER)}  named"]
+    runs.holds("hashes without custom sections", runs.status == 0 and runs.out.decode().splitlines() == wanted)
+
+
+def custom_sections(data):
+    """The names of the custom sections of a module that has short ones alone."""
+    names, at = [], len(HEADER)
+    while at < len(data):
+        names.append(data[at + 3:at + 3 + data[at + 2]].decode())
+        at += 2 + data[at + 1]
+    return names
+
+
+def try_selections(runs):
+    for words, wanted in (
+        (["--strip", "name"], ["nabe", ".debug_", "e"]),
+        (["--strip", "na*e"], [".debug_", "e"]),
+        (["--strip", "n*e", "--strip", "e"], [".debug_"]),
+        (["--strip", "e*e"], ["name", "nabe", ".debug_", "e"]),
+        (["--strip", "*"], []),
+        (["--strip-all"], []),
+        (["--strip-all", "--keep", "na*"], ["name", "nabe"]),
+        (["--strip-offsets"], ["name", "nabe", "e"]),
+        (["--strip-offsets", "--strip=name"], ["nabe", "e"]),
+        (["--strip-offsets", "--keep=.debug_"], ["name", "nabe", ".debug_", "e"]),
+    ):
+        right = runs.answers(0, "", *words, "named") and custom_sections(runs.out) == wanted
+        runs.holds(" ".join(words), right)
+    runs.fresh()
+    runs.run("--strip", "name", "debug", "-o", "there")
+    runs.holds("a warning of offsets that stay", runs.status == 0 and runs.err == STALE.format(file="debug"))
+
+
+def try_foreign(runs):
+    for found, data in FOREIGN:
+        (runs.room / "foreign").write_bytes(data)
+        runs.holds(found, runs.answers(1, f"error: foreign: {NO_HEADER}, found {found}\n", "--check", "foreign"))
+    ran = run_command("sh", "-c", 'cat /dev/zero | "$1" --check', "sh", runs.program)
+    runs.holds("an input without end", ran.returncode == 1 and b"found 00 00 00 00" in ran.stderr)
+
+
+def try_json(runs):
+    runs.run("--check", "--json", "canonical", "long", "cut")
+    told = list_in(runs.out)
+    runs.holds("checks as JSON", runs.status == 1 and told[:2] == [
+        {"file": "canonical", "canonical": True}, {"file": "long", "canonical": False, "offset": 8}]
+        and len(told) == 3 and set(told[2]) == {"file", "error"})
+    runs.run("--hash", "--json", "long")
+    runs.holds("hashes as JSON", list_in(runs.out) == [{"file": "long", "sha256": sum_of(FILES["canonical"])}])
+    runs.run("--diff", "--json", "long", "canonical")
+    runs.holds("no difference as JSON", runs.status == 0 and json.loads(runs.out)
+               == {"files": ["long", "canonical"], "same": True})
+    runs.run("--diff", "--json", "long", "other")
+    told = json.loads(runs.out)
+    runs.holds("a difference as JSON", runs.status == 1 and told["same"] is False
+               and told["difference"].startswith("memory section, offset 0x12"))
 
 
 def try_checks(runs):
     runs.holds("a canonical module, checked", runs.answers(0, "", "--check", "canonical"))
     runs.holds("a longer module, checked", runs.answers(1, f"error: long: {NOT_CANONICAL}", "--check", "long"))
-    message = "error: cut: section 1, offset 0x11: size is missing"
+    message = "error: cut: section 1, offset 0x12: size is missing"
     runs.holds("no module, checked", runs.answers(1, message, "--check", "cut"))
 
 
@@ -203,12 +383,12 @@ def try_differences(runs):
         ("the first has a section more", "canonical", "header",
          "type section, offset 0x8: only in the first canonical form"),
         ("another section", "escape", "canonical",
-         'section 0, offset 0x8: custom "?" in the first canonical form, type in the second'),
+         'section 0, offset 0x8: custom "\\u{1b}" in the first canonical form, type in the second'),
     ):
         error = f"error: {first} and {second} differ: {message}"
         runs.holds(name, runs.answers(1, error, "--diff", first, second))
     runs.holds("the second is no module",
-               runs.answers(1, "error: cut: section 1, offset 0x11: ", "--diff", "long", "cut"))
+               runs.answers(1, "error: cut: section 1, offset 0x12: ", "--diff", "long", "cut"))
 
 
 def try_reports(runs):
@@ -226,23 +406,30 @@ def try_reports(runs):
 def json_report(runs, file):
     """The report on a file as JSON; if there is none, one that differs from all."""
     runs.run("--report", "--json", file)
+    told = list_in(runs.out)
+    return told[0] if runs.status == 0 and len(told) == 1 else {"before": 0, "after": 0, "sections": []}
+
+
+def list_in(text):
+    """The list that is printed as JSON; if there is none, an empty one."""
     try:
-        return json.loads(runs.out) if runs.status == 0 else {"before": 0, "after": 0, "sections": []}
+        told = json.loads(text)
+        return told if isinstance(told, list) else []
     except ValueError:
-        return {"before": 0, "after": 0, "sections": []}
+        return []
 
 
 def try_refusals(runs):
     runs.fresh()
     refusals = [
-        ("no module", 1, "cut: section 1, offset 0x11: size is missing", ["cut", "-o", "there"]),
+        ("no module", 1, "cut: section 1, offset 0x12: size is missing", ["cut", "-o", "there"]),
         ("no header", 1, f"kept: {NO_HEADER}", ["kept", "-o", "there"]),
         ("no input", 4, "none: read failed: ", ["none", "-o", "there"]),
         ("a folder for an input", 4, f"{runs.room}: read failed: ", [runs.room, "-o", "there"]),
         ("no folder for the output", 4, "none/x: write failed: ", ["long", "-o", "none/x"]),
         ("no output's name", 2, "", ["long", "-o"]),
         ("an unknown option", 2, "", ["--chek", "long"]),
-        ("a second file without --diff", 2, "", ["long", "other"]),
+        ("a second file without a folder", 2, "", ["long", "other"]),
         ("a check that is to write", 2, "", ["--check", "long", "-o", "there"]),
     ]
     for words in (["--diff"], ["--json"], ["--check", "--report"], ["--check", "--strip-offsets"]):
@@ -258,7 +445,7 @@ def is_malformed(runs, message, data, *words):
 
 def try_malformed(runs):
     runs.holds("no bytes", runs.answers(1, f"error: nothing: {NO_HEADER}", "--check", "nothing"))
-    cut = f"error: cut_type: section 0, offset 0x8: {NO_SIZE} module"
+    cut = f"error: cut_type: section 0, offset 0x9: {NO_SIZE} module"
     runs.holds("a section that is cut", runs.answers(1, cut, "--check", "cut_type"))
     message = "code section, function 1, offset 0x13: malformed instruction"
     data = b"\x0A\x08\2\2\0\x0B\3\0\xFF\x0B"
@@ -276,7 +463,9 @@ def try_help(runs):
     runs.holds("the usage of an error", usage and runs.answers(2, "error: ", "--chek") and usage_in(runs.err) == usage)
     right = runs.answers(0, "", "--version")
     launched = run_command(ROOT / "bin/wasmcanon", "--version").stdout
-    runs.holds("the version", right and runs.out.strip() + b"," in launched)
+    version, _, kit = runs.out.partition(b", written for ")
+    right = right and launched.startswith(version + b", ") and kit == run_command("rt", "version").stdout
+    runs.holds("the version, and the kit's line", right)
 
 
 def is_help(text):
@@ -284,7 +473,7 @@ def is_help(text):
     lines = text.splitlines()
     launched = run_command(ROOT / "bin/wasmcanon", "--help").stdout.decode().splitlines()
     source = (ROOT / "crates/wasmcanon/src/options.rt").read_text("utf-8")
-    options = set(re.findall(r'^ *name: "(.*)",$', source, re.MULTILINE)) - {"input", "other"}
+    options = set(re.findall(r'^ *name: "(.*)",$', source, re.MULTILINE)) - {"input"}
     named = all(any(re.match(rf"  .*--{option} ", line) for line in lines) for option in options)
     return lines and launched[:len(lines)] == lines and max(map(len, lines)) <= 80 and named
 
@@ -298,6 +487,10 @@ def try_failing_writes(runs):
         with open("/dev/full", "wb") as full:
             runs.run("long", stdout=full)
         runs.holds("a device that is full", runs.status == 4 and write_failed(runs))
+        for word in ("--help", "--version", "--hash", "--report"):
+            with open("/dev/full", "wb") as full:
+                runs.run(word, *(["long"] if word in ("--hash", "--report") else []), stdout=full)
+            runs.holds(f"a device that is full, {word}", runs.status == 4 and write_failed(runs))
     whole = run_command(runs.program, "large", cwd=runs.room).stdout
     with open(runs.room / "out", "wb") as output:
         ran = run_command(*under("trap '' XFSZ; ulimit -f 1", runs.program, "large"), cwd=runs.room, stdout=output)
@@ -363,6 +556,7 @@ def run(report):
             (folder / name).write_bytes(data)
         for program in both_programs(report, "wasmcanon"):
             runs = Runs(report, program, folder)
-            for attempt in (try_outputs, try_checks, try_offsets, try_differences, try_reports, try_refusals,
-                            try_malformed, try_help, try_failing_writes, try_progress):
+            for attempt in (try_outputs, try_links, try_read_only, try_several, try_checks, try_order, try_hashes,
+                            try_selections, try_foreign, try_json, try_offsets, try_differences, try_reports,
+                            try_refusals, try_malformed, try_help, try_failing_writes, try_progress):
                 attempt(runs)

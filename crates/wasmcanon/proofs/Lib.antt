@@ -1,1 +1,5 @@
 pub mod OffsetLaws
+pub mod OrderLaws
+pub mod PatternLaws
+pub mod ResultLaws
+pub mod SelectionLaws

@@ -1,4 +1,4 @@
--- The laws of sections that keep offsets, and of what is left without them.
+-- The laws of the beginnings of names, and of what readers answer.
 use Rattle.std.proofs.Common.{◌≡◌, ◌∙◌, ℕ, ◌+◌, ◌⊎◌, true, false, List, [], ◌∷◌, ◌++◌, length, take, drop, Option, Some, None, eqb, refl, sym, ap, subst, append_assoc}
 use Rattle.std.specs.Prelude.{MatchOption, IfSome, IfNone, IfOk, OnOk, Result, Ok, Err, is_some, is_err}
 use Rattle.std.proofs.lemmas.List.{take_at, take-append-drop, flat_map_more}
@@ -9,7 +9,7 @@ use Rattle.wasm_codec.specs.declared.reader.ReadError.{ReadError}
 use Rattle.wasm_codec.specs.declared.reader.ReadError.TheVariants.{Refused}
 use Rattle.wasm_modules.specs.formats.Sections.{SectionParts, header}
 use Rattle.wasm_modules.specs.formats.Modules.{raw_module, raw_section}
-use Rattle.wasmcanon.specs.Offsets.{BeginsWith, IsOffsetName, IsNameOf, KeepsOffsets, Without, none, kept, dropped, IsWithoutOffsets}
+use Rattle.wasmcanon.specs.Offsets.{BeginsWith}
 
 -- ---- the beginning of a name
 
@@ -52,40 +52,3 @@ given_is view v r x is h = subst (IsOrMemory view v) is h
 
 pub not_refused : {X V : Type 0} (view : X → V) (v : V) (r : Result X ReadError) (at : ℕ) → r ≡ Err (Refused at) → IsOrMemory view v r → ⊥
 not_refused view v r at is h = subst (IsOrMemory view v) is h
-
--- ---- sections one after the other
-
--- a section of one name, which isn't that of sections that keep offsets, keeps none
-pub not_kept : {X : Type 0} (section : SectionParts) (name : List ℕ) (r : Option X) → IsNameOf section name → ((one other : List ℕ) → IsNameOf section one → IsNameOf section other → one ≡ other) → IfNone r (IsOffsetName name → ⊥) → IfNone r (KeepsOffsets section → ⊥)
-not_kept section name None named one other_name = λ k. other_name (subst IsOffsetName (one k.name name k.named named) k.offsets)
-not_kept section name (Some x) named one other_name = tt
-
-more_kept : {sections left : List SectionParts} (s : SectionParts) → Without sections left → (KeepsOffsets s → ⊥) → Without (sections ++ s ∷ []) (left ++ s ∷ [])
-more_kept s none n = kept n none
-more_kept s (kept m w) n = kept m (more_kept s w n)
-more_kept s (dropped k w) n = dropped k (more_kept s w n)
-
-more_dropped : {sections left : List SectionParts} (s : SectionParts) → Without sections left → KeepsOffsets s → Without (sections ++ s ∷ []) left
-more_dropped s none k = dropped k none
-more_dropped s (kept m w) k = kept m (more_dropped s w k)
-more_dropped s (dropped j w) k = dropped j (more_dropped s w k)
-
-pub section_bytes : (s : SectionParts) → s.id ∷ byte_list_bytes s.body ≡ raw_section.bytes s
-unfolding raw_section
-section_bytes s = refl
-
--- a section that keeps none was written too
-pub one_written : (sections next : List SectionParts) (s : SectionParts) (old new : List ℕ) → next ≡ sections ++ s ∷ [] → IsWithoutOffsets sections old → (KeepsOffsets s → ⊥) → new ≡ old ++ raw_section.bytes s → IsWithoutOffsets next new
-one_written sections next s old new is w n e = record {
-  left = w.left ++ s ∷ [];
-  chosen = subst (λ (l : List SectionParts). Without l (w.left ++ s ∷ [])) (sym is) (more_kept s w.chosen n);
-  written = e ∙ ap (λ (t : List ℕ). t ++ raw_section.bytes s) w.written ∙ flat_map_more raw_section.bytes header w.left s;
-}
-
--- a section that keeps some was left out
-pub one_left_out : (sections next : List SectionParts) (s : SectionParts) (bytes : List ℕ) → next ≡ sections ++ s ∷ [] → IsWithoutOffsets sections bytes → KeepsOffsets s → IsWithoutOffsets next bytes
-one_left_out sections next s bytes is w k = record {
-  left = w.left;
-  chosen = subst (λ (l : List SectionParts). Without l w.left) (sym is) (more_dropped s w.chosen k);
-  written = w.written;
-}

@@ -1,2 +1,4 @@
 pub mod Offsets
+pub mod Order
 pub mod Run
+pub mod Selections

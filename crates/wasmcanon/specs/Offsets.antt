@@ -1,7 +1,6 @@
--- Modules without the custom sections that keep offsets.
-use Rattle.std.specs.Prelude.{◌≡◌, ◌⊎◌, ℕ, List, [], ◌∷◌, ◌++◌, codes}
+-- Names of custom sections, and those of sections that keep offsets.
+use Rattle.std.specs.Prelude.{◌≡◌, ◌⊎◌, ℕ, List, ◌++◌, codes}
 use Rattle.wasm_modules.specs.formats.Sections.{SectionParts}
-use Rattle.wasm_modules.specs.formats.Modules.{raw_module}
 use Rattle.wasm_sections.specs.formats.EntryParts.{CustomParts}
 use Rattle.wasm_sections.specs.formats.Sections.{custom_body}
 
@@ -25,21 +24,3 @@ pub record IsNameOf (section : SectionParts) (name : List ℕ) : Type 0 where
   pub custom : CustomParts
   pub holds : custom_body.Encodes section.body custom
   pub named : custom.name ≡ name
-
--- The section is a custom section that keeps offsets.
-pub record KeepsOffsets (section : SectionParts) : Type 0 where
-  pub name : List ℕ
-  pub named : IsNameOf section name
-  pub offsets : IsOffsetName name
-
--- The second list has the sections of the first that don't keep offsets, in their order.
-pub data Without : List SectionParts → List SectionParts → Type 0 where
-  none : Without [] []
-  kept : {section : SectionParts} {sections left : List SectionParts} → (KeepsOffsets section → ⊥) → Without sections left → Without (section ∷ sections) (section ∷ left)
-  dropped : {section : SectionParts} {sections left : List SectionParts} → KeepsOffsets section → Without sections left → Without (section ∷ sections) left
-
--- The bytes are the minimal encoding of the sections that don't keep offsets.
-pub record IsWithoutOffsets (sections : List SectionParts) (bytes : List ℕ) : Type 0 where
-  pub left : List SectionParts
-  pub chosen : Without sections left
-  pub written : bytes ≡ raw_module.bytes left

@@ -1,14 +1,15 @@
 -- The output of a run of `wasmcanon`, and its result.
-use Rattle.std.specs.Prelude.{ℕ, List, Option, Result, Ok, Err}
+use Rattle.std.specs.Prelude.{◌≡◌, ℕ, List, Option, Result, Ok, Err}
 use Rattle.std.specs.Io.KnownBytes.{Appends}
 use Rattle.wasm_codec.specs.Outcomes.{EncodesSome, IsNormalForm, IsLongestPrefix}
 use Rattle.wasm_sections.specs.formats.ModuleSectionParts.{ModuleSectionParts}
 use Rattle.wasm_sections.specs.formats.ModuleSections.{module_section, whole_module}
 use Rattle.wasm_codec.specs.formats.Combinators.{minimal_only}
 use Rattle.wasm_modules.specs.Modules.{IsModulePrefixOf}
-use Rattle.wasm_modules.specs.formats.Sections.{SectionParts}
-use Rattle.wasm_modules.specs.formats.Modules.{raw_module}
-use Rattle.wasmcanon.specs.Offsets.{IsWithoutOffsets}
+use Rattle.wasm_whole_modules.specs.declared.order.ModuleError.{ModuleError}
+use Rattle.sha2.specs.Sha256.{sha256}
+use Rattle.wasmcanon.specs.Selections.{IsChosen}
+use Rattle.wasmcanon.specs.declared.selection.Sections.{Sections}
 use Rattle.wasmcanon.specs.declared.run.Verdict.{Verdict}
 use Rattle.wasmcanon.specs.declared.run.Verdict.TheVariants as verdicts
 use Rattle.wasmcanon.specs.declared.run.Failure.{Failure}
@@ -26,19 +27,23 @@ pub record IsNoModule (bytes : List ℕ) : Type 0 where
 abbrev pub IsCanonicalForm : List ℕ → List ℕ → Type 0
 IsCanonicalForm input encoding = IsNormalForm whole_module.Encodes whole_module.bytes input encoding
 
--- The writer's known contents grew by the canonical form of the input.
-pub record AppendsCanonicalForm (input : List ℕ) (old new : Option (List ℕ)) : Type 0 where
+-- The bytes are the canonical form of the input with these sections.
+pub record IsForm (sections : Sections) (input bytes : List ℕ) : Type 0 where
   pub encoding : List ℕ
   pub canonical : IsCanonicalForm input encoding
-  pub appended : Appends old new encoding
+  pub chosen : IsChosen sections encoding bytes
 
--- The writer's known contents grew by the canonical form's sections that don't keep offsets.
-pub record AppendsWithoutOffsets (input : List ℕ) (old new : Option (List ℕ)) : Type 0 where
-  pub encoding : List ℕ
-  pub canonical : IsCanonicalForm input encoding
-  pub left : List ℕ
-  pub without : (sections : List SectionParts) → raw_module.Encodes encoding sections → IsWithoutOffsets sections left
-  pub appended : Appends old new left
+-- The writer's known contents grew by the canonical form of the input with these sections.
+pub record AppendsForm (sections : Sections) (input : List ℕ) (old new : Option (List ℕ)) : Type 0 where
+  pub bytes : List ℕ
+  pub form : IsForm sections input bytes
+  pub appended : Appends old new bytes
+
+-- The digest is SHA-256 of the canonical form of the input with these sections.
+pub record IsHash (sections : Sections) (input digest : List ℕ) : Type 0 where
+  pub bytes : List ℕ
+  pub form : IsForm sections input bytes
+  pub is : digest ≡ sha256 bytes
 
 -- The verdict is right: the input is canonical, or its longest canonical prefix ends at this offset.
 abbrev pub Judges : List ℕ → Verdict → Type 0
@@ -52,14 +57,25 @@ Judges input (verdicts.Longer at) =
 abbrev pub IfRefused : {X : Type 0} → Result X Failure → (ℕ → Type 0) → Type 0
 IfRefused (Ok x) P = Unit {0}
 IfRefused (Err (failures.Refused at place)) P = P at
+IfRefused (Err (failures.Disordered error place)) P = Unit {0}
 IfRefused (Err failures.Memory) P = Unit {0}
 IfRefused (Err (failures.Read error)) P = Unit {0}
 IfRefused (Err (failures.Write error)) P = Unit {0}
+
+-- If the run fails because the sections break a rule, the property holds of the error that it reports.
+abbrev pub IfDisordered : {X : Type 0} → Result X Failure → (ModuleError → Type 0) → Type 0
+IfDisordered (Ok x) P = Unit {0}
+IfDisordered (Err (failures.Refused at place)) P = Unit {0}
+IfDisordered (Err (failures.Disordered error place)) P = P error
+IfDisordered (Err failures.Memory) P = Unit {0}
+IfDisordered (Err (failures.Read error)) P = Unit {0}
+IfDisordered (Err (failures.Write error)) P = Unit {0}
 
 -- The property holds of each result that is returned after all input was read.
 abbrev pub OnceAllIsRead : {X : Type 0} → Result X Failure → Type 0 → Type 0
 OnceAllIsRead (Ok x) P = P
 OnceAllIsRead (Err (failures.Refused at place)) P = P
+OnceAllIsRead (Err (failures.Disordered error place)) P = P
 OnceAllIsRead (Err failures.Memory) P = Unit {0}
 OnceAllIsRead (Err (failures.Read error)) P = Unit {0}
 OnceAllIsRead (Err (failures.Write error)) P = P
@@ -68,6 +84,7 @@ OnceAllIsRead (Err (failures.Write error)) P = P
 abbrev pub BeforeAnyWrite : {X : Type 0} → Result X Failure → Type 0 → Type 0
 BeforeAnyWrite (Ok x) P = Unit {0}
 BeforeAnyWrite (Err (failures.Refused at place)) P = P
+BeforeAnyWrite (Err (failures.Disordered error place)) P = P
 BeforeAnyWrite (Err failures.Memory) P = P
 BeforeAnyWrite (Err (failures.Read error)) P = P
 BeforeAnyWrite (Err (failures.Write error)) P = Unit {0}
@@ -75,6 +92,7 @@ BeforeAnyWrite (Err (failures.Write error)) P = Unit {0}
 -- The failure is `Memory` or `Read`.
 abbrev pub IsReadFailure : Failure → Type 0
 IsReadFailure (failures.Refused at place) = ⊥
+IsReadFailure (failures.Disordered error place) = ⊥
 IsReadFailure failures.Memory = Unit {0}
 IsReadFailure (failures.Read error) = Unit {0}
 IsReadFailure (failures.Write error) = ⊥
@@ -82,6 +100,7 @@ IsReadFailure (failures.Write error) = ⊥
 -- The exit status of a run that failed so.
 abbrev pub status_of : Failure → ℕ
 status_of (failures.Refused at place) = 1
+status_of (failures.Disordered error place) = 1
 status_of failures.Memory = 3
 status_of (failures.Read error) = 4
 status_of (failures.Write error) = 4

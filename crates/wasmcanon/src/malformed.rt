@@ -1,11 +1,21 @@
 //! The part of a module that is malformed, and its offset.
-
-use std::alloc::Global;
+use crate::foreign::Foreign;
+use crate::sections::{count_sections, number_len};
+use std::alloc::{AllocError, Global};
 use std::fmt;
 use wasm_codec::reader::cursor::Cursor;
-use wasm_modules::raw::{read_module, read_section};
+use wasm_modules::raw::read_section;
 use wasm_sections::module_sections::{SectionNames, section_names};
 use wasm_whole_modules::locate::{BrokenItem, BrokenPart, first_broken_item, first_broken_part};
+
+/// The malformed part of a module.
+#[derive(Clone, Copy)]
+pub enum Malformed {
+    /// The header, in whose place the input has something else.
+    Header(Foreign),
+    /// A section.
+    Section(MalformedSection),
+}
 
 /// A malformed section.
 #[derive(Clone, Copy)]
@@ -29,6 +39,8 @@ pub enum SectionFault {
         id: u8,
         /// Offset of the body, in bytes from the start of the module.
         body_at: usize,
+        /// Length of the number at the start of the body, in bytes. 0 if there is none.
+        number_len: usize,
         /// The first malformed item. `None` means that the body isn't a list.
         item: Option<BrokenItem>,
         /// The malformed part of the item. `None` means that the item isn't a function.
@@ -53,80 +65,96 @@ pub enum FunctionFault {
 /// The id of code sections.
 const CODE_SECTION: u8 = 10;
 
-/// Locates the malformed part of the section at offset `at`. Returns `None` if memory runs out.
-pub fn find_malformed_section(alloc: Global, module: &[u8], at: usize) -> Option<MalformedSection> {
-    let (before, rest) = module.split_at_checked(at)?;
-    let Ok(sections) = read_module(alloc, before) else {
-        return None;
-    };
-    let fault = find_fault(alloc, rest, at)?;
-    Some(MalformedSection {
-        number: sections.len(),
-        at,
-        fault,
-    })
+/// Locates the malformed part of a module of which `at` bytes decode. That is the header if `at` is 0.
+///
+/// Fails if memory runs out.
+pub fn find_malformed(alloc: Global, module: &[u8], at: usize) -> Result<Malformed, AllocError> {
+    match module.split_at_checked(at) {
+        Some((before, rest)) if at > 0 => Ok(Malformed::Section(MalformedSection {
+            number: count_sections(before),
+            at,
+            fault: find_fault(alloc, rest, at)?,
+        })),
+        _ => Ok(Malformed::Header(Foreign::of(module))),
+    }
 }
 
 /// Locates the malformed part of the section at the start of `bytes`, whose offset in the module is `at`.
-fn find_fault(alloc: Global, bytes: &[u8], at: usize) -> Option<SectionFault> {
+fn find_fault(alloc: Global, bytes: &[u8], at: usize) -> Result<SectionFault, AllocError> {
     let mut cursor = Cursor::new(bytes);
     let Ok(section) = read_section(&mut cursor) else {
-        return Some(SectionFault::Cut);
+        return Ok(SectionFault::Cut);
     };
     let body_and_rest = cursor.len().saturating_add(section.body.len());
     let before_body = bytes.len().saturating_sub(body_and_rest);
-    let item = first_broken_item(alloc, section.id, section.body).ok()?;
+    let item = first_broken_item(alloc, section.id, section.body)?;
     let function = match item {
-        Some(item) if section.id == CODE_SECTION => find_in_function(alloc, section.body, item),
+        Some(item) if section.id == CODE_SECTION => find_in_function(alloc, section.body, item)?,
         _ => None,
     };
-    Some(SectionFault::Body {
+    Ok(SectionFault::Body {
         id: section.id,
         body_at: at.saturating_add(before_body),
+        number_len: number_len(section.body),
         item,
         function,
     })
 }
 
-/// Locates the malformed part of the function `item` in the body of a code section. Returns `None` if memory runs out.
-fn find_in_function(alloc: Global, body: &[u8], item: BrokenItem) -> Option<FunctionFault> {
+/// Locates the malformed part of the function `item` in the body of a code section. Returns `None` if the place isn't
+/// in a function.
+///
+/// Fails if memory runs out.
+fn find_in_function(
+    alloc: Global,
+    body: &[u8],
+    item: BrokenItem,
+) -> Result<Option<FunctionFault>, AllocError> {
     if item.at == 0 || item.index == item.count {
-        return None;
+        return Ok(None);
     }
-    let (_before, rest) = body.split_at_checked(item.at)?;
+    let Some((_before, rest)) = body.split_at_checked(item.at) else {
+        return Ok(None);
+    };
     let mut cursor = Cursor::new(rest);
     let Ok(mut code) = cursor.body() else {
-        return Some(FunctionFault::Cut);
+        return Ok(Some(FunctionFault::Cut));
     };
     let code_and_rest = cursor.len().saturating_add(code.len());
+    let at = body.len().saturating_sub(code_and_rest);
     let len = code.len();
-    let code = code.take(len).ok()?;
-    let part = first_broken_part(alloc, code).ok()??;
-    Some(FunctionFault::Code {
-        at: body.len().saturating_sub(code_and_rest),
-        part,
-    })
+    let Ok(code) = code.take(len) else {
+        return Ok(None);
+    };
+    let part = first_broken_part(alloc, code)?;
+    Ok(part.map(|part| FunctionFault::Code { at, part }))
 }
 
 impl fmt::Display for MalformedSection {
     fn fmt<W: fmt::Write>(&self, f: &mut fmt::Formatter<W>) -> fmt::Result {
         let (number, at) = (self.number, self.at);
         match self.fault {
-            SectionFault::Cut => write!(
-                f,
-                "section {number}, offset {at:#x}: size is missing or larger than the rest of the module"
-            ),
+            SectionFault::Cut => {
+                let size_at = at.saturating_add(1);
+                write!(
+                    f,
+                    "section {number}, offset {size_at:#x}: size is missing or larger than the rest of the module"
+                )
+            }
             SectionFault::Body {
                 id,
                 body_at,
+                number_len,
                 item,
                 function,
             } => match section_names(id) {
                 Some(names) => {
                     write!(f, "{} section", names.section)?;
                     MalformedBody {
+                        id,
                         names,
                         body_at,
+                        number_len,
                         item,
                         function,
                     }
@@ -144,8 +172,10 @@ impl fmt::Display for MalformedSection {
 /// The rest of the message for a malformed body.
 #[derive(Clone, Copy)]
 struct MalformedBody {
+    id: u8,
     names: SectionNames,
     body_at: usize,
+    number_len: usize,
     item: Option<BrokenItem>,
     function: Option<FunctionFault>,
 }
@@ -153,7 +183,7 @@ struct MalformedBody {
 impl fmt::Display for MalformedBody {
     fn fmt<W: fmt::Write>(&self, f: &mut fmt::Formatter<W>) -> fmt::Result {
         let Some(item) = self.item else {
-            return write!(f, ", offset {:#x}: malformed body", self.body_at);
+            return self.write_number(f);
         };
         let offset = self.body_at.saturating_add(item.at);
         let name = self.names.item;
@@ -178,6 +208,22 @@ impl fmt::Display for MalformedBody {
                 MalformedPart { code_at, part }.fmt(f)
             }
         }
+    }
+}
+
+impl MalformedBody {
+    /// Writes the message for a body that isn't a list, but a name or a number.
+    fn write_number<W: fmt::Write>(&self, f: &mut fmt::Formatter<W>) -> fmt::Result {
+        let offset = self.body_at;
+        if self.id == 0 {
+            return write!(f, ", offset {offset:#x}: malformed name");
+        }
+        let name = self.names.item;
+        if self.number_len == 0 {
+            return write!(f, ", offset {offset:#x}: malformed {name}");
+        }
+        let end = offset.saturating_add(self.number_len);
+        write!(f, ", offset {end:#x}: trailing bytes after the {name}")
     }
 }
 

@@ -1,37 +1,41 @@
 //! The messages on standard error.
-
-use crate::options::{Action, Location, Options};
+use crate::malformed::Malformed;
+use crate::order::DisorderMessage;
+use crate::request::Location;
 use crate::run::Failure;
+use crate::text::Escaped;
 use std::fmt;
 
 /// The message for a run that failed.
-#[derive(Drop)]
-pub struct FailureMessage<'a> {
-    /// The options of the run.
-    pub options: Options<'a>,
+#[derive(Clone, Copy)]
+pub struct FailureMessage<'i, 'o, 'f> {
+    /// The input.
+    pub input: Location<'i>,
+    /// The output.
+    pub output: Location<'o>,
     /// The error.
-    pub failure: Failure,
+    pub failure: &'f Failure,
 }
 
-impl fmt::Display for FailureMessage<'_> {
+impl fmt::Display for FailureMessage<'_, '_, '_> {
     fn fmt<W: fmt::Write>(&self, f: &mut fmt::Formatter<W>) -> fmt::Result {
-        let input = InputName(self.options.input);
-        match &self.failure {
-            Failure::Refused { at: 0, .. } => write!(
-                f,
-                "{input}: offset 0x0: not a WebAssembly module: expected the header 00 61 73 6D 01 00 00 00"
-            ),
-            Failure::Refused {
-                at: _,
-                section: Some(section),
-            } => write!(f, "{input}: {section}"),
-            Failure::Refused { at, section: None } => {
-                write!(f, "{input}: offset {at:#x}: malformed section")
+        let input = InputName(self.input);
+        match self.failure {
+            Failure::Refused { at: _, part } => match part {
+                Malformed::Header(found) => write!(
+                    f,
+                    "{input}: offset 0x0: not a WebAssembly module: expected the header 00 61 73 6D 01 00 00 00, found {found}"
+                ),
+                Malformed::Section(section) => write!(f, "{input}: {section}"),
+            },
+            Failure::Disordered { error, section } => {
+                let section = *section;
+                write!(f, "{input}: {}", DisorderMessage { error, section })
             }
             Failure::Memory => write!(f, "out of memory"),
             Failure::Read(error) => write!(f, "{input}: read failed: {error}"),
             Failure::Write(error) => {
-                let output = OutputName(self.options.action);
+                let output = OutputName(self.output);
                 write!(f, "{output}: write failed: {error}")
             }
         }
@@ -69,23 +73,20 @@ impl fmt::Display for InputName<'_> {
     fn fmt<W: fmt::Write>(&self, f: &mut fmt::Formatter<W>) -> fmt::Result {
         match self.0 {
             Location::Standard => write!(f, "standard input"),
-            Location::File(path) => write!(f, "{path}"),
+            Location::File(path) => write!(f, "{}", Escaped(path)),
         }
     }
 }
 
 /// The name of the output in messages.
 #[derive(Clone, Copy)]
-struct OutputName<'a>(Action<'a>);
+pub struct OutputName<'a>(pub Location<'a>);
 
 impl fmt::Display for OutputName<'_> {
     fn fmt<W: fmt::Write>(&self, f: &mut fmt::Formatter<W>) -> fmt::Result {
         match self.0 {
-            Action::Write {
-                output: Location::File(path),
-                ..
-            } => write!(f, "{path}"),
-            _ => write!(f, "standard output"),
+            Location::Standard => write!(f, "standard output"),
+            Location::File(path) => write!(f, "{}", Escaped(path)),
         }
     }
 }

@@ -1,74 +1,33 @@
 //! Custom sections that keep offsets into the module. Once bytes have moved, these offsets are stale.
-ghost use Rattle.std.specs.Prelude.{◌≡◌, List, true, false, IfOk, IfSome, IfNone};
-ghost use Rattle.wasm_modules.specs.formats.Sections.{SectionParts, parts_of, all_parts_of};
-ghost use Rattle.wasm_modules.specs.formats.Modules.{raw_module};
-ghost use Rattle.wasmcanon.specs.Offsets.{BeginsWith, IsOffsetName, KeepsOffsets, IsWithoutOffsets};
+ghost use Rattle.std.specs.Prelude.{◌≡◌, true, false, IfSome, IfNone};
+ghost use Rattle.wasmcanon.specs.Offsets.{BeginsWith, IsOffsetName};
 
 use crate::sections::custom_name;
-use std::alloc::{AllocError, Global};
-use wasm_codec::reader::ReadError;
-use wasm_modules::raw::read_module;
-use wasm_modules::section::{HEADER, RawSection, append_section};
+use wasm_codec::reader::cursor::Cursor;
+use wasm_modules::raw::{after_header, read_section};
 
 /// Returns the beginning of the name of the first custom section that keeps offsets. `None` means that no section does.
-///
-/// Fails if memory runs out.
-pub fn first_offset_name(alloc: Global, module: &[u8]) -> Result<Option<&'static str>, AllocError> {
-    let sections = match read_module(alloc, module) {
-        Ok(sections) => sections,
-        Err(ReadError::Memory) => return Err(AllocError),
-        Err(ReadError::Refused { .. }) => return Ok(None),
-    };
-    for section in &sections {
-        if let Some(name) = offset_name_of(section) {
-            return Ok(Some(name));
+pub fn first_offset_name(module: &[u8]) -> Option<&'static str> {
+    let rest = after_header(module)?;
+    let mut cursor = Cursor::new(rest);
+    for _ in 0..rest.len() {
+        let Ok(section) = read_section(&mut cursor) else {
+            break;
+        };
+        let found = custom_name(section).and_then(offset_name);
+        if found.is_some() {
+            return found;
         }
     }
-    Ok(None)
+    None
 }
 
-/// Returns the module without the custom sections that keep offsets.
-///
-/// Fails if memory runs out.
-pub fn without_offsets(alloc: Global, module: &[u8]) -> Result<Vec<u8>, AllocError>
-    // The result is the minimal encoding of the sections that don't keep offsets.
-    ensures ok { IfOk result (λ left. (sections : List SectionParts) →
-        raw_module.Encodes module.now sections → IsWithoutOffsets sections left.items) }
+/// Checks whether sections of this name keep offsets.
+pub fn is_offset_name(name: &str) -> bool
+    ensures yes { result ≡ true → IsOffsetName name.now }
+    ensures no { result ≡ false → IsOffsetName name.now → ⊥ }
 {
-    match read_module(alloc, module) {
-        Ok(sections) => write_others(alloc, &sections),
-        Err(ReadError::Memory) => Err(AllocError),
-        // A malformed module has no sections to drop.
-        Err(ReadError::Refused { .. }) => Vec::from_slice(alloc, module),
-    }
-}
-
-/// Writes a module of the sections that don't keep offsets.
-fn write_others(alloc: Global, sections: &[RawSection<'_>]) -> Result<Vec<u8>, AllocError>
-    ensures { IfOk result (λ left. IsWithoutOffsets (all_parts_of sections.now) left.items) }
-{
-    let mut left = Vec::from_slice(alloc, &HEADER)?;
-    for section in sections {
-        if offset_name_of(section).is_some() {
-            continue;
-        }
-        // A body that was read is never too long, so only memory can be lacking.
-        if append_section(section.id, section, &mut left).is_err() {
-            return Err(AllocError);
-        }
-    }
-    Ok(left)
-}
-
-/// Returns the beginning of the section's name if it is a custom section that keeps offsets.
-fn offset_name_of(section: &RawSection<'_>) -> Option<&'static str>
-    ensures found { IfSome result (λ _. KeepsOffsets (parts_of section.now)) }
-    ensures none { IfNone result (KeepsOffsets (parts_of section.now) → ⊥) }
-{
-    match custom_name(*section) {
-        Some(name) => offset_name(name),
-        None => None,
-    }
+    offset_name(name).is_some()
 }
 
 /// Returns the beginning of the name if sections of this name keep offsets: relocations and symbols of a linker, debug

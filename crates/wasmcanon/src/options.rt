@@ -1,127 +1,69 @@
-//! The command line.
-
-use clap::{Arg, ArgAction, ArgMatches, Command};
+//! The options of the command line, and the help.
+use clap::{Arg, ArgAction, ArgGroup, Command};
 use std::alloc::{AllocError, Global};
 
-/// An input or an output of bytes.
-#[derive(Clone, Copy, PartialEq, Eq)]
-pub enum Location<'a> {
-    /// Standard input or standard output.
-    Standard,
-    /// A file, by its path.
-    File(&'a str),
-}
+/// The version, and the kit that proves it.
+const VERSION: &str = "0.1.0, written for rattle-kit-13f logic dac8208d650f15bf";
 
-impl<'a> Location<'a> {
-    /// Returns the location that a word names: a path, or the standard stream if the word is `-` or missing.
-    pub fn named(word: Option<&'a str>) -> Location<'a> {
-        match word {
-            None | Some("-") => Location::Standard,
-            Some(path) => Location::File(path),
-        }
-    }
-}
-
-/// The action of a run on the module.
-#[derive(Clone, Copy)]
-pub enum Action<'a> {
-    /// Write its canonical form.
-    Write {
-        /// The output.
-        output: Location<'a>,
-        /// Whether a terminal may be written to.
-        force: bool,
-        /// Whether to drop custom sections that keep offsets.
-        strip_offsets: bool,
-    },
-    /// Check whether it is its own canonical form.
-    Check,
-    /// Check whether another module has the same canonical form.
-    Diff {
-        /// The other module.
-        other: Location<'a>,
-    },
-    /// Print the size of each section before and after, and count the items that are not minimally encoded.
-    Report {
-        /// Whether to print JSON.
-        json: bool,
-    },
-}
-
-/// The options of a run.
-#[derive(Clone, Copy)]
-pub struct Options<'a> {
-    /// The module.
-    pub input: Location<'a>,
-    /// The action.
-    pub action: Action<'a>,
-}
-
-impl<'a> Options<'a> {
-    /// Reads the options from the matches of a command line.
-    pub fn from_matches(matches: &ArgMatches<'a>) -> Options<'a> {
-        let input = Location::named(matches.get_str("input"));
-        let action = if matches.get_flag("check") {
-            Action::Check
-        } else if matches.get_flag("diff") {
-            Action::Diff {
-                other: Location::named(matches.get_str("other")),
-            }
-        } else if matches.get_flag("report") {
-            Action::Report {
-                json: matches.get_flag("json"),
-            }
-        } else {
-            Action::Write {
-                output: Location::named(matches.get_str("output")),
-                force: matches.get_flag("force"),
-                strip_offsets: matches.get_flag("strip-offsets"),
-            }
-        };
-        Options { input, action }
-    }
-}
-
-const USAGE: &str = "\
-wasmcanon [FILE] [-o FILE] [--strip-offsets] [--force]
-       wasmcanon --check [FILE]
-       wasmcanon --diff FILE OTHER
-       wasmcanon --report [--json] [FILE]";
+/// The usage lines, for errors.
+pub const USAGE: &str = "\
+wasmcanon [FILE] [-o OUTPUT] [--force] [STRIP]
+       wasmcanon FILE.. -o FOLDER/ [--force] [STRIP]
+       wasmcanon --in-place FILE.. [--force] [STRIP]
+       wasmcanon --check [FILE..] [--json]
+       wasmcanon --diff FILE OTHER [--json]
+       wasmcanon --hash [FILE..] [--no-custom] [--json] [STRIP]
+       wasmcanon --report [FILE..] [--json]";
 
 // bin/wasmcanon prints these lines as they are here, so they have no escapes.
 const HELP: &str = "\
 Writes the canonical form of a WebAssembly module: every number, size, type,
 index and limit has its minimal encoding.
 
-Usage: wasmcanon [FILE] [-o FILE] [--strip-offsets] [--force]
-       wasmcanon --check [FILE]
-       wasmcanon --diff FILE OTHER
-       wasmcanon --report [--json] [FILE]
+Usage: wasmcanon [FILE] [-o OUTPUT] [--force] [STRIP]
+       wasmcanon FILE.. -o FOLDER/ [--force] [STRIP]
+       wasmcanon --in-place FILE.. [--force] [STRIP]
+       wasmcanon --check [FILE..] [--json]
+       wasmcanon --diff FILE OTHER [--json]
+       wasmcanon --hash [FILE..] [--no-custom] [--json] [STRIP]
+       wasmcanon --report [FILE..] [--json]
 
 Arguments:
-  [FILE]   Input module [default: standard input; `-` too]
-  [OTHER]  Module to compare with FILE, for --diff
+  [FILE]..  Input modules [default: standard input; `-` too]
 
 Options:
-  -o, --output <FILE>  Output file [default: standard output]
-      --force          Write to standard output even if it is a terminal
-      --strip-offsets  Drop custom sections that keep offsets, such as debug
-                       information
-      --check          Check whether FILE is canonical; write nothing
-      --report         Print the size of each section before and after, and how
-                       many of its items are not minimally encoded
-      --diff           Check whether FILE and OTHER have the same canonical form
-      --json           Print the report as JSON
-  -h, --help           Print help
-  -V, --version        Print version
+  -o, --output <OUTPUT>  Output file, or a folder in which each output has its
+                         input's name [default: standard output]
+      --in-place         Replace each FILE by its canonical form
+      --force            Write to a terminal; replace read-only files
+      --check            Check whether each FILE is canonical; write nothing
+      --diff             Check whether FILE and OTHER have the same canonical
+                         form
+      --hash             Print the SHA-256 digest of each canonical form
+      --report           Print the size of each section before and after, and
+                         how many of its items are not minimally encoded
+      --json             Print an array with an object for each FILE; for --diff
+                         print one object
+      --any-order        Take modules whose sections are out of order or
+                         repeated, or whose counts disagree
+  -h, --help             Print help
+  -V, --version          Print version
+
+STRIP, which custom sections to drop:
+      --strip <NAME>     Drop those of this name; `*` stands for any characters
+      --strip-all        Drop all
+      --strip-offsets    Drop those that keep offsets, as debug information does
+      --keep <NAME>      Keep those of this name even so
+      --no-custom        With --hash, the same as --strip-all
 
 Examples:
   wasmcanon app.wasm -o app.canon.wasm  write the canonical form to another file
-  wasmcanon app.wasm -o app.wasm        replace the module
-  wasmcanon < app.wasm | sha256sum      hash the canonical form
+  wasmcanon --in-place *.wasm           replace modules
   wasmcanon --check app.wasm            fail unless the module is canonical
   wasmcanon --diff a.wasm b.wasm        fail unless their canonical forms match
-  wasmcanon --report app.wasm           show how much each section would shrink
+  wasmcanon --hash *.wasm               hash canonical forms
+  wasmcanon --strip-all --keep name app.wasm -o out.wasm
+                                        drop custom sections, but keep names
 
 Canonicalising moves bytes, so offsets in custom sections become stale: those in
 `linking`, `reloc.*`, `.debug_*`, `external_debug_info`, `sourceMappingURL` and
@@ -130,15 +72,19 @@ kept; --strip-offsets drops them all.
 
 Messages and reports number sections, and the items of a section, from 0.
 
-Exit status:
+Exit status; of several modules, the highest:
   0  written; --check: canonical; --diff: same canonical form
   1  malformed module; --check: not canonical; --diff: different canonical forms
-  2  invalid arguments, or a terminal as output without --force
+  2  invalid arguments; without --force: a terminal or a read-only file as
+     output
   3  out of memory
   4  a read or a write failed";
 
 /// The group of the options that write no module. At most one of them is allowed.
 const QUESTION: &str = "question";
+
+/// The group of the options that drop custom sections.
+const STRIP: &str = "stripping";
 
 /// An argument of the command line.
 #[derive(Clone, Copy)]
@@ -149,22 +95,24 @@ struct Argument {
     groups: &'static [&'static str],
     /// The arguments and groups that exclude this one.
     conflicts: &'static [&'static str],
-    /// The arguments that this one requires.
+    /// The arguments and groups that this one requires.
     needs: &'static [&'static str],
 }
 
 /// The form of an argument.
 #[derive(Clone, Copy)]
 enum Form {
-    /// By position. The word is its name in messages.
+    /// By position, any number of times. The word is its name in messages.
     Named(&'static str),
     /// As a short or a long option with a value. The word is the value's name in messages.
     Value(char, &'static str),
+    /// As a long option with a value, any number of times. The word is the value's name in messages.
+    Values(&'static str),
     /// As a long option without a value.
     Flag,
 }
 
-const ARGUMENTS: [Argument; 9] = [
+const ARGUMENTS: [Argument; 15] = [
     Argument {
         name: "input",
         form: Form::Named("FILE"),
@@ -173,15 +121,15 @@ const ARGUMENTS: [Argument; 9] = [
         needs: &[],
     },
     Argument {
-        name: "other",
-        form: Form::Named("OTHER"),
+        name: "output",
+        form: Form::Value('o', "OUTPUT"),
         groups: &[],
-        conflicts: &[],
-        needs: &["diff"],
+        conflicts: &[QUESTION, "in-place"],
+        needs: &[],
     },
     Argument {
-        name: "output",
-        form: Form::Value('o', "FILE"),
+        name: "in-place",
+        form: Form::Flag,
         groups: &[],
         conflicts: &[QUESTION],
         needs: &[],
@@ -194,14 +142,21 @@ const ARGUMENTS: [Argument; 9] = [
         needs: &[],
     },
     Argument {
-        name: "strip-offsets",
+        name: "check",
         form: Form::Flag,
-        groups: &[],
-        conflicts: &[QUESTION],
+        groups: &[QUESTION],
+        conflicts: &[],
         needs: &[],
     },
     Argument {
-        name: "check",
+        name: "diff",
+        form: Form::Flag,
+        groups: &[QUESTION],
+        conflicts: &[],
+        needs: &[],
+    },
+    Argument {
+        name: "hash",
         form: Form::Flag,
         groups: &[QUESTION],
         conflicts: &[],
@@ -215,18 +170,53 @@ const ARGUMENTS: [Argument; 9] = [
         needs: &[],
     },
     Argument {
-        name: "diff",
-        form: Form::Flag,
-        groups: &[QUESTION],
-        conflicts: &[],
-        needs: &["other"],
-    },
-    Argument {
         name: "json",
         form: Form::Flag,
         groups: &[],
         conflicts: &[],
-        needs: &["report"],
+        needs: &[QUESTION],
+    },
+    Argument {
+        name: "any-order",
+        form: Form::Flag,
+        groups: &[],
+        conflicts: &[],
+        needs: &[],
+    },
+    Argument {
+        name: "strip",
+        form: Form::Values("NAME"),
+        groups: &[STRIP],
+        conflicts: &["check", "diff", "report"],
+        needs: &[],
+    },
+    Argument {
+        name: "strip-all",
+        form: Form::Flag,
+        groups: &[STRIP],
+        conflicts: &["check", "diff", "report"],
+        needs: &[],
+    },
+    Argument {
+        name: "strip-offsets",
+        form: Form::Flag,
+        groups: &[STRIP],
+        conflicts: &["check", "diff", "report"],
+        needs: &[],
+    },
+    Argument {
+        name: "keep",
+        form: Form::Values("NAME"),
+        groups: &[],
+        conflicts: &[],
+        needs: &[STRIP],
+    },
+    Argument {
+        name: "no-custom",
+        form: Form::Flag,
+        groups: &[STRIP],
+        conflicts: &[],
+        needs: &["hash"],
     },
 ];
 
@@ -239,10 +229,16 @@ pub fn command<'a>(alloc: Global) -> Result<Command<'a>, AllocError> {
         arguments.push(arg_of(alloc, argument)?)?;
     }
     Command::new(alloc, "wasmcanon")
-        .version("0.1.0")
+        .version(VERSION)
         .override_usage(USAGE)
         .override_help(HELP)
+        .group(several(alloc, STRIP))?
         .args(arguments)
+}
+
+/// Returns a group of which several options are allowed.
+fn several<'a>(alloc: Global, name: &'static str) -> ArgGroup<'a> {
+    ArgGroup::new(alloc, name).multiple(true)
 }
 
 fn arg_of<'a>(alloc: Global, argument: &Argument) -> Result<Arg<'a>, AllocError> {
@@ -255,8 +251,12 @@ fn arg_of<'a>(alloc: Global, argument: &Argument) -> Result<Arg<'a>, AllocError>
 /// Gives the parser's argument the form of this one.
 fn written_as<'a>(arg: Arg<'a>, argument: &Argument) -> Arg<'a> {
     match argument.form {
-        Form::Named(word) => arg.value_name(word),
+        Form::Named(word) => arg.value_name(word).num_args(1..).action(ArgAction::Append),
         Form::Value(letter, word) => arg.short(letter).long(argument.name).value_name(word),
+        Form::Values(word) => arg
+            .long(argument.name)
+            .value_name(word)
+            .action(ArgAction::Append),
         Form::Flag => arg.long(argument.name).action(ArgAction::SetTrue),
     }
 }

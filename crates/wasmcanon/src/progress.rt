@@ -1,9 +1,9 @@
 //! The reader and the writer of a module, which show progress on a terminal: one line, erased at the end.
-
-use crate::options::Location;
+use crate::request::Location;
 use std::fs::File;
 use std::io;
 use std::io::{IsTerminal, Read, Stdin, Write};
+use wasm_modules::section::HEADER;
 
 /// Size in bytes from which a module's progress is shown.
 const LARGE: usize = 16 << 20;
@@ -60,6 +60,8 @@ pub struct Source {
     progress: Progress,
     /// Number of bytes read so far.
     len: usize,
+    /// Whether the first bytes differ from the header of a module. Then no more is read than the header's length.
+    is_foreign: bool,
 }
 
 #[derive(Drop)]
@@ -81,7 +83,17 @@ impl Source {
             stream,
             progress,
             len: 0,
+            is_foreign: false,
         })
+    }
+
+    /// Compares bytes that come after the first `start` bytes with the header of a module.
+    fn compare_with_header(&mut self, start: usize, bytes: &[u8]) {
+        for (expected, found) in HEADER.iter().skip(start).zip(bytes) {
+            if expected != found {
+                self.is_foreign = true;
+            }
+        }
     }
 
     /// Wraps a writer, so that it shows progress.
@@ -100,12 +112,18 @@ impl Source {
 
 impl Read for Source {
     fn read(&mut self, buffer: &mut [u8]) -> io::Result<usize> {
+        if self.is_foreign && self.len >= HEADER.len() {
+            return Ok(0);
+        }
         let count = match &mut self.stream {
             Stream::Standard(stdin) => stdin.read(buffer)?,
             Stream::File(file) => file.read(buffer)?,
         };
         let before = self.len;
         self.len = before.saturating_add(count);
+        if before < HEADER.len() {
+            self.compare_with_header(before, buffer.get(..count).unwrap_or(&[]));
+        }
         if count == 0 {
             self.progress.tell("canonicalising", self.len);
         } else if self.len / STEP != before / STEP {

@@ -1,13 +1,14 @@
 //! The report: the size of each section before and after, and the number of encodings that are not minimal.
-
+use crate::json::{file_value, text_value};
+use crate::request::Location;
 use crate::sections::{
-    LocatedSection, SectionTitle, count_items, custom_name, has_list, locate_sections,
+    LocatedSection, SectionTitle, count_items, custom_name, has_list, kind_name, locate_sections,
     longer_number,
 };
+use serde_json::{Value, json};
 use std::alloc::{AllocError, Global};
 use std::fmt;
 use wasm_modules::section::RawSection;
-use wasm_sections::module_sections::section_names;
 use wasm_whole_modules::locate::ItemCounts;
 
 /// The report of a module.
@@ -119,14 +120,6 @@ impl<'a> ReportRow<'a> {
     }
 }
 
-/// Returns the name of this section id. Returns an empty text if the id is unknown.
-fn kind_name(id: u8) -> &'static str {
-    match section_names(id) {
-        Some(names) => names.section,
-        None => "",
-    }
-}
-
 impl fmt::Display for Report<'_> {
     fn fmt<W: fmt::Write>(&self, f: &mut fmt::Formatter<W>) -> fmt::Result {
         writeln!(
@@ -162,78 +155,53 @@ impl fmt::Display for ReportRow<'_> {
     }
 }
 
-/// The report as JSON.
-#[derive(Clone, Copy)]
-pub struct JsonReport<'a>(pub &'a Report<'a>);
-
-impl fmt::Display for JsonReport<'_> {
-    fn fmt<W: fmt::Write>(&self, f: &mut fmt::Formatter<W>) -> fmt::Result {
-        let JsonReport(report) = *self;
-        write!(
-            f,
-            "{{\"before\":{},\"after\":{},\"sections\":[",
-            report.before, report.after
-        )?;
-        for (number, row) in report.rows.iter().enumerate() {
-            if number > 0 {
-                write!(f, ",")?;
-            }
-            write!(f, "{}", JsonRow { number, row })?;
+impl Report<'_> {
+    /// Returns the report as JSON.
+    ///
+    /// Fails if memory runs out.
+    pub fn value(&self, alloc: Global, input: Location<'_>) -> Result<Value, AllocError> {
+        let mut sections = Vec::new(alloc);
+        for (number, row) in self.rows.iter().enumerate() {
+            sections.push(row.value(alloc, number)?)?;
         }
-        write!(f, "]}}")
+        let file = file_value(alloc, input)?;
+        let sections = Value::Array(sections);
+        let (before, after) = (self.before, self.after);
+        json!(in alloc; {"file": file, "before": before, "after": after, "sections": sections})
     }
 }
 
-/// A section of the report as JSON.
-#[derive(Clone, Copy)]
-struct JsonRow<'a> {
-    number: usize,
-    row: &'a ReportRow<'a>,
-}
-
-impl fmt::Display for JsonRow<'_> {
-    fn fmt<W: fmt::Write>(&self, f: &mut fmt::Formatter<W>) -> fmt::Result {
-        let (number, row) = (self.number, self.row);
-        let section = row.section.section;
-        let (id, kind) = (section.id, kind_name(section.id));
-        write!(
-            f,
-            "{{\"section\":{number},\"id\":{id},\"kind\":\"{kind}\",\"name\":"
-        )?;
-        match custom_name(section) {
-            Some(name) => write!(f, "{}", JsonText(name))?,
-            None => write!(f, "null")?,
-        }
-        write!(
-            f,
-            ",\"before\":{},\"after\":{},\"encodings\":{{\"items\":{},\"longer_items\":{},\"longer_size\":{},\"longer_count\":{}}}}}",
-            row.section.len,
-            row.after,
-            row.items.count,
-            row.items.longer,
-            row.section.has_longer_size,
-            row.has_longer_count
-        )
+impl ReportRow<'_> {
+    /// Returns the row as JSON.
+    fn value(&self, alloc: Global, number: usize) -> Result<Value, AllocError> {
+        let section = self.section.section;
+        let kind = text_value(alloc, kind_name(section.id))?;
+        let name = match custom_name(section) {
+            Some(name) => text_value(alloc, name)?,
+            None => Value::Null,
+        };
+        let encodings = self.encodings_value(alloc)?;
+        let (id, before, after) = (section.id, self.section.len, self.after);
+        json!(in alloc; {
+            "section": number,
+            "id": id,
+            "kind": kind,
+            "name": name,
+            "before": before,
+            "after": after,
+            "encodings": encodings
+        })
     }
-}
 
-/// A JSON string. Quotes, backslashes and control characters are escaped (RFC 8259, 7).
-#[derive(Clone, Copy)]
-struct JsonText<'a>(&'a str);
-
-impl fmt::Display for JsonText<'_> {
-    fn fmt<W: fmt::Write>(&self, f: &mut fmt::Formatter<W>) -> fmt::Result {
-        write!(f, "\"")?;
-        for character in self.0.chars() {
-            if character == '"' || character == '\\' {
-                write!(f, "\\")?;
-            }
-            if character < ' ' {
-                write!(f, "\\u{:04x}", u32::from(character))?;
-            } else {
-                write!(f, "{character}")?;
-            }
-        }
-        write!(f, "\"")
+    /// Returns the numbers of encodings as JSON.
+    fn encodings_value(&self, alloc: Global) -> Result<Value, AllocError> {
+        let (items, longer_items) = (self.items.count, self.items.longer);
+        let (longer_size, longer_count) = (self.section.has_longer_size, self.has_longer_count);
+        json!(in alloc; {
+            "items": items,
+            "longer_items": longer_items,
+            "longer_size": longer_size,
+            "longer_count": longer_count
+        })
     }
 }

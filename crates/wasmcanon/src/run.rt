@@ -1,20 +1,25 @@
 //! A run of the program, for any reader and any writer.
-ghost use Rattle.std.specs.Prelude.{◌≡◌, ℕ, List, IfOk, IfErr, IfSome, OnOk};
-ghost use Rattle.std.specs.Io.KnownBytes.{IsAtEnd, Keeps, Appends};
+ghost use Rattle.std.specs.Prelude.{◌≡◌, ℕ, List, false, IfOk, IfErr, IfSome, OnOk};
+ghost use Rattle.std.specs.Io.KnownBytes.{IsAtEnd, Keeps};
 ghost use Rattle.wasm_codec.specs.Outcomes.{IsLongestPrefix};
 ghost use Rattle.wasm_codec.specs.formats.Combinators.{minimal_only};
 ghost use Rattle.wasm_modules.specs.Modules.{IsModulePrefixOf};
 ghost use Rattle.wasm_sections.specs.formats.ModuleSections.{module_section};
-ghost use Rattle.wasmcanon.specs.Run.{IsNoModule, IsCanonicalForm, AppendsCanonicalForm, AppendsWithoutOffsets, IfRefused, OnceAllIsRead, BeforeAnyWrite, IsReadFailure, Judges, status_of};
+ghost use Rattle.wasmcanon.specs.Order.{IsOrdered, BreaksOrder};
+ghost use Rattle.wasmcanon.specs.Run.{IsNoModule, IsCanonicalForm, AppendsForm, IsForm, IsHash, IfRefused, IfDisordered, OnceAllIsRead, BeforeAnyWrite, IsReadFailure, Judges, status_of};
 ghost use Rattle.wasmcanon.specs.declared.run.Failure.TheVariants.{Memory};
 
-use crate::malformed::{MalformedSection, find_malformed_section};
-use crate::offsets::{first_offset_name, without_offsets};
+use crate::malformed::{Malformed, find_malformed};
+use crate::offsets::first_offset_name;
+use crate::order::{MisplacedSection, check_sections};
+use crate::selection::{Sections, choose_sections};
+use sha2::{Digest, Sha256};
 use std::alloc::{AllocError, Global};
 use std::io;
 use std::io::{ErrorKind, Read, Write};
 use wasm_codec::reader::ReadError;
 use wasm_whole_modules::modules::{check_whole_module, rewrite_whole_module};
+use wasm_whole_modules::order::ModuleError;
 
 /// Why a run failed.
 #[derive(Drop)]
@@ -23,8 +28,15 @@ pub enum Failure {
     Refused {
         /// Offset of the first malformed section, in bytes. 0 if the header is malformed.
         at: usize,
-        /// The malformed section. `None` means that the header is malformed, or that memory ran out.
-        section: Option<MalformedSection>,
+        /// The malformed part.
+        part: Malformed,
+    },
+    /// The sections are out of order, or their counts disagree.
+    Disordered {
+        /// The rule that the sections break.
+        error: ModuleError,
+        /// The section that is out of order. `None` means that counts disagree.
+        section: Option<MisplacedSection>,
     },
     /// Memory ran out.
     Memory,
@@ -35,12 +47,13 @@ pub enum Failure {
 }
 
 impl Failure {
-    /// Returns the exit status: 1 if the input is malformed, 3 if memory ran out, 4 if a read or a write failed.
+    /// Returns the exit status: 1 if the input is malformed or out of order, 3 if memory ran out, 4 if a read or a write
+    /// failed.
     pub fn status(&self) -> u8
         ensures { result ≡ status_of self.now }
     {
         match self {
-            Failure::Refused { .. } => 1,
+            Failure::Refused { .. } | Failure::Disordered { .. } => 1,
             Failure::Memory => 3,
             Failure::Read(_) | Failure::Write(_) => 4,
         }
@@ -76,19 +89,26 @@ pub enum Verdict {
     },
 }
 
-/// Reads a module, and writes its canonical form.
+/// Reads a module, and writes its canonical form with these sections.
 ///
-/// If bytes have moved and a custom section keeps offsets, returns the beginning of the first such section's name.
-/// Fails with `Refused` if the input is malformed, with `Memory` if memory runs out, and with `Read` or `Write` if a
-/// read or a write fails.
+/// If bytes have moved and a custom section that keeps offsets is written, returns the beginning of the first such
+/// section's name. Fails with `Refused` if the input is malformed, and with `Disordered` if its sections are out of
+/// order or their counts disagree, unless any order is allowed. Fails with `Memory` if memory runs out, and with `Read`
+/// or `Write` if a read or a write fails.
 pub fn canonicalise<R: Read, W: Write>(
     alloc: Global,
     reader: &mut R,
     writer: &mut W,
+    any_order: bool,
+    sections: Sections<'_>,
 ) -> Result<Option<&'static str>, Failure>
-    // The canonical form of the input was appended, and nothing else.
+    // The canonical form of the input with these sections was appended, and nothing else.
     ensures ok { OnOk result (IfSome (R.remaining reader.old) (λ input.
-        AppendsCanonicalForm input (W.contents writer.old) (W.contents writer.new))) }
+        AppendsForm sections.entry input (W.contents writer.old) (W.contents writer.new))) }
+    // Unless any order is allowed, the sections are in order.
+    ensures in_order { any_order ≡ false → OnOk result (IfSome (R.remaining reader.old) IsOrdered) }
+    // If the failure names a section, this is the first one that is out of order.
+    ensures disordered { IfDisordered result (λ error. IfSome (R.remaining reader.old) (λ input. BreaksOrder input error)) }
     // All of the input is read before it is refused or a byte is written.
     ensures read_to_end { OnceAllIsRead result (IsAtEnd (R.remaining reader.new)) }
     // Only a malformed input is refused.
@@ -99,57 +119,80 @@ pub fn canonicalise<R: Read, W: Write>(
     // Nothing was written, unless the failure is `Write`.
     ensures nothing_written { BeforeAnyWrite result (Keeps (W.contents writer.old) (W.contents writer.new)) }
 {
-    let forms = read_forms(alloc, reader)?;
-    let stale = stale_offsets(alloc, &forms);
-    match writer.write_all(&forms.canonical) {
-        Ok(()) => Ok(stale),
+    let form = read_form(alloc, reader, any_order, sections)?;
+    match writer.write_all(&form.bytes) {
+        Ok(()) => Ok(form.stale),
         Err(error) => Err(Failure::Write(error)),
     }
 }
 
-/// If bytes have moved, returns the beginning of the name of the first custom section that keeps offsets. Returns
-/// `None` if memory runs out.
-fn stale_offsets(alloc: Global, forms: &Forms) -> Option<&'static str> {
-    if forms.input == forms.canonical {
-        return None;
-    }
-    first_offset_name(alloc, &forms.canonical).unwrap_or(None)
-}
-
-/// Reads a module, and writes its canonical form without the custom sections that keep offsets.
+/// Reads a module, and returns the SHA-256 digest of its canonical form with these sections.
 ///
-/// Fails as `canonicalise` does.
-pub fn canonicalise_without_offsets<R: Read, W: Write>(
+/// Fails as `canonicalise` does, but never with `Write`.
+pub fn hash<R: Read>(
     alloc: Global,
     reader: &mut R,
-    writer: &mut W,
-) -> Result<(), Failure>
-    // The canonical form without the sections that keep offsets was appended, and nothing else.
-    ensures ok { OnOk result (IfSome (R.remaining reader.old) (λ input.
-        AppendsWithoutOffsets input (W.contents writer.old) (W.contents writer.new))) }
-    // All of the input is read before it is refused or a byte is written.
-    ensures read_to_end { OnceAllIsRead result (IsAtEnd (R.remaining reader.new)) }
+    any_order: bool,
+    sections: Sections<'_>,
+) -> Result<[u8; 32], Failure>
+    // The result is the digest of the canonical form of the input with these sections.
+    ensures ok { IfOk result (λ digest. IfSome (R.remaining reader.old) (λ input. IsHash sections.entry input digest)) }
+    // Unless any order is allowed, the sections are in order.
+    ensures in_order { any_order ≡ false → OnOk result (IfSome (R.remaining reader.old) IsOrdered) }
     // Only a malformed input is refused.
     ensures unencoded { IfRefused result (λ _. IfSome (R.remaining reader.old) IsNoModule) }
-    // `at` is the length of the longest prefix that decodes.
+{
+    let form = read_form(alloc, reader, any_order, sections)?;
+    Ok(Sha256::digest(form.bytes.as_slice()))
+}
+
+/// A canonical form with chosen sections.
+#[derive(Drop)]
+struct Form {
+    bytes: Vec<u8>,
+    /// If bytes have moved, the beginning of the name of the first custom section that keeps offsets.
+    stale: Option<&'static str>,
+}
+
+/// Reads a module, and returns its canonical form with these sections.
+fn read_form<R: Read>(
+    alloc: Global,
+    reader: &mut R,
+    any_order: bool,
+    sections: Sections<'_>,
+) -> Result<Form, Failure>
+    ensures ok { IfOk result (λ form. IfSome (R.remaining reader.old) (λ input.
+        IsForm sections.entry input form.bytes.items)) }
+    ensures in_order { any_order ≡ false → OnOk result (IfSome (R.remaining reader.old) IsOrdered) }
+    ensures disordered { IfDisordered result (λ error. IfSome (R.remaining reader.old) (λ input. BreaksOrder input error)) }
+    ensures read_to_end { OnceAllIsRead result (IsAtEnd (R.remaining reader.new)) }
+    ensures unencoded { IfRefused result (λ _. IfSome (R.remaining reader.old) IsNoModule) }
     ensures refused { IfRefused result (λ at. IfSome (R.remaining reader.old) (λ input.
         IsLongestPrefix (IsModulePrefixOf module_section) input at)) }
-    // Nothing was written, unless the failure is `Write`.
-    ensures nothing_written { BeforeAnyWrite result (Keeps (W.contents writer.old) (W.contents writer.new)) }
 {
-    let forms = read_forms(alloc, reader)?;
-    let left = without_offsets(alloc, &forms.canonical)?;
-    writer.write_all(&left).map_err(Failure::Write)
+    let forms = read_forms(alloc, reader, any_order)?;
+    let has_moved = forms.input != forms.canonical;
+    let bytes = choose_sections(alloc, forms.canonical, sections)?;
+    let stale = if has_moved {
+        first_offset_name(&bytes)
+    } else {
+        None
+    };
+    Ok(Form { bytes, stale })
 }
 
 /// Reads a module, and returns it with its canonical form.
 ///
 /// Fails as `canonicalise` does, but never with `Write`.
-pub fn read_forms<R: Read>(alloc: Global, reader: &mut R) -> Result<Forms, Failure>
+pub fn read_forms<R: Read>(alloc: Global, reader: &mut R, any_order: bool) -> Result<Forms, Failure>
     // All bytes of the input are returned, if they are known.
     ensures all { IfOk result (λ forms. IfSome (R.remaining reader.old) (λ input. forms.input.items ≡ input)) }
     // With their canonical form.
     ensures ok { IfOk result (λ forms. IsCanonicalForm forms.input.items forms.canonical.items) }
+    // Unless any order is allowed, the sections are in order.
+    ensures in_order { any_order ≡ false → OnOk result (IfSome (R.remaining reader.old) IsOrdered) }
+    // If the failure names a section, this is the first one that is out of order.
+    ensures disordered { IfDisordered result (λ error. IfSome (R.remaining reader.old) (λ input. BreaksOrder input error)) }
     // All of the input is read before it is refused.
     ensures read_to_end { OnceAllIsRead result (IsAtEnd (R.remaining reader.new)) }
     // Only a malformed input is refused.
@@ -160,15 +203,20 @@ pub fn read_forms<R: Read>(alloc: Global, reader: &mut R) -> Result<Forms, Failu
 {
     let input = read_all(alloc, reader)?;
     let canonical = canonical_form(alloc, &input)?;
+    check_order_unless(alloc, &input, any_order)?;
     Ok(Forms { input, canonical })
 }
 
 /// Reads a module, and checks whether it is its own canonical form.
 ///
 /// Fails as `canonicalise` does, but never with `Write`.
-pub fn check<R: Read>(alloc: Global, reader: &mut R) -> Result<Verdict, Failure>
+pub fn check<R: Read>(alloc: Global, reader: &mut R, any_order: bool) -> Result<Verdict, Failure>
     // The verdict is right.
     ensures ok { IfOk result (λ verdict. IfSome (R.remaining reader.old) (λ input. Judges input verdict)) }
+    // Unless any order is allowed, the sections are in order.
+    ensures in_order { any_order ≡ false → OnOk result (IfSome (R.remaining reader.old) IsOrdered) }
+    // If the failure names a section, this is the first one that is out of order.
+    ensures disordered { IfDisordered result (λ error. IfSome (R.remaining reader.old) (λ input. BreaksOrder input error)) }
     // Only a malformed input is refused.
     ensures unencoded { IfRefused result (λ _. IfSome (R.remaining reader.old) IsNoModule) }
     // `at` is the length of the longest prefix that decodes.
@@ -176,7 +224,22 @@ pub fn check<R: Read>(alloc: Global, reader: &mut R) -> Result<Verdict, Failure>
         IsLongestPrefix (IsModulePrefixOf module_section) input at)) }
 {
     let input = read_all(alloc, reader)?;
-    judge(alloc, &input)
+    let verdict = judge(alloc, &input)?;
+    check_order_unless(alloc, &input, any_order)?;
+    Ok(verdict)
+}
+
+/// Checks the order and the counts of a module's sections, unless any order is allowed. Accepts a malformed module.
+fn check_order_unless(alloc: Global, input: &[u8], any_order: bool) -> Result<(), Failure>
+    ensures in_order { any_order ≡ false → OnOk result (IsOrdered input.now) }
+    ensures disordered { IfDisordered result (BreaksOrder input.now) }
+    ensures refused { IfRefused result (λ _. ⊥) }
+{
+    if any_order {
+        Ok(())
+    } else {
+        check_sections(alloc, input)
+    }
 }
 
 /// Checks whether a module is its own canonical form.
@@ -184,6 +247,7 @@ fn judge(alloc: Global, input: &[u8]) -> Result<Verdict, Failure>
     ensures ok { IfOk result (Judges input.now) }
     ensures unencoded { IfRefused result (λ _. IsNoModule input.now) }
     ensures refused { IfRefused result (IsLongestPrefix (IsModulePrefixOf module_section) input.now) }
+    ensures disordered { IfDisordered result (λ _. ⊥) }
 {
     let canonical = canonical_form(alloc, input)?;
     if canonical.as_slice() == input {
@@ -201,6 +265,7 @@ fn canonical_form(alloc: Global, input: &[u8]) -> Result<Vec<u8>, Failure>
     ensures ok { IfOk result (λ canonical. IsCanonicalForm input.now canonical.items) }
     ensures unencoded { IfRefused result (λ _. IsNoModule input.now) }
     ensures refused { IfRefused result (IsLongestPrefix (IsModulePrefixOf module_section) input.now) }
+    ensures disordered { IfDisordered result (λ _. ⊥) }
 {
     let copy = Vec::from_slice(alloc, input)?;
     match rewrite_whole_module(copy) {
@@ -208,7 +273,7 @@ fn canonical_form(alloc: Global, input: &[u8]) -> Result<Vec<u8>, Failure>
         Err(ReadError::Memory) => Err(Failure::Memory),
         Err(ReadError::Refused { at }) => Err(Failure::Refused {
             at,
-            section: find_malformed_section(alloc, input, at),
+            part: find_malformed(alloc, input, at)?,
         }),
     }
 }

@@ -3,6 +3,7 @@ ghost use Rattle.std.specs.Prelude.{◌≡◌, ℕ, List, IfSome, IfNone};
 ghost use Rattle.wasm_modules.specs.formats.Sections.{parts_of};
 ghost use Rattle.wasmcanon.specs.Offsets.{IsNameOf};
 
+use crate::text::Escaped;
 use std::alloc::{AllocError, Global};
 use std::fmt;
 use wasm_codec::reader::cursor::Cursor;
@@ -80,6 +81,20 @@ pub fn locate_sections<'a>(
     Ok(sections)
 }
 
+/// Counts the sections of a module, up to the first malformed one.
+pub fn count_sections(module: &[u8]) -> usize {
+    let Some(rest) = after_header(module) else {
+        return 0;
+    };
+    let mut cursor = Cursor::new(rest);
+    for number in 0..rest.len() {
+        if read_section(&mut cursor).is_err() {
+            return number;
+        }
+    }
+    rest.len()
+}
+
 /// Counts the items of a section, and those that are not minimally encoded. In a section that isn't a list, the one
 /// item is the number at the start of the body.
 ///
@@ -112,6 +127,23 @@ pub fn longer_number(bytes: &[u8]) -> Option<bool> {
     }
 }
 
+/// Returns the name of this section id. Returns an empty text if the id is unknown.
+pub fn kind_name(id: u8) -> &'static str {
+    match section_names(id) {
+        Some(names) => names.section,
+        None => "",
+    }
+}
+
+/// Returns the length in bytes of the number at the start of the bytes. Returns 0 if there is no number.
+pub fn number_len(bytes: &[u8]) -> usize {
+    let mut cursor = Cursor::new(bytes);
+    match cursor.u32() {
+        Ok(_) => bytes.len().saturating_sub(cursor.len()),
+        Err(_) => 0,
+    }
+}
+
 /// A section's title in messages: its kind, and the name of a custom section.
 #[derive(Clone, Copy)]
 pub struct SectionTitle<'a>(pub RawSection<'a>);
@@ -123,31 +155,8 @@ impl fmt::Display for SectionTitle<'_> {
             None => write!(f, "id {}", self.0.id)?,
         }
         match custom_name(self.0) {
-            Some(name) => write!(f, " \"{}\"", ShortName(name)),
+            Some(name) => write!(f, " \"{}\"", Escaped(name)),
             None => Ok(()),
         }
-    }
-}
-
-/// Number of characters of a name to print.
-const SHORT_NAME_LEN: usize = 14;
-
-/// The beginning of a name. Control characters and characters outside ASCII are printed as `?`.
-#[derive(Clone, Copy)]
-struct ShortName<'a>(&'a str);
-
-impl fmt::Display for ShortName<'_> {
-    fn fmt<W: fmt::Write>(&self, f: &mut fmt::Formatter<W>) -> fmt::Result {
-        for (index, character) in self.0.chars().enumerate() {
-            if index == SHORT_NAME_LEN {
-                return write!(f, "..");
-            }
-            if character.is_ascii_graphic() || character == ' ' {
-                write!(f, "{character}")?;
-            } else {
-                write!(f, "?")?;
-            }
-        }
-        Ok(())
     }
 }

@@ -1,0 +1,255 @@
+//! The actions on the modules that the command line names.
+use crate::diff::find_difference;
+use crate::files::{canonicalise_file, check_file, hash_file, is_read_only, read_forms_at};
+use crate::json::{difference_value, digest_value, verdict_value};
+use crate::messages::{InputName, OffsetWarning, OutputName};
+use crate::outputs::Outputs;
+use crate::report::Report;
+use crate::request::{Action, Location, Request};
+use crate::results::{Results, WRITE_STATUS};
+use crate::run::{Failure, Forms, Verdict};
+use crate::text::{Hex, SumName};
+use serde_json::Value;
+use std::alloc::AllocError;
+use std::io;
+
+const NOT_CANONICAL_STATUS: u8 = 1;
+
+const DIFFERENT_STATUS: u8 = 1;
+
+const USAGE_STATUS: u8 = 2;
+
+/// Does what the command line asks for, and returns the exit status.
+///
+/// Fails if memory runs out.
+pub fn run_request(rt: &HostRuntime, request: &Request<'_>) -> Result<u8, AllocError> {
+    match request.action {
+        Action::Write => write_modules(rt, request),
+        Action::Diff => diff_modules(rt, request),
+        Action::Check => check_modules(rt, request),
+        Action::Hash => hash_modules(rt, request),
+        Action::Report => report_modules(rt, request),
+    }
+}
+
+/// Writes the canonical form of each module.
+fn write_modules(rt: &HostRuntime, request: &Request<'_>) -> Result<u8, AllocError> {
+    let outputs = match Outputs::new(rt, request) {
+        Ok(outputs) => outputs,
+        Err(message) => {
+            let _ = eprintln!(rt; "error: {message}");
+            return Ok(USAGE_STATUS);
+        }
+    };
+    let mut results = Results::new(rt, false);
+    for word in &request.inputs {
+        write_module(rt, request, outputs, Location::named(word), &mut results)?;
+    }
+    Ok(results.finish())
+}
+
+/// Writes the canonical form of a module to its output.
+fn write_module<'m>(
+    rt: &HostRuntime,
+    request: &Request<'_>,
+    outputs: Outputs<'m>,
+    input: Location<'m>,
+    results: &mut Results,
+) -> Result<(), AllocError> {
+    match outputs.path_in_folder(rt.alloc(), input)? {
+        Some(path) => write_to(rt, request, input, Location::File(path.as_str()), results),
+        None => write_to(rt, request, input, outputs.location(input), results),
+    }
+}
+
+/// Writes the canonical form of a module to this output.
+fn write_to(
+    rt: &HostRuntime,
+    request: &Request<'_>,
+    input: Location<'_>,
+    output: Location<'_>,
+    results: &mut Results,
+) -> Result<(), AllocError> {
+    if is_protected(rt, request, output) {
+        let output = OutputName(output);
+        let _ = eprintln!(rt; "error: {output}: read-only file: use --force to replace it");
+        results.raise(USAGE_STATUS);
+        return Ok(());
+    }
+    match canonicalise_file(rt, request, input, output) {
+        Ok(Some(name)) => warn_of_offsets(rt, input, name),
+        Ok(None) => {}
+        Err(failure) => results.fail(input, output, &failure)?,
+    }
+    Ok(())
+}
+
+/// Checks whether the output is a read-only file that isn't to be replaced by force.
+fn is_protected(rt: &HostRuntime, request: &Request<'_>, output: Location<'_>) -> bool {
+    match output {
+        Location::File(path) => !request.force && is_read_only(rt, path),
+        Location::Standard => false,
+    }
+}
+
+/// Warns of stale offsets.
+fn warn_of_offsets(rt: &HostRuntime, input: Location<'_>, name: &'static str) {
+    let input = InputName(input);
+    let warning = OffsetWarning { input, name };
+    let _ = eprintln!(rt; "{warning}");
+}
+
+/// Checks whether each module is canonical.
+fn check_modules(rt: &HostRuntime, request: &Request<'_>) -> Result<u8, AllocError> {
+    let mut results = Results::new(rt, request.json);
+    for word in &request.inputs {
+        let input = Location::named(word);
+        match check_file(rt, request, input) {
+            Ok(verdict) => add_verdict(rt, &mut results, input, verdict)?,
+            Err(failure) => results.fail(input, Location::Standard, &failure)?,
+        }
+    }
+    Ok(results.finish())
+}
+
+/// Reports where a module isn't canonical.
+fn add_verdict(
+    rt: &HostRuntime,
+    results: &mut Results,
+    input: Location<'_>,
+    verdict: Verdict,
+) -> Result<(), AllocError> {
+    if let Verdict::Longer { at } = verdict {
+        let input = InputName(input);
+        let _ = eprintln!(rt;
+            "error: {input}: not canonical: section at offset {at:#x}: not minimally encoded"
+        );
+        results.raise(NOT_CANONICAL_STATUS);
+    }
+    if results.is_json() {
+        results.push(verdict_value(rt.alloc(), input, verdict)?)?;
+    }
+    Ok(())
+}
+
+/// Prints the digest of the canonical form of each module.
+fn hash_modules(rt: &HostRuntime, request: &Request<'_>) -> Result<u8, AllocError> {
+    let mut results = Results::new(rt, request.json);
+    for word in &request.inputs {
+        let input = Location::named(word);
+        match hash_file(rt, request, input) {
+            Ok(digest) => add_digest(rt, &mut results, input, digest)?,
+            Err(failure) => results.fail(input, Location::Standard, &failure)?,
+        }
+    }
+    Ok(results.finish())
+}
+
+/// Prints a digest and the name of its module, as `sha256sum` does.
+fn add_digest(
+    rt: &HostRuntime,
+    results: &mut Results,
+    input: Location<'_>,
+    digest: [u8; 32],
+) -> Result<(), AllocError> {
+    let hex = Hex(digest);
+    if results.is_json() {
+        let text = format!(in rt.alloc(); "{hex}")?;
+        return results.push(digest_value(rt.alloc(), input, text.as_str())?);
+    }
+    let name = SumName::of(input);
+    let mark = name.mark();
+    note_write(rt, results, println!(rt; "{mark}{hex}  {name}"));
+    Ok(())
+}
+
+/// Reports that a write to standard output failed.
+fn note_write(rt: &HostRuntime, results: &mut Results, printed: io::Result<()>) {
+    if let Err(error) = printed {
+        let _ = eprintln!(rt; "error: standard output: write failed: {error}");
+        results.raise(WRITE_STATUS);
+    }
+}
+
+/// Prints the report of each module.
+fn report_modules(rt: &HostRuntime, request: &Request<'_>) -> Result<u8, AllocError> {
+    let mut results = Results::new(rt, request.json);
+    for word in &request.inputs {
+        let input = Location::named(word);
+        match read_forms_at(rt, request, input) {
+            Ok(forms) => add_report(rt, &mut results, input, &forms, request.inputs.len())?,
+            Err(failure) => results.fail(input, Location::Standard, &failure)?,
+        }
+    }
+    Ok(results.finish())
+}
+
+/// Prints the report of one of `count` modules. Its name precedes it if there are several.
+fn add_report(
+    rt: &HostRuntime,
+    results: &mut Results,
+    input: Location<'_>,
+    forms: &Forms,
+    count: usize,
+) -> Result<(), AllocError> {
+    let report = Report::new(rt.alloc(), &forms.input, &forms.canonical)?;
+    if results.is_json() {
+        return results.push(report.value(rt.alloc(), input)?);
+    }
+    if count > 1 {
+        let name = InputName(input);
+        note_write(rt, results, println!(rt; "{name}:"));
+    }
+    note_write(rt, results, println!(rt; "{report}"));
+    Ok(())
+}
+
+/// Compares the canonical forms of two modules.
+fn diff_modules(rt: &HostRuntime, request: &Request<'_>) -> Result<u8, AllocError> {
+    let mut results = Results::new(rt, false);
+    let [first, second] = two_inputs(request);
+    let Some(one) = canonical_form_at(rt, request, first, &mut results)? else {
+        return Ok(results.finish());
+    };
+    let Some(other) = canonical_form_at(rt, request, second, &mut results)? else {
+        return Ok(results.finish());
+    };
+    let difference = find_difference(rt.alloc(), &one, &other)?;
+    if let Some(difference) = difference {
+        let (one, other) = (InputName(first), InputName(second));
+        let _ = eprintln!(rt; "error: {one} and {other} differ: {difference}");
+        results.raise(DIFFERENT_STATUS);
+    }
+    if request.json {
+        let value = difference_value(rt.alloc(), first, second, difference)?;
+        print_value(rt, &mut results, &value);
+    }
+    Ok(results.finish())
+}
+
+fn print_value(rt: &HostRuntime, results: &mut Results, value: &Value) {
+    note_write(rt, results, println!(rt; "{value}"));
+}
+
+/// Returns the two modules to compare.
+fn two_inputs<'m>(request: &Request<'m>) -> [Location<'m>; 2] {
+    let first = request.inputs.first().copied().unwrap_or("-");
+    let second = request.inputs.get(1).copied().unwrap_or("-");
+    [Location::named(first), Location::named(second)]
+}
+
+/// Reads a module, and returns its canonical form. Returns `None` if it failed.
+fn canonical_form_at(
+    rt: &HostRuntime,
+    request: &Request<'_>,
+    input: Location<'_>,
+    results: &mut Results,
+) -> Result<Option<Vec<u8>>, AllocError> {
+    match read_forms_at(rt, request, input) {
+        Ok(forms) => Ok(Some(forms.canonical)),
+        Err(failure) => {
+            results.fail(input, Location::Standard, &failure)?;
+            Ok(None)
+        }
+    }
+}

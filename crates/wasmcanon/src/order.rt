@@ -1,0 +1,305 @@
+//! The order of a module's sections, and counts that must agree (Core 3.0, Modules).
+ghost use Rattle.std.specs.Prelude.{◌≡◌, OnOk, IfOk, IfSome, IfNone};
+ghost use Rattle.wasm_modules.specs.formats.Sections.{parts_of, all_parts_of};
+ghost use Rattle.wasmcanon.specs.Order.{rank, AreInOrder, IsOrdered, BreaksOrder, IsOutOfOrderAt, IsWhyNot};
+ghost use Rattle.wasmcanon.specs.Run.{IfRefused, IfDisordered};
+
+use crate::run::Failure;
+use crate::sections::kind_name;
+use std::alloc::{AllocError, Global};
+use std::fmt;
+use wasm_codec::reader::ReadError;
+use wasm_codec::reader::cursor::{Cursor, Fault};
+use wasm_instructions::table::{Call, Prefix};
+use wasm_lists::readable::Readable;
+use wasm_modules::code::normaliser::read_local_group;
+use wasm_modules::raw::{after_header, read_module, read_section};
+use wasm_modules::section::RawSection;
+use wasm_whole_modules::order::ModuleError;
+
+const FUNCTION_SECTION: u8 = 3;
+
+const CODE_SECTION: u8 = 10;
+
+const DATA_SECTION: u8 = 11;
+
+const DATA_COUNT_SECTION: u8 = 12;
+
+const TAG_SECTION: u8 = 13;
+
+/// A section that is out of order.
+#[derive(Clone, Copy)]
+pub struct MisplacedSection {
+    /// Offset in bytes from the start of the module.
+    at: usize,
+    /// Id of the section.
+    id: u8,
+    /// Id of the section before it that isn't a custom one.
+    after: u8,
+}
+
+/// Checks the order of a module's sections, and the counts that must agree. Accepts a malformed module.
+///
+/// Fails with `Disordered` if a rule is broken, and with `Memory` if memory runs out.
+pub fn check_sections(alloc: Global, input: &[u8]) -> Result<(), Failure>
+    // The sections are in order.
+    ensures in_order { OnOk result (IsOrdered input.now) }
+    // If the failure names a section, this is the first one that is out of order.
+    ensures disordered { IfDisordered result (BreaksOrder input.now) }
+    // The failure isn't `Refused`.
+    ensures refused { IfRefused result (λ _. ⊥) }
+{
+    match read_module(alloc, input) {
+        Ok(sections) => check_listed(alloc, input, &sections),
+        Err(ReadError::Memory) => Err(Failure::Memory),
+        // A malformed module has no sections.
+        Err(ReadError::Refused { .. }) => Ok(()),
+    }
+}
+
+/// Checks the order of the sections of this module, and the counts that must agree.
+fn check_listed(alloc: Global, module: &[u8], sections: &[RawSection<'_>]) -> Result<(), Failure>
+    ensures in_order { OnOk result (AreInOrder 0 (all_parts_of sections.now)) }
+    ensures disordered { IfDisordered result (IsWhyNot (all_parts_of sections.now)) }
+    ensures refused { IfRefused result (λ _. ⊥) }
+{
+    match find_error(alloc, sections)? {
+        Some(error) => {
+            let section = find_misplaced(module, &error);
+            Err(Failure::Disordered { error, section })
+        }
+        None => Ok(()),
+    }
+}
+
+/// Finds a rule that the sections break.
+///
+/// Fails if memory runs out.
+fn find_error(alloc: Global, sections: &[RawSection<'_>]) -> Result<Option<ModuleError>, AllocError>
+    ensures none { IfOk result (λ error. IfNone error (AreInOrder 0 (all_parts_of sections.now))) }
+    ensures why { IfOk result (λ error. IfSome error (IsWhyNot (all_parts_of sections.now))) }
+{
+    match find_out_of_order(sections) {
+        Some(index) => Ok(Some(ModuleError::OutOfOrder { index })),
+        None => find_count_error(alloc, sections),
+    }
+}
+
+/// Returns the index of the first section that is out of order.
+fn find_out_of_order(sections: &[RawSection<'_>]) -> Option<usize>
+    ensures none { IfNone result (AreInOrder 0 (all_parts_of sections.now)) }
+    ensures first { IfSome result (IsOutOfOrderAt (all_parts_of sections.now)) }
+{
+    let mut last = 0;
+    for (index, section) in sections.iter().enumerate() {
+        let rank = rank(section);
+        if rank != 0 {
+            if rank <= last {
+                return Some(index);
+            }
+            last = rank;
+        }
+    }
+    None
+}
+
+/// Returns the position of a section in the standard's order. Returns 0 for a custom section, which may come anywhere.
+fn rank(section: &RawSection<'_>) -> u16
+    ensures { result ≡ rank (parts_of section.now) }
+{
+    let id = section.id;
+    if id == TAG_SECTION {
+        11 // after memories, whose id is 5
+    } else if id == DATA_COUNT_SECTION {
+        19 // after elements, whose id is 9
+    } else {
+        2 * u16::from(id)
+    }
+}
+
+/// Finds counts that disagree. Each kind of section is there at most once.
+///
+/// Fails if memory runs out.
+fn find_count_error(
+    alloc: Global,
+    sections: &[RawSection<'_>],
+) -> Result<Option<ModuleError>, AllocError>
+    ensures why { IfOk result (λ error. IfSome error (IsWhyNot (all_parts_of sections.now))) }
+{
+    let functions = count_items(sections, FUNCTION_SECTION);
+    let bodies = count_items(sections, CODE_SECTION);
+    if functions != bodies {
+        let (functions, bodies) = (functions as usize, bodies as usize);
+        return Ok(Some(ModuleError::FunctionCount { functions, bodies }));
+    }
+    if find_body(sections, DATA_COUNT_SECTION).is_some() {
+        let told = count_items(sections, DATA_COUNT_SECTION);
+        let segments = count_items(sections, DATA_SECTION);
+        if told != segments {
+            let segments = segments as usize;
+            return Ok(Some(ModuleError::DataCount { told, segments }));
+        }
+    } else if let Some(code) = find_body(sections, CODE_SECTION) {
+        if let Some(place) = find_data_use(alloc, code)? {
+            let (body, instruction) = (place.body, place.instruction);
+            return Ok(Some(ModuleError::MissingDataCount { body, instruction }));
+        }
+    }
+    Ok(None)
+}
+
+/// Returns the body of the first section with this id.
+fn find_body<'a>(sections: &[RawSection<'a>], id: u8) -> Option<&'a [u8]> {
+    for section in sections {
+        if section.id == id {
+            return Some(section.body);
+        }
+    }
+    None
+}
+
+/// Returns the number at the start of the first section with this id. Returns 0 if there is no such section.
+fn count_items(sections: &[RawSection<'_>], id: u8) -> u32 {
+    match find_body(sections, id) {
+        Some(body) => Cursor::new(body).u32().unwrap_or(0),
+        None => 0,
+    }
+}
+
+/// The place of an instruction in a code section.
+#[derive(Clone, Copy)]
+struct InstructionPlace {
+    /// Index of its function.
+    body: usize,
+    /// Index in that function.
+    instruction: usize,
+}
+
+/// Locates the first instruction in the body of a code section that names a data segment. Such an instruction needs a
+/// data count section.
+///
+/// Fails if memory runs out.
+fn find_data_use(alloc: Global, body: &[u8]) -> Result<Option<InstructionPlace>, AllocError> {
+    let mut cursor = Cursor::new(body);
+    let count = cursor.u32().unwrap_or(0);
+    for body in 0..count {
+        let Ok(mut code) = cursor.body() else {
+            return Ok(None);
+        };
+        if skip_locals(&mut code).is_err() {
+            return Ok(None);
+        }
+        if let Some(instruction) = find_data_name(alloc, &mut code)? {
+            let body = body as usize;
+            return Ok(Some(InstructionPlace { body, instruction }));
+        }
+    }
+    Ok(None)
+}
+
+/// Moves a cursor over the locals at the start of a function's code.
+fn skip_locals(code: &mut Cursor<'_>) -> Result<(), Fault> {
+    let groups = code.u32()?;
+    for _ in 0..groups {
+        read_local_group(code)?;
+    }
+    Ok(())
+}
+
+/// Returns the index of the first instruction that names a data segment. Stops at a malformed instruction.
+///
+/// Fails if memory runs out.
+fn find_data_name(alloc: Global, code: &mut Cursor<'_>) -> Result<Option<usize>, AllocError> {
+    for index in 0..code.len() {
+        if code.len() == 0 {
+            break;
+        }
+        match Call::read(alloc, code) {
+            Ok(call) if names_data(&call) => return Ok(Some(index)),
+            Ok(_) => {}
+            Err(Fault::Memory) => return Err(AllocError),
+            Err(Fault::Malformed) => break,
+        }
+    }
+    Ok(None)
+}
+
+/// Checks whether an instruction names a data segment.
+fn names_data(call: &Call) -> bool {
+    let op = call.op();
+    match op.prefix {
+        Prefix::Fb => op.number == 0x09 || op.number == 0x12, // array.new_data, array.init_data
+        Prefix::Fc => op.number == 0x08 || op.number == 0x09, // memory.init, data.drop
+        _ => false,
+    }
+}
+
+/// Locates the section that the error names. Returns `None` if the error names no section.
+fn find_misplaced(module: &[u8], error: &ModuleError) -> Option<MisplacedSection> {
+    match error {
+        ModuleError::OutOfOrder { index } => locate_misplaced(module, *index),
+        _ => None,
+    }
+}
+
+/// Locates the section at this index in the list of sections.
+fn locate_misplaced(module: &[u8], index: usize) -> Option<MisplacedSection> {
+    let mut cursor = Cursor::new(after_header(module)?);
+    let mut after = 0;
+    for _ in 0..index {
+        let section = read_section(&mut cursor).ok()?;
+        if section.id != 0 {
+            after = section.id;
+        }
+    }
+    let at = module.len().saturating_sub(cursor.len());
+    let id = cursor.byte().ok()?;
+    Some(MisplacedSection { at, id, after })
+}
+
+impl fmt::Display for MisplacedSection {
+    fn fmt<W: fmt::Write>(&self, f: &mut fmt::Formatter<W>) -> fmt::Result {
+        let MisplacedSection { at, id, after } = *self;
+        let (name, before) = (kind_name(id), kind_name(after));
+        if id == after {
+            write!(f, "{name} section, offset {at:#x}: second {name} section")
+        } else {
+            write!(
+                f,
+                "{name} section, offset {at:#x}: out of order: expected before the {before} section"
+            )
+        }
+    }
+}
+
+/// The message for a module that breaks a rule.
+#[derive(Clone, Copy)]
+pub struct DisorderMessage<'a> {
+    /// The rule that the sections break.
+    pub error: &'a ModuleError,
+    /// The section that is out of order.
+    pub section: Option<MisplacedSection>,
+}
+
+impl fmt::Display for DisorderMessage<'_> {
+    fn fmt<W: fmt::Write>(&self, f: &mut fmt::Formatter<W>) -> fmt::Result {
+        match self.error {
+            ModuleError::OutOfOrder { index } => match self.section {
+                Some(section) => section.fmt(f),
+                None => write!(f, "section {index}: out of order"),
+            },
+            ModuleError::FunctionCount { functions, bodies } => write!(
+                f,
+                "code section: wrong number of functions: expected {functions} as in the function section, found {bodies}"
+            ),
+            ModuleError::DataCount { told, segments } => write!(
+                f,
+                "data section: wrong number of segments: expected {told} as in the data count section, found {segments}"
+            ),
+            ModuleError::MissingDataCount { body, instruction } => write!(
+                f,
+                "code section, function {body}, instruction {instruction}: data segment used without a data count section"
+            ),
+        }
+    }
+}
