@@ -13,8 +13,8 @@ speaker=$program
 # The program answers the argument $words at once. With $trial it reads a module from standard input, and writes
 # less than 1 MiB. $usual is the usual time of a proof from a fresh clone, and $help the source of its help text.
 case $program in
-    wasmnorm) words=--version trial=module usual="10 minutes" help=crates/wasmnorm/src/texts.rt ;;
-    wasmcanon) words=--version trial=--check usual="20 minutes" help=crates/wasmcanon/src/options.rt ;;
+    wasmnorm) words=--version trial=module usual="15 minutes" help=crates/wasmnorm/src/texts.rt ;;
+    wasmcanon) words=--version trial=--check usual="30 minutes" help=crates/wasmcanon/src/options.rt ;;
 esac
 hash rt 2>/dev/null || true
 kit=${BASH_CMDS[rt]-crates.txt} # without rt, a file that exists

@@ -1,10 +1,17 @@
-"""Modules of the example compiler in node.
+"""Modules of the examples in node.
 
-Each module must compute what node computes of the same expression in whole numbers, cut to 32 bits. Another text must
-be refused with its message and status 1, and nothing written. wasm-validate (wabt) and wasm-opt (binaryen) must accept
-each module. `rt ci` builds two programs, with LLVM and with Rattle's own compiler; this part runs both.
+Each module of example_compiler must compute what node computes of the same expression in whole numbers, cut to 32
+bits. Each module of example_language must print what example_programs says, and that of example_hello its line, through
+node's WASI. Another text must be refused with its message and status 1, and nothing written. wasm-validate (wabt) and
+wasm-opt (binaryen) must accept each module. `rt ci` builds two programs of each example, with LLVM and with Rattle's
+own compiler; this part runs both.
 """
+import dataclasses
+import pathlib
+
+from parts.built_modules import BINARYEN, WABT
 from parts.common import both_programs, lacks, room, run as run_command, said, text_of
+from parts.example_programs import PROGRAMS, REFUSED as REFUSED_PROGRAMS
 
 # Compares the function that a module exports with an expression over a and b, which JavaScript writes alike.
 COMPARE = r"""
@@ -58,32 +65,85 @@ REFUSED = {
 }
 
 
-def fault_of(program, expression, tools, folder):
-    """Compiles an expression, and returns what is wrong with its module."""
-    module = folder / "module"
-    ran = run_command(program, "module", input=f"{expression}\n".encode())
-    if ran.returncode:
-        return text_of(ran.stderr)
-    module.write_bytes(ran.stdout)
-    for words in [["node", folder / "compare.mjs", module, expression], *([*tool, module] for tool in tools)]:
-        ran = run_command(*words)
+# Runs `main` of a module of the example language, and prints what it printed and returned.
+RUN = r"""
+import { readFileSync } from "node:fs";
+const shown = [];
+const env = { print: number => shown.push(number), show: address => shown.push({ address }) };
+const module = new WebAssembly.Module(readFileSync(process.argv[2]));
+const { exports } = new WebAssembly.Instance(module, { env });
+const textAt = ({ address }) => {
+    const { buffer } = exports.memory;
+    const length = new DataView(buffer).getUint32(address, true);
+    return new TextDecoder().decode(new Uint8Array(buffer, address + 4, length));
+};
+shown.push(exports.main());
+for (const item of shown) console.log(typeof item === "number" ? item : textAt(item));
+"""
+
+# Runs a command of WASI.
+COMMAND = r"""
+import { readFileSync } from "node:fs";
+import { WASI } from "node:wasi";
+const wasi = new WASI({ version: "preview1" });
+const module = new WebAssembly.Module(readFileSync(process.argv[2]));
+wasi.start(new WebAssembly.Instance(module, wasi.getImportObject()));
+"""
+
+
+@dataclasses.dataclass
+class Trial:
+    """What the trials of an example share: the report, a folder, and the tools that must accept each module."""
+
+    report: object
+    folder: pathlib.Path
+    tools: list
+
+    def printed(self, program, words, text, script, *arguments):
+        """Lets a program write a module, gives it to the tools, and runs it. Returns what it printed, or the fault."""
+        module = self.folder / "module"
+        ran = run_command(program, *words, input=text.encode())
         if ran.returncode:
-            return f"{words[0]}: {said(ran)}"
-    return ""
+            return "", text_of(ran.stderr)
+        module.write_bytes(ran.stdout)
+        for tool in self.tools:
+            checked = run_command(*tool, module)
+            if checked.returncode:
+                return "", f"{tool[0]}: {said(checked)}"
+        ran = run_command("node", "--no-warnings", self.folder / script, module, *arguments)
+        return ran.stdout.decode("utf-8", "replace"), f"node: {said(ran)}" if ran.returncode else ""
+
+    def must_print(self, name, program, words, text, script, *arguments, expected=""):
+        """A program's module must print this."""
+        printed, fault = self.printed(program, words, text, script, *arguments)
+        self.report.check(name, not fault and printed == expected, fault or f"prints {printed!r}")
+
+    def must_refuse(self, program, words, refused):
+        """A program must refuse each text with its message."""
+        for text, message in refused.items():
+            ran = run_command(program, *words, input=text.encode())
+            found = (ran.returncode, ran.stdout, text_of(ran.stderr))
+            self.report.check(f"{program.name}: {text!r}", found == (1, b"", f"Error: {message}"), f"answers {found}")
 
 
 def run(report):
-    if lacks(report, "node", "no module of the example compiler was run"):
+    if lacks(report, "node", "no module of the examples was run"):
         return
-    tools = [words for words in (["wasm-validate"], ["wasm-opt", "-O", "-o", "/dev/null"])
+    tools = [words for words in (WABT[0], [*BINARYEN, "-o", "/dev/null"])
              if not lacks(report, words[0], "no module was given to it")]
     with room() as folder:
-        (folder / "compare.mjs").write_text(COMPARE, "utf-8")
+        for name, script in {"compare.mjs": COMPARE, "run.mjs": RUN, "command.mjs": COMMAND}.items():
+            (folder / name).write_text(script, "utf-8")
+        trial = Trial(report, folder, tools)
         for program in both_programs(report, "example_compiler"):
             for expression in EXPRESSIONS:
-                fault = fault_of(program, expression, tools, folder)
-                report.check(f"{program.name}: '{expression}'", not fault, fault)
-            for text, message in REFUSED.items():
-                ran = run_command(program, "module", input=text.encode())
-                found = (ran.returncode, ran.stdout, text_of(ran.stderr))
-                report.check(f"{program.name}: '{text}'", found == (1, b"", f"Error: {message}"), f"answers {found}")
+                trial.must_print(f"{program.name}: '{expression}'", program, ["module"], f"{expression}\n",
+                                 "compare.mjs", expression)
+            trial.must_refuse(program, ["module"], REFUSED)
+        for program in both_programs(report, "example_language"):
+            for name, (text, lines) in PROGRAMS.items():
+                trial.must_print(f"{program.name}: {name}", program, [], text, "run.mjs",
+                                 expected="".join(f"{line}\n" for line in lines))
+            trial.must_refuse(program, [], REFUSED_PROGRAMS)
+        for program in both_programs(report, "example_hello"):
+            trial.must_print(program.name, program, [], "", "command.mjs", expected="Hello, world!\n")

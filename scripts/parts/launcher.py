@@ -193,7 +193,7 @@ def first_use(it):
     it.launch("calls")
     it.answers("the first use", 0, "calls of A1")
     it.builds("the first use: the crates in order", "lib low", "run wasmnorm")
-    it.says("the first use: how long", "10 minutes")
+    it.says("the first use: how long", "15 minutes")
     it.says("the first use: progress", "^wasmnorm: 1 of 2: low\nwasmnorm: 2 of 2: wasmnorm$")
     it.launch("types")
     it.answers("the second use", 0, "types of A1")

@@ -58,8 +58,13 @@ fn answer(column: &str) -> Result<Vec<u8>, Error> {
 
 /// Reads a file of vectors: the mode, the input and the answer of each row.
 fn rows(file: &str) -> Vec<(String, Vec<u8>, String)> {
-    let folder = concat!(env!("CARGO_MANIFEST_DIR"), "/tests/data/");
-    let text = std::fs::read_to_string(format!("{folder}{file}")).expect("the vectors");
+    let here = env!("CARGO_MANIFEST_DIR");
+    // Installed with the crate, or where the repository keeps them.
+    let folders = ["tests/data", "../../crates/replay/data"];
+    let text = folders
+        .iter()
+        .find_map(|folder| std::fs::read_to_string(format!("{here}/{folder}/{file}")).ok())
+        .expect("the vectors");
     text.lines()
         .map(|line| {
             let columns: Vec<&str> = line.split('\t').collect();
