@@ -7,7 +7,7 @@
 //! import NAME(NAME, ..)      a function of the host's module `env`
 //! memory NUMBER              the size of the memory in pages of 64 KiB; otherwise it is 1
 //! global NAME = NUMBER
-//! text NAME = "TEXT"         NAME is an address: of the length in four bytes, which the text follows
+//! text NAME = "TEXT"         a text in memory, after its length in four bytes; NAME is the address of the length
 //! packed NAME = "TEXT"       a text that is in memory only after `unpack NAME ADDRESS`
 //! tag NAME                   a kind of exception, with a number
 //! table NAME, ..             functions that are called by their place in the table
@@ -24,8 +24,8 @@
 //! comment.
 //!
 //! `tokens` splits a line, and `program` reads the declarations. `compiler` takes one line after the other; `blocks`,
-//! `statements`, `expression` and `operators` append instructions. `module` builds the sections. No step can panic: the program prints a message for the first wrong
-//! line, and exits with status 1.
+//! `statements`, `expression` and `operators` append instructions. `module` builds the sections. No step can panic: the
+//! program prints a message for the first wrong line, and exits with status 1.
 #![tactic(auto)]
 
 mod blocks;

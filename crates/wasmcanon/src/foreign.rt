@@ -22,7 +22,7 @@ pub enum Foreign {
     TextFormat,
     /// Other text.
     Text,
-    /// Other bytes, of which these are the first.
+    /// Other bytes. Holds the first four.
     Other([u8; 4]),
 }
 

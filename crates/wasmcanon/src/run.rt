@@ -139,8 +139,13 @@ pub fn hash<R: Read>(
     ensures ok { IfOk result (λ digest. IfSome (R.remaining reader.old) (λ input. IsHash sections.entry input digest)) }
     // Unless any order is allowed, the sections are in order.
     ensures in_order { any_order ≡ false → OnOk result (IfSome (R.remaining reader.old) IsOrdered) }
+    // If the failure names a section, this is the first one that is out of order.
+    ensures disordered { IfDisordered result (λ error. IfSome (R.remaining reader.old) (λ input. BreaksOrder input error)) }
     // Only a malformed input is refused.
     ensures unencoded { IfRefused result (λ _. IfSome (R.remaining reader.old) IsNoModule) }
+    // `at` is the length of the longest prefix that decodes.
+    ensures refused { IfRefused result (λ at. IfSome (R.remaining reader.old) (λ input.
+        IsLongestPrefix (IsModulePrefixOf module_section) input at)) }
 {
     let form = read_form(alloc, reader, any_order, sections)?;
     Ok(Sha256::digest(form.bytes.as_slice()))
