@@ -1,4 +1,5 @@
-/* Reads a module from standard input, normalises it in place, and writes it to standard output. This is C and C++.
+/* Reads a module from standard input, normalises it in place, and writes it to standard output. If the module is
+ * malformed, prints why and where. This is C and C++.
  *
  * The exit status is 0 if the module was written, 1 if it is malformed, 3 if memory ran out, and 4 if a read or a write
  * failed. */
@@ -22,12 +23,21 @@ static uint8_t *read_all(FILE *file, size_t *len) {
     return bytes;
 }
 
+/* Prints why and where a module is malformed. */
+static void print_refusal(const uint8_t *module, size_t len) {
+    struct nosgrivel_refusal refusal;
+    char message[NOSGRIVEL_MESSAGE_SIZE];
+    nosgrivel_explain_module(module, len, false, &refusal);
+    nosgrivel_message(&refusal, message, sizeof message);
+    fprintf(stderr, "%s\n", message);
+}
+
 int main(void) {
     size_t len = 0, count = 0;
     uint8_t *module = read_all(stdin, &len);
     uint32_t status = NOSGRIVEL_NO_MEMORY;
     if (module != NULL) status = ferror(stdin) ? 4 : nosgrivel_normalise_module_in_place(module, len, &count);
-    if (status == NOSGRIVEL_REFUSED) fprintf(stderr, "refused at %zu\n", count);
+    if (status == NOSGRIVEL_REFUSED) print_refusal(module, len);
     if (status == NOSGRIVEL_NO_MEMORY) fputs("no memory\n", stderr);
     if (status == NOSGRIVEL_NORMAL && (fwrite(module, 1, count, stdout) != count || fflush(stdout) != 0)) status = 4;
     free(module);

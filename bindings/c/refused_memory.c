@@ -1,6 +1,6 @@
 /* Makes every allocation of every call fail once. The call must return NOSGRIVEL_NO_MEMORY, leave the output and the
  * count unchanged, and free all memory. Once no allocation fails, the call must succeed. Also tests outputs that are
- * too short, and the version.
+ * too short, patterns, and the version.
  *
  * This program is linked with --wrap for malloc, realloc and free, so that the archive allocates here. */
 #include "nosgrivel.h"
@@ -153,6 +153,106 @@ static const uint8_t code_section_normal[] = {0x02, 0x02, 0x00, 0x0B, 0x04, 0x00
     {#kind, kind##_input, kind##_normal, sizeof kind##_input, sizeof kind##_normal, checked,                           \
      nosgrivel_normalise_##kind, nosgrivel_normalise_##kind##_in_place, nosgrivel_judge_##kind, nosgrivel_check_##kind}
 
+/* A call, which uses the output and the count or the refusal. */
+typedef uint32_t call(uint8_t *output, size_t *count, struct nosgrivel_refusal *refusal);
+
+/* Sections of the names "name" and "other", and a start section with padded numbers, with what is left of them. */
+static const uint8_t named[] = {
+    0x00, 0x61, 0x73, 0x6D, 0x01, 0x00, 0x00, 0x00,
+    0x00, 0x06, 0x04, 'n', 'a', 'm', 'e', 0x01,
+    0x00, 0x07, 0x05, 'o', 't', 'h', 'e', 'r', 0x02,
+    0x08, 0x82, 0x00, 0x83, 0x00};
+static const uint8_t with_none[] = {0x00, 0x61, 0x73, 0x6D, 0x01, 0x00, 0x00, 0x00, 0x08, 0x01, 0x03};
+static const uint8_t with_name[] = {
+    0x00, 0x61, 0x73, 0x6D, 0x01, 0x00, 0x00, 0x00,
+    0x00, 0x06, 0x04, 'n', 'a', 'm', 'e', 0x01,
+    0x08, 0x01, 0x03};
+
+static uint32_t strip(const char *dropped, size_t dropped_len, const char *kept, size_t kept_len, uint8_t *output,
+                      size_t *count) {
+    return nosgrivel_strip(named, sizeof named, dropped, dropped_len, kept, kept_len, output, ROOM, count);
+}
+
+static uint32_t strip_but_one(uint8_t *output, size_t *count, struct nosgrivel_refusal *refusal) {
+    (void)refusal;
+    return strip("*", 1, "n*e\0producers", 13, output, count);
+}
+
+static uint32_t explain(uint8_t *output, size_t *count, struct nosgrivel_refusal *refusal) {
+    (void)output, (void)count;
+    return nosgrivel_explain_module(canonical_input, sizeof canonical_input, false, refusal);
+}
+
+static uint32_t explain_strict(uint8_t *output, size_t *count, struct nosgrivel_refusal *refusal) {
+    (void)output, (void)count;
+    return nosgrivel_explain_module(canonical_normal, sizeof canonical_normal, true, refusal);
+}
+
+/* Makes the first allocation of a call fail, then the second, and so on, until none fails. */
+static void sweep_call(const char *name, call *make) {
+    for (long refused = 0; refused < 100; refused++) {
+        uint8_t output[ROOM], before[ROOM];
+        struct nosgrivel_refusal refusal, unchanged;
+        size_t count = 77;
+        memset(output, 0xAA, sizeof output);
+        memset(before, 0xAA, sizeof before);
+        memset(&refusal, 0xAA, sizeof refusal);
+        memset(&unchanged, 0xAA, sizeof unchanged);
+        left = refused;
+        uint32_t status = make(output, &count, &refusal);
+        int all_granted = left >= 0;
+        left = -1;
+        expect(held == 0, name, "memory that is held", refused);
+        if (all_granted) {
+            expect(status == NOSGRIVEL_NORMAL, name, "status", refused);
+            expect(refused > 0, name, "the number of requests", refused);
+            swept++;
+            return;
+        }
+        expect(status == NOSGRIVEL_NO_MEMORY, name, "status", refused);
+        expect(count == 77, name, "count", refused);
+        expect(memcmp(output, before, sizeof output) == 0, name, "output", refused);
+        if (make != strip_but_one) unchanged.status = NOSGRIVEL_NO_MEMORY;
+        expect(memcmp(&refusal, &unchanged, sizeof refusal) == 0, name, "refusal", refused);
+    }
+    expect(0, name, "the end of the requests", 0);
+}
+
+/* Expects these bytes of a call that drops sections. `wanted_len` is the length of what stays. */
+static void expect_strip(const char *name, uint32_t status, const uint8_t *output, size_t count, const uint8_t *wanted,
+                         size_t wanted_len) {
+    expect(status == NOSGRIVEL_NORMAL, name, "status", 0);
+    expect(count == wanted_len, name, "count", (long)count);
+    expect(memcmp(output, wanted, wanted_len) == 0, name, "output", 0);
+}
+
+static void patterns(void) {
+    uint8_t output[ROOM];
+    size_t count = 77;
+    uint32_t status = strip("*", 1, "", 0, output, &count);
+    expect_strip("*", status, output, count, with_none, sizeof with_none);
+    status = strip("name\0other", 10, "", 0, output, &count);
+    expect_strip("two names", status, output, count, with_none, sizeof with_none);
+    status = strip("name\0other", 11, "nam*", 4, output, &count);
+    expect_strip("two names and NUL", status, output, count, with_name, sizeof with_name);
+    status = strip("oth*\0nam", 8, "", 0, output, &count);
+    expect_strip("a beginning", status, output, count, with_name, sizeof with_name);
+    status = strip("", 0, "*", 1, output, &count);
+    expect(status == NOSGRIVEL_NORMAL && count == sizeof named - 2, "no pattern", "count", (long)count);
+    static const char *const wrong[] = {"**", "a*b*", "\xFF", "name\xC3"};
+    for (size_t i = 0; i < sizeof wrong / sizeof *wrong; i++) {
+        count = 77;
+        status = strip(wrong[i], strlen(wrong[i]), "", 0, output, &count);
+        expect(status == NOSGRIVEL_BAD_PATTERN && count == 77, "a malformed pattern", "status", (long)i);
+        status = strip("*", 1, wrong[i], strlen(wrong[i]), output, &count);
+        expect(status == NOSGRIVEL_BAD_PATTERN && count == 77, "a malformed pattern that keeps", "status", (long)i);
+    }
+    status = nosgrivel_strip(named, sizeof named, "*", 1, "", 0, output, sizeof with_none - 1, &count);
+    expect(status == NOSGRIVEL_TOO_LONG && count == sizeof with_none, "a short output", "status", (long)status);
+    status = nosgrivel_strip(named, sizeof named - 1, "*", 1, "", 0, output, ROOM, &count);
+    expect(status == NOSGRIVEL_REFUSED && count == 25, "a cut section", "count", (long)count);
+}
+
 int main(void) {
     static const struct row rows[] = {
         ROW(module, 11), ROW(instructions, 1), ROW(type_section, 4), ROW(code_section, 4),
@@ -163,6 +263,10 @@ int main(void) {
         for (int call = 0; call < 4; call++) sweep(&rows[i], call);
         short_outputs(&rows[i]);
     }
+    sweep_call("nosgrivel_strip", strip_but_one);
+    sweep_call("nosgrivel_explain_module", explain);
+    sweep_call("nosgrivel_explain_module, strict", explain_strict);
+    patterns();
     printf("%d calls swept, %d faults\n", swept, faults);
     return faults != 0;
 }

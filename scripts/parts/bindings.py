@@ -21,10 +21,11 @@ NEEDED = {"free", "malloc", "memcpy", "memmove", "memset", "realloc"}
 SANITIZERS = ["-g", "-fsanitize=address,undefined", "-fno-sanitize-recover=all"]
 FLAGS = ["-std=c11", "-Wall", "-Wextra", "-Werror", "-I", ROOT / "bindings/c"]
 
-# A module in a longer encoding, its minimal encoding, and a malformed module.
+# A module in a longer encoding, its minimal encoding, and a malformed module: no locals at 12, an unknown opcode at 13.
 LONGER = b"\0asm\1\0\0\0" + bytes.fromhex("0186 00014F006000 00 03 8100 80")
 MINIMAL = b"\0asm\1\0\0\0" + bytes.fromhex("0104 01600000 03 01 80")
-MALFORMED = b"\0asm\1\0\0\0" + bytes.fromhex("03 8000 00")
+MALFORMED = b"\0asm\1\0\0\0" + bytes.fromhex("0A05 0103 00 FF 0B")
+WHY = "code section, function 0, offset 0xd: unknown opcode 0xff"
 
 
 def expect(report, name, *words, **how):
@@ -60,7 +61,7 @@ def try_c(report, folder):
                "rustc", "-C", "opt-level=3", "-o", plain, ROOT / "bench/plain_normaliser.rs")
         fault = fault_beside_plain(example, plain)
         report.check("the example in C and the plain normaliser", not fault, fault)
-    try_failing_allocations(report, folder)
+    try_sanitized(report, folder)
 
 
 def fault_of_example(example, **how):
@@ -69,7 +70,7 @@ def fault_of_example(example, **how):
     right, wrong = (run_command(example, input=data, **how) for data in (LONGER, MALFORMED))
     if (right.returncode, right.stdout) != (0, MINIMAL):
         return f"status {right.returncode}, output {right.stdout!r}, not {MINIMAL!r}"
-    if wrong.returncode == 0 or wrong.stdout or text_of(wrong.stderr) != "refused at 11":
+    if wrong.returncode == 0 or wrong.stdout or text_of(wrong.stderr) != WHY:
         return f"status {wrong.returncode} for a malformed module: {text_of(wrong.stderr)}"
     return ""
 
@@ -86,16 +87,18 @@ def fault_beside_plain(example, plain):
     return "" if one.stdout == two.stdout else "they write different bytes"
 
 
-def try_failing_allocations(report, folder):
+def try_sanitized(report, folder):
+    """Runs the tests in C under the sanitizers: failing allocations, refusals and their messages."""
     (folder / "none.c").write_text("int main(void) { return 0; }\n", "utf-8")
     if run_command("cc", *SANITIZERS, "-o", folder / "none", folder / "none.c").returncode:
-        report.skipped("failing allocations", "cc has no sanitizers")
+        report.skipped("failing allocations and refusals", "cc has no sanitizers")
         return
-    built = expect(report, "the program of failing allocations is built",
-                   "cc", *FLAGS, *SANITIZERS, "-Wl,--wrap=malloc,--wrap=realloc,--wrap=free", "-o", folder / "refused",
-                   ROOT / "bindings/c/refused_memory.c", ARCHIVE)
-    if built:
-        expect(report, "failing allocations", folder / "refused")
+    wrap = "-Wl,--wrap=malloc,--wrap=realloc,--wrap=free"
+    for name, program, words in (("failing allocations", "refused_memory", [wrap]), ("refusals", "refusals", [])):
+        source = ROOT / f"bindings/c/{program}.c"
+        if expect(report, f"the program of {name} is built",
+                  "cc", *FLAGS, *SANITIZERS, *words, "-o", folder / program, source, ARCHIVE):
+            expect(report, name, folder / program)
 
 
 def try_rust(report):

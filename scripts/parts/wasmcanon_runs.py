@@ -69,12 +69,16 @@ DISORDERED = [
 # The sections in the standard's order, and code that names data segments.
 IN_ORDER = [TYPE + IMPORT + FUNCTION + b"\4\1\0\5\1\0\x0D\1\0\6\1\0" + EXPORT + b"\x08\1\0\x09\1\0" + DATA_COUNT
             + CODE + DATA, TYPE + FUNCTION + DATA_COUNT + INIT + DATA]
-# What an input looks like that is no module, and its beginning.
-FOREIGN = [
-    ("no bytes", b""), ("a part of it", b"\0as"), ("a component", b"\0asm\x0D\0\1\0"),
-    ("another version", b"\0asm\2\0\0\0"), ("an `ar` archive", b"!<arch>\nfoo.o/"),
-    ("a gzip file", b"\x1F\x8B\x08\0\0\0\0\0\0"), ("LLVM bitcode", b"BC\xC0\xDE5\x14\0\0"),
-    ("the text format", b"(module $a)"), ("text", b"#!/bin/sh\necho \xC3\xA4"), ("7F 45 4C 46", b"\x7FELF\2\1\1\0\0"),
+NO_HEADER = "offset 0x0: not a WebAssembly module: expected the header 00 61 73 6d 01 00 00 00"
+# Inputs that are no module: what each is, the message, and its beginning.
+FOREIGN = [(found, f"{NO_HEADER}, found {found}", data) for found, data in (
+    ("no bytes", b""), ("a part of it", b"\0as"), ("another version", b"\0asm\2"),
+    ("an `ar` archive", b"!<arch>\nfoo.o/"), ("a gzip file", b"\x1F\x8B\x08\0\0\0\0\0\0"),
+    ("LLVM bitcode", b"BC\xC0\xDE5\x14\0\0"), ("the text format", b"(module $a)"),
+    ("text", b"#!/bin/sh\necho \xC3\xA4"), ("7F 45 4C 46", b"\x7FELF\2\1\1\0\0"),
+)] + [
+    ("a component", "offset 0x0: unsupported version 0x1000d: expected 1, found a component", b"\0asm\x0D\0\1\0"),
+    ("version 2", "offset 0x0: unsupported version 0x2: expected 1", b"\0asm\2\0\0\0"),
 ]
 
 REPORT = b"""\
@@ -98,33 +102,86 @@ section    before     after     saved  longer  out of  kind
 # Of each section in the report of numbers: the longer items, the items, and whether the size or the count is longer.
 ENCODINGS = [(1, 1, False, False), (0, 2, False, True), (1, 1, False, False), (1, 2, False, False)]
 
-NO_HEADER = "offset 0x0: not a WebAssembly module: expected the header 00 61 73 6D 01 00 00 00"
-NO_SIZE = "size is missing or larger than the rest of the"
-NOT_CANONICAL = "not canonical: section at offset 0x8: not minimally encoded"
+CUT = "memory section, offset 0x12: size 4 too large: 3 bytes left"
+LONG_SIZE = "not minimally encoded: 2 bytes, minimal is 1"
+NOT_CANONICAL = f"not canonical: type section, offset 0x9: {LONG_SIZE}"
+# What is told as JSON of the long module and of the one that is cut.
+LONG_AS_JSON = {"file": "long", "canonical": False, "section": 0, "id": 1, "kind": "type", "section_offset": 8,
+                "item": None, "local_group": None, "instruction": None, "offset": 9, "reason": LONG_SIZE}
+CUT_AS_JSON = {"file": "cut", "error": f"cut: {CUT}", "section": 1, "id": 5, "kind": "memory", "section_offset": 17,
+               "item": None, "local_group": None, "instruction": None, "offset": 18,
+               "reason": "size 4 too large: 3 bytes left"}
 STALE = """\
 warning: {file}: custom sections .debug_*: offsets are stale, because bytes have moved
 help: drop such sections with --strip-offsets, or generate them again from the output
 """
 
-# Malformed modules: what each is, the message, and the bytes after the header and an empty type section.
+NO_NUMBER = "unexpected end: expected LEB128 number"
+# Malformed modules: what each is, the message, and the bytes after the header and an empty type section, from 0xb on.
 MALFORMED = [
-    ("an instruction that is cut", "code section, function 0, offset 0x12: malformed instruction",
+    ("a value type", "type section, type 0, offset 0x10: invalid value type 0x7a", b"\1\5\1\x60\1\x7A\0"),
+    ("a mutability", "type section, type 1, offset 0x13: invalid mutability 0x02", b"\1\7\2\x60\0\0\x5E\x7F\2"),
+    ("an import of another kind", "import section, import 0, offset 0x12: invalid import kind 0x05",
+     b"\2\7\1\1a\1b\5\0"),
+    ("an import's name", "import section, import 0, offset 0x11: name isn't UTF-8 from its byte 0 on",
+     b"\2\7\1\1a\1\xFF\0\0"),
+    ("an index of six bytes", "import section, import 0, offset 0x13: LEB128 number too long: more than 5 bytes",
+     b"\2\x0C\1\1a\1b\0\x80\x80\x80\x80\x80\0"),
+    ("an instruction that is cut", f"code section, function 0, offset 0x13: {NO_NUMBER}",
      b"\x0A\6\1\4\1\1\x7F\x41"),
-    ("a group of locals of no type", "code section, function 0, local group 1, offset 0x12: malformed count or type",
+    ("an opcode of two bytes", "code section, function 0, offset 0x10: unknown opcode 0xfd 300",
+     b"\x0A\7\1\5\0\xFD\xAC\2\x0B"),
+    ("an alignment", "code section, function 0, offset 0x11: alignment flags 128 out of range: expected less than 128",
+     b"\x0A\x08\1\6\0\x28\x80\1\0\x0B"),
+    ("a group of locals of no type", "code section, function 0, local group 1, offset 0x13: invalid value type 0x00",
      b"\x0A\x08\1\6\2\1\x7F\1\0\x0B"),
-    ("a function body without bytes", "code section, function 0, offset 0xf: malformed count of local groups",
-     b"\x0A\2\1\0"),
-    ("a function body that is cut", f"code section, function 0, offset 0xe: {NO_SIZE} section", b"\x0A\3\1\5\0"),
-    ("an export of another kind", "export section, export 0, offset 0xe: malformed export", b"\7\5\1\1a\5\0"),
-    ("trailing bytes", "function section, offset 0xf: trailing bytes after the last function", b"\3\3\1\0\0"),
-    ("a count that is cut", "memory section, offset 0xd: malformed count", b"\5\1\x80"),
-    ("an index that is cut", "start section, offset 0xd: malformed function", b"\x08\1\x80"),
-    ("bytes after an index", "start section, offset 0xf: trailing bytes after the function", b"\x08\3\x80\0\0"),
-    ("bytes after a count", "data count section, offset 0xe: trailing bytes after the count", b"\x0C\2\0\0"),
-    ("a name that is cut", "custom section, offset 0xd: malformed name", b"\0\2\5a"),
-    ("another id", "section 1, offset 0xb: unknown section id 14: expected 0 to 13", b"\x0E\0"),
-    ("a body that is cut", f"section 1, offset 0xc: {NO_SIZE} module", b"\x0B\5\0"),
-    ("no size", f"section 1, offset 0xc: {NO_SIZE} module", b"\x0B"),
+    ("a count of locals", "code section, function 0, local group 0, offset 0x10: LEB128 number out of range of u32",
+     b"\x0A\x0A\1\x08\1\xFF\xFF\xFF\xFF\x1F\x7F\x0B"),
+    ("a function body without bytes", f"code section, function 0, offset 0xf: {NO_NUMBER}", b"\x0A\2\1\0"),
+    ("a function body that is cut", "code section, function 0, offset 0xe: size 5 too large: 2 bytes left",
+     b"\x0A\4\1\5\0\0"),
+    ("an export of another kind", "export section, export 0, offset 0x10: invalid export kind 0x05", b"\7\5\1\1a\5\0"),
+    ("a segment of another form", "element section, segment 0, offset 0xe: invalid element segment form 8",
+     b"\x09\2\1\x08"),
+    ("a segment of another kind", "element section, segment 1, offset 0x12: invalid element kind 0x01",
+     b"\x09\7\2\1\0\0\1\1\0"),
+    ("trailing bytes", "function section, offset 0xf: 2 trailing bytes", b"\3\4\1\0\0\0"),
+    ("a count that is cut", f"memory section, offset 0xe: {NO_NUMBER}", b"\5\1\x80"),
+    ("an index that is cut", f"start section, offset 0xe: {NO_NUMBER}", b"\x08\1\x80"),
+    ("bytes after an index", "start section, offset 0xf: 2 trailing bytes", b"\x08\4\x80\0\0\0"),
+    ("bytes after a count", "data count section, offset 0xe: 2 trailing bytes", b"\x0C\3\0\0\0"),
+    ("a name that is cut", "custom section, offset 0xd: size 5 too large: 2 bytes left", b"\0\3\5ab"),
+    ("another id", "section 1, offset 0xb: unknown section id 14", b"\x0E\0"),
+    ("another id after sections out of order", "section 3, offset 0x11: unknown section id 14",
+     b"\5\1\0\1\1\0\x0E\0"),
+    ("a body that is cut", "data section, offset 0xc: size 5 too large: 2 bytes left", b"\x0B\5\0\0"),
+    ("no size", f"data section, offset 0xc: {NO_NUMBER}", b"\x0B"),
+    ("a section that is cut after one that is longer", f"type section, offset 0x10: {NO_NUMBER}",
+     b"\5\x81\0\0\1"),
+]
+# Modules that aren't canonical: what is longer, the message, and the bytes after the header.
+LONGER = [
+    ("a size", f"type section, offset 0x9: {LONG_SIZE}", b"\1\x81\0\0"),
+    ("the size of the second section", "memory section, offset 0xc: not minimally encoded: 5 bytes, minimal is 1",
+     b"\1\1\0\5\x81\x80\x80\x80\0\0"),
+    ("a count", f"memory section, offset 0xa: {LONG_SIZE}", b"\5\6\x82\0\0\0\0\0"),
+    ("a form", "type section, type 0, offset 0xb: not minimally encoded: 5 bytes, minimal is 3",
+     b"\1\6\1\x4F\0\x60\0\0"),
+    ("a memory", "memory section, memory 1, offset 0xd: not minimally encoded: 3 bytes, minimal is 2",
+     b"\5\6\2\0\0\0\x81\0"),
+    ("an instruction", "code section, function 1, offset 0x1b: not minimally encoded: 3 bytes, minimal is 2",
+     TYPE + b"\3\3\2\0\0\x0A\x0A\2\2\0\x0B\5\0\x41\x80\0\x0B"),
+    ("a function's size", f"code section, function 0, offset 0x15: {LONG_SIZE}",
+     TYPE + FUNCTION + b"\x0A\5\1\x82\0\0\x0B"),
+    ("a number of local groups", f"code section, function 0, offset 0x16: {LONG_SIZE}",
+     TYPE + FUNCTION + b"\x0A\5\1\3\x80\0\x0B"),
+    ("a number of locals", f"code section, function 0, local group 0, offset 0x17: {LONG_SIZE}",
+     TYPE + FUNCTION + b"\x0A\7\1\5\1\x81\0\x7F\x0B"),
+    ("a local's type", "code section, function 0, local group 0, offset 0x17: not minimally encoded",
+     TYPE + FUNCTION + b"\x0A\7\1\5\1\1\x63\x70\x0B"),
+    ("an index", f"start section, offset 0xa: {LONG_SIZE}", b"\x08\2\x80\0"),
+    ("a name's length", f"custom section, offset 0xa: {LONG_SIZE}", b"\0\4\x81\0ax"),
+    ("a count alone", f"data count section, offset 0xd: {LONG_SIZE}", b"\5\1\0\x0C\2\x80\0"),
 ]
 
 
@@ -332,9 +389,9 @@ def try_selections(runs):
 
 
 def try_foreign(runs):
-    for found, data in FOREIGN:
+    for found, message, data in FOREIGN:
         (runs.room / "foreign").write_bytes(data)
-        runs.holds(found, runs.answers(1, f"error: foreign: {NO_HEADER}, found {found}\n", "--check", "foreign"))
+        runs.holds(found, runs.answers(1, f"error: foreign: {message}\n", "--check", "foreign"))
     ran = run_command("sh", "-c", 'cat /dev/zero | "$1" --check', "sh", runs.program)
     runs.holds("an input without end", ran.returncode == 1 and b"found 00 00 00 00" in ran.stderr)
 
@@ -342,9 +399,12 @@ def try_foreign(runs):
 def try_json(runs):
     runs.run("--check", "--json", "canonical", "long", "cut")
     told = list_in(runs.out)
-    runs.holds("checks as JSON", runs.status == 1 and told[:2] == [
-        {"file": "canonical", "canonical": True}, {"file": "long", "canonical": False, "offset": 8}]
-        and len(told) == 3 and set(told[2]) == {"file", "error"})
+    wanted = [{"file": "canonical", "canonical": True}, LONG_AS_JSON, CUT_AS_JSON]
+    runs.holds("checks as JSON", runs.status == 1 and told == wanted)
+    (runs.room / "longer").write_bytes(HEADER + TYPE + FUNCTION + b"\x0A\7\1\5\0\x41\x80\0\x0B")
+    runs.run("--check", "--json", "longer")
+    told = [[it[name] for name in ("section", "id", "item", "instruction", "offset")] for it in list_in(runs.out)]
+    runs.holds("an instruction as JSON", told == [[2, 10, 0, 23, 23]])
     runs.run("--hash", "--json", "long")
     runs.holds("hashes as JSON", list_in(runs.out) == [{"file": "long", "sha256": sum_of(FILES["canonical"])}])
     runs.run("--diff", "--json", "long", "canonical")
@@ -359,8 +419,11 @@ def try_json(runs):
 def try_checks(runs):
     runs.holds("a canonical module, checked", runs.answers(0, "", "--check", "canonical"))
     runs.holds("a longer module, checked", runs.answers(1, f"error: long: {NOT_CANONICAL}", "--check", "long"))
-    message = "error: cut: section 1, offset 0x12: size is missing"
-    runs.holds("no module, checked", runs.answers(1, message, "--check", "cut"))
+    runs.holds("no module, checked", runs.answers(1, f"error: cut: {CUT}\n", "--check", "cut"))
+    for name, message, data in LONGER:
+        (runs.room / "longer").write_bytes(HEADER + data)
+        right = runs.answers(1, f"error: longer: not canonical: {message}\n", "--check", "longer")
+        runs.holds(f"{name} that is longer, checked", right)
 
 
 def try_offsets(runs):
@@ -388,7 +451,7 @@ def try_differences(runs):
         error = f"error: {first} and {second} differ: {message}"
         runs.holds(name, runs.answers(1, error, "--diff", first, second))
     runs.holds("the second is no module",
-               runs.answers(1, "error: cut: section 1, offset 0x12: ", "--diff", "long", "cut"))
+               runs.answers(1, f"error: cut: {CUT}\n", "--diff", "long", "cut"))
 
 
 def try_reports(runs):
@@ -422,7 +485,7 @@ def list_in(text):
 def try_refusals(runs):
     runs.fresh()
     refusals = [
-        ("no module", 1, "cut: section 1, offset 0x12: size is missing", ["cut", "-o", "there"]),
+        ("no module", 1, f"cut: {CUT}\n", ["cut", "-o", "there"]),
         ("no header", 1, f"kept: {NO_HEADER}", ["kept", "-o", "there"]),
         ("no input", 4, "none: read failed: ", ["none", "-o", "there"]),
         ("a folder for an input", 4, f"{runs.room}: read failed: ", [runs.room, "-o", "there"]),
@@ -440,19 +503,18 @@ def try_refusals(runs):
 
 def is_malformed(runs, message, data, *words):
     (runs.room / "broken").write_bytes(HEADER + b"\1\1\0" + data)
-    return runs.answers(1, f"error: broken: {message}", *(words or ["--check", "broken"]))
+    return runs.answers(1, f"error: broken: {message}\n", *(words or ["--check", "broken"]))
 
 
 def try_malformed(runs):
     runs.holds("no bytes", runs.answers(1, f"error: nothing: {NO_HEADER}", "--check", "nothing"))
-    cut = f"error: cut_type: section 0, offset 0x9: {NO_SIZE} module"
+    cut = "error: cut_type: type section, offset 0x9: size 6 too large: 5 bytes left\n"
     runs.holds("a section that is cut", runs.answers(1, cut, "--check", "cut_type"))
-    message = "code section, function 1, offset 0x13: malformed instruction"
+    message = "code section, function 1, offset 0x13: unknown opcode 0xff"
     data = b"\x0A\x08\2\2\0\x0B\3\0\xFF\x0B"
     runs.holds("an unknown opcode", is_malformed(runs, message, data))
-    alike = (is_malformed(runs, message, data, "--report", "broken")
-             and is_malformed(runs, message, data, "--diff", "long", "broken"))
-    runs.holds("the same in a report and a comparison", alike)
+    for words in (["broken"], ["--hash", "broken"], ["--report", "broken"], ["--diff", "long", "broken"]):
+        runs.holds(f"the same by {' '.join(words)}", is_malformed(runs, message, data, *words))
     for name, message, data in MALFORMED:
         runs.holds(name, is_malformed(runs, message, data))
 
@@ -542,7 +604,8 @@ def try_progress(runs):
     runs.holds("progress of a big module", right and runs.there() == FILES["big_canonical"])
     runs.holds("a big module without a terminal", runs.writes("big", data=FILES["big_canonical"]))
     told = on_a_terminal(runs, "--check", "big")
-    wanted = ["1; reading 49.2 MB; canonicalising 50.0 MB", f"error: big: {NOT_CANONICAL}"]
+    message = "not canonical: custom section, offset 0x9: not minimally encoded: 5 bytes, minimal is 4"
+    wanted = ["1; reading 49.2 MB; canonicalising 50.0 MB", f"error: big: {message}"]
     runs.holds("progress before a message", told == wanted)
     runs.holds("no progress of a small module", on_a_terminal(runs, "long") == ["0"])
     runs.holds("no progress among bytes", on_a_terminal(runs, "--force", "big", both=True) == ["0"])

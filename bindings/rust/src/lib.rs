@@ -17,18 +17,23 @@
 //! **Normalising moves bytes.** Offsets in custom sections become stale: those of relocatable object files (`linking`,
 //! `reloc.*`) and of debug information (DWARF, `.debug_*`). Normalise linked modules that need neither.
 //!
+//! [`explain`] says why and where a module is refused. [`strip`] leaves custom sections out.
+//!
 //! Nothing is validated: instructions need not nest, and indexes may be out of range. Any number of threads may call at
 //! once.
 #![warn(missing_docs)]
 
 mod ffi;
+mod refusal;
 
+pub use refusal::{explain, Construct, DecodeError, Reason, Refusal, SectionPlace};
 use std::fmt;
 
 /// The error of a call.
 #[derive(Clone, Copy, Debug, PartialEq, Eq, Hash)]
 pub enum Error {
-    /// The input is malformed. A check also returns this if the input isn't minimally encoded.
+    /// The input is malformed. A check also returns this if the input isn't minimally encoded. [`explain`] says why a
+    /// module is refused.
     Refused {
         /// Length in bytes of the longest prefix that decodes. From a check: of the longest prefix that is minimally
         /// encoded.
@@ -36,6 +41,8 @@ pub enum Error {
     },
     /// Memory ran out.
     NoMemory,
+    /// A pattern has more than one `*`, or a NUL. Only [`strip`] returns this.
+    InvalidPattern,
 }
 
 impl fmt::Display for Error {
@@ -43,6 +50,9 @@ impl fmt::Display for Error {
         match self {
             Error::Refused { at } => write!(f, "refused at {at}"),
             Error::NoMemory => write!(f, "no memory"),
+            Error::InvalidPattern => {
+                write!(f, "invalid pattern: expected at most one * and no NUL")
+            }
         }
     }
 }
@@ -99,6 +109,50 @@ pub fn canonicalise(module: &[u8]) -> Result<Vec<u8>, Error> {
 /// As for [`canonicalise`].
 pub fn canonicalise_in_place(module: &mut Vec<u8>) -> Result<(), Error> {
     in_place(ffi::nosgrivel_canonicalise_in_place, module)
+}
+
+/// Returns the canonical form of a module without the custom sections whose names match a pattern of `dropped` and none
+/// of `kept`.
+///
+/// One `*` in a pattern stands for any characters.
+///
+/// ```
+/// let header = *b"\0asm\x01\0\0\0";
+/// // Two custom sections: `name` and `producers`.
+/// let module = [&header[..], b"\0\x05\x04name", b"\0\x0a\x09producers"].concat();
+/// assert_eq!(nosgrivel::strip(&module, &["*"], &[])?, header);
+/// assert_eq!(nosgrivel::strip(&module, &["*"], &["na*"])?, [&header[..], b"\0\x05\x04name"].concat());
+/// # Ok::<(), nosgrivel::Error>(())
+/// ```
+///
+/// # Errors
+///
+/// As for [`canonicalise`], and [`Error::InvalidPattern`] if a pattern has more than one `*`, or a NUL.
+pub fn strip(module: &[u8], dropped: &[&str], kept: &[&str]) -> Result<Vec<u8>, Error> {
+    let (dropped, kept) = (joined(dropped)?, joined(kept)?);
+    // The canonical form is no longer than the module, and leaving sections out makes it shorter.
+    let mut output = with_room(module.len())?;
+    output.resize(module.len(), 0);
+    let mut count = 0;
+    // SAFETY: the pointers come from values that are borrowed for the call, and a length follows each but the last.
+    let status = unsafe {
+        ffi::nosgrivel_strip(
+            module.as_ptr(),
+            module.len(),
+            dropped.as_ptr(),
+            dropped.len(),
+            kept.as_ptr(),
+            kept.len(),
+            output.as_mut_ptr(),
+            output.len(),
+            &mut count,
+        )
+    };
+    if status != ffi::NORMAL {
+        return Err(error(status, count));
+    }
+    output.truncate(count);
+    Ok(output)
 }
 
 /// Returns the minimal encoding of a list of instructions.
@@ -386,13 +440,30 @@ pub fn check_code_section(body: &[u8]) -> Result<(), Error> {
 }
 
 fn normalised(call: ffi::InPlace, input: &[u8]) -> Result<Vec<u8>, Error> {
-    let mut bytes = Vec::new();
-    bytes
-        .try_reserve_exact(input.len())
-        .map_err(|_| Error::NoMemory)?;
+    let mut bytes = with_room(input.len())?;
     bytes.extend_from_slice(input);
     in_place(call, &mut bytes)?;
     Ok(bytes)
+}
+
+/// Returns an empty list with room for so many bytes.
+fn with_room(len: usize) -> Result<Vec<u8>, Error> {
+    let mut bytes = Vec::new();
+    bytes.try_reserve_exact(len).map_err(|_| Error::NoMemory)?;
+    Ok(bytes)
+}
+
+/// Returns the patterns with a NUL after each.
+fn joined(patterns: &[&str]) -> Result<Vec<u8>, Error> {
+    let mut text = with_room(patterns.iter().map(|pattern| pattern.len() + 1).sum())?;
+    for pattern in patterns {
+        if pattern.contains('\0') {
+            return Err(Error::InvalidPattern);
+        }
+        text.extend_from_slice(pattern.as_bytes());
+        text.push(0);
+    }
+    Ok(text)
 }
 
 fn in_place(call: ffi::InPlace, bytes: &mut Vec<u8>) -> Result<(), Error> {
@@ -433,6 +504,7 @@ fn error(status: u32, count: usize) -> Error {
     match status {
         ffi::REFUSED => Error::Refused { at: count },
         ffi::NO_MEMORY => Error::NoMemory,
+        ffi::BAD_PATTERN => Error::InvalidPattern,
         other => unreachable!("the proved library answered status {other}"),
     }
 }

@@ -10,6 +10,7 @@ mod operands;
 mod own;
 mod reading;
 mod readme;
+mod reasons;
 mod refused_memory;
 mod type_sections;
 mod types;

@@ -17,9 +17,10 @@ use crate::exports::{ExportSection, FunctionExport};
 use crate::read::ReadExport;
 use anyhow::Result;
 use std::io;
+use wasm_encoder::reader::DecodeError;
 use wasm_encoder::{
-    CodeSection, Function, FunctionSection, ReadError, SectionId, TypeSection, ValType, check,
-    first_body, normalise, read, read_module, read_strict, rewrite,
+    CodeSection, Function, FunctionSection, SectionId, TypeSection, ValType, check, first_body,
+    normalise, read, read_module, read_strict, rewrite,
 };
 
 /// A body with a minimal count. The length and the index of its first export are padded.
@@ -88,7 +89,7 @@ fn print_calls(rt: &(impl Print + AllocGlobal)) -> Result<()> {
 }
 
 /// Prints a line if a call refused its bytes.
-fn print_refusal(rt: &impl Print, call: &str, error: Option<ReadError>) -> io::Result<()> {
+fn print_refusal(rt: &impl Print, call: &str, error: Option<DecodeError>) -> io::Result<()> {
     match error {
         Some(error) => println!(rt; "{call}: {error}"),
         None => Ok(()),

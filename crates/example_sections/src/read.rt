@@ -2,7 +2,7 @@
 ghost use Rattle.std.specs.Prelude.{◌≡◌, List, ℕ, IfErr, refl, true};
 ghost use Rattle.std.proofs.lemmas.List.{map_push};
 ghost use Rattle.wasm_codec.specs.Reading.{map_ok};
-ghost use Rattle.wasm_codec.specs.declared.reader.cursor.Fault.TheVariants.{Malformed};
+ghost use Rattle.wasm_codec.specs.Outcomes.{IsMalformed, as_read};
 ghost use Rattle.wasm_encoder.specs.Outcomes.{NeedsNoMemory};
 ghost use Rattle.wasm_encoder.specs.Bodies.{byte_list, bytes_to_end};
 ghost use Rattle.wasm_encoder.specs.Combinators.{items};
@@ -17,9 +17,10 @@ ghost use Rattle.example_sections.specs.Exports.{export, parts_of, all_parts_of}
 use crate::exports::{ExportSection, FUNCTION};
 use std::alloc::Global;
 use wasm_encoder::reader::{
-    Item, RewritableBody, Rewriter, check_list_to_end, rewrite_list_to_end, rewrite_sized,
+    Construct, DecodeError, Item, RewritableBody, Rewriter, check_list_to_end, rewrite_list_to_end,
+    rewrite_sized,
 };
-use wasm_encoder::{Cursor, Decode, Fault, ReadError, Readable, read_list_to_end};
+use wasm_encoder::{Cursor, Decode, Fault, Readable, read_list_to_end};
 
 /// An exported function, as read.
 #[derive(Clone, Copy, Debug)]
@@ -62,8 +63,9 @@ fn read_export<'a>(cursor: &mut Cursor<'a>) -> Result<ReadExport<'a>, Fault>
     ensures reads { Reads export.at cursor.old cursor.new (map_ok parts_of result) }
 {
     let name = read_bytes(cursor)?;
-    if cursor.byte()? != FUNCTION {
-        return Err(Fault::Malformed);
+    let kind = cursor.byte_of(Construct::ExportKind)?;
+    if kind != FUNCTION {
+        return Err(Fault::Malformed(cursor.invalid(Construct::ExportKind, kind)));
     }
     let function = cursor.u32()?;
     Ok(ReadExport { name, function })
@@ -72,10 +74,11 @@ fn read_export<'a>(cursor: &mut Cursor<'a>) -> Result<ReadExport<'a>, Fault>
 /// Reads bytes that follow their length.
 fn read_bytes<'a>(cursor: &mut Cursor<'a>) -> Result<&'a [u8], Fault>
     ensures reads { Reads byte_list.at cursor.old cursor.new (map_ok (λ bytes. bytes.now) result) }
-    ensures err { IfErr result (λ e. e ≡ Malformed) }
+    ensures err { IfErr result IsMalformed }
 {
-    let size = cursor.u32()? as usize;
-    cursor.take(size)
+    let start = cursor.to_end();
+    let size = cursor.u32()?;
+    cursor.take_sized(size, start)
 }
 
 /// Replaces the length of the name and the index by their minimal encodings. The kind has one encoding.
@@ -84,8 +87,9 @@ fn rewrite_export(rewriter: &mut Rewriter) -> Result<(), Fault>
     ensures rewrites { Rewrites export rewriter.old rewriter.new result }
 {
     rewrite_sized::<Bytes>(rewriter)?;
-    if rewriter.byte()? != FUNCTION {
-        return Err(Fault::Malformed);
+    let byte = rewriter.byte_of(Construct::ExportKind)?;
+    if byte != FUNCTION {
+        return Err(Fault::Malformed(rewriter.invalid(Construct::ExportKind, byte)));
     }
     rewriter.u32()?;
     Ok(())
@@ -129,23 +133,23 @@ impl<'a> Decode<'a> for ExportSection<'a> {
         ensures minimal { IsMinimal (items export) (ListMinimalIf true export) }
     {}
 
-    fn read_all(alloc: Global, bytes: &'a [u8]) -> Result<Vec<ReadExport<'a>>, ReadError> {
+    fn read_all(alloc: Global, bytes: &'a [u8]) -> Result<Vec<ReadExport<'a>>, DecodeError> {
         read_list_to_end::<ReadExport<'_>, false>(alloc, bytes)
     }
 
-    fn read_all_strict(alloc: Global, bytes: &'a [u8]) -> Result<Vec<ReadExport<'a>>, ReadError> {
+    fn read_all_strict(alloc: Global, bytes: &'a [u8]) -> Result<Vec<ReadExport<'a>>, DecodeError> {
         read_list_to_end::<ReadExport<'_>, true>(alloc, bytes)
     }
 
-    fn check_all(alloc: Global, bytes: &[u8]) -> Result<(), ReadError>
-        ensures checks { ChecksAll (ListMinimalIf true export) (IsListPrefixMinimalIf true export) bytes.now result }
+    fn check_all(alloc: Global, bytes: &[u8]) -> Result<(), DecodeError>
+        ensures checks { ChecksAll (ListMinimalIf true export) (IsListPrefixMinimalIf true export) bytes.now (as_read result) }
     {
         check_list_to_end::<Item<'_, ReadExport<'_>>>(alloc, bytes)
     }
 
-    fn rewrite_all(bytes: Vec<u8>) -> Result<Vec<u8>, ReadError>
-        ensures rewrites { RewritesAll (items export) (IsListPrefix export.Encodes) bytes.items result }
-        ensures memory { NeedsNoMemory result }
+    fn rewrite_all(bytes: Vec<u8>) -> Result<Vec<u8>, DecodeError>
+        ensures rewrites { RewritesAll (items export) (IsListPrefix export.Encodes) bytes.items (as_read result) }
+        ensures memory { NeedsNoMemory (as_read result) }
     {
         rewrite_list_to_end::<Item<'_, ReadExport<'_>>>(bytes)
     }

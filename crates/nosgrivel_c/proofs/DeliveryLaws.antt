@@ -6,15 +6,42 @@ use Rattle.wasm_codec.specs.declared.reader.ReadError.TheVariants as errors
 use Rattle.wasm_codec.specs.formats.Grammar.{Grammar}
 use Rattle.wasm_codec.specs.formats.Combinators.{Format}
 use Rattle.wasm_codec.specs.Outcomes.{IsLongestPrefix}
-use Rattle.wasm_codec.specs.Decoding.{Checks, Normalises}
+use Rattle.wasm_codec.specs.Decoding.{Checks, ChecksAll, Normalises}
 use Rattle.nosgrivel_c.specs.Delivery.{IsAnswer, IsChecked, IsDelivered, IsDelivery, IsJudged, c_too_long}
 use Rattle.nosgrivel_c.specs.Calls.{ChecksNormal, JudgesNormal, WritesInPlace, WritesNormal}
 
-module _ {V : Type 0} (F : Format V) (Minimal : Grammar V) (IsPrefix : List ℕ → Type 0) (input : List ℕ) where
-  -- the longest prefix has the length that was reported
-  at_count : (at count : ℕ) → count ≡ at → IsLongestPrefix IsPrefix input at → IsLongestPrefix IsPrefix input count
-  at_count at count is longest = subst (λ (len : ℕ). IsLongestPrefix IsPrefix input len) (sym is) longest
+-- the longest prefix has the length that was reported
+pub at_count : {IsPrefix : List ℕ → Type 0} {input : List ℕ} (at count : ℕ) → count ≡ at → IsLongestPrefix IsPrefix input at → IsLongestPrefix IsPrefix input count
+at_count {IsPrefix} {input} at count is longest = subst (λ (len : ℕ). IsLongestPrefix IsPrefix input len) (sym is) longest
 
+module _ {V : Type 0} (Minimal : Grammar V) (IsPrefix : List ℕ → Type 0) (input : List ℕ) where
+  pub checks_all : (result : Result (Unit {0}) ReadError) (before count status : ℕ) → ChecksAll Minimal IsPrefix input result → IsChecked result (length input) before count status → ChecksNormal Minimal IsPrefix input before count status
+  checks_all (Ok x) before count status c (is, whole) = record {
+    normal = λ s. c.given;
+    len = λ s. whole;
+    refused = λ s. absurd (omega (arith, is, s));
+    encodes_none = λ s some. omega (arith, is, s);
+    no_memory = λ s. absurd (omega (arith, is, s));
+    status = inl is;
+  }
+  checks_all (Err (errors.Refused at)) before count status c (is, told) = record {
+    normal = λ s. absurd (omega (arith, is, s));
+    len = λ s. absurd (omega (arith, is, s));
+    refused = λ s. at_count at count told c.prefix;
+    encodes_none = λ s some. c.unencoded some.0 some.1;
+    no_memory = λ s. absurd (omega (arith, is, s));
+    status = inr (inl is);
+  }
+  checks_all (Err errors.Memory) before count status c (is, told) = record {
+    normal = λ s. absurd (omega (arith, is, s));
+    len = λ s. absurd (omega (arith, is, s));
+    refused = λ s. absurd (omega (arith, is, s));
+    encodes_none = λ s some. omega (arith, is, s);
+    no_memory = λ s. told;
+    status = inr (inr is);
+  }
+
+module _ {V : Type 0} (F : Format V) (Minimal : Grammar V) (IsPrefix : List ℕ → Type 0) (input : List ℕ) where
   pub writes_normal : (result : Result (Vec ℕ) ReadError) (old new : List ℕ) (before count status : ℕ) → Normalises F Minimal IsPrefix input result → IsDelivered (λ encoding. encoding.items) result old new before count status
       → WritesNormal F IsPrefix input old new before count status
   writes_normal (Ok encoding) old new before count status n (len, inl (is, fits, output)) = record {
@@ -120,27 +147,5 @@ module _ {V : Type 0} (F : Format V) (Minimal : Grammar V) (IsPrefix : List ℕ 
   }
 
   pub checks_normal : (result : Result (Unit {0}) ReadError) (before count status : ℕ) → Checks F Minimal IsPrefix input result → IsChecked result (length input) before count status → ChecksNormal Minimal IsPrefix input before count status
-  checks_normal (Ok x) before count status c (is, whole) = record {
-    normal = λ s. c.given;
-    len = λ s. whole;
-    refused = λ s. absurd (omega (arith, is, s));
-    encodes_none = λ s some. omega (arith, is, s);
-    no_memory = λ s. absurd (omega (arith, is, s));
-    status = inl is;
-  }
-  checks_normal (Err (errors.Refused at)) before count status c (is, told) = record {
-    normal = λ s. absurd (omega (arith, is, s));
-    len = λ s. absurd (omega (arith, is, s));
-    refused = λ s. at_count at count told c.prefix;
-    encodes_none = λ s some. c.unencoded some.0 some.1;
-    no_memory = λ s. absurd (omega (arith, is, s));
-    status = inr (inl is);
-  }
-  checks_normal (Err errors.Memory) before count status c (is, told) = record {
-    normal = λ s. absurd (omega (arith, is, s));
-    len = λ s. absurd (omega (arith, is, s));
-    refused = λ s. absurd (omega (arith, is, s));
-    encodes_none = λ s some. omega (arith, is, s);
-    no_memory = λ s. told;
-    status = inr (inr is);
-  }
+  checks_normal result before count status c answered =
+      checks_all Minimal IsPrefix input result before count status (record { given = c.given; prefix = c.prefix; unencoded = c.unencoded }) answered

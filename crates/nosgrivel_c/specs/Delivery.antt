@@ -49,6 +49,10 @@ c_no_memory = 3
 abbrev pub c_too_long : ℕ
 c_too_long = 5
 
+-- The status for a malformed pattern.
+abbrev pub c_bad_pattern : ℕ
+c_bad_pattern = 6
+
 -- ---- the statuses of each call
 
 -- The status is one of those of a normaliser into an output.

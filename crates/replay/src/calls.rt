@@ -2,6 +2,7 @@
 
 use crate::mismatch::Mismatch;
 use std::alloc::Global;
+use wasm_encoder::reader::{DecodeError, Refusal, without_reason};
 use wasm_encoder::{
     CustomSection, DataCountSection, Decode, ReadError, StartSection, check, normalise, read,
     read_strict, rewrite,
@@ -57,7 +58,7 @@ pub fn count_of<'a, T: Decode<'a>>(alloc: Global, body: &'a [u8]) -> Result<Coun
 where
     T::Output: Counted,
 {
-    count(read::<T>(alloc, body))
+    count(without_reason(read::<T>(alloc, body)))
 }
 
 /// What the strict reader answers. The check accepts the same bytes, and refuses the others at the same offset.
@@ -65,7 +66,7 @@ pub fn strict_of<'a, T: Decode<'a>>(alloc: Global, body: &'a [u8]) -> Result<Cou
 where
     T::Output: Counted,
 {
-    let strict = count(read_strict::<T>(alloc, body))?;
+    let strict = count(without_reason(read_strict::<T>(alloc, body)))?;
     is_checked::<T>(alloc, body, strict)?;
     Ok(strict)
 }
@@ -78,17 +79,39 @@ fn is_checked<'a, T: Decode<'a>>(
 ) -> Result<(), Mismatch> {
     match (check::<T>(alloc, body), strict) {
         (Ok(()), Ok(_)) => Ok(()),
-        (Err(ReadError::Refused { at }), Err(place)) if at == place => Ok(()),
-        (Err(ReadError::Memory), _) => Err(Mismatch::Memory),
+        (Err(DecodeError::Malformed(refusal)), Err(at)) if refusal.at == at => Ok(()),
+        (Err(DecodeError::Memory), _) => Err(Mismatch::Memory),
         _ => Err(Mismatch::Checked),
     }
 }
 
-/// What the normaliser answers. Rewriting a copy of the bytes in place gives the same.
-pub fn normal_of<'a, T: Decode<'a>>(alloc: Global, body: &[u8]) -> Result<Normal, Mismatch> {
-    let copy = Vec::from_slice(alloc, body)?;
-    let rewritten = placed(rewrite::<T>(copy))?;
-    same_normal(normalise::<T>(alloc, body), rewritten)
+/// What the normaliser answers. Rewriting a copy of the bytes in place gives the same, and the reader refuses them for
+/// the same reason.
+pub fn normal_of<'a, T: Decode<'a>>(alloc: Global, body: &'a [u8]) -> Result<Normal, Mismatch> {
+    let refused = refusal_by::<T>(alloc, body)?;
+    let rewritten = rewrite::<T>(Vec::from_slice(alloc, body)?);
+    let normal = normalise::<T>(alloc, body);
+    if refusal_of(&rewritten)? != refused || refusal_of(&normal)? != refused {
+        return Err(Mismatch::Reason);
+    }
+    same_normal(without_reason(normal), placed(without_reason(rewritten))?)
+}
+
+/// Why and where the reader refuses the bytes, if it does.
+pub fn refusal_by<'a, T: Decode<'a>>(
+    alloc: Global,
+    body: &'a [u8],
+) -> Result<Option<Refusal>, Mismatch> {
+    refusal_of(&read::<T>(alloc, body))
+}
+
+/// Why and where the bytes are refused, if they are.
+pub fn refusal_of<T>(answer: &Result<T, DecodeError>) -> Result<Option<Refusal>, Mismatch> {
+    match answer {
+        Ok(_) => Ok(None),
+        Err(DecodeError::Malformed(refusal)) => Ok(Some(*refusal)),
+        Err(DecodeError::Memory) => Err(Mismatch::Memory),
+    }
 }
 
 /// What a normaliser answers, if it is this.

@@ -4,9 +4,10 @@
 use crate::calls::{Count, count};
 use crate::columns::columns;
 use crate::mismatch::Mismatch;
-use crate::readers::normalise;
+use crate::readers::{normalise, refusal};
 use crate::strict::parse_refusal;
 use std::alloc::Global;
+use wasm_encoder::reader::Reason;
 use wasm_encoder::{
     RawSection, ReadError, read_code_section, read_code_section_strict, read_instructions,
     read_instructions_strict, read_module, read_module_strict, read_type_section,
@@ -58,8 +59,32 @@ fn check_cuts(
         let expected = expected_answers(what, ends, size, longer);
         check_readers(alloc, what, cut, expected)?;
         check_normaliser(alloc, what, cut, expected.wide)?;
+        check_reason(alloc, what, cut, ends)?;
     }
     Ok(())
+}
+
+/// What is cut before the last end is refused because it ends.
+fn check_reason(alloc: Global, what: &str, cut: &[u8], ends: &[usize]) -> Result<(), Mismatch> {
+    match ends.last() {
+        Some(end) if cut.len() < *end => {}
+        _ => return Ok(()),
+    }
+    match refusal(alloc, what, cut)? {
+        Some(refusal) if refusal.offset < refusal.at => Err(Mismatch::Place),
+        Some(refusal) => check_end(refusal.reason, refusal.offset, cut.len()),
+        None => Ok(()),
+    }
+}
+
+/// The reason at this offset is that the bytes end after so many: in a part, in a body after its size, or in the header.
+fn check_end(reason: Reason, offset: usize, len: usize) -> Result<(), Mismatch> {
+    match reason {
+        Reason::UnexpectedEnd { .. } if offset == len => Ok(()),
+        Reason::SizeTooLarge { .. } if offset < len => Ok(()),
+        Reason::NotAModule if len < 8 => Ok(()),
+        _ => Err(Mismatch::Reason),
+    }
 }
 
 /// What is to be answered to so many of the bytes. The strict reader refuses a longer part where it begins, once it is

@@ -3,7 +3,7 @@
 
 mod bodies;
 mod built;
-mod modules;
+pub mod modules;
 
 use crate::columns::columns;
 use crate::decoded::bodies::{Answers, all_answers};

@@ -50,6 +50,12 @@ pub enum Mismatch {
     /// Rewriting in place gives something else than the normaliser.
     #[error("the rewriter answers otherwise")]
     Rewritten,
+    /// The calls refuse the bytes for different reasons, or for another one.
+    #[error("the reason is another")]
+    Reason,
+    /// The bytes are not refused, or at another place.
+    #[error("the place of the refusal is another")]
+    Place,
     /// The builders write another module of what the reader gives.
     #[error("the builders write otherwise")]
     Built,

@@ -1,8 +1,11 @@
 //! Readers and normalisers, by what they read.
 
-use crate::calls::{Count, Normal, count_of, normal_of, placed, same_normal, strict_of};
+use crate::calls::{
+    Count, Normal, count_of, normal_of, placed, refusal_by, same_normal, strict_of,
+};
 use crate::mismatch::Mismatch;
 use std::alloc::Global;
+use wasm_encoder::reader::Refusal;
 use wasm_encoder::{
     CodeSection, Instructions, Module, TypeSection, normalise_code_section, normalise_instructions,
     normalise_module, normalise_type_section, rewrite_module,
@@ -15,6 +18,17 @@ pub fn read(alloc: Global, what: &str, input: &[u8]) -> Result<Count, Mismatch> 
         "types" => count_of::<TypeSection>(alloc, input),
         "code" => count_of::<CodeSection>(alloc, input),
         "module" => count_of::<Module>(alloc, input),
+        _ => Err(Mismatch::NotUnderstood),
+    }
+}
+
+/// Why and where the reader refuses the bytes, if it does.
+pub fn refusal(alloc: Global, what: &str, input: &[u8]) -> Result<Option<Refusal>, Mismatch> {
+    match what {
+        "calls" => refusal_by::<Instructions>(alloc, input),
+        "types" => refusal_by::<TypeSection>(alloc, input),
+        "code" => refusal_by::<CodeSection>(alloc, input),
+        "module" | "sections" => refusal_by::<Module>(alloc, input),
         _ => Err(Mismatch::NotUnderstood),
     }
 }

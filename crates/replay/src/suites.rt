@@ -1,7 +1,9 @@
 //! What the vectors of a file are of, and what holds the library to them.
 
 use crate::mismatch::Mismatch;
-use crate::{answers, contents, cuts, decoded, encoded, entries, kinds, sections, sink, strict};
+use crate::{
+    answers, contents, cuts, decoded, encoded, entries, kinds, refusals, sections, sink, strict,
+};
 use std::alloc::Global;
 
 /// The vectors of a file.
@@ -23,6 +25,8 @@ pub enum Suite {
     Decoded,
     /// What is read of the contents of a custom section.
     Contents,
+    /// Why and where some bytes are refused.
+    Refusals,
 }
 
 impl Suite {
@@ -37,6 +41,7 @@ impl Suite {
             Suite::Kinds => kinds::check(line),
             Suite::Decoded => decoded::check(alloc, line),
             Suite::Contents => contents::check(alloc, line),
+            Suite::Refusals => refusals::check(alloc, line),
         }
     }
 }

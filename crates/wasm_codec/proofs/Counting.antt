@@ -86,7 +86,7 @@ items_end read prefix count i bytes total lt h so_far =
 pub items_fail : {A V : Type 0} (fault : Fault) (read : PlainReader A) (whole : PlainReader V) (prefix : List A) (count i : ℕ) (bytes new old : List ℕ) (total : Option (List A × List ℕ)) → i < count → ReadsPlain read bytes new (Err fault)
     → after_items prefix (plain_times_at read (count - i) bytes) ≡ total → (total ≡ None → whole old ≡ None) → ReadsPlain whole old new (Err fault)
 items_fail faults.Memory read whole prefix count i bytes new old total lt h so_far is = tt
-items_fail faults.Malformed read whole prefix count i bytes new old total lt h so_far is = is (items_end read prefix count i bytes total lt h so_far)
+items_fail (faults.Malformed m) read whole prefix count i bytes new old total lt h so_far is = is (items_end read prefix count i bytes total lt h so_far)
 
 pub items_all : {A : Type 0} (read : PlainReader A) (prefix : List A) (count i : ℕ) (bytes : List ℕ) (total : Option (List A × List ℕ)) → count ≤ i → after_items prefix (plain_times_at read (count - i) bytes) ≡ total → total ≡ Some (prefix, bytes)
 unfolding plain_times_at

@@ -1,11 +1,14 @@
 -- What a caller gets of a call that decodes all of its bytes follows from what its implementation owes, by the law of the format.
-use Rattle.std.proofs.Common.{◌≤◌, ℕ, List, length, Result, Ok, Err, IfOk, ap, arith}
+use Rattle.std.proofs.Common.{◌≡◌, refl, ◌≤◌, ℕ, List, length, Result, Ok, Err, IfOk, ap, arith}
 use Rattle.std.specs.Global.{Vec}
 use Rattle.wasm_codec.specs.declared.reader.ReadError.{ReadError}
+use Rattle.wasm_codec.specs.declared.reader.ReadError.TheVariants as errors
+use Rattle.wasm_codec.specs.declared.reader.cursor.Fault.{Fault}
+use Rattle.wasm_codec.specs.declared.reader.cursor.Fault.TheVariants as faults
 use Rattle.wasm_codec.specs.formats.Grammar.{Grammar}
 use Rattle.wasm_codec.specs.formats.Combinators.{Format}
 use Rattle.wasm_codec.specs.Lawful.{IsLawfulBody}
-use Rattle.wasm_codec.specs.Outcomes.{IsNormalForm, NeedsNoMemory}
+use Rattle.wasm_codec.specs.Outcomes.{error_of, IsMalformed, IsNormalForm, NeedsNoMemory}
 use Rattle.wasm_codec.specs.Decoding.{IsMinimal, ReadsAll, ChecksAll, RewritesAll, Decodes, DecodesMinimal, Checks, NormalisesInPlace, Normalises}
 use Rattle.wasm_codec.proofs.FormatLaws.{not_longer}
 use Rattle.wasm_codec.proofs.BodyLaws.{encodes_one}
@@ -13,6 +16,11 @@ use Rattle.wasm_codec.proofs.ListReading.{gives_all, gives_bytes, gives_same, gi
 
 abbrev items_of : Vec ℕ → List ℕ
 items_of encoding = encoding.items
+
+-- a fault that isn't `Memory`, in the item that begins at this offset
+pub error_is : (fault : Fault) (at : ℕ) → IsMalformed fault → error_of fault at ≡ errors.Refused at
+error_is faults.Memory at is = absurd is
+error_is (faults.Malformed m) at is = refl
 
 no_longer : {V : Type 0} {F : Format V} → IsLawfulBody F → (bytes : List ℕ) (result : Result (Vec ℕ) ReadError)
     → IfOk result (λ encoding. IsNormalForm F.Encodes F.bytes bytes encoding.items) → IfOk result (λ encoding. length encoding.items ≤ length bytes)

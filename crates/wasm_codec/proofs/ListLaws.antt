@@ -195,16 +195,16 @@ pub record Answered {X V : Type 0} (Count : Grammar ℕ) (number : PlainReader �
 -- the count is missing or malformed
 pub count_wanting : {X V : Type 0} {Count : Grammar ℕ} {number : PlainReader ℕ} → IsReadBy Count number → (G : Grammar V) (read : PlainReader V) (old new : List ℕ) (fault : Fault) → ReadsPlain number old new (Err fault) → new ≡ old → Answered {X = X} Count number G read old new (Err fault)
 count_wanting counts G read old new faults.Memory none stays = record { finds = tt; prefix = tt }
-count_wanting counts G read old new faults.Malformed none stays = record { finds = finds_none counts G read old none; prefix = rw stays (after_none counts G old none) }
+count_wanting counts G read old new (faults.Malformed m) none stays = record { finds = finds_none counts G read old none; prefix = rw stays (after_none counts G old none) }
 
 pub unread_count : {V : Type 0} (number : PlainReader ℕ) (read : PlainReader V) (old new : List ℕ) (fault : Fault) → ReadsPlain number old new (Err fault) → ReadsPlain (plain_counted_at number read) old new (Err fault)
 unread_count number read old new faults.Memory none = tt
-unread_count number read old new faults.Malformed none = rw none refl
+unread_count number read old new (faults.Malformed m) none = rw none refl
 
 -- an item is missing or malformed
 pub item_wanting : {X V : Type 0} {Count : Grammar ℕ} {number : PlainReader ℕ} {G : Grammar V} {read : PlainReader V} → IsReadBy G read → TakesBytes G → (old left new : List ℕ) (count i : ℕ) (vs : List V) (fault : Fault) → Gone Count number G read old left count i vs → i < count → ReadsPlain read left new (Err fault) → new ≡ left → Answered {X = X} Count number G read old new (Err fault)
 item_wanting finds some old left new count i vs faults.Memory w lt none stays = record { finds = tt; prefix = tt }
-item_wanting {G = G} {read} finds some old left new count i vs faults.Malformed w lt none stays =
+item_wanting {G = G} {read} finds some old left new count i vs (faults.Malformed m) w lt none stays =
     let known : KnownOf G read count = inr (record { finds = finds; some = some }) in
     record {
       finds = finds_list w.counts old w.begun count w.fits w.counted known;

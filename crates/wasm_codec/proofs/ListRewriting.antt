@@ -3,16 +3,17 @@ use Rattle.std.proofs.Common.{◌≡◌, ℕ, ◌+◌, ◌-◌, ◌<◌, ◌≤�
 use Rattle.std.proofs.lemmas.List.{append-nil, flat_map_more}
 use Rattle.std.specs.List.{flat_map}
 use Rattle.wasm_codec.specs.declared.reader.cursor.Fault.{Fault}
+use Rattle.wasm_codec.specs.declared.reader.malformed.Malformed.{Malformed}
 use Rattle.wasm_codec.specs.declared.reader.cursor.Fault.TheVariants as faults
 use Rattle.wasm_codec.specs.formats.Grammar.{IsBytes, TakesBytes}
-use Rattle.wasm_codec.specs.Outcomes.{IsLongestPrefix, IsAfterLongest, IsNormalForm}
+use Rattle.wasm_codec.specs.Outcomes.{error_of, IsLongestPrefix, IsAfterLongest, IsNormalForm}
 use Rattle.wasm_codec.specs.Lawful.{IsLawful, plain}
 use Rattle.wasm_codec.specs.Lists.{EncodesList, IsListPrefix, list_at, items_bytes}
 use Rattle.wasm_codec.specs.formats.Numbers.{EncodesU32}
 use Rattle.wasm_codec.specs.Leb128.{unsigned_leb128}
 use Rattle.wasm_codec.specs.Places.{place}
 use Rattle.wasm_codec.specs.formats.Combinators.{Format, u32}
-use Rattle.wasm_codec.specs.Rewriter.{Rewriting, rewriting, rewritten_at, rewriting_after, Gives, Rewrites, RefusesList}
+use Rattle.wasm_codec.specs.Rewriter.{RewritesList, Rewriting, rewriting, rewritten_at, rewriting_after, Gives, Rewrites, RefusesList}
 use Rattle.wasm_codec.proofs.FormatLaws.{Lawful-u32}
 use Rattle.wasm_codec.proofs.Laws.{IsBytes-after}
 use Rattle.wasm_codec.proofs.ListLaws.{Gone, gone_none, gone_more, all_read, whole_given, left_unencoded, none_unencoded, Answered, count_wanting, item_wanting, all_answered, unread_count, unread_item}
@@ -55,28 +56,37 @@ list_more {V} {F} r some bytes here next count i w lt e =
       bytes_left = IsBytes-after here.place.left next.place.left one.value sound w.bytes_left;
     }
 
-longest_from : (Whole : List ℕ → Type 0) (bytes left : List ℕ) → IsAfterLongest Whole bytes left → IsLongestPrefix Whole bytes (length bytes - length left)
+pub longest_from : (Whole : List ℕ → Type 0) (bytes left : List ℕ) → IsAfterLongest Whole bytes left → IsLongestPrefix Whole bytes (length bytes - length left)
 longest_from Whole bytes left a =
     let len : length a.prefix ≡ length bytes - length left = omega (arith, ap (length {A = ℕ}) a.parts, length-append a.prefix left) in
     record { prefix = a.prefix; rest = left; parts = a.parts; len_is = len; whole = a.whole; longest = λ other after e w. omega (arith, a.longest other after e w, len) }
 
-refused_by : {V : Type 0} (F : Format V) (bytes left : List ℕ) → Answered {X = List V} EncodesU32 (plain u32.at) F.Encodes (plain F.at) bytes left (Err faults.Malformed) → list_at (plain F.at) bytes ≡ None → RefusesList F bytes (length bytes - length left)
+refused_by : {V : Type 0} (F : Format V) (bytes left : List ℕ) {m : Malformed} → Answered {X = List V} EncodesU32 (plain u32.at) F.Encodes (plain F.at) bytes left (Err (faults.Malformed m)) → list_at (plain F.at) bytes ≡ None → RefusesList F bytes (length bytes - length left)
 refused_by F bytes left a none = record { prefix = longest_from (IsListPrefix F.Encodes) bytes left a.prefix; unencoded = none_unencoded bytes a.finds none }
 
 pub no_count_there : {V : Type 0} (F : Format V) (bytes : List ℕ) (start new : Rewriting) (fault : Fault) → IsBytes bytes → start ≡ rewriting [] (place true bytes) [] → Gives u32 start new (Err fault) → RefusesList F bytes 0
 no_count_there F bytes start new faults.Memory fits start-is none = absurd none
-no_count_there {V} F bytes start new faults.Malformed fits start-is none =
+no_count_there {V} F bytes start new (faults.Malformed m) fits start-is none =
     let read : plain u32.at bytes ≡ None = plain_none Lawful-u32 (place true bytes) fits (ap (λ (s : Rewriting). u32.at s.place) (sym start-is) ∙ none) in
-    let a = count_wanting {X = List V} (plain_reads Lawful-u32.reads) F.Encodes (plain F.at) bytes bytes faults.Malformed read refl in
+    let a = count_wanting {X = List V} (plain_reads Lawful-u32.reads) F.Encodes (plain F.at) bytes bytes (faults.Malformed m) read refl in
     let at : length bytes - length bytes ≡ 0 = omega arith in
-    subst (RefusesList F bytes) at (refused_by F bytes bytes a (unread_count (plain u32.at) (plain F.at) bytes bytes faults.Malformed read))
+    subst (RefusesList F bytes) at (refused_by F bytes bytes a (unread_count (plain u32.at) (plain F.at) bytes bytes (faults.Malformed m) read))
 
 pub no_item_there : {V : Type 0} {F : Format V} → IsLawful F → TakesBytes F.Encodes → (bytes : List ℕ) (here new : Rewriting) (count i : ℕ) (fault : Fault) → ListGoing F bytes here count i → i < count → Rewrites F here new (Err fault) → RefusesList F bytes (length bytes - length here.place.left)
 no_item_there r some bytes here new count i faults.Memory w lt none = absurd none
-no_item_there {V} {F} r some bytes here new count i faults.Malformed w lt none =
+no_item_there {V} {F} r some bytes here new count i (faults.Malformed m) w lt none =
     let read = plain_none r here.place w.bytes_left none in
-    let a = item_wanting {X = List V} (plain_reads r.reads) some bytes here.place.left here.place.left count i w.values faults.Malformed w.gone lt read refl in
-    refused_by F bytes here.place.left a (unread_item bytes here.place.left here.place.left count i w.values faults.Malformed w.gone lt read)
+    let a = item_wanting {X = List V} (plain_reads r.reads) some bytes here.place.left here.place.left count i w.values (faults.Malformed m) w.gone lt read refl in
+    refused_by F bytes here.place.left a (unread_item bytes here.place.left here.place.left count i w.values (faults.Malformed m) w.gone lt read)
+
+-- the same, as the error of a call
+pub no_count_error : {V : Type 0} (F : Format V) (bytes : List ℕ) (start new : Rewriting) (fault : Fault) → IsBytes bytes → start ≡ rewriting [] (place true bytes) [] → Gives u32 start new (Err fault) → RewritesList F bytes (Err (error_of fault 0))
+no_count_error F bytes start new faults.Memory fits start-is none = absurd none
+no_count_error F bytes start new (faults.Malformed m) fits start-is none = no_count_there F bytes start new (faults.Malformed m) fits start-is none
+
+pub no_item_error : {V : Type 0} {F : Format V} → IsLawful F → TakesBytes F.Encodes → (bytes : List ℕ) (here new : Rewriting) (count i at : ℕ) (fault : Fault) → ListGoing F bytes here count i → i < count → at ≡ length bytes - length here.place.left → Rewrites F here new (Err fault) → RewritesList F bytes (Err (error_of fault at))
+no_item_error r some bytes here new count i at faults.Memory w lt is none = absurd none
+no_item_error {F = F} r some bytes here new count i at (faults.Malformed m) w lt is none = subst (RefusesList F bytes) (sym is) (no_item_there r some bytes here new count i (faults.Malformed m) w lt none)
 
 pub left_over : {V : Type 0} (F : Format V) (bytes : List ℕ) (here : Rewriting) (count i : ℕ) → ListGoing F bytes here count i → i ≡ count → 0 < length here.place.left → RefusesList F bytes (length bytes - length here.place.left)
 left_over {V} F bytes here count i w full more =

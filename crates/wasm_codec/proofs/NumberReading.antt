@@ -274,11 +274,11 @@ read_end most old here new i b n unit less small lt rest keeps so_far value pow 
 -- a byte was missing
 pub fail : (fault : Fault) (most : ℕ) (old here new : Place) (i : ℕ) → here.left ≡ drop i old.left → reads_on most old.left i ≡ digits_at most old.left → Reads byte_at here new (Err fault) → ReadsDigits most old new (Err fault)
 fail faults.Memory most old here new i rest so_far e = tt
-fail faults.Malformed most old here new i rest so_far e = sym so_far ∙ runs_out most old.left i (sym (ap plain_byte_at rest) ∙ no_list_byte here e)
+fail (faults.Malformed m) most old here new i rest so_far e = sym so_far ∙ runs_out most old.left i (sym (ap plain_byte_at rest) ∙ no_list_byte here e)
 
 pub many_fail : (fault : Fault) (most : ℕ) (old here new : Place) (i : ℕ) → here.left ≡ drop i old.left → reads_on most old.left i ≡ digits_at most old.left → Reads byte_at here new (Err fault) → ReadsManyDigits most old new (Err fault)
 many_fail faults.Memory most old here new i rest so_far e = tt
-many_fail faults.Malformed most old here new i rest so_far e = sym so_far ∙ runs_out most old.left i (sym (ap plain_byte_at rest) ∙ no_list_byte here e)
+many_fail (faults.Malformed m) most old here new i rest so_far e = sym so_far ∙ runs_out most old.left i (sym (ap plain_byte_at rest) ∙ no_list_byte here e)
 
 pub record FewBounds (more n unit digit : ℕ) : Type 0 where
   pub part : digit * unit ≤ 127 * unit

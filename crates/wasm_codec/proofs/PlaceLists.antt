@@ -47,7 +47,7 @@ items_end read prefix count i p total lt h so_far =
 pub items_fail : {A V : Type 0} (fault : Fault) (read : Reader A) (whole : Reader V) (prefix : List A) (count i : ℕ) (p new old : Place) (total : Option (List A × Place)) → i < count → Reads read p new (Err fault)
     → after_items prefix (times_at read (count - i) p) ≡ total → (total ≡ None → whole old ≡ None) → Reads whole old new (Err fault)
 items_fail faults.Memory read whole prefix count i p new old total lt h so_far is = tt
-items_fail faults.Malformed read whole prefix count i p new old total lt h so_far is = is (items_end read prefix count i p total lt h so_far)
+items_fail (faults.Malformed m) read whole prefix count i p new old total lt h so_far is = is (items_end read prefix count i p total lt h so_far)
 
 pub items_all : {A : Type 0} (read : Reader A) (prefix : List A) (count i : ℕ) (p : Place) (total : Option (List A × Place)) → count ≤ i → after_items prefix (times_at read (count - i) p) ≡ total → total ≡ Some (prefix, p)
 unfolding times_at
@@ -82,7 +82,7 @@ passed_all number F old here count i vs w le = items_all F.at vs count i here (c
 
 pub no_count : {V : Type 0} (number : Reader ℕ) (F : Format V) (old new : Place) (fault : Fault) → Reads number old new (Err fault) → Reads (counted_at number F.at) old new (Err fault)
 no_count number F old new faults.Memory none = tt
-no_count number F old new faults.Malformed none = rw none refl
+no_count number F old new (faults.Malformed m) none = rw none refl
 
 -- ---- items to the end
 
@@ -130,7 +130,7 @@ plain_none {V} {F} r p fits none = by (plain F.at p.left) refl where
 -- and what wasn't read: so the laws of loops over bytes serve loops over places
 pub plain_fault : {V : Type 0} {F : Format V} → IsLawful F → (p q : Place) → IsBytes p.left → (fault : Fault) → Reads F.at p q (Err fault) → ReadsPlain (plain F.at) p.left q.left (Err fault)
 plain_fault r p q fits faults.Memory e = tt
-plain_fault r p q fits faults.Malformed e = plain_none r p fits e
+plain_fault r p q fits (faults.Malformed m) e = plain_none r p fits e
 
 pub plain_code : {V : Type 0} {F : Format V} → IsLawful F → (p q : Place) → IsBytes p.left → (result : Result V Fault) → Reads F.at p q result → ReadsPlain (plain F.at) p.left q.left result
 plain_code r p q fits (Ok v) e = plain_some r p v q fits e

@@ -83,7 +83,7 @@ item_rewritten F old here next count i w lt e =
 
 pub item_not_rewritten : {V : Type 0} (F : Format V) (old here next new : Rewriting) (count i : ℕ) (fault : Fault) → ItemsRewritten F old here count i → i < count → Rewrites F here next (Err fault) → Rewrites (items F) old new (Err fault)
 item_not_rewritten F old here next new count i faults.Memory w lt none = absurd none
-item_not_rewritten F old here next new count i faults.Malformed w lt none = passed_fault u32_at F old.place here.place new.place count i w.values faults.Malformed w.passed lt none
+item_not_rewritten F old here next new count i (faults.Malformed m) w lt none = passed_fault u32_at F old.place here.place new.place count i w.values (faults.Malformed m) w.passed lt none
 
 pub all_items_rewritten : {V : Type 0} (F : Format V) (old here : Rewriting) (count i : ℕ) → ItemsRewritten F old here count i → i ≡ count → rewriting_after (items F) old ≡ Some here
 all_items_rewritten F old here count i w full =
@@ -196,10 +196,10 @@ all_gone F old here w none =
     after_is (to_end F) old here w.values (sym w.so_far ∙ until_all F.at (length old.place.left - length w.values) here.place w.values none) w.written w.rest
 
 -- one isn't whole
-pub stops : {V : Type 0} {F : Format V} → IsLawful F → (old here new next : Rewriting) (fault : Fault) (left : ℕ) → IsBytes old.place.left → Going F old here → 0 < length here.place.left → left ≡ length here.place.left → Rewrites F here new (Err fault) → RewritesAll F old next (Err left)
-stops r old here new next faults.Memory left fits w more len none = absurd none
-stops {V} {F} r old here new next faults.Malformed left fits w more len none =
+pub stops : {V : Type 0} {F : Format V} → IsLawful F → (old here new next : Rewriting) (fault : Fault) (left passed : ℕ) → IsBytes old.place.left → Going F old here → 0 < length here.place.left → left ≡ length here.place.left → Rewrites F here new (Err fault) → RewritesAll F old next (Err record { left = left; passed = passed; fault = fault })
+stops r old here new next faults.Memory left passed fits w more len none = absurd none
+stops {V} {F} r old here new next (faults.Malformed m) left passed fits w more len none =
     let bytes = progress_bytes old.place.left here.place.left fits w.progress in (
       record { values = w.values; prefix = w.progress.prefix; rest = here.place.left; parts = w.progress.parts; encodes = w.progress.encodes; none = plain_none r here.place bytes none; len = sym len; some = omega (arith, len) },
-      sym w.so_far ∙ until_none F.at (length old.place.left - length w.values) here.place w.values more none,
+      (sym w.so_far ∙ until_none F.at (length old.place.left - length w.values) here.place w.values more none, tt),
     )

@@ -4,6 +4,7 @@ use Rattle.std.proofs.Math.Bool.{and-true, and-false}
 use Rattle.std.proofs.lemmas.List.{take_at, drop_at}
 use Rattle.wasm_codec.specs.declared.reader.cursor.Fault.{Fault}
 use Rattle.wasm_codec.specs.declared.reader.cursor.Fault.TheVariants.{Malformed, Memory}
+use Rattle.wasm_codec.specs.Outcomes.{IsMalformed}
 use Rattle.wasm_codec.specs.formats.Grammar.{Grammar, IsBytes, TakesBytes}
 use Rattle.wasm_codec.specs.Lawful.{IsLawful}
 use Rattle.wasm_codec.specs.Places.{Place, place, Reads, keeps}
@@ -95,13 +96,13 @@ number_read {V} {F} r cuts p here v q shortest left digits fits here-is e shorte
     by read false t = (cut_is r cuts p v q fits read t).is
 
 -- no number was
-pub no_number : {V : Type 0} {F : Format V} → IsLawful F → (p new : Rewriting) (here q : Place) (fault : Fault) → IsBytes p.place.left → here ≡ place true p.place.left → fault ≡ Malformed → Reads F.at here q (Err fault) → Gives F p new (Err fault)
-no_number {V} {F} r p new here q Memory fits here-is e none = absurd cc
-no_number {V} {F} r p new here q Malformed fits here-is e none = none_there r p.place.left true p.place.shortest fits (ap F.at (sym here-is) ∙ none)
+pub no_number : {V : Type 0} {F : Format V} → IsLawful F → (p new : Rewriting) (here q : Place) (fault : Fault) → IsBytes p.place.left → here ≡ place true p.place.left → IsMalformed fault → Reads F.at here q (Err fault) → Gives F p new (Err fault)
+no_number {V} {F} r p new here q Memory fits here-is e none = absurd e
+no_number {V} {F} r p new here q (Malformed m) fits here-is e none = none_there r p.place.left true p.place.shortest fits (ap F.at (sym here-is) ∙ none)
 
-pub nothing_rewritten : {V : Type 0} {F : Format V} → IsLawful F → (p new : Rewriting) (here q : Place) (fault : Fault) → IsBytes p.place.left → here ≡ place true p.place.left → fault ≡ Malformed → Reads F.at here q (Err fault) → Rewrites F p new (Err fault)
-nothing_rewritten {V} {F} r p new here q Memory fits here-is e none = absurd cc
-nothing_rewritten {V} {F} r p new here q Malformed fits here-is e none = none_there r p.place.left true p.place.shortest fits (ap F.at (sym here-is) ∙ none)
+pub nothing_rewritten : {V : Type 0} {F : Format V} → IsLawful F → (p new : Rewriting) (here q : Place) (fault : Fault) → IsBytes p.place.left → here ≡ place true p.place.left → IsMalformed fault → Reads F.at here q (Err fault) → Rewrites F p new (Err fault)
+nothing_rewritten {V} {F} r p new here q Memory fits here-is e none = absurd e
+nothing_rewritten {V} {F} r p new here q (Malformed m) fits here-is e none = none_there r p.place.left true p.place.shortest fits (ap F.at (sym here-is) ∙ none)
 
 -- an item that was scanned is left in its shortest encoding
 pub scanned_rewritten : {V : Type 0} {F : Format V} → IsLawful F → (p q : Rewriting) (left : List ℕ) → left ≡ p.place.left → IsBytes p.place.left → (s : Scanned) → Scans F left (Some s) → RewritesScanned s p q → rewriting_after F p ≡ Some q

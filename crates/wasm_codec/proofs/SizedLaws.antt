@@ -11,7 +11,7 @@ use Rattle.wasm_codec.specs.formats.Bodies.{at_end, body_at, sized}
 -- what wasn't read because a part of it wasn't
 pub fault_of_part : {A B : Type 0} (read : Reader A) (whole : Reader B) (p q old new : Place) (fault : Fault) → Reads read p q (Err fault) → (read p ≡ None → whole old ≡ None) → Reads whole old new (Err fault)
 fault_of_part read whole p q old new faults.Memory none is = tt
-fault_of_part read whole p q old new faults.Malformed none is = is none
+fault_of_part read whole p q old new (faults.Malformed m) none is = is none
 
 pub made_read : {A B : Type 0} (make : A → B) (parts : B → Option A) (F : Format A) (p q : Place) (a : A) → F.at p ≡ Some (a, q) → (made make parts F).at p ≡ Some (make a, q)
 made_read make parts F p q a e = rw e refl

@@ -5,11 +5,23 @@ use Rattle.wasm_codec.specs.declared.reader.cursor.Fault.TheVariants as faults
 use Rattle.wasm_codec.specs.formats.Grammar.{Grammar}
 use Rattle.wasm_codec.specs.declared.reader.ReadError.{ReadError}
 use Rattle.wasm_codec.specs.declared.reader.ReadError.TheVariants as errors
+use Rattle.wasm_codec.specs.declared.reader.DecodeError.{DecodeError}
+use Rattle.wasm_codec.specs.declared.reader.DecodeError.TheVariants as decode_errors
 
 -- The error for a fault in the item that begins at this offset.
 abbrev pub error_of : Fault → ℕ → ReadError
 error_of faults.Memory at = errors.Memory
-error_of faults.Malformed at = errors.Refused at
+error_of (faults.Malformed m) at = errors.Refused at
+
+-- The same error, without why and where in the part that is refused.
+abbrev pub read_error_of : DecodeError → ReadError
+read_error_of decode_errors.Memory = errors.Memory
+read_error_of (decode_errors.Malformed refusal) = errors.Refused refusal.at
+
+-- The same result, with the error as `ReadError` has it.
+abbrev pub as_read : {X : Type 0} → Result X DecodeError → Result X ReadError
+as_read (Ok x) = Ok x
+as_read (Err e) = Err (read_error_of e)
 
 -- The call returns exactly this value, or it fails with `Memory`.
 abbrev pub IsOrMemory : {X V : Type 0} → (X → V) → V → Result X ReadError → Type 0
@@ -53,10 +65,20 @@ pub record IsNormalForm {V : Type 0} (G : Grammar V) (encoding_of : V → List �
 
 -- ---- inside the input
 
+-- The fault is `Malformed`.
+abbrev pub IsMalformed : Fault → Type 0
+IsMalformed faults.Memory = ⊥
+IsMalformed (faults.Malformed m) = Unit {0}
+
+-- The call fails with `Malformed`.
+abbrev pub FailsMalformed : {X : Type 0} → Result X Fault → Type 0
+FailsMalformed (Ok x) = ⊥
+FailsMalformed (Err fault) = IsMalformed fault
+
 -- The property holds unless memory ran out.
 abbrev pub UnlessMemory : {X : Type 0} → Result X Fault → Type 0 → Type 0
 UnlessMemory (Ok x) P = P
-UnlessMemory (Err faults.Malformed) P = P
+UnlessMemory (Err (faults.Malformed m)) P = P
 UnlessMemory (Err faults.Memory) P = Unit {0}
 
 -- The remaining bytes follow the longest prefix that is `Whole`.

@@ -24,7 +24,7 @@ Reader V = Place → Option (V × Place)
 -- The call reads the value at its place and moves behind it, or fails with `Malformed` if there is none.
 abbrev pub Reads : {V : Type 0} → Reader V → Place → Place → Result V Fault → Type 0
 Reads read old new (Ok v) = read old ≡ Some (v, new)
-Reads read old new (Err faults.Malformed) = read old ≡ None
+Reads read old new (Err (faults.Malformed m)) = read old ≡ None
 Reads read old new (Err faults.Memory) = Unit {0}
 
 -- Everything read so far was minimal, and so was this prefix: it is as long as the minimal encoding.
@@ -52,7 +52,7 @@ byte_at p = byte_from p.shortest p.left
 -- The call returns the byte at its place and doesn't move.
 abbrev pub Sees : Place → Result ℕ Fault → Type 0
 Sees p (Ok b) = (after : Place) × (byte_at p ≡ Some (b, after))
-Sees p (Err faults.Malformed) = byte_at p ≡ None
+Sees p (Err (faults.Malformed m)) = byte_at p ≡ None
 Sees p (Err faults.Memory) = Unit {0}
 
 -- Reads one value, then a second one, which may depend on the first.

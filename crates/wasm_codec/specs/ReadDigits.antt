@@ -25,13 +25,13 @@ pub record Read (most : ℕ) (old new : Place) (n unit end : ℕ) : Type 0 where
 -- The call reads at most `most` digits, or fails with `Malformed`.
 abbrev pub ReadsDigits : ℕ → Place → Place → Result Digits Fault → Type 0
 ReadsDigits most old new (Ok d) = Read most old new d.unsigned d.unit d.last
-ReadsDigits most old new (Err faults.Malformed) = digits_at most old.left ≡ None
+ReadsDigits most old new (Err (faults.Malformed m)) = digits_at most old.left ≡ None
 ReadsDigits most old new (Err faults.Memory) = Unit {0}
 
 -- The call reads at most `most` digits, ten at the most, or fails with `Malformed`.
 abbrev pub ReadsManyDigits : ℕ → Place → Place → Result ManyDigits Fault → Type 0
 ReadsManyDigits most old new (Ok d) = Read most old new d.unsigned d.unit d.last
-ReadsManyDigits most old new (Err faults.Malformed) = digits_at most old.left ≡ None
+ReadsManyDigits most old new (Err (faults.Malformed m)) = digits_at most old.left ≡ None
 ReadsManyDigits most old new (Err faults.Memory) = Unit {0}
 
 -- The call reads a number of one byte, or it reads nothing.

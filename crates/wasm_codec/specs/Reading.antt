@@ -22,7 +22,7 @@ map_ok view (Err e) = Err e
 -- The call reads a value and leaves the bytes after it, or fails with `Malformed` if there is none.
 abbrev pub ReadsPlain : {V : Type 0} → PlainReader V → List ℕ → List ℕ → Result V Fault → Type 0
 ReadsPlain read old new (Ok v) = read old ≡ Some (v, new)
-ReadsPlain read old new (Err faults.Malformed) = read old ≡ None
+ReadsPlain read old new (Err (faults.Malformed m)) = read old ≡ None
 ReadsPlain read old new (Err faults.Memory) = Unit {0}
 
 -- Reads one byte.

@@ -6,7 +6,10 @@ use Rattle.wasm_codec.specs.Reading.{◌>>=◌}
 use Rattle.wasm_codec.specs.Places.{Place, place}
 use Rattle.wasm_codec.specs.Leb128.{unsigned_leb128}
 use Rattle.std.specs.Global.{Vec}
-use Rattle.wasm_codec.specs.Outcomes.{IsLongestPrefix, IsNormalForm}
+use Rattle.wasm_codec.specs.declared.reader.ReadError.{ReadError}
+use Rattle.wasm_codec.specs.declared.reader.ReadError.TheVariants as errors
+use Rattle.wasm_codec.specs.declared.reader.malformed.Stop.{Stop}
+use Rattle.wasm_codec.specs.Outcomes.{IsLongestPrefix, IsNormalForm, IsMalformed}
 use Rattle.wasm_codec.specs.Lists.{EncodesList, IsListPrefix, items_bytes}
 use Rattle.wasm_codec.specs.formats.Grammar.{Joined}
 use Rattle.wasm_codec.specs.Lawful.{plain}
@@ -34,7 +37,7 @@ rewritten_at F r = F.at r.place >>= λ x. Some (x.0, rewriting (r.done ++ F.byte
 -- The call reads a value and writes its minimal encoding, or fails with `Malformed`; it needs no memory.
 abbrev pub Gives : {V : Type 0} → Format V → Rewriting → Rewriting → Result V Fault → Type 0
 Gives F old new (Ok v) = rewritten_at F old ≡ Some (v, new)
-Gives F old new (Err faults.Malformed) = F.at old.place ≡ None
+Gives F old new (Err (faults.Malformed m)) = F.at old.place ≡ None
 Gives F old new (Err faults.Memory) = ⊥
 
 -- The rewriting after a value was read and its minimal encoding written.
@@ -44,7 +47,7 @@ rewriting_after F r = F.at r.place >>= λ x. Some (rewriting (r.done ++ F.bytes 
 -- The call rewrites one value to its minimal encoding, or fails with `Malformed`; it needs no memory.
 abbrev pub Rewrites : {V : Type 0} → Format V → Rewriting → Rewriting → Result (Unit {0}) Fault → Type 0
 Rewrites F old new (Ok done) = rewriting_after F old ≡ Some new
-Rewrites F old new (Err faults.Malformed) = F.at old.place ≡ None
+Rewrites F old new (Err (faults.Malformed m)) = F.at old.place ≡ None
 Rewrites F old new (Err faults.Memory) = ⊥
 
 -- The rewriting after this number of bytes was kept as it is.
@@ -107,7 +110,7 @@ pub record IsOpen (old new : Rewriting) (mark size behind : ℕ) : Type 0 where
 -- The call opens a body after its size, or fails with `Malformed`; it needs no memory.
 abbrev pub OpensBody : Rewriting → Rewriting → Result Body Fault → Type 0
 OpensBody old new (Ok body) = IsOpen old new body.mark body.size body.behind
-OpensBody old new (Err faults.Malformed) = body_at old.place ≡ None
+OpensBody old new (Err (faults.Malformed m)) = body_at old.place ≡ None
 OpensBody old new (Err faults.Memory) = ⊥
 
 -- ---- loops
@@ -124,16 +127,18 @@ pub record StopsAt {V : Type 0} (F : Format V) (bytes : List ℕ) (left : ℕ) :
   pub some : 0 < left
 
 -- The call rewrites all items to the end, or tells how many bytes are left from the first malformed one.
-abbrev pub RewritesAll : {V : Type 0} → Format V → Rewriting → Rewriting → Result (Unit {0}) ℕ → Type 0
+abbrev pub RewritesAll : {V : Type 0} → Format V → Rewriting → Rewriting → Result (Unit {0}) Stop → Type 0
 RewritesAll F old new (Ok done) = (rewriting_after (to_end F) old ≡ Some new) × (new.place.left ≡ [])
-RewritesAll F old new (Err left) = StopsAt F old.place.left left × ((to_end F).at old.place ≡ None)
+RewritesAll F old new (Err stop) = StopsAt F old.place.left stop.left × (((to_end F).at old.place ≡ None) × IsMalformed stop.fault)
 
 -- The bytes encode no list, and this is the length of their longest whole prefix.
 pub record RefusesList {V : Type 0} (F : Format V) (bytes : List ℕ) (at : ℕ) : Type 0 where
   pub prefix : IsLongestPrefix (IsListPrefix F.Encodes) bytes at
   pub unencoded : (items : List V) → EncodesList F.Encodes bytes items → ⊥
 
--- The call rewrites all of the bytes as a list, or tells the length of their longest whole prefix.
-abbrev pub RewritesList : {V : Type 0} → Format V → List ℕ → Result (Vec ℕ) ℕ → Type 0
+-- The call rewrites all of the bytes as a list, or refuses them at the length of their longest whole prefix; it needs no
+-- memory.
+abbrev pub RewritesList : {V : Type 0} → Format V → List ℕ → Result (Vec ℕ) ReadError → Type 0
 RewritesList F bytes (Ok given) = IsNormalForm (EncodesList F.Encodes) (items_bytes F.bytes) bytes given.items
-RewritesList F bytes (Err at) = RefusesList F bytes at
+RewritesList F bytes (Err (errors.Refused at)) = RefusesList F bytes at
+RewritesList F bytes (Err errors.Memory) = ⊥

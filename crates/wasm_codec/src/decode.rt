@@ -1,11 +1,11 @@
 //! What is decoded from all of its bytes, and the five calls that read, check and normalise it.
 ghost use Rattle.std.specs.Prelude.{ℕ, List};
-ghost use Rattle.wasm_codec.specs.Outcomes.{NeedsNoMemory};
+ghost use Rattle.wasm_codec.specs.Outcomes.{NeedsNoMemory, as_read};
 ghost use Rattle.wasm_codec.specs.Lawful.{IsLawfulBody};
 ghost use Rattle.wasm_codec.specs.formats.Combinators.{Format};
 ghost use Rattle.wasm_codec.specs.Decoding.{IsMinimal, ReadsAll, ChecksAll, RewritesAll, Decodes, DecodesMinimal, Checks, NormalisesInPlace, Normalises};
 
-use crate::reader::ReadError;
+use crate::reader::DecodeError;
 use std::alloc::Global;
 
 /// What is decoded from all of its bytes, such as the body of a section.
@@ -15,11 +15,11 @@ use std::alloc::Global;
 /// # Examples
 ///
 /// ```
-/// # use wasm_encoder::{Decode, ReadError, StartSection};
+/// # use wasm_encoder::{Decode, StartSection};
 /// let start = StartSection::read_all(rt.alloc(), b"\x83\x00")?; // the index 3 in two bytes
 /// assert_eq!(rt; start.function_index, 3);
 /// let strict = StartSection::read_all_strict(rt.alloc(), b"\x83\x00");
-/// assert_eq!(rt; strict.err(), Some(ReadError::Refused { at: 0 }));
+/// assert_eq!(rt; strict.err().and_then(|error| error.at()), Some(0));
 /// ```
 pub trait Decode<'a> {
     /// What reading returns.
@@ -52,23 +52,23 @@ pub trait Decode<'a> {
         ensures minimal { IsMinimal format Minimal };
 
     /// Reads the value from all of the bytes, in any encoding.
-    fn read_all(alloc: Global, bytes: &'a [u8]) -> Result<Self::Output, ReadError>
-        ensures reads { ReadsAll view format.Encodes IsPrefix bytes.now result }
-        ensures memory { ReadsInPlace → NeedsNoMemory result };
+    fn read_all(alloc: Global, bytes: &'a [u8]) -> Result<Self::Output, DecodeError>
+        ensures reads { ReadsAll view format.Encodes IsPrefix bytes.now (as_read result) }
+        ensures memory { ReadsInPlace → NeedsNoMemory (as_read result) };
 
     /// Reads the value from all of the bytes, if they are its minimal encoding.
-    fn read_all_strict(alloc: Global, bytes: &'a [u8]) -> Result<Self::Output, ReadError>
-        ensures reads { ReadsAll view Minimal IsMinimalPrefix bytes.now result }
-        ensures memory { ReadsInPlace → NeedsNoMemory result };
+    fn read_all_strict(alloc: Global, bytes: &'a [u8]) -> Result<Self::Output, DecodeError>
+        ensures reads { ReadsAll view Minimal IsMinimalPrefix bytes.now (as_read result) }
+        ensures memory { ReadsInPlace → NeedsNoMemory (as_read result) };
 
     /// Checks whether the bytes are the minimal encoding of a value.
-    fn check_all(alloc: Global, bytes: &[u8]) -> Result<(), ReadError>
-        ensures checks { ChecksAll Minimal IsMinimalPrefix bytes.now result };
+    fn check_all(alloc: Global, bytes: &[u8]) -> Result<(), DecodeError>
+        ensures checks { ChecksAll Minimal IsMinimalPrefix bytes.now (as_read result) };
 
     /// Rewrites the bytes in place to the minimal encoding of the value that they encode.
-    fn rewrite_all(bytes: Vec<u8>) -> Result<Vec<u8>, ReadError>
-        ensures rewrites { RewritesAll format IsPrefix bytes.items result }
-        ensures memory { NeedsNoMemory result };
+    fn rewrite_all(bytes: Vec<u8>) -> Result<Vec<u8>, DecodeError>
+        ensures rewrites { RewritesAll format IsPrefix bytes.items (as_read result) }
+        ensures memory { NeedsNoMemory (as_read result) };
 }
 
 /// Reads the value that the bytes encode, in any encoding.
@@ -86,9 +86,9 @@ pub trait Decode<'a> {
 ///     assert_eq!(rt; export.index, 5);
 /// }
 /// ```
-pub fn read<'a, T: Decode<'a>>(alloc: Global, bytes: &'a [u8]) -> Result<T::Output, ReadError>
-    ensures decodes { Decodes T.view T.format T.IsPrefix bytes.now result }
-    ensures memory { T.ReadsInPlace → NeedsNoMemory result }
+pub fn read<'a, T: Decode<'a>>(alloc: Global, bytes: &'a [u8]) -> Result<T::Output, DecodeError>
+    ensures decodes { Decodes T.view T.format T.IsPrefix bytes.now (as_read result) }
+    ensures memory { T.ReadsInPlace → NeedsNoMemory (as_read result) }
 {
     T::is_lawful();
     T::read_all(alloc, bytes)
@@ -102,19 +102,19 @@ pub fn read<'a, T: Decode<'a>>(alloc: Global, bytes: &'a [u8]) -> Result<T::Outp
 /// # Examples
 ///
 /// ```
-/// # use wasm_encoder::{FunctionSection, ReadError, read_strict};
+/// # use wasm_encoder::{FunctionSection, read_strict};
 /// let types = read_strict::<FunctionSection>(rt.alloc(), b"\x02\x00\x01")?;
 /// assert_eq!(rt; types.as_slice(), [0, 1].as_slice());
 /// let padded = read_strict::<FunctionSection>(rt.alloc(), b"\x02\x00\x81\x00"); // the index 1 in two bytes
-/// assert_eq!(rt; padded.err(), Some(ReadError::Refused { at: 2 }));
+/// assert_eq!(rt; padded.err().and_then(|error| error.at()), Some(2));
 /// ```
 #[tactic(auto, using(crate::proofs::DecodingLaws::decodes_minimal))]
 pub fn read_strict<'a, T: Decode<'a>>(
     alloc: Global,
     bytes: &'a [u8],
-) -> Result<T::Output, ReadError>
-    ensures decodes { DecodesMinimal T.view T.format T.Minimal T.IsMinimalPrefix bytes.now result }
-    ensures memory { T.ReadsInPlace → NeedsNoMemory result }
+) -> Result<T::Output, DecodeError>
+    ensures decodes { DecodesMinimal T.view T.format T.Minimal T.IsMinimalPrefix bytes.now (as_read result) }
+    ensures memory { T.ReadsInPlace → NeedsNoMemory (as_read result) }
 {
     T::is_lawful();
     T::read_all_strict(alloc, bytes)
@@ -128,14 +128,14 @@ pub fn read_strict<'a, T: Decode<'a>>(
 /// # Examples
 ///
 /// ```
-/// # use wasm_encoder::{MemorySection, ReadError, check};
+/// # use wasm_encoder::{MemorySection, check};
 /// check::<MemorySection>(rt.alloc(), b"\x01\x00\x02")?; // one memory of at least two pages
 /// let padded = check::<MemorySection>(rt.alloc(), b"\x01\x00\x82\x00"); // the number of pages in two bytes
-/// assert_eq!(rt; padded.err(), Some(ReadError::Refused { at: 1 }));
+/// assert_eq!(rt; padded.err().and_then(|error| error.at()), Some(1));
 /// ```
 #[tactic(auto, using(crate::proofs::DecodingLaws::checks))]
-pub fn check<'a, T: Decode<'a>>(alloc: Global, bytes: &[u8]) -> Result<(), ReadError>
-    ensures checks { Checks T.format T.Minimal T.IsMinimalPrefix bytes.now result }
+pub fn check<'a, T: Decode<'a>>(alloc: Global, bytes: &[u8]) -> Result<(), DecodeError>
+    ensures checks { Checks T.format T.Minimal T.IsMinimalPrefix bytes.now (as_read result) }
 {
     T::is_lawful();
     T::check_all(alloc, bytes)
@@ -152,16 +152,16 @@ pub fn check<'a, T: Decode<'a>>(alloc: Global, bytes: &[u8]) -> Result<(), ReadE
 /// let minimal = normalise::<StartSection>(rt.alloc(), b"\x85\x80\x00")?; // the index 5 in three bytes
 /// assert_eq!(rt; minimal.as_slice(), b"\x05".as_slice());
 /// ```
-pub fn normalise<'a, T: Decode<'a>>(alloc: Global, bytes: &[u8]) -> Result<Vec<u8>, ReadError>
-    ensures normalises { Normalises T.format T.Minimal T.IsPrefix bytes.now result }
+pub fn normalise<'a, T: Decode<'a>>(alloc: Global, bytes: &[u8]) -> Result<Vec<u8>, DecodeError>
+    ensures normalises { Normalises T.format T.Minimal T.IsPrefix bytes.now (as_read result) }
 {
     T::is_lawful();
     rewrite_copy::<T>(alloc, bytes)
 }
 
 /// Copies the bytes and rewrites the copy.
-fn rewrite_copy<'a, T: Decode<'a>>(alloc: Global, bytes: &[u8]) -> Result<Vec<u8>, ReadError>
-    ensures rewrites { RewritesAll T.format T.IsPrefix bytes.now result }
+fn rewrite_copy<'a, T: Decode<'a>>(alloc: Global, bytes: &[u8]) -> Result<Vec<u8>, DecodeError>
+    ensures rewrites { RewritesAll T.format T.IsPrefix bytes.now (as_read result) }
 {
     T::rewrite_all(Vec::from_slice(alloc, bytes)?)
 }
@@ -179,8 +179,8 @@ fn rewrite_copy<'a, T: Decode<'a>>(alloc: Global, bytes: &[u8]) -> Result<Vec<u8
 /// assert_eq!(rt; minimal.as_slice(), b"\x02\x00\x01".as_slice());
 /// ```
 #[tactic(auto, using(crate::proofs::DecodingLaws::normalises_in_place))]
-pub fn rewrite<'a, T: Decode<'a>>(bytes: Vec<u8>) -> Result<Vec<u8>, ReadError>
-    ensures normalises { NormalisesInPlace T.format T.IsPrefix bytes.items result }
+pub fn rewrite<'a, T: Decode<'a>>(bytes: Vec<u8>) -> Result<Vec<u8>, DecodeError>
+    ensures normalises { NormalisesInPlace T.format T.IsPrefix bytes.items (as_read result) }
 {
     T::is_lawful();
     T::rewrite_all(bytes)

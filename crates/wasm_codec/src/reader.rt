@@ -2,12 +2,18 @@
 //!
 //! A reader decodes all of its input: trailing bytes are malformed.
 ghost use Rattle.std.specs.Prelude.{◌≡◌};
-ghost use Rattle.wasm_codec.specs.declared.reader.ReadError.TheVariants.{Memory};
-ghost use Rattle.wasm_codec.specs.Outcomes.{error_of};
+ghost use Rattle.wasm_codec.specs.declared.reader.ReadError.TheVariants.{Memory, Refused};
+ghost use Rattle.wasm_codec.specs.declared.reader.DecodeError.TheVariants as decode_errors;
+ghost use Rattle.wasm_codec.specs.Outcomes.{as_read, error_of, read_error_of};
 
 pub mod cursor;
+pub mod malformed;
+pub mod names;
+pub mod refusal;
 
 use crate::reader::cursor::Fault;
+use crate::reader::malformed::Malformed;
+use crate::reader::refusal::{Refusal, SectionPlace};
 use std::alloc::{AllocError, AllocFailed};
 use thiserror::Error;
 
@@ -38,5 +44,109 @@ impl<T: Drop> From<AllocFailed<T>> for ReadError {
 
     fn from(_error: AllocFailed<T>) -> ReadError {
         ReadError::Memory
+    }
+}
+
+/// Error of the five generic calls: it says why and where bytes are malformed.
+#[derive(Debug, PartialEq, Eq, Drop, Error)]
+pub enum DecodeError {
+    /// An allocation failed.
+    #[error("no memory")]
+    Memory,
+    /// The bytes are malformed, or not minimally encoded if the call requires that.
+    #[error("{0}")]
+    Malformed(Refusal),
+}
+
+impl DecodeError {
+    /// Returns the error for a fault in the part that begins at `at`, in `len` bytes.
+    pub fn new(fault: Fault, at: usize, len: usize) -> DecodeError
+        ensures { read_error_of result ≡ error_of fault at }
+    {
+        match fault {
+            Fault::Memory => DecodeError::Memory,
+            Fault::Malformed(malformed) => DecodeError::refused(&malformed, at, len),
+        }
+    }
+
+    /// Returns the error for bytes that are malformed in the part that begins at `at`, in `len` bytes.
+    pub fn refused(malformed: &Malformed, at: usize, len: usize) -> DecodeError
+        ensures { read_error_of result ≡ Refused at }
+    {
+        DecodeError::Malformed(Refusal::new(malformed, at, len))
+    }
+
+    /// Returns the same error, in the item with this index.
+    pub fn in_item(self, index: u32) -> DecodeError
+        ensures { read_error_of result ≡ read_error_of self }
+    {
+        match self {
+            DecodeError::Memory => DecodeError::Memory,
+            DecodeError::Malformed(refusal) => DecodeError::Malformed(Refusal {
+                item: Some(index),
+                ..refusal
+            }),
+        }
+    }
+
+    /// Returns the same error, with the number of sections before it.
+    pub fn numbered(self, number: usize) -> DecodeError
+        ensures { read_error_of result ≡ read_error_of self }
+    {
+        match self {
+            DecodeError::Memory => DecodeError::Memory,
+            DecodeError::Malformed(refusal) => DecodeError::Malformed(Refusal {
+                section: refusal.section.map(|section| SectionPlace {
+                    number,
+                    id: section.id,
+                }),
+                ..refusal
+            }),
+        }
+    }
+
+    /// Returns `at`, the offset of the first part that the call refuses. `None` means that memory ran out.
+    pub fn at(&self) -> Option<usize> {
+        match self {
+            DecodeError::Memory => None,
+            DecodeError::Malformed(refusal) => Some(refusal.at),
+        }
+    }
+}
+
+impl From<AllocError> for DecodeError {
+    ghost from_gives = { λ _ e. e ≡ decode_errors.Memory };
+
+    fn from(_error: AllocError) -> DecodeError {
+        DecodeError::Memory
+    }
+}
+
+impl<T: Drop> From<AllocFailed<T>> for DecodeError {
+    ghost from_gives = { λ _ e. e ≡ decode_errors.Memory };
+
+    fn from(_error: AllocFailed<T>) -> DecodeError {
+        DecodeError::Memory
+    }
+}
+
+impl From<DecodeError> for ReadError {
+    ghost from_gives = { λ error e. e ≡ read_error_of error };
+
+    fn from(error: DecodeError) -> ReadError {
+        match error {
+            DecodeError::Memory => ReadError::Memory,
+            DecodeError::Malformed(refusal) => ReadError::Refused { at: refusal.at },
+        }
+    }
+}
+
+/// Returns the same result, with the error as the named calls have it.
+pub fn without_reason<T>(given: Result<T, DecodeError>) -> Result<T, ReadError>
+    ensures { result ≡ as_read given }
+{
+    match given {
+        Ok(value) => Ok(value),
+        Err(error) => Err(ReadError::from(error)),
     }
 }

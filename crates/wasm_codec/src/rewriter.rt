@@ -6,7 +6,7 @@ ghost use Rattle.wasm_codec.specs.Places.{Place, place, Sees};
 ghost use Rattle.wasm_codec.specs.Leb128.{digits_of, unsigned_leb128, signed_leb128};
 ghost use Rattle.wasm_codec.specs.formats.Bodies.{bytes_to_end};
 ghost use Rattle.wasm_codec.specs.formats.Combinators.{a_byte, raw, little_endian, u32 as u32_format, u64 as u64_format, s32 as s32_format, s64 as s64_format, index as index_format};
-ghost use Rattle.wasm_codec.specs.declared.reader.cursor.Fault.TheVariants.{Malformed};
+ghost use Rattle.wasm_codec.specs.Outcomes.{IsMalformed};
 ghost use Rattle.wasm_codec.specs.Scanning.{IsWithin, RewritesScanned};
 ghost use Rattle.wasm_codec.specs.Rewriter.{rewriting_after, Gives, Rewrites, OpensBody, without, with_byte, limited, widened, resized, rewriting, skipped, shortened, done_of};
 
@@ -15,6 +15,7 @@ mod scan;
 use crate::encode::leb128::u32_len;
 use crate::encode::write_u32;
 use crate::reader::cursor::{Cursor, Fault};
+use crate::reader::malformed::{Construct, Malformed, Reason};
 use crate::rewriter::scan::kept_digits;
 pub use scan::{Scanned, scan_s32, scan_s64, scan_u32, scan_u64};
 use std::marker::Model;
@@ -96,6 +97,37 @@ impl Rewriter {
         self.end - self.position
     }
 
+    /// Returns the number of bytes up to the end of the input: those left and those behind the body.
+    pub fn to_end(&self) -> usize {
+        self.bytes.len() - self.position
+    }
+
+    /// Returns the fault at the next byte, for this reason.
+    #[cold]
+    pub fn malformed(&self, reason: Reason) -> Malformed {
+        Malformed::new(reason, self.to_end())
+    }
+
+    /// Returns the fault that the bytes end before or inside this part.
+    #[cold]
+    pub fn ends_in(&self, construct: Construct) -> Malformed {
+        let reason = Reason::UnexpectedEnd { construct };
+        Malformed::new(reason, self.bytes.len() - self.end)
+    }
+
+    /// Returns the fault that the byte just read isn't this part.
+    #[cold]
+    pub fn invalid(&self, construct: Construct, byte: u8) -> Malformed {
+        let reason = Reason::InvalidByte { construct, byte };
+        Malformed::new(reason, self.to_end().wrapping_add(1))
+    }
+
+    /// Returns the fault that bytes follow after the last part.
+    #[cold]
+    pub fn trailing(&self) -> Malformed {
+        self.malformed(Reason::TrailingBytes { count: self.len() })
+    }
+
     /// Tells the proof that each item left is a byte. The call does nothing.
     #[inline(always)]
     pub fn are_bytes(&self)
@@ -118,7 +150,10 @@ impl Rewriter {
         ensures place { result ≡ place true self.now.place.left }
         ensures bytes { IsBytes self.now.place.left }
     {
-        place_of(&self.bytes[self.position..self.end])
+        place_of(
+            &self.bytes[self.position..self.end],
+            self.bytes.len() - self.end,
+        )
     }
 
     /// Skips `count` bytes, which stay as they are.
@@ -232,11 +267,13 @@ impl Rewriter {
     pub fn open_body(&mut self) -> Result<Body, Fault>
         ensures { OpensBody self.old self.new result }
     {
+        let start = self.to_end();
         let mark = self.written_len();
         let size = self.u32()?;
         let len = self.len();
         if len < size as usize {
-            return Err(Fault::Malformed);
+            let reason = Reason::SizeTooLarge { size, left: len };
+            return Err(Fault::Malformed(Malformed::new(reason, start)));
         }
         self.limit(size as usize);
         Ok(Body {
@@ -343,8 +380,16 @@ impl Rewriter {
     pub fn byte(&mut self) -> Result<u8, Fault>
         ensures { Gives a_byte self.old self.new result }
     {
+        self.byte_of(Construct::Byte)
+    }
+
+    /// Reads the first byte of a part, which stays as it is. Fails with `Malformed` at the end of the bytes.
+    #[inline(always)]
+    pub fn byte_of(&mut self, construct: Construct) -> Result<u8, Fault>
+        ensures { Gives a_byte self.old self.new result }
+    {
         if self.position == self.end {
-            return Err(Fault::Malformed);
+            return Err(Fault::Malformed(self.ends_in(construct)));
         }
         let byte = self.bytes[self.position];
         self.position += 1;
@@ -357,7 +402,7 @@ impl Rewriter {
         ensures { Rewrites (raw count) self.old self.new result }
     {
         if self.len() < count {
-            return Err(Fault::Malformed);
+            return Err(Fault::Malformed(self.ends_in(Construct::Constant)));
         }
         self.skip(count);
         Ok(())
@@ -377,20 +422,20 @@ impl Rewriter {
     {
         self.are_bytes();
         if self.len() < count {
-            return Err(Fault::Malformed);
+            return Err(Fault::Malformed(self.ends_in(Construct::Constant)));
         }
         self.skip(count);
         Ok(())
     }
 
-    /// Returns the next byte and doesn't move. Fails with `Malformed` at the end of the bytes.
+    /// Returns the next byte, the first of this part, and doesn't move. Fails with `Malformed` at the end of the bytes.
     #[inline(always)]
-    pub fn peek(&self) -> Result<u8, Fault>
+    pub fn peek(&self, construct: Construct) -> Result<u8, Fault>
         ensures sees { Sees self.now.place result }
-        ensures err { IfErr result (λ e. e ≡ Malformed) }
+        ensures err { IfErr result IsMalformed }
     {
         if self.position == self.end {
-            return Err(Fault::Malformed);
+            return Err(Fault::Malformed(self.ends_in(construct)));
         }
         Ok(self.bytes[self.position])
     }
@@ -432,16 +477,16 @@ fn move_down(bytes: &mut [u8], start: usize, end: usize, dest: usize)
 pub fn are_bytes(bytes: &[u8])
     ensures { IsBytes bytes.now }
 {
-    let _place = place_of(bytes);
+    let _place = place_of(bytes, 0);
 }
 
 /// Returns a cursor at the start of the bytes.
 #[inline(always)]
-fn place_of(bytes: &[u8]) -> Cursor<'_>
+fn place_of(bytes: &[u8], behind: usize) -> Cursor<'_>
     ensures place { result ≡ place true bytes.now }
     ensures bytes { IsBytes bytes.now }
 {
-    Cursor::new(bytes)
+    Cursor::at(bytes, 0, true, behind)
 }
 
 /// Returns the number of digits in a minimal encoding whose last digit represents a number below `top`.

@@ -143,7 +143,7 @@ unknown_at id far p after e = rw (e, other id 0 (omega (arith, far)), other id 1
 
 pub no_id : (p new : Place) (fault : Fault) → Reads byte_at p new (Err fault) → Reads name_subsection.at p new (Err fault)
 unfolding name_subsection
-no_id p new faults.Malformed none = rw none refl
+no_id p new (faults.Malformed m) none = rw none refl
 no_id p new faults.Memory none = tt
 
 module _ (n : ℕ) (old mid new : Place) (begun : byte_at old ≡ Some (n, mid)) where
@@ -155,14 +155,14 @@ module _ (n : ℕ) (old mid new : Place) (begun : byte_at old ≡ Some (n, mid))
     kind_read v e = at_mid ∙ rw e refl
 
     pub kind_fault : (fault : Fault) → Reads (sized F).at mid new (Err fault) → Reads name_subsection.at old new (Err fault)
-    kind_fault faults.Malformed none = at_mid ∙ rw none refl
+    kind_fault (faults.Malformed m) none = at_mid ∙ rw none refl
     kind_fault faults.Memory none = tt
 
   pub unknown_read : 11 < n → (bytes : List ℕ) → byte_list.at mid ≡ Some (bytes, new) → name_subsection.at old ≡ Some (unknown n bytes, new)
   unknown_read far bytes e = unknown_at n far old mid begun ∙ rw e refl
 
   pub unknown_fault : 11 < n → (fault : Fault) → Reads byte_list.at mid new (Err fault) → Reads name_subsection.at old new (Err fault)
-  unknown_fault far faults.Malformed none = unknown_at n far old mid begun ∙ rw none refl
+  unknown_fault far (faults.Malformed m) none = unknown_at n far old mid begun ∙ rw none refl
   unknown_fault far faults.Memory none = tt
 
 -- ---- rewriting
@@ -175,7 +175,7 @@ module _ {V : Type 0} (id : ℕ) (make : V → SubsectionParts) (F : Format V) (
       let bytes : new.done ≡ old.done ++ name_subsection.bytes (make one.value) =
       one.given.written ∙ ap (λ (d : List ℕ). d ++ (sized F).bytes one.value) first.written ∙ append_assoc old.done (id ∷ []) ((sized F).bytes one.value) ∙ ap (λ (t : List ℕ). old.done ++ t) (sym (bytes_are one.value)) in
       after_is name_subsection old new (make one.value) (at_is old.place mid.place first.is_read ∙ rw one.given.is_read refl) bytes (one.given.rest ∙ first.rest)
-  rewritten old mid new (Err faults.Malformed) begun none = at_is old.place mid.place (is_given a_byte old id mid begun).is_read ∙ rw none refl
+  rewritten old mid new (Err (faults.Malformed m)) begun none = at_is old.place mid.place (is_given a_byte old id mid begun).is_read ∙ rw none refl
   rewritten old mid new (Err faults.Memory) begun none = none
 
 pub kind_rewritten : {V : Type 0} {id : ℕ} {make : V → SubsectionParts} {F : Format V} → IsKind id make F → (n : ℕ) → n ≡ id → (old mid new : Rewriting) (result : Result (Unit {0}) Fault) → rewritten_at a_byte old ≡ Some (n, mid) → Rewrites (sized F) mid new result → Rewrites name_subsection old new result
@@ -183,7 +183,7 @@ kind_rewritten {id = id} {make} {F} kind n is old mid new result begun e = rewri
 
 pub no_id_rewritten : (old new : Rewriting) (fault : Fault) → Gives a_byte old new (Err fault) → Rewrites name_subsection old new (Err fault)
 unfolding name_subsection
-no_id_rewritten old new faults.Malformed none = rw none refl
+no_id_rewritten old new (faults.Malformed m) none = rw none refl
 no_id_rewritten old new faults.Memory none = none
 
 unknown_bytes : (id : ℕ) → 11 < id → (v : List ℕ) → name_subsection.bytes (unknown id v) ≡ id ∷ byte_list.bytes v

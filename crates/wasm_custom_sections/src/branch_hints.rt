@@ -5,7 +5,7 @@ ghost use Rattle.wasm_codec.specs.Lawful.{IsLawful};
 ghost use Rattle.wasm_codec.specs.Places.{Reads};
 ghost use Rattle.wasm_codec.specs.Rewriter.{Rewrites};
 ghost use Rattle.wasm_codec.specs.declared.encode.EncodeError.TheVariants.{Memory};
-ghost use Rattle.wasm_codec.specs.declared.reader.cursor.Fault.TheVariants.{Malformed};
+ghost use Rattle.wasm_codec.specs.Outcomes.{IsMalformed};
 ghost use Rattle.wasm_codec.specs.formats.Bodies.{sized};
 ghost use Rattle.wasm_codec.specs.formats.Grammar.{TakesBytes};
 ghost use Rattle.wasm_custom_sections.specs.Gaining.{AddsNamed};
@@ -18,6 +18,7 @@ use std::alloc::{Allocator, Global};
 use wasm_codec::encode::leb128::put_u32;
 use wasm_codec::encode::{EncodeError, keep_or_undo};
 use wasm_codec::reader::cursor::{Cursor, Fault};
+use wasm_codec::reader::malformed::Construct;
 use wasm_codec::rewriter::Rewriter;
 use wasm_lists::encode::{Encode, encode_list};
 use wasm_lists::list::Items;
@@ -47,12 +48,12 @@ pub struct FunctionHints {
 #[tactic(auto, unfolding(crate::specs::formats::BranchHints::hint_value))]
 fn read_value(cursor: &mut Cursor<'_>) -> Result<bool, Fault>
     ensures reads { Reads hint_value.at cursor.old cursor.new result }
-    ensures err { IfErr result (λ e. e ≡ Malformed) }
+    ensures err { IfErr result IsMalformed }
 {
-    match cursor.byte()? {
+    match cursor.byte_of(Construct::Field)? {
         0x00 => Ok(false),
         0x01 => Ok(true),
-        _ => Err(Fault::Malformed),
+        byte => Err(Fault::Malformed(cursor.invalid(Construct::Field, byte))),
     }
 }
 
@@ -63,7 +64,7 @@ fn read_sized_value(cursor: &mut Cursor<'_>) -> Result<bool, Fault>
     let mut body = cursor.body()?;
     let likely = read_value(&mut body)?;
     if body.len() > 0 {
-        return Err(Fault::Malformed);
+        return Err(Fault::Malformed(body.trailing()));
     }
     cursor.set_shortest(body.is_shortest());
     Ok(likely)
@@ -83,10 +84,10 @@ impl RewritableBody for HintValue {
 
     #[tactic(auto, unfolding(crate::specs::formats::BranchHints::hint_value))]
     fn rewrite(rewriter: &mut Rewriter) -> Result<(), Fault> {
-        match rewriter.byte()? {
+        match rewriter.byte_of(Construct::Field)? {
             0x00 => Ok(()),
             0x01 => Ok(()),
-            _ => Err(Fault::Malformed),
+            byte => Err(Fault::Malformed(rewriter.invalid(Construct::Field, byte))),
         }
     }
 }

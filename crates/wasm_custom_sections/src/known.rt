@@ -10,7 +10,7 @@ use crate::producers::{Producers, ProducersSection};
 use crate::target_features::{TargetFeature, TargetFeaturesSection};
 use std::alloc::Global;
 use wasm_codec::decode::{Decode, read};
-use wasm_codec::reader::ReadError;
+use wasm_codec::reader::{DecodeError, ReadError};
 use wasm_sections::custom::CustomSection;
 
 /// The contents of a custom section, decoded if its name is known.
@@ -93,7 +93,7 @@ fn decoded<'a, T: Decode<'a>>(
 {
     match read::<T>(alloc, bytes) {
         Ok(value) => Ok(Some(value)),
-        Err(ReadError::Refused { .. }) => Ok(None),
-        Err(ReadError::Memory) => Err(ReadError::Memory),
+        Err(DecodeError::Malformed(_)) => Ok(None),
+        Err(DecodeError::Memory) => Err(ReadError::Memory),
     }
 }

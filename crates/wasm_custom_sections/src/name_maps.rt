@@ -8,7 +8,7 @@ ghost use Rattle.wasm_codec.specs.Places.{Reads};
 ghost use Rattle.wasm_codec.specs.Reading.{map_ok};
 ghost use Rattle.wasm_codec.specs.Rewriter.{Rewrites};
 ghost use Rattle.wasm_codec.specs.declared.encode.EncodeError.TheVariants.{Memory};
-ghost use Rattle.wasm_codec.specs.declared.reader.cursor.Fault.TheVariants.{Malformed};
+ghost use Rattle.wasm_codec.specs.Outcomes.{IsMalformed};
 ghost use Rattle.wasm_codec.specs.formats.Grammar.{TakesBytes};
 ghost use Rattle.wasm_entities.specs.Making.{Makes};
 ghost use Rattle.wasm_lists.specs.EncodedLists.{IsFull, IsMemoryOrTooLong, IsUncounted, body_bytes};
@@ -53,7 +53,7 @@ pub struct IndirectNaming<'a> {
 #[tactic(auto, unfolding(crate::specs::formats::Names::naming))]
 fn read_naming<'a>(cursor: &mut Cursor<'a>) -> Result<Naming<'a>, Fault>
     ensures reads { Reads naming.at cursor.old cursor.new (map_ok naming_parts result) }
-    ensures err { IfErr result (λ e. e ≡ Malformed) }
+    ensures err { IfErr result IsMalformed }
 {
     let index = cursor.u32()?;
     let name = read_name(cursor)?;

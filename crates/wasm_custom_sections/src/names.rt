@@ -5,7 +5,7 @@ ghost use Rattle.std.proofs.lemmas.List.{map_push};
 ghost use Rattle.wasm_codec.specs.Decoding.{ChecksAll, IsMinimal, ReadsAll, RewritesAll};
 ghost use Rattle.wasm_codec.specs.Encoding.{byte_list_bytes, IsCount, IsRefusal, IsShortest, IsTooLong, OnlyTooLong};
 ghost use Rattle.wasm_codec.specs.Lawful.{IsLawful, IsLawfulBody};
-ghost use Rattle.wasm_codec.specs.Outcomes.{EncodesSome, NeedsNoMemory};
+ghost use Rattle.wasm_codec.specs.Outcomes.{as_read, EncodesSome, NeedsNoMemory};
 ghost use Rattle.wasm_codec.specs.Places.{Reads};
 ghost use Rattle.wasm_codec.specs.Reading.{map_ok};
 ghost use Rattle.wasm_codec.specs.Rewriter.{Rewrites};
@@ -29,8 +29,9 @@ use std::alloc::{Allocator, Global};
 use std::marker::Model;
 use wasm_codec::decode::Decode;
 use wasm_codec::encode::{EncodeError, keep_or_undo};
-use wasm_codec::reader::ReadError;
+use wasm_codec::reader::DecodeError;
 use wasm_codec::reader::cursor::{Cursor, Fault};
+use wasm_codec::reader::malformed::Construct;
 use wasm_codec::rewriter::{Rewriter, Scanned};
 use wasm_entities::names::append_name;
 use wasm_lists::checking::check_items_to_end;
@@ -83,7 +84,7 @@ pub enum NameSubsection<'a> {
 fn read_subsection<'a>(alloc: Global, cursor: &mut Cursor<'a>) -> Result<NameSubsection<'a>, Fault>
     ensures reads { Reads name_subsection.at cursor.old cursor.new (map_ok subsection_parts result) }
 {
-    let id = cursor.byte()?;
+    let id = cursor.byte_of(Construct::SubsectionId)?;
     match id {
         0 => Ok(NameSubsection::Module(read_sized_name(cursor)?)),
         1 => Ok(NameSubsection::Functions(read_sized_list(alloc, cursor)?)),
@@ -108,7 +109,7 @@ fn read_subsection<'a>(alloc: Global, cursor: &mut Cursor<'a>) -> Result<NameSub
 fn rewrite_subsection(rewriter: &mut Rewriter) -> Result<(), Fault>
     ensures rewrites { Rewrites name_subsection rewriter.old rewriter.new result }
 {
-    match rewriter.byte()? {
+    match rewriter.byte_of(Construct::SubsectionId)? {
         0 => rewrite_sized::<NameBody>(rewriter),
         1 => rewrite_names(rewriter),
         2 => rewrite_indirect_names(rewriter),
@@ -504,7 +505,7 @@ impl<'a> Decode<'a> for NameSection {
     {}
 
     #[tactic(auto, using(wasm_codec::proofs::ListReading::none_within))]
-    fn read_all(alloc: Global, bytes: &'a [u8]) -> Result<Vec<NameSubsection<'a>>, ReadError> {
+    fn read_all(alloc: Global, bytes: &'a [u8]) -> Result<Vec<NameSubsection<'a>>, DecodeError> {
         read_items_to_end::<NameSubsection<'a>, false>(alloc, bytes)
     }
 
@@ -512,21 +513,21 @@ impl<'a> Decode<'a> for NameSection {
     fn read_all_strict(
         alloc: Global,
         bytes: &'a [u8],
-    ) -> Result<Vec<NameSubsection<'a>>, ReadError> {
+    ) -> Result<Vec<NameSubsection<'a>>, DecodeError> {
         read_items_to_end::<NameSubsection<'a>, true>(alloc, bytes)
     }
 
     #[tactic(auto, using(wasm_codec::proofs::ListReading::none_within))]
-    fn check_all(alloc: Global, bytes: &[u8]) -> Result<(), ReadError>
-        ensures checks { ChecksAll (Joined (minimal_only name_subsection).Encodes) (EncodesSome (Joined (minimal_only name_subsection).Encodes)) bytes.now result }
+    fn check_all(alloc: Global, bytes: &[u8]) -> Result<(), DecodeError>
+        ensures checks { ChecksAll (Joined (minimal_only name_subsection).Encodes) (EncodesSome (Joined (minimal_only name_subsection).Encodes)) bytes.now (as_read result) }
     {
         check_items_to_end::<AnySubsection>(alloc, bytes)
     }
 
     #[tactic(auto, using(wasm_codec::proofs::ListReading::none_within))]
-    fn rewrite_all(bytes: Vec<u8>) -> Result<Vec<u8>, ReadError>
-        ensures rewrites { RewritesAll name_data (EncodesSome (Joined name_subsection.Encodes)) bytes.items result }
-        ensures memory { NeedsNoMemory result }
+    fn rewrite_all(bytes: Vec<u8>) -> Result<Vec<u8>, DecodeError>
+        ensures rewrites { RewritesAll name_data (EncodesSome (Joined name_subsection.Encodes)) bytes.items (as_read result) }
+        ensures memory { NeedsNoMemory (as_read result) }
     {
         rewrite_items_to_end::<AnySubsection>(bytes)
     }

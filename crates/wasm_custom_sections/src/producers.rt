@@ -6,7 +6,7 @@ ghost use Rattle.wasm_codec.specs.Lawful.{IsLawful};
 ghost use Rattle.wasm_codec.specs.Places.{Reads};
 ghost use Rattle.wasm_codec.specs.Reading.{map_ok};
 ghost use Rattle.wasm_codec.specs.Rewriter.{Rewrites};
-ghost use Rattle.wasm_codec.specs.declared.reader.cursor.Fault.TheVariants.{Malformed};
+ghost use Rattle.wasm_codec.specs.Outcomes.{IsMalformed};
 ghost use Rattle.wasm_codec.specs.formats.Grammar.{TakesBytes};
 ghost use Rattle.wasm_entities.specs.Making.{Makes};
 ghost use Rattle.wasm_entities.specs.formats.Names.{name as name_format};
@@ -52,7 +52,7 @@ pub struct Producers<'a> {
 #[tactic(auto, unfolding(crate::specs::formats::Producers::producer))]
 fn read_producer<'a>(cursor: &mut Cursor<'a>) -> Result<Producer<'a>, Fault>
     ensures reads { Reads producer.at cursor.old cursor.new (map_ok producer_parts result) }
-    ensures err { IfErr result (λ e. e ≡ Malformed) }
+    ensures err { IfErr result IsMalformed }
 {
     let name = read_name(cursor)?;
     let version = read_name(cursor)?;

@@ -5,7 +5,7 @@ ghost use Rattle.wasm_codec.specs.Lawful.{IsLawfulBody};
 ghost use Rattle.wasm_codec.specs.Places.{Reads};
 ghost use Rattle.wasm_codec.specs.Reading.{map_ok};
 ghost use Rattle.wasm_codec.specs.declared.encode.EncodeError.TheVariants.{Memory};
-ghost use Rattle.wasm_codec.specs.declared.reader.cursor.Fault.TheVariants.{Malformed};
+ghost use Rattle.wasm_codec.specs.Outcomes.{IsMalformed};
 ghost use Rattle.wasm_codec.specs.formats.Bodies.{sized, byte_list, bytes_to_end};
 ghost use Rattle.wasm_codec.specs.formats.Combinators.{items};
 ghost use Rattle.wasm_entities.specs.formats.Names.{name};
@@ -32,7 +32,7 @@ pub(crate) fn read_sized_list<'a, T: Readable<'a>>(
     let mut body = cursor.body()?;
     let items = read_list(alloc, &mut body)?;
     if body.len() > 0 {
-        return Err(Fault::Malformed);
+        return Err(Fault::Malformed(body.trailing()));
     }
     cursor.set_shortest(body.is_shortest());
     Ok(items)
@@ -45,7 +45,7 @@ pub(crate) fn read_sized_name<'a>(cursor: &mut Cursor<'a>) -> Result<&'a str, Fa
     let mut body = cursor.body()?;
     let text = read_name(&mut body)?;
     if body.len() > 0 {
-        return Err(Fault::Malformed);
+        return Err(Fault::Malformed(body.trailing()));
     }
     cursor.set_shortest(body.is_shortest());
     Ok(text)
@@ -54,10 +54,11 @@ pub(crate) fn read_sized_name<'a>(cursor: &mut Cursor<'a>) -> Result<&'a str, Fa
 /// Reads bytes that follow their number.
 pub(crate) fn read_sized_bytes<'a>(cursor: &mut Cursor<'a>) -> Result<&'a [u8], Fault>
     ensures reads { Reads byte_list.at cursor.old cursor.new (map_ok (λ bytes. bytes.now) result) }
-    ensures err { IfErr result (λ e. e ≡ Malformed) }
+    ensures err { IfErr result IsMalformed }
 {
-    let size = cursor.u32()? as usize;
-    cursor.take(size)
+    let start = cursor.to_end();
+    let size = cursor.u32()?;
+    cursor.take_sized(size, start)
 }
 
 /// A list that fills a body.

@@ -7,7 +7,7 @@ ghost use Rattle.wasm_codec.specs.Lawful.{IsLawful};
 ghost use Rattle.wasm_codec.specs.Places.{Reads};
 ghost use Rattle.wasm_codec.specs.Reading.{map_ok};
 ghost use Rattle.wasm_codec.specs.Rewriter.{Rewrites};
-ghost use Rattle.wasm_codec.specs.declared.reader.cursor.Fault.TheVariants.{Malformed};
+ghost use Rattle.wasm_codec.specs.Outcomes.{IsMalformed};
 ghost use Rattle.wasm_codec.specs.formats.Grammar.{TakesBytes};
 ghost use Rattle.wasm_custom_sections.specs.Gaining.{AddsNamed};
 ghost use Rattle.wasm_custom_sections.specs.formats.TargetFeatures.{FeatureParts, all_feature_parts, feature_of, feature_parts, feature_prefix, target_feature};
@@ -16,6 +16,7 @@ use crate::custom_list::{CustomItem, CustomList};
 use std::alloc::{Allocator, Global};
 use wasm_codec::encode::{EncodeError, keep_or_undo};
 use wasm_codec::reader::cursor::{Cursor, Fault};
+use wasm_codec::reader::malformed::Construct;
 use wasm_codec::rewriter::Rewriter;
 use wasm_entities::names::{append_name, read_name, rewrite_name};
 use wasm_lists::encode::Encode;
@@ -43,12 +44,12 @@ pub struct TargetFeature<'a> {
 #[tactic(auto, unfolding(crate::specs::formats::TargetFeatures::feature_prefix))]
 fn read_prefix(cursor: &mut Cursor<'_>) -> Result<FeaturePrefix, Fault>
     ensures reads { Reads feature_prefix.at cursor.old cursor.new result }
-    ensures err { IfErr result (λ e. e ≡ Malformed) }
+    ensures err { IfErr result IsMalformed }
 {
-    match cursor.byte()? {
+    match cursor.byte_of(Construct::Field)? {
         0x2B => Ok(FeaturePrefix::Used),
         0x2D => Ok(FeaturePrefix::Disallowed),
-        _ => Err(Fault::Malformed),
+        byte => Err(Fault::Malformed(cursor.invalid(Construct::Field, byte))),
     }
 }
 
@@ -57,10 +58,10 @@ fn read_prefix(cursor: &mut Cursor<'_>) -> Result<FeaturePrefix, Fault>
 fn rewrite_prefix(rewriter: &mut Rewriter) -> Result<(), Fault>
     ensures rewrites { Rewrites feature_prefix rewriter.old rewriter.new result }
 {
-    match rewriter.byte()? {
+    match rewriter.byte_of(Construct::Field)? {
         0x2B => Ok(()),
         0x2D => Ok(()),
-        _ => Err(Fault::Malformed),
+        byte => Err(Fault::Malformed(rewriter.invalid(Construct::Field, byte))),
     }
 }
 
@@ -79,7 +80,7 @@ fn prefix_byte(prefix: FeaturePrefix) -> u8
 #[tactic(auto, unfolding(crate::specs::formats::TargetFeatures::target_feature))]
 fn read_feature<'a>(cursor: &mut Cursor<'a>) -> Result<TargetFeature<'a>, Fault>
     ensures reads { Reads target_feature.at cursor.old cursor.new (map_ok feature_parts result) }
-    ensures err { IfErr result (λ e. e ≡ Malformed) }
+    ensures err { IfErr result IsMalformed }
 {
     let prefix = read_prefix(cursor)?;
     let name = read_name(cursor)?;

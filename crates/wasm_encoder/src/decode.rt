@@ -4,7 +4,7 @@
 //! exports, and so on. [`Instructions`] stands for a list of instructions, [`Module`] for a module with undecoded sections,
 //! and `WholeModule` for one with every section decoded. Implement [`Decode`] for a type of your own.
 ghost use Rattle.std.specs.Prelude.{List};
-ghost use Rattle.wasm_codec.specs.Outcomes.{NeedsNoMemory, EncodesSome};
+ghost use Rattle.wasm_codec.specs.Outcomes.{as_read, NeedsNoMemory, EncodesSome};
 ghost use Rattle.wasm_codec.specs.Decoding.{IsMinimal, ChecksAll, RewritesAll};
 ghost use Rattle.wasm_codec.specs.Lawful.{IsLawfulBody};
 ghost use Rattle.wasm_codec.specs.formats.Bodies.{to_end};
@@ -23,20 +23,13 @@ use crate::type_section::TypeSection;
 use crate::wasm_core::Module;
 use std::alloc::Global;
 pub use wasm_codec::decode::{Decode, check, normalise, read, read_strict, rewrite};
-use wasm_codec::reader::ReadError;
-use wasm_instructions::normaliser::rewrite_instructions;
-use wasm_instructions::reader::instructions::{
-    check_instructions, read_instructions, read_instructions_strict,
-};
+use wasm_codec::reader::DecodeError;
 use wasm_instructions::table::Call;
+use wasm_lists::checking::{check_items_to_end, check_list_to_end};
+use wasm_lists::reading::{read_items_to_end, read_list_to_end};
+use wasm_lists::rewriting::{rewrite_items_to_end, rewrite_list_to_end};
 use wasm_modules::code::CodeBody;
-use wasm_modules::code::normaliser::rewrite_code_section;
-use wasm_modules::code::reader::{check_code_section, read_code_section, read_code_section_strict};
-use wasm_modules::raw::{check_module, read_module, read_module_strict, rewrite_raw_module};
-use wasm_types::normaliser::rewrite_type_section;
-use wasm_types::reader::type_sections::{
-    check_type_section, read_type_section, read_type_section_strict,
-};
+use wasm_modules::raw::{check_raw_module, read_module_of, rewrite_raw_module};
 use wasm_types::types::TypeEntry;
 
 /// A list of instructions with nothing between them and nothing after them (Core 3.0, Instructions).
@@ -44,11 +37,11 @@ use wasm_types::types::TypeEntry;
 /// # Examples
 ///
 /// ```
-/// # use wasm_encoder::{Instructions, ReadError, check, read};
+/// # use wasm_encoder::{Instructions, check, read};
 /// let calls = read::<Instructions>(rt.alloc(), b"\x20\xc2\x80\x00\x0b")?; // local.get 66, end
 /// assert_eq!(rt; calls.len(), 2);
 /// let padded = check::<Instructions>(rt.alloc(), b"\x20\xc2\x80\x00\x0b");
-/// assert_eq!(rt; padded.err(), Some(ReadError::Refused { at: 0 }));
+/// assert_eq!(rt; padded.err().and_then(|error| error.at()), Some(0));
 /// ```
 pub struct Instructions;
 
@@ -73,25 +66,29 @@ impl<'a> Decode<'a> for Instructions {
         ensures minimal { IsMinimal (to_end instruction) ShortestInstructions }
     {}
 
-    fn read_all(alloc: Global, bytes: &'a [u8]) -> Result<Vec<Call>, ReadError> {
-        read_instructions(alloc, bytes)
+    #[tactic(auto, using(wasm_codec::proofs::ListReading::none_within))]
+    fn read_all(alloc: Global, bytes: &'a [u8]) -> Result<Vec<Call>, DecodeError> {
+        read_items_to_end::<Call, false>(alloc, bytes)
     }
 
-    fn read_all_strict(alloc: Global, bytes: &'a [u8]) -> Result<Vec<Call>, ReadError> {
-        read_instructions_strict(alloc, bytes)
+    #[tactic(auto, using(wasm_codec::proofs::ListReading::none_within))]
+    fn read_all_strict(alloc: Global, bytes: &'a [u8]) -> Result<Vec<Call>, DecodeError> {
+        read_items_to_end::<Call, true>(alloc, bytes)
     }
 
-    fn check_all(alloc: Global, bytes: &[u8]) -> Result<(), ReadError>
-        ensures checks { ChecksAll ShortestInstructions (EncodesSome ShortestInstructions) bytes.now result }
+    #[tactic(auto, using(wasm_codec::proofs::ListReading::none_within))]
+    fn check_all(alloc: Global, bytes: &[u8]) -> Result<(), DecodeError>
+        ensures checks { ChecksAll ShortestInstructions (EncodesSome ShortestInstructions) bytes.now (as_read result) }
     {
-        check_instructions(alloc, bytes)
+        check_items_to_end::<Call>(alloc, bytes)
     }
 
-    fn rewrite_all(bytes: Vec<u8>) -> Result<Vec<u8>, ReadError>
-        ensures rewrites { RewritesAll (to_end instruction) (EncodesSome InstructionList) bytes.items result }
-        ensures memory { NeedsNoMemory result }
+    #[tactic(auto, using(wasm_codec::proofs::ListReading::none_within))]
+    fn rewrite_all(bytes: Vec<u8>) -> Result<Vec<u8>, DecodeError>
+        ensures rewrites { RewritesAll (to_end instruction) (EncodesSome InstructionList) bytes.items (as_read result) }
+        ensures memory { NeedsNoMemory (as_read result) }
     {
-        rewrite_instructions(bytes)
+        rewrite_items_to_end::<Call>(bytes)
     }
 }
 
@@ -116,25 +113,29 @@ impl<'a> Decode<'a> for TypeSection {
         ensures minimal { IsMinimal type_body ShortestTypeBody }
     {}
 
-    fn read_all(alloc: Global, bytes: &'a [u8]) -> Result<Vec<TypeEntry>, ReadError> {
-        read_type_section(alloc, bytes)
+    #[tactic(auto, unfolding(wasm_types::specs::formats::Types::type_body))]
+    fn read_all(alloc: Global, bytes: &'a [u8]) -> Result<Vec<TypeEntry>, DecodeError> {
+        read_list_to_end::<TypeEntry, false>(alloc, bytes)
     }
 
-    fn read_all_strict(alloc: Global, bytes: &'a [u8]) -> Result<Vec<TypeEntry>, ReadError> {
-        read_type_section_strict(alloc, bytes)
+    #[tactic(auto, unfolding(wasm_types::specs::formats::Types::type_body))]
+    fn read_all_strict(alloc: Global, bytes: &'a [u8]) -> Result<Vec<TypeEntry>, DecodeError> {
+        read_list_to_end::<TypeEntry, true>(alloc, bytes)
     }
 
-    fn check_all(alloc: Global, bytes: &[u8]) -> Result<(), ReadError>
-        ensures checks { ChecksAll ShortestTypeBody IsShortestTypeBodyPrefix bytes.now result }
+    #[tactic(auto, unfolding(wasm_types::specs::formats::Types::type_body))]
+    fn check_all(alloc: Global, bytes: &[u8]) -> Result<(), DecodeError>
+        ensures checks { ChecksAll ShortestTypeBody IsShortestTypeBodyPrefix bytes.now (as_read result) }
     {
-        check_type_section(alloc, bytes)
+        check_list_to_end::<TypeEntry>(alloc, bytes)
     }
 
-    fn rewrite_all(bytes: Vec<u8>) -> Result<Vec<u8>, ReadError>
-        ensures rewrites { RewritesAll type_body IsTypeBodyPrefix bytes.items result }
-        ensures memory { NeedsNoMemory result }
+    #[tactic(auto, unfolding(wasm_types::specs::formats::Types::type_body))]
+    fn rewrite_all(bytes: Vec<u8>) -> Result<Vec<u8>, DecodeError>
+        ensures rewrites { RewritesAll type_body IsTypeBodyPrefix bytes.items (as_read result) }
+        ensures memory { NeedsNoMemory (as_read result) }
     {
-        rewrite_type_section(bytes)
+        rewrite_list_to_end::<TypeEntry>(bytes)
     }
 }
 
@@ -159,25 +160,29 @@ impl<'a> Decode<'a> for CodeSection {
         ensures minimal { IsMinimal code_section_body ShortestCodeSectionBody }
     {}
 
-    fn read_all(alloc: Global, bytes: &'a [u8]) -> Result<Vec<CodeBody>, ReadError> {
-        read_code_section(alloc, bytes)
+    #[tactic(auto, unfolding(wasm_modules::specs::formats::CodeBodies::code_section_body))]
+    fn read_all(alloc: Global, bytes: &'a [u8]) -> Result<Vec<CodeBody>, DecodeError> {
+        read_list_to_end::<CodeBody, false>(alloc, bytes)
     }
 
-    fn read_all_strict(alloc: Global, bytes: &'a [u8]) -> Result<Vec<CodeBody>, ReadError> {
-        read_code_section_strict(alloc, bytes)
+    #[tactic(auto, unfolding(wasm_modules::specs::formats::CodeBodies::code_section_body))]
+    fn read_all_strict(alloc: Global, bytes: &'a [u8]) -> Result<Vec<CodeBody>, DecodeError> {
+        read_list_to_end::<CodeBody, true>(alloc, bytes)
     }
 
-    fn check_all(alloc: Global, bytes: &[u8]) -> Result<(), ReadError>
-        ensures checks { ChecksAll ShortestCodeSectionBody IsShortestCodeSectionBodyPrefix bytes.now result }
+    #[tactic(auto, unfolding(wasm_modules::specs::formats::CodeBodies::code_section_body))]
+    fn check_all(alloc: Global, bytes: &[u8]) -> Result<(), DecodeError>
+        ensures checks { ChecksAll ShortestCodeSectionBody IsShortestCodeSectionBodyPrefix bytes.now (as_read result) }
     {
-        check_code_section(alloc, bytes)
+        check_list_to_end::<CodeBody>(alloc, bytes)
     }
 
-    fn rewrite_all(bytes: Vec<u8>) -> Result<Vec<u8>, ReadError>
-        ensures rewrites { RewritesAll code_section_body IsCodeSectionBodyPrefix bytes.items result }
-        ensures memory { NeedsNoMemory result }
+    #[tactic(auto, unfolding(wasm_modules::specs::formats::CodeBodies::code_section_body))]
+    fn rewrite_all(bytes: Vec<u8>) -> Result<Vec<u8>, DecodeError>
+        ensures rewrites { RewritesAll code_section_body IsCodeSectionBodyPrefix bytes.items (as_read result) }
+        ensures memory { NeedsNoMemory (as_read result) }
     {
-        rewrite_code_section(bytes)
+        rewrite_list_to_end::<CodeBody>(bytes)
     }
 }
 
@@ -202,23 +207,23 @@ impl<'a> Decode<'a> for Module {
         ensures minimal { IsMinimal raw_module ShortestModule }
     {}
 
-    fn read_all(alloc: Global, bytes: &'a [u8]) -> Result<Vec<RawSection<'a>>, ReadError> {
-        read_module(alloc, bytes)
+    fn read_all(alloc: Global, bytes: &'a [u8]) -> Result<Vec<RawSection<'a>>, DecodeError> {
+        read_module_of::<RawSection<'_>, false>(alloc, bytes)
     }
 
-    fn read_all_strict(alloc: Global, bytes: &'a [u8]) -> Result<Vec<RawSection<'a>>, ReadError> {
-        read_module_strict(alloc, bytes)
+    fn read_all_strict(alloc: Global, bytes: &'a [u8]) -> Result<Vec<RawSection<'a>>, DecodeError> {
+        read_module_of::<RawSection<'_>, true>(alloc, bytes)
     }
 
-    fn check_all(alloc: Global, bytes: &[u8]) -> Result<(), ReadError>
-        ensures checks { ChecksAll ShortestModule IsShortestModulePrefix bytes.now result }
+    fn check_all(alloc: Global, bytes: &[u8]) -> Result<(), DecodeError>
+        ensures checks { ChecksAll ShortestModule IsShortestModulePrefix bytes.now (as_read result) }
     {
-        check_module(alloc, bytes)
+        check_raw_module(alloc, bytes)
     }
 
-    fn rewrite_all(bytes: Vec<u8>) -> Result<Vec<u8>, ReadError>
-        ensures rewrites { RewritesAll raw_module IsModulePrefix bytes.items result }
-        ensures memory { NeedsNoMemory result }
+    fn rewrite_all(bytes: Vec<u8>) -> Result<Vec<u8>, DecodeError>
+        ensures rewrites { RewritesAll raw_module IsModulePrefix bytes.items (as_read result) }
+        ensures memory { NeedsNoMemory (as_read result) }
     {
         rewrite_raw_module(bytes)
     }

@@ -6,8 +6,10 @@
 //!
 //! Implement [`Readable`] for a type of your own to read lists of it with [`read_list_to_end`].
 
-pub use wasm_codec::reader::ReadError;
 pub use wasm_codec::reader::cursor::{Cursor, Fault};
+pub use wasm_codec::reader::malformed::{Construct, Malformed, Reason};
+pub use wasm_codec::reader::refusal::{Refusal, SectionPlace};
+pub use wasm_codec::reader::{DecodeError, ReadError, without_reason};
 pub use wasm_codec::rewriter::Rewriter;
 pub use wasm_instructions::normaliser::{normalise_instructions, rewrite_instructions};
 pub use wasm_instructions::reader::instructions::{

@@ -8,6 +8,7 @@ ghost use Rattle.std.specs.Prelude.{◌≡◌};
 ghost use Rattle.wasm_lists.specs.EncodedLists.{EncodedItems};
 
 use crate::wasm_core::Section;
+pub use wasm_codec::reader::names::{SectionNames, section_names};
 pub use wasm_custom_sections::branch_hints::{BranchHint, BranchHints, FunctionHints};
 pub use wasm_custom_sections::custom_list::{CustomItem, CustomList};
 pub use wasm_custom_sections::known::{KnownCustomSection, known_custom_section};
@@ -29,7 +30,7 @@ pub use wasm_sections::globals::{Global, GlobalSection};
 pub use wasm_sections::imports::{Import, ImportSection};
 pub use wasm_sections::list_section::{ListSection, SectionItem};
 pub use wasm_sections::memories::MemorySection;
-pub use wasm_sections::module_sections::{ModuleSection, SectionNames, section_names};
+pub use wasm_sections::module_sections::ModuleSection;
 pub use wasm_sections::numbers::{DataCountSection, StartSection, read_number, read_number_strict};
 pub use wasm_sections::tables::{Table, TableSection};
 pub use wasm_sections::tags::TagSection;

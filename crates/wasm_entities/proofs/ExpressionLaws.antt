@@ -8,6 +8,7 @@ use Rattle.wasm_codec.specs.Places.{Place, Reader, byte_at, u32_at, Sees}
 use Rattle.wasm_codec.specs.formats.Combinators.{◌⊗>◌, by_kind}
 use Rattle.wasm_codec.specs.Lawful.{IsLawful}
 use Rattle.wasm_codec.specs.declared.reader.cursor.Fault.{Fault}
+use Rattle.wasm_codec.specs.Outcomes.{IsMalformed}
 use Rattle.wasm_codec.specs.formats.Grammar.{IsBytes}
 use Rattle.wasm_codec.specs.Rewriter.{Rewriting, rewriting_after, Rewrites}
 use Rattle.wasm_codec.specs.Encoding.{IsShortest}
@@ -241,12 +242,12 @@ module _ (old here next : Rewriting) (most i depth b : ℕ) (after : Place) (lt 
       let is = first_tells depth b here.place after one.value next.place first one.given.is_read ∙ sym move in
       gone_fails by_opcode instruction.at (expr.at old.place) most i depth here.place next.place w.items one.value lt one.given.is_read is w.gone
 
-pub expr_unseen : (old here new : Rewriting) (most i depth : ℕ) (fault : Fault) → i < most → ExprGoing old here most i depth → Sees here.place (Err fault) → fault ≡ faults.Malformed → Rewrites expr old new (Err fault)
-expr_unseen old here new most i depth faults.Malformed lt w none is = gone_none by_opcode instruction.at (expr.at old.place) most i depth here.place w.items lt (no_byte here.place none) w.gone
-expr_unseen old here new most i depth faults.Memory lt w none is = absurd cc
+pub expr_unseen : (old here new : Rewriting) (most i depth : ℕ) (fault : Fault) → i < most → ExprGoing old here most i depth → Sees here.place (Err fault) → IsMalformed fault → Rewrites expr old new (Err fault)
+expr_unseen old here new most i depth (faults.Malformed m) lt w none is = gone_none by_opcode instruction.at (expr.at old.place) most i depth here.place w.items lt (no_byte here.place none) w.gone
+expr_unseen old here new most i depth faults.Memory lt w none is = absurd is
 
 pub expr_wanting : (old here mid new : Rewriting) (most i depth : ℕ) (fault : Fault) → i < most → ExprGoing old here most i depth → Rewrites instruction here mid (Err fault) → Rewrites expr old new (Err fault)
-expr_wanting old here mid new most i depth faults.Malformed lt w none = gone_none by_opcode instruction.at (expr.at old.place) most i depth here.place w.items lt none w.gone
+expr_wanting old here mid new most i depth (faults.Malformed m) lt w none = gone_none by_opcode instruction.at (expr.at old.place) most i depth here.place w.items lt none w.gone
 expr_wanting old here mid new most i depth faults.Memory lt w none = none
 
 pub expr_out : (old here : Rewriting) (most i depth : ℕ) → most ≤ i → ExprGoing old here most i depth → expr.at old.place ≡ None

@@ -8,6 +8,7 @@ use Rattle.wasm_codec.specs.Lawful.{IsLawful}
 use Rattle.wasm_codec.specs.Places.{Place, Reads, byte_at}
 use Rattle.wasm_codec.specs.Rewriter.{Rewriting, Gives, rewritten_at, rewriting, rewriting_after}
 use Rattle.wasm_codec.specs.declared.reader.cursor.Fault.TheVariants.{Malformed}
+use Rattle.wasm_codec.specs.declared.reader.malformed.Malformed.{Malformed as Details}
 use Rattle.wasm_codec.specs.formats.Grammar.{IsBytes, TakesBytes}
 use Rattle.wasm_codec.specs.Encoding.{IsShortest}
 use Rattle.wasm_codec.specs.Leb128.{unsigned_leb128}
@@ -184,18 +185,18 @@ Lawful-export-kind = Lawful-one-byte export_kind_byte (exports.Func ∷ exports.
 -- ---- bytes that tell flags
 
 -- the code that looks a byte up reads what it is found to be
-pub flags_read : {A : Type 0} (byte_of : A → Option ℕ) (values : List A) (old new : Place) (b : ℕ) (o : Option A) → byte_at old ≡ Some (b, new) → o ≡ find byte_of values b → Reads (one_byte byte_of values).at old new (ok_or o Malformed)
-flags_read byte_of values old new b (Some a) read known = rw (read, ← known) refl
-flags_read byte_of values old new b None read known = rw (read, ← known) refl
+pub flags_read : {A : Type 0} (byte_of : A → Option ℕ) (values : List A) (old new : Place) (b : ℕ) (o : Option A) (m : Details) → byte_at old ≡ Some (b, new) → o ≡ find byte_of values b → Reads (one_byte byte_of values).at old new (ok_or o (Malformed m))
+flags_read byte_of values old new b (Some a) m read known = rw (read, ← known) refl
+flags_read byte_of values old new b None m read known = rw (read, ← known) refl
 
 -- and leaves it as it is
-pub flags_given : {A : Type 0} (byte_of : A → Option ℕ) (values : List A) (old new : Rewriting) (b : ℕ) (o : Option A) → rewritten_at a_byte old ≡ Some (b, new) → o ≡ find byte_of values b → IfSome o (λ a. byte_of a ≡ Some b) → Gives (one_byte byte_of values) old new (ok_or o Malformed)
-flags_given byte_of values old new b (Some a) given known same =
+pub flags_given : {A : Type 0} (byte_of : A → Option ℕ) (values : List A) (old new : Rewriting) (b : ℕ) (o : Option A) (m : Details) → rewritten_at a_byte old ≡ Some (b, new) → o ≡ find byte_of values b → IfSome o (λ a. byte_of a ≡ Some b) → Gives (one_byte byte_of values) old new (ok_or o (Malformed m))
+flags_given byte_of values old new b (Some a) m given known same =
     let byte = is_given a_byte old b new given in
-    let read = flags_read byte_of values old.place new.place b (Some a) byte.is_read known in
+    let read = flags_read byte_of values old.place new.place b (Some a) m byte.is_read known in
     rw (read, same, ← byte.written, ← byte.rest) refl
-flags_given byte_of values old new b None given known same =
-    flags_read byte_of values old.place new.place b None (is_given a_byte old b new given).is_read known
+flags_given byte_of values old new b None m given known same =
+    flags_read byte_of values old.place new.place b None m (is_given a_byte old b new given).is_read known
 
 -- ---- rewriting
 

@@ -1,7 +1,9 @@
 //! Expressions: instructions up to the `end` that closes none of their blocks (Core 3.0, Expressions).
 ghost use Rattle.std.specs.Prelude.{◌≡◌, ◌+◌, ◌^◌, ◌<◌, IsTrue, IsFalse, ◌++◌, OnOk, OnErr, IfErr, length, take};
 ghost use Rattle.wasm_entities.specs.ClosedExpressions.{IsClosed, IsCountedExpr};
-ghost use Rattle.wasm_codec.specs.Places.{Reads};
+ghost use Rattle.wasm_codec.specs.Outcomes.{IsMalformed};
+ghost use Rattle.wasm_codec.specs.Places.{Reads, Sees};
+ghost use Rattle.wasm_instructions.specs.formats.Instructions.{instruction};
 ghost use Rattle.wasm_codec.specs.Rewriter.{Rewrites};
 ghost use Rattle.wasm_entities.specs.formats.Nesting.{as_move};
 ghost use Rattle.wasm_entities.specs.formats.Expressions.{nested, nested_by, expr};
@@ -10,6 +12,7 @@ ghost use Rattle.wasm_codec.specs.Encoding.{IsRefusal, IsShortest, OnlyTooLong};
 use std::alloc::{Allocator, Global};
 use wasm_codec::encode::{EncodeError, keep_or_undo};
 use wasm_codec::reader::cursor::{Cursor, Fault};
+use wasm_codec::reader::malformed::{Construct, Malformed, Reason};
 use wasm_codec::rewriter::Rewriter;
 use wasm_instructions::calls::append_calls;
 use wasm_instructions::reader::instructions::read_call;
@@ -88,15 +91,52 @@ pub fn read_expr(alloc: Global, cursor: &mut Cursor<'_>) -> Result<Items<Call>, 
     let mut depth = 0;
     let most = cursor.len();
     for _ in 0..most {
-        let call = read_call(alloc, cursor)?;
+        let start = cursor.to_end();
+        let call = read_next_call(alloc, cursor)?;
         match nested(depth, call.op()) {
             Step::GoesOn(after) => depth = after,
             Step::Ends => return Ok(Items::from(calls)),
-            Step::Fails => return Err(Fault::Malformed),
+            Step::Fails => {
+                return Err(Fault::Malformed(stray_delimiter(start)));
+            }
         }
         calls.push(call)?;
     }
-    Err(Fault::Malformed)
+    Err(Fault::Malformed(cursor.malformed(Reason::MissingEnd)))
+}
+
+/// Reads the next instruction of an expression, which has no final `end` if no bytes are left.
+fn read_next_call(alloc: Global, cursor: &mut Cursor<'_>) -> Result<Call, Fault>
+    ensures reads { Reads instruction.at cursor.old cursor.new result }
+{
+    let is_at_end = cursor.len() == 0;
+    match read_call(alloc, cursor) {
+        Ok(call) => Ok(call),
+        Err(Fault::Malformed(malformed)) => Err(Fault::Malformed(if is_at_end {
+            cursor.malformed(Reason::MissingEnd)
+        } else {
+            malformed
+        })),
+        Err(Fault::Memory) => Err(Fault::Memory),
+    }
+}
+
+/// Returns the fault that the instruction with `start` bytes up to the end closes a block that isn't open.
+#[cold]
+fn stray_delimiter(start: usize) -> Malformed {
+    Malformed::new(Reason::StrayDelimiter, start).in_instruction(start)
+}
+
+/// Returns the first byte of the next instruction of an expression, which has no final `end` if no bytes are left.
+fn peek_opcode(rewriter: &Rewriter) -> Result<u8, Fault>
+    ensures sees { Sees rewriter.now.place result }
+    ensures err { IfErr result IsMalformed }
+{
+    match rewriter.peek(Construct::Opcode) {
+        Ok(byte) => Ok(byte),
+        Err(Fault::Malformed(_)) => Err(Fault::Malformed(rewriter.malformed(Reason::MissingEnd))),
+        Err(Fault::Memory) => Err(Fault::Memory),
+    }
 }
 
 /// Rewrites an expression to its minimal encoding.
@@ -107,15 +147,18 @@ pub fn rewrite_expr(rewriter: &mut Rewriter) -> Result<(), Fault>
     let most = rewriter.len();
     for _ in 0..most {
         rewriter.are_bytes();
-        let first = rewriter.peek()?;
+        let start = rewriter.to_end();
+        let first = peek_opcode(rewriter)?;
         Call::rewrite(rewriter)?;
         match nested_by(depth, u32::from(first)) {
             Step::GoesOn(after) => depth = after,
             Step::Ends => return Ok(()),
-            Step::Fails => return Err(Fault::Malformed),
+            Step::Fails => {
+                return Err(Fault::Malformed(stray_delimiter(start)));
+            }
         }
     }
-    Err(Fault::Malformed)
+    Err(Fault::Malformed(rewriter.malformed(Reason::MissingEnd)))
 }
 
 /// Appends the instructions of an expression and the final `end`. Appends nothing if it fails.

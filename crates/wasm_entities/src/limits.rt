@@ -3,7 +3,7 @@ ghost use Rattle.std.specs.Prelude.{◌≡◌, Some, None, false, IfErr, IfSome,
 ghost use Rattle.wasm_codec.specs.Places.{Reads};
 ghost use Rattle.wasm_codec.specs.Rewriter.{Gives, Rewrites};
 ghost use Rattle.wasm_codec.specs.formats.Combinators.{find, u32 as u32_format, u64 as u64_format};
-ghost use Rattle.wasm_codec.specs.declared.reader.cursor.Fault.TheVariants.{Malformed};
+ghost use Rattle.wasm_codec.specs.Outcomes.{IsMalformed};
 ghost use Rattle.wasm_entities.specs.formats.PartCombinators.{part_if};
 ghost use Rattle.wasm_entities.specs.formats.Externals.{flags_byte, all_flags, paged_byte, all_paged, limits_flags, memory_flags, memory_type, memory_format, table_type, table_format};
 ghost use Rattle.wasm_entities.specs.declared.limits.MemoryType.{MemoryType};
@@ -17,6 +17,7 @@ use std::alloc::{Allocator, Global};
 use wasm_codec::encode::EncodeError;
 use wasm_codec::encode::leb128::{put_u32, put_u64};
 use wasm_codec::reader::cursor::{Cursor, Fault};
+use wasm_codec::reader::malformed::Construct;
 use wasm_codec::rewriter::Rewriter;
 use wasm_lists::encode::Encode;
 use wasm_lists::readable::Readable;
@@ -144,25 +145,27 @@ fn memory_flags_of(byte: u8) -> Option<((bool, (bool, bool)), bool)>
 #[tactic(auto, using(crate::proofs::ExternalLaws::flags_read), unfolding(crate::specs::formats::Externals::limits_flags))]
 fn read_limits_flags(cursor: &mut Cursor<'_>) -> Result<(bool, (bool, bool)), Fault>
     ensures reads { Reads limits_flags.at cursor.old cursor.new result }
-    ensures err { IfErr result (λ e. e ≡ Malformed) }
+    ensures err { IfErr result IsMalformed }
 {
-    limits_flags_of(cursor.byte()?).ok_or(Fault::Malformed)
+    let byte = cursor.byte_of(Construct::Limits)?;
+    limits_flags_of(byte).ok_or(Fault::Malformed(cursor.invalid(Construct::Limits, byte)))
 }
 
 /// Reads the flags of a memory's limits.
 #[tactic(auto, using(crate::proofs::ExternalLaws::flags_read), unfolding(crate::specs::formats::Externals::memory_flags))]
 fn read_memory_flags(cursor: &mut Cursor<'_>) -> Result<((bool, (bool, bool)), bool), Fault>
     ensures reads { Reads memory_flags.at cursor.old cursor.new result }
-    ensures err { IfErr result (λ e. e ≡ Malformed) }
+    ensures err { IfErr result IsMalformed }
 {
-    memory_flags_of(cursor.byte()?).ok_or(Fault::Malformed)
+    let byte = cursor.byte_of(Construct::MemoryFlags)?;
+    memory_flags_of(byte).ok_or(Fault::Malformed(cursor.invalid(Construct::MemoryFlags, byte)))
 }
 
 /// Reads a u64 if a flag says that there is one.
 #[tactic(auto, unfolding(crate::specs::formats::PartCombinators::part_if))]
 fn read_u64_if(cursor: &mut Cursor<'_>, there: bool) -> Result<Option<u64>, Fault>
     ensures reads { Reads (part_if there u64_format).at cursor.old cursor.new result }
-    ensures err { IfErr result (λ e. e ≡ Malformed) }
+    ensures err { IfErr result IsMalformed }
 {
     if !there {
         return Ok(None);
@@ -174,7 +177,7 @@ fn read_u64_if(cursor: &mut Cursor<'_>, there: bool) -> Result<Option<u64>, Faul
 #[tactic(auto, unfolding(crate::specs::formats::PartCombinators::part_if))]
 fn read_u32_if(cursor: &mut Cursor<'_>, there: bool) -> Result<Option<u32>, Fault>
     ensures reads { Reads (part_if there u32_format).at cursor.old cursor.new result }
-    ensures err { IfErr result (λ e. e ≡ Malformed) }
+    ensures err { IfErr result IsMalformed }
 {
     if !there {
         return Ok(None);
@@ -186,7 +189,7 @@ fn read_u32_if(cursor: &mut Cursor<'_>, there: bool) -> Result<Option<u32>, Faul
 #[tactic(auto, unfolding(crate::specs::formats::Externals::memory_type))]
 pub(crate) fn read_memory_type(cursor: &mut Cursor<'_>) -> Result<MemoryType, Fault>
     ensures reads { Reads memory_type.at cursor.old cursor.new result }
-    ensures err { IfErr result (λ e. e ≡ Malformed) }
+    ensures err { IfErr result IsMalformed }
 {
     let ((has_maximum, (shared, memory64)), has_page_size) = read_memory_flags(cursor)?;
     let minimum = cursor.u64()?;
@@ -205,7 +208,7 @@ pub(crate) fn read_memory_type(cursor: &mut Cursor<'_>) -> Result<MemoryType, Fa
 #[tactic(auto, unfolding(crate::specs::formats::Externals::table_type))]
 pub fn read_table_type(cursor: &mut Cursor<'_>) -> Result<TableType, Fault>
     ensures reads { Reads table_type.at cursor.old cursor.new result }
-    ensures err { IfErr result (λ e. e ≡ Malformed) }
+    ensures err { IfErr result IsMalformed }
 {
     let element_type = read_ref_type(cursor)?;
     let (has_maximum, (shared, table64)) = read_limits_flags(cursor)?;
@@ -225,7 +228,8 @@ pub fn read_table_type(cursor: &mut Cursor<'_>) -> Result<TableType, Fault>
 fn rewrite_limits_flags(rewriter: &mut Rewriter) -> Result<(bool, (bool, bool)), Fault>
     ensures gives { Gives limits_flags rewriter.old rewriter.new result }
 {
-    limits_flags_of(rewriter.byte()?).ok_or(Fault::Malformed)
+    let byte = rewriter.byte_of(Construct::Limits)?;
+    limits_flags_of(byte).ok_or(Fault::Malformed(rewriter.invalid(Construct::Limits, byte)))
 }
 
 /// Passes the flags of a memory's limits, which have one encoding, and returns them.
@@ -233,7 +237,8 @@ fn rewrite_limits_flags(rewriter: &mut Rewriter) -> Result<(bool, (bool, bool)),
 fn rewrite_memory_flags(rewriter: &mut Rewriter) -> Result<((bool, (bool, bool)), bool), Fault>
     ensures gives { Gives memory_flags rewriter.old rewriter.new result }
 {
-    memory_flags_of(rewriter.byte()?).ok_or(Fault::Malformed)
+    let byte = rewriter.byte_of(Construct::MemoryFlags)?;
+    memory_flags_of(byte).ok_or(Fault::Malformed(rewriter.invalid(Construct::MemoryFlags, byte)))
 }
 
 /// Rewrites a u64 to its minimal encoding if a flag says that there is one.

@@ -3,15 +3,17 @@ ghost use Rattle.std.specs.Prelude.{◌≡◌, List, ℕ, IfErr, ◌++◌, true,
 ghost use Rattle.wasm_codec.specs.Places.{Reads};
 ghost use Rattle.wasm_codec.specs.Reading.{map_ok};
 ghost use Rattle.wasm_codec.specs.Rewriter.{Rewrites};
-ghost use Rattle.wasm_codec.specs.declared.reader.cursor.Fault.TheVariants.{Malformed};
+ghost use Rattle.wasm_codec.specs.Outcomes.{IsMalformed};
 ghost use Rattle.wasm_entities.specs.formats.Names.{utf8_to_end, name};
 ghost use Rattle.std.specs.Str.{is_utf8};
 ghost use Rattle.wasm_codec.specs.Encoding.{IsCount, IsCountRefusal, IsShortest};
 ghost use Rattle.wasm_codec.specs.formats.Grammar.{IsBytes};
 
 use std::alloc::Allocator;
+use std::str::Utf8Error;
 use wasm_codec::encode::EncodeError;
 use wasm_codec::reader::cursor::{Cursor, Fault};
+use wasm_codec::reader::malformed::{Malformed, Reason};
 use wasm_codec::rewriter::Rewriter;
 use wasm_lists::encode::encode_str;
 use wasm_lists::rewriting::{RewritableBody, rewrite_sized};
@@ -20,14 +22,16 @@ use wasm_lists::rewriting::{RewritableBody, rewrite_sized};
 #[tactic(auto, using(crate::proofs::NameLaws::name_read, crate::proofs::NameLaws::name_refused, crate::proofs::NameLaws::no_size, crate::proofs::NameLaws::no_bytes))]
 pub fn read_name<'a>(cursor: &mut Cursor<'a>) -> Result<&'a str, Fault>
     ensures reads { Reads name.at cursor.old cursor.new (map_ok (λ text. text.now) result) }
-    ensures err { IfErr result (λ e. e ≡ Malformed) }
+    ensures err { IfErr result IsMalformed }
 {
-    let size = cursor.u32()? as usize;
-    let bytes = cursor.take(size)?;
-    let Ok(text) = str::from_utf8(bytes) else {
-        return Err(Fault::Malformed);
-    };
-    Ok(text)
+    let start = cursor.to_end();
+    let size = cursor.u32()?;
+    let bytes = cursor.take_sized(size, start)?;
+    let behind = cursor.to_end();
+    match str::from_utf8(bytes) {
+        Ok(text) => Ok(text),
+        Err(error) => Err(Fault::Malformed(invalid_utf8(&error, bytes.len(), behind))),
+    }
 }
 
 /// Rewrites a name to its minimal encoding.
@@ -52,11 +56,18 @@ impl RewritableBody for Text {
 
     #[tactic(auto, using(crate::proofs::NameLaws::text_stays, crate::proofs::NameLaws::text_refused))]
     fn rewrite(rewriter: &mut Rewriter) -> Result<(), Fault> {
-        let Ok(_) = str::from_utf8(rewriter.left()) else {
-            return Err(Fault::Malformed);
-        };
-        rewriter.rest();
-        Ok(())
+        let (len, to_end) = (rewriter.len(), rewriter.to_end());
+        match str::from_utf8(rewriter.left()) {
+            Ok(_) => {
+                rewriter.rest();
+                Ok(())
+            }
+            Err(error) => Err(Fault::Malformed(invalid_utf8(
+                &error,
+                len,
+                to_end.saturating_sub(len),
+            ))),
+        }
     }
 }
 
@@ -81,4 +92,14 @@ fn are_utf8(text: &str)
 {
     // `fork` shows the proof that the items are bytes.
     let _start = Cursor::new(text.as_bytes()).fork();
+}
+
+/// Returns the fault that a name of `len` bytes with `behind` more bytes up to the end isn't UTF-8.
+#[cold]
+fn invalid_utf8(error: &Utf8Error, len: usize, behind: usize) -> Malformed {
+    let valid = error.valid_up_to();
+    let reason = Reason::InvalidUtf8 {
+        at: u32::try_from(valid).unwrap_or(u32::MAX),
+    };
+    Malformed::new(reason, len.saturating_sub(valid).saturating_add(behind))
 }

@@ -2,7 +2,7 @@
 ghost use Rattle.std.specs.Prelude.{[], ◌≡◌, false, IfErr, refl, ◌++◌, ◌+◌, ◌≤◌, ◌∷◌, Some, vec_len, vec_capacity};
 ghost use Rattle.wasm_codec.specs.Places.{Reads};
 ghost use Rattle.wasm_codec.specs.Rewriter.{Rewrites};
-ghost use Rattle.wasm_codec.specs.declared.reader.cursor.Fault.TheVariants.{Malformed};
+ghost use Rattle.wasm_codec.specs.Outcomes.{IsMalformed};
 ghost use Rattle.wasm_entities.specs.formats.Externals.{global_flags, global_type, tag_type, entity_type, global_byte, export_kind};
 ghost use Rattle.wasm_entities.specs.declared.types.TagType.{TagType};
 ghost use Rattle.wasm_codec.specs.Lawful.{IsLawful};
@@ -17,6 +17,7 @@ use std::alloc::{Allocator, Global};
 use wasm_codec::encode::EncodeError;
 use wasm_codec::encode::leb128::put_u32;
 use wasm_codec::reader::cursor::{Cursor, Fault};
+use wasm_codec::reader::malformed::Construct;
 use wasm_codec::rewriter::Rewriter;
 use wasm_lists::encode::Encode;
 use wasm_lists::readable::Readable;
@@ -101,14 +102,14 @@ pub enum ExportKind {
 #[tactic(auto, unfolding(crate::specs::formats::Externals::global_flags))]
 fn read_global_flags(cursor: &mut Cursor<'_>) -> Result<(bool, bool), Fault>
     ensures reads { Reads global_flags.at cursor.old cursor.new result }
-    ensures err { IfErr result (λ e. e ≡ Malformed) }
+    ensures err { IfErr result IsMalformed }
 {
-    match cursor.byte()? {
+    match cursor.byte_of(Construct::Mutability)? {
         0x00 => Ok((false, false)),
         0x01 => Ok((true, false)),
         0x02 => Ok((false, true)),
         0x03 => Ok((true, true)),
-        _ => Err(Fault::Malformed),
+        byte => Err(Fault::Malformed(cursor.invalid(Construct::Mutability, byte))),
     }
 }
 
@@ -116,7 +117,7 @@ fn read_global_flags(cursor: &mut Cursor<'_>) -> Result<(bool, bool), Fault>
 #[tactic(auto, unfolding(crate::specs::formats::Externals::global_type))]
 pub fn read_global_type(cursor: &mut Cursor<'_>) -> Result<GlobalType, Fault>
     ensures reads { Reads global_type.at cursor.old cursor.new result }
-    ensures err { IfErr result (λ e. e ≡ Malformed) }
+    ensures err { IfErr result IsMalformed }
 {
     let val_type = read_val_type(cursor)?;
     let (mutable, shared) = read_global_flags(cursor)?;
@@ -131,10 +132,11 @@ pub fn read_global_type(cursor: &mut Cursor<'_>) -> Result<GlobalType, Fault>
 #[tactic(auto, unfolding(crate::specs::formats::Externals::tag_type))]
 pub(crate) fn read_tag_type(cursor: &mut Cursor<'_>) -> Result<TagType, Fault>
     ensures reads { Reads tag_type.at cursor.old cursor.new result }
-    ensures err { IfErr result (λ e. e ≡ Malformed) }
+    ensures err { IfErr result IsMalformed }
 {
-    if cursor.byte()? != 0x00 {
-        return Err(Fault::Malformed);
+    let byte = cursor.byte_of(Construct::TagAttribute)?;
+    if byte != 0x00 {
+        return Err(Fault::Malformed(cursor.invalid(Construct::TagAttribute, byte)));
     }
     let func_type_idx = cursor.u32()?;
     Ok(TagType {
@@ -147,16 +149,16 @@ pub(crate) fn read_tag_type(cursor: &mut Cursor<'_>) -> Result<TagType, Fault>
 #[tactic(auto, unfolding(crate::specs::formats::Externals::entity_type))]
 pub fn read_entity_type(cursor: &mut Cursor<'_>) -> Result<EntityType, Fault>
     ensures reads { Reads entity_type.at cursor.old cursor.new result }
-    ensures err { IfErr result (λ e. e ≡ Malformed) }
+    ensures err { IfErr result IsMalformed }
 {
-    match cursor.byte()? {
+    match cursor.byte_of(Construct::ImportKind)? {
         0x00 => Ok(EntityType::Function(cursor.u32()?)),
         0x01 => Ok(EntityType::Table(read_table_type(cursor)?)),
         0x02 => Ok(EntityType::Memory(read_memory_type(cursor)?)),
         0x03 => Ok(EntityType::Global(read_global_type(cursor)?)),
         0x04 => Ok(EntityType::Tag(read_tag_type(cursor)?)),
         0x20 => Ok(EntityType::FunctionExact(cursor.u32()?)),
-        _ => Err(Fault::Malformed),
+        byte => Err(Fault::Malformed(cursor.invalid(Construct::ImportKind, byte))),
     }
 }
 
@@ -165,12 +167,12 @@ pub fn read_entity_type(cursor: &mut Cursor<'_>) -> Result<EntityType, Fault>
 fn rewrite_global_flags(rewriter: &mut Rewriter) -> Result<(), Fault>
     ensures rewrites { Rewrites global_flags rewriter.old rewriter.new result }
 {
-    match rewriter.byte()? {
+    match rewriter.byte_of(Construct::Mutability)? {
         0x00 => Ok(()),
         0x01 => Ok(()),
         0x02 => Ok(()),
         0x03 => Ok(()),
-        _ => Err(Fault::Malformed),
+        byte => Err(Fault::Malformed(rewriter.invalid(Construct::Mutability, byte))),
     }
 }
 
@@ -188,8 +190,9 @@ pub fn rewrite_global_type(rewriter: &mut Rewriter) -> Result<(), Fault>
 pub(crate) fn rewrite_tag_type(rewriter: &mut Rewriter) -> Result<(), Fault>
     ensures rewrites { Rewrites tag_type rewriter.old rewriter.new result }
 {
-    if rewriter.byte()? != 0x00 {
-        return Err(Fault::Malformed);
+    let byte = rewriter.byte_of(Construct::TagAttribute)?;
+    if byte != 0x00 {
+        return Err(Fault::Malformed(rewriter.invalid(Construct::TagAttribute, byte)));
     }
     rewriter.u32()?;
     Ok(())
@@ -200,7 +203,7 @@ pub(crate) fn rewrite_tag_type(rewriter: &mut Rewriter) -> Result<(), Fault>
 pub fn rewrite_entity_type(rewriter: &mut Rewriter) -> Result<(), Fault>
     ensures rewrites { Rewrites entity_type rewriter.old rewriter.new result }
 {
-    match rewriter.byte()? {
+    match rewriter.byte_of(Construct::ImportKind)? {
         0x00 | 0x20 => {
             rewriter.u32()?;
             Ok(())
@@ -209,7 +212,7 @@ pub fn rewrite_entity_type(rewriter: &mut Rewriter) -> Result<(), Fault>
         0x02 => rewrite_memory_type(rewriter),
         0x03 => rewrite_global_type(rewriter),
         0x04 => rewrite_tag_type(rewriter),
-        _ => Err(Fault::Malformed),
+        byte => Err(Fault::Malformed(rewriter.invalid(Construct::ImportKind, byte))),
     }
 }
 

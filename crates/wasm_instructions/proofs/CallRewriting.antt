@@ -31,7 +31,7 @@ of_kind k p o q e = made_kind k _ _ o q e (λ a. refl)
 pub after_opcode : (op : Opcode) (k : Kind) (old mid new : Rewriting) (result : Result (Unit {0}) Fault) → rewritten_at opcode old ≡ Some (op, mid) → opcode_kind op ≡ Some k → Rewrites (operands_format k) mid new result → Rewrites instruction old new result
 unfolding instruction
 after_opcode op k old mid new (Err faults.Memory) reads is none = none
-after_opcode op k old mid new (Err faults.Malformed) reads is none =
+after_opcode op k old mid new (Err (faults.Malformed m)) reads is none =
     let g = is_given opcode old op mid reads in
     rw (g.is_read, is, none) refl
 after_opcode op k old mid new (Ok done) reads is e =

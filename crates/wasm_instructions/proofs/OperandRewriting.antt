@@ -37,12 +37,12 @@ vector_rewritten old mid new fits first second =
 pub no_low_half : (old mid new : Rewriting) (fault : Fault) → Rewrites (little_endian 8) old mid (Err fault) → Rewrites vector old new (Err fault)
 unfolding vector
 no_low_half old mid new faults.Memory none = none
-no_low_half old mid new faults.Malformed none = rw none refl
+no_low_half old mid new (faults.Malformed m) none = rw none refl
 
 pub no_high_half : (old mid end new : Rewriting) (fault : Fault) → rewriting_after (little_endian 8) old ≡ Some mid → Rewrites (little_endian 8) mid end (Err fault) → Rewrites vector old new (Err fault)
 unfolding vector
 no_high_half old mid end new faults.Memory first none = none
-no_high_half old mid end new faults.Malformed first none =
+no_high_half old mid end new (faults.Malformed m) first none =
     let a = is_after (little_endian 8) old mid first in
     rw (a.given.is_read, none) refl
 

@@ -13,8 +13,9 @@ use crate::normaliser::operands::rewrite_operands;
 use crate::normaliser::scan::scan_call;
 use crate::table::{Call, Opcode};
 use std::alloc::Global;
-use wasm_codec::reader::ReadError;
 use wasm_codec::reader::cursor::Fault;
+use wasm_codec::reader::malformed::{Construct, Malformed};
+use wasm_codec::reader::{ReadError, without_reason};
 use wasm_codec::rewriter::{Rewriter, Scanned};
 use wasm_lists::rewriting::{Joinable, Rewritable, rewrite_items_to_end};
 
@@ -51,7 +52,7 @@ pub fn normalise_instructions(alloc: Global, bytes: &[u8]) -> Result<Vec<u8>, Re
 pub fn rewrite_instructions(bytes: Vec<u8>) -> Result<Vec<u8>, ReadError>
     ensures normalises { NormalisesInPlace (to_end instruction) (EncodesSome Instructions) bytes.items result }
 {
-    rewrite_items_to_end::<Call>(bytes)
+    without_reason(rewrite_items_to_end::<Call>(bytes))
 }
 
 /// Copies the bytes and rewrites the copy.
@@ -79,7 +80,7 @@ impl Rewritable for Call {
                 return Ok(());
             }
         }
-        rewrite_call(rewriter)
+        rewrite_located_call(rewriter)
     }
 }
 
@@ -95,7 +96,7 @@ impl Joinable for Call {
 fn rewrite_opcode(rewriter: &mut Rewriter) -> Result<Opcode, Fault>
     ensures gives { Gives opcode rewriter.old rewriter.new result }
 {
-    match rewriter.byte()? {
+    match rewriter.byte_of(Construct::Opcode)? {
         0xfb => Ok(Opcode::after_fb(rewriter.u32()?)),
         0xfc => Ok(Opcode::after_fc(rewriter.u32()?)),
         0xfd => Ok(Opcode::after_fd(rewriter.u32()?)),
@@ -109,9 +110,22 @@ fn rewrite_opcode(rewriter: &mut Rewriter) -> Result<Opcode, Fault>
 fn rewrite_call(rewriter: &mut Rewriter) -> Result<(), Fault>
     ensures rewrites { Rewrites instruction rewriter.old rewriter.new result }
 {
+    let start = rewriter.to_end();
     let op = rewrite_opcode(rewriter)?;
     let Some(kind) = op.kind() else {
-        return Err(Fault::Malformed);
+        return Err(Fault::Malformed(Malformed::new(op.unknown(), start)));
     };
     rewrite_operands(rewriter, kind)
+}
+
+/// Rewrites an opcode and its operands. A fault carries the place of the instruction.
+fn rewrite_located_call(rewriter: &mut Rewriter) -> Result<(), Fault>
+    ensures rewrites { Rewrites instruction rewriter.old rewriter.new result }
+{
+    let start = rewriter.to_end();
+    match rewrite_call(rewriter) {
+        Ok(()) => Ok(()),
+        Err(Fault::Malformed(malformed)) => Err(Fault::Malformed(malformed.in_instruction(start))),
+        Err(Fault::Memory) => Err(Fault::Memory),
+    }
 }

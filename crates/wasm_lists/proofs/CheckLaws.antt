@@ -84,7 +84,7 @@ nothing_there {V} {F} r p fits none = none_unless F r p fits (λ prefix rest v g
     clash (F.at p) (v, place (keeps p.shortest prefix (F.bytes v)) rest) none (ap (λ (l : List ℕ). F.at (place p.shortest l)) parts ∙ r.reads.complete prefix v rest p.shortest g))
 
 pub refused_again : {V : Type 0} {F : Format V} → IsLawful F → (old mid new : Rewriting) → IsBytes old.place.left → (fault : Fault) → Rewrites F old mid (Err fault) → Rewrites (minimal_only F) old new (Err fault)
-refused_again r old mid new fits faults.Malformed none = nothing_there r old.place fits none
+refused_again r old mid new fits (faults.Malformed m) none = nothing_there r old.place fits none
 refused_again r old mid new fits faults.Memory none = none
 
 -- ---- a count, and then items

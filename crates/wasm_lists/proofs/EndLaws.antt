@@ -75,7 +75,7 @@ one_passed {V} {F} r takes old here next vs v fits w e =
 -- an item was missing
 pub wanting : {V : Type 0} (F : Format V) (old here new : Place) (vs : List V) (fault : Fault) → PassedSome F old here vs → 0 < length here.left → Reads F.at here new (Err fault) → Reads (to_end F).at old new (Err fault)
 wanting F old here new vs faults.Memory w lt none = tt
-wanting F old here new vs faults.Malformed w lt none = until_stops F.at vs w.most here ((to_end F).at old) (not_ended here.left lt) none w.so_far
+wanting F old here new vs (faults.Malformed m) w lt none = until_stops F.at vs w.most here ((to_end F).at old) (not_ended here.left lt) none w.so_far
 
 gone : (bytes : List ℕ) → length bytes ≤ 0 → at_end bytes ≡ true
 gone [] le = refl
@@ -88,7 +88,7 @@ all_passed F old here vs w le = until_ends F.at vs w.most here ((to_end F).at ol
 pub longest_passed : {V : Type 0} {F : Format V} (X : Type 0) → IsLawful F → TakesBytes F.Encodes → (old here new : Place) (vs : List V) (fault : Fault) → IsBytes here.left → PassedSome F old here vs → Reads F.at here new (Err fault) → new ≡ here
     → UnlessMemory {X = X} (Err fault) (IsAfterLongest (EncodesSome (Joined F.Encodes)) old.left new.left)
 longest_passed X r takes old here new vs faults.Memory fits w none stays = tt
-longest_passed {F = F} X r takes old here new vs faults.Malformed fits w none stays =
+longest_passed {F = F} X r takes old here new vs (faults.Malformed m) fits w none stays =
     let prefix : IsLongestPrefix (EncodesSome (Joined F.Encodes)) old.left (length w.progress.prefix) = Joined-longest (plain_reads r.reads) takes old.left w.progress.prefix here.left vs w.progress.parts w.progress.encodes (plain_none r here fits none) in
     record {
       prefix = w.progress.prefix;

@@ -2,8 +2,8 @@
 //!
 //! A check accepts what the corresponding strict reader accepts, but returns no values. It works on a copy of the
 //! bytes.
-ghost use Rattle.std.specs.Prelude.{◌≡◌, ◌<◌, length, is_some, true, IfOk};
-ghost use Rattle.wasm_codec.specs.Outcomes.{IfRefused, IsLongestPrefix, EncodesSome};
+ghost use Rattle.std.specs.Prelude.{◌≡◌, ◌<◌, length, is_some, true, false, IfOk, IfSome, IfNone};
+ghost use Rattle.wasm_codec.specs.Outcomes.{as_read, IfRefused, IsLongestPrefix, EncodesSome};
 ghost use Rattle.wasm_codec.specs.formats.Grammar.{Joined};
 ghost use Rattle.wasm_codec.specs.Lists.{ListMinimalIf, IsListPrefixMinimalIf};
 ghost use Rattle.wasm_codec.specs.Places.{place};
@@ -13,37 +13,41 @@ ghost use Rattle.wasm_codec.specs.Decoding.{ChecksAll};
 use crate::rewriting::{Joinable, Rewritable, rewrite_items_to_end, rewrite_list_to_end};
 use std::alloc::Global;
 use std::marker::PhantomData;
-use wasm_codec::reader::ReadError;
+use wasm_codec::reader::DecodeError;
 use wasm_codec::reader::cursor::{Cursor, Fault};
+use wasm_codec::reader::malformed::{Malformed, Reason};
 use wasm_codec::rewriter::{Rewriter, Scanned};
 
 /// Checks that the bytes are a count and as many items, minimally encoded, without trailing bytes.
-pub fn check_list_to_end<T: Rewritable>(alloc: Global, bytes: &[u8]) -> Result<(), ReadError>
-    ensures checks { ChecksAll (ListMinimalIf true T.format) (IsListPrefixMinimalIf true T.format) bytes.now result }
+pub fn check_list_to_end<T: Rewritable>(alloc: Global, bytes: &[u8]) -> Result<(), DecodeError>
+    ensures checks { ChecksAll (ListMinimalIf true T.format) (IsListPrefixMinimalIf true T.format) bytes.now (as_read result) }
 {
-    if !begins_with_count(bytes) {
-        return Err(ReadError::Refused { at: 0 });
+    if let Some(malformed) = fault_in_count(bytes) {
+        return Err(DecodeError::refused(&malformed, 0, bytes.len()));
     }
     let _list = rewrite_list_to_end::<Shortest<T>>(Vec::from_slice(alloc, bytes)?)?;
     Ok(())
 }
 
-/// Checks whether the bytes begin with a minimally encoded u32.
-fn begins_with_count(bytes: &[u8]) -> bool
-    ensures { result ≡ is_some ((minimal_only u32_format).at (place true bytes.now)) }
+/// Returns what is wrong with the count that the bytes begin with. `None` means that it is minimally encoded.
+fn fault_in_count(bytes: &[u8]) -> Option<Malformed>
+    ensures none { IfNone result (is_some ((minimal_only u32_format).at (place true bytes.now)) ≡ true) }
+    ensures some { IfSome result (λ _. is_some ((minimal_only u32_format).at (place true bytes.now)) ≡ false) }
 {
     let mut cursor = Cursor::new(bytes);
     match cursor.u32() {
-        Ok(_) => cursor.is_shortest(),
-        Err(_) => false,
+        Ok(_) if cursor.is_shortest() => None,
+        Ok(_) => Some(Malformed::new(Reason::LongForm, bytes.len())),
+        Err(Fault::Malformed(malformed)) => Some(malformed),
+        Err(Fault::Memory) => Some(Malformed::new(Reason::LongForm, bytes.len())),
     }
 }
 
 /// Checks that the bytes are items one after another, without a count, minimally encoded.
-pub fn check_items_to_end<T: Joinable>(alloc: Global, bytes: &[u8]) -> Result<(), ReadError>
-    ensures given { IfOk result (λ _. EncodesSome (Joined (minimal_only T.format).Encodes) bytes.now) }
-    ensures prefix { IfRefused result (IsLongestPrefix (EncodesSome (Joined (minimal_only T.format).Encodes)) bytes.now) }
-    ensures within { IfRefused result (λ at. at < length bytes.now) }
+pub fn check_items_to_end<T: Joinable>(alloc: Global, bytes: &[u8]) -> Result<(), DecodeError>
+    ensures given { IfOk (as_read result) (λ _. EncodesSome (Joined (minimal_only T.format).Encodes) bytes.now) }
+    ensures prefix { IfRefused (as_read result) (IsLongestPrefix (EncodesSome (Joined (minimal_only T.format).Encodes)) bytes.now) }
+    ensures within { IfRefused (as_read result) (λ at. at < length bytes.now) }
 {
     let _items = rewrite_items_to_end::<Shortest<T>>(Vec::from_slice(alloc, bytes)?)?;
     Ok(())
@@ -68,10 +72,12 @@ impl<T: Rewritable> Rewritable for Shortest<T> {
     fn rewrite(rewriter: &mut Rewriter) -> Result<(), Fault> {
         T::is_lawful();
         rewriter.are_bytes();
-        let (mark, len) = (rewriter.written_len(), rewriter.len());
+        let (mark, len, start) = (rewriter.written_len(), rewriter.len(), rewriter.to_end());
         T::rewrite(rewriter)?;
-        if rewriter.written_len() - mark < len - rewriter.len() {
-            return Err(Fault::Malformed);
+        let (minimal, bytes) = (rewriter.written_len() - mark, len - rewriter.len());
+        if minimal < bytes {
+            let reason = Reason::NotMinimal { bytes, minimal };
+            return Err(Fault::Malformed(Malformed::new(reason, start)));
         }
         Ok(())
     }

@@ -1,5 +1,5 @@
 //! `Readable`, the items that lists are read of.
-ghost use Rattle.wasm_codec.specs.declared.reader.cursor.Fault.TheVariants.{Malformed};
+ghost use Rattle.wasm_codec.specs.Outcomes.{IsMalformed};
 ghost use Rattle.std.specs.Prelude.{◌≡◌, IfErr, ℕ, List, refl};
 ghost use Rattle.wasm_codec.specs.formats.Grammar.{TakesBytes};
 ghost use Rattle.wasm_codec.specs.Reading.{ViewsEach, map_ok};
@@ -25,7 +25,7 @@ use wasm_codec::rewriter::Rewriter;
 /// let mut cursor = Cursor::new(b"\x70\x7f\x00");
 /// assert_eq!(rt; ValType::read(rt.alloc(), &mut cursor), Ok(ValType::FUNCREF));
 /// assert_eq!(rt; ValType::read(rt.alloc(), &mut cursor), Ok(ValType::I32));
-/// assert_eq!(rt; ValType::read(rt.alloc(), &mut cursor), Err(Fault::Malformed));
+/// assert!(rt; matches!(ValType::read(rt.alloc(), &mut cursor), Err(Fault::Malformed(_))));
 /// ```
 pub trait Readable<'a>: Drop {
     /// The decoded item, in contracts: the item itself, unless it borrows from the bytes.
@@ -93,7 +93,7 @@ impl<'a> Readable<'a> for u32 {
 
     fn read(_alloc: Global, cursor: &mut Cursor<'a>) -> Result<u32, Fault>
         ensures reads { Reads u32_format.at cursor.old cursor.new (map_ok (λ x. x) result) }
-        ensures err { IfErr result (λ e. e ≡ Malformed) }
+        ensures err { IfErr result IsMalformed }
     {
         cursor.u32()
     }

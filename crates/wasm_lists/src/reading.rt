@@ -2,21 +2,22 @@
 //!
 //! If `STRICT` is set, a loop accepts minimal encodings only, and stops at the first other one.
 ghost use Rattle.std.specs.Prelude.{◌≡◌, ◌^◌, ◌<◌, List, [], length, IfOk, IfErr};
-ghost use Rattle.wasm_codec.specs.declared.reader.cursor.Fault.TheVariants.{Malformed};
+ghost use Rattle.wasm_codec.specs.Outcomes.{IsMalformed};
 ghost use Rattle.wasm_codec.specs.formats.Grammar.{IsBytes, TakesBytes, Joined};
 ghost use Rattle.wasm_codec.specs.Reading.{ReadsPlain, FindsAt, map_ok};
 ghost use Rattle.wasm_codec.specs.Places.{Reads, counted_at, WasMinimalIf};
 ghost use Rattle.wasm_codec.specs.Lawful.{IsLawful, plain};
 ghost use Rattle.wasm_codec.specs.formats.Combinators.{items, minimal_if, u32 as u32_format};
 ghost use Rattle.wasm_codec.specs.formats.Bodies.{to_end};
-ghost use Rattle.wasm_codec.specs.Outcomes.{IfRefused, IsLongestPrefix, IsAfterLongest, UnlessMemory, EncodesSome};
+ghost use Rattle.wasm_codec.specs.Outcomes.{as_read, IfRefused, IsLongestPrefix, IsAfterLongest, UnlessMemory, EncodesSome};
 ghost use Rattle.wasm_codec.specs.Lists.{EncodesList, list_at, IsListPrefix, ListMinimalIf, list_minimal_if_at, IsListPrefixMinimalIf};
 
 use crate::list::Items;
 use crate::readable::Readable;
 use std::alloc::Global;
-use wasm_codec::reader::ReadError;
+use wasm_codec::reader::DecodeError;
 use wasm_codec::reader::cursor::{Cursor, Fault};
+use wasm_codec::reader::malformed::{Malformed, Reason};
 
 /// Reads a list: a count, and then the items (Core 3.0, Lists).
 ///
@@ -49,13 +50,35 @@ fn read_list_minimal_if<'a, T: Readable<'a>, const STRICT: bool>(
     ensures prefix { UnlessMemory result (IsAfterLongest (IsListPrefixMinimalIf STRICT T.format) cursor.old.left cursor.new.left) }
     ensures counted { IfOk result (λ items. length items < 2 ^ 32) }
 {
-    let count: u32 = read_next_item::<u32, STRICT>(alloc, cursor)?;
+    let count: u32 = read_next_item::<u32, STRICT>(alloc, cursor, Number::Count)?;
     let mut items = Vec::new(alloc);
-    for _ in 0..count {
-        let item = read_next_item::<T, STRICT>(alloc, cursor)?;
+    for index in 0..count {
+        let item = read_next_item::<T, STRICT>(alloc, cursor, Number::Item(index))?;
         items.push(item)?;
     }
     Ok(Items::from(items))
+}
+
+/// The number of what is read, which a fault in it carries on.
+#[derive(Clone, Copy)]
+enum Number {
+    /// The count of a list.
+    Count,
+    /// An item of a list, with its index.
+    Item(u32),
+    /// A section or another item without a count, with the number of items before it.
+    Section(usize),
+}
+
+impl Number {
+    /// Adds the number to a fault.
+    fn add_to(self, malformed: Malformed) -> Malformed {
+        match self {
+            Number::Count => malformed,
+            Number::Item(index) => malformed.in_item(index),
+            Number::Section(number) => malformed.numbered(number),
+        }
+    }
 }
 
 /// Reads the next item, minimally encoded if `STRICT` is set. If it fails, the cursor stays where it was.
@@ -63,6 +86,7 @@ fn read_list_minimal_if<'a, T: Readable<'a>, const STRICT: bool>(
 fn read_next_item<'a, T: Readable<'a>, const STRICT: bool>(
     alloc: Global,
     cursor: &mut Cursor<'a>,
+    number: Number,
 ) -> Result<T, Fault>
     requires passed { WasMinimalIf STRICT cursor.old }
     ensures reads { Reads (minimal_if STRICT T.format).at cursor.old cursor.new (map_ok T.view result) }
@@ -76,9 +100,13 @@ fn read_next_item<'a, T: Readable<'a>, const STRICT: bool>(
     let start = cursor.fork();
     match read_item::<T, STRICT>(alloc, cursor) {
         Ok(item) => Ok(item),
-        Err(fault) => {
+        Err(Fault::Malformed(malformed)) => {
             *cursor = start;
-            Err(fault)
+            Err(Fault::Malformed(number.add_to(malformed)))
+        }
+        Err(Fault::Memory) => {
+            *cursor = start;
+            Err(Fault::Memory)
         }
     }
 }
@@ -95,9 +123,10 @@ fn read_item<'a, T: Readable<'a>, const STRICT: bool>(
     ensures some { TakesBytes (minimal_if STRICT T.format).Encodes }
 {
     T::is_lawful();
+    let start = cursor.to_end();
     let item = T::read(alloc, cursor)?;
     if STRICT && !cursor.is_shortest() {
-        return Err(Fault::Malformed);
+        return Err(Fault::Malformed(Malformed::new(Reason::LongForm, start)));
     }
     Ok(item)
 }
@@ -105,25 +134,25 @@ fn read_item<'a, T: Readable<'a>, const STRICT: bool>(
 /// Reads a list from all of the bytes: a count, and then the items, minimally encoded if `STRICT` is set (Core 3.0,
 /// Lists).
 ///
-/// Fails with `Refused` if the bytes are malformed: `at` is the offset of the first malformed or missing item, or of
+/// Fails with `Malformed` if the bytes are malformed: `at` is the offset of the first malformed or missing item, or of
 /// trailing bytes. It is 0 if the count is malformed. Fails with `Memory` if an allocation fails.
 ///
 /// # Examples
 ///
 /// ```
-/// # use wasm_encoder::{ReadError, read_list_to_end};
+/// # use wasm_encoder::read_list_to_end;
 /// let indexes = read_list_to_end::<u32, false>(rt.alloc(), b"\x02\x07\x80\x01")?;
 /// assert_eq!(rt; indexes.as_slice(), [7, 128].as_slice());
 /// let trailing = read_list_to_end::<u32, false>(rt.alloc(), b"\x01\x07\x00");
-/// assert_eq!(rt; trailing.err(), Some(ReadError::Refused { at: 2 }));
+/// assert_eq!(rt; trailing.err().and_then(|error| error.at()), Some(2));
 /// ```
 pub fn read_list_to_end<'a, T: Readable<'a>, const STRICT: bool>(
     alloc: Global,
     bytes: &'a [u8],
-) -> Result<Vec<T>, ReadError>
-    ensures given { IfOk result (λ items. ListMinimalIf STRICT T.format bytes.now (T.views items.items)) }
-    ensures prefix { IfRefused result (IsLongestPrefix (IsListPrefixMinimalIf STRICT T.format) bytes.now) }
-    ensures unencoded { IfRefused result (λ _. (items : List T.Value) → ListMinimalIf STRICT T.format bytes.now items → ⊥) }
+) -> Result<Vec<T>, DecodeError>
+    ensures given { IfOk (as_read result) (λ items. ListMinimalIf STRICT T.format bytes.now (T.views items.items)) }
+    ensures prefix { IfRefused (as_read result) (IsLongestPrefix (IsListPrefixMinimalIf STRICT T.format) bytes.now) }
+    ensures unencoded { IfRefused (as_read result) (λ _. (items : List T.Value) → ListMinimalIf STRICT T.format bytes.now items → ⊥) }
     ensures counted { IfOk result (λ items. length items.items < 2 ^ 32) }
 {
     let mut cursor = Cursor::new(bytes);
@@ -131,37 +160,37 @@ pub fn read_list_to_end<'a, T: Readable<'a>, const STRICT: bool>(
         Ok(items) => {
             if cursor.len() > 0 {
                 let at = bytes.len() - cursor.len();
-                return Err(ReadError::Refused { at });
+                return Err(DecodeError::refused(&cursor.trailing(), at, bytes.len()));
             }
             Ok(items.into_vec())
         }
-        Err(Fault::Malformed) => {
+        Err(Fault::Malformed(malformed)) => {
             let at = bytes.len() - cursor.len();
-            Err(ReadError::Refused { at })
+            Err(DecodeError::refused(&malformed, at, bytes.len()))
         }
-        Err(Fault::Memory) => Err(ReadError::Memory),
+        Err(Fault::Memory) => Err(DecodeError::Memory),
     }
 }
 
 /// Reads items one after another, without a count, from all of the bytes, minimally encoded if `STRICT` is set.
 ///
-/// Fails with `Refused` at the offset of the first malformed item, and with `Memory` if an allocation fails.
+/// Fails with `Malformed` at the offset of the first malformed item, and with `Memory` if an allocation fails.
 pub fn read_items_to_end<'a, T: Readable<'a>, const STRICT: bool>(
     alloc: Global,
     bytes: &'a [u8],
-) -> Result<Vec<T>, ReadError>
-    ensures given { IfOk result (λ items. Joined (minimal_if STRICT T.format).Encodes bytes.now (T.views items.items)) }
-    ensures prefix { IfRefused result (IsLongestPrefix (EncodesSome (Joined (minimal_if STRICT T.format).Encodes)) bytes.now) }
-    ensures within { IfRefused result (λ at. at < length bytes.now) }
+) -> Result<Vec<T>, DecodeError>
+    ensures given { IfOk (as_read result) (λ items. Joined (minimal_if STRICT T.format).Encodes bytes.now (T.views items.items)) }
+    ensures prefix { IfRefused (as_read result) (IsLongestPrefix (EncodesSome (Joined (minimal_if STRICT T.format).Encodes)) bytes.now) }
+    ensures within { IfRefused (as_read result) (λ at. at < length bytes.now) }
 {
     let mut cursor = Cursor::new(bytes);
     match read_items_minimal_if::<T, STRICT>(alloc, &mut cursor) {
         Ok(items) => Ok(items.into_vec()),
-        Err(Fault::Malformed) => {
+        Err(Fault::Malformed(malformed)) => {
             let at = bytes.len() - cursor.len();
-            Err(ReadError::Refused { at })
+            Err(DecodeError::refused(&malformed, at, bytes.len()))
         }
-        Err(Fault::Memory) => Err(ReadError::Memory),
+        Err(Fault::Memory) => Err(DecodeError::Memory),
     }
 }
 
@@ -177,7 +206,7 @@ pub fn read_items<'a, T: Readable<'a>>(
     ensures ended { IfOk result (λ _. cursor.new.left ≡ []) }
     // The cursor stays after the longest well-formed prefix.
     ensures prefix { UnlessMemory result (IsAfterLongest (EncodesSome (Joined T.format.Encodes)) cursor.old.left cursor.new.left) }
-    ensures stopped { IfErr result (λ fault. fault ≡ Malformed → 0 < length cursor.new.left) }
+    ensures stopped { IfErr result (λ fault. IsMalformed fault → 0 < length cursor.new.left) }
 {
     read_items_minimal_if::<T, false>(alloc, cursor)
 }
@@ -192,11 +221,11 @@ fn read_items_minimal_if<'a, T: Readable<'a>, const STRICT: bool>(
     ensures given { IfOk result (λ items. Joined (minimal_if STRICT T.format).Encodes cursor.old.left (T.views items)) }
     ensures ended { IfOk result (λ _. cursor.new.left ≡ []) }
     ensures prefix { UnlessMemory result (IsAfterLongest (EncodesSome (Joined (minimal_if STRICT T.format).Encodes)) cursor.old.left cursor.new.left) }
-    ensures stopped { IfErr result (λ fault. fault ≡ Malformed → 0 < length cursor.new.left) }
+    ensures stopped { IfErr result (λ fault. IsMalformed fault → 0 < length cursor.new.left) }
 {
     let mut items = Vec::new(alloc);
     while cursor.len() > 0 {
-        let item = read_next_item::<T, STRICT>(alloc, cursor)?;
+        let item = read_next_item::<T, STRICT>(alloc, cursor, Number::Section(items.len()))?;
         items.push(item)?;
     }
     Ok(Items::from(items))

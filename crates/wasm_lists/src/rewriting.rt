@@ -2,7 +2,7 @@
 ghost use Rattle.std.specs.Prelude.{◌≡◌, ◌<◌, List, ℕ, length, IfOk};
 ghost use Rattle.std.specs.List.{flat_map};
 ghost use Rattle.wasm_codec.specs.formats.Grammar.{TakesBytes, Joined};
-ghost use Rattle.wasm_codec.specs.Outcomes.{IfRefused, NeedsNoMemory, IsLongestPrefix, IsNormalForm, EncodesSome};
+ghost use Rattle.wasm_codec.specs.Outcomes.{as_read, IfRefused, NeedsNoMemory, IsLongestPrefix, IsNormalForm, EncodesSome};
 ghost use Rattle.wasm_codec.specs.Lawful.{IsLawful, IsLawfulBody};
 ghost use Rattle.wasm_codec.specs.Lists.{EncodesList, items_bytes, IsListPrefix};
 ghost use Rattle.wasm_codec.specs.formats.Combinators.{Format, items, u32 as u32_format};
@@ -10,8 +10,9 @@ ghost use Rattle.wasm_codec.specs.formats.Bodies.{sized, to_end};
 ghost use Rattle.wasm_codec.specs.Scanning.{BeginsShort, Scans};
 ghost use Rattle.wasm_codec.specs.Rewriter.{Rewrites, RewritesAll, RewritesList};
 
-use wasm_codec::reader::ReadError;
+use wasm_codec::reader::DecodeError;
 use wasm_codec::reader::cursor::Fault;
+use wasm_codec::reader::malformed::Stop;
 use wasm_codec::rewriter::{Rewriter, Scanned, are_bytes, scan_u32};
 
 /// An item of a list that can be rewritten in place.
@@ -65,10 +66,25 @@ pub fn rewrite_list<T: Rewritable>(rewriter: &mut Rewriter) -> Result<(), Fault>
     ensures rewrites { Rewrites (items T.format) rewriter.old rewriter.new result }
 {
     let count = rewriter.u32()?;
-    for _ in 0..count {
-        T::rewrite(rewriter)?;
+    for index in 0..count {
+        rewrite_item::<T>(rewriter, index)?;
     }
     Ok(())
+}
+
+/// Rewrites the item with this index.
+#[inline(always)]
+fn rewrite_item<T: Rewritable>(rewriter: &mut Rewriter, index: u32) -> Result<(), Fault>
+    ensures lawful { IsLawful T.format }
+    ensures some { TakesBytes T.format.Encodes }
+    ensures rewrites { Rewrites T.format rewriter.old rewriter.new result }
+{
+    T::is_lawful();
+    match T::rewrite(rewriter) {
+        Ok(()) => Ok(()),
+        Err(Fault::Malformed(malformed)) => Err(Fault::Malformed(malformed.in_item(index))),
+        Err(Fault::Memory) => Err(Fault::Memory),
+    }
 }
 
 /// A body that is rewritten up to its end.
@@ -98,7 +114,7 @@ pub fn rewrite_sized<T: RewritableBody>(rewriter: &mut Rewriter) -> Result<(), F
     let body = rewriter.open_body()?;
     T::rewrite(rewriter)?;
     if rewriter.len() > 0 {
-        return Err(Fault::Malformed);
+        return Err(Fault::Malformed(rewriter.trailing()));
     }
     rewriter.close_body(body);
     Ok(())
@@ -110,24 +126,30 @@ pub fn rewrite_to_end<T: Joinable>(rewriter: &mut Rewriter) -> Result<(), Fault>
 {
     match rewrite_joined::<T>(rewriter) {
         Ok(()) => Ok(()),
-        Err(_) => Err(Fault::Malformed),
+        Err(stop) => Err(stop.fault),
     }
 }
 
-/// Rewrites items one after another, up to the end. Fails with the number of bytes left at the first malformed item.
-pub fn rewrite_joined<T: Joinable>(rewriter: &mut Rewriter) -> Result<(), usize>
+/// Rewrites items one after another, up to the end. Fails with the first malformed item.
+pub fn rewrite_joined<T: Joinable>(rewriter: &mut Rewriter) -> Result<(), Stop>
     ensures { RewritesAll T.format rewriter.old rewriter.new result }
 {
     T::is_lawful();
     rewriter.are_bytes();
+    let mut passed = 0usize;
     while rewriter.len() > 0 {
         let run = short_run::<T>(rewriter.left());
         rewriter.skip(run);
         let left = rewriter.len();
         if left != 0 {
-            if let Err(_) = T::rewrite(rewriter) {
-                return Err(left);
+            if let Err(fault) = T::rewrite(rewriter) {
+                return Err(Stop {
+                    left,
+                    passed,
+                    fault,
+                });
             }
+            passed = passed.wrapping_add(1);
         }
     }
     Ok(())
@@ -171,12 +193,12 @@ fn short_run_ahead<T: Joinable, const AHEAD: usize>(bytes: &[u8], begun: usize) 
 
 /// Returns the minimal encoding of the items that the bytes encode one after another, without a count.
 ///
-/// It never fails with `Memory`. Fails with `Refused` at the offset of the first malformed item.
-pub fn rewrite_items_to_end<T: Joinable>(bytes: Vec<u8>) -> Result<Vec<u8>, ReadError>
-    ensures given { IfOk result (λ given. IsNormalForm (Joined T.format.Encodes) (flat_map T.format.bytes) bytes.items given.items) }
-    ensures prefix { IfRefused result (IsLongestPrefix (EncodesSome (Joined T.format.Encodes)) bytes.items) }
-    ensures within { IfRefused result (λ at. at < length bytes.items) }
-    ensures memory { NeedsNoMemory result }
+/// It never fails with `Memory`. Fails with `Malformed` at the offset of the first malformed item.
+pub fn rewrite_items_to_end<T: Joinable>(bytes: Vec<u8>) -> Result<Vec<u8>, DecodeError>
+    ensures given { IfOk (as_read result) (λ given. IsNormalForm (Joined T.format.Encodes) (flat_map T.format.bytes) bytes.items given.items) }
+    ensures prefix { IfRefused (as_read result) (IsLongestPrefix (EncodesSome (Joined T.format.Encodes)) bytes.items) }
+    ensures within { IfRefused (as_read result) (λ at. at < length bytes.items) }
+    ensures memory { NeedsNoMemory (as_read result) }
 {
     T::is_lawful();
     let len = bytes.len();
@@ -184,46 +206,44 @@ pub fn rewrite_items_to_end<T: Joinable>(bytes: Vec<u8>) -> Result<Vec<u8>, Read
     rewriter.are_bytes();
     match rewrite_joined::<T>(&mut rewriter) {
         Ok(()) => Ok(rewriter.finish()),
-        Err(left) => Err(ReadError::Refused { at: len - left }),
+        Err(stop) => Err(DecodeError::new(stop.fault, len - stop.left, len).numbered(stop.passed)),
     }
 }
 
 /// Returns the minimal encoding of the list that the bytes encode.
 ///
-/// It never fails with `Memory`. Fails with `Refused` at the offset of the first malformed or missing item, or of
+/// It never fails with `Memory`. Fails with `Malformed` at the offset of the first malformed or missing item, or of
 /// trailing bytes. The offset is 0 if the count is malformed.
-pub fn rewrite_list_to_end<T: Rewritable>(bytes: Vec<u8>) -> Result<Vec<u8>, ReadError>
-    ensures given { IfOk result (λ given. IsNormalForm (EncodesList T.format.Encodes) (items_bytes T.format.bytes) bytes.items given.items) }
-    ensures prefix { IfRefused result (IsLongestPrefix (IsListPrefix T.format.Encodes) bytes.items) }
-    ensures unencoded { IfRefused result (λ _. (items : List T.Value) → EncodesList T.format.Encodes bytes.items items → ⊥) }
-    ensures memory { NeedsNoMemory result }
+pub fn rewrite_list_to_end<T: Rewritable>(bytes: Vec<u8>) -> Result<Vec<u8>, DecodeError>
+    ensures given { IfOk (as_read result) (λ given. IsNormalForm (EncodesList T.format.Encodes) (items_bytes T.format.bytes) bytes.items given.items) }
+    ensures prefix { IfRefused (as_read result) (IsLongestPrefix (IsListPrefix T.format.Encodes) bytes.items) }
+    ensures unencoded { IfRefused (as_read result) (λ _. (items : List T.Value) → EncodesList T.format.Encodes bytes.items items → ⊥) }
+    ensures memory { NeedsNoMemory (as_read result) }
 {
-    match rewrite_whole_list::<T>(bytes) {
-        Ok(encoding) => Ok(encoding),
-        Err(at) => Err(ReadError::Refused { at }),
-    }
+    rewrite_whole_list::<T>(bytes)
 }
 
 /// Rewrites the list that the bytes encode. Fails with the length of the longest well-formed prefix.
-fn rewrite_whole_list<T: Rewritable>(bytes: Vec<u8>) -> Result<Vec<u8>, usize>
-    ensures { RewritesList T.format bytes.items result }
+fn rewrite_whole_list<T: Rewritable>(bytes: Vec<u8>) -> Result<Vec<u8>, DecodeError>
+    ensures { RewritesList T.format bytes.items (as_read result) }
 {
     T::is_lawful();
     let len = bytes.len();
     let mut rewriter = Rewriter::new(bytes);
     rewriter.are_bytes();
-    let Ok(count) = rewriter.u32() else {
-        return Err(0);
+    let count = match rewriter.u32() {
+        Ok(count) => count,
+        Err(fault) => return Err(DecodeError::new(fault, 0, len)),
     };
-    for _ in 0..count {
+    for index in 0..count {
         let left = rewriter.len();
-        if let Err(_) = T::rewrite(&mut rewriter) {
-            return Err(len - left);
+        if let Err(fault) = T::rewrite(&mut rewriter) {
+            return Err(DecodeError::new(fault, len - left, len).in_item(index));
         }
     }
     let left = rewriter.len();
     if left > 0 {
-        return Err(len - left);
+        return Err(DecodeError::refused(&rewriter.trailing(), len - left, len));
     }
     Ok(rewriter.finish())
 }

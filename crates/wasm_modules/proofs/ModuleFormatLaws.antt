@@ -1,5 +1,5 @@
 -- The laws of the formats of sections and modules.
-use Rattle.std.proofs.Common.{◌≡◌, ◌↔◌, ℕ, eqb, List, ◌++◌, refl, sym, ap, ◌∙◌, lit≤, ◌+◌, ◌-◌, ◌<◌, ◌≤◌, ◌⊎◌, true, false, [], length, take, drop, Option, Some, None, subst, append_assoc, length-append, inl, inr, arith}
+use Rattle.std.proofs.Common.{◌≡◌, ◌↔◌, ℕ, eqb, List, ◌++◌, refl, sym, ap, ◌∙◌, lit≤, ◌+◌, ◌-◌, ◌<◌, ◌≤◌, ◌⊎◌, true, false, [], length, take, drop, Option, Some, None, Err, subst, append_assoc, length-append, inl, inr, arith}
 use Rattle.std.proofs.lemmas.List.{append_cancel_left, append-nil, take_at, drop_at, take-append-drop}
 use Rattle.std.specs.List.{flat_map}
 use Rattle.wasm_codec.specs.formats.Grammar.{IsBytes, TakesBytes, Grammar, After, Joined}
@@ -15,6 +15,8 @@ use Rattle.wasm_modules.proofs.CodeBodyLaws.{Lawful-code-section-body}
 use Rattle.std.specs.Prelude.{MatchOption, IfSome, IfNone}
 use lib.Pointwise.{pointwise, bytes_decides}
 use Rattle.wasm_codec.specs.Outcomes.{IsLongestPrefix, IsNormalForm, EncodesSome}
+use Rattle.wasm_codec.specs.declared.reader.ReadError.TheVariants as errors
+use Rattle.wasm_codec.specs.Decoding.{RewritesAll}
 use Rattle.wasm_codec.specs.Places.{place}
 use Rattle.wasm_codec.specs.formats.Bodies.{to_end}
 use Rattle.wasm_codec.specs.Rewriter.{Rewriting, rewriting, rewriting_after, skipped, StopsAt}
@@ -113,6 +115,21 @@ pub headed_none_whole : {V : Type 0} {G : Grammar V} (bytes body : List ℕ) (n 
 headed_none_whole bytes body n e lt l vs g =
     let le = (headed_longest bytes body n e l).longest bytes [] (sym (append-nil bytes)) (inr (vs, g)) in
     absurd (omega (arith, le, ap (length {A = ℕ}) e, length-append header body))
+
+-- without the header there is no module, and no prefix that is whole but the empty one
+module _ {V : Type 0} (F : Format V) (bytes : List ℕ) (missing : (rest : List ℕ) → bytes ≡ header ++ rest → ⊥) where
+  no_module : (vs : List V) → (module_of F).Encodes bytes vs → ⊥
+  no_module vs g = missing g.0 g.1
+
+  pub headless : RewritesAll (module_of F) (IsHeadedPrefix F.Encodes) bytes (Err (errors.Refused 0))
+  headless = record {
+    given = tt;
+    prefix = record { prefix = []; rest = bytes; parts = refl; len_is = refl; whole = inl refl; longest = longest };
+    unencoded = no_module;
+  } where
+    longest : (other after : List ℕ) → bytes ≡ other ++ after → IsHeadedPrefix F.Encodes other → length other ≤ 0
+    longest other after p (inl none) = rw none (omega arith)
+    longest other after p (inr w) = absurd (missing (w.1.0 ++ after) (p ∙ ap (λ (t : List ℕ). t ++ after) w.1.1 ∙ append_assoc header w.1.0 after))
 
 -- what the code finds of the header: the bytes after it, or that it isn't there
 abbrev Stripped : {X : Type 0} → (X → List ℕ) → List ℕ → Option X → Type 0

@@ -15,13 +15,14 @@ ghost use Rattle.wasm_codec.specs.Decoding.{Normalises, NormalisesInPlace};
 pub mod framing;
 
 use crate::code::CodeBody;
-use crate::normaliser::framing::{normalise_module_of, rewrite_module_of};
+use crate::normaliser::framing::{normalise_module_of, rewrite_module_of, rewrite_section_body};
 use crate::section::{CODE_SECTION_ID, TYPE_SECTION_ID};
 use std::alloc::Global;
-use wasm_codec::reader::ReadError;
 use wasm_codec::reader::cursor::Fault;
+use wasm_codec::reader::malformed::Construct;
+use wasm_codec::reader::{ReadError, without_reason};
 use wasm_codec::rewriter::{Rewriter, Scanned};
-use wasm_lists::rewriting::{Joinable, Rewritable, RewritableBody, rewrite_list, rewrite_sized};
+use wasm_lists::rewriting::{Joinable, Rewritable, RewritableBody, rewrite_list};
 use wasm_types::types::TypeEntry;
 
 /// Returns the minimal encoding of a module, with its type and code sections decoded (Core 3.0, Modules).
@@ -46,7 +47,7 @@ pub fn normalise_module(alloc: Global, bytes: &[u8]) -> Result<Vec<u8>, ReadErro
     ensures encodes { (sections : List TypedSection) → AllByRecursion IsTypedSection sections →
         bytes.now ≡ typed_module.bytes sections → typed_module.Encodes bytes.now sections }
 {
-    normalise_module_of::<Section>(alloc, bytes)
+    without_reason(normalise_module_of::<Section>(alloc, bytes))
 }
 
 /// Replaces a module by its minimal encoding in place, with its type and code sections decoded (Core 3.0, Modules).
@@ -64,7 +65,7 @@ pub fn normalise_module(alloc: Global, bytes: &[u8]) -> Result<Vec<u8>, ReadErro
 pub fn rewrite_module(bytes: Vec<u8>) -> Result<Vec<u8>, ReadError>
     ensures normalises { NormalisesInPlace typed_module IsTypedModulePrefix bytes.items result }
 {
-    rewrite_module_of::<Section>(bytes)
+    without_reason(rewrite_module_of::<Section>(bytes))
 }
 
 /// A section with decoded content.
@@ -90,14 +91,14 @@ impl Rewritable for Section {
 fn rewrite_section(rewriter: &mut Rewriter) -> Result<(), Fault>
     ensures rewrites { Rewrites typed_section rewriter.old rewriter.new result }
 {
-    let id = rewriter.byte()?;
+    let id = rewriter.byte_of(Construct::SectionId)?;
     if id == TYPE_SECTION_ID {
-        return rewrite_sized::<TypeEntries>(rewriter);
+        return rewrite_section_body::<TypeEntries>(rewriter, id);
     }
     if id == CODE_SECTION_ID {
-        return rewrite_sized::<CodeBodies>(rewriter);
+        return rewrite_section_body::<CodeBodies>(rewriter, id);
     }
-    rewrite_sized::<RawContent>(rewriter)
+    rewrite_section_body::<RawContent>(rewriter, id)
 }
 
 impl Joinable for Section {

@@ -5,7 +5,7 @@ ghost use Rattle.wasm_codec.specs.Places.{Reads};
 ghost use Rattle.wasm_codec.specs.formats.Bodies.{byte_list, bytes_to_end};
 ghost use Rattle.wasm_modules.specs.formats.Sections.{header, parts_of, SectionParts, all_parts_of};
 ghost use Rattle.wasm_modules.specs.formats.Modules.{raw_section, module_of, raw_module, ShortestModule};
-ghost use Rattle.wasm_codec.specs.declared.reader.cursor.Fault.TheVariants.{Malformed};
+ghost use Rattle.wasm_codec.specs.Outcomes.{IsMalformed};
 ghost use Rattle.std.proofs.lemmas.List.{map_push};
 ghost use Rattle.wasm_codec.specs.formats.Combinators.{minimal_if, minimal_only};
 ghost use Rattle.wasm_modules.specs.Modules.{IsModulePrefix, IsModulePrefixOf, IsShortestModulePrefix};
@@ -15,18 +15,20 @@ ghost use Rattle.wasm_modules.specs.Modules.{ReadsBack, ReadsBackTyped};
 ghost use Rattle.wasm_codec.specs.Lawful.{IsLawful};
 ghost use Rattle.wasm_codec.specs.formats.Grammar.{TakesBytes};
 ghost use Rattle.wasm_codec.specs.Rewriter.{Rewrites};
-ghost use Rattle.wasm_codec.specs.Outcomes.{NeedsNoMemory};
+ghost use Rattle.wasm_codec.specs.Outcomes.{NeedsNoMemory, as_read};
 
-use crate::normaliser::framing::rewrite_module_of;
+use crate::normaliser::framing::{rewrite_module_of, rewrite_section_body};
 use crate::section::{HEADER, RawSection};
 use std::alloc::Global;
-use wasm_codec::reader::ReadError;
 use wasm_codec::reader::cursor::{Cursor, Fault};
+use wasm_codec::reader::malformed::{Construct, Malformed, Reason};
+use wasm_codec::reader::refusal::{Refusal, SectionPlace};
+use wasm_codec::reader::{DecodeError, ReadError, without_reason};
 use wasm_codec::rewriter::{Rewriter, Scanned};
 use wasm_lists::checking::check_items_to_end;
 use wasm_lists::readable::Readable;
 use wasm_lists::reading::read_items_to_end;
-use wasm_lists::rewriting::{Joinable, Rewritable, RewritableBody, rewrite_sized};
+use wasm_lists::rewriting::{Joinable, Rewritable, RewritableBody};
 
 /// Returns the bytes after the header, or `None` if the header is missing.
 #[tactic(auto, using(crate::proofs::ModuleFormatLaws::header_found, crate::proofs::ModuleFormatLaws::header_missing))]
@@ -38,24 +40,68 @@ pub fn after_header(bytes: &[u8]) -> Option<&[u8]>
     bytes.strip_prefix(&HEADER)
 }
 
+/// Returns why the bytes don't begin with the header.
+pub(crate) fn not_a_module(bytes: &[u8]) -> Malformed {
+    let reason = match bytes {
+        [0x00, 0x61, 0x73, 0x6d, first, second, third, fourth, ..] => Reason::UnsupportedVersion {
+            version: u32::from_le_bytes([*first, *second, *third, *fourth]),
+        },
+        _ => Reason::NotAModule,
+    };
+    Malformed::new(reason, bytes.len())
+}
+
+/// Returns the refusal at `at` of a module, for a refusal of the sections after its header.
+fn in_module(refusal: Refusal, sections: &[u8], at: usize) -> Refusal
+    ensures { result.at ≡ at }
+{
+    let section = match refusal.section {
+        Some(section) => Some(section),
+        None => section_place(sections, refusal.at),
+    };
+    Refusal {
+        section,
+        ..refusal.behind(at, HEADER.len())
+    }
+}
+
+/// Returns the place of the section that begins at offset `at` of the bytes after the header.
+fn section_place(sections: &[u8], at: usize) -> Option<SectionPlace> {
+    let id = *sections.get(at)?;
+    let mut cursor = Cursor::new(sections);
+    for number in 0..sections.len() {
+        if sections.len().saturating_sub(cursor.len()) >= at {
+            return Some(SectionPlace { number, id });
+        }
+        if read_section(&mut cursor).is_err() {
+            return None;
+        }
+    }
+    None
+}
+
 /// Reads a size, and as many bytes.
 fn read_byte_list<'a>(cursor: &mut Cursor<'a>) -> Result<&'a [u8], Fault>
     ensures reads { Reads byte_list.at cursor.old cursor.new (map_ok (λ body. body.now) result) }
-    ensures err { IfErr result (λ e. e ≡ Malformed) }
+    ensures err { IfErr result IsMalformed }
 {
-    let size = cursor.u32()? as usize;
-    cursor.take(size)
+    let start = cursor.to_end();
+    let size = cursor.u32()?;
+    cursor.take_sized(size, start)
 }
 
 /// Reads a section, with its body as bytes (Core 3.0, Sections).
 #[tactic(auto, unfolding(crate::specs::formats::Modules::raw_section))]
 pub fn read_section<'a>(cursor: &mut Cursor<'a>) -> Result<RawSection<'a>, Fault>
     ensures reads { Reads raw_section.at cursor.old cursor.new (map_ok parts_of result) }
-    ensures err { IfErr result (λ e. e ≡ Malformed) }
+    ensures err { IfErr result IsMalformed }
 {
-    let id = cursor.byte()?;
-    let body = read_byte_list(cursor)?;
-    Ok(RawSection { id, body })
+    let id = cursor.byte_of(Construct::SectionId)?;
+    match read_byte_list(cursor) {
+        Ok(body) => Ok(RawSection { id, body }),
+        Err(Fault::Malformed(malformed)) => Err(Fault::Malformed(malformed.in_section(id))),
+        Err(Fault::Memory) => Err(Fault::Memory),
+    }
 }
 
 /// Reads the sections of a module, with their bodies borrowed from the bytes (Core 3.0, Modules).
@@ -78,7 +124,7 @@ pub fn read_module<'a>(alloc: Global, bytes: &'a [u8]) -> Result<Vec<RawSection<
     ensures reads_back_typed { ReadsBackTyped (λ sections. all_parts_of sections.items) bytes.now result }
     ensures prefix_free { SectionsArePrefixFree }
 {
-    read_module_of::<RawSection<'_>, false>(alloc, bytes)
+    without_reason(read_module_of::<RawSection<'_>, false>(alloc, bytes))
 }
 
 /// Reads the sections of a module whose section sizes are minimally encoded (Core 3.0, Modules).
@@ -102,7 +148,7 @@ pub fn read_module_strict<'a>(
     ensures decodes { DecodesMinimal (λ sections. all_parts_of sections.items) raw_module ShortestModule IsShortestModulePrefix bytes.now result }
     ensures reads_back { ReadsBack (λ sections. all_parts_of sections.items) bytes.now result }
 {
-    read_module_of::<RawSection<'_>, true>(alloc, bytes)
+    without_reason(read_module_of::<RawSection<'_>, true>(alloc, bytes))
 }
 
 /// Reads the sections of a module as items of type `T`, minimally encoded if `STRICT` is set.
@@ -112,18 +158,19 @@ pub fn read_module_strict<'a>(
 pub fn read_module_of<'a, T: Readable<'a>, const STRICT: bool>(
     alloc: Global,
     bytes: &'a [u8],
-) -> Result<Vec<T>, ReadError>
-    ensures reads { ReadsAll (λ sections. T.views sections.items) (module_of (minimal_if STRICT T.format)).Encodes (IsModulePrefixOf (minimal_if STRICT T.format)) bytes.now result }
+) -> Result<Vec<T>, DecodeError>
+    ensures reads { ReadsAll (λ sections. T.views sections.items) (module_of (minimal_if STRICT T.format)).Encodes (IsModulePrefixOf (minimal_if STRICT T.format)) bytes.now (as_read result) }
 {
     let Some(rest) = after_header(bytes) else {
-        return Err(ReadError::Refused { at: 0 });
+        return Err(DecodeError::refused(&not_a_module(bytes), 0, bytes.len()));
     };
     match read_items_to_end::<T, STRICT>(alloc, rest) {
         Ok(sections) => Ok(sections),
-        Err(ReadError::Memory) => Err(ReadError::Memory),
-        Err(ReadError::Refused { at }) => Err(ReadError::Refused {
-            at: HEADER.len() + at,
-        }),
+        Err(DecodeError::Memory) => Err(DecodeError::Memory),
+        Err(DecodeError::Malformed(refusal)) => {
+            let at = HEADER.len() + refusal.at;
+            Err(DecodeError::Malformed(in_module(refusal, rest, at)))
+        }
     }
 }
 
@@ -172,6 +219,13 @@ impl<'a> Readable<'a> for RawSection<'a> {
 pub fn check_module(alloc: Global, bytes: &[u8]) -> Result<(), ReadError>
     ensures checks { Checks raw_module ShortestModule IsShortestModulePrefix bytes.now result }
 {
+    without_reason(check_raw_module(alloc, bytes))
+}
+
+/// Checks that the section sizes of a module are minimally encoded, and says why if they aren't.
+pub fn check_raw_module(alloc: Global, bytes: &[u8]) -> Result<(), DecodeError>
+    ensures checks { ChecksAll (module_of (minimal_only raw_section)).Encodes (IsModulePrefixOf (minimal_only raw_section)) bytes.now (as_read result) }
+{
     check_module_of::<Section>(alloc, bytes)
 }
 
@@ -179,27 +233,28 @@ pub fn check_module(alloc: Global, bytes: &[u8]) -> Result<(), ReadError>
 ///
 /// Fails with `Refused` at the offset of the first section that is malformed or not minimal, or at 0 if the header is
 /// missing. Fails with `Memory` if an allocation fails.
-pub fn check_module_of<T: Joinable>(alloc: Global, bytes: &[u8]) -> Result<(), ReadError>
-    ensures checks { ChecksAll (module_of (minimal_only T.format)).Encodes (IsModulePrefixOf (minimal_only T.format)) bytes.now result }
+pub fn check_module_of<T: Joinable>(alloc: Global, bytes: &[u8]) -> Result<(), DecodeError>
+    ensures checks { ChecksAll (module_of (minimal_only T.format)).Encodes (IsModulePrefixOf (minimal_only T.format)) bytes.now (as_read result) }
 {
     let Some(rest) = after_header(bytes) else {
-        return Err(ReadError::Refused { at: 0 });
+        return Err(DecodeError::refused(&not_a_module(bytes), 0, bytes.len()));
     };
     match check_items_to_end::<T>(alloc, rest) {
         Ok(()) => Ok(()),
-        Err(ReadError::Memory) => Err(ReadError::Memory),
-        Err(ReadError::Refused { at }) => Err(ReadError::Refused {
-            at: HEADER.len() + at,
-        }),
+        Err(DecodeError::Memory) => Err(DecodeError::Memory),
+        Err(DecodeError::Malformed(refusal)) => {
+            let at = HEADER.len() + refusal.at;
+            Err(DecodeError::Malformed(in_module(refusal, rest, at)))
+        }
     }
 }
 
 /// Replaces a module by its minimal encoding in place. Only the sizes of sections can shrink: no body is decoded.
 ///
 /// Fails with `Refused` as `read_module` does. Allocates nothing.
-pub fn rewrite_raw_module(bytes: Vec<u8>) -> Result<Vec<u8>, ReadError>
-    ensures rewrites { RewritesAll raw_module IsModulePrefix bytes.items result }
-    ensures memory { NeedsNoMemory result }
+pub fn rewrite_raw_module(bytes: Vec<u8>) -> Result<Vec<u8>, DecodeError>
+    ensures rewrites { RewritesAll raw_module IsModulePrefix bytes.items (as_read result) }
+    ensures memory { NeedsNoMemory (as_read result) }
 {
     rewrite_module_of::<Section>(bytes)
 }
@@ -218,8 +273,8 @@ impl Rewritable for Section {
 
     #[tactic(auto, using(std::proofs::Common::append_assoc), unfolding(crate::specs::formats::Modules::raw_section))]
     fn rewrite(rewriter: &mut Rewriter) -> Result<(), Fault> {
-        let _id = rewriter.byte()?;
-        rewrite_sized::<Bytes>(rewriter)
+        let id = rewriter.byte_of(Construct::SectionId)?;
+        rewrite_section_body::<Bytes>(rewriter, id)
     }
 }
 

@@ -5,6 +5,7 @@ use Rattle.std.proofs.lemmas.List.{append-nil}
 use Rattle.wasm_codec.specs.Encoding.{IsShortestOrLonger, IsShortest}
 use Rattle.wasm_codec.specs.formats.Grammar.{IsBytes}
 use Rattle.wasm_codec.specs.declared.reader.cursor.Fault.{Fault}
+use Rattle.wasm_codec.specs.Outcomes.{IsMalformed}
 use Rattle.wasm_codec.specs.Lawful.{IsLawful, IsLawfulBody}
 use Rattle.wasm_codec.specs.Places.{Place, place, keeps, Reads}
 use Rattle.wasm_codec.specs.Rewriter.{Rewriting, rewriting_after}
@@ -112,15 +113,15 @@ custom_prefixes = record {
 pub all_taken : (taken left : List ℕ) (n : ℕ) → n ≡ length left → taken ≡ take n left → taken ≡ left
 all_taken taken left n all is = is ∙ ap (λ (k : ℕ). take k left) all ∙ take-length left
 
-none_read : (p new : Place) (fault : Fault) → Reads name.at p new (Err fault) → fault ≡ faults.Malformed → name.at p ≡ None
-none_read p new faults.Malformed none is = none
-none_read p new faults.Memory none is = absurd cc
+none_read : (p new : Place) (fault : Fault) → Reads name.at p new (Err fault) → IsMalformed fault → name.at p ≡ None
+none_read p new (faults.Malformed m) none is = none
+none_read p new faults.Memory none is = absurd is
 
 module _ (bytes : List ℕ) (p : Place) (start : p ≡ place true bytes) where
-  pub custom_wanting : (new : Place) (fault : Fault) → Reads name.at p new (Err fault) → fault ≡ faults.Malformed → IsRefusedAt custom_body bytes 0
+  pub custom_wanting : (new : Place) (fault : Fault) → Reads name.at p new (Err fault) → IsMalformed fault → IsRefusedAt custom_body bytes 0
   custom_wanting new fault none is = no_name name_is_lawful custom_body begins_with_name bytes (ap name.at (sym start) ∙ none_read p new fault none is)
 
-  pub short_wanting : (new : Place) (fault : Fault) → Reads name.at p new (Err fault) → fault ≡ faults.Malformed → IsRefusedAt (minimal_only custom_body) bytes 0
+  pub short_wanting : (new : Place) (fault : Fault) → Reads name.at p new (Err fault) → IsMalformed fault → IsRefusedAt (minimal_only custom_body) bytes 0
   short_wanting new fault none is =
       let at : name.at (place true bytes) ≡ None = ap name.at (sym start) ∙ none_read p new fault none is in
       no_name (Lawful-minimal_only name_is_lawful) (minimal_only custom_body) begins_with_short_name bytes (rw at refl)

@@ -5,6 +5,7 @@ use Rattle.std.proofs.lemmas.Bool.{ne_eqb}
 use Rattle.std.proofs.lemmas.List.{append-nil}
 use Rattle.wasm_codec.specs.Decoding.{IsMinimal}
 use Rattle.wasm_codec.specs.Lawful.{IsLawful, IsLawfulBody}
+use Rattle.wasm_codec.specs.Outcomes.{FailsMalformed}
 use Rattle.wasm_codec.specs.Places.{Place, byte_at, map_at, place, Reads, keeps}
 use Rattle.wasm_codec.specs.formats.Bodies.{sized, body_at}
 use Rattle.wasm_codec.specs.formats.Combinators.{Format, items, u32, a_byte}
@@ -206,24 +207,29 @@ section_rewritten {id = id} {make} {F} kind old mid new (Ok done) begun e =
     let bytes : new.done ≡ old.done ++ module_section.bytes (make one.value) =
     one.given.written ∙ ap (λ (d : List ℕ). d ++ (sized F).bytes one.value) first.written ∙ append_assoc old.done (id ∷ []) ((sized F).bytes one.value) ∙ ap (λ (t : List ℕ). old.done ++ t) (sym (kind.bytes_are one.value)) in
     after_is module_section old new (make one.value) (kind.at_is old.place mid.place first.is_read ∙ rw one.given.is_read refl) bytes (one.given.rest ∙ first.rest)
-section_rewritten {id = id} kind old mid new (Err faults.Malformed) begun none =
+section_rewritten {id = id} kind old mid new (Err (faults.Malformed m)) begun none =
     kind.at_is old.place mid.place (is_given a_byte old id mid begun).is_read ∙ rw none refl
 section_rewritten kind old mid new (Err faults.Memory) begun none = none
 
+unknown_rewritten : {id : ℕ} → 13 < id → (old mid new : Rewriting) (result : Result (Unit {0}) Fault) → rewritten_at a_byte old ≡ Some (id, mid) → FailsMalformed result → Rewrites module_section old new result
+unknown_rewritten far old mid new (Ok done) begun bad = absurd bad
+unknown_rewritten far old mid new (Err faults.Memory) begun bad = absurd bad
+unknown_rewritten {id} far old mid new (Err (faults.Malformed m)) begun bad = unknown_at far old.place mid.place (is_given a_byte old id mid begun).is_read
+
 -- what rewrites the body by its kind rewrites the section
-pub rewritten_by_kind : {id : ℕ} (old mid new : Rewriting) (result : Result (Unit {0}) Fault) → rewritten_at a_byte old ≡ Some (id, mid) → OfKind (λ V F C. Rewrites (sized (items F)) mid new result) (λ V F C. Rewrites (sized F) mid new result) (result ≡ Err faults.Malformed) id → Rewrites module_section old new result
+pub rewritten_by_kind : {id : ℕ} (old mid new : Rewriting) (result : Result (Unit {0}) Fault) → rewritten_at a_byte old ≡ Some (id, mid) → OfKind (λ V F C. Rewrites (sized (items F)) mid new result) (λ V F C. Rewrites (sized F) mid new result) (FailsMalformed result) id → Rewrites module_section old new result
 rewritten_by_kind {id} old mid new result begun = by_kind
     (λ V make part F kind g. section_rewritten kind old mid new result begun g)
     (λ V make part F kind g. section_rewritten kind old mid new result begun g)
-    (λ far bad. rw bad (unknown_at far old.place mid.place (is_given a_byte old id mid begun).is_read))
+    (λ far bad. unknown_rewritten far old mid new result begun bad)
 
 -- what reads the content by its kind reads the section
-pub read_by_kind : {X : Type 0} (view : X → ModuleSectionParts) {id : ℕ} (old mid new : Place) (result : Result X Fault) → byte_at old ≡ Some (id, mid) → OfKind (λ V F C. Reads C.at mid new (map_ok view result)) (λ V F C. Reads C.at mid new (map_ok view result)) (result ≡ Err faults.Malformed) id → Reads module_section.at old new (map_ok view result)
+pub read_by_kind : {X : Type 0} (view : X → ModuleSectionParts) {id : ℕ} (old mid new : Place) (result : Result X Fault) → byte_at old ≡ Some (id, mid) → OfKind (λ V F C. Reads C.at mid new (map_ok view result)) (λ V F C. Reads C.at mid new (map_ok view result)) (FailsMalformed result) id → Reads module_section.at old new (map_ok view result)
 read_by_kind view old mid new (Ok x) begun = by_kind
     (λ V make part F kind e. kind.at_is old mid begun ∙ e)
     (λ V make part F kind e. kind.at_is old mid begun ∙ e)
-    (λ far bad. absurd cc)
-read_by_kind view old mid new (Err faults.Malformed) begun = by_kind
+    (λ far bad. absurd bad)
+read_by_kind view old mid new (Err (faults.Malformed m)) begun = by_kind
     (λ V make part F kind none. kind.at_is old mid begun ∙ none)
     (λ V make part F kind none. kind.at_is old mid begun ∙ none)
     (λ far bad. unknown_at far old mid begun)
@@ -247,7 +253,7 @@ module _ (old outer body : Place) (is_body : body_at old ≡ Some (body.left, ou
       sized_read custom_body old outer (place mid.shortest []) body.left (custom_of (text, rest)) is_body inside refl
 
   pub no_custom : {X : Type 0} (view : X → CustomParts) (here new : Place) (fault : Fault) → Reads name.at body here (Err fault) → Reads (sized custom_body).at old new (map_ok view (Err fault))
-  no_custom view here new faults.Malformed none = sized_none custom_body old outer body.left is_body (ap custom_body.at (sym tells) ∙ custom_refused body none)
+  no_custom view here new (faults.Malformed m) none = sized_none custom_body old outer body.left is_body (ap custom_body.at (sym tells) ∙ custom_refused body none)
   no_custom view here new faults.Memory none = tt
 
 -- ---- writing

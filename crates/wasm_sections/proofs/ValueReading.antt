@@ -8,7 +8,7 @@ use Rattle.wasm_codec.specs.Places.{Place, place, keeps, u32_at, Reads}
 use Rattle.wasm_codec.specs.declared.reader.cursor.Fault.{Fault}
 use Rattle.wasm_codec.specs.formats.Combinators.{Format, u32, minimal_only}
 use Rattle.wasm_codec.specs.Decoding.{ReadsAll, RewritesAll}
-use Rattle.wasm_codec.specs.Outcomes.{IsNormalForm}
+use Rattle.wasm_codec.specs.Outcomes.{IsMalformed, IsNormalForm}
 use Rattle.wasm_codec.specs.Rewriter.{Rewriting, rewriting, rewriting_after, Rewrites}
 use Rattle.wasm_codec.specs.declared.reader.cursor.Fault.TheVariants as faults
 use Rattle.wasm_codec.specs.declared.reader.ReadError.TheVariants as errors
@@ -18,6 +18,11 @@ use Rattle.wasm_codec.proofs.PlaceLists.{Lawful-minimal_only}
 use Rattle.wasm_codec.proofs.BodyLaws.{Lawful-body}
 use Rattle.wasm_codec.proofs.RewriterLaws.{is_after}
 use Rattle.wasm_sections.specs.Prefixes.{IsNothingOr, IsRefusedAt, AreLawfulPrefixes}
+
+-- rewriting needs no memory
+pub rewrites_malformed : {V : Type 0} (F : Format V) (old new : Rewriting) (fault : Fault) → Rewrites F old new (Err fault) → IsMalformed fault
+rewrites_malformed F old new faults.Memory none = none
+rewrites_malformed F old new (faults.Malformed m) none = tt
 
 module _ {V : Type 0} {F : Format V} (r : IsLawful F) where
   -- what stands first is read
@@ -97,9 +102,9 @@ minimal_only_none bytes none = rw none refl
 
 -- ---- as the code has them
 
-no_u32 : (p new : Place) (fault : Fault) → Reads u32_at p new (Err fault) → fault ≡ faults.Malformed → u32_at p ≡ None
-no_u32 p new faults.Malformed none is = none
-no_u32 p new faults.Memory none is = absurd cc
+no_u32 : (p new : Place) (fault : Fault) → Reads u32_at p new (Err fault) → IsMalformed fault → u32_at p ≡ None
+no_u32 p new (faults.Malformed m) none is = none
+no_u32 p new faults.Memory none is = absurd is
 
 module _ (bytes : List ℕ) (p : Place) (start : p ≡ place true bytes) where
   read_there : (n : ℕ) (q : Place) → u32_at p ≡ Some (n, q) → u32_at (place true bytes) ≡ Some (n, q)
@@ -108,7 +113,7 @@ module _ (bytes : List ℕ) (p : Place) (start : p ≡ place true bytes) where
   are_bytes : IsBytes p.left → IsBytes bytes
   are_bytes fits = subst (λ (t : Place). IsBytes t.left) start fits
 
-  pub number_wanting : (new : Place) (fault : Fault) → Reads u32_at p new (Err fault) → fault ≡ faults.Malformed → IsRefusedAt u32 bytes 0
+  pub number_wanting : (new : Place) (fault : Fault) → Reads u32_at p new (Err fault) → IsMalformed fault → IsRefusedAt u32 bytes 0
   number_wanting new fault none is = nothing_there Lawful-u32 bytes (ap u32_at (sym start) ∙ no_u32 p new fault none is)
 
   pub fewer_left : (n : ℕ) (q : Place) → IsBytes p.left → u32_at p ≡ Some (n, q) → length q.left ≤ length bytes
@@ -122,7 +127,7 @@ module _ (bytes : List ℕ) (p : Place) (start : p ≡ place true bytes) where
   pub number_there : (n : ℕ) (q : Place) → IsBytes p.left → u32_at p ≡ Some (n, q) → length q.left ≤ 0 → u32.Encodes bytes n
   number_there n q fits read none = all_there Lawful-u32 bytes n q (are_bytes fits) (read_there n q read) none
 
-  pub short_wanting : (new : Place) (fault : Fault) → Reads u32_at p new (Err fault) → fault ≡ faults.Malformed → IsRefusedAt (minimal_only u32) bytes 0
+  pub short_wanting : (new : Place) (fault : Fault) → Reads u32_at p new (Err fault) → IsMalformed fault → IsRefusedAt (minimal_only u32) bytes 0
   short_wanting new fault none is = nothing_there (Lawful-minimal_only Lawful-u32) bytes (minimal_only_none bytes (ap u32_at (sym start) ∙ no_u32 p new fault none is))
 
   pub short_long : (n : ℕ) (q : Place) → u32_at p ≡ Some (n, q) → q.shortest ≡ false → IsRefusedAt (minimal_only u32) bytes 0
@@ -142,7 +147,7 @@ module _ {V : Type 0} {F : Format V} (r : IsLawfulBody F) (t : AreLawfulPrefixes
 
   pub whole_none : (fault : Fault) → Rewrites F old new (Err fault) → IsRefusedAt F bytes 0
   whole_none faults.Memory e = absurd e
-  whole_none faults.Malformed e =
+  whole_none (faults.Malformed m) e =
       let none : F.at (place true bytes) ≡ None = ap (λ (r : Rewriting). F.at r.place) (sym begun) ∙ e in
       record { prefix = t.none bytes none; unencoded = λ v g. no_some (v, place (keeps true bytes (F.bytes v)) []) (sym none ∙ r.reads.complete bytes v true g) }
 

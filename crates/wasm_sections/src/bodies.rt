@@ -1,11 +1,11 @@
 //! Section bodies that are a single value without trailing bytes, for any value.
-ghost use Rattle.wasm_codec.specs.Outcomes.{NeedsNoMemory};
+ghost use Rattle.wasm_codec.specs.Outcomes.{NeedsNoMemory, as_read};
 ghost use Rattle.wasm_sections.specs.Prefixes.{IsNothingOr, AreLawfulPrefixes};
 ghost use Rattle.wasm_codec.specs.Decoding.{RewritesAll};
 ghost use Rattle.wasm_codec.specs.formats.Grammar.{IsBytes};
 ghost use Rattle.wasm_codec.specs.formats.Combinators.{items};
 
-use wasm_codec::reader::ReadError;
+use wasm_codec::reader::DecodeError;
 use wasm_codec::reader::cursor::Cursor;
 use wasm_codec::rewriter::Rewriter;
 use wasm_lists::rewriting::RewritableBody;
@@ -19,21 +19,21 @@ pub trait WholeBody: RewritableBody {
 
 /// Rewrites a body to its minimal encoding in place. Refuses at 0 if the value is malformed, or at the offset of trailing
 /// bytes. Allocates nothing.
-pub fn rewrite_body<T: WholeBody>(body: Vec<u8>) -> Result<Vec<u8>, ReadError>
-    ensures rewrites { RewritesAll T.RewritableBody.format (IsNothingOr T.RewritableBody.format) body.items result }
-    ensures memory { NeedsNoMemory result }
+pub fn rewrite_body<T: WholeBody>(body: Vec<u8>) -> Result<Vec<u8>, DecodeError>
+    ensures rewrites { RewritesAll T.RewritableBody.format (IsNothingOr T.RewritableBody.format) body.items (as_read result) }
+    ensures memory { NeedsNoMemory (as_read result) }
 {
     T::is_lawful();
     T::prefixes_are_lawful();
     let len = body.len();
     let mut rewriter = Rewriter::new(body);
     rewriter.are_bytes();
-    if let Err(_) = T::rewrite(&mut rewriter) {
-        return Err(ReadError::Refused { at: 0 });
+    if let Err(fault) = T::rewrite(&mut rewriter) {
+        return Err(DecodeError::new(fault, 0, len));
     }
     let left = rewriter.len();
     if left > 0 {
-        return Err(ReadError::Refused { at: len - left });
+        return Err(DecodeError::refused(&rewriter.trailing(), len - left, len));
     }
     Ok(rewriter.finish())
 }

@@ -6,7 +6,7 @@ ghost use Rattle.wasm_sections.specs.Prefixes.{IsNothingOr};
 ghost use Rattle.wasm_sections.specs.formats.Sections.{custom_body};
 ghost use Rattle.wasm_codec.specs.Decoding.{ReadsAll, ChecksAll, RewritesAll, IsMinimal, Decodes};
 ghost use Rattle.wasm_codec.specs.Lawful.{IsLawfulBody};
-ghost use Rattle.wasm_codec.specs.Outcomes.{NeedsNoMemory};
+ghost use Rattle.wasm_codec.specs.Outcomes.{as_read, NeedsNoMemory};
 ghost use Rattle.wasm_codec.specs.Encoding.{byte_list_bytes, IsCount, IsCountRefusal, IsRefusal, IsShortest, IsTooLong, OnlyTooLong};
 ghost use Rattle.wasm_sections.specs.formats.ModuleSectionParts.{custom};
 ghost use Rattle.wasm_sections.specs.SectionBytes.{CountedCustom, IsSectionAfter};
@@ -16,8 +16,9 @@ use std::alloc::{Allocator, Global};
 use wasm_codec::decode::Decode;
 use wasm_codec::encode::leb128::u32_len;
 use wasm_codec::encode::{EncodeError, keep_or_undo};
-use wasm_codec::reader::ReadError;
 use wasm_codec::reader::cursor::{Cursor, Fault};
+use wasm_codec::reader::malformed::{Construct, Malformed, Reason};
+use wasm_codec::reader::{DecodeError, ReadError, without_reason};
 use wasm_codec::rewriter::Rewriter;
 use wasm_entities::names::{append_name, read_name, rewrite_name};
 use wasm_lists::encode::Encode;
@@ -49,44 +50,49 @@ pub fn read_custom<'a>(body: &'a [u8]) -> Result<CustomSection<'a>, ReadError>
     ensures decodes { Decodes custom_parts custom_body (IsNothingOr custom_body) body.now result }
     ensures memory { NeedsNoMemory result }
 {
-    read_name_and_bytes(body)
+    without_reason(read_name_and_bytes(body))
 }
 
 /// Reads a custom section body, in any encoding. Refuses at 0 if the name is malformed.
-fn read_name_and_bytes<'a>(body: &'a [u8]) -> Result<CustomSection<'a>, ReadError>
-    ensures reads { ReadsAll custom_parts custom_body.Encodes (IsNothingOr custom_body) body.now result }
-    ensures memory { NeedsNoMemory result }
+fn read_name_and_bytes<'a>(body: &'a [u8]) -> Result<CustomSection<'a>, DecodeError>
+    ensures reads { ReadsAll custom_parts custom_body.Encodes (IsNothingOr custom_body) body.now (as_read result) }
+    ensures memory { NeedsNoMemory (as_read result) }
 {
     let mut cursor = Cursor::new(body);
     // `fork` shows the proof that all remaining items are bytes.
     let _start = cursor.fork();
-    let Ok(name) = read_name(&mut cursor) else {
-        return Err(ReadError::Refused { at: 0 });
+    let name = match read_name(&mut cursor) {
+        Ok(name) => name,
+        Err(fault) => return Err(DecodeError::new(fault, 0, body.len())),
     };
     let left = cursor.len();
-    let Ok(bytes) = cursor.take(left) else {
-        return Err(ReadError::Refused { at: 0 });
+    let bytes = match cursor.take(left, Construct::Body) {
+        Ok(bytes) => bytes,
+        Err(fault) => return Err(DecodeError::new(fault, 0, body.len())),
     };
     Ok(CustomSection { name, bytes })
 }
 
 /// Reads a minimally encoded custom section body. Refuses at 0 if the name is malformed or its length not minimal.
-fn read_name_and_bytes_strict<'a>(body: &'a [u8]) -> Result<CustomSection<'a>, ReadError>
-    ensures reads { ReadsAll custom_parts (minimal_only custom_body).Encodes (IsNothingOr (minimal_only custom_body)) body.now result }
-    ensures memory { NeedsNoMemory result }
+fn read_name_and_bytes_strict<'a>(body: &'a [u8]) -> Result<CustomSection<'a>, DecodeError>
+    ensures reads { ReadsAll custom_parts (minimal_only custom_body).Encodes (IsNothingOr (minimal_only custom_body)) body.now (as_read result) }
+    ensures memory { NeedsNoMemory (as_read result) }
 {
     let mut cursor = Cursor::new(body);
     // `fork` shows the proof that all remaining items are bytes.
     let _start = cursor.fork();
-    let Ok(name) = read_name(&mut cursor) else {
-        return Err(ReadError::Refused { at: 0 });
+    let name = match read_name(&mut cursor) {
+        Ok(name) => name,
+        Err(fault) => return Err(DecodeError::new(fault, 0, body.len())),
     };
     if !cursor.is_shortest() {
-        return Err(ReadError::Refused { at: 0 });
+        let long = Malformed::new(Reason::LongForm, body.len());
+        return Err(DecodeError::refused(&long, 0, body.len()));
     }
     let left = cursor.len();
-    let Ok(bytes) = cursor.take(left) else {
-        return Err(ReadError::Refused { at: 0 });
+    let bytes = match cursor.take(left, Construct::Body) {
+        Ok(bytes) => bytes,
+        Err(fault) => return Err(DecodeError::new(fault, 0, body.len())),
     };
     Ok(CustomSection { name, bytes })
 }
@@ -141,16 +147,16 @@ impl<'a> Decode<'a> for CustomSection<'a> {
         ensures minimal { IsMinimal custom_body (minimal_only custom_body).Encodes }
     {}
 
-    fn read_all(_alloc: Global, bytes: &'a [u8]) -> Result<CustomSection<'a>, ReadError> {
+    fn read_all(_alloc: Global, bytes: &'a [u8]) -> Result<CustomSection<'a>, DecodeError> {
         read_name_and_bytes(bytes)
     }
 
-    fn read_all_strict(_alloc: Global, bytes: &'a [u8]) -> Result<CustomSection<'a>, ReadError> {
+    fn read_all_strict(_alloc: Global, bytes: &'a [u8]) -> Result<CustomSection<'a>, DecodeError> {
         read_name_and_bytes_strict(bytes)
     }
 
-    fn check_all(_alloc: Global, bytes: &[u8]) -> Result<(), ReadError>
-        ensures checks { ChecksAll (minimal_only custom_body).Encodes (IsNothingOr (minimal_only custom_body)) bytes.now result }
+    fn check_all(_alloc: Global, bytes: &[u8]) -> Result<(), DecodeError>
+        ensures checks { ChecksAll (minimal_only custom_body).Encodes (IsNothingOr (minimal_only custom_body)) bytes.now (as_read result) }
     {
         match read_name_and_bytes_strict(bytes) {
             Ok(_) => Ok(()),
@@ -158,9 +164,9 @@ impl<'a> Decode<'a> for CustomSection<'a> {
         }
     }
 
-    fn rewrite_all(bytes: Vec<u8>) -> Result<Vec<u8>, ReadError>
-        ensures rewrites { RewritesAll custom_body (IsNothingOr custom_body) bytes.items result }
-        ensures memory { NeedsNoMemory result }
+    fn rewrite_all(bytes: Vec<u8>) -> Result<Vec<u8>, DecodeError>
+        ensures rewrites { RewritesAll custom_body (IsNothingOr custom_body) bytes.items (as_read result) }
+        ensures memory { NeedsNoMemory (as_read result) }
     {
         rewrite_body::<Custom>(bytes)
     }

@@ -2,7 +2,7 @@
 ghost use Rattle.std.specs.Prelude.{◌≡◌, List, length, refl, IfErr, ℕ, ◌++◌, OnOk, take};
 ghost use Rattle.wasm_codec.specs.Places.{Reads};
 ghost use Rattle.wasm_codec.specs.Rewriter.{Rewrites};
-ghost use Rattle.wasm_codec.specs.declared.reader.cursor.Fault.TheVariants.{Malformed};
+ghost use Rattle.wasm_codec.specs.Outcomes.{IsMalformed};
 ghost use Rattle.std.proofs.lemmas.List.{map_push};
 ghost use Rattle.wasm_codec.specs.formats.Grammar.{TakesBytes};
 ghost use Rattle.wasm_codec.specs.Lawful.{IsLawful};
@@ -25,6 +25,7 @@ use std::alloc::{Allocator, Global};
 use wasm_codec::encode::leb128::put_u32;
 use wasm_codec::encode::{EncodeError, keep_or_undo};
 use wasm_codec::reader::cursor::{Cursor, Fault};
+use wasm_codec::reader::malformed::{Construct, Malformed};
 use wasm_codec::rewriter::Rewriter;
 use wasm_entities::const_expr::ConstExpr;
 use wasm_entities::expressions::{read_expr, rewrite_expr};
@@ -60,10 +61,11 @@ pub struct DataSegment<'a> {
 /// Reads bytes that follow their length.
 fn read_byte_list<'a>(cursor: &mut Cursor<'a>) -> Result<&'a [u8], Fault>
     ensures reads { Reads byte_list.at cursor.old cursor.new (map_ok (λ bytes. bytes.now) result) }
-    ensures err { IfErr result (λ e. e ≡ Malformed) }
+    ensures err { IfErr result IsMalformed }
 {
-    let size = cursor.u32()? as usize;
-    cursor.take(size)
+    let start = cursor.to_end();
+    let size = cursor.u32()?;
+    cursor.take_sized(size, start)
 }
 
 /// Reads a data segment. Notes a non-minimal form if the segment names memory 0.
@@ -71,6 +73,7 @@ fn read_byte_list<'a>(cursor: &mut Cursor<'a>) -> Result<&'a [u8], Fault>
 fn read_data_segment<'a>(alloc: Global, cursor: &mut Cursor<'a>) -> Result<DataSegment<'a>, Fault>
     ensures reads { Reads data_segment.at cursor.old cursor.new (map_ok data_parts result) }
 {
+    let start = cursor.to_end();
     match cursor.u32()? {
         0 => {
             let offset = read_expr(alloc, cursor)?;
@@ -101,7 +104,11 @@ fn read_data_segment<'a>(alloc: Global, cursor: &mut Cursor<'a>) -> Result<DataS
             };
             Ok(DataSegment { mode, bytes })
         }
-        _ => Err(Fault::Malformed),
+        number => Err(Fault::Malformed(Malformed::invalid_number(
+            Construct::DataForm,
+            number,
+            start,
+        ))),
     }
 }
 
@@ -167,7 +174,7 @@ fn rewrite_active(rewriter: &mut Rewriter) -> Result<(), Fault>
 fn rewrite_data_segment(rewriter: &mut Rewriter) -> Result<(), Fault>
     ensures rewrites { Rewrites data_segment rewriter.old rewriter.new result }
 {
-    let mark = rewriter.written_len();
+    let (mark, start) = (rewriter.written_len(), rewriter.to_end());
     match rewriter.u32()? {
         0 => rewrite_active(rewriter),
         1 => rewrite_sized::<RawBytes>(rewriter),
@@ -179,7 +186,11 @@ fn rewrite_data_segment(rewriter: &mut Rewriter) -> Result<(), Fault>
             }
             Ok(())
         }
-        _ => Err(Fault::Malformed),
+        number => Err(Fault::Malformed(Malformed::invalid_number(
+            Construct::DataForm,
+            number,
+            start,
+        ))),
     }
 }
 

@@ -30,6 +30,7 @@ use std::alloc::{Allocator, Global};
 use wasm_codec::encode::leb128::put_u32;
 use wasm_codec::encode::{EncodeError, keep_or_undo};
 use wasm_codec::reader::cursor::{Cursor, Fault};
+use wasm_codec::reader::malformed::{Construct, Malformed};
 use wasm_codec::rewriter::Rewriter;
 use wasm_entities::const_expr::ConstExpr;
 use wasm_entities::expressions::{encode_expr, read_expr, rewrite_expr};
@@ -128,8 +129,9 @@ pub(crate) fn number_of(element: &Element) -> u32
 fn read_functions(alloc: Global, cursor: &mut Cursor<'_>) -> Result<Items<u32>, Fault>
     ensures reads { Reads kind_and_functions.at cursor.old cursor.new result }
 {
-    if cursor.byte()? != 0x00 {
-        return Err(Fault::Malformed);
+    let byte = cursor.byte_of(Construct::ElementKind)?;
+    if byte != 0x00 {
+        return Err(Fault::Malformed(cursor.invalid(Construct::ElementKind, byte)));
     }
     read_list(alloc, cursor)
 }
@@ -173,7 +175,12 @@ fn read_place(
 }
 
 /// Reads what follows the number of a form, up to the element kind or type.
-fn read_mode(alloc: Global, cursor: &mut Cursor<'_>, form: u32) -> Result<ElementMode, Fault>
+fn read_mode(
+    alloc: Global,
+    cursor: &mut Cursor<'_>,
+    form: u32,
+    start: usize,
+) -> Result<ElementMode, Fault>
     ensures reads { Reads (mode_at form) cursor.old cursor.new result }
 {
     match form {
@@ -184,12 +191,21 @@ fn read_mode(alloc: Global, cursor: &mut Cursor<'_>, form: u32) -> Result<Elemen
             read_place(alloc, cursor, table_index)
         }
         3 | 7 => Ok(ElementMode::Declared),
-        _ => Err(Fault::Malformed),
+        number => Err(Fault::Malformed(Malformed::invalid_number(
+            Construct::ElementForm,
+            number,
+            start,
+        ))),
     }
 }
 
 /// Reads the element kind or type, if the form has one, and the elements.
-fn read_elements(alloc: Global, cursor: &mut Cursor<'_>, form: u32) -> Result<Elements, Fault>
+fn read_elements(
+    alloc: Global,
+    cursor: &mut Cursor<'_>,
+    form: u32,
+    start: usize,
+) -> Result<Elements, Fault>
     ensures reads { Reads (elements_at form) cursor.old cursor.new result }
 {
     match form {
@@ -200,17 +216,26 @@ fn read_elements(alloc: Global, cursor: &mut Cursor<'_>, form: u32) -> Result<El
             Ok(Elements::Expressions(funcref, read_expressions(alloc, cursor)?))
         }
         5 | 6 | 7 => read_typed(alloc, cursor),
-        _ => Err(Fault::Malformed),
+        number => Err(Fault::Malformed(Malformed::invalid_number(
+            Construct::ElementForm,
+            number,
+            start,
+        ))),
     }
 }
 
 /// Reads what follows the number of a form.
 #[tactic(auto, using(crate::proofs::ElementLaws::form_read, crate::proofs::ElementLaws::no_mode, crate::proofs::ElementLaws::no_elements))]
-fn read_form(alloc: Global, cursor: &mut Cursor<'_>, form: u32) -> Result<Element, Fault>
+fn read_form(
+    alloc: Global,
+    cursor: &mut Cursor<'_>,
+    form: u32,
+    start: usize,
+) -> Result<Element, Fault>
     ensures reads { Reads (element_form form).at cursor.old cursor.new result }
 {
-    let mode = read_mode(alloc, cursor, form)?;
-    let elements = read_elements(alloc, cursor, form)?;
+    let mode = read_mode(alloc, cursor, form, start)?;
+    let elements = read_elements(alloc, cursor, form, start)?;
     Ok(Element { mode, elements })
 }
 
@@ -219,8 +244,9 @@ fn read_form(alloc: Global, cursor: &mut Cursor<'_>, form: u32) -> Result<Elemen
 fn read_element(alloc: Global, cursor: &mut Cursor<'_>) -> Result<Element, Fault>
     ensures reads { Reads element_segment.at cursor.old cursor.new result }
 {
+    let start = cursor.to_end();
     let form = cursor.u32()?;
-    let element = read_form(alloc, cursor, form)?;
+    let element = read_form(alloc, cursor, form, start)?;
     if form != number_of(&element) {
         cursor.note_long_form();
     }
@@ -287,14 +313,30 @@ fn rewrite_active<T: Rewritable>(rewriter: &mut Rewriter) -> Result<(), Fault>
 fn rewrite_functions(rewriter: &mut Rewriter) -> Result<(), Fault>
     ensures rewrites { Rewrites kind_and_functions rewriter.old rewriter.new result }
 {
-    if rewriter.byte()? != 0x00 {
-        return Err(Fault::Malformed);
+    let byte = rewriter.byte_of(Construct::ElementKind)?;
+    if byte != 0x00 {
+        return Err(Fault::Malformed(rewriter.invalid(Construct::ElementKind, byte)));
     }
     rewrite_list::<u32>(rewriter)
 }
 
 /// Rewrites a reference type to its minimal encoding and returns the type.
 fn rewrite_told_type(rewriter: &mut Rewriter) -> Result<RefType, Fault>
+    ensures gives { Gives ref_type rewriter.old rewriter.new result }
+{
+    let behind = rewriter.to_end().saturating_sub(rewriter.len());
+    match read_and_rewrite_type(rewriter) {
+        Ok(told) => Ok(told),
+        Err(Fault::Malformed(malformed)) => Err(Fault::Malformed(Malformed {
+            left: malformed.left.saturating_add(behind),
+            ..malformed
+        })),
+        Err(Fault::Memory) => Err(Fault::Memory),
+    }
+}
+
+/// Reads a reference type and rewrites it. A fault doesn't count the bytes behind the body.
+fn read_and_rewrite_type(rewriter: &mut Rewriter) -> Result<RefType, Fault>
     ensures gives { Gives ref_type rewriter.old rewriter.new result }
 {
     rewriter.are_bytes();
@@ -356,7 +398,7 @@ fn rewrite_expressions_of_table(rewriter: &mut Rewriter, mark: usize) -> Result<
 fn rewrite_element(rewriter: &mut Rewriter) -> Result<(), Fault>
     ensures rewrites { Rewrites element_segment rewriter.old rewriter.new result }
 {
-    let mark = rewriter.written_len();
+    let (mark, start) = (rewriter.written_len(), rewriter.to_end());
     match rewriter.u32()? {
         0 => rewrite_active::<u32>(rewriter),
         1 => rewrite_functions(rewriter),
@@ -366,7 +408,11 @@ fn rewrite_element(rewriter: &mut Rewriter) -> Result<(), Fault>
         5 => rewrite_typed(rewriter),
         6 => rewrite_expressions_of_table(rewriter, mark),
         7 => rewrite_typed(rewriter),
-        _ => Err(Fault::Malformed),
+        number => Err(Fault::Malformed(Malformed::invalid_number(
+            Construct::ElementForm,
+            number,
+            start,
+        ))),
     }
 }
 

@@ -2,7 +2,7 @@
 ghost use Rattle.std.specs.Prelude.{◌≡◌, refl, IfErr, ◌++◌, OnOk, length, take};
 ghost use Rattle.wasm_codec.specs.Places.{Reads};
 ghost use Rattle.wasm_codec.specs.Rewriter.{Rewrites};
-ghost use Rattle.wasm_codec.specs.declared.reader.cursor.Fault.TheVariants.{Malformed};
+ghost use Rattle.wasm_codec.specs.Outcomes.{IsMalformed};
 ghost use Rattle.std.proofs.lemmas.List.{map_push};
 ghost use Rattle.wasm_codec.specs.formats.Grammar.{TakesBytes};
 ghost use Rattle.wasm_codec.specs.Lawful.{IsLawful};
@@ -20,6 +20,7 @@ use std::alloc::{Allocator, Global};
 use wasm_codec::encode::leb128::put_u32;
 use wasm_codec::encode::{EncodeError, keep_or_undo};
 use wasm_codec::reader::cursor::{Cursor, Fault};
+use wasm_codec::reader::malformed::Construct;
 use wasm_codec::rewriter::Rewriter;
 use wasm_entities::names::{append_name, read_name, rewrite_name};
 use wasm_entities::types::{ExportKind, kind_byte};
@@ -41,15 +42,15 @@ pub struct Export<'a> {
 #[tactic(auto, unfolding(wasm_entities::specs::formats::Externals::export_kind))]
 fn read_export_kind(cursor: &mut Cursor<'_>) -> Result<ExportKind, Fault>
     ensures reads { Reads export_kind.at cursor.old cursor.new result }
-    ensures err { IfErr result (λ e. e ≡ Malformed) }
+    ensures err { IfErr result IsMalformed }
 {
-    match cursor.byte()? {
+    match cursor.byte_of(Construct::ExportKind)? {
         0x00 => Ok(ExportKind::Func),
         0x01 => Ok(ExportKind::Table),
         0x02 => Ok(ExportKind::Memory),
         0x03 => Ok(ExportKind::Global),
         0x04 => Ok(ExportKind::Tag),
-        _ => Err(Fault::Malformed),
+        byte => Err(Fault::Malformed(cursor.invalid(Construct::ExportKind, byte))),
     }
 }
 
@@ -57,7 +58,7 @@ fn read_export_kind(cursor: &mut Cursor<'_>) -> Result<ExportKind, Fault>
 #[tactic(auto, unfolding(crate::specs::formats::Entries::export_entry))]
 fn read_export<'a>(cursor: &mut Cursor<'a>) -> Result<Export<'a>, Fault>
     ensures reads { Reads export_entry.at cursor.old cursor.new (map_ok export_parts result) }
-    ensures err { IfErr result (λ e. e ≡ Malformed) }
+    ensures err { IfErr result IsMalformed }
 {
     let name = read_name(cursor)?;
     let kind = read_export_kind(cursor)?;
@@ -99,13 +100,13 @@ impl<'a> Readable<'a> for Export<'a> {
 fn rewrite_export_kind(rewriter: &mut Rewriter) -> Result<(), Fault>
     ensures rewrites { Rewrites export_kind rewriter.old rewriter.new result }
 {
-    match rewriter.byte()? {
+    match rewriter.byte_of(Construct::ExportKind)? {
         0x00 => Ok(()),
         0x01 => Ok(()),
         0x02 => Ok(()),
         0x03 => Ok(()),
         0x04 => Ok(()),
-        _ => Err(Fault::Malformed),
+        byte => Err(Fault::Malformed(rewriter.invalid(Construct::ExportKind, byte))),
     }
 }
 

@@ -2,7 +2,7 @@
 ghost use Rattle.std.specs.Prelude.{◌≡◌, refl, IfErr, ◌++◌, OnOk, length, take, ◌⊎◌};
 ghost use Rattle.wasm_codec.specs.Places.{Reads};
 ghost use Rattle.wasm_codec.specs.Rewriter.{Rewrites};
-ghost use Rattle.wasm_codec.specs.declared.reader.cursor.Fault.TheVariants.{Malformed};
+ghost use Rattle.wasm_codec.specs.Outcomes.{IsMalformed};
 ghost use Rattle.std.proofs.lemmas.List.{map_push};
 ghost use Rattle.wasm_codec.specs.formats.Grammar.{TakesBytes};
 ghost use Rattle.wasm_codec.specs.Lawful.{IsLawful};
@@ -38,7 +38,7 @@ pub struct Import<'a> {
 #[tactic(auto, unfolding(crate::specs::formats::Entries::import_entry))]
 fn read_import<'a>(cursor: &mut Cursor<'a>) -> Result<Import<'a>, Fault>
     ensures reads { Reads import_entry.at cursor.old cursor.new (map_ok import_parts result) }
-    ensures err { IfErr result (λ e. e ≡ Malformed) }
+    ensures err { IfErr result IsMalformed }
 {
     let module = read_name(cursor)?;
     let field = read_name(cursor)?;

@@ -8,14 +8,14 @@ ghost use Rattle.wasm_sections.specs.SectionKinds.{SectionOf};
 ghost use Rattle.wasm_sections.specs.ListSections.{StandsForItems, AddsIf, AddsEachIf, EncodesItems, IsWrittenList, LawfulItem};
 ghost use Rattle.wasm_entities.specs.Making.{Makes};
 ghost use Rattle.wasm_codec.specs.Decoding.{ChecksAll, RewritesAll, IsMinimal};
-ghost use Rattle.wasm_codec.specs.Outcomes.{NeedsNoMemory};
+ghost use Rattle.wasm_codec.specs.Outcomes.{as_read, NeedsNoMemory};
 ghost use Rattle.wasm_codec.specs.Lists.{ListMinimalIf, IsListPrefix, IsListPrefixMinimalIf};
 
 use std::alloc::{Allocator, Global};
 use std::marker::{Model, PhantomData};
 use wasm_codec::decode::Decode;
 use wasm_codec::encode::EncodeError;
-use wasm_codec::reader::ReadError;
+use wasm_codec::reader::DecodeError;
 use wasm_lists::checking::check_list_to_end;
 use wasm_lists::encode::Encode;
 use wasm_lists::encoded_list::EncodedList;
@@ -178,23 +178,23 @@ impl<'a, T: SectionItem + Readable<'a>> Decode<'a> for ListSection<T> {
         <T as Readable>::is_lawful();
     }
 
-    fn read_all(alloc: Global, bytes: &'a [u8]) -> Result<Vec<T>, ReadError> {
+    fn read_all(alloc: Global, bytes: &'a [u8]) -> Result<Vec<T>, DecodeError> {
         read_list_to_end::<T, false>(alloc, bytes)
     }
 
-    fn read_all_strict(alloc: Global, bytes: &'a [u8]) -> Result<Vec<T>, ReadError> {
+    fn read_all_strict(alloc: Global, bytes: &'a [u8]) -> Result<Vec<T>, DecodeError> {
         read_list_to_end::<T, true>(alloc, bytes)
     }
 
-    fn check_all(alloc: Global, bytes: &[u8]) -> Result<(), ReadError>
-        ensures checks { ChecksAll (ListMinimalIf true T.Readable.format) (IsListPrefixMinimalIf true T.Readable.format) bytes.now result }
+    fn check_all(alloc: Global, bytes: &[u8]) -> Result<(), DecodeError>
+        ensures checks { ChecksAll (ListMinimalIf true T.Readable.format) (IsListPrefixMinimalIf true T.Readable.format) bytes.now (as_read result) }
     {
         check_list_to_end::<Item<'a, T>>(alloc, bytes)
     }
 
-    fn rewrite_all(bytes: Vec<u8>) -> Result<Vec<u8>, ReadError>
-        ensures rewrites { RewritesAll (items T.Readable.format) (IsListPrefix T.Readable.format.Encodes) bytes.items result }
-        ensures memory { NeedsNoMemory result }
+    fn rewrite_all(bytes: Vec<u8>) -> Result<Vec<u8>, DecodeError>
+        ensures rewrites { RewritesAll (items T.Readable.format) (IsListPrefix T.Readable.format.Encodes) bytes.items (as_read result) }
+        ensures memory { NeedsNoMemory (as_read result) }
     {
         rewrite_list_to_end::<Item<'a, T>>(bytes)
     }

@@ -11,7 +11,7 @@ use crate::exports::Export;
 use crate::globals::Global as GlobalEntry;
 use crate::imports::Import;
 use crate::tables::Table;
-pub use kinds::{SectionKind, SectionNames, SectionVisitor, section_names, visit_section};
+pub use kinds::{SectionKind, SectionVisitor, visit_section};
 pub use rewriter::AnySection;
 use wasm_entities::limits::MemoryType;
 use wasm_entities::types::TagType;

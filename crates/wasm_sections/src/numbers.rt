@@ -1,6 +1,6 @@
 //! Sections that are a single number (Core 3.0, Start Section and Data Count Section).
 ghost use Rattle.std.specs.Prelude.{⊤, ℕ, Ok, ◌≡◌, ◌++◌, OnOk, IfErr, OnErr};
-ghost use Rattle.wasm_codec.specs.Outcomes.{NeedsNoMemory};
+ghost use Rattle.wasm_codec.specs.Outcomes.{as_read, NeedsNoMemory};
 ghost use Rattle.wasm_codec.specs.formats.Combinators.{minimal_only, u32 as u32_format};
 ghost use Rattle.wasm_sections.specs.Prefixes.{IsNothingOr};
 ghost use Rattle.wasm_codec.specs.Decoding.{ReadsAll, ChecksAll, RewritesAll, IsMinimal};
@@ -17,8 +17,9 @@ use std::alloc::{Allocator, Global};
 use wasm_codec::decode::Decode;
 use wasm_codec::encode::EncodeError;
 use wasm_codec::encode::leb128::{put_u32, u32_len};
-use wasm_codec::reader::ReadError;
+use wasm_codec::reader::DecodeError;
 use wasm_codec::reader::cursor::{Cursor, Fault};
+use wasm_codec::reader::malformed::{Malformed, Reason};
 use wasm_codec::rewriter::Rewriter;
 use wasm_lists::encode::Encode;
 use wasm_lists::rewriting::RewritableBody;
@@ -58,42 +59,43 @@ pub struct DataCountSection {
 /// Reads a number that fills a section body, in any encoding.
 ///
 /// Fails with `Refused` at 0 if the number is malformed, or at the offset of trailing bytes. Allocates nothing.
-pub fn read_number(body: &[u8]) -> Result<u32, ReadError>
-    ensures reads { ReadsAll (λ number. number) u32_format.Encodes (IsNothingOr u32_format) body.now result }
-    ensures memory { NeedsNoMemory result }
+pub fn read_number(body: &[u8]) -> Result<u32, DecodeError>
+    ensures reads { ReadsAll (λ number. number) u32_format.Encodes (IsNothingOr u32_format) body.now (as_read result) }
+    ensures memory { NeedsNoMemory (as_read result) }
 {
     let mut cursor = Cursor::new(body);
     // `fork` shows the proof that all remaining items are bytes.
     let _start = cursor.fork();
-    let Ok(number) = cursor.u32() else {
-        return Err(ReadError::Refused { at: 0 });
+    let number = match cursor.u32() {
+        Ok(number) => number,
+        Err(fault) => return Err(DecodeError::new(fault, 0, body.len())),
     };
     if cursor.len() > 0 {
-        return Err(ReadError::Refused {
-            at: body.len() - cursor.len(),
-        });
+        let at = body.len() - cursor.len();
+        return Err(DecodeError::refused(&cursor.trailing(), at, body.len()));
     }
     Ok(number)
 }
 
 /// Reads a minimally encoded number that fills a section body. Fails as `read_number` does, and at 0 if it isn't minimal.
-pub fn read_number_strict(body: &[u8]) -> Result<u32, ReadError>
-    ensures reads { ReadsAll (λ number. number) (minimal_only u32_format).Encodes (IsNothingOr (minimal_only u32_format)) body.now result }
-    ensures memory { NeedsNoMemory result }
+pub fn read_number_strict(body: &[u8]) -> Result<u32, DecodeError>
+    ensures reads { ReadsAll (λ number. number) (minimal_only u32_format).Encodes (IsNothingOr (minimal_only u32_format)) body.now (as_read result) }
+    ensures memory { NeedsNoMemory (as_read result) }
 {
     let mut cursor = Cursor::new(body);
     // `fork` shows the proof that all remaining items are bytes.
     let _start = cursor.fork();
-    let Ok(number) = cursor.u32() else {
-        return Err(ReadError::Refused { at: 0 });
+    let number = match cursor.u32() {
+        Ok(number) => number,
+        Err(fault) => return Err(DecodeError::new(fault, 0, body.len())),
     };
     if !cursor.is_shortest() {
-        return Err(ReadError::Refused { at: 0 });
+        let long = Malformed::new(Reason::LongForm, body.len());
+        return Err(DecodeError::refused(&long, 0, body.len()));
     }
     if cursor.len() > 0 {
-        return Err(ReadError::Refused {
-            at: body.len() - cursor.len(),
-        });
+        let at = body.len() - cursor.len();
+        return Err(DecodeError::refused(&cursor.trailing(), at, body.len()));
     }
     Ok(number)
 }
@@ -182,26 +184,26 @@ impl<'a> Decode<'a> for StartSection {
         ensures minimal { IsMinimal start_body (minimal_only start_body).Encodes }
     {}
 
-    fn read_all(_alloc: Global, bytes: &'a [u8]) -> Result<StartSection, ReadError> {
+    fn read_all(_alloc: Global, bytes: &'a [u8]) -> Result<StartSection, DecodeError> {
         let function_index = read_number(bytes)?;
         Ok(StartSection { function_index })
     }
 
-    fn read_all_strict(_alloc: Global, bytes: &'a [u8]) -> Result<StartSection, ReadError> {
+    fn read_all_strict(_alloc: Global, bytes: &'a [u8]) -> Result<StartSection, DecodeError> {
         let function_index = read_number_strict(bytes)?;
         Ok(StartSection { function_index })
     }
 
-    fn check_all(_alloc: Global, bytes: &[u8]) -> Result<(), ReadError>
-        ensures checks { ChecksAll (minimal_only start_body).Encodes (IsNothingOr (minimal_only start_body)) bytes.now result }
+    fn check_all(_alloc: Global, bytes: &[u8]) -> Result<(), DecodeError>
+        ensures checks { ChecksAll (minimal_only start_body).Encodes (IsNothingOr (minimal_only start_body)) bytes.now (as_read result) }
     {
         read_number_strict(bytes)?;
         Ok(())
     }
 
-    fn rewrite_all(bytes: Vec<u8>) -> Result<Vec<u8>, ReadError>
-        ensures rewrites { RewritesAll start_body (IsNothingOr start_body) bytes.items result }
-        ensures memory { NeedsNoMemory result }
+    fn rewrite_all(bytes: Vec<u8>) -> Result<Vec<u8>, DecodeError>
+        ensures rewrites { RewritesAll start_body (IsNothingOr start_body) bytes.items (as_read result) }
+        ensures memory { NeedsNoMemory (as_read result) }
     {
         rewrite_body::<Number>(bytes)
     }
@@ -231,26 +233,26 @@ impl<'a> Decode<'a> for DataCountSection {
         ensures minimal { IsMinimal data_count_body (minimal_only data_count_body).Encodes }
     {}
 
-    fn read_all(_alloc: Global, bytes: &'a [u8]) -> Result<DataCountSection, ReadError> {
+    fn read_all(_alloc: Global, bytes: &'a [u8]) -> Result<DataCountSection, DecodeError> {
         let count = read_number(bytes)?;
         Ok(DataCountSection { count })
     }
 
-    fn read_all_strict(_alloc: Global, bytes: &'a [u8]) -> Result<DataCountSection, ReadError> {
+    fn read_all_strict(_alloc: Global, bytes: &'a [u8]) -> Result<DataCountSection, DecodeError> {
         let count = read_number_strict(bytes)?;
         Ok(DataCountSection { count })
     }
 
-    fn check_all(_alloc: Global, bytes: &[u8]) -> Result<(), ReadError>
-        ensures checks { ChecksAll (minimal_only data_count_body).Encodes (IsNothingOr (minimal_only data_count_body)) bytes.now result }
+    fn check_all(_alloc: Global, bytes: &[u8]) -> Result<(), DecodeError>
+        ensures checks { ChecksAll (minimal_only data_count_body).Encodes (IsNothingOr (minimal_only data_count_body)) bytes.now (as_read result) }
     {
         read_number_strict(bytes)?;
         Ok(())
     }
 
-    fn rewrite_all(bytes: Vec<u8>) -> Result<Vec<u8>, ReadError>
-        ensures rewrites { RewritesAll data_count_body (IsNothingOr data_count_body) bytes.items result }
-        ensures memory { NeedsNoMemory result }
+    fn rewrite_all(bytes: Vec<u8>) -> Result<Vec<u8>, DecodeError>
+        ensures rewrites { RewritesAll data_count_body (IsNothingOr data_count_body) bytes.items (as_read result) }
+        ensures memory { NeedsNoMemory (as_read result) }
     {
         rewrite_body::<Number>(bytes)
     }

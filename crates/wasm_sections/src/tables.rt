@@ -16,6 +16,7 @@ use crate::list_section::{ListSection, SectionItem};
 use std::alloc::{Allocator, Global};
 use wasm_codec::encode::{EncodeError, keep_or_undo};
 use wasm_codec::reader::cursor::{Cursor, Fault};
+use wasm_codec::reader::malformed::Construct;
 use wasm_codec::rewriter::Rewriter;
 use wasm_entities::const_expr::ConstExpr;
 use wasm_entities::expressions::{encode_expr, read_expr, rewrite_expr};
@@ -39,13 +40,14 @@ pub struct Table {
 fn read_table(alloc: Global, cursor: &mut Cursor<'_>) -> Result<Table, Fault>
     ensures reads { Reads table_entry.at cursor.old cursor.new result }
 {
-    if cursor.peek()? != 0x40 {
+    if cursor.peek(Construct::Table)? != 0x40 {
         let ty = read_table_type(cursor)?;
         return Ok(Table { ty, init: None });
     }
     cursor.byte()?;
-    if cursor.byte()? != 0x00 {
-        return Err(Fault::Malformed);
+    let byte = cursor.byte_of(Construct::Table)?;
+    if byte != 0x00 {
+        return Err(Fault::Malformed(cursor.invalid(Construct::Table, byte)));
     }
     let ty = read_table_type(cursor)?;
     let init = read_expr(alloc, cursor)?;
@@ -81,12 +83,13 @@ impl<'a> Readable<'a> for Table {
     fn rewrite(rewriter: &mut Rewriter) -> Result<(), Fault>
         ensures rewrites { Rewrites table_entry rewriter.old rewriter.new result }
     {
-        if rewriter.peek()? != 0x40 {
+        if rewriter.peek(Construct::Table)? != 0x40 {
             return rewrite_table_type(rewriter);
         }
         rewriter.byte()?;
-        if rewriter.byte()? != 0x00 {
-            return Err(Fault::Malformed);
+        let byte = rewriter.byte_of(Construct::Table)?;
+        if byte != 0x00 {
+            return Err(Fault::Malformed(rewriter.invalid(Construct::Table, byte)));
         }
         rewrite_table_type(rewriter)?;
         rewrite_expr(rewriter)

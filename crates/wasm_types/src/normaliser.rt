@@ -20,6 +20,7 @@ use crate::types::{FieldType, SubType, TypeEntry, ValType};
 pub use heap_types::{rewrite_heap_type, rewrite_ref_type, rewrite_val_type};
 pub use type_sections::{normalise_type_section, rewrite_type_section};
 use wasm_codec::reader::cursor::Fault;
+use wasm_codec::reader::malformed::Construct;
 use wasm_codec::rewriter::Rewriter;
 use wasm_lists::rewriting::{Rewritable, rewrite_list};
 
@@ -28,7 +29,7 @@ use wasm_lists::rewriting::{Rewritable, rewrite_list};
 fn rewrite_inner_type(rewriter: &mut Rewriter) -> Result<(), Fault>
     ensures rewrites { Rewrites inner_type rewriter.old rewriter.new result }
 {
-    match rewriter.byte()? {
+    match rewriter.byte_of(Construct::TypeForm)? {
         0x60 => {
             rewrite_list::<ValType>(rewriter)?;
             rewrite_list::<ValType>(rewriter)?;
@@ -46,7 +47,7 @@ fn rewrite_inner_type(rewriter: &mut Rewriter) -> Result<(), Fault>
             rewriter.index()?;
             Ok(())
         }
-        _ => Err(Fault::Malformed),
+        byte => Err(Fault::Malformed(rewriter.invalid(Construct::TypeForm, byte))),
     }
 }
 
@@ -56,7 +57,7 @@ fn rewrite_inner_type(rewriter: &mut Rewriter) -> Result<(), Fault>
 fn rewrite_described_type(rewriter: &mut Rewriter) -> Result<(), Fault>
     ensures rewrites { Rewrites (optional 0x4d u32 inner_type) rewriter.old rewriter.new result }
 {
-    if rewriter.peek()? == 0x4d {
+    if rewriter.peek(Construct::TypeForm)? == 0x4d {
         rewriter.byte()?;
         rewriter.u32()?;
         rewrite_inner_type(rewriter)?;
@@ -72,7 +73,7 @@ fn rewrite_described_type(rewriter: &mut Rewriter) -> Result<(), Fault>
 fn rewrite_describing_type(rewriter: &mut Rewriter) -> Result<(), Fault>
     ensures rewrites { Rewrites (optional 0x4c u32 (optional 0x4d u32 inner_type)) rewriter.old rewriter.new result }
 {
-    if rewriter.peek()? == 0x4c {
+    if rewriter.peek(Construct::TypeForm)? == 0x4c {
         rewriter.byte()?;
         rewriter.u32()?;
         rewrite_described_type(rewriter)?;
@@ -87,7 +88,7 @@ fn rewrite_describing_type(rewriter: &mut Rewriter) -> Result<(), Fault>
 fn rewrite_composite_type(rewriter: &mut Rewriter) -> Result<(), Fault>
     ensures rewrites { Rewrites composite_type rewriter.old rewriter.new result }
 {
-    if rewriter.peek()? == 0x65 {
+    if rewriter.peek(Construct::TypeForm)? == 0x65 {
         rewriter.byte()?;
         rewrite_describing_type(rewriter)?;
         return Ok(());
@@ -118,7 +119,7 @@ fn rewrite_final_type(rewriter: &mut Rewriter) -> Result<(), Fault>
 fn rewrite_sub_type(rewriter: &mut Rewriter) -> Result<(), Fault>
     ensures rewrites { Rewrites sub_type rewriter.old rewriter.new result }
 {
-    let first = rewriter.peek()?;
+    let first = rewriter.peek(Construct::TypeForm)?;
     if first == 0x50 {
         rewriter.byte()?;
         rewrite_list::<u32>(rewriter)?;
@@ -138,7 +139,7 @@ fn rewrite_sub_type(rewriter: &mut Rewriter) -> Result<(), Fault>
 fn rewrite_entry(rewriter: &mut Rewriter) -> Result<(), Fault>
     ensures rewrites { Rewrites recursive_type rewriter.old rewriter.new result }
 {
-    let first = rewriter.peek()?;
+    let first = rewriter.peek(Construct::TypeForm)?;
     if first == 0x4e {
         rewriter.byte()?;
         rewrite_list::<SubType>(rewriter)?;

@@ -1,2 +1,5 @@
 pub mod StopLaws
 pub mod ModuleOrderLaws
+pub mod OffsetLaws
+pub mod PatternLaws
+pub mod SelectionLaws

@@ -1,2 +1,4 @@
 pub mod ModuleOrder
+pub mod Offsets
+pub mod Selections
 pub mod Stops

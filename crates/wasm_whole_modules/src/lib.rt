@@ -4,4 +4,6 @@
 
 pub mod locate;
 pub mod modules;
+pub mod offsets;
 pub mod order;
+pub mod selection;

@@ -134,7 +134,10 @@ impl SectionVisitor for ItemCounter<'_> {
         Ok(None)
     }
 
-    fn visit_unknown(&mut self) -> Result<Option<Result<ItemCounts, BrokenItem>>, AllocError> {
+    fn visit_unknown(
+        &mut self,
+        _id: u8,
+    ) -> Result<Option<Result<ItemCounts, BrokenItem>>, AllocError> {
         Ok(None)
     }
 }

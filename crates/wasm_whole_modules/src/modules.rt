@@ -1,7 +1,7 @@
 //! Modules with every section decoded (Core 3.0, Modules).
 ghost use Rattle.std.specs.Prelude.{◌≡◌, List};
 ghost use Rattle.std.specs.List.{AllByRecursion};
-ghost use Rattle.wasm_codec.specs.Outcomes.{NeedsNoMemory};
+ghost use Rattle.wasm_codec.specs.Outcomes.{as_read, NeedsNoMemory};
 ghost use Rattle.wasm_codec.specs.formats.Combinators.{minimal_only};
 ghost use Rattle.wasm_modules.specs.Modules.{IsModulePrefixOf};
 ghost use Rattle.wasm_sections.specs.formats.ModuleSectionParts.{ModuleSectionParts, all_module_section_parts};
@@ -15,7 +15,7 @@ pub use crate::locate::{
 pub use crate::order::{ModuleError, check_order};
 use std::alloc::Global;
 use wasm_codec::decode::{Decode, check, normalise, read, read_strict, rewrite};
-use wasm_codec::reader::ReadError;
+use wasm_codec::reader::{DecodeError, ReadError, without_reason};
 use wasm_modules::normaliser::framing::rewrite_module_of;
 use wasm_modules::raw::{check_module_of, read_module_of};
 use wasm_sections::module_sections::{AnySection, ModuleSection};
@@ -57,26 +57,26 @@ impl<'a> Decode<'a> for WholeModule {
         ensures minimal { IsMinimal whole_module ShortestWholeModule }
     {}
 
-    fn read_all(alloc: Global, bytes: &'a [u8]) -> Result<Vec<ModuleSection<'a>>, ReadError> {
+    fn read_all(alloc: Global, bytes: &'a [u8]) -> Result<Vec<ModuleSection<'a>>, DecodeError> {
         read_module_of::<ModuleSection<'_>, false>(alloc, bytes)
     }
 
     fn read_all_strict(
         alloc: Global,
         bytes: &'a [u8],
-    ) -> Result<Vec<ModuleSection<'a>>, ReadError> {
+    ) -> Result<Vec<ModuleSection<'a>>, DecodeError> {
         read_module_of::<ModuleSection<'_>, true>(alloc, bytes)
     }
 
-    fn check_all(alloc: Global, bytes: &[u8]) -> Result<(), ReadError>
-        ensures checks { ChecksAll ShortestWholeModule (IsModulePrefixOf (minimal_only module_section)) bytes.now result }
+    fn check_all(alloc: Global, bytes: &[u8]) -> Result<(), DecodeError>
+        ensures checks { ChecksAll ShortestWholeModule (IsModulePrefixOf (minimal_only module_section)) bytes.now (as_read result) }
     {
         check_module_of::<AnySection>(alloc, bytes)
     }
 
-    fn rewrite_all(bytes: Vec<u8>) -> Result<Vec<u8>, ReadError>
-        ensures rewrites { RewritesAll whole_module (IsModulePrefixOf module_section) bytes.items result }
-        ensures memory { NeedsNoMemory result }
+    fn rewrite_all(bytes: Vec<u8>) -> Result<Vec<u8>, DecodeError>
+        ensures rewrites { RewritesAll whole_module (IsModulePrefixOf module_section) bytes.items (as_read result) }
+        ensures memory { NeedsNoMemory (as_read result) }
     {
         rewrite_module_of::<AnySection>(bytes)
     }
@@ -102,7 +102,7 @@ pub fn read_whole_module<'a>(
 ) -> Result<Vec<ModuleSection<'a>>, ReadError>
     ensures decodes { Decodes (λ sections. all_module_section_parts sections.items) whole_module (IsModulePrefixOf module_section) bytes.now result }
 {
-    read::<WholeModule>(alloc, bytes)
+    without_reason(read::<WholeModule>(alloc, bytes))
 }
 
 /// Reads a minimally encoded module and decodes every section (Core 3.0, Modules).
@@ -126,7 +126,7 @@ pub fn read_whole_module_strict<'a>(
 ) -> Result<Vec<ModuleSection<'a>>, ReadError>
     ensures decodes { DecodesMinimal (λ sections. all_module_section_parts sections.items) whole_module ShortestWholeModule (IsModulePrefixOf (minimal_only module_section)) bytes.now result }
 {
-    read_strict::<WholeModule>(alloc, bytes)
+    without_reason(read_strict::<WholeModule>(alloc, bytes))
 }
 
 /// Checks that a module and all its sections are minimally encoded (Core 3.0, Modules).
@@ -136,7 +136,7 @@ pub fn read_whole_module_strict<'a>(
 pub fn check_whole_module(alloc: Global, bytes: &[u8]) -> Result<(), ReadError>
     ensures checks { Checks whole_module ShortestWholeModule (IsModulePrefixOf (minimal_only module_section)) bytes.now result }
 {
-    check::<WholeModule>(alloc, bytes)
+    without_reason(check::<WholeModule>(alloc, bytes))
 }
 
 /// Returns the minimal encoding of a module: of every number, size, type and index in every section (Core 3.0,
@@ -158,7 +158,7 @@ pub fn normalise_whole_module(alloc: Global, bytes: &[u8]) -> Result<Vec<u8>, Re
     ensures encodes { (sections : List ModuleSectionParts) → AllByRecursion module_section.InRange sections →
         bytes.now ≡ whole_module.bytes sections → whole_module.Encodes bytes.now sections }
 {
-    normalise::<WholeModule>(alloc, bytes)
+    without_reason(normalise::<WholeModule>(alloc, bytes))
 }
 
 /// Replaces a module by its minimal encoding in place (Core 3.0, Modules).
@@ -176,5 +176,5 @@ pub fn normalise_whole_module(alloc: Global, bytes: &[u8]) -> Result<Vec<u8>, Re
 pub fn rewrite_whole_module(bytes: Vec<u8>) -> Result<Vec<u8>, ReadError>
     ensures normalises { NormalisesInPlace whole_module (IsModulePrefixOf module_section) bytes.items result }
 {
-    rewrite::<WholeModule>(bytes)
+    without_reason(rewrite::<WholeModule>(bytes))
 }

@@ -1,5 +1,2 @@
-pub mod OffsetLaws
 pub mod OrderLaws
-pub mod PatternLaws
 pub mod ResultLaws
-pub mod SelectionLaws

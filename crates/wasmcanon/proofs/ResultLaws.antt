@@ -12,7 +12,7 @@ on_ok (Err e) f h = tt
 
 pub if_disordered : {X : Type 0} {P Q : ModuleError → Type 0} (r : Result X Failure) → ((e : ModuleError) → P e → Q e) → IfDisordered r P → IfDisordered r Q
 if_disordered (Ok x) f h = tt
-if_disordered (Err (failures.Refused at place)) f h = tt
+if_disordered (Err (failures.Refused refusal foreign)) f h = tt
 if_disordered (Err (failures.Disordered error place)) f h = f error h
 if_disordered (Err failures.Memory) f h = tt
 if_disordered (Err (failures.Read error)) f h = tt

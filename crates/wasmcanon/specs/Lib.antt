@@ -1,4 +1,2 @@
-pub mod Offsets
 pub mod Order
 pub mod Run
-pub mod Selections

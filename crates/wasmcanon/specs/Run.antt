@@ -8,8 +8,8 @@ use Rattle.wasm_codec.specs.formats.Combinators.{minimal_only}
 use Rattle.wasm_modules.specs.Modules.{IsModulePrefixOf}
 use Rattle.wasm_whole_modules.specs.declared.order.ModuleError.{ModuleError}
 use Rattle.sha2.specs.Sha256.{sha256}
-use Rattle.wasmcanon.specs.Selections.{IsChosen}
-use Rattle.wasmcanon.specs.declared.selection.Sections.{Sections}
+use Rattle.wasm_whole_modules.specs.Selections.{IsChosen}
+use Rattle.wasm_whole_modules.specs.declared.selection.Sections.{Sections}
 use Rattle.wasmcanon.specs.declared.run.Verdict.{Verdict}
 use Rattle.wasmcanon.specs.declared.run.Verdict.TheVariants as verdicts
 use Rattle.wasmcanon.specs.declared.run.Failure.{Failure}
@@ -48,15 +48,15 @@ pub record IsHash (sections : Sections) (input digest : List ℕ) : Type 0 where
 -- The verdict is right: the input is canonical, or its longest canonical prefix ends at this offset.
 abbrev pub Judges : List ℕ → Verdict → Type 0
 Judges input verdicts.Canonical = IsCanonicalForm input input
-Judges input (verdicts.Longer at) =
-    IsModule input × (IsCanonicalForm input input → ⊥) × IsLongestPrefix (IsModulePrefixOf (minimal_only module_section)) input at
+Judges input (verdicts.Longer refusal) =
+    IsModule input × (IsCanonicalForm input input → ⊥) × IsLongestPrefix (IsModulePrefixOf (minimal_only module_section)) input refusal.at
 
 -- ---- results
 
 -- If the run refuses its input, the property holds of the offset that it reports.
 abbrev pub IfRefused : {X : Type 0} → Result X Failure → (ℕ → Type 0) → Type 0
 IfRefused (Ok x) P = Unit {0}
-IfRefused (Err (failures.Refused at place)) P = P at
+IfRefused (Err (failures.Refused refusal foreign)) P = P refusal.at
 IfRefused (Err (failures.Disordered error place)) P = Unit {0}
 IfRefused (Err failures.Memory) P = Unit {0}
 IfRefused (Err (failures.Read error)) P = Unit {0}
@@ -65,7 +65,7 @@ IfRefused (Err (failures.Write error)) P = Unit {0}
 -- If the run fails because the sections break a rule, the property holds of the error that it reports.
 abbrev pub IfDisordered : {X : Type 0} → Result X Failure → (ModuleError → Type 0) → Type 0
 IfDisordered (Ok x) P = Unit {0}
-IfDisordered (Err (failures.Refused at place)) P = Unit {0}
+IfDisordered (Err (failures.Refused refusal foreign)) P = Unit {0}
 IfDisordered (Err (failures.Disordered error place)) P = P error
 IfDisordered (Err failures.Memory) P = Unit {0}
 IfDisordered (Err (failures.Read error)) P = Unit {0}
@@ -74,7 +74,7 @@ IfDisordered (Err (failures.Write error)) P = Unit {0}
 -- The property holds of each result that is returned after all input was read.
 abbrev pub OnceAllIsRead : {X : Type 0} → Result X Failure → Type 0 → Type 0
 OnceAllIsRead (Ok x) P = P
-OnceAllIsRead (Err (failures.Refused at place)) P = P
+OnceAllIsRead (Err (failures.Refused refusal foreign)) P = P
 OnceAllIsRead (Err (failures.Disordered error place)) P = P
 OnceAllIsRead (Err failures.Memory) P = Unit {0}
 OnceAllIsRead (Err (failures.Read error)) P = Unit {0}
@@ -83,7 +83,7 @@ OnceAllIsRead (Err (failures.Write error)) P = P
 -- The property holds of each failure but that of a write.
 abbrev pub BeforeAnyWrite : {X : Type 0} → Result X Failure → Type 0 → Type 0
 BeforeAnyWrite (Ok x) P = Unit {0}
-BeforeAnyWrite (Err (failures.Refused at place)) P = P
+BeforeAnyWrite (Err (failures.Refused refusal foreign)) P = P
 BeforeAnyWrite (Err (failures.Disordered error place)) P = P
 BeforeAnyWrite (Err failures.Memory) P = P
 BeforeAnyWrite (Err (failures.Read error)) P = P
@@ -91,7 +91,7 @@ BeforeAnyWrite (Err (failures.Write error)) P = Unit {0}
 
 -- The failure is `Memory` or `Read`.
 abbrev pub IsReadFailure : Failure → Type 0
-IsReadFailure (failures.Refused at place) = ⊥
+IsReadFailure (failures.Refused refusal foreign) = ⊥
 IsReadFailure (failures.Disordered error place) = ⊥
 IsReadFailure failures.Memory = Unit {0}
 IsReadFailure (failures.Read error) = Unit {0}
@@ -99,7 +99,7 @@ IsReadFailure (failures.Write error) = ⊥
 
 -- The exit status of a run that failed so.
 abbrev pub status_of : Failure → ℕ
-status_of (failures.Refused at place) = 1
+status_of (failures.Refused refusal foreign) = 1
 status_of (failures.Disordered error place) = 1
 status_of failures.Memory = 3
 status_of (failures.Read error) = 4

@@ -1,6 +1,8 @@
 //! The actions on the modules that the command line names.
 use crate::diff::find_difference;
-use crate::files::{canonicalise_file, check_file, hash_file, is_read_only, read_forms_at};
+use crate::files::{
+    canonicalise_file, check_file, hash_file, is_read_only, read_canonical_at, read_forms_at,
+};
 use crate::json::{difference_value, digest_value, verdict_value};
 use crate::messages::{InputName, OffsetWarning, OutputName};
 use crate::outputs::Outputs;
@@ -119,11 +121,9 @@ fn add_verdict(
     input: Location<'_>,
     verdict: Verdict,
 ) -> Result<(), AllocError> {
-    if let Verdict::Longer { at } = verdict {
+    if let Verdict::Longer(refusal) = verdict {
         let input = InputName(input);
-        let _ = eprintln!(rt;
-            "error: {input}: not canonical: section at offset {at:#x}: not minimally encoded"
-        );
+        let _ = eprintln!(rt; "error: {input}: not canonical: {refusal}");
         results.raise(NOT_CANONICAL_STATUS);
     }
     if results.is_json() {
@@ -245,8 +245,8 @@ fn canonical_form_at(
     input: Location<'_>,
     results: &mut Results,
 ) -> Result<Option<Vec<u8>>, AllocError> {
-    match read_forms_at(rt, request, input) {
-        Ok(forms) => Ok(Some(forms.canonical)),
+    match read_canonical_at(rt, request, input) {
+        Ok(canonical) => Ok(Some(canonical.bytes)),
         Err(failure) => {
             results.fail(input, Location::Standard, &failure)?;
             Ok(None)

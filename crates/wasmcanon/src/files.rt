@@ -2,7 +2,9 @@
 use crate::progress::{Progress, Source};
 use crate::replacement::Replacement;
 use crate::request::{Location, Request};
-use crate::run::{Failure, Forms, Verdict, canonicalise, check, hash, read_forms};
+use crate::run::{
+    Canonical, Failure, Forms, Verdict, canonicalise, check, hash, read_canonical, read_forms,
+};
 use std::alloc::Global;
 use std::io::Write;
 use std::{fs, io};
@@ -49,6 +51,18 @@ pub fn hash_file(
     );
     source.end();
     digest
+}
+
+/// Reads the module at `input`, and returns its canonical form.
+pub fn read_canonical_at(
+    rt: &HostRuntime,
+    request: &Request<'_>,
+    input: Location<'_>,
+) -> Result<Canonical, Failure> {
+    let mut source = open(rt, input, Progress::new(rt))?;
+    let canonical = read_canonical(rt.alloc(), &mut source, request.any_order);
+    source.end();
+    canonical
 }
 
 /// Reads the module at `input`, and returns it with its canonical form.

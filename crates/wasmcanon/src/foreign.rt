@@ -1,5 +1,6 @@
 //! Inputs that aren't modules: what they look like.
 use std::fmt;
+use wasm_modules::section::HEADER;
 
 /// What an input looks like that doesn't begin with the header of a module.
 #[derive(Clone, Copy)]
@@ -43,12 +44,24 @@ const BEGINNINGS: [(&[u8], Foreign); 9] = [
 ];
 
 impl Foreign {
-    /// Looks at the beginning of an input.
-    pub fn of(input: &[u8]) -> Foreign {
+    /// Returns what an input looks like. `None` means that it begins with the header of a module, or with a header of
+    /// another version, which the refusal names.
+    pub fn find(input: &[u8]) -> Option<Foreign> {
+        if input.starts_with(&HEADER) {
+            return None;
+        }
+        match Foreign::of(input) {
+            Foreign::Version if input.len() >= HEADER.len() => None,
+            foreign => Some(foreign),
+        }
+    }
+
+    /// Returns what an input looks like that doesn't begin with the header of a module.
+    fn of(input: &[u8]) -> Foreign {
         if input.is_empty() {
             return Foreign::Nothing;
         }
-        if b"\0asm\x01\0\0\0".starts_with(input) {
+        if HEADER.starts_with(input) {
             return Foreign::Cut;
         }
         for (beginning, foreign) in &BEGINNINGS {

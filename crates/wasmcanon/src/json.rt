@@ -1,11 +1,12 @@
 //! Results as JSON.
 use crate::diff::Difference;
-use crate::messages::InputName;
+use crate::messages::FailureMessage;
 use crate::request::Location;
-use crate::run::Verdict;
+use crate::run::{Failure, Verdict};
+use crate::sections::kind_name;
 use serde_json::{Value, json};
 use std::alloc::{AllocError, Global};
-use std::fmt;
+use wasm_codec::reader::refusal::{Refusal, SectionPlace};
 
 /// Returns the name of an input.
 pub fn file_value(alloc: Global, input: Location<'_>) -> Result<Value, AllocError> {
@@ -21,14 +22,58 @@ pub fn text_value(alloc: Global, text: &str) -> Result<Value, AllocError> {
 }
 
 /// Returns the result for a module that failed.
-pub fn failure_value<M: fmt::Display>(
+pub fn failure_value(
     alloc: Global,
     input: Location<'_>,
-    message: &M,
+    message: &FailureMessage<'_, '_, '_>,
+) -> Result<Value, AllocError> {
+    let error = Value::String(format!(in alloc; "{message}")?);
+    match message.failure {
+        Failure::Refused { refusal, .. } => refused_value(alloc, input, "error", error, refusal),
+        _ => {
+            let file = file_value(alloc, input)?;
+            json!(in alloc; {"file": file, "error": error})
+        }
+    }
+}
+
+/// Returns the result for a module that is refused: where and why, beside this member.
+fn refused_value(
+    alloc: Global,
+    input: Location<'_>,
+    name: &str,
+    value: Value,
+    refusal: &Refusal,
 ) -> Result<Value, AllocError> {
     let file = file_value(alloc, input)?;
-    let error = Value::String(format!(in alloc; "{message}")?);
-    json!(in alloc; {"file": file, "error": error})
+    let kind = kind_value(alloc, refusal.section)?;
+    let reason = Value::String(format!(in alloc; "{}", refusal.reason)?);
+    let section = refusal.section.map(|place| place.number);
+    let id = refusal.section.map(|place| place.id);
+    let (item, group, instruction) = (refusal.item, refusal.local_group, refusal.instruction);
+    let section_at = refusal.section.map(|_| refusal.at);
+    let offset = refusal.offset;
+    json!(in alloc; {
+        "file": file,
+        name: value,
+        "section": section,
+        "id": id,
+        "kind": kind,
+        "section_offset": section_at,
+        "item": item,
+        "local_group": group,
+        "instruction": instruction,
+        "offset": offset,
+        "reason": reason
+    })
+}
+
+/// Returns the name of a section. `Null` means that there is no section.
+fn kind_value(alloc: Global, section: Option<SectionPlace>) -> Result<Value, AllocError> {
+    match section {
+        Some(place) => text_value(alloc, kind_name(place.id)),
+        None => Ok(Value::Null),
+    }
 }
 
 /// Returns the result of a check.
@@ -37,11 +82,13 @@ pub fn verdict_value(
     input: Location<'_>,
     verdict: Verdict,
 ) -> Result<Value, AllocError> {
-    let file = file_value(alloc, input)?;
     match verdict {
-        Verdict::Canonical => json!(in alloc; {"file": file, "canonical": true}),
-        Verdict::Longer { at } => {
-            json!(in alloc; {"file": file, "canonical": false, "offset": at})
+        Verdict::Canonical => {
+            let file = file_value(alloc, input)?;
+            json!(in alloc; {"file": file, "canonical": true})
+        }
+        Verdict::Longer(refusal) => {
+            refused_value(alloc, input, "canonical", Value::Bool(false), &refusal)
         }
     }
 }

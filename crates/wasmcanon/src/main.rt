@@ -10,7 +10,8 @@ mod diff;
 mod files;
 mod foreign;
 mod json;
-mod malformed;
+mod longer;
+mod longer_code;
 mod messages;
 mod offsets;
 mod options;
@@ -23,7 +24,6 @@ mod request;
 mod results;
 mod run;
 mod sections;
-mod selection;
 mod text;
 
 use actions::run_request;

@@ -1,5 +1,4 @@
 //! The messages on standard error.
-use crate::malformed::Malformed;
 use crate::order::DisorderMessage;
 use crate::request::Location;
 use crate::run::Failure;
@@ -21,13 +20,13 @@ impl fmt::Display for FailureMessage<'_, '_, '_> {
     fn fmt<W: fmt::Write>(&self, f: &mut fmt::Formatter<W>) -> fmt::Result {
         let input = InputName(self.input);
         match self.failure {
-            Failure::Refused { at: _, part } => match part {
-                Malformed::Header(found) => write!(
-                    f,
-                    "{input}: offset 0x0: not a WebAssembly module: expected the header 00 61 73 6D 01 00 00 00, found {found}"
-                ),
-                Malformed::Section(section) => write!(f, "{input}: {section}"),
-            },
+            Failure::Refused { refusal, foreign } => {
+                write!(f, "{input}: {refusal}")?;
+                match foreign {
+                    Some(found) => write!(f, ", found {found}"),
+                    None => Ok(()),
+                }
+            }
             Failure::Disordered { error, section } => {
                 let section = *section;
                 write!(f, "{input}: {}", DisorderMessage { error, section })

@@ -1,10 +1,8 @@
 //! Custom sections that keep offsets into the module. Once bytes have moved, these offsets are stale.
-ghost use Rattle.std.specs.Prelude.{◌≡◌, true, false, IfSome, IfNone};
-ghost use Rattle.wasmcanon.specs.Offsets.{BeginsWith, IsOffsetName};
-
-use crate::sections::custom_name;
 use wasm_codec::reader::cursor::Cursor;
 use wasm_modules::raw::{after_header, read_section};
+use wasm_whole_modules::offsets::offset_name;
+use wasm_whole_modules::selection::custom_name;
 
 /// Returns the beginning of the name of the first custom section that keeps offsets. `None` means that no section does.
 pub fn first_offset_name(module: &[u8]) -> Option<&'static str> {
@@ -20,43 +18,4 @@ pub fn first_offset_name(module: &[u8]) -> Option<&'static str> {
         }
     }
     None
-}
-
-/// Checks whether sections of this name keep offsets.
-pub fn is_offset_name(name: &str) -> bool
-    ensures yes { result ≡ true → IsOffsetName name.now }
-    ensures no { result ≡ false → IsOffsetName name.now → ⊥ }
-{
-    offset_name(name).is_some()
-}
-
-/// Returns the beginning of the name if sections of this name keep offsets: relocations and symbols of a linker, debug
-/// information (DWARF) or a source map, here or in another file, and annotations of instructions.
-fn offset_name(name: &str) -> Option<&'static str>
-    ensures found { IfSome result (λ _. IsOffsetName name.now) }
-    ensures none { IfNone result (IsOffsetName name.now → ⊥) }
-{
-    if begins_with(name, "linking") {
-        Some("linking")
-    } else if begins_with(name, "reloc.") {
-        Some("reloc.")
-    } else if begins_with(name, ".debug_") {
-        Some(".debug_")
-    } else if begins_with(name, "external_debug_info") {
-        Some("external_debug_info")
-    } else if begins_with(name, "sourceMappingURL") {
-        Some("sourceMappingURL")
-    } else if begins_with(name, "metadata.code.") {
-        Some("metadata.code.")
-    } else {
-        None
-    }
-}
-
-/// Checks whether `name` begins with `beginning`.
-fn begins_with(name: &str, beginning: &str) -> bool
-    ensures yes { result ≡ true → BeginsWith beginning.now name.now }
-    ensures no { result ≡ false → BeginsWith beginning.now name.now → ⊥ }
-{
-    name.as_bytes().strip_prefix(beginning.as_bytes()).is_some()
 }

@@ -218,7 +218,7 @@ fn find_data_name(alloc: Global, code: &mut Cursor<'_>) -> Result<Option<usize>,
             Ok(call) if names_data(&call) => return Ok(Some(index)),
             Ok(_) => {}
             Err(Fault::Memory) => return Err(AllocError),
-            Err(Fault::Malformed) => break,
+            Err(Fault::Malformed(_)) => break,
         }
     }
     Ok(None)

@@ -2,14 +2,14 @@
 use crate::json::{file_value, text_value};
 use crate::request::Location;
 use crate::sections::{
-    LocatedSection, SectionTitle, count_items, custom_name, has_list, kind_name, locate_sections,
-    longer_number,
+    LocatedSection, SectionTitle, count_items, has_list, kind_name, locate_sections, longer_number,
 };
 use serde_json::{Value, json};
 use std::alloc::{AllocError, Global};
 use std::fmt;
 use wasm_modules::section::RawSection;
 use wasm_whole_modules::locate::ItemCounts;
+use wasm_whole_modules::selection::custom_name;
 
 /// The report of a module.
 #[derive(Drop)]

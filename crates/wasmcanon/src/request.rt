@@ -1,7 +1,7 @@
 //! What the command line asks for.
-use crate::selection::{Pattern, Sections, Selection};
 use clap::ArgMatches;
 use std::alloc::{AllocError, Global};
+use wasm_whole_modules::selection::{Pattern, Sections, Selection};
 
 /// An input or an output of bytes.
 #[derive(Clone, Copy, PartialEq, Eq)]

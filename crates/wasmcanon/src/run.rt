@@ -1,5 +1,5 @@
 //! A run of the program, for any reader and any writer.
-ghost use Rattle.std.specs.Prelude.{◌≡◌, ℕ, List, false, IfOk, IfErr, IfSome, OnOk};
+ghost use Rattle.std.specs.Prelude.{◌≡◌, ℕ, List, false, IfOk, IfErr, IfSome, IfNone, OnOk};
 ghost use Rattle.std.specs.Io.KnownBytes.{IsAtEnd, Keeps};
 ghost use Rattle.wasm_codec.specs.Outcomes.{IsLongestPrefix};
 ghost use Rattle.wasm_codec.specs.formats.Combinators.{minimal_only};
@@ -9,27 +9,30 @@ ghost use Rattle.wasmcanon.specs.Order.{IsOrdered, BreaksOrder};
 ghost use Rattle.wasmcanon.specs.Run.{IsNoModule, IsCanonicalForm, AppendsForm, IsForm, IsHash, IfRefused, IfDisordered, OnceAllIsRead, BeforeAnyWrite, IsReadFailure, Judges, status_of};
 ghost use Rattle.wasmcanon.specs.declared.run.Failure.TheVariants.{Memory};
 
-use crate::malformed::{Malformed, find_malformed};
+use crate::foreign::Foreign;
+use crate::longer::find_longer_part;
 use crate::offsets::first_offset_name;
 use crate::order::{MisplacedSection, check_sections};
-use crate::selection::{Sections, choose_sections};
 use sha2::{Digest, Sha256};
 use std::alloc::{AllocError, Global};
 use std::io;
 use std::io::{ErrorKind, Read, Write};
-use wasm_codec::reader::ReadError;
-use wasm_whole_modules::modules::{check_whole_module, rewrite_whole_module};
+use wasm_codec::decode::{check as check_minimal, rewrite};
+use wasm_codec::reader::DecodeError;
+use wasm_codec::reader::refusal::Refusal;
+use wasm_whole_modules::modules::WholeModule;
 use wasm_whole_modules::order::ModuleError;
+use wasm_whole_modules::selection::{Sections, choose_sections};
 
 /// Why a run failed.
 #[derive(Drop)]
 pub enum Failure {
     /// The input is malformed.
     Refused {
-        /// Offset of the first malformed section, in bytes. 0 if the header is malformed.
-        at: usize,
-        /// The malformed part.
-        part: Malformed,
+        /// Why and where. `at` is the offset of the first malformed section, or 0 if the header is malformed.
+        refusal: Refusal,
+        /// What the input is instead of a module, if its header is malformed.
+        foreign: Option<Foreign>,
     },
     /// The sections are out of order, or their counts disagree.
     Disordered {
@@ -68,6 +71,15 @@ impl From<AllocError> for Failure {
     }
 }
 
+/// The canonical form of a module.
+#[derive(Drop)]
+pub struct Canonical {
+    /// The bytes.
+    pub bytes: Vec<u8>,
+    /// Whether bytes have moved: another encoding is longer.
+    pub has_moved: bool,
+}
+
 /// A module, and its canonical form.
 #[derive(Drop)]
 pub struct Forms {
@@ -82,11 +94,8 @@ pub struct Forms {
 pub enum Verdict {
     /// It is its own canonical form.
     Canonical,
-    /// It isn't.
-    Longer {
-        /// Offset of the first section that isn't minimally encoded, in bytes.
-        at: usize,
-    },
+    /// It isn't. Holds the first part that isn't minimally encoded: `at` is the offset of its section.
+    Longer(Refusal),
 }
 
 /// Reads a module, and writes its canonical form with these sections.
@@ -175,15 +184,46 @@ fn read_form<R: Read>(
     ensures refused { IfRefused result (λ at. IfSome (R.remaining reader.old) (λ input.
         IsLongestPrefix (IsModulePrefixOf module_section) input at)) }
 {
-    let forms = read_forms(alloc, reader, any_order)?;
-    let has_moved = forms.input != forms.canonical;
-    let bytes = choose_sections(alloc, forms.canonical, sections)?;
-    let stale = if has_moved {
+    let canonical = read_canonical(alloc, reader, any_order)?;
+    let bytes = choose_sections(alloc, canonical.bytes, sections)?;
+    let stale = if canonical.has_moved {
         first_offset_name(&bytes)
     } else {
         None
     };
     Ok(Form { bytes, stale })
+}
+
+/// Reads a module, and returns its canonical form.
+///
+/// Fails as `canonicalise` does, but never with `Write`.
+pub fn read_canonical<R: Read>(
+    alloc: Global,
+    reader: &mut R,
+    any_order: bool,
+) -> Result<Canonical, Failure>
+    // The result is the canonical form of the input.
+    ensures ok { IfOk result (λ form. IfSome (R.remaining reader.old) (λ input. IsCanonicalForm input form.bytes.items)) }
+    // Unless any order is allowed, the sections are in order.
+    ensures in_order { any_order ≡ false → OnOk result (IfSome (R.remaining reader.old) IsOrdered) }
+    // If the failure names a section, this is the first one that is out of order.
+    ensures disordered { IfDisordered result (λ error. IfSome (R.remaining reader.old) (λ input. BreaksOrder input error)) }
+    // All of the input is read before it is refused.
+    ensures read_to_end { OnceAllIsRead result (IsAtEnd (R.remaining reader.new)) }
+    // Only a malformed input is refused.
+    ensures unencoded { IfRefused result (λ _. IfSome (R.remaining reader.old) IsNoModule) }
+    // `at` is the length of the longest prefix that decodes.
+    ensures refused { IfRefused result (λ at. IfSome (R.remaining reader.old) (λ input.
+        IsLongestPrefix (IsModulePrefixOf module_section) input at)) }
+{
+    let input = read_all(alloc, reader)?;
+    let len = input.len();
+    // Rewriting takes the input, so the order is checked first. A malformed module is refused all the same.
+    let order = check_order_unless(alloc, &input, any_order);
+    let bytes = canonical_form(input)?;
+    order?;
+    let has_moved = bytes.len() != len;
+    Ok(Canonical { bytes, has_moved })
 }
 
 /// Reads a module, and returns it with its canonical form.
@@ -207,7 +247,7 @@ pub fn read_forms<R: Read>(alloc: Global, reader: &mut R, any_order: bool) -> Re
         IsLongestPrefix (IsModulePrefixOf module_section) input at)) }
 {
     let input = read_all(alloc, reader)?;
-    let canonical = canonical_form(alloc, &input)?;
+    let canonical = canonical_copy(alloc, &input)?;
     check_order_unless(alloc, &input, any_order)?;
     Ok(Forms { input, canonical })
 }
@@ -229,8 +269,9 @@ pub fn check<R: Read>(alloc: Global, reader: &mut R, any_order: bool) -> Result<
         IsLongestPrefix (IsModulePrefixOf module_section) input at)) }
 {
     let input = read_all(alloc, reader)?;
-    let verdict = judge(alloc, &input)?;
-    check_order_unless(alloc, &input, any_order)?;
+    let order = check_order_unless(alloc, &input, any_order);
+    let verdict = judge(alloc, input)?;
+    order?;
     Ok(verdict)
 }
 
@@ -248,38 +289,61 @@ fn check_order_unless(alloc: Global, input: &[u8], any_order: bool) -> Result<()
 }
 
 /// Checks whether a module is its own canonical form.
-fn judge(alloc: Global, input: &[u8]) -> Result<Verdict, Failure>
-    ensures ok { IfOk result (Judges input.now) }
-    ensures unencoded { IfRefused result (λ _. IsNoModule input.now) }
-    ensures refused { IfRefused result (IsLongestPrefix (IsModulePrefixOf module_section) input.now) }
+fn judge(alloc: Global, input: Vec<u8>) -> Result<Verdict, Failure>
+    ensures ok { IfOk result (Judges input.items) }
+    ensures unencoded { IfRefused result (λ _. IsNoModule input.items) }
+    ensures refused { IfRefused result (IsLongestPrefix (IsModulePrefixOf module_section) input.items) }
     ensures disordered { IfDisordered result (λ _. ⊥) }
 {
-    let canonical = canonical_form(alloc, input)?;
-    if canonical.as_slice() == input {
-        return Ok(Verdict::Canonical);
-    }
-    match check_whole_module(alloc, input) {
-        Ok(()) => Ok(Verdict::Canonical),
-        Err(ReadError::Memory) => Err(Failure::Memory),
-        Err(ReadError::Refused { at }) => Ok(Verdict::Longer { at }),
+    match first_longer(alloc, &input)? {
+        None => Ok(Verdict::Canonical),
+        Some(refusal) => {
+            let _canonical = canonical_form(input)?;
+            Ok(Verdict::Longer(refusal))
+        }
     }
 }
 
-/// Returns the canonical form of a module.
-fn canonical_form(alloc: Global, input: &[u8]) -> Result<Vec<u8>, Failure>
+/// Returns the refusal of the first section that isn't minimally encoded, or is malformed. `None` means that there is
+/// no such section.
+fn first_longer(alloc: Global, input: &[u8]) -> Result<Option<Refusal>, AllocError>
+    ensures none { IfOk result (λ found. IfNone found (IsCanonicalForm input.now input.now)) }
+    ensures longer { IfOk result (λ found. IfSome found (λ _. IsCanonicalForm input.now input.now → ⊥)) }
+    ensures prefix { IfOk result (λ found. IfSome found (λ refusal.
+        IsLongestPrefix (IsModulePrefixOf (minimal_only module_section)) input.now refusal.at)) }
+{
+    match check_minimal::<WholeModule>(alloc, input) {
+        Ok(()) => Ok(None),
+        Err(DecodeError::Memory) => Err(AllocError),
+        Err(DecodeError::Malformed(refusal)) => {
+            let longer = find_longer_part(alloc, input, refusal)?;
+            Ok(Some(longer))
+        }
+    }
+}
+
+/// Returns the canonical form of a module, and keeps the module.
+fn canonical_copy(alloc: Global, input: &[u8]) -> Result<Vec<u8>, Failure>
     ensures ok { IfOk result (λ canonical. IsCanonicalForm input.now canonical.items) }
     ensures unencoded { IfRefused result (λ _. IsNoModule input.now) }
     ensures refused { IfRefused result (IsLongestPrefix (IsModulePrefixOf module_section) input.now) }
     ensures disordered { IfDisordered result (λ _. ⊥) }
 {
-    let copy = Vec::from_slice(alloc, input)?;
-    match rewrite_whole_module(copy) {
+    canonical_form(Vec::from_slice(alloc, input)?)
+}
+
+/// Rewrites a module in place to its canonical form.
+fn canonical_form(input: Vec<u8>) -> Result<Vec<u8>, Failure>
+    ensures ok { IfOk result (λ canonical. IsCanonicalForm input.items canonical.items) }
+    ensures unencoded { IfRefused result (λ _. IsNoModule input.items) }
+    ensures refused { IfRefused result (IsLongestPrefix (IsModulePrefixOf module_section) input.items) }
+    ensures disordered { IfDisordered result (λ _. ⊥) }
+{
+    let foreign = Foreign::find(&input);
+    match rewrite::<WholeModule>(input) {
         Ok(canonical) => Ok(canonical),
-        Err(ReadError::Memory) => Err(Failure::Memory),
-        Err(ReadError::Refused { at }) => Err(Failure::Refused {
-            at,
-            part: find_malformed(alloc, input, at)?,
-        }),
+        Err(DecodeError::Memory) => Err(Failure::Memory),
+        Err(DecodeError::Malformed(refusal)) => Err(Failure::Refused { refusal, foreign }),
     }
 }
 

@@ -1,35 +1,13 @@
 //! The sections of a module: their offsets, and their titles in messages.
-ghost use Rattle.std.specs.Prelude.{◌≡◌, ℕ, List, IfSome, IfNone};
-ghost use Rattle.wasm_modules.specs.formats.Sections.{parts_of};
-ghost use Rattle.wasmcanon.specs.Offsets.{IsNameOf};
-
 use crate::text::Escaped;
 use std::alloc::{AllocError, Global};
 use std::fmt;
 use wasm_codec::reader::cursor::Cursor;
+use wasm_codec::reader::names::section_names;
 use wasm_modules::raw::{after_header, read_section};
 use wasm_modules::section::RawSection;
-use wasm_sections::custom::read_custom;
-use wasm_sections::module_sections::section_names;
 use wasm_whole_modules::locate::{ItemCounts, count_longer_items};
-
-/// Returns the name of a custom section. `None` means that the section is of another kind, or malformed.
-pub fn custom_name<'a>(section: RawSection<'a>) -> Option<&'a str>
-    // The section is a custom section of this name.
-    ensures found { IfSome result (λ name. IsNameOf (parts_of section.entry) name.now) }
-    // `None` means that it has no name.
-    ensures none { IfNone result ((name : List ℕ) → IsNameOf (parts_of section.entry) name → ⊥) }
-    // It has at most one name.
-    ensures one { (name other : List ℕ) → IsNameOf (parts_of section.entry) name → IsNameOf (parts_of section.entry) other → name ≡ other }
-{
-    if section.id != 0 {
-        return None;
-    }
-    match read_custom(section.body) {
-        Ok(custom) => Some(custom.name),
-        Err(_) => None,
-    }
-}
+use wasm_whole_modules::selection::custom_name;
 
 /// A section and its offset in the module.
 #[derive(Clone, Copy)]
@@ -65,34 +43,33 @@ pub fn locate_sections<'a>(
     };
     let mut cursor = Cursor::new(rest);
     for _ in 0..rest.len() {
-        let left = cursor.len();
-        cursor.set_shortest(true);
-        let Ok(section) = read_section(&mut cursor) else {
+        let Some(section) = read_located(&mut cursor, module.len()) else {
             break;
         };
-        let located = LocatedSection {
-            at: module.len().saturating_sub(left),
-            len: left.saturating_sub(cursor.len()),
-            section,
-            has_longer_size: !cursor.is_shortest(),
-        };
-        sections.push(located)?;
+        sections.push(section)?;
     }
     Ok(sections)
 }
 
-/// Counts the sections of a module, up to the first malformed one.
-pub fn count_sections(module: &[u8]) -> usize {
-    let Some(rest) = after_header(module) else {
-        return 0;
-    };
-    let mut cursor = Cursor::new(rest);
-    for number in 0..rest.len() {
-        if read_section(&mut cursor).is_err() {
-            return number;
-        }
+/// Returns the section at this offset of a module. `None` means that it is malformed.
+pub fn locate_section<'a>(module: &'a [u8], at: usize) -> Option<LocatedSection<'a>> {
+    let (_before, rest) = module.split_at_checked(at)?;
+    read_located(&mut Cursor::new(rest), module.len())
+}
+
+/// Reads the next section of a module that has `len` bytes. Returns `None` if it is malformed.
+fn read_located<'a>(cursor: &mut Cursor<'a>, len: usize) -> Option<LocatedSection<'a>> {
+    let left = cursor.len();
+    cursor.set_shortest(true);
+    match read_section(cursor) {
+        Ok(section) => Some(LocatedSection {
+            at: len.saturating_sub(left),
+            len: left.saturating_sub(cursor.len()),
+            section,
+            has_longer_size: !cursor.is_shortest(),
+        }),
+        Err(_) => None,
     }
-    rest.len()
 }
 
 /// Counts the items of a section, and those that are not minimally encoded. In a section that isn't a list, the one
@@ -132,15 +109,6 @@ pub fn kind_name(id: u8) -> &'static str {
     match section_names(id) {
         Some(names) => names.section,
         None => "",
-    }
-}
-
-/// Returns the length in bytes of the number at the start of the bytes. Returns 0 if there is no number.
-pub fn number_len(bytes: &[u8]) -> usize {
-    let mut cursor = Cursor::new(bytes);
-    match cursor.u32() {
-        Ok(_) => bytes.len().saturating_sub(cursor.len()),
-        Err(_) => 0,
     }
 }
 

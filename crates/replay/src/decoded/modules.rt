@@ -12,8 +12,9 @@ use wasm_whole_modules::modules::read_whole_module;
 use wasm_whole_modules::order::check_order;
 
 /// The id of a section.
-fn id_of(section: &str) -> u8 {
+pub fn id_of(section: &str) -> u8 {
     match section {
+        "types" => 1,
         "import" => 2,
         "function" => 3,
         "table" => 4,
@@ -22,6 +23,7 @@ fn id_of(section: &str) -> u8 {
         "export" => 7,
         "start" => 8,
         "element" => 9,
+        "code" => 10,
         "data" => 11,
         "data count" => 12,
         "tag" => 13,

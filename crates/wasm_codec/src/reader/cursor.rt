@@ -7,8 +7,10 @@ ghost use Rattle.wasm_codec.specs.Reading.{map_ok};
 ghost use Rattle.wasm_codec.specs.Places.{Place, place, Reads, Sees, byte_at, number_at, u32_at, u64_at, s32_at, s64_at, index_at};
 ghost use Rattle.wasm_codec.specs.formats.Bodies.{body_at};
 ghost use Rattle.wasm_codec.specs.ReadDigits.{ReadsDigits, ReadsManyDigits, ReadsOne, fewest};
-ghost use Rattle.wasm_codec.specs.declared.reader.cursor.Fault.TheVariants.{Malformed, Memory};
+ghost use Rattle.wasm_codec.specs.Outcomes.{IsMalformed};
+ghost use Rattle.wasm_codec.specs.declared.reader.cursor.Fault.TheVariants.{Memory};
 
+use crate::reader::malformed::{Construct, Malformed, Reason};
 use std::alloc::{AllocError, AllocFailed};
 use std::marker::Model;
 
@@ -18,7 +20,7 @@ pub enum Fault {
     /// An allocation failed.
     Memory,
     /// The bytes at the cursor don't encode what was to be read.
-    Malformed,
+    Malformed(Malformed),
 }
 
 impl From<AllocError> for Fault {
@@ -50,13 +52,15 @@ impl<T: Drop> From<AllocFailed<T>> for Fault {
 /// assert!(rt; cursor.is_shortest());
 /// assert_eq!(rt; cursor.u32(), Ok(66)); // padded
 /// assert!(rt; !cursor.is_shortest());
-/// assert_eq!(rt; cursor.byte(), Err(Fault::Malformed));
+/// assert!(rt; matches!(cursor.byte(), Err(Fault::Malformed(_))));
 /// ```
 #[derive(Drop)]
 pub struct Cursor<'a> {
     bytes: &'a [u8],
     position: usize,
     shortest: bool,
+    /// Number of bytes after these: those behind the body, if these are one.
+    behind: usize,
 }
 
 impl<'a> Model for Cursor<'a> {
@@ -107,6 +111,12 @@ fn is_fewest_of_many(top: u128, unit: u128, value: u128) -> bool
     unit == 128 || top * unit <= value * 16384
 }
 
+/// Returns the fault that the number with `left` bytes up to the end is out of range.
+#[cold]
+fn out_of_range(construct: Construct, left: usize) -> Malformed {
+    Malformed::new(Reason::NumberOutOfRange { construct }, left)
+}
+
 impl<'a> Cursor<'a> {
     /// Returns a cursor at the start of the bytes.
     pub fn new(bytes: &'a [u8]) -> Cursor<'a>
@@ -116,6 +126,7 @@ impl<'a> Cursor<'a> {
             bytes,
             position: 0,
             shortest: true,
+            behind: 0,
         }
     }
 
@@ -146,11 +157,11 @@ impl<'a> Cursor<'a> {
         ensures place { result ≡ self.now }
         ensures bytes { IsBytes self.now.left }
     {
-        Cursor::at(self.bytes, self.position, self.shortest)
+        Cursor::at(self.bytes, self.position, self.shortest, self.behind)
     }
 
     /// Returns a cursor after the first `position` bytes.
-    fn at(bytes: &'a [u8], position: usize, shortest: bool) -> Cursor<'a>
+    pub(crate) fn at(bytes: &'a [u8], position: usize, shortest: bool, behind: usize) -> Cursor<'a>
         requires { position ≤ length bytes.now }
         ensures place { result ≡ place shortest (drop position bytes.now) }
         ensures bytes { IsBytes (drop position bytes.now) }
@@ -159,50 +170,105 @@ impl<'a> Cursor<'a> {
             bytes,
             position,
             shortest,
+            behind,
         }
+    }
+
+    /// Returns the number of bytes up to the end of the input: those left and those behind the body.
+    pub fn to_end(&self) -> usize {
+        self.len().wrapping_add(self.behind)
+    }
+
+    /// Returns the fault at the next byte, for this reason.
+    #[cold]
+    pub fn malformed(&self, reason: Reason) -> Malformed {
+        Malformed::new(reason, self.to_end())
+    }
+
+    /// Returns the fault that the bytes end before or inside this part.
+    #[cold]
+    pub fn ends_in(&self, construct: Construct) -> Malformed {
+        Malformed::new(Reason::UnexpectedEnd { construct }, self.behind)
+    }
+
+    /// Returns the fault that the byte just read isn't this part.
+    #[cold]
+    pub fn invalid(&self, construct: Construct, byte: u8) -> Malformed {
+        let reason = Reason::InvalidByte { construct, byte };
+        Malformed::new(reason, self.to_end().wrapping_add(1))
+    }
+
+    /// Returns the fault that bytes follow after the last part.
+    #[cold]
+    pub fn trailing(&self) -> Malformed {
+        self.malformed(Reason::TrailingBytes { count: self.len() })
     }
 
     /// Reads one byte. Fails with `Malformed` at the end of the bytes.
     #[inline(always)]
-    #[tactic(auto, unfolding(crate::specs::Places::byte_at))]
     pub fn byte(&mut self) -> Result<u8, Fault>
         ensures reads { Reads byte_at self.old self.new result }
-        ensures err { IfErr result (λ e. e ≡ Malformed) }
+        ensures err { IfErr result IsMalformed }
+    {
+        self.byte_of(Construct::Byte)
+    }
+
+    /// Reads the first byte of a part. Fails with `Malformed` at the end of the bytes.
+    #[inline(always)]
+    #[tactic(auto, unfolding(crate::specs::Places::byte_at))]
+    pub fn byte_of(&mut self, construct: Construct) -> Result<u8, Fault>
+        ensures reads { Reads byte_at self.old self.new result }
+        ensures err { IfErr result IsMalformed }
     {
         if self.position == self.bytes.len() {
-            return Err(Fault::Malformed);
+            return Err(Fault::Malformed(self.ends_in(construct)));
         }
         let byte = self.bytes[self.position];
         self.position += 1;
         Ok(byte)
     }
 
-    /// Returns the next byte and doesn't move. Fails with `Malformed` at the end of the bytes.
+    /// Returns the next byte, the first of this part, and doesn't move. Fails with `Malformed` at the end of the bytes.
     #[inline(always)]
     #[tactic(auto, unfolding(crate::specs::Places::byte_at))]
-    pub fn peek(&self) -> Result<u8, Fault>
+    pub fn peek(&self, construct: Construct) -> Result<u8, Fault>
         ensures sees { Sees self.now result }
-        ensures err { IfErr result (λ e. e ≡ Malformed) }
+        ensures err { IfErr result IsMalformed }
     {
         if self.position == self.bytes.len() {
-            return Err(Fault::Malformed);
+            return Err(Fault::Malformed(self.ends_in(construct)));
         }
         Ok(self.bytes[self.position])
     }
 
-    /// Reads `count` bytes. Fails with `Malformed` if fewer are left.
-    pub fn take(&mut self, count: usize) -> Result<&'a [u8], Fault>
+    /// Reads `count` bytes. Fails with `Malformed` if fewer are left: the bytes end in this part.
+    pub fn take(&mut self, count: usize, construct: Construct) -> Result<&'a [u8], Fault>
         ensures ok { IfOk result (λ taken. (taken.now ≡ take count self.old.left) × (self.new ≡ place self.old.shortest (drop count self.old.left))) }
         ensures enough { IfOk result (λ _. count ≤ length self.old.left) }
-        ensures err { IfErr result (λ e. (e ≡ Malformed) × (length self.old.left < count)) }
+        ensures err { IfErr result (λ e. IsMalformed e × (length self.old.left < count)) }
     {
         if self.bytes.len() - self.position < count {
-            return Err(Fault::Malformed);
+            return Err(Fault::Malformed(self.ends_in(construct)));
         }
         let end = self.position + count;
         let taken = &self.bytes[self.position..end];
         self.position = end;
         Ok(taken)
+    }
+
+    /// Reads the `size` bytes after a size that begins with `start` bytes up to the end. Fails with `Malformed` if fewer
+    /// are left.
+    pub fn take_sized(&mut self, size: u32, start: usize) -> Result<&'a [u8], Fault>
+        ensures ok { IfOk result (λ taken. (taken.now ≡ take size self.old.left) × (self.new ≡ place self.old.shortest (drop size self.old.left))) }
+        ensures enough { IfOk result (λ _. size ≤ length self.old.left) }
+        ensures err { IfErr result (λ e. IsMalformed e × (length self.old.left < size)) }
+    {
+        let left = self.len();
+        if left < size as usize {
+            let reason = Reason::SizeTooLarge { size, left };
+            return Err(Fault::Malformed(Malformed::new(reason, start)));
+        }
+        self.take(size as usize, Construct::Body)
     }
 
     /// Reads a size and returns a cursor over that many bytes, which it skips.
@@ -214,11 +280,12 @@ impl<'a> Cursor<'a> {
         ensures tells { IfOk result (λ body. body ≡ place self.new.shortest body.left) }
         ensures bytes { IfOk result (λ body. IsBytes body.left) }
         ensures counted { IfOk result (λ body. length body.left < 2 ^ 32) }
-        ensures err { IfErr result (λ e. e ≡ Malformed) }
+        ensures err { IfErr result IsMalformed }
     {
-        let size = self.u32()? as usize;
-        let bytes = self.take(size)?;
-        Ok(Cursor::at(bytes, 0, self.shortest))
+        let start = self.to_end();
+        let size = self.u32()?;
+        let bytes = self.take_sized(size, start)?;
+        Ok(Cursor::at(bytes, 0, self.shortest, self.to_end()))
     }
 
     /// Sets whether everything read so far was minimally encoded: by the cursor of a body, once that body was read.
@@ -257,12 +324,13 @@ impl<'a> Cursor<'a> {
         requires { most ≤ 5 }
         ensures reads { ReadsDigits most self.old self.new result }
         ensures few { IfOk result (λ d. d.unit ≤ 128 ^ 5) }
-        ensures err { IfErr result (λ e. e ≡ Malformed) }
+        ensures err { IfErr result IsMalformed }
     {
+        let start = self.to_end();
         let mut unsigned: u64 = 0;
         let mut unit: u64 = 1;
         for _ in 0..most {
-            let byte = self.byte()?;
+            let byte = self.byte_of(Construct::Number)?;
             unsigned += u64::from(byte % 128) * unit;
             unit *= 128;
             if byte < 128 {
@@ -273,7 +341,8 @@ impl<'a> Cursor<'a> {
                 });
             }
         }
-        Err(Fault::Malformed)
+        let reason = Reason::NumberTooLong { most: most as u8 };
+        Err(Fault::Malformed(Malformed::new(reason, start)))
     }
 
     /// Reads the digits of a number, at most `most` of them.
@@ -281,12 +350,13 @@ impl<'a> Cursor<'a> {
         requires { most ≤ 10 }
         ensures reads { ReadsManyDigits most self.old self.new result }
         ensures few { IfOk result (λ d. d.unit ≤ 128 ^ 10) }
-        ensures err { IfErr result (λ e. e ≡ Malformed) }
+        ensures err { IfErr result IsMalformed }
     {
+        let start = self.to_end();
         let mut unsigned: u128 = 0;
         let mut unit: u128 = 1;
         for _ in 0..most {
-            let byte = self.byte()?;
+            let byte = self.byte_of(Construct::Number)?;
             unsigned += u128::from(byte % 128) * unit;
             unit *= 128;
             if byte < 128 {
@@ -297,14 +367,15 @@ impl<'a> Cursor<'a> {
                 });
             }
         }
-        Err(Fault::Malformed)
+        let reason = Reason::NumberTooLong { most: most as u8 };
+        Err(Fault::Malformed(Malformed::new(reason, start)))
     }
 
     /// Reads the digits of a signed number, at most five, and returns its value.
     #[tactic(auto, using(crate::proofs::NumberReading::signed_low, crate::proofs::NumberReading::signed_high))]
     fn signed(&mut self) -> Result<i64, Fault>
         ensures reads { Reads (number_at 5 (λ digits. Some (signed digits)) signed_leb128) self.old self.new result }
-        ensures err { IfErr result (λ e. e ≡ Malformed) }
+        ensures err { IfErr result IsMalformed }
     {
         let Digits {
             unsigned,
@@ -324,7 +395,7 @@ impl<'a> Cursor<'a> {
     #[tactic(auto, using(crate::proofs::NumberReading::signed_low, crate::proofs::NumberReading::signed_high))]
     fn many_signed(&mut self) -> Result<i128, Fault>
         ensures reads { Reads (number_at 10 (λ digits. Some (signed digits)) signed_leb128) self.old self.new result }
-        ensures err { IfErr result (λ e. e ≡ Malformed) }
+        ensures err { IfErr result IsMalformed }
     {
         let ManyDigits {
             unsigned,
@@ -345,7 +416,7 @@ impl<'a> Cursor<'a> {
     #[inline(always)]
     pub fn u32(&mut self) -> Result<u32, Fault>
         ensures reads { Reads u32_at self.old self.new result }
-        ensures err { IfErr result (λ e. e ≡ Malformed) }
+        ensures err { IfErr result IsMalformed }
     {
         if let Some(byte) = self.one_digit() {
             return Ok(u32::from(byte));
@@ -358,11 +429,12 @@ impl<'a> Cursor<'a> {
     #[tactic(auto, using(crate::proofs::NumberReading::u32_is, crate::proofs::NumberReading::u32_wide, crate::proofs::NumberReading::u32_none))]
     fn long_u32(&mut self) -> Result<u32, Fault>
         ensures reads { Reads u32_at self.old self.new result }
-        ensures err { IfErr result (λ e. e ≡ Malformed) }
+        ensures err { IfErr result IsMalformed }
     {
+        let start = self.to_end();
         let digits = self.digits(5)?;
         let Ok(value) = u32::try_from(digits.unsigned) else {
-            return Err(Fault::Malformed);
+            return Err(Fault::Malformed(out_of_range(Construct::U32, start)));
         };
         self.keep(is_fewest(128, digits.unit, digits.unsigned));
         Ok(value)
@@ -373,7 +445,7 @@ impl<'a> Cursor<'a> {
     #[inline(always)]
     pub fn u64(&mut self) -> Result<u64, Fault>
         ensures reads { Reads u64_at self.old self.new result }
-        ensures err { IfErr result (λ e. e ≡ Malformed) }
+        ensures err { IfErr result IsMalformed }
     {
         if let Some(byte) = self.one_digit() {
             return Ok(u64::from(byte));
@@ -386,11 +458,12 @@ impl<'a> Cursor<'a> {
     #[tactic(auto, using(crate::proofs::NumberReading::u64_is, crate::proofs::NumberReading::u64_wide, crate::proofs::NumberReading::u64_none))]
     fn long_u64(&mut self) -> Result<u64, Fault>
         ensures reads { Reads u64_at self.old self.new result }
-        ensures err { IfErr result (λ e. e ≡ Malformed) }
+        ensures err { IfErr result IsMalformed }
     {
+        let start = self.to_end();
         let digits = self.many_digits(10)?;
         let Ok(value) = u64::try_from(digits.unsigned) else {
-            return Err(Fault::Malformed);
+            return Err(Fault::Malformed(out_of_range(Construct::U64, start)));
         };
         self.keep(is_fewest_of_many(128, digits.unit, digits.unsigned));
         Ok(value)
@@ -402,7 +475,7 @@ impl<'a> Cursor<'a> {
     #[tactic(auto, using(crate::proofs::NumberReading::s32_low, crate::proofs::NumberReading::s32_high), unfolding(crate::specs::Places::s32_at))]
     pub fn s32(&mut self) -> Result<i32, Fault>
         ensures reads { Reads s32_at self.old self.new result }
-        ensures err { IfErr result (λ e. e ≡ Malformed) }
+        ensures err { IfErr result IsMalformed }
     {
         if let Some(byte) = self.one_digit() {
             let value = i32::from(byte);
@@ -416,10 +489,11 @@ impl<'a> Cursor<'a> {
     #[tactic(auto, unfolding(crate::specs::Places::s32_at))]
     fn long_s32(&mut self) -> Result<i32, Fault>
         ensures reads { Reads s32_at self.old self.new result }
-        ensures err { IfErr result (λ e. e ≡ Malformed) }
+        ensures err { IfErr result IsMalformed }
     {
+        let start = self.to_end();
         let value = self.signed()?;
-        i32::try_from(value).map_err(|_| Fault::Malformed)
+        i32::try_from(value).map_err(|_| Fault::Malformed(out_of_range(Construct::S32, start)))
     }
 
     /// Reads an s64 (Core 3.0, Integers). Fails with `Malformed` if it is cut off, has more than 10 bytes or is out of
@@ -428,7 +502,7 @@ impl<'a> Cursor<'a> {
     #[tactic(auto, using(crate::proofs::NumberReading::s64_low, crate::proofs::NumberReading::s64_high), unfolding(crate::specs::Places::s64_at))]
     pub fn s64(&mut self) -> Result<i64, Fault>
         ensures reads { Reads s64_at self.old self.new result }
-        ensures err { IfErr result (λ e. e ≡ Malformed) }
+        ensures err { IfErr result IsMalformed }
     {
         if let Some(byte) = self.one_digit() {
             let value = i64::from(byte);
@@ -442,10 +516,11 @@ impl<'a> Cursor<'a> {
     #[tactic(auto, unfolding(crate::specs::Places::s64_at))]
     fn long_s64(&mut self) -> Result<i64, Fault>
         ensures reads { Reads s64_at self.old self.new result }
-        ensures err { IfErr result (λ e. e ≡ Malformed) }
+        ensures err { IfErr result IsMalformed }
     {
+        let start = self.to_end();
         let value = self.many_signed()?;
-        i64::try_from(value).map_err(|_| Fault::Malformed)
+        i64::try_from(value).map_err(|_| Fault::Malformed(out_of_range(Construct::S64, start)))
     }
 
     /// Reads a type index, encoded as a non-negative s33 (Core 3.0, Heap Types).
@@ -455,11 +530,12 @@ impl<'a> Cursor<'a> {
     #[tactic(auto, using(crate::proofs::NumberReading::index_low, crate::proofs::NumberReading::index_high), unfolding(crate::specs::Places::index_at))]
     pub fn index(&mut self) -> Result<u32, Fault>
         ensures reads { Reads index_at self.old self.new result }
-        ensures err { IfErr result (λ e. e ≡ Malformed) }
+        ensures err { IfErr result IsMalformed }
     {
         if let Some(byte) = self.one_digit() {
             if byte >= 64 {
-                return Err(Fault::Malformed);
+                let start = self.to_end().wrapping_add(1);
+                return Err(Fault::Malformed(out_of_range(Construct::TypeIndex, start)));
             }
             return Ok(u32::from(byte));
         }
@@ -471,9 +547,13 @@ impl<'a> Cursor<'a> {
     #[tactic(auto, unfolding(crate::specs::Places::index_at))]
     fn long_index(&mut self) -> Result<u32, Fault>
         ensures reads { Reads index_at self.old self.new result }
-        ensures err { IfErr result (λ e. e ≡ Malformed) }
+        ensures err { IfErr result IsMalformed }
     {
+        let start = self.to_end();
         let value = self.signed()?;
-        u32::try_from(value).map_err(|_| Fault::Malformed)
+        u32::try_from(value).map_err(|_| Fault::Malformed(out_of_range(
+            Construct::TypeIndex,
+            start,
+        )))
     }
 }

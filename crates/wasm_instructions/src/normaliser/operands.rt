@@ -10,6 +10,7 @@ ghost use Rattle.wasm_instructions.specs.declared.table.opcode.Kind.TheVariants 
 use crate::operands::{Catch, Handle};
 use crate::table::Kind;
 use wasm_codec::reader::cursor::Fault;
+use wasm_codec::reader::malformed::{Construct, Malformed, Reason};
 use wasm_codec::rewriter::Rewriter;
 use wasm_lists::rewriting::{Rewritable, rewrite_list};
 use wasm_types::normaliser::{rewrite_heap_type, rewrite_val_type};
@@ -136,7 +137,7 @@ fn rewrite_lane(rewriter: &mut Rewriter) -> Result<(), Fault>
 pub(super) fn rewrite_block_type(rewriter: &mut Rewriter) -> Result<(), Fault>
     ensures rewrites { Rewrites block_type rewriter.old rewriter.new result }
 {
-    let first = rewriter.peek()?;
+    let first = rewriter.peek(Construct::BlockType)?;
     if first == 0x40 {
         rewriter.byte()?;
         return Ok(());
@@ -152,13 +153,14 @@ pub(super) fn rewrite_block_type(rewriter: &mut Rewriter) -> Result<(), Fault>
 pub(super) fn rewrite_mem_arg(rewriter: &mut Rewriter) -> Result<(), Fault>
     ensures rewrites { Rewrites mem_arg rewriter.old rewriter.new result }
 {
-    let mark = rewriter.written_len();
+    let (mark, start) = (rewriter.written_len(), rewriter.to_end());
     let align = rewriter.u32()?;
     if align < 64 {
         return rewriter.u64();
     }
     if align >= 128 {
-        return Err(Fault::Malformed);
+        let reason = Reason::InvalidAlignment { flags: align };
+        return Err(Fault::Malformed(Malformed::new(reason, start)));
     }
     let memory_index = rewriter.u32()?;
     rewriter.u64()?;
@@ -174,9 +176,9 @@ pub(super) fn rewrite_mem_arg(rewriter: &mut Rewriter) -> Result<(), Fault>
 fn rewrite_ordering(rewriter: &mut Rewriter) -> Result<(), Fault>
     ensures rewrites { Rewrites ordering rewriter.old rewriter.new result }
 {
-    match rewriter.byte()? {
+    match rewriter.byte_of(Construct::Ordering)? {
         0x00..0x02 => Ok(()),
-        _ => Err(Fault::Malformed),
+        byte => Err(Fault::Malformed(rewriter.invalid(Construct::Ordering, byte))),
     }
 }
 
@@ -185,9 +187,9 @@ fn rewrite_ordering(rewriter: &mut Rewriter) -> Result<(), Fault>
 fn rewrite_castop(rewriter: &mut Rewriter) -> Result<(), Fault>
     ensures rewrites { Rewrites castop rewriter.old rewriter.new result }
 {
-    match rewriter.byte()? {
+    match rewriter.byte_of(Construct::CastFlags)? {
         0x00..0x04 => Ok(()),
-        _ => Err(Fault::Malformed),
+        byte => Err(Fault::Malformed(rewriter.invalid(Construct::CastFlags, byte))),
     }
 }
 
@@ -212,7 +214,7 @@ impl Rewritable for Catch {
 
     #[tactic(auto, using(std::proofs::Common::append_assoc), unfolding(crate::specs::formats::Operands::catch_clause))]
     fn rewrite(rewriter: &mut Rewriter) -> Result<(), Fault> {
-        match rewriter.byte()? {
+        match rewriter.byte_of(Construct::Clause)? {
             0x00 | 0x01 => {
                 rewriter.u32()?;
                 rewriter.u32()?;
@@ -222,7 +224,7 @@ impl Rewritable for Catch {
                 rewriter.u32()?;
                 Ok(())
             }
-            _ => Err(Fault::Malformed),
+            byte => Err(Fault::Malformed(rewriter.invalid(Construct::Clause, byte))),
         }
     }
 }
@@ -238,7 +240,7 @@ impl Rewritable for Handle {
 
     #[tactic(auto, using(std::proofs::Common::append_assoc), unfolding(crate::specs::formats::Operands::handle_clause))]
     fn rewrite(rewriter: &mut Rewriter) -> Result<(), Fault> {
-        match rewriter.byte()? {
+        match rewriter.byte_of(Construct::Clause)? {
             0x00 => {
                 rewriter.u32()?;
                 rewriter.u32()?;
@@ -248,7 +250,7 @@ impl Rewritable for Handle {
                 rewriter.u32()?;
                 Ok(())
             }
-            _ => Err(Fault::Malformed),
+            byte => Err(Fault::Malformed(rewriter.invalid(Construct::Clause, byte))),
         }
     }
 }

@@ -15,8 +15,9 @@ use crate::reader::operands::read_operands;
 use crate::reader::read_opcode;
 use crate::table::Call;
 use std::alloc::Global;
-use wasm_codec::reader::ReadError;
 use wasm_codec::reader::cursor::{Cursor, Fault};
+use wasm_codec::reader::malformed::Malformed;
+use wasm_codec::reader::{ReadError, without_reason};
 use wasm_codec::rewriter::Rewriter;
 use wasm_lists::checking::check_items_to_end;
 use wasm_lists::readable::Readable;
@@ -43,7 +44,7 @@ pub fn read_instructions(alloc: Global, bytes: &[u8]) -> Result<Vec<Call>, ReadE
     ensures decodes { Decodes (λ calls. calls.items) (to_end instruction) (EncodesSome Instructions) bytes.now result }
     ensures prefix_free { InstructionsArePrefixFree }
 {
-    read_items_to_end::<Call, false>(alloc, bytes)
+    without_reason(read_items_to_end::<Call, false>(alloc, bytes))
 }
 
 /// Reads a minimally encoded list of instructions (Core 3.0, Instructions).
@@ -63,19 +64,34 @@ pub fn read_instructions(alloc: Global, bytes: &[u8]) -> Result<Vec<Call>, ReadE
 pub fn read_instructions_strict(alloc: Global, bytes: &[u8]) -> Result<Vec<Call>, ReadError>
     ensures decodes { DecodesMinimal (λ calls. calls.items) (to_end instruction) ShortestInstructions (EncodesSome ShortestInstructions) bytes.now result }
 {
-    read_items_to_end::<Call, true>(alloc, bytes)
+    without_reason(read_items_to_end::<Call, true>(alloc, bytes))
 }
 
 /// Reads an instruction (Core 3.0, Instructions).
-#[tactic(auto, unfolding(crate::specs::formats::Instructions::instruction))]
 pub fn read_call(alloc: Global, cursor: &mut Cursor<'_>) -> Result<Call, Fault>
     ensures reads { Reads instruction.at cursor.old cursor.new result }
     // A u32 can count the items of its lists.
     ensures counted { IfOk result (λ call. IsCounted call.operands) }
 {
+    let start = cursor.to_end();
+    match read_opcode_and_operands(alloc, cursor) {
+        Ok(call) => Ok(call),
+        Err(Fault::Malformed(malformed)) => Err(Fault::Malformed(malformed.in_instruction(start))),
+        Err(Fault::Memory) => Err(Fault::Memory),
+    }
+}
+
+/// Reads an opcode and its operands.
+#[tactic(auto, unfolding(crate::specs::formats::Instructions::instruction))]
+fn read_opcode_and_operands(alloc: Global, cursor: &mut Cursor<'_>) -> Result<Call, Fault>
+    ensures reads { Reads instruction.at cursor.old cursor.new result }
+    // A u32 can count the items of its lists.
+    ensures counted { IfOk result (λ call. IsCounted call.operands) }
+{
+    let start = cursor.to_end();
     let op = read_opcode(cursor)?;
     let Some(kind) = op.kind() else {
-        return Err(Fault::Malformed);
+        return Err(Fault::Malformed(Malformed::new(op.unknown(), start)));
     };
     let operands = read_operands(alloc, cursor, kind)?;
     Ok(Call::from_parts(op, operands))
@@ -126,5 +142,5 @@ impl<'a> Readable<'a> for Call {
 pub fn check_instructions(alloc: Global, bytes: &[u8]) -> Result<(), ReadError>
     ensures checks { Checks (to_end instruction) ShortestInstructions (EncodesSome ShortestInstructions) bytes.now result }
 {
-    check_items_to_end::<Call>(alloc, bytes)
+    without_reason(check_items_to_end::<Call>(alloc, bytes))
 }

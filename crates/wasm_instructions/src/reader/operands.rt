@@ -2,7 +2,7 @@
 ghost use Rattle.std.specs.Prelude.{◌≡◌, ◌<◌, IfOk, IfErr, refl};
 ghost use Rattle.wasm_codec.specs.Places.{Reads, map_at};
 ghost use Rattle.wasm_codec.specs.formats.Combinators.{little_endian};
-ghost use Rattle.wasm_codec.specs.declared.reader.cursor.Fault.TheVariants.{Malformed};
+ghost use Rattle.wasm_codec.specs.Outcomes.{IsMalformed};
 ghost use Rattle.wasm_instructions.specs.formats.Operands.{ieee32, ieee64, block_type, catch_clause, handle_clause, castop, mem_arg, ordering, from_bits, vector, lanes};
 ghost use Rattle.wasm_instructions.specs.declared.operands.control.Catch.{Catch};
 ghost use Rattle.wasm_instructions.specs.declared.operands.control.Handle.{Handle};
@@ -17,6 +17,7 @@ use crate::operands::{BlockType, Catch, Handle, Ieee32, Ieee64, Lane, MemArg, Or
 use crate::table::{Kind, Operands};
 use std::alloc::Global;
 use wasm_codec::reader::cursor::{Cursor, Fault};
+use wasm_codec::reader::malformed::{Construct, Malformed, Reason};
 use wasm_codec::rewriter::Rewriter;
 use wasm_lists::readable::Readable;
 use wasm_lists::reading::read_list;
@@ -29,9 +30,9 @@ use wasm_types::types::RefType;
 #[tactic(auto, unfolding(crate::specs::formats::Operands::block_type))]
 pub fn read_block_type(cursor: &mut Cursor<'_>) -> Result<BlockType, Fault>
     ensures reads { Reads block_type.at cursor.old cursor.new result }
-    ensures err { IfErr result (λ e. e ≡ Malformed) }
+    ensures err { IfErr result IsMalformed }
 {
-    let first = cursor.peek()?;
+    let first = cursor.peek(Construct::BlockType)?;
     if first == 0x40 {
         cursor.byte()?;
         return Ok(BlockType::Empty);
@@ -47,9 +48,10 @@ pub fn read_block_type(cursor: &mut Cursor<'_>) -> Result<BlockType, Fault>
 #[tactic(auto, unfolding(crate::specs::formats::Operands::mem_arg))]
 pub fn read_mem_arg(cursor: &mut Cursor<'_>) -> Result<MemArg, Fault>
     ensures reads { Reads mem_arg.at cursor.old cursor.new result }
-    ensures err { IfErr result (λ e. e ≡ Malformed) }
+    ensures err { IfErr result IsMalformed }
     ensures aligned { IfOk result (λ arg. arg.align < 64) }
 {
+    let start = cursor.to_end();
     let first = cursor.u32()?;
     if first < 64 {
         let offset = cursor.u64()?;
@@ -60,7 +62,8 @@ pub fn read_mem_arg(cursor: &mut Cursor<'_>) -> Result<MemArg, Fault>
         });
     }
     if first >= 128 {
-        return Err(Fault::Malformed);
+        let reason = Reason::InvalidAlignment { flags: first };
+        return Err(Fault::Malformed(Malformed::new(reason, start)));
     }
     let memory_index = cursor.u32()?;
     let offset = cursor.u64()?;
@@ -78,12 +81,12 @@ pub fn read_mem_arg(cursor: &mut Cursor<'_>) -> Result<MemArg, Fault>
 #[tactic(auto, unfolding(crate::specs::formats::Operands::ordering))]
 pub fn read_ordering(cursor: &mut Cursor<'_>) -> Result<Ordering, Fault>
     ensures reads { Reads ordering.at cursor.old cursor.new result }
-    ensures err { IfErr result (λ e. e ≡ Malformed) }
+    ensures err { IfErr result IsMalformed }
 {
-    match cursor.byte()? {
+    match cursor.byte_of(Construct::Ordering)? {
         0x00 => Ok(Ordering::SeqCst),
         0x01 => Ok(Ordering::AcqRel),
-        _ => Err(Fault::Malformed),
+        byte => Err(Fault::Malformed(cursor.invalid(Construct::Ordering, byte))),
     }
 }
 
@@ -91,21 +94,21 @@ pub fn read_ordering(cursor: &mut Cursor<'_>) -> Result<Ordering, Fault>
 #[tactic(auto, unfolding(crate::specs::formats::Operands::castop))]
 pub fn read_castop(cursor: &mut Cursor<'_>) -> Result<(bool, bool), Fault>
     ensures reads { Reads castop.at cursor.old cursor.new result }
-    ensures err { IfErr result (λ e. e ≡ Malformed) }
+    ensures err { IfErr result IsMalformed }
 {
-    match cursor.byte()? {
+    match cursor.byte_of(Construct::CastFlags)? {
         0x00 => Ok((false, false)),
         0x01 => Ok((true, false)),
         0x02 => Ok((false, true)),
         0x03 => Ok((true, true)),
-        _ => Err(Fault::Malformed),
+        byte => Err(Fault::Malformed(cursor.invalid(Construct::CastFlags, byte))),
     }
 }
 
 /// Reads a 32-bit floating-point number as its bits.
 pub fn read_f32(cursor: &mut Cursor<'_>) -> Result<Ieee32, Fault>
     ensures reads { Reads (map_at ieee32 (little_endian 4).at) cursor.old cursor.new result }
-    ensures err { IfErr result (λ e. e ≡ Malformed) }
+    ensures err { IfErr result IsMalformed }
 {
     Ok(Ieee32::new(read_bits_32(cursor)?))
 }
@@ -113,7 +116,7 @@ pub fn read_f32(cursor: &mut Cursor<'_>) -> Result<Ieee32, Fault>
 /// Reads a 64-bit floating-point number as its bits.
 pub fn read_f64(cursor: &mut Cursor<'_>) -> Result<Ieee64, Fault>
     ensures reads { Reads (map_at ieee64 (little_endian 8).at) cursor.old cursor.new result }
-    ensures err { IfErr result (λ e. e ≡ Malformed) }
+    ensures err { IfErr result IsMalformed }
 {
     Ok(Ieee64::new(read_bits_64(cursor)?))
 }
@@ -122,12 +125,12 @@ pub fn read_f64(cursor: &mut Cursor<'_>) -> Result<Ieee64, Fault>
 #[tactic(auto, unfolding(wasm_codec::specs::formats::Combinators::little_endian))]
 pub fn read_bits_32(cursor: &mut Cursor<'_>) -> Result<u32, Fault>
     ensures reads { Reads (little_endian 4).at cursor.old cursor.new result }
-    ensures err { IfErr result (λ e. e ≡ Malformed) }
+    ensures err { IfErr result IsMalformed }
 {
-    let first = u32::from(cursor.byte()?);
-    let second = u32::from(cursor.byte()?);
-    let third = u32::from(cursor.byte()?);
-    let fourth = u32::from(cursor.byte()?);
+    let first = u32::from(cursor.byte_of(Construct::Constant)?);
+    let second = u32::from(cursor.byte_of(Construct::Constant)?);
+    let third = u32::from(cursor.byte_of(Construct::Constant)?);
+    let fourth = u32::from(cursor.byte_of(Construct::Constant)?);
     Ok(first + 0x100 * (second + 0x100 * (third + 0x100 * fourth)))
 }
 
@@ -135,7 +138,7 @@ pub fn read_bits_32(cursor: &mut Cursor<'_>) -> Result<u32, Fault>
 #[tactic(auto, using(crate::proofs::LittleEndianHalves::both_halves, crate::proofs::LittleEndianHalves::no_low_half, crate::proofs::LittleEndianHalves::no_high_half))]
 pub fn read_bits_64(cursor: &mut Cursor<'_>) -> Result<u64, Fault>
     ensures reads { Reads (little_endian 8).at cursor.old cursor.new result }
-    ensures err { IfErr result (λ e. e ≡ Malformed) }
+    ensures err { IfErr result IsMalformed }
 {
     let low = read_bits_32(cursor)?;
     let high = read_bits_32(cursor)?;
@@ -146,7 +149,7 @@ pub fn read_bits_64(cursor: &mut Cursor<'_>) -> Result<u64, Fault>
 #[tactic(auto, unfolding(crate::specs::formats::Operands::vector))]
 pub fn read_vector(cursor: &mut Cursor<'_>) -> Result<i128, Fault>
     ensures reads { Reads vector.at cursor.old cursor.new result }
-    ensures err { IfErr result (λ e. e ≡ Malformed) }
+    ensures err { IfErr result IsMalformed }
 {
     let low = read_bits_64(cursor)?;
     let high = read_bits_64(cursor)?;
@@ -157,9 +160,9 @@ pub fn read_vector(cursor: &mut Cursor<'_>) -> Result<i128, Fault>
 #[tactic(auto, unfolding(crate::specs::formats::Operands::lanes, wasm_codec::specs::Places::raw_at))]
 pub fn read_lanes(cursor: &mut Cursor<'_>) -> Result<[Lane; 16], Fault>
     ensures reads { Reads lanes.at cursor.old cursor.new result }
-    ensures err { IfErr result (λ e. e ≡ Malformed) }
+    ensures err { IfErr result IsMalformed }
 {
-    let bytes = cursor.take(16)?;
+    let bytes = cursor.take(16, Construct::Constant)?;
     let mut lanes = [0; 16];
     lanes.copy_from_slice(bytes);
     Ok(lanes)
@@ -180,9 +183,9 @@ fn from_bits(bits: u128) -> i128
 #[tactic(auto, unfolding(crate::specs::formats::Operands::catch_clause))]
 pub fn read_catch(cursor: &mut Cursor<'_>) -> Result<Catch, Fault>
     ensures reads { Reads catch_clause.at cursor.old cursor.new result }
-    ensures err { IfErr result (λ e. e ≡ Malformed) }
+    ensures err { IfErr result IsMalformed }
 {
-    match cursor.byte()? {
+    match cursor.byte_of(Construct::Clause)? {
         0x00 => {
             let tag = cursor.u32()?;
             let label = cursor.u32()?;
@@ -201,7 +204,7 @@ pub fn read_catch(cursor: &mut Cursor<'_>) -> Result<Catch, Fault>
             let label = cursor.u32()?;
             Ok(Catch::AllRef { label })
         }
-        _ => Err(Fault::Malformed),
+        byte => Err(Fault::Malformed(cursor.invalid(Construct::Clause, byte))),
     }
 }
 
@@ -209,9 +212,9 @@ pub fn read_catch(cursor: &mut Cursor<'_>) -> Result<Catch, Fault>
 #[tactic(auto, unfolding(crate::specs::formats::Operands::handle_clause))]
 pub fn read_handle(cursor: &mut Cursor<'_>) -> Result<Handle, Fault>
     ensures reads { Reads handle_clause.at cursor.old cursor.new result }
-    ensures err { IfErr result (λ e. e ≡ Malformed) }
+    ensures err { IfErr result IsMalformed }
 {
-    match cursor.byte()? {
+    match cursor.byte_of(Construct::Clause)? {
         0x00 => {
             let tag = cursor.u32()?;
             let label = cursor.u32()?;
@@ -221,7 +224,7 @@ pub fn read_handle(cursor: &mut Cursor<'_>) -> Result<Handle, Fault>
             let tag = cursor.u32()?;
             Ok(Handle::OnSwitch { tag })
         }
-        _ => Err(Fault::Malformed),
+        byte => Err(Fault::Malformed(cursor.invalid(Construct::Clause, byte))),
     }
 }
 

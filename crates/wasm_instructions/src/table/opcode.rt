@@ -4,6 +4,7 @@ ghost use Rattle.wasm_instructions.specs.OpcodeTables.{IsTable};
 ghost use Rattle.wasm_instructions.specs.formats.Opcodes.{opcode_kind, kind_among, ranges, without_prefix, after_fb, after_fc, after_fd, after_fe};
 
 use crate::table::kinds::{AFTER_FB, AFTER_FC, AFTER_FD, AFTER_FE, WITHOUT_PREFIX};
+use wasm_codec::reader::malformed::Reason;
 
 /// The prefix byte of an opcode.
 #[derive(Clone, Copy, Debug, PartialEq, Eq)]
@@ -144,6 +145,26 @@ impl Opcode {
         Opcode {
             prefix: Prefix::Fe,
             number,
+        }
+    }
+
+    /// Returns the reason why an opcode outside the table is malformed.
+    #[cold]
+    pub fn unknown(self) -> Reason {
+        let prefix = match self.prefix {
+            Prefix::None => {
+                return Reason::UnknownOpcode {
+                    number: self.number,
+                };
+            }
+            Prefix::Fb => 0xfb,
+            Prefix::Fc => 0xfc,
+            Prefix::Fd => 0xfd,
+            Prefix::Fe => 0xfe,
+        };
+        Reason::UnknownPrefixedOpcode {
+            prefix,
+            number: self.number,
         }
     }
 

@@ -2,7 +2,8 @@
 ghost use Rattle.std.specs.Prelude.{◌≡◌, ℕ, List, IfErr};
 ghost use Rattle.wasm_codec.specs.Places.{Reads};
 ghost use Rattle.wasm_codec.specs.Rewriter.{Rewrites};
-ghost use Rattle.wasm_codec.specs.declared.reader.cursor.Fault.TheVariants.{Malformed};
+ghost use Rattle.wasm_codec.specs.formats.Combinators.{items};
+ghost use Rattle.wasm_codec.specs.Outcomes.{IsMalformed};
 ghost use Rattle.wasm_types.specs.declared.types.value.ValType.{ValType};
 ghost use Rattle.wasm_instructions.specs.formats.Instructions.{Instruction};
 ghost use Rattle.wasm_modules.specs.declared.code.CodeBody.{CodeBody};
@@ -11,8 +12,8 @@ ghost use Rattle.wasm_codec.specs.Decoding.{Normalises, NormalisesInPlace, Rewri
 
 use crate::code::CodeBody;
 use std::alloc::Global;
-use wasm_codec::reader::ReadError;
 use wasm_codec::reader::cursor::{Cursor, Fault};
+use wasm_codec::reader::{ReadError, without_reason};
 use wasm_codec::rewriter::Rewriter;
 use wasm_instructions::table::Call;
 use wasm_lists::rewriting::{
@@ -56,7 +57,7 @@ pub fn normalise_code_section(alloc: Global, body: &[u8]) -> Result<Vec<u8>, Rea
 pub fn rewrite_code_section(body: Vec<u8>) -> Result<Vec<u8>, ReadError>
     ensures normalises { NormalisesInPlace code_section_body IsCodeSectionBodyPrefix body.items result }
 {
-    rewrite_list_to_end::<CodeBody>(body)
+    without_reason(rewrite_list_to_end::<CodeBody>(body))
 }
 
 /// Copies the body and rewrites the copy.
@@ -112,8 +113,19 @@ impl RewritableBody for FunctionCode {
 fn rewrite_function_code(rewriter: &mut Rewriter) -> Result<(), Fault>
     ensures rewrites { Rewrites function_code rewriter.old rewriter.new result }
 {
-    rewrite_list::<LocalGroup>(rewriter)?;
+    rewrite_locals(rewriter)?;
     rewrite_to_end::<Call>(rewriter)
+}
+
+/// Rewrites the groups of locals. A fault carries the number of its group.
+fn rewrite_locals(rewriter: &mut Rewriter) -> Result<(), Fault>
+    ensures rewrites { Rewrites (items local_group) rewriter.old rewriter.new result }
+{
+    match rewrite_list::<LocalGroup>(rewriter) {
+        Ok(()) => Ok(()),
+        Err(Fault::Malformed(malformed)) => Err(Fault::Malformed(malformed.in_locals())),
+        Err(Fault::Memory) => Err(Fault::Memory),
+    }
 }
 
 /// A group of locals, as an item of the list of locals.
@@ -137,7 +149,7 @@ impl Rewritable for LocalGroup {
 /// Reads a group of locals: their number and their type.
 pub fn read_local_group(cursor: &mut Cursor<'_>) -> Result<(u32, ValType), Fault>
     ensures reads { Reads local_group.at cursor.old cursor.new result }
-    ensures err { IfErr result (λ e. e ≡ Malformed) }
+    ensures err { IfErr result IsMalformed }
 {
     let count = cursor.u32()?;
     let ty = read_val_type(cursor)?;

@@ -1,5 +1,6 @@
 //! Readers of code section bodies (Core 3.0, Code Section).
-ghost use Rattle.std.specs.Prelude.{refl, ◌<◌, true};
+ghost use Rattle.std.specs.Prelude.{refl, ◌<◌, true, IfErr};
+ghost use Rattle.wasm_codec.specs.Outcomes.{IsMalformed};
 ghost use Rattle.wasm_codec.specs.Places.{Reads};
 ghost use Rattle.wasm_codec.specs.formats.Combinators.{items};
 ghost use Rattle.wasm_modules.specs.declared.code.CodeBody.{CodeBody};
@@ -13,8 +14,8 @@ ghost use Rattle.wasm_codec.specs.Rewriter.{Rewrites};
 use crate::code::CodeBody;
 use crate::code::normaliser::read_local_group;
 use std::alloc::Global;
-use wasm_codec::reader::ReadError;
 use wasm_codec::reader::cursor::{Cursor, Fault};
+use wasm_codec::reader::{ReadError, without_reason};
 use wasm_codec::rewriter::Rewriter;
 use wasm_lists::checking::check_list_to_end;
 use wasm_lists::list::Items;
@@ -43,7 +44,7 @@ pub fn read_code_section(alloc: Global, body: &[u8]) -> Result<Vec<CodeBody>, Re
     ensures decodes { Decodes (λ bodies. bodies.items) code_section_body IsCodeSectionBodyPrefix body.now result }
     ensures prefix_free { CodeBodiesArePrefixFree }
 {
-    read_list_to_end::<CodeBody, false>(alloc, body)
+    without_reason(read_list_to_end::<CodeBody, false>(alloc, body))
 }
 
 /// Reads a minimally encoded code section body (Core 3.0, Code Section).
@@ -64,7 +65,7 @@ pub fn read_code_section(alloc: Global, body: &[u8]) -> Result<Vec<CodeBody>, Re
 pub fn read_code_section_strict(alloc: Global, body: &[u8]) -> Result<Vec<CodeBody>, ReadError>
     ensures decodes { DecodesMinimal (λ bodies. bodies.items) code_section_body ShortestCodeSectionBody IsShortestCodeSectionBodyPrefix body.now result }
 {
-    read_list_to_end::<CodeBody, true>(alloc, body)
+    without_reason(read_list_to_end::<CodeBody, true>(alloc, body))
 }
 
 impl<'a> Readable<'a> for CodeBody {
@@ -113,11 +114,25 @@ fn read_locals(alloc: Global, cursor: &mut Cursor<'_>) -> Result<Items<(u32, Val
 {
     let count = cursor.u32()?;
     let mut groups = Vec::new(alloc);
-    for _ in 0..count {
-        let group = read_local_group(cursor)?;
+    for index in 0..count {
+        let group = read_numbered_group(cursor, index)?;
         groups.push(group)?;
     }
     Ok(Items::from(groups))
+}
+
+/// Reads the group of locals with this number.
+fn read_numbered_group(cursor: &mut Cursor<'_>, index: u32) -> Result<(u32, ValType), Fault>
+    ensures reads { Reads local_group.at cursor.old cursor.new result }
+    ensures err { IfErr result IsMalformed }
+{
+    match read_local_group(cursor) {
+        Ok(group) => Ok(group),
+        Err(Fault::Malformed(malformed)) => {
+            Err(Fault::Malformed(malformed.in_item(index).in_locals()))
+        }
+        Err(Fault::Memory) => Err(Fault::Memory),
+    }
 }
 
 /// Checks that a code section body is minimally encoded (Core 3.0, Code Section).
@@ -137,5 +152,5 @@ fn read_locals(alloc: Global, cursor: &mut Cursor<'_>) -> Result<Items<(u32, Val
 pub fn check_code_section(alloc: Global, body: &[u8]) -> Result<(), ReadError>
     ensures checks { Checks code_section_body ShortestCodeSectionBody IsShortestCodeSectionBodyPrefix body.now result }
 {
-    check_list_to_end::<CodeBody>(alloc, body)
+    without_reason(check_list_to_end::<CodeBody>(alloc, body))
 }

@@ -32,30 +32,10 @@ use wasm_lists::rewriting::{Rewritable, RewritableBody};
 use wasm_modules::code::CodeBody;
 use wasm_types::types::TypeEntry;
 
-/// The names of a section and of its items, for messages.
-#[derive(Clone, Copy, Debug, PartialEq, Eq)]
-pub struct SectionNames {
-    /// Name of the section.
-    pub section: &'static str,
-    /// Name of an item of the section.
-    pub item: &'static str,
-}
-
-/// Returns the names of the section with this id. `None` means that the id is unknown.
-pub fn section_names(id: u8) -> Option<SectionNames>
-    ensures known { IfSome result (λ _. id ≤ 13) }
-    ensures unknown { IfNone result (13 < id) }
-{
-    visit_section(id, &mut Naming)
-}
-
 /// A kind of section. It is implemented for the section's items if the section is a list.
 pub trait SectionKind {
     /// The bytes that encode the content after the section's id.
     ghost content: { Format ModuleSectionParts };
-
-    /// The names of such a section.
-    const NAMES: SectionNames;
 
     /// Reads the content after the section's id. Fails with `Malformed` if it can't be decoded, and with `Memory` if an
     /// allocation fails.
@@ -86,7 +66,7 @@ pub trait SectionVisitor {
         ensures visits { visits_body B.Value B.format K.content self.old self.new result };
 
     /// Visits a section with an unknown id.
-    fn visit_unknown(&mut self) -> Self::Output
+    fn visit_unknown(&mut self, id: u8) -> Self::Output
         ensures visits { visits_unknown self.old self.new result };
 }
 
@@ -112,43 +92,12 @@ pub fn visit_section<V: SectionVisitor>(id: u8, visitor: &mut V) -> V::Output
         11 => visitor.visit_list::<Item<'static, DataSegment<'static>>>(),
         12 => visitor.visit_body::<Number, DataCount>(),
         13 => visitor.visit_list::<Item<'static, TagType>>(),
-        14.. => visitor.visit_unknown(),
-    }
-}
-
-/// Names the section.
-#[derive(Drop)]
-struct Naming;
-
-impl SectionVisitor for Naming {
-    type Output = Option<SectionNames>;
-
-    ghost visits_list = { λ V F C old new names. IsSome names };
-
-    ghost visits_body = { λ V F C old new names. IsSome names };
-
-    ghost visits_unknown = { λ old new names. IsNone names };
-
-    fn visit_list<T: Rewritable + SectionKind>(&mut self) -> Option<SectionNames> {
-        Some(T::NAMES)
-    }
-
-    fn visit_body<B: RewritableBody, K: SectionKind>(&mut self) -> Option<SectionNames> {
-        Some(K::NAMES)
-    }
-
-    fn visit_unknown(&mut self) -> Option<SectionNames> {
-        None
+        14.. => visitor.visit_unknown(id),
     }
 }
 
 impl SectionKind for Custom {
     ghost content = { one_of custom custom_part custom_body };
-
-    const NAMES: SectionNames = SectionNames {
-        section: "custom",
-        item: "byte",
-    };
 
     fn read<'a>(_alloc: Global, cursor: &mut Cursor<'a>) -> Result<ModuleSection<'a>, Fault> {
         Ok(ModuleSection::Custom(read_sized_custom(cursor)?))
@@ -158,11 +107,6 @@ impl SectionKind for Custom {
 impl SectionKind for TypeEntry {
     ghost content = { list_of types type_entries_part recursive_type };
 
-    const NAMES: SectionNames = SectionNames {
-        section: "type",
-        item: "type",
-    };
-
     fn read<'a>(alloc: Global, cursor: &mut Cursor<'a>) -> Result<ModuleSection<'a>, Fault> {
         Ok(ModuleSection::Types(read_sized_list(alloc, cursor)?))
     }
@@ -170,11 +114,6 @@ impl SectionKind for TypeEntry {
 
 impl SectionKind for Item<'static, Import<'static>> {
     ghost content = { list_of imports imports_part import_entry };
-
-    const NAMES: SectionNames = SectionNames {
-        section: "import",
-        item: "import",
-    };
 
     fn read<'a>(alloc: Global, cursor: &mut Cursor<'a>) -> Result<ModuleSection<'a>, Fault> {
         Ok(ModuleSection::Imports(read_sized_list(alloc, cursor)?))
@@ -184,11 +123,6 @@ impl SectionKind for Item<'static, Import<'static>> {
 impl SectionKind for u32 {
     ghost content = { list_of functions function_indexes_part u32_format };
 
-    const NAMES: SectionNames = SectionNames {
-        section: "function",
-        item: "function",
-    };
-
     fn read<'a>(alloc: Global, cursor: &mut Cursor<'a>) -> Result<ModuleSection<'a>, Fault> {
         Ok(ModuleSection::Functions(read_sized_list(alloc, cursor)?))
     }
@@ -196,11 +130,6 @@ impl SectionKind for u32 {
 
 impl SectionKind for Item<'static, Table> {
     ghost content = { list_of tables tables_part table_entry };
-
-    const NAMES: SectionNames = SectionNames {
-        section: "table",
-        item: "table",
-    };
 
     fn read<'a>(alloc: Global, cursor: &mut Cursor<'a>) -> Result<ModuleSection<'a>, Fault> {
         Ok(ModuleSection::Tables(read_sized_list(alloc, cursor)?))
@@ -210,11 +139,6 @@ impl SectionKind for Item<'static, Table> {
 impl SectionKind for Item<'static, MemoryType> {
     ghost content = { list_of memories memories_part memory_type };
 
-    const NAMES: SectionNames = SectionNames {
-        section: "memory",
-        item: "memory",
-    };
-
     fn read<'a>(alloc: Global, cursor: &mut Cursor<'a>) -> Result<ModuleSection<'a>, Fault> {
         Ok(ModuleSection::Memories(read_sized_list(alloc, cursor)?))
     }
@@ -223,11 +147,6 @@ impl SectionKind for Item<'static, MemoryType> {
 impl SectionKind for Item<'static, GlobalEntry> {
     ghost content = { list_of globals globals_part global_entry };
 
-    const NAMES: SectionNames = SectionNames {
-        section: "global",
-        item: "global",
-    };
-
     fn read<'a>(alloc: Global, cursor: &mut Cursor<'a>) -> Result<ModuleSection<'a>, Fault> {
         Ok(ModuleSection::Globals(read_sized_list(alloc, cursor)?))
     }
@@ -235,11 +154,6 @@ impl SectionKind for Item<'static, GlobalEntry> {
 
 impl SectionKind for Item<'static, Export<'static>> {
     ghost content = { list_of exports exports_part export_entry };
-
-    const NAMES: SectionNames = SectionNames {
-        section: "export",
-        item: "export",
-    };
 
     fn read<'a>(alloc: Global, cursor: &mut Cursor<'a>) -> Result<ModuleSection<'a>, Fault> {
         Ok(ModuleSection::Exports(read_sized_list(alloc, cursor)?))
@@ -252,11 +166,6 @@ struct Start;
 impl SectionKind for Start {
     ghost content = { one_of start start_part u32_format };
 
-    const NAMES: SectionNames = SectionNames {
-        section: "start",
-        item: "function",
-    };
-
     fn read<'a>(_alloc: Global, cursor: &mut Cursor<'a>) -> Result<ModuleSection<'a>, Fault> {
         Ok(ModuleSection::Start(read_sized_number(cursor)?))
     }
@@ -264,11 +173,6 @@ impl SectionKind for Start {
 
 impl SectionKind for Item<'static, Element> {
     ghost content = { list_of elements elements_part element_segment };
-
-    const NAMES: SectionNames = SectionNames {
-        section: "element",
-        item: "segment",
-    };
 
     fn read<'a>(alloc: Global, cursor: &mut Cursor<'a>) -> Result<ModuleSection<'a>, Fault> {
         Ok(ModuleSection::Elements(read_sized_list(alloc, cursor)?))
@@ -278,11 +182,6 @@ impl SectionKind for Item<'static, Element> {
 impl SectionKind for CodeBody {
     ghost content = { list_of code code_part code_body };
 
-    const NAMES: SectionNames = SectionNames {
-        section: "code",
-        item: "function",
-    };
-
     fn read<'a>(alloc: Global, cursor: &mut Cursor<'a>) -> Result<ModuleSection<'a>, Fault> {
         Ok(ModuleSection::Code(read_sized_list(alloc, cursor)?))
     }
@@ -290,11 +189,6 @@ impl SectionKind for CodeBody {
 
 impl SectionKind for Item<'static, DataSegment<'static>> {
     ghost content = { list_of data_segments data_segments_part data_segment };
-
-    const NAMES: SectionNames = SectionNames {
-        section: "data",
-        item: "segment",
-    };
 
     fn read<'a>(alloc: Global, cursor: &mut Cursor<'a>) -> Result<ModuleSection<'a>, Fault> {
         Ok(ModuleSection::Data(read_sized_list(alloc, cursor)?))
@@ -307,11 +201,6 @@ struct DataCount;
 impl SectionKind for DataCount {
     ghost content = { one_of data_count data_count_part u32_format };
 
-    const NAMES: SectionNames = SectionNames {
-        section: "data count",
-        item: "count",
-    };
-
     fn read<'a>(_alloc: Global, cursor: &mut Cursor<'a>) -> Result<ModuleSection<'a>, Fault> {
         Ok(ModuleSection::DataCount(read_sized_number(cursor)?))
     }
@@ -319,11 +208,6 @@ impl SectionKind for DataCount {
 
 impl SectionKind for Item<'static, TagType> {
     ghost content = { list_of tags tags_part tag_type };
-
-    const NAMES: SectionNames = SectionNames {
-        section: "tag",
-        item: "tag",
-    };
 
     fn read<'a>(alloc: Global, cursor: &mut Cursor<'a>) -> Result<ModuleSection<'a>, Fault> {
         Ok(ModuleSection::Tags(read_sized_list(alloc, cursor)?))

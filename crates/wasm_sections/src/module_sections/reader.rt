@@ -1,10 +1,10 @@
 //! Readers of single decoded sections.
-ghost use Rattle.std.specs.Prelude.{◌≡◌, Err, refl};
+ghost use Rattle.std.specs.Prelude.{refl};
 ghost use Rattle.std.proofs.lemmas.List.{map_push};
 ghost use Rattle.wasm_codec.specs.formats.Grammar.{TakesBytes};
 ghost use Rattle.wasm_codec.specs.Lawful.{IsLawful};
 ghost use Rattle.wasm_codec.specs.Places.{Reads};
-ghost use Rattle.wasm_codec.specs.declared.reader.cursor.Fault.TheVariants.{Malformed};
+ghost use Rattle.wasm_codec.specs.Outcomes.{FailsMalformed};
 ghost use Rattle.wasm_codec.specs.Reading.{map_ok};
 ghost use Rattle.wasm_codec.specs.formats.Bodies.{sized};
 ghost use Rattle.wasm_codec.specs.formats.Combinators.{items, u32 as u32_format};
@@ -17,9 +17,10 @@ ghost use Rattle.wasm_codec.specs.Rewriter.{Rewrites};
 use crate::custom::CustomSection;
 use crate::module_sections::ModuleSection;
 use crate::module_sections::kinds::{SectionKind, SectionVisitor, visit_section};
-use crate::module_sections::rewriter::rewrite_module_section;
+use crate::module_sections::rewriter::{rewrite_module_section, unknown_section};
 use std::alloc::Global;
 use wasm_codec::reader::cursor::{Cursor, Fault};
+use wasm_codec::reader::malformed::Construct;
 use wasm_codec::rewriter::Rewriter;
 use wasm_entities::names::read_name;
 use wasm_lists::list::Items;
@@ -46,7 +47,7 @@ impl<'a> Readable<'a> for ModuleSection<'a> {
     {}
 
     fn read(alloc: Global, cursor: &mut Cursor<'a>) -> Result<ModuleSection<'a>, Fault> {
-        read_module_section(alloc, cursor)
+        read_identified_section(alloc, cursor)
     }
 
     fn rewrite(rewriter: &mut Rewriter) -> Result<(), Fault>
@@ -66,7 +67,7 @@ pub(crate) fn read_sized_list<'a, T: Readable<'a>>(
     let mut body = cursor.body()?;
     let items = read_list(alloc, &mut body)?;
     if body.len() > 0 {
-        return Err(Fault::Malformed);
+        return Err(Fault::Malformed(body.trailing()));
     }
     cursor.set_shortest(body.is_shortest());
     Ok(items)
@@ -79,7 +80,7 @@ pub(crate) fn read_sized_number(cursor: &mut Cursor<'_>) -> Result<u32, Fault>
     let mut body = cursor.body()?;
     let number = body.u32()?;
     if body.len() > 0 {
-        return Err(Fault::Malformed);
+        return Err(Fault::Malformed(body.trailing()));
     }
     cursor.set_shortest(body.is_shortest());
     Ok(number)
@@ -91,7 +92,7 @@ pub(crate) fn read_sized_custom<'a>(cursor: &mut Cursor<'a>) -> Result<CustomSec
 {
     let mut body = cursor.body()?;
     let name = read_name(&mut body)?;
-    let bytes = body.take(body.len())?;
+    let bytes = body.take(body.len(), Construct::Body)?;
     cursor.set_shortest(body.is_shortest());
     Ok(CustomSection { name, bytes })
 }
@@ -110,7 +111,7 @@ impl<'a> SectionVisitor for ContentReader<'a> {
 
     ghost visits_body = { λ V F C old new section. Reads C.at old.cursor new.cursor (map_ok module_section_parts section) };
 
-    ghost visits_unknown = { λ old new section. section ≡ Err Malformed };
+    ghost visits_unknown = { λ old new section. FailsMalformed section };
 
     fn visit_list<T: Rewritable + SectionKind>(&mut self) -> Result<ModuleSection<'a>, Fault> {
         T::read(self.alloc, &mut self.cursor)
@@ -122,8 +123,8 @@ impl<'a> SectionVisitor for ContentReader<'a> {
         K::read(self.alloc, &mut self.cursor)
     }
 
-    fn visit_unknown(&mut self) -> Result<ModuleSection<'a>, Fault> {
-        Err(Fault::Malformed)
+    fn visit_unknown(&mut self, id: u8) -> Result<ModuleSection<'a>, Fault> {
+        Err(Fault::Malformed(unknown_section(id, self.cursor.to_end())))
     }
 }
 
@@ -135,7 +136,7 @@ fn read_module_section<'a>(
 ) -> Result<ModuleSection<'a>, Fault>
     ensures reads { Reads module_section.at cursor.old cursor.new (map_ok module_section_parts result) }
 {
-    let id = cursor.byte()?;
+    let id = cursor.byte_of(Construct::SectionId)?;
     let mut reader = ContentReader {
         alloc,
         cursor: cursor.fork(),
@@ -143,4 +144,19 @@ fn read_module_section<'a>(
     let section = visit_section(id, &mut reader);
     *cursor = reader.cursor;
     section
+}
+
+/// Reads a section. A fault carries the section's id.
+fn read_identified_section<'a>(
+    alloc: Global,
+    cursor: &mut Cursor<'a>,
+) -> Result<ModuleSection<'a>, Fault>
+    ensures reads { Reads module_section.at cursor.old cursor.new (map_ok module_section_parts result) }
+{
+    let id = cursor.peek(Construct::SectionId).unwrap_or(0);
+    match read_module_section(alloc, cursor) {
+        Ok(section) => Ok(section),
+        Err(Fault::Malformed(malformed)) => Err(Fault::Malformed(malformed.in_section(id))),
+        Err(Fault::Memory) => Err(Fault::Memory),
+    }
 }

@@ -1,9 +1,9 @@
 //! Rewriting of single decoded sections.
-ghost use Rattle.std.specs.Prelude.{◌≡◌, List, Err};
+ghost use Rattle.std.specs.Prelude.{List};
 ghost use Rattle.wasm_codec.specs.formats.Grammar.{TakesBytes};
 ghost use Rattle.wasm_codec.specs.Lawful.{IsLawful, IsLawfulBody};
 ghost use Rattle.wasm_codec.specs.Rewriter.{Rewrites};
-ghost use Rattle.wasm_codec.specs.declared.reader.cursor.Fault.TheVariants.{Malformed};
+ghost use Rattle.wasm_codec.specs.Outcomes.{FailsMalformed};
 ghost use Rattle.wasm_codec.specs.formats.Bodies.{sized};
 ghost use Rattle.wasm_codec.specs.formats.Combinators.{items};
 ghost use Rattle.wasm_sections.specs.formats.ModuleSections.{module_section};
@@ -12,6 +12,7 @@ ghost use Rattle.wasm_sections.specs.formats.ModuleSectionParts.{ModuleSectionPa
 use crate::module_sections::kinds::{SectionKind, SectionVisitor, visit_section};
 use std::marker::PhantomData;
 use wasm_codec::reader::cursor::Fault;
+use wasm_codec::reader::malformed::{Construct, Malformed, Reason};
 use wasm_codec::rewriter::{Rewriter, Scanned};
 use wasm_lists::rewriting::{Joinable, Rewritable, RewritableBody, rewrite_list, rewrite_sized};
 
@@ -66,7 +67,7 @@ impl SectionVisitor for Rewriter {
 
     ghost visits_body = { λ V F C old new result. Rewrites (sized F) old new result };
 
-    ghost visits_unknown = { λ old new result. result ≡ Err Malformed };
+    ghost visits_unknown = { λ old new result. FailsMalformed result };
 
     fn visit_list<T: Rewritable + SectionKind>(&mut self) -> Result<(), Fault> {
         rewrite_sized::<ListOf<T>>(self)
@@ -76,16 +77,33 @@ impl SectionVisitor for Rewriter {
         rewrite_sized::<B>(self)
     }
 
-    fn visit_unknown(&mut self) -> Result<(), Fault> {
-        Err(Fault::Malformed)
+    fn visit_unknown(&mut self, id: u8) -> Result<(), Fault> {
+        Err(Fault::Malformed(unknown_section(id, self.to_end())))
+    }
+}
+
+/// Returns the fault that no section has the id just read, with `left` bytes up to the end after it.
+pub(crate) fn unknown_section(id: u8, left: usize) -> Malformed {
+    Malformed::new(Reason::UnknownSection { id }, left.wrapping_add(1))
+}
+
+/// Rewrites a section to its minimal encoding. A fault carries the section's id.
+pub(crate) fn rewrite_module_section(rewriter: &mut Rewriter) -> Result<(), Fault>
+    ensures rewrites { Rewrites module_section rewriter.old rewriter.new result }
+{
+    let id = rewriter.peek(Construct::SectionId).unwrap_or(0);
+    match rewrite_any_section(rewriter) {
+        Ok(()) => Ok(()),
+        Err(Fault::Malformed(malformed)) => Err(Fault::Malformed(malformed.in_section(id))),
+        Err(Fault::Memory) => Err(Fault::Memory),
     }
 }
 
 /// Rewrites a section to its minimal encoding.
 #[tactic(auto, using(crate::proofs::ModuleSectionLaws::rewritten_by_kind), unfolding(crate::specs::formats::ModuleSections::module_section))]
-pub(crate) fn rewrite_module_section(rewriter: &mut Rewriter) -> Result<(), Fault>
+fn rewrite_any_section(rewriter: &mut Rewriter) -> Result<(), Fault>
     ensures rewrites { Rewrites module_section rewriter.old rewriter.new result }
 {
-    let id = rewriter.byte()?;
+    let id = rewriter.byte_of(Construct::SectionId)?;
     visit_section(id, rewriter)
 }

@@ -4,7 +4,7 @@ ghost use Rattle.wasm_codec.specs.Decoding.{Normalises, NormalisesInPlace, Rewri
 
 use crate::types::TypeEntry;
 use std::alloc::Global;
-use wasm_codec::reader::ReadError;
+use wasm_codec::reader::{ReadError, without_reason};
 use wasm_lists::rewriting::rewrite_list_to_end;
 
 /// Returns the minimal encoding of the entries in a type section body (Core 3.0, Type Section).
@@ -41,7 +41,7 @@ pub fn normalise_type_section(alloc: Global, body: &[u8]) -> Result<Vec<u8>, Rea
 pub fn rewrite_type_section(body: Vec<u8>) -> Result<Vec<u8>, ReadError>
     ensures normalises { NormalisesInPlace type_body IsTypeBodyPrefix body.items result }
 {
-    rewrite_list_to_end::<TypeEntry>(body)
+    without_reason(rewrite_list_to_end::<TypeEntry>(body))
 }
 
 /// Copies the body and rewrites the copy.

@@ -8,7 +8,7 @@ ghost use Rattle.wasm_codec.specs.Lawful.{IsLawful};
 ghost use Rattle.wasm_codec.specs.formats.Combinators.{◌⊗◌, made, optional, items, u32};
 ghost use Rattle.wasm_types.specs.formats.Types.{val_type, field_type, inner_type, composite_type, sub_of, sub_type, recursive_type};
 ghost use Rattle.wasm_types.specs.TypeParts.{sub_parts};
-ghost use Rattle.wasm_codec.specs.declared.reader.cursor.Fault.TheVariants.{Malformed};
+ghost use Rattle.wasm_codec.specs.Outcomes.{IsMalformed};
 ghost use Rattle.wasm_types.specs.declared.types.value.ValType.{ValType};
 ghost use Rattle.wasm_types.specs.declared.types.composite.FieldType.{FieldType};
 ghost use Rattle.wasm_types.specs.declared.types.composite.SubType.{SubType};
@@ -22,6 +22,7 @@ use crate::types::{
 };
 use std::alloc::Global;
 use wasm_codec::reader::cursor::{Cursor, Fault};
+use wasm_codec::reader::malformed::Construct;
 use wasm_codec::rewriter::Rewriter;
 use wasm_lists::list::Items;
 use wasm_lists::readable::Readable;
@@ -41,7 +42,7 @@ impl<'a> Readable<'a> for ValType {
 
     fn read(_alloc: Global, cursor: &mut Cursor<'a>) -> Result<ValType, Fault>
         ensures reads { Reads val_type.at cursor.old cursor.new (map_ok (λ x. x) result) }
-        ensures err { IfErr result (λ e. e ≡ Malformed) }
+        ensures err { IfErr result IsMalformed }
     {
         read_val_type(cursor)
     }
@@ -73,7 +74,7 @@ impl<'a> Readable<'a> for FieldType {
 
     fn read(_alloc: Global, cursor: &mut Cursor<'a>) -> Result<FieldType, Fault>
         ensures reads { Reads field_type.at cursor.old cursor.new (map_ok (λ x. x) result) }
-        ensures err { IfErr result (λ e. e ≡ Malformed) }
+        ensures err { IfErr result IsMalformed }
     {
         read_field_type(cursor)
     }
@@ -97,7 +98,7 @@ impl<'a> Readable<'a> for FieldType {
 fn read_inner_type(alloc: Global, cursor: &mut Cursor<'_>) -> Result<CompositeInnerType, Fault>
     ensures reads { Reads inner_type.at cursor.old cursor.new result }
 {
-    match cursor.byte()? {
+    match cursor.byte_of(Construct::TypeForm)? {
         0x60 => {
             let params = read_list(alloc, cursor)?;
             let results = read_list(alloc, cursor)?;
@@ -109,7 +110,7 @@ fn read_inner_type(alloc: Global, cursor: &mut Cursor<'_>) -> Result<CompositeIn
         }
         0x5e => Ok(CompositeInnerType::Array(ArrayType(read_field_type(cursor)?))),
         0x5d => Ok(CompositeInnerType::Cont(ContType(cursor.index()?))),
-        _ => Err(Fault::Malformed),
+        byte => Err(Fault::Malformed(cursor.invalid(Construct::TypeForm, byte))),
     }
 }
 
@@ -120,7 +121,7 @@ fn read_described_type(
 ) -> Result<(Option<u32>, CompositeInnerType), Fault>
     ensures reads { Reads (optional 0x4d u32 inner_type).at cursor.old cursor.new result }
 {
-    if cursor.peek()? == 0x4d {
+    if cursor.peek(Construct::TypeForm)? == 0x4d {
         cursor.byte()?;
         let descriptor = cursor.u32()?;
         let inner = read_inner_type(alloc, cursor)?;
@@ -137,7 +138,7 @@ fn read_describing_type(
 ) -> Result<(Option<u32>, (Option<u32>, CompositeInnerType)), Fault>
     ensures reads { Reads (optional 0x4c u32 (optional 0x4d u32 inner_type)).at cursor.old cursor.new result }
 {
-    if cursor.peek()? == 0x4c {
+    if cursor.peek(Construct::TypeForm)? == 0x4c {
         cursor.byte()?;
         let describes = cursor.u32()?;
         let rest = read_described_type(alloc, cursor)?;
@@ -152,7 +153,7 @@ fn read_describing_type(
 fn read_composite_type(alloc: Global, cursor: &mut Cursor<'_>) -> Result<CompositeType, Fault>
     ensures reads { Reads composite_type.at cursor.old cursor.new result }
 {
-    let shared = cursor.peek()? == 0x65;
+    let shared = cursor.peek(Construct::TypeForm)? == 0x65;
     if shared {
         cursor.byte()?;
     }
@@ -187,7 +188,7 @@ fn read_with_supertypes(
 fn read_sub_type(alloc: Global, cursor: &mut Cursor<'_>) -> Result<SubType, Fault>
     ensures reads { Reads sub_type.at cursor.old cursor.new result }
 {
-    let first = cursor.peek()?;
+    let first = cursor.peek(Construct::TypeForm)?;
     if first == 0x50 {
         cursor.byte()?;
         return read_with_supertypes(alloc, cursor, false);
@@ -213,7 +214,7 @@ fn read_sub_type(alloc: Global, cursor: &mut Cursor<'_>) -> Result<SubType, Faul
 pub fn read_entry(alloc: Global, cursor: &mut Cursor<'_>) -> Result<TypeEntry, Fault>
     ensures reads { Reads recursive_type.at cursor.old cursor.new result }
 {
-    if cursor.peek()? == 0x4e {
+    if cursor.peek(Construct::TypeForm)? == 0x4e {
         cursor.byte()?;
         return Ok(TypeEntry::Rec(read_list(alloc, cursor)?));
     }

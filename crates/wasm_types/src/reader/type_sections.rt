@@ -7,7 +7,7 @@ ghost use Rattle.std.specs.Prelude.{◌<◌, true};
 
 use crate::types::TypeEntry;
 use std::alloc::Global;
-use wasm_codec::reader::ReadError;
+use wasm_codec::reader::{ReadError, without_reason};
 use wasm_lists::checking::check_list_to_end;
 use wasm_lists::reading::read_list_to_end;
 
@@ -30,7 +30,7 @@ pub fn read_type_section(alloc: Global, body: &[u8]) -> Result<Vec<TypeEntry>, R
     ensures decodes { Decodes (λ entries. entries.items) type_body IsTypeBodyPrefix body.now result }
     ensures prefix_free { TypesArePrefixFree }
 {
-    read_list_to_end::<TypeEntry, false>(alloc, body)
+    without_reason(read_list_to_end::<TypeEntry, false>(alloc, body))
 }
 
 /// Reads a minimally encoded type section body (Core 3.0, Type Section).
@@ -51,7 +51,7 @@ pub fn read_type_section(alloc: Global, body: &[u8]) -> Result<Vec<TypeEntry>, R
 pub fn read_type_section_strict(alloc: Global, body: &[u8]) -> Result<Vec<TypeEntry>, ReadError>
     ensures decodes { DecodesMinimal (λ entries. entries.items) type_body ShortestTypeBody IsShortestTypeBodyPrefix body.now result }
 {
-    read_list_to_end::<TypeEntry, true>(alloc, body)
+    without_reason(read_list_to_end::<TypeEntry, true>(alloc, body))
 }
 
 /// Checks that a type section body is minimally encoded (Core 3.0, Type Section).
@@ -70,5 +70,5 @@ pub fn read_type_section_strict(alloc: Global, body: &[u8]) -> Result<Vec<TypeEn
 pub fn check_type_section(alloc: Global, body: &[u8]) -> Result<(), ReadError>
     ensures checks { Checks type_body ShortestTypeBody IsShortestTypeBodyPrefix body.now result }
 {
-    check_list_to_end::<TypeEntry>(alloc, body)
+    without_reason(check_list_to_end::<TypeEntry>(alloc, body))
 }

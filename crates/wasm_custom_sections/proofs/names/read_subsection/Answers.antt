@@ -7,108 +7,108 @@ use Rattle.wasm_custom_sections.proofs.names.read_subsection.Goals as goal
 pub returns-in_err-id : goal.returns-in_err-id
 returns-in_err-id c =
     let p = err_from_is_err_and c.from_residual.result c.from_residual.ensures.1 in
-    rw (p.1, p.2) (record { reads = no_id c.args.cursor.now c.byte.new.self c.in_err-id.field-0.0 c.in_err-id.ensures.reads })
+    rw (p.1, p.2) (record { reads = no_id c.args.cursor.now c.byte_of.new.self c.in_err-id.field-0.0 c.in_err-id.ensures.reads })
 
 pub returns-in_err-read_sized_name-in-0 : goal.returns-in_err-read_sized_name-in-0
 returns-in_err-read_sized_name-in-0 c =
     let p = err_from_is_err_and c.from_residual-in_err-read_sized_name-in-0.result c.from_residual-in_err-read_sized_name-in-0.ensures.1 in
-    rw (p.1, p.2) (record { reads = kind_fault c.in_ok-id.id c.args.cursor.now c.byte.new.self c.read_sized_name.new.cursor c.in_ok-id.ensures.reads module_name_kind c.in-0.is c.in_err-read_sized_name-in-0.field-0.0 c.in_err-read_sized_name-in-0.ensures.reads })
+    rw (p.1, p.2) (record { reads = kind_fault c.in_ok-id.id c.args.cursor.now c.byte_of.new.self c.read_sized_name.new.cursor c.in_ok-id.ensures.reads module_name_kind c.in-0.is c.in_err-read_sized_name-in-0.field-0.0 c.in_err-read_sized_name-in-0.ensures.reads })
 
 pub returns-in_ok-read_sized_name-in-0 : goal.returns-in_ok-read_sized_name-in-0
-returns-in_ok-read_sized_name-in-0 c = record { reads = kind_read c.in_ok-id.id c.args.cursor.now c.byte.new.self c.read_sized_name.new.cursor c.in_ok-id.ensures.reads module_name_kind c.in-0.is c.in_ok-read_sized_name-in-0.field-0.now c.in_ok-read_sized_name-in-0.ensures.reads }
+returns-in_ok-read_sized_name-in-0 c = record { reads = kind_read c.in_ok-id.id c.args.cursor.now c.byte_of.new.self c.read_sized_name.new.cursor c.in_ok-id.ensures.reads module_name_kind c.in-0.is c.in_ok-read_sized_name-in-0.field-0.now c.in_ok-read_sized_name-in-0.ensures.reads }
 
 pub returns-in_err-read_sized_list-in-1 : goal.returns-in_err-read_sized_list-in-1
 returns-in_err-read_sized_list-in-1 c =
     let p = err_from_is_err_and c.from_residual-in_err-read_sized_list-in-1.result c.from_residual-in_err-read_sized_list-in-1.ensures.1 in
-    rw (p.1, p.2) (record { reads = kind_fault c.in_ok-id.id c.args.cursor.now c.byte.new.self c.read_sized_list.new.cursor c.in_ok-id.ensures.reads functions_kind c.in-1.is c.in_err-read_sized_list-in-1.field-0.0 c.in_err-read_sized_list-in-1.ensures.reads })
+    rw (p.1, p.2) (record { reads = kind_fault c.in_ok-id.id c.args.cursor.now c.byte_of.new.self c.read_sized_list.new.cursor c.in_ok-id.ensures.reads functions_kind c.in-1.is c.in_err-read_sized_list-in-1.field-0.0 c.in_err-read_sized_list-in-1.ensures.reads })
 
 pub returns-in_ok-read_sized_list-in-1 : goal.returns-in_ok-read_sized_list-in-1
-returns-in_ok-read_sized_list-in-1 c = record { reads = kind_read c.in_ok-id.id c.args.cursor.now c.byte.new.self c.read_sized_list.new.cursor c.in_ok-id.ensures.reads functions_kind c.in-1.is (all_naming_parts c.in_ok-read_sized_list-in-1.field-0) c.in_ok-read_sized_list-in-1.ensures.reads }
+returns-in_ok-read_sized_list-in-1 c = record { reads = kind_read c.in_ok-id.id c.args.cursor.now c.byte_of.new.self c.read_sized_list.new.cursor c.in_ok-id.ensures.reads functions_kind c.in-1.is (all_naming_parts c.in_ok-read_sized_list-in-1.field-0) c.in_ok-read_sized_list-in-1.ensures.reads }
 
 pub returns-in_err-read_sized_list-in-2 : goal.returns-in_err-read_sized_list-in-2
 returns-in_err-read_sized_list-in-2 c =
     let p = err_from_is_err_and c.from_residual-in_err-read_sized_list-in-2.result c.from_residual-in_err-read_sized_list-in-2.ensures.1 in
-    rw (p.1, p.2) (record { reads = kind_fault c.in_ok-id.id c.args.cursor.now c.byte.new.self c.read_sized_list-in-2.new.cursor c.in_ok-id.ensures.reads locals_kind c.in-2.is c.in_err-read_sized_list-in-2.field-0.0 c.in_err-read_sized_list-in-2.ensures.reads })
+    rw (p.1, p.2) (record { reads = kind_fault c.in_ok-id.id c.args.cursor.now c.byte_of.new.self c.read_sized_list-in-2.new.cursor c.in_ok-id.ensures.reads locals_kind c.in-2.is c.in_err-read_sized_list-in-2.field-0.0 c.in_err-read_sized_list-in-2.ensures.reads })
 
 pub returns-in_ok-read_sized_list-in-2 : goal.returns-in_ok-read_sized_list-in-2
-returns-in_ok-read_sized_list-in-2 c = record { reads = kind_read c.in_ok-id.id c.args.cursor.now c.byte.new.self c.read_sized_list-in-2.new.cursor c.in_ok-id.ensures.reads locals_kind c.in-2.is (all_indirect_parts c.in_ok-read_sized_list-in-2.field-0) c.in_ok-read_sized_list-in-2.ensures.reads }
+returns-in_ok-read_sized_list-in-2 c = record { reads = kind_read c.in_ok-id.id c.args.cursor.now c.byte_of.new.self c.read_sized_list-in-2.new.cursor c.in_ok-id.ensures.reads locals_kind c.in-2.is (all_indirect_parts c.in_ok-read_sized_list-in-2.field-0) c.in_ok-read_sized_list-in-2.ensures.reads }
 
 pub returns-in_err-read_sized_list-in-3 : goal.returns-in_err-read_sized_list-in-3
 returns-in_err-read_sized_list-in-3 c =
     let p = err_from_is_err_and c.from_residual-in_err-read_sized_list-in-3.result c.from_residual-in_err-read_sized_list-in-3.ensures.1 in
-    rw (p.1, p.2) (record { reads = kind_fault c.in_ok-id.id c.args.cursor.now c.byte.new.self c.read_sized_list-in-3.new.cursor c.in_ok-id.ensures.reads labels_kind c.in-3.is c.in_err-read_sized_list-in-3.field-0.0 c.in_err-read_sized_list-in-3.ensures.reads })
+    rw (p.1, p.2) (record { reads = kind_fault c.in_ok-id.id c.args.cursor.now c.byte_of.new.self c.read_sized_list-in-3.new.cursor c.in_ok-id.ensures.reads labels_kind c.in-3.is c.in_err-read_sized_list-in-3.field-0.0 c.in_err-read_sized_list-in-3.ensures.reads })
 
 pub returns-in_ok-read_sized_list-in-3 : goal.returns-in_ok-read_sized_list-in-3
-returns-in_ok-read_sized_list-in-3 c = record { reads = kind_read c.in_ok-id.id c.args.cursor.now c.byte.new.self c.read_sized_list-in-3.new.cursor c.in_ok-id.ensures.reads labels_kind c.in-3.is (all_indirect_parts c.in_ok-read_sized_list-in-3.field-0) c.in_ok-read_sized_list-in-3.ensures.reads }
+returns-in_ok-read_sized_list-in-3 c = record { reads = kind_read c.in_ok-id.id c.args.cursor.now c.byte_of.new.self c.read_sized_list-in-3.new.cursor c.in_ok-id.ensures.reads labels_kind c.in-3.is (all_indirect_parts c.in_ok-read_sized_list-in-3.field-0) c.in_ok-read_sized_list-in-3.ensures.reads }
 
 pub returns-in_err-read_sized_list-in-4 : goal.returns-in_err-read_sized_list-in-4
 returns-in_err-read_sized_list-in-4 c =
     let p = err_from_is_err_and c.from_residual-in_err-read_sized_list-in-4.result c.from_residual-in_err-read_sized_list-in-4.ensures.1 in
-    rw (p.1, p.2) (record { reads = kind_fault c.in_ok-id.id c.args.cursor.now c.byte.new.self c.read_sized_list-in-4.new.cursor c.in_ok-id.ensures.reads types_kind c.in-4.is c.in_err-read_sized_list-in-4.field-0.0 c.in_err-read_sized_list-in-4.ensures.reads })
+    rw (p.1, p.2) (record { reads = kind_fault c.in_ok-id.id c.args.cursor.now c.byte_of.new.self c.read_sized_list-in-4.new.cursor c.in_ok-id.ensures.reads types_kind c.in-4.is c.in_err-read_sized_list-in-4.field-0.0 c.in_err-read_sized_list-in-4.ensures.reads })
 
 pub returns-in_ok-read_sized_list-in-4 : goal.returns-in_ok-read_sized_list-in-4
-returns-in_ok-read_sized_list-in-4 c = record { reads = kind_read c.in_ok-id.id c.args.cursor.now c.byte.new.self c.read_sized_list-in-4.new.cursor c.in_ok-id.ensures.reads types_kind c.in-4.is (all_naming_parts c.in_ok-read_sized_list-in-4.field-0) c.in_ok-read_sized_list-in-4.ensures.reads }
+returns-in_ok-read_sized_list-in-4 c = record { reads = kind_read c.in_ok-id.id c.args.cursor.now c.byte_of.new.self c.read_sized_list-in-4.new.cursor c.in_ok-id.ensures.reads types_kind c.in-4.is (all_naming_parts c.in_ok-read_sized_list-in-4.field-0) c.in_ok-read_sized_list-in-4.ensures.reads }
 
 pub returns-in_err-read_sized_list-in-5 : goal.returns-in_err-read_sized_list-in-5
 returns-in_err-read_sized_list-in-5 c =
     let p = err_from_is_err_and c.from_residual-in_err-read_sized_list-in-5.result c.from_residual-in_err-read_sized_list-in-5.ensures.1 in
-    rw (p.1, p.2) (record { reads = kind_fault c.in_ok-id.id c.args.cursor.now c.byte.new.self c.read_sized_list-in-5.new.cursor c.in_ok-id.ensures.reads tables_kind c.in-5.is c.in_err-read_sized_list-in-5.field-0.0 c.in_err-read_sized_list-in-5.ensures.reads })
+    rw (p.1, p.2) (record { reads = kind_fault c.in_ok-id.id c.args.cursor.now c.byte_of.new.self c.read_sized_list-in-5.new.cursor c.in_ok-id.ensures.reads tables_kind c.in-5.is c.in_err-read_sized_list-in-5.field-0.0 c.in_err-read_sized_list-in-5.ensures.reads })
 
 pub returns-in_ok-read_sized_list-in-5 : goal.returns-in_ok-read_sized_list-in-5
-returns-in_ok-read_sized_list-in-5 c = record { reads = kind_read c.in_ok-id.id c.args.cursor.now c.byte.new.self c.read_sized_list-in-5.new.cursor c.in_ok-id.ensures.reads tables_kind c.in-5.is (all_naming_parts c.in_ok-read_sized_list-in-5.field-0) c.in_ok-read_sized_list-in-5.ensures.reads }
+returns-in_ok-read_sized_list-in-5 c = record { reads = kind_read c.in_ok-id.id c.args.cursor.now c.byte_of.new.self c.read_sized_list-in-5.new.cursor c.in_ok-id.ensures.reads tables_kind c.in-5.is (all_naming_parts c.in_ok-read_sized_list-in-5.field-0) c.in_ok-read_sized_list-in-5.ensures.reads }
 
 pub returns-in_err-read_sized_list-in-6 : goal.returns-in_err-read_sized_list-in-6
 returns-in_err-read_sized_list-in-6 c =
     let p = err_from_is_err_and c.from_residual-in_err-read_sized_list-in-6.result c.from_residual-in_err-read_sized_list-in-6.ensures.1 in
-    rw (p.1, p.2) (record { reads = kind_fault c.in_ok-id.id c.args.cursor.now c.byte.new.self c.read_sized_list-in-6.new.cursor c.in_ok-id.ensures.reads memories_kind c.in-6.is c.in_err-read_sized_list-in-6.field-0.0 c.in_err-read_sized_list-in-6.ensures.reads })
+    rw (p.1, p.2) (record { reads = kind_fault c.in_ok-id.id c.args.cursor.now c.byte_of.new.self c.read_sized_list-in-6.new.cursor c.in_ok-id.ensures.reads memories_kind c.in-6.is c.in_err-read_sized_list-in-6.field-0.0 c.in_err-read_sized_list-in-6.ensures.reads })
 
 pub returns-in_ok-read_sized_list-in-6 : goal.returns-in_ok-read_sized_list-in-6
-returns-in_ok-read_sized_list-in-6 c = record { reads = kind_read c.in_ok-id.id c.args.cursor.now c.byte.new.self c.read_sized_list-in-6.new.cursor c.in_ok-id.ensures.reads memories_kind c.in-6.is (all_naming_parts c.in_ok-read_sized_list-in-6.field-0) c.in_ok-read_sized_list-in-6.ensures.reads }
+returns-in_ok-read_sized_list-in-6 c = record { reads = kind_read c.in_ok-id.id c.args.cursor.now c.byte_of.new.self c.read_sized_list-in-6.new.cursor c.in_ok-id.ensures.reads memories_kind c.in-6.is (all_naming_parts c.in_ok-read_sized_list-in-6.field-0) c.in_ok-read_sized_list-in-6.ensures.reads }
 
 pub returns-in_err-read_sized_list-in-7 : goal.returns-in_err-read_sized_list-in-7
 returns-in_err-read_sized_list-in-7 c =
     let p = err_from_is_err_and c.from_residual-in_err-read_sized_list-in-7.result c.from_residual-in_err-read_sized_list-in-7.ensures.1 in
-    rw (p.1, p.2) (record { reads = kind_fault c.in_ok-id.id c.args.cursor.now c.byte.new.self c.read_sized_list-in-7.new.cursor c.in_ok-id.ensures.reads globals_kind c.in-7.is c.in_err-read_sized_list-in-7.field-0.0 c.in_err-read_sized_list-in-7.ensures.reads })
+    rw (p.1, p.2) (record { reads = kind_fault c.in_ok-id.id c.args.cursor.now c.byte_of.new.self c.read_sized_list-in-7.new.cursor c.in_ok-id.ensures.reads globals_kind c.in-7.is c.in_err-read_sized_list-in-7.field-0.0 c.in_err-read_sized_list-in-7.ensures.reads })
 
 pub returns-in_ok-read_sized_list-in-7 : goal.returns-in_ok-read_sized_list-in-7
-returns-in_ok-read_sized_list-in-7 c = record { reads = kind_read c.in_ok-id.id c.args.cursor.now c.byte.new.self c.read_sized_list-in-7.new.cursor c.in_ok-id.ensures.reads globals_kind c.in-7.is (all_naming_parts c.in_ok-read_sized_list-in-7.field-0) c.in_ok-read_sized_list-in-7.ensures.reads }
+returns-in_ok-read_sized_list-in-7 c = record { reads = kind_read c.in_ok-id.id c.args.cursor.now c.byte_of.new.self c.read_sized_list-in-7.new.cursor c.in_ok-id.ensures.reads globals_kind c.in-7.is (all_naming_parts c.in_ok-read_sized_list-in-7.field-0) c.in_ok-read_sized_list-in-7.ensures.reads }
 
 pub returns-in_err-read_sized_list-in-8 : goal.returns-in_err-read_sized_list-in-8
 returns-in_err-read_sized_list-in-8 c =
     let p = err_from_is_err_and c.from_residual-in_err-read_sized_list-in-8.result c.from_residual-in_err-read_sized_list-in-8.ensures.1 in
-    rw (p.1, p.2) (record { reads = kind_fault c.in_ok-id.id c.args.cursor.now c.byte.new.self c.read_sized_list-in-8.new.cursor c.in_ok-id.ensures.reads elements_kind c.in-8.is c.in_err-read_sized_list-in-8.field-0.0 c.in_err-read_sized_list-in-8.ensures.reads })
+    rw (p.1, p.2) (record { reads = kind_fault c.in_ok-id.id c.args.cursor.now c.byte_of.new.self c.read_sized_list-in-8.new.cursor c.in_ok-id.ensures.reads elements_kind c.in-8.is c.in_err-read_sized_list-in-8.field-0.0 c.in_err-read_sized_list-in-8.ensures.reads })
 
 pub returns-in_ok-read_sized_list-in-8 : goal.returns-in_ok-read_sized_list-in-8
-returns-in_ok-read_sized_list-in-8 c = record { reads = kind_read c.in_ok-id.id c.args.cursor.now c.byte.new.self c.read_sized_list-in-8.new.cursor c.in_ok-id.ensures.reads elements_kind c.in-8.is (all_naming_parts c.in_ok-read_sized_list-in-8.field-0) c.in_ok-read_sized_list-in-8.ensures.reads }
+returns-in_ok-read_sized_list-in-8 c = record { reads = kind_read c.in_ok-id.id c.args.cursor.now c.byte_of.new.self c.read_sized_list-in-8.new.cursor c.in_ok-id.ensures.reads elements_kind c.in-8.is (all_naming_parts c.in_ok-read_sized_list-in-8.field-0) c.in_ok-read_sized_list-in-8.ensures.reads }
 
 pub returns-in_err-read_sized_list-in-9 : goal.returns-in_err-read_sized_list-in-9
 returns-in_err-read_sized_list-in-9 c =
     let p = err_from_is_err_and c.from_residual-in_err-read_sized_list-in-9.result c.from_residual-in_err-read_sized_list-in-9.ensures.1 in
-    rw (p.1, p.2) (record { reads = kind_fault c.in_ok-id.id c.args.cursor.now c.byte.new.self c.read_sized_list-in-9.new.cursor c.in_ok-id.ensures.reads data_segments_kind c.in-9.is c.in_err-read_sized_list-in-9.field-0.0 c.in_err-read_sized_list-in-9.ensures.reads })
+    rw (p.1, p.2) (record { reads = kind_fault c.in_ok-id.id c.args.cursor.now c.byte_of.new.self c.read_sized_list-in-9.new.cursor c.in_ok-id.ensures.reads data_segments_kind c.in-9.is c.in_err-read_sized_list-in-9.field-0.0 c.in_err-read_sized_list-in-9.ensures.reads })
 
 pub returns-in_ok-read_sized_list-in-9 : goal.returns-in_ok-read_sized_list-in-9
-returns-in_ok-read_sized_list-in-9 c = record { reads = kind_read c.in_ok-id.id c.args.cursor.now c.byte.new.self c.read_sized_list-in-9.new.cursor c.in_ok-id.ensures.reads data_segments_kind c.in-9.is (all_naming_parts c.in_ok-read_sized_list-in-9.field-0) c.in_ok-read_sized_list-in-9.ensures.reads }
+returns-in_ok-read_sized_list-in-9 c = record { reads = kind_read c.in_ok-id.id c.args.cursor.now c.byte_of.new.self c.read_sized_list-in-9.new.cursor c.in_ok-id.ensures.reads data_segments_kind c.in-9.is (all_naming_parts c.in_ok-read_sized_list-in-9.field-0) c.in_ok-read_sized_list-in-9.ensures.reads }
 
 pub returns-in_err-read_sized_list-in-10 : goal.returns-in_err-read_sized_list-in-10
 returns-in_err-read_sized_list-in-10 c =
     let p = err_from_is_err_and c.from_residual-in_err-read_sized_list-in-10.result c.from_residual-in_err-read_sized_list-in-10.ensures.1 in
-    rw (p.1, p.2) (record { reads = kind_fault c.in_ok-id.id c.args.cursor.now c.byte.new.self c.read_sized_list-in-10.new.cursor c.in_ok-id.ensures.reads fields_kind c.in-10.is c.in_err-read_sized_list-in-10.field-0.0 c.in_err-read_sized_list-in-10.ensures.reads })
+    rw (p.1, p.2) (record { reads = kind_fault c.in_ok-id.id c.args.cursor.now c.byte_of.new.self c.read_sized_list-in-10.new.cursor c.in_ok-id.ensures.reads fields_kind c.in-10.is c.in_err-read_sized_list-in-10.field-0.0 c.in_err-read_sized_list-in-10.ensures.reads })
 
 pub returns-in_ok-read_sized_list-in-10 : goal.returns-in_ok-read_sized_list-in-10
-returns-in_ok-read_sized_list-in-10 c = record { reads = kind_read c.in_ok-id.id c.args.cursor.now c.byte.new.self c.read_sized_list-in-10.new.cursor c.in_ok-id.ensures.reads fields_kind c.in-10.is (all_indirect_parts c.in_ok-read_sized_list-in-10.field-0) c.in_ok-read_sized_list-in-10.ensures.reads }
+returns-in_ok-read_sized_list-in-10 c = record { reads = kind_read c.in_ok-id.id c.args.cursor.now c.byte_of.new.self c.read_sized_list-in-10.new.cursor c.in_ok-id.ensures.reads fields_kind c.in-10.is (all_indirect_parts c.in_ok-read_sized_list-in-10.field-0) c.in_ok-read_sized_list-in-10.ensures.reads }
 
 pub returns-in_err-read_sized_list-in-11 : goal.returns-in_err-read_sized_list-in-11
 returns-in_err-read_sized_list-in-11 c =
     let p = err_from_is_err_and c.from_residual-in_err-read_sized_list-in-11.result c.from_residual-in_err-read_sized_list-in-11.ensures.1 in
-    rw (p.1, p.2) (record { reads = kind_fault c.in_ok-id.id c.args.cursor.now c.byte.new.self c.read_sized_list-in-11.new.cursor c.in_ok-id.ensures.reads tags_kind c.in-11.is c.in_err-read_sized_list-in-11.field-0.0 c.in_err-read_sized_list-in-11.ensures.reads })
+    rw (p.1, p.2) (record { reads = kind_fault c.in_ok-id.id c.args.cursor.now c.byte_of.new.self c.read_sized_list-in-11.new.cursor c.in_ok-id.ensures.reads tags_kind c.in-11.is c.in_err-read_sized_list-in-11.field-0.0 c.in_err-read_sized_list-in-11.ensures.reads })
 
 pub returns-in_ok-read_sized_list-in-11 : goal.returns-in_ok-read_sized_list-in-11
-returns-in_ok-read_sized_list-in-11 c = record { reads = kind_read c.in_ok-id.id c.args.cursor.now c.byte.new.self c.read_sized_list-in-11.new.cursor c.in_ok-id.ensures.reads tags_kind c.in-11.is (all_naming_parts c.in_ok-read_sized_list-in-11.field-0) c.in_ok-read_sized_list-in-11.ensures.reads }
+returns-in_ok-read_sized_list-in-11 c = record { reads = kind_read c.in_ok-id.id c.args.cursor.now c.byte_of.new.self c.read_sized_list-in-11.new.cursor c.in_ok-id.ensures.reads tags_kind c.in-11.is (all_naming_parts c.in_ok-read_sized_list-in-11.field-0) c.in_ok-read_sized_list-in-11.ensures.reads }
 
 pub returns-in_err-bytes-in-12-to-255 : goal.returns-in_err-bytes-in-12-to-255
 returns-in_err-bytes-in-12-to-255 c =
     let p = err_from_is_err_and c.from_residual-in_err-bytes-in-12-to-255.result c.from_residual-in_err-bytes-in-12-to-255.ensures.1 in
-    rw (p.1, p.2) (record { reads = unknown_fault c.in_ok-id.id c.args.cursor.now c.byte.new.self c.read_sized_bytes.new.cursor c.in_ok-id.ensures.reads (omega arith) c.in_err-bytes-in-12-to-255.field-0.0 c.in_err-bytes-in-12-to-255.ensures.reads })
+    rw (p.1, p.2) (record { reads = unknown_fault c.in_ok-id.id c.args.cursor.now c.byte_of.new.self c.read_sized_bytes.new.cursor c.in_ok-id.ensures.reads (omega arith) c.in_err-bytes-in-12-to-255.field-0.0 c.in_err-bytes-in-12-to-255.ensures.reads })
 
 pub returns-in_ok-bytes-in-12-to-255 : goal.returns-in_ok-bytes-in-12-to-255
-returns-in_ok-bytes-in-12-to-255 c = record { reads = unknown_read c.in_ok-id.id c.args.cursor.now c.byte.new.self c.read_sized_bytes.new.cursor c.in_ok-id.ensures.reads (omega arith) c.in_ok-bytes-in-12-to-255.bytes.now c.in_ok-bytes-in-12-to-255.ensures.reads }
+returns-in_ok-bytes-in-12-to-255 c = record { reads = unknown_read c.in_ok-id.id c.args.cursor.now c.byte_of.new.self c.read_sized_bytes.new.cursor c.in_ok-id.ensures.reads (omega arith) c.in_ok-bytes-in-12-to-255.bytes.now c.in_ok-bytes-in-12-to-255.ensures.reads }

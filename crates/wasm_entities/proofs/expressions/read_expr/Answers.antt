@@ -12,19 +12,19 @@ returns-in_err-call c =
     let p = err_from_is_err_and c.from_residual.result c.from_residual.ensures.1 in
     let fault = c.in_err-call.field-0.0 in
     rw (p.1, p.2) (record {
-      reads = fault_of_part instruction.at expr.at c.loop.cursor c.read_call.new.cursor c.args.cursor.now c.read_call.new.cursor fault c.in_err-call.ensures.reads
+      reads = fault_of_part instruction.at expr.at c.loop.cursor c.read_next_call.new.cursor c.args.cursor.now c.read_next_call.new.cursor fault c.in_err-call.ensures.reads
           (λ none. gone_none by_opcode instruction.at (expr.at c.args.cursor.now) c.len-most.result c.loop.counter c.loop.depth c.loop.cursor c.loop.calls.items c.loop-test.true none c.loop.invariant.gone);
     })
 
 pub returns-in-Ends : goal.returns-in-Ends
 returns-in-Ends c =
     let is : nested c.loop.depth c.in_ok-call.call.op ≡ ends = ap (nested c.loop.depth) (sym c.op.ensures.value) ∙ sym c.in-Ends.ensures in
-    rw c.from.ensures (record { reads = gone_ends by_opcode instruction.at (expr.at c.args.cursor.now) c.len-most.result c.loop.counter c.loop.depth c.loop.cursor c.read_call.new.cursor c.loop.calls.items c.in_ok-call.call c.loop-test.true c.in_ok-call.ensures.reads is c.loop.invariant.gone })
+    rw c.from.ensures (record { reads = gone_ends by_opcode instruction.at (expr.at c.args.cursor.now) c.len-most.result c.loop.counter c.loop.depth c.loop.cursor c.read_next_call.new.cursor c.loop.calls.items c.in_ok-call.call c.loop-test.true c.in_ok-call.ensures.reads is c.loop.invariant.gone })
 
 pub returns-in-Fails : goal.returns-in-Fails
 returns-in-Fails c =
     let is : nested c.loop.depth c.in_ok-call.call.op ≡ fails = ap (nested c.loop.depth) (sym c.op.ensures.value) ∙ sym c.in-Fails.ensures in
-    record { reads = gone_fails by_opcode instruction.at (expr.at c.args.cursor.now) c.len-most.result c.loop.counter c.loop.depth c.loop.cursor c.read_call.new.cursor c.loop.calls.items c.in_ok-call.call c.loop-test.true c.in_ok-call.ensures.reads is c.loop.invariant.gone }
+    record { reads = gone_fails by_opcode instruction.at (expr.at c.args.cursor.now) c.len-most.result c.loop.counter c.loop.depth c.loop.cursor c.read_next_call.new.cursor c.loop.calls.items c.in_ok-call.call c.loop-test.true c.in_ok-call.ensures.reads is c.loop.invariant.gone }
 
 pub loop-preserved : goal.loop-preserved
 loop-preserved c =
@@ -32,7 +32,7 @@ loop-preserved c =
     let few = opcode_below c.loop.depth c.in_ok-call.call.op c.in-GoesOn.after (sym is) in
     rw c.in_ok-push.ensures.items (record {
       depth = omega (arith, few, c.loop.invariant.depth);
-      gone = gone_on by_opcode instruction.at (expr.at c.args.cursor.now) c.len-most.result c.loop.counter c.loop.depth c.in-GoesOn.after c.loop.cursor c.read_call.new.cursor c.loop.calls.items c.in_ok-call.call c.loop-test.true c.in_ok-call.ensures.reads is c.loop.invariant.gone;
+      gone = gone_on by_opcode instruction.at (expr.at c.args.cursor.now) c.len-most.result c.loop.counter c.loop.depth c.in-GoesOn.after c.loop.cursor c.read_next_call.new.cursor c.loop.calls.items c.in_ok-call.call c.loop-test.true c.in_ok-call.ensures.reads is c.loop.invariant.gone;
     })
 
 pub returns : goal.returns

@@ -2,16 +2,17 @@ use Rattle.std.proofs.Common.{◌≡◌, true, false, arith}
 use Rattle.std.specs.Prelude.{is_some}
 use Rattle.std.proofs.lemmas.Result.{err_from_is_err_and}
 use Rattle.wasm_codec.specs.formats.Grammar.{IsBytes}
+use Rattle.wasm_codec.specs.Outcomes.{read_error_of}
 use Rattle.wasm_codec.specs.Places.{place}
 use Rattle.wasm_codec.specs.formats.Combinators.{minimal_only, u32}
 use Rattle.wasm_codec.proofs.ListReading.{IsBytes-from}
 use Rattle.wasm_lists.proofs.CheckLaws.{list_taken, refused_prefix, refused_unencoded, no_list, no_list_prefix}
 use Rattle.wasm_lists.proofs.checking.check_list_to_end.Goals as goal
 
-pub returns-then-not-begins_with_count : goal.returns-then-not-begins_with_count
-returns-then-not-begins_with_count g c =
-    let none : is_some ((minimal_only u32).at (place true c.args.bytes.now)) ≡ false = grind arith in
-    record { checks = record { given = tt; prefix = no_list_prefix g.T.Rewritable.format c.args.bytes.now none; unencoded = no_list g.T.Rewritable.format c.args.bytes.now none } }
+pub returns-in-Some : goal.returns-in-Some
+returns-in-Some g c =
+    let none : is_some ((minimal_only u32).at (place true c.args.bytes.now)) ≡ false = c.in-Some.ensures.some in
+    rw c.refused.ensures (record { checks = record { given = tt; prefix = no_list_prefix g.T.Rewritable.format c.args.bytes.now none; unencoded = no_list g.T.Rewritable.format c.args.bytes.now none } })
 
 pub returns-in_err-_list : goal.returns-in_err-_list
 returns-in_err-_list g c =
@@ -21,8 +22,8 @@ returns-in_err-_list g c =
     rw (p.1, p.2, ← c.in_ok-from_slice.ensures.items) (record {
       checks = record {
         given = tt;
-        prefix = refused_prefix g.T.Rewritable.format c.in_ok-from_slice.field-0.items c.in_err-_list.field-0.0 (rw c.in_ok-from_slice.ensures.items fits) (rw c.in_ok-from_slice.ensures.items there) c.in_err-_list.ensures.prefix;
-        unencoded = refused_unencoded g.T.Rewritable.format c.in_ok-from_slice.field-0.items c.in_err-_list.field-0.0 c.in_err-_list.ensures.unencoded;
+        prefix = refused_prefix g.T.Rewritable.format c.in_ok-from_slice.field-0.items (read_error_of c.in_err-_list.field-0.0) (rw c.in_ok-from_slice.ensures.items fits) (rw c.in_ok-from_slice.ensures.items there) c.in_err-_list.ensures.prefix;
+        unencoded = refused_unencoded g.T.Rewritable.format c.in_ok-from_slice.field-0.items (read_error_of c.in_err-_list.field-0.0) c.in_err-_list.ensures.unencoded;
       };
     })
 

@@ -26,8 +26,8 @@ returns-in_err-count g c =
       counted = tt;
     })
 
-pub loop-init : goal.loop-init
-loop-init g c =
+pub loop-index-init : goal.loop-index-init
+loop-index-init g c =
     let h = c.in_ok-count.ensures in
     let number = minimal_if (flag g.row.STRICT) u32 in
     let item = minimal_if (flag g.row.STRICT) g.T.Readable.format in
@@ -42,46 +42,46 @@ pub returns-in_err-item : goal.returns-in_err-item
 returns-in_err-item g c =
     let p = err_from_is_err_and c.from_residual-in_err-item.result c.from_residual-in_err-item.ensures.1 in
     let fault = c.in_err-item.field-0.0 in
-    let vs = g.T.Readable.views c.loop.items.items in
+    let vs = g.T.Readable.views c.loop-index.items.items in
     let h = c.in_err-item.ensures in
     let old = c.args.cursor.now in
-    let here = c.loop.cursor in
-    let new = c.read_next_item-in-loop.new.cursor in
+    let here = c.loop-index.cursor in
+    let new = c.read_next_item-in-loop-index.new.cursor in
     let number = minimal_if (flag g.row.STRICT) u32 in
     let item = minimal_if (flag g.row.STRICT) g.T.Readable.format in
-    let a = item_wanting {X = List g.row.T.Denot} (plain_reads h.lawful.reads) h.some old.left here.left new.left c.in_ok-count.count c.loop.counter vs fault c.loop.invariant.gone c.loop-test.true h.left (ap (λ (p : Place). p.left) h.stays) in
+    let a = item_wanting {X = List g.row.T.Denot} (plain_reads h.lawful.reads) h.some old.left here.left new.left c.in_ok-count.count c.loop-index.index vs fault c.loop-index.invariant.gone c.loop-index-test.true h.left (ap (λ (p : Place). p.left) h.stays) in
     rw (p.1, p.2) (record {
-      reads = passed_fault number.at item old here new c.in_ok-count.count c.loop.counter vs fault c.loop.invariant.passed c.loop-test.true h.reads;
-      left = unread_item old.left here.left new.left c.in_ok-count.count c.loop.counter vs fault c.loop.invariant.gone c.loop-test.true h.left;
+      reads = passed_fault number.at item old here new c.in_ok-count.count c.loop-index.index vs fault c.loop-index.invariant.passed c.loop-index-test.true h.reads;
+      left = unread_item old.left here.left new.left c.in_ok-count.count c.loop-index.index vs fault c.loop-index.invariant.gone c.loop-index-test.true h.left;
       finds = a.finds;
       prefix = a.prefix;
       counted = tt;
     })
 
-pub loop-preserved : goal.loop-preserved
-loop-preserved g c =
+pub loop-index-preserved : goal.loop-index-preserved
+loop-index-preserved g c =
     let h = c.in_ok-item.ensures in
-    let vs = g.T.Readable.views c.loop.items.items in
+    let vs = g.T.Readable.views c.loop-index.items.items in
     let v = g.T.Readable.view c.in_ok-item.item in
     let number = minimal_if (flag g.row.STRICT) u32 in
     let item = minimal_if (flag g.row.STRICT) g.T.Readable.format in
-    rw (c.in_ok-push.ensures.items, g.T.Readable.views_each.more c.loop.items.items c.in_ok-item.item) (record {
-      passed = passed_more number.at item c.args.cursor.now c.loop.cursor c.read_next_item-in-loop.new.cursor c.in_ok-count.count c.loop.counter vs v c.loop.invariant.passed c.loop-test.true h.reads;
-      gone = gone_more (plain_reads h.lawful.reads) h.some c.args.cursor.now.left c.loop.cursor.left c.read_next_item-in-loop.new.cursor.left c.in_ok-count.count c.loop.counter vs v c.loop.invariant.gone c.loop-test.true h.left;
-      len = omega (arith, length-append c.loop.items.items (c.in_ok-item.item ∷ []), c.loop.invariant.len);
+    rw (c.in_ok-push.ensures.items, g.T.Readable.views_each.more c.loop-index.items.items c.in_ok-item.item) (record {
+      passed = passed_more number.at item c.args.cursor.now c.loop-index.cursor c.read_next_item-in-loop-index.new.cursor c.in_ok-count.count c.loop-index.index vs v c.loop-index.invariant.passed c.loop-index-test.true h.reads;
+      gone = gone_more (plain_reads h.lawful.reads) h.some c.args.cursor.now.left c.loop-index.cursor.left c.read_next_item-in-loop-index.new.cursor.left c.in_ok-count.count c.loop-index.index vs v c.loop-index.invariant.gone c.loop-index-test.true h.left;
+      len = omega (arith, length-append c.loop-index.items.items (c.in_ok-item.item ∷ []), c.loop-index.invariant.len);
       minimal_if = h.passed;
     })
 
 pub returns : goal.returns
 returns g c =
-    let vs = g.T.Readable.views c.loop.items.items in
-    let full : c.loop.counter ≡ c.in_ok-count.count = omega arith in
+    let vs = g.T.Readable.views c.loop-index.items.items in
+    let full : c.loop-index.index ≡ c.in_ok-count.count = omega arith in
     let number = minimal_if (flag g.row.STRICT) u32 in
     let item = minimal_if (flag g.row.STRICT) g.T.Readable.format in
-    let a = all_answered c.args.cursor.now.left c.loop.cursor.left c.in_ok-count.count c.loop.counter vs c.loop.items.items c.loop.invariant.gone full in
+    let a = all_answered c.args.cursor.now.left c.loop-index.cursor.left c.in_ok-count.count c.loop-index.index vs c.loop-index.items.items c.loop-index.invariant.gone full in
     rw c.from.ensures (record {
-      reads = passed_all number.at item c.args.cursor.now c.loop.cursor c.in_ok-count.count c.loop.counter vs c.loop.invariant.passed c.loop-test.false;
-      left = all_read c.args.cursor.now.left c.loop.cursor.left c.in_ok-count.count c.loop.counter vs c.loop.invariant.gone c.loop-test.false;
+      reads = passed_all number.at item c.args.cursor.now c.loop-index.cursor c.in_ok-count.count c.loop-index.index vs c.loop-index.invariant.passed c.loop-index-test.false;
+      left = all_read c.args.cursor.now.left c.loop-index.cursor.left c.in_ok-count.count c.loop-index.index vs c.loop-index.invariant.gone c.loop-index-test.false;
       finds = a.finds;
       prefix = a.prefix;
       counted = omega arith;

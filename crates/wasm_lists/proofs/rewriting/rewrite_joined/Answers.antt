@@ -8,17 +8,17 @@ pub returns-in-Err : goal.returns-in-Err
 returns-in-Err g c =
     let law = c.is_lawful.ensures in
     let passed = run_passed law.lawful law.some c.args.rewriter.now c.loop-rewriter.rewriter c.skip.new.self c.left.result.now c.short_run-run.result c.are_bytes.ensures c.loop-rewriter.invariant c.left.ensures c.short_run-run.ensures c.skip.ensures in
-    stops law.lawful c.args.rewriter.now c.skip.new.self c.rewrite.new.rewriter c.rewrite.new.rewriter c.in-Err.field-0 c.len-left.result c.are_bytes.ensures passed (omega arith) c.len-left.ensures c.in-Err.ensures.rewrites
+    stops law.lawful c.args.rewriter.now c.skip.new.self c.rewrite.new.rewriter c.rewrite.new.rewriter c.in-Err.fault c.len-left.result c.loop-rewriter.passed c.are_bytes.ensures passed (omega arith) c.len-left.ensures c.in-Err.ensures.rewrites
 
-pub loop-rewriter-smaller-in_default : goal.loop-rewriter-smaller-in_default
-loop-rewriter-smaller-in_default g c =
+pub loop-rewriter-smaller-then-left-ne0 : goal.loop-rewriter-smaller-then-left-ne0
+loop-rewriter-smaller-then-left-ne0 g c =
     let law = c.is_lawful.ensures in
     let passed = run_passed law.lawful law.some c.args.rewriter.now c.loop-rewriter.rewriter c.skip.new.self c.left.result.now c.short_run-run.result c.are_bytes.ensures c.loop-rewriter.invariant c.left.ensures c.short_run-run.ensures c.skip.ensures in
     let fewer = (goes_on law.lawful law.some c.args.rewriter.now c.skip.new.self c.rewrite.new.rewriter c.are_bytes.ensures passed (omega arith) c.in_default.ensures.rewrites).fewer in
     omega (arith, fewer, ap (λ (r : Rewriting). length r.place.left) c.skip.ensures, length-drop c.short_run-run.result c.loop-rewriter.rewriter.place.left)
 
-pub loop-rewriter-preserved-in_default : goal.loop-rewriter-preserved-in_default
-loop-rewriter-preserved-in_default g c =
+pub loop-rewriter-preserved-then-left-ne0 : goal.loop-rewriter-preserved-then-left-ne0
+loop-rewriter-preserved-then-left-ne0 g c =
     let law = c.is_lawful.ensures in
     let passed = run_passed law.lawful law.some c.args.rewriter.now c.loop-rewriter.rewriter c.skip.new.self c.left.result.now c.short_run-run.result c.are_bytes.ensures c.loop-rewriter.invariant c.left.ensures c.short_run-run.ensures c.skip.ensures in
     (goes_on law.lawful law.some c.args.rewriter.now c.skip.new.self c.rewrite.new.rewriter c.are_bytes.ensures passed (omega arith) c.in_default.ensures.rewrites).going

@@ -1,5 +1,5 @@
 use Rattle.wasm_codec.proofs.RewriterLaws.{ItemsRewritten}
 use Rattle.wasm_lists.proofs.rewriting.rewrite_list.Given as goal
 
-abbrev pub invariant-loop : goal.invariant-loop
-invariant-loop g l = ItemsRewritten g.T.Rewritable.format l.fn.rewriter l.rewriter l.count l.counter
+abbrev pub invariant-loop-index : goal.invariant-loop-index
+invariant-loop-index g l = ItemsRewritten g.T.Rewritable.format l.fn.rewriter l.rewriter l.count l.index

@@ -1,13 +1,13 @@
 use Rattle.wasm_modules.proofs.ModuleFormatLaws.{headed_longest, headed_none_whole}
 use Rattle.wasm_modules.proofs.raw.check_module_of.Goals as goal
 
-pub returns-in-Err-Refused : goal.returns-in-Err-Refused
-returns-in-Err-Refused g c =
-    let h = rw c.in-Err-Refused.field-0-is at c.in-Err-Refused.ensures in
-    record {
+pub returns-in-Err-Malformed : goal.returns-in-Err-Malformed
+returns-in-Err-Malformed g c =
+    let h = rw c.in-Err-Malformed.field-0-is at c.in-Err-Malformed.ensures in
+    rw c.in_module.ensures (record {
       checks = record {
         given = tt;
-        prefix = headed_longest c.args.bytes.now c.in-Some.rest.now c.in-Err-Refused.at c.in-Some.ensures.found h.prefix;
-        unencoded = headed_none_whole c.args.bytes.now c.in-Some.rest.now c.in-Err-Refused.at c.in-Some.ensures.found h.within h.prefix;
+        prefix = headed_longest c.args.bytes.now c.in-Some.rest.now c.in-Err-Malformed.refusal.at c.in-Some.ensures.found h.prefix;
+        unencoded = headed_none_whole c.args.bytes.now c.in-Some.rest.now c.in-Err-Malformed.refusal.at c.in-Some.ensures.found h.within h.prefix;
       };
-    }
+    })

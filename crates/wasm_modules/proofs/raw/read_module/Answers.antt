@@ -1,3 +1,4 @@
+use Rattle.wasm_codec.specs.Outcomes.{as_read}
 use Rattle.std.proofs.Common.{◌∙◌, map, arith}
 use Rattle.wasm_codec.specs.formats.Grammar.{IsBytes}
 use Rattle.wasm_codec.proofs.DecodingLaws.{decodes}
@@ -11,9 +12,9 @@ use Rattle.wasm_modules.proofs.raw.read_module.Goals as goal
 
 pub returns : goal.returns
 returns c =
-    let all = decodes Lawful-raw-module c.args.bytes.now (λ sections. all_parts_of sections.items) c.read_module_of.result c.read_module_of.ensures.reads in
+    let all = decodes Lawful-raw-module c.args.bytes.now (λ sections. all_parts_of sections.items) (as_read c.read_module_of.result) c.read_module_of.ensures.reads in
     let are : IsBytes c.args.bytes.now = IsBytes-from c.args.bytes.now (λ i. omega (arith, c.type_inv.bytes i)) in
-    record {
+    rw c.without_reason.ensures (record {
       decodes = all;
       reads_back = λ sections fits e. all.complete sections (all_encoded c.args.bytes.now sections are fits e);
       reads_back_typed = record {
@@ -23,4 +24,4 @@ returns c =
         entries_read_back = λ section fits. is_held section.id section.content fits.content;
       };
       prefix_free = record { sections = prefix_free Lawful-raw-section; decoded_sections = prefix_free Lawful-decoded-section };
-    }
+    })

@@ -4,13 +4,13 @@ use Rattle.wasm_modules.proofs.raw.read_module_of.Goals as goal
 pub returns-in-Ok : goal.returns-in-Ok
 returns-in-Ok g c = record { reads = record { given = (c.in-Some.rest.now, c.in-Some.ensures.found, c.in-Ok.ensures.given); prefix = tt; unencoded = tt } }
 
-pub returns-in-Err-Refused : goal.returns-in-Err-Refused
-returns-in-Err-Refused g c =
-    let h = rw c.in-Err-Refused.field-0-is at c.in-Err-Refused.ensures in
-    record {
+pub returns-in-Err-Malformed : goal.returns-in-Err-Malformed
+returns-in-Err-Malformed g c =
+    let h = rw c.in-Err-Malformed.field-0-is at c.in-Err-Malformed.ensures in
+    rw c.in_module.ensures (record {
       reads = record {
         given = tt;
-        prefix = headed_longest c.args.bytes.now c.in-Some.rest.now c.in-Err-Refused.at c.in-Some.ensures.found h.prefix;
-        unencoded = headed_none_whole c.args.bytes.now c.in-Some.rest.now c.in-Err-Refused.at c.in-Some.ensures.found h.within h.prefix;
+        prefix = headed_longest c.args.bytes.now c.in-Some.rest.now c.in-Err-Malformed.refusal.at c.in-Some.ensures.found h.prefix;
+        unencoded = headed_none_whole c.args.bytes.now c.in-Some.rest.now c.in-Err-Malformed.refusal.at c.in-Some.ensures.found h.within h.prefix;
       };
-    }
+    })

@@ -1,11 +1,12 @@
+use Rattle.wasm_codec.proofs.DecodingLaws.{error_is}
 use Rattle.wasm_sections.specs.formats.EntryParts.{custom_parts}
 use Rattle.wasm_sections.specs.formats.Sections.{custom_body}
 use Rattle.wasm_sections.proofs.ValueReading.{refuses, returns_it}
 use Rattle.wasm_sections.proofs.CustomLaws.{custom_wanting, custom_there, all_taken}
 use Rattle.wasm_sections.proofs.custom.read_name_and_bytes.Goals as goal
 
-pub returns-in_default : goal.returns-in_default
-returns-in_default c = record { reads = refuses custom_parts custom_body c.args.body.now 0 (custom_wanting c.args.body.now c.new-cursor.result c.new-cursor.ensures c.read_name.new.cursor c.in_default.field-0 c.in_default.ensures.reads c.in_default.ensures.err); memory = tt }
+pub returns-in-Err : goal.returns-in-Err
+returns-in-Err c = rw (c.new.ensures, error_is c.in-Err.fault 0 c.in-Err.ensures.err) (record { reads = refuses custom_parts custom_body c.args.body.now 0 (custom_wanting c.args.body.now c.new-cursor.result c.new-cursor.ensures c.read_name.new.cursor c.in-Err.fault c.in-Err.ensures.reads c.in-Err.ensures.err); memory = tt })
 
 pub returns : goal.returns
 returns c =

@@ -1,3 +1,4 @@
+use Rattle.wasm_codec.proofs.DecodingLaws.{error_is}
 use Rattle.std.proofs.Common.{◌≡◌, true, sym, ◌∙◌}
 use Rattle.wasm_codec.specs.formats.Combinators.{minimal_only}
 use Rattle.wasm_sections.specs.formats.EntryParts.{custom_parts}
@@ -6,11 +7,11 @@ use Rattle.wasm_sections.proofs.ValueReading.{refuses, returns_it}
 use Rattle.wasm_sections.proofs.CustomLaws.{short_wanting, short_long, short_there, all_taken}
 use Rattle.wasm_sections.proofs.custom.read_name_and_bytes_strict.Goals as goal
 
-pub returns-in_default : goal.returns-in_default
-returns-in_default c = record { reads = refuses custom_parts (minimal_only custom_body) c.args.body.now 0 (short_wanting c.args.body.now c.new-cursor.result c.new-cursor.ensures c.read_name.new.cursor c.in_default.field-0 c.in_default.ensures.reads c.in_default.ensures.err); memory = tt }
+pub returns-in-Err : goal.returns-in-Err
+returns-in-Err c = rw (c.new.ensures, error_is c.in-Err.fault 0 c.in-Err.ensures.err) (record { reads = refuses custom_parts (minimal_only custom_body) c.args.body.now 0 (short_wanting c.args.body.now c.new-cursor.result c.new-cursor.ensures c.read_name.new.cursor c.in-Err.fault c.in-Err.ensures.reads c.in-Err.ensures.err); memory = tt })
 
 pub returns-then-not-is_shortest : goal.returns-then-not-is_shortest
-returns-then-not-is_shortest c = record { reads = refuses custom_parts (minimal_only custom_body) c.args.body.now 0 (short_long c.args.body.now c.new-cursor.result c.new-cursor.ensures c.in-Ok.name.now c.in-Ok.name.now c.read_name.new.cursor c.in-Ok.ensures.reads (sym c.is_shortest.ensures ∙ c.if-not-is_shortest.true)); memory = tt }
+returns-then-not-is_shortest c = rw c.refused.ensures (record { reads = refuses custom_parts (minimal_only custom_body) c.args.body.now 0 (short_long c.args.body.now c.new-cursor.result c.new-cursor.ensures c.in-Ok.name.now c.in-Ok.name.now c.read_name.new.cursor c.in-Ok.ensures.reads (sym c.is_shortest.ensures ∙ c.if-not-is_shortest.true)); memory = tt })
 
 pub returns : goal.returns
 returns c =

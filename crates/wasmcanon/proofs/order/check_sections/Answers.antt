@@ -2,7 +2,7 @@ use Rattle.std.proofs.Common.{◌≡◌, ◌∙◌, List, Result, Ok, Err, subst
 use Rattle.wasm_modules.specs.formats.Sections.{SectionParts, all_parts_of}
 use Rattle.wasm_modules.specs.declared.section.RawSection.{RawSection}
 use Rattle.wasmcanon.specs.Order.{AreInOrder, IsWhyNot}
-use Rattle.wasmcanon.proofs.OffsetLaws.{given_is, not_refused}
+use Rattle.wasm_whole_modules.proofs.OffsetLaws.{given_is, not_refused}
 use Rattle.wasmcanon.proofs.ResultLaws.{on_ok, if_disordered}
 use Rattle.wasmcanon.proofs.order.check_sections.Goals as goal
 

@@ -1,3 +1,4 @@
+use Rattle.wasm_codec.specs.Outcomes.{as_read}
 use Rattle.wasm_codec.proofs.BodyLaws.{Lawful-to-end}
 use Rattle.wasm_codec.proofs.DecodingLaws.{checks}
 use Rattle.wasm_codec.proofs.ListReading.{none_within}
@@ -8,5 +9,5 @@ use Rattle.wasm_instructions.proofs.reader.instructions.check_instructions.Goals
 pub returns : goal.returns
 returns c =
     let e = c.check_items_to_end.ensures in
-    let none = none_within ShortestInstructions c.args.bytes.now c.check_items_to_end.result e.prefix e.within in
-    record { checks = checks (Lawful-to-end Lawful-instruction instruction_takes) c.args.bytes.now are_shortest c.check_items_to_end.result (record { given = e.given; prefix = e.prefix; unencoded = none }) }
+    let none = none_within ShortestInstructions c.args.bytes.now (as_read c.check_items_to_end.result) e.prefix e.within in
+    rw c.without_reason.ensures (record { checks = checks (Lawful-to-end Lawful-instruction instruction_takes) c.args.bytes.now are_shortest (as_read c.check_items_to_end.result) (record { given = e.given; prefix = e.prefix; unencoded = none }) })

@@ -1,3 +1,4 @@
+use Rattle.wasm_codec.specs.Outcomes.{as_read}
 use Rattle.wasm_codec.proofs.BodyLaws.{Lawful-to-end}
 use Rattle.wasm_codec.proofs.DecodingLaws.{decodes}
 use Rattle.wasm_codec.proofs.ListReading.{none_within}
@@ -13,9 +14,9 @@ use Rattle.wasm_instructions.proofs.reader.instructions.read_instructions.Goals 
 pub returns : goal.returns
 returns c =
     let e = c.read_items_to_end.ensures in
-    let none = none_within Instructions c.args.bytes.now c.read_items_to_end.result e.prefix e.within in
-    record {
-      decodes = decodes (Lawful-to-end Lawful-instruction instruction_takes) c.args.bytes.now (λ calls. calls.items) c.read_items_to_end.result (record { given = e.given; prefix = e.prefix; unencoded = none });
+    let none = none_within Instructions c.args.bytes.now (as_read c.read_items_to_end.result) e.prefix e.within in
+    rw c.without_reason.ensures (record {
+      decodes = decodes (Lawful-to-end Lawful-instruction instruction_takes) c.args.bytes.now (λ calls. calls.items) (as_read c.read_items_to_end.result) (record { given = e.given; prefix = e.prefix; unencoded = none });
       prefix_free = record {
         u32 = prefix_free Lawful-u32;
         u64 = prefix_free Lawful-u64;
@@ -29,4 +30,4 @@ returns c =
         operands = λ kind. prefix_free (Lawful-operands kind);
         calls = prefix_free Lawful-instruction;
       };
-    }
+    })

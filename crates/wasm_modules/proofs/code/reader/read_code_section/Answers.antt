@@ -1,3 +1,4 @@
+use Rattle.wasm_codec.specs.Outcomes.{as_read}
 use Rattle.wasm_codec.proofs.BodyLaws.{Lawful-body}
 use Rattle.wasm_codec.proofs.DecodingLaws.{decodes}
 use Rattle.wasm_codec.proofs.PlaceLists.{prefix_free}
@@ -9,7 +10,7 @@ pub returns : goal.returns
 unfolding code_section_body
 returns c =
     let e = c.read_list_to_end.ensures in
-    record {
-      decodes = decodes (Lawful-body Lawful-code-section-body) c.args.body.now (λ bodies. bodies.items) c.read_list_to_end.result (record { given = e.given; prefix = e.prefix; unencoded = e.unencoded });
+    rw c.without_reason.ensures (record {
+      decodes = decodes (Lawful-body Lawful-code-section-body) c.args.body.now (λ bodies. bodies.items) (as_read c.read_list_to_end.result) (record { given = e.given; prefix = e.prefix; unencoded = e.unencoded });
       prefix_free = record { code_bodies = prefix_free Lawful-code_body };
-    }
+    })

@@ -1,7 +1,8 @@
+use Rattle.wasm_codec.proofs.DecodingLaws.{error_is}
 use Rattle.std.proofs.Common.{◌≡◌, ◌-◌, ◌++◌, ℕ, length, ap, ◌∙◌, subst, arith}
 use Rattle.wasm_codec.specs.Rewriter.{skipped}
 use Rattle.wasm_modules.specs.formats.Sections.{header}
-use Rattle.wasm_modules.proofs.ModuleFormatLaws.{after_header_is, headed_normal, HeadedRefused, headed_refused}
+use Rattle.wasm_modules.proofs.ModuleFormatLaws.{after_header_is, headed_normal, HeadedRefused, headed_refused, headless}
 use Rattle.wasm_modules.proofs.normaliser.framing.rewrite_module_of.Goals as goal
 
 pub returns-in-Ok : goal.returns-in-Ok
@@ -20,6 +21,9 @@ returns-in-Err g c =
     let found : c.args.bytes.items ≡ header ++ body = rw (← c.deref.ensures.value) c.in-Some.ensures.found in
     let start = after_header_is c.args.bytes.items body c.skip.new.self found (c.skip.ensures ∙ ap (skipped 8) c.new-rewriter.ensures) in
     let len : length c.args.bytes.items ≡ c.len-len.result = omega arith in
-    let refused = headed_refused law.lawful law.some c.args.bytes.items body c.skip.new.self c.in-Err.left found start c.in-Err.ensures.0 in
-    let at = subst (λ (n : ℕ). HeadedRefused g.S.Rewritable.format.Encodes c.args.bytes.items (n - c.in-Err.left)) len refused in
-    record { rewrites = record { given = tt; prefix = at.prefix; unencoded = refused.unencoded }; memory = tt }
+    let refused = headed_refused law.lawful law.some c.args.bytes.items body c.skip.new.self c.in-Err.stop.left found start c.in-Err.ensures.0 in
+    let at = subst (λ (n : ℕ). HeadedRefused g.S.Rewritable.format.Encodes c.args.bytes.items (n - c.in-Err.stop.left)) len refused in
+    rw (c.numbered.ensures, c.new.ensures, error_is c.in-Err.stop.fault (c.len-len.result - c.in-Err.stop.left) c.in-Err.ensures.1.1) (record { rewrites = record { given = tt; prefix = at.prefix; unencoded = refused.unencoded }; memory = tt })
+
+pub returns-in_default-clause-rewrites : goal.returns-in_default-clause-rewrites
+returns-in_default-clause-rewrites g c = rw c.refused.ensures (headless g.S.Rewritable.format c.args.bytes.items (rw (← c.deref.ensures.value) c.in_default.ensures.missing))

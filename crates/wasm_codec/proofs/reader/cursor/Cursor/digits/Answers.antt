@@ -7,7 +7,7 @@ use Rattle.wasm_codec.proofs.reader.cursor.Cursor.digits.Goals as goal
 pub returns-in_err-byte-clause-reads : goal.returns-in_err-byte-clause-reads
 returns-in_err-byte-clause-reads c =
     let p = err_from_is_err_and c.from_residual.result c.from_residual.ensures.1 in
-    rw (p.1, p.2) (fail c.in_err-byte.field-0.0 c.args.most c.args.self.now c.loop.self c.byte.new.self c.loop.counter c.loop.invariant.rest c.loop.invariant.so_far c.in_err-byte.ensures.reads)
+    rw (p.1, p.2) (fail c.in_err-byte.field-0.0 c.args.most c.args.self.now c.loop.self c.byte_of.new.self c.loop.counter c.loop.invariant.rest c.loop.invariant.so_far c.in_err-byte.ensures.reads)
 
 pub overflow_mul-unsigned : goal.overflow_mul-unsigned
 overflow_mul-unsigned c =
@@ -23,7 +23,7 @@ overflow_mul-unit c =
 
 pub returns-then-byte-lt128-clause-reads : goal.returns-then-byte-lt128-clause-reads
 returns-then-byte-lt128-clause-reads c =
-    rw c.from.ensures (last_read c.args.most c.args.self.now c.loop.self c.byte.new.self c.loop.counter c.in_ok-byte.byte c.loop.unsigned c.loop.unit c.loop.invariant c.loop-test.true c.if-byte-lt128.true c.in_ok-byte.ensures.reads)
+    rw c.from.ensures (last_read c.args.most c.args.self.now c.loop.self c.byte_of.new.self c.loop.counter c.in_ok-byte.byte c.loop.unsigned c.loop.unit c.loop.invariant c.loop-test.true c.if-byte-lt128.true c.in_ok-byte.ensures.reads)
 
 pub returns-then-byte-lt128-clause-few : goal.returns-then-byte-lt128-clause-few
 returns-then-byte-lt128-clause-few c =
@@ -31,7 +31,7 @@ returns-then-byte-lt128-clause-few c =
 
 pub loop-preserved : goal.loop-preserved
 loop-preserved c =
-    rw c.from.ensures (digits_kept c.args.most c.args.self.now c.loop.self c.byte.new.self c.loop.counter c.in_ok-byte.byte c.loop.unsigned c.loop.unit c.loop.invariant c.loop-test.true c.if-byte-lt128.false c.in_ok-byte.ensures.reads)
+    rw c.from.ensures (digits_kept c.args.most c.args.self.now c.loop.self c.byte_of.new.self c.loop.counter c.in_ok-byte.byte c.loop.unsigned c.loop.unit c.loop.invariant c.loop-test.true c.if-byte-lt128.false c.in_ok-byte.ensures.reads)
 
 pub returns-clause-reads : goal.returns-clause-reads
 returns-clause-reads c =

@@ -1,0 +1,61 @@
+//! Why and where whole modules are refused (Core 3.0, Modules).
+ghost use Rattle.std.specs.Prelude.{◌≡◌, true, false};
+ghost use Rattle.wasm_codec.specs.Outcomes.{as_read};
+ghost use Rattle.wasm_codec.specs.Decoding.{ChecksAll};
+ghost use Rattle.wasm_codec.specs.formats.Combinators.{minimal_only};
+ghost use Rattle.wasm_modules.specs.Modules.{IsModulePrefixOf};
+ghost use Rattle.wasm_sections.specs.formats.ModuleSections.{ShortestWholeModule, module_section, whole_module};
+ghost use Rattle.nosgrivel_c.specs.Calls.{ChecksNormal};
+
+use crate::refusal::{FlatRefusal, explain};
+use std::alloc::Global;
+use wasm_codec::decode::{check, normalise};
+use wasm_codec::reader::DecodeError;
+use wasm_whole_modules::modules::WholeModule;
+
+/// Checks whether every section of a module decodes, and says why and where one doesn't.
+///
+/// If `strict` is set, every section must also be minimally encoded. The call copies the input.
+#[unsafe(no_mangle)]
+pub extern "C" fn nosgrivel_explain_module(
+    alloc: Global,
+    input: &[u8],
+    strict: bool,
+    refusal: &mut FlatRefusal,
+) -> u32
+    ensures strict { strict ≡ true → ChecksNormal ShortestWholeModule (IsModulePrefixOf (minimal_only module_section)) input.now refusal.old.at refusal.new.at result }
+    ensures any { strict ≡ false → ChecksNormal whole_module.Encodes (IsModulePrefixOf module_section) input.now refusal.old.at refusal.new.at result }
+    ensures status { refusal.new.status ≡ result }
+{
+    if strict {
+        explain_strict(alloc, input, refusal)
+    } else {
+        explain_any(alloc, input, refusal)
+    }
+}
+
+/// Checks whether every section of a module is minimally encoded, and says why and where one isn't.
+fn explain_strict(alloc: Global, input: &[u8], refusal: &mut FlatRefusal) -> u32
+    ensures checks { ChecksNormal ShortestWholeModule (IsModulePrefixOf (minimal_only module_section)) input.now refusal.old.at refusal.new.at result }
+    ensures status { refusal.new.status ≡ result }
+{
+    explain(check::<WholeModule>(alloc, input), input, refusal)
+}
+
+/// Checks whether every section of a module decodes, and says why and where one doesn't.
+fn explain_any(alloc: Global, input: &[u8], refusal: &mut FlatRefusal) -> u32
+    ensures checks { ChecksNormal whole_module.Encodes (IsModulePrefixOf module_section) input.now refusal.old.at refusal.new.at result }
+    ensures status { refusal.new.status ≡ result }
+{
+    explain(check_any(alloc, input), input, refusal)
+}
+
+/// Checks whether every section of a module decodes, in any encoding.
+fn check_any(alloc: Global, input: &[u8]) -> Result<(), DecodeError>
+    ensures checks { ChecksAll whole_module.Encodes (IsModulePrefixOf module_section) input.now (as_read result) }
+{
+    match normalise::<WholeModule>(alloc, input) {
+        Ok(_canonical) => Ok(()),
+        Err(error) => Err(error),
+    }
+}

@@ -1,0 +1,53 @@
+-- Modules without the custom sections that a selection drops.
+use Rattle.std.specs.Prelude.{◌≡◌, ◌⊎◌, ℕ, true, List, [], ◌∷◌, ◌++◌}
+use Rattle.wasm_modules.specs.formats.Sections.{SectionParts}
+use Rattle.wasm_modules.specs.formats.Modules.{raw_module}
+use Rattle.wasm_whole_modules.specs.Offsets.{IsOffsetName, IsNameOf}
+use Rattle.wasm_whole_modules.specs.declared.selection.Pattern.{Pattern}
+use Rattle.wasm_whole_modules.specs.declared.selection.Pattern.TheVariants as patterns
+use Rattle.wasm_whole_modules.specs.declared.selection.Selection.{Selection}
+use Rattle.wasm_whole_modules.specs.declared.selection.Sections.{Sections}
+use Rattle.wasm_whole_modules.specs.declared.selection.Sections.TheVariants as choices
+
+-- The name has this beginning and, after it, this end.
+abbrev pub LiesAround : List ℕ → List ℕ → List ℕ → Type 0
+LiesAround beginning end name = (middle : List ℕ) × (name ≡ beginning ++ (middle ++ end))
+
+-- The pattern matches the name.
+abbrev pub Matches : Pattern → List ℕ → Type 0
+Matches (patterns.Exact text) name = name ≡ text.now
+Matches (patterns.Around beginning end) name = LiesAround beginning.now end.now name
+
+-- One of the patterns matches the name.
+abbrev pub MatchesSome : List Pattern → List ℕ → Type 0
+MatchesSome [] name = ⊥
+MatchesSome (pattern ∷ patterns) name = Matches pattern name ⊎ MatchesSome patterns name
+
+-- The selection drops custom sections of this name: a pattern or the option drops it, and no pattern keeps it.
+abbrev pub IsDroppedName : Selection → List ℕ → Type 0
+IsDroppedName selection name =
+    (MatchesSome selection.dropped.now name ⊎ ((selection.offsets ≡ true) × IsOffsetName name))
+    × (MatchesSome selection.kept.now name → ⊥)
+
+-- The section is a custom section that the selection drops.
+pub record IsDropped (selection : Selection) (section : SectionParts) : Type 0 where
+  pub name : List ℕ
+  pub named : IsNameOf section name
+  pub chosen : IsDroppedName selection name
+
+-- The second list has the sections of the first that the selection doesn't drop, in their order.
+pub data Without (selection : Selection) : List SectionParts → List SectionParts → Type 0 where
+  none : Without selection [] []
+  kept : {section : SectionParts} {sections left : List SectionParts} → (IsDropped selection section → ⊥) → Without selection sections left → Without selection (section ∷ sections) (section ∷ left)
+  dropped : {section : SectionParts} {sections left : List SectionParts} → IsDropped selection section → Without selection sections left → Without selection (section ∷ sections) left
+
+-- The bytes are the minimal encoding of the sections that the selection doesn't drop.
+pub record IsSelected (selection : Selection) (sections : List SectionParts) (bytes : List ℕ) : Type 0 where
+  pub left : List SectionParts
+  pub chosen : Without selection sections left
+  pub written : bytes ≡ raw_module.bytes left
+
+-- The bytes are the canonical form with these sections: with all, or with those that the selection doesn't drop.
+abbrev pub IsChosen : Sections → List ℕ → List ℕ → Type 0
+IsChosen choices.All canonical bytes = bytes ≡ canonical
+IsChosen (choices.Selected selection) canonical bytes = (sections : List SectionParts) → raw_module.Encodes canonical sections → IsSelected selection sections bytes

@@ -1,0 +1,205 @@
+//! Modules without some of their custom sections, which are chosen by name.
+ghost use Rattle.std.specs.Prelude.{◌≡◌, ℕ, List, true, false, IfOk, IfSome, IfNone};
+ghost use Rattle.wasm_modules.specs.formats.Sections.{SectionParts, parts_of, all_parts_of};
+ghost use Rattle.wasm_modules.specs.formats.Modules.{raw_module};
+ghost use Rattle.wasm_whole_modules.specs.Offsets.{IsNameOf};
+ghost use Rattle.wasm_whole_modules.specs.Selections.{Matches, MatchesSome, LiesAround, IsDroppedName, IsDropped, IsSelected, IsChosen};
+
+use crate::offsets::is_offset_name;
+use std::alloc::{AllocError, Global};
+use wasm_codec::reader::ReadError;
+use wasm_modules::raw::read_module;
+use wasm_modules::section::{HEADER, RawSection, append_section};
+use wasm_sections::custom::read_custom;
+
+/// A pattern of names of custom sections.
+#[derive(Clone, Copy)]
+pub enum Pattern<'a> {
+    /// One name.
+    Exact(&'a str),
+    /// All names that have this beginning and, after it, this end.
+    Around {
+        /// The text before the `*`.
+        beginning: &'a str,
+        /// The text after the `*`.
+        end: &'a str,
+    },
+}
+
+impl<'a> Pattern<'a> {
+    /// Returns the pattern of all names.
+    pub fn of_all() -> Pattern<'a> {
+        Pattern::Around {
+            beginning: "",
+            end: "",
+        }
+    }
+
+    /// Parses a pattern, in which a `*` stands for any characters. Returns `None` if it has more than one `*`.
+    pub fn parse(text: &'a str) -> Option<Pattern<'a>> {
+        match text.split_once('*') {
+            None => Some(Pattern::Exact(text)),
+            Some((_beginning, end)) if end.contains('*') => None,
+            Some((beginning, end)) => Some(Pattern::Around { beginning, end }),
+        }
+    }
+}
+
+/// The custom sections to drop.
+#[derive(Clone, Copy)]
+pub struct Selection<'a> {
+    /// Whether to drop sections that keep offsets.
+    pub offsets: bool,
+    /// Patterns of the names to drop.
+    pub dropped: &'a [Pattern<'a>],
+    /// Patterns of the names to keep even so.
+    pub kept: &'a [Pattern<'a>],
+}
+
+/// The sections to write.
+#[derive(Clone, Copy)]
+pub enum Sections<'a> {
+    /// All.
+    All,
+    /// All but the custom sections that the selection drops.
+    Selected(Selection<'a>),
+}
+
+/// Returns a canonical form with only these sections.
+///
+/// Fails if memory runs out.
+pub fn choose_sections(
+    alloc: Global,
+    canonical: Vec<u8>,
+    sections: Sections<'_>,
+) -> Result<Vec<u8>, AllocError>
+    ensures { IfOk result (λ left. IsChosen sections.entry canonical.items left.items) }
+{
+    match sections {
+        Sections::All => Ok(canonical),
+        Sections::Selected(selection) => select_sections(alloc, &canonical, selection),
+    }
+}
+
+/// Returns the module without the custom sections that the selection drops.
+///
+/// The sizes of the other sections get their minimal encoding. Fails if memory runs out.
+pub fn select_sections(
+    alloc: Global,
+    input: &[u8],
+    selection: Selection<'_>,
+) -> Result<Vec<u8>, AllocError>
+    // The result is the minimal encoding of the sections that aren't dropped.
+    ensures ok { IfOk result (λ left. (sections : List SectionParts) →
+        raw_module.Encodes input.now sections → IsSelected selection.entry sections left.items) }
+{
+    match read_module(alloc, input) {
+        Ok(sections) => write_selected(alloc, &sections, selection),
+        Err(ReadError::Memory) => Err(AllocError),
+        // A malformed module has no sections to drop.
+        Err(ReadError::Refused { .. }) => Vec::from_slice(alloc, input),
+    }
+}
+
+/// Writes a module of the sections that the selection doesn't drop.
+fn write_selected(
+    alloc: Global,
+    sections: &[RawSection<'_>],
+    selection: Selection<'_>,
+) -> Result<Vec<u8>, AllocError>
+    ensures { IfOk result (λ left. IsSelected selection.entry (all_parts_of sections.now) left.items) }
+{
+    let mut left = Vec::from_slice(alloc, &HEADER)?;
+    for section in sections {
+        if is_dropped(section, selection) {
+            continue;
+        }
+        // A body that was read is never too long, so only memory can be lacking.
+        if append_section(section.id, section, &mut left).is_err() {
+            return Err(AllocError);
+        }
+    }
+    Ok(left)
+}
+
+/// Returns the name of a custom section. `None` means that the section is of another kind, or malformed.
+pub fn custom_name<'a>(section: RawSection<'a>) -> Option<&'a str>
+    // The section is a custom section of this name.
+    ensures found { IfSome result (λ name. IsNameOf (parts_of section.entry) name.now) }
+    // `None` means that it has no name.
+    ensures none { IfNone result ((name : List ℕ) → IsNameOf (parts_of section.entry) name → ⊥) }
+    // It has at most one name.
+    ensures one { (name other : List ℕ) → IsNameOf (parts_of section.entry) name → IsNameOf (parts_of section.entry) other → name ≡ other }
+{
+    if section.id != 0 {
+        return None;
+    }
+    match read_custom(section.body) {
+        Ok(custom) => Some(custom.name),
+        Err(_) => None,
+    }
+}
+
+/// Checks whether the selection drops a section.
+fn is_dropped(section: &RawSection<'_>, selection: Selection<'_>) -> bool
+    ensures yes { result ≡ true → IsDropped selection.entry (parts_of section.now) }
+    ensures no { result ≡ false → IsDropped selection.entry (parts_of section.now) → ⊥ }
+{
+    match custom_name(*section) {
+        Some(name) => is_dropped_name(name, selection),
+        None => false,
+    }
+}
+
+/// Checks whether the selection drops custom sections of this name.
+fn is_dropped_name(name: &str, selection: Selection<'_>) -> bool
+    ensures yes { result ≡ true → IsDroppedName selection.entry name.now }
+    ensures no { result ≡ false → IsDroppedName selection.entry name.now → ⊥ }
+{
+    if matches_some(selection.kept, name) {
+        return false;
+    }
+    if matches_some(selection.dropped, name) {
+        return true;
+    }
+    if selection.offsets {
+        is_offset_name(name)
+    } else {
+        false
+    }
+}
+
+/// Checks whether one of the patterns matches `name`.
+fn matches_some(patterns: &[Pattern<'_>], name: &str) -> bool
+    ensures yes { result ≡ true → MatchesSome patterns.now name.now }
+    ensures no { result ≡ false → MatchesSome patterns.now name.now → ⊥ }
+{
+    for pattern in patterns {
+        if matches_pattern(*pattern, name) {
+            return true;
+        }
+    }
+    false
+}
+
+/// Checks whether the pattern matches `name`.
+fn matches_pattern(pattern: Pattern<'_>, name: &str) -> bool
+    ensures yes { result ≡ true → Matches pattern.entry name.now }
+    ensures no { result ≡ false → Matches pattern.entry name.now → ⊥ }
+{
+    match pattern {
+        Pattern::Exact(text) => name == text,
+        Pattern::Around { beginning, end } => lies_around(beginning, end, name),
+    }
+}
+
+/// Checks whether `name` begins with `beginning` and, after it, ends with `end`.
+fn lies_around(beginning: &str, end: &str, name: &str) -> bool
+    ensures yes { result ≡ true → LiesAround beginning.now end.now name.now }
+    ensures no { result ≡ false → LiesAround beginning.now end.now name.now → ⊥ }
+{
+    match name.as_bytes().strip_prefix(beginning.as_bytes()) {
+        Some(rest) => rest.strip_suffix(end.as_bytes()).is_some(),
+        None => false,
+    }
+}
