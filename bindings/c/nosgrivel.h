@@ -229,7 +229,7 @@ uint32_t nosgrivel_explain_module(
 /* The number of bytes that hold every message and the NUL at its end. */
 #define NOSGRIVEL_MESSAGE_SIZE 257
 
-/* Write a refusal as text, such as "code section, function 12, offset 0x1a4f: unknown opcode 0xff", to the buffer. Like
+/* Write a refusal as text, such as "code section, function 12, offset 0x1a4f: unknown opcode 0xFF", to the buffer. Like
  * snprintf, cut the text to size - 1 bytes, end it by NUL, and return the length of the whole text, which is at most
  * 256. If size is 0, write nothing; the buffer must not be null even so. The call allocates nothing.
  *

@@ -25,7 +25,7 @@ struct row {
 
 static const struct row rows[] = {
     {(const uint8_t *)"", 0, false, REFUSED(-1, -1, 0, 0, -1, -1, -1, NOT_A_MODULE, NONE, 0, 0),
-     "offset 0x0: not a WebAssembly module: expected the header 00 61 73 6d 01 00 00 00"},
+     "offset 0x0: not a WebAssembly module: expected the header 00 61 73 6D 01 00 00 00"},
     /* a component */
     {BYTES(0x00, 0x61, 0x73, 0x6D, 0x0D, 0x00, 0x01, 0x00), false,
      REFUSED(-1, -1, 0, 0, -1, -1, -1, UNSUPPORTED_VERSION, NONE, 0x1000D, 0),
@@ -34,7 +34,7 @@ static const struct row rows[] = {
      "section 0, offset 0x8: unknown section id 14"},
     /* the size 9 at 9, and one byte after it */
     {MODULE(0x05, 0x09, 0x00), false, REFUSED(0, 5, 8, 9, -1, -1, -1, SIZE_TOO_LARGE, NONE, 9, 1),
-     "memory section, offset 0x9: size 9 too large: 1 bytes left"},
+     "memory section, offset 0x9: size 9 too large: 1 byte left"},
     /* two functions at 10, but one index at 11 */
     {MODULE(0x03, 0x02, 0x02, 0x00), false, REFUSED(0, 3, 8, 12, 1, -1, -1, UNEXPECTED_END, NUMBER, 0, 0),
      "function section, function 1, offset 0xc: unexpected end: expected LEB128 number"},
@@ -75,11 +75,11 @@ static const struct row rows[] = {
     /* no locals at 12, and the opcode 0xFF at 13 */
     {MODULE(0x0A, 0x05, 0x01, 0x03, 0x00, 0xFF, 0x0B), false,
      REFUSED(0, 10, 8, 13, 0, -1, 13, UNKNOWN_OPCODE, NONE, 0xFF, 0),
-     "code section, function 0, offset 0xd: unknown opcode 0xff"},
+     "code section, function 0, offset 0xd: unknown opcode 0xFF"},
     /* nop at 13; the prefix 0xFD at 14, and the number 282 */
     {MODULE(0x0A, 0x08, 0x01, 0x06, 0x00, 0x01, 0xFD, 0x9A, 0x02, 0x0B), false,
      REFUSED(0, 10, 8, 14, 0, -1, 14, UNKNOWN_PREFIXED_OPCODE, NONE, 0xFD, 282),
-     "code section, function 0, offset 0xe: unknown opcode 0xfd 282"},
+     "code section, function 0, offset 0xe: unknown opcode 0xFD 0x11A"},
     /* i32.load at 13, and its flags 128 at 14 */
     {MODULE(0x0A, 0x08, 0x01, 0x06, 0x00, 0x28, 0x80, 0x01, 0x00, 0x0B), false,
      REFUSED(0, 10, 8, 14, 0, -1, 13, INVALID_ALIGNMENT, NONE, 128, 0),

@@ -25,7 +25,7 @@ FLAGS = ["-std=c11", "-Wall", "-Wextra", "-Werror", "-I", ROOT / "bindings/c"]
 LONGER = b"\0asm\1\0\0\0" + bytes.fromhex("0186 00014F006000 00 03 8100 80")
 MINIMAL = b"\0asm\1\0\0\0" + bytes.fromhex("0104 01600000 03 01 80")
 MALFORMED = b"\0asm\1\0\0\0" + bytes.fromhex("0A05 0103 00 FF 0B")
-WHY = "code section, function 0, offset 0xd: unknown opcode 0xff"
+WHY = "code section, function 0, offset 0xd: unknown opcode 0xFF"
 
 
 def expect(report, name, *words, **how):

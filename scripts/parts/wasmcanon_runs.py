@@ -69,7 +69,7 @@ DISORDERED = [
 # The sections in the standard's order, and code that names data segments.
 IN_ORDER = [TYPE + IMPORT + FUNCTION + b"\4\1\0\5\1\0\x0D\1\0\6\1\0" + EXPORT + b"\x08\1\0\x09\1\0" + DATA_COUNT
             + CODE + DATA, TYPE + FUNCTION + DATA_COUNT + INIT + DATA]
-NO_HEADER = "offset 0x0: not a WebAssembly module: expected the header 00 61 73 6d 01 00 00 00"
+NO_HEADER = "offset 0x0: not a WebAssembly module: expected the header 00 61 73 6D 01 00 00 00"
 # Inputs that are no module: what each is, the message, and its beginning.
 FOREIGN = [(found, f"{NO_HEADER}, found {found}", data) for found, data in (
     ("no bytes", b""), ("a part of it", b"\0as"), ("another version", b"\0asm\2"),
@@ -129,7 +129,7 @@ MALFORMED = [
      b"\2\x0C\1\1a\1b\0\x80\x80\x80\x80\x80\0"),
     ("an instruction that is cut", f"code section, function 0, offset 0x13: {NO_NUMBER}",
      b"\x0A\6\1\4\1\1\x7F\x41"),
-    ("an opcode of two bytes", "code section, function 0, offset 0x10: unknown opcode 0xfd 300",
+    ("an opcode of two bytes", "code section, function 0, offset 0x10: unknown opcode 0xFD 0x12C",
      b"\x0A\7\1\5\0\xFD\xAC\2\x0B"),
     ("an alignment", "code section, function 0, offset 0x11: alignment flags 128 out of range: expected less than 128",
      b"\x0A\x08\1\6\0\x28\x80\1\0\x0B"),
@@ -510,7 +510,7 @@ def try_malformed(runs):
     runs.holds("no bytes", runs.answers(1, f"error: nothing: {NO_HEADER}", "--check", "nothing"))
     cut = "error: cut_type: type section, offset 0x9: size 6 too large: 5 bytes left\n"
     runs.holds("a section that is cut", runs.answers(1, cut, "--check", "cut_type"))
-    message = "code section, function 1, offset 0x13: unknown opcode 0xff"
+    message = "code section, function 1, offset 0x13: unknown opcode 0xFF"
     data = b"\x0A\x08\2\2\0\x0B\3\0\xFF\x0B"
     runs.holds("an unknown opcode", is_malformed(runs, message, data))
     for words in (["broken"], ["--hash", "broken"], ["--report", "broken"], ["--diff", "long", "broken"]):

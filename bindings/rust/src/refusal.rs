@@ -424,7 +424,7 @@ impl From<DecodeError> for Error {
 /// };
 /// assert_eq!(refusal.reason, Reason::UnknownOpcode { number: 0xff });
 /// assert_eq!(refusal.offset, 13);
-/// assert_eq!(refusal.to_string(), "code section, function 0, offset 0xd: unknown opcode 0xff");
+/// assert_eq!(refusal.to_string(), "code section, function 0, offset 0xd: unknown opcode 0xFF");
 /// ```
 ///
 /// # Errors

@@ -106,7 +106,7 @@ fn instructions() {
     expect(
         &[10, 8, 1, 6, 0, 1, 0xFD, 0x9A, 2, 0x0B],
         wanted,
-        "code section, function 0, offset 0xe: unknown opcode 0xfd 282",
+        "code section, function 0, offset 0xe: unknown opcode 0xFD 0x11A",
     );
     // i32.load at 13, and its flags at 14.
     let wanted = Refusal {
@@ -143,7 +143,7 @@ fn sections() {
     expect(
         &[0, 1, 0, 8, 2, 5, 0],
         wanted,
-        "start section, offset 0xe: 1 trailing bytes",
+        "start section, offset 0xe: 1 trailing byte",
     );
     let wanted = Refusal {
         item: None,
@@ -152,7 +152,7 @@ fn sections() {
     expect(
         &[5, 9, 0],
         wanted,
-        "memory section, offset 0x9: size 9 too large: 1 bytes left",
+        "memory section, offset 0x9: size 9 too large: 1 byte left",
     );
     let wanted = Refusal {
         item: None,

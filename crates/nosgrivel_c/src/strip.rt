@@ -52,10 +52,7 @@ fn strip(alloc: Global, input: &[u8], selection: Selection<'_>) -> Result<Vec<u8
     ensures unencoded { IfRefused result (λ _. (sections : List ModuleSectionParts) → whole_module.Encodes input.now sections → ⊥) }
 {
     let canonical = normalise_whole_module(alloc, input)?;
-    match select_sections(alloc, &canonical, selection) {
-        Ok(left) => Ok(left),
-        Err(_) => Err(ReadError::Memory),
-    }
+    Ok(select_sections(canonical, selection))
 }
 
 /// Parses patterns of names. Returns a status if one is malformed, or if memory runs out.

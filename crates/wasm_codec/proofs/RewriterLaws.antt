@@ -1,6 +1,6 @@
 -- The laws of the rewriter's loops.
-use Rattle.std.proofs.Common.{◌≡◌, ℕ, zero, suc, ◌+◌, ◌-◌, ◌<◌, ◌≤◌, true, List, [], ◌∷◌, ◌++◌, length, take, drop, take-add, drop-drop, length-drop, subst, Some, None, Err, refl, sym, ap, ◌∙◌, append_assoc, length-append, arith}
-use Rattle.std.proofs.lemmas.List.{append-nil, flat_map_more}
+use Rattle.std.proofs.Common.{◌≡◌, ℕ, zero, suc, ◌+◌, ◌-◌, ◌<◌, ◌≤◌, Bool, true, List, [], ◌∷◌, ◌++◌, length, take, drop, take-add, drop-drop, length-drop, length-take, subst, Some, None, Err, refl, sym, ap, ◌∙◌, append_assoc, length-append, arith}
+use Rattle.std.proofs.lemmas.List.{append-nil, drop_all, flat_map_more}
 use Rattle.std.specs.List.{flat_map}
 use Rattle.wasm_codec.specs.declared.reader.cursor.Fault.{Fault}
 use Rattle.wasm_codec.specs.declared.reader.cursor.Fault.TheVariants as faults
@@ -13,9 +13,10 @@ use Rattle.wasm_codec.specs.formats.Bodies.{at_end, until_end, to_end}
 use Rattle.wasm_codec.specs.Rewriter.{Rewriting, rewriting, rewritten_at, rewriting_after, Rewrites, RewritesAll, skipped}
 use Rattle.wasm_codec.specs.Scanning.{ReadsShort, BeginsShort}
 use Rattle.wasm_codec.proofs.Shortening.{kept_is, without_value, bytes_after, takes_some}
-use Rattle.std.proofs.lemmas.List.{drop_at}
+use Rattle.std.proofs.lemmas.List.{drop_at, take_at}
 use Rattle.wasm_codec.proofs.Laws.{bind_some, some_is}
 use Rattle.wasm_codec.proofs.BodyLaws.{not_ended}
+use Rattle.wasm_codec.proofs.RawFormatLaws.{IsBytes-take}
 use Rattle.wasm_codec.proofs.ListReading.{Progress, progress_bytes}
 use Rattle.wasm_codec.proofs.PlaceLists.{Passed, passed_none, passed_more, passed_fault, passed_all, after_items, regroup_items, after_no_items, place_next, plain_none, step}
 
@@ -194,6 +195,48 @@ run_passed {V} {F} law some old here next bytes run fits going is begins next-is
 pub all_gone : {V : Type 0} (F : Format V) (old here : Rewriting) → Going F old here → here.place.left ≡ [] → rewriting_after (to_end F) old ≡ Some here
 all_gone F old here w none =
     after_is (to_end F) old here w.values (sym w.so_far ∙ until_all F.at (length old.place.left - length w.values) here.place w.values none) w.written w.rest
+
+-- items that are read from bytes are read from their first bytes alone
+record IsFirst {V : Type 0} (F : Format V) (values : List V) (bytes left : List ℕ) : Type 0 where
+  pub first : List ℕ
+  pub parts : bytes ≡ first ++ left
+  pub reads : ReadsShort F values first []
+
+first_read : {V : Type 0} {F : Format V} → IsLawful F → (values : List V) (bytes left : List ℕ) → IsBytes bytes → ReadsShort F values bytes left → IsFirst F values bytes left
+first_read law [] bytes left fits reads = record { first = []; parts = reads; reads = refl }
+first_read {V} {F} law (v ∷ values) bytes left fits (next, (read, reads)) =
+    let one = step law (place true bytes) v (place true next) fits read in
+    let more = first_read law values next left (bytes_after one.prefix next (subst IsBytes one.parts fits)) reads in
+    let again = law.reads.complete one.prefix v more.first true one.encodes ∙ ap (λ (t : Bool). Some (v, place t more.first)) (sym one.tells) in
+    record {
+      first = one.prefix ++ more.first;
+      parts = one.parts ∙ ap (λ (l : List ℕ). one.prefix ++ l) more.parts ∙ sym (append_assoc one.prefix more.first left);
+      reads = (more.first, (again, more.reads));
+    }
+
+run_first : {V : Type 0} {F : Format V} → IsLawful F → (bytes : List ℕ) (run : ℕ) → IsBytes bytes → BeginsShort F bytes run → BeginsShort F (take run bytes) run
+run_first {V} {F} law bytes run fits begins =
+    let one = first_read law begins.values bytes (drop run bytes) fits begins.reads in
+    let size : length one.first ≡ run = omega (arith, ap (length {A = ℕ}) one.parts, length-append one.first (drop run bytes), length-drop run bytes, begins.within) in
+    let first : take run bytes ≡ one.first = ap (take run) one.parts ∙ take_at one.first (drop run bytes) run size in
+    let none : drop run one.first ≡ [] = drop_all run one.first (omega (arith, size)) in
+    rw first (record { values = begins.values; within = omega (arith, size); reads = rw none one.reads })
+
+-- the items of a run
+pub record ReadsRun {V : Type 0} (F : Format V) (bytes : List ℕ) : Type 0 where
+  pub values : List V
+  pub read : (to_end F).at (place true bytes) ≡ Some (values, place true [])
+
+pub run_read : {V : Type 0} {F : Format V} → IsLawful F → TakesBytes F.Encodes → (bytes : List ℕ) (run : ℕ) → IsBytes bytes → BeginsShort F bytes run → ReadsRun F (take run bytes)
+run_read {V} {F} law some bytes run fits begins =
+    let first = take run bytes in
+    let old = rewriting [] (place true first) [] in
+    let here = skipped run old in
+    let size : length first ≤ run = omega (arith, length-take run bytes) in
+    let none : drop run first ≡ [] = drop_all run first size in
+    let passed = run_passed law some old old here first run (IsBytes-take bytes run fits) (going F old) refl (run_first law bytes run fits begins) refl in
+    let one = is_after (to_end F) old here (all_gone F old here passed none) in
+    record { values = one.value; read = one.given.is_read ∙ ap (λ (l : List ℕ). Some (one.value, place true l)) none }
 
 -- one isn't whole
 pub stops : {V : Type 0} {F : Format V} → IsLawful F → (old here new next : Rewriting) (fault : Fault) (left passed : ℕ) → IsBytes old.place.left → Going F old here → 0 < length here.place.left → left ≡ length here.place.left → Rewrites F here new (Err fault) → RewritesAll F old next (Err record { left = left; passed = passed; fault = fault })

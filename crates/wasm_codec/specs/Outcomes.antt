@@ -1,5 +1,5 @@
 -- Answers of readers and normalisers about their whole input.
-use Rattle.std.specs.Prelude.{◌≡◌, ℕ, ◌≤◌, List, ◌++◌, length, Result, Ok, Err, IfErr}
+use Rattle.std.specs.Prelude.{◌≡◌, ℕ, ◌≤◌, List, ◌++◌, length, Option, Some, None, Result, Ok, Err, IfErr, IfSome}
 use Rattle.wasm_codec.specs.declared.reader.cursor.Fault.{Fault}
 use Rattle.wasm_codec.specs.declared.reader.cursor.Fault.TheVariants as faults
 use Rattle.wasm_codec.specs.formats.Grammar.{Grammar}
@@ -17,6 +17,15 @@ error_of (faults.Malformed m) at = errors.Refused at
 abbrev pub read_error_of : DecodeError → ReadError
 read_error_of decode_errors.Memory = errors.Memory
 read_error_of (decode_errors.Malformed refusal) = errors.Refused refusal.at
+
+-- The offset of the part that is refused, and the offset of the bytes for which the reason is given.
+abbrev pub offsets_of : DecodeError → Option (ℕ × ℕ)
+offsets_of decode_errors.Memory = None
+offsets_of (decode_errors.Malformed refusal) = Some (refusal.at, refusal.offset)
+
+-- The reason is given for bytes in the part that is refused, which lies in an input of this length.
+abbrev pub LiesIn : ℕ → DecodeError → Type 0
+LiesIn len error = IfSome (offsets_of error) (λ offsets. (offsets.0 ≤ offsets.1) × (offsets.1 ≤ len))
 
 -- The same result, with the error as `ReadError` has it.
 abbrev pub as_read : {X : Type 0} → Result X DecodeError → Result X ReadError

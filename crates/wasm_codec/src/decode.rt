@@ -1,6 +1,6 @@
 //! What is decoded from all of its bytes, and the five calls that read, check and normalise it.
-ghost use Rattle.std.specs.Prelude.{ℕ, List};
-ghost use Rattle.wasm_codec.specs.Outcomes.{NeedsNoMemory, as_read};
+ghost use Rattle.std.specs.Prelude.{ℕ, List, IfErr, length};
+ghost use Rattle.wasm_codec.specs.Outcomes.{LiesIn, NeedsNoMemory, as_read};
 ghost use Rattle.wasm_codec.specs.Lawful.{IsLawfulBody};
 ghost use Rattle.wasm_codec.specs.formats.Combinators.{Format};
 ghost use Rattle.wasm_codec.specs.Decoding.{IsMinimal, ReadsAll, ChecksAll, RewritesAll, Decodes, DecodesMinimal, Checks, NormalisesInPlace, Normalises};
@@ -54,20 +54,24 @@ pub trait Decode<'a> {
     /// Reads the value from all of the bytes, in any encoding.
     fn read_all(alloc: Global, bytes: &'a [u8]) -> Result<Self::Output, DecodeError>
         ensures reads { ReadsAll view format.Encodes IsPrefix bytes.now (as_read result) }
+        ensures place { IfErr result (LiesIn (length bytes.now)) }
         ensures memory { ReadsInPlace → NeedsNoMemory (as_read result) };
 
     /// Reads the value from all of the bytes, if they are its minimal encoding.
     fn read_all_strict(alloc: Global, bytes: &'a [u8]) -> Result<Self::Output, DecodeError>
         ensures reads { ReadsAll view Minimal IsMinimalPrefix bytes.now (as_read result) }
+        ensures place { IfErr result (LiesIn (length bytes.now)) }
         ensures memory { ReadsInPlace → NeedsNoMemory (as_read result) };
 
     /// Checks whether the bytes are the minimal encoding of a value.
     fn check_all(alloc: Global, bytes: &[u8]) -> Result<(), DecodeError>
-        ensures checks { ChecksAll Minimal IsMinimalPrefix bytes.now (as_read result) };
+        ensures checks { ChecksAll Minimal IsMinimalPrefix bytes.now (as_read result) }
+        ensures place { IfErr result (LiesIn (length bytes.now)) };
 
     /// Rewrites the bytes in place to the minimal encoding of the value that they encode.
     fn rewrite_all(bytes: Vec<u8>) -> Result<Vec<u8>, DecodeError>
         ensures rewrites { RewritesAll format IsPrefix bytes.items (as_read result) }
+        ensures place { IfErr result (LiesIn (length bytes.items)) }
         ensures memory { NeedsNoMemory (as_read result) };
 }
 
@@ -88,6 +92,7 @@ pub trait Decode<'a> {
 /// ```
 pub fn read<'a, T: Decode<'a>>(alloc: Global, bytes: &'a [u8]) -> Result<T::Output, DecodeError>
     ensures decodes { Decodes T.view T.format T.IsPrefix bytes.now (as_read result) }
+    ensures place { IfErr result (LiesIn (length bytes.now)) }
     ensures memory { T.ReadsInPlace → NeedsNoMemory (as_read result) }
 {
     T::is_lawful();
@@ -114,6 +119,7 @@ pub fn read_strict<'a, T: Decode<'a>>(
     bytes: &'a [u8],
 ) -> Result<T::Output, DecodeError>
     ensures decodes { DecodesMinimal T.view T.format T.Minimal T.IsMinimalPrefix bytes.now (as_read result) }
+    ensures place { IfErr result (LiesIn (length bytes.now)) }
     ensures memory { T.ReadsInPlace → NeedsNoMemory (as_read result) }
 {
     T::is_lawful();
@@ -136,6 +142,7 @@ pub fn read_strict<'a, T: Decode<'a>>(
 #[tactic(auto, using(crate::proofs::DecodingLaws::checks))]
 pub fn check<'a, T: Decode<'a>>(alloc: Global, bytes: &[u8]) -> Result<(), DecodeError>
     ensures checks { Checks T.format T.Minimal T.IsMinimalPrefix bytes.now (as_read result) }
+    ensures place { IfErr result (LiesIn (length bytes.now)) }
 {
     T::is_lawful();
     T::check_all(alloc, bytes)
@@ -154,6 +161,7 @@ pub fn check<'a, T: Decode<'a>>(alloc: Global, bytes: &[u8]) -> Result<(), Decod
 /// ```
 pub fn normalise<'a, T: Decode<'a>>(alloc: Global, bytes: &[u8]) -> Result<Vec<u8>, DecodeError>
     ensures normalises { Normalises T.format T.Minimal T.IsPrefix bytes.now (as_read result) }
+    ensures place { IfErr result (LiesIn (length bytes.now)) }
 {
     T::is_lawful();
     rewrite_copy::<T>(alloc, bytes)
@@ -162,6 +170,7 @@ pub fn normalise<'a, T: Decode<'a>>(alloc: Global, bytes: &[u8]) -> Result<Vec<u
 /// Copies the bytes and rewrites the copy.
 fn rewrite_copy<'a, T: Decode<'a>>(alloc: Global, bytes: &[u8]) -> Result<Vec<u8>, DecodeError>
     ensures rewrites { RewritesAll T.format T.IsPrefix bytes.now (as_read result) }
+    ensures place { IfErr result (LiesIn (length bytes.now)) }
 {
     T::rewrite_all(Vec::from_slice(alloc, bytes)?)
 }
@@ -181,6 +190,7 @@ fn rewrite_copy<'a, T: Decode<'a>>(alloc: Global, bytes: &[u8]) -> Result<Vec<u8
 #[tactic(auto, using(crate::proofs::DecodingLaws::normalises_in_place))]
 pub fn rewrite<'a, T: Decode<'a>>(bytes: Vec<u8>) -> Result<Vec<u8>, DecodeError>
     ensures normalises { NormalisesInPlace T.format T.IsPrefix bytes.items (as_read result) }
+    ensures place { IfErr result (LiesIn (length bytes.items)) }
 {
     T::is_lawful();
     T::rewrite_all(bytes)

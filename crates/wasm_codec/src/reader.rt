@@ -1,10 +1,10 @@
 //! The error of readers, and the cursor that they read from.
 //!
 //! A reader decodes all of its input: trailing bytes are malformed.
-ghost use Rattle.std.specs.Prelude.{◌≡◌};
+ghost use Rattle.std.specs.Prelude.{◌≡◌, ◌≤◌};
 ghost use Rattle.wasm_codec.specs.declared.reader.ReadError.TheVariants.{Memory, Refused};
 ghost use Rattle.wasm_codec.specs.declared.reader.DecodeError.TheVariants as decode_errors;
-ghost use Rattle.wasm_codec.specs.Outcomes.{as_read, error_of, read_error_of};
+ghost use Rattle.wasm_codec.specs.Outcomes.{LiesIn, as_read, error_of, offsets_of, read_error_of};
 
 pub mod cursor;
 pub mod malformed;
@@ -61,7 +61,8 @@ pub enum DecodeError {
 impl DecodeError {
     /// Returns the error for a fault in the part that begins at `at`, in `len` bytes.
     pub fn new(fault: Fault, at: usize, len: usize) -> DecodeError
-        ensures { read_error_of result ≡ error_of fault at }
+        ensures error { read_error_of result ≡ error_of fault at }
+        ensures place { at ≤ len → LiesIn len result }
     {
         match fault {
             Fault::Memory => DecodeError::Memory,
@@ -71,14 +72,16 @@ impl DecodeError {
 
     /// Returns the error for bytes that are malformed in the part that begins at `at`, in `len` bytes.
     pub fn refused(malformed: &Malformed, at: usize, len: usize) -> DecodeError
-        ensures { read_error_of result ≡ Refused at }
+        ensures error { read_error_of result ≡ Refused at }
+        ensures place { at ≤ len → LiesIn len result }
     {
         DecodeError::Malformed(Refusal::new(malformed, at, len))
     }
 
     /// Returns the same error, in the item with this index.
     pub fn in_item(self, index: u32) -> DecodeError
-        ensures { read_error_of result ≡ read_error_of self }
+        ensures error { read_error_of result ≡ read_error_of self }
+        ensures place { offsets_of result ≡ offsets_of self }
     {
         match self {
             DecodeError::Memory => DecodeError::Memory,
@@ -91,7 +94,8 @@ impl DecodeError {
 
     /// Returns the same error, with the number of sections before it.
     pub fn numbered(self, number: usize) -> DecodeError
-        ensures { read_error_of result ≡ read_error_of self }
+        ensures error { read_error_of result ≡ read_error_of self }
+        ensures place { offsets_of result ≡ offsets_of self }
     {
         match self {
             DecodeError::Memory => DecodeError::Memory,

@@ -1,10 +1,10 @@
 //! Custom sections whose contents are one list (Core 3.0, Custom Section and Lists).
-ghost use Rattle.std.specs.Prelude.{◌≡◌, ◌↔◌, ℕ, List, [], IsTrue, true, IfOk, IfErr};
+ghost use Rattle.std.specs.Prelude.{◌≡◌, ◌↔◌, ℕ, List, [], IsTrue, true, IfOk, IfErr, length};
 ghost use Rattle.wasm_codec.specs.Decoding.{ChecksAll, IsMinimal, RewritesAll};
 ghost use Rattle.wasm_codec.specs.Encoding.{OnlyTooLong};
 ghost use Rattle.wasm_codec.specs.Lawful.{IsLawful, IsLawfulBody};
 ghost use Rattle.wasm_codec.specs.Lists.{IsListPrefix, IsListPrefixMinimalIf, ListMinimalIf};
-ghost use Rattle.wasm_codec.specs.Outcomes.{as_read, NeedsNoMemory};
+ghost use Rattle.wasm_codec.specs.Outcomes.{LiesIn, as_read, NeedsNoMemory};
 ghost use Rattle.wasm_codec.specs.declared.encode.EncodeError.TheVariants.{Memory};
 ghost use Rattle.wasm_codec.specs.formats.Combinators.{Format, items};
 ghost use Rattle.wasm_entities.specs.Making.{Makes};
@@ -174,6 +174,7 @@ impl<'a, T: CustomItem + Readable<'a>> Decode<'a> for CustomList<T> {
 
     fn check_all(alloc: Global, bytes: &[u8]) -> Result<(), DecodeError>
         ensures checks { ChecksAll (ListMinimalIf true T.Readable.format) (IsListPrefixMinimalIf true T.Readable.format) bytes.now (as_read result) }
+        ensures place { IfErr result (LiesIn (length bytes.now)) }
     {
         check_list_to_end::<Item<'a, T>>(alloc, bytes)
     }
@@ -181,6 +182,7 @@ impl<'a, T: CustomItem + Readable<'a>> Decode<'a> for CustomList<T> {
     fn rewrite_all(bytes: Vec<u8>) -> Result<Vec<u8>, DecodeError>
         ensures rewrites { RewritesAll (items T.Readable.format) (IsListPrefix T.Readable.format.Encodes) bytes.items (as_read result) }
         ensures memory { NeedsNoMemory (as_read result) }
+        ensures place { IfErr result (LiesIn (length bytes.items)) }
     {
         rewrite_list_to_end::<Item<'a, T>>(bytes)
     }

@@ -5,7 +5,7 @@ ghost use Rattle.std.proofs.lemmas.List.{map_push};
 ghost use Rattle.wasm_codec.specs.Decoding.{ChecksAll, IsMinimal, ReadsAll, RewritesAll};
 ghost use Rattle.wasm_codec.specs.Encoding.{byte_list_bytes, IsCount, IsRefusal, IsShortest, IsTooLong, OnlyTooLong};
 ghost use Rattle.wasm_codec.specs.Lawful.{IsLawful, IsLawfulBody};
-ghost use Rattle.wasm_codec.specs.Outcomes.{as_read, EncodesSome, NeedsNoMemory};
+ghost use Rattle.wasm_codec.specs.Outcomes.{LiesIn, as_read, EncodesSome, NeedsNoMemory};
 ghost use Rattle.wasm_codec.specs.Places.{Reads};
 ghost use Rattle.wasm_codec.specs.Reading.{map_ok};
 ghost use Rattle.wasm_codec.specs.Rewriter.{Rewrites};
@@ -520,6 +520,7 @@ impl<'a> Decode<'a> for NameSection {
     #[tactic(auto, using(wasm_codec::proofs::ListReading::none_within))]
     fn check_all(alloc: Global, bytes: &[u8]) -> Result<(), DecodeError>
         ensures checks { ChecksAll (Joined (minimal_only name_subsection).Encodes) (EncodesSome (Joined (minimal_only name_subsection).Encodes)) bytes.now (as_read result) }
+        ensures place { IfErr result (LiesIn (length bytes.now)) }
     {
         check_items_to_end::<AnySubsection>(alloc, bytes)
     }
@@ -528,6 +529,7 @@ impl<'a> Decode<'a> for NameSection {
     fn rewrite_all(bytes: Vec<u8>) -> Result<Vec<u8>, DecodeError>
         ensures rewrites { RewritesAll name_data (EncodesSome (Joined name_subsection.Encodes)) bytes.items (as_read result) }
         ensures memory { NeedsNoMemory (as_read result) }
+        ensures place { IfErr result (LiesIn (length bytes.items)) }
     {
         rewrite_items_to_end::<AnySubsection>(bytes)
     }

@@ -3,8 +3,8 @@
 //! The type that builds a section is the type that decodes its body: `read::<ExportSection>(alloc, body)` returns the
 //! exports, and so on. [`Instructions`] stands for a list of instructions, [`Module`] for a module with undecoded sections,
 //! and `WholeModule` for one with every section decoded. Implement [`Decode`] for a type of your own.
-ghost use Rattle.std.specs.Prelude.{List};
-ghost use Rattle.wasm_codec.specs.Outcomes.{as_read, NeedsNoMemory, EncodesSome};
+ghost use Rattle.std.specs.Prelude.{List, IfErr, length};
+ghost use Rattle.wasm_codec.specs.Outcomes.{LiesIn, as_read, NeedsNoMemory, EncodesSome};
 ghost use Rattle.wasm_codec.specs.Decoding.{IsMinimal, ChecksAll, RewritesAll};
 ghost use Rattle.wasm_codec.specs.Lawful.{IsLawfulBody};
 ghost use Rattle.wasm_codec.specs.formats.Bodies.{to_end};
@@ -79,6 +79,7 @@ impl<'a> Decode<'a> for Instructions {
     #[tactic(auto, using(wasm_codec::proofs::ListReading::none_within))]
     fn check_all(alloc: Global, bytes: &[u8]) -> Result<(), DecodeError>
         ensures checks { ChecksAll ShortestInstructions (EncodesSome ShortestInstructions) bytes.now (as_read result) }
+        ensures place { IfErr result (LiesIn (length bytes.now)) }
     {
         check_items_to_end::<Call>(alloc, bytes)
     }
@@ -87,6 +88,7 @@ impl<'a> Decode<'a> for Instructions {
     fn rewrite_all(bytes: Vec<u8>) -> Result<Vec<u8>, DecodeError>
         ensures rewrites { RewritesAll (to_end instruction) (EncodesSome InstructionList) bytes.items (as_read result) }
         ensures memory { NeedsNoMemory (as_read result) }
+        ensures place { IfErr result (LiesIn (length bytes.items)) }
     {
         rewrite_items_to_end::<Call>(bytes)
     }
@@ -126,6 +128,7 @@ impl<'a> Decode<'a> for TypeSection {
     #[tactic(auto, unfolding(wasm_types::specs::formats::Types::type_body))]
     fn check_all(alloc: Global, bytes: &[u8]) -> Result<(), DecodeError>
         ensures checks { ChecksAll ShortestTypeBody IsShortestTypeBodyPrefix bytes.now (as_read result) }
+        ensures place { IfErr result (LiesIn (length bytes.now)) }
     {
         check_list_to_end::<TypeEntry>(alloc, bytes)
     }
@@ -134,6 +137,7 @@ impl<'a> Decode<'a> for TypeSection {
     fn rewrite_all(bytes: Vec<u8>) -> Result<Vec<u8>, DecodeError>
         ensures rewrites { RewritesAll type_body IsTypeBodyPrefix bytes.items (as_read result) }
         ensures memory { NeedsNoMemory (as_read result) }
+        ensures place { IfErr result (LiesIn (length bytes.items)) }
     {
         rewrite_list_to_end::<TypeEntry>(bytes)
     }
@@ -173,6 +177,7 @@ impl<'a> Decode<'a> for CodeSection {
     #[tactic(auto, unfolding(wasm_modules::specs::formats::CodeBodies::code_section_body))]
     fn check_all(alloc: Global, bytes: &[u8]) -> Result<(), DecodeError>
         ensures checks { ChecksAll ShortestCodeSectionBody IsShortestCodeSectionBodyPrefix bytes.now (as_read result) }
+        ensures place { IfErr result (LiesIn (length bytes.now)) }
     {
         check_list_to_end::<CodeBody>(alloc, bytes)
     }
@@ -181,6 +186,7 @@ impl<'a> Decode<'a> for CodeSection {
     fn rewrite_all(bytes: Vec<u8>) -> Result<Vec<u8>, DecodeError>
         ensures rewrites { RewritesAll code_section_body IsCodeSectionBodyPrefix bytes.items (as_read result) }
         ensures memory { NeedsNoMemory (as_read result) }
+        ensures place { IfErr result (LiesIn (length bytes.items)) }
     {
         rewrite_list_to_end::<CodeBody>(bytes)
     }
@@ -217,6 +223,7 @@ impl<'a> Decode<'a> for Module {
 
     fn check_all(alloc: Global, bytes: &[u8]) -> Result<(), DecodeError>
         ensures checks { ChecksAll ShortestModule IsShortestModulePrefix bytes.now (as_read result) }
+        ensures place { IfErr result (LiesIn (length bytes.now)) }
     {
         check_raw_module(alloc, bytes)
     }
@@ -224,6 +231,7 @@ impl<'a> Decode<'a> for Module {
     fn rewrite_all(bytes: Vec<u8>) -> Result<Vec<u8>, DecodeError>
         ensures rewrites { RewritesAll raw_module IsModulePrefix bytes.items (as_read result) }
         ensures memory { NeedsNoMemory (as_read result) }
+        ensures place { IfErr result (LiesIn (length bytes.items)) }
     {
         rewrite_raw_module(bytes)
     }

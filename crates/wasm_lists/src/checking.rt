@@ -2,8 +2,8 @@
 //!
 //! A check accepts what the corresponding strict reader accepts, but returns no values. It works on a copy of the
 //! bytes.
-ghost use Rattle.std.specs.Prelude.{◌≡◌, ◌<◌, length, is_some, true, false, IfOk, IfSome, IfNone};
-ghost use Rattle.wasm_codec.specs.Outcomes.{as_read, IfRefused, IsLongestPrefix, EncodesSome};
+ghost use Rattle.std.specs.Prelude.{◌≡◌, ◌<◌, length, is_some, true, false, IfOk, IfSome, IfNone, IfErr};
+ghost use Rattle.wasm_codec.specs.Outcomes.{LiesIn, as_read, IfRefused, IsLongestPrefix, EncodesSome};
 ghost use Rattle.wasm_codec.specs.formats.Grammar.{Joined};
 ghost use Rattle.wasm_codec.specs.Lists.{ListMinimalIf, IsListPrefixMinimalIf};
 ghost use Rattle.wasm_codec.specs.Places.{place};
@@ -21,6 +21,7 @@ use wasm_codec::rewriter::{Rewriter, Scanned};
 /// Checks that the bytes are a count and as many items, minimally encoded, without trailing bytes.
 pub fn check_list_to_end<T: Rewritable>(alloc: Global, bytes: &[u8]) -> Result<(), DecodeError>
     ensures checks { ChecksAll (ListMinimalIf true T.format) (IsListPrefixMinimalIf true T.format) bytes.now (as_read result) }
+    ensures place { IfErr result (LiesIn (length bytes.now)) }
 {
     if let Some(malformed) = fault_in_count(bytes) {
         return Err(DecodeError::refused(&malformed, 0, bytes.len()));
@@ -48,6 +49,7 @@ pub fn check_items_to_end<T: Joinable>(alloc: Global, bytes: &[u8]) -> Result<()
     ensures given { IfOk (as_read result) (λ _. EncodesSome (Joined (minimal_only T.format).Encodes) bytes.now) }
     ensures prefix { IfRefused (as_read result) (IsLongestPrefix (EncodesSome (Joined (minimal_only T.format).Encodes)) bytes.now) }
     ensures within { IfRefused (as_read result) (λ at. at < length bytes.now) }
+    ensures place { IfErr result (LiesIn (length bytes.now)) }
 {
     let _items = rewrite_items_to_end::<Shortest<T>>(Vec::from_slice(alloc, bytes)?)?;
     Ok(())

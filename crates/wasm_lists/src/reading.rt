@@ -2,7 +2,7 @@
 //!
 //! If `STRICT` is set, a loop accepts minimal encodings only, and stops at the first other one.
 ghost use Rattle.std.specs.Prelude.{◌≡◌, ◌^◌, ◌<◌, List, [], length, IfOk, IfErr};
-ghost use Rattle.wasm_codec.specs.Outcomes.{IsMalformed};
+ghost use Rattle.wasm_codec.specs.Outcomes.{LiesIn, IsMalformed};
 ghost use Rattle.wasm_codec.specs.formats.Grammar.{IsBytes, TakesBytes, Joined};
 ghost use Rattle.wasm_codec.specs.Reading.{ReadsPlain, FindsAt, map_ok};
 ghost use Rattle.wasm_codec.specs.Places.{Reads, counted_at, WasMinimalIf};
@@ -154,6 +154,7 @@ pub fn read_list_to_end<'a, T: Readable<'a>, const STRICT: bool>(
     ensures prefix { IfRefused (as_read result) (IsLongestPrefix (IsListPrefixMinimalIf STRICT T.format) bytes.now) }
     ensures unencoded { IfRefused (as_read result) (λ _. (items : List T.Value) → ListMinimalIf STRICT T.format bytes.now items → ⊥) }
     ensures counted { IfOk result (λ items. length items.items < 2 ^ 32) }
+    ensures place { IfErr result (LiesIn (length bytes.now)) }
 {
     let mut cursor = Cursor::new(bytes);
     match read_list_minimal_if::<T, STRICT>(alloc, &mut cursor) {
@@ -182,6 +183,7 @@ pub fn read_items_to_end<'a, T: Readable<'a>, const STRICT: bool>(
     ensures given { IfOk (as_read result) (λ items. Joined (minimal_if STRICT T.format).Encodes bytes.now (T.views items.items)) }
     ensures prefix { IfRefused (as_read result) (IsLongestPrefix (EncodesSome (Joined (minimal_if STRICT T.format).Encodes)) bytes.now) }
     ensures within { IfRefused (as_read result) (λ at. at < length bytes.now) }
+    ensures place { IfErr result (LiesIn (length bytes.now)) }
 {
     let mut cursor = Cursor::new(bytes);
     match read_items_minimal_if::<T, STRICT>(alloc, &mut cursor) {

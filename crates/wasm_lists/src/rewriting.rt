@@ -1,8 +1,8 @@
 //! Lists and bodies, rewritten in place.
-ghost use Rattle.std.specs.Prelude.{◌≡◌, ◌<◌, List, ℕ, length, IfOk};
+ghost use Rattle.std.specs.Prelude.{◌≡◌, ◌<◌, List, ℕ, length, true, IfOk, IfErr};
 ghost use Rattle.std.specs.List.{flat_map};
 ghost use Rattle.wasm_codec.specs.formats.Grammar.{TakesBytes, Joined};
-ghost use Rattle.wasm_codec.specs.Outcomes.{as_read, IfRefused, NeedsNoMemory, IsLongestPrefix, IsNormalForm, EncodesSome};
+ghost use Rattle.wasm_codec.specs.Outcomes.{LiesIn, as_read, IfRefused, NeedsNoMemory, IsLongestPrefix, IsNormalForm, EncodesSome};
 ghost use Rattle.wasm_codec.specs.Lawful.{IsLawful, IsLawfulBody};
 ghost use Rattle.wasm_codec.specs.Lists.{EncodesList, items_bytes, IsListPrefix};
 ghost use Rattle.wasm_codec.specs.formats.Combinators.{Format, items, u32 as u32_format};
@@ -168,6 +168,24 @@ fn short_run<T: Joinable>(bytes: &[u8]) -> usize
     }
 }
 
+/// Checks whether the first `count` bytes are a run of scanned, minimally encoded items. Returns `false` if fewer than 16
+/// bytes follow the start of an item.
+#[inline(never)]
+pub fn begins_run<T: Joinable>(bytes: &[u8], count: usize) -> bool
+    ensures { result ≡ true → BeginsShort T.format bytes.now count }
+{
+    T::is_lawful();
+    are_bytes(bytes);
+    let mut run = 0;
+    while run < count && run + 16 <= bytes.len() {
+        let Some(Scanned::Shortest(count)) = T::scan(&bytes[run..run + 16]) else {
+            return false;
+        };
+        run += count;
+    }
+    run == count
+}
+
 /// Extends a run that has `begun` bytes, while at least `AHEAD` bytes follow.
 #[inline(never)]
 fn short_run_ahead<T: Joinable, const AHEAD: usize>(bytes: &[u8], begun: usize) -> usize
@@ -199,6 +217,7 @@ pub fn rewrite_items_to_end<T: Joinable>(bytes: Vec<u8>) -> Result<Vec<u8>, Deco
     ensures prefix { IfRefused (as_read result) (IsLongestPrefix (EncodesSome (Joined T.format.Encodes)) bytes.items) }
     ensures within { IfRefused (as_read result) (λ at. at < length bytes.items) }
     ensures memory { NeedsNoMemory (as_read result) }
+    ensures place { IfErr result (LiesIn (length bytes.items)) }
 {
     T::is_lawful();
     let len = bytes.len();
@@ -219,13 +238,15 @@ pub fn rewrite_list_to_end<T: Rewritable>(bytes: Vec<u8>) -> Result<Vec<u8>, Dec
     ensures prefix { IfRefused (as_read result) (IsLongestPrefix (IsListPrefix T.format.Encodes) bytes.items) }
     ensures unencoded { IfRefused (as_read result) (λ _. (items : List T.Value) → EncodesList T.format.Encodes bytes.items items → ⊥) }
     ensures memory { NeedsNoMemory (as_read result) }
+    ensures place { IfErr result (LiesIn (length bytes.items)) }
 {
     rewrite_whole_list::<T>(bytes)
 }
 
 /// Rewrites the list that the bytes encode. Fails with the length of the longest well-formed prefix.
 fn rewrite_whole_list<T: Rewritable>(bytes: Vec<u8>) -> Result<Vec<u8>, DecodeError>
-    ensures { RewritesList T.format bytes.items (as_read result) }
+    ensures rewrites { RewritesList T.format bytes.items (as_read result) }
+    ensures place { IfErr result (LiesIn (length bytes.items)) }
 {
     T::is_lawful();
     let len = bytes.len();

@@ -1,11 +1,11 @@
 //! Readers of the header and of sections of a module (Core 3.0, Modules).
-ghost use Rattle.std.specs.Prelude.{◌≡◌, ◌++◌, List, ℕ, drop, IfErr, IfSome, IfNone, refl, ◌<◌, true};
+ghost use Rattle.std.specs.Prelude.{◌≡◌, ◌++◌, List, ℕ, drop, IfErr, IfSome, IfNone, refl, ◌<◌, ◌≤◌, ◌+◌, true, length};
 ghost use Rattle.wasm_codec.specs.Reading.{map_ok};
 ghost use Rattle.wasm_codec.specs.Places.{Reads};
 ghost use Rattle.wasm_codec.specs.formats.Bodies.{byte_list, bytes_to_end};
 ghost use Rattle.wasm_modules.specs.formats.Sections.{header, parts_of, SectionParts, all_parts_of};
 ghost use Rattle.wasm_modules.specs.formats.Modules.{raw_section, module_of, raw_module, ShortestModule};
-ghost use Rattle.wasm_codec.specs.Outcomes.{IsMalformed};
+ghost use Rattle.wasm_codec.specs.Outcomes.{LiesIn, IsMalformed};
 ghost use Rattle.std.proofs.lemmas.List.{map_push};
 ghost use Rattle.wasm_codec.specs.formats.Combinators.{minimal_if, minimal_only};
 ghost use Rattle.wasm_modules.specs.Modules.{IsModulePrefix, IsModulePrefixOf, IsShortestModulePrefix};
@@ -53,7 +53,9 @@ pub(crate) fn not_a_module(bytes: &[u8]) -> Malformed {
 
 /// Returns the refusal at `at` of a module, for a refusal of the sections after its header.
 fn in_module(refusal: Refusal, sections: &[u8], at: usize) -> Refusal
-    ensures { result.at ≡ at }
+    ensures at { result.at ≡ at }
+    ensures from { at ≡ 8 + refusal.at → refusal.at ≤ refusal.offset → at ≤ result.offset }
+    ensures to { result.offset ≤ 8 + refusal.offset }
 {
     let section = match refusal.section {
         Some(section) => Some(section),
@@ -160,6 +162,7 @@ pub fn read_module_of<'a, T: Readable<'a>, const STRICT: bool>(
     bytes: &'a [u8],
 ) -> Result<Vec<T>, DecodeError>
     ensures reads { ReadsAll (λ sections. T.views sections.items) (module_of (minimal_if STRICT T.format)).Encodes (IsModulePrefixOf (minimal_if STRICT T.format)) bytes.now (as_read result) }
+    ensures place { IfErr result (LiesIn (length bytes.now)) }
 {
     let Some(rest) = after_header(bytes) else {
         return Err(DecodeError::refused(&not_a_module(bytes), 0, bytes.len()));
@@ -225,6 +228,7 @@ pub fn check_module(alloc: Global, bytes: &[u8]) -> Result<(), ReadError>
 /// Checks that the section sizes of a module are minimally encoded, and says why if they aren't.
 pub fn check_raw_module(alloc: Global, bytes: &[u8]) -> Result<(), DecodeError>
     ensures checks { ChecksAll (module_of (minimal_only raw_section)).Encodes (IsModulePrefixOf (minimal_only raw_section)) bytes.now (as_read result) }
+    ensures place { IfErr result (LiesIn (length bytes.now)) }
 {
     check_module_of::<Section>(alloc, bytes)
 }
@@ -235,6 +239,7 @@ pub fn check_raw_module(alloc: Global, bytes: &[u8]) -> Result<(), DecodeError>
 /// missing. Fails with `Memory` if an allocation fails.
 pub fn check_module_of<T: Joinable>(alloc: Global, bytes: &[u8]) -> Result<(), DecodeError>
     ensures checks { ChecksAll (module_of (minimal_only T.format)).Encodes (IsModulePrefixOf (minimal_only T.format)) bytes.now (as_read result) }
+    ensures place { IfErr result (LiesIn (length bytes.now)) }
 {
     let Some(rest) = after_header(bytes) else {
         return Err(DecodeError::refused(&not_a_module(bytes), 0, bytes.len()));
@@ -255,6 +260,7 @@ pub fn check_module_of<T: Joinable>(alloc: Global, bytes: &[u8]) -> Result<(), D
 pub fn rewrite_raw_module(bytes: Vec<u8>) -> Result<Vec<u8>, DecodeError>
     ensures rewrites { RewritesAll raw_module IsModulePrefix bytes.items (as_read result) }
     ensures memory { NeedsNoMemory (as_read result) }
+    ensures place { IfErr result (LiesIn (length bytes.items)) }
 {
     rewrite_module_of::<Section>(bytes)
 }
@@ -271,11 +277,19 @@ impl Rewritable for Section {
     #[tactic(auto, using(crate::proofs::ModuleFormatLaws::section_laws))]
     fn is_lawful() {}
 
-    #[tactic(auto, using(std::proofs::Common::append_assoc), unfolding(crate::specs::formats::Modules::raw_section))]
+    #[inline(always)]
     fn rewrite(rewriter: &mut Rewriter) -> Result<(), Fault> {
-        let id = rewriter.byte_of(Construct::SectionId)?;
-        rewrite_section_body::<Bytes>(rewriter, id)
+        rewrite_raw_section(rewriter)
     }
+}
+
+/// Rewrites the size of a section. Its body stays as it is.
+#[tactic(auto, using(std::proofs::Common::append_assoc), unfolding(crate::specs::formats::Modules::raw_section))]
+pub fn rewrite_raw_section(rewriter: &mut Rewriter) -> Result<(), Fault>
+    ensures rewrites { Rewrites raw_section rewriter.old rewriter.new result }
+{
+    let id = rewriter.byte_of(Construct::SectionId)?;
+    rewrite_section_body::<Bytes>(rewriter, id)
 }
 
 impl Joinable for Section {

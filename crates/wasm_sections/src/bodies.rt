@@ -1,5 +1,6 @@
 //! Section bodies that are a single value without trailing bytes, for any value.
-ghost use Rattle.wasm_codec.specs.Outcomes.{NeedsNoMemory, as_read};
+ghost use Rattle.std.specs.Prelude.{IfErr, length};
+ghost use Rattle.wasm_codec.specs.Outcomes.{LiesIn, NeedsNoMemory, as_read};
 ghost use Rattle.wasm_sections.specs.Prefixes.{IsNothingOr, AreLawfulPrefixes};
 ghost use Rattle.wasm_codec.specs.Decoding.{RewritesAll};
 ghost use Rattle.wasm_codec.specs.formats.Grammar.{IsBytes};
@@ -22,6 +23,7 @@ pub trait WholeBody: RewritableBody {
 pub fn rewrite_body<T: WholeBody>(body: Vec<u8>) -> Result<Vec<u8>, DecodeError>
     ensures rewrites { RewritesAll T.RewritableBody.format (IsNothingOr T.RewritableBody.format) body.items (as_read result) }
     ensures memory { NeedsNoMemory (as_read result) }
+    ensures place { IfErr result (LiesIn (length body.items)) }
 {
     T::is_lawful();
     T::prefixes_are_lawful();

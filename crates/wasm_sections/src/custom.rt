@@ -6,7 +6,7 @@ ghost use Rattle.wasm_sections.specs.Prefixes.{IsNothingOr};
 ghost use Rattle.wasm_sections.specs.formats.Sections.{custom_body};
 ghost use Rattle.wasm_codec.specs.Decoding.{ReadsAll, ChecksAll, RewritesAll, IsMinimal, Decodes};
 ghost use Rattle.wasm_codec.specs.Lawful.{IsLawfulBody};
-ghost use Rattle.wasm_codec.specs.Outcomes.{as_read, NeedsNoMemory};
+ghost use Rattle.wasm_codec.specs.Outcomes.{LiesIn, as_read, NeedsNoMemory};
 ghost use Rattle.wasm_codec.specs.Encoding.{byte_list_bytes, IsCount, IsCountRefusal, IsRefusal, IsShortest, IsTooLong, OnlyTooLong};
 ghost use Rattle.wasm_sections.specs.formats.ModuleSectionParts.{custom};
 ghost use Rattle.wasm_sections.specs.SectionBytes.{CountedCustom, IsSectionAfter};
@@ -57,6 +57,7 @@ pub fn read_custom<'a>(body: &'a [u8]) -> Result<CustomSection<'a>, ReadError>
 fn read_name_and_bytes<'a>(body: &'a [u8]) -> Result<CustomSection<'a>, DecodeError>
     ensures reads { ReadsAll custom_parts custom_body.Encodes (IsNothingOr custom_body) body.now (as_read result) }
     ensures memory { NeedsNoMemory (as_read result) }
+    ensures place { IfErr result (LiesIn (length body.now)) }
 {
     let mut cursor = Cursor::new(body);
     // `fork` shows the proof that all remaining items are bytes.
@@ -77,6 +78,7 @@ fn read_name_and_bytes<'a>(body: &'a [u8]) -> Result<CustomSection<'a>, DecodeEr
 fn read_name_and_bytes_strict<'a>(body: &'a [u8]) -> Result<CustomSection<'a>, DecodeError>
     ensures reads { ReadsAll custom_parts (minimal_only custom_body).Encodes (IsNothingOr (minimal_only custom_body)) body.now (as_read result) }
     ensures memory { NeedsNoMemory (as_read result) }
+    ensures place { IfErr result (LiesIn (length body.now)) }
 {
     let mut cursor = Cursor::new(body);
     // `fork` shows the proof that all remaining items are bytes.
@@ -157,6 +159,7 @@ impl<'a> Decode<'a> for CustomSection<'a> {
 
     fn check_all(_alloc: Global, bytes: &[u8]) -> Result<(), DecodeError>
         ensures checks { ChecksAll (minimal_only custom_body).Encodes (IsNothingOr (minimal_only custom_body)) bytes.now (as_read result) }
+        ensures place { IfErr result (LiesIn (length bytes.now)) }
     {
         match read_name_and_bytes_strict(bytes) {
             Ok(_) => Ok(()),
@@ -167,6 +170,7 @@ impl<'a> Decode<'a> for CustomSection<'a> {
     fn rewrite_all(bytes: Vec<u8>) -> Result<Vec<u8>, DecodeError>
         ensures rewrites { RewritesAll custom_body (IsNothingOr custom_body) bytes.items (as_read result) }
         ensures memory { NeedsNoMemory (as_read result) }
+        ensures place { IfErr result (LiesIn (length bytes.items)) }
     {
         rewrite_body::<Custom>(bytes)
     }

@@ -1,5 +1,5 @@
 //! The builder of a section that is a list, over any kind of item (Core 3.0, Lists).
-ghost use Rattle.std.specs.Prelude.{◌≡◌, ◌↔◌, List, [], IsTrue, ⊤, true};
+ghost use Rattle.std.specs.Prelude.{◌≡◌, ◌↔◌, List, [], IsTrue, ⊤, true, IfErr, length};
 ghost use Rattle.wasm_codec.specs.Encoding.{byte_list_bytes, OnlyTooLong};
 ghost use Rattle.wasm_codec.specs.Lawful.{IsLawfulBody};
 ghost use Rattle.wasm_codec.specs.formats.Combinators.{items};
@@ -8,7 +8,7 @@ ghost use Rattle.wasm_sections.specs.SectionKinds.{SectionOf};
 ghost use Rattle.wasm_sections.specs.ListSections.{StandsForItems, AddsIf, AddsEachIf, EncodesItems, IsWrittenList, LawfulItem};
 ghost use Rattle.wasm_entities.specs.Making.{Makes};
 ghost use Rattle.wasm_codec.specs.Decoding.{ChecksAll, RewritesAll, IsMinimal};
-ghost use Rattle.wasm_codec.specs.Outcomes.{as_read, NeedsNoMemory};
+ghost use Rattle.wasm_codec.specs.Outcomes.{LiesIn, as_read, NeedsNoMemory};
 ghost use Rattle.wasm_codec.specs.Lists.{ListMinimalIf, IsListPrefix, IsListPrefixMinimalIf};
 
 use std::alloc::{Allocator, Global};
@@ -188,6 +188,7 @@ impl<'a, T: SectionItem + Readable<'a>> Decode<'a> for ListSection<T> {
 
     fn check_all(alloc: Global, bytes: &[u8]) -> Result<(), DecodeError>
         ensures checks { ChecksAll (ListMinimalIf true T.Readable.format) (IsListPrefixMinimalIf true T.Readable.format) bytes.now (as_read result) }
+        ensures place { IfErr result (LiesIn (length bytes.now)) }
     {
         check_list_to_end::<Item<'a, T>>(alloc, bytes)
     }
@@ -195,6 +196,7 @@ impl<'a, T: SectionItem + Readable<'a>> Decode<'a> for ListSection<T> {
     fn rewrite_all(bytes: Vec<u8>) -> Result<Vec<u8>, DecodeError>
         ensures rewrites { RewritesAll (items T.Readable.format) (IsListPrefix T.Readable.format.Encodes) bytes.items (as_read result) }
         ensures memory { NeedsNoMemory (as_read result) }
+        ensures place { IfErr result (LiesIn (length bytes.items)) }
     {
         rewrite_list_to_end::<Item<'a, T>>(bytes)
     }

@@ -1,6 +1,6 @@
 //! Sections that are a single number (Core 3.0, Start Section and Data Count Section).
-ghost use Rattle.std.specs.Prelude.{⊤, ℕ, Ok, ◌≡◌, ◌++◌, OnOk, IfErr, OnErr};
-ghost use Rattle.wasm_codec.specs.Outcomes.{as_read, NeedsNoMemory};
+ghost use Rattle.std.specs.Prelude.{⊤, ℕ, Ok, ◌≡◌, ◌++◌, OnOk, IfErr, OnErr, length};
+ghost use Rattle.wasm_codec.specs.Outcomes.{LiesIn, as_read, NeedsNoMemory};
 ghost use Rattle.wasm_codec.specs.formats.Combinators.{minimal_only, u32 as u32_format};
 ghost use Rattle.wasm_sections.specs.Prefixes.{IsNothingOr};
 ghost use Rattle.wasm_codec.specs.Decoding.{ReadsAll, ChecksAll, RewritesAll, IsMinimal};
@@ -62,6 +62,7 @@ pub struct DataCountSection {
 pub fn read_number(body: &[u8]) -> Result<u32, DecodeError>
     ensures reads { ReadsAll (λ number. number) u32_format.Encodes (IsNothingOr u32_format) body.now (as_read result) }
     ensures memory { NeedsNoMemory (as_read result) }
+    ensures place { IfErr result (LiesIn (length body.now)) }
 {
     let mut cursor = Cursor::new(body);
     // `fork` shows the proof that all remaining items are bytes.
@@ -81,6 +82,7 @@ pub fn read_number(body: &[u8]) -> Result<u32, DecodeError>
 pub fn read_number_strict(body: &[u8]) -> Result<u32, DecodeError>
     ensures reads { ReadsAll (λ number. number) (minimal_only u32_format).Encodes (IsNothingOr (minimal_only u32_format)) body.now (as_read result) }
     ensures memory { NeedsNoMemory (as_read result) }
+    ensures place { IfErr result (LiesIn (length body.now)) }
 {
     let mut cursor = Cursor::new(body);
     // `fork` shows the proof that all remaining items are bytes.
@@ -196,6 +198,7 @@ impl<'a> Decode<'a> for StartSection {
 
     fn check_all(_alloc: Global, bytes: &[u8]) -> Result<(), DecodeError>
         ensures checks { ChecksAll (minimal_only start_body).Encodes (IsNothingOr (minimal_only start_body)) bytes.now (as_read result) }
+        ensures place { IfErr result (LiesIn (length bytes.now)) }
     {
         read_number_strict(bytes)?;
         Ok(())
@@ -204,6 +207,7 @@ impl<'a> Decode<'a> for StartSection {
     fn rewrite_all(bytes: Vec<u8>) -> Result<Vec<u8>, DecodeError>
         ensures rewrites { RewritesAll start_body (IsNothingOr start_body) bytes.items (as_read result) }
         ensures memory { NeedsNoMemory (as_read result) }
+        ensures place { IfErr result (LiesIn (length bytes.items)) }
     {
         rewrite_body::<Number>(bytes)
     }
@@ -245,6 +249,7 @@ impl<'a> Decode<'a> for DataCountSection {
 
     fn check_all(_alloc: Global, bytes: &[u8]) -> Result<(), DecodeError>
         ensures checks { ChecksAll (minimal_only data_count_body).Encodes (IsNothingOr (minimal_only data_count_body)) bytes.now (as_read result) }
+        ensures place { IfErr result (LiesIn (length bytes.now)) }
     {
         read_number_strict(bytes)?;
         Ok(())
@@ -253,6 +258,7 @@ impl<'a> Decode<'a> for DataCountSection {
     fn rewrite_all(bytes: Vec<u8>) -> Result<Vec<u8>, DecodeError>
         ensures rewrites { RewritesAll data_count_body (IsNothingOr data_count_body) bytes.items (as_read result) }
         ensures memory { NeedsNoMemory (as_read result) }
+        ensures place { IfErr result (LiesIn (length bytes.items)) }
     {
         rewrite_body::<Number>(bytes)
     }

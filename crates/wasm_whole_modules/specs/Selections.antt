@@ -1,7 +1,8 @@
 -- Modules without the custom sections that a selection drops.
-use Rattle.std.specs.Prelude.{◌≡◌, ◌⊎◌, ℕ, true, List, [], ◌∷◌, ◌++◌}
+use Rattle.std.specs.Prelude.{◌≡◌, ◌⊎◌, ℕ, Bool, true, false, List, [], ◌∷◌, ◌++◌, Some}
+use Rattle.wasm_codec.specs.Places.{Place, place}
 use Rattle.wasm_modules.specs.formats.Sections.{SectionParts}
-use Rattle.wasm_modules.specs.formats.Modules.{raw_module}
+use Rattle.wasm_modules.specs.formats.Modules.{raw_module, raw_section}
 use Rattle.wasm_whole_modules.specs.Offsets.{IsOffsetName, IsNameOf}
 use Rattle.wasm_whole_modules.specs.declared.selection.Pattern.{Pattern}
 use Rattle.wasm_whole_modules.specs.declared.selection.Pattern.TheVariants as patterns
@@ -34,6 +35,11 @@ pub record IsDropped (selection : Selection) (section : SectionParts) : Type 0 w
   pub name : List ℕ
   pub named : IsNameOf section name
   pub chosen : IsDroppedName selection name
+
+-- If the bytes begin with a section, the answer tells whether the selection drops it.
+abbrev pub ChoosesNext : Selection → List ℕ → Bool → Type 0
+ChoosesNext selection bytes dropped = (section : SectionParts) (after : Place) → raw_section.at (place true bytes) ≡ Some (section, after) →
+    (dropped ≡ true → IsDropped selection section) × (dropped ≡ false → IsDropped selection section → ⊥)
 
 -- The second list has the sections of the first that the selection doesn't drop, in their order.
 pub data Without (selection : Selection) : List SectionParts → List SectionParts → Type 0 where

@@ -1,7 +1,7 @@
 //! Modules with every section decoded (Core 3.0, Modules).
-ghost use Rattle.std.specs.Prelude.{◌≡◌, List};
+ghost use Rattle.std.specs.Prelude.{◌≡◌, List, IfErr, length};
 ghost use Rattle.std.specs.List.{AllByRecursion};
-ghost use Rattle.wasm_codec.specs.Outcomes.{as_read, NeedsNoMemory};
+ghost use Rattle.wasm_codec.specs.Outcomes.{LiesIn, as_read, NeedsNoMemory};
 ghost use Rattle.wasm_codec.specs.formats.Combinators.{minimal_only};
 ghost use Rattle.wasm_modules.specs.Modules.{IsModulePrefixOf};
 ghost use Rattle.wasm_sections.specs.formats.ModuleSectionParts.{ModuleSectionParts, all_module_section_parts};
@@ -70,6 +70,7 @@ impl<'a> Decode<'a> for WholeModule {
 
     fn check_all(alloc: Global, bytes: &[u8]) -> Result<(), DecodeError>
         ensures checks { ChecksAll ShortestWholeModule (IsModulePrefixOf (minimal_only module_section)) bytes.now (as_read result) }
+        ensures place { IfErr result (LiesIn (length bytes.now)) }
     {
         check_module_of::<AnySection>(alloc, bytes)
     }
@@ -77,6 +78,7 @@ impl<'a> Decode<'a> for WholeModule {
     fn rewrite_all(bytes: Vec<u8>) -> Result<Vec<u8>, DecodeError>
         ensures rewrites { RewritesAll whole_module (IsModulePrefixOf module_section) bytes.items (as_read result) }
         ensures memory { NeedsNoMemory (as_read result) }
+        ensures place { IfErr result (LiesIn (length bytes.items)) }
     {
         rewrite_module_of::<AnySection>(bytes)
     }

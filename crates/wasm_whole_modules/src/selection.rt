@@ -1,15 +1,15 @@
 //! Modules without some of their custom sections, which are chosen by name.
-ghost use Rattle.std.specs.Prelude.{◌≡◌, ℕ, List, true, false, IfOk, IfSome, IfNone};
-ghost use Rattle.wasm_modules.specs.formats.Sections.{SectionParts, parts_of, all_parts_of};
+ghost use Rattle.std.specs.Prelude.{◌≡◌, ℕ, List, true, false, IfSome, IfNone};
+ghost use Rattle.wasm_modules.specs.formats.Sections.{SectionParts, parts_of};
 ghost use Rattle.wasm_modules.specs.formats.Modules.{raw_module};
 ghost use Rattle.wasm_whole_modules.specs.Offsets.{IsNameOf};
-ghost use Rattle.wasm_whole_modules.specs.Selections.{Matches, MatchesSome, LiesAround, IsDroppedName, IsDropped, IsSelected, IsChosen};
+ghost use Rattle.wasm_whole_modules.specs.Selections.{Matches, MatchesSome, LiesAround, IsDroppedName, IsDropped, ChoosesNext, IsSelected, IsChosen};
 
 use crate::offsets::is_offset_name;
-use std::alloc::{AllocError, Global};
-use wasm_codec::reader::ReadError;
-use wasm_modules::raw::read_module;
-use wasm_modules::section::{HEADER, RawSection, append_section};
+use wasm_codec::reader::cursor::Cursor;
+use wasm_codec::rewriter::Rewriter;
+use wasm_modules::raw::{after_header, read_section, rewrite_raw_section};
+use wasm_modules::section::{HEADER, RawSection};
 use wasm_sections::custom::read_custom;
 
 /// A pattern of names of custom sections.
@@ -65,61 +65,53 @@ pub enum Sections<'a> {
     Selected(Selection<'a>),
 }
 
-/// Returns a canonical form with only these sections.
-///
-/// Fails if memory runs out.
-pub fn choose_sections(
-    alloc: Global,
-    canonical: Vec<u8>,
-    sections: Sections<'_>,
-) -> Result<Vec<u8>, AllocError>
-    ensures { IfOk result (λ left. IsChosen sections.entry canonical.items left.items) }
+/// Returns a canonical form with only these sections. It works in place.
+pub fn choose_sections(canonical: Vec<u8>, sections: Sections<'_>) -> Vec<u8>
+    ensures { IsChosen sections.entry canonical.items result.items }
 {
     match sections {
-        Sections::All => Ok(canonical),
-        Sections::Selected(selection) => select_sections(alloc, &canonical, selection),
+        Sections::All => canonical,
+        Sections::Selected(selection) => select_sections(canonical, selection),
     }
 }
 
-/// Returns the module without the custom sections that the selection drops.
+/// Returns the module without the custom sections that the selection drops. It works in place.
 ///
-/// The sizes of the other sections get their minimal encoding. Fails if memory runs out.
-pub fn select_sections(
-    alloc: Global,
-    input: &[u8],
-    selection: Selection<'_>,
-) -> Result<Vec<u8>, AllocError>
+/// The sizes of the other sections get their minimal encoding. From a malformed section on, it drops all bytes.
+pub fn select_sections(module: Vec<u8>, selection: Selection<'_>) -> Vec<u8>
     // The result is the minimal encoding of the sections that aren't dropped.
-    ensures ok { IfOk result (λ left. (sections : List SectionParts) →
-        raw_module.Encodes input.now sections → IsSelected selection.entry sections left.items) }
+    ensures ok { (sections : List SectionParts) → raw_module.Encodes module.items sections →
+        IsSelected selection.entry sections result.items }
 {
-    match read_module(alloc, input) {
-        Ok(sections) => write_selected(alloc, &sections, selection),
-        Err(ReadError::Memory) => Err(AllocError),
+    let Some(_sections) = after_header(&module) else {
         // A malformed module has no sections to drop.
-        Err(ReadError::Refused { .. }) => Vec::from_slice(alloc, input),
+        return module;
+    };
+    let mut rewriter = Rewriter::new(module);
+    rewriter.skip(HEADER.len());
+    while rewriter.len() > 0 {
+        rewriter.are_bytes();
+        let dropped = next_is_dropped(rewriter.left(), selection);
+        let mark = rewriter.written_len();
+        if rewrite_raw_section(&mut rewriter).is_err() {
+            return rewriter.finish();
+        }
+        if dropped {
+            rewriter.cut_out(mark, rewriter.written_len() - mark);
+        }
     }
+    rewriter.finish()
 }
 
-/// Writes a module of the sections that the selection doesn't drop.
-fn write_selected(
-    alloc: Global,
-    sections: &[RawSection<'_>],
-    selection: Selection<'_>,
-) -> Result<Vec<u8>, AllocError>
-    ensures { IfOk result (λ left. IsSelected selection.entry (all_parts_of sections.now) left.items) }
+/// Checks whether the bytes begin with a section that the selection drops.
+fn next_is_dropped(bytes: &[u8], selection: Selection<'_>) -> bool
+    ensures next { ChoosesNext selection.entry bytes.now result }
 {
-    let mut left = Vec::from_slice(alloc, &HEADER)?;
-    for section in sections {
-        if is_dropped(section, selection) {
-            continue;
-        }
-        // A body that was read is never too long, so only memory can be lacking.
-        if append_section(section.id, section, &mut left).is_err() {
-            return Err(AllocError);
-        }
+    let mut cursor = Cursor::new(bytes);
+    match read_section(&mut cursor) {
+        Ok(section) => is_dropped(&section, selection),
+        Err(_) => false,
     }
-    Ok(left)
 }
 
 /// Returns the name of a custom section. `None` means that the section is of another kind, or malformed.

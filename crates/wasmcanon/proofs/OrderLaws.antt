@@ -1,28 +1,16 @@
--- Sections that are in order so far.
-use Rattle.std.proofs.Common.{◌≡◌, ◌↔◌, ℕ, Bool, true, false, eqb, ◌+◌, ◌<◌, ◌≤◌, ◌⊎◌, List, [], ◌∷◌, ◌++◌, length, take, get_or, map, All, refl, sym, ap, subst, ◌∙◌, append_assoc, inl, inr, arith}
+-- Sections that are read one after another, in order so far.
+use Rattle.std.proofs.Common.{◌≡◌, ◌↔◌, ℕ, Bool, true, false, eqb, ◌+◌, ◌<◌, ◌≤◌, ◌⊎◌, List, [], ◌∷◌, ◌++◌, length, take, Some, None, Err, refl, sym, ap, subst, ◌∙◌, append_assoc, length-append, inl, inr, arith}
 use Rattle.std.proofs.lemmas.Bool.{eqb-true}
-use Rattle.std.proofs.lemmas.List.{append-nil, take-map, take_all, map_more}
+use Rattle.std.proofs.lemmas.List.{append-nil, take_at}
+use Rattle.wasm_codec.specs.formats.Grammar.{Joined}
+use Rattle.wasm_codec.specs.Outcomes.{IsMalformed}
+use Rattle.wasm_codec.specs.Places.{Place, Reads}
+use Rattle.wasm_codec.specs.declared.reader.cursor.Fault.{Fault}
+use Rattle.wasm_codec.specs.declared.reader.cursor.Fault.TheVariants as faults
 use Rattle.wasm_modules.specs.formats.Sections.{SectionParts}
-use Rattle.wasmcanon.specs.Order.{rank, later, AreInOrder}
-
--- so many sections are in order, and what comes after them must go on from this rank
-abbrev pub GoOn : List SectionParts → ℕ → ℕ → Type 0
-GoOn sections count last = (rest : List SectionParts) → AreInOrder 0 (take count sections ++ rest) ↔ AreInOrder last rest
-
-module _ (sections : List SectionParts) (count last : ℕ) (s : SectionParts) (before : GoOn sections count last) (next : take (count + 1) sections ≡ take count sections ++ s ∷ []) where
-  pub go_on : (rank s ≡ 0) ⊎ (last < rank s) → GoOn sections (count + 1) (later last (rank s))
-  go_on fits = λ rest. (λ o. ((before (s ∷ rest)).0 (subst (AreInOrder 0) (parts rest) o)).1, λ o. subst (AreInOrder 0) (sym (parts rest)) ((before (s ∷ rest)).1 (fits, o))) where
-    parts : (rest : List SectionParts) → take (count + 1) sections ++ rest ≡ take count sections ++ s ∷ rest
-    parts rest = rw next (append_assoc (take count sections) (s ∷ []) rest)
-
-  pub out_of_order : (rank s ≡ 0 → ⊥) → rank s ≤ last → AreInOrder 0 (take count sections) × (AreInOrder 0 (take (count + 1) sections) → ⊥)
-  out_of_order some le = (so_far, λ o. refused ((before (s ∷ [])).0 (subst (AreInOrder 0) next o)).0) where
-    so_far : AreInOrder 0 (take count sections)
-    so_far = subst (AreInOrder 0) (append-nil (take count sections)) ((before []).1 tt)
-
-    refused : (rank s ≡ 0) ⊎ (last < rank s) → ⊥
-    refused (inl none) = some none
-    refused (inr lt) = absurd (omega (arith, lt, le))
+use Rattle.wasm_modules.specs.formats.Modules.{raw_section}
+use Rattle.wasm_modules.proofs.SectionWalks.{next_section, no_section, none_left}
+use Rattle.wasmcanon.specs.Order.{rank, later, AreInOrder, IsOutOfOrderAt, OfSections}
 
 later_some : (last r : ℕ) → (r ≡ 0 → ⊥) → later last r ≡ r
 later_some last r some = by (eqb r 0) refl where
@@ -30,25 +18,61 @@ later_some last r some = by (eqb r 0) refl where
   by true is = absurd (some (eqb-true r 0 is))
   by false is = rw is refl
 
--- the next section of a list, as others see it
-pub next_taken : {A B : Type 0} (view : A → B) (xs : List A) (i : ℕ) (d : A) → i < length xs → take (i + 1) (map view xs) ≡ take i (map view xs) ++ view (get_or xs i d) ∷ []
-next_taken view xs i d lt =
-    take-map view (i + 1) xs
-    ∙ map_more view xs i d lt
-    ∙ ap (λ l. l ++ view (get_or xs i d) ∷ []) (sym (take-map view i xs))
+-- the first of them were read, and these bytes are left; what comes after them must go on from this rank
+pub record Walked (sections : List SectionParts) (left : List ℕ) (index last : ℕ) : Type 0 where
+  pub before : List SectionParts
+  pub rest : List SectionParts
+  pub parts : sections ≡ before ++ rest
+  pub count : length before ≡ index
+  pub encodes : Joined raw_section.Encodes left rest
+  pub go_on : (more : List SectionParts) → AreInOrder 0 (before ++ more) ↔ AreInOrder last more
 
-module _ (sections : List SectionParts) (count last r : ℕ) (s : SectionParts) (before : GoOn sections count last) (next : take (count + 1) sections ≡ take count sections ++ s ∷ []) (is : r ≡ rank s) where
-  pub go_on_ranked : (r ≡ 0 → ⊥) → last < r → GoOn sections (count + 1) r
-  go_on_ranked some lt = subst (GoOn sections (count + 1)) (ap (later last) (sym is) ∙ later_some last r some) (go_on sections count last s before next (inr (subst (λ (n : ℕ). last < n) is lt)))
+pub walked_none : (bytes : List ℕ) → OfSections bytes (λ sections. Walked sections bytes 0 0)
+walked_none bytes sections g = record { before = []; rest = sections; parts = refl; count = refl; encodes = g; go_on = λ more. (λ o. o, λ o. o) }
 
-  pub go_on_custom : r ≡ 0 → GoOn sections (count + 1) last
-  go_on_custom none = subst (GoOn sections (count + 1)) (ap (later last) (sym is ∙ none)) (go_on sections count last s before next (inl (sym is ∙ none)))
+-- in these bytes a section was read at a place, where this property of the walk holds
+module _ (bytes : List ℕ) (here mid : Place) (s : SectionParts) (index last r : ℕ) (walked : OfSections bytes (λ sections. Walked sections here.left index last)) (some : 0 < length here.left) (read : raw_section.at here ≡ Some (s, mid)) (is : r ≡ rank s) where
+  walked_on : (rank s ≡ 0) ⊎ (last < rank s) → OfSections bytes (λ sections. Walked sections mid.left (index + 1) (later last (rank s)))
+  walked_on fits sections g =
+      let w = walked sections g in
+      let next = next_section here mid s w.rest some w.encodes read in
+      let go_on : (more : List SectionParts) → AreInOrder 0 ((w.before ++ s ∷ []) ++ more) ↔ AreInOrder (later last (rank s)) more = λ more. (λ o. ((w.go_on (s ∷ more)).0 (subst (AreInOrder 0) (append_assoc w.before (s ∷ []) more) o)).1, λ o. subst (AreInOrder 0) (sym (append_assoc w.before (s ∷ []) more)) ((w.go_on (s ∷ more)).1 (fits, o))) in
+      record {
+        before = w.before ++ s ∷ [];
+        rest = next.after;
+        parts = w.parts ∙ ap (λ (l : List SectionParts). w.before ++ l) next.is ∙ sym (append_assoc w.before (s ∷ []) next.after);
+        count = omega (arith, length-append w.before (s ∷ []), w.count);
+        encodes = next.encodes;
+        go_on = go_on;
+      }
 
-  pub out_of_order_at : (r ≡ 0 → ⊥) → r ≤ last → AreInOrder 0 (take count sections) × (AreInOrder 0 (take (count + 1) sections) → ⊥)
-  out_of_order_at some le = out_of_order sections count last s before next (λ none. some (is ∙ none)) (subst (λ (n : ℕ). n ≤ last) is le)
+  pub walked_ranked : (r ≡ 0 → ⊥) → last < r → OfSections bytes (λ sections. Walked sections mid.left (index + 1) r)
+  walked_ranked ranked lt sections g = subst (Walked sections mid.left (index + 1)) (ap (later last) (sym is) ∙ later_some last r ranked) (walked_on (inr (subst (λ (n : ℕ). last < n) is lt)) sections g)
 
-pub all_in_order : (sections : List SectionParts) (count last : ℕ) → GoOn sections count last → take count sections ≡ sections → AreInOrder 0 sections
-all_in_order sections count last before all = subst (AreInOrder 0) (append-nil (take count sections) ∙ all) ((before []).1 tt)
+  pub walked_custom : r ≡ 0 → OfSections bytes (λ sections. Walked sections mid.left (index + 1) last)
+  walked_custom none sections g = subst (Walked sections mid.left (index + 1)) (ap (later last) (sym is ∙ none)) (walked_on (inl (sym is ∙ none)) sections g)
 
-pub all_taken : {A B : Type 0} (view : A → B) (xs : List A) (i : ℕ) → length xs ≤ i → take i (map view xs) ≡ map view xs
-all_taken view xs i le = take-map view i xs ∙ ap (map view) (take_all i xs le)
+  pub walked_wrong : (r ≡ 0 → ⊥) → r ≤ last → OfSections bytes (λ sections. IsOutOfOrderAt sections index)
+  walked_wrong ranked le sections g =
+      let w = walked sections g in
+      let next = next_section here mid s w.rest some w.encodes read in
+      let all : sections ≡ (w.before ++ s ∷ []) ++ next.after = w.parts ∙ ap (λ (l : List SectionParts). w.before ++ l) next.is ∙ sym (append_assoc w.before (s ∷ []) next.after) in
+      let first : take index sections ≡ w.before = ap (take index) w.parts ∙ take_at w.before w.rest index w.count in
+      let one_more : take (index + 1) sections ≡ w.before ++ s ∷ [] = ap (take (index + 1)) all ∙ take_at (w.before ++ s ∷ []) next.after (index + 1) (omega (arith, length-append w.before (s ∷ []), w.count)) in
+      let so_far : AreInOrder 0 (take index sections) = rw first (subst (AreInOrder 0) (append-nil w.before) ((w.go_on []).1 tt)) in
+      (so_far, λ o. refused ((w.go_on (s ∷ [])).0 (subst (AreInOrder 0) one_more o)).0)
+    where
+      refused : (rank s ≡ 0) ⊎ (last < rank s) → ⊥
+      refused (inl none) = ranked (is ∙ none)
+      refused (inr lt) = absurd (omega (arith, lt, le, is))
+
+pub walked_all : (bytes : List ℕ) (here : Place) (index last : ℕ) → OfSections bytes (λ sections. Walked sections here.left index last) → here.left ≡ [] → OfSections bytes (AreInOrder 0)
+walked_all bytes here index last walked none sections g =
+    let w = walked sections g in
+    let rest : w.rest ≡ [] = none_left w.rest (subst (λ (l : List ℕ). Joined raw_section.Encodes l w.rest) none w.encodes) in
+    subst (AreInOrder 0) (sym (w.parts ∙ ap (λ (l : List SectionParts). w.before ++ l) rest)) ((w.go_on []).1 tt)
+
+-- bytes that encode no sections have every property
+pub walked_nowhere : (bytes : List ℕ) (here new : Place) (index last : ℕ) (P : List SectionParts → Type 0) (fault : Fault) → OfSections bytes (λ sections. Walked sections here.left index last) → 0 < length here.left → Reads raw_section.at here new (Err fault) → IsMalformed fault → OfSections bytes P
+walked_nowhere bytes here new index last P faults.Memory walked some none malformed sections g = absurd malformed
+walked_nowhere bytes here new index last P (faults.Malformed m) walked some none malformed sections g = absurd (no_section here (walked sections g).rest some (walked sections g).encodes none)

@@ -1,7 +1,8 @@
 -- The order of a module's sections (WebAssembly Core 3.0, Modules).
 use Rattle.std.specs.Prelude.{◌≡◌, ℕ, ◌==◌, ◌<◌, ◌+◌, ◌*◌, ◌⊎◌, List, [], ◌∷◌, take, if◌then◌else◌}
 use Rattle.wasm_modules.specs.formats.Sections.{SectionParts}
-use Rattle.wasm_modules.specs.formats.Modules.{raw_module}
+use Rattle.wasm_codec.specs.formats.Grammar.{Joined}
+use Rattle.wasm_modules.specs.formats.Modules.{raw_module, raw_section}
 use Rattle.wasm_whole_modules.specs.declared.order.ModuleError.{ModuleError}
 use Rattle.wasm_whole_modules.specs.declared.order.ModuleError.TheVariants as errors
 
@@ -30,10 +31,14 @@ IsWhyNot sections (errors.FunctionCount fs bs) = Unit {0}
 IsWhyNot sections (errors.DataCount told ds) = Unit {0}
 IsWhyNot sections (errors.MissingDataCount body instruction) = Unit {0}
 
--- The sections that the bytes encode are in order.
+-- The property holds of the sections that the bytes encode, one after another, if they encode any.
+abbrev pub OfSections : List ℕ → (List SectionParts → Type 0) → Type 0
+OfSections bytes P = (sections : List SectionParts) → Joined raw_section.Encodes bytes sections → P sections
+
+-- The sections that the module encodes are in order.
 abbrev pub IsOrdered : List ℕ → Type 0
 IsOrdered bytes = (sections : List SectionParts) → raw_module.Encodes bytes sections → AreInOrder 0 sections
 
--- The sections that the bytes encode are as the error says.
+-- The sections that the module encodes are as the error says.
 abbrev pub BreaksOrder : List ℕ → ModuleError → Type 0
 BreaksOrder bytes error = (sections : List SectionParts) → raw_module.Encodes bytes sections → IsWhyNot sections error

@@ -1,19 +1,18 @@
 //! The order of a module's sections, and counts that must agree (Core 3.0, Modules).
 ghost use Rattle.std.specs.Prelude.{◌≡◌, OnOk, IfOk, IfSome, IfNone};
-ghost use Rattle.wasm_modules.specs.formats.Sections.{parts_of, all_parts_of};
-ghost use Rattle.wasmcanon.specs.Order.{rank, AreInOrder, IsOrdered, BreaksOrder, IsOutOfOrderAt, IsWhyNot};
+ghost use Rattle.wasm_modules.specs.formats.Sections.{parts_of};
+ghost use Rattle.wasmcanon.specs.Order.{rank, AreInOrder, OfSections, IsOrdered, BreaksOrder, IsOutOfOrderAt, IsWhyNot};
 ghost use Rattle.wasmcanon.specs.Run.{IfRefused, IfDisordered};
 
 use crate::run::Failure;
 use crate::sections::kind_name;
 use std::alloc::{AllocError, Global};
 use std::fmt;
-use wasm_codec::reader::ReadError;
 use wasm_codec::reader::cursor::{Cursor, Fault};
 use wasm_instructions::table::{Call, Prefix};
 use wasm_lists::readable::Readable;
 use wasm_modules::code::normaliser::read_local_group;
-use wasm_modules::raw::{after_header, read_module, read_section};
+use wasm_modules::raw::{after_header, read_section};
 use wasm_modules::section::RawSection;
 use wasm_whole_modules::order::ModuleError;
 
@@ -49,23 +48,13 @@ pub fn check_sections(alloc: Global, input: &[u8]) -> Result<(), Failure>
     // The failure isn't `Refused`.
     ensures refused { IfRefused result (λ _. ⊥) }
 {
-    match read_module(alloc, input) {
-        Ok(sections) => check_listed(alloc, input, &sections),
-        Err(ReadError::Memory) => Err(Failure::Memory),
+    let Some(sections) = after_header(input) else {
         // A malformed module has no sections.
-        Err(ReadError::Refused { .. }) => Ok(()),
-    }
-}
-
-/// Checks the order of the sections of this module, and the counts that must agree.
-fn check_listed(alloc: Global, module: &[u8], sections: &[RawSection<'_>]) -> Result<(), Failure>
-    ensures in_order { OnOk result (AreInOrder 0 (all_parts_of sections.now)) }
-    ensures disordered { IfDisordered result (IsWhyNot (all_parts_of sections.now)) }
-    ensures refused { IfRefused result (λ _. ⊥) }
-{
+        return Ok(());
+    };
     match find_error(alloc, sections)? {
         Some(error) => {
-            let section = find_misplaced(module, &error);
+            let section = find_misplaced(input, &error);
             Err(Failure::Disordered { error, section })
         }
         None => Ok(()),
@@ -75,9 +64,9 @@ fn check_listed(alloc: Global, module: &[u8], sections: &[RawSection<'_>]) -> Re
 /// Finds a rule that the sections break.
 ///
 /// Fails if memory runs out.
-fn find_error(alloc: Global, sections: &[RawSection<'_>]) -> Result<Option<ModuleError>, AllocError>
-    ensures none { IfOk result (λ error. IfNone error (AreInOrder 0 (all_parts_of sections.now))) }
-    ensures why { IfOk result (λ error. IfSome error (IsWhyNot (all_parts_of sections.now))) }
+fn find_error(alloc: Global, sections: &[u8]) -> Result<Option<ModuleError>, AllocError>
+    ensures none { IfOk result (λ error. IfNone error (OfSections sections.now (AreInOrder 0))) }
+    ensures why { IfOk result (λ error. IfSome error (λ error. OfSections sections.now (λ all. IsWhyNot all error))) }
 {
     match find_out_of_order(sections) {
         Some(index) => Ok(Some(ModuleError::OutOfOrder { index })),
@@ -86,19 +75,29 @@ fn find_error(alloc: Global, sections: &[RawSection<'_>]) -> Result<Option<Modul
 }
 
 /// Returns the index of the first section that is out of order.
-fn find_out_of_order(sections: &[RawSection<'_>]) -> Option<usize>
-    ensures none { IfNone result (AreInOrder 0 (all_parts_of sections.now)) }
-    ensures first { IfSome result (IsOutOfOrderAt (all_parts_of sections.now)) }
+fn find_out_of_order(sections: &[u8]) -> Option<usize>
+    ensures none { IfNone result (OfSections sections.now (AreInOrder 0)) }
+    ensures first { IfSome result (λ index. OfSections sections.now (λ all. IsOutOfOrderAt all index)) }
 {
+    let mut cursor = Cursor::new(sections);
     let mut last = 0;
-    for (index, section) in sections.iter().enumerate() {
-        let rank = rank(section);
+    let mut index = 0;
+    while cursor.len() > 0 {
+        // `fork` shows the proof that all remaining items are bytes.
+        let _start = cursor.fork();
+        let section = match read_section(&mut cursor) {
+            Ok(section) => section,
+            // Malformed bytes encode no sections.
+            Err(_) => return None,
+        };
+        let rank = rank(&section);
         if rank != 0 {
             if rank <= last {
                 return Some(index);
             }
             last = rank;
         }
+        index += 1;
     }
     None
 }
@@ -120,11 +119,8 @@ fn rank(section: &RawSection<'_>) -> u16
 /// Finds counts that disagree. Each kind of section is there at most once.
 ///
 /// Fails if memory runs out.
-fn find_count_error(
-    alloc: Global,
-    sections: &[RawSection<'_>],
-) -> Result<Option<ModuleError>, AllocError>
-    ensures why { IfOk result (λ error. IfSome error (IsWhyNot (all_parts_of sections.now))) }
+fn find_count_error(alloc: Global, sections: &[u8]) -> Result<Option<ModuleError>, AllocError>
+    ensures why { IfOk result (λ error. IfSome error (λ error. OfSections sections.now (λ all. IsWhyNot all error))) }
 {
     let functions = count_items(sections, FUNCTION_SECTION);
     let bodies = count_items(sections, CODE_SECTION);
@@ -149,8 +145,10 @@ fn find_count_error(
 }
 
 /// Returns the body of the first section with this id.
-fn find_body<'a>(sections: &[RawSection<'a>], id: u8) -> Option<&'a [u8]> {
-    for section in sections {
+fn find_body(sections: &[u8], id: u8) -> Option<&[u8]> {
+    let mut cursor = Cursor::new(sections);
+    for _ in 0..sections.len() {
+        let section = read_section(&mut cursor).ok()?;
         if section.id == id {
             return Some(section.body);
         }
@@ -159,7 +157,7 @@ fn find_body<'a>(sections: &[RawSection<'a>], id: u8) -> Option<&'a [u8]> {
 }
 
 /// Returns the number at the start of the first section with this id. Returns 0 if there is no such section.
-fn count_items(sections: &[RawSection<'_>], id: u8) -> u32 {
+fn count_items(sections: &[u8], id: u8) -> u32 {
     match find_body(sections, id) {
         Some(body) => Cursor::new(body).u32().unwrap_or(0),
         None => 0,

@@ -185,7 +185,7 @@ fn read_form<R: Read>(
         IsLongestPrefix (IsModulePrefixOf module_section) input at)) }
 {
     let canonical = read_canonical(alloc, reader, any_order)?;
-    let bytes = choose_sections(alloc, canonical.bytes, sections)?;
+    let bytes = choose_sections(canonical.bytes, sections);
     let stale = if canonical.has_moved {
         first_offset_name(&bytes)
     } else {

@@ -49,14 +49,14 @@ const REASONS: [(Reason, &str); 19] = [
     ),
     (
         Reason::UnknownOpcode { number: 0xff },
-        "unknown opcode 0xff",
+        "unknown opcode 0xFF",
     ),
     (
         Reason::UnknownPrefixedOpcode {
             prefix: 0xfd,
             number: 300,
         },
-        "unknown opcode 0xfd 300",
+        "unknown opcode 0xFD 0x12C",
     ),
     (
         Reason::InvalidAlignment { flags: 128 },
@@ -125,7 +125,7 @@ const CONSTRUCTS: [(Construct, &str); 32] = [
 ];
 
 /// The text for bytes that aren't a module.
-const NOT_A_MODULE: &str = "not a WebAssembly module: expected the header 00 61 73 6d 01 00 00 00";
+const NOT_A_MODULE: &str = "not a WebAssembly module: expected the header 00 61 73 6D 01 00 00 00";
 
 /// The sections and how a refusal in their second item begins.
 const SECTIONS: [(u8, &str); 14] = [
@@ -203,7 +203,7 @@ fn sections_and_items(rt: HostRuntime) -> Result<(), Fail> {
             item: Some(1),
             ..OUTSIDE
         };
-        let text = format!(in rt.alloc(); "{place}offset 0x1f: unknown opcode 0xff")?;
+        let text = format!(in rt.alloc(); "{place}offset 0x1f: unknown opcode 0xFF")?;
         tells(rt.alloc(), &refusal, text.as_str())?;
     }
     Ok(())
@@ -211,7 +211,7 @@ fn sections_and_items(rt: HostRuntime) -> Result<(), Fail> {
 
 #[test]
 fn places(rt: HostRuntime) -> Result<(), Fail> {
-    tells(rt.alloc(), &OUTSIDE, "offset 0x1f: unknown opcode 0xff")?;
+    tells(rt.alloc(), &OUTSIDE, "offset 0x1f: unknown opcode 0xFF")?;
     let item = Refusal {
         item: Some(7),
         ..OUTSIDE
@@ -219,7 +219,7 @@ fn places(rt: HostRuntime) -> Result<(), Fail> {
     tells(
         rt.alloc(),
         &item,
-        "item 7, offset 0x1f: unknown opcode 0xff",
+        "item 7, offset 0x1f: unknown opcode 0xFF",
     )?;
     let unknown = Refusal {
         section: Some(SectionPlace { number: 3, id: 14 }),
@@ -240,7 +240,7 @@ fn places(rt: HostRuntime) -> Result<(), Fail> {
     tells(
         rt.alloc(),
         &local,
-        "code section, function 12, local group 4, offset 0x1f: unknown opcode 0xff",
+        "code section, function 12, local group 4, offset 0x1f: unknown opcode 0xFF",
     )
 }
 
@@ -249,6 +249,6 @@ fn decode_errors(rt: HostRuntime) -> Result<(), Fail> {
     let memory = DecodeError::Memory.to_string(rt.alloc())?;
     assert_eq!(rt; memory.as_str(), "no memory");
     let malformed = DecodeError::Malformed(OUTSIDE).to_string(rt.alloc())?;
-    assert_eq!(rt; malformed.as_str(), "offset 0x1f: unknown opcode 0xff");
+    assert_eq!(rt; malformed.as_str(), "offset 0x1f: unknown opcode 0xFF");
     Ok(())
 }

@@ -111,6 +111,11 @@ impl fmt::Display for Construct {
     }
 }
 
+/// Returns the noun after this number of bytes.
+fn bytes_word(count: &usize) -> &'static str {
+    if *count == 1 { "byte" } else { "bytes" }
+}
+
 /// Why bytes don't decode.
 #[derive(Clone, Copy, Debug, PartialEq, Eq, Error)]
 pub enum Reason {
@@ -149,13 +154,13 @@ pub enum Reason {
         number: u32,
     },
     /// An opcode of one byte is unknown.
-    #[error("unknown opcode 0x{number:02x}")]
+    #[error("unknown opcode 0x{number:02X}")]
     UnknownOpcode {
         /// The opcode.
         number: u32,
     },
     /// An opcode with a prefix is unknown.
-    #[error("unknown opcode 0x{prefix:02x} {number}")]
+    #[error("unknown opcode 0x{prefix:02X} 0x{number:02X}")]
     UnknownPrefixedOpcode {
         /// The first byte.
         prefix: u8,
@@ -175,13 +180,13 @@ pub enum Reason {
         at: u32,
     },
     /// Bytes follow after the last part.
-    #[error("{count} trailing bytes")]
+    #[error("{count} trailing {}", bytes_word(.count))]
     TrailingBytes {
         /// Number of bytes.
         count: usize,
     },
     /// A size is larger than the number of bytes left.
-    #[error("size {size} too large: {left} bytes left")]
+    #[error("size {size} too large: {left} {} left", bytes_word(.left))]
     SizeTooLarge {
         /// The size.
         size: u32,
@@ -201,7 +206,7 @@ pub enum Reason {
         id: u8,
     },
     /// The bytes don't begin with the header of a module.
-    #[error("not a WebAssembly module: expected the header 00 61 73 6d 01 00 00 00")]
+    #[error("not a WebAssembly module: expected the header 00 61 73 6D 01 00 00 00")]
     NotAModule,
     /// The bytes have another version than that of a module.
     #[error("unsupported version 0x{version:x}: expected 1")]

@@ -1,5 +1,5 @@
 //! Why and where bytes are refused.
-ghost use Rattle.std.specs.Prelude.{◌≡◌};
+ghost use Rattle.std.specs.Prelude.{◌≡◌, ◌≤◌, ◌+◌};
 
 use crate::reader::malformed::{Malformed, Reason};
 use crate::reader::names::section_names;
@@ -51,7 +51,9 @@ pub struct Refusal {
 impl Refusal {
     /// Returns the refusal for a fault in the part that begins at `at`, in `len` bytes.
     pub fn new(malformed: &Malformed, at: usize, len: usize) -> Refusal
-        ensures { result.at ≡ at }
+        ensures at { result.at ≡ at }
+        ensures from { at ≤ result.offset }
+        ensures to { at ≤ len → result.offset ≤ len }
     {
         let offset = len.saturating_sub(malformed.left).max(at);
         Refusal {
@@ -70,7 +72,9 @@ impl Refusal {
 
     /// Returns the refusal at `at`, in bytes with `count` more in front.
     pub fn behind(self, at: usize, count: usize) -> Refusal
-        ensures { result.at ≡ at }
+        ensures at { result.at ≡ at }
+        ensures from { at ≡ count + self.at → self.at ≤ self.offset → at ≤ result.offset }
+        ensures to { result.offset ≤ count + self.offset }
     {
         Refusal {
             at,

@@ -2,6 +2,7 @@
 ghost use Rattle.std.specs.Prelude.{◌≡◌, ℕ, List, IfErr};
 ghost use Rattle.wasm_codec.specs.Places.{Reads};
 ghost use Rattle.wasm_codec.specs.Rewriter.{Rewrites};
+ghost use Rattle.wasm_codec.specs.Scanning.{Scans};
 ghost use Rattle.wasm_codec.specs.formats.Combinators.{items};
 ghost use Rattle.wasm_codec.specs.Outcomes.{IsMalformed};
 ghost use Rattle.wasm_types.specs.declared.types.value.ValType.{ValType};
@@ -14,10 +15,11 @@ use crate::code::CodeBody;
 use std::alloc::Global;
 use wasm_codec::reader::cursor::{Cursor, Fault};
 use wasm_codec::reader::{ReadError, without_reason};
-use wasm_codec::rewriter::Rewriter;
+use wasm_codec::rewriter::{Rewriter, Scanned};
 use wasm_instructions::table::Call;
 use wasm_lists::rewriting::{
-    Rewritable, RewritableBody, rewrite_list, rewrite_list_to_end, rewrite_sized, rewrite_to_end,
+    Rewritable, RewritableBody, begins_run, rewrite_list, rewrite_list_to_end, rewrite_sized,
+    rewrite_to_end,
 };
 use wasm_types::normaliser::rewrite_val_type;
 use wasm_types::reader::read_val_type;
@@ -78,7 +80,33 @@ impl Rewritable for CodeBody {
 
     #[inline(always)]
     fn rewrite(rewriter: &mut Rewriter) -> Result<(), Fault> {
+        rewriter.are_bytes();
+        if let Some(scanned) = scan_short_body(rewriter.left()) {
+            rewriter.rewrite_scanned(scanned);
+            return Ok(());
+        }
         rewrite_code_body(rewriter)
+    }
+}
+
+/// The length in bytes of the longest code body that is scanned as a whole. Longer ones would be scanned twice, if a part
+/// of them isn't minimal.
+const SHORT_BODY: u8 = 127;
+
+/// Scans a code body of at most 127 bytes that has no locals, if all of its instructions can be scanned and are minimally
+/// encoded.
+#[inline(always)]
+fn scan_short_body(bytes: &[u8]) -> Option<Scanned>
+    ensures { Scans code_body bytes.now result }
+{
+    if bytes.len() < 2 || bytes[0] == 0 || bytes[0] > SHORT_BODY || bytes[1] != 0 {
+        return None;
+    }
+    let count = usize::from(bytes[0]) - 1;
+    if begins_run::<Call>(&bytes[2..], count) {
+        Some(Scanned::Shortest(2 + count))
+    } else {
+        None
     }
 }
 

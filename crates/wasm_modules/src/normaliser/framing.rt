@@ -1,5 +1,6 @@
 //! The normaliser of modules, generic over the format of their sections (Core 3.0, Modules).
-ghost use Rattle.wasm_codec.specs.Outcomes.{NeedsNoMemory, as_read};
+ghost use Rattle.std.specs.Prelude.{IfErr, length};
+ghost use Rattle.wasm_codec.specs.Outcomes.{LiesIn, NeedsNoMemory, as_read};
 ghost use Rattle.wasm_codec.specs.formats.Combinators.{minimal_only};
 ghost use Rattle.wasm_modules.specs.Modules.{IsModulePrefixOf};
 ghost use Rattle.wasm_modules.specs.formats.Modules.{module_of};
@@ -21,6 +22,7 @@ use wasm_lists::rewriting::{Joinable, RewritableBody, rewrite_joined, rewrite_si
 /// header is missing. Fails with `Memory` if the bytes can't be copied.
 pub fn normalise_module_of<S: Joinable>(alloc: Global, bytes: &[u8]) -> Result<Vec<u8>, DecodeError>
     ensures normalises { Normalises (module_of S.format) (minimal_only (module_of S.format)).Encodes (IsModulePrefixOf S.format) bytes.now (as_read result) }
+    ensures place { IfErr result (LiesIn (length bytes.now)) }
 {
     S::is_lawful();
     copied_and_rewritten::<S>(alloc, bytes)
@@ -29,6 +31,7 @@ pub fn normalise_module_of<S: Joinable>(alloc: Global, bytes: &[u8]) -> Result<V
 /// Copies the bytes and rewrites the copy. The caller's other clauses follow from these.
 fn copied_and_rewritten<S: Joinable>(alloc: Global, bytes: &[u8]) -> Result<Vec<u8>, DecodeError>
     ensures rewrites { RewritesAll (module_of S.format) (IsModulePrefixOf S.format) bytes.now (as_read result) }
+    ensures place { IfErr result (LiesIn (length bytes.now)) }
 {
     rewrite_module_of::<S>(Vec::from_slice(alloc, bytes)?)
 }
@@ -37,6 +40,7 @@ fn copied_and_rewritten<S: Joinable>(alloc: Global, bytes: &[u8]) -> Result<Vec<
 pub fn rewrite_module_of<S: Joinable>(bytes: Vec<u8>) -> Result<Vec<u8>, DecodeError>
     ensures rewrites { RewritesAll (module_of S.format) (IsModulePrefixOf S.format) bytes.items (as_read result) }
     ensures memory { NeedsNoMemory (as_read result) }
+    ensures place { IfErr result (LiesIn (length bytes.items)) }
 {
     S::is_lawful();
     let len = bytes.len();

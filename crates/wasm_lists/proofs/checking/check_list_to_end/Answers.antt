@@ -9,32 +9,28 @@ use Rattle.wasm_codec.proofs.ListReading.{IsBytes-from}
 use Rattle.wasm_lists.proofs.CheckLaws.{list_taken, refused_prefix, refused_unencoded, no_list, no_list_prefix}
 use Rattle.wasm_lists.proofs.checking.check_list_to_end.Goals as goal
 
-pub returns-in-Some : goal.returns-in-Some
-returns-in-Some g c =
+pub returns-in-Some-clause-checks : goal.returns-in-Some-clause-checks
+returns-in-Some-clause-checks g c =
     let none : is_some ((minimal_only u32).at (place true c.args.bytes.now)) ≡ false = c.in-Some.ensures.some in
-    rw c.refused.ensures (record { checks = record { given = tt; prefix = no_list_prefix g.T.Rewritable.format c.args.bytes.now none; unencoded = no_list g.T.Rewritable.format c.args.bytes.now none } })
+    rw c.refused.ensures.error (record { given = tt; prefix = no_list_prefix g.T.Rewritable.format c.args.bytes.now none; unencoded = no_list g.T.Rewritable.format c.args.bytes.now none })
 
-pub returns-in_err-_list : goal.returns-in_err-_list
-returns-in_err-_list g c =
+pub returns-in_err-_list-clause-checks : goal.returns-in_err-_list-clause-checks
+returns-in_err-_list-clause-checks g c =
     let there : is_some ((minimal_only u32).at (place true c.args.bytes.now)) ≡ true = grind arith in
     let fits : IsBytes c.args.bytes.now = IsBytes-from c.args.bytes.now (λ i. omega (arith, c.type_inv.bytes i)) in
     let p = err_from_is_err_and c.from_residual-in_err-_list.result c.from_residual-in_err-_list.ensures.1 in
     rw (p.1, p.2, ← c.in_ok-from_slice.ensures.items) (record {
-      checks = record {
-        given = tt;
-        prefix = refused_prefix g.T.Rewritable.format c.in_ok-from_slice.field-0.items (read_error_of c.in_err-_list.field-0.0) (rw c.in_ok-from_slice.ensures.items fits) (rw c.in_ok-from_slice.ensures.items there) c.in_err-_list.ensures.prefix;
-        unencoded = refused_unencoded g.T.Rewritable.format c.in_ok-from_slice.field-0.items (read_error_of c.in_err-_list.field-0.0) c.in_err-_list.ensures.unencoded;
-      };
+      given = tt;
+      prefix = refused_prefix g.T.Rewritable.format c.in_ok-from_slice.field-0.items (read_error_of c.in_err-_list.field-0.0) (rw c.in_ok-from_slice.ensures.items fits) (rw c.in_ok-from_slice.ensures.items there) c.in_err-_list.ensures.prefix;
+      unencoded = refused_unencoded g.T.Rewritable.format c.in_ok-from_slice.field-0.items (read_error_of c.in_err-_list.field-0.0) c.in_err-_list.ensures.unencoded;
     })
 
-pub returns : goal.returns
-returns g c =
+pub returns-clause-checks : goal.returns-clause-checks
+returns-clause-checks g c =
     let there : is_some ((minimal_only u32).at (place true c.args.bytes.now)) ≡ true = grind arith in
     let fits : IsBytes c.args.bytes.now = IsBytes-from c.args.bytes.now (λ i. omega (arith, c.type_inv.bytes i)) in
     record {
-      checks = record {
-        given = rw (← c.in_ok-from_slice.ensures.items) (list_taken g.T.Rewritable.format c.in_ok-from_slice.field-0.items c.in_ok-_list._list.items (rw c.in_ok-from_slice.ensures.items fits) (rw c.in_ok-from_slice.ensures.items there) c.in_ok-_list.ensures.given);
-        prefix = tt;
-        unencoded = tt;
-      };
+      given = rw (← c.in_ok-from_slice.ensures.items) (list_taken g.T.Rewritable.format c.in_ok-from_slice.field-0.items c.in_ok-_list._list.items (rw c.in_ok-from_slice.ensures.items fits) (rw c.in_ok-from_slice.ensures.items there) c.in_ok-_list.ensures.given);
+      prefix = tt;
+      unencoded = tt;
     }

@@ -17,9 +17,9 @@ returns-in-Err-clause-prefix g c =
     let law = c.is_lawful.ensures in
     let stop : StopsAt g.T.Rewritable.format c.args.bytes.items c.in-Err.stop.left = subst (λ (r : Rewriting). StopsAt g.T.Rewritable.format r.place.left c.in-Err.stop.left) c.new-rewriter.ensures c.in-Err.ensures.0 in
     let len : length c.args.bytes.items ≡ c.len-len.result = omega arith in
-    rw (c.numbered.ensures, c.new.ensures, error_is c.in-Err.stop.fault (c.len-len.result - c.in-Err.stop.left) c.in-Err.ensures.1.1) (subst (λ (n : ℕ). IsLongestPrefix (EncodesSome (Joined g.T.Rewritable.format.Encodes)) c.args.bytes.items (n - c.in-Err.stop.left)) len (joined_stopped law.lawful law.some c.args.bytes.items c.in-Err.stop.left stop))
+    rw (c.numbered.ensures.error, c.new.ensures.error, error_is c.in-Err.stop.fault (c.len-len.result - c.in-Err.stop.left) c.in-Err.ensures.1.1) (subst (λ (n : ℕ). IsLongestPrefix (EncodesSome (Joined g.T.Rewritable.format.Encodes)) c.args.bytes.items (n - c.in-Err.stop.left)) len (joined_stopped law.lawful law.some c.args.bytes.items c.in-Err.stop.left stop))
 
 pub returns-in-Err-clause-within : goal.returns-in-Err-clause-within
 returns-in-Err-clause-within g c =
     let stop : StopsAt g.T.Rewritable.format c.args.bytes.items c.in-Err.stop.left = subst (λ (r : Rewriting). StopsAt g.T.Rewritable.format r.place.left c.in-Err.stop.left) c.new-rewriter.ensures c.in-Err.ensures.0 in
-    rw (c.numbered.ensures, c.new.ensures, error_is c.in-Err.stop.fault (c.len-len.result - c.in-Err.stop.left) c.in-Err.ensures.1.1) (omega (arith, stopped_within g.T.Rewritable.format c.args.bytes.items c.in-Err.stop.left stop))
+    rw (c.numbered.ensures.error, c.new.ensures.error, error_is c.in-Err.stop.fault (c.len-len.result - c.in-Err.stop.left) c.in-Err.ensures.1.1) (omega (arith, stopped_within g.T.Rewritable.format c.args.bytes.items c.in-Err.stop.left stop))

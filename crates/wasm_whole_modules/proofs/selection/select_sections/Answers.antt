@@ -1,16 +1,44 @@
-use Rattle.std.proofs.Common.{◌≡◌, ◌∙◌, List, Result, Ok, Err, subst, sym, ap}
-use Rattle.std.specs.Prelude.{IfOk}
-use Rattle.wasm_codec.specs.Outcomes.{IsOrMemory}
-use Rattle.wasm_codec.specs.declared.reader.ReadError.{ReadError}
-use Rattle.wasm_codec.specs.declared.reader.ReadError.TheVariants.{Refused}
-use Rattle.wasm_modules.specs.formats.Sections.{SectionParts, all_parts_of}
-use Rattle.wasm_modules.specs.declared.section.RawSection.{RawSection}
-use Rattle.wasm_whole_modules.specs.Selections.{IsSelected}
-use Rattle.wasm_whole_modules.proofs.OffsetLaws.{mapped, given_is, not_refused}
+use Rattle.std.proofs.Common.{◌≡◌, ◌∙◌, ◌++◌, ◌-◌, ◌<◌, ℕ, List, length, sym, ap, subst, arith}
+use Rattle.std.proofs.lemmas.List.{nil_from_length}
+use Rattle.wasm_codec.specs.Rewriter.{Rewriting}
+use Rattle.wasm_modules.specs.formats.Sections.{header, SectionParts}
+use Rattle.wasm_whole_modules.specs.Selections.{ChoosesNext, IsSelected}
+use Rattle.wasm_whole_modules.proofs.SelectionLaws.{selecting_none, selecting_kept, selecting_dropped, marked_within, selected_all, selected_nowhere, is_rewritten, rewritten_fewer}
 use Rattle.wasm_whole_modules.proofs.selection.select_sections.Goals as goal
 
-pub returns-in-Ok : goal.returns-in-Ok
-returns-in-Ok c = record { ok = mapped c.write_selected.result (λ left w sections e. subst (λ (l : List SectionParts). IsSelected c.args.selection l left.items) (given_is _ sections c.read_module.result c.in-Ok.sections c.in-Ok.is (c.read_module.ensures.decodes.complete sections e)) (subst (λ (l : List RawSection). IsSelected c.args.selection (all_parts_of l) left.items) c.deref.ensures.value w)) c.write_selected.ensures }
+pub loop-rewriter-init : goal.loop-rewriter-init
+loop-rewriter-init c =
+    let found : c.args.module.items ≡ header ++ c.in-Some._sections.now = rw (← c.deref.ensures.value) c.in-Some.ensures.found in
+    selecting_none c.args.selection c.args.module.items c.in-Some._sections.now c.new-rewriter.result c.skip.new.self found c.new-rewriter.ensures c.skip.ensures
 
-pub returns-in-Err-Refused : goal.returns-in-Err-Refused
-returns-in-Err-Refused c = record { ok = mapped c.from_slice.result (λ left w sections e. absurd (not_refused _ sections c.read_module.result _ (c.in-Err-Refused.is ∙ ap Err c.in-Err-Refused.field-0-is) (c.read_module.ensures.decodes.complete sections e))) c.from_slice.ensures.items }
+pub loop-rewriter-smaller-then-dropped : goal.loop-rewriter-smaller-then-dropped
+loop-rewriter-smaller-then-dropped c =
+    let rewritten = is_rewritten c.loop-rewriter.rewriter c.rewrite_raw_section.new.rewriter c.rewrite_raw_section.result c.rewrite_raw_section.ensures.rewrites (sym c.is_err.ensures.value ∙ c.if-is_err.false) in
+    omega (arith, rewritten_fewer c.loop-rewriter.rewriter c.rewrite_raw_section.new.rewriter c.are_bytes.ensures rewritten, ap (λ (r : Rewriting). length r.place.left) c.cut_out.ensures)
+
+pub loop-rewriter-preserved-then-dropped : goal.loop-rewriter-preserved-then-dropped
+loop-rewriter-preserved-then-dropped c =
+    let some : 0 < length c.loop-rewriter.rewriter.place.left = omega (arith, c.loop-rewriter-test.true, c.len.ensures) in
+    let chooses : ChoosesNext c.args.selection c.loop-rewriter.rewriter.place.left c.next_is_dropped-dropped.result = subst (λ (l : List ℕ). ChoosesNext c.args.selection l c.next_is_dropped-dropped.result) c.left.ensures c.next_is_dropped-dropped.ensures.next in
+    let rewritten = is_rewritten c.loop-rewriter.rewriter c.rewrite_raw_section.new.rewriter c.rewrite_raw_section.result c.rewrite_raw_section.ensures.rewrites (sym c.is_err.ensures.value ∙ c.if-is_err.false) in
+    selecting_dropped c.args.selection c.args.module.items c.loop-rewriter.rewriter c.rewrite_raw_section.new.rewriter c.next_is_dropped-dropped.result c.loop-rewriter.invariant some chooses rewritten c.written_len-mark.result (c.written_len.result - c.written_len-mark.result) c.cut_out.new.self c.written_len-mark.ensures (omega (arith, c.written_len.ensures)) c.cut_out.ensures c.if-dropped.true
+
+pub loop-rewriter-smaller : goal.loop-rewriter-smaller
+loop-rewriter-smaller c =
+    let rewritten = is_rewritten c.loop-rewriter.rewriter c.rewrite_raw_section.new.rewriter c.rewrite_raw_section.result c.rewrite_raw_section.ensures.rewrites (sym c.is_err.ensures.value ∙ c.if-is_err.false) in
+    rewritten_fewer c.loop-rewriter.rewriter c.rewrite_raw_section.new.rewriter c.are_bytes.ensures rewritten
+
+pub loop-rewriter-preserved : goal.loop-rewriter-preserved
+loop-rewriter-preserved c =
+    let some : 0 < length c.loop-rewriter.rewriter.place.left = omega (arith, c.loop-rewriter-test.true, c.len.ensures) in
+    let chooses : ChoosesNext c.args.selection c.loop-rewriter.rewriter.place.left c.next_is_dropped-dropped.result = subst (λ (l : List ℕ). ChoosesNext c.args.selection l c.next_is_dropped-dropped.result) c.left.ensures c.next_is_dropped-dropped.ensures.next in
+    let rewritten = is_rewritten c.loop-rewriter.rewriter c.rewrite_raw_section.new.rewriter c.rewrite_raw_section.result c.rewrite_raw_section.ensures.rewrites (sym c.is_err.ensures.value ∙ c.if-is_err.false) in
+    selecting_kept c.args.selection c.args.module.items c.loop-rewriter.rewriter c.rewrite_raw_section.new.rewriter c.next_is_dropped-dropped.result c.loop-rewriter.invariant some chooses rewritten c.if-dropped.false
+
+pub returns : goal.returns
+returns c = record { ok = rw c.finish-2.ensures (selected_all c.args.selection c.args.module.items c.loop-rewriter.rewriter c.loop-rewriter.invariant (nil_from_length c.loop-rewriter.rewriter.place.left (omega (arith, c.loop-rewriter-test.false, c.len.ensures)))) }
+
+pub returns-then-is_err : goal.returns-then-is_err
+returns-then-is_err c =
+    let some : 0 < length c.loop-rewriter.rewriter.place.left = omega (arith, c.loop-rewriter-test.true, c.len.ensures) in
+    record { ok = selected_nowhere c.args.selection c.args.module.items c.loop-rewriter.rewriter c.rewrite_raw_section.new.rewriter c.rewrite_raw_section.result (λ (sections : List SectionParts). IsSelected c.args.selection sections c.finish.result.items) c.loop-rewriter.invariant some c.rewrite_raw_section.ensures.rewrites (sym c.is_err.ensures.value ∙ c.if-is_err.true) }

@@ -5,17 +5,17 @@ use Rattle.wasm_modules.specs.formats.Sections.{header}
 use Rattle.wasm_modules.proofs.ModuleFormatLaws.{after_header_is, headed_normal, HeadedRefused, headed_refused, headless}
 use Rattle.wasm_modules.proofs.normaliser.framing.rewrite_module_of.Goals as goal
 
-pub returns-in-Ok : goal.returns-in-Ok
-returns-in-Ok g c =
+pub returns-in-Ok-clause-rewrites : goal.returns-in-Ok-clause-rewrites
+returns-in-Ok-clause-rewrites g c =
     let law = c.is_lawful.ensures in
     let body = c.in-Some._sections.now in
     let found : c.args.bytes.items ≡ header ++ body = rw (← c.deref.ensures.value) c.in-Some.ensures.found in
     let start = after_header_is c.args.bytes.items body c.skip.new.self found (c.skip.ensures ∙ ap (skipped 8) c.new-rewriter.ensures) in
     let normal = headed_normal law.lawful law.some c.args.bytes.items body c.skip.new.self c.rewrite_joined.new.rewriter found start c.are_bytes.ensures c.in-Ok.ensures.0 c.in-Ok.ensures.1 in
-    record { rewrites = record { given = rw c.finish.ensures normal; prefix = tt; unencoded = tt }; memory = tt }
+    record { given = rw c.finish.ensures normal; prefix = tt; unencoded = tt }
 
-pub returns-in-Err : goal.returns-in-Err
-returns-in-Err g c =
+pub returns-in-Err-clause-rewrites : goal.returns-in-Err-clause-rewrites
+returns-in-Err-clause-rewrites g c =
     let law = c.is_lawful.ensures in
     let body = c.in-Some._sections.now in
     let found : c.args.bytes.items ≡ header ++ body = rw (← c.deref.ensures.value) c.in-Some.ensures.found in
@@ -23,7 +23,7 @@ returns-in-Err g c =
     let len : length c.args.bytes.items ≡ c.len-len.result = omega arith in
     let refused = headed_refused law.lawful law.some c.args.bytes.items body c.skip.new.self c.in-Err.stop.left found start c.in-Err.ensures.0 in
     let at = subst (λ (n : ℕ). HeadedRefused g.S.Rewritable.format.Encodes c.args.bytes.items (n - c.in-Err.stop.left)) len refused in
-    rw (c.numbered.ensures, c.new.ensures, error_is c.in-Err.stop.fault (c.len-len.result - c.in-Err.stop.left) c.in-Err.ensures.1.1) (record { rewrites = record { given = tt; prefix = at.prefix; unencoded = refused.unencoded }; memory = tt })
+    rw (c.numbered.ensures.error, c.new.ensures.error, error_is c.in-Err.stop.fault (c.len-len.result - c.in-Err.stop.left) c.in-Err.ensures.1.1) (record { given = tt; prefix = at.prefix; unencoded = refused.unencoded })
 
 pub returns-in_default-clause-rewrites : goal.returns-in_default-clause-rewrites
-returns-in_default-clause-rewrites g c = rw c.refused.ensures (headless g.S.Rewritable.format c.args.bytes.items (rw (← c.deref.ensures.value) c.in_default.ensures.missing))
+returns-in_default-clause-rewrites g c = rw c.refused.ensures.error (headless g.S.Rewritable.format c.args.bytes.items (rw (← c.deref.ensures.value) c.in_default.ensures.missing))
