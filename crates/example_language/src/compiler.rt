@@ -2,10 +2,11 @@
 
 use crate::expression::compile;
 use crate::faults::{CompileError, Fault};
+use crate::names::name_map;
 use crate::program::{Program, Signature, parameters};
 use crate::tokens::{Token, Tokens};
 use std::alloc::Global;
-use wasm_encoder::{CodeSection, EncodeError, Function, ValType};
+use wasm_encoder::{CodeSection, EncodeError, Function, IndirectNameMap, ValType};
 
 /// A block that is open.
 #[derive(Clone, Copy, Debug)]
@@ -24,8 +25,21 @@ pub enum Block {
     Catch,
 }
 
+/// The functions of a program, compiled.
+#[derive(Drop)]
+pub struct Compiled {
+    /// Bodies of the functions.
+    pub code: CodeSection,
+    /// Names of their locals.
+    pub locals: IndirectNameMap,
+}
+
 /// Compiles the functions of a program.
-pub fn code_of(alloc: Global, program: &Program, text: &str) -> Result<CodeSection, CompileError> {
+pub fn compile_functions(
+    alloc: Global,
+    program: &Program,
+    text: &str,
+) -> Result<Compiled, CompileError> {
     let mut compiler = match Compiler::new(alloc) {
         Ok(compiler) => compiler,
         Err(fault) => return Err(CompileError { line: 0, fault }),
@@ -46,7 +60,7 @@ pub fn code_of(alloc: Global, program: &Program, text: &str) -> Result<CodeSecti
 pub struct Compiler<'a> {
     alloc: Global,
     /// The functions that are compiled.
-    code: CodeSection,
+    compiled: Compiled,
     /// The function that is being compiled.
     pub function: Function,
     /// Names of its locals.
@@ -61,7 +75,10 @@ impl<'a> Compiler<'a> {
     fn new(alloc: Global) -> Result<Compiler<'a>, Fault> {
         Ok(Compiler {
             alloc,
-            code: CodeSection::new(alloc),
+            compiled: Compiled {
+                code: CodeSection::new(alloc),
+                locals: IndirectNameMap::new(alloc),
+            },
             function: Function::new(alloc, [].iter().copied())?,
             locals: Vec::new(alloc),
             blocks: Vec::new(alloc),
@@ -96,7 +113,7 @@ impl<'a> Compiler<'a> {
             | b"memory"
             | b"start" => { self.check_outside() }
             b"fn" => self.begin(program, tokens),
-            b"end" => self.end(tokens),
+            b"end" => self.end(program, tokens),
             _ => {
                 if self.blocks.is_empty() {
                     return Err(Fault::Outside);
@@ -164,11 +181,11 @@ impl<'a> Compiler<'a> {
     }
 
     /// Ends the innermost block.
-    fn end(&mut self, mut tokens: Tokens<'a>) -> Result<(), Fault> {
+    fn end(&mut self, program: &Program, mut tokens: Tokens<'a>) -> Result<(), Fault> {
         tokens.end()?;
         match self.blocks.pop() {
             None => Err(Fault::NoBlock),
-            Some(Block::Function) => Ok(self.end_function()?),
+            Some(Block::Function) => self.end_function(program),
             Some(Block::While) => Ok(end_while(&mut self.function)?),
             Some(Block::If | Block::Else | Block::Try | Block::Catch) => {
                 self.function.instructions().end()?;
@@ -178,13 +195,16 @@ impl<'a> Compiler<'a> {
     }
 
     /// Ends the function: it returns 0 if no statement returned.
-    fn end_function(&mut self) -> Result<(), EncodeError> {
+    fn end_function(&mut self, program: &Program) -> Result<(), Fault> {
         self.function.instructions().i32_const(0)?.end()?;
-        self.code.function(&self.function)
+        let index = program.index_of_own(self.compiled.code.len())?;
+        self.compiled.code.function(&self.function)?;
+        let names = name_map(self.alloc, &self.locals)?;
+        Ok(self.compiled.locals.append(index, &names)?)
     }
 
-    /// Adds the function that runs at the start, if there is one, and returns the code section.
-    fn finish(mut self, program: &Program) -> Result<CodeSection, Fault> {
+    /// Adds the function that runs at the start, if there is one, and returns all functions.
+    fn finish(mut self, program: &Program) -> Result<Compiled, Fault> {
         if !self.blocks.is_empty() {
             return Err(Fault::OpenBlock);
         }
@@ -194,9 +214,9 @@ impl<'a> Compiler<'a> {
             };
             let mut start = Function::new(self.alloc, [].iter().copied())?;
             start.instructions().call(called.index)?.drop()?.end()?;
-            self.code.function(&start)?;
+            self.compiled.code.function(&start)?;
         }
-        Ok(self.code)
+        Ok(self.compiled)
     }
 }
 

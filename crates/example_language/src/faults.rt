@@ -2,7 +2,7 @@
 
 use std::alloc::{AllocError, AllocFailed};
 use thiserror::Error;
-use wasm_encoder::EncodeError;
+use wasm_encoder::{EncodeError, NameError};
 
 /// The first error of a program, with its line.
 #[derive(Debug, Drop, Error)]
@@ -77,6 +77,9 @@ pub enum Fault {
     /// A failure to write.
     #[error("{0}")]
     Encode(#[from] EncodeError),
+    /// A failure to write names.
+    #[error("{0}")]
+    Names(#[from] NameError),
 }
 
 impl From<AllocError> for Fault {

@@ -24,8 +24,8 @@
 //! comment.
 //!
 //! `tokens` splits a line, and `program` reads the declarations. `compiler` takes one line after the other; `blocks`,
-//! `statements`, `expression` and `operators` append instructions. `module` builds the sections. No step can panic: the
-//! program prints a message for the first wrong line, and exits with status 1.
+//! `statements`, `expression` and `operators` append instructions. `module` builds the sections, and `names` the name
+//! section. No step can panic: the program prints a message for the first wrong line, and exits with status 1.
 #![tactic(auto)]
 
 mod blocks;
@@ -33,6 +33,7 @@ mod compiler;
 mod expression;
 mod faults;
 mod module;
+mod names;
 mod operators;
 mod program;
 mod statements;
@@ -55,6 +56,6 @@ fn main(rt: HostRuntime) -> Result<()> {
 /// Compiles a program.
 fn compile(alloc: Global, text: &str) -> Result<Vec<u8>, CompileError> {
     let program = Program::read(alloc, text)?;
-    let code = compiler::code_of(alloc, &program, text)?;
-    module::module_of(alloc, &program, &code).map_err(|fault| CompileError { line: 0, fault })
+    let compiled = compiler::compile_functions(alloc, &program, text)?;
+    module::module_of(alloc, &program, &compiled).map_err(|fault| CompileError { line: 0, fault })
 }

@@ -1,14 +1,16 @@
 //! Builds the module of a program.
 
+use crate::compiler::Compiled;
 use crate::faults::Fault;
+use crate::names::{names_of, text_of};
 use crate::program::{MOST_PARAMETERS, Program, Signature, Text};
 use std::alloc::Global;
 use wasm_encoder::sections::{ListSection, SectionItem, TagKind};
 use wasm_encoder::{
-    CodeSection, ConstExpr, DataCountSection, DataSection, ElementSection, Elements, EncodeError,
-    EntityType, ExportKind, ExportSection, FuncType, FunctionSection, GlobalSection, GlobalType,
-    ImportSection, MemorySection, MemoryType, Module, RefType, StartSection, TableSection,
-    TableType, TagSection, TagType, TypeSection, ValType,
+    ConstExpr, DataCountSection, DataSection, ElementSection, Elements, EncodeError, EntityType,
+    ExportKind, ExportSection, FuncType, FunctionSection, GlobalSection, GlobalType, ImportSection,
+    MemorySection, MemoryType, Module, RefType, StartSection, TableSection, TableType, TagSection,
+    TagType, TypeSection, ValType,
 };
 
 /// Name of the module that imported functions come from.
@@ -21,7 +23,7 @@ const TAG_TYPE: u32 = 9;
 const START_TYPE: u32 = 10;
 
 /// Returns the bytes of a module of a program, whose functions are compiled.
-pub fn module_of(alloc: Global, program: &Program, code: &CodeSection) -> Result<Vec<u8>, Fault> {
+pub fn module_of(alloc: Global, program: &Program, compiled: &Compiled) -> Result<Vec<u8>, Fault> {
     let mut module = Module::new(alloc)?;
     module.section(&types(alloc)?)?;
     add(&mut module, &imports(alloc, program)?)?;
@@ -31,8 +33,9 @@ pub fn module_of(alloc: Global, program: &Program, code: &CodeSection) -> Result
     add_start(program, &mut module)?;
     add(&mut module, &elements(alloc, program)?)?;
     module.section(&data_count(program)?)?;
-    module.section(code)?;
+    module.section(&compiled.code)?;
     add(&mut module, &data(alloc, program)?)?;
+    module.section(&names_of(alloc, program, &compiled.locals)?)?;
     Ok(module.finish())
 }
 
@@ -221,9 +224,4 @@ fn stored(alloc: Global, text: &Text) -> Result<Vec<u8>, Fault> {
     let mut bytes = Vec::from_slice(alloc, &length.to_le_bytes())?;
     bytes.extend_from_slice(text.bytes)?;
     Ok(bytes)
-}
-
-/// Returns a name as text.
-fn text_of(name: &[u8]) -> Result<&str, Fault> {
-    str::from_utf8(name).map_err(|_| Fault::NotUtf8)
 }

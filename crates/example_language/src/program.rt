@@ -203,6 +203,14 @@ impl<'a> Program<'a> {
         Some(Called { index, parameters })
     }
 
+    /// Returns the index of the function with a body that follows `count` others.
+    pub fn index_of_own(&self, count: u32) -> Result<u32, Fault> {
+        let Ok(imports) = u32::try_from(self.imports.len()) else {
+            return Err(Fault::TooLarge);
+        };
+        imports.checked_add(count).ok_or(Fault::TooLarge)
+    }
+
     /// Returns the index of the global of this name.
     pub fn global(&self, name: &[u8]) -> Option<u32> {
         let place = self.globals.iter().position(|global| global.name == name)?;

@@ -1,8 +1,8 @@
 //! Reads the export section back, checks it and normalises it.
-ghost use Rattle.std.specs.Prelude.{◌≡◌, List, ℕ, IfErr, refl, true};
+ghost use Rattle.std.specs.Prelude.{◌≡◌, List, ℕ, IfErr, length, refl, true};
 ghost use Rattle.std.proofs.lemmas.List.{map_push};
 ghost use Rattle.wasm_codec.specs.Reading.{map_ok};
-ghost use Rattle.wasm_codec.specs.Outcomes.{IsMalformed, as_read};
+ghost use Rattle.wasm_codec.specs.Outcomes.{IsMalformed, LiesIn, as_read};
 ghost use Rattle.wasm_encoder.specs.Outcomes.{NeedsNoMemory};
 ghost use Rattle.wasm_encoder.specs.Bodies.{byte_list, bytes_to_end};
 ghost use Rattle.wasm_encoder.specs.Combinators.{items};
@@ -143,6 +143,7 @@ impl<'a> Decode<'a> for ExportSection<'a> {
 
     fn check_all(alloc: Global, bytes: &[u8]) -> Result<(), DecodeError>
         ensures checks { ChecksAll (ListMinimalIf true export) (IsListPrefixMinimalIf true export) bytes.now (as_read result) }
+        ensures place { IfErr result (LiesIn (length bytes.now)) }
     {
         check_list_to_end::<Item<'_, ReadExport<'_>>>(alloc, bytes)
     }
@@ -150,6 +151,7 @@ impl<'a> Decode<'a> for ExportSection<'a> {
     fn rewrite_all(bytes: Vec<u8>) -> Result<Vec<u8>, DecodeError>
         ensures rewrites { RewritesAll (items export) (IsListPrefix export.Encodes) bytes.items (as_read result) }
         ensures memory { NeedsNoMemory (as_read result) }
+        ensures place { IfErr result (LiesIn (length bytes.items)) }
     {
         rewrite_list_to_end::<Item<'_, ReadExport<'_>>>(bytes)
     }

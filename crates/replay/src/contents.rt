@@ -36,7 +36,7 @@ fn check_taken(
     let count: usize = count.parse().ok().ok_or(Mismatch::NotUnderstood)?;
     let normal = hex::decode(alloc, normal)?;
     check_given(alloc, section, contents, normal.as_slice(), count)?;
-    if section != "names" {
+    if section != "names" && section != "linking" {
         check_cuts(alloc, section, contents)?;
     }
     check_built(alloc, section, contents, normal.as_slice())

@@ -27,7 +27,7 @@ use std::rt::Files;
 use std::{fs, io};
 
 /// The files, and what their lines are.
-const FILES: [(&str, Suite); 19] = [
+const FILES: [(&str, Suite); 20] = [
     ("sink.tsv", Suite::Sink),
     ("types.tsv", Suite::Types),
     ("answers.tsv", Suite::Answers),
@@ -42,6 +42,7 @@ const FILES: [(&str, Suite); 19] = [
     ("worked_sections.tsv", Suite::Decoded),
     ("worked_modules.tsv", Suite::Decoded),
     ("worked_contents.tsv", Suite::Contents),
+    ("linked_contents.tsv", Suite::Contents),
     ("worked_refusals.tsv", Suite::Refusals),
     ("linked_sections.tsv", Suite::Decoded),
     ("every_section.tsv", Suite::Decoded),

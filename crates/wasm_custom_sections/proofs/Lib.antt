@@ -6,3 +6,5 @@ pub mod NameSectionLaws
 pub mod ProducerLaws
 pub mod FeatureLaws
 pub mod HintLaws
+pub mod SymbolLaws
+pub mod LinkingLaws

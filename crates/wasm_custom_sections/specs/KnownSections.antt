@@ -5,6 +5,7 @@ use Rattle.wasm_sections.specs.formats.EntryParts.{CustomParts}
 use Rattle.wasm_custom_sections.specs.declared.known.KnownCustomSection.{KnownCustomSection}
 use Rattle.wasm_custom_sections.specs.declared.known.KnownCustomSection.TheVariants as known
 use Rattle.wasm_custom_sections.specs.formats.BranchHints.{function_hints}
+use Rattle.wasm_custom_sections.specs.formats.Linking.{all_linking_parts, linking_data, versioned}
 use Rattle.wasm_custom_sections.specs.formats.NameParts.{all_subsection_parts}
 use Rattle.wasm_custom_sections.specs.formats.Names.{name_data}
 use Rattle.wasm_custom_sections.specs.formats.ProducerParts.{all_field_parts}
@@ -25,9 +26,11 @@ IsKnown section (known.Names subsections) = Holds (codes "name") name_data secti
 IsKnown section (known.Producers fields) = Holds (codes "producers") (items producers_field) section (all_field_parts fields.items)
 IsKnown section (known.TargetFeatures features) = Holds (codes "target_features") (items target_feature) section (all_feature_parts features.items)
 IsKnown section (known.BranchHints functions) = Holds (codes "metadata.code.branch_hint") (items function_hints) section functions.items
+IsKnown section (known.Linking subsections) = Holds (codes "linking") linking_data section (versioned (all_linking_parts subsections.items))
 IsKnown section (known.Other bytes) =
     (bytes.now ≡ section.data_bytes)
     × HoldsNone (codes "name") name_data section
     × HoldsNone (codes "producers") (items producers_field) section
     × HoldsNone (codes "target_features") (items target_feature) section
     × HoldsNone (codes "metadata.code.branch_hint") (items function_hints) section
+    × HoldsNone (codes "linking") linking_data section

@@ -1,5 +1,6 @@
 pub mod Gaining
 pub mod NamedSections
 pub mod NameSections
+pub mod LinkingSections
 pub mod KnownSections
 pub mod formats

@@ -4,3 +4,6 @@ pub mod ProducerParts
 pub mod Producers
 pub mod TargetFeatures
 pub mod BranchHints
+pub mod SymbolParts
+pub mod Symbols
+pub mod Linking

@@ -47,6 +47,18 @@ impl CountedBytes {
         self.count
     }
 
+    /// Returns the bytes of the values.
+    pub(crate) fn as_slice(&self) -> &[u8]
+        ensures { result.now ≡ self.now.bytes }
+    {
+        self.bytes.as_slice()
+    }
+
+    /// Returns the allocator of the list.
+    pub(crate) fn allocator(&self) -> Global {
+        *self.bytes.allocator()
+    }
+
     /// Copies the list. Fails with `Memory` if it can't allocate.
     pub(crate) fn try_clone(&self) -> Result<CountedBytes, EncodeError>
         ensures ok { IfOk result (λ list. list ≡ self.now) }

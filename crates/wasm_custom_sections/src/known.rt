@@ -5,6 +5,7 @@ ghost use Rattle.wasm_sections.specs.formats.EntryParts.{custom_parts};
 ghost use Rattle.wasm_custom_sections.specs.KnownSections.{IsKnown};
 
 use crate::branch_hints::{BranchHints, FunctionHints};
+use crate::linking::{LinkingSection, LinkingSubsection};
 use crate::names::{NameSection, NameSubsection};
 use crate::producers::{Producers, ProducersSection};
 use crate::target_features::{TargetFeature, TargetFeaturesSection};
@@ -33,12 +34,14 @@ pub enum KnownCustomSection<'a> {
     TargetFeatures(Vec<TargetFeature<'a>>),
     /// Hints of a section `metadata.code.branch_hint`.
     BranchHints(Vec<FunctionHints>),
+    /// Subsections of a section `linking`.
+    Linking(Vec<LinkingSubsection<'a>>),
     /// Contents that stay bytes: the section has another name, or they are malformed.
     Other(&'a [u8]),
 }
 
-/// Decodes the contents of a custom section if its name is known: `name`, `producers`, `target_features` or
-/// `metadata.code.branch_hint`.
+/// Decodes the contents of a custom section if its name is known: `name`, `producers`, `target_features`,
+/// `metadata.code.branch_hint` or `linking`.
 ///
 /// Contents under another name stay bytes, and so do malformed ones. Fails only with `Memory`, if an allocation fails.
 ///
@@ -76,6 +79,10 @@ pub fn known_custom_section<'a>(
         },
         "metadata.code.branch_hint" => match decoded::<BranchHints>(alloc, bytes)? {
             Some(functions) => Ok(KnownCustomSection::BranchHints(functions)),
+            None => Ok(KnownCustomSection::Other(bytes)),
+        },
+        "linking" => match decoded::<LinkingSection>(alloc, bytes)? {
+            Some(subsections) => Ok(KnownCustomSection::Linking(subsections)),
             None => Ok(KnownCustomSection::Other(bytes)),
         },
         _ => Ok(KnownCustomSection::Other(bytes)),

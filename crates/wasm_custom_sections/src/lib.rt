@@ -1,12 +1,16 @@
 //! The contents of well-known custom sections: names (Core 3.0, Name Section), and the sections `producers`,
+//! `target_features`, `metadata.code.branch_hint` and `linking`.
 #![tactic(auto)]
 
 pub mod branch_hints;
 pub mod counted_bytes;
 pub mod custom_list;
 pub mod known;
+pub mod linking;
 pub mod name_maps;
 pub mod names;
 pub mod producers;
 mod sized;
+pub mod symbol_table;
+pub mod symbols;
 pub mod target_features;

@@ -1,6 +1,6 @@
 //! The name section: names of a module, its items, locals, labels and fields (Core 3.0, Name Section, and the proposal
 //! of extended name sections).
-ghost use Rattle.std.specs.Prelude.{◌≡◌, ◌++◌, ◌∷◌, ◌+◌, ◌<◌, ◌≤◌, ◌⊎◌, [], refl, codes, List, OnOk, OnErr, IfErr, length, take};
+ghost use Rattle.std.specs.Prelude.{◌≡◌, ◌++◌, ◌∷◌, ◌+◌, ◌<◌, ◌≤◌, ◌⊎◌, [], refl, codes, List, OnOk, OnErr, IfErr, IsErrOf, length, take};
 ghost use Rattle.std.proofs.lemmas.List.{map_push};
 ghost use Rattle.wasm_codec.specs.Decoding.{ChecksAll, IsMinimal, ReadsAll, RewritesAll};
 ghost use Rattle.wasm_codec.specs.Encoding.{byte_list_bytes, IsCount, IsRefusal, IsShortest, IsTooLong, OnlyTooLong};
@@ -15,7 +15,8 @@ ghost use Rattle.wasm_codec.specs.formats.Grammar.{Joined, TakesBytes};
 ghost use Rattle.wasm_entities.specs.Making.{Makes};
 ghost use Rattle.wasm_entities.specs.formats.Names.{name as name_format};
 ghost use Rattle.wasm_custom_sections.specs.NamedSections.{CountedNamed, IsNamedSection, named_bytes};
-ghost use Rattle.wasm_custom_sections.specs.NameSections.{AddsName, AddsNames, HoldsNames, StandsForNames};
+ghost use Rattle.wasm_custom_sections.specs.NameSections.{AddsName, AddsNames, HoldsNames, IsNameErrorOf, StandsForNames};
+ghost use Rattle.wasm_custom_sections.specs.declared.names.NameError.TheVariants as errors;
 ghost use Rattle.wasm_custom_sections.specs.formats.NameParts.{SubsectionParts, subsection_parts, all_subsection_parts, module_name, functions, locals, labels, types, tables, memories, globals, elements, data_segments, fields, tags};
 ghost use Rattle.wasm_custom_sections.specs.formats.Names.{indirect_naming, name_data, name_subsection, naming};
 
@@ -23,10 +24,12 @@ use crate::name_maps::{
     AnyIndirectNaming, AnyNaming, IndirectNameMap, IndirectNaming, NameMap, Naming,
 };
 use crate::sized::{
-    ListOf, NameBody, RawBody, append_sized, read_sized_bytes, read_sized_list, read_sized_name,
+    ListOf, NameBody, RawBody, append_subsection, read_sized_bytes, read_sized_list,
+    read_sized_name,
 };
 use std::alloc::{Allocator, Global};
 use std::marker::Model;
+use thiserror::Error;
 use wasm_codec::decode::Decode;
 use wasm_codec::encode::{EncodeError, keep_or_undo};
 use wasm_codec::reader::DecodeError;
@@ -193,16 +196,36 @@ impl Joinable for AnySubsection {
     }
 }
 
+/// Error of a method that adds a subsection to a [`NameSection`].
+#[derive(Debug, PartialEq, Eq, Drop, Error)]
+pub enum NameError {
+    /// The section has this subsection, or one with a higher id.
+    #[error("names out of order")]
+    OutOfOrder,
+    /// Writing failed with this error.
+    #[error("{0}")]
+    Encode(EncodeError),
+}
+
+impl From<EncodeError> for NameError {
+    ghost from_gives = { λ error e. e ≡ errors.Encode error };
+
+    fn from(error: EncodeError) -> NameError {
+        NameError::Encode(error)
+    }
+}
+
 /// A name section: names for debuggers and stack traces (Core 3.0, Name Section).
 ///
-/// Its methods append one subsection each. Call each at most once, in the order in which they stand here, which is that
-/// of the ids: the proof refuses other orders. [`next_id`](NameSection::next_id) tells which ids may follow. On error
-/// the section is unchanged.
+/// Its methods append one subsection each. Call each at most once, in the order of this page, which is that of the ids:
+/// otherwise they fail with [`OutOfOrder`](NameError::OutOfOrder). [`next_id`](NameSection::next_id) returns the least
+/// id that may follow. They fail with [`Encode`](NameError::Encode) if the subsection is longer than 4,294,967,295 bytes
+/// or the section can't grow. On error the section is unchanged.
 ///
 /// # Examples
 ///
 /// ```
-/// # use wasm_encoder::{Encode, NameMap, NameSection};
+/// # use wasm_encoder::{Encode, NameError, NameMap, NameSection};
 /// let mut functions = NameMap::new(rt.alloc());
 /// functions.append(0, "f")?;
 /// let mut names = NameSection::new(rt.alloc());
@@ -212,6 +235,7 @@ impl Joinable for AnySubsection {
 /// names.encode(&mut bytes)?; // the size, the name "name", and two subsections
 /// let expected = b"\x0f\x04name\x00\x02\x01m\x01\x04\x01\x00\x01f";
 /// assert_eq!(rt; bytes.as_slice(), expected.as_slice());
+/// assert_eq!(rt; names.module("n").err(), Some(NameError::OutOfOrder));
 /// ```
 ///
 /// Reading the contents of such a section, after its name, returns the subsections:
@@ -264,11 +288,9 @@ impl NameSection {
 
     /// Names the module.
     ///
-    /// Fails with `TooLong` if `name` with its length is longer than 4,294,967,295 bytes, and with `Memory` if the
-    /// section can't grow.
+    /// Fails with `OutOfOrder` if the section has a subsection.
     #[tactic(auto, using(crate::proofs::NameSectionLaws::adds_module))]
-    pub fn module(&mut self, name: &str) -> Result<(), EncodeError>
-        requires in_order { self.old.next ≤ 0 }
+    pub fn module(&mut self, name: &str) -> Result<(), NameError>
         ensures adds { AddsName self.old name.now self.new result }
     {
         self.add(0, &ModuleName { name })
@@ -276,10 +298,9 @@ impl NameSection {
 
     /// Names functions.
     ///
-    /// Fails with `TooLong` if the names are longer than 4,294,967,295 bytes, and with `Memory` if the section can't grow.
+    /// Fails with `OutOfOrder` if the section has this subsection or a later one.
     #[tactic(auto, using(crate::proofs::NameSectionLaws::adds_functions))]
-    pub fn functions(&mut self, names: &NameMap) -> Result<(), EncodeError>
-        requires in_order { self.old.next ≤ 1 }
+    pub fn functions(&mut self, names: &NameMap) -> Result<(), NameError>
         ensures adds { AddsNames naming functions 1 self.old names.now self.new result }
     {
         self.add(1, names)
@@ -287,10 +308,9 @@ impl NameSection {
 
     /// Names the locals of functions.
     ///
-    /// Fails with `TooLong` if the names are longer than 4,294,967,295 bytes, and with `Memory` if the section can't grow.
+    /// Fails with `OutOfOrder` if the section has this subsection or a later one.
     #[tactic(auto, using(crate::proofs::NameSectionLaws::adds_locals))]
-    pub fn locals(&mut self, names: &IndirectNameMap) -> Result<(), EncodeError>
-        requires in_order { self.old.next ≤ 2 }
+    pub fn locals(&mut self, names: &IndirectNameMap) -> Result<(), NameError>
         ensures adds { AddsNames indirect_naming locals 2 self.old names.now self.new result }
     {
         self.add(2, names)
@@ -298,10 +318,9 @@ impl NameSection {
 
     /// Names the labels of functions.
     ///
-    /// Fails with `TooLong` if the names are longer than 4,294,967,295 bytes, and with `Memory` if the section can't grow.
+    /// Fails with `OutOfOrder` if the section has this subsection or a later one.
     #[tactic(auto, using(crate::proofs::NameSectionLaws::adds_labels))]
-    pub fn labels(&mut self, names: &IndirectNameMap) -> Result<(), EncodeError>
-        requires in_order { self.old.next ≤ 3 }
+    pub fn labels(&mut self, names: &IndirectNameMap) -> Result<(), NameError>
         ensures adds { AddsNames indirect_naming labels 3 self.old names.now self.new result }
     {
         self.add(3, names)
@@ -309,10 +328,9 @@ impl NameSection {
 
     /// Names types.
     ///
-    /// Fails with `TooLong` if the names are longer than 4,294,967,295 bytes, and with `Memory` if the section can't grow.
+    /// Fails with `OutOfOrder` if the section has this subsection or a later one.
     #[tactic(auto, using(crate::proofs::NameSectionLaws::adds_types))]
-    pub fn types(&mut self, names: &NameMap) -> Result<(), EncodeError>
-        requires in_order { self.old.next ≤ 4 }
+    pub fn types(&mut self, names: &NameMap) -> Result<(), NameError>
         ensures adds { AddsNames naming types 4 self.old names.now self.new result }
     {
         self.add(4, names)
@@ -320,10 +338,9 @@ impl NameSection {
 
     /// Names tables.
     ///
-    /// Fails with `TooLong` if the names are longer than 4,294,967,295 bytes, and with `Memory` if the section can't grow.
+    /// Fails with `OutOfOrder` if the section has this subsection or a later one.
     #[tactic(auto, using(crate::proofs::NameSectionLaws::adds_tables))]
-    pub fn tables(&mut self, names: &NameMap) -> Result<(), EncodeError>
-        requires in_order { self.old.next ≤ 5 }
+    pub fn tables(&mut self, names: &NameMap) -> Result<(), NameError>
         ensures adds { AddsNames naming tables 5 self.old names.now self.new result }
     {
         self.add(5, names)
@@ -331,10 +348,9 @@ impl NameSection {
 
     /// Names memories.
     ///
-    /// Fails with `TooLong` if the names are longer than 4,294,967,295 bytes, and with `Memory` if the section can't grow.
+    /// Fails with `OutOfOrder` if the section has this subsection or a later one.
     #[tactic(auto, using(crate::proofs::NameSectionLaws::adds_memories))]
-    pub fn memories(&mut self, names: &NameMap) -> Result<(), EncodeError>
-        requires in_order { self.old.next ≤ 6 }
+    pub fn memories(&mut self, names: &NameMap) -> Result<(), NameError>
         ensures adds { AddsNames naming memories 6 self.old names.now self.new result }
     {
         self.add(6, names)
@@ -342,10 +358,9 @@ impl NameSection {
 
     /// Names globals.
     ///
-    /// Fails with `TooLong` if the names are longer than 4,294,967,295 bytes, and with `Memory` if the section can't grow.
+    /// Fails with `OutOfOrder` if the section has this subsection or a later one.
     #[tactic(auto, using(crate::proofs::NameSectionLaws::adds_globals))]
-    pub fn globals(&mut self, names: &NameMap) -> Result<(), EncodeError>
-        requires in_order { self.old.next ≤ 7 }
+    pub fn globals(&mut self, names: &NameMap) -> Result<(), NameError>
         ensures adds { AddsNames naming globals 7 self.old names.now self.new result }
     {
         self.add(7, names)
@@ -353,10 +368,9 @@ impl NameSection {
 
     /// Names element segments.
     ///
-    /// Fails with `TooLong` if the names are longer than 4,294,967,295 bytes, and with `Memory` if the section can't grow.
+    /// Fails with `OutOfOrder` if the section has this subsection or a later one.
     #[tactic(auto, using(crate::proofs::NameSectionLaws::adds_elements))]
-    pub fn elements(&mut self, names: &NameMap) -> Result<(), EncodeError>
-        requires in_order { self.old.next ≤ 8 }
+    pub fn elements(&mut self, names: &NameMap) -> Result<(), NameError>
         ensures adds { AddsNames naming elements 8 self.old names.now self.new result }
     {
         self.add(8, names)
@@ -364,10 +378,9 @@ impl NameSection {
 
     /// Names data segments.
     ///
-    /// Fails with `TooLong` if the names are longer than 4,294,967,295 bytes, and with `Memory` if the section can't grow.
+    /// Fails with `OutOfOrder` if the section has this subsection or a later one.
     #[tactic(auto, using(crate::proofs::NameSectionLaws::adds_data))]
-    pub fn data(&mut self, names: &NameMap) -> Result<(), EncodeError>
-        requires in_order { self.old.next ≤ 9 }
+    pub fn data(&mut self, names: &NameMap) -> Result<(), NameError>
         ensures adds { AddsNames naming data_segments 9 self.old names.now self.new result }
     {
         self.add(9, names)
@@ -375,10 +388,9 @@ impl NameSection {
 
     /// Names the fields of types.
     ///
-    /// Fails with `TooLong` if the names are longer than 4,294,967,295 bytes, and with `Memory` if the section can't grow.
+    /// Fails with `OutOfOrder` if the section has this subsection or a later one.
     #[tactic(auto, using(crate::proofs::NameSectionLaws::adds_fields))]
-    pub fn fields(&mut self, names: &IndirectNameMap) -> Result<(), EncodeError>
-        requires in_order { self.old.next ≤ 10 }
+    pub fn fields(&mut self, names: &IndirectNameMap) -> Result<(), NameError>
         ensures adds { AddsNames indirect_naming fields 10 self.old names.now self.new result }
     {
         self.add(10, names)
@@ -386,25 +398,29 @@ impl NameSection {
 
     /// Names tags.
     ///
-    /// Fails with `TooLong` if the names are longer than 4,294,967,295 bytes, and with `Memory` if the section can't grow.
+    /// Fails with `OutOfOrder` if the section has this subsection or a later one.
     #[tactic(auto, using(crate::proofs::NameSectionLaws::adds_tags))]
-    pub fn tags(&mut self, names: &NameMap) -> Result<(), EncodeError>
-        requires in_order { self.old.next ≤ 11 }
+    pub fn tags(&mut self, names: &NameMap) -> Result<(), NameError>
         ensures adds { AddsNames naming tags 11 self.old names.now self.new result }
     {
         self.add(11, names)
     }
 
     /// Appends a subsection. On error the section is unchanged.
-    fn add<T: Encode>(&mut self, id: u8, content: &T) -> Result<(), EncodeError>
+    fn add<T: Encode>(&mut self, id: u8, content: &T) -> Result<(), NameError>
         requires small { id < 12 }
+        ensures in_order { OnOk result (self.old.next ≤ id) }
+        ensures out_of_order { id < self.old.next → IsErrOf result errors.OutOfOrder }
         ensures bytes { OnOk result (self.new.bytes ≡ self.old.bytes ++ id ∷ byte_list_bytes (T.bytes content.now)) }
         ensures next { OnOk result (self.new.next ≡ id + 1) }
         ensures counted { OnOk result (IsCount (length (T.bytes content.now))) }
         ensures written { OnOk result (T.IsWritten content.now) }
         ensures same { OnErr result (self.new ≡ self.old) }
-        ensures refused { IfErr result (λ e. IsRefusal T.CanEncode T.refuses content.now e ⊎ IsTooLong (length (T.bytes content.now)) e) }
+        ensures refused { IfErr result (IsNameErrorOf id self.old.next (λ e. IsRefusal T.CanEncode T.refuses content.now e ⊎ IsTooLong (length (T.bytes content.now)) e)) }
     {
+        if id < self.next {
+            return Err(NameError::OutOfOrder);
+        }
         let start = self.bytes.len();
         let result = append_subsection(id, content, &mut self.bytes);
         keep_or_undo(&mut self.bytes, start, result)?;
@@ -422,19 +438,6 @@ impl NameSection {
             next: self.next,
         })
     }
-}
-
-/// Appends an id, the size of a content in bytes, and the content. On error a part of them may remain.
-fn append_subsection<T: Encode>(id: u8, content: &T, bytes: &mut Vec<u8>) -> Result<(), EncodeError>
-    ensures ok { OnOk result (bytes.new.items ≡ bytes.old.items ++ id ∷ byte_list_bytes (T.bytes content.now)) }
-    ensures counted { OnOk result (IsCount (length (T.bytes content.now))) }
-    ensures written { OnOk result (T.IsWritten content.now) }
-    ensures refused { IfErr result (λ e. IsRefusal T.CanEncode T.refuses content.now e ⊎ IsTooLong (length (T.bytes content.now)) e) }
-    ensures kept { take (length bytes.old.items) bytes.new.items ≡ bytes.old.items }
-{
-    bytes.reserve(1)?;
-    bytes.push_reserved(id);
-    append_sized(content, bytes)
 }
 
 /// The name of a module.

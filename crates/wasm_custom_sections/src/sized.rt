@@ -1,5 +1,5 @@
 //! Contents that follow their size in bytes: a list, a name, or any bytes.
-ghost use Rattle.std.specs.Prelude.{◌≡◌, ◌++◌, ◌⊎◌, ℕ, List, OnOk, IfErr, length, take};
+ghost use Rattle.std.specs.Prelude.{◌≡◌, ◌∷◌, ◌++◌, ◌⊎◌, ℕ, List, OnOk, IfErr, length, take};
 ghost use Rattle.wasm_codec.specs.Encoding.{byte_list_bytes, IsCount, IsRefusal, IsTooLong};
 ghost use Rattle.wasm_codec.specs.Lawful.{IsLawfulBody};
 ghost use Rattle.wasm_codec.specs.Places.{Reads};
@@ -10,7 +10,7 @@ ghost use Rattle.wasm_codec.specs.formats.Bodies.{sized, byte_list, bytes_to_end
 ghost use Rattle.wasm_codec.specs.formats.Combinators.{items};
 ghost use Rattle.wasm_entities.specs.formats.Names.{name};
 
-use std::alloc::Global;
+use std::alloc::{Allocator, Global};
 use std::marker::PhantomData;
 use wasm_codec::encode::{EncodeError, put_size_before};
 use wasm_codec::reader::cursor::{Cursor, Fault};
@@ -119,7 +119,10 @@ impl RewritableBody for RawBody {
 /// Appends the size of a value's encoding in bytes, and the encoding. On error a part of it may remain.
 ///
 /// Fails with `TooLong` if the encoding is longer than 4,294,967,295 bytes, and with any error of the value.
-pub(crate) fn append_sized<T: Encode>(value: &T, bytes: &mut Vec<u8>) -> Result<(), EncodeError>
+pub(crate) fn append_sized<T: Encode, A: Allocator>(
+    value: &T,
+    bytes: &mut Vec<u8, A>,
+) -> Result<(), EncodeError>
     ensures ok { OnOk result (bytes.new.items ≡ bytes.old.items ++ byte_list_bytes (T.bytes value.now)) }
     ensures counted { OnOk result (IsCount (length (T.bytes value.now))) }
     ensures written { OnOk result (T.IsWritten value.now) }
@@ -132,4 +135,21 @@ pub(crate) fn append_sized<T: Encode>(value: &T, bytes: &mut Vec<u8>) -> Result<
         return Err(EncodeError::TooLong);
     }
     put_size_before(bytes, start)
+}
+
+/// Appends an id, the size of a content in bytes, and the content. On error a part of them may remain.
+pub(crate) fn append_subsection<T: Encode, A: Allocator>(
+    id: u8,
+    content: &T,
+    bytes: &mut Vec<u8, A>,
+) -> Result<(), EncodeError>
+    ensures ok { OnOk result (bytes.new.items ≡ bytes.old.items ++ id ∷ byte_list_bytes (T.bytes content.now)) }
+    ensures counted { OnOk result (IsCount (length (T.bytes content.now))) }
+    ensures written { OnOk result (T.IsWritten content.now) }
+    ensures refused { IfErr result (λ e. IsRefusal T.CanEncode T.refuses content.now e ⊎ IsTooLong (length (T.bytes content.now)) e) }
+    ensures kept { take (length bytes.old.items) bytes.new.items ≡ bytes.old.items }
+{
+    bytes.reserve(1)?;
+    bytes.push_reserved(id);
+    append_sized(content, bytes)
 }

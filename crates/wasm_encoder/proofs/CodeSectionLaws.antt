@@ -14,7 +14,8 @@ use Rattle.wasm_types.specs.formats.Types.{val_type}
 use Rattle.wasm_lists.specs.Iterators.{AppendsItems}
 use Rattle.wasm_codec.specs.formats.Combinators.{items}
 use Rattle.wasm_instructions.specs.Appending.{CountedCall}
-use Rattle.wasm_instructions.specs.formats.Instructions.{Instruction, Instructions, instruction, instructions_bytes}
+use Rattle.wasm_instructions.specs.formats.Instructions.{Instruction, Instructions, ShortestInstructions, instruction, instructions_bytes}
+use Rattle.wasm_instructions.proofs.InstructionFormatLaws.{are_shortest}
 use Rattle.wasm_modules.specs.declared.code.CodeBody.{CodeBody}
 use Rattle.wasm_modules.specs.CodeCounts.{CountedBody}
 use Rattle.wasm_modules.specs.formats.CodeBodies.{local_group, code_body, code_section_body}
@@ -23,7 +24,7 @@ use Rattle.wasm_modules.proofs.CodeBodyWriting.{calls_counted, calls_in_range, l
 use Rattle.wasm_modules.specs.formats.Sections.{typed_section_of, code_bodies, code_section_id}
 use Rattle.wasm_modules.specs.Modules.{IsTypedSection}
 use Rattle.wasm_encoder.specs.EncodedLists.{Adds, AddsAll, EncodesSection, EncodedItems, CountedSection, IsFull, IsMemoryOrTooLong, IsRefusalOfEach, IsRefusalOfOne, IsUncounted, OfItems, body_bytes}
-use Rattle.wasm_encoder.specs.CodeSections.{FunctionStandsFor, GainsBodies, GainsFunction, GoesOnWith, StandsForBodies, UncountedBody, body_of, followed}
+use Rattle.wasm_encoder.specs.CodeSections.{FunctionStandsFor, GainsBodies, GainsFunction, GoesOnWith, GoesOnWithBytes, StandsForBodies, UncountedBody, body_of, followed}
 use Rattle.wasm_sections.specs.formats.ModuleSectionParts.{code}
 use Rattle.wasm_sections.proofs.ModuleSectionLaws.{code_kind, is_body_of}
 use Rattle.wasm_sections.proofs.ListSectionLaws.{section_encodes as encodes_section}
@@ -60,6 +61,19 @@ pub appends_calls : (was old new : List ℕ) (more : List Instruction) (Refused 
     → OnOk r (new ≡ was ++ instructions_bytes more) → OnOk r (Instructions (instructions_bytes more) more) → OnErr r (new ≡ was) → IfErr r Refused → Adds GoesOnWith old more new Refused r
 appends_calls was old new more Refused r same is encoded unchanged refused =
     subst (λ (function : List ℕ). Adds GoesOnWith function more new Refused r) same (record { gains = goes_on r was new more is encoded; same = unchanged; refused = refused })
+
+-- some bytes more
+goes_on_with_bytes : {T E : Type 0} (r : Result T E) (old new more : List ℕ) → OnOk r (new ≡ old ++ more) → OnOk r (GoesOnWithBytes old more new)
+goes_on_with_bytes (Ok x) old new more is = record { bytes = is; stands = stands } where
+  stands : (calls : List Instruction) → ShortestInstructions more calls → (body : CodeBody) → FunctionStandsFor old body → FunctionStandsFor new (followed body calls)
+  stands calls minimal body s =
+      let both = (are_shortest more calls).0 minimal in
+      function_more old new calls body (is ∙ ap (λ (t : List ℕ). old ++ t) both.1) (subst (λ (t : List ℕ). Instructions t calls) both.1 both.0) s
+goes_on_with_bytes (Err e) old new more is = tt
+
+pub appends_bytes : (was old new more : List ℕ) (Refused : EncodeError → Type 0) (r : Result (Unit {0}) EncodeError) → was ≡ old → OnOk r (new ≡ was ++ more) → OnErr r (new ≡ was) → IfErr r Refused → Adds GoesOnWithBytes old more new Refused r
+appends_bytes was old new more Refused r same is unchanged refused =
+    subst (λ (function : List ℕ). Adds GoesOnWithBytes function more new Refused r) same (record { gains = goes_on_with_bytes r was new more is; same = unchanged; refused = refused })
 
 -- ---- sections
 

@@ -6,3 +6,5 @@ pub mod RefusalLaws
 pub mod GivenLists
 pub mod OnLiterals
 pub mod WholeModuleLaws
+pub mod LocalGroups
+pub mod SameTypes

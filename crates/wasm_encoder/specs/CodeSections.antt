@@ -1,12 +1,12 @@
 -- Functions and code sections that are built (WebAssembly Core 3.0, Code Section).
-use Rattle.std.specs.Prelude.{◌≡◌, ℕ, ◌+◌, ◌^◌, ◌≤◌, ◌⊎◌, List, [], ◌∷◌, ◌++◌, length, Option, Result, IfOk, IfErr, IsErrOf}
-use Rattle.std.specs.List.{AllByRecursion, Any}
+use Rattle.std.specs.Prelude.{◌≡◌, ℕ, ◌+◌, ◌^◌, ◌<◌, ◌≤◌, ◌⊎◌, List, [], ◌∷◌, ◌++◌, length, replicate, Option, Result, IfOk, IfErr, IsErrOf}
+use Rattle.std.specs.List.{AllByRecursion, Any, flat_map}
 use Rattle.wasm_types.specs.declared.types.value.ValType.{ValType}
 use Rattle.wasm_codec.specs.declared.encode.EncodeError.{EncodeError}
 use Rattle.wasm_codec.specs.declared.encode.EncodeError.TheVariants.{TooLong}
 use Rattle.wasm_codec.specs.Encoding.{byte_list_bytes, IsCount}
 use Rattle.wasm_instructions.specs.Appending.{CountedCall}
-use Rattle.wasm_instructions.specs.formats.Instructions.{Instruction, instruction, instructions_bytes}
+use Rattle.wasm_instructions.specs.formats.Instructions.{Instruction, ShortestInstructions, instruction, instructions_bytes}
 use Rattle.wasm_instructions.specs.declared.table.call.Operands.{Operands}
 use Rattle.wasm_modules.specs.declared.code.CodeBody.{CodeBody}
 use Rattle.wasm_modules.specs.CodeCounts.{CountedBody, func_bytes}
@@ -44,6 +44,32 @@ pub record MakesFunction {S : Type 0} (gives : S → Option (ℕ × ValType) →
   -- It fails with `TooLong` if there are too many groups.
   pub too_many : 2 ^ 32 ≤ len → IsErrOf result TooLong
 
+-- The types of the locals in these groups, one by one.
+abbrev pub spread : List (ℕ × ValType) → List ValType
+spread groups = flat_map (λ g. replicate g.0 g.1) groups
+
+-- The first group, if there is one, has another type than this.
+abbrev pub StartsOtherwise : ValType → List (ℕ × ValType) → Type 0
+StartsOtherwise t [] = Unit {0}
+StartsOtherwise t (g ∷ more) = t ≡ g.1 → ⊥
+
+-- No group is empty, and neighbours have different types.
+abbrev pub AreApart : List (ℕ × ValType) → Type 0
+AreApart [] = Unit {0}
+AreApart (g ∷ more) = (0 < g.0) × (StartsOtherwise g.1 more × AreApart more)
+
+-- These groups are those of locals with these types.
+pub record AreGroups (groups : List (ℕ × ValType)) (types : List ValType) : Type 0 where
+  pub spread : spread groups ≡ types
+  pub apart : AreApart groups
+
+-- A call that makes a function with locals of these types.
+pub record MakesLocals (types : List ValType) (result : Result (List ℕ) EncodeError) : Type 0 where
+  -- Equal types that follow each other are a group of its locals.
+  pub made : IfOk result (λ function. (groups : List (ℕ × ValType)) × (AreGroups groups types × FunctionStandsFor function (body_of groups [])))
+  -- It fails with `Memory`, or with `TooLong` if there are too many locals.
+  pub refused : IfErr result (IsMemoryOrTooLong (IsUncounted (length types)))
+
 -- The body with these instructions at its end.
 abbrev pub followed : CodeBody → List Instruction → CodeBody
 followed body more = body_of body.locals (body.calls ++ more)
@@ -52,6 +78,12 @@ followed body more = body_of body.locals (body.calls ++ more)
 pub record GoesOnWith (old : List ℕ) (more : List Instruction) (new : List ℕ) : Type 0 where
   pub bytes : new ≡ old ++ instructions_bytes more
   pub stands : (body : CodeBody) → FunctionStandsFor old body → FunctionStandsFor new (followed body more)
+
+-- The new function is the old one with these bytes at its end. If they are the minimal encoding of instructions, it
+-- goes on with these.
+pub record GoesOnWithBytes (old added new : List ℕ) : Type 0 where
+  pub bytes : new ≡ old ++ added
+  pub stands : (more : List Instruction) → ShortestInstructions added more → (body : CodeBody) → FunctionStandsFor old body → FunctionStandsFor new (followed body more)
 
 -- The section stands for these bodies: it has their number and encodings, and each can be written and is in range.
 abbrev pub StandsForBodies : EncodedItems → List CodeBody → Type 0

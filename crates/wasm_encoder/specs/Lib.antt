@@ -55,6 +55,10 @@ pub use Rattle.wasm_custom_sections.specs.formats.ProducerParts
 pub use Rattle.wasm_custom_sections.specs.formats.Producers as ProducerFormats
 pub use Rattle.wasm_custom_sections.specs.formats.TargetFeatures as FeatureFormats
 pub use Rattle.wasm_custom_sections.specs.formats.BranchHints as HintFormats
+pub use Rattle.wasm_custom_sections.specs.formats.SymbolParts
+pub use Rattle.wasm_custom_sections.specs.formats.Symbols as SymbolFormats
+pub use Rattle.wasm_custom_sections.specs.formats.Linking as LinkingFormats
+pub use Rattle.wasm_custom_sections.specs.LinkingSections
 pub use Rattle.wasm_custom_sections.specs.Gaining
 pub use Rattle.wasm_custom_sections.specs.NamedSections
 pub use Rattle.wasm_custom_sections.specs.NameSections

@@ -1,7 +1,8 @@
 //! Functions and the code section (Core 3.0, Code Section).
-ghost use Rattle.std.specs.Prelude.{◌≡◌, ◌↔◌, ◌⊎◌, List, [], IsTrue, OnOk, length};
+ghost use Rattle.std.specs.Prelude.{◌≡◌, ◌↔◌, ◌⊎◌, ◌+◌, ◌∷◌, List, [], IsTrue, IsFalse, ◌++◌, OnOk, OnErr, IfOk, IfErr, length};
 ghost use Rattle.std.specs.Borrow.{Lends, follows, sem};
 ghost use Rattle.std.specs.Iterator.{size};
+ghost use Rattle.wasm_codec.specs.declared.encode.EncodeError.TheVariants.{Memory};
 ghost use Rattle.wasm_codec.specs.Encoding.{byte_list_bytes, IsCount, OnlyTooLong, too_long_at_once};
 ghost use Rattle.wasm_instructions.specs.Appending.{IsCallsRefusal};
 ghost use Rattle.wasm_modules.specs.declared.code.CodeBody.{CodeBody};
@@ -11,7 +12,7 @@ ghost use Rattle.wasm_modules.specs.Modules.{IsTypedSection};
 ghost use Rattle.wasm_sections.specs.formats.ModuleSectionParts.{code};
 ghost use Rattle.wasm_encoder.specs.EncodedLists.{Adds, AddsAll, EncodesSection, EncodedItems, CountedSection, IsFull, IsMemoryOrTooLong, IsUncounted, Makes, body_bytes};
 ghost use Rattle.wasm_encoder.specs.CodeSections.{bytes_row};
-ghost use Rattle.wasm_encoder.specs.CodeSections.{GainsBodies, GainsFunction, GoesOnWith, HoldsBodies, IsCodeSection, MakesFunction, StandsForBodies, UncountedBody};
+ghost use Rattle.wasm_encoder.specs.CodeSections.{AreGroups, GainsBodies, GainsFunction, GoesOnWith, GoesOnWithBytes, HoldsBodies, IsCodeSection, MakesFunction, MakesLocals, StandsForBodies, UncountedBody};
 
 use crate::wasm_core::{Section, SectionId};
 use std::alloc::{Allocator, Global};
@@ -19,7 +20,7 @@ use std::marker::Model;
 use wasm_codec::encode::EncodeError;
 use wasm_instructions::calls::append_calls;
 use wasm_instructions::table::Call;
-use wasm_lists::encode::{Encode, append_items, encode_bytes};
+use wasm_lists::encode::{Encode, append_items, encode_bytes, encode_list};
 use wasm_lists::encoded_list::EncodedList;
 pub use wasm_modules::code::CodeBody;
 use wasm_sink::sink::InstructionSink;
@@ -73,6 +74,31 @@ impl Function {
         Ok(Function { bytes })
     }
 
+    /// Returns a function without instructions, whose locals have these types. Equal types that follow each other are a
+    /// group.
+    ///
+    /// Fails with `TooLong` if there are more than 4,294,967,295 locals, and with `Memory` if it can't allocate.
+    ///
+    /// # Examples
+    ///
+    /// ```
+    /// # use wasm_encoder::{Encode, Function, ValType};
+    /// let locals = [ValType::I32, ValType::I32, ValType::F64];
+    /// let mut function = Function::new_with_locals_types(rt.alloc(), &locals)?;
+    /// function.instructions().end()?;
+    /// let mut bytes = Vec::new(rt.alloc());
+    /// function.encode(&mut bytes)?;
+    /// assert_eq!(rt; bytes.as_slice(), b"\x06\x02\x02\x7f\x01\x7c\x0b".as_slice());
+    /// ```
+    pub fn new_with_locals_types(alloc: Global, locals: &[ValType]) -> Result<Function, EncodeError>
+        ensures makes { MakesLocals locals.now result }
+    {
+        let groups = group_locals(alloc, locals)?;
+        let mut bytes = Vec::new(alloc);
+        encode_list(groups.as_slice(), &mut bytes)?;
+        Ok(Function { bytes })
+    }
+
     /// Returns a sink that appends to the function. End the body with `end`.
     ///
     /// The caller's contracts don't see what you append through this sink. If they must, call [`Function::calls`], or a
@@ -103,6 +129,32 @@ impl Function {
         append_calls(&mut self.bytes, calls)
     }
 
+    /// Appends encoded instructions. Nothing checks them. Fails with `Memory` if the function can't grow, and appends
+    /// nothing then.
+    ///
+    /// # Examples
+    ///
+    /// ```
+    /// # use wasm_encoder::Function;
+    /// let mut function = Function::new_with_locals_types(rt.alloc(), &[])?;
+    /// function.raw(b"\x41\x2a\x0b")?; // i32.const 42, end
+    /// assert_eq!(rt; function.into_raw_body().as_slice(), b"\x00\x41\x2a\x0b".as_slice());
+    /// ```
+    #[tactic(auto, using(crate::proofs::CodeSectionLaws::appends_bytes))]
+    pub fn raw(&mut self, instructions: &[u8]) -> Result<(), EncodeError>
+        ensures appends { Adds GoesOnWithBytes self.old instructions.now self.new (λ e. e ≡ Memory) result }
+    {
+        append_bytes(&mut self.bytes, instructions)
+    }
+
+    /// Returns the bytes of the locals and instructions, without their length.
+    pub fn into_raw_body(self) -> Vec<u8>
+        ensures { result.items ≡ self }
+    {
+        let Function { bytes } = self;
+        bytes
+    }
+
     /// Returns the length of the locals and instructions in bytes.
     pub fn byte_len(&self) -> usize
         ensures { result ≡ length self.now }
@@ -117,6 +169,62 @@ impl Function {
         let bytes = Vec::from_slice(*self.bytes.allocator(), self.bytes.as_slice())?;
         Ok(Function { bytes })
     }
+}
+
+/// Appends bytes. Fails with `Memory` if it can't allocate, and appends nothing then.
+fn append_bytes(bytes: &mut Vec<u8>, more: &[u8]) -> Result<(), EncodeError>
+    ensures ok { OnOk result (bytes.new.items ≡ bytes.old.items ++ more.now) }
+    ensures err { OnErr result (bytes.new.items ≡ bytes.old.items) }
+    ensures memory { IfErr result (λ e. e ≡ Memory) }
+{
+    bytes.extend_from_slice(more)?;
+    Ok(())
+}
+
+/// Returns groups of equal types that follow each other: how many they are, and their type.
+///
+/// Fails with `TooLong` if there are more than 4,294,967,295 types, and with `Memory` if it can't allocate.
+fn group_locals(alloc: Global, types: &[ValType]) -> Result<Vec<(u32, ValType)>, EncodeError>
+    ensures groups { IfOk result (λ groups. AreGroups groups.items types.now) }
+    ensures refused { IfErr result (IsMemoryOrTooLong (IsUncounted (length types.now))) }
+{
+    match types.split_first() {
+        None => Ok(Vec::new(alloc)),
+        Some((first, others)) => group_from(alloc, *first, others),
+    }
+}
+
+/// Returns the groups of `first` and the types after it.
+fn group_from(
+    alloc: Global,
+    first: ValType,
+    others: &[ValType],
+) -> Result<Vec<(u32, ValType)>, EncodeError>
+    ensures groups { IfOk result (λ groups. AreGroups groups.items (first ∷ others.now)) }
+    ensures refused { IfErr result (IsMemoryOrTooLong (IsUncounted (length others.now + 1))) }
+{
+    let mut groups = Vec::new(alloc);
+    let mut count: u32 = 1;
+    let mut last = first;
+    for ty in others {
+        if is_same(*ty, last) {
+            count = count.checked_add(1).ok_or(EncodeError::TooLong)?;
+        } else {
+            groups.push((count, last))?;
+            count = 1;
+            last = *ty;
+        }
+    }
+    groups.push((count, last))?;
+    Ok(groups)
+}
+
+/// Returns whether two types are equal.
+fn is_same(ty: ValType, other: ValType) -> bool
+    ensures same { IsTrue result → ty ≡ other }
+    ensures other { IsFalse result → ty ≡ other → ⊥ }
+{
+    ty == other
 }
 
 /// The function's length in bytes, and its bytes (Core 3.0, Code Section).
@@ -203,6 +311,29 @@ impl CodeSection {
         self.bodies.add(function)
     }
 
+    /// Adds an encoded body, as a reader returns it: its length in bytes, and the body. Nothing checks it.
+    ///
+    /// Fails with `TooLong` if the section already has 4,294,967,295 bodies or `body` is longer than 4,294,967,295
+    /// bytes.
+    ///
+    /// # Examples
+    ///
+    /// ```
+    /// # use wasm_encoder::{CodeSection, Section};
+    /// let mut code = CodeSection::new(rt.alloc());
+    /// code.raw(b"\x00\x41\x2a\x0b")?; // no locals; i32.const 42, end
+    /// let mut bytes = Vec::new(rt.alloc());
+    /// code.append_to(&mut bytes)?;
+    /// assert_eq!(rt; bytes.as_slice(), b"\x0a\x06\x01\x04\x00\x41\x2a\x0b".as_slice());
+    /// ```
+    #[tactic(auto, using(crate::proofs::CodeSectionLaws::adds_function))]
+    pub fn raw(&mut self, body: &[u8]) -> Result<(), EncodeError>
+        ensures adds { Adds GainsFunction self.old body.now self.new
+            (IsMemoryOrTooLong (IsFull self.old ⊎ IsUncounted (length body.now))) result }
+    {
+        self.bodies.add(&EncodedBody { bytes: body })
+    }
+
     /// Adds bodies, all of them or none.
     ///
     /// Fails with `TooLong` if the section would have more than 4,294,967,295 bodies, before it encodes any. It also
@@ -219,6 +350,24 @@ impl CodeSection {
     {
         let bodies = self.bodies.try_clone()?;
         Ok(CodeSection { bodies })
+    }
+}
+
+/// An encoded function body.
+#[derive(Drop)]
+struct EncodedBody<'a> {
+    bytes: &'a [u8],
+}
+
+impl<'a> Encode for EncodedBody<'a> {
+    ghost bytes = { λ body. byte_list_bytes body.bytes.now };
+
+    ghost CanEncode = { λ body. IsCount (length body.bytes.now) };
+
+    ghost refuses = { OnlyTooLong };
+
+    fn encode<A: Allocator>(&self, sink: &mut Vec<u8, A>) -> Result<(), EncodeError> {
+        encode_bytes(self.bytes, sink)
     }
 }
 

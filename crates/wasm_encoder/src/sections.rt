@@ -12,9 +12,14 @@ pub use wasm_codec::reader::names::{SectionNames, section_names};
 pub use wasm_custom_sections::branch_hints::{BranchHint, BranchHints, FunctionHints};
 pub use wasm_custom_sections::custom_list::{CustomItem, CustomList};
 pub use wasm_custom_sections::known::{KnownCustomSection, known_custom_section};
+pub use wasm_custom_sections::linking::{LinkingSection, LinkingSubsection};
 pub use wasm_custom_sections::name_maps::{IndirectNameMap, IndirectNaming, NameMap, Naming};
-pub use wasm_custom_sections::names::{NameSection, NameSubsection};
+pub use wasm_custom_sections::names::{NameError, NameSection, NameSubsection};
 pub use wasm_custom_sections::producers::{Producer, Producers, ProducersField, ProducersSection};
+pub use wasm_custom_sections::symbol_table::SymbolTable;
+pub use wasm_custom_sections::symbols::{
+    DataSymbol, DataSymbolDefinition, ItemSymbol, SectionSymbol, Symbol,
+};
 pub use wasm_custom_sections::target_features::{
     FeaturePrefix, TargetFeature, TargetFeaturesSection,
 };
@@ -79,6 +84,14 @@ impl<'a> Section for CustomSection<'a> {
 }
 
 impl Section for NameSection {
+    ghost id = { λ _. 0 };
+
+    fn id(&self) -> u8 {
+        CUSTOM_SECTION_ID
+    }
+}
+
+impl Section for LinkingSection {
     ghost id = { λ _. 0 };
 
     fn id(&self) -> u8 {

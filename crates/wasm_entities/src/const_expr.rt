@@ -1,10 +1,10 @@
 //! Constant expressions (Core 3.0, Expressions).
 ghost use Rattle.std.specs.Prelude.{◌≡◌, ◌∷◌, [], IfOk, IfErr, IsOk, ◌↔◌};
 ghost use Rattle.wasm_instructions.specs.formats.Instructions.{call};
-ghost use Rattle.wasm_instructions.specs.formats.Opcodes.{without_prefix};
+ghost use Rattle.wasm_instructions.specs.formats.Opcodes.{after_fd, without_prefix};
 ghost use Rattle.wasm_instructions.specs.Instructions.{IsAligned, IsCall};
 ghost use Rattle.wasm_instructions.specs.declared.table.call.Operands.TheVariants as operands;
-ghost use Rattle.wasm_entities.specs.ClosedExpressions.{IsClosed};
+ghost use Rattle.wasm_entities.specs.ClosedExpressions.{IsClosed, ReadsClosed};
 ghost use Rattle.wasm_entities.specs.Making.{Makes};
 
 mod longer;
@@ -13,7 +13,9 @@ use crate::expressions::is_closed;
 use std::alloc::Global;
 use std::marker::Model;
 use wasm_codec::encode::EncodeError;
+use wasm_codec::reader::ReadError;
 use wasm_instructions::operands::{Ieee32, Ieee64};
+use wasm_instructions::reader::instructions::read_instructions;
 use wasm_instructions::table::{Call, Opcode, Operands};
 use wasm_lists::list::Items;
 use wasm_types::types::HeapType;
@@ -75,6 +77,30 @@ impl ConstExpr {
         }
     }
 
+    /// Reads an expression from its instructions, in any encoding and without the final `end`.
+    ///
+    /// Fails with `Refused` at the first malformed instruction, or at the end of `bytes` if the instructions leave a
+    /// block open or close more than they open. Fails with `Memory` if it can't allocate.
+    ///
+    /// # Examples
+    ///
+    /// ```
+    /// # use wasm_encoder::{ConstExpr, ReadError};
+    /// let sum = ConstExpr::raw(rt.alloc(), b"\x23\x00\x41\x10\x6a")?; // global.get 0, i32.const 16, i32.add
+    /// assert_eq!(rt; sum.as_slice().len(), 3);
+    /// let with_end = ConstExpr::raw(rt.alloc(), b"\x41\x10\x0b");
+    /// assert_eq!(rt; with_end.err(), Some(ReadError::Refused { at: 3 }));
+    /// ```
+    pub fn raw(alloc: Global, bytes: &[u8]) -> Result<ConstExpr, ReadError>
+        ensures reads { ReadsClosed bytes.now result }
+    {
+        let calls = read_instructions(alloc, bytes)?;
+        match ConstExpr::new(Items::from(calls)) {
+            Ok(expr) => Ok(expr),
+            Err(_calls) => Err(ReadError::Refused { at: bytes.len() }),
+        }
+    }
+
     /// Returns an expression without instructions. Allocates nothing.
     pub fn empty(alloc: Global) -> ConstExpr
         ensures { result ≡ [] }
@@ -110,6 +136,13 @@ impl ConstExpr {
         ensures makes { Makes (call (without_prefix 0x44) (operands.F64 value) ∷ []) result }
     {
         ConstExpr::of(alloc, 0x44, Operands::F64(value))
+    }
+
+    /// Makes the expression `v128.const value`. Fails with `Memory` if it can't allocate.
+    pub fn v128_const(alloc: Global, value: i128) -> Result<ConstExpr, EncodeError>
+        ensures makes { Makes (call (after_fd 0x0c) (operands.V128 value) ∷ []) result }
+    {
+        ConstExpr::empty(alloc).with_v128_const(value)
     }
 
     /// Makes the expression `global.get index`, with a global index. Fails with `Memory` if it can't allocate.

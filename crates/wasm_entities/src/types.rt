@@ -4,6 +4,7 @@ ghost use Rattle.wasm_codec.specs.Places.{Reads};
 ghost use Rattle.wasm_codec.specs.Rewriter.{Rewrites};
 ghost use Rattle.wasm_codec.specs.Outcomes.{IsMalformed};
 ghost use Rattle.wasm_entities.specs.formats.Externals.{global_flags, global_type, tag_type, entity_type, global_byte, export_kind};
+ghost use Rattle.wasm_entities.specs.declared.types.EntityType.TheVariants as entity_types;
 ghost use Rattle.wasm_entities.specs.declared.types.TagType.{TagType};
 ghost use Rattle.wasm_codec.specs.Lawful.{IsLawful};
 ghost use Rattle.wasm_codec.specs.formats.Grammar.{TakesBytes};
@@ -67,6 +68,18 @@ pub struct TagType {
 }
 
 /// The type of an import (Core 3.0, External Types).
+///
+/// # Examples
+///
+/// ```
+/// # use wasm_encoder::{EntityType, ImportSection, MemoryType, Section};
+/// let mut imports = ImportSection::new(rt.alloc());
+/// imports.import("m", "f", EntityType::Function(0))?;
+/// imports.import("m", "g", MemoryType::new(1).into())?;
+/// let mut bytes = Vec::new(rt.alloc());
+/// imports.append_to(&mut bytes)?;
+/// assert_eq!(rt; bytes.as_slice(), b"\x02\x0e\x02\x01m\x01f\x00\x00\x01m\x01g\x02\x00\x01".as_slice());
+/// ```
 #[derive(Clone, Copy, Debug, PartialEq, Eq)]
 pub enum EntityType {
     /// A function. Holds its type index.
@@ -81,6 +94,38 @@ pub enum EntityType {
     Tag(TagType),
     /// A function of exactly this type, not of a subtype. Holds its type index.
     FunctionExact(u32),
+}
+
+impl From<TableType> for EntityType {
+    ghost from_gives = { λ ty entity. entity ≡ entity_types.Table ty };
+
+    fn from(ty: TableType) -> EntityType {
+        EntityType::Table(ty)
+    }
+}
+
+impl From<MemoryType> for EntityType {
+    ghost from_gives = { λ ty entity. entity ≡ entity_types.Memory ty };
+
+    fn from(ty: MemoryType) -> EntityType {
+        EntityType::Memory(ty)
+    }
+}
+
+impl From<GlobalType> for EntityType {
+    ghost from_gives = { λ ty entity. entity ≡ entity_types.Global ty };
+
+    fn from(ty: GlobalType) -> EntityType {
+        EntityType::Global(ty)
+    }
+}
+
+impl From<TagType> for EntityType {
+    ghost from_gives = { λ ty entity. entity ≡ entity_types.Tag ty };
+
+    fn from(ty: TagType) -> EntityType {
+        EntityType::Tag(ty)
+    }
 }
 
 /// The kind of an export (Core 3.0, Export Section).

@@ -1,5 +1,5 @@
 //! Names of instructions (Core 3.0, Text Format, Instructions).
-ghost use Rattle.std.specs.Prelude.{◌≡◌, is_some};
+ghost use Rattle.std.specs.Prelude.{◌≡◌, IfSome, is_some, true};
 ghost use Rattle.wasm_instructions.specs.formats.Opcodes.{opcode_kind};
 
 mod opcodes;
@@ -7,9 +7,13 @@ mod opcodes;
 use crate::names::opcodes::{AFTER_FB, AFTER_FC, AFTER_FD, AFTER_FE, WITHOUT_PREFIX};
 use crate::table::{Opcode, Prefix};
 
+/// Length of the longest table of names.
+const MOST_OPCODES: u32 = AFTER_FD.len() as u32;
+
 /// Returns the name of an instruction in the text format, such as `local.get` (Core 3.0, Text Format, Instructions).
 ///
-/// Returns `None` if the opcode isn't in the table. Both opcodes of `select` have the name `select`.
+/// Returns `None` if the opcode isn't in the table. Two opcodes each have the names `select`, `ref.test`, `ref.cast`
+/// and `ref.cast_desc_eq`.
 ///
 /// # Examples
 ///
@@ -32,4 +36,46 @@ pub fn opcode_name(opcode: Opcode) -> Option<&'static str>
         Prefix::Fd => Some(AFTER_FD[place]),
         Prefix::Fe => Some(AFTER_FE[place]),
     }
+}
+
+/// Returns the opcode of the instruction that has this name in the text format, such as `local.get` (Core 3.0, Text
+/// Format, Instructions).
+///
+/// Returns `None` if no instruction has it. Of two opcodes of one name, returns the first: `select` without types, and
+/// tests and casts whose type can't be null. Each call goes through the table.
+///
+/// # Examples
+///
+/// ```
+/// # use wasm_encoder::{Call, Opcode, Operands, opcode_named};
+/// assert_eq!(rt; opcode_named("v128.const"), Some(Opcode::after_fd(12)));
+/// assert_eq!(rt; opcode_named("local.gets"), None);
+/// let add = opcode_named("i32.add").and_then(|op| Call::new(op, Operands::None).ok());
+/// assert_eq!(rt; add.map(|call| call.op()), Some(Opcode::without_prefix(0x6a)));
+/// ```
+pub fn opcode_named(name: &str) -> Option<Opcode>
+    // The opcode is in the table.
+    ensures { IfSome result (λ opcode. is_some (opcode_kind opcode) ≡ true) }
+{
+    let prefixes = [Prefix::None, Prefix::Fb, Prefix::Fc, Prefix::Fd, Prefix::Fe];
+    for prefix in prefixes {
+        if let Some(opcode) = named_after(prefix, name) {
+            return Some(opcode);
+        }
+    }
+    None
+}
+
+/// Returns the opcode with this prefix and name.
+fn named_after(prefix: Prefix, name: &str) -> Option<Opcode>
+    ensures { IfSome result (λ opcode. is_some (opcode_kind opcode) ≡ true) }
+{
+    for number in 0..MOST_OPCODES {
+        let opcode = Opcode { prefix, number };
+        match opcode_name(opcode) {
+            Some(found) if found == name => return Some(opcode),
+            _ => {}
+        }
+    }
+    None
 }

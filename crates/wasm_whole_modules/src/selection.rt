@@ -78,16 +78,16 @@ pub fn choose_sections(canonical: Vec<u8>, sections: Sections<'_>) -> Vec<u8>
 /// Returns the module without the custom sections that the selection drops. It works in place.
 ///
 /// The sizes of the other sections get their minimal encoding. From a malformed section on, it drops all bytes.
-pub fn select_sections(module: Vec<u8>, selection: Selection<'_>) -> Vec<u8>
+pub fn select_sections(bytes: Vec<u8>, selection: Selection<'_>) -> Vec<u8>
     // The result is the minimal encoding of the sections that aren't dropped.
-    ensures ok { (sections : List SectionParts) → raw_module.Encodes module.items sections →
+    ensures ok { (sections : List SectionParts) → raw_module.Encodes bytes.items sections →
         IsSelected selection.entry sections result.items }
 {
-    let Some(_sections) = after_header(&module) else {
+    let Some(_sections) = after_header(&bytes) else {
         // A malformed module has no sections to drop.
-        return module;
+        return bytes;
     };
-    let mut rewriter = Rewriter::new(module);
+    let mut rewriter = Rewriter::new(bytes);
     rewriter.skip(HEADER.len());
     while rewriter.len() > 0 {
         rewriter.are_bytes();

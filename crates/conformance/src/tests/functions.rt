@@ -101,6 +101,39 @@ fn a_body_and_its_copy_in_a_section(rt: HostRuntime) -> Result<(), Fail> {
     is_section(rt.alloc(), &code, 2, hex)
 }
 
+/// A function of locals of these types and an `end` is encoded as these bytes.
+fn is_of_types(alloc: Global, types: &[ValType], hex: &str) -> Result<(), Fail> {
+    let mut function = Function::new_with_locals_types(alloc, types)?;
+    function.instructions().end()?;
+    is_encoded(alloc, &function, hex)
+}
+
+/// Equal types are a group if nothing stands between them.
+#[test]
+fn locals_by_their_types(rt: HostRuntime) -> Result<(), Fail> {
+    let mixed = [ValType::I32, ValType::I32, ValType::F64, ValType::I32];
+    let references = [ValType::FUNCREF, ValType::EXTERNREF, ValType::EXTERNREF];
+    is_of_types(rt.alloc(), &[], "02000B")?;
+    is_of_types(rt.alloc(), &mixed, "0803027F017C017F0B")?;
+    is_of_types(rt.alloc(), &references, "06020170026F0B")
+}
+
+/// Bytes become a body, or the end of one.
+#[test]
+fn a_body_from_its_bytes(rt: HostRuntime) -> Result<(), Fail> {
+    let mut function = Function::new(rt.alloc(), LOCALS.iter().copied())?;
+    function.raw(b"\x0b")?;
+    let mut code = CodeSection::new(rt.alloc());
+    code.function(&function)?;
+    code.raw(b"\x00\x0b")?;
+    is_section(rt.alloc(), &code, 2, "0B020602027F01700B02000B")?;
+    is(
+        rt.alloc(),
+        function.into_raw_body().as_slice(),
+        "02027F01700B",
+    )
+}
+
 /// More locals than a u32 counts are refused, by what the iterator says of their number, before one is asked for: were
 /// they, the test would run out of time.
 #[test]

@@ -4,8 +4,9 @@ use crate::mismatch::Mismatch;
 use std::alloc::Global;
 use wasm_encoder::{
     BranchHints, CustomSection, EncodeError, FunctionHints, IndirectNameMap, IndirectNaming,
-    KnownCustomSection, NameMap, NameSection, NameSubsection, Naming, Producers, ProducersField,
-    ProducersSection, ReadError, TargetFeature, TargetFeaturesSection, known_custom_section,
+    KnownCustomSection, LinkingSection, LinkingSubsection, NameError, NameMap, NameSection,
+    NameSubsection, Naming, Producers, ProducersField, ProducersSection, ReadError, Symbol,
+    SymbolTable, TargetFeature, TargetFeaturesSection, known_custom_section,
 };
 
 /// The builder writes the normal form, of what the reader gives. Subsections in another order can't be built.
@@ -39,6 +40,7 @@ fn name_of(section: &str) -> &'static str {
         "producers" => "producers",
         "target features" => "target_features",
         "branch hints" => "metadata.code.branch_hint",
+        "linking" => "linking",
         _ => "",
     }
 }
@@ -56,6 +58,7 @@ fn build(alloc: Global, known: &KnownCustomSection<'_>) -> Result<Option<Vec<u8>
         KnownCustomSection::BranchHints(functions) => {
             Ok(Some(build_hints(alloc, functions.as_slice())?))
         }
+        KnownCustomSection::Linking(subsections) => build_linking(alloc, subsections.as_slice()),
         KnownCustomSection::Other(_) => Ok(None),
     }
 }
@@ -67,55 +70,35 @@ fn build_names(
 ) -> Result<Option<Vec<u8>>, EncodeError> {
     let mut names = NameSection::new(alloc);
     for subsection in subsections {
-        if !add_subsection(alloc, &mut names, subsection)? {
-            return Ok(None);
+        match add_subsection(alloc, &mut names, subsection) {
+            Ok(true) => {}
+            Ok(false) | Err(NameError::OutOfOrder) => return Ok(None),
+            Err(NameError::Encode(error)) => return Err(error),
         }
     }
     Ok(Some(Vec::from_slice(alloc, names.as_slice())?))
 }
 
-/// Adds a subsection. Returns `false` if it can't follow those before.
+/// Adds a subsection. Returns `false` if its id is unknown.
 fn add_subsection(
     alloc: Global,
     names: &mut NameSection,
     subsection: &NameSubsection<'_>,
-) -> Result<bool, EncodeError> {
+) -> Result<bool, NameError> {
     match subsection {
-        NameSubsection::Module(name) if names.next_id() == 0 => names.module(name)?,
-        NameSubsection::Functions(map) if names.next_id() <= 1 => {
-            names.functions(&name_map(alloc, map.as_slice())?)?;
-        }
-        NameSubsection::Locals(map) if names.next_id() <= 2 => {
-            names.locals(&indirect_map(alloc, map.as_slice())?)?;
-        }
-        NameSubsection::Labels(map) if names.next_id() <= 3 => {
-            names.labels(&indirect_map(alloc, map.as_slice())?)?;
-        }
-        NameSubsection::Types(map) if names.next_id() <= 4 => {
-            names.types(&name_map(alloc, map.as_slice())?)?;
-        }
-        NameSubsection::Tables(map) if names.next_id() <= 5 => {
-            names.tables(&name_map(alloc, map.as_slice())?)?;
-        }
-        NameSubsection::Memories(map) if names.next_id() <= 6 => {
-            names.memories(&name_map(alloc, map.as_slice())?)?;
-        }
-        NameSubsection::Globals(map) if names.next_id() <= 7 => {
-            names.globals(&name_map(alloc, map.as_slice())?)?;
-        }
-        NameSubsection::Elements(map) if names.next_id() <= 8 => {
-            names.elements(&name_map(alloc, map.as_slice())?)?;
-        }
-        NameSubsection::Data(map) if names.next_id() <= 9 => {
-            names.data(&name_map(alloc, map.as_slice())?)?;
-        }
-        NameSubsection::Fields(map) if names.next_id() <= 10 => {
-            names.fields(&indirect_map(alloc, map.as_slice())?)?;
-        }
-        NameSubsection::Tags(map) if names.next_id() <= 11 => {
-            names.tags(&name_map(alloc, map.as_slice())?)?;
-        }
-        _ => return Ok(false),
+        NameSubsection::Module(name) => names.module(name)?,
+        NameSubsection::Functions(map) => names.functions(&name_map(alloc, map.as_slice())?)?,
+        NameSubsection::Locals(map) => names.locals(&indirect_map(alloc, map.as_slice())?)?,
+        NameSubsection::Labels(map) => names.labels(&indirect_map(alloc, map.as_slice())?)?,
+        NameSubsection::Types(map) => names.types(&name_map(alloc, map.as_slice())?)?,
+        NameSubsection::Tables(map) => names.tables(&name_map(alloc, map.as_slice())?)?,
+        NameSubsection::Memories(map) => names.memories(&name_map(alloc, map.as_slice())?)?,
+        NameSubsection::Globals(map) => names.globals(&name_map(alloc, map.as_slice())?)?,
+        NameSubsection::Elements(map) => names.elements(&name_map(alloc, map.as_slice())?)?,
+        NameSubsection::Data(map) => names.data(&name_map(alloc, map.as_slice())?)?,
+        NameSubsection::Fields(map) => names.fields(&indirect_map(alloc, map.as_slice())?)?,
+        NameSubsection::Tags(map) => names.tags(&name_map(alloc, map.as_slice())?)?,
+        NameSubsection::Unknown { .. } => return Ok(false),
     }
     Ok(true)
 }
@@ -176,4 +159,37 @@ fn build_hints(alloc: Global, functions: &[FunctionHints]) -> Result<Vec<u8>, En
         section.function_hints(function.function_index, function.hints.as_slice())?;
     }
     section.contents()
+}
+
+/// The contents of a section of these subsections, or `None` if there are others than symbol tables.
+fn build_linking(
+    alloc: Global,
+    subsections: &[LinkingSubsection<'_>],
+) -> Result<Option<Vec<u8>>, EncodeError> {
+    let mut section = LinkingSection::new(alloc);
+    for subsection in subsections {
+        match subsection {
+            LinkingSubsection::SymbolTable(symbols) => {
+                section.symbol_table(&symbol_table(alloc, symbols.as_slice())?)?;
+            }
+            LinkingSubsection::Other { .. } => return Ok(None),
+        }
+    }
+    Ok(Some(section.contents()?))
+}
+
+/// A table of these symbols.
+fn symbol_table(alloc: Global, symbols: &[Symbol<'_>]) -> Result<SymbolTable, EncodeError> {
+    let mut table = SymbolTable::new(alloc);
+    for symbol in symbols {
+        match symbol {
+            Symbol::Function(item) => table.function(item.flags, item.index, item.name)?,
+            Symbol::Data(data) => table.data(data.flags, data.name, data.definition)?,
+            Symbol::Global(item) => table.global(item.flags, item.index, item.name)?,
+            Symbol::Section(section) => table.section(section.flags, section.section)?,
+            Symbol::Tag(item) => table.tag(item.flags, item.index, item.name)?,
+            Symbol::Table(item) => table.table(item.flags, item.index, item.name)?,
+        }
+    }
+    Ok(table)
 }

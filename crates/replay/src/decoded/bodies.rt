@@ -5,8 +5,9 @@ use crate::mismatch::Mismatch;
 use std::alloc::Global;
 use wasm_encoder::{
     BranchHints, CustomSection, DataCountSection, DataSection, Decode, ElementSection,
-    ExportSection, FunctionSection, GlobalSection, ImportSection, MemorySection, NameSection,
-    ProducersSection, StartSection, TableSection, TagSection, TargetFeaturesSection, WholeModule,
+    ExportSection, FunctionSection, GlobalSection, ImportSection, LinkingSection, MemorySection,
+    NameSection, ProducersSection, StartSection, TableSection, TagSection, TargetFeaturesSection,
+    WholeModule,
 };
 
 /// What the calls answer to some bytes.
@@ -38,6 +39,7 @@ pub fn all_answers(alloc: Global, section: &str, body: &[u8]) -> Result<Answers,
         "producers" => answers_of::<ProducersSection<'_>>(alloc, body),
         "target features" => answers_of::<TargetFeaturesSection<'_>>(alloc, body),
         "branch hints" => answers_of::<BranchHints>(alloc, body),
+        "linking" => answers_of::<LinkingSection>(alloc, body),
         "custom" => answers_of::<CustomSection<'_>>(alloc, body),
         "module" => answers_of::<WholeModule>(alloc, body),
         _ => Err(Mismatch::NotUnderstood),

@@ -6,8 +6,8 @@ use crate::refusals::expected::Expected;
 use std::alloc::Global;
 use wasm_encoder::{
     BranchHints, CodeSection, CustomSection, DataCountSection, DataSection, Decode, ElementSection,
-    ExportSection, FunctionSection, GlobalSection, ImportSection, Instructions, MemorySection,
-    Module, NameSection, ProducersSection, StartSection, TableSection, TagSection,
+    ExportSection, FunctionSection, GlobalSection, ImportSection, Instructions, LinkingSection,
+    MemorySection, Module, NameSection, ProducersSection, StartSection, TableSection, TagSection,
     TargetFeaturesSection, TypeSection, WholeModule, check, normalise, read, read_strict, rewrite,
 };
 
@@ -56,6 +56,7 @@ fn check_contents(
             check_calls::<TargetFeaturesSection<'_>>(alloc, calls, bytes, expected)
         }
         "branch hints" => check_calls::<BranchHints>(alloc, calls, bytes, expected),
+        "linking" => check_calls::<LinkingSection>(alloc, calls, bytes, expected),
         _ => Err(Mismatch::NotUnderstood),
     }
 }

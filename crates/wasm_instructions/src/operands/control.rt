@@ -1,4 +1,6 @@
 //! Block types and the clauses of `try_table` (Core 3.0, Control Instructions) and of `resume`.
+ghost use Rattle.std.specs.Prelude.{◌≡◌};
+ghost use Rattle.wasm_instructions.specs.declared.operands.control.BlockType.TheVariants as block_types;
 
 use wasm_types::types::ValType;
 
@@ -12,6 +14,7 @@ use wasm_types::types::ValType;
 /// let sink = InstructionSink::new(&mut code);
 /// sink.block(BlockType::Result(ValType::I32))?.i32_const(7)?.end()?;
 /// assert_eq!(rt; code.as_slice(), b"\x02\x7f\x41\x07\x0b".as_slice());
+/// assert_eq!(rt; BlockType::from(ValType::I32), BlockType::Result(ValType::I32));
 /// ```
 #[derive(Clone, Copy, Debug, PartialEq, Eq)]
 pub enum BlockType {
@@ -21,6 +24,14 @@ pub enum BlockType {
     Result(ValType),
     /// The function type of this index.
     FunctionType(u32),
+}
+
+impl From<ValType> for BlockType {
+    ghost from_gives = { λ ty block. block ≡ block_types.Result ty };
+
+    fn from(ty: ValType) -> BlockType {
+        BlockType::Result(ty)
+    }
 }
 
 /// A clause of `try_table`: the exceptions that it catches, and the label that it branches to (Core 3.0, Control

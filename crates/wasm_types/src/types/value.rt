@@ -2,6 +2,7 @@
 ghost use Rattle.std.specs.Prelude.{◌≡◌};
 ghost use Rattle.wasm_types.specs.Types.{is_defaultable, is_numeric, is_reference, is_vector, unpacked};
 ghost use Rattle.wasm_types.specs.declared.types.value.ValType.TheVariants.{Ref};
+ghost use Rattle.wasm_types.specs.declared.types.value.StorageType.TheVariants as storage_types;
 
 use crate::types::heap::RefType;
 
@@ -87,6 +88,14 @@ impl From<RefType> for ValType {
 }
 
 /// The type of a value in a field: a value type, or a packed type (Core 3.0, Composite Types).
+///
+/// # Examples
+///
+/// ```
+/// # use wasm_encoder::{StorageType, ValType};
+/// assert_eq!(rt; StorageType::I8.unpack(), ValType::I32);
+/// assert_eq!(rt; StorageType::from(ValType::F64), StorageType::Val(ValType::F64));
+/// ```
 #[derive(Clone, Copy, Debug, PartialEq, Eq, Hash, PartialOrd, Ord)]
 pub enum StorageType {
     /// `i8`.
@@ -95,6 +104,14 @@ pub enum StorageType {
     I16,
     /// A value type.
     Val(ValType),
+}
+
+impl From<ValType> for StorageType {
+    ghost from_gives = { λ ty storage. storage ≡ storage_types.Val ty };
+
+    fn from(ty: ValType) -> StorageType {
+        StorageType::Val(ty)
+    }
 }
 
 impl StorageType {
