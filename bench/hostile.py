@@ -1,7 +1,8 @@
 #!/usr/bin/env python3
-"""Measures the peak memory of wasmnorm for inputs that hold millions of the shortest or of padded items.
+"""Measures the peak memory of a program for inputs that hold millions of the shortest or of padded items.
 
-usage: hostile.py PROGRAM     prints a line for each input: its length, the peak, their ratio, seconds and status
+usage: hostile.py WASMNORM            prints a line for each input: its length, the peak, their ratio, seconds and status
+       hostile.py WASMCANON WORD..    the same for each module, such as: hostile.py bin/wasmcanon --any-order --report
 """
 import pathlib
 import subprocess
@@ -78,21 +79,24 @@ def inputs():
     yield "60 00 00, and a refusal", "types", list_of(b"\x60\0\0") + b"\1"
 
 
-def measure(program, mode, data, room):
+def measure(program, words, data, room):
     (room / "input").write_bytes(data)
     with open(room / "input", "rb") as given, open(room / "output", "wb") as output:
-        words = ["/usr/bin/time", "-f", "%M %e", program, mode]
-        ran = subprocess.run(words, stdin=given, stdout=output, stderr=subprocess.PIPE, text=True)
+        command = ["/usr/bin/time", "-f", "%M %e", program, *words]
+        ran = subprocess.run(command, stdin=given, stdout=output, stderr=subprocess.PIPE, text=True)
     peak, seconds = ran.stderr.split("\n")[-2].split()
     return int(peak) * 1024, seconds, ran.returncode
 
 
 def main():
-    if len(sys.argv) != 2:
+    if len(sys.argv) < 2:
         sys.exit(__doc__)
+    program, *words = sys.argv[1:]
     with tempfile.TemporaryDirectory() as room:
         for name, mode, data in inputs():
-            peak, seconds, status = measure(sys.argv[1], mode, data, pathlib.Path(room))
+            if words and mode != "module":
+                continue
+            peak, seconds, status = measure(program, words or [mode], data, pathlib.Path(room))
             beyond = (peak - len(data)) / 1e6
             print(f"{mode}, {name}: {len(data) / 1e6:.1f} MB and {beyond:.1f}, {peak / len(data):.2f} times, {seconds} s, status {status}")
 

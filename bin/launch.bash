@@ -1,14 +1,16 @@
 # shellcheck shell=bash
-# Sourced by bin/wasmnorm, bin/wasmcanon and scripts/install. Runs a program of this repository. If the program isn't
-# built yet, or its sources have changed, it comes from the user's cache, or the kit's command rt proves and builds it.
-# Progress goes to standard error.
+# Run by bin/wasmnorm and bin/wasmcanon, and sourced by scripts/install. Runs a program of this repository. If the
+# program isn't built yet, or its sources have changed, it comes from the user's cache, or the kit's command rt proves
+# and builds it. Progress goes to standard error.
 #
-# The script that sources this file sets $self to the path of the launcher, and $program to the name of the program and
-# its crate.
+# The first argument is the name of the program and its crate. A script that sources this file passes it, too.
+set -euo pipefail
+program=$1
 here=$PWD
-cd "${self%/*}/.."
+cd "${BASH_SOURCE[0]%/*}/.."
 root=$PWD
 speaker=$program
+. bin/stamps.sh
 . scripts/builds.bash
 # The program answers the argument $words at once. With $trial it reads a module from standard input, and writes
 # less than 1 MiB. $usual is the usual time of a proof from a fresh clone, and $help the source of its help text.
@@ -16,50 +18,52 @@ case $program in
     wasmnorm) words=--version trial=module usual="15 minutes" help=crates/wasmnorm/src/texts.rt ;;
     wasmcanon) words=--version trial=--check usual="30 minutes" help=crates/wasmcanon/src/options.rt ;;
 esac
-hash rt 2>/dev/null || true
-kit=${BASH_CMDS[rt]-crates.txt} # without rt, a file that exists
 out=$root/crates/$program/out
 built=$out/$program
 kept=$out/kept # the program, the checksum and stamps of its sources, and the output of rt; without proof $out/unproved
 
 need_rt() {
-    [ "$kit" != crates.txt ] || { say "rt not found: put the kit's command rt on the PATH"; exit 5; }
+    command -v rt >/dev/null || { say "rt not found: put the kit's command rt on the PATH"; exit 5; }
 }
 
 # Prints the kit's version and a checksum of the sources. Without the kit, takes the version of the last build.
 sources() {
-    if [ "$kit" != crates.txt ]; then rt version; else head -n 1 "$kept/sources"; fi
+    if command -v rt >/dev/null; then rt version; else head -n 1 "$kept/sources"; fi
     checksum "$program"
 }
 
-# Prints the inode and the change time, which no command can set back, of the files in these folders, of crates.txt and
-# HANDLES, and of the kit's command. Arguments: FOLDERS, and conditions for find.
-stamps() {
+# Prints the paths of all that a build depends on, each with a zero byte after it: the files and folders of the crates,
+# crates.txt, HANDLES, and the kit's command. Arguments: conditions for find.
+paths() {
     local list
-    read -ra list <<<"$1"
-    [ ! -e HANDLES ] || list+=(HANDLES)
-    exec find -L "${list[@]}" crates.txt "$kit" -name out -prune -o "${@:2}" -printf '%i %C@\n'
+    read -ra list < <(folders "$program")
+    find -L "${list[@]}" -name out -prune -o "$@" -print0
+    printf '%s\0' crates.txt HANDLES "$(command -v rt || true)"
 }
 
-# Checks whether all stamps are as they were. If so, a built program is current, and nothing else is checked.
-is_untouched() {
-    local folders known
-    [ -x "$kept/$program" ] && read -r folders 2>/dev/null <"$kept/stamps" || return 1
-    IFS= read -rd '' known <"$kept/stamps" || true
-    [ "$folders"$'\n'"$(stamps "$folders" 2>/dev/null)"$'\n' = "$known" ]
+# Prints the stamps of the files that a build depends on. Folders change while rt writes its output.
+file_stamps() {
+    local list
+    mapfile -d '' -t list < <(paths -type f)
+    stamps "${list[@]}"
 }
+
+# Prints these words in quotes, for a shell.
+quoted() { printf "'%s' " "${@//\'/\'\\\'\'}"; }
 
 # Checks whether the program was built from the sources as they are. If so, keeps their stamps once all are a second
 # old: a file that is written twice in one tick of the clock has one stamp.
 is_current() {
-    local began folders now
+    local began list now
     [ -x "$kept/$program" ] || return 1
     began=$(date +%s)
-    folders=$(folders "$program")
-    now=$(stamps "$folders")
+    mapfile -d '' -t list < <(paths)
+    now=$(stamps "${list[@]}") || true
     [ "$(sources)" = "$(cat "$kept/sources" 2>/dev/null)" ] || return 1
-    if awk -v began="$began" '$2 > began - 1 { recent = 1 } END { exit recent }' <<<"$now"; then
-        printf '%s\n' "$folders" "$now" >"$kept/stamps"
+    if awk -v began="$began" '!/^\// && (!/^[0-9]+ [0-9]+\.[0-9]+$/ || $2 > began - 1) { exit bad = 1 }
+            END { exit bad || NR < 2 }' <<<"$now"; then
+        printf 'set -- %s\nknown=%s\n' "$(quoted "${list[@]}")" "$(quoted "$now")" >"$kept/stamps.$$"
+        mv -f "$kept/stamps.$$" "$kept/stamps.sh"
     fi 2>/dev/null || true
 }
 
@@ -67,7 +71,7 @@ is_current() {
 begin() {
     need_rt
     began=$SECONDS
-    before=$(stamps "$(folders "$program")" -type f)
+    before=$(file_stamps) || true
     now=$(sources)
     mkdir -p "$kept"
     : >"$kept/log"
@@ -75,11 +79,11 @@ begin() {
 
 # Keeps the program in this FILE, unless the sources have changed since the build began.
 keep() {
-    if [ "$(stamps "$(folders "$program")" -type f)" != "$before" ]; then
+    if [ "$(file_stamps)" != "$before" ]; then
         say "the sources changed during the build: run it again"
         exit 5
     fi
-    rm -f "$kept/stamps" "$kept/sources"
+    rm -f "$kept/stamps.sh" "$kept/sources"
     mv -f "$1" "$kept/$program"
     echo "$now" >"$kept/sources"
     say "$2"
@@ -173,22 +177,22 @@ print_version() {
 }
 
 # Takes or builds the proved program, if it isn't current.
-ensure_proved() { is_untouched || is_current || build; }
+ensure_proved() { is_untouched "$kept" || is_current || build; }
 
 # Runs the proved program with these arguments, in the folder of the caller.
 run_proved() {
     ensure_proved
     cd "$here"
-    exec "$kept/$program" "$@"
+    run_kept "$kept" "$@"
 }
 
 # Runs the program without proof with these arguments, in the folder of the caller.
 run_unproved() {
     kept=$out/unproved
     say "without proof: running the sources as they are"
-    is_untouched || is_current || build_unproved
+    is_untouched "$kept" || is_current || build_unproved
     cd "$here"
-    exec "$kept/$program" "$@"
+    run_kept "$kept" "$@"
 }
 
 # Runs the launcher with these arguments.
@@ -200,3 +204,5 @@ launch() {
         *) run_proved "$@" ;;
     esac
 }
+
+[ "${BASH_SOURCE[0]}" != "$0" ] || launch "${@:2}"

@@ -60,8 +60,8 @@ FILES = {
     "crates/wasmcanon/src/main.rt": "C",
     "crates/nosgrivel_c/src/lib.rt": "S",
 }
-COPIED = ["bin/launch.bash", "bin/wasmnorm", "bin/wasmcanon", "scripts/builds.bash", "scripts/c-library",
-          "VERSION", *HELP.values()]
+COPIED = ["bin/launch.bash", "bin/stamps.sh", "bin/wasmnorm", "bin/wasmcanon", "scripts/builds.bash",
+          "scripts/c-library", "VERSION", *HELP.values()]
 
 
 class Launchers:
@@ -279,6 +279,23 @@ def changed_trees(it):
     it.proves_again("after an edit during the proof", "B6")
 
 
+def changes_of_stamps(it):
+    """Once the stamps are kept, a change of the trees is seen all the same."""
+    added, handles = it.root / "crates/low/src/it's more.rt", it.root / "HANDLES"
+    for name, change, before, after in (
+            ("a file that is added beside kept stamps", lambda: added.write_text("5"), "B6", "B56"),
+            ("HANDLES that is added beside kept stamps", lambda: handles.write_text("none"), "B56", "B56"),
+            ("a file that is removed beside kept stamps", added.unlink, "B56", "B6")):
+        time.sleep(UNTIL_STAMPS_ARE_KEPT)
+        it.stays(f"before {name}", before)
+        it.launch("calls")
+        it.is_silent(f"before {name}: no rt")
+        change()
+        it.proves_again(name, after)
+    handles.unlink()
+    it.proves_again("HANDLES that is removed", "B6")
+
+
 def without_kit(it):
     path, it.path = it.path, "/usr/bin:/bin"
     if not shutil.which("rt", path=it.path):
@@ -340,9 +357,11 @@ def runs_of_wasmcanon(it):
     it.launch("--check", "file", program="wasmcanon")
     it.answers("wasmcanon, the first use", 0, "--check of C9")
     it.builds("wasmcanon, the first use: the crates in order", "lib low", "run wasmcanon")
-    it.write("crates/wasmcanon/out/kept/wasmcanon", '#!/bin/sh\npwd\necho "$#: $2"\n')
+    it.write("crates/wasmcanon/out/kept/wasmcanon", '#!/bin/sh\npwd\necho "$#: $2: $GLIBC_TUNABLES"\n')
     it.launch("a", "b c", "", program="wasmcanon")
-    it.answers("wasmcanon, its arguments and its folder", 0, f"{it.room}\n3: b c")
+    it.answers("wasmcanon, its arguments and its folder", 0, f"{it.room}\n3: b c: glibc.malloc.hugetlb=1")
+    it.launch("a", "b c", program="wasmcanon", GLIBC_TUNABLES="")
+    it.answers("wasmcanon, another environment", 0, f"{it.room}\n2: b c: ")
     it.proves_nothing("wasmcanon, the second use: no proof")
     it.complains("wasmcanon, the second use: no message", "")
     it.launch("--unproved", "--diff", "a b", "-", program="wasmcanon")
@@ -353,7 +372,7 @@ def runs_of_wasmcanon(it):
     it.answers("wasmcanon unproved, no arguments", 7, f"unproved C9: : {it.room}: bytes")
     it.proves_nothing("wasmcanon unproved, the second use: no build")
     it.launch("a", "--unproved", "b", program="wasmcanon")
-    it.answers("wasmcanon, a later --unproved", 0, f"{it.room}\n3: --unproved")
+    it.answers("wasmcanon, a later --unproved", 0, f"{it.room}\n3: --unproved: glibc.malloc.hugetlb=1")
 
 
 def caches(it):
@@ -463,6 +482,6 @@ def on_a_terminal(it):
 def run(report):
     with room() as folder:
         it = Launchers(report, folder)
-        for use in (words, first_use, unchanged, changed_files, changed_trees, without_kit, unproved, failures_unproved,
-                    runs_of_wasmcanon, caches, damaged_caches, libraries, on_a_terminal):
+        for use in (words, first_use, unchanged, changed_files, changed_trees, changes_of_stamps, without_kit, unproved,
+                    failures_unproved, runs_of_wasmcanon, caches, damaged_caches, libraries, on_a_terminal):
             use(it)

@@ -1,11 +1,18 @@
--- What writes do one after another.
-use Rattle.std.proofs.Common.{ℕ, ◌+◌, ◌-◌, ◌<◌, ◌≤◌, List, ◌++◌, length, take, drop, sym, ap, ◌∙◌, subst, arith, length-drop, take-append-drop}
+-- What reads and writes do one after another.
+use Rattle.std.proofs.Common.{◌≡◌, ℕ, ◌+◌, ◌-◌, ◌<◌, ◌≤◌, List, ◌++◌, length, take, drop, sym, ap, ◌∙◌, subst, arith, length-drop, take-append-drop}
 use Rattle.std.proofs.Math.Seq.{take-add}
 use Rattle.std.proofs.lemmas.List.{take_rest}
 use Rattle.std.specs.Prelude.{Option}
-use Rattle.std.specs.Io.KnownBytes.{Appends, Keeps}
-use Rattle.std.proofs.KnownBytes.{Appends-trans, Appends-kept}
+use Rattle.std.specs.Io.KnownBytes.{Appends, Consumes, Keeps}
+use Rattle.std.proofs.KnownBytes.{Appends-trans, Appends-kept, Consumes-trans}
 use Rattle.wasmnorm.specs.Streams.{AppendsPrefix}
+
+-- a read behind a prefix makes the prefix longer
+pub more_read : (a b c : Option (List ℕ)) (old new : List ℕ) (n m : ℕ) → take n new ≡ take n old → Consumes a b (take n old)
+    → Consumes b c (take m (drop n new)) → Consumes a c (take (n + m) new)
+more_read a b c old new n m front before read =
+    let joined = take-add n m new ∙ ap (λ prefix. prefix ++ take m (drop n new)) front in
+    subst (Consumes a c) (sym joined) (Consumes-trans a b c _ _ before read)
 
 -- a write of what follows a prefix makes the prefix longer
 pub more_written : (a b c : Option (List ℕ)) (bytes : List ℕ) (n m : ℕ) → Appends a b (take n bytes)

@@ -23,7 +23,7 @@ use crate::run::{RunError, run};
 use crate::streams::flush;
 use crate::texts::text_of;
 use std::process::ExitCode;
-use std::{env, io};
+use std::{env, fs, io};
 
 /// What the arguments ask for.
 #[derive(Clone, Copy)]
@@ -75,8 +75,22 @@ fn print_text(rt: &HostRuntime, text: &str) -> Result<(), RunError> {
 /// Runs the program from standard input to standard output, and flushes the output.
 fn run_standard(rt: &HostRuntime, mode: Mode) -> Result<(), RunError> {
     let mut output = rt.stdout();
-    run(rt.alloc(), mode, &mut rt.stdin(), &mut output)?;
+    run(
+        rt.alloc(),
+        mode,
+        input_len(rt),
+        &mut rt.stdin(),
+        &mut output,
+    )?;
     flush(&mut output)
+}
+
+/// Returns the length in bytes of the file that is standard input. `None` means that it is no file.
+fn input_len(rt: &HostRuntime) -> Option<usize> {
+    match fs::metadata(rt, "/dev/stdin") {
+        Ok(metadata) if metadata.is_file() => usize::try_from(metadata.len()).ok(),
+        _ => None,
+    }
 }
 
 /// Reports the error of a run, if any, on standard error, and returns the exit status.

@@ -47,13 +47,14 @@ impl From<ReadError> for RunError {
     }
 }
 
-/// Reads all of the input, and writes its minimal encoding.
+/// Reads all of the input, and writes its minimal encoding. `expected_len` is for `read_all`.
 ///
 /// Fails with `Refused` if the input is malformed, with `Memory` if memory runs out, and with `Read` or `Write` if a read
 /// or a write fails. An interrupted call is a failed call. After `Memory` or `Read`, part of the input may have been read.
 pub fn run<R: Read, W: Write>(
     alloc: Global,
     mode: Mode,
+    expected_len: Option<usize>,
     reader: &mut R,
     writer: &mut W,
 ) -> Result<(), RunError>
@@ -79,7 +80,7 @@ pub fn run<R: Read, W: Write>(
     ensures beginning { IfWriteFailed result (IfSome (R.remaining reader.old) (λ input.
         AppendsBeginning mode input (W.contents writer.old) (W.contents writer.new))) }
 {
-    let input = read_all(alloc, reader, u32::MAX)?;
+    let input = read_all(alloc, reader, expected_len, u32::MAX)?;
     let encoding = normalise(mode, input)?;
     write_all(writer, &encoding)
 }
