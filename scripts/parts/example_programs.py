@@ -1,4 +1,5 @@
-"""Programs of the example language, with what they must print, worked out by hand; and wrong ones, with their messages.
+"""Programs of the example language, with what they must print, worked out by hand; programs that trap, with their stack
+traces; and wrong ones, with their messages.
 
 The imports are `print(number)` and `show(address)`, which prints a text. The last line is what `main` returns.
 """
@@ -151,6 +152,24 @@ fn main()
     return before * 100 + 10 * table(0) + table(1)
 end
 """
+
+TRAP = """
+# Divides by zero, two calls below `main`.
+import print(number)
+fn divide(a, b)
+    return a / b
+end
+fn average(sum, count)
+    return divide(sum, count)
+end
+fn main()
+    do print(average(6, 2))
+    return average(6, 0)
+end
+"""
+
+# Programs that trap, and the functions of the stack trace, from the innermost.
+TRAPS = {"trap": (TRAP, ["divide", "average", "main"])}
 
 # Programs and what they print.
 PROGRAMS = {

@@ -1,17 +1,17 @@
 """Modules of the examples in node.
 
 Each module of example_compiler must compute what node computes of the same expression in whole numbers, cut to 32
-bits. Each module of example_language must print what example_programs says, and that of example_hello its line, through
-node's WASI. Another text must be refused with its message and status 1, and nothing written. wasm-validate (wabt) and
-wasm-opt (binaryen) must accept each module. `rt ci` builds two programs of each example, with LLVM and with Rattle's
-own compiler; this part runs both.
+bits. Each module of example_language must print what example_programs says, or trap with the functions that it says in
+the stack trace. That of example_hello must print its line through node's WASI. Another text must be refused with its
+message and status 1, and nothing written. wasm-validate (wabt) and wasm-opt (binaryen) must accept each module. `rt ci`
+builds two programs of each example, with LLVM and with Rattle's own compiler; this part runs both.
 """
 import dataclasses
 import pathlib
 
 from parts.built_modules import BINARYEN, WABT
 from parts.common import both_programs, lacks, room, run as run_command, said, text_of
-from parts.example_programs import PROGRAMS, REFUSED as REFUSED_PROGRAMS
+from parts.example_programs import PROGRAMS, REFUSED as REFUSED_PROGRAMS, TRAPS
 
 # Compares the function that a module exports with an expression over a and b, which JavaScript writes alike.
 COMPARE = r"""
@@ -81,6 +81,18 @@ shown.push(exports.main());
 for (const item of shown) console.log(typeof item === "number" ? item : textAt(item));
 """
 
+# Runs `main` of a module of the example language, and prints the module's functions in the stack trace of the trap.
+TRACE = r"""
+import { readFileSync } from "node:fs";
+const module = new WebAssembly.Module(readFileSync(process.argv[2]));
+const { exports } = new WebAssembly.Instance(module, { env: { print: () => {} } });
+try {
+    exports.main();
+} catch (error) {
+    for (const [, name] of error.stack.matchAll(/^ *at (\S+) \(wasm:/gm)) console.log(name);
+}
+"""
+
 # Runs a command of WASI.
 COMMAND = r"""
 import { readFileSync } from "node:fs";
@@ -132,7 +144,8 @@ def run(report):
     tools = [words for words in (WABT[0], [*BINARYEN, "-o", "/dev/null"])
              if not lacks(report, words[0], "no module was given to it")]
     with room() as folder:
-        for name, script in {"compare.mjs": COMPARE, "run.mjs": RUN, "command.mjs": COMMAND}.items():
+        scripts = {"compare.mjs": COMPARE, "run.mjs": RUN, "trace.mjs": TRACE, "command.mjs": COMMAND}
+        for name, script in scripts.items():
             (folder / name).write_text(script, "utf-8")
         trial = Trial(report, folder, tools)
         for program in both_programs(report, "example_compiler"):
@@ -141,9 +154,10 @@ def run(report):
                                  "compare.mjs", expression)
             trial.must_refuse(program, ["module"], REFUSED)
         for program in both_programs(report, "example_language"):
-            for name, (text, lines) in PROGRAMS.items():
-                trial.must_print(f"{program.name}: {name}", program, [], text, "run.mjs",
-                                 expected="".join(f"{line}\n" for line in lines))
+            for programs, script in ((PROGRAMS, "run.mjs"), (TRAPS, "trace.mjs")):
+                for name, (text, lines) in programs.items():
+                    trial.must_print(f"{program.name}: {name}", program, [], text, script,
+                                     expected="".join(f"{line}\n" for line in lines))
             trial.must_refuse(program, [], REFUSED_PROGRAMS)
         for program in both_programs(report, "example_hello"):
             trial.must_print(program.name, program, [], "", "command.mjs", expected="Hello, world!\n")

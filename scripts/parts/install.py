@@ -15,7 +15,8 @@ from parts.proofs import PROGRAMS
 # The proved builds, by their crates.
 BUILDS = {**{name: program(name) for name in PROGRAMS}, "nosgrivel_c": BUILT}
 FILES = [*(f"bin/{name}" for name in PROGRAMS), *(f"share/man/man1/{name}.1" for name in PROGRAMS),
-         "include/nosgrivel.h", "lib/libnosgrivel.a", "lib/libnosgrivel.so", f"lib/libnosgrivel.so.{VERSION}",
+         "share/bash-completion/completions/wasmcanon", "include/nosgrivel.h", "lib/libnosgrivel.a",
+         "lib/libnosgrivel.so", f"lib/libnosgrivel.so.{VERSION}",
          f"lib/libnosgrivel.so.{VERSION.rpartition('.')[0]}", "lib/pkgconfig/nosgrivel.pc",
          "share/nosgrivel/example.c", "share/doc/nosgrivel/LICENSE", "share/doc/nosgrivel/CHANGELOG.md"]
 # A memory section with a padded number, and its canonical form.
@@ -88,6 +89,20 @@ def try_programs(it):
     it.answers("wasmcanon", [it.prefix / "bin/wasmcanon"], CANONICAL, input=PADDED)
 
 
+def try_completion(it):
+    """Completes words of the command line in bash. Each option that the help names must be found."""
+    script = it.prefix / "share/bash-completion/completions/wasmcanon"
+    (it.room / "module.wasm").touch()
+    complete = '. "$1"; COMP_WORDS=(wasmcanon "${@:2}"); COMP_CWORD=$(($# - 1)); _wasmcanon; echo "${COMPREPLY[*]}"'
+    listed = {word.partition("=")[0].strip("'") for word in options(help_of("wasmcanon"))}
+    told = run_command("bash", "-c", complete, "bash", script, "--", cwd=it.room).stdout.decode().split()
+    it.report.check("completed options", set(told) == listed, f"differ: {sorted(set(told) ^ listed)}")
+    for words, wanted in ((["--li"], "--list"), (["--check", "mod"], "module.wasm"), (["-o", "mod"], "module.wasm"),
+                          (["--strip", "mod"], "")):
+        it.answers(f"completed {' '.join(words)}", ["bash", "-c", complete, "bash", script, *words],
+                   f"{wanted}\n".encode(), cwd=it.room)
+
+
 def options(text):
     return {word.strip("[]`,.;:") for word in text.split() if word.startswith("--")}
 
@@ -150,6 +165,7 @@ def run(report):
         install(report, folder)
         try_files(it)
         try_programs(it)
+        try_completion(it)
         try_c(it)
         if not lacks(report, "cargo", "the tests in Rust"):
             try_rust(it)

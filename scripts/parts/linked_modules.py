@@ -3,9 +3,11 @@
 Each normal form must be no longer than its module and its own normal form, and that of a linked module must print the
 same in node as the module. The same is asked of each canonical form, which `wasmcanon --check` must accept. Modules
 that wasm-ld writes with and without --compress-relocations must have the same canonical form. wasm-validate (wabt) must
-accept each canonical form. The programs are those of `rt ci`; without it, wasmnorm is the one that bin/wasmnorm builds.
+accept each canonical form. wasm-objdump must disassemble the same instructions as `wasmcanon --list` shows, also of
+bench/linked_json.wasm. The programs are those of `rt ci`; without it, wasmnorm is the one that bin/wasmnorm builds.
 """
 from parts.common import ROOT, lacks, program, room, run as run_command, said, text_of
+from parts.objdump import difference
 
 
 def fault_of_normal(modules, module):
@@ -58,6 +60,7 @@ class Modules:
         if not self.canonicalises:
             report.skipped("canonical forms", "crates/wasmcanon isn't built")
         self.validates = not lacks(report, "wasm-validate", "no canonical form was given to it")
+        self.lists = self.canonicalises and not lacks(report, "wasm-objdump", "no listing was compared")
         self.differed = False
 
     def holds(self, name, fault):
@@ -70,12 +73,21 @@ class Modules:
             self.report.note(f"{name}: {size} bytes, normal {normal}")
         return right
 
+    def is_listed(self, name, module):
+        """Compares the listing of a module with that of wasm-objdump."""
+        if self.lists:
+            count, fault = difference(self.wasmcanon, module)
+            if self.holds(f"{name}: listing", fault):
+                self.report.note(f"{name}: {count} instructions listed")
+
     def rewrites_object(self, name, module):
         self.normalises(name, module)
+        self.is_listed(name, module)
         if self.canonicalises:
             self.holds(f"{name}: canonical form", fault_of_canonical(self, module))
 
     def rewrites_linked(self, name, module, compiled):
+        self.is_listed(name, module)
         if self.normalises(name, module):
             self.holds(f"{name}: normal form in node", fault_in_node(module, "normal"))
         if self.canonicalises:
@@ -118,5 +130,7 @@ def run(report):
         for source in sorted((ROOT / "linked").glob("*.c")):
             for level in (0, 2):
                 try_source(modules, source, level, folder)
+    # wasm-objdump takes only valid modules, so not linked_code.wasm.
+    modules.is_listed("linked_json.wasm", ROOT / "bench/linked_json.wasm")
     if modules.canonicalises and not modules.differed:
         report.failed("--compress-relocations", "makes no difference")

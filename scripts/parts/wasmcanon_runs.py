@@ -10,6 +10,8 @@ import re
 import subprocess
 
 from parts.common import ROOT, both_programs, room, run as run_command, under
+from parts.listing_cases import (ALL_DIFFERENCES, CALL_AS_JSON, CUT_LISTINGS, EVERY, EVERY_AS_JSON, INSTRUCTIONS,
+                                 LISTING, code)
 
 HEADER = b"\0asm\1\0\0\0"
 ZEROS = bytes(49_999_998)
@@ -39,6 +41,8 @@ FILES = {
     # A custom section whose name's length has two bytes, a function section whose count has two, a start section whose
     # index has two, and a code section with an i32.const whose number has two in the second of two functions.
     "numbers": HEADER + b"\0\4\x81\0ax\3\4\x82\0\0\0\x08\2\x80\0\x0A\x0A\2\2\0\x0B\5\0\x41\x80\0\x0B",
+    # Every kind of section.
+    "every": EVERY,
     # Custom sections of four names.
     "named": HEADER + b"\0\5\4name\0\5\4nabe\0\x08\7.debug_\0\2\1e",
 }
@@ -450,6 +454,10 @@ def try_differences(runs):
     ):
         error = f"error: {first} and {second} differ: {message}"
         runs.holds(name, runs.answers(1, error, "--diff", first, second))
+    runs.run("--diff", "long", "other")
+    shown = ["memory section, memory 0", "-000011      2 | memory[0] initial=1",
+             "+000011      2 | memory[0] initial=2"]
+    runs.holds("what differs", runs.err.splitlines()[1:] == shown and not runs.out)
     runs.holds("the second is no module",
                runs.answers(1, f"error: cut: {CUT}\n", "--diff", "long", "cut"))
 
@@ -480,6 +488,106 @@ def list_in(text):
         return told if isinstance(told, list) else []
     except ValueError:
         return []
+
+
+def try_listings(runs):
+    runs.run("--list", "every")
+    runs.holds("a listing", runs.status == 0 and not runs.err and runs.out.decode() == LISTING)
+    runs.run("--list", input=EVERY)
+    runs.holds("a listing of standard input", runs.status == 0 and runs.out.decode() == LISTING)
+    runs.run("--list", "every", "header", "every")
+    wanted = f"every:\n{LISTING}header:\nevery:\n{LISTING}"
+    runs.holds("several listings", runs.status == 0 and runs.out.decode() == wanted)
+    for data, wanted in INSTRUCTIONS:
+        (runs.room / "listed").write_bytes(code(data))
+        runs.run("--list", "listed")
+        end = 0x17 + len(data)
+        lines = f" 000015 {len(data) + 3:>6} | func[0]\n{wanted}\n {end:06x}: 0b                         | end\n"
+        runs.holds(f"a listing of {data.hex(' ')}", runs.status == 0 and runs.out.decode().endswith(lines))
+    for name, listing, message, data in CUT_LISTINGS:
+        (runs.room / "listed").write_bytes(HEADER + data)
+        right = runs.answers(1, f"error: listed: {message}\n", "--list", "listed")
+        runs.holds(f"a listing up to {name}", right and runs.out.decode() == listing)
+    right = runs.answers(1, f"error: nothing: {NO_HEADER}", "--list", "nothing") and not runs.out
+    runs.holds("a listing of no bytes", right)
+    for name, message, data in MALFORMED:
+        (runs.room / "broken").write_bytes(HEADER + b"\1\1\0" + data)
+        right = runs.answers(1, f"error: broken: {message}\n", "--list", "broken")
+        runs.holds(f"a listing up to {name}", right and runs.out.startswith(b"section 0: type, offset 0x8, 3 bytes, "))
+    for name, message, data in DISORDERED:
+        (runs.room / "disordered").write_bytes(HEADER + data)
+        right = runs.answers(1, f"error: disordered: {message}", "--list", "disordered")
+        runs.holds(f"a listing of {name}", right and runs.answers(0, "", "--any-order", "--list", "disordered"))
+    try_long_listing(runs)
+
+
+def try_long_listing(runs):
+    """Lists a module whose listing has 10 MB. It must take no more memory than its check, but for buffers."""
+    local_get = b"\x20\0" * 200_000
+    function = leb(len(local_get) + 2) + b"\0" + local_get + b"\x0B"
+    (runs.room / "long_code").write_bytes(
+        HEADER + TYPE + FUNCTION + b"\x0A" + leb(len(function) + 1) + b"\1" + function)
+    listing, check = (peak_memory(runs, word, "long_code") for word in ("--list", "--check"))
+    runs.status, runs.out, runs.err = 0, b"", f"listing {listing} KiB, check {check} KiB"
+    runs.holds("the memory of a long listing", 0 < listing <= check + 2048)
+
+
+def leb(number):
+    """The minimal encoding of a number."""
+    digits = []
+    while number > 127:
+        digits.append(number & 127 | 128)
+        number >>= 7
+    return bytes([*digits, number])
+
+
+def peak_memory(runs, *words):
+    """The most memory that a run takes, in KiB; 0 if it fails."""
+    process = subprocess.Popen([runs.program, *words], cwd=runs.room, stdin=subprocess.DEVNULL,
+                               stdout=subprocess.DEVNULL)
+    _, status, usage = os.wait4(process.pid, 0)
+    process.returncode = os.waitstatus_to_exitcode(status)
+    return 0 if process.returncode else usage.ru_maxrss
+
+
+def try_listings_as_json(runs):
+    runs.run("--list", "--json", "every", "cut", "none")
+    told = list_in(runs.out)
+    files = [it.get("file") for it in told]
+    runs.holds("listings as JSON", runs.status == 4 and files == ["every", "cut", "none"])
+    sections = told[0]["sections"] if told else []
+    ids = [section["id"] for section in sections]
+    runs.holds("sections as JSON", ids == [1, 2, 3, 4, 5, 13, 6, 7, 8, 9, 12, 10, 11, 0] and "error" not in told[0])
+    for section, item, wanted in EVERY_AS_JSON:
+        runs.holds(f"an item as JSON: {wanted['text']}", sections and sections[section]["items"][item] == wanted)
+    runs.holds("a size as JSON", sections and sections[11]["longer_size"] == {"size": 2, "minimal": 1})
+    runs.holds("an instruction in a list as JSON", sections and sections[11]["items"][0]["code"][4] == CALL_AS_JSON)
+    cut = dict(told[1]) if len(told) > 1 else {}
+    listed = cut.pop("sections", None)
+    runs.holds("a refusal after a list as JSON", cut == CUT_AS_JSON and [it["id"] for it in listed or []] == [1])
+    for name, _, message, data in CUT_LISTINGS:
+        (runs.room / "listed").write_bytes(HEADER + data)
+        runs.run("--list", "--json", "listed")
+        told = list_in(runs.out)
+        runs.holds(f"a list as JSON up to {name}", len(told) == 1 and told[0].get("error") == f"listed: {message}")
+
+
+def try_all_differences(runs):
+    for name, one, other, wanted in ALL_DIFFERENCES:
+        (runs.room / "one_of_two").write_bytes(one)
+        (runs.room / "other_of_two").write_bytes(other)
+        runs.run("--diff", "--all", "one_of_two", "other_of_two")
+        message = "error: one_of_two and other_of_two differ: " if wanted else ""
+        right = runs.status == bool(wanted) and runs.err.startswith(message) and bool(runs.err) == bool(wanted)
+        runs.holds(f"all differences: {name}", right and runs.out.decode() == wanted)
+        runs.run("--diff", "--all", "--json", "one_of_two", "other_of_two")
+        told = json.loads(runs.out)
+        sides = [side["text"] for part in told["differences"] for side in (part["first"], part["second"]) if side]
+        lines = [line for line in wanted.splitlines() if re.match(r"[-+](section|\w+ +\d+ \|)", line)]
+        runs.holds(f"all differences as JSON: {name}", told["same"] is not bool(wanted) and len(sides) == len(lines)
+                   and all(text in line for text, line in zip(sides, lines)))
+    runs.holds("a difference from no module", runs.answers(1, f"error: cut: {CUT}\n", "--diff", "--all", "long", "cut"))
+    runs.holds("--all alone", runs.answers(2, "error: ", "--all", "long") and "\nUsage: wasmcanon " in runs.err)
 
 
 def try_refusals(runs):
@@ -549,9 +657,9 @@ def try_failing_writes(runs):
         with open("/dev/full", "wb") as full:
             runs.run("long", stdout=full)
         runs.holds("a device that is full", runs.status == 4 and write_failed(runs))
-        for word in ("--help", "--version", "--hash", "--report"):
+        for word in ("--help", "--version", "--hash", "--report", "--list"):
             with open("/dev/full", "wb") as full:
-                runs.run(word, *(["long"] if word in ("--hash", "--report") else []), stdout=full)
+                runs.run(word, *(["long"] if word in ("--hash", "--report", "--list") else []), stdout=full)
             runs.holds(f"a device that is full, {word}", runs.status == 4 and write_failed(runs))
     whole = run_command(runs.program, "large", cwd=runs.room).stdout
     with open(runs.room / "out", "wb") as output:
@@ -600,12 +708,12 @@ def remaining_lines(text):
 def try_progress(runs):
     runs.fresh()
     told = on_a_terminal(runs, "big", "-o", "there")
-    right = told == ["0; reading 49.2 MB; canonicalising 50.0 MB; writing 50.0 MB"]
+    right = told == ["0; reading 49.4 MB; canonicalising 50.0 MB; writing 50.0 MB"]
     runs.holds("progress of a big module", right and runs.there() == FILES["big_canonical"])
     runs.holds("a big module without a terminal", runs.writes("big", data=FILES["big_canonical"]))
     told = on_a_terminal(runs, "--check", "big")
     message = "not canonical: custom section, offset 0x9: not minimally encoded: 5 bytes, minimal is 4"
-    wanted = ["1; reading 49.2 MB; canonicalising 50.0 MB", f"error: big: {message}"]
+    wanted = ["1; reading 49.4 MB; canonicalising 50.0 MB", f"error: big: {message}"]
     runs.holds("progress before a message", told == wanted)
     runs.holds("no progress of a small module", on_a_terminal(runs, "long") == ["0"])
     runs.holds("no progress among bytes", on_a_terminal(runs, "--force", "big", both=True) == ["0"])
@@ -621,5 +729,6 @@ def run(report):
             runs = Runs(report, program, folder)
             for attempt in (try_outputs, try_links, try_read_only, try_several, try_checks, try_order, try_hashes,
                             try_selections, try_foreign, try_json, try_offsets, try_differences, try_reports,
-                            try_refusals, try_malformed, try_help, try_failing_writes, try_progress):
+                            try_listings, try_listings_as_json, try_all_differences, try_refusals,
+                            try_malformed, try_help, try_failing_writes, try_progress):
                 attempt(runs)

@@ -1,9 +1,11 @@
 //! The actions on the modules that the command line names.
 use crate::diff::find_difference;
+use crate::differences::{diff_all, print_first};
 use crate::files::{
     canonicalise_file, check_file, hash_file, is_read_only, read_canonical_at, read_forms_at,
 };
 use crate::json::{difference_value, digest_value, verdict_value};
+use crate::listings::list_modules;
 use crate::messages::{InputName, OffsetWarning, OutputName};
 use crate::outputs::Outputs;
 use crate::report::Report;
@@ -27,10 +29,12 @@ const USAGE_STATUS: u8 = 2;
 pub fn run_request(rt: &HostRuntime, request: &Request<'_>) -> Result<u8, AllocError> {
     match request.action {
         Action::Write => write_modules(rt, request),
+        Action::Diff if request.all => diff_all(rt, request),
         Action::Diff => diff_modules(rt, request),
         Action::Check => check_modules(rt, request),
         Action::Hash => hash_modules(rt, request),
         Action::Report => report_modules(rt, request),
+        Action::List => list_modules(rt, request),
     }
 }
 
@@ -216,8 +220,9 @@ fn diff_modules(rt: &HostRuntime, request: &Request<'_>) -> Result<u8, AllocErro
     };
     let difference = find_difference(rt.alloc(), &one, &other)?;
     if let Some(difference) = difference {
-        let (one, other) = (InputName(first), InputName(second));
-        let _ = eprintln!(rt; "error: {one} and {other} differ: {difference}");
+        let (first_name, second_name) = (InputName(first), InputName(second));
+        let _ = eprintln!(rt; "error: {first_name} and {second_name} differ: {difference}");
+        print_first(rt, &one, &other)?;
         results.raise(DIFFERENT_STATUS);
     }
     if request.json {
@@ -232,7 +237,7 @@ fn print_value(rt: &HostRuntime, results: &mut Results, value: &Value) {
 }
 
 /// Returns the two modules to compare.
-fn two_inputs<'m>(request: &Request<'m>) -> [Location<'m>; 2] {
+pub fn two_inputs<'m>(request: &Request<'m>) -> [Location<'m>; 2] {
     let first = request.inputs.first().copied().unwrap_or("-");
     let second = request.inputs.get(1).copied().unwrap_or("-");
     [Location::named(first), Location::named(second)]

@@ -4,6 +4,7 @@ use crate::replacement::Replacement;
 use crate::request::{Location, Request};
 use crate::run::{
     Canonical, Failure, Forms, Verdict, canonicalise, check, hash, read_canonical, read_forms,
+    read_input,
 };
 use std::alloc::Global;
 use std::io::Write;
@@ -75,6 +76,14 @@ pub fn read_forms_at(
     let forms = read_forms(rt.alloc(), &mut source, request.any_order);
     source.end();
     forms
+}
+
+/// Reads all bytes of the module at `input`, which may be malformed.
+pub fn read_input_at(rt: &HostRuntime, input: Location<'_>) -> Result<Vec<u8>, Failure> {
+    let mut source = open(rt, input, Progress::new(rt))?;
+    let module = read_input(rt.alloc(), &mut source);
+    source.end();
+    module
 }
 
 fn open(rt: &HostRuntime, input: Location<'_>, progress: Progress) -> Result<Source, Failure> {

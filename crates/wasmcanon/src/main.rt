@@ -7,9 +7,13 @@
 
 mod actions;
 mod diff;
+mod differences;
 mod files;
 mod foreign;
+mod input;
 mod json;
+mod listing;
+mod listings;
 mod longer;
 mod longer_code;
 mod messages;

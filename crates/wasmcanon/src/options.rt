@@ -11,8 +11,9 @@ wasmcanon [FILE] [-o OUTPUT] [--force] [STRIP]
        wasmcanon FILE.. -o FOLDER/ [--force] [STRIP]
        wasmcanon --in-place FILE.. [--force] [STRIP]
        wasmcanon --check [FILE..] [--json]
-       wasmcanon --diff FILE OTHER [--json]
+       wasmcanon --diff FILE OTHER [--all] [--json]
        wasmcanon --hash [FILE..] [--no-custom] [--json] [STRIP]
+       wasmcanon --list [FILE..] [--json]
        wasmcanon --report [FILE..] [--json]";
 
 // bin/wasmcanon prints these lines as they are here, so they have no escapes.
@@ -24,8 +25,9 @@ Usage: wasmcanon [FILE] [-o OUTPUT] [--force] [STRIP]
        wasmcanon FILE.. -o FOLDER/ [--force] [STRIP]
        wasmcanon --in-place FILE.. [--force] [STRIP]
        wasmcanon --check [FILE..] [--json]
-       wasmcanon --diff FILE OTHER [--json]
+       wasmcanon --diff FILE OTHER [--all] [--json]
        wasmcanon --hash [FILE..] [--no-custom] [--json] [STRIP]
+       wasmcanon --list [FILE..] [--json]
        wasmcanon --report [FILE..] [--json]
 
 Arguments:
@@ -39,7 +41,10 @@ Options:
       --check            Check whether each FILE is canonical; write nothing
       --diff             Check whether FILE and OTHER have the same canonical
                          form
+      --all              With --diff, print all items that differ
       --hash             Print the SHA-256 digest of each canonical form
+      --list             Print the sections, items and instructions of each
+                         FILE, and what is not minimally encoded
       --report           Print the size of each section before and after, and
                          how many of its items are not minimally encoded
       --json             Print an array with an object for each FILE; for --diff
@@ -62,6 +67,8 @@ Examples:
   wasmcanon --check app.wasm            fail unless the module is canonical
   wasmcanon --diff a.wasm b.wasm        fail unless their canonical forms match
   wasmcanon --hash *.wasm               hash canonical forms
+  git config diff.wasm.textconv 'wasmcanon --list'
+                                        let git diff show listings
   wasmcanon --strip-all --keep name app.wasm -o out.wasm
                                         drop custom sections, but keep names
 
@@ -112,7 +119,7 @@ enum Form {
     Flag,
 }
 
-const ARGUMENTS: [Argument; 15] = [
+const ARGUMENTS: [Argument; 17] = [
     Argument {
         name: "input",
         form: Form::Named("FILE"),
@@ -170,6 +177,20 @@ const ARGUMENTS: [Argument; 15] = [
         needs: &[],
     },
     Argument {
+        name: "list",
+        form: Form::Flag,
+        groups: &[QUESTION],
+        conflicts: &[],
+        needs: &[],
+    },
+    Argument {
+        name: "all",
+        form: Form::Flag,
+        groups: &[],
+        conflicts: &[],
+        needs: &["diff"],
+    },
+    Argument {
         name: "json",
         form: Form::Flag,
         groups: &[],
@@ -187,21 +208,21 @@ const ARGUMENTS: [Argument; 15] = [
         name: "strip",
         form: Form::Values("NAME"),
         groups: &[STRIP],
-        conflicts: &["check", "diff", "report"],
+        conflicts: &["check", "diff", "list", "report"],
         needs: &[],
     },
     Argument {
         name: "strip-all",
         form: Form::Flag,
         groups: &[STRIP],
-        conflicts: &["check", "diff", "report"],
+        conflicts: &["check", "diff", "list", "report"],
         needs: &[],
     },
     Argument {
         name: "strip-offsets",
         form: Form::Flag,
         groups: &[STRIP],
-        conflicts: &["check", "diff", "report"],
+        conflicts: &["check", "diff", "list", "report"],
         needs: &[],
     },
     Argument {

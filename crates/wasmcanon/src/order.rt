@@ -103,7 +103,7 @@ fn find_out_of_order(sections: &[u8]) -> Option<usize>
 }
 
 /// Returns the position of a section in the standard's order. Returns 0 for a custom section, which may come anywhere.
-fn rank(section: &RawSection<'_>) -> u16
+pub fn rank(section: &RawSection<'_>) -> u16
     ensures { result ≡ rank (parts_of section.now) }
 {
     let id = section.id;

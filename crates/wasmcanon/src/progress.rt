@@ -1,8 +1,9 @@
 //! The reader and the writer of a module, which show progress on a terminal: one line, erased at the end.
+use crate::input::Input;
 use crate::request::Location;
-use std::fs::File;
-use std::io;
+use std::fs::{File, Metadata};
 use std::io::{IsTerminal, Read, Stdin, Write};
+use std::{fs, io};
 use wasm_modules::section::HEADER;
 
 /// Size in bytes from which a module's progress is shown.
@@ -58,6 +59,8 @@ impl Progress {
 pub struct Source {
     stream: Stream,
     progress: Progress,
+    /// Length in bytes of the file that is read. `None` means that it is no file.
+    file_len: Option<usize>,
     /// Number of bytes read so far.
     len: usize,
     /// Whether the first bytes differ from the header of a module. Then no more is read than the header's length.
@@ -75,13 +78,21 @@ impl Source {
     ///
     /// Fails if a file can't be opened.
     pub fn open(rt: &HostRuntime, input: Location<'_>, progress: Progress) -> io::Result<Source> {
-        let stream = match input {
-            Location::Standard => Stream::Standard(rt.stdin()),
-            Location::File(path) => Stream::File(File::open(rt, path)?),
+        let (stream, file_len) = match input {
+            Location::Standard => {
+                let file_len = file_len(fs::metadata(rt, "/dev/stdin"));
+                (Stream::Standard(rt.stdin()), file_len)
+            }
+            Location::File(path) => {
+                let file = File::open(rt, path)?;
+                let file_len = file_len(file.metadata());
+                (Stream::File(file), file_len)
+            }
         };
         Ok(Source {
             stream,
             progress,
+            file_len,
             len: 0,
             is_foreign: false,
         })
@@ -130,6 +141,20 @@ impl Read for Source {
             self.progress.tell("reading", self.len);
         }
         Ok(count)
+    }
+}
+
+impl Input for Source {
+    fn expected_len(&self) -> Option<usize> {
+        self.file_len
+    }
+}
+
+/// Returns the length in bytes of a file. `None` means that it is no file, or that its length isn't known.
+fn file_len(metadata: io::Result<Metadata>) -> Option<usize> {
+    match metadata {
+        Ok(metadata) if metadata.is_file() => usize::try_from(metadata.len()).ok(),
+        _ => None,
     }
 }
 

@@ -2,7 +2,8 @@
 use crate::json::{file_value, text_value};
 use crate::request::Location;
 use crate::sections::{
-    LocatedSection, SectionTitle, count_items, has_list, kind_name, locate_sections, longer_number,
+    LocatedSection, SectionTitle, SectionWalk, count_items, count_number, has_list, kind_name,
+    longer_number,
 };
 use serde_json::{Value, json};
 use std::alloc::{AllocError, Global};
@@ -14,9 +15,13 @@ use wasm_whole_modules::selection::custom_name;
 /// The report of a module.
 #[derive(Drop)]
 pub struct Report<'a> {
-    before: usize,
-    after: usize,
-    rows: Vec<ReportRow<'a>>,
+    module: &'a [u8],
+    canonical: &'a [u8],
+    /// The counts of items, for each section that is a list.
+    lists: Vec<ItemCounts>,
+    items: Tally,
+    sizes: Tally,
+    counts: Tally,
 }
 
 /// A section, its size in the canonical form, and the encodings in it that are not minimal.
@@ -28,6 +33,14 @@ struct ReportRow<'a> {
     items: ItemCounts,
     /// Whether the section is a list whose count is not minimally encoded.
     has_longer_count: bool,
+}
+
+/// The rows of a report one after another.
+#[derive(Drop)]
+struct Rows<'a> {
+    sections: SectionWalk<'a>,
+    canonical: SectionWalk<'a>,
+    lists: &'a [ItemCounts],
 }
 
 /// The number of encodings of one kind, and how many are not minimal.
@@ -56,67 +69,103 @@ impl<'a> Report<'a> {
     pub fn new(
         alloc: Global,
         module: &'a [u8],
-        canonical: &[u8],
+        canonical: &'a [u8],
     ) -> Result<Report<'a>, AllocError> {
-        let sections = locate_sections(alloc, module)?;
-        let shortest = locate_sections(alloc, canonical)?;
-        let mut rows = Vec::new(alloc);
-        for (section, short) in sections.iter().zip(&shortest) {
-            rows.push(ReportRow::new(alloc, *section, short.len)?)?;
-        }
-        Ok(Report {
-            before: module.len(),
-            after: canonical.len(),
-            rows,
-        })
+        let lists = count_lists(alloc, module)?;
+        let mut report = Report {
+            module,
+            canonical,
+            lists,
+            items: Tally::NONE,
+            sizes: Tally::NONE,
+            counts: Tally::NONE,
+        };
+        report.add_up();
+        Ok(report)
     }
 
-    /// Tallies the items of all sections.
-    fn items(&self) -> Tally {
-        let mut tally = Tally::NONE;
-        for row in &self.rows {
-            tally = tally.with(u64::from(row.items.longer), u64::from(row.items.count));
+    /// Returns the rows from the first on.
+    fn rows(&self) -> Rows<'_> {
+        Rows {
+            sections: SectionWalk::new(self.module),
+            canonical: SectionWalk::new(self.canonical),
+            lists: &self.lists,
         }
-        tally
     }
 
-    /// Tallies the section sizes.
-    fn sizes(&self) -> Tally {
-        let mut tally = Tally::NONE;
-        for row in &self.rows {
-            tally = tally.with(u64::from(row.section.has_longer_size), 1);
+    /// Tallies items, section sizes, and the counts of sections that are lists.
+    fn add_up(&mut self) {
+        let (mut items, mut sizes, mut counts) = (Tally::NONE, Tally::NONE, Tally::NONE);
+        let mut rows = self.rows();
+        for _ in 0..self.module.len() {
+            let Some(row) = rows.advance() else {
+                break;
+            };
+            let section = row.section;
+            items = items.with(u64::from(row.items.longer), u64::from(row.items.count));
+            sizes = sizes.with(u64::from(section.has_longer_size), 1);
+            counts = counts.with(
+                u64::from(row.has_longer_count),
+                u64::from(has_list(section.section.id)),
+            );
         }
-        tally
-    }
-
-    /// Tallies the item counts of the sections that are lists.
-    fn counts(&self) -> Tally {
-        let mut tally = Tally::NONE;
-        for row in &self.rows {
-            let counts = u64::from(has_list(row.section.section.id));
-            tally = tally.with(u64::from(row.has_longer_count), counts);
-        }
-        tally
+        self.items = items;
+        self.sizes = sizes;
+        self.counts = counts;
     }
 }
 
-impl<'a> ReportRow<'a> {
-    fn new(
-        alloc: Global,
-        section: LocatedSection<'a>,
-        after: usize,
-    ) -> Result<ReportRow<'a>, AllocError> {
+/// Counts the items of each section that is a list. The count is 0 if the body is malformed.
+///
+/// Fails if memory runs out.
+fn count_lists(alloc: Global, module: &[u8]) -> Result<Vec<ItemCounts>, AllocError> {
+    let mut lists = Vec::new(alloc);
+    let mut sections = SectionWalk::new(module);
+    for _ in 0..module.len() {
+        let Some(section) = sections.advance() else {
+            break;
+        };
+        if has_list(section.section.id) {
+            lists.push(count_items(alloc, section.section)?.unwrap_or(NO_ITEMS))?;
+        }
+    }
+    Ok(lists)
+}
+
+/// The counts of a section without items, or with a malformed body.
+const NO_ITEMS: ItemCounts = ItemCounts {
+    count: 0,
+    longer: 0,
+};
+
+impl<'a> Rows<'a> {
+    /// Returns the next row.
+    fn advance(&mut self) -> Option<ReportRow<'a>> {
+        let section = self.sections.advance()?;
+        let short = self.canonical.advance()?;
         let RawSection { id, body } = section.section;
-        let items = count_items(alloc, section.section)?.unwrap_or(ItemCounts {
-            count: 0,
-            longer: 0,
-        });
-        Ok(ReportRow {
+        let is_list = has_list(id);
+        Some(ReportRow {
             section,
-            after,
-            items,
-            has_longer_count: has_list(id) && longer_number(body) == Some(true),
+            after: short.len,
+            items: if is_list {
+                self.next_list()
+            } else {
+                count_number(body).unwrap_or(NO_ITEMS)
+            },
+            has_longer_count: is_list && longer_number(body) == Some(true),
         })
+    }
+
+    /// Returns the counts of the next section that is a list.
+    fn next_list(&mut self) -> ItemCounts {
+        match self.lists.split_first() {
+            Some((counts, rest)) => {
+                self.lists = rest;
+                *counts
+            }
+            None => NO_ITEMS,
+        }
     }
 }
 
@@ -127,17 +176,21 @@ impl fmt::Display for Report<'_> {
             "section {:>9} {:>9} {:>9} {:>7} {:>7}  kind",
             "before", "after", "saved", "longer", "out of"
         )?;
-        for (number, row) in self.rows.iter().enumerate() {
+        let mut rows = self.rows();
+        for number in 0..self.module.len() {
+            let Some(row) = rows.advance() else {
+                break;
+            };
             writeln!(f, "{number:>7} {row}")?;
         }
-        let saved = self.before.saturating_sub(self.after);
-        let items = self.items();
+        let (before, after) = (self.module.len(), self.canonical.len());
+        let (saved, items) = (before.saturating_sub(after), self.items);
         writeln!(
             f,
-            "  total {:>9} {:>9} {saved:>9} {:>7} {:>7}  items",
-            self.before, self.after, items.longer, items.of
+            "  total {before:>9} {after:>9} {saved:>9} {:>7} {:>7}  items",
+            items.longer, items.of
         )?;
-        let (sizes, counts) = (self.sizes(), self.counts());
+        let (sizes, counts) = (self.sizes, self.counts);
         writeln!(f, "{:>45} {:>7}  section sizes", sizes.longer, sizes.of)?;
         write!(f, "{:>45} {:>7}  item counts", counts.longer, counts.of)
     }
@@ -161,12 +214,16 @@ impl Report<'_> {
     /// Fails if memory runs out.
     pub fn value(&self, alloc: Global, input: Location<'_>) -> Result<Value, AllocError> {
         let mut sections = Vec::new(alloc);
-        for (number, row) in self.rows.iter().enumerate() {
+        let mut rows = self.rows();
+        for number in 0..self.module.len() {
+            let Some(row) = rows.advance() else {
+                break;
+            };
             sections.push(row.value(alloc, number)?)?;
         }
         let file = file_value(alloc, input)?;
         let sections = Value::Array(sections);
-        let (before, after) = (self.before, self.after);
+        let (before, after) = (self.module.len(), self.canonical.len());
         json!(in alloc; {"file": file, "before": before, "after": after, "sections": sections})
     }
 }

@@ -47,6 +47,8 @@ pub enum Action {
     Report,
     /// Print the SHA-256 digests of their canonical forms.
     Hash,
+    /// Print listings of them.
+    List,
 }
 
 impl Action {
@@ -59,6 +61,8 @@ impl Action {
             Action::Report
         } else if matches.get_flag("hash") {
             Action::Hash
+        } else if matches.get_flag("list") {
+            Action::List
         } else {
             Action::Write
         }
@@ -80,6 +84,8 @@ pub struct Request<'a> {
     pub any_order: bool,
     /// Whether results are printed as JSON.
     pub json: bool,
+    /// Whether all items that differ are listed.
+    pub all: bool,
     /// Whether custom sections are dropped that keep offsets.
     strip_offsets: bool,
     /// Patterns of the names of custom sections to drop.
@@ -122,6 +128,7 @@ impl<'a> Request<'a> {
             force: matches.get_flag("force"),
             any_order: matches.get_flag("any-order"),
             json: matches.get_flag("json"),
+            all: matches.get_flag("all"),
             strip_offsets: matches.get_flag("strip-offsets"),
             dropped,
             kept: parse_patterns(alloc, matches.get_strs("keep").unwrap_or(&[]))?,

@@ -10,13 +10,14 @@ ghost use Rattle.wasmcanon.specs.Run.{IsNoModule, IsCanonicalForm, AppendsForm, 
 ghost use Rattle.wasmcanon.specs.declared.run.Failure.TheVariants.{Memory};
 
 use crate::foreign::Foreign;
+use crate::input::Input;
 use crate::longer::find_longer_part;
 use crate::offsets::first_offset_name;
 use crate::order::{MisplacedSection, check_sections};
 use sha2::{Digest, Sha256};
 use std::alloc::{AllocError, Global};
 use std::io;
-use std::io::{ErrorKind, Read, Write};
+use std::io::{ErrorKind, Write};
 use wasm_codec::decode::{check as check_minimal, rewrite};
 use wasm_codec::reader::DecodeError;
 use wasm_codec::reader::refusal::Refusal;
@@ -104,7 +105,7 @@ pub enum Verdict {
 /// section's name. Fails with `Refused` if the input is malformed, and with `Disordered` if its sections are out of
 /// order or their counts disagree, unless any order is allowed. Fails with `Memory` if memory runs out, and with `Read`
 /// or `Write` if a read or a write fails.
-pub fn canonicalise<R: Read, W: Write>(
+pub fn canonicalise<R: Input, W: Write>(
     alloc: Global,
     reader: &mut R,
     writer: &mut W,
@@ -138,7 +139,7 @@ pub fn canonicalise<R: Read, W: Write>(
 /// Reads a module, and returns the SHA-256 digest of its canonical form with these sections.
 ///
 /// Fails as `canonicalise` does, but never with `Write`.
-pub fn hash<R: Read>(
+pub fn hash<R: Input>(
     alloc: Global,
     reader: &mut R,
     any_order: bool,
@@ -169,7 +170,7 @@ struct Form {
 }
 
 /// Reads a module, and returns its canonical form with these sections.
-fn read_form<R: Read>(
+fn read_form<R: Input>(
     alloc: Global,
     reader: &mut R,
     any_order: bool,
@@ -197,7 +198,7 @@ fn read_form<R: Read>(
 /// Reads a module, and returns its canonical form.
 ///
 /// Fails as `canonicalise` does, but never with `Write`.
-pub fn read_canonical<R: Read>(
+pub fn read_canonical<R: Input>(
     alloc: Global,
     reader: &mut R,
     any_order: bool,
@@ -229,7 +230,11 @@ pub fn read_canonical<R: Read>(
 /// Reads a module, and returns it with its canonical form.
 ///
 /// Fails as `canonicalise` does, but never with `Write`.
-pub fn read_forms<R: Read>(alloc: Global, reader: &mut R, any_order: bool) -> Result<Forms, Failure>
+pub fn read_forms<R: Input>(
+    alloc: Global,
+    reader: &mut R,
+    any_order: bool,
+) -> Result<Forms, Failure>
     // All bytes of the input are returned, if they are known.
     ensures all { IfOk result (λ forms. IfSome (R.remaining reader.old) (λ input. forms.input.items ≡ input)) }
     // With their canonical form.
@@ -255,7 +260,7 @@ pub fn read_forms<R: Read>(alloc: Global, reader: &mut R, any_order: bool) -> Re
 /// Reads a module, and checks whether it is its own canonical form.
 ///
 /// Fails as `canonicalise` does, but never with `Write`.
-pub fn check<R: Read>(alloc: Global, reader: &mut R, any_order: bool) -> Result<Verdict, Failure>
+pub fn check<R: Input>(alloc: Global, reader: &mut R, any_order: bool) -> Result<Verdict, Failure>
     // The verdict is right.
     ensures ok { IfOk result (λ verdict. IfSome (R.remaining reader.old) (λ input. Judges input verdict)) }
     // Unless any order is allowed, the sections are in order.
@@ -273,6 +278,34 @@ pub fn check<R: Read>(alloc: Global, reader: &mut R, any_order: bool) -> Result<
     let verdict = judge(alloc, input)?;
     order?;
     Ok(verdict)
+}
+
+/// Reads all bytes of a module, which may be malformed.
+///
+/// Fails with `Memory` if memory runs out, and with `Read` if a read fails.
+pub fn read_input<R: Input>(alloc: Global, reader: &mut R) -> Result<Vec<u8>, Failure>
+    // All bytes of the input are returned, if they are known.
+    ensures all { IfOk result (λ bytes. IfSome (R.remaining reader.old) (λ input. bytes.items ≡ input)) }
+    // The failure is `Memory` or `Read`.
+    ensures failure { IfErr result IsReadFailure }
+{
+    read_all(alloc, reader)
+}
+
+/// Fails if a module is malformed or its sections are out of order, as `canonicalise` does.
+pub fn accept(alloc: Global, input: Vec<u8>, any_order: bool) -> Result<(), Failure>
+    // Unless any order is allowed, the sections are in order.
+    ensures in_order { any_order ≡ false → OnOk result (IsOrdered input.items) }
+    // If the failure names a section, this is the first one that is out of order.
+    ensures disordered { IfDisordered result (BreaksOrder input.items) }
+    // Only a malformed input is refused.
+    ensures unencoded { IfRefused result (λ _. IsNoModule input.items) }
+    // `at` is the length of the longest prefix that decodes.
+    ensures refused { IfRefused result (IsLongestPrefix (IsModulePrefixOf module_section) input.items) }
+{
+    let order = check_order_unless(alloc, &input, any_order);
+    let _form = canonical_form(input)?;
+    order
 }
 
 /// Checks the order and the counts of a module's sections, unless any order is allowed. Accepts a malformed module.
@@ -348,7 +381,7 @@ fn canonical_form(input: Vec<u8>) -> Result<Vec<u8>, Failure>
 }
 
 /// Reads all of the input.
-fn read_all<R: Read>(alloc: Global, reader: &mut R) -> Result<Vec<u8>, Failure>
+fn read_all<R: Input>(alloc: Global, reader: &mut R) -> Result<Vec<u8>, Failure>
     // All bytes of the input are returned, if they are known.
     ensures all { IfOk result (λ bytes. IfSome (R.remaining reader.old) (λ input. bytes.items ≡ input)) }
     // No byte is left.
@@ -357,6 +390,10 @@ fn read_all<R: Read>(alloc: Global, reader: &mut R) -> Result<Vec<u8>, Failure>
     ensures failure { IfErr result IsReadFailure }
 {
     let mut bytes = Vec::new(alloc);
+    if let Some(len) = reader.expected_len() {
+        // The last read, which finds the end, needs room too. Without memory for all, the list grows with the input.
+        let _ = bytes.reserve_exact(len.saturating_add(1));
+    }
     match reader.read_to_end(&mut bytes) {
         Ok(_) => Ok(bytes),
         Err(error) if error.kind() == ErrorKind::OutOfMemory => Err(Failure::Memory),

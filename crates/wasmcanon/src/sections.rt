@@ -30,6 +30,30 @@ impl LocatedSection<'_> {
     }
 }
 
+/// The sections of a module one after another, up to the first malformed one.
+#[derive(Drop)]
+pub struct SectionWalk<'a> {
+    cursor: Cursor<'a>,
+    /// Length of the module in bytes.
+    len: usize,
+}
+
+impl<'a> SectionWalk<'a> {
+    /// Begins at the first section.
+    pub fn new(module: &'a [u8]) -> SectionWalk<'a> {
+        let sections = after_header(module).unwrap_or(&module[module.len()..]);
+        SectionWalk {
+            cursor: Cursor::new(sections),
+            len: module.len(),
+        }
+    }
+
+    /// Returns the next section.
+    pub fn advance(&mut self) -> Option<LocatedSection<'a>> {
+        read_located(&mut self.cursor, self.len)
+    }
+}
+
 /// Lists the sections of a module, up to the first malformed one.
 ///
 /// Fails if memory runs out.
@@ -58,7 +82,7 @@ pub fn locate_section<'a>(module: &'a [u8], at: usize) -> Option<LocatedSection<
 }
 
 /// Reads the next section of a module that has `len` bytes. Returns `None` if it is malformed.
-fn read_located<'a>(cursor: &mut Cursor<'a>, len: usize) -> Option<LocatedSection<'a>> {
+pub fn read_located<'a>(cursor: &mut Cursor<'a>, len: usize) -> Option<LocatedSection<'a>> {
     let left = cursor.len();
     cursor.set_shortest(true);
     match read_section(cursor) {
@@ -83,11 +107,16 @@ pub fn count_items(
     if has_list(section.id) {
         return count_longer_items(alloc, section.id, section.body);
     }
-    let counts = longer_number(section.body).map(|longer| ItemCounts {
+    Ok(count_number(section.body))
+}
+
+/// Counts the one item of a section that isn't a list: the number at the start of its body. `None` means that there is no
+/// number.
+pub fn count_number(body: &[u8]) -> Option<ItemCounts> {
+    longer_number(body).map(|longer| ItemCounts {
         count: 1,
         longer: u32::from(longer),
-    });
-    Ok(counts)
+    })
 }
 
 /// Checks whether sections with this id are lists of items. Custom, start and data count sections are not.

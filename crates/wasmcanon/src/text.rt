@@ -8,6 +8,9 @@ pub struct Escaped<'a>(pub &'a str);
 
 impl fmt::Display for Escaped<'_> {
     fn fmt<W: fmt::Write>(&self, f: &mut fmt::Formatter<W>) -> fmt::Result {
+        if !self.0.chars().any(is_unprintable) {
+            return f.write_str(self.0);
+        }
         for character in self.0.chars() {
             if is_unprintable(character) {
                 write!(f, "\\u{{{:x}}}", u32::from(character))?;

@@ -1,0 +1,248 @@
+//! Text of instructions.
+use crate::listing::floats::FloatText;
+use crate::listing::types::{HeapText, RefText, ValList, ValText};
+use std::fmt;
+use wasm_instructions::names::opcode_name;
+use wasm_instructions::operands::{BlockType, Catch, Handle, MemArg, Ordering};
+use wasm_instructions::table::{Call, Opcode, Operands, Prefix};
+use wasm_types::types::RefType;
+
+/// An instruction: its name, and its operands as `wasm-objdump -d` prints them.
+#[derive(Clone, Copy)]
+pub struct CallText<'a>(pub &'a Call);
+
+impl fmt::Display for CallText<'_> {
+    fn fmt<W: fmt::Write>(&self, f: &mut fmt::Formatter<W>) -> fmt::Result {
+        let op = self.0.op();
+        write!(f, "{}", opcode_name(op).unwrap_or("?"))?;
+        match self.0.operands() {
+            Operands::None => Ok(()),
+            Operands::TwoIndexes(ty, table) if is_indirect_call(op) => {
+                write!(f, " {table} (type {ty})")
+            }
+            operands => write_operands(f, operands),
+        }
+    }
+}
+
+/// Checks for `call_indirect` and `return_call_indirect`.
+fn is_indirect_call(op: Opcode) -> bool {
+    matches!(op.prefix, Prefix::None) && matches!(op.number, 0x11 | 0x13)
+}
+
+/// Writes operands, with a space in front of each.
+fn write_operands<W: fmt::Write>(f: &mut fmt::Formatter<W>, operands: &Operands) -> fmt::Result {
+    match operands {
+        Operands::None => Ok(()),
+        Operands::Block(ty) => write_block_type(f, *ty),
+        Operands::Index(index) => write!(f, " {index}"),
+        Operands::TwoIndexes(first, second) => write!(f, " {first} {second}"),
+        Operands::BrTable(labels, default) => {
+            write_labels(f, labels.as_slice())?;
+            write!(f, " {default}")
+        }
+        Operands::Types(types) => write!(f, " {}", ValList(types.as_slice())),
+        Operands::TryTable(ty, clauses) => {
+            write_block_type(f, *ty)?;
+            write_catches(f, clauses.as_slice())
+        }
+        Operands::Mem(arg) => write!(f, " {}", MemText(*arg)),
+        Operands::MemLane(arg, lane) => write!(f, " {} {lane}", MemText(*arg)),
+        Operands::Heap(ty) => write!(f, " {}", HeapText(*ty)),
+        Operands::Resume(ty, clauses) => {
+            write!(f, " {ty}")?;
+            write_handles(f, clauses.as_slice())
+        }
+        Operands::ResumeThrow(ty, tag, clauses) => {
+            write!(f, " {ty} {tag}")?;
+            write_handles(f, clauses.as_slice())
+        }
+        Operands::Cast(label, before, after) => write_cast(f, *label, *before, *after),
+        Operands::Order(ordering) => write!(f, " {}", ordering_name(*ordering)),
+        Operands::OrderIndex(ordering, index) => {
+            write!(f, " {} {index}", ordering_name(*ordering))
+        }
+        Operands::OrderTwoIndexes(ordering, first, second) => {
+            write!(f, " {} {first} {second}", ordering_name(*ordering))
+        }
+        constant => write_constant(f, constant),
+    }
+}
+
+/// Writes the constant of an instruction, with a space in front. Writes other operands elsewhere.
+fn write_constant<W: fmt::Write>(f: &mut fmt::Formatter<W>, operands: &Operands) -> fmt::Result {
+    match operands {
+        Operands::I32(value) => write!(f, " {value}"),
+        Operands::I64(value) => write!(f, " {value}"),
+        Operands::F32(value) => write!(f, " {}", FloatText::from(*value)),
+        Operands::F64(value) => write!(f, " {}", FloatText::from(*value)),
+        Operands::V128(value) => write_words(f, value.to_le_bytes()),
+        Operands::Shuffle(lanes) => write_words(f, *lanes),
+        Operands::Lane(lane) => write!(f, " {lane}"),
+        _ => Ok(()),
+    }
+}
+
+/// Writes 16 bytes as four words of 32 bits, the lowest first.
+fn write_words<W: fmt::Write>(f: &mut fmt::Formatter<W>, bytes: [u8; 16]) -> fmt::Result {
+    let [
+        a0,
+        a1,
+        a2,
+        a3,
+        b0,
+        b1,
+        b2,
+        b3,
+        c0,
+        c1,
+        c2,
+        c3,
+        d0,
+        d1,
+        d2,
+        d3,
+    ] = bytes;
+    let first = u32::from_le_bytes([a0, a1, a2, a3]);
+    let second = u32::from_le_bytes([b0, b1, b2, b3]);
+    let third = u32::from_le_bytes([c0, c1, c2, c3]);
+    let fourth = u32::from_le_bytes([d0, d1, d2, d3]);
+    write!(
+        f,
+        " {first:#010x} {second:#010x} {third:#010x} {fourth:#010x}"
+    )
+}
+
+fn write_block_type<W: fmt::Write>(f: &mut fmt::Formatter<W>, ty: BlockType) -> fmt::Result {
+    match ty {
+        BlockType::Empty => Ok(()),
+        BlockType::Result(ty) => write!(f, " {}", ValText(ty)),
+        BlockType::FunctionType(index) => write!(f, " type[{index}]"),
+    }
+}
+
+fn write_labels<W: fmt::Write>(f: &mut fmt::Formatter<W>, labels: &[u32]) -> fmt::Result {
+    for label in labels {
+        write!(f, " {label}")?;
+    }
+    Ok(())
+}
+
+fn write_catches<W: fmt::Write>(f: &mut fmt::Formatter<W>, clauses: &[Catch]) -> fmt::Result {
+    for clause in clauses {
+        match *clause {
+            Catch::One { tag, label } => write!(f, " (catch {tag} {label})")?,
+            Catch::OneRef { tag, label } => write!(f, " (catch_ref {tag} {label})")?,
+            Catch::All { label } => write!(f, " (catch_all {label})")?,
+            Catch::AllRef { label } => write!(f, " (catch_all_ref {label})")?,
+        }
+    }
+    Ok(())
+}
+
+fn write_handles<W: fmt::Write>(f: &mut fmt::Formatter<W>, clauses: &[Handle]) -> fmt::Result {
+    for clause in clauses {
+        match *clause {
+            Handle::OnLabel { tag, label } => write!(f, " (on {tag} {label})")?,
+            Handle::OnSwitch { tag } => write!(f, " (on {tag} switch)")?,
+        }
+    }
+    Ok(())
+}
+
+fn write_cast<W: fmt::Write>(
+    f: &mut fmt::Formatter<W>,
+    label: u32,
+    before: RefType,
+    after: RefType,
+) -> fmt::Result {
+    write!(f, " {label} {} {}", RefText(before), RefText(after))
+}
+
+fn ordering_name(ordering: Ordering) -> &'static str {
+    match ordering {
+        Ordering::SeqCst => "seq_cst",
+        Ordering::AcqRel => "acq_rel",
+    }
+}
+
+/// A memory argument: the alignment's logarithm and the offset, and another memory than 0.
+#[derive(Clone, Copy)]
+struct MemText(MemArg);
+
+impl fmt::Display for MemText {
+    fn fmt<W: fmt::Write>(&self, f: &mut fmt::Formatter<W>) -> fmt::Result {
+        let MemArg {
+            offset,
+            align,
+            memory_index,
+        } = self.0;
+        write!(f, "{align} {offset}")?;
+        if memory_index == 0 {
+            return Ok(());
+        }
+        write!(f, " (memory {memory_index})")
+    }
+}
+
+/// The instructions of an expression, each in parentheses.
+#[derive(Clone, Copy)]
+pub struct ExprText<'a>(pub &'a [Call]);
+
+impl fmt::Display for ExprText<'_> {
+    fn fmt<W: fmt::Write>(&self, f: &mut fmt::Formatter<W>) -> fmt::Result {
+        for (number, call) in self.0.iter().enumerate() {
+            let separator = if number == 0 { "" } else { " " };
+            write!(f, "{separator}({})", CallText(call))?;
+        }
+        Ok(())
+    }
+}
+
+/// The effect of an instruction on the depth of blocks, as the listing shows it.
+#[derive(Clone, Copy)]
+pub struct Nesting {
+    /// Whether the instruction ends a block or a part of one, and so stands outside of it.
+    pub closes: bool,
+    /// Whether what follows is inside of a block that the instruction begins.
+    pub opens: bool,
+}
+
+impl Nesting {
+    /// Returns the effect of an instruction.
+    pub fn of(op: Opcode) -> Nesting {
+        let number = match op.prefix {
+            Prefix::None => op.number,
+            _ => 0,
+        };
+        let (closes, opens) = match number {
+            0x02 | 0x03 | 0x04 | 0x06 | 0x1f => (false, true), // block, loop, if, try, try_table
+            0x05 | 0x07 | 0x19 => (true, true), // else, catch, catch_all
+            0x0b | 0x18 => (true, false), // end, delegate
+            _ => (false, false),
+        };
+        Nesting { closes, opens }
+    }
+
+    /// Returns the depth of the instruction itself, where `depth` blocks are open before it.
+    pub fn own_depth(self, depth: usize) -> usize {
+        depth.saturating_sub(usize::from(self.closes))
+    }
+
+    /// Returns the number of blocks that are open after it.
+    pub fn next_depth(self, depth: usize) -> usize {
+        self.own_depth(depth)
+            .saturating_add(usize::from(self.opens))
+    }
+}
+
+/// Returns the index of the function that an instruction calls or refers to.
+pub fn function_of(call: &Call) -> Option<u32> {
+    let op = call.op();
+    let names_function = matches!(op.prefix, Prefix::None)
+        && matches!(op.number, 0x10 | 0x12 | 0xd2); // call, return_call, ref.func
+    match call.operands() {
+        Operands::Index(index) if names_function => Some(*index),
+        _ => None,
+    }
+}

@@ -1,0 +1,271 @@
+//! Text of the items of sections.
+use crate::listing::instructions::ExprText;
+use crate::listing::types::{EntryText, RefText, ValText};
+use crate::text::Escaped;
+use std::fmt;
+use wasm_entities::limits::{MemoryType, TableType};
+use wasm_entities::types::{EntityType, ExportKind, GlobalType, TagType};
+use wasm_instructions::table::Call;
+use wasm_lists::list::Items;
+use wasm_sections::data::{DataSegment, DataSegmentMode};
+use wasm_sections::elements::{Element, ElementMode, Elements};
+use wasm_sections::exports::Export;
+use wasm_sections::globals::Global;
+use wasm_sections::imports::Import;
+use wasm_sections::tables::Table;
+use wasm_types::types::{TypeEntry, ValType};
+
+/// An item of a section, with the index that it has in the module.
+#[derive(Clone, Copy)]
+pub enum ItemText<'i> {
+    /// An entry of a type section, and the index of its first type.
+    Types(&'i TypeEntry, u32),
+    /// An import.
+    Import(Import<'i>, u32),
+    /// A function: its index, type index and name.
+    Function(u32, u32, Option<&'i str>),
+    /// A table.
+    Table(&'i Table, u32),
+    /// A memory.
+    Memory(MemoryType, u32),
+    /// A tag.
+    Tag(TagType, u32),
+    /// A global.
+    Global(&'i Global, u32),
+    /// An export.
+    Export(Export<'i>),
+    /// The start function: its index and name.
+    Start(u32, Option<&'i str>),
+    /// An element segment.
+    Element(&'i Element, u32),
+    /// The number of data segments.
+    DataCount(u32),
+    /// A function's body: its index and name.
+    Body(u32, Option<&'i str>),
+    /// A data segment, without its bytes.
+    Data(&'i DataSegment<'i>, u32),
+}
+
+impl fmt::Display for ItemText<'_> {
+    fn fmt<W: fmt::Write>(&self, f: &mut fmt::Formatter<W>) -> fmt::Result {
+        match self {
+            ItemText::Types(entry, first) => {
+                let first = *first;
+                write!(f, "{}", EntryText { entry, first })
+            }
+            ItemText::Import(import, index) => write_import(f, import, *index),
+            ItemText::Function(index, ty, name) => {
+                write!(f, "func[{index}] type {ty}")?;
+                write_name(f, *name)
+            }
+            ItemText::Table(table, index) => write_table(f, table, *index),
+            ItemText::Memory(ty, index) => write!(f, "memory[{index}] {}", MemoryText(*ty)),
+            ItemText::Tag(ty, index) => write!(f, "tag[{index}] type {}", ty.func_type_idx),
+            ItemText::Global(global, index) => {
+                let init = ExprText(global.init.as_slice());
+                write!(f, "global[{index}] {} = {init}", GlobalText(global.ty))
+            }
+            ItemText::Export(export) => {
+                let (kind, name) = (kind_name(export.kind), Escaped(export.name));
+                write!(f, "{kind}[{}] -> \"{name}\"", export.index)
+            }
+            ItemText::Start(index, name) | ItemText::Body(index, name) => {
+                write!(f, "func[{index}]")?;
+                write_name(f, *name)
+            }
+            ItemText::Element(element, index) => write_element(f, element, *index),
+            ItemText::DataCount(count) => {
+                let plural = if *count == 1 { "" } else { "s" };
+                write!(f, "{count} data segment{plural}")
+            }
+            ItemText::Data(data, index) => write_data(f, data, *index),
+        }
+    }
+}
+
+/// A group of locals: how many, and their type.
+#[derive(Clone, Copy)]
+pub struct LocalsText(pub u32, pub ValType);
+
+impl fmt::Display for LocalsText {
+    fn fmt<W: fmt::Write>(&self, f: &mut fmt::Formatter<W>) -> fmt::Result {
+        let LocalsText(count, ty) = *self;
+        let noun = if count == 1 { "local" } else { "locals" };
+        write!(f, "{count} {noun} of {}", ValText(ty))
+    }
+}
+
+/// Writes the name of a function, if it has one.
+fn write_name<W: fmt::Write>(f: &mut fmt::Formatter<W>, name: Option<&str>) -> fmt::Result {
+    match name {
+        Some(name) => write!(f, " <{}>", Escaped(name)),
+        None => Ok(()),
+    }
+}
+
+fn write_import<W: fmt::Write>(
+    f: &mut fmt::Formatter<W>,
+    import: &Import<'_>,
+    index: u32,
+) -> fmt::Result {
+    match import.ty {
+        EntityType::Function(ty) => write!(f, "func[{index}] type {ty}")?,
+        EntityType::FunctionExact(ty) => write!(f, "func[{index}] exact type {ty}")?,
+        EntityType::Table(ty) => write!(f, "table[{index}] {}", TableText(ty))?,
+        EntityType::Memory(ty) => write!(f, "memory[{index}] {}", MemoryText(ty))?,
+        EntityType::Global(ty) => write!(f, "global[{index}] {}", GlobalText(ty))?,
+        EntityType::Tag(ty) => write!(f, "tag[{index}] type {}", ty.func_type_idx)?,
+    }
+    let (module, field) = (Escaped(import.module), Escaped(import.field));
+    write!(f, " <- \"{module}\" \"{field}\"")
+}
+
+fn write_table<W: fmt::Write>(f: &mut fmt::Formatter<W>, table: &Table, index: u32) -> fmt::Result {
+    write!(f, "table[{index}] {}", TableText(table.ty))?;
+    match &table.init {
+        Some(init) => write!(f, " = {}", ExprText(init.as_slice())),
+        None => Ok(()),
+    }
+}
+
+fn kind_name(kind: ExportKind) -> &'static str {
+    match kind {
+        ExportKind::Func => "func",
+        ExportKind::Table => "table",
+        ExportKind::Memory => "memory",
+        ExportKind::Global => "global",
+        ExportKind::Tag => "tag",
+    }
+}
+
+/// The type of a table.
+#[derive(Clone, Copy)]
+struct TableText(TableType);
+
+impl fmt::Display for TableText {
+    fn fmt<W: fmt::Write>(&self, f: &mut fmt::Formatter<W>) -> fmt::Result {
+        let ty = self.0;
+        let element = RefText(ty.element_type);
+        write!(f, "{element} initial={}", ty.minimum)?;
+        write_limits(f, ty.maximum, ty.shared, ty.table64)
+    }
+}
+
+/// The type of a memory.
+#[derive(Clone, Copy)]
+struct MemoryText(MemoryType);
+
+impl fmt::Display for MemoryText {
+    fn fmt<W: fmt::Write>(&self, f: &mut fmt::Formatter<W>) -> fmt::Result {
+        let ty = self.0;
+        write!(f, "initial={}", ty.minimum)?;
+        write_limits(f, ty.maximum, ty.shared, ty.memory64)?;
+        match ty.page_size_log2 {
+            Some(log2) => write!(f, " pagesize=2^{log2}"),
+            None => Ok(()),
+        }
+    }
+}
+
+/// Writes what follows the minimum of limits.
+fn write_limits<W: fmt::Write>(
+    f: &mut fmt::Formatter<W>,
+    maximum: Option<u64>,
+    shared: bool,
+    is_64: bool,
+) -> fmt::Result {
+    if let Some(maximum) = maximum {
+        write!(f, " max={maximum}")?;
+    }
+    if shared {
+        write!(f, " shared")?;
+    }
+    if is_64 {
+        write!(f, " i64")?;
+    }
+    Ok(())
+}
+
+/// The type of a global.
+#[derive(Clone, Copy)]
+struct GlobalText(GlobalType);
+
+impl fmt::Display for GlobalText {
+    fn fmt<W: fmt::Write>(&self, f: &mut fmt::Formatter<W>) -> fmt::Result {
+        let GlobalType {
+            val_type,
+            mutable,
+            shared,
+        } = self.0;
+        let shared = if shared { "shared " } else { "" };
+        let mutable = if mutable { "mut " } else { "" };
+        write!(f, "{shared}{mutable}{}", ValText(val_type))
+    }
+}
+
+fn write_element<W: fmt::Write>(
+    f: &mut fmt::Formatter<W>,
+    element: &Element,
+    index: u32,
+) -> fmt::Result {
+    write!(f, "segment[{index}] ")?;
+    match &element.mode {
+        ElementMode::Passive => write!(f, "passive")?,
+        ElementMode::Declared => write!(f, "declared")?,
+        ElementMode::Active {
+            table_index,
+            offset,
+        } => {
+            let offset = ExprText(offset.as_slice());
+            write!(f, "active table {table_index} offset {offset}")?;
+        }
+    }
+    match &element.elements {
+        Elements::Functions(indexes) => write_functions(f, indexes.as_slice()),
+        Elements::Expressions(ty, expressions) => {
+            write!(f, ": {}", RefText(*ty))?;
+            write_expressions(f, expressions.as_slice())
+        }
+    }
+}
+
+fn write_functions<W: fmt::Write>(f: &mut fmt::Formatter<W>, indexes: &[u32]) -> fmt::Result {
+    write!(f, ": func")?;
+    for index in indexes {
+        write!(f, " {index}")?;
+    }
+    Ok(())
+}
+
+fn write_expressions<W: fmt::Write>(
+    f: &mut fmt::Formatter<W>,
+    expressions: &[Items<Call>],
+) -> fmt::Result {
+    for expression in expressions {
+        write!(f, " [{}]", ExprText(expression.as_slice()))?;
+    }
+    Ok(())
+}
+
+fn write_data<W: fmt::Write>(
+    f: &mut fmt::Formatter<W>,
+    data: &DataSegment<'_>,
+    index: u32,
+) -> fmt::Result {
+    write!(f, "segment[{index}] ")?;
+    match &data.mode {
+        DataSegmentMode::Passive => write!(f, "passive")?,
+        DataSegmentMode::Active {
+            memory_index,
+            offset,
+        } => {
+            let offset = ExprText(offset.as_slice());
+            write!(f, "active memory {memory_index} offset {offset}")?;
+        }
+    }
+    let (len, plural) = (
+        data.bytes.len(),
+        if data.bytes.len() == 1 { "" } else { "s" },
+    );
+    write!(f, ": {len} byte{plural}")
+}

@@ -1,0 +1,42 @@
+//! A listing that shows nothing. It counts the items of a section.
+use crate::listing::{FunctionHead, ItemText, Listing, Part, SectionHead, Stop};
+use wasm_instructions::table::Call;
+use wasm_types::types::ValType;
+
+/// A listing that shows nothing.
+#[derive(Drop)]
+pub struct Silent;
+
+impl Listing for Silent {
+    fn section(&mut self, _head: &SectionHead<'_>) -> Result<(), Stop> {
+        Ok(())
+    }
+
+    fn item(&mut self, _part: &Part<'_>, _text: &ItemText<'_>) -> Result<(), Stop> {
+        Ok(())
+    }
+
+    fn contents(&mut self, _at: usize, _bytes: &[u8]) -> Result<(), Stop> {
+        Ok(())
+    }
+
+    fn function(&mut self, _head: &FunctionHead<'_>) -> Result<(), Stop> {
+        Ok(())
+    }
+
+    fn locals(&mut self, _part: &Part<'_>, _count: u32, _ty: ValType) -> Result<(), Stop> {
+        Ok(())
+    }
+
+    fn call(&mut self, _part: &Part<'_>, _call: &Call, _name: Option<&str>) -> Result<(), Stop> {
+        Ok(())
+    }
+
+    fn function_end(&mut self) -> Result<(), Stop> {
+        Ok(())
+    }
+
+    fn section_end(&mut self) -> Result<(), Stop> {
+        Ok(())
+    }
+}

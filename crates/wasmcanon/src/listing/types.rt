@@ -1,0 +1,227 @@
+//! Text of types.
+use std::fmt;
+use wasm_types::types::{
+    AbstractHeapType, CompositeInnerType, CompositeType, FieldType, FuncType, HeapType, RefType,
+    StorageType, SubType, TypeEntry, ValType,
+};
+
+/// A value type, as `i32` or `funcref`.
+#[derive(Clone, Copy)]
+pub struct ValText(pub ValType);
+
+impl fmt::Display for ValText {
+    fn fmt<W: fmt::Write>(&self, f: &mut fmt::Formatter<W>) -> fmt::Result {
+        match self.0 {
+            ValType::I32 => write!(f, "i32"),
+            ValType::I64 => write!(f, "i64"),
+            ValType::F32 => write!(f, "f32"),
+            ValType::F64 => write!(f, "f64"),
+            ValType::V128 => write!(f, "v128"),
+            ValType::Ref(ty) => write!(f, "{}", RefText(ty)),
+        }
+    }
+}
+
+/// A reference type, as `funcref` or `(ref null 3)`.
+#[derive(Clone, Copy)]
+pub struct RefText(pub RefType);
+
+impl fmt::Display for RefText {
+    fn fmt<W: fmt::Write>(&self, f: &mut fmt::Formatter<W>) -> fmt::Result {
+        let RefType {
+            nullable,
+            heap_type,
+        } = self.0;
+        match heap_type {
+            HeapType::Abstract { shared: false, ty } if nullable => {
+                write!(f, "{}", short_name(ty))
+            }
+            _ => {
+                let null = if nullable { "null " } else { "" };
+                write!(f, "(ref {null}{})", HeapText(heap_type))
+            }
+        }
+    }
+}
+
+/// Returns the name of the nullable reference type to an abstract heap type.
+fn short_name(ty: AbstractHeapType) -> &'static str {
+    match ty {
+        AbstractHeapType::Func => "funcref",
+        AbstractHeapType::Extern => "externref",
+        AbstractHeapType::Any => "anyref",
+        AbstractHeapType::None => "nullref",
+        AbstractHeapType::NoExtern => "nullexternref",
+        AbstractHeapType::NoFunc => "nullfuncref",
+        AbstractHeapType::Eq => "eqref",
+        AbstractHeapType::Struct => "structref",
+        AbstractHeapType::Array => "arrayref",
+        AbstractHeapType::I31 => "i31ref",
+        AbstractHeapType::Exn => "exnref",
+        AbstractHeapType::NoExn => "nullexnref",
+        AbstractHeapType::Cont => "contref",
+        AbstractHeapType::NoCont => "nullcontref",
+    }
+}
+
+/// A heap type, as `func` or `3`.
+#[derive(Clone, Copy)]
+pub struct HeapText(pub HeapType);
+
+impl fmt::Display for HeapText {
+    fn fmt<W: fmt::Write>(&self, f: &mut fmt::Formatter<W>) -> fmt::Result {
+        match self.0 {
+            HeapType::Abstract { shared: false, ty } => write!(f, "{}", heap_name(ty)),
+            HeapType::Abstract { shared: true, ty } => write!(f, "(shared {})", heap_name(ty)),
+            HeapType::Concrete(index) => write!(f, "{index}"),
+            HeapType::Exact(index) => write!(f, "(exact {index})"),
+        }
+    }
+}
+
+fn heap_name(ty: AbstractHeapType) -> &'static str {
+    match ty {
+        AbstractHeapType::Func => "func",
+        AbstractHeapType::Extern => "extern",
+        AbstractHeapType::Any => "any",
+        AbstractHeapType::None => "none",
+        AbstractHeapType::NoExtern => "noextern",
+        AbstractHeapType::NoFunc => "nofunc",
+        AbstractHeapType::Eq => "eq",
+        AbstractHeapType::Struct => "struct",
+        AbstractHeapType::Array => "array",
+        AbstractHeapType::I31 => "i31",
+        AbstractHeapType::Exn => "exn",
+        AbstractHeapType::NoExn => "noexn",
+        AbstractHeapType::Cont => "cont",
+        AbstractHeapType::NoCont => "nocont",
+    }
+}
+
+/// An entry of a type section, with the index of its first type.
+#[derive(Clone, Copy)]
+pub struct EntryText<'a> {
+    /// The entry.
+    pub entry: &'a TypeEntry,
+    /// Index of its first type.
+    pub first: u32,
+}
+
+impl fmt::Display for EntryText<'_> {
+    fn fmt<W: fmt::Write>(&self, f: &mut fmt::Formatter<W>) -> fmt::Result {
+        let first = self.first;
+        let types = match self.entry {
+            TypeEntry::Sub(ty) => return write!(f, "type[{first}] {}", SubText(ty)),
+            TypeEntry::Rec(types) => types.as_slice(),
+        };
+        write!(f, "rec")?;
+        for (number, ty) in types.iter().enumerate() {
+            let index = (first as usize).saturating_add(number);
+            let separator = if number == 0 { "" } else { "," };
+            write!(f, "{separator} type[{index}] {}", SubText(ty))?;
+        }
+        Ok(())
+    }
+}
+
+/// A type with its supertypes.
+#[derive(Clone, Copy)]
+struct SubText<'a>(&'a SubType);
+
+impl fmt::Display for SubText<'_> {
+    fn fmt<W: fmt::Write>(&self, f: &mut fmt::Formatter<W>) -> fmt::Result {
+        let SubType {
+            is_final,
+            supertype_idxs,
+            composite_type,
+        } = self.0;
+        if !*is_final || !supertype_idxs.is_empty() {
+            write!(f, "sub ")?;
+            if *is_final {
+                write!(f, "final ")?;
+            }
+        }
+        for index in supertype_idxs.as_slice() {
+            write!(f, "{index} ")?;
+        }
+        write_composite(f, composite_type)
+    }
+}
+
+/// Writes a composite type.
+fn write_composite<W: fmt::Write>(f: &mut fmt::Formatter<W>, ty: &CompositeType) -> fmt::Result {
+    if ty.shared {
+        write!(f, "shared ")?;
+    }
+    if let Some(index) = ty.descriptor {
+        write!(f, "descriptor {index} ")?;
+    }
+    if let Some(index) = ty.describes {
+        write!(f, "describes {index} ")?;
+    }
+    match &ty.inner {
+        CompositeInnerType::Func(ty) => write!(f, "{}", FuncText(ty)),
+        CompositeInnerType::Array(ty) => write!(f, "array ({})", FieldText(ty.0)),
+        CompositeInnerType::Struct(ty) => {
+            write!(f, "struct (")?;
+            write_fields(f, ty.fields.as_slice())?;
+            write!(f, ")")
+        }
+        CompositeInnerType::Cont(ty) => write!(f, "cont {}", ty.0),
+    }
+}
+
+/// A function type, as `func (i32, i32) -> nil`.
+#[derive(Clone, Copy)]
+struct FuncText<'a>(&'a FuncType);
+
+impl fmt::Display for FuncText<'_> {
+    fn fmt<W: fmt::Write>(&self, f: &mut fmt::Formatter<W>) -> fmt::Result {
+        write!(f, "func ({}) -> ", ValList(self.0.params()))?;
+        match self.0.results() {
+            [] => write!(f, "nil"),
+            [ty] => write!(f, "{}", ValText(*ty)),
+            types => write!(f, "({})", ValList(types)),
+        }
+    }
+}
+
+/// Value types, with commas between them.
+#[derive(Clone, Copy)]
+pub struct ValList<'a>(pub &'a [ValType]);
+
+impl fmt::Display for ValList<'_> {
+    fn fmt<W: fmt::Write>(&self, f: &mut fmt::Formatter<W>) -> fmt::Result {
+        for (number, ty) in self.0.iter().enumerate() {
+            let separator = if number == 0 { "" } else { ", " };
+            write!(f, "{separator}{}", ValText(*ty))?;
+        }
+        Ok(())
+    }
+}
+
+/// Writes the types of fields, with commas between them.
+fn write_fields<W: fmt::Write>(f: &mut fmt::Formatter<W>, fields: &[FieldType]) -> fmt::Result {
+    for (number, field) in fields.iter().enumerate() {
+        let separator = if number == 0 { "" } else { ", " };
+        write!(f, "{separator}{}", FieldText(*field))?;
+    }
+    Ok(())
+}
+
+/// The type of a field or of an array's elements, as `mut i8`.
+#[derive(Clone, Copy)]
+struct FieldText(FieldType);
+
+impl fmt::Display for FieldText {
+    fn fmt<W: fmt::Write>(&self, f: &mut fmt::Formatter<W>) -> fmt::Result {
+        if self.0.mutable {
+            write!(f, "mut ")?;
+        }
+        match self.0.element_type {
+            StorageType::I8 => write!(f, "i8"),
+            StorageType::I16 => write!(f, "i16"),
+            StorageType::Val(ty) => write!(f, "{}", ValText(ty)),
+        }
+    }
+}

@@ -1,0 +1,147 @@
+//! The action `--list`.
+use crate::files::read_input_at;
+use crate::json::{failure_value, file_value};
+use crate::listing::{Lines, Stop, Values, list_module};
+use crate::messages::{FailureMessage, InputName};
+use crate::request::{Location, Request};
+use crate::results::Results;
+use crate::run::{Failure, accept};
+use std::alloc::{AllocError, Global};
+use std::io;
+use std::io::{BufWriter, Stdout, Write};
+
+/// Prints a listing of each module.
+///
+/// Fails if memory runs out.
+pub fn list_modules(rt: &HostRuntime, request: &Request<'_>) -> Result<u8, AllocError> {
+    let mut results = Results::new(rt, false);
+    let Ok(mut writer) = BufWriter::new(rt.alloc(), rt.stdout()) else {
+        return Err(AllocError);
+    };
+    match list_all(rt, request, &mut writer, &mut results) {
+        Ok(()) | Err(Stop::Malformed | Stop::Enough) => {}
+        Err(Stop::Memory) => return Err(AllocError),
+        Err(Stop::Write(error)) => {
+            let output = Location::Standard;
+            results.fail(output, output, &Failure::Write(error))?;
+        }
+    }
+    Ok(results.finish())
+}
+
+/// Writes a listing of each module, up to the first write that fails.
+fn list_all(
+    rt: &HostRuntime,
+    request: &Request<'_>,
+    writer: &mut BufWriter<Stdout>,
+    results: &mut Results,
+) -> Result<(), Stop> {
+    for (number, word) in request.inputs.iter().enumerate() {
+        let input = Location::named(word);
+        if request.json {
+            write!(writer, "{}", if number == 0 { "[" } else { ",\n" })?;
+            list_as_json(rt, request, input, writer, results)?;
+        } else {
+            list_as_text(rt, request, input, writer, results)?;
+        }
+    }
+    if request.json {
+        writeln!(writer, "]")?;
+    }
+    writer.flush()?;
+    Ok(())
+}
+
+/// Writes the listing of a module. Its name precedes it if there are several.
+fn list_as_text(
+    rt: &HostRuntime,
+    request: &Request<'_>,
+    input: Location<'_>,
+    writer: &mut BufWriter<Stdout>,
+    results: &mut Results,
+) -> Result<(), Stop> {
+    let module = match read_input_at(rt, input) {
+        Ok(module) => module,
+        Err(failure) => return fail(writer, results, input, &failure),
+    };
+    if request.inputs.len() > 1 {
+        writeln!(writer, "{}:", InputName(input))?;
+    }
+    goes_on(list_module(rt.alloc(), &module, &mut Lines::new(writer)))?;
+    match accept(rt.alloc(), module, request.any_order) {
+        Ok(()) => Ok(()),
+        Err(failure) => fail(writer, results, input, &failure),
+    }
+}
+
+/// Writes the object of a module as JSON.
+fn list_as_json(
+    rt: &HostRuntime,
+    request: &Request<'_>,
+    input: Location<'_>,
+    writer: &mut BufWriter<Stdout>,
+    results: &mut Results,
+) -> Result<(), Stop> {
+    let alloc = rt.alloc();
+    let module = match read_input_at(rt, input) {
+        Ok(module) => module,
+        Err(failure) => {
+            let members = failure_members(alloc, input, &failure)?;
+            write!(writer, "{{{}", members.as_str())?;
+            return fail(writer, results, input, &failure);
+        }
+    };
+    let mut values = Values::new(alloc, writer);
+    values.begin()?;
+    goes_on(list_module(alloc, &module, &mut values))?;
+    values.end()?;
+    match accept(alloc, module, request.any_order) {
+        Ok(()) => {
+            let file = file_value(alloc, input)?;
+            write!(writer, ",\"file\":{file}}}")?;
+            Ok(())
+        }
+        Err(failure) => {
+            let members = failure_members(alloc, input, &failure)?;
+            write!(writer, ",{}", members.as_str())?;
+            fail(writer, results, input, &failure)
+        }
+    }
+}
+
+/// Goes on after a malformed part: the refusal of the module follows.
+fn goes_on(listed: Result<(), Stop>) -> Result<(), Stop> {
+    match listed {
+        Err(Stop::Malformed) => Ok(()),
+        other => other,
+    }
+}
+
+/// Returns the members of the object for a module that failed, and the end of the object.
+fn failure_members(
+    alloc: Global,
+    input: Location<'_>,
+    failure: &Failure,
+) -> Result<String, AllocError> {
+    let output = Location::Standard;
+    let message = FailureMessage {
+        input,
+        output,
+        failure,
+    };
+    let value = failure_value(alloc, input, &message)?;
+    let text = format!(in alloc; "{value}")?;
+    String::from_str(alloc, text.as_str().strip_prefix("{").unwrap_or("}"))
+}
+
+/// Writes what was listed, and reports why a module failed.
+fn fail(
+    writer: &mut BufWriter<Stdout>,
+    results: &mut Results,
+    input: Location<'_>,
+    failure: &Failure,
+) -> Result<(), Stop> {
+    writer.flush()?;
+    results.fail(input, Location::Standard, failure)?;
+    Ok(())
+}
