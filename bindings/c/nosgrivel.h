@@ -161,7 +161,9 @@ enum nosgrivel_reason {
     /* A part has `first` bytes, and `second` in its minimal encoding. Only if `strict` is set. */
     NOSGRIVEL_NOT_MINIMAL = 17,
     /* A number or a form isn't minimally encoded. Only if `strict` is set. */
-    NOSGRIVEL_LONG_FORM = 18
+    NOSGRIVEL_LONG_FORM = 18,
+    /* The reason wasn't confirmed. No known input has it. */
+    NOSGRIVEL_UNEXPLAINED = 19
 };
 
 /* A part of the binary format: the values of `construct` in a nosgrivel_refusal. */
@@ -190,7 +192,7 @@ enum nosgrivel_construct {
     NOSGRIVEL_CONSTRUCT_EXPORT_KIND = 21,   /* the kind of an export */
     NOSGRIVEL_CONSTRUCT_OPCODE = 22,        /* an opcode, or the number after its prefix */
     NOSGRIVEL_CONSTRUCT_BLOCK_TYPE = 23,    /* a block type */
-    NOSGRIVEL_CONSTRUCT_CLAUSE = 24,        /* a clause of `try_table` or `resume` */
+    NOSGRIVEL_CONSTRUCT_CLAUSE = 24,        /* a clause of `try_table` */
     NOSGRIVEL_CONSTRUCT_ORDERING = 25,      /* the ordering of an atomic instruction */
     NOSGRIVEL_CONSTRUCT_CAST_FLAGS = 26,    /* the flags of a branch on a cast */
     NOSGRIVEL_CONSTRUCT_ELEMENT_FORM = 27,  /* the form of an element segment */
@@ -198,7 +200,9 @@ enum nosgrivel_construct {
     NOSGRIVEL_CONSTRUCT_DATA_FORM = 29,     /* the form of a data segment */
     NOSGRIVEL_CONSTRUCT_SECTION_ID = 30,    /* the id of a section */
     NOSGRIVEL_CONSTRUCT_SUBSECTION_ID = 31, /* the id of a subsection */
-    NOSGRIVEL_CONSTRUCT_FIELD = 32          /* a field of a known custom section */
+    NOSGRIVEL_CONSTRUCT_FIELD = 32,         /* a field of a known custom section */
+    NOSGRIVEL_CONSTRUCT_ABSTRACT_HEAP_TYPE = 33, /* an abstract heap type, after the byte of a shared one */
+    NOSGRIVEL_CONSTRUCT_HANDLER_CLAUSE = 34      /* a clause of `resume`, which handles a tag */
 };
 
 /* Why and where a module is refused. Offsets are counted in bytes from the start of the input. */

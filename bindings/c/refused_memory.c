@@ -75,6 +75,11 @@ static void granted(const struct row *row, int call, uint32_t status, size_t cou
     expect(memcmp(output + written, before + written, ROOM - written) == 0, row->name, "what follows", call);
 }
 
+/* The check of a module's section sizes needs no memory; the other calls do. */
+static int needs_memory(const struct row *row, int call) {
+    return call < 3 || row->check != nosgrivel_check_module;
+}
+
 /* Makes the first allocation fail, then the second, and so on, until none fails. */
 static void sweep(const struct row *row, int call) {
     uint8_t output[ROOM], before[ROOM];
@@ -90,7 +95,7 @@ static void sweep(const struct row *row, int call) {
         expect(held == 0, row->name, "memory that is held", refused);
         if (all_granted) {
             granted(row, call, status, count, output, before);
-            expect(refused > 0, row->name, "the number of requests", call);
+            expect((refused > 0) == needs_memory(row, call), row->name, "the number of requests", call);
             swept++;
             return;
         }

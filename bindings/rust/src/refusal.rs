@@ -53,7 +53,7 @@ pub enum Construct {
     Opcode,
     /// A block type.
     BlockType,
-    /// A clause of `try_table`, or of a handler of `resume`.
+    /// A clause of `try_table`.
     Clause,
     /// The ordering of an atomic instruction.
     Ordering,
@@ -71,11 +71,15 @@ pub enum Construct {
     SubsectionId,
     /// A field of a known custom section, such as a branch hint or a feature's prefix.
     Field,
+    /// An abstract heap type, after the byte of a shared one.
+    AbstractHeapType,
+    /// A clause of `resume`, which handles a tag.
+    HandlerClause,
 }
 
 impl Construct {
     /// All parts, in the order of their codes from 1 on.
-    const ALL: [Construct; 32] = [
+    const ALL: [Construct; 34] = [
         Construct::Byte,
         Construct::Number,
         Construct::U32,
@@ -108,6 +112,8 @@ impl Construct {
         Construct::SectionId,
         Construct::SubsectionId,
         Construct::Field,
+        Construct::AbstractHeapType,
+        Construct::HandlerClause,
     ];
 
     fn of(code: u32) -> Construct {
@@ -214,6 +220,8 @@ pub enum Reason {
     },
     /// A part decodes, but a number or a form in it isn't minimally encoded.
     LongForm,
+    /// The bytes are refused for a reason that a check of it didn't confirm. No known input has it.
+    Unexplained,
 }
 
 impl Reason {
@@ -266,6 +274,7 @@ impl Reason {
                 minimal: second as usize,
             },
             18 => Reason::LongForm,
+            19 => Reason::Unexplained,
             other => unreachable!("the static library told the reason {other}"),
         }
     }
@@ -293,6 +302,7 @@ impl Reason {
             Reason::UnsupportedVersion { version } => (16, None, version.into(), 0),
             Reason::NotMinimal { bytes, minimal } => (17, None, bytes as u64, minimal as u64),
             Reason::LongForm => (18, None, 0, 0),
+            Reason::Unexplained => (19, None, 0, 0),
         }
     }
 }

@@ -214,6 +214,8 @@ fn parts() {
         Construct::Opcode,
         Construct::CastFlags,
         Construct::Field,
+        Construct::AbstractHeapType,
+        Construct::HandlerClause,
     ]
     .into_iter()
     .map(|construct| {
@@ -221,7 +223,7 @@ fn parts() {
         Refusal { reason, ..told }.to_string()
     })
     .collect();
-    assert_eq!(texts.len(), 8);
+    assert_eq!(texts.len(), 10);
     assert!(texts.contains("offset 0x0: invalid field 0x01"));
     assert!(texts.contains("offset 0x0: invalid heap type 0x01"));
 }

@@ -6,6 +6,7 @@ pub mod constants;
 pub mod held_lists;
 pub mod instructions;
 pub mod modules;
+pub mod refusals;
 pub mod sections;
 pub mod type_sections;
 pub mod whole_modules;

@@ -1,15 +1,15 @@
 //! Reads the export section back, checks it and normalises it.
-ghost use Rattle.std.specs.Prelude.{◌≡◌, List, ℕ, IfErr, length, refl, true};
+ghost use Rattle.std.specs.Prelude.{◌≡◌, List, ℕ, IfErr, length, refl, true, false};
 ghost use Rattle.std.proofs.lemmas.List.{map_push};
 ghost use Rattle.wasm_codec.specs.Reading.{map_ok};
-ghost use Rattle.wasm_codec.specs.Outcomes.{IsMalformed, LiesIn, as_read};
+ghost use Rattle.wasm_codec.specs.Outcomes.{IfMalformed, IsMalformed, LiesIn, as_read};
 ghost use Rattle.wasm_encoder.specs.Outcomes.{NeedsNoMemory};
 ghost use Rattle.wasm_encoder.specs.Bodies.{byte_list, bytes_to_end};
 ghost use Rattle.wasm_encoder.specs.Combinators.{items};
 ghost use Rattle.wasm_encoder.specs.Decoding.{IsMinimal, ChecksAll, RewritesAll};
 ghost use Rattle.wasm_encoder.specs.Grammar.{TakesBytes};
 ghost use Rattle.wasm_encoder.specs.Lawful.{IsLawful, IsLawfulBody};
-ghost use Rattle.wasm_encoder.specs.Lists.{ListMinimalIf, IsListPrefix, IsListPrefixMinimalIf};
+ghost use Rattle.wasm_encoder.specs.Lists.{CountsItems, ListMinimalIf, IsListPrefix, IsListPrefixMinimalIf};
 ghost use Rattle.wasm_encoder.specs.Places.{Reads};
 ghost use Rattle.wasm_encoder.specs.Rewriter.{Rewrites};
 ghost use Rattle.example_sections.specs.Exports.{export, parts_of, all_parts_of};
@@ -128,6 +128,8 @@ impl<'a> Decode<'a> for ExportSection<'a> {
 
     ghost IsMinimalPrefix = { IsListPrefixMinimalIf true export };
 
+    ghost Counts = { λ strict. CountsItems strict export };
+
     fn is_lawful()
         ensures lawful { IsLawfulBody (items export) }
         ensures minimal { IsMinimal (items export) (ListMinimalIf true export) }
@@ -144,6 +146,7 @@ impl<'a> Decode<'a> for ExportSection<'a> {
     fn check_all(alloc: Global, bytes: &[u8]) -> Result<(), DecodeError>
         ensures checks { ChecksAll (ListMinimalIf true export) (IsListPrefixMinimalIf true export) bytes.now (as_read result) }
         ensures place { IfErr result (LiesIn (length bytes.now)) }
+        ensures counts { IfMalformed result (CountsItems true export bytes.now) }
     {
         check_list_to_end::<Item<'_, ReadExport<'_>>>(alloc, bytes)
     }
@@ -152,6 +155,7 @@ impl<'a> Decode<'a> for ExportSection<'a> {
         ensures rewrites { RewritesAll (items export) (IsListPrefix export.Encodes) bytes.items (as_read result) }
         ensures memory { NeedsNoMemory (as_read result) }
         ensures place { IfErr result (LiesIn (length bytes.items)) }
+        ensures counts { IfMalformed result (CountsItems false export bytes.items) }
     {
         rewrite_list_to_end::<Item<'_, ReadExport<'_>>>(bytes)
     }

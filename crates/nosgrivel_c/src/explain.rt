@@ -9,8 +9,8 @@ ghost use Rattle.nosgrivel_c.specs.Calls.{ChecksNormal};
 
 use crate::refusal::{FlatRefusal, explain};
 use std::alloc::Global;
-use wasm_codec::decode::{check, normalise};
 use wasm_codec::reader::DecodeError;
+use wasm_modules::decode::{check, normalise};
 use wasm_whole_modules::modules::WholeModule;
 
 /// Checks whether every section of a module decodes, and says why and where one doesn't.

@@ -51,7 +51,7 @@ pub extern "C" fn nosgrivel_judge_module(alloc: Global, input: &[u8], count: &mu
 /// Checks whether the header and the size of each section of a module are minimally encoded.
 ///
 /// The bodies are not decoded; `nosgrivel_judge_module` decodes those of type sections and code sections. The call
-/// copies the input.
+/// allocates nothing.
 #[unsafe(no_mangle)]
 pub extern "C" fn nosgrivel_check_module(alloc: Global, input: &[u8], count: &mut usize) -> u32
     ensures checks { ChecksNormal ShortestModule IsShortestModulePrefix input.now count.old count.new result }

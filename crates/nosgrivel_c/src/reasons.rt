@@ -55,6 +55,9 @@ pub const NOT_MINIMAL: u32 = 17;
 /// A part decodes, but a number or a form in it isn't minimally encoded.
 pub const LONG_FORM: u32 = 18;
 
+/// The reason wasn't confirmed.
+pub const UNEXPLAINED: u32 = 19;
+
 /// A reason as numbers.
 #[derive(Clone, Copy)]
 pub(crate) struct FlatReason {
@@ -122,6 +125,7 @@ impl FlatReason {
             Reason::StrayDelimiter => FlatReason::with(STRAY_DELIMITER, 0, 0),
             Reason::NotAModule => FlatReason::with(NOT_A_MODULE, 0, 0),
             Reason::LongForm => FlatReason::with(LONG_FORM, 0, 0),
+            Reason::Unexplained => FlatReason::with(UNEXPLAINED, 0, 0),
             other => FlatReason::of_numbers(other),
         }
     }
@@ -183,6 +187,7 @@ impl FlatReason {
             STRAY_DELIMITER => Some(Reason::StrayDelimiter),
             NOT_A_MODULE => Some(Reason::NotAModule),
             LONG_FORM => Some(Reason::LongForm),
+            UNEXPLAINED => Some(Reason::Unexplained),
             _ => self.reason_of_numbers(),
         }
     }
@@ -256,6 +261,8 @@ fn construct_code(construct: Construct) -> u32 {
         Construct::SectionId => 30,
         Construct::SubsectionId => 31,
         Construct::Field => 32,
+        Construct::AbstractHeapType => 33,
+        Construct::HandlerClause => 34,
     }
 }
 
@@ -294,6 +301,8 @@ fn construct_of(code: u32) -> Option<Construct> {
         30 => Construct::SectionId,
         31 => Construct::SubsectionId,
         32 => Construct::Field,
+        33 => Construct::AbstractHeapType,
+        34 => Construct::HandlerClause,
         _ => return None,
     })
 }

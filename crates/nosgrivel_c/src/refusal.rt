@@ -93,6 +93,7 @@ impl FlatRefusal {
         Some(Refusal {
             at: usize::try_from(self.at).ok()?,
             offset: usize::try_from(self.offset).ok()?,
+            body: None,
             section: self.section_place(),
             item: u32::try_from(self.item).ok(),
             local_group: u32::try_from(self.local_group).ok(),

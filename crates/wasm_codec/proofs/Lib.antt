@@ -22,3 +22,4 @@ pub mod RewriterLaws
 pub mod BodyRewriting
 pub mod ListRewriting
 pub mod RawRewriting
+pub mod RefusalNumbers

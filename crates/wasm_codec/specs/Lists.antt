@@ -1,5 +1,5 @@
 -- Lists: a count, then the items (WebAssembly Core 3.0, Lists).
-use Rattle.std.specs.Prelude.{◌≡◌, ℕ, ◌≤◌, ◌⊎◌, Bool, List, [], ◌++◌, length}
+use Rattle.std.specs.Prelude.{◌≡◌, ℕ, ◌+◌, ◌-◌, ◌<◌, ◌≤◌, ◌⊎◌, Bool, List, [], ◌++◌, length, Option, Some, None, Result, Ok, Err}
 use Rattle.std.specs.List.{flat_map}
 use Rattle.wasm_codec.specs.formats.Grammar.{Grammar, Joined, Counted}
 use Rattle.wasm_codec.specs.Reading.{PlainReader, plain_counted_at}
@@ -7,6 +7,9 @@ use Rattle.wasm_codec.specs.formats.Numbers.{EncodesU32}
 use Rattle.wasm_codec.specs.Leb128.{unsigned_leb128}
 use Rattle.wasm_codec.specs.formats.Combinators.{Format, u32, minimal_if}
 use Rattle.wasm_codec.specs.Lawful.{plain}
+use Rattle.wasm_codec.specs.declared.reader.cursor.Fault.{Fault}
+use Rattle.wasm_codec.specs.declared.reader.cursor.Fault.TheVariants as faults
+use Rattle.wasm_codec.specs.declared.reader.refusal.Refusal.{Refusal}
 
 -- The bytes encode this list: a count, then as many items.
 abbrev pub EncodesList : {A : Type 0} → Grammar A → Grammar (List A)
@@ -52,3 +55,44 @@ list_minimal_if_at strict F = plain_counted_at (plain (minimal_if strict u32).at
 -- The prefix is empty, or a count and at most as many items, all minimally encoded if `strict`.
 abbrev pub IsListPrefixMinimalIf : {A : Type 0} → Bool → Format A → List ℕ → Type 0
 IsListPrefixMinimalIf strict F = IsCountedPrefix (minimal_if strict u32).Encodes (minimal_if strict F).Encodes
+
+-- ---- the numbers in a refusal
+
+-- The bytes before this offset are a count and this number of items.
+pub record HasItemsBefore {V : Type 0} (Count : Grammar ℕ) (G : Grammar V) (bytes : List ℕ) (count index at : ℕ) : Type 0 where
+  pub head : List ℕ
+  pub back : List ℕ
+  pub rest : List ℕ
+  pub items : List V
+  pub parts : bytes ≡ head ++ (back ++ rest)
+  pub at_is : length head + length back ≡ at
+  pub counted : Count head count
+  pub few : length items ≤ count
+  pub encoded : Joined G back items
+  pub index_is : length items ≡ index
+
+-- If the refusal names an item, exactly as many items stand before it, fewer than the count. If it names none, it is at
+-- the count, or after the whole list.
+abbrev pub IsCountedAt : {V : Type 0} → Grammar ℕ → Grammar V → List ℕ → ℕ → Option ℕ → Type 0
+IsCountedAt Count G bytes at (Some index) = (count : ℕ) × (index < count) × HasItemsBefore Count G bytes count index at
+IsCountedAt Count G bytes at None = (at ≡ 0) ⊎ ((count : ℕ) × HasItemsBefore Count G bytes count count at)
+
+-- The item that the refusal names counts the items before it; if `strict`, all of them are minimally encoded.
+abbrev pub CountsItems : {V : Type 0} → Bool → Format V → List ℕ → Refusal → Type 0
+CountsItems strict F bytes refusal = IsCountedAt (minimal_if strict u32).Encodes (minimal_if strict F).Encodes bytes refusal.at refusal.item
+
+-- The same of the fault of a call that reads a list; if it reads the list, all items stand before the bytes left.
+abbrev pub CountsRead : {X V : Type 0} → Bool → Format V → List ℕ → List ℕ → Result X Fault → Type 0
+CountsRead strict F old new (Ok items) = IsCountedAt (minimal_if strict u32).Encodes (minimal_if strict F).Encodes old (length old - length new) None
+CountsRead strict F old new (Err (faults.Malformed m)) = IsCountedAt (minimal_if strict u32).Encodes (minimal_if strict F).Encodes old (length old - length new) m.item
+CountsRead strict F old new (Err faults.Memory) = Unit {0}
+
+-- The bytes before this offset are this number of items, without a count.
+pub record HasJoinedBefore {V : Type 0} (G : Grammar V) (bytes : List ℕ) (index at : ℕ) : Type 0 where
+  pub prefix : List ℕ
+  pub rest : List ℕ
+  pub items : List V
+  pub parts : bytes ≡ prefix ++ rest
+  pub at_is : length prefix ≡ at
+  pub encoded : Joined G prefix items
+  pub index_is : length items ≡ index

@@ -7,6 +7,8 @@ use Rattle.wasm_codec.specs.declared.reader.ReadError.{ReadError}
 use Rattle.wasm_codec.specs.declared.reader.ReadError.TheVariants as errors
 use Rattle.wasm_codec.specs.declared.reader.DecodeError.{DecodeError}
 use Rattle.wasm_codec.specs.declared.reader.DecodeError.TheVariants as decode_errors
+use Rattle.wasm_codec.specs.declared.reader.refusal.Refusal.{Refusal}
+use Rattle.wasm_codec.specs.declared.reader.malformed.Reason.TheVariants as reasons
 
 -- The error for a fault in the item that begins at this offset.
 abbrev pub error_of : Fault → ℕ → ReadError
@@ -22,6 +24,21 @@ read_error_of (decode_errors.Malformed refusal) = errors.Refused refusal.at
 abbrev pub offsets_of : DecodeError → Option (ℕ × ℕ)
 offsets_of decode_errors.Memory = None
 offsets_of (decode_errors.Malformed refusal) = Some (refusal.at, refusal.offset)
+
+-- The number of the item that the error names.
+abbrev pub item_of : DecodeError → Option ℕ
+item_of decode_errors.Memory = None
+item_of (decode_errors.Malformed refusal) = refusal.item
+
+-- This number, if the error can name an item: `Memory` can't.
+abbrev pub named_item : DecodeError → ℕ → Option ℕ
+named_item decode_errors.Memory index = None
+named_item (decode_errors.Malformed refusal) index = Some index
+
+-- If the error names a section, there are this many sections before it.
+abbrev pub IsNumbered : ℕ → DecodeError → Type 0
+IsNumbered number decode_errors.Memory = Unit {0}
+IsNumbered number (decode_errors.Malformed refusal) = IfSome refusal.section (λ place. place.number ≡ number)
 
 -- The reason is given for bytes in the part that is refused, which lies in an input of this length.
 abbrev pub LiesIn : ℕ → DecodeError → Type 0
@@ -53,6 +70,37 @@ HoldsAtRefusal (errors.Refused at) P = P at
 abbrev pub IfRefused : {X : Type 0} → Result X ReadError → (ℕ → Type 0) → Type 0
 IfRefused r P = IfErr r (λ e. HoldsAtRefusal e P)
 
+-- The same place, without a reason.
+abbrev pub place_alone : Refusal → Refusal
+place_alone refusal = record {
+  at = refusal.at;
+  offset = refusal.offset;
+  body = refusal.body;
+  section = refusal.section;
+  item = refusal.item;
+  local_group = refusal.local_group;
+  instruction = refusal.instruction;
+  reason = reasons.Unexplained;
+}
+
+-- The place that the error names. `Memory` names none.
+abbrev pub place_of_error : DecodeError → Option Refusal
+place_of_error decode_errors.Memory = None
+place_of_error (decode_errors.Malformed refusal) = Some (place_alone refusal)
+
+-- If the error is `Malformed`, the property holds of its place.
+abbrev pub HoldsOfRefusal : DecodeError → (Refusal → Type 0) → Type 0
+HoldsOfRefusal error P = IfSome (place_of_error error) P
+
+-- The place that the call names if it refuses its input.
+abbrev pub refused_place : {X : Type 0} → Result X DecodeError → Option Refusal
+refused_place (Ok x) = None
+refused_place (Err e) = place_of_error e
+
+-- If the call refuses its input, the property holds of the place that it names.
+abbrev pub IfMalformed : {X : Type 0} → Result X DecodeError → (Refusal → Type 0) → Type 0
+IfMalformed r P = IfSome (refused_place r) P
+
 -- The longest prefix of the bytes that is `Whole` has this length.
 pub record IsLongestPrefix (Whole : List ℕ → Type 0) (bytes : List ℕ) (len : ℕ) : Type 0 where
   pub prefix : List ℕ
@@ -83,6 +131,12 @@ IsMalformed (faults.Malformed m) = Unit {0}
 abbrev pub FailsMalformed : {X : Type 0} → Result X Fault → Type 0
 FailsMalformed (Ok x) = ⊥
 FailsMalformed (Err fault) = IsMalformed fault
+
+-- If the call fails with `Malformed`, the fault names this item.
+abbrev pub NamesItem : {X : Type 0} → Option ℕ → Result X Fault → Type 0
+NamesItem item (Ok x) = Unit {0}
+NamesItem item (Err (faults.Malformed m)) = m.item ≡ item
+NamesItem item (Err faults.Memory) = Unit {0}
 
 -- The property holds unless memory ran out.
 abbrev pub UnlessMemory : {X : Type 0} → Result X Fault → Type 0 → Type 0

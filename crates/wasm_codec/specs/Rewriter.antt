@@ -1,5 +1,5 @@
 -- Rewriting in place: minimal encodings of what was read, in front of the bytes that are left.
-use Rattle.std.specs.Prelude.{◌≡◌, ℕ, zero, suc, ◌+◌, ◌<◌, ◌%◌, ◌-◌, Bool, false, List, [], ◌∷◌, ◌++◌, length, take, drop, set, Option, Some, None, Result, Ok, Err}
+use Rattle.std.specs.Prelude.{◌≡◌, ℕ, zero, suc, ◌+◌, ◌<◌, ◌≤◌, ◌%◌, ◌-◌, Bool, false, List, [], ◌∷◌, ◌++◌, length, take, drop, set, Option, Some, None, Result, Ok, Err}
 use Rattle.wasm_codec.specs.declared.reader.cursor.Fault.{Fault}
 use Rattle.wasm_codec.specs.declared.reader.cursor.Fault.TheVariants as faults
 use Rattle.wasm_codec.specs.Reading.{◌>>=◌}
@@ -9,8 +9,8 @@ use Rattle.std.specs.Global.{Vec}
 use Rattle.wasm_codec.specs.declared.reader.ReadError.{ReadError}
 use Rattle.wasm_codec.specs.declared.reader.ReadError.TheVariants as errors
 use Rattle.wasm_codec.specs.declared.reader.malformed.Stop.{Stop}
-use Rattle.wasm_codec.specs.Outcomes.{IsLongestPrefix, IsNormalForm, IsMalformed}
-use Rattle.wasm_codec.specs.Lists.{EncodesList, IsListPrefix, items_bytes}
+use Rattle.wasm_codec.specs.Outcomes.{EncodesSome, IsLongestPrefix, IsNormalForm, IsMalformed}
+use Rattle.wasm_codec.specs.Lists.{HasJoinedBefore, EncodesList, IsListPrefix, items_bytes}
 use Rattle.wasm_codec.specs.formats.Grammar.{Joined}
 use Rattle.wasm_codec.specs.Lawful.{plain}
 use Rattle.wasm_codec.specs.formats.Combinators.{Format}
@@ -130,6 +130,21 @@ pub record StopsAt {V : Type 0} (F : Format V) (bytes : List ℕ) (left : ℕ) :
 abbrev pub RewritesAll : {V : Type 0} → Format V → Rewriting → Rewriting → Result (Unit {0}) Stop → Type 0
 RewritesAll F old new (Ok done) = (rewriting_after (to_end F) old ≡ Some new) × (new.place.left ≡ [])
 RewritesAll F old new (Err stop) = StopsAt F old.place.left stop.left × (((to_end F).at old.place ≡ None) × IsMalformed stop.fault)
+
+-- If an item is malformed, the bytes before the last `left` are the longest prefix that decodes, and there are such.
+pub record StopsBehind {V : Type 0} (F : Format V) (bytes : List ℕ) (stop : Stop) : Type 0 where
+  pub prefix : IsMalformed stop.fault → IsLongestPrefix (EncodesSome (Joined F.Encodes)) bytes (length bytes - stop.left)
+  pub some : IsMalformed stop.fault → 0 < stop.left
+  pub within : IsMalformed stop.fault → stop.left ≤ length bytes
+
+-- If an item is malformed, this number of items stands before it.
+abbrev pub CountsPassed : {V : Type 0} → Format V → List ℕ → Stop → Type 0
+CountsPassed F bytes stop = IsMalformed stop.fault → HasJoinedBefore F.Encodes bytes stop.passed (length bytes - stop.left)
+
+-- The same result, with the fault alone.
+abbrev pub faulted : {X : Type 0} → Result X Stop → Result X Fault
+faulted (Ok x) = Ok x
+faulted (Err stop) = Err stop.fault
 
 -- The bytes encode no list, and this is the length of their longest whole prefix.
 pub record RefusesList {V : Type 0} (F : Format V) (bytes : List ℕ) (at : ℕ) : Type 0 where

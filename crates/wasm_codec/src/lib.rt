@@ -2,7 +2,6 @@
 //! and the rewriter replaces their encodings by minimal ones in place.
 #![tactic(auto)]
 
-pub mod decode;
 pub mod encode;
 pub mod reader;
 pub mod rewriter;

@@ -1,10 +1,10 @@
 //! The error of readers, and the cursor that they read from.
 //!
 //! A reader decodes all of its input: trailing bytes are malformed.
-ghost use Rattle.std.specs.Prelude.{◌≡◌, ◌≤◌};
+ghost use Rattle.std.specs.Prelude.{◌≡◌, ◌≤◌, ◌-◌, None};
 ghost use Rattle.wasm_codec.specs.declared.reader.ReadError.TheVariants.{Memory, Refused};
 ghost use Rattle.wasm_codec.specs.declared.reader.DecodeError.TheVariants as decode_errors;
-ghost use Rattle.wasm_codec.specs.Outcomes.{LiesIn, as_read, error_of, offsets_of, read_error_of};
+ghost use Rattle.wasm_codec.specs.Outcomes.{LiesIn, IsNumbered, as_read, error_of, item_of, named_item, offsets_of, read_error_of};
 
 pub mod cursor;
 pub mod malformed;
@@ -12,7 +12,7 @@ pub mod names;
 pub mod refusal;
 
 use crate::reader::cursor::Fault;
-use crate::reader::malformed::Malformed;
+use crate::reader::malformed::{Malformed, Stop};
 use crate::reader::refusal::{Refusal, SectionPlace};
 use std::alloc::{AllocError, AllocFailed};
 use thiserror::Error;
@@ -74,14 +74,24 @@ impl DecodeError {
     pub fn refused(malformed: &Malformed, at: usize, len: usize) -> DecodeError
         ensures error { read_error_of result ≡ Refused at }
         ensures place { at ≤ len → LiesIn len result }
+        ensures item { item_of result ≡ malformed.now.item }
     {
         DecodeError::Malformed(Refusal::new(malformed, at, len))
+    }
+
+    /// Returns the error for a stop at an item, in `len` bytes.
+    pub fn stopped(stop: Stop, len: usize) -> DecodeError
+        ensures error { read_error_of result ≡ error_of stop.fault (len - stop.left) }
+        ensures place { LiesIn len result }
+    {
+        DecodeError::new(stop.fault, len.saturating_sub(stop.left), len)
     }
 
     /// Returns the same error, in the item with this index.
     pub fn in_item(self, index: u32) -> DecodeError
         ensures error { read_error_of result ≡ read_error_of self }
         ensures place { offsets_of result ≡ offsets_of self }
+        ensures item { item_of result ≡ named_item self index }
     {
         match self {
             DecodeError::Memory => DecodeError::Memory,
@@ -92,10 +102,41 @@ impl DecodeError {
         }
     }
 
+    /// Returns the same error, in no item.
+    pub fn outside_items(self) -> DecodeError
+        ensures error { read_error_of result ≡ read_error_of self }
+        ensures place { offsets_of result ≡ offsets_of self }
+        ensures item { item_of result ≡ None }
+    {
+        match self {
+            DecodeError::Memory => DecodeError::Memory,
+            DecodeError::Malformed(refusal) => DecodeError::Malformed(Refusal {
+                item: None,
+                ..refusal
+            }),
+        }
+    }
+
+    /// Returns the same error, in the section with this id and this number of sections before it.
+    pub fn in_section(self, number: usize, id: u8) -> DecodeError
+        ensures error { read_error_of result ≡ read_error_of self }
+        ensures place { offsets_of result ≡ offsets_of self }
+        ensures number { IsNumbered number result }
+    {
+        match self {
+            DecodeError::Memory => DecodeError::Memory,
+            DecodeError::Malformed(refusal) => DecodeError::Malformed(Refusal {
+                section: Some(SectionPlace { number, id }),
+                ..refusal
+            }),
+        }
+    }
+
     /// Returns the same error, with the number of sections before it.
     pub fn numbered(self, number: usize) -> DecodeError
         ensures error { read_error_of result ≡ read_error_of self }
         ensures place { offsets_of result ≡ offsets_of self }
+        ensures number { IsNumbered number result }
     {
         match self {
             DecodeError::Memory => DecodeError::Memory,

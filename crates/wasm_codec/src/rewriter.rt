@@ -1,5 +1,5 @@
 //! `Rewriter`, which replaces encodings by minimal ones in place.
-ghost use Rattle.std.specs.Prelude.{◌≡◌, Bool, ◌++◌, ◌+◌, ◌-◌, ◌<◌, ◌≤◌, ◌^◌, [], length, take, drop, true, false, Some, vec_len, pos, if◌then◌else◌, IfOk, IfErr};
+ghost use Rattle.std.specs.Prelude.{◌≡◌, Bool, ◌++◌, ◌+◌, ◌-◌, ◌<◌, ◌≤◌, ◌^◌, [], length, take, drop, true, false, Some, None, vec_len, pos, if◌then◌else◌, IfOk, IfErr};
 ghost use lib.Seq.{paste};
 ghost use Rattle.wasm_codec.specs.formats.Grammar.{IsBytes};
 ghost use Rattle.wasm_codec.specs.Places.{Place, place, Sees};
@@ -29,6 +29,32 @@ pub struct Body {
     size: u32,
     /// Number of bytes left after it.
     behind: usize,
+    /// Number of bytes from the size of the body around it up to the end of the input. `None` if there is no such body.
+    around: Option<usize>,
+}
+
+/// The start of a part that is rewritten.
+#[derive(Clone, Copy)]
+pub struct Start {
+    /// Its offset in the input.
+    position: usize,
+}
+
+/// What a part is that was rewritten.
+#[derive(Clone, Copy)]
+pub enum Part {
+    /// A size, a count, or the number that a body begins with.
+    Number,
+    /// The item of a list with this index.
+    Item(u32),
+    /// An instruction.
+    Instruction,
+    /// A group of locals.
+    LocalGroup,
+    /// The list of groups of locals.
+    Locals,
+    /// A code body.
+    Code,
 }
 
 /// A list of bytes, rewritten in place from its start on.
@@ -43,6 +69,14 @@ pub struct Rewriter {
     position: usize,
     end: usize,
     shortest: bool,
+    /// Number of bytes from the size of the innermost body up to the end of the input. `None` outside of bodies.
+    body: Option<usize>,
+    /// One more than the offset of the first bytes that weren't minimally encoded. 0 means that there are none.
+    first_longer: usize,
+    /// The first part that isn't minimally encoded.
+    longer: Option<Malformed>,
+    /// Whether this part is one of a code body.
+    in_code: bool,
 }
 
 impl Model for Rewriter {
@@ -69,6 +103,10 @@ impl Rewriter {
             position: 0,
             end,
             shortest: true,
+            body: None,
+            first_longer: 0,
+            longer: None,
+            in_code: false,
         }
     }
 
@@ -83,6 +121,10 @@ impl Rewriter {
             position,
             end: _,
             shortest: _,
+            body: _,
+            first_longer: _,
+            longer: _,
+            in_code: _,
         } = self;
         let end = move_run(&mut bytes, written, from, position);
         bytes.truncate(end);
@@ -102,17 +144,24 @@ impl Rewriter {
         self.bytes.len() - self.position
     }
 
+    /// Returns the number of bytes from the size of the innermost body up to the end of the input. `None` outside of bodies.
+    pub fn body_start(&self) -> Option<usize> {
+        self.body
+    }
+
     /// Returns the fault at the next byte, for this reason.
     #[cold]
-    pub fn malformed(&self, reason: Reason) -> Malformed {
-        Malformed::new(reason, self.to_end())
+    pub fn malformed(&self, reason: Reason) -> Malformed
+        ensures item { result.item ≡ None }
+    {
+        Malformed::new(reason, self.to_end()).in_body(self.body)
     }
 
     /// Returns the fault that the bytes end before or inside this part.
     #[cold]
     pub fn ends_in(&self, construct: Construct) -> Malformed {
         let reason = Reason::UnexpectedEnd { construct };
-        Malformed::new(reason, self.bytes.len() - self.end)
+        Malformed::new(reason, self.bytes.len() - self.end).in_body(self.body)
     }
 
     /// Returns the fault that the byte just read isn't this part.
@@ -124,8 +173,69 @@ impl Rewriter {
 
     /// Returns the fault that bytes follow after the last part.
     #[cold]
-    pub fn trailing(&self) -> Malformed {
+    pub fn trailing(&self) -> Malformed
+        ensures item { result.item ≡ None }
+    {
         self.malformed(Reason::TrailingBytes { count: self.len() })
+    }
+
+    /// Returns the first part that isn't minimally encoded, and where it begins. `None` means that there is none.
+    pub fn longer(&self) -> Option<Malformed> {
+        self.longer
+    }
+
+    /// Returns the start of the part that comes next.
+    #[inline(always)]
+    pub fn start(&self) -> Start {
+        Start {
+            position: self.position,
+        }
+    }
+
+    /// Ends a part. If it is the first that isn't minimally encoded, its place is kept.
+    #[inline(always)]
+    pub fn end_part(&mut self, start: &Start, part: Part)
+        ensures { self.new ≡ self.old }
+    {
+        if start.position < self.first_longer {
+            self.keep_place(start, part);
+        }
+    }
+
+    /// Keeps the place of the first part that isn't minimally encoded. An outer part replaces an inner one, except in code.
+    #[cold]
+    #[inline(never)]
+    fn keep_place(&mut self, start: &Start, part: Part)
+        ensures { self.new ≡ self.old }
+    {
+        let longer = self.longer_part(start, part);
+        self.longer = Some(longer);
+        if let Part::LocalGroup | Part::Code = part {
+            self.in_code = true;
+        }
+    }
+
+    /// Returns the place of a part that isn't minimally encoded, or that of the part of it which is named.
+    ///
+    /// As much was written before the part as was read, because all of it was minimally encoded.
+    fn longer_part(&self, start: &Start, part: Part) -> Malformed {
+        let reason = Reason::NotMinimal {
+            bytes: self.position.saturating_sub(start.position),
+            minimal: self.written_len().saturating_sub(start.position),
+        };
+        let left = self.bytes.len().saturating_sub(start.position);
+        let whole = Malformed::new(reason, left);
+        let inner = self.longer.unwrap_or(whole);
+        match part {
+            Part::Number => whole,
+            Part::Item(index) if self.in_code => inner.in_item(index),
+            Part::Item(index) => whole.in_item(index),
+            Part::Instruction => whole.in_instruction(left),
+            Part::LocalGroup if self.longer.is_some() => inner,
+            Part::LocalGroup => Malformed::new(Reason::LongForm, left),
+            Part::Locals => inner.in_locals(),
+            Part::Code => inner,
+        }
     }
 
     /// Tells the proof that each item left is a byte. The call does nothing.
@@ -146,13 +256,13 @@ impl Rewriter {
 
     /// Returns a cursor over the bytes left.
     #[inline(always)]
-    fn cursor(&self) -> Cursor<'_>
+    pub fn cursor(&self) -> Cursor<'_>
         ensures place { result ≡ place true self.now.place.left }
         ensures bytes { IsBytes self.now.place.left }
     {
-        place_of(
-            &self.bytes[self.position..self.end],
+        place_of(&self.bytes[self.position..self.end]).within(
             self.bytes.len() - self.end,
+            self.body,
         )
     }
 
@@ -179,7 +289,11 @@ impl Rewriter {
                 more,
             } => {
                 let kept = kept_digits(&self.left()[start..], signed, more);
-                self.shorten(start + kept, start + more + 1);
+                if self.shortest {
+                    self.shorten_first(start + kept, start + more + 1);
+                } else {
+                    self.shorten_more(start + kept, start + more + 1);
+                }
             }
         }
     }
@@ -187,6 +301,44 @@ impl Rewriter {
     /// Shortens the next `count` bytes to the first `kept` of them, and clears the high bit of the last.
     #[inline(always)]
     fn shorten(&mut self, kept: usize, count: usize)
+        requires some { 0 < kept }
+        requires shorter { kept ≤ count }
+        requires within { count ≤ length self.old.place.left }
+        ensures { self.new ≡ shortened kept count self.old }
+    {
+        self.note_first(self.position);
+        self.shorten_more(kept, count);
+    }
+
+    /// Shortens the next bytes as `shorten` does, and keeps their place: they are the first instruction, or the first item
+    /// of a list, that isn't minimally encoded.
+    #[cold]
+    #[inline(never)]
+    fn shorten_first(&mut self, kept: usize, count: usize)
+        requires some { 0 < kept }
+        requires shorter { kept ≤ count }
+        requires within { count ≤ length self.old.place.left }
+        ensures { self.new ≡ shortened kept count self.old }
+    {
+        let start = self.start();
+        self.note_first(start.position);
+        self.shorten_more(kept, count);
+        self.keep_place(&start, Part::Instruction);
+    }
+
+    /// Records that the bytes at this offset aren't minimally encoded, if no others were.
+    #[inline(always)]
+    fn note_first(&mut self, offset: usize)
+        ensures { self.new ≡ self.old }
+    {
+        if self.first_longer == 0 {
+            self.first_longer = offset.saturating_add(1);
+        }
+    }
+
+    /// Shortens the next bytes as `shorten` does. Keeps no place.
+    #[inline(always)]
+    fn shorten_more(&mut self, kept: usize, count: usize)
         requires some { 0 < kept }
         requires shorter { kept ≤ count }
         requires within { count ≤ length self.old.place.left }
@@ -212,6 +364,15 @@ impl Rewriter {
 
     /// Removes `count` written bytes at offset `mark`, which a minimal encoding doesn't have.
     pub fn cut_out(&mut self, mark: usize, count: usize)
+        requires { mark + count ≤ length self.old.done }
+        ensures { self.new ≡ without mark count self.old }
+    {
+        self.note_first(mark);
+        self.remove(mark, count);
+    }
+
+    /// Removes written bytes as `cut_out` does. Keeps no place.
+    fn remove(&mut self, mark: usize, count: usize)
         requires { mark + count ≤ length self.old.done }
         ensures { self.new ≡ without mark count self.old }
     {
@@ -273,13 +434,16 @@ impl Rewriter {
         let len = self.len();
         if len < size as usize {
             let reason = Reason::SizeTooLarge { size, left: len };
-            return Err(Fault::Malformed(Malformed::new(reason, start)));
+            return Err(Fault::Malformed(Malformed::new(reason, start).in_body(self.body)));
         }
         self.limit(size as usize);
+        let around = self.body;
+        self.body = Some(start);
         Ok(Body {
             mark,
             size,
             behind: len - size as usize,
+            around,
         })
     }
 
@@ -297,6 +461,14 @@ impl Rewriter {
             self.put_size(body.mark, digits);
         }
         self.widen(body.behind);
+        self.leave_body(body.around);
+    }
+
+    /// Records the body around the one that was left.
+    fn leave_body(&mut self, around: Option<usize>)
+        ensures { self.new ≡ self.old }
+    {
+        self.body = around;
     }
 
     /// Rewrites a u32 and returns it (Core 3.0, Integers).
@@ -477,16 +649,16 @@ fn move_down(bytes: &mut [u8], start: usize, end: usize, dest: usize)
 pub fn are_bytes(bytes: &[u8])
     ensures { IsBytes bytes.now }
 {
-    let _place = place_of(bytes, 0);
+    let _place = place_of(bytes);
 }
 
 /// Returns a cursor at the start of the bytes.
 #[inline(always)]
-fn place_of(bytes: &[u8], behind: usize) -> Cursor<'_>
+fn place_of(bytes: &[u8]) -> Cursor<'_>
     ensures place { result ≡ place true bytes.now }
     ensures bytes { IsBytes bytes.now }
 {
-    Cursor::at(bytes, 0, true, behind)
+    Cursor::at(bytes, 0, true)
 }
 
 /// Returns the number of digits in a minimal encoding whose last digit represents a number below `top`.

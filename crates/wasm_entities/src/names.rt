@@ -30,7 +30,9 @@ pub fn read_name<'a>(cursor: &mut Cursor<'a>) -> Result<&'a str, Fault>
     let behind = cursor.to_end();
     match str::from_utf8(bytes) {
         Ok(text) => Ok(text),
-        Err(error) => Err(Fault::Malformed(invalid_utf8(&error, bytes.len(), behind))),
+        Err(error) => Err(Fault::Malformed(invalid_utf8(&error, bytes.len(), behind).in_body(Some(
+            start,
+        )))),
     }
 }
 
@@ -66,7 +68,7 @@ impl RewritableBody for Text {
                 &error,
                 len,
                 to_end.saturating_sub(len),
-            ))),
+            ).in_body(rewriter.body_start()))),
         }
     }
 }

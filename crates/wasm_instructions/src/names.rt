@@ -1,11 +1,12 @@
 //! Names of instructions (Core 3.0, Text Format, Instructions).
-ghost use Rattle.std.specs.Prelude.{◌≡◌, IfSome, is_some, true};
+ghost use Rattle.std.specs.Prelude.{◌≡◌, IfErr, IfOk, IfSome, is_some, true};
+ghost use Rattle.wasm_instructions.specs.Instructions.{IsCall};
 ghost use Rattle.wasm_instructions.specs.formats.Opcodes.{opcode_kind};
 
 mod opcodes;
 
 use crate::names::opcodes::{AFTER_FB, AFTER_FC, AFTER_FD, AFTER_FE, WITHOUT_PREFIX};
-use crate::table::{Opcode, Prefix};
+use crate::table::{Call, Kind, Opcode, Operands, Prefix};
 
 /// Length of the longest table of names.
 const MOST_OPCODES: u32 = AFTER_FD.len() as u32;
@@ -78,4 +79,65 @@ fn named_after(prefix: Prefix, name: &str) -> Option<Opcode>
         }
     }
     None
+}
+
+/// Returns the first opcode of this name whose operands are of this kind.
+fn named_with(name: &str, kind: Kind) -> Option<Opcode> {
+    let prefixes = [Prefix::None, Prefix::Fb, Prefix::Fc, Prefix::Fd, Prefix::Fe];
+    for prefix in prefixes {
+        if let Some(opcode) = named_after_with(prefix, name, kind) {
+            return Some(opcode);
+        }
+    }
+    None
+}
+
+/// Returns the first opcode with this prefix and name whose operands are of this kind.
+fn named_after_with(prefix: Prefix, name: &str, kind: Kind) -> Option<Opcode> {
+    for number in 0..MOST_OPCODES {
+        let opcode = Opcode { prefix, number };
+        match opcode_name(opcode) {
+            Some(found) if found == name && opcode.kind() == Some(kind) => return Some(opcode),
+            _ => {}
+        }
+    }
+    None
+}
+
+/// Calls by name.
+impl Call {
+    /// Returns the call of the instruction that has this name in the text format, with these operands (Core 3.0, Text
+    /// Format, Instructions).
+    ///
+    /// Fails with the operands if no instruction of this name has operands of their kind, or if an alignment is 64 or
+    /// more. Of `ref.test`, `ref.cast` and `ref.cast_desc_eq`, returns the form whose type can't be null. Each call goes
+    /// through the table.
+    ///
+    /// # Examples
+    ///
+    /// ```
+    /// # use wasm_encoder::{Call, Operands};
+    /// let get = Call::named("local.get", Operands::Index(2));
+    /// match get.as_ref().map(|call| call.name()) {
+    ///     Ok("local.get" | "local.tee") => {}
+    ///     _ => panic!(rt; "another instruction"),
+    /// }
+    /// assert!(rt; Call::named("local.get", Operands::None).is_err());
+    /// ```
+    pub fn named(name: &str, operands: Operands) -> Result<Call, Operands>
+        ensures ok { IfOk result (λ call. call.operands ≡ operands) }
+        ensures fits { IfOk result (λ call. IsCall call.op operands) }
+        ensures err { IfErr result (λ given. given ≡ operands) }
+    {
+        match named_with(name, operands.kind()) {
+            Some(opcode) => Call::new(opcode, operands),
+            None => Err(operands),
+        }
+    }
+
+    /// Returns the name of the instruction in the text format, such as `local.get` (Core 3.0, Text Format,
+    /// Instructions).
+    pub fn name(&self) -> &'static str {
+        opcode_name(self.op()).unwrap_or("")
+    }
 }

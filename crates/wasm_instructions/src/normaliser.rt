@@ -16,7 +16,7 @@ use std::alloc::Global;
 use wasm_codec::reader::cursor::Fault;
 use wasm_codec::reader::malformed::{Construct, Malformed};
 use wasm_codec::reader::{ReadError, without_reason};
-use wasm_codec::rewriter::{Rewriter, Scanned};
+use wasm_codec::rewriter::{Part, Rewriter, Scanned};
 use wasm_lists::rewriting::{Joinable, Rewritable, rewrite_items_to_end};
 
 /// Returns the minimal encoding of a list of instructions (Core 3.0, Instructions).
@@ -122,10 +122,13 @@ fn rewrite_call(rewriter: &mut Rewriter) -> Result<(), Fault>
 fn rewrite_located_call(rewriter: &mut Rewriter) -> Result<(), Fault>
     ensures rewrites { Rewrites instruction rewriter.old rewriter.new result }
 {
-    let start = rewriter.to_end();
+    let (start, to_end) = (rewriter.start(), rewriter.to_end());
     match rewrite_call(rewriter) {
-        Ok(()) => Ok(()),
-        Err(Fault::Malformed(malformed)) => Err(Fault::Malformed(malformed.in_instruction(start))),
+        Ok(()) => {
+            rewriter.end_part(&start, Part::Instruction);
+            Ok(())
+        }
+        Err(Fault::Malformed(malformed)) => Err(Fault::Malformed(malformed.in_instruction(to_end))),
         Err(Fault::Memory) => Err(Fault::Memory),
     }
 }

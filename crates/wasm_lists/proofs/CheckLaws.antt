@@ -1,22 +1,27 @@
 -- What is rewritten only where it is in its shortest encoding: items, and the count before them.
-use Rattle.std.proofs.Common.{◌≡◌, ℕ, ◌+◌, ◌-◌, ◌<◌, ◌≤◌, true, false, List, [], ◌++◌, length, Option, Some, None, Err, refl, sym, ap, ◌∙◌, append_assoc, length-append, inl, inr, arith}
+use Rattle.std.proofs.Common.{◌≡◌, ℕ, ◌+◌, ◌-◌, ◌<◌, ◌≤◌, true, false, List, [], ◌++◌, length, Option, Some, None, Result, Ok, Err, IfOk, IfErr, refl, sym, ap, subst, ◌∙◌, append_assoc, length-append, inl, inr, arith}
 use Rattle.std.specs.Prelude.{is_some}
-use Rattle.wasm_codec.specs.formats.Grammar.{Grammar, IsBytes}
-use Rattle.wasm_codec.specs.Outcomes.{HoldsAtRefusal, IsLongestPrefix, IsNormalForm, EncodesSome}
+use Rattle.wasm_codec.specs.formats.Grammar.{Grammar, IsBytes, Joined, TakesBytes}
+use Rattle.wasm_codec.specs.Outcomes.{HoldsAtRefusal, HoldsOfRefusal, IsLongestPrefix, IsNormalForm, EncodesSome}
 use Rattle.wasm_codec.specs.Lawful.{IsLawful}
-use Rattle.wasm_codec.specs.Lists.{EncodesList, IsListPrefix, IsCountedPrefix, ListMinimalIf, IsListPrefixMinimalIf, items_bytes}
+use Rattle.wasm_codec.specs.Lists.{CountsItems, HasItemsBefore, IsCountedAt, EncodesList, IsListPrefix, IsCountedPrefix, ListMinimalIf, IsListPrefixMinimalIf, items_bytes}
 use Rattle.wasm_codec.specs.formats.Numbers.{EncodesU32}
 use Rattle.wasm_codec.specs.Places.{Place, place, keeps}
-use Rattle.wasm_codec.specs.Rewriter.{Rewriting, rewriting_after, Rewrites}
+use Rattle.wasm_codec.specs.Rewriter.{Rewriting, rewriting, rewriting_after, Rewrites, RewritesAll, StopsAt, StopsBehind}
 use Rattle.wasm_codec.specs.declared.reader.cursor.Fault.{Fault}
 use Rattle.wasm_codec.specs.declared.reader.cursor.Fault.TheVariants as faults
 use Rattle.wasm_codec.specs.declared.reader.ReadError.{ReadError}
 use Rattle.wasm_codec.specs.declared.reader.ReadError.TheVariants as errors
+use Rattle.wasm_codec.specs.declared.reader.DecodeError.{DecodeError}
+use Rattle.wasm_codec.specs.declared.reader.DecodeError.TheVariants as decode_errors
 use Rattle.wasm_codec.specs.formats.Combinators.{Format, minimal_only, u32}
 use Rattle.wasm_codec.proofs.FormatLaws.{Lawful-u32, not_longer}
 use Rattle.wasm_codec.proofs.Laws.{one_reading}
 use Rattle.wasm_codec.proofs.PlaceLists.{step, plain_reads, Lawful-minimal_only}
 use Rattle.wasm_codec.proofs.RewriterLaws.{is_after, after_is}
+use Rattle.wasm_codec.proofs.BodyRewriting.{joined_given}
+use Rattle.wasm_codec.proofs.RefusalNumbers.{stops_at}
+use Rattle.wasm_codec.specs.declared.reader.malformed.Stop.{Stop}
 
 clash : {A : Type 0} (o : Option A) (x : A) → o ≡ None → o ≡ Some x → ⊥
 clash o x e f = absurd cc
@@ -165,3 +170,37 @@ refused_prefix F bytes (errors.Refused at) fits there l = list_prefix F bytes at
 pub refused_unencoded : {V : Type 0} (F : Format V) (bytes : List ℕ) (error : ReadError) → HoldsAtRefusal error (λ _. (items : List V) → EncodesList (minimal_only F).Encodes bytes items → ⊥) → HoldsAtRefusal error (λ _. (items : List V) → ListMinimalIf true F bytes items → ⊥)
 refused_unencoded F bytes errors.Memory none = tt
 refused_unencoded F bytes (errors.Refused at) none = list_unencoded F bytes none
+
+-- the items before the part that is refused, after a count in its shortest encoding
+items_before : {V : Type 0} (G : Grammar V) (bytes : List ℕ) (count index at : ℕ) → IsBytes bytes → is_some ((minimal_only u32).at (place true bytes)) ≡ true → HasItemsBefore EncodesU32 G bytes count index at → HasItemsBefore (minimal_only u32).Encodes G bytes count index at
+items_before G bytes count index at fits there h = record {
+  head = h.head;
+  back = h.back;
+  rest = h.rest;
+  items = h.items;
+  parts = h.parts;
+  at_is = h.at_is;
+  counted = counted_short bytes h.head (h.back ++ h.rest) count fits there h.counted h.parts;
+  few = h.few;
+  encoded = h.encoded;
+  index_is = h.index_is;
+}
+
+counted_at : {V : Type 0} (G : Grammar V) (bytes : List ℕ) (at : ℕ) (item : Option ℕ) → IsBytes bytes → is_some ((minimal_only u32).at (place true bytes)) ≡ true → IsCountedAt EncodesU32 G bytes at item → IsCountedAt (minimal_only u32).Encodes G bytes at item
+counted_at G bytes at (Some index) fits there (count, lt, before) = (count, lt, items_before G bytes count index at fits there before)
+counted_at G bytes at None fits there (inl first) = inl first
+counted_at G bytes at None fits there (inr (count, before)) = inr (count, items_before G bytes count count at fits there before)
+
+pub refused_counts : {V : Type 0} (F : Format V) (bytes : List ℕ) (error : DecodeError) → IsBytes bytes → is_some ((minimal_only u32).at (place true bytes)) ≡ true → HoldsOfRefusal error (CountsItems false (minimal_only F) bytes) → HoldsOfRefusal error (CountsItems true F bytes)
+refused_counts F bytes decode_errors.Memory fits there counts = tt
+refused_counts F bytes (decode_errors.Malformed refusal) fits there counts = counted_at (minimal_only F).Encodes bytes refusal.at refusal.item fits there counts
+
+-- ---- items without a count
+
+pub all_taken : {V : Type 0} {F : Format V} → IsLawful F → TakesBytes F.Encodes → (start end : Rewriting) (bytes : List ℕ) (result : Result (Unit {0}) Stop) → IsBytes start.place.left → start ≡ rewriting [] (place true bytes) [] → RewritesAll F start end result → IfOk result (λ _. EncodesSome (Joined F.Encodes) bytes)
+all_taken r some start end bytes (Err stop) fits is all = tt
+all_taken r some start end bytes (Ok done) fits is all = let n = joined_given r some start end bytes (subst IsBytes (ap (λ (s : Rewriting). s.place.left) is) fits) is all.0 all.1 in (n.value, n.encoded)
+
+pub all_stopped : {V : Type 0} {F : Format V} → IsLawful F → TakesBytes F.Encodes → (start end : Rewriting) (bytes : List ℕ) (result : Result (Unit {0}) Stop) → start ≡ rewriting [] (place true bytes) [] → RewritesAll F start end result → IfErr result (StopsBehind F bytes)
+all_stopped r some start end bytes (Ok done) is all = tt
+all_stopped {F = F} r some start end bytes (Err stop) is all = stops_at r some bytes stop (subst (λ (s : Rewriting). StopsAt F s.place.left stop.left) is all.0)

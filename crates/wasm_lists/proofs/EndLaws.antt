@@ -1,5 +1,5 @@
 -- A loop that reads items at a place as long as there are bytes.
-use Rattle.std.proofs.Common.{◌≡◌, ℕ, zero, suc, ◌<◌, ◌≤◌, true, false, List, [], ◌∷◌, ◌++◌, length, Option, Some, None, Err, refl, sym, ap, ◌∙◌, append_assoc, length-append, arith}
+use Rattle.std.proofs.Common.{◌≡◌, ℕ, zero, suc, ◌+◌, ◌<◌, ◌≤◌, true, false, List, [], ◌∷◌, ◌++◌, length, Option, Some, None, Err, refl, sym, ap, ◌∙◌, append_assoc, length-append, arith}
 use Rattle.std.proofs.lemmas.List.{append-nil}
 use Rattle.wasm_codec.specs.declared.reader.cursor.Fault.{Fault}
 use Rattle.wasm_codec.specs.declared.reader.cursor.Fault.TheVariants as faults
@@ -108,3 +108,25 @@ whole_passed old here vs w le = record {
 pub none_left : (bytes : List ℕ) → length bytes ≤ 0 → bytes ≡ []
 none_left [] le = refl
 none_left (b ∷ bytes) le = absurd (omega arith)
+
+-- This number of items was read.
+pub record PassedCount {V : Type 0} (F : Format V) (old here : Place) (count : ℕ) : Type 0 where
+  pub values : List V
+  pub passed : PassedSome F old here values
+  pub count_is : length values ≡ count
+
+pub none_counted : {V : Type 0} (F : Format V) (old : Place) → PassedCount F old old 0
+none_counted F old = record { values = []; passed = none_passed F old; count_is = refl }
+
+-- One item more was read and counted.
+pub record CountedNext {V : Type 0} (F : Format V) (old here next : Place) (count : ℕ) : Type 0 where
+  pub counted : PassedCount F old next count
+  pub fewer : length next.left < length here.left
+
+pub one_counted : {V : Type 0} {F : Format V} → IsLawful F → TakesBytes F.Encodes → (old here next : Place) (count : ℕ) (v : V) → IsBytes here.left → PassedCount F old here count → F.at here ≡ Some (v, next) → CountedNext F old here next (count + 1)
+one_counted r takes old here next count v fits w e =
+    let one = one_passed r takes old here next w.values v fits w.passed e in
+    record {
+      counted = record { values = w.values ++ v ∷ []; passed = one.passed; count_is = omega (arith, w.count_is, length-append w.values (v ∷ [])) };
+      fewer = one.fewer;
+    }

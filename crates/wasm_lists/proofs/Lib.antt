@@ -2,3 +2,4 @@ pub mod EndLaws
 pub mod CheckLaws
 pub mod WrittenLists
 pub mod EncodedListLaws
+pub mod JudgingLaws

@@ -1,2 +1,3 @@
 pub mod Iterators
 pub mod EncodedLists
+pub mod Judging

@@ -3,28 +3,31 @@
 //! A check accepts what the corresponding strict reader accepts, but returns no values. It works on a copy of the
 //! bytes.
 ghost use Rattle.std.specs.Prelude.{◌≡◌, ◌<◌, length, is_some, true, false, IfOk, IfSome, IfNone, IfErr};
-ghost use Rattle.wasm_codec.specs.Outcomes.{LiesIn, as_read, IfRefused, IsLongestPrefix, EncodesSome};
+ghost use Rattle.wasm_codec.specs.Outcomes.{IfMalformed, LiesIn, as_read, IfRefused, IsLongestPrefix, EncodesSome};
 ghost use Rattle.wasm_codec.specs.formats.Grammar.{Joined};
-ghost use Rattle.wasm_codec.specs.Lists.{ListMinimalIf, IsListPrefixMinimalIf};
+ghost use Rattle.wasm_codec.specs.Lists.{CountsItems, ListMinimalIf, IsListPrefixMinimalIf};
 ghost use Rattle.wasm_codec.specs.Places.{place};
 ghost use Rattle.wasm_codec.specs.formats.Combinators.{minimal_only, u32 as u32_format};
 ghost use Rattle.wasm_codec.specs.Decoding.{ChecksAll};
+ghost use Rattle.wasm_codec.specs.Rewriter.{CountsPassed, StopsBehind};
 
-use crate::rewriting::{Joinable, Rewritable, rewrite_items_to_end, rewrite_list_to_end};
+use crate::rewriting::{Joinable, Rewritable, rewrite_joined, rewrite_list_to_end};
 use std::alloc::Global;
 use std::marker::PhantomData;
 use wasm_codec::reader::DecodeError;
 use wasm_codec::reader::cursor::{Cursor, Fault};
-use wasm_codec::reader::malformed::{Malformed, Reason};
+use wasm_codec::reader::malformed::{Malformed, Reason, Stop};
 use wasm_codec::rewriter::{Rewriter, Scanned};
 
 /// Checks that the bytes are a count and as many items, minimally encoded, without trailing bytes.
 pub fn check_list_to_end<T: Rewritable>(alloc: Global, bytes: &[u8]) -> Result<(), DecodeError>
     ensures checks { ChecksAll (ListMinimalIf true T.format) (IsListPrefixMinimalIf true T.format) bytes.now (as_read result) }
     ensures place { IfErr result (LiesIn (length bytes.now)) }
+    // The item that a refusal names counts the items before it.
+    ensures counts { IfMalformed result (CountsItems true T.format bytes.now) }
 {
     if let Some(malformed) = fault_in_count(bytes) {
-        return Err(DecodeError::refused(&malformed, 0, bytes.len()));
+        return Err(DecodeError::refused(&malformed.outside_items(), 0, bytes.len()));
     }
     let _list = rewrite_list_to_end::<Shortest<T>>(Vec::from_slice(alloc, bytes)?)?;
     Ok(())
@@ -51,8 +54,24 @@ pub fn check_items_to_end<T: Joinable>(alloc: Global, bytes: &[u8]) -> Result<()
     ensures within { IfRefused (as_read result) (λ at. at < length bytes.now) }
     ensures place { IfErr result (LiesIn (length bytes.now)) }
 {
-    let _items = rewrite_items_to_end::<Shortest<T>>(Vec::from_slice(alloc, bytes)?)?;
-    Ok(())
+    match check_joined::<T>(alloc, bytes) {
+        Ok(()) => Ok(()),
+        Err(stop) => Err(DecodeError::stopped(stop, bytes.len())),
+    }
+}
+
+/// Checks that the bytes are items one after another, without a count, minimally encoded.
+///
+/// Fails with the first item that is malformed or not minimal, and the number of items before it.
+pub fn check_joined<T: Joinable>(alloc: Global, bytes: &[u8]) -> Result<(), Stop>
+    ensures given { IfOk result (λ _. EncodesSome (Joined (minimal_only T.format).Encodes) bytes.now) }
+    ensures stops { IfErr result (StopsBehind (minimal_only T.format) bytes.now) }
+    ensures passed { T.NeverScans → IfErr result (CountsPassed (minimal_only T.format) bytes.now) }
+{
+    Shortest::<T>::is_lawful();
+    let mut rewriter = Rewriter::new(Vec::from_slice(alloc, bytes)?);
+    rewriter.are_bytes();
+    rewrite_joined::<Shortest<T>>(&mut rewriter)
 }
 
 /// An item that is refused unless it is minimally encoded, so that rewriting keeps it.
@@ -86,6 +105,8 @@ impl<T: Rewritable> Rewritable for Shortest<T> {
 }
 
 impl<T: Joinable> Joinable for Shortest<T> {
+    ghost NeverScans = { T.NeverScans };
+
     #[inline(always)]
     fn scan(bytes: &[u8]) -> Option<Scanned> {
         match T::scan(bytes) {

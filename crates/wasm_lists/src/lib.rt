@@ -5,6 +5,7 @@
 pub mod checking;
 pub mod encode;
 pub mod encoded_list;
+pub mod judging;
 pub mod list;
 pub mod readable;
 pub mod reading;

@@ -1,19 +1,19 @@
 //! Lists and bodies, rewritten in place.
-ghost use Rattle.std.specs.Prelude.{◌≡◌, ◌<◌, List, ℕ, length, true, IfOk, IfErr};
+ghost use Rattle.std.specs.Prelude.{◌≡◌, ◌<◌, List, ℕ, length, true, false, IsNone, IfOk, IfErr};
 ghost use Rattle.std.specs.List.{flat_map};
 ghost use Rattle.wasm_codec.specs.formats.Grammar.{TakesBytes, Joined};
-ghost use Rattle.wasm_codec.specs.Outcomes.{LiesIn, as_read, IfRefused, NeedsNoMemory, IsLongestPrefix, IsNormalForm, EncodesSome};
+ghost use Rattle.wasm_codec.specs.Outcomes.{IfMalformed, LiesIn, as_read, IfRefused, NeedsNoMemory, IsLongestPrefix, IsNormalForm, EncodesSome};
 ghost use Rattle.wasm_codec.specs.Lawful.{IsLawful, IsLawfulBody};
-ghost use Rattle.wasm_codec.specs.Lists.{EncodesList, items_bytes, IsListPrefix};
+ghost use Rattle.wasm_codec.specs.Lists.{CountsItems, EncodesList, items_bytes, IsListPrefix};
 ghost use Rattle.wasm_codec.specs.formats.Combinators.{Format, items, u32 as u32_format};
 ghost use Rattle.wasm_codec.specs.formats.Bodies.{sized, to_end};
 ghost use Rattle.wasm_codec.specs.Scanning.{BeginsShort, Scans};
-ghost use Rattle.wasm_codec.specs.Rewriter.{Rewrites, RewritesAll, RewritesList};
+ghost use Rattle.wasm_codec.specs.Rewriter.{CountsPassed, Rewrites, RewritesAll, RewritesList};
 
 use wasm_codec::reader::DecodeError;
 use wasm_codec::reader::cursor::Fault;
 use wasm_codec::reader::malformed::Stop;
-use wasm_codec::rewriter::{Rewriter, Scanned, are_bytes, scan_u32};
+use wasm_codec::rewriter::{Part, Rewriter, Scanned, are_bytes, scan_u32};
 
 /// An item of a list that can be rewritten in place.
 pub trait Rewritable {
@@ -36,9 +36,13 @@ pub trait Rewritable {
 
 /// An item of which any number can be rewritten one after another, up to the end of the bytes.
 pub trait Joinable: Rewritable {
+    /// Whether no item can be scanned. By default this isn't known.
+    ghost NeverScans: { Type 0 } = { ⊥ };
+
     /// Scans the item that the bytes begin with. Returns `None` if it isn't one of those that can be scanned.
     fn scan(bytes: &[u8]) -> Option<Scanned>
-        ensures scans { Scans Self.format bytes.now result };
+        ensures scans { Scans Self.format bytes.now result }
+        ensures never { NeverScans → IsNone result };
 }
 
 impl Rewritable for u32 {
@@ -65,7 +69,9 @@ impl Rewritable for u32 {
 pub fn rewrite_list<T: Rewritable>(rewriter: &mut Rewriter) -> Result<(), Fault>
     ensures rewrites { Rewrites (items T.format) rewriter.old rewriter.new result }
 {
+    let start = rewriter.start();
     let count = rewriter.u32()?;
+    rewriter.end_part(&start, Part::Number);
     for index in 0..count {
         rewrite_item::<T>(rewriter, index)?;
     }
@@ -80,8 +86,12 @@ fn rewrite_item<T: Rewritable>(rewriter: &mut Rewriter, index: u32) -> Result<()
     ensures rewrites { Rewrites T.format rewriter.old rewriter.new result }
 {
     T::is_lawful();
+    let start = rewriter.start();
     match T::rewrite(rewriter) {
-        Ok(()) => Ok(()),
+        Ok(()) => {
+            rewriter.end_part(&start, Part::Item(index));
+            Ok(())
+        }
         Err(Fault::Malformed(malformed)) => Err(Fault::Malformed(malformed.in_item(index))),
         Err(Fault::Memory) => Err(Fault::Memory),
     }
@@ -111,7 +121,9 @@ pub fn rewrite_sized<T: RewritableBody>(rewriter: &mut Rewriter) -> Result<(), F
 {
     T::is_lawful();
     rewriter.are_bytes();
+    let start = rewriter.start();
     let body = rewriter.open_body()?;
+    rewriter.end_part(&start, Part::Number);
     T::rewrite(rewriter)?;
     if rewriter.len() > 0 {
         return Err(Fault::Malformed(rewriter.trailing()));
@@ -132,10 +144,12 @@ pub fn rewrite_to_end<T: Joinable>(rewriter: &mut Rewriter) -> Result<(), Fault>
 
 /// Rewrites items one after another, up to the end. Fails with the first malformed item.
 pub fn rewrite_joined<T: Joinable>(rewriter: &mut Rewriter) -> Result<(), Stop>
-    ensures { RewritesAll T.format rewriter.old rewriter.new result }
+    ensures rewrites { RewritesAll T.format rewriter.old rewriter.new result }
+    ensures passed { T.NeverScans → IfErr result (CountsPassed T.format rewriter.old.place.left) }
 {
     T::is_lawful();
     rewriter.are_bytes();
+    let _most = rewriter.len();
     let mut passed = 0usize;
     while rewriter.len() > 0 {
         let run = short_run::<T>(rewriter.left());
@@ -143,13 +157,9 @@ pub fn rewrite_joined<T: Joinable>(rewriter: &mut Rewriter) -> Result<(), Stop>
         let left = rewriter.len();
         if left != 0 {
             if let Err(fault) = T::rewrite(rewriter) {
-                return Err(Stop {
-                    left,
-                    passed,
-                    fault,
-                });
+                return Err(Stop::new(fault, left, passed));
             }
-            passed = passed.wrapping_add(1);
+            passed += 1;
         }
     }
     Ok(())
@@ -157,7 +167,8 @@ pub fn rewrite_joined<T: Joinable>(rewriter: &mut Rewriter) -> Result<(), Stop>
 
 /// Returns the length of the run of scanned, minimally encoded items that the bytes begin with.
 fn short_run<T: Joinable>(bytes: &[u8]) -> usize
-    ensures { BeginsShort T.format bytes.now result }
+    ensures begins { BeginsShort T.format bytes.now result }
+    ensures never { T.NeverScans → result ≡ 0 }
 {
     // With 16 bytes ahead, the compiler drops most length checks.
     let run = short_run_ahead::<T, 16>(bytes, 0);
@@ -190,7 +201,8 @@ pub fn begins_run<T: Joinable>(bytes: &[u8], count: usize) -> bool
 #[inline(never)]
 fn short_run_ahead<T: Joinable, const AHEAD: usize>(bytes: &[u8], begun: usize) -> usize
     requires { BeginsShort T.format bytes.now begun }
-    ensures { BeginsShort T.format bytes.now result }
+    ensures begins { BeginsShort T.format bytes.now result }
+    ensures never { T.NeverScans → result ≡ begun }
 {
     T::is_lawful();
     are_bytes(bytes);
@@ -225,7 +237,7 @@ pub fn rewrite_items_to_end<T: Joinable>(bytes: Vec<u8>) -> Result<Vec<u8>, Deco
     rewriter.are_bytes();
     match rewrite_joined::<T>(&mut rewriter) {
         Ok(()) => Ok(rewriter.finish()),
-        Err(stop) => Err(DecodeError::new(stop.fault, len - stop.left, len).numbered(stop.passed)),
+        Err(stop) => Err(DecodeError::stopped(stop, len)),
     }
 }
 
@@ -239,6 +251,8 @@ pub fn rewrite_list_to_end<T: Rewritable>(bytes: Vec<u8>) -> Result<Vec<u8>, Dec
     ensures unencoded { IfRefused (as_read result) (λ _. (items : List T.Value) → EncodesList T.format.Encodes bytes.items items → ⊥) }
     ensures memory { NeedsNoMemory (as_read result) }
     ensures place { IfErr result (LiesIn (length bytes.items)) }
+    // The item that a refusal names counts the items before it.
+    ensures counts { IfMalformed result (CountsItems false T.format bytes.items) }
 {
     rewrite_whole_list::<T>(bytes)
 }
@@ -247,6 +261,7 @@ pub fn rewrite_list_to_end<T: Rewritable>(bytes: Vec<u8>) -> Result<Vec<u8>, Dec
 fn rewrite_whole_list<T: Rewritable>(bytes: Vec<u8>) -> Result<Vec<u8>, DecodeError>
     ensures rewrites { RewritesList T.format bytes.items (as_read result) }
     ensures place { IfErr result (LiesIn (length bytes.items)) }
+    ensures counts { IfMalformed result (CountsItems false T.format bytes.items) }
 {
     T::is_lawful();
     let len = bytes.len();
@@ -254,7 +269,7 @@ fn rewrite_whole_list<T: Rewritable>(bytes: Vec<u8>) -> Result<Vec<u8>, DecodeEr
     rewriter.are_bytes();
     let count = match rewriter.u32() {
         Ok(count) => count,
-        Err(fault) => return Err(DecodeError::new(fault, 0, len)),
+        Err(fault) => return Err(DecodeError::new(fault, 0, len).outside_items()),
     };
     for index in 0..count {
         let left = rewriter.len();

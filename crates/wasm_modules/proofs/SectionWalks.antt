@@ -1,5 +1,5 @@
 -- Sections that are read one after another.
-use Rattle.std.proofs.Common.{◌≡◌, ℕ, ◌<◌, List, [], ◌∷◌, ◌++◌, length, true, Some, None, refl, sym, ap, subst, ◌∙◌, length-append, arith}
+use Rattle.std.proofs.Common.{◌≡◌, ℕ, ◌<◌, List, [], ◌∷◌, length, true, Some, None, refl, sym, ap, subst, ◌∙◌, length-append, arith}
 use Rattle.wasm_codec.specs.formats.Grammar.{IsBytes, Joined}
 use Rattle.wasm_codec.specs.Places.{Place, place, keeps}
 use Rattle.wasm_codec.proofs.Laws.{some_is}

@@ -1,8 +1,10 @@
 -- Modules as sections with their bodies as bytes (WebAssembly Core 3.0, Modules).
-use Rattle.std.specs.Prelude.{◌≡◌, ℕ, ◌^◌, ◌<◌, ◌⊎◌, Bool, true, List, [], length, map, Result}
+use Rattle.std.specs.Prelude.{◌≡◌, ℕ, ◌+◌, ◌^◌, ◌<◌, ◌⊎◌, Bool, true, List, [], ◌++◌, length, map, Result, IfSome}
 use Rattle.wasm_codec.specs.Outcomes.{EncodesSome, IsOrMemory}
 use Rattle.wasm_codec.specs.formats.Combinators.{Format, minimal_if}
-use Rattle.wasm_modules.specs.formats.Sections.{SectionParts, Content, TypedSection}
+use Rattle.wasm_codec.specs.formats.Grammar.{Grammar, Joined}
+use Rattle.wasm_codec.specs.declared.reader.refusal.Refusal.{Refusal}
+use Rattle.wasm_modules.specs.formats.Sections.{header, SectionParts, Content, TypedSection}
 use Rattle.wasm_modules.specs.formats.Modules.{module_of, raw_section, held_by, typed_section, raw_module, typed_module, HoldsContent}
 use Rattle.std.specs.List.{AllByRecursion}
 use Rattle.wasm_codec.specs.declared.reader.ReadError.{ReadError}
@@ -15,6 +17,20 @@ pub record IsSection (s : SectionParts) : Type 0 where
 -- The prefix is empty, or it is the header and sections of this format.
 abbrev pub IsModulePrefixOf : {V : Type 0} → Format V → List ℕ → Type 0
 IsModulePrefixOf F prefix = (prefix ≡ []) ⊎ EncodesSome (module_of F).Encodes prefix
+
+-- The bytes before this offset are the header and this number of sections.
+pub record HasSectionsBefore {V : Type 0} (G : Grammar V) (bytes : List ℕ) (number at : ℕ) : Type 0 where
+  pub body : List ℕ
+  pub rest : List ℕ
+  pub sections : List V
+  pub parts : bytes ≡ header ++ (body ++ rest)
+  pub at_is : length header + length body ≡ at
+  pub encoded : Joined G body sections
+  pub number_is : length sections ≡ number
+
+-- If the refusal names a section, its number counts the sections before it.
+abbrev pub CountsSections : {V : Type 0} → Format V → List ℕ → Refusal → Type 0
+CountsSections F bytes refusal = IfSome refusal.section (λ place. HasSectionsBefore F.Encodes bytes place.number refusal.at)
 
 -- The prefix is empty, or it is the header and sections, each with its body as bytes.
 abbrev pub IsModulePrefix : List ℕ → Type 0

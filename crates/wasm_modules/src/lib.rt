@@ -3,6 +3,9 @@
 #![tactic(auto)]
 
 pub mod code;
+pub mod decode;
+pub mod judging;
 pub mod normaliser;
 pub mod raw;
+pub mod reasons;
 pub mod section;

@@ -1,6 +1,6 @@
 //! The normaliser of modules (Core 3.0, Modules). In a typed module, type sections are lists of entries, code
 //! sections are lists of code bodies, and other sections are bytes.
-ghost use Rattle.std.specs.Prelude.{◌≡◌, List};
+ghost use Rattle.std.specs.Prelude.{◌≡◌, ⊤, List};
 ghost use Rattle.std.specs.List.{AllByRecursion};
 ghost use Rattle.wasm_codec.specs.formats.Bodies.{bytes_to_end};
 ghost use Rattle.wasm_codec.specs.formats.Combinators.{made, minimal_only};
@@ -102,6 +102,8 @@ fn rewrite_section(rewriter: &mut Rewriter) -> Result<(), Fault>
 }
 
 impl Joinable for Section {
+    ghost NeverScans = { ⊤ };
+
     #[inline(always)]
     fn scan(_bytes: &[u8]) -> Option<Scanned> {
         None

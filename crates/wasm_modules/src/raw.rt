@@ -1,14 +1,15 @@
 //! Readers of the header and of sections of a module (Core 3.0, Modules).
-ghost use Rattle.std.specs.Prelude.{◌≡◌, ◌++◌, List, ℕ, drop, IfErr, IfSome, IfNone, refl, ◌<◌, ◌≤◌, ◌+◌, true, length};
+ghost use Rattle.std.specs.Prelude.{◌≡◌, ◌++◌, ◌-◌, ⊤, List, ℕ, None, drop, IfErr, IfSome, IfNone, refl, length};
 ghost use Rattle.wasm_codec.specs.Reading.{map_ok};
 ghost use Rattle.wasm_codec.specs.Places.{Reads};
 ghost use Rattle.wasm_codec.specs.formats.Bodies.{byte_list, bytes_to_end};
 ghost use Rattle.wasm_modules.specs.formats.Sections.{header, parts_of, SectionParts, all_parts_of};
 ghost use Rattle.wasm_modules.specs.formats.Modules.{raw_section, module_of, raw_module, ShortestModule};
-ghost use Rattle.wasm_codec.specs.Outcomes.{LiesIn, IsMalformed};
+ghost use Rattle.wasm_codec.specs.Outcomes.{HoldsOfRefusal, IfMalformed, IsNumbered, LiesIn, IsMalformed, error_of, offsets_of, place_of_error, read_error_of};
 ghost use Rattle.std.proofs.lemmas.List.{map_push};
 ghost use Rattle.wasm_codec.specs.formats.Combinators.{minimal_if, minimal_only};
-ghost use Rattle.wasm_modules.specs.Modules.{IsModulePrefix, IsModulePrefixOf, IsShortestModulePrefix};
+ghost use Rattle.wasm_codec.specs.declared.reader.ReadError.TheVariants.{Refused};
+ghost use Rattle.wasm_modules.specs.Modules.{CountsSections, IsModulePrefix, IsModulePrefixOf, IsShortestModulePrefix};
 ghost use Rattle.wasm_codec.specs.Decoding.{Decodes, DecodesMinimal, ReadsAll, Checks, ChecksAll, RewritesAll};
 ghost use Rattle.wasm_modules.specs.PrefixFree.{SectionsArePrefixFree};
 ghost use Rattle.wasm_modules.specs.Modules.{ReadsBack, ReadsBackTyped};
@@ -20,14 +21,15 @@ ghost use Rattle.wasm_codec.specs.Outcomes.{NeedsNoMemory, as_read};
 use crate::normaliser::framing::{rewrite_module_of, rewrite_section_body};
 use crate::section::{HEADER, RawSection};
 use std::alloc::Global;
+use wasm_codec::encode::leb128::u32_len;
 use wasm_codec::reader::cursor::{Cursor, Fault};
-use wasm_codec::reader::malformed::{Construct, Malformed, Reason};
-use wasm_codec::reader::refusal::{Refusal, SectionPlace};
+use wasm_codec::reader::malformed::{Construct, Malformed, Reason, Stop};
+use wasm_codec::reader::refusal::Refusal;
 use wasm_codec::reader::{DecodeError, ReadError, without_reason};
 use wasm_codec::rewriter::{Rewriter, Scanned};
-use wasm_lists::checking::check_items_to_end;
+use wasm_lists::checking::check_joined;
 use wasm_lists::readable::Readable;
-use wasm_lists::reading::read_items_to_end;
+use wasm_lists::reading::{check_joined_items, read_joined};
 use wasm_lists::rewriting::{Joinable, Rewritable, RewritableBody};
 
 /// Returns the bytes after the header, or `None` if the header is missing.
@@ -40,8 +42,20 @@ pub fn after_header(bytes: &[u8]) -> Option<&[u8]>
     bytes.strip_prefix(&HEADER)
 }
 
+/// Returns the error that the bytes don't begin with the header.
+pub(crate) fn no_header(bytes: &[u8]) -> DecodeError
+    ensures error { read_error_of result ≡ Refused 0 }
+    ensures place { LiesIn (length bytes.now) result }
+    ensures section { HoldsOfRefusal result (λ refusal. refusal.section ≡ None) }
+{
+    DecodeError::Malformed(Refusal {
+        section: None,
+        ..Refusal::new(&not_a_module(bytes), 0, bytes.len())
+    })
+}
+
 /// Returns why the bytes don't begin with the header.
-pub(crate) fn not_a_module(bytes: &[u8]) -> Malformed {
+fn not_a_module(bytes: &[u8]) -> Malformed {
     let reason = match bytes {
         [0x00, 0x61, 0x73, 0x6d, first, second, third, fourth, ..] => Reason::UnsupportedVersion {
             version: u32::from_le_bytes([*first, *second, *third, *fourth]),
@@ -51,35 +65,17 @@ pub(crate) fn not_a_module(bytes: &[u8]) -> Malformed {
     Malformed::new(reason, bytes.len())
 }
 
-/// Returns the refusal at `at` of a module, for a refusal of the sections after its header.
-fn in_module(refusal: Refusal, sections: &[u8], at: usize) -> Refusal
-    ensures at { result.at ≡ at }
-    ensures from { at ≡ 8 + refusal.at → refusal.at ≤ refusal.offset → at ≤ result.offset }
-    ensures to { result.offset ≤ 8 + refusal.offset }
+/// Returns the error for a stop at a section of a module. It names the section.
+fn in_module(stop: Stop, bytes: &[u8]) -> DecodeError
+    ensures error { read_error_of result ≡ error_of stop.fault (length bytes.now - stop.left) }
+    ensures place { LiesIn (length bytes.now) result }
+    ensures number { IsNumbered stop.passed result }
 {
-    let section = match refusal.section {
-        Some(section) => Some(section),
-        None => section_place(sections, refusal.at),
-    };
-    Refusal {
-        section,
-        ..refusal.behind(at, HEADER.len())
+    let error = DecodeError::stopped(stop, bytes.len());
+    match bytes.get(bytes.len().saturating_sub(stop.left)) {
+        Some(id) => error.in_section(stop.passed, *id),
+        None => error.numbered(stop.passed),
     }
-}
-
-/// Returns the place of the section that begins at offset `at` of the bytes after the header.
-fn section_place(sections: &[u8], at: usize) -> Option<SectionPlace> {
-    let id = *sections.get(at)?;
-    let mut cursor = Cursor::new(sections);
-    for number in 0..sections.len() {
-        if sections.len().saturating_sub(cursor.len()) >= at {
-            return Some(SectionPlace { number, id });
-        }
-        if read_section(&mut cursor).is_err() {
-            return None;
-        }
-    }
-    None
 }
 
 /// Reads a size, and as many bytes.
@@ -99,11 +95,8 @@ pub fn read_section<'a>(cursor: &mut Cursor<'a>) -> Result<RawSection<'a>, Fault
     ensures err { IfErr result IsMalformed }
 {
     let id = cursor.byte_of(Construct::SectionId)?;
-    match read_byte_list(cursor) {
-        Ok(body) => Ok(RawSection { id, body }),
-        Err(Fault::Malformed(malformed)) => Err(Fault::Malformed(malformed.in_section(id))),
-        Err(Fault::Memory) => Err(Fault::Memory),
-    }
+    let body = read_byte_list(cursor)?;
+    Ok(RawSection { id, body })
 }
 
 /// Reads the sections of a module, with their bodies borrowed from the bytes (Core 3.0, Modules).
@@ -163,17 +156,15 @@ pub fn read_module_of<'a, T: Readable<'a>, const STRICT: bool>(
 ) -> Result<Vec<T>, DecodeError>
     ensures reads { ReadsAll (λ sections. T.views sections.items) (module_of (minimal_if STRICT T.format)).Encodes (IsModulePrefixOf (minimal_if STRICT T.format)) bytes.now (as_read result) }
     ensures place { IfErr result (LiesIn (length bytes.now)) }
+    // The section that a refusal names counts the sections before it.
+    ensures counts { IfMalformed result (CountsSections (minimal_if STRICT T.format) bytes.now) }
 {
     let Some(rest) = after_header(bytes) else {
-        return Err(DecodeError::refused(&not_a_module(bytes), 0, bytes.len()));
+        return Err(no_header(bytes));
     };
-    match read_items_to_end::<T, STRICT>(alloc, rest) {
+    match read_joined::<T, STRICT>(alloc, rest) {
         Ok(sections) => Ok(sections),
-        Err(DecodeError::Memory) => Err(DecodeError::Memory),
-        Err(DecodeError::Malformed(refusal)) => {
-            let at = HEADER.len() + refusal.at;
-            Err(DecodeError::Malformed(in_module(refusal, rest, at)))
-        }
+        Err(stop) => Err(in_module(stop, bytes)),
     }
 }
 
@@ -225,12 +216,64 @@ pub fn check_module(alloc: Global, bytes: &[u8]) -> Result<(), ReadError>
     without_reason(check_raw_module(alloc, bytes))
 }
 
-/// Checks that the section sizes of a module are minimally encoded, and says why if they aren't.
+/// Checks that the section sizes of a module are minimally encoded, and says why if they aren't. Copies nothing.
 pub fn check_raw_module(alloc: Global, bytes: &[u8]) -> Result<(), DecodeError>
     ensures checks { ChecksAll (module_of (minimal_only raw_section)).Encodes (IsModulePrefixOf (minimal_only raw_section)) bytes.now (as_read result) }
     ensures place { IfErr result (LiesIn (length bytes.now)) }
+    ensures counts { IfMalformed result (CountsSections (minimal_only raw_section) bytes.now) }
 {
-    check_module_of::<Section>(alloc, bytes)
+    match walk_sections(alloc, bytes) {
+        Ok(()) => Ok(()),
+        Err(error) => Err(with_lengths(error, bytes)),
+    }
+}
+
+/// Checks that the section sizes of a module are minimally encoded.
+fn walk_sections(alloc: Global, bytes: &[u8]) -> Result<(), DecodeError>
+    ensures checks { ChecksAll (module_of (minimal_only raw_section)).Encodes (IsModulePrefixOf (minimal_only raw_section)) bytes.now (as_read result) }
+    ensures place { IfErr result (LiesIn (length bytes.now)) }
+    ensures counts { IfMalformed result (CountsSections (minimal_only raw_section) bytes.now) }
+{
+    let Some(rest) = after_header(bytes) else {
+        return Err(no_header(bytes));
+    };
+    match check_joined_items::<RawSection<'_>>(alloc, rest) {
+        Ok(()) => Ok(()),
+        Err(stop) => Err(in_module(stop, bytes)),
+    }
+}
+
+/// Returns the same error. If a section isn't minimal, its reason has the section's lengths.
+#[cold]
+fn with_lengths(error: DecodeError, bytes: &[u8]) -> DecodeError
+    ensures error { read_error_of result ≡ read_error_of error }
+    ensures place { offsets_of result ≡ offsets_of error }
+    ensures counts { place_of_error result ≡ place_of_error error }
+{
+    let DecodeError::Malformed(refusal) = error else {
+        return DecodeError::Memory;
+    };
+    let reason = match (refusal.reason, bytes.get(refusal.at..)) {
+        (Reason::LongForm, Some(section)) => longer_section(section),
+        (other, _) => other,
+    };
+    DecodeError::Malformed(Refusal { reason, ..refusal })
+}
+
+/// Returns why the section that the bytes begin with isn't minimally encoded.
+fn longer_section(bytes: &[u8]) -> Reason {
+    let mut cursor = Cursor::new(bytes);
+    match read_section(&mut cursor) {
+        Ok(section) => {
+            let size = section.body.len();
+            let digits = u32::try_from(size).unwrap_or(u32::MAX);
+            Reason::NotMinimal {
+                bytes: bytes.len().saturating_sub(cursor.len()),
+                minimal: size.saturating_add(u32_len(digits) + 1),
+            }
+        }
+        Err(_) => Reason::LongForm,
+    }
 }
 
 /// Checks that a module with sections of type `T` is minimally encoded.
@@ -240,17 +283,14 @@ pub fn check_raw_module(alloc: Global, bytes: &[u8]) -> Result<(), DecodeError>
 pub fn check_module_of<T: Joinable>(alloc: Global, bytes: &[u8]) -> Result<(), DecodeError>
     ensures checks { ChecksAll (module_of (minimal_only T.format)).Encodes (IsModulePrefixOf (minimal_only T.format)) bytes.now (as_read result) }
     ensures place { IfErr result (LiesIn (length bytes.now)) }
+    ensures counts { T.NeverScans → IfMalformed result (CountsSections (minimal_only T.format) bytes.now) }
 {
     let Some(rest) = after_header(bytes) else {
-        return Err(DecodeError::refused(&not_a_module(bytes), 0, bytes.len()));
+        return Err(no_header(bytes));
     };
-    match check_items_to_end::<T>(alloc, rest) {
+    match check_joined::<T>(alloc, rest) {
         Ok(()) => Ok(()),
-        Err(DecodeError::Memory) => Err(DecodeError::Memory),
-        Err(DecodeError::Malformed(refusal)) => {
-            let at = HEADER.len() + refusal.at;
-            Err(DecodeError::Malformed(in_module(refusal, rest, at)))
-        }
+        Err(stop) => Err(in_module(stop, bytes)),
     }
 }
 
@@ -261,6 +301,7 @@ pub fn rewrite_raw_module(bytes: Vec<u8>) -> Result<Vec<u8>, DecodeError>
     ensures rewrites { RewritesAll raw_module IsModulePrefix bytes.items (as_read result) }
     ensures memory { NeedsNoMemory (as_read result) }
     ensures place { IfErr result (LiesIn (length bytes.items)) }
+    ensures counts { IfMalformed result (CountsSections raw_section bytes.items) }
 {
     rewrite_module_of::<Section>(bytes)
 }
@@ -293,6 +334,8 @@ pub fn rewrite_raw_section(rewriter: &mut Rewriter) -> Result<(), Fault>
 }
 
 impl Joinable for Section {
+    ghost NeverScans = { ⊤ };
+
     #[inline(always)]
     fn scan(_bytes: &[u8]) -> Option<Scanned> {
         None

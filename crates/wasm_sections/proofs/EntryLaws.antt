@@ -1,5 +1,5 @@
 -- The laws of entries of sections, and what is written of them.
-use Rattle.std.proofs.Common.{Some, refl, lit≤, ◌≡◌, ℕ, ◌^◌, ◌<◌, true, List, [], ◌∷◌, ◌++◌, length, Option, None, sym, subst}
+use Rattle.std.proofs.Common.{Some, refl, lit≤, ◌≡◌, ℕ, ◌^◌, ◌<◌, true, List, [], ◌∷◌, ◌++◌, Option, None, sym, subst}
 use Rattle.std.specs.Prelude.{is_some, IfSome}
 use Rattle.wasm_codec.specs.formats.Grammar.{TakesBytes}
 use Rattle.wasm_codec.specs.Lawful.{IsLawful}

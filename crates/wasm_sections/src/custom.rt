@@ -6,14 +6,13 @@ ghost use Rattle.wasm_sections.specs.Prefixes.{IsNothingOr};
 ghost use Rattle.wasm_sections.specs.formats.Sections.{custom_body};
 ghost use Rattle.wasm_codec.specs.Decoding.{ReadsAll, ChecksAll, RewritesAll, IsMinimal, Decodes};
 ghost use Rattle.wasm_codec.specs.Lawful.{IsLawfulBody};
-ghost use Rattle.wasm_codec.specs.Outcomes.{LiesIn, as_read, NeedsNoMemory};
+ghost use Rattle.wasm_codec.specs.Outcomes.{IfMalformed, LiesIn, as_read, NeedsNoMemory};
 ghost use Rattle.wasm_codec.specs.Encoding.{byte_list_bytes, IsCount, IsCountRefusal, IsRefusal, IsShortest, IsTooLong, OnlyTooLong};
 ghost use Rattle.wasm_sections.specs.formats.ModuleSectionParts.{custom};
 ghost use Rattle.wasm_sections.specs.SectionBytes.{CountedCustom, IsSectionAfter};
 
 use crate::bodies::{WholeBody, are_bytes, rewrite_body};
 use std::alloc::{Allocator, Global};
-use wasm_codec::decode::Decode;
 use wasm_codec::encode::leb128::u32_len;
 use wasm_codec::encode::{EncodeError, keep_or_undo};
 use wasm_codec::reader::cursor::{Cursor, Fault};
@@ -23,6 +22,7 @@ use wasm_codec::rewriter::Rewriter;
 use wasm_entities::names::{append_name, read_name, rewrite_name};
 use wasm_lists::encode::Encode;
 use wasm_lists::rewriting::RewritableBody;
+use wasm_modules::decode::Decode;
 
 /// A custom section, which `Module::section` accepts and `read_whole_module` returns (Core 3.0, Custom Section).
 ///
@@ -160,6 +160,7 @@ impl<'a> Decode<'a> for CustomSection<'a> {
     fn check_all(_alloc: Global, bytes: &[u8]) -> Result<(), DecodeError>
         ensures checks { ChecksAll (minimal_only custom_body).Encodes (IsNothingOr (minimal_only custom_body)) bytes.now (as_read result) }
         ensures place { IfErr result (LiesIn (length bytes.now)) }
+        ensures counts { IfMalformed result (λ _. ⊤) }
     {
         match read_name_and_bytes_strict(bytes) {
             Ok(_) => Ok(()),
@@ -171,6 +172,7 @@ impl<'a> Decode<'a> for CustomSection<'a> {
         ensures rewrites { RewritesAll custom_body (IsNothingOr custom_body) bytes.items (as_read result) }
         ensures memory { NeedsNoMemory (as_read result) }
         ensures place { IfErr result (LiesIn (length bytes.items)) }
+        ensures counts { IfMalformed result (λ _. ⊤) }
     {
         rewrite_body::<Custom>(bytes)
     }

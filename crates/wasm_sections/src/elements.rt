@@ -324,23 +324,7 @@ fn rewrite_functions(rewriter: &mut Rewriter) -> Result<(), Fault>
 fn rewrite_told_type(rewriter: &mut Rewriter) -> Result<RefType, Fault>
     ensures gives { Gives ref_type rewriter.old rewriter.new result }
 {
-    let behind = rewriter.to_end().saturating_sub(rewriter.len());
-    match read_and_rewrite_type(rewriter) {
-        Ok(told) => Ok(told),
-        Err(Fault::Malformed(malformed)) => Err(Fault::Malformed(Malformed {
-            left: malformed.left.saturating_add(behind),
-            ..malformed
-        })),
-        Err(Fault::Memory) => Err(Fault::Memory),
-    }
-}
-
-/// Reads a reference type and rewrites it. A fault doesn't count the bytes behind the body.
-fn read_and_rewrite_type(rewriter: &mut Rewriter) -> Result<RefType, Fault>
-    ensures gives { Gives ref_type rewriter.old rewriter.new result }
-{
-    rewriter.are_bytes();
-    let mut cursor = Cursor::new(rewriter.left());
+    let mut cursor = rewriter.cursor();
     let ty = read_ref_type(&mut cursor)?;
     rewrite_ref_type(rewriter)?;
     Ok(ty)

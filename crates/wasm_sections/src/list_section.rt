@@ -1,5 +1,5 @@
 //! The builder of a section that is a list, over any kind of item (Core 3.0, Lists).
-ghost use Rattle.std.specs.Prelude.{◌≡◌, ◌↔◌, List, [], IsTrue, ⊤, true, IfErr, length};
+ghost use Rattle.std.specs.Prelude.{◌≡◌, ◌↔◌, List, [], IsTrue, ⊤, true, false, IfErr, length};
 ghost use Rattle.wasm_codec.specs.Encoding.{byte_list_bytes, OnlyTooLong};
 ghost use Rattle.wasm_codec.specs.Lawful.{IsLawfulBody};
 ghost use Rattle.wasm_codec.specs.formats.Combinators.{items};
@@ -8,12 +8,11 @@ ghost use Rattle.wasm_sections.specs.SectionKinds.{SectionOf};
 ghost use Rattle.wasm_sections.specs.ListSections.{StandsForItems, AddsIf, AddsEachIf, EncodesItems, IsWrittenList, LawfulItem};
 ghost use Rattle.wasm_entities.specs.Making.{Makes};
 ghost use Rattle.wasm_codec.specs.Decoding.{ChecksAll, RewritesAll, IsMinimal};
-ghost use Rattle.wasm_codec.specs.Outcomes.{LiesIn, as_read, NeedsNoMemory};
-ghost use Rattle.wasm_codec.specs.Lists.{ListMinimalIf, IsListPrefix, IsListPrefixMinimalIf};
+ghost use Rattle.wasm_codec.specs.Outcomes.{IfMalformed, LiesIn, as_read, NeedsNoMemory};
+ghost use Rattle.wasm_codec.specs.Lists.{CountsItems, ListMinimalIf, IsListPrefix, IsListPrefixMinimalIf};
 
 use std::alloc::{Allocator, Global};
 use std::marker::{Model, PhantomData};
-use wasm_codec::decode::Decode;
 use wasm_codec::encode::EncodeError;
 use wasm_codec::reader::DecodeError;
 use wasm_lists::checking::check_list_to_end;
@@ -22,6 +21,7 @@ use wasm_lists::encoded_list::EncodedList;
 use wasm_lists::readable::{Item, Readable};
 use wasm_lists::reading::read_list_to_end;
 use wasm_lists::rewriting::rewrite_list_to_end;
+use wasm_modules::decode::Decode;
 
 /// An item of a section that is a list.
 ///
@@ -170,6 +170,8 @@ impl<'a, T: SectionItem + Readable<'a>> Decode<'a> for ListSection<T> {
 
     ghost IsMinimalPrefix = { IsListPrefixMinimalIf true T.Readable.format };
 
+    ghost Counts = { λ strict. CountsItems strict T.Readable.format };
+
     #[inline(always)]
     fn is_lawful()
         ensures lawful { IsLawfulBody (items T.Readable.format) }
@@ -189,6 +191,7 @@ impl<'a, T: SectionItem + Readable<'a>> Decode<'a> for ListSection<T> {
     fn check_all(alloc: Global, bytes: &[u8]) -> Result<(), DecodeError>
         ensures checks { ChecksAll (ListMinimalIf true T.Readable.format) (IsListPrefixMinimalIf true T.Readable.format) bytes.now (as_read result) }
         ensures place { IfErr result (LiesIn (length bytes.now)) }
+        ensures counts { IfMalformed result (CountsItems true T.Readable.format bytes.now) }
     {
         check_list_to_end::<Item<'a, T>>(alloc, bytes)
     }
@@ -197,6 +200,7 @@ impl<'a, T: SectionItem + Readable<'a>> Decode<'a> for ListSection<T> {
         ensures rewrites { RewritesAll (items T.Readable.format) (IsListPrefix T.Readable.format.Encodes) bytes.items (as_read result) }
         ensures memory { NeedsNoMemory (as_read result) }
         ensures place { IfErr result (LiesIn (length bytes.items)) }
+        ensures counts { IfMalformed result (CountsItems false T.Readable.format bytes.items) }
     {
         rewrite_list_to_end::<Item<'a, T>>(bytes)
     }

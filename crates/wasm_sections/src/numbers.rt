@@ -1,6 +1,6 @@
 //! Sections that are a single number (Core 3.0, Start Section and Data Count Section).
 ghost use Rattle.std.specs.Prelude.{⊤, ℕ, Ok, ◌≡◌, ◌++◌, OnOk, IfErr, OnErr, length};
-ghost use Rattle.wasm_codec.specs.Outcomes.{LiesIn, as_read, NeedsNoMemory};
+ghost use Rattle.wasm_codec.specs.Outcomes.{IfMalformed, LiesIn, as_read, NeedsNoMemory};
 ghost use Rattle.wasm_codec.specs.formats.Combinators.{minimal_only, u32 as u32_format};
 ghost use Rattle.wasm_sections.specs.Prefixes.{IsNothingOr};
 ghost use Rattle.wasm_codec.specs.Decoding.{ReadsAll, ChecksAll, RewritesAll, IsMinimal};
@@ -14,15 +14,15 @@ ghost use Rattle.wasm_sections.specs.NumberSections.{IsWrittenNumber};
 
 use crate::bodies::{WholeBody, rewrite_body};
 use std::alloc::{Allocator, Global};
-use wasm_codec::decode::Decode;
 use wasm_codec::encode::EncodeError;
 use wasm_codec::encode::leb128::{put_u32, u32_len};
 use wasm_codec::reader::DecodeError;
 use wasm_codec::reader::cursor::{Cursor, Fault};
 use wasm_codec::reader::malformed::{Malformed, Reason};
-use wasm_codec::rewriter::Rewriter;
+use wasm_codec::rewriter::{Part, Rewriter};
 use wasm_lists::encode::Encode;
 use wasm_lists::rewriting::RewritableBody;
+use wasm_modules::decode::Decode;
 
 /// A start section: the function that instantiating the module calls (Core 3.0, Start Section).
 ///
@@ -115,7 +115,9 @@ impl RewritableBody for Number {
     fn is_lawful() {}
 
     fn rewrite(rewriter: &mut Rewriter) -> Result<(), Fault> {
+        let start = rewriter.start();
         rewriter.u32()?;
+        rewriter.end_part(&start, Part::Number);
         Ok(())
     }
 }
@@ -199,6 +201,7 @@ impl<'a> Decode<'a> for StartSection {
     fn check_all(_alloc: Global, bytes: &[u8]) -> Result<(), DecodeError>
         ensures checks { ChecksAll (minimal_only start_body).Encodes (IsNothingOr (minimal_only start_body)) bytes.now (as_read result) }
         ensures place { IfErr result (LiesIn (length bytes.now)) }
+        ensures counts { IfMalformed result (λ _. ⊤) }
     {
         read_number_strict(bytes)?;
         Ok(())
@@ -208,6 +211,7 @@ impl<'a> Decode<'a> for StartSection {
         ensures rewrites { RewritesAll start_body (IsNothingOr start_body) bytes.items (as_read result) }
         ensures memory { NeedsNoMemory (as_read result) }
         ensures place { IfErr result (LiesIn (length bytes.items)) }
+        ensures counts { IfMalformed result (λ _. ⊤) }
     {
         rewrite_body::<Number>(bytes)
     }
@@ -250,6 +254,7 @@ impl<'a> Decode<'a> for DataCountSection {
     fn check_all(_alloc: Global, bytes: &[u8]) -> Result<(), DecodeError>
         ensures checks { ChecksAll (minimal_only data_count_body).Encodes (IsNothingOr (minimal_only data_count_body)) bytes.now (as_read result) }
         ensures place { IfErr result (LiesIn (length bytes.now)) }
+        ensures counts { IfMalformed result (λ _. ⊤) }
     {
         read_number_strict(bytes)?;
         Ok(())
@@ -259,6 +264,7 @@ impl<'a> Decode<'a> for DataCountSection {
         ensures rewrites { RewritesAll data_count_body (IsNothingOr data_count_body) bytes.items (as_read result) }
         ensures memory { NeedsNoMemory (as_read result) }
         ensures place { IfErr result (LiesIn (length bytes.items)) }
+        ensures counts { IfMalformed result (λ _. ⊤) }
     {
         rewrite_body::<Number>(bytes)
     }

@@ -5,7 +5,7 @@ use std::test::Fail;
 use wasm_encoder::reader::{Construct, DecodeError, Reason, Refusal, SectionPlace};
 
 /// Reasons and their texts.
-const REASONS: [(Reason, &str); 19] = [
+const REASONS: [(Reason, &str); 20] = [
     (
         Reason::NumberTooLong { most: 5 },
         "LEB128 number too long: more than 5 bytes",
@@ -86,10 +86,11 @@ const REASONS: [(Reason, &str); 19] = [
         "not minimally encoded: 9 bytes, minimal is 6",
     ),
     (Reason::LongForm, "not minimally encoded"),
+    (Reason::Unexplained, "malformed"),
 ];
 
 /// The names of parts of the format.
-const CONSTRUCTS: [(Construct, &str); 32] = [
+const CONSTRUCTS: [(Construct, &str); 34] = [
     (Construct::Byte, "byte"),
     (Construct::Number, "LEB128 number"),
     (Construct::U32, "u32"),
@@ -122,6 +123,8 @@ const CONSTRUCTS: [(Construct, &str); 32] = [
     (Construct::SectionId, "section id"),
     (Construct::SubsectionId, "subsection id"),
     (Construct::Field, "field"),
+    (Construct::AbstractHeapType, "abstract heap type"),
+    (Construct::HandlerClause, "clause"),
 ];
 
 /// The text for bytes that aren't a module.
@@ -167,6 +170,7 @@ fn tells(alloc: Global, refusal: &Refusal, text: &str) -> Result<(), Fail> {
 const OUTSIDE: Refusal = Refusal {
     at: 8,
     offset: 31,
+    body: None,
     section: None,
     item: None,
     local_group: None,

@@ -71,7 +71,7 @@ impl<'a> Expected<'a> {
     /// A call refused the bytes so.
     pub fn check(&self, alloc: Global, refusal: Option<Refusal>) -> Result<(), Mismatch> {
         let refusal = refusal.ok_or(Mismatch::Place)?;
-        if refusal != self.with_reason(refusal.reason) {
+        if refusal != self.with(refusal.reason, refusal.body) {
             return Err(Mismatch::Place);
         }
         match format!(in alloc; "{:?}", refusal.reason) {
@@ -81,11 +81,12 @@ impl<'a> Expected<'a> {
         }
     }
 
-    /// The refusal at this place for a reason.
-    fn with_reason(&self, reason: Reason) -> Refusal {
+    /// The refusal at this place for a reason, in a body. Columns don't have the body.
+    fn with(&self, reason: Reason, body: Option<usize>) -> Refusal {
         Refusal {
             at: self.at,
             offset: self.offset,
+            body,
             section: self.section,
             item: self.item,
             local_group: self.local_group,

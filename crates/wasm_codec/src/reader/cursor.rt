@@ -1,5 +1,5 @@
 //! `Cursor`, a position in bytes from which values are read.
-ghost use Rattle.std.specs.Prelude.{◌≡◌, ◌^◌, ◌<◌, ◌≤◌, ◌&&◌, ◌-◌, ◌*◌, Some, IfOk, IfErr, length, take, drop, true, false, pos, negsuc};
+ghost use Rattle.std.specs.Prelude.{◌≡◌, ◌^◌, ◌<◌, ◌≤◌, ◌&&◌, ◌-◌, ◌*◌, Some, None, IfOk, IfErr, length, take, drop, true, false, pos, negsuc};
 ghost use Rattle.wasm_codec.specs.formats.Grammar.{IsBytes};
 ghost use Rattle.wasm_codec.specs.formats.Numbers.{signed};
 ghost use Rattle.wasm_codec.specs.Leb128.{signed_leb128};
@@ -61,6 +61,8 @@ pub struct Cursor<'a> {
     shortest: bool,
     /// Number of bytes after these: those behind the body, if these are one.
     behind: usize,
+    /// Number of bytes from the size of the body up to the end of the input, if these are one.
+    body: Option<usize>,
 }
 
 impl<'a> Model for Cursor<'a> {
@@ -127,6 +129,7 @@ impl<'a> Cursor<'a> {
             position: 0,
             shortest: true,
             behind: 0,
+            body: None,
         }
     }
 
@@ -157,11 +160,11 @@ impl<'a> Cursor<'a> {
         ensures place { result ≡ self.now }
         ensures bytes { IsBytes self.now.left }
     {
-        Cursor::at(self.bytes, self.position, self.shortest, self.behind)
+        Cursor::at(self.bytes, self.position, self.shortest).within(self.behind, self.body)
     }
 
     /// Returns a cursor after the first `position` bytes.
-    pub(crate) fn at(bytes: &'a [u8], position: usize, shortest: bool, behind: usize) -> Cursor<'a>
+    pub(crate) fn at(bytes: &'a [u8], position: usize, shortest: bool) -> Cursor<'a>
         requires { position ≤ length bytes.now }
         ensures place { result ≡ place shortest (drop position bytes.now) }
         ensures bytes { IsBytes (drop position bytes.now) }
@@ -170,7 +173,21 @@ impl<'a> Cursor<'a> {
             bytes,
             position,
             shortest,
+            behind: 0,
+            body: None,
+        }
+    }
+
+    /// Returns the same cursor, whose bytes have `behind` more bytes of the input after them, and are the body whose size
+    /// begins with `body` bytes up to the end of the input.
+    #[inline(always)]
+    pub(crate) fn within(self, behind: usize, body: Option<usize>) -> Cursor<'a>
+        ensures { result ≡ self.entry }
+    {
+        Cursor {
             behind,
+            body,
+            ..self
         }
     }
 
@@ -181,14 +198,16 @@ impl<'a> Cursor<'a> {
 
     /// Returns the fault at the next byte, for this reason.
     #[cold]
-    pub fn malformed(&self, reason: Reason) -> Malformed {
-        Malformed::new(reason, self.to_end())
+    pub fn malformed(&self, reason: Reason) -> Malformed
+        ensures item { result.item ≡ None }
+    {
+        Malformed::new(reason, self.to_end()).in_body(self.body)
     }
 
     /// Returns the fault that the bytes end before or inside this part.
     #[cold]
     pub fn ends_in(&self, construct: Construct) -> Malformed {
-        Malformed::new(Reason::UnexpectedEnd { construct }, self.behind)
+        Malformed::new(Reason::UnexpectedEnd { construct }, self.behind).in_body(self.body)
     }
 
     /// Returns the fault that the byte just read isn't this part.
@@ -200,7 +219,9 @@ impl<'a> Cursor<'a> {
 
     /// Returns the fault that bytes follow after the last part.
     #[cold]
-    pub fn trailing(&self) -> Malformed {
+    pub fn trailing(&self) -> Malformed
+        ensures item { result.item ≡ None }
+    {
         self.malformed(Reason::TrailingBytes { count: self.len() })
     }
 
@@ -266,7 +287,7 @@ impl<'a> Cursor<'a> {
         let left = self.len();
         if left < size as usize {
             let reason = Reason::SizeTooLarge { size, left };
-            return Err(Fault::Malformed(Malformed::new(reason, start)));
+            return Err(Fault::Malformed(Malformed::new(reason, start).in_body(self.body)));
         }
         self.take(size as usize, Construct::Body)
     }
@@ -285,7 +306,7 @@ impl<'a> Cursor<'a> {
         let start = self.to_end();
         let size = self.u32()?;
         let bytes = self.take_sized(size, start)?;
-        Ok(Cursor::at(bytes, 0, self.shortest, self.to_end()))
+        Ok(Cursor::at(bytes, 0, self.shortest).within(self.to_end(), Some(start)))
     }
 
     /// Sets whether everything read so far was minimally encoded: by the cursor of a body, once that body was read.

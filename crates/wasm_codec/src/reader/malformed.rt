@@ -1,5 +1,9 @@
 //! What is wrong with bytes that don't decode, and where.
+ghost use Rattle.std.specs.Prelude.{◌≡◌, Some, None};
+ghost use Rattle.wasm_codec.specs.declared.reader.cursor.Fault.TheVariants as faults;
+
 use crate::reader::cursor::Fault;
+use std::alloc::{AllocError, AllocFailed};
 use std::fmt;
 use thiserror::Error;
 
@@ -30,6 +34,8 @@ pub enum Construct {
     ValType,
     /// A heap type (Core 3.0, Heap Types).
     HeapType,
+    /// An abstract heap type, after the byte of a shared one.
+    AbstractHeapType,
     /// A reference type (Core 3.0, Reference Types).
     RefType,
     /// A composite, sub or recursive type (Core 3.0, Composite Types).
@@ -52,8 +58,10 @@ pub enum Construct {
     Opcode,
     /// A block type.
     BlockType,
-    /// A clause of `try_table`, or of a handler of `resume`.
+    /// A clause of `try_table`.
     Clause,
+    /// A clause of `resume`, which handles a tag.
+    HandlerClause,
     /// The ordering of an atomic instruction.
     Ordering,
     /// The flags of a branch on a cast.
@@ -87,6 +95,7 @@ impl fmt::Display for Construct {
             Construct::Name => "name",
             Construct::ValType => "value type",
             Construct::HeapType => "heap type",
+            Construct::AbstractHeapType => "abstract heap type",
             Construct::RefType => "reference type",
             Construct::TypeForm => "type form",
             Construct::Mutability => "mutability",
@@ -98,7 +107,7 @@ impl fmt::Display for Construct {
             Construct::ExportKind => "export kind",
             Construct::Opcode => "opcode",
             Construct::BlockType => "block type",
-            Construct::Clause => "clause",
+            Construct::Clause | Construct::HandlerClause => "clause",
             Construct::Ordering => "memory ordering",
             Construct::CastFlags => "cast flags",
             Construct::ElementForm => "element segment form",
@@ -225,6 +234,9 @@ pub enum Reason {
     /// A part decodes, but a number or a form in it isn't minimally encoded.
     #[error("not minimally encoded")]
     LongForm,
+    /// The bytes are refused for a reason that a check of it didn't confirm. No known input has it.
+    #[error("malformed")]
+    Unexplained,
 }
 
 /// The first malformed item of several, and the place where it begins.
@@ -232,10 +244,39 @@ pub enum Reason {
 pub struct Stop {
     /// Number of bytes left at its start.
     pub left: usize,
-    /// Number of items before it that were rewritten one by one.
+    /// Number of items before it, but for those that were scanned.
     pub passed: usize,
     /// The fault in the item.
     pub fault: Fault,
+}
+
+impl Stop {
+    /// Returns the stop at an item with `left` bytes up to the end, after this number of others.
+    pub fn new(fault: Fault, left: usize, passed: usize) -> Stop
+        ensures { result ≡ record { left = left; passed = passed; fault = fault } }
+    {
+        Stop {
+            left,
+            passed,
+            fault,
+        }
+    }
+}
+
+impl From<AllocError> for Stop {
+    ghost from_gives = { λ _ stop. stop.fault ≡ faults.Memory };
+
+    fn from(_error: AllocError) -> Stop {
+        Stop::new(Fault::Memory, 0, 0)
+    }
+}
+
+impl<T: Drop> From<AllocFailed<T>> for Stop {
+    ghost from_gives = { λ _ stop. stop.fault ≡ faults.Memory };
+
+    fn from(_error: AllocFailed<T>) -> Stop {
+        Stop::new(Fault::Memory, 0, 0)
+    }
 }
 
 /// Why bytes are malformed, and where.
@@ -247,10 +288,10 @@ pub struct Malformed {
     pub reason: Reason,
     /// Number of bytes from the malformed part up to the end.
     pub left: usize,
+    /// Number of bytes from the size of the innermost body around the part up to the end. `None` outside of bodies.
+    pub body: Option<usize>,
     /// Id of the section. `None` outside of sections.
     pub section: Option<u8>,
-    /// Number of sections before it.
-    pub section_number: usize,
     /// Number of items before it in the section's list.
     pub item: Option<u32>,
     /// Number of groups of locals before it in its code body.
@@ -267,16 +308,25 @@ impl Malformed {
     }
 
     /// Returns the reason at the byte with `left` bytes up to the end.
-    pub fn new(reason: Reason, left: usize) -> Malformed {
+    pub fn new(reason: Reason, left: usize) -> Malformed
+        ensures item { result.item ≡ None }
+    {
         Malformed {
             reason,
             left,
+            body: None,
             section: None,
-            section_number: 0,
             item: None,
             local_group: None,
             instruction: None,
         }
+    }
+
+    /// Records that the part lies in the body whose size begins with `left` bytes up to the end, or in none.
+    pub fn in_body(self, left: Option<usize>) -> Malformed
+        ensures item { result.item ≡ self.item }
+    {
+        Malformed { body: left, ..self }
     }
 
     /// Records that the part lies in the section with this id.
@@ -287,20 +337,21 @@ impl Malformed {
         }
     }
 
-    /// Records how many sections stand before it.
-    pub fn numbered(self, section_number: usize) -> Malformed {
-        Malformed {
-            section_number,
-            ..self
-        }
-    }
-
     /// Records that the part lies in the item with this index. An outer list replaces the index of an inner one.
-    pub fn in_item(self, index: u32) -> Malformed {
+    pub fn in_item(self, index: u32) -> Malformed
+        ensures item { result.item ≡ Some index }
+    {
         Malformed {
             item: Some(index),
             ..self
         }
+    }
+
+    /// Records that the part lies in no item.
+    pub fn outside_items(self) -> Malformed
+        ensures item { result.item ≡ None }
+    {
+        Malformed { item: None, ..self }
     }
 
     /// Records that the item is a group of locals.

@@ -36,6 +36,8 @@ pub struct Refusal {
     pub at: usize,
     /// Offset of the bytes for which the reason is given.
     pub offset: usize,
+    /// Offset of the size of the innermost body or name around these bytes. `None` outside of both.
+    pub body: Option<usize>,
     /// The section. `None` outside of sections.
     pub section: Option<SectionPlace>,
     /// Number of items before it in the list, such as functions in a code section. `None` outside of lists.
@@ -49,20 +51,19 @@ pub struct Refusal {
 }
 
 impl Refusal {
-    /// Returns the refusal for a fault in the part that begins at `at`, in `len` bytes.
+    /// Returns the refusal for a fault in the part that begins at `at`, in `len` bytes. A section isn't numbered yet.
     pub fn new(malformed: &Malformed, at: usize, len: usize) -> Refusal
         ensures at { result.at ≡ at }
         ensures from { at ≤ result.offset }
         ensures to { at ≤ len → result.offset ≤ len }
+        ensures item { result.item ≡ malformed.now.item }
     {
         let offset = len.saturating_sub(malformed.left).max(at);
         Refusal {
             at,
             offset,
-            section: malformed.section.map(|id| SectionPlace {
-                number: malformed.section_number,
-                id,
-            }),
+            body: malformed.body.map(|left| len.saturating_sub(left)),
+            section: malformed.section.map(|id| SectionPlace { number: 0, id }),
             item: malformed.item,
             local_group: malformed.local_group,
             instruction: malformed.instruction.map(|left| len.saturating_sub(left)),
@@ -79,6 +80,7 @@ impl Refusal {
         Refusal {
             at,
             offset: self.offset.saturating_add(count),
+            body: self.body.map(|offset| offset.saturating_add(count)),
             instruction: self.instruction.map(|offset| offset.saturating_add(count)),
             ..self
         }

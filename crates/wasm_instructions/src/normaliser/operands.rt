@@ -240,7 +240,7 @@ impl Rewritable for Handle {
 
     #[tactic(auto, using(std::proofs::Common::append_assoc), unfolding(crate::specs::formats::Operands::handle_clause))]
     fn rewrite(rewriter: &mut Rewriter) -> Result<(), Fault> {
-        match rewriter.byte_of(Construct::Clause)? {
+        match rewriter.byte_of(Construct::HandlerClause)? {
             0x00 => {
                 rewriter.u32()?;
                 rewriter.u32()?;
@@ -250,7 +250,7 @@ impl Rewritable for Handle {
                 rewriter.u32()?;
                 Ok(())
             }
-            byte => Err(Fault::Malformed(rewriter.invalid(Construct::Clause, byte))),
+            byte => Err(Fault::Malformed(rewriter.invalid(Construct::HandlerClause, byte))),
         }
     }
 }

@@ -214,7 +214,7 @@ pub fn read_handle(cursor: &mut Cursor<'_>) -> Result<Handle, Fault>
     ensures reads { Reads handle_clause.at cursor.old cursor.new result }
     ensures err { IfErr result IsMalformed }
 {
-    match cursor.byte_of(Construct::Clause)? {
+    match cursor.byte_of(Construct::HandlerClause)? {
         0x00 => {
             let tag = cursor.u32()?;
             let label = cursor.u32()?;
@@ -224,7 +224,7 @@ pub fn read_handle(cursor: &mut Cursor<'_>) -> Result<Handle, Fault>
             let tag = cursor.u32()?;
             Ok(Handle::OnSwitch { tag })
         }
-        byte => Err(Fault::Malformed(cursor.invalid(Construct::Clause, byte))),
+        byte => Err(Fault::Malformed(cursor.invalid(Construct::HandlerClause, byte))),
     }
 }
 

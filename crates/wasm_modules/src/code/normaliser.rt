@@ -15,7 +15,7 @@ use crate::code::CodeBody;
 use std::alloc::Global;
 use wasm_codec::reader::cursor::{Cursor, Fault};
 use wasm_codec::reader::{ReadError, without_reason};
-use wasm_codec::rewriter::{Rewriter, Scanned};
+use wasm_codec::rewriter::{Part, Rewriter, Scanned};
 use wasm_instructions::table::Call;
 use wasm_lists::rewriting::{
     Rewritable, RewritableBody, begins_run, rewrite_list, rewrite_list_to_end, rewrite_sized,
@@ -115,7 +115,10 @@ fn scan_short_body(bytes: &[u8]) -> Option<Scanned>
 fn rewrite_code_body(rewriter: &mut Rewriter) -> Result<(), Fault>
     ensures rewrites { Rewrites code_body rewriter.old rewriter.new result }
 {
-    rewrite_sized::<FunctionCode>(rewriter)
+    let start = rewriter.start();
+    rewrite_sized::<FunctionCode>(rewriter)?;
+    rewriter.end_part(&start, Part::Code);
+    Ok(())
 }
 
 /// The locals and instructions of a code body, which take up all of its bytes.
@@ -149,8 +152,12 @@ fn rewrite_function_code(rewriter: &mut Rewriter) -> Result<(), Fault>
 fn rewrite_locals(rewriter: &mut Rewriter) -> Result<(), Fault>
     ensures rewrites { Rewrites (items local_group) rewriter.old rewriter.new result }
 {
+    let start = rewriter.start();
     match rewrite_list::<LocalGroup>(rewriter) {
-        Ok(()) => Ok(()),
+        Ok(()) => {
+            rewriter.end_part(&start, Part::Locals);
+            Ok(())
+        }
         Err(Fault::Malformed(malformed)) => Err(Fault::Malformed(malformed.in_locals())),
         Err(Fault::Memory) => Err(Fault::Memory),
     }
@@ -169,8 +176,12 @@ impl Rewritable for LocalGroup {
 
     #[tactic(auto, using(std::proofs::Common::append_assoc))]
     fn rewrite(rewriter: &mut Rewriter) -> Result<(), Fault> {
+        let start = rewriter.start();
         rewriter.u32()?;
-        rewrite_val_type(rewriter)
+        rewriter.end_part(&start, Part::Number);
+        rewrite_val_type(rewriter)?;
+        rewriter.end_part(&start, Part::LocalGroup);
+        Ok(())
     }
 }
 

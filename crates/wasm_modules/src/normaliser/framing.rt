@@ -1,14 +1,14 @@
 //! The normaliser of modules, generic over the format of their sections (Core 3.0, Modules).
 ghost use Rattle.std.specs.Prelude.{IfErr, length};
-ghost use Rattle.wasm_codec.specs.Outcomes.{LiesIn, NeedsNoMemory, as_read};
+ghost use Rattle.wasm_codec.specs.Outcomes.{IfMalformed, LiesIn, NeedsNoMemory, as_read};
 ghost use Rattle.wasm_codec.specs.formats.Combinators.{minimal_only};
-ghost use Rattle.wasm_modules.specs.Modules.{IsModulePrefixOf};
+ghost use Rattle.wasm_modules.specs.Modules.{CountsSections, IsModulePrefixOf};
 ghost use Rattle.wasm_modules.specs.formats.Modules.{module_of};
 ghost use Rattle.wasm_codec.specs.Decoding.{Normalises, RewritesAll};
 ghost use Rattle.wasm_codec.specs.Rewriter.{Rewrites};
 ghost use Rattle.wasm_codec.specs.formats.Bodies.{sized};
 
-use crate::raw::{after_header, not_a_module};
+use crate::raw::{after_header, no_header};
 use crate::section::HEADER;
 use std::alloc::Global;
 use wasm_codec::reader::DecodeError;
@@ -41,18 +41,20 @@ pub fn rewrite_module_of<S: Joinable>(bytes: Vec<u8>) -> Result<Vec<u8>, DecodeE
     ensures rewrites { RewritesAll (module_of S.format) (IsModulePrefixOf S.format) bytes.items (as_read result) }
     ensures memory { NeedsNoMemory (as_read result) }
     ensures place { IfErr result (LiesIn (length bytes.items)) }
+    // The section that a refusal names counts the sections before it.
+    ensures counts { S.NeverScans → IfMalformed result (CountsSections S.format bytes.items) }
 {
     S::is_lawful();
     let len = bytes.len();
     let Some(_sections) = after_header(&bytes) else {
-        return Err(DecodeError::refused(&not_a_module(&bytes), 0, len));
+        return Err(no_header(&bytes));
     };
     let mut rewriter = Rewriter::new(bytes);
     rewriter.skip(HEADER.len());
     rewriter.are_bytes();
     match rewrite_joined::<S>(&mut rewriter) {
         Ok(()) => Ok(rewriter.finish()),
-        Err(stop) => Err(DecodeError::new(stop.fault, len - stop.left, len).numbered(stop.passed)),
+        Err(stop) => Err(DecodeError::stopped(stop, len).numbered(stop.passed)),
     }
 }
 

@@ -47,7 +47,7 @@ impl<'a> Readable<'a> for ModuleSection<'a> {
     {}
 
     fn read(alloc: Global, cursor: &mut Cursor<'a>) -> Result<ModuleSection<'a>, Fault> {
-        read_identified_section(alloc, cursor)
+        read_module_section(alloc, cursor)
     }
 
     fn rewrite(rewriter: &mut Rewriter) -> Result<(), Fault>
@@ -144,19 +144,4 @@ fn read_module_section<'a>(
     let section = visit_section(id, &mut reader);
     *cursor = reader.cursor;
     section
-}
-
-/// Reads a section. A fault carries the section's id.
-fn read_identified_section<'a>(
-    alloc: Global,
-    cursor: &mut Cursor<'a>,
-) -> Result<ModuleSection<'a>, Fault>
-    ensures reads { Reads module_section.at cursor.old cursor.new (map_ok module_section_parts result) }
-{
-    let id = cursor.peek(Construct::SectionId).unwrap_or(0);
-    match read_module_section(alloc, cursor) {
-        Ok(section) => Ok(section),
-        Err(Fault::Malformed(malformed)) => Err(Fault::Malformed(malformed.in_section(id))),
-        Err(Fault::Memory) => Err(Fault::Memory),
-    }
 }

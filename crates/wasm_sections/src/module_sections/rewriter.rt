@@ -1,5 +1,5 @@
 //! Rewriting of single decoded sections.
-ghost use Rattle.std.specs.Prelude.{List};
+ghost use Rattle.std.specs.Prelude.{⊤, List};
 ghost use Rattle.wasm_codec.specs.formats.Grammar.{TakesBytes};
 ghost use Rattle.wasm_codec.specs.Lawful.{IsLawful, IsLawfulBody};
 ghost use Rattle.wasm_codec.specs.Rewriter.{Rewrites};
@@ -34,6 +34,8 @@ impl Rewritable for AnySection {
 }
 
 impl Joinable for AnySection {
+    ghost NeverScans = { ⊤ };
+
     #[inline(always)]
     fn scan(_bytes: &[u8]) -> Option<Scanned> {
         None

@@ -27,7 +27,7 @@ fn rewrite_shared_type(rewriter: &mut Rewriter, construct: Construct) -> Result<
 {
     if rewriter.peek(construct)? == 0x65 {
         rewriter.byte()?;
-        rewrite_abstract_type(rewriter, construct)?;
+        rewrite_abstract_type(rewriter, Construct::AbstractHeapType)?;
         return Ok(());
     }
     rewrite_abstract_type(rewriter, construct)?;

@@ -47,7 +47,10 @@ fn read_shared_type(
 {
     if cursor.peek(construct)? == 0x65 {
         cursor.byte()?;
-        return Ok((true, read_abstract_type(cursor, construct)?));
+        return Ok((
+            true,
+            read_abstract_type(cursor, Construct::AbstractHeapType)?,
+        ));
     }
     Ok((false, read_abstract_type(cursor, construct)?))
 }

@@ -6,7 +6,7 @@ use Rattle.wasm_codec.specs.Outcomes.{read_error_of}
 use Rattle.wasm_codec.specs.Places.{place}
 use Rattle.wasm_codec.specs.formats.Combinators.{minimal_only, u32}
 use Rattle.wasm_codec.proofs.ListReading.{IsBytes-from}
-use Rattle.wasm_lists.proofs.CheckLaws.{list_taken, refused_prefix, refused_unencoded, no_list, no_list_prefix}
+use Rattle.wasm_lists.proofs.CheckLaws.{list_taken, refused_counts, refused_prefix, refused_unencoded, no_list, no_list_prefix}
 use Rattle.wasm_lists.proofs.checking.check_list_to_end.Goals as goal
 
 pub returns-in-Some-clause-checks : goal.returns-in-Some-clause-checks
@@ -34,3 +34,10 @@ returns-clause-checks g c =
       prefix = tt;
       unencoded = tt;
     }
+
+pub returns-in_err-_list-clause-counts : goal.returns-in_err-_list-clause-counts
+returns-in_err-_list-clause-counts g c =
+    let there : is_some ((minimal_only u32).at (place true c.args.bytes.now)) ≡ true = grind arith in
+    let fits : IsBytes c.args.bytes.now = IsBytes-from c.args.bytes.now (λ i. omega (arith, c.type_inv.bytes i)) in
+    let p = err_from_is_err_and c.from_residual-in_err-_list.result c.from_residual-in_err-_list.ensures.1 in
+    rw (p.1, p.2, ← c.in_ok-from_slice.ensures.items) (refused_counts g.T.Rewritable.format c.in_ok-from_slice.field-0.items c.in_err-_list.field-0.0 (rw c.in_ok-from_slice.ensures.items fits) (rw c.in_ok-from_slice.ensures.items there) c.in_err-_list.ensures.counts)

@@ -1,4 +1,4 @@
-use Rattle.std.proofs.Common.{length}
+use Rattle.std.proofs.Common.{◌≡◌, length}
 use Rattle.wasm_codec.specs.Places.{WasMinimalIf}
 use Rattle.wasm_codec.specs.formats.Combinators.{minimal_if}
 use Rattle.wasm_codec.proofs.MinimalIfLaws.{flag}
@@ -8,6 +8,7 @@ use Rattle.wasm_lists.proofs.reading.read_items_minimal_if.Given as goal
 abbrev pub invariant-loop-alloc : goal.invariant-loop-alloc
 invariant-loop-alloc g l = record {
   some : PassedSome (minimal_if (flag g.row.STRICT) g.T.Readable.format) l.fn.cursor l.cursor (g.T.Readable.views l.items.items);
+  len : length (g.T.Readable.views l.items.items) ≡ length l.items.items;
   minimal_if : WasMinimalIf (flag g.row.STRICT) l.cursor;
 }
 

@@ -4,7 +4,7 @@ use Rattle.wasm_codec.proofs.RewriterLaws.{no_items_rewritten, item_rewritten, i
 use Rattle.wasm_lists.proofs.rewriting.rewrite_list.Goals as goal
 
 pub loop-index-init : goal.loop-index-init
-loop-index-init g c = no_items_rewritten g.T.Rewritable.format c.args.rewriter.now c.u32.new.self c.in_ok-count.count c.in_ok-count.ensures
+loop-index-init g c = rw c.end_part.ensures (no_items_rewritten g.T.Rewritable.format c.args.rewriter.now c.u32.new.self c.in_ok-count.count c.in_ok-count.ensures)
 
 pub returns-in_err-rewrite_item : goal.returns-in_err-rewrite_item
 returns-in_err-rewrite_item g c =

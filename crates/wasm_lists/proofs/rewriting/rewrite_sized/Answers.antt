@@ -7,4 +7,4 @@ pub close_body-requires-clause-shorter : goal.close_body-requires-clause-shorter
 close_body-requires-clause-shorter g c =
     let none : c.rewrite.new.rewriter.place.left ≡ [] = nil_from_length c.rewrite.new.rewriter.place.left (omega arith) in
     let b = c.in_ok-body.body in
-    (body_done c.is_lawful.ensures c.args.rewriter.now c.open_body.new.self c.rewrite.new.rewriter b.mark b.size b.behind c.are_bytes.ensures c.in_ok-body.ensures c.in_ok-rewrite.ensures.rewrites none).shorter
+    (body_done c.is_lawful.ensures c.args.rewriter.now c.open_body.new.self c.rewrite.new.rewriter b.mark b.size b.behind c.are_bytes.ensures c.in_ok-body.ensures (rw c.end_part.ensures at c.in_ok-rewrite.ensures.rewrites) none).shorter

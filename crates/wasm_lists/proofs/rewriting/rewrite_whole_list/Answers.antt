@@ -1,13 +1,16 @@
-use Rattle.std.proofs.Common.{◌≡◌, ◌≤◌, ◌-◌, length, ap, subst, arith}
+use Rattle.std.proofs.Common.{◌≡◌, ℕ, ◌-◌, false, None, length, ap, subst, ◌∙◌, arith}
 use Rattle.wasm_codec.specs.formats.Grammar.{IsBytes}
 use Rattle.wasm_codec.specs.Rewriter.{Rewriting, RefusesList}
 use Rattle.wasm_codec.proofs.ListRewriting.{list_begun, list_more, no_count_error, no_item_error, left_over, list_given}
+use Rattle.wasm_codec.specs.formats.Combinators.{u32}
+use Rattle.wasm_codec.specs.Lists.{HasItemsBefore, IsCountedAt}
+use Rattle.wasm_codec.proofs.RefusalNumbers.{all_before, counts_before, counts_nothing, counts_refused, gone_before}
 use Rattle.wasm_lists.proofs.rewriting.rewrite_whole_list.Goals as goal
 
 pub returns-in-Err-clause-rewrites : goal.returns-in-Err-clause-rewrites
 returns-in-Err-clause-rewrites g c =
     let fits : IsBytes c.args.bytes.items = subst IsBytes (ap (λ (r : Rewriting). r.place.left) c.new-rewriter.ensures) c.are_bytes.ensures in
-    rw c.new.ensures.error (no_count_error g.T.Rewritable.format c.args.bytes.items c.new-rewriter.result c.u32.new.self c.in-Err.fault fits c.new-rewriter.ensures c.in-Err.ensures)
+    rw (c.outside_items.ensures.error, c.new.ensures.error) (no_count_error g.T.Rewritable.format c.args.bytes.items c.new-rewriter.result c.u32.new.self c.in-Err.fault fits c.new-rewriter.ensures c.in-Err.ensures)
 
 pub loop-index-init : goal.loop-index-init
 loop-index-init g c =
@@ -34,3 +37,20 @@ pub returns-clause-rewrites : goal.returns-clause-rewrites
 returns-clause-rewrites g c =
     let full : c.loop-index.index ≡ c.in-Ok.count = omega arith in
     rw c.finish.ensures (list_given g.T.Rewritable.format c.args.bytes.items c.loop-index.rewriter c.in-Ok.count c.loop-index.index c.loop-index.invariant full (omega arith))
+
+pub returns-in-Err-clause-counts : goal.returns-in-Err-clause-counts
+returns-in-Err-clause-counts g c = counts_nothing false g.T.Rewritable.format c.args.bytes.items c.outside_items.result c.in-Err.fault (c.outside_items.ensures.error ∙ c.new.ensures.error) c.outside_items.ensures.item
+
+pub returns-in-Err-rewrite-clause-counts : goal.returns-in-Err-rewrite-clause-counts
+returns-in-Err-rewrite-clause-counts g c =
+    let before = gone_before c.args.bytes.items c.loop-index.rewriter.place.left c.in-Ok.count c.loop-index.index c.loop-index.invariant.values c.loop-index.invariant.gone in
+    let at : length c.args.bytes.items - length c.loop-index.rewriter.place.left ≡ c.len-len.result - c.len-left.result = omega arith in
+    counts_before false g.T.Rewritable.format c.args.bytes.items c.in_item.result c.new-in-Err-rewrite.result c.in-Err-rewrite.fault (c.len-len.result - c.len-left.result) c.loop-index.index c.in-Ok.count c.in_item.ensures.error c.new-in-Err-rewrite.ensures.error c.in_item.ensures.item c.loop-index-test.true
+    (subst (HasItemsBefore u32.Encodes g.T.Rewritable.format.Encodes c.args.bytes.items c.in-Ok.count c.loop-index.index) at before)
+
+pub returns-then-left-gt0-clause-counts : goal.returns-then-left-gt0-clause-counts
+returns-then-left-gt0-clause-counts g c =
+    let full : c.loop-index.index ≡ c.in-Ok.count = omega arith in
+    let before = all_before c.args.bytes.items c.loop-index.rewriter.place.left c.in-Ok.count c.loop-index.index c.loop-index.invariant.values c.loop-index.invariant.gone full in
+    let at : length c.args.bytes.items - length c.loop-index.rewriter.place.left ≡ c.len-len.result - c.len-left-2.result = omega arith in
+    counts_refused false g.T.Rewritable.format c.args.bytes.items c.refused.result (c.len-len.result - c.len-left-2.result) None c.refused.ensures.error (c.refused.ensures.item ∙ c.trailing.ensures.item) (subst (λ (n : ℕ). IsCountedAt u32.Encodes g.T.Rewritable.format.Encodes c.args.bytes.items n None) at before)

@@ -13,7 +13,7 @@ pub returns : goal.returns
 returns c =
     let b = c.args.body in
     let d = c.u32_len-digits in
-    c.widen.ensures ∙ ap (widened b.behind) (elim c.if-written_len-body.branch [
+    c.leave_body.ensures ∙ c.widen.ensures ∙ ap (widened b.behind) (elim c.if-written_len-body.branch [
       | then-written_len-body w ↦ w.self-is ∙ w.put_size.ensures ∙ ap (λ (n : ℕ). resized b.mark n c.args.self.now) d.ensures.value
       | else-written_len-body w ↦ w.self-is ∙ sym (same_size c.args.self.now b.mark (length (unsigned_leb128 b.size)) b.size refl c.requires.begun (omega (arith, c.requires.shorter, d.ensures.value)) c.requires.sized)
     ])

@@ -1,12 +1,14 @@
 //! What is decoded from all of its bytes, and the five calls that read, check and normalise it.
-ghost use Rattle.std.specs.Prelude.{ℕ, List, IfErr, length};
-ghost use Rattle.wasm_codec.specs.Outcomes.{LiesIn, NeedsNoMemory, as_read};
+ghost use Rattle.std.specs.Prelude.{ℕ, Bool, true, false, List, ⊤, IfErr, length};
+ghost use Rattle.wasm_codec.specs.Outcomes.{IfMalformed, LiesIn, NeedsNoMemory, as_read};
 ghost use Rattle.wasm_codec.specs.Lawful.{IsLawfulBody};
 ghost use Rattle.wasm_codec.specs.formats.Combinators.{Format};
+ghost use Rattle.wasm_modules.specs.Reasons.{IsTrueOf};
 ghost use Rattle.wasm_codec.specs.Decoding.{IsMinimal, ReadsAll, ChecksAll, RewritesAll, Decodes, DecodesMinimal, Checks, NormalisesInPlace, Normalises};
 
-use crate::reader::DecodeError;
+use crate::reasons::explained;
 use std::alloc::Global;
+use wasm_codec::reader::DecodeError;
 
 /// What is decoded from all of its bytes, such as the body of a section.
 ///
@@ -22,6 +24,8 @@ use std::alloc::Global;
 /// assert_eq!(rt; strict.err().and_then(|error| error.at()), Some(0));
 /// ```
 pub trait Decode<'a> {
+    ghost use Rattle.wasm_codec.specs.declared.reader.refusal.Refusal.{Refusal};
+
     /// What reading returns.
     type Output: Drop;
 
@@ -46,6 +50,10 @@ pub trait Decode<'a> {
     /// Whether reading allocates nothing, and so never fails with `Memory`. By default it may.
     ghost ReadsInPlace: { Type 0 } = { ⊥ };
 
+    /// What the numbers in a refusal count: the items or the sections before the part that is refused. If the flag is
+    /// set, they are minimally encoded. By default nothing is known.
+    ghost Counts: { Bool → List ℕ → Refusal → Type 0 } = { λ strict bytes refusal. ⊤ };
+
     /// Tells the proof that the format is lawful. The call does nothing.
     fn is_lawful()
         ensures lawful { IsLawfulBody format }
@@ -55,23 +63,27 @@ pub trait Decode<'a> {
     fn read_all(alloc: Global, bytes: &'a [u8]) -> Result<Self::Output, DecodeError>
         ensures reads { ReadsAll view format.Encodes IsPrefix bytes.now (as_read result) }
         ensures place { IfErr result (LiesIn (length bytes.now)) }
+        ensures counts { IfMalformed result (Counts false bytes.now) }
         ensures memory { ReadsInPlace → NeedsNoMemory (as_read result) };
 
     /// Reads the value from all of the bytes, if they are its minimal encoding.
     fn read_all_strict(alloc: Global, bytes: &'a [u8]) -> Result<Self::Output, DecodeError>
         ensures reads { ReadsAll view Minimal IsMinimalPrefix bytes.now (as_read result) }
         ensures place { IfErr result (LiesIn (length bytes.now)) }
+        ensures counts { IfMalformed result (Counts true bytes.now) }
         ensures memory { ReadsInPlace → NeedsNoMemory (as_read result) };
 
     /// Checks whether the bytes are the minimal encoding of a value.
     fn check_all(alloc: Global, bytes: &[u8]) -> Result<(), DecodeError>
         ensures checks { ChecksAll Minimal IsMinimalPrefix bytes.now (as_read result) }
-        ensures place { IfErr result (LiesIn (length bytes.now)) };
+        ensures place { IfErr result (LiesIn (length bytes.now)) }
+        ensures counts { IfMalformed result (Counts true bytes.now) };
 
     /// Rewrites the bytes in place to the minimal encoding of the value that they encode.
     fn rewrite_all(bytes: Vec<u8>) -> Result<Vec<u8>, DecodeError>
         ensures rewrites { RewritesAll format IsPrefix bytes.items (as_read result) }
         ensures place { IfErr result (LiesIn (length bytes.items)) }
+        ensures counts { IfMalformed result (Counts false bytes.items) }
         ensures memory { NeedsNoMemory (as_read result) };
 }
 
@@ -93,10 +105,12 @@ pub trait Decode<'a> {
 pub fn read<'a, T: Decode<'a>>(alloc: Global, bytes: &'a [u8]) -> Result<T::Output, DecodeError>
     ensures decodes { Decodes T.view T.format T.IsPrefix bytes.now (as_read result) }
     ensures place { IfErr result (LiesIn (length bytes.now)) }
+    ensures counts { IfMalformed result (T.Counts false bytes.now) }
     ensures memory { T.ReadsInPlace → NeedsNoMemory (as_read result) }
+    ensures why { IfErr result (IsTrueOf bytes.now) }
 {
     T::is_lawful();
-    T::read_all(alloc, bytes)
+    explained(T::read_all(alloc, bytes), bytes)
 }
 
 /// Reads the value that the bytes encode, if they are its minimal encoding.
@@ -113,17 +127,19 @@ pub fn read<'a, T: Decode<'a>>(alloc: Global, bytes: &'a [u8]) -> Result<T::Outp
 /// let padded = read_strict::<FunctionSection>(rt.alloc(), b"\x02\x00\x81\x00"); // the index 1 in two bytes
 /// assert_eq!(rt; padded.err().and_then(|error| error.at()), Some(2));
 /// ```
-#[tactic(auto, using(crate::proofs::DecodingLaws::decodes_minimal))]
+#[tactic(auto, using(wasm_codec::proofs::DecodingLaws::decodes_minimal))]
 pub fn read_strict<'a, T: Decode<'a>>(
     alloc: Global,
     bytes: &'a [u8],
 ) -> Result<T::Output, DecodeError>
     ensures decodes { DecodesMinimal T.view T.format T.Minimal T.IsMinimalPrefix bytes.now (as_read result) }
     ensures place { IfErr result (LiesIn (length bytes.now)) }
+    ensures counts { IfMalformed result (T.Counts true bytes.now) }
     ensures memory { T.ReadsInPlace → NeedsNoMemory (as_read result) }
+    ensures why { IfErr result (IsTrueOf bytes.now) }
 {
     T::is_lawful();
-    T::read_all_strict(alloc, bytes)
+    explained(T::read_all_strict(alloc, bytes), bytes)
 }
 
 /// Checks whether the bytes are the minimal encoding of a value.
@@ -139,13 +155,15 @@ pub fn read_strict<'a, T: Decode<'a>>(
 /// let padded = check::<MemorySection>(rt.alloc(), b"\x01\x00\x82\x00"); // the number of pages in two bytes
 /// assert_eq!(rt; padded.err().and_then(|error| error.at()), Some(1));
 /// ```
-#[tactic(auto, using(crate::proofs::DecodingLaws::checks))]
+#[tactic(auto, using(wasm_codec::proofs::DecodingLaws::checks))]
 pub fn check<'a, T: Decode<'a>>(alloc: Global, bytes: &[u8]) -> Result<(), DecodeError>
     ensures checks { Checks T.format T.Minimal T.IsMinimalPrefix bytes.now (as_read result) }
     ensures place { IfErr result (LiesIn (length bytes.now)) }
+    ensures counts { IfMalformed result (T.Counts true bytes.now) }
+    ensures why { IfErr result (IsTrueOf bytes.now) }
 {
     T::is_lawful();
-    T::check_all(alloc, bytes)
+    explained(T::check_all(alloc, bytes), bytes)
 }
 
 /// Returns the minimal encoding of the value that the bytes encode.
@@ -162,15 +180,18 @@ pub fn check<'a, T: Decode<'a>>(alloc: Global, bytes: &[u8]) -> Result<(), Decod
 pub fn normalise<'a, T: Decode<'a>>(alloc: Global, bytes: &[u8]) -> Result<Vec<u8>, DecodeError>
     ensures normalises { Normalises T.format T.Minimal T.IsPrefix bytes.now (as_read result) }
     ensures place { IfErr result (LiesIn (length bytes.now)) }
+    ensures counts { IfMalformed result (T.Counts false bytes.now) }
+    ensures why { IfErr result (IsTrueOf bytes.now) }
 {
     T::is_lawful();
-    rewrite_copy::<T>(alloc, bytes)
+    explained(rewrite_copy::<T>(alloc, bytes), bytes)
 }
 
 /// Copies the bytes and rewrites the copy.
 fn rewrite_copy<'a, T: Decode<'a>>(alloc: Global, bytes: &[u8]) -> Result<Vec<u8>, DecodeError>
     ensures rewrites { RewritesAll T.format T.IsPrefix bytes.now (as_read result) }
     ensures place { IfErr result (LiesIn (length bytes.now)) }
+    ensures counts { IfMalformed result (T.Counts false bytes.now) }
 {
     T::rewrite_all(Vec::from_slice(alloc, bytes)?)
 }
@@ -187,10 +208,11 @@ fn rewrite_copy<'a, T: Decode<'a>>(alloc: Global, bytes: &[u8]) -> Result<Vec<u8
 /// let minimal = rewrite::<FunctionSection>(padded)?;
 /// assert_eq!(rt; minimal.as_slice(), b"\x02\x00\x01".as_slice());
 /// ```
-#[tactic(auto, using(crate::proofs::DecodingLaws::normalises_in_place))]
+#[tactic(auto, using(wasm_codec::proofs::DecodingLaws::normalises_in_place))]
 pub fn rewrite<'a, T: Decode<'a>>(bytes: Vec<u8>) -> Result<Vec<u8>, DecodeError>
     ensures normalises { NormalisesInPlace T.format T.IsPrefix bytes.items (as_read result) }
     ensures place { IfErr result (LiesIn (length bytes.items)) }
+    ensures counts { IfMalformed result (T.Counts false bytes.items) }
 {
     T::is_lawful();
     T::rewrite_all(bytes)

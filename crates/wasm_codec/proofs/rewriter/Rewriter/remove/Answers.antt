@@ -1,7 +1,7 @@
 use Rattle.std.proofs.Common.{ap, ◌∙◌, arith}
 use Rattle.wasm_codec.specs.Rewriter.{without}
 use Rattle.wasm_codec.proofs.Windows.{cuts_out, length_all}
-use Rattle.wasm_codec.proofs.rewriter.Rewriter.cut_out.Goals as goal
+use Rattle.wasm_codec.proofs.rewriter.Rewriter.remove.Goals as goal
 
 pub returns : goal.returns
 returns c =

@@ -2,7 +2,7 @@ use Rattle.std.proofs.Common.{◌-◌, ap, ◌∙◌, arith}
 use Rattle.std.proofs.lemmas.List.{get_or_read}
 use Rattle.wasm_codec.specs.Rewriter.{shortened}
 use Rattle.wasm_codec.proofs.Windows.{shortens, length_left}
-use Rattle.wasm_codec.proofs.rewriter.Rewriter.shorten.Goals as goal
+use Rattle.wasm_codec.proofs.rewriter.Rewriter.shorten_more.Goals as goal
 
 pub returns : goal.returns
 returns c =

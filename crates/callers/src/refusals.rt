@@ -1,0 +1,33 @@
+//! What the numbers in a refusal count.
+ghost use Rattle.std.specs.Prelude.{ℕ, IfSome};
+ghost use Rattle.wasm_codec.specs.formats.Numbers.{EncodesU32};
+ghost use Rattle.wasm_encoder.specs.Lists.{HasItemsBefore};
+ghost use Rattle.wasm_modules.specs.formats.CodeBodies.{code_body};
+ghost use Rattle.wasm_modules.specs.Modules.{HasSectionsBefore};
+ghost use Rattle.wasm_sections.specs.formats.ModuleSections.{module_section};
+
+use std::alloc::Global;
+use wasm_encoder::{CodeSection, DecodeError, WholeModule, read};
+
+/// Returns how many functions of a code section decode before the malformed one. `None` means that none is malformed.
+pub fn functions_before(alloc: Global, body: &[u8]) -> Option<u32>
+    ensures { IfSome result (λ number. (count : ℕ) × (at : ℕ) × HasItemsBefore EncodesU32 code_body.Encodes body.now count number at) }
+{
+    match read::<CodeSection>(alloc, body) {
+        Err(DecodeError::Malformed(refusal)) => refusal.item,
+        _ => None,
+    }
+}
+
+/// Returns how many sections of a module decode before the malformed one. `None` means that none is malformed.
+pub fn sections_before(alloc: Global, bytes: &[u8]) -> Option<usize>
+    ensures { IfSome result (λ number. (at : ℕ) × HasSectionsBefore module_section.Encodes bytes.now number at) }
+{
+    match read::<WholeModule>(alloc, bytes) {
+        Err(DecodeError::Malformed(refusal)) => match refusal.section {
+            Some(place) => Some(place.number),
+            None => None,
+        },
+        _ => None,
+    }
+}

@@ -1,0 +1,72 @@
+//! Items rewritten in place, and the first of them that isn't minimally encoded.
+ghost use Rattle.std.specs.Prelude.{◌≡◌};
+ghost use Rattle.wasm_lists.specs.Judging.{JudgesItem, JudgesAll, first_of};
+
+use crate::rewriting::Rewritable;
+use wasm_codec::reader::cursor::Fault;
+use wasm_codec::reader::malformed::Stop;
+use wasm_codec::rewriter::Rewriter;
+
+/// The first of several items that isn't minimally encoded.
+#[derive(Clone, Copy, Debug, PartialEq, Eq)]
+pub struct LongerItem {
+    /// Number of bytes left at its start.
+    pub left: usize,
+    /// Number of items before it.
+    pub passed: usize,
+}
+
+/// Rewrites items one after another, up to the end. Returns the first that wasn't minimally encoded; `None` means that
+/// all were. Fails with the first malformed item.
+///
+/// `Rewriter::longer` tells which part of the item is the first that wasn't minimally encoded.
+pub fn judge_items<T: Rewritable>(rewriter: &mut Rewriter) -> Result<Option<LongerItem>, Stop>
+    ensures { JudgesAll T.format rewriter.old rewriter.new result }
+{
+    T::is_lawful();
+    rewriter.are_bytes();
+    let mut first = None;
+    let mut passed = 0usize;
+    while rewriter.len() > 0 {
+        let left = rewriter.len();
+        let is_minimal = match judge_item::<T>(rewriter) {
+            Ok(is_minimal) => is_minimal,
+            Err(fault) => {
+                return Err(Stop {
+                    left,
+                    passed,
+                    fault,
+                });
+            }
+        };
+        first = first_of(first, is_minimal, LongerItem { left, passed });
+        passed = passed.wrapping_add(1);
+    }
+    Ok(first)
+}
+
+/// Rewrites the next item. Returns whether it was minimally encoded.
+fn judge_item<T: Rewritable>(rewriter: &mut Rewriter) -> Result<bool, Fault>
+    ensures { JudgesItem T.format rewriter.old rewriter.new result }
+{
+    T::is_lawful();
+    rewriter.are_bytes();
+    let (mark, len) = (rewriter.written_len(), rewriter.len());
+    T::rewrite(rewriter)?;
+    let (minimal, bytes) = (rewriter.written_len() - mark, len - rewriter.len());
+    if minimal < bytes {
+        return Ok(false);
+    }
+    Ok(true)
+}
+
+/// Returns the first item that isn't minimally encoded, after this one was found first and `item` was judged.
+fn first_of(first: Option<LongerItem>, is_minimal: bool, item: LongerItem) -> Option<LongerItem>
+    ensures { result ≡ first_of first is_minimal item }
+{
+    match first {
+        Some(first) => Some(first),
+        None if is_minimal => None,
+        None => Some(item),
+    }
+}
