@@ -6,8 +6,8 @@ from documentation import sources
 
 TOP = "wasm_encoder"
 # The chapters, which are the public modules of the crate, in the order of reading. Other modules follow them.
-CHAPTERS = ["encode", "types", "list", "operands", "table", "sink", "code", "sections", "wasm_core", "raw", "decode",
-            "reader"]
+CHAPTERS = ["encode", "types", "list", "operands", "table", "sink", "code", "sections", "indices", "wasm_core", "raw",
+            "decode", "reader"]
 # Chapters of items that no module has.
 AT_TOP = {"opcode_name": "table"}
 # The order of kinds in a chapter.

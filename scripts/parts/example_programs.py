@@ -171,6 +171,10 @@ end
 # Programs that trap, and the functions of the stack trace, from the innermost.
 TRAPS = {"trap": (TRAP, ["divide", "average", "main"])}
 
+# A program, and the names of its functions and locals as wasm-objdump shows them.
+NAMES = (TRAP, ["func[0] <print>", "func[1] <divide>", "func[2] <average>", "func[3] <main>", "func[1] local[0] <a>",
+                "func[1] local[1] <b>", "func[2] local[0] <sum>", "func[2] local[1] <count>"])
+
 # Programs and what they print.
 PROGRAMS = {
     "primes": (PRIMES, ["2", "3", "5", "7", "11", "13", "17", "19", "23", "29", "10"]),

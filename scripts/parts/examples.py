@@ -2,16 +2,19 @@
 
 Each module of example_compiler must compute what node computes of the same expression in whole numbers, cut to 32
 bits. Each module of example_language must print what example_programs says, or trap with the functions that it says in
-the stack trace. That of example_hello must print its line through node's WASI. Another text must be refused with its
-message and status 1, and nothing written. wasm-validate (wabt) and wasm-opt (binaryen) must accept each module. `rt ci`
-builds two programs of each example, with LLVM and with Rattle's own compiler; this part runs both.
+the stack trace; so must the modules that example_edit makes of them, with the names that it keeps. wasm-objdump and
+wasm2wat (wabt) must show the names of functions and locals. That of example_hello must print its line through node's
+WASI. Another text must be refused with its message and status 1, and nothing written. wasm-validate (wabt) and wasm-opt
+(binaryen) must accept each module. `rt ci` builds two programs of each example, with LLVM and with Rattle's own
+compiler; this part runs both.
 """
 import dataclasses
 import pathlib
+import re
 
 from parts.built_modules import BINARYEN, WABT
 from parts.common import both_programs, lacks, room, run as run_command, said, text_of
-from parts.example_programs import PROGRAMS, REFUSED as REFUSED_PROGRAMS, TRAPS
+from parts.example_programs import NAMES, PROGRAMS, REFUSED as REFUSED_PROGRAMS, TRAPS
 
 # Compares the function that a module exports with an expression over a and b, which JavaScript writes alike.
 COMPARE = r"""
@@ -65,29 +68,36 @@ REFUSED = {
 }
 
 
-# Runs `main` of a module of the example language, and prints what it printed and returned.
+# Runs `main` of a module of the example language, or `run` of an edited one, and prints what it printed and returned.
+# `trace.enter` must get the index of a function that the module defines.
 RUN = r"""
 import { readFileSync } from "node:fs";
 const shown = [];
 const env = { print: number => shown.push(number), show: address => shown.push({ address }) };
+const entered = [];
+const trace = { enter: index => entered.push(index) };
 const module = new WebAssembly.Module(readFileSync(process.argv[2]));
-const { exports } = new WebAssembly.Instance(module, { env });
+const { exports } = new WebAssembly.Instance(module, { env, trace });
 const textAt = ({ address }) => {
     const { buffer } = exports.memory;
     const length = new DataView(buffer).getUint32(address, true);
     return new TextDecoder().decode(new Uint8Array(buffer, address + 4, length));
 };
-shown.push(exports.main());
+shown.push((exports.main ?? exports.run)());
+const imported = WebAssembly.Module.imports(module).filter(({ kind }) => kind === "function").length;
+if (!exports.main && entered.length === 0) console.log("no function was traced");
+if (entered.some(index => index < imported)) console.log("an import was traced");
 for (const item of shown) console.log(typeof item === "number" ? item : textAt(item));
 """
 
-# Runs `main` of a module of the example language, and prints the module's functions in the stack trace of the trap.
+# Runs `main` of a module of the example language, or `run` of an edited one, and prints the module's functions in the
+# stack trace of the trap.
 TRACE = r"""
 import { readFileSync } from "node:fs";
 const module = new WebAssembly.Module(readFileSync(process.argv[2]));
-const { exports } = new WebAssembly.Instance(module, { env: { print: () => {} } });
+const { exports } = new WebAssembly.Instance(module, { env: { print: () => {} }, trace: { enter: () => {} } });
 try {
-    exports.main();
+    (exports.main ?? exports.run)();
 } catch (error) {
     for (const [, name] of error.stack.matchAll(/^ *at (\S+) \(wasm:/gm)) console.log(name);
 }
@@ -111,13 +121,18 @@ class Trial:
     folder: pathlib.Path
     tools: list
 
-    def printed(self, program, words, text, script, *arguments):
-        """Lets a program write a module, gives it to the tools, and runs it. Returns what it printed, or the fault."""
+    def printed(self, programs, words, text, script, *arguments):
+        """Lets a program write a module and the others edit it, gives it to the tools, and runs it. Returns what it
+        printed, or the fault.
+        """
         module = self.folder / "module"
-        ran = run_command(program, *words, input=text.encode())
-        if ran.returncode:
-            return "", text_of(ran.stderr)
-        module.write_bytes(ran.stdout)
+        written = text.encode()
+        for program in programs:
+            ran = run_command(program, *words, input=written)
+            if ran.returncode:
+                return "", text_of(ran.stderr)
+            written = ran.stdout
+        module.write_bytes(written)
         for tool in self.tools:
             checked = run_command(*tool, module)
             if checked.returncode:
@@ -125,10 +140,29 @@ class Trial:
         ran = run_command("node", "--no-warnings", self.folder / script, module, *arguments)
         return ran.stdout.decode("utf-8", "replace"), f"node: {said(ran)}" if ran.returncode else ""
 
-    def must_print(self, name, program, words, text, script, *arguments, expected=""):
-        """A program's module must print this."""
-        printed, fault = self.printed(program, words, text, script, *arguments)
+    def must_print(self, name, programs, words, text, script, *arguments, expected=""):
+        """The module of these programs must print this."""
+        printed, fault = self.printed(programs, words, text, script, *arguments)
         self.report.check(name, not fault and printed == expected, fault or f"prints {printed!r}")
+
+    def must_name(self, program, text, shown):
+        """Both tools of wabt must show these names of a program's module."""
+        module = self.folder / "module"
+        module.write_bytes(run_command(program, input=text.encode()).stdout)
+        listed = text_of(run_command("wasm-objdump", "-x", "-j", "name", module).stdout)
+        found = re.findall(r"^ - (func\[.*)$", listed, re.MULTILINE)
+        self.report.check(f"{program.name}: names in wasm-objdump", found == shown, f"shows {found}")
+        text = text_of(run_command("wasm2wat", module).stdout)
+        wanted = [f"${name}" for line in shown for name in re.findall("<(.*)>", line)]
+        missing = [name for name in wanted if not re.search(rf"{re.escape(name)}\b", text)]
+        self.report.check(f"{program.name}: names in wasm2wat", not missing, f"lacks {missing}")
+
+    def must_print_all(self, title, programs):
+        """The modules of all programs of the example language must print their lines."""
+        for texts, script in ((PROGRAMS, "run.mjs"), (TRAPS, "trace.mjs")):
+            for name, (text, lines) in texts.items():
+                self.must_print(f"{title}: {name}", programs, [], text, script,
+                                expected="".join(f"{line}\n" for line in lines))
 
     def must_refuse(self, program, words, refused):
         """A program must refuse each text with its message."""
@@ -150,14 +184,16 @@ def run(report):
         trial = Trial(report, folder, tools)
         for program in both_programs(report, "example_compiler"):
             for expression in EXPRESSIONS:
-                trial.must_print(f"{program.name}: '{expression}'", program, ["module"], f"{expression}\n",
+                trial.must_print(f"{program.name}: '{expression}'", [program], ["module"], f"{expression}\n",
                                  "compare.mjs", expression)
             trial.must_refuse(program, ["module"], REFUSED)
-        for program in both_programs(report, "example_language"):
-            for programs, script in ((PROGRAMS, "run.mjs"), (TRAPS, "trace.mjs")):
-                for name, (text, lines) in programs.items():
-                    trial.must_print(f"{program.name}: {name}", program, [], text, script,
-                                     expected="".join(f"{line}\n" for line in lines))
+        compilers = list(both_programs(report, "example_language"))
+        for program in compilers:
+            trial.must_print_all(program.name, [program])
+            if not lacks(report, "wasm-objdump", "no names were shown"):
+                trial.must_name(program, *NAMES)
             trial.must_refuse(program, [], REFUSED_PROGRAMS)
+        for compiler, program in zip(compilers, both_programs(report, "example_edit")):
+            trial.must_print_all(program.name, [compiler, program])
         for program in both_programs(report, "example_hello"):
-            trial.must_print(program.name, program, [], "", "command.mjs", expected="Hello, world!\n")
+            trial.must_print(program.name, [program], [], "", "command.mjs", expected="Hello, world!\n")

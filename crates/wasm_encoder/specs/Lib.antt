@@ -22,7 +22,9 @@ pub use Rattle.wasm_modules.specs.formats.CodeBodies as CodeFormats
 pub use Rattle.wasm_modules.specs.CodeCounts
 pub use Rattle.wasm_modules.specs.formats.Modules as ModuleFormats
 pub use Rattle.wasm_modules.specs.formats.Sections
+pub use Rattle.wasm_modules.specs.Judging
 pub use Rattle.wasm_modules.specs.Modules
+pub use Rattle.wasm_modules.specs.Reasons
 pub use Rattle.wasm_types.specs.PrefixFree as PrefixFreeTypes
 pub use Rattle.wasm_instructions.specs.PrefixFree as PrefixFreeInstructions
 pub use Rattle.wasm_modules.specs.PrefixFree as PrefixFreeSections
@@ -44,6 +46,9 @@ pub use Rattle.wasm_sections.specs.SectionBytes
 pub use Rattle.wasm_sections.specs.ClosedEntries
 pub use Rattle.wasm_sections.specs.Prefixes
 pub use Rattle.wasm_whole_modules.specs.ModuleOrder
+pub use Rattle.wasm_whole_modules.specs.IndexSpaces
+pub use Rattle.wasm_whole_modules.specs.MappedIndices
+pub use Rattle.wasm_whole_modules.specs.MappedSections
 pub use Rattle.wasm_whole_modules.specs.Stops
 pub use Rattle.wasm_sections.specs.SectionKinds
 pub use Rattle.wasm_sections.specs.ListSections

@@ -3,32 +3,34 @@
 //! The type that builds a section is the type that decodes its body: `read::<ExportSection>(alloc, body)` returns the
 //! exports, and so on. [`Instructions`] stands for a list of instructions, [`Module`] for a module with undecoded sections,
 //! and `WholeModule` for one with every section decoded. Implement [`Decode`] for a type of your own.
-ghost use Rattle.std.specs.Prelude.{List, IfErr, length};
-ghost use Rattle.wasm_codec.specs.Outcomes.{LiesIn, as_read, NeedsNoMemory, EncodesSome};
+ghost use Rattle.std.specs.Prelude.{List, true, false, IfErr, length, ⊤};
+ghost use Rattle.wasm_codec.specs.Outcomes.{IfMalformed, LiesIn, as_read, NeedsNoMemory, EncodesSome};
 ghost use Rattle.wasm_codec.specs.Decoding.{IsMinimal, ChecksAll, RewritesAll};
 ghost use Rattle.wasm_codec.specs.Lawful.{IsLawfulBody};
 ghost use Rattle.wasm_codec.specs.formats.Bodies.{to_end};
+ghost use Rattle.wasm_codec.specs.formats.Combinators.{minimal_if, minimal_only};
+ghost use Rattle.wasm_codec.specs.Lists.{CountsItems};
 ghost use Rattle.wasm_types.specs.declared.types.composite.TypeEntry.{TypeEntry};
-ghost use Rattle.wasm_types.specs.formats.Types.{type_body, IsTypeBodyPrefix, ShortestTypeBody, IsShortestTypeBodyPrefix};
+ghost use Rattle.wasm_types.specs.formats.Types.{recursive_type, type_body, IsTypeBodyPrefix, ShortestTypeBody, IsShortestTypeBodyPrefix};
 ghost use Rattle.wasm_instructions.specs.formats.Instructions.{Instruction, Instructions as InstructionList, ShortestInstructions, instruction};
 ghost use Rattle.wasm_modules.specs.declared.code.CodeBody.{CodeBody};
-ghost use Rattle.wasm_modules.specs.formats.CodeBodies.{code_section_body, IsCodeSectionBodyPrefix, ShortestCodeSectionBody, IsShortestCodeSectionBodyPrefix};
+ghost use Rattle.wasm_modules.specs.formats.CodeBodies.{code_body, code_section_body, IsCodeSectionBodyPrefix, ShortestCodeSectionBody, IsShortestCodeSectionBodyPrefix};
 ghost use Rattle.wasm_modules.specs.formats.Sections.{SectionParts, all_parts_of};
-ghost use Rattle.wasm_modules.specs.formats.Modules.{raw_module, ShortestModule};
-ghost use Rattle.wasm_modules.specs.Modules.{IsModulePrefix, IsShortestModulePrefix};
+ghost use Rattle.wasm_modules.specs.formats.Modules.{raw_module, raw_section, ShortestModule};
+ghost use Rattle.wasm_modules.specs.Modules.{CountsSections, IsModulePrefix, IsShortestModulePrefix};
 
 use crate::code::CodeSection;
 use crate::raw::RawSection;
 use crate::type_section::TypeSection;
 use crate::wasm_core::Module;
 use std::alloc::Global;
-pub use wasm_codec::decode::{Decode, check, normalise, read, read_strict, rewrite};
 use wasm_codec::reader::DecodeError;
 use wasm_instructions::table::Call;
 use wasm_lists::checking::{check_items_to_end, check_list_to_end};
 use wasm_lists::reading::{read_items_to_end, read_list_to_end};
 use wasm_lists::rewriting::{rewrite_items_to_end, rewrite_list_to_end};
 use wasm_modules::code::CodeBody;
+pub use wasm_modules::decode::{Decode, check, normalise, read, read_strict, rewrite};
 use wasm_modules::raw::{check_raw_module, read_module_of, rewrite_raw_module};
 use wasm_types::types::TypeEntry;
 
@@ -80,6 +82,7 @@ impl<'a> Decode<'a> for Instructions {
     fn check_all(alloc: Global, bytes: &[u8]) -> Result<(), DecodeError>
         ensures checks { ChecksAll ShortestInstructions (EncodesSome ShortestInstructions) bytes.now (as_read result) }
         ensures place { IfErr result (LiesIn (length bytes.now)) }
+        ensures counts { IfMalformed result (λ _. ⊤) }
     {
         check_items_to_end::<Call>(alloc, bytes)
     }
@@ -89,6 +92,7 @@ impl<'a> Decode<'a> for Instructions {
         ensures rewrites { RewritesAll (to_end instruction) (EncodesSome InstructionList) bytes.items (as_read result) }
         ensures memory { NeedsNoMemory (as_read result) }
         ensures place { IfErr result (LiesIn (length bytes.items)) }
+        ensures counts { IfMalformed result (λ _. ⊤) }
     {
         rewrite_items_to_end::<Call>(bytes)
     }
@@ -108,6 +112,8 @@ impl<'a> Decode<'a> for TypeSection {
     ghost IsPrefix = { IsTypeBodyPrefix };
 
     ghost IsMinimalPrefix = { IsShortestTypeBodyPrefix };
+
+    ghost Counts = { λ strict. CountsItems strict recursive_type };
 
     #[inline(always)]
     fn is_lawful()
@@ -129,6 +135,7 @@ impl<'a> Decode<'a> for TypeSection {
     fn check_all(alloc: Global, bytes: &[u8]) -> Result<(), DecodeError>
         ensures checks { ChecksAll ShortestTypeBody IsShortestTypeBodyPrefix bytes.now (as_read result) }
         ensures place { IfErr result (LiesIn (length bytes.now)) }
+        ensures counts { IfMalformed result (CountsItems true recursive_type bytes.now) }
     {
         check_list_to_end::<TypeEntry>(alloc, bytes)
     }
@@ -138,6 +145,7 @@ impl<'a> Decode<'a> for TypeSection {
         ensures rewrites { RewritesAll type_body IsTypeBodyPrefix bytes.items (as_read result) }
         ensures memory { NeedsNoMemory (as_read result) }
         ensures place { IfErr result (LiesIn (length bytes.items)) }
+        ensures counts { IfMalformed result (CountsItems false recursive_type bytes.items) }
     {
         rewrite_list_to_end::<TypeEntry>(bytes)
     }
@@ -157,6 +165,8 @@ impl<'a> Decode<'a> for CodeSection {
     ghost IsPrefix = { IsCodeSectionBodyPrefix };
 
     ghost IsMinimalPrefix = { IsShortestCodeSectionBodyPrefix };
+
+    ghost Counts = { λ strict. CountsItems strict code_body };
 
     #[inline(always)]
     fn is_lawful()
@@ -178,6 +188,7 @@ impl<'a> Decode<'a> for CodeSection {
     fn check_all(alloc: Global, bytes: &[u8]) -> Result<(), DecodeError>
         ensures checks { ChecksAll ShortestCodeSectionBody IsShortestCodeSectionBodyPrefix bytes.now (as_read result) }
         ensures place { IfErr result (LiesIn (length bytes.now)) }
+        ensures counts { IfMalformed result (CountsItems true code_body bytes.now) }
     {
         check_list_to_end::<CodeBody>(alloc, bytes)
     }
@@ -187,6 +198,7 @@ impl<'a> Decode<'a> for CodeSection {
         ensures rewrites { RewritesAll code_section_body IsCodeSectionBodyPrefix bytes.items (as_read result) }
         ensures memory { NeedsNoMemory (as_read result) }
         ensures place { IfErr result (LiesIn (length bytes.items)) }
+        ensures counts { IfMalformed result (CountsItems false code_body bytes.items) }
     {
         rewrite_list_to_end::<CodeBody>(bytes)
     }
@@ -207,6 +219,8 @@ impl<'a> Decode<'a> for Module {
 
     ghost IsMinimalPrefix = { IsShortestModulePrefix };
 
+    ghost Counts = { λ strict. CountsSections (minimal_if strict raw_section) };
+
     #[inline(always)]
     fn is_lawful()
         ensures lawful { IsLawfulBody raw_module }
@@ -224,6 +238,7 @@ impl<'a> Decode<'a> for Module {
     fn check_all(alloc: Global, bytes: &[u8]) -> Result<(), DecodeError>
         ensures checks { ChecksAll ShortestModule IsShortestModulePrefix bytes.now (as_read result) }
         ensures place { IfErr result (LiesIn (length bytes.now)) }
+        ensures counts { IfMalformed result (CountsSections (minimal_only raw_section) bytes.now) }
     {
         check_raw_module(alloc, bytes)
     }
@@ -232,6 +247,7 @@ impl<'a> Decode<'a> for Module {
         ensures rewrites { RewritesAll raw_module IsModulePrefix bytes.items (as_read result) }
         ensures memory { NeedsNoMemory (as_read result) }
         ensures place { IfErr result (LiesIn (length bytes.items)) }
+        ensures counts { IfMalformed result (CountsSections raw_section bytes.items) }
     {
         rewrite_raw_module(bytes)
     }

@@ -43,8 +43,8 @@ pub use wasm_whole_modules::locate::{
     BrokenItem, BrokenPart, ItemCounts, count_longer_items, first_broken_item, first_broken_part,
 };
 pub use wasm_whole_modules::modules::{
-    WholeModule, check_whole_module, normalise_whole_module, read_whole_module,
-    read_whole_module_strict, rewrite_whole_module,
+    Judged, WholeModule, check_whole_module, judge_whole_module, normalise_whole_module,
+    read_whole_module, read_whole_module_strict, rewrite_whole_module,
 };
 pub use wasm_whole_modules::order::{ModuleError, check_order};
 

@@ -1,3 +1,4 @@
+pub mod MappedCalls
 pub mod StopLaws
 pub mod ModuleOrderLaws
 pub mod OffsetLaws

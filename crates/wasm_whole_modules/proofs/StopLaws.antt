@@ -6,7 +6,7 @@ use Rattle.wasm_codec.specs.Outcomes.{EncodesSome, IsLongestPrefix}
 use Rattle.wasm_codec.specs.formats.Grammar.{Grammar, IsBytes, TakesBytes, Joined}
 use Rattle.wasm_codec.specs.formats.Numbers.{EncodesU32}
 use Rattle.wasm_codec.specs.Lawful.{IsLawful}
-use Rattle.wasm_codec.specs.Lists.{EncodesList, IsListPrefix}
+use Rattle.wasm_codec.specs.Lists.{EncodesList, HasItemsBefore, IsListPrefix}
 use Rattle.wasm_codec.specs.Reading.{PlainReader, IsReadBy}
 use Rattle.wasm_codec.specs.Places.{place}
 use Rattle.wasm_codec.specs.Rewriter.{Rewriting, rewriting, rewritten_at, rewriting_after, RefusesList}
@@ -23,7 +23,7 @@ use Rattle.wasm_instructions.specs.formats.Instructions.{Instruction, Instructio
 use Rattle.wasm_modules.specs.formats.CodeBodies.{local_group, function_code}
 use Rattle.wasm_modules.proofs.CodeBodyLaws.{Lawful-local-group, local_group_takes}
 use Rattle.wasm_lists.proofs.CheckLaws.{an_item}
-use Rattle.wasm_whole_modules.specs.Stops.{HasItemsBefore, StopsAtItem, HasLonger, nothing, shortest, more, CountsLonger, Tells, TellsOfSection, StopsInCode}
+use Rattle.wasm_whole_modules.specs.Stops.{StopsAtItem, HasLonger, nothing, shortest, more, CountsLonger, Tells, TellsOfSection, StopsInCode}
 use Rattle.wasm_sections.specs.formats.ModuleSections.{HoldsItems, OfItems}
 use Rattle.wasm_sections.proofs.ModuleSectionLaws.{of_kind}
 use Rattle.wasm_whole_modules.specs.declared.locate.BrokenPart.TheVariants.{Locals, Instruction as AtInstruction}
@@ -185,7 +185,7 @@ no_code_in_locals code count index at s within parts g =
     let whole : IsListPrefix local_group.Encodes g.0 = inr (record { count = length parts.0; items = parts.0; head = l.0; back = l.1; parts = l.2; counted = l.3; few = omega arith; encoded = l.4 }) in
     let le = s.prefix.longest g.0 g.1 g.2 whole in
     by le (omega (arith, ap (length {A = ℕ}) l.2, length-append l.0 l.1)) within s.before where
-      by : length g.0 ≤ at → length g.0 ≡ length g.3.0 + length g.3.1 → (at ≡ 0) ⊎ (index < count) → ((count ≡ 0) × (index ≡ 0) × (at ≡ 0)) ⊎ HasItemsBefore local_group.Encodes code count index at → ⊥
+      by : length g.0 ≤ at → length g.0 ≡ length g.3.0 + length g.3.1 → (at ≡ 0) ⊎ (index < count) → ((count ≡ 0) × (index ≡ 0) × (at ≡ 0)) ⊎ HasItemsBefore EncodesU32 local_group.Encodes code count index at → ⊥
       by le len (inl zero) before = let some-bytes = takes_some EncodesU32 u32_takes g.3.0 (length parts.0) g.3.3 in absurd (omega arith)
       by le len (inr lt) (inl none) = absurd (omega (arith, none.0, none.1))
       by le len (inr lt) (inr h) =
@@ -208,7 +208,7 @@ record HasLocals (code calls : List ℕ) (at : ℕ) : Type 0 where
 -- what is left over after all groups are instructions
 has_locals : (code : List ℕ) (count index at : ℕ) → StopsAtItem local_group code count index at → 0 < at → count ≤ index → HasLocals code (drop at code) at
 has_locals code count index at s some full = by s.before where
-  by : ((count ≡ 0) × (index ≡ 0) × (at ≡ 0)) ⊎ HasItemsBefore local_group.Encodes code count index at → HasLocals code (drop at code) at
+  by : ((count ≡ 0) × (index ≡ 0) × (at ≡ 0)) ⊎ HasItemsBefore EncodesU32 local_group.Encodes code count index at → HasLocals code (drop at code) at
   by (inl none) = absurd (omega (arith, none.2))
   by (inr h) =
       let len : length (h.head ++ h.back) ≡ at = omega (arith, length-append h.head h.back, h.at_is) in

@@ -1,3 +1,6 @@
+pub mod IndexSpaces
+pub mod MappedIndices
+pub mod MappedSections
 pub mod ModuleOrder
 pub mod Offsets
 pub mod Selections

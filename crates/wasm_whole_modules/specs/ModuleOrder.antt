@@ -1,11 +1,12 @@
 -- The rules for the sections of a module besides their encoding: their order and their counts (WebAssembly Core 3.0,
 -- Modules).
-use Rattle.std.specs.Prelude.{◌≡◌, ℕ, Bool, false, ◌||◌, ◌==◌, ◌<◌, ◌+◌, ◌⊎◌, List, [], ◌∷◌, length, take, position, slice_get, Option, Some, None, IfSome, IfNone, IsSomeAnd, All, if◌then◌else◌}
-use Rattle.wasm_instructions.specs.declared.table.opcode.Prefix.{Prefix}
-use Rattle.wasm_instructions.specs.declared.table.opcode.Prefix.TheVariants as prefixes
+use Rattle.std.specs.Prelude.{◌≡◌, ℕ, Bool, true, false, ◌||◌, ◌==◌, ◌<◌, ◌+◌, ◌⊎◌, List, [], ◌∷◌, length, take, position, slice_get, Option, Some, None, IfSome, IfNone, IsSomeAnd, All, if◌then◌else◌}
 use Rattle.wasm_instructions.specs.formats.Instructions.{Instruction}
 use Rattle.wasm_modules.specs.declared.code.CodeBody.{CodeBody}
 use Rattle.wasm_sections.specs.formats.ModuleSectionParts.{ModuleSectionParts, custom, types, imports, functions, tables, memories, globals, exports, start, elements, code, data_segments, data_count, tags}
+use Rattle.wasm_whole_modules.specs.IndexSpaces.{index_spaces}
+use Rattle.wasm_whole_modules.specs.declared.indices.spaces.IndexSpace.{IndexSpace}
+use Rattle.wasm_whole_modules.specs.declared.indices.spaces.IndexSpace.TheVariants as spaces
 use Rattle.wasm_whole_modules.specs.declared.order.ModuleError.{ModuleError}
 use Rattle.wasm_whole_modules.specs.declared.order.ModuleError.TheVariants as errors
 
@@ -63,15 +64,14 @@ first_data_count (s ∷ sections) = first_data_count sections
 
 -- ---- data segments that code names
 
--- After this prefix byte, the number is that of an instruction with the index of a data segment.
-abbrev pub has_data_index : Prefix → ℕ → Bool
-has_data_index prefixes.Fb number = number == 0x09 || number == 0x12  -- array.new_data, array.init_data
-has_data_index prefixes.Fc number = number == 0x08 || number == 0x09  -- memory.init, data.drop
-has_data_index prefix number = false
+-- The index space is that of data segments.
+abbrev pub is_data : Option IndexSpace → Bool
+is_data (Some spaces.Data) = true
+is_data space = false
 
 -- The instruction names a data segment.
 abbrev pub names_data : Instruction → Bool
-names_data i = has_data_index i.op.prefix i.op.number
+names_data i = is_data (index_spaces i.op).0 || is_data (index_spaces i.op).1
 
 -- The index of the first instruction of a code body that names a data segment.
 abbrev pub first_data_use : CodeBody → Option ℕ

@@ -1,9 +1,8 @@
 -- The offset at which the body of a section stops to be a list (WebAssembly Core 3.0, Lists), and the number of its
 -- items that aren't minimally encoded.
-use Rattle.std.specs.Prelude.{◌≡◌, ◌+◌, ◌<◌, ◌≤◌, ◌⊎◌, ℕ, List, [], ◌∷◌, ◌++◌, length, Result, Ok, Err, Option, IsNone, IsSomeAnd}
+use Rattle.std.specs.Prelude.{◌≡◌, ◌+◌, ◌<◌, ◌⊎◌, ℕ, List, [], ◌∷◌, ◌++◌, length, Result, Ok, Err, Option, IsNone, IsSomeAnd}
 use Rattle.wasm_codec.specs.Outcomes.{EncodesSome, IsLongestPrefix}
-use Rattle.wasm_codec.specs.formats.Grammar.{Grammar, Joined}
-use Rattle.wasm_codec.specs.Lists.{EncodesList, IsListPrefix}
+use Rattle.wasm_codec.specs.Lists.{EncodesList, HasItemsBefore, IsListPrefix}
 use Rattle.wasm_codec.specs.formats.Numbers.{EncodesU32}
 use Rattle.wasm_codec.specs.formats.Combinators.{Format}
 use Rattle.wasm_types.specs.declared.types.value.ValType.{ValType}
@@ -15,24 +14,11 @@ use Rattle.wasm_whole_modules.specs.declared.locate.BrokenPart.TheVariants as pl
 use Rattle.wasm_whole_modules.specs.declared.locate.ItemCounts.{ItemCounts}
 use Rattle.wasm_whole_modules.specs.declared.locate.BrokenItem.{BrokenItem}
 
--- The bytes before this offset are the count and this number of items.
-pub record HasItemsBefore {V : Type 0} (G : Grammar V) (body : List ℕ) (count index at : ℕ) : Type 0 where
-  pub head : List ℕ
-  pub back : List ℕ
-  pub rest : List ℕ
-  pub items : List V
-  pub parts : body ≡ head ++ (back ++ rest)
-  pub at_is : length head + length back ≡ at
-  pub counted : EncodesU32 head count
-  pub few : length items ≤ count
-  pub encoded : Joined G back items
-  pub index_is : length items ≡ index
-
 -- The body is no list: its longest whole prefix ends at this offset, after this number of items.
 pub record StopsAtItem {V : Type 0} (F : Format V) (body : List ℕ) (count index at : ℕ) : Type 0 where
   pub prefix : IsLongestPrefix (IsListPrefix F.Encodes) body at
   pub unencoded : (items : List V) → EncodesList F.Encodes body items → ⊥
-  pub before : ((count ≡ 0) × (index ≡ 0) × (at ≡ 0)) ⊎ HasItemsBefore F.Encodes body count index at
+  pub before : ((count ≡ 0) × (index ≡ 0) × (at ≡ 0)) ⊎ HasItemsBefore EncodesU32 F.Encodes body count index at
 
 -- These are encodings of the items, and this number of them aren't minimal.
 pub data HasLonger {V : Type 0} (F : Format V) : List ℕ → List V → ℕ → Type 0 where

@@ -1,9 +1,10 @@
 //! Modules with every section decoded (Core 3.0, Modules).
-ghost use Rattle.std.specs.Prelude.{◌≡◌, List, IfErr, length};
+ghost use Rattle.std.specs.Prelude.{◌≡◌, List, IfOk, IfErr, IfSome, length};
 ghost use Rattle.std.specs.List.{AllByRecursion};
-ghost use Rattle.wasm_codec.specs.Outcomes.{LiesIn, as_read, NeedsNoMemory};
-ghost use Rattle.wasm_codec.specs.formats.Combinators.{minimal_only};
-ghost use Rattle.wasm_modules.specs.Modules.{IsModulePrefixOf};
+ghost use Rattle.wasm_codec.specs.Outcomes.{IfMalformed, LiesIn, as_read, NeedsNoMemory};
+ghost use Rattle.wasm_codec.specs.formats.Combinators.{minimal_if, minimal_only};
+ghost use Rattle.wasm_modules.specs.Judging.{form_of, verdict_of, RefusalLiesIn};
+ghost use Rattle.wasm_modules.specs.Modules.{CountsSections, IsModulePrefixOf};
 ghost use Rattle.wasm_sections.specs.formats.ModuleSectionParts.{ModuleSectionParts, all_module_section_parts};
 ghost use Rattle.wasm_sections.specs.formats.ModuleSections.{module_section, whole_module, ShortestWholeModule};
 ghost use Rattle.wasm_codec.specs.Decoding.{Decodes, DecodesMinimal, Checks, Normalises, NormalisesInPlace, ChecksAll, RewritesAll, IsMinimal};
@@ -14,8 +15,10 @@ pub use crate::locate::{
 };
 pub use crate::order::{ModuleError, check_order};
 use std::alloc::Global;
-use wasm_codec::decode::{Decode, check, normalise, read, read_strict, rewrite};
 use wasm_codec::reader::{DecodeError, ReadError, without_reason};
+use wasm_modules::decode::{Decode, check, normalise, read, read_strict, rewrite};
+pub use wasm_modules::judging::Judged;
+use wasm_modules::judging::judge_module_of;
 use wasm_modules::normaliser::framing::rewrite_module_of;
 use wasm_modules::raw::{check_module_of, read_module_of};
 use wasm_sections::module_sections::{AnySection, ModuleSection};
@@ -50,6 +53,8 @@ impl<'a> Decode<'a> for WholeModule {
 
     ghost IsMinimalPrefix = { IsModulePrefixOf (minimal_only module_section) };
 
+    ghost Counts = { λ strict. CountsSections (minimal_if strict module_section) };
+
     #[inline(always)]
     #[tactic(auto, using(wasm_sections::proofs::ModuleSectionLaws::whole_module_is_lawful))]
     fn is_lawful()
@@ -71,6 +76,7 @@ impl<'a> Decode<'a> for WholeModule {
     fn check_all(alloc: Global, bytes: &[u8]) -> Result<(), DecodeError>
         ensures checks { ChecksAll ShortestWholeModule (IsModulePrefixOf (minimal_only module_section)) bytes.now (as_read result) }
         ensures place { IfErr result (LiesIn (length bytes.now)) }
+        ensures counts { IfMalformed result (CountsSections (minimal_only module_section) bytes.now) }
     {
         check_module_of::<AnySection>(alloc, bytes)
     }
@@ -79,6 +85,7 @@ impl<'a> Decode<'a> for WholeModule {
         ensures rewrites { RewritesAll whole_module (IsModulePrefixOf module_section) bytes.items (as_read result) }
         ensures memory { NeedsNoMemory (as_read result) }
         ensures place { IfErr result (LiesIn (length bytes.items)) }
+        ensures counts { IfMalformed result (CountsSections module_section bytes.items) }
     {
         rewrite_module_of::<AnySection>(bytes)
     }
@@ -179,4 +186,30 @@ pub fn rewrite_whole_module(bytes: Vec<u8>) -> Result<Vec<u8>, ReadError>
     ensures normalises { NormalisesInPlace whole_module (IsModulePrefixOf module_section) bytes.items result }
 {
     without_reason(rewrite::<WholeModule>(bytes))
+}
+
+/// Replaces a module by its minimal encoding in place, and tells whether it was minimally encoded (Core 3.0, Modules).
+///
+/// If it was, the bytes are unchanged. Fails with `Malformed` as `rewrite::<WholeModule>` does. Allocates nothing.
+///
+/// # Examples
+///
+/// ```
+/// # use wasm_encoder::Reason;
+/// # use wasm_encoder::sections::judge_whole_module;
+/// let padded = Vec::from_slice(rt.alloc(), b"\0asm\x01\0\0\0\x08\x02\x85\x00")?; // the index 5 in two bytes
+/// let judged = judge_whole_module(padded)?;
+/// assert_eq!(rt; judged.bytes.as_slice(), b"\0asm\x01\0\0\0\x08\x01\x05".as_slice());
+/// let reason = judged.longer.map(|refusal| (refusal.offset, refusal.reason));
+/// assert_eq!(rt; reason, Some((10, Reason::NotMinimal { bytes: 2, minimal: 1 })));
+/// assert!(rt; judge_whole_module(judged.bytes)?.longer.is_none());
+/// ```
+pub fn judge_whole_module(bytes: Vec<u8>) -> Result<Judged, DecodeError>
+    ensures normalises { NormalisesInPlace whole_module (IsModulePrefixOf module_section) bytes.items (form_of result) }
+    // The result is that of `check_whole_module`.
+    ensures judges { IfOk result (λ judged. Checks whole_module ShortestWholeModule (IsModulePrefixOf (minimal_only module_section)) bytes.items (verdict_of judged.longer)) }
+    ensures place { IfErr result (LiesIn (length bytes.items)) }
+    ensures within { IfOk result (λ judged. IfSome judged.longer (RefusalLiesIn (length bytes.items))) }
+{
+    judge_module_of::<AnySection>(bytes)
 }

@@ -1,10 +1,11 @@
 //! The order of sections, and counts that must agree (Core 3.0, Modules).
 ghost use Rattle.std.specs.Prelude.{◌≡◌, OnOk, IfErr, IfSome, IfNone};
 ghost use Rattle.wasm_sections.specs.formats.ModuleSectionParts.{module_section_parts, all_module_section_parts};
-ghost use Rattle.wasm_whole_modules.specs.ModuleOrder.{rank, AreInOrder, function_count, code_bodies, segment_count, first_data_count, names_data, first_data_use, NameNoData, IsFirstDataUse, IsModule, IsWhyNot};
+ghost use Rattle.wasm_whole_modules.specs.ModuleOrder.{rank, AreInOrder, function_count, code_bodies, segment_count, first_data_count, names_data, first_data_use, is_data, NameNoData, IsFirstDataUse, IsModule, IsWhyNot};
 
+use crate::indices::{IndexSpace, index_spaces};
 use thiserror::Error;
-use wasm_instructions::table::{Call, Prefix};
+use wasm_instructions::table::Call;
 use wasm_modules::code::CodeBody;
 use wasm_sections::module_sections::ModuleSection;
 
@@ -206,10 +207,13 @@ fn first_data_use(body: &CodeBody) -> Option<usize>
 fn names_data(call: &Call) -> bool
     ensures { result ≡ names_data call.now }
 {
-    let op = call.op();
-    match op.prefix {
-        Prefix::Fb => op.number == 0x09 || op.number == 0x12, // array.new_data, array.init_data
-        Prefix::Fc => op.number == 0x08 || op.number == 0x09, // memory.init, data.drop
-        _ => false,
-    }
+    let (first, second) = index_spaces(call.op());
+    is_data(first) || is_data(second)
+}
+
+/// Checks whether an index space is that of data segments.
+fn is_data(space: Option<IndexSpace>) -> bool
+    ensures { result ≡ is_data space }
+{
+    matches!(space, Some(IndexSpace::Data))
 }
