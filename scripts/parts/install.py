@@ -15,7 +15,8 @@ from parts.proofs import PROGRAMS
 # The proved builds, by their crates.
 BUILDS = {**{name: program(name) for name in PROGRAMS}, "nosgrivel_c": BUILT}
 FILES = [*(f"bin/{name}" for name in PROGRAMS), *(f"share/man/man1/{name}.1" for name in PROGRAMS),
-         "share/bash-completion/completions/wasmcanon", "include/nosgrivel.h", "lib/libnosgrivel.a",
+         "share/bash-completion/completions/wasmcanon", "share/zsh/site-functions/_wasmcanon",
+         "share/fish/vendor_completions.d/wasmcanon.fish", "include/nosgrivel.h", "lib/libnosgrivel.a",
          "lib/libnosgrivel.so", f"lib/libnosgrivel.so.{VERSION}",
          f"lib/libnosgrivel.so.{VERSION.rpartition('.')[0]}", "lib/pkgconfig/nosgrivel.pc",
          "share/nosgrivel/example.c", "share/doc/nosgrivel/LICENSE", "share/doc/nosgrivel/CHANGELOG.md"]
@@ -101,6 +102,12 @@ def try_completion(it):
                           (["--strip", "mod"], "")):
         it.answers(f"completed {' '.join(words)}", ["bash", "-c", complete, "bash", script, *words],
                    f"{wanted}\n".encode(), cwd=it.room)
+    zsh = it.prefix / "share/zsh/site-functions/_wasmcanon"
+    if not lacks(it.report, "zsh", "its completion isn't read"):
+        it.answers("zsh -n", ["zsh", "-n", zsh], b"")
+    fish = it.prefix / "share/fish/vendor_completions.d/wasmcanon.fish"
+    if not lacks(it.report, "fish", "its completion isn't tried"):
+        it.answers("fish: wasmcanon --li", ["fish", "-c", f"source {fish}; complete -C 'wasmcanon --li'"], b"--list\n")
 
 
 def options(text):

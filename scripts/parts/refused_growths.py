@@ -20,12 +20,13 @@ EVERY = 31
 RUNS = 200
 MOST = 10_000
 
-# A module with longer encodings, and its canonical form.
-MODULE = b"\0asm\1\0\0\0\1\x86\0\1\x4f\0\x60\0\0\5\4\1\0\x81\0"
-CANONICAL = b"\0asm\1\0\0\0\1\4\1\x60\0\0\5\3\1\0\1"
+# A module with longer encodings, a section `name` whose contents have some among them, and its canonical form.
+NAMES = b"\0\x0A\4name\0\x83\0\1m"
+MODULE = b"\0asm\1\0\0\0\1\x86\0\1\x4f\0\x60\0\0\5\4\1\0\x81\0" + NAMES
+CANONICAL = b"\0asm\1\0\0\0\1\4\1\x60\0\0\5\3\1\0\1" + NAMES
 REFUSED = "a request was refused\n"
-CALLS = [[], ["--strip-offsets"], ["--strip", "a*"], ["--check"], ["--check", "--json"], ["--hash"], ["--report"],
-         ["--report", "--json"], ["--diff"]]
+CALLS = [[], ["--strip-offsets"], ["--strip", "a*"], ["--names"], ["--check"], ["--check", "--json"], ["--hash"],
+         ["--report"], ["--report", "--json"], ["--diff"]]
 NO_MEMORY = "error: out of memory\n"
 # What is printed if memory runs out: nothing, or the failure of the module as JSON.
 NOTHING = ("", '[{"error":"out of memory","file":"module"}]\n')

@@ -9,12 +9,20 @@ import pty
 import re
 import subprocess
 
-from parts.common import ROOT, both_programs, room, run as run_command, under
+from parts.common import ROOT, both_programs, lacks, room, run as run_command, under
 from parts.listing_cases import (ALL_DIFFERENCES, CALL_AS_JSON, CUT_LISTINGS, EVERY, EVERY_AS_JSON, INSTRUCTIONS,
                                  LISTING, code)
 
 HEADER = b"\0asm\1\0\0\0"
 ZEROS = bytes(49_999_998)
+TYPE, IMPORT, FUNCTION = b"\1\4\1\x60\0\0", b"\2\1\0", b"\3\2\1\0"
+# A section `name` with the name "f" of function 0, and a section `producers` with the language C of an empty version,
+# both padded; the same in minimal encoding; and what is no such section, though its contents look alike.
+PADDED_NAMES = b"\0\x0F\4name\1\x87\0\x81\0\x80\0\x81\0f"
+NAMES = b"\0\x0B\4name\1\4\1\0\1f"
+PADDED_PRODUCERS = b"\0\x1D\x09producers\x81\0\x88\0language\x81\0\x81\0C\x80\0"
+PRODUCERS = b"\0\x18\x09producers\1\x08language\1\1C\0"
+OTHER_NAMES = b"\0\x0F\4nabe\1\x87\0\x81\0\x80\0\x81\0f\0\x0A\4name\1\x84\0\1\0"
 # The files that the program is given, by their names.
 FILES = {
     # A module with a size of two bytes, a final subtype that is written out, and a memory whose minimum has two bytes;
@@ -43,10 +51,14 @@ FILES = {
     "numbers": HEADER + b"\0\4\x81\0ax\3\4\x82\0\0\0\x08\2\x80\0\x0A\x0A\2\2\0\x0B\5\0\x41\x80\0\x0B",
     # Every kind of section.
     "every": EVERY,
+    # Sections `name` and `producers` whose sizes, counts, lengths and indices have two bytes each; the same contents
+    # under another name, and some that are cut. Then this module with minimal contents, and its names before a .debug_.
+    "padded": HEADER + TYPE + PADDED_NAMES + PADDED_PRODUCERS + OTHER_NAMES,
+    "unpadded": HEADER + TYPE + NAMES + PRODUCERS + OTHER_NAMES,
+    "padded_debug": HEADER + PADDED_NAMES + b"\0\x08\7.debug_",
     # Custom sections of four names.
     "named": HEADER + b"\0\5\4name\0\5\4nabe\0\x08\7.debug_\0\2\1e",
 }
-TYPE, IMPORT, FUNCTION = b"\1\4\1\x60\0\0", b"\2\1\0", b"\3\2\1\0"
 EXPORT, CODE, DATA_COUNT, DATA = b"\7\1\0", b"\x0A\4\1\2\0\x0B", b"\x0C\1\1", b"\x0B\3\1\1\0"
 # A function with memory.init 0 0 as its fourth instruction.
 INIT = b"\x0A\x0E\1\x0C\0\x41\0\x41\0\x41\0\xFC\x08\0\0\x0B"
@@ -102,6 +114,17 @@ section    before     after     saved  longer  out of  kind
   total        36        32         4       3       6  items
                                             0       4  section sizes
                                             1       2  item counts
+"""
+REPORT_OF_NAMES = b"""\
+section    before     after     saved  longer  out of  kind
+      0         6         6         0       0       1  type
+      1        17        13         4       0       1  custom "name"
+      2        31        26         5       0       1  custom "producers"
+      3        17        17         0       0       1  custom "nabe"
+      4        12        12         0       0       1  custom "name"
+  total        91        82         9       0       5  items
+                                            0       5  section sizes
+                                            0       1  item counts
 """
 # Of each section in the report of numbers: the longer items, the items, and whether the size or the count is longer.
 ENCODINGS = [(1, 1, False, False), (0, 2, False, True), (1, 1, False, False), (1, 2, False, False)]
@@ -392,6 +415,51 @@ def try_selections(runs):
     runs.holds("a warning of offsets that stay", runs.status == 0 and runs.err == STALE.format(file="debug"))
 
 
+def try_names(runs):
+    padded, unpadded = FILES["padded"], FILES["unpadded"]
+    runs.holds("names as they are", runs.writes("padded", data=padded))
+    runs.holds("names", runs.writes("--names", "padded", data=unpadded))
+    runs.holds("names that are minimal", runs.writes("--names", "unpadded", data=unpadded))
+    runs.fresh()
+    (runs.room / "there").write_bytes(padded)
+    right = runs.answers(0, "", "--in-place", "--names", "there")
+    runs.holds("names in their place", right and runs.there() == unpadded and runs.leaves_nothing_beside())
+    runs.holds("names alone", runs.writes("--names", "--strip-all", "--keep", "prod*", "padded", data=HEADER + TYPE
+                                          + PRODUCERS))
+    runs.holds("names as they are, checked", runs.answers(0, "", "--check", "padded"))
+    message = "not canonical: custom section, offset 0x15: not minimally encoded: 10 bytes, minimal is 6"
+    runs.holds("names, checked", runs.answers(1, f"error: padded: {message}\n", "--check", "--names", "padded"))
+    (runs.room / "producers").write_bytes(HEADER + NAMES + PADDED_PRODUCERS)
+    message = f"not canonical: custom section, offset 0x21: {LONG_SIZE}"
+    runs.holds("producers, checked", runs.answers(1, f"error: producers: {message}\n", "--check", "--names",
+                                                  "producers"))
+    runs.holds("minimal names, checked", runs.answers(0, "", "--check", "--names", "unpadded"))
+    runs.holds("a longer module, checked with names",
+               runs.answers(1, f"error: long: {NOT_CANONICAL}", "--check", "--names", "long"))
+    runs.run("--hash", "--names", "padded")
+    runs.holds("a hash of names", runs.status == 0 and runs.out.decode() == f"{sum_of(unpadded)}  padded\n")
+    runs.run("--report", "--names", "padded")
+    runs.holds("a report of names", runs.status == 0 and runs.out == REPORT_OF_NAMES)
+    runs.holds("no offsets are stale", runs.answers(0, "", "padded_debug"))
+    runs.run("--names", "padded_debug")
+    runs.holds("a warning of offsets after names", runs.status == 0 and runs.err == STALE.format(file="padded_debug"))
+    runs.holds("names of no module", runs.answers(1, f"error: cut: {CUT}\n", "--names", "cut"))
+    for words in (["--diff", "long"], ["--list"]):
+        right = runs.answers(2, "error: ", "--names", *words, "long")
+        runs.holds(f"--names {words[0]}", right and "\nUsage: wasmcanon " in runs.err)
+    if not lacks(runs.report, "wasm-objdump", "no names were given to it"):
+        runs.fresh()
+        (runs.room / "imported").write_bytes(HEADER + TYPE + b"\2\7\1\1a\1b\0\0" + PADDED_NAMES + PADDED_PRODUCERS)
+        runs.run("--names", "imported", "-o", "there")
+        before, after = (shown_by_wabt(runs.room / name) for name in ("imported", "there"))
+        runs.holds("names that wasm-objdump shows", b"- func[0] <f>\n" in after and after == before)
+
+
+def shown_by_wabt(module):
+    """What wasm-objdump shows of a module, after the name of the file."""
+    return run_command("wasm-objdump", "--details", module).stdout.partition(b"\n\n")[2]
+
+
 def try_foreign(runs):
     for found, message, data in FOREIGN:
         (runs.room / "foreign").write_bytes(data)
@@ -428,6 +496,52 @@ def try_checks(runs):
         (runs.room / "longer").write_bytes(HEADER + data)
         right = runs.answers(1, f"error: longer: not canonical: {message}\n", "--check", "longer")
         runs.holds(f"{name} that is longer, checked", right)
+
+
+def after_size(body):
+    size = len(body)
+    digits = bytearray()
+    while size >= 128:
+        digits.append(128 | size & 127)
+        size >>= 7
+    return bytes([*digits, size]) + body
+
+
+def function(instructions):
+    """A module of one function with these instructions."""
+    body = after_size(b"\0" + instructions + b"\x0B")
+    return HEADER + TYPE + FUNCTION + b"\x0A" + after_size(b"\1" + body)
+
+
+def large_modules():
+    """Modules of which a copy would be noticed: what each has, the status and message of a check, and its bytes."""
+    nops, not_minimal = b"\1" * 30_000_000, "not minimally encoded: {} bytes, minimal is {}"
+    yield "a canonical section", 0, "", FILES["big_canonical"]
+    yield "a longer size", 1, "not canonical: custom section, offset 0x9: " + not_minimal.format(5, 4), FILES["big"]
+    yield "a function", 0, "", function(nops)
+    yield "a br_table", 0, "", function(b"\x0E\x80\x87\xA7\x0E" + nops + b"\0")
+    at = len(function(nops)) - 1
+    there = f"code section, function 0, offset {at:#x}: "
+    yield ("a function that ends with a longer instruction", 1, "not canonical: " + there + not_minimal.format(3, 2),
+           function(nops + b"\x20\x80\0"))
+    yield ("a function that ends with a malformed instruction", 1, there + "unknown opcode 0xFF",
+           function(nops + b"\xFF"))
+
+
+def try_memory(runs):
+    """A check holds a module once. It runs in as much memory as that of an empty module needs, 1.1 times the length of
+    the module and 4 MB."""
+    least = 1024
+    while run_command(*under(f"ulimit -v {least}", runs.program, "--check", runs.room / "header")).returncode == 3:
+        least += 1024
+    for name, status, message, data in large_modules():
+        (runs.room / "large_module").write_bytes(data)
+        limit = least + (11 * len(data) // 10 + 4_000_000) // 1024
+        ran = run_command(*under(f"ulimit -v {limit}", runs.program, "--check", "large_module"), cwd=runs.room)
+        wanted = f"error: large_module: {message}\n" if message else ""
+        runs.status, runs.out, runs.err = ran.returncode, ran.stdout, ran.stderr.decode()
+        runs.holds(f"{name} in a large module, checked in little memory", runs.status == status and runs.err == wanted)
+    (runs.room / "large_module").unlink()
 
 
 def try_offsets(runs):
@@ -727,8 +841,8 @@ def run(report):
             (folder / name).write_bytes(data)
         for program in both_programs(report, "wasmcanon"):
             runs = Runs(report, program, folder)
-            for attempt in (try_outputs, try_links, try_read_only, try_several, try_checks, try_order, try_hashes,
-                            try_selections, try_foreign, try_json, try_offsets, try_differences, try_reports,
-                            try_listings, try_listings_as_json, try_all_differences, try_refusals,
-                            try_malformed, try_help, try_failing_writes, try_progress):
+            for attempt in (try_outputs, try_links, try_read_only, try_several, try_checks, try_memory, try_order,
+                            try_hashes, try_selections, try_names, try_foreign, try_json, try_offsets,
+                            try_differences, try_reports, try_listings, try_listings_as_json, try_all_differences,
+                            try_refusals, try_malformed, try_help, try_failing_writes, try_progress):
                 attempt(runs)

@@ -8,3 +8,4 @@ pub mod FeatureLaws
 pub mod HintLaws
 pub mod SymbolLaws
 pub mod LinkingLaws
+pub mod ContentsLaws

@@ -192,12 +192,6 @@ module _ {A V : Type 0} {H : Format A} (h : IsLawful H) {F : Format V} (r : IsLa
         is_shortest = all.written ∙ ap (λ (t : List ℕ). t ++ flat_map F.bytes all.values) (head_is.given.written ∙ ap (λ (s : Rewriting). s.done ++ H.bytes head_is.value) start-is);
       }
 
-  pub left_within : (left : ℕ) → StopsAt F mid.place.left left → left ≤ length bytes
-  left_within left stop =
-      let within = stopped_within F mid.place.left left stop in
-      let le = shorter_rest h F bytes mid.place.left head_is.value begins in
-      omega (arith, le, stop.len, ap (length {A = ℕ}) stop.parts, length-append stop.prefix stop.rest)
-
   pub rest_refused : (left : ℕ) → StopsAt F mid.place.left left → IsRefusedAt (H ⊗ to_end F) bytes (length bytes - left)
   rest_refused left stop =
       let n = length mid.place.left - left in

@@ -3,4 +3,5 @@ pub mod NamedSections
 pub mod NameSections
 pub mod LinkingSections
 pub mod KnownSections
+pub mod MinimalContents
 pub mod formats

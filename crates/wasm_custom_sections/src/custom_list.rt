@@ -1,10 +1,10 @@
 //! Custom sections whose contents are one list (Core 3.0, Custom Section and Lists).
-ghost use Rattle.std.specs.Prelude.{◌≡◌, ◌↔◌, ℕ, List, [], IsTrue, true, IfOk, IfErr, length};
+ghost use Rattle.std.specs.Prelude.{◌≡◌, ◌↔◌, ℕ, List, [], IsTrue, true, false, IfOk, IfErr, length};
 ghost use Rattle.wasm_codec.specs.Decoding.{ChecksAll, IsMinimal, RewritesAll};
 ghost use Rattle.wasm_codec.specs.Encoding.{OnlyTooLong};
 ghost use Rattle.wasm_codec.specs.Lawful.{IsLawful, IsLawfulBody};
-ghost use Rattle.wasm_codec.specs.Lists.{IsListPrefix, IsListPrefixMinimalIf, ListMinimalIf};
-ghost use Rattle.wasm_codec.specs.Outcomes.{LiesIn, as_read, NeedsNoMemory};
+ghost use Rattle.wasm_codec.specs.Lists.{CountsItems, IsListPrefix, IsListPrefixMinimalIf, ListMinimalIf};
+ghost use Rattle.wasm_codec.specs.Outcomes.{IfMalformed, LiesIn, as_read, NeedsNoMemory};
 ghost use Rattle.wasm_codec.specs.declared.encode.EncodeError.TheVariants.{Memory};
 ghost use Rattle.wasm_codec.specs.formats.Combinators.{Format, items};
 ghost use Rattle.wasm_entities.specs.Making.{Makes};
@@ -15,7 +15,6 @@ ghost use Rattle.wasm_custom_sections.specs.NamedSections.{CountedNamed, HoldsLi
 use crate::counted_bytes::CountedBytes;
 use std::alloc::{Allocator, Global};
 use std::marker::{Model, PhantomData};
-use wasm_codec::decode::Decode;
 use wasm_codec::encode::EncodeError;
 use wasm_codec::reader::DecodeError;
 use wasm_lists::checking::check_list_to_end;
@@ -23,6 +22,7 @@ use wasm_lists::encode::Encode;
 use wasm_lists::readable::{Item, Readable};
 use wasm_lists::reading::read_list_to_end;
 use wasm_lists::rewriting::rewrite_list_to_end;
+use wasm_modules::decode::Decode;
 use wasm_sections::custom::CustomSection;
 
 /// An item of a custom section that is a list. It tells the section's name and the item's encoding.
@@ -156,6 +156,8 @@ impl<'a, T: CustomItem + Readable<'a>> Decode<'a> for CustomList<T> {
 
     ghost IsMinimalPrefix = { IsListPrefixMinimalIf true T.Readable.format };
 
+    ghost Counts = { λ strict. CountsItems strict T.Readable.format };
+
     #[inline(always)]
     fn is_lawful()
         ensures lawful { IsLawfulBody (items T.Readable.format) }
@@ -175,6 +177,7 @@ impl<'a, T: CustomItem + Readable<'a>> Decode<'a> for CustomList<T> {
     fn check_all(alloc: Global, bytes: &[u8]) -> Result<(), DecodeError>
         ensures checks { ChecksAll (ListMinimalIf true T.Readable.format) (IsListPrefixMinimalIf true T.Readable.format) bytes.now (as_read result) }
         ensures place { IfErr result (LiesIn (length bytes.now)) }
+        ensures counts { IfMalformed result (CountsItems true T.Readable.format bytes.now) }
     {
         check_list_to_end::<Item<'a, T>>(alloc, bytes)
     }
@@ -183,6 +186,7 @@ impl<'a, T: CustomItem + Readable<'a>> Decode<'a> for CustomList<T> {
         ensures rewrites { RewritesAll (items T.Readable.format) (IsListPrefix T.Readable.format.Encodes) bytes.items (as_read result) }
         ensures memory { NeedsNoMemory (as_read result) }
         ensures place { IfErr result (LiesIn (length bytes.items)) }
+        ensures counts { IfMalformed result (CountsItems false T.Readable.format bytes.items) }
     {
         rewrite_list_to_end::<Item<'a, T>>(bytes)
     }

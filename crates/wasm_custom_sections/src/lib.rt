@@ -3,6 +3,7 @@
 #![tactic(auto)]
 
 pub mod branch_hints;
+pub mod contents;
 pub mod counted_bytes;
 pub mod custom_list;
 pub mod known;

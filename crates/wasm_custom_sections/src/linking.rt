@@ -1,11 +1,11 @@
 //! The section `linking`: what a linker needs to know of an object file (tool conventions, WebAssembly Object File
 //! Linking).
-ghost use Rattle.std.specs.Prelude.{◌≡◌, ◌∷◌, ◌+◌, ◌-◌, ◌<◌, ◌≤◌, ◌⊎◌, ℕ, List, None, [], refl, codes, true, IfOk, IfErr, length};
+ghost use Rattle.std.specs.Prelude.{◌≡◌, ◌∷◌, ◌+◌, ◌-◌, ◌<◌, ◌≤◌, ◌⊎◌, ℕ, List, None, [], refl, codes, true, IfOk, IfErr, length, ⊤};
 ghost use Rattle.std.proofs.lemmas.List.{map_push};
 ghost use Rattle.wasm_codec.specs.Decoding.{ChecksAll, IsMinimal, ReadsAll, RewritesAll};
 ghost use Rattle.wasm_codec.specs.Encoding.{byte_list_bytes, IsCount, IsRefusal, OnlyTooLong};
 ghost use Rattle.wasm_codec.specs.Lawful.{IsLawful, IsLawfulBody};
-ghost use Rattle.wasm_codec.specs.Outcomes.{LiesIn, as_read, read_error_of, IsMalformed, NeedsNoMemory};
+ghost use Rattle.wasm_codec.specs.Outcomes.{IfMalformed, LiesIn, as_read, read_error_of, IsMalformed, NeedsNoMemory};
 ghost use Rattle.wasm_codec.specs.Places.{Reads, WasMinimalIf, place};
 ghost use Rattle.wasm_codec.specs.Reading.{map_ok, BeginsWith};
 ghost use Rattle.wasm_codec.specs.Rewriter.{Rewrites};
@@ -29,7 +29,6 @@ use crate::symbol_table::SymbolTable;
 use crate::symbols::{AnySymbol, Symbol};
 use std::alloc::{Allocator, Global};
 use std::marker::Model;
-use wasm_codec::decode::Decode;
 use wasm_codec::encode::EncodeError;
 use wasm_codec::reader::DecodeError;
 use wasm_codec::reader::cursor::{Cursor, Fault};
@@ -42,6 +41,7 @@ use wasm_lists::list::Items;
 use wasm_lists::readable::Readable;
 use wasm_lists::reading::read_items_to_end;
 use wasm_lists::rewriting::{Joinable, Rewritable, rewrite_joined, rewrite_sized};
+use wasm_modules::decode::Decode;
 use wasm_sections::custom::CustomSection;
 
 /// The version of linking sections.
@@ -252,7 +252,7 @@ fn rewrite_linking(bytes: Vec<u8>) -> Result<Vec<u8>, DecodeError>
     rewriter.are_bytes();
     match rewrite_joined::<AnySubsection>(&mut rewriter) {
         Ok(()) => Ok(rewriter.finish()),
-        Err(stop) => Err(DecodeError::new(stop.fault, len - stop.left, len).numbered(stop.passed)),
+        Err(stop) => Err(DecodeError::stopped(stop, len)),
     }
 }
 
@@ -403,6 +403,7 @@ impl<'a> Decode<'a> for LinkingSection {
     fn check_all(alloc: Global, bytes: &[u8]) -> Result<(), DecodeError>
         ensures checks { ChecksAll (linking_if true).Encodes (IsNothingOr (linking_if true)) bytes.now (as_read result) }
         ensures place { IfErr result (LiesIn (length bytes.now)) }
+        ensures counts { IfMalformed result (λ _. ⊤) }
     {
         check_linking(alloc, bytes)
     }
@@ -411,6 +412,7 @@ impl<'a> Decode<'a> for LinkingSection {
         ensures rewrites { RewritesAll linking_data (IsNothingOr linking_data) bytes.items (as_read result) }
         ensures memory { NeedsNoMemory (as_read result) }
         ensures place { IfErr result (LiesIn (length bytes.items)) }
+        ensures counts { IfMalformed result (λ _. ⊤) }
     {
         rewrite_linking(bytes)
     }

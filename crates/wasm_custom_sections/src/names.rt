@@ -1,11 +1,11 @@
 //! The name section: names of a module, its items, locals, labels and fields (Core 3.0, Name Section, and the proposal
 //! of extended name sections).
-ghost use Rattle.std.specs.Prelude.{◌≡◌, ◌++◌, ◌∷◌, ◌+◌, ◌<◌, ◌≤◌, ◌⊎◌, [], refl, codes, List, OnOk, OnErr, IfErr, IsErrOf, length, take};
+ghost use Rattle.std.specs.Prelude.{◌≡◌, ◌++◌, ◌∷◌, ◌+◌, ◌<◌, ◌≤◌, ◌⊎◌, [], refl, codes, List, OnOk, OnErr, IfErr, IsErrOf, length, take, ⊤};
 ghost use Rattle.std.proofs.lemmas.List.{map_push};
 ghost use Rattle.wasm_codec.specs.Decoding.{ChecksAll, IsMinimal, ReadsAll, RewritesAll};
 ghost use Rattle.wasm_codec.specs.Encoding.{byte_list_bytes, IsCount, IsRefusal, IsShortest, IsTooLong, OnlyTooLong};
 ghost use Rattle.wasm_codec.specs.Lawful.{IsLawful, IsLawfulBody};
-ghost use Rattle.wasm_codec.specs.Outcomes.{LiesIn, as_read, EncodesSome, NeedsNoMemory};
+ghost use Rattle.wasm_codec.specs.Outcomes.{IfMalformed, LiesIn, as_read, EncodesSome, NeedsNoMemory};
 ghost use Rattle.wasm_codec.specs.Places.{Reads};
 ghost use Rattle.wasm_codec.specs.Reading.{map_ok};
 ghost use Rattle.wasm_codec.specs.Rewriter.{Rewrites};
@@ -30,7 +30,6 @@ use crate::sized::{
 use std::alloc::{Allocator, Global};
 use std::marker::Model;
 use thiserror::Error;
-use wasm_codec::decode::Decode;
 use wasm_codec::encode::{EncodeError, keep_or_undo};
 use wasm_codec::reader::DecodeError;
 use wasm_codec::reader::cursor::{Cursor, Fault};
@@ -43,6 +42,7 @@ use wasm_lists::list::Items;
 use wasm_lists::readable::Readable;
 use wasm_lists::reading::read_items_to_end;
 use wasm_lists::rewriting::{Joinable, Rewritable, rewrite_items_to_end, rewrite_sized};
+use wasm_modules::decode::Decode;
 use wasm_sections::custom::CustomSection;
 
 /// A subsection of a name section (Core 3.0, Name Section).
@@ -173,7 +173,7 @@ impl<'a> Readable<'a> for NameSubsection<'a> {
 }
 
 /// A subsection of any kind, to rewrite.
-struct AnySubsection;
+pub(crate) struct AnySubsection;
 
 impl Rewritable for AnySubsection {
     ghost Value = { SubsectionParts };
@@ -524,6 +524,7 @@ impl<'a> Decode<'a> for NameSection {
     fn check_all(alloc: Global, bytes: &[u8]) -> Result<(), DecodeError>
         ensures checks { ChecksAll (Joined (minimal_only name_subsection).Encodes) (EncodesSome (Joined (minimal_only name_subsection).Encodes)) bytes.now (as_read result) }
         ensures place { IfErr result (LiesIn (length bytes.now)) }
+        ensures counts { IfMalformed result (λ _. ⊤) }
     {
         check_items_to_end::<AnySubsection>(alloc, bytes)
     }
@@ -533,6 +534,7 @@ impl<'a> Decode<'a> for NameSection {
         ensures rewrites { RewritesAll name_data (EncodesSome (Joined name_subsection.Encodes)) bytes.items (as_read result) }
         ensures memory { NeedsNoMemory (as_read result) }
         ensures place { IfErr result (LiesIn (length bytes.items)) }
+        ensures counts { IfMalformed result (λ _. ⊤) }
     {
         rewrite_items_to_end::<AnySubsection>(bytes)
     }

@@ -162,6 +162,23 @@ impl<'a> Readable<'a> for Producers<'a> {
     }
 }
 
+/// A field, to rewrite.
+pub(crate) struct AnyProducers;
+
+impl Rewritable for AnyProducers {
+    ghost Value = { FieldParts };
+
+    ghost format = { producers_field };
+
+    #[inline(always)]
+    #[tactic(auto, using(crate::proofs::ProducerLaws::field_is_lawful, crate::proofs::ProducerLaws::field_takes))]
+    fn is_lawful() {}
+
+    fn rewrite(rewriter: &mut Rewriter) -> Result<(), Fault> {
+        rewrite_producers(rewriter)
+    }
+}
+
 impl<'a> CustomItem for Producers<'a> {
     ghost Value = { FieldParts };
 

@@ -1,5 +1,5 @@
 -- The output of a run of `wasmcanon`, and its result.
-use Rattle.std.specs.Prelude.{◌≡◌, ℕ, List, Option, Result, Ok, Err}
+use Rattle.std.specs.Prelude.{◌≡◌, ◌⊎◌, ℕ, Bool, true, false, List, Option, Result, Ok, Err}
 use Rattle.std.specs.Io.KnownBytes.{Appends}
 use Rattle.wasm_codec.specs.Outcomes.{EncodesSome, IsNormalForm, IsLongestPrefix}
 use Rattle.wasm_sections.specs.formats.ModuleSectionParts.{ModuleSectionParts}
@@ -9,7 +9,8 @@ use Rattle.wasm_modules.specs.Modules.{IsModulePrefixOf}
 use Rattle.wasm_whole_modules.specs.declared.order.ModuleError.{ModuleError}
 use Rattle.sha2.specs.Sha256.{sha256}
 use Rattle.wasm_whole_modules.specs.Selections.{IsChosen}
-use Rattle.wasm_whole_modules.specs.declared.selection.Sections.{Sections}
+use Rattle.wasm_custom_sections.specs.MinimalContents.{MinimisesContents}
+use Rattle.wasmcanon.specs.declared.run.FormOptions.{FormOptions}
 use Rattle.wasmcanon.specs.declared.run.Verdict.{Verdict}
 use Rattle.wasmcanon.specs.declared.run.Verdict.TheVariants as verdicts
 use Rattle.wasmcanon.specs.declared.run.Failure.{Failure}
@@ -27,29 +28,52 @@ pub record IsNoModule (bytes : List ℕ) : Type 0 where
 abbrev pub IsCanonicalForm : List ℕ → List ℕ → Type 0
 IsCanonicalForm input encoding = IsNormalForm whole_module.Encodes whole_module.bytes input encoding
 
--- The bytes are the canonical form of the input with these sections.
-pub record IsForm (sections : Sections) (input bytes : List ℕ) : Type 0 where
+-- With `names` the contents of the custom sections `name` and `producers` are minimised, otherwise the module stays.
+abbrev pub HasContents : Bool → List ℕ → List ℕ → Type 0
+HasContents false canonical bytes = bytes ≡ canonical
+HasContents true canonical bytes = MinimisesContents canonical bytes
+
+-- The bytes are the canonical form of the input with these options.
+pub record IsForm (options : FormOptions) (input bytes : List ℕ) : Type 0 where
   pub encoding : List ℕ
   pub canonical : IsCanonicalForm input encoding
-  pub chosen : IsChosen sections encoding bytes
+  pub part : List ℕ
+  pub chosen : IsChosen options.sections encoding part
+  pub contents : HasContents options.names part bytes
 
--- The writer's known contents grew by the canonical form of the input with these sections.
-pub record AppendsForm (sections : Sections) (input : List ℕ) (old new : Option (List ℕ)) : Type 0 where
+-- The writer's known contents grew by the canonical form of the input with these options.
+pub record AppendsForm (options : FormOptions) (input : List ℕ) (old new : Option (List ℕ)) : Type 0 where
   pub bytes : List ℕ
-  pub form : IsForm sections input bytes
+  pub form : IsForm options input bytes
   pub appended : Appends old new bytes
 
--- The digest is SHA-256 of the canonical form of the input with these sections.
-pub record IsHash (sections : Sections) (input digest : List ℕ) : Type 0 where
+-- The digest is SHA-256 of the canonical form of the input with these options.
+pub record IsHash (options : FormOptions) (input digest : List ℕ) : Type 0 where
   pub bytes : List ℕ
-  pub form : IsForm sections input bytes
+  pub form : IsForm options input bytes
   pub is : digest ≡ sha256 bytes
 
--- The verdict is right: the input is canonical, or its longest canonical prefix ends at this offset.
-abbrev pub Judges : List ℕ → Verdict → Type 0
-Judges input verdicts.Canonical = IsCanonicalForm input input
-Judges input (verdicts.Longer refusal) =
-    IsModule input × (IsCanonicalForm input input → ⊥) × IsLongestPrefix (IsModulePrefixOf (minimal_only module_section)) input refusal.at
+-- The module has minimal contents: minimising them changes nothing.
+abbrev pub HasMinimalContents : List ℕ → Type 0
+HasMinimalContents input = MinimisesContents input input
+
+-- Minimising the contents of the module changes it.
+pub record HasLongerContents (input : List ℕ) : Type 0 where
+  pub minimal : List ℕ
+  pub minimised : MinimisesContents input minimal
+  pub differs : minimal ≡ input → ⊥
+
+-- The longest canonical prefix of the input, which isn't canonical, ends at this offset.
+abbrev pub IsLonger : List ℕ → ℕ → Type 0
+IsLonger input at = (IsCanonicalForm input input → ⊥) × IsLongestPrefix (IsModulePrefixOf (minimal_only module_section)) input at
+
+-- The verdict is right: the input is canonical, or its longest canonical prefix ends at this offset. With `names`, its
+-- contents are minimal too, or the input is canonical and its contents aren't minimal.
+abbrev pub Judges : Bool → List ℕ → Verdict → Type 0
+Judges false input verdicts.Canonical = IsCanonicalForm input input
+Judges true input verdicts.Canonical = IsCanonicalForm input input × HasMinimalContents input
+Judges false input (verdicts.Longer refusal) = IsModule input × IsLonger input refusal.at
+Judges true input (verdicts.Longer refusal) = IsModule input × (IsLonger input refusal.at ⊎ (IsCanonicalForm input input × HasLongerContents input))
 
 -- ---- results
 

@@ -218,7 +218,7 @@ fn diff_modules(rt: &HostRuntime, request: &Request<'_>) -> Result<u8, AllocErro
     let Some(other) = canonical_form_at(rt, request, second, &mut results)? else {
         return Ok(results.finish());
     };
-    let difference = find_difference(rt.alloc(), &one, &other)?;
+    let difference = find_difference(&one, &other);
     if let Some(difference) = difference {
         let (first_name, second_name) = (InputName(first), InputName(second));
         let _ = eprintln!(rt; "error: {first_name} and {second_name} differ: {difference}");

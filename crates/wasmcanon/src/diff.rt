@@ -1,8 +1,7 @@
 //! The first difference between two canonical forms.
-ghost use Rattle.std.specs.Prelude.{◌≡◌, IfOk, IfSome, IfNone};
+ghost use Rattle.std.specs.Prelude.{◌≡◌, IfSome, IfNone};
 
-use crate::sections::{LocatedSection, SectionTitle, locate_sections};
-use std::alloc::{AllocError, Global};
+use crate::sections::{LocatedSection, SectionTitle, SectionWalk};
 use std::fmt;
 
 /// The first sections that differ.
@@ -17,42 +16,38 @@ pub struct Difference<'a> {
 }
 
 /// Finds the first difference between two canonical forms. Returns `None` if they are equal.
-///
-/// Fails if memory runs out.
-pub fn find_difference<'a>(
-    alloc: Global,
-    first: &'a [u8],
-    second: &'a [u8],
-) -> Result<Option<Difference<'a>>, AllocError>
+pub fn find_difference<'a>(first: &'a [u8], second: &'a [u8]) -> Option<Difference<'a>>
     // `None` means that they are equal.
-    ensures same { IfOk result (λ difference. IfNone difference (first.now ≡ second.now)) }
+    ensures same { IfNone result (first.now ≡ second.now) }
     // A difference means that they are not.
-    ensures differ { IfOk result (λ difference. IfSome difference (λ _. first.now ≡ second.now → ⊥)) }
+    ensures differ { IfSome result (λ _. first.now ≡ second.now → ⊥) }
 {
     if first == second {
-        return Ok(None);
+        return None;
     }
-    let firsts = locate_sections(alloc, first)?;
-    let seconds = locate_sections(alloc, second)?;
-    Ok(Some(difference_of(&firsts, &seconds)))
+    Some(difference_of(first, second))
 }
 
 /// Finds the first sections that differ.
-fn difference_of<'a>(
-    firsts: &[LocatedSection<'a>],
-    seconds: &[LocatedSection<'a>],
-) -> Difference<'a> {
-    let mut number = firsts.len().min(seconds.len());
-    for (index, (first, second)) in firsts.iter().zip(seconds).enumerate() {
-        if !is_same(first, second) {
-            number = index;
-            break;
+fn difference_of<'a>(first: &'a [u8], second: &'a [u8]) -> Difference<'a> {
+    let (mut firsts, mut seconds) = (SectionWalk::new(first), SectionWalk::new(second));
+    for number in 0..first.len() {
+        let (one, other) = (firsts.advance(), seconds.advance());
+        match (one, other) {
+            (Some(here), Some(there)) if is_same(&here, &there) => {}
+            _ => {
+                return Difference {
+                    number,
+                    first: one,
+                    second: other,
+                };
+            }
         }
     }
     Difference {
-        number,
-        first: firsts.get(number).copied(),
-        second: seconds.get(number).copied(),
+        number: first.len(),
+        first: None,
+        second: None,
     }
 }
 

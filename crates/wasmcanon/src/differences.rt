@@ -31,7 +31,7 @@ pub fn diff_all(rt: &HostRuntime, request: &Request<'_>) -> Result<u8, AllocErro
     let Some(other) = forms_at(rt, request, second, &mut results)? else {
         return Ok(results.finish());
     };
-    let difference = find_difference(rt.alloc(), &one.canonical, &other.canonical)?;
+    let difference = find_difference(&one.canonical, &other.canonical);
     let printed = if request.json {
         print_values(rt, [first, second], [&one.input, &other.input], difference)
     } else {

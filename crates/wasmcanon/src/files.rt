@@ -1,4 +1,5 @@
 //! Files: inputs, and outputs that replace a file only once they are complete.
+use crate::contents::with_contents;
 use crate::progress::{Progress, Source};
 use crate::replacement::Replacement;
 use crate::request::{Location, Request};
@@ -32,7 +33,7 @@ pub fn check_file(
     input: Location<'_>,
 ) -> Result<Verdict, Failure> {
     let mut source = open(rt, input, Progress::new(rt))?;
-    let verdict = check(rt.alloc(), &mut source, request.any_order);
+    let verdict = check(rt.alloc(), &mut source, request.any_order, request.names);
     source.end();
     verdict
 }
@@ -48,7 +49,7 @@ pub fn hash_file(
         rt.alloc(),
         &mut source,
         request.any_order,
-        request.sections(),
+        request.form_options(),
     );
     source.end();
     digest
@@ -66,7 +67,7 @@ pub fn read_canonical_at(
     canonical
 }
 
-/// Reads the module at `input`, and returns it with its canonical form.
+/// Reads the module at `input`, and returns it with its canonical form, as `--names` wants it.
 pub fn read_forms_at(
     rt: &HostRuntime,
     request: &Request<'_>,
@@ -75,7 +76,9 @@ pub fn read_forms_at(
     let mut source = open(rt, input, Progress::new(rt))?;
     let forms = read_forms(rt.alloc(), &mut source, request.any_order);
     source.end();
-    forms
+    let Forms { input, canonical } = forms?;
+    let canonical = with_contents(rt.alloc(), canonical, request.names)?;
+    Ok(Forms { input, canonical })
 }
 
 /// Reads all bytes of the module at `input`, which may be malformed.
@@ -120,7 +123,7 @@ fn write_form<W: Write>(
         source,
         &mut writer,
         request.any_order,
-        request.sections(),
+        request.form_options(),
     )
 }
 

@@ -6,6 +6,8 @@
 #![tactic(auto)]
 
 mod actions;
+mod contents;
+mod data_uses;
 mod diff;
 mod differences;
 mod files;
@@ -14,8 +16,6 @@ mod input;
 mod json;
 mod listing;
 mod listings;
-mod longer;
-mod longer_code;
 mod messages;
 mod offsets;
 mod options;

@@ -51,6 +51,8 @@ Options:
                          print one object
       --any-order        Take modules whose sections are out of order or
                          repeated, or whose counts disagree
+      --names            Put the contents of the custom sections `name` and
+                         `producers` into their minimal encoding too
   -h, --help             Print help
   -V, --version          Print version
 
@@ -119,7 +121,7 @@ enum Form {
     Flag,
 }
 
-const ARGUMENTS: [Argument; 17] = [
+const ARGUMENTS: [Argument; 18] = [
     Argument {
         name: "input",
         form: Form::Named("FILE"),
@@ -202,6 +204,13 @@ const ARGUMENTS: [Argument; 17] = [
         form: Form::Flag,
         groups: &[],
         conflicts: &[],
+        needs: &[],
+    },
+    Argument {
+        name: "names",
+        form: Form::Flag,
+        groups: &[],
+        conflicts: &["diff", "list"],
         needs: &[],
     },
     Argument {

@@ -4,14 +4,12 @@ ghost use Rattle.wasm_modules.specs.formats.Sections.{parts_of};
 ghost use Rattle.wasmcanon.specs.Order.{rank, AreInOrder, OfSections, IsOrdered, BreaksOrder, IsOutOfOrderAt, IsWhyNot};
 ghost use Rattle.wasmcanon.specs.Run.{IfRefused, IfDisordered};
 
+use crate::data_uses::find_data_use;
 use crate::run::Failure;
 use crate::sections::kind_name;
 use std::alloc::{AllocError, Global};
 use std::fmt;
-use wasm_codec::reader::cursor::{Cursor, Fault};
-use wasm_instructions::table::{Call, Prefix};
-use wasm_lists::readable::Readable;
-use wasm_modules::code::normaliser::read_local_group;
+use wasm_codec::reader::cursor::Cursor;
 use wasm_modules::raw::{after_header, read_section};
 use wasm_modules::section::RawSection;
 use wasm_whole_modules::order::ModuleError;
@@ -161,74 +159,6 @@ fn count_items(sections: &[u8], id: u8) -> u32 {
     match find_body(sections, id) {
         Some(body) => Cursor::new(body).u32().unwrap_or(0),
         None => 0,
-    }
-}
-
-/// The place of an instruction in a code section.
-#[derive(Clone, Copy)]
-struct InstructionPlace {
-    /// Index of its function.
-    body: usize,
-    /// Index in that function.
-    instruction: usize,
-}
-
-/// Locates the first instruction in the body of a code section that names a data segment. Such an instruction needs a
-/// data count section.
-///
-/// Fails if memory runs out.
-fn find_data_use(alloc: Global, body: &[u8]) -> Result<Option<InstructionPlace>, AllocError> {
-    let mut cursor = Cursor::new(body);
-    let count = cursor.u32().unwrap_or(0);
-    for body in 0..count {
-        let Ok(mut code) = cursor.body() else {
-            return Ok(None);
-        };
-        if skip_locals(&mut code).is_err() {
-            return Ok(None);
-        }
-        if let Some(instruction) = find_data_name(alloc, &mut code)? {
-            let body = body as usize;
-            return Ok(Some(InstructionPlace { body, instruction }));
-        }
-    }
-    Ok(None)
-}
-
-/// Moves a cursor over the locals at the start of a function's code.
-fn skip_locals(code: &mut Cursor<'_>) -> Result<(), Fault> {
-    let groups = code.u32()?;
-    for _ in 0..groups {
-        read_local_group(code)?;
-    }
-    Ok(())
-}
-
-/// Returns the index of the first instruction that names a data segment. Stops at a malformed instruction.
-///
-/// Fails if memory runs out.
-fn find_data_name(alloc: Global, code: &mut Cursor<'_>) -> Result<Option<usize>, AllocError> {
-    for index in 0..code.len() {
-        if code.len() == 0 {
-            break;
-        }
-        match Call::read(alloc, code) {
-            Ok(call) if names_data(&call) => return Ok(Some(index)),
-            Ok(_) => {}
-            Err(Fault::Memory) => return Err(AllocError),
-            Err(Fault::Malformed(_)) => break,
-        }
-    }
-    Ok(None)
-}
-
-/// Checks whether an instruction names a data segment.
-fn names_data(call: &Call) -> bool {
-    let op = call.op();
-    match op.prefix {
-        Prefix::Fb => op.number == 0x09 || op.number == 0x12, // array.new_data, array.init_data
-        Prefix::Fc => op.number == 0x08 || op.number == 0x09, // memory.init, data.drop
-        _ => false,
     }
 }
 

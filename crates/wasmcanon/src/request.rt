@@ -1,4 +1,5 @@
 //! What the command line asks for.
+use crate::run::FormOptions;
 use clap::ArgMatches;
 use std::alloc::{AllocError, Global};
 use wasm_whole_modules::selection::{Pattern, Sections, Selection};
@@ -82,6 +83,8 @@ pub struct Request<'a> {
     pub force: bool,
     /// Whether sections may come in any order, and more than once.
     pub any_order: bool,
+    /// Whether the contents of sections `name` and `producers` get their minimal encoding too.
+    pub names: bool,
     /// Whether results are printed as JSON.
     pub json: bool,
     /// Whether all items that differ are listed.
@@ -127,6 +130,7 @@ impl<'a> Request<'a> {
             output: output_of(matches),
             force: matches.get_flag("force"),
             any_order: matches.get_flag("any-order"),
+            names: matches.get_flag("names"),
             json: matches.get_flag("json"),
             all: matches.get_flag("all"),
             strip_offsets: matches.get_flag("strip-offsets"),
@@ -139,8 +143,16 @@ impl<'a> Request<'a> {
         }
     }
 
+    /// Returns what is written of a module.
+    pub fn form_options(&self) -> FormOptions<'_> {
+        FormOptions {
+            sections: self.sections(),
+            names: self.names,
+        }
+    }
+
     /// Returns the sections to write.
-    pub fn sections(&self) -> Sections<'_> {
+    fn sections(&self) -> Sections<'_> {
         if !self.strip_offsets && self.dropped.is_empty() {
             return Sections::All;
         }

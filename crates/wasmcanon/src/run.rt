@@ -1,27 +1,26 @@
 //! A run of the program, for any reader and any writer.
-ghost use Rattle.std.specs.Prelude.{◌≡◌, ℕ, List, false, IfOk, IfErr, IfSome, IfNone, OnOk};
+ghost use Rattle.std.specs.Prelude.{◌≡◌, ℕ, List, false, IfOk, IfErr, IfSome, OnOk};
 ghost use Rattle.std.specs.Io.KnownBytes.{IsAtEnd, Keeps};
 ghost use Rattle.wasm_codec.specs.Outcomes.{IsLongestPrefix};
-ghost use Rattle.wasm_codec.specs.formats.Combinators.{minimal_only};
 ghost use Rattle.wasm_modules.specs.Modules.{IsModulePrefixOf};
 ghost use Rattle.wasm_sections.specs.formats.ModuleSections.{module_section};
 ghost use Rattle.wasmcanon.specs.Order.{IsOrdered, BreaksOrder};
 ghost use Rattle.wasmcanon.specs.Run.{IsNoModule, IsCanonicalForm, AppendsForm, IsForm, IsHash, IfRefused, IfDisordered, OnceAllIsRead, BeforeAnyWrite, IsReadFailure, Judges, status_of};
 ghost use Rattle.wasmcanon.specs.declared.run.Failure.TheVariants.{Memory};
 
+use crate::contents::{judge_contents, with_contents};
 use crate::foreign::Foreign;
 use crate::input::Input;
-use crate::longer::find_longer_part;
 use crate::offsets::first_offset_name;
 use crate::order::{MisplacedSection, check_sections};
 use sha2::{Digest, Sha256};
 use std::alloc::{AllocError, Global};
 use std::io;
 use std::io::{ErrorKind, Write};
-use wasm_codec::decode::{check as check_minimal, rewrite};
 use wasm_codec::reader::DecodeError;
 use wasm_codec::reader::refusal::Refusal;
-use wasm_whole_modules::modules::WholeModule;
+use wasm_modules::decode::rewrite;
+use wasm_whole_modules::modules::{WholeModule, judge_whole_module};
 use wasm_whole_modules::order::ModuleError;
 use wasm_whole_modules::selection::{Sections, choose_sections};
 
@@ -90,6 +89,15 @@ pub struct Forms {
     pub canonical: Vec<u8>,
 }
 
+/// What is written of a canonical form.
+#[derive(Clone, Copy)]
+pub struct FormOptions<'a> {
+    /// The sections.
+    pub sections: Sections<'a>,
+    /// Whether the contents of sections `name` and `producers` get their minimal encoding too.
+    pub names: bool,
+}
+
 /// The verdict on a module.
 #[derive(Clone, Copy)]
 pub enum Verdict {
@@ -99,7 +107,7 @@ pub enum Verdict {
     Longer(Refusal),
 }
 
-/// Reads a module, and writes its canonical form with these sections.
+/// Reads a module, and writes its canonical form with these options.
 ///
 /// If bytes have moved and a custom section that keeps offsets is written, returns the beginning of the first such
 /// section's name. Fails with `Refused` if the input is malformed, and with `Disordered` if its sections are out of
@@ -110,11 +118,11 @@ pub fn canonicalise<R: Input, W: Write>(
     reader: &mut R,
     writer: &mut W,
     any_order: bool,
-    sections: Sections<'_>,
+    options: FormOptions<'_>,
 ) -> Result<Option<&'static str>, Failure>
-    // The canonical form of the input with these sections was appended, and nothing else.
+    // The canonical form of the input with these options was appended, and nothing else.
     ensures ok { OnOk result (IfSome (R.remaining reader.old) (λ input.
-        AppendsForm sections.entry input (W.contents writer.old) (W.contents writer.new))) }
+        AppendsForm options.entry input (W.contents writer.old) (W.contents writer.new))) }
     // Unless any order is allowed, the sections are in order.
     ensures in_order { any_order ≡ false → OnOk result (IfSome (R.remaining reader.old) IsOrdered) }
     // If the failure names a section, this is the first one that is out of order.
@@ -129,24 +137,24 @@ pub fn canonicalise<R: Input, W: Write>(
     // Nothing was written, unless the failure is `Write`.
     ensures nothing_written { BeforeAnyWrite result (Keeps (W.contents writer.old) (W.contents writer.new)) }
 {
-    let form = read_form(alloc, reader, any_order, sections)?;
+    let form = read_form(alloc, reader, any_order, options)?;
     match writer.write_all(&form.bytes) {
         Ok(()) => Ok(form.stale),
         Err(error) => Err(Failure::Write(error)),
     }
 }
 
-/// Reads a module, and returns the SHA-256 digest of its canonical form with these sections.
+/// Reads a module, and returns the SHA-256 digest of its canonical form with these options.
 ///
 /// Fails as `canonicalise` does, but never with `Write`.
 pub fn hash<R: Input>(
     alloc: Global,
     reader: &mut R,
     any_order: bool,
-    sections: Sections<'_>,
+    options: FormOptions<'_>,
 ) -> Result<[u8; 32], Failure>
-    // The result is the digest of the canonical form of the input with these sections.
-    ensures ok { IfOk result (λ digest. IfSome (R.remaining reader.old) (λ input. IsHash sections.entry input digest)) }
+    // The result is the digest of the canonical form of the input with these options.
+    ensures ok { IfOk result (λ digest. IfSome (R.remaining reader.old) (λ input. IsHash options.entry input digest)) }
     // Unless any order is allowed, the sections are in order.
     ensures in_order { any_order ≡ false → OnOk result (IfSome (R.remaining reader.old) IsOrdered) }
     // If the failure names a section, this is the first one that is out of order.
@@ -157,11 +165,11 @@ pub fn hash<R: Input>(
     ensures refused { IfRefused result (λ at. IfSome (R.remaining reader.old) (λ input.
         IsLongestPrefix (IsModulePrefixOf module_section) input at)) }
 {
-    let form = read_form(alloc, reader, any_order, sections)?;
+    let form = read_form(alloc, reader, any_order, options)?;
     Ok(Sha256::digest(form.bytes.as_slice()))
 }
 
-/// A canonical form with chosen sections.
+/// A canonical form with options.
 #[derive(Drop)]
 struct Form {
     bytes: Vec<u8>,
@@ -169,15 +177,15 @@ struct Form {
     stale: Option<&'static str>,
 }
 
-/// Reads a module, and returns its canonical form with these sections.
+/// Reads a module, and returns its canonical form with these options.
 fn read_form<R: Input>(
     alloc: Global,
     reader: &mut R,
     any_order: bool,
-    sections: Sections<'_>,
+    options: FormOptions<'_>,
 ) -> Result<Form, Failure>
     ensures ok { IfOk result (λ form. IfSome (R.remaining reader.old) (λ input.
-        IsForm sections.entry input form.bytes.items)) }
+        IsForm options.entry input form.bytes.items)) }
     ensures in_order { any_order ≡ false → OnOk result (IfSome (R.remaining reader.old) IsOrdered) }
     ensures disordered { IfDisordered result (λ error. IfSome (R.remaining reader.old) (λ input. BreaksOrder input error)) }
     ensures read_to_end { OnceAllIsRead result (IsAtEnd (R.remaining reader.new)) }
@@ -186,8 +194,10 @@ fn read_form<R: Input>(
         IsLongestPrefix (IsModulePrefixOf module_section) input at)) }
 {
     let canonical = read_canonical(alloc, reader, any_order)?;
-    let bytes = choose_sections(canonical.bytes, sections);
-    let stale = if canonical.has_moved {
+    let chosen = choose_sections(canonical.bytes, options.sections);
+    let len = chosen.len();
+    let bytes = with_contents(alloc, chosen, options.names)?;
+    let stale = if canonical.has_moved || bytes.len() != len {
         first_offset_name(&bytes)
     } else {
         None
@@ -257,12 +267,18 @@ pub fn read_forms<R: Input>(
     Ok(Forms { input, canonical })
 }
 
-/// Reads a module, and checks whether it is its own canonical form.
+/// Reads a module, and checks whether it is its own canonical form. With `names`, the contents of its sections `name`
+/// and `producers` must be minimally encoded too.
 ///
 /// Fails as `canonicalise` does, but never with `Write`.
-pub fn check<R: Input>(alloc: Global, reader: &mut R, any_order: bool) -> Result<Verdict, Failure>
+pub fn check<R: Input>(
+    alloc: Global,
+    reader: &mut R,
+    any_order: bool,
+    names: bool,
+) -> Result<Verdict, Failure>
     // The verdict is right.
-    ensures ok { IfOk result (λ verdict. IfSome (R.remaining reader.old) (λ input. Judges input verdict)) }
+    ensures ok { IfOk result (λ verdict. IfSome (R.remaining reader.old) (λ input. Judges names input verdict)) }
     // Unless any order is allowed, the sections are in order.
     ensures in_order { any_order ≡ false → OnOk result (IfSome (R.remaining reader.old) IsOrdered) }
     // If the failure names a section, this is the first one that is out of order.
@@ -275,7 +291,7 @@ pub fn check<R: Input>(alloc: Global, reader: &mut R, any_order: bool) -> Result
 {
     let input = read_all(alloc, reader)?;
     let order = check_order_unless(alloc, &input, any_order);
-    let verdict = judge(alloc, input)?;
+    let verdict = judge(alloc, input, names)?;
     order?;
     Ok(verdict)
 }
@@ -321,37 +337,30 @@ fn check_order_unless(alloc: Global, input: &[u8], any_order: bool) -> Result<()
     }
 }
 
-/// Checks whether a module is its own canonical form.
-fn judge(alloc: Global, input: Vec<u8>) -> Result<Verdict, Failure>
-    ensures ok { IfOk result (Judges input.items) }
+/// Checks whether a module is its own canonical form, with `names` down to the contents of `name` and `producers`.
+/// Rewrites it in place.
+#[tactic(auto, using(crate::proofs::ResultLaws::contents_judged, crate::proofs::ResultLaws::longer_judged))]
+fn judge(alloc: Global, input: Vec<u8>, names: bool) -> Result<Verdict, Failure>
+    ensures ok { IfOk result (Judges names input.items) }
     ensures unencoded { IfRefused result (λ _. IsNoModule input.items) }
     ensures refused { IfRefused result (IsLongestPrefix (IsModulePrefixOf module_section) input.items) }
     ensures disordered { IfDisordered result (λ _. ⊥) }
 {
-    match first_longer(alloc, &input)? {
-        None => Ok(Verdict::Canonical),
-        Some(refusal) => {
-            let _canonical = canonical_form(input)?;
-            Ok(Verdict::Longer(refusal))
-        }
-    }
-}
-
-/// Returns the refusal of the first section that isn't minimally encoded, or is malformed. `None` means that there is
-/// no such section.
-fn first_longer(alloc: Global, input: &[u8]) -> Result<Option<Refusal>, AllocError>
-    ensures none { IfOk result (λ found. IfNone found (IsCanonicalForm input.now input.now)) }
-    ensures longer { IfOk result (λ found. IfSome found (λ _. IsCanonicalForm input.now input.now → ⊥)) }
-    ensures prefix { IfOk result (λ found. IfSome found (λ refusal.
-        IsLongestPrefix (IsModulePrefixOf (minimal_only module_section)) input.now refusal.at)) }
-{
-    match check_minimal::<WholeModule>(alloc, input) {
-        Ok(()) => Ok(None),
-        Err(DecodeError::Memory) => Err(AllocError),
-        Err(DecodeError::Malformed(refusal)) => {
-            let longer = find_longer_part(alloc, input, refusal)?;
-            Ok(Some(longer))
-        }
+    let foreign = Foreign::find(&input);
+    match judge_whole_module(input) {
+        Ok(judged) => match judged.longer {
+            None => {
+                // The module is unchanged.
+                let verdict = judge_contents(alloc, &judged.bytes, names)?;
+                Ok(verdict)
+            }
+            Some(refusal) => Ok(Verdict::Longer(refusal)),
+        },
+        Err(DecodeError::Memory) => Err(Failure::Memory),
+        Err(DecodeError::Malformed(broken)) => Err(Failure::Refused {
+            refusal: broken,
+            foreign,
+        }),
     }
 }
 

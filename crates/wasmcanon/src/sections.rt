@@ -54,33 +54,6 @@ impl<'a> SectionWalk<'a> {
     }
 }
 
-/// Lists the sections of a module, up to the first malformed one.
-///
-/// Fails if memory runs out.
-pub fn locate_sections<'a>(
-    alloc: Global,
-    module: &'a [u8],
-) -> Result<Vec<LocatedSection<'a>>, AllocError> {
-    let mut sections = Vec::new(alloc);
-    let Some(rest) = after_header(module) else {
-        return Ok(sections);
-    };
-    let mut cursor = Cursor::new(rest);
-    for _ in 0..rest.len() {
-        let Some(section) = read_located(&mut cursor, module.len()) else {
-            break;
-        };
-        sections.push(section)?;
-    }
-    Ok(sections)
-}
-
-/// Returns the section at this offset of a module. `None` means that it is malformed.
-pub fn locate_section<'a>(module: &'a [u8], at: usize) -> Option<LocatedSection<'a>> {
-    let (_before, rest) = module.split_at_checked(at)?;
-    read_located(&mut Cursor::new(rest), module.len())
-}
-
 /// Reads the next section of a module that has `len` bytes. Returns `None` if it is malformed.
 pub fn read_located<'a>(cursor: &mut Cursor<'a>, len: usize) -> Option<LocatedSection<'a>> {
     let left = cursor.len();

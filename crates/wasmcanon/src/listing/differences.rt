@@ -4,7 +4,7 @@ use crate::listing::{
     SectionHead, Silent, Stop, is_same, list_section,
 };
 use crate::order::rank;
-use crate::sections::{LocatedSection, locate_sections};
+use crate::sections::{LocatedSection, SectionWalk};
 use std::alloc::{AllocError, Global};
 use wasm_entities::limits::MemoryType;
 use wasm_entities::types::TagType;
@@ -70,28 +70,35 @@ const ROW_BYTES: usize = 16;
 #[derive(Drop)]
 struct Walk<'a> {
     module: &'a [u8],
-    sections: Vec<LocatedSection<'a>>,
+    /// The sections after the next.
+    sections: SectionWalk<'a>,
+    /// The next section.
+    next: Option<LocatedSection<'a>>,
     /// Number of sections that are done.
     done: usize,
 }
 
 impl<'a> Walk<'a> {
-    fn new(alloc: Global, module: &'a [u8]) -> Result<Walk<'a>, AllocError> {
-        Ok(Walk {
+    fn new(module: &'a [u8]) -> Walk<'a> {
+        let mut sections = SectionWalk::new(module);
+        let next = sections.advance();
+        Walk {
             module,
-            sections: locate_sections(alloc, module)?,
+            sections,
+            next,
             done: 0,
-        })
+        }
     }
 
     /// Returns the next section.
     fn next(&self) -> Option<SectionHead<'a>> {
-        let located = *self.sections.get(self.done)?;
+        let located = self.next?;
         Some(SectionHead::new(self.done, located, self.module))
     }
 
     /// Goes on to the next section.
     fn go_on(&mut self) {
+        self.next = self.sections.advance();
         self.done = self.done.saturating_add(1);
     }
 }
@@ -107,10 +114,8 @@ pub fn list_differences<'a, D: Differences>(
     let second_names = FunctionNames::find(alloc, second)?;
     let mut here = IndexSpaces::new(&first_names);
     let mut there = IndexSpaces::new(&second_names);
-    let mut one = Walk::new(alloc, first)?;
-    let mut other = Walk::new(alloc, second)?;
-    let count = one.sections.len().saturating_add(other.sections.len());
-    for _ in 0..count {
+    let (mut one, mut other) = (Walk::new(first), Walk::new(second));
+    for _ in 0..first.len().saturating_add(second.len()) {
         match next_sections(&mut one, &mut other) {
             Sections::None => break,
             Sections::Both(head, next) => {
