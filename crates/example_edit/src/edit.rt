@@ -180,7 +180,7 @@ fn append_items<T: SectionItem>(
     module.section(&section)
 }
 
-/// Returns the exports, of which `main` is renamed `run`.
+/// Returns the exports, with `main` renamed `run`.
 fn rename_export<'a>(
     alloc: Global,
     exports: &[Export<'a>],
