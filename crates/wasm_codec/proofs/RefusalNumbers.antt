@@ -1,5 +1,6 @@
 -- The numbers in a refusal: what stands before the part that is refused.
-use Rattle.std.proofs.Common.{◌≡◌, ℕ, ◌+◌, ◌-◌, ◌<◌, ◌≤◌, Bool, List, [], ◌∷◌, ◌++◌, length, Option, Some, None, Err, refl, sym, ap, subst, ◌∙◌, length-append, inl, inr, arith}
+use Rattle.std.proofs.Common.{◌≡◌, ℕ, ◌+◌, ◌-◌, ◌<◌, ◌≤◌, Bool, List, [], ◌∷◌, ◌++◌, length, Option, drop, Some, None, Err, refl, sym, ap, subst, ◌∙◌, append_assoc, length-append, inl, inr, arith}
+use Rattle.std.proofs.lemmas.List.{drop_at}
 use Rattle.wasm_codec.specs.declared.reader.cursor.Fault.{Fault}
 use Rattle.wasm_codec.specs.declared.reader.cursor.Fault.TheVariants as faults
 use Rattle.wasm_codec.specs.declared.reader.ReadError.TheVariants as errors
@@ -8,16 +9,22 @@ use Rattle.wasm_codec.specs.declared.reader.DecodeError.TheVariants as decode_er
 use Rattle.wasm_codec.specs.formats.Grammar.{Grammar, IsBytes, Joined, TakesBytes}
 use Rattle.wasm_codec.specs.formats.Combinators.{Format, minimal_if, u32}
 use Rattle.wasm_codec.specs.Reading.{PlainReader}
-use Rattle.wasm_codec.specs.Outcomes.{EncodesSome, HoldsAtRefusal, HoldsOfRefusal, IsAfterLongest, IsLongestPrefix, IsMalformed, UnlessMemory, NamesItem, error_of, item_of, named_item, read_error_of}
-use Rattle.wasm_codec.specs.Lists.{CountsItems, CountsRead, HasItemsBefore, HasJoinedBefore, IsCountedAt}
-use Rattle.wasm_codec.specs.Lawful.{IsLawful}
-use Rattle.wasm_codec.specs.Rewriter.{StopsAt, StopsBehind, Rewriting, rewriting_after, skipped}
+use Rattle.wasm_codec.specs.Outcomes.{EncodesSome, IfInItem, HoldsAtRefusal, HoldsOfRefusal, IsAfterLongest, IsLongestPrefix, IsMalformed, UnlessMemory, NamesItem, error_of, item_of, named_item, read_error_of}
+use Rattle.wasm_codec.specs.Lists.{BreaksAtItem, BreaksInBody, CountsItems, CountsRead, HasItemsBefore, HasJoinedBefore, IsCountedAt}
+use Rattle.wasm_codec.specs.Lawful.{IsLawful, plain}
+use Rattle.wasm_codec.specs.Rewriter.{IsOpen, Rewrites, StopsAt, StopsBehind, StopsInItem, Rewriting, rewriting_after, rewritten_at, skipped}
 use Rattle.wasm_codec.specs.declared.reader.malformed.Stop.{Stop}
-use Rattle.wasm_codec.proofs.ListLaws.{Gone}
+use Rattle.wasm_codec.specs.formats.Bodies.{body_at}
+use Rattle.wasm_codec.specs.formats.Numbers.{EncodesU32}
+use Rattle.wasm_codec.specs.Places.{Place}
+use Rattle.wasm_codec.proofs.BodyLaws.{body_sound}
+use Rattle.wasm_codec.proofs.FormatLaws.{Lawful-u32}
+use Rattle.wasm_codec.proofs.Laws.{IsBytes-after, some_is}
+use Rattle.wasm_codec.proofs.ListLaws.{Gone, gone_more, gone_none}
 use Rattle.wasm_codec.proofs.ListRewriting.{longest_from}
 use Rattle.wasm_codec.proofs.ListReading.{Progress, begin, progress_bytes}
-use Rattle.wasm_codec.proofs.PlaceLists.{place_next}
-use Rattle.wasm_codec.proofs.RewriterLaws.{is_after}
+use Rattle.wasm_codec.proofs.PlaceLists.{place_next, plain_none, plain_reads, plain_some}
+use Rattle.wasm_codec.proofs.RewriterLaws.{is_after, is_given}
 use Rattle.wasm_codec.proofs.BodyRewriting.{joined_stopped}
 
 -- ---- a loop that reads the items of a list
@@ -142,3 +149,71 @@ stops_at r some bytes stop s = record {
   some = λ malformed. s.some;
   within = λ malformed. omega (arith, s.len, ap (length {A = ℕ}) s.parts, length-append s.prefix s.rest);
 }
+
+-- ---- where a list breaks off
+
+pub breaks_here : {V : Type 0} (N : Format ℕ) (F : Format V) (bytes left : List ℕ) (count i : ℕ) (vs : List V) → Gone N.Encodes (plain N.at) F.Encodes (plain F.at) bytes left count i vs → i < count → plain F.at left ≡ None → BreaksAtItem N F bytes i
+unfolding gone_before
+breaks_here N F bytes left count i vs w lt none = record { count = count; at = length bytes - length left; before = gone_before bytes left count i vs w; few = lt; broken = none }
+
+-- an item that is read is malformed
+pub breaks_at_read : (X Y : Type 0) {V : Type 0} (N : Format ℕ) (F : Format V) (bytes left : List ℕ) (count i : ℕ) (vs : List V) (fault : Fault) → Gone N.Encodes (plain N.at) F.Encodes (plain F.at) bytes left count i vs → i < count → (IsMalformed fault → plain F.at left ≡ None) → NamesItem {X = Y} (Some i) (Err fault) → IfInItem {X = X} (Err fault) (BreaksAtItem N F bytes)
+breaks_at_read X Y N F bytes left count i vs faults.Memory w lt none names = λ index e. absurd cc
+breaks_at_read X Y N F bytes left count i vs (faults.Malformed m) w lt none names = λ index e.
+    subst (BreaksAtItem N F bytes) (some_is i index (sym names ∙ e)) (breaks_here N F bytes left count i vs w lt (none tt))
+
+-- the count is malformed
+pub breaks_nowhere : (X Y : Type 0) {V : Type 0} (N : Format ℕ) (F : Format V) (bytes : List ℕ) (fault : Fault) → NamesItem {X = Y} None (Err fault) → IfInItem {X = X} (Err fault) (BreaksAtItem N F bytes)
+breaks_nowhere X Y N F bytes faults.Memory none = λ index e. absurd cc
+breaks_nowhere X Y N F bytes (faults.Malformed m) none = λ index e. absurd cc
+
+-- this number of items of a list was rewritten
+pub record ListPassed {V : Type 0} (F : Format V) (bytes left : List ℕ) (count i : ℕ) : Type 0 where
+  pub values : List V
+  pub gone : Gone EncodesU32 (plain u32.at) F.Encodes (plain F.at) bytes left count i values
+  pub fits : IsBytes left
+
+pub list_passed_none : {V : Type 0} (F : Format V) (old here : Rewriting) (count : ℕ) → IsBytes old.place.left → rewritten_at u32 old ≡ Some (count, here) → ListPassed F old.place.left here.place.left count 0
+list_passed_none F old here count fits e =
+    let g = is_given u32 old count here e in
+    let one = Lawful-u32.reads.sound old.place count here.place fits g.is_read in
+    record {
+      values = [];
+      gone = gone_none (plain_reads Lawful-u32.reads) F.Encodes (plain F.at) old.place.left here.place.left count fits (plain_some Lawful-u32 old.place count here.place fits g.is_read);
+      fits = IsBytes-after old.place.left here.place.left count one fits;
+    }
+
+pub list_passed_more : {V : Type 0} {F : Format V} → IsLawful F → TakesBytes F.Encodes → (bytes : List ℕ) (here next : Rewriting) (count i : ℕ) → ListPassed F bytes here.place.left count i → i < count → rewriting_after F here ≡ Some next → ListPassed F bytes next.place.left count (i + 1)
+list_passed_more {F = F} r some bytes here next count i w lt e =
+    let one = is_after F here next e in
+    let sound = r.reads.sound here.place one.value next.place w.fits one.given.is_read in
+    record {
+      values = w.values ++ one.value ∷ [];
+      gone = gone_more (plain_reads r.reads) some bytes here.place.left next.place.left count i w.values one.value w.gone lt (plain_some r here.place one.value next.place w.fits one.given.is_read);
+      fits = IsBytes-after here.place.left next.place.left one.value sound w.fits;
+    }
+
+-- an item that is rewritten is malformed
+pub breaks_at_rewritten : (X Y : Type 0) {V : Type 0} {F : Format V} → IsLawful F → (bytes : List ℕ) (here new : Rewriting) (count i : ℕ) (fault : Fault) → ListPassed F bytes here.place.left count i → i < count → Rewrites F here new (Err fault) → NamesItem {X = Y} (Some i) (Err fault) → IfInItem {X = X} (Err fault) (BreaksAtItem u32 F bytes)
+breaks_at_rewritten X Y r bytes here new count i faults.Memory w lt none names = absurd none
+breaks_at_rewritten X Y {F = F} r bytes here new count i (faults.Malformed m) w lt none names = breaks_at_read X Y u32 F bytes here.place.left count i w.values (faults.Malformed m) w.gone lt (λ _. plain_none r here.place w.fits none) names
+
+-- ---- inside a body
+
+pub in_body : (Breaks : List ℕ → ℕ → Type 0) (old : Place) (body : List ℕ) (after : Place) → IsBytes old.left → body_at old ≡ Some (body, after) → (i : ℕ) → Breaks body i → BreaksInBody Breaks old.left i
+in_body Breaks old body after fits e i breaks =
+    let b = body_sound old body after fits e in
+    record { size = b.size; body = body; rest = after.left; parts = b.parts ∙ append_assoc b.size body after.left; sized = b.counts; breaks = breaks }
+
+-- a fault in a body that is rewritten
+pub breaks_in_opened : (X Y : Type 0) (Breaks : List ℕ → ℕ → Type 0) (old mid : Rewriting) (mark size behind : ℕ) (fault : Fault) → IsBytes old.place.left → IsOpen old mid mark size behind → IfInItem {X = X} (Err fault) (Breaks mid.place.left) → IfInItem {X = Y} (Err fault) (BreaksInBody Breaks old.place.left)
+breaks_in_opened X Y Breaks old mid mark size behind fault fits o h =
+    let inside : IfInItem {X = X} (Err fault) (Breaks o.body) = subst (λ (l : List ℕ). IfInItem {X = X} (Err fault) (Breaks l)) (ap (λ (r : Rewriting). r.place.left) o.within) h in
+    λ index e. in_body Breaks old.place o.body o.after fits o.is_read index (inside index e)
+
+-- ---- the part at which a loop stops
+
+pub stops_in_item : (X : Type 0) (P : List ℕ → ℕ → Type 0) (bytes prefix left : List ℕ) (n passed : ℕ) (fault : Fault) → bytes ≡ prefix ++ left → n ≡ length left → IfInItem {X = X} (Err fault) (P left) → StopsInItem P bytes (record { left = n; passed = passed; fault = fault })
+stops_in_item X P bytes prefix left n passed fault parts len h =
+    let rest : drop (length bytes - n) bytes ≡ left = rw (parts) (drop_at prefix left (length (prefix ++ left) - n) (omega (arith, len, length-append prefix left))) in
+    λ index e. rw rest (h index e)

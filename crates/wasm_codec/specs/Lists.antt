@@ -87,6 +87,23 @@ CountsRead strict F old new (Ok items) = IsCountedAt (minimal_if strict u32).Enc
 CountsRead strict F old new (Err (faults.Malformed m)) = IsCountedAt (minimal_if strict u32).Encodes (minimal_if strict F).Encodes old (length old - length new) m.item
 CountsRead strict F old new (Err faults.Memory) = Unit {0}
 
+-- The list breaks off at the item with this index: the items before it decode, and it doesn't.
+pub record BreaksAtItem {V : Type 0} (Count : Format ℕ) (F : Format V) (body : List ℕ) (index : ℕ) : Type 0 where
+  pub count : ℕ
+  pub at : ℕ
+  pub before : HasItemsBefore Count.Encodes F.Encodes body count index at
+  pub few : index < count
+  pub broken : (plain F.at) before.rest ≡ None
+
+-- The bytes begin with a size and a body of that size, which breaks off at the item with this index.
+pub record BreaksInBody (Breaks : List ℕ → ℕ → Type 0) (bytes : List ℕ) (index : ℕ) : Type 0 where
+  pub size : List ℕ
+  pub body : List ℕ
+  pub rest : List ℕ
+  pub parts : bytes ≡ size ++ (body ++ rest)
+  pub sized : EncodesU32 size (length body)
+  pub breaks : Breaks body index
+
 -- The bytes before this offset are this number of items, without a count.
 pub record HasJoinedBefore {V : Type 0} (G : Grammar V) (bytes : List ℕ) (index at : ℕ) : Type 0 where
   pub prefix : List ℕ

@@ -1,5 +1,5 @@
 -- Answers of readers and normalisers about their whole input.
-use Rattle.std.specs.Prelude.{◌≡◌, ℕ, ◌≤◌, List, ◌++◌, length, Option, Some, None, Result, Ok, Err, IfErr, IfSome}
+use Rattle.std.specs.Prelude.{◌≡◌, ℕ, ◌≤◌, List, ◌++◌, drop, length, Option, Some, None, Result, Ok, Err, IfErr, IfSome}
 use Rattle.wasm_codec.specs.declared.reader.cursor.Fault.{Fault}
 use Rattle.wasm_codec.specs.declared.reader.cursor.Fault.TheVariants as faults
 use Rattle.wasm_codec.specs.formats.Grammar.{Grammar}
@@ -29,6 +29,11 @@ offsets_of (decode_errors.Malformed refusal) = Some (refusal.at, refusal.offset)
 abbrev pub item_of : DecodeError → Option ℕ
 item_of decode_errors.Memory = None
 item_of (decode_errors.Malformed refusal) = refusal.item
+
+-- The number of the item that the fault names.
+abbrev pub item_of_fault : Fault → Option ℕ
+item_of_fault faults.Memory = None
+item_of_fault (faults.Malformed m) = m.item
 
 -- This number, if the error can name an item: `Memory` can't.
 abbrev pub named_item : DecodeError → ℕ → Option ℕ
@@ -137,6 +142,19 @@ abbrev pub NamesItem : {X : Type 0} → Option ℕ → Result X Fault → Type 0
 NamesItem item (Ok x) = Unit {0}
 NamesItem item (Err (faults.Malformed m)) = m.item ≡ item
 NamesItem item (Err faults.Memory) = Unit {0}
+
+-- The call fails with a fault in the item with this index.
+abbrev pub FailsInItem : {X : Type 0} → ℕ → Result X Fault → Type 0
+FailsInItem index (Ok x) = ⊥
+FailsInItem index (Err fault) = item_of_fault fault ≡ Some index
+
+-- If the call fails with a fault in an item, the property holds of the item's index.
+abbrev pub IfInItem : {X : Type 0} → Result X Fault → (ℕ → Type 0) → Type 0
+IfInItem result P = (index : ℕ) → FailsInItem index result → P index
+
+-- If the refusal names an item, the property holds of the bytes from `at` on and of the item's index.
+abbrev pub IfRefusedInItem : (List ℕ → ℕ → Type 0) → List ℕ → Refusal → Type 0
+IfRefusedInItem P bytes refusal = (index : ℕ) → refusal.item ≡ Some index → P (drop refusal.at bytes) index
 
 -- The property holds unless memory ran out.
 abbrev pub UnlessMemory : {X : Type 0} → Result X Fault → Type 0 → Type 0

@@ -9,7 +9,7 @@ use Rattle.std.specs.Global.{Vec}
 use Rattle.wasm_codec.specs.declared.reader.ReadError.{ReadError}
 use Rattle.wasm_codec.specs.declared.reader.ReadError.TheVariants as errors
 use Rattle.wasm_codec.specs.declared.reader.malformed.Stop.{Stop}
-use Rattle.wasm_codec.specs.Outcomes.{EncodesSome, IsLongestPrefix, IsNormalForm, IsMalformed}
+use Rattle.wasm_codec.specs.Outcomes.{EncodesSome, IsLongestPrefix, IsNormalForm, IsMalformed, item_of_fault}
 use Rattle.wasm_codec.specs.Lists.{HasJoinedBefore, EncodesList, IsListPrefix, items_bytes}
 use Rattle.wasm_codec.specs.formats.Grammar.{Joined}
 use Rattle.wasm_codec.specs.Lawful.{plain}
@@ -140,6 +140,10 @@ pub record StopsBehind {V : Type 0} (F : Format V) (bytes : List ℕ) (stop : St
 -- If an item is malformed, this number of items stands before it.
 abbrev pub CountsPassed : {V : Type 0} → Format V → List ℕ → Stop → Type 0
 CountsPassed F bytes stop = IsMalformed stop.fault → HasJoinedBefore F.Encodes bytes stop.passed (length bytes - stop.left)
+
+-- If the fault names an item, the property holds of the bytes from the malformed part on, and of the item's index.
+abbrev pub StopsInItem : (List ℕ → ℕ → Type 0) → List ℕ → Stop → Type 0
+StopsInItem P bytes stop = (index : ℕ) → item_of_fault stop.fault ≡ Some index → P (drop (length bytes - stop.left) bytes) index
 
 -- The same result, with the fault alone.
 abbrev pub faulted : {X : Type 0} → Result X Stop → Result X Fault

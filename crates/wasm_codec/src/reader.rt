@@ -4,7 +4,7 @@
 ghost use Rattle.std.specs.Prelude.{◌≡◌, ◌≤◌, ◌-◌, None};
 ghost use Rattle.wasm_codec.specs.declared.reader.ReadError.TheVariants.{Memory, Refused};
 ghost use Rattle.wasm_codec.specs.declared.reader.DecodeError.TheVariants as decode_errors;
-ghost use Rattle.wasm_codec.specs.Outcomes.{LiesIn, IsNumbered, as_read, error_of, item_of, named_item, offsets_of, read_error_of};
+ghost use Rattle.wasm_codec.specs.Outcomes.{LiesIn, IsNumbered, as_read, error_of, item_of, item_of_fault, named_item, offsets_of, read_error_of};
 
 pub mod cursor;
 pub mod malformed;
@@ -63,6 +63,7 @@ impl DecodeError {
     pub fn new(fault: Fault, at: usize, len: usize) -> DecodeError
         ensures error { read_error_of result ≡ error_of fault at }
         ensures place { at ≤ len → LiesIn len result }
+        ensures item { item_of result ≡ item_of_fault fault }
     {
         match fault {
             Fault::Memory => DecodeError::Memory,
@@ -83,6 +84,7 @@ impl DecodeError {
     pub fn stopped(stop: Stop, len: usize) -> DecodeError
         ensures error { read_error_of result ≡ error_of stop.fault (len - stop.left) }
         ensures place { LiesIn len result }
+        ensures item { item_of result ≡ item_of_fault stop.fault }
     {
         DecodeError::new(stop.fault, len.saturating_sub(stop.left), len)
     }
@@ -121,6 +123,7 @@ impl DecodeError {
     pub fn in_section(self, number: usize, id: u8) -> DecodeError
         ensures error { read_error_of result ≡ read_error_of self }
         ensures place { offsets_of result ≡ offsets_of self }
+        ensures item { item_of result ≡ item_of self }
         ensures number { IsNumbered number result }
     {
         match self {
@@ -136,6 +139,7 @@ impl DecodeError {
     pub fn numbered(self, number: usize) -> DecodeError
         ensures error { read_error_of result ≡ read_error_of self }
         ensures place { offsets_of result ≡ offsets_of self }
+        ensures item { item_of result ≡ item_of self }
         ensures number { IsNumbered number result }
     {
         match self {

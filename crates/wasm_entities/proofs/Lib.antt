@@ -2,3 +2,4 @@ pub mod PartCombinatorLaws
 pub mod NameLaws
 pub mod ExternalLaws
 pub mod ExpressionLaws
+pub mod ScannedEntities

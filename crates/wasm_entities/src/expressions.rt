@@ -1,6 +1,8 @@
 //! Expressions: instructions up to the `end` that closes none of their blocks (Core 3.0, Expressions).
-ghost use Rattle.std.specs.Prelude.{◌≡◌, ◌+◌, ◌^◌, ◌<◌, IsTrue, IsFalse, ◌++◌, OnOk, OnErr, IfErr, length, take};
+ghost use Rattle.std.specs.Prelude.{◌≡◌, ◌+◌, ◌^◌, ◌<◌, IsTrue, IsFalse, ◌++◌, OnOk, OnErr, IfErr, length, take, Some, IfSome};
 ghost use Rattle.wasm_entities.specs.ClosedExpressions.{IsClosed, IsCountedExpr};
+ghost use Rattle.wasm_codec.specs.Scanning.{Scans};
+ghost use Rattle.wasm_codec.specs.declared.rewriter.scan.Scanned.TheVariants.{Shortest};
 ghost use Rattle.wasm_codec.specs.Outcomes.{IsMalformed};
 ghost use Rattle.wasm_codec.specs.Places.{Reads, Sees};
 ghost use Rattle.wasm_instructions.specs.formats.Instructions.{instruction};
@@ -13,12 +15,12 @@ use std::alloc::{Allocator, Global};
 use wasm_codec::encode::{EncodeError, keep_or_undo};
 use wasm_codec::reader::cursor::{Cursor, Fault};
 use wasm_codec::reader::malformed::{Construct, Malformed, Reason};
-use wasm_codec::rewriter::Rewriter;
+use wasm_codec::rewriter::{Rewriter, Scanned};
 use wasm_instructions::calls::append_calls;
 use wasm_instructions::reader::instructions::read_call;
 use wasm_instructions::table::{Call, Opcode, Prefix};
 use wasm_lists::list::Items;
-use wasm_lists::rewriting::Rewritable;
+use wasm_lists::rewriting::{Joinable, Rewritable};
 
 /// The effect of an instruction on the open blocks.
 #[derive(Clone, Copy)]
@@ -137,6 +139,31 @@ fn peek_opcode(rewriter: &Rewriter) -> Result<u8, Fault>
         Err(Fault::Malformed(_)) => Err(Fault::Malformed(rewriter.malformed(Reason::MissingEnd))),
         Err(Fault::Memory) => Err(Fault::Memory),
     }
+}
+
+/// Returns the length in bytes of the expression that the bytes begin with. Returns `None` unless it is one frequent
+/// instruction, minimally encoded, such as `i32.const`, `global.get` or `ref.func`.
+#[inline(always)]
+pub fn scan_expr(bytes: &[u8]) -> Option<usize>
+    ensures { IfSome result (λ count. Scans expr bytes.now (Some (Shortest count))) }
+{
+    if bytes.len() == 0 {
+        return None;
+    }
+    // No smaller byte is the opcode of an instruction with a value, and none from here on opens or closes a block.
+    if bytes[0] < 0x20 {
+        return None;
+    }
+    let Some(Scanned::Shortest(count)) = Call::scan(bytes) else {
+        return None;
+    };
+    if count >= bytes.len() {
+        return None;
+    }
+    if bytes[count] != 0x0b {
+        return None;
+    }
+    Some(count + 1)
 }
 
 /// Rewrites an expression to its minimal encoding.

@@ -1,5 +1,7 @@
 //! Names: a length in bytes, then UTF-8 text (Core 3.0, Names).
-ghost use Rattle.std.specs.Prelude.{◌≡◌, List, ℕ, IfErr, ◌++◌, true, OnOk, length, take};
+ghost use Rattle.std.specs.Prelude.{◌≡◌, List, ℕ, IfErr, ◌++◌, true, OnOk, length, take, Some, IfSome};
+ghost use Rattle.wasm_codec.specs.Scanning.{Scans};
+ghost use Rattle.wasm_codec.specs.declared.rewriter.scan.Scanned.TheVariants.{Shortest};
 ghost use Rattle.wasm_codec.specs.Places.{Reads};
 ghost use Rattle.wasm_codec.specs.Reading.{map_ok};
 ghost use Rattle.wasm_codec.specs.Rewriter.{Rewrites};
@@ -42,6 +44,30 @@ pub fn rewrite_name(rewriter: &mut Rewriter) -> Result<(), Fault>
     ensures rewrites { Rewrites name rewriter.old rewriter.new result }
 {
     rewrite_sized::<Text>(rewriter)
+}
+
+/// Returns the length in bytes of the name that the bytes begin with. Returns `None` unless its size has one byte and its
+/// text is ASCII.
+#[inline(always)]
+pub fn scan_name(bytes: &[u8]) -> Option<usize>
+    ensures { IfSome result (λ count. Scans name bytes.now (Some (Shortest count))) }
+{
+    if bytes.len() == 0 {
+        return None;
+    }
+    if bytes[0] >= 128 {
+        return None;
+    }
+    let count = bytes[0] as usize;
+    if bytes.len() - 1 < count {
+        return None;
+    }
+    for index in 0..count {
+        if bytes[1 + index] >= 128 {
+            return None;
+        }
+    }
+    Some(1 + count)
 }
 
 /// The text of a name, up to the end.

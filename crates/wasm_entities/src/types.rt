@@ -1,5 +1,7 @@
 //! The types of globals, tags and imports (Core 3.0, Types), and the kinds of exports (Export Section).
-ghost use Rattle.std.specs.Prelude.{[], ◌≡◌, false, IfErr, refl, ◌++◌, ◌+◌, ◌≤◌, ◌∷◌, Some, vec_len, vec_capacity};
+ghost use Rattle.std.specs.Prelude.{[], ◌≡◌, false, IfErr, refl, ◌++◌, ◌+◌, ◌≤◌, ◌∷◌, Some, vec_len, vec_capacity, IfSome};
+ghost use Rattle.wasm_codec.specs.Scanning.{Scans};
+ghost use Rattle.wasm_codec.specs.declared.rewriter.scan.Scanned.TheVariants.{Shortest};
 ghost use Rattle.wasm_codec.specs.Places.{Reads};
 ghost use Rattle.wasm_codec.specs.Rewriter.{Rewrites};
 ghost use Rattle.wasm_codec.specs.Outcomes.{IsMalformed};
@@ -19,11 +21,11 @@ use wasm_codec::encode::EncodeError;
 use wasm_codec::encode::leb128::put_u32;
 use wasm_codec::reader::cursor::{Cursor, Fault};
 use wasm_codec::reader::malformed::Construct;
-use wasm_codec::rewriter::Rewriter;
+use wasm_codec::rewriter::{Rewriter, Scanned, scan_u32};
 use wasm_lists::encode::Encode;
 use wasm_lists::readable::Readable;
 use wasm_types::encode::put_val_type;
-use wasm_types::normaliser::rewrite_val_type;
+use wasm_types::normaliser::{is_whole_type, rewrite_val_type};
 use wasm_types::reader::read_val_type;
 use wasm_types::types::ValType;
 
@@ -228,6 +230,47 @@ pub fn rewrite_global_type(rewriter: &mut Rewriter) -> Result<(), Fault>
 {
     rewrite_val_type(rewriter)?;
     rewrite_global_flags(rewriter)
+}
+
+/// Returns the length in bytes of the global type that the bytes begin with. Returns `None` unless its value type has one
+/// byte.
+#[inline(always)]
+pub fn scan_global_type(bytes: &[u8]) -> Option<usize>
+    ensures { IfSome result (λ count. Scans global_type bytes.now (Some (Shortest count))) }
+{
+    if bytes.len() < 2 {
+        return None;
+    }
+    if !is_whole_type(bytes[0]) {
+        return None;
+    }
+    if bytes[1] >= 4 {
+        return None;
+    }
+    Some(2)
+}
+
+/// Returns the length in bytes of the type of an import that the bytes begin with. Returns `None` unless it is a function
+/// with a minimal index, or a global whose value type has one byte.
+#[inline(always)]
+pub fn scan_entity_type(bytes: &[u8]) -> Option<usize>
+    ensures { IfSome result (λ count. Scans entity_type bytes.now (Some (Shortest count))) }
+{
+    if bytes.len() == 0 {
+        return None;
+    }
+    let rest = &bytes[1..];
+    match bytes[0] {
+        0x00 => match scan_u32(rest) {
+            Some(Scanned::Shortest(count)) => Some(1 + count),
+            _ => None,
+        },
+        0x03 => {
+            let count = scan_global_type(rest)?;
+            Some(1 + count)
+        }
+        _ => None,
+    }
 }
 
 /// Rewrites a tag type to its minimal encoding.

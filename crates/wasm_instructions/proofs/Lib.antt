@@ -8,7 +8,9 @@ pub mod OpcodeLaws
 pub mod OperandFormatLaws
 pub mod InstructionFormatLaws
 pub mod CallRewriting
+mod InstructionReading
 pub mod OperandRewriting
 pub mod ScannedCalls
 mod LittleEndianHalves
 pub mod NameLaws
+pub mod ScannedPrefixed

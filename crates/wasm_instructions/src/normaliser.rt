@@ -10,7 +10,7 @@ mod operands;
 mod scan;
 
 use crate::normaliser::operands::rewrite_operands;
-use crate::normaliser::scan::scan_call;
+use crate::normaliser::scan::{scan_call, scan_rare_call};
 use crate::table::{Call, Opcode};
 use std::alloc::Global;
 use wasm_codec::reader::cursor::Fault;
@@ -79,6 +79,10 @@ impl Rewritable for Call {
                 rewriter.rewrite_scanned(scanned);
                 return Ok(());
             }
+        }
+        if let Some(count) = scan_rare_call(rewriter.left()) {
+            rewriter.rewrite_scanned(Scanned::Shortest(count));
+            return Ok(());
         }
         rewrite_located_call(rewriter)
     }

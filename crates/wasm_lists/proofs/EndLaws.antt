@@ -4,7 +4,8 @@ use Rattle.std.proofs.lemmas.List.{append-nil}
 use Rattle.wasm_codec.specs.declared.reader.cursor.Fault.{Fault}
 use Rattle.wasm_codec.specs.declared.reader.cursor.Fault.TheVariants as faults
 use Rattle.wasm_codec.specs.formats.Grammar.{IsBytes, TakesBytes, Joined}
-use Rattle.wasm_codec.specs.Outcomes.{UnlessMemory, EncodesSome, IsAfterLongest, IsLongestPrefix}
+use Rattle.wasm_codec.specs.Outcomes.{UnlessMemory, EncodesSome, IsAfterLongest, IsLongestPrefix, IsMalformed}
+use Rattle.wasm_codec.specs.Reading.{PlainReader, ReadsPlain}
 use Rattle.wasm_codec.specs.Places.{Place, Reader, Reads}
 use Rattle.wasm_codec.specs.Lawful.{IsLawful}
 use Rattle.wasm_codec.specs.formats.Combinators.{Format}
@@ -130,3 +131,12 @@ one_counted r takes old here next count v fits w e =
       counted = record { values = w.values ++ v ∷ []; passed = one.passed; count_is = omega (arith, w.count_is, length-append w.values (v ∷ [])) };
       fewer = one.fewer;
     }
+
+-- a malformed item isn't read
+pub unread : {V : Type 0} (read : PlainReader V) (left new : List ℕ) (fault : Fault) → ReadsPlain read left new (Err fault) → IsMalformed fault → read left ≡ None
+unread read left new faults.Memory e malformed = absurd malformed
+unread read left new (faults.Malformed m) e malformed = e
+
+-- a fault that names no item isn't in one
+pub none_named : (item : Option ℕ) (index : ℕ) → item ≡ None → item ≡ Some index → ⊥
+none_named item index none e = absurd cc

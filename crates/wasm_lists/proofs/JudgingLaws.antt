@@ -1,5 +1,5 @@
 -- Items that are rewritten and judged one after another.
-use Rattle.std.proofs.Common.{◌≡◌, ◌<◌, Bool, true, false, [], length, Option, Some, None, Ok, Err, sym, arith}
+use Rattle.std.proofs.Common.{◌≡◌, ℕ, ◌+◌, ◌<◌, Bool, true, false, [], length, Option, Some, None, IfSome, Ok, Err, sym, arith}
 use Rattle.wasm_codec.specs.declared.reader.cursor.Fault.{Fault}
 use Rattle.wasm_codec.specs.declared.reader.cursor.Fault.TheVariants as faults
 use Rattle.wasm_codec.specs.declared.reader.malformed.Stop.{Stop}
@@ -11,7 +11,8 @@ use Rattle.wasm_codec.proofs.BodyRewriting.{joined_done}
 use Rattle.wasm_codec.proofs.PlaceLists.{plain_none, Lawful-minimal_only}
 use Rattle.wasm_codec.proofs.RewriterLaws.{Going, going, going_bytes, goes_on, all_gone}
 use Rattle.wasm_lists.specs.declared.judging.LongerItem.{LongerItem}
-use Rattle.wasm_lists.specs.Judging.{JudgesItem, JudgesAll, TellsFirst, first_of}
+use Rattle.wasm_codec.proofs.RefusalNumbers.{Counted, counted_before, counted_more, counted_none}
+use Rattle.wasm_lists.specs.Judging.{CountsFirst, JudgesItem, JudgesAll, TellsFirst, first_of}
 
 -- what is known of the items so far: all are in their shortest encodings, or this is the first that isn't
 abbrev SoFar : {V : Type 0} → Format V → Rewriting → Rewriting → Option LongerItem → Type 0
@@ -83,3 +84,31 @@ judged_stops {V} {F} law old here new next first (faults.Malformed m) stop fits 
       },
       rw is tt,
     )
+
+-- ---- the numbers of the items
+
+-- what is counted so far: the items before the first that isn't in its shortest encoding
+abbrev CountedSoFar : {V : Type 0} → Format V → Rewriting → Rewriting → Option LongerItem → ℕ → Type 0
+CountedSoFar F old here None passed = Counted (minimal_only F) old.place.left here.place.left passed
+CountedSoFar F old here (Some item) passed = CountsFirst F old.place.left item
+
+pub record JudgedCount {V : Type 0} (F : Format V) (old here : Rewriting) (first : Option LongerItem) (passed : ℕ) : Type 0 where
+  pub all : Counted F old.place.left here.place.left passed
+  pub so_far : CountedSoFar F old here first passed
+
+pub count_none : {V : Type 0} (F : Format V) (old : Rewriting) → JudgedCount F old old None 0
+count_none F old = record { all = counted_none F old.place.left; so_far = counted_none (minimal_only F) old.place.left }
+
+module _ {V : Type 0} {F : Format V} (law : IsLawful F) (some : TakesBytes F.Encodes) (old here next : Rewriting) (item : LongerItem) (fits : IsBytes old.place.left) (left : item.left ≡ length here.place.left) where
+  count_so_far : (first : Option LongerItem) (minimal : Bool) → CountedSoFar F old here first item.passed → JudgesItem F here next (Ok minimal) → CountedSoFar F old next (first_of first minimal item) (item.passed + 1)
+  count_so_far (Some found) minimal w h = w
+  count_so_far None true w h = counted_more (Lawful-minimal_only law) (takes_minimal F some) old here next item.passed fits w h.1
+  count_so_far None false w h = counted_before (minimal_only F) old.place.left here.place.left item.passed item.left w left
+
+  pub count_on : (first : Option LongerItem) (minimal : Bool) → JudgedCount F old here first item.passed → JudgesItem F here next (Ok minimal) → JudgedCount F old next (first_of first minimal item) (item.passed + 1)
+  count_on first minimal j h = record { all = counted_more law some old here next item.passed fits j.all (after_item F here next minimal h); so_far = count_so_far first minimal j.so_far h }
+
+-- the number of the first item that isn't in its shortest encoding
+pub count_first : {V : Type 0} (F : Format V) (old here : Rewriting) (first : Option LongerItem) (passed : ℕ) → JudgedCount F old here first passed → IfSome first (CountsFirst F old.place.left)
+count_first F old here None passed j = tt
+count_first F old here (Some item) passed j = j.so_far

@@ -1,5 +1,5 @@
 -- Items that are rewritten in place, and the first of them that isn't minimally encoded.
-use Rattle.std.specs.Prelude.{◌≡◌, ℕ, Bool, true, false, List, [], Option, Some, None, Result, Ok, Err}
+use Rattle.std.specs.Prelude.{◌≡◌, ℕ, ◌-◌, Bool, true, false, List, [], length, Option, Some, None, Result, Ok, Err}
 use Rattle.wasm_codec.specs.declared.reader.cursor.Fault.{Fault}
 use Rattle.wasm_codec.specs.declared.reader.cursor.Fault.TheVariants as faults
 use Rattle.wasm_codec.specs.declared.reader.malformed.Stop.{Stop}
@@ -7,6 +7,7 @@ use Rattle.wasm_codec.specs.formats.Grammar.{Joined}
 use Rattle.wasm_codec.specs.formats.Combinators.{Format, minimal_only}
 use Rattle.wasm_codec.specs.formats.Bodies.{to_end}
 use Rattle.wasm_codec.specs.Outcomes.{EncodesSome, IsMalformed}
+use Rattle.wasm_codec.specs.Lists.{HasJoinedBefore}
 use Rattle.wasm_codec.specs.Rewriter.{Rewriting, rewriting_after, StopsAt}
 use Rattle.wasm_lists.specs.declared.judging.LongerItem.{LongerItem}
 
@@ -27,6 +28,10 @@ first_of None false item = Some item
 abbrev pub TellsFirst : {V : Type 0} → Format V → List ℕ → Option LongerItem → Type 0
 TellsFirst F bytes None = EncodesSome (Joined (minimal_only F).Encodes) bytes
 TellsFirst F bytes (Some item) = StopsAt (minimal_only F) bytes item.left
+
+-- This number of minimally encoded items stands before the item.
+abbrev pub CountsFirst : {V : Type 0} → Format V → List ℕ → LongerItem → Type 0
+CountsFirst F bytes item = HasJoinedBefore (minimal_only F).Encodes bytes item.passed (length bytes - item.left)
 
 -- The call rewrites all items to the end and tells the first that wasn't minimally encoded, or how many bytes are left
 -- from the first malformed one; it needs no memory.

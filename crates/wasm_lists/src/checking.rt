@@ -9,7 +9,7 @@ ghost use Rattle.wasm_codec.specs.Lists.{CountsItems, ListMinimalIf, IsListPrefi
 ghost use Rattle.wasm_codec.specs.Places.{place};
 ghost use Rattle.wasm_codec.specs.formats.Combinators.{minimal_only, u32 as u32_format};
 ghost use Rattle.wasm_codec.specs.Decoding.{ChecksAll};
-ghost use Rattle.wasm_codec.specs.Rewriter.{CountsPassed, StopsBehind};
+ghost use Rattle.wasm_codec.specs.Rewriter.{CountsPassed, StopsBehind, StopsInItem};
 
 use crate::rewriting::{Joinable, Rewritable, rewrite_joined, rewrite_list_to_end};
 use std::alloc::Global;
@@ -67,6 +67,7 @@ pub fn check_joined<T: Joinable>(alloc: Global, bytes: &[u8]) -> Result<(), Stop
     ensures given { IfOk result (λ _. EncodesSome (Joined (minimal_only T.format).Encodes) bytes.now) }
     ensures stops { IfErr result (StopsBehind (minimal_only T.format) bytes.now) }
     ensures passed { T.NeverScans → IfErr result (CountsPassed (minimal_only T.format) bytes.now) }
+    ensures names { IfErr result (StopsInItem T.Breaks bytes.now) }
 {
     Shortest::<T>::is_lawful();
     let mut rewriter = Rewriter::new(Vec::from_slice(alloc, bytes)?);
@@ -83,6 +84,8 @@ impl<T: Rewritable> Rewritable for Shortest<T> {
     ghost Value = { T.Value };
 
     ghost format = { minimal_only T.format };
+
+    ghost Breaks = { T.Breaks };
 
     #[inline(always)]
     fn is_lawful() {

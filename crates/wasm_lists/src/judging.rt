@@ -1,6 +1,8 @@
 //! Items rewritten in place, and the first of them that isn't minimally encoded.
-ghost use Rattle.std.specs.Prelude.{◌≡◌};
-ghost use Rattle.wasm_lists.specs.Judging.{JudgesItem, JudgesAll, first_of};
+ghost use Rattle.std.specs.Prelude.{◌≡◌, IfErr, IfOk, IfSome};
+ghost use Rattle.wasm_codec.specs.Outcomes.{IfInItem};
+ghost use Rattle.wasm_codec.specs.Rewriter.{CountsPassed, StopsInItem};
+ghost use Rattle.wasm_lists.specs.Judging.{CountsFirst, JudgesItem, JudgesAll, first_of};
 
 use crate::rewriting::Rewritable;
 use wasm_codec::reader::cursor::Fault;
@@ -21,10 +23,15 @@ pub struct LongerItem {
 ///
 /// `Rewriter::longer` tells which part of the item is the first that wasn't minimally encoded.
 pub fn judge_items<T: Rewritable>(rewriter: &mut Rewriter) -> Result<Option<LongerItem>, Stop>
-    ensures { JudgesAll T.format rewriter.old rewriter.new result }
+    ensures judges { JudgesAll T.format rewriter.old rewriter.new result }
+    ensures passed { IfErr result (CountsPassed T.format rewriter.old.place.left) }
+    ensures names { IfErr result (StopsInItem T.Breaks rewriter.old.place.left) }
+    // The first item that wasn't minimally encoded counts the items before it.
+    ensures counts { IfOk result (λ first. IfSome first (CountsFirst T.format rewriter.old.place.left)) }
 {
     T::is_lawful();
     rewriter.are_bytes();
+    let _most = rewriter.len();
     let mut first = None;
     let mut passed = 0usize;
     while rewriter.len() > 0 {
@@ -40,14 +47,15 @@ pub fn judge_items<T: Rewritable>(rewriter: &mut Rewriter) -> Result<Option<Long
             }
         };
         first = first_of(first, is_minimal, LongerItem { left, passed });
-        passed = passed.wrapping_add(1);
+        passed += 1;
     }
     Ok(first)
 }
 
 /// Rewrites the next item. Returns whether it was minimally encoded.
 fn judge_item<T: Rewritable>(rewriter: &mut Rewriter) -> Result<bool, Fault>
-    ensures { JudgesItem T.format rewriter.old rewriter.new result }
+    ensures judges { JudgesItem T.format rewriter.old rewriter.new result }
+    ensures names { IfInItem result (T.Breaks rewriter.old.place.left) }
 {
     T::is_lawful();
     rewriter.are_bytes();

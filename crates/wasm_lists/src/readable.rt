@@ -1,6 +1,6 @@
 //! `Readable`, the items that lists are read of.
-ghost use Rattle.wasm_codec.specs.Outcomes.{IsMalformed};
-ghost use Rattle.std.specs.Prelude.{◌≡◌, IfErr, ℕ, List, refl};
+ghost use Rattle.wasm_codec.specs.Outcomes.{IfInItem, IsMalformed};
+ghost use Rattle.std.specs.Prelude.{◌≡◌, ⊤, IfErr, ℕ, List, refl};
 ghost use Rattle.wasm_codec.specs.formats.Grammar.{TakesBytes};
 ghost use Rattle.wasm_codec.specs.Reading.{ViewsEach, map_ok};
 ghost use Rattle.wasm_codec.specs.Places.{Reads};
@@ -43,6 +43,9 @@ pub trait Readable<'a>: Drop {
     /// The bytes that encode each item.
     ghost format: { Format Value };
 
+    /// What the bytes are if a fault names the item with this index. By default nothing is known.
+    ghost Breaks: { List ℕ → ℕ → Type 0 } = { λ bytes index. ⊤ };
+
     /// Tells the proof that the format is lawful, and that each encoding of an item has at least one byte. The call does
     /// nothing.
     fn is_lawful()
@@ -51,7 +54,8 @@ pub trait Readable<'a>: Drop {
 
     /// Reads the next item. Fails with `Malformed` if none can be decoded, and with `Memory` if an allocation fails.
     fn read(alloc: Global, cursor: &mut Cursor<'a>) -> Result<Self, Fault>
-        ensures reads { Reads format.at cursor.old cursor.new (map_ok view result) };
+        ensures reads { Reads format.at cursor.old cursor.new (map_ok view result) }
+        ensures names { IfInItem result (Breaks cursor.old.left) };
 
     /// Replaces the next item by its minimal encoding. Fails with `Malformed` if none can be decoded.
     fn rewrite(rewriter: &mut Rewriter) -> Result<(), Fault>
@@ -93,6 +97,7 @@ impl<'a> Readable<'a> for u32 {
 
     fn read(_alloc: Global, cursor: &mut Cursor<'a>) -> Result<u32, Fault>
         ensures reads { Reads u32_format.at cursor.old cursor.new (map_ok (λ x. x) result) }
+        ensures names { IfInItem result (λ index. ⊤) }
         ensures err { IfErr result IsMalformed }
     {
         cursor.u32()

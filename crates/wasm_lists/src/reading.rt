@@ -2,7 +2,7 @@
 //!
 //! If `STRICT` is set, a loop accepts minimal encodings only, and stops at the first other one.
 ghost use Rattle.std.specs.Prelude.{◌≡◌, ◌^◌, ◌<◌, ℕ, List, [], length, Some, None, IfOk, IfErr};
-ghost use Rattle.wasm_codec.specs.Outcomes.{IfMalformed, LiesIn, IsMalformed, NamesItem};
+ghost use Rattle.wasm_codec.specs.Outcomes.{IfMalformed, IfInItem, LiesIn, IsMalformed, NamesItem};
 ghost use Rattle.wasm_codec.specs.formats.Grammar.{IsBytes, TakesBytes, Joined};
 ghost use Rattle.wasm_codec.specs.Reading.{ReadsPlain, FindsAt, map_ok};
 ghost use Rattle.wasm_codec.specs.Places.{Reads, counted_at, WasMinimalIf};
@@ -10,9 +10,9 @@ ghost use Rattle.wasm_codec.specs.Lawful.{IsLawful, plain};
 ghost use Rattle.wasm_codec.specs.formats.Combinators.{items, minimal_if, minimal_only, u32 as u32_format};
 ghost use Rattle.wasm_codec.specs.formats.Bodies.{to_end};
 ghost use Rattle.wasm_codec.specs.Outcomes.{as_read, IfRefused, IsLongestPrefix, IsAfterLongest, UnlessMemory, EncodesSome};
-ghost use Rattle.wasm_lists.specs.declared.reading.Number.TheVariants.{Count, Item};
-ghost use Rattle.wasm_codec.specs.Rewriter.{CountsPassed, StopsBehind, faulted};
-ghost use Rattle.wasm_codec.specs.Lists.{CountsItems, CountsRead, EncodesList, list_at, IsListPrefix, ListMinimalIf, list_minimal_if_at, IsListPrefixMinimalIf};
+ghost use Rattle.wasm_lists.specs.declared.reading.Number.TheVariants.{Count, Item, Uncounted};
+ghost use Rattle.wasm_codec.specs.Rewriter.{CountsPassed, StopsBehind, StopsInItem, faulted};
+ghost use Rattle.wasm_codec.specs.Lists.{BreaksAtItem, CountsItems, CountsRead, EncodesList, list_at, IsListPrefix, ListMinimalIf, list_minimal_if_at, IsListPrefixMinimalIf};
 
 use crate::list::Items;
 use crate::readable::Readable;
@@ -36,6 +36,8 @@ pub fn read_list<'a, T: Readable<'a>>(
     ensures prefix { UnlessMemory result (IsAfterLongest (IsListPrefix T.format.Encodes) cursor.old.left cursor.new.left) }
     // A u32 can count the items.
     ensures counted { IfOk result (λ items. length items < 2 ^ 32) }
+    // If a fault names an item, the list breaks off there.
+    ensures names { IfInItem result (BreaksAtItem u32_format T.format cursor.old.left) }
 {
     read_list_minimal_if::<T, false>(alloc, cursor)
 }
@@ -52,6 +54,7 @@ fn read_list_minimal_if<'a, T: Readable<'a>, const STRICT: bool>(
     ensures prefix { UnlessMemory result (IsAfterLongest (IsListPrefixMinimalIf STRICT T.format) cursor.old.left cursor.new.left) }
     ensures counted { IfOk result (λ items. length items < 2 ^ 32) }
     ensures numbers { CountsRead STRICT T.format cursor.old.left cursor.new.left result }
+    ensures names { IfInItem result (BreaksAtItem (minimal_if STRICT u32_format) (minimal_if STRICT T.format) cursor.old.left) }
 {
     let count: u32 = read_next_item::<u32, STRICT>(alloc, cursor, Number::Count)?;
     let mut items = Vec::new(alloc);
@@ -78,6 +81,7 @@ impl Number {
     fn add_to(self, malformed: Malformed) -> Malformed
         ensures count { self ≡ Count → result.item ≡ None }
         ensures item { (index : ℕ) → self ≡ Item index → result.item ≡ Some index }
+        ensures uncounted { self ≡ Uncounted → result ≡ malformed }
     {
         match self {
             Number::Count => malformed.outside_items(),
@@ -101,6 +105,7 @@ fn read_next_item<'a, T: Readable<'a>, const STRICT: bool>(
     ensures stays { IfErr result (λ _. cursor.new ≡ cursor.old) }
     ensures count { number ≡ Count → NamesItem None result }
     ensures item { (index : ℕ) → number ≡ Item index → NamesItem (Some index) result }
+    ensures uncounted { number ≡ Uncounted → IfInItem result (T.Breaks cursor.old.left) }
     ensures bytes { IsBytes cursor.old.left }
     ensures lawful { IsLawful (minimal_if STRICT T.format) }
     ensures some { TakesBytes (minimal_if STRICT T.format).Encodes }
@@ -127,6 +132,7 @@ fn read_item<'a, T: Readable<'a>, const STRICT: bool>(
     requires passed { WasMinimalIf STRICT cursor.old }
     ensures reads { Reads (minimal_if STRICT T.format).at cursor.old cursor.new (map_ok T.view result) }
     ensures passed { IfOk result (λ _. WasMinimalIf STRICT cursor.new) }
+    ensures names { IfInItem result (T.Breaks cursor.old.left) }
     ensures lawful { IsLawful (minimal_if STRICT T.format) }
     ensures some { TakesBytes (minimal_if STRICT T.format).Encodes }
 {
@@ -211,6 +217,7 @@ pub fn read_joined<'a, T: Readable<'a>, const STRICT: bool>(
     ensures given { IfOk result (λ items. Joined (minimal_if STRICT T.format).Encodes bytes.now (T.views items.items)) }
     ensures stops { IfErr result (StopsBehind (minimal_if STRICT T.format) bytes.now) }
     ensures passed { IfErr result (CountsPassed (minimal_if STRICT T.format) bytes.now) }
+    ensures names { IfErr result (StopsInItem T.Breaks bytes.now) }
 {
     let mut cursor = Cursor::new(bytes);
     match read_items_minimal_if::<T, STRICT>(alloc, &mut cursor) {
@@ -227,6 +234,7 @@ pub fn check_joined_items<'a, T: Readable<'a>>(alloc: Global, bytes: &'a [u8]) -
     ensures given { IfOk result (λ _. EncodesSome (Joined (minimal_only T.format).Encodes) bytes.now) }
     ensures stops { IfErr result (StopsBehind (minimal_only T.format) bytes.now) }
     ensures passed { IfErr result (CountsPassed (minimal_only T.format) bytes.now) }
+    ensures names { IfErr result (StopsInItem T.Breaks bytes.now) }
 {
     let mut cursor = Cursor::new(bytes);
     let mut passed = 0usize;
@@ -272,6 +280,7 @@ fn read_items_minimal_if<'a, T: Readable<'a>, const STRICT: bool>(
     ensures stopped { IfErr result (λ stop. IsMalformed stop.fault → 0 < length cursor.new.left) }
     ensures stops { IfErr result (StopsBehind (minimal_if STRICT T.format) cursor.old.left) }
     ensures counts { IfErr result (CountsPassed (minimal_if STRICT T.format) cursor.old.left) }
+    ensures names { IfErr result (StopsInItem T.Breaks cursor.old.left) }
 {
     let mut items = Vec::new(alloc);
     while cursor.len() > 0 {

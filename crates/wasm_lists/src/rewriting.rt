@@ -1,14 +1,14 @@
 //! Lists and bodies, rewritten in place.
-ghost use Rattle.std.specs.Prelude.{◌≡◌, ◌<◌, List, ℕ, length, true, false, IsNone, IfOk, IfErr};
+ghost use Rattle.std.specs.Prelude.{◌≡◌, ◌<◌, ⊤, List, ℕ, length, true, false, Some, IsNone, IfOk, IfErr};
 ghost use Rattle.std.specs.List.{flat_map};
 ghost use Rattle.wasm_codec.specs.formats.Grammar.{TakesBytes, Joined};
-ghost use Rattle.wasm_codec.specs.Outcomes.{IfMalformed, LiesIn, as_read, IfRefused, NeedsNoMemory, IsLongestPrefix, IsNormalForm, EncodesSome};
+ghost use Rattle.wasm_codec.specs.Outcomes.{IfMalformed, IfInItem, LiesIn, NamesItem, as_read, IfRefused, NeedsNoMemory, IsLongestPrefix, IsNormalForm, EncodesSome};
 ghost use Rattle.wasm_codec.specs.Lawful.{IsLawful, IsLawfulBody};
-ghost use Rattle.wasm_codec.specs.Lists.{CountsItems, EncodesList, items_bytes, IsListPrefix};
+ghost use Rattle.wasm_codec.specs.Lists.{BreaksAtItem, BreaksInBody, CountsItems, EncodesList, items_bytes, IsListPrefix};
 ghost use Rattle.wasm_codec.specs.formats.Combinators.{Format, items, u32 as u32_format};
 ghost use Rattle.wasm_codec.specs.formats.Bodies.{sized, to_end};
 ghost use Rattle.wasm_codec.specs.Scanning.{BeginsShort, Scans};
-ghost use Rattle.wasm_codec.specs.Rewriter.{CountsPassed, Rewrites, RewritesAll, RewritesList};
+ghost use Rattle.wasm_codec.specs.Rewriter.{CountsPassed, Rewrites, RewritesAll, RewritesList, StopsInItem};
 
 use wasm_codec::reader::DecodeError;
 use wasm_codec::reader::cursor::Fault;
@@ -23,6 +23,9 @@ pub trait Rewritable {
     /// The bytes that encode each item.
     ghost format: { Format Value };
 
+    /// What the bytes are if a fault names the item with this index. By default nothing is known.
+    ghost Breaks: { List ℕ → ℕ → Type 0 } = { λ bytes index. ⊤ };
+
     /// Tells the proof that the format is lawful, and that each encoding of an item has at least one byte. The call
     /// does nothing.
     fn is_lawful()
@@ -31,7 +34,8 @@ pub trait Rewritable {
 
     /// Replaces the next item by its minimal encoding. Fails with `Malformed` if no item can be decoded.
     fn rewrite(rewriter: &mut Rewriter) -> Result<(), Fault>
-        ensures rewrites { Rewrites format rewriter.old rewriter.new result };
+        ensures rewrites { Rewrites format rewriter.old rewriter.new result }
+        ensures names { IfInItem result (Breaks rewriter.old.place.left) };
 }
 
 /// An item of which any number can be rewritten one after another, up to the end of the bytes.
@@ -68,9 +72,18 @@ impl Rewritable for u32 {
 /// Rewrites a list: a count, and then the items (Core 3.0, Lists).
 pub fn rewrite_list<T: Rewritable>(rewriter: &mut Rewriter) -> Result<(), Fault>
     ensures rewrites { Rewrites (items T.format) rewriter.old rewriter.new result }
+    // If a fault names an item, the list breaks off there.
+    ensures names { IfInItem result (BreaksAtItem u32_format T.format rewriter.old.place.left) }
 {
+    rewriter.are_bytes();
     let start = rewriter.start();
-    let count = rewriter.u32()?;
+    let count = match rewriter.u32() {
+        Ok(count) => count,
+        Err(Fault::Malformed(in_count)) => {
+            return Err(Fault::Malformed(in_count.outside_items()));
+        }
+        Err(Fault::Memory) => return Err(Fault::Memory),
+    };
     rewriter.end_part(&start, Part::Number);
     for index in 0..count {
         rewrite_item::<T>(rewriter, index)?;
@@ -84,6 +97,7 @@ fn rewrite_item<T: Rewritable>(rewriter: &mut Rewriter, index: u32) -> Result<()
     ensures lawful { IsLawful T.format }
     ensures some { TakesBytes T.format.Encodes }
     ensures rewrites { Rewrites T.format rewriter.old rewriter.new result }
+    ensures item { NamesItem (Some index) result }
 {
     T::is_lawful();
     let start = rewriter.start();
@@ -105,6 +119,9 @@ pub trait RewritableBody {
     /// The bytes that encode each body.
     ghost format: { Format Value };
 
+    /// What the body is if a fault names the item with this index. By default nothing is known.
+    ghost Breaks: { List ℕ → ℕ → Type 0 } = { λ body index. ⊤ };
+
     /// Tells the proof that the format is lawful if nothing follows. The call does nothing.
     fn is_lawful()
         ensures { IsLawfulBody format };
@@ -112,17 +129,25 @@ pub trait RewritableBody {
     /// Replaces the body by its minimal encoding. Trailing bytes are left over. Fails with `Malformed` if no body can
     /// be decoded.
     fn rewrite(rewriter: &mut Rewriter) -> Result<(), Fault>
-        ensures rewrites { Rewrites format rewriter.old rewriter.new result };
+        ensures rewrites { Rewrites format rewriter.old rewriter.new result }
+        ensures names { IfInItem result (Breaks rewriter.old.place.left) };
 }
 
 /// Rewrites a size and the body after it. Fails with `Malformed` if the body is malformed or has trailing bytes.
 pub fn rewrite_sized<T: RewritableBody>(rewriter: &mut Rewriter) -> Result<(), Fault>
     ensures rewrites { Rewrites (sized T.format) rewriter.old rewriter.new result }
+    ensures names { IfInItem result (BreaksInBody T.Breaks rewriter.old.place.left) }
 {
     T::is_lawful();
     rewriter.are_bytes();
     let start = rewriter.start();
-    let body = rewriter.open_body()?;
+    let body = match rewriter.open_body() {
+        Ok(body) => body,
+        Err(Fault::Malformed(in_size)) => {
+            return Err(Fault::Malformed(in_size.outside_items()));
+        }
+        Err(Fault::Memory) => return Err(Fault::Memory),
+    };
     rewriter.end_part(&start, Part::Number);
     T::rewrite(rewriter)?;
     if rewriter.len() > 0 {
@@ -146,6 +171,7 @@ pub fn rewrite_to_end<T: Joinable>(rewriter: &mut Rewriter) -> Result<(), Fault>
 pub fn rewrite_joined<T: Joinable>(rewriter: &mut Rewriter) -> Result<(), Stop>
     ensures rewrites { RewritesAll T.format rewriter.old rewriter.new result }
     ensures passed { T.NeverScans → IfErr result (CountsPassed T.format rewriter.old.place.left) }
+    ensures names { IfErr result (StopsInItem T.Breaks rewriter.old.place.left) }
 {
     T::is_lawful();
     rewriter.are_bytes();

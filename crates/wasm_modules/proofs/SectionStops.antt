@@ -1,5 +1,6 @@
 -- Modules that stop at a section: the longest prefix that is whole, and the number of the sections in it.
-use Rattle.std.proofs.Common.{◌≡◌, ℕ, ◌+◌, ◌-◌, ◌<◌, ◌≤◌, List, ◌++◌, length, length-append, Option, Some, None, IfSome, sym, ap, subst, ◌∙◌, arith}
+use Rattle.std.proofs.Common.{◌≡◌, ℕ, ◌+◌, ◌-◌, ◌<◌, ◌≤◌, List, ◌++◌, drop, drop-drop, length, length-append, Option, Some, None, IfSome, refl, sym, ap, subst, ◌∙◌, arith}
+use Rattle.std.proofs.lemmas.List.{drop_at}
 use Rattle.wasm_codec.specs.declared.reader.cursor.Fault.{Fault}
 use Rattle.wasm_codec.specs.declared.reader.cursor.Fault.TheVariants as faults
 use Rattle.wasm_codec.specs.declared.reader.malformed.Stop.{Stop}
@@ -8,10 +9,14 @@ use Rattle.wasm_codec.specs.declared.reader.DecodeError.TheVariants as decode_er
 use Rattle.wasm_codec.specs.declared.reader.ReadError.TheVariants as errors
 use Rattle.wasm_codec.specs.declared.reader.refusal.SectionPlace.{SectionPlace}
 use Rattle.wasm_codec.specs.formats.Grammar.{Grammar, Joined}
-use Rattle.wasm_codec.specs.formats.Combinators.{Format}
-use Rattle.wasm_codec.specs.Outcomes.{EncodesSome, HoldsAtRefusal, HoldsOfRefusal, IsLongestPrefix, IsMalformed, IsNumbered, error_of, read_error_of}
+use Rattle.wasm_codec.specs.formats.Combinators.{Format, minimal_only}
+use Rattle.wasm_codec.specs.declared.reader.refusal.Refusal.{Refusal}
+use Rattle.wasm_lists.specs.declared.judging.LongerItem.{LongerItem}
+use Rattle.wasm_lists.specs.Judging.{CountsFirst, TellsFirst}
+use Rattle.wasm_modules.specs.Judging.{IsLongerAt}
+use Rattle.wasm_codec.specs.Outcomes.{EncodesSome, HoldsAtRefusal, HoldsOfRefusal, IfRefusedInItem, IsLongestPrefix, IsMalformed, IsNumbered, error_of, item_of, item_of_fault, read_error_of}
 use Rattle.wasm_codec.specs.Lists.{HasJoinedBefore}
-use Rattle.wasm_codec.specs.Rewriter.{CountsPassed, StopsBehind}
+use Rattle.wasm_codec.specs.Rewriter.{CountsPassed, StopsBehind, StopsInItem}
 use Rattle.wasm_modules.specs.formats.Sections.{header}
 use Rattle.wasm_modules.specs.formats.Modules.{module_of}
 use Rattle.wasm_modules.specs.Modules.{CountsSections, HasSectionsBefore, IsModulePrefixOf}
@@ -68,3 +73,35 @@ counts_sections {V} F bytes body stop (decode_errors.Malformed refusal) e is num
 pub counts_none : {V : Type 0} (F : Format V) (bytes : List ℕ) (error : DecodeError) → HoldsOfRefusal error (λ refusal. refusal.section ≡ None) → HoldsOfRefusal error (CountsSections F bytes)
 counts_none F bytes decode_errors.Memory none = tt
 counts_none F bytes (decode_errors.Malformed refusal) none = rw none tt
+
+-- ---- the item in the section
+
+drop_behind : (bytes body : List ℕ) (left : ℕ) → bytes ≡ header ++ body → left ≤ length body → drop (length bytes - left) bytes ≡ drop (length body - left) body
+drop_behind bytes body left e le =
+    let n = length body - left in
+    rw (← behind_header bytes body left e le) (ap (λ (t : List ℕ). drop (8 + n) t) e ∙ sym (drop-drop n 8 (header ++ body)) ∙ ap (λ (t : List ℕ). drop n t) (drop_at header body 8 refl))
+
+pub names_item : (Breaks : List ℕ → ℕ → Type 0) (bytes body : List ℕ) (stop : Stop) (error : DecodeError) → bytes ≡ header ++ body → read_error_of error ≡ error_of stop.fault (length bytes - stop.left) → item_of error ≡ item_of_fault stop.fault → (IsMalformed stop.fault → stop.left ≤ length body) → StopsInItem Breaks body stop
+    → HoldsOfRefusal error (IfRefusedInItem Breaks bytes)
+names_item Breaks bytes body stop decode_errors.Memory e is item within names = tt
+names_item Breaks bytes body stop (decode_errors.Malformed refusal) e is item within names = by stop.fault is item within names where
+  by : (fault : Fault) → errors.Refused refusal.at ≡ error_of fault (length bytes - stop.left) → refusal.item ≡ item_of_fault fault → (IsMalformed fault → stop.left ≤ length body) → ((index : ℕ) → item_of_fault fault ≡ Some index → Breaks (drop (length body - stop.left) body) index) → IfRefusedInItem Breaks bytes refusal
+  by faults.Memory is item within names = absurd cc
+  by (faults.Malformed m) is item within names = λ index named. rw (refused_at refusal.at (length bytes - stop.left) is, drop_behind bytes body stop.left e (within tt)) (names index (sym item ∙ named))
+
+-- the header is missing
+pub names_none : (Breaks : List ℕ → ℕ → Type 0) (bytes : List ℕ) (error : DecodeError) → item_of error ≡ None → HoldsOfRefusal error (IfRefusedInItem Breaks bytes)
+names_none Breaks bytes decode_errors.Memory none = tt
+names_none Breaks bytes (decode_errors.Malformed refusal) none = λ index e. absurd cc
+
+-- ---- the section of the first part that isn't minimal
+
+numbered_first : {V : Type 0} (F : Format V) (bytes body : List ℕ) (item : LongerItem) (refusal : Refusal) → bytes ≡ header ++ body → item.left ≤ length body → CountsFirst F body item → refusal.at ≡ length bytes - item.left → IfSome refusal.section (λ place. place.number ≡ item.passed) → CountsSections (minimal_only F) bytes refusal
+numbered_first F bytes body item refusal e le counts at number =
+    if_numbered (λ n. HasSectionsBefore (minimal_only F).Encodes bytes n refusal.at) refusal.section item.passed number (rw at (sections_before (minimal_only F).Encodes bytes body item.passed item.left e le counts))
+
+pub numbers_first : {V : Type 0} (F : Format V) (bytes body : List ℕ) (len : ℕ) (first : Option LongerItem) (longer : Option Refusal) → bytes ≡ header ++ body → len ≡ length bytes → TellsFirst F body first → IfSome first (CountsFirst F body) → IfSome longer (IsLongerAt len first) → IfSome longer (CountsSections (minimal_only F) bytes)
+numbers_first F bytes body len first None e is tells counts part = tt
+numbers_first F bytes body len None (Some refusal) e is tells counts part = absurd part
+numbers_first F bytes body len (Some item) (Some refusal) e is tells counts part =
+    numbered_first F bytes body item refusal e (omega (arith, tells.len, ap (length {A = ℕ}) tells.parts, length-append tells.prefix tells.rest)) counts (part.0 ∙ ap (λ (n : ℕ). n - item.left) is) part.1

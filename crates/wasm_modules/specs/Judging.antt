@@ -1,5 +1,5 @@
 -- Modules that are rewritten in place and judged.
-use Rattle.std.specs.Prelude.{ℕ, ◌≤◌, ◌-◌, Option, Some, None, Result, Ok, Err}
+use Rattle.std.specs.Prelude.{◌≡◌, ℕ, ◌≤◌, ◌-◌, Option, Some, None, IfSome, Result, Ok, Err}
 use Rattle.std.specs.Global.{Vec}
 use Rattle.wasm_codec.specs.Outcomes.{read_error_of}
 use Rattle.wasm_codec.specs.declared.reader.DecodeError.{DecodeError}
@@ -27,3 +27,8 @@ verdict_at len (Some section) = Err (errors.Refused (len - section.left))
 -- The reason is given for bytes in the part that is refused, which lies in an input of this length.
 abbrev pub RefusalLiesIn : ℕ → Refusal → Type 0
 RefusalLiesIn len refusal = (refusal.at ≤ refusal.offset) × (refusal.offset ≤ len)
+
+-- The refusal is that of a part in this section, which isn't minimally encoded, of a module of this length.
+abbrev pub IsLongerAt : ℕ → Option LongerItem → Refusal → Type 0
+IsLongerAt len None refusal = ⊥
+IsLongerAt len (Some item) refusal = (refusal.at ≡ len - item.left) × IfSome refusal.section (λ place. place.number ≡ item.passed)

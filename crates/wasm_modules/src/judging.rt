@@ -1,10 +1,10 @@
 //! Modules rewritten in place, and the first part of them that isn't minimally encoded.
 ghost use Rattle.std.specs.Prelude.{◌≡◌, IfOk, IfErr, IfSome, length};
-ghost use Rattle.wasm_codec.specs.Outcomes.{LiesIn, NeedsNoMemory};
+ghost use Rattle.wasm_codec.specs.Outcomes.{IfMalformed, IfRefusedInItem, LiesIn, NeedsNoMemory};
 ghost use Rattle.wasm_codec.specs.formats.Combinators.{minimal_only};
 ghost use Rattle.wasm_codec.specs.Decoding.{RewritesAll, ChecksAll};
-ghost use Rattle.wasm_modules.specs.Modules.{IsModulePrefixOf};
-ghost use Rattle.wasm_modules.specs.Judging.{form_of, verdict_of, verdict_at, RefusalLiesIn};
+ghost use Rattle.wasm_modules.specs.Modules.{CountsSections, IsModulePrefixOf};
+ghost use Rattle.wasm_modules.specs.Judging.{IsLongerAt, form_of, verdict_of, verdict_at, RefusalLiesIn};
 ghost use Rattle.wasm_modules.specs.formats.Modules.{module_of};
 
 use crate::raw::{after_header, no_header};
@@ -36,6 +36,12 @@ pub fn judge_module_of<S: Rewritable>(bytes: Vec<u8>) -> Result<Judged, DecodeEr
     ensures memory { NeedsNoMemory (form_of result) }
     ensures place { IfErr result (LiesIn (length bytes.items)) }
     ensures within { IfOk result (λ judged. IfSome judged.longer (RefusalLiesIn (length bytes.items))) }
+    // The section that a refusal names counts the sections before it.
+    ensures counts { IfMalformed result (CountsSections S.format bytes.items) }
+    // The section begins with a list that breaks off at the item that a refusal names.
+    ensures names { IfMalformed result (IfRefusedInItem S.Breaks bytes.items) }
+    // The section of the first part that isn't minimal counts the sections before it, which are minimally encoded.
+    ensures numbers { IfOk result (λ judged. IfSome judged.longer (CountsSections (minimal_only S.format) bytes.items)) }
 {
     S::is_lawful();
     let len = bytes.len();
@@ -67,6 +73,7 @@ fn longer_part(
 ) -> Option<Refusal>
     ensures verdict { verdict_of result ≡ verdict_at len section }
     ensures within { IfSome result (RefusalLiesIn len) }
+    ensures part { IfSome result (IsLongerAt len section) }
 {
     let LongerItem { left, passed } = section?;
     let at = len.saturating_sub(left);

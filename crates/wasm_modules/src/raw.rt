@@ -5,7 +5,7 @@ ghost use Rattle.wasm_codec.specs.Places.{Reads};
 ghost use Rattle.wasm_codec.specs.formats.Bodies.{byte_list, bytes_to_end};
 ghost use Rattle.wasm_modules.specs.formats.Sections.{header, parts_of, SectionParts, all_parts_of};
 ghost use Rattle.wasm_modules.specs.formats.Modules.{raw_section, module_of, raw_module, ShortestModule};
-ghost use Rattle.wasm_codec.specs.Outcomes.{HoldsOfRefusal, IfMalformed, IsNumbered, LiesIn, IsMalformed, error_of, offsets_of, place_of_error, read_error_of};
+ghost use Rattle.wasm_codec.specs.Outcomes.{HoldsOfRefusal, IfMalformed, IfRefusedInItem, IsNumbered, LiesIn, IsMalformed, error_of, item_of, item_of_fault, offsets_of, place_of_error, read_error_of};
 ghost use Rattle.std.proofs.lemmas.List.{map_push};
 ghost use Rattle.wasm_codec.specs.formats.Combinators.{minimal_if, minimal_only};
 ghost use Rattle.wasm_codec.specs.declared.reader.ReadError.TheVariants.{Refused};
@@ -47,6 +47,7 @@ pub(crate) fn no_header(bytes: &[u8]) -> DecodeError
     ensures error { read_error_of result ≡ Refused 0 }
     ensures place { LiesIn (length bytes.now) result }
     ensures section { HoldsOfRefusal result (λ refusal. refusal.section ≡ None) }
+    ensures item { item_of result ≡ None }
 {
     DecodeError::Malformed(Refusal {
         section: None,
@@ -55,7 +56,9 @@ pub(crate) fn no_header(bytes: &[u8]) -> DecodeError
 }
 
 /// Returns why the bytes don't begin with the header.
-fn not_a_module(bytes: &[u8]) -> Malformed {
+fn not_a_module(bytes: &[u8]) -> Malformed
+    ensures item { result.item ≡ None }
+{
     let reason = match bytes {
         [0x00, 0x61, 0x73, 0x6d, first, second, third, fourth, ..] => Reason::UnsupportedVersion {
             version: u32::from_le_bytes([*first, *second, *third, *fourth]),
@@ -70,6 +73,7 @@ fn in_module(stop: Stop, bytes: &[u8]) -> DecodeError
     ensures error { read_error_of result ≡ error_of stop.fault (length bytes.now - stop.left) }
     ensures place { LiesIn (length bytes.now) result }
     ensures number { IsNumbered stop.passed result }
+    ensures item { item_of result ≡ item_of_fault stop.fault }
 {
     let error = DecodeError::stopped(stop, bytes.len());
     match bytes.get(bytes.len().saturating_sub(stop.left)) {
@@ -158,6 +162,7 @@ pub fn read_module_of<'a, T: Readable<'a>, const STRICT: bool>(
     ensures place { IfErr result (LiesIn (length bytes.now)) }
     // The section that a refusal names counts the sections before it.
     ensures counts { IfMalformed result (CountsSections (minimal_if STRICT T.format) bytes.now) }
+    ensures names { IfMalformed result (IfRefusedInItem T.Breaks bytes.now) }
 {
     let Some(rest) = after_header(bytes) else {
         return Err(no_header(bytes));
@@ -284,6 +289,7 @@ pub fn check_module_of<T: Joinable>(alloc: Global, bytes: &[u8]) -> Result<(), D
     ensures checks { ChecksAll (module_of (minimal_only T.format)).Encodes (IsModulePrefixOf (minimal_only T.format)) bytes.now (as_read result) }
     ensures place { IfErr result (LiesIn (length bytes.now)) }
     ensures counts { T.NeverScans → IfMalformed result (CountsSections (minimal_only T.format) bytes.now) }
+    ensures names { IfMalformed result (IfRefusedInItem T.Breaks bytes.now) }
 {
     let Some(rest) = after_header(bytes) else {
         return Err(no_header(bytes));

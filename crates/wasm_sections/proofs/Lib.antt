@@ -6,3 +6,4 @@ pub mod ElementLaws
 pub mod ValueReading
 pub mod CustomLaws
 pub mod ModuleSectionLaws
+pub mod ScannedEntries

@@ -5,7 +5,7 @@ use Rattle.std.proofs.lemmas.Bool.{ne_eqb}
 use Rattle.std.proofs.lemmas.List.{append-nil}
 use Rattle.wasm_codec.specs.Decoding.{IsMinimal}
 use Rattle.wasm_codec.specs.Lawful.{IsLawful, IsLawfulBody}
-use Rattle.wasm_codec.specs.Outcomes.{FailsMalformed}
+use Rattle.wasm_codec.specs.Outcomes.{FailsMalformed, IfInItem}
 use Rattle.wasm_codec.specs.Places.{Place, byte_at, map_at, place, Reads, keeps}
 use Rattle.wasm_codec.specs.formats.Bodies.{sized, body_at}
 use Rattle.wasm_codec.specs.formats.Combinators.{Format, items, u32, a_byte}
@@ -21,6 +21,7 @@ use Rattle.wasm_codec.proofs.FormatLaws.{Every-made, Lawful-made, Lawful-items, 
 use Rattle.wasm_codec.proofs.SizedLaws.{sized_read, sized_none}
 use Rattle.wasm_codec.proofs.RewriterLaws.{is_given, is_after, after_is}
 use Rattle.wasm_codec.proofs.NumberLaws.{u32_written}
+use Rattle.wasm_codec.proofs.NumberReading.{byte_took}
 use Rattle.wasm_types.specs.formats.Types.{recursive_type}
 use Rattle.wasm_types.proofs.TypeFormatLaws.{Lawful-recursive-type}
 use Rattle.wasm_modules.specs.formats.CodeBodies.{code_body}
@@ -30,7 +31,7 @@ use Rattle.wasm_sections.specs.formats.Elements.{element_segment}
 use Rattle.wasm_sections.specs.formats.Entries.{import_entry, table_entry, global_entry, export_entry}
 use Rattle.wasm_entities.specs.formats.Externals.{memory_type, tag_type}
 use Rattle.wasm_sections.specs.formats.ModuleSectionParts.{ModuleSectionParts, section_id, custom, types, imports, functions, tables, memories, globals, exports, start, elements, code, data_segments, data_count, tags, custom_part, type_entries_part, imports_part, function_indexes_part, tables_part, memories_part, globals_part, exports_part, start_part, elements_part, code_part, data_segments_part, data_count_part, tags_part}
-use Rattle.wasm_sections.specs.formats.ModuleSections.{module_section, whole_module, ShortestWholeModule, one_of, list_of, OfKind, of_custom, of_types, of_imports, of_functions, of_tables, of_memories, of_globals, of_exports, of_start, of_elements, of_code, of_data, of_data_count, of_tags, of_unknown}
+use Rattle.wasm_sections.specs.formats.ModuleSections.{BreaksInList, BreaksInSection, module_section, whole_module, ShortestWholeModule, one_of, list_of, OfKind, of_custom, of_types, of_imports, of_functions, of_tables, of_memories, of_globals, of_exports, of_start, of_elements, of_code, of_data, of_data_count, of_tags, of_unknown}
 use Rattle.wasm_sections.specs.formats.Sections.{custom_body, custom_of}
 use Rattle.wasm_sections.specs.formats.Segments.{data_segment}
 use Rattle.wasm_sections.specs.formats.EntryParts.{CustomParts}
@@ -216,6 +217,10 @@ unknown_rewritten far old mid new (Ok done) begun bad = absurd bad
 unknown_rewritten far old mid new (Err faults.Memory) begun bad = absurd bad
 unknown_rewritten {id} far old mid new (Err (faults.Malformed m)) begun bad = unknown_at far old.place mid.place (is_given a_byte old id mid begun).is_read
 
+-- no item is named
+abbrev NamesNone : {X : Type 0} → Result X Fault → Type 0
+NamesNone result = IfInItem result (λ _. ⊥)
+
 -- what rewrites the body by its kind rewrites the section
 pub rewritten_by_kind : {id : ℕ} (old mid new : Rewriting) (result : Result (Unit {0}) Fault) → rewritten_at a_byte old ≡ Some (id, mid) → OfKind (λ V F C. Rewrites (sized (items F)) mid new result) (λ V F C. Rewrites (sized F) mid new result) (FailsMalformed result) id → Rewrites module_section old new result
 rewritten_by_kind {id} old mid new result begun = by_kind
@@ -223,17 +228,35 @@ rewritten_by_kind {id} old mid new result begun = by_kind
     (λ V make part F kind g. section_rewritten kind old mid new result begun g)
     (λ far bad. unknown_rewritten far old mid new result begun bad)
 
+pub rewritten_with_names : {id : ℕ} (old mid new : Rewriting) (result : Result (Unit {0}) Fault) → rewritten_at a_byte old ≡ Some (id, mid)
+    → OfKind (λ V F C. Rewrites (sized (items F)) mid new result × IfInItem result (BreaksInList F mid.place.left)) (λ V F C. Rewrites (sized F) mid new result × NamesNone result) (FailsMalformed result × NamesNone result) id → Rewrites module_section old new result
+rewritten_with_names old mid new result begun h = rewritten_by_kind old mid new result begun (of_kind (λ V F G x. x.0) (λ V F G x. x.0) (λ x. x.0) h)
+
 -- what reads the content by its kind reads the section
-pub read_by_kind : {X : Type 0} (view : X → ModuleSectionParts) {id : ℕ} (old mid new : Place) (result : Result X Fault) → byte_at old ≡ Some (id, mid) → OfKind (λ V F C. Reads C.at mid new (map_ok view result)) (λ V F C. Reads C.at mid new (map_ok view result)) (FailsMalformed result) id → Reads module_section.at old new (map_ok view result)
+pub read_by_kind : {X : Type 0} (view : X → ModuleSectionParts) {id : ℕ} (old mid new : Place) (result : Result X Fault) → byte_at old ≡ Some (id, mid)
+    → OfKind (λ V F C. Reads C.at mid new (map_ok view result) × IfInItem result (BreaksInList F mid.left)) (λ V F C. Reads C.at mid new (map_ok view result) × NamesNone result) (FailsMalformed result × NamesNone result) id → Reads module_section.at old new (map_ok view result)
 read_by_kind view old mid new (Ok x) begun = by_kind
-    (λ V make part F kind e. kind.at_is old mid begun ∙ e)
-    (λ V make part F kind e. kind.at_is old mid begun ∙ e)
-    (λ far bad. absurd bad)
+    (λ V make part F kind e. kind.at_is old mid begun ∙ e.0)
+    (λ V make part F kind e. kind.at_is old mid begun ∙ e.0)
+    (λ far bad. absurd bad.0)
 read_by_kind view old mid new (Err (faults.Malformed m)) begun = by_kind
-    (λ V make part F kind none. kind.at_is old mid begun ∙ none)
-    (λ V make part F kind none. kind.at_is old mid begun ∙ none)
+    (λ V make part F kind none. kind.at_is old mid begun ∙ none.0)
+    (λ V make part F kind none. kind.at_is old mid begun ∙ none.0)
     (λ far bad. unknown_at far old mid begun)
 read_by_kind view old mid new (Err faults.Memory) begun = λ _. tt
+
+-- the section is a list that breaks off at the item that a fault names
+broken_by_kind : {X : Type 0} {L B : (V : Type 0) → Format V → Format ModuleSectionParts → Type 0} {U : Type 0} {id : ℕ} (bytes content : List ℕ) (result : Result X Fault) → bytes ≡ id ∷ content
+    → OfKind (λ V F C. L V F C × IfInItem result (BreaksInList F content)) (λ V F C. B V F C × NamesNone result) (U × NamesNone result) id → IfInItem result (BreaksInSection bytes)
+broken_by_kind {id = id} bytes content result parts h index named = record { id = id; content = content; parts = parts; breaks = of_kind (λ V F C x. x.1 index named) (λ V F C x. x.1 index named) (λ x. x.1 index named) h }
+
+pub broken_rewritten : {id : ℕ} (old mid new : Rewriting) (result : Result (Unit {0}) Fault) → rewritten_at a_byte old ≡ Some (id, mid)
+    → OfKind (λ V F C. Rewrites (sized (items F)) mid new result × IfInItem result (BreaksInList F mid.place.left)) (λ V F C. Rewrites (sized F) mid new result × NamesNone result) (FailsMalformed result × NamesNone result) id → IfInItem result (BreaksInSection old.place.left)
+broken_rewritten {id} old mid new result begun h = broken_by_kind old.place.left mid.place.left result (byte_took old.place mid.place id (is_given a_byte old id mid begun).is_read).bytes h
+
+pub broken_read : {X : Type 0} (view : X → ModuleSectionParts) {id : ℕ} (old mid new : Place) (result : Result X Fault) → byte_at old ≡ Some (id, mid)
+    → OfKind (λ V F C. Reads C.at mid new (map_ok view result) × IfInItem result (BreaksInList F mid.left)) (λ V F C. Reads C.at mid new (map_ok view result) × NamesNone result) (FailsMalformed result × NamesNone result) id → IfInItem result (BreaksInSection old.left)
+broken_read view {id} old mid new result begun h = broken_by_kind old.left mid.left result (byte_took old mid id begun).bytes h
 
 -- ---- a custom section
 

@@ -1,5 +1,7 @@
 //! Data sections (Core 3.0, Data Section).
-ghost use Rattle.std.specs.Prelude.{◌≡◌, List, length, refl, IfErr, ℕ, ◌++◌, OnOk, take};
+ghost use Rattle.std.specs.Prelude.{◌≡◌, List, length, refl, IfErr, ℕ, ◌++◌, OnOk, take, Some, IfSome};
+ghost use Rattle.wasm_codec.specs.Scanning.{Scans};
+ghost use Rattle.wasm_codec.specs.declared.rewriter.scan.Scanned.TheVariants.{Shortest};
 ghost use Rattle.wasm_codec.specs.Places.{Reads};
 ghost use Rattle.wasm_codec.specs.Rewriter.{Rewrites};
 ghost use Rattle.wasm_codec.specs.Outcomes.{IsMalformed};
@@ -26,9 +28,9 @@ use wasm_codec::encode::leb128::put_u32;
 use wasm_codec::encode::{EncodeError, keep_or_undo};
 use wasm_codec::reader::cursor::{Cursor, Fault};
 use wasm_codec::reader::malformed::{Construct, Malformed};
-use wasm_codec::rewriter::Rewriter;
+use wasm_codec::rewriter::{Rewriter, Scanned};
 use wasm_entities::const_expr::ConstExpr;
-use wasm_entities::expressions::{read_expr, rewrite_expr};
+use wasm_entities::expressions::{read_expr, rewrite_expr, scan_expr};
 use wasm_instructions::table::Call;
 use wasm_lists::encode::{Encode, encode_bytes};
 use wasm_lists::list::Items;
@@ -134,11 +136,59 @@ impl<'a> Readable<'a> for DataSegment<'a> {
         read_data_segment(alloc, cursor)
     }
 
+    #[inline(always)]
     fn rewrite(rewriter: &mut Rewriter) -> Result<(), Fault>
         ensures rewrites { Rewrites data_segment rewriter.old rewriter.new result }
     {
+        rewriter.are_bytes();
+        if let Some(count) = scan_data_segment(rewriter.left()) {
+            rewriter.rewrite_scanned(Scanned::Shortest(count));
+            return Ok(());
+        }
         rewrite_data_segment(rewriter)
     }
+}
+
+/// Returns the length in bytes of the data segment that the bytes begin with. Returns `None` unless it has fewer than 128
+/// bytes, and is passive or has a frequent instruction as its offset in memory 0.
+#[inline(always)]
+fn scan_data_segment(bytes: &[u8]) -> Option<usize>
+    ensures { IfSome result (λ count. Scans data_segment bytes.now (Some (Shortest count))) }
+{
+    if bytes.len() == 0 {
+        return None;
+    }
+    match bytes[0] {
+        0 => {
+            let offset = scan_expr(&bytes[1..])?;
+            let contents = scan_byte_list(&bytes[1 + offset..])?;
+            Some(1 + offset + contents)
+        }
+        1 => {
+            let contents = scan_byte_list(&bytes[1..])?;
+            Some(1 + contents)
+        }
+        _ => None,
+    }
+}
+
+/// Returns the length of the bytes after their length that the bytes begin with, with their length. Returns `None` if they
+/// are 128 or more.
+#[inline(always)]
+fn scan_byte_list(bytes: &[u8]) -> Option<usize>
+    ensures { IfSome result (λ count. Scans byte_list bytes.now (Some (Shortest count))) }
+{
+    if bytes.len() == 0 {
+        return None;
+    }
+    if bytes[0] >= 128 {
+        return None;
+    }
+    let count = bytes[0] as usize;
+    if bytes.len() - 1 < count {
+        return None;
+    }
+    Some(1 + count)
 }
 
 /// All remaining bytes, unchanged.
@@ -170,6 +220,7 @@ fn rewrite_active(rewriter: &mut Rewriter) -> Result<(), Fault>
 
 /// Rewrites a data segment to its minimal encoding. If it names memory 0, cuts out the form number 2, so that the
 /// memory index 0 becomes the number of the shorter form.
+#[inline(never)]
 #[tactic(auto, using(crate::proofs::SegmentLaws::no_data_form, crate::proofs::SegmentLaws::active_rewritten, crate::proofs::SegmentLaws::passive_rewritten, crate::proofs::SegmentLaws::memory_left_out, crate::proofs::SegmentLaws::memory_kept), unfolding(crate::specs::formats::Segments::data_segment))]
 fn rewrite_data_segment(rewriter: &mut Rewriter) -> Result<(), Fault>
     ensures rewrites { Rewrites data_segment rewriter.old rewriter.new result }

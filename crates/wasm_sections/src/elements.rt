@@ -31,9 +31,9 @@ use wasm_codec::encode::leb128::put_u32;
 use wasm_codec::encode::{EncodeError, keep_or_undo};
 use wasm_codec::reader::cursor::{Cursor, Fault};
 use wasm_codec::reader::malformed::{Construct, Malformed};
-use wasm_codec::rewriter::Rewriter;
+use wasm_codec::rewriter::{Rewriter, Scanned};
 use wasm_entities::const_expr::ConstExpr;
-use wasm_entities::expressions::{encode_expr, read_expr, rewrite_expr};
+use wasm_entities::expressions::{encode_expr, read_expr, rewrite_expr, scan_expr};
 use wasm_instructions::table::Call;
 use wasm_lists::encode::{Encode, encode_list, encode_list_after};
 use wasm_lists::list::Items;
@@ -294,7 +294,13 @@ impl Rewritable for Expression {
     #[tactic(auto, using(wasm_entities::proofs::ExpressionLaws::expr_is_lawful, crate::proofs::ElementLaws::expr_takes))]
     fn is_lawful() {}
 
+    #[inline(always)]
     fn rewrite(rewriter: &mut Rewriter) -> Result<(), Fault> {
+        rewriter.are_bytes();
+        if let Some(count) = scan_expr(rewriter.left()) {
+            rewriter.rewrite_scanned(Scanned::Shortest(count));
+            return Ok(());
+        }
         rewrite_expr(rewriter)
     }
 }

@@ -1,5 +1,7 @@
 //! Export sections (Core 3.0, Export Section).
-ghost use Rattle.std.specs.Prelude.{◌≡◌, refl, IfErr, ◌++◌, OnOk, length, take};
+ghost use Rattle.std.specs.Prelude.{◌≡◌, refl, IfErr, ◌++◌, OnOk, length, take, Some, IfSome};
+ghost use Rattle.wasm_codec.specs.Scanning.{Scans};
+ghost use Rattle.wasm_codec.specs.declared.rewriter.scan.Scanned.TheVariants.{Shortest};
 ghost use Rattle.wasm_codec.specs.Places.{Reads};
 ghost use Rattle.wasm_codec.specs.Rewriter.{Rewrites};
 ghost use Rattle.wasm_codec.specs.Outcomes.{IsMalformed};
@@ -21,8 +23,8 @@ use wasm_codec::encode::leb128::put_u32;
 use wasm_codec::encode::{EncodeError, keep_or_undo};
 use wasm_codec::reader::cursor::{Cursor, Fault};
 use wasm_codec::reader::malformed::Construct;
-use wasm_codec::rewriter::Rewriter;
-use wasm_entities::names::{append_name, read_name, rewrite_name};
+use wasm_codec::rewriter::{Rewriter, Scanned, scan_u32};
+use wasm_entities::names::{append_name, read_name, rewrite_name, scan_name};
 use wasm_entities::types::{ExportKind, kind_byte};
 use wasm_lists::encode::Encode;
 use wasm_lists::readable::Readable;
@@ -88,10 +90,35 @@ impl<'a> Readable<'a> for Export<'a> {
         read_export(cursor)
     }
 
+    #[inline(always)]
     fn rewrite(rewriter: &mut Rewriter) -> Result<(), Fault>
         ensures rewrites { Rewrites export_entry rewriter.old rewriter.new result }
     {
+        rewriter.are_bytes();
+        if let Some(count) = scan_export(rewriter.left()) {
+            rewriter.rewrite_scanned(Scanned::Shortest(count));
+            return Ok(());
+        }
         rewrite_export(rewriter)
+    }
+}
+
+/// Returns the length in bytes of the export that the bytes begin with. Returns `None` unless its name is short and ASCII,
+/// and its index is minimally encoded.
+#[inline(always)]
+fn scan_export(bytes: &[u8]) -> Option<usize>
+    ensures { IfSome result (λ count. Scans export_entry bytes.now (Some (Shortest count))) }
+{
+    let name = scan_name(bytes)?;
+    if name >= bytes.len() {
+        return None;
+    }
+    if bytes[name] >= 5 {
+        return None;
+    }
+    match scan_u32(&bytes[name + 1..]) {
+        Some(Scanned::Shortest(count)) => Some(name + 1 + count),
+        _ => None,
     }
 }
 
@@ -111,6 +138,7 @@ fn rewrite_export_kind(rewriter: &mut Rewriter) -> Result<(), Fault>
 }
 
 /// Rewrites an export to its minimal encoding.
+#[inline(never)]
 #[tactic(auto, using(std::proofs::Common::append_assoc), unfolding(crate::specs::formats::Entries::export_entry))]
 fn rewrite_export(rewriter: &mut Rewriter) -> Result<(), Fault>
     ensures rewrites { Rewrites export_entry rewriter.old rewriter.new result }

@@ -1,5 +1,7 @@
 //! Global sections (Core 3.0, Global Section).
-ghost use Rattle.std.specs.Prelude.{refl, ◌≡◌, ◌++◌, OnOk, IfErr, length, take};
+ghost use Rattle.std.specs.Prelude.{refl, ◌≡◌, ◌++◌, OnOk, IfErr, length, take, Some, IfSome};
+ghost use Rattle.wasm_codec.specs.Scanning.{Scans};
+ghost use Rattle.wasm_codec.specs.declared.rewriter.scan.Scanned.TheVariants.{Shortest};
 ghost use Rattle.wasm_codec.specs.Places.{Reads};
 ghost use Rattle.wasm_sections.specs.declared.globals.Global.{Global};
 ghost use Rattle.wasm_sections.specs.formats.Entries.{global_entry, global_of};
@@ -15,10 +17,12 @@ use crate::list_section::{ListSection, SectionItem};
 use std::alloc::{Allocator, Global as Heap};
 use wasm_codec::encode::{EncodeError, keep_or_undo};
 use wasm_codec::reader::cursor::{Cursor, Fault};
-use wasm_codec::rewriter::Rewriter;
+use wasm_codec::rewriter::{Rewriter, Scanned};
 use wasm_entities::const_expr::ConstExpr;
-use wasm_entities::expressions::{encode_expr, read_expr, rewrite_expr};
-use wasm_entities::types::{GlobalType, put_global_type, read_global_type, rewrite_global_type};
+use wasm_entities::expressions::{encode_expr, read_expr, rewrite_expr, scan_expr};
+use wasm_entities::types::{
+    GlobalType, put_global_type, read_global_type, rewrite_global_type, scan_global_type,
+};
 use wasm_instructions::table::Call;
 use wasm_lists::encode::Encode;
 use wasm_lists::list::Items;
@@ -65,13 +69,38 @@ impl<'a> Readable<'a> for Global {
         read_global(alloc, cursor)
     }
 
-    #[tactic(auto, using(std::proofs::Common::append_assoc), unfolding(crate::specs::formats::Entries::global_entry))]
+    #[inline(always)]
     fn rewrite(rewriter: &mut Rewriter) -> Result<(), Fault>
         ensures rewrites { Rewrites global_entry rewriter.old rewriter.new result }
     {
-        rewrite_global_type(rewriter)?;
-        rewrite_expr(rewriter)
+        rewriter.are_bytes();
+        if let Some(count) = scan_global(rewriter.left()) {
+            rewriter.rewrite_scanned(Scanned::Shortest(count));
+            return Ok(());
+        }
+        rewrite_global(rewriter)
     }
+}
+
+/// Returns the length in bytes of the global that the bytes begin with. Returns `None` unless its value type has one byte,
+/// and its initial value is a frequent instruction.
+#[inline(always)]
+fn scan_global(bytes: &[u8]) -> Option<usize>
+    ensures { IfSome result (λ count. Scans global_entry bytes.now (Some (Shortest count))) }
+{
+    let ty = scan_global_type(bytes)?;
+    let init = scan_expr(&bytes[ty..])?;
+    Some(ty + init)
+}
+
+/// Rewrites a global to its minimal encoding.
+#[inline(never)]
+#[tactic(auto, using(std::proofs::Common::append_assoc), unfolding(crate::specs::formats::Entries::global_entry))]
+fn rewrite_global(rewriter: &mut Rewriter) -> Result<(), Fault>
+    ensures rewrites { Rewrites global_entry rewriter.old rewriter.new result }
+{
+    rewrite_global_type(rewriter)?;
+    rewrite_expr(rewriter)
 }
 
 /// Appends a global. On error a part of it may remain.

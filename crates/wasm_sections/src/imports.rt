@@ -1,5 +1,7 @@
 //! Import sections (Core 3.0, Import Section).
-ghost use Rattle.std.specs.Prelude.{◌≡◌, refl, IfErr, ◌++◌, OnOk, length, take, ◌⊎◌};
+ghost use Rattle.std.specs.Prelude.{◌≡◌, refl, IfErr, ◌++◌, OnOk, length, take, ◌⊎◌, Some, IfSome};
+ghost use Rattle.wasm_codec.specs.Scanning.{Scans};
+ghost use Rattle.wasm_codec.specs.declared.rewriter.scan.Scanned.TheVariants.{Shortest};
 ghost use Rattle.wasm_codec.specs.Places.{Reads};
 ghost use Rattle.wasm_codec.specs.Rewriter.{Rewrites};
 ghost use Rattle.wasm_codec.specs.Outcomes.{IsMalformed};
@@ -17,9 +19,11 @@ use crate::list_section::{ListSection, SectionItem, add};
 use std::alloc::{Allocator, Global};
 use wasm_codec::encode::{EncodeError, keep_or_undo};
 use wasm_codec::reader::cursor::{Cursor, Fault};
-use wasm_codec::rewriter::Rewriter;
-use wasm_entities::names::{append_name, read_name, rewrite_name};
-use wasm_entities::types::{EntityType, put_entity_type, read_entity_type, rewrite_entity_type};
+use wasm_codec::rewriter::{Rewriter, Scanned};
+use wasm_entities::names::{append_name, read_name, rewrite_name, scan_name};
+use wasm_entities::types::{
+    EntityType, put_entity_type, read_entity_type, rewrite_entity_type, scan_entity_type,
+};
 use wasm_lists::encode::Encode;
 use wasm_lists::readable::Readable;
 
@@ -68,14 +72,41 @@ impl<'a> Readable<'a> for Import<'a> {
         read_import(cursor)
     }
 
-    #[tactic(auto, using(std::proofs::Common::append_assoc), unfolding(crate::specs::formats::Entries::import_entry))]
+    #[inline(always)]
     fn rewrite(rewriter: &mut Rewriter) -> Result<(), Fault>
         ensures rewrites { Rewrites import_entry rewriter.old rewriter.new result }
     {
-        rewrite_name(rewriter)?;
-        rewrite_name(rewriter)?;
-        rewrite_entity_type(rewriter)
+        rewriter.are_bytes();
+        if let Some(count) = scan_import(rewriter.left()) {
+            rewriter.rewrite_scanned(Scanned::Shortest(count));
+            return Ok(());
+        }
+        rewrite_import(rewriter)
     }
+}
+
+/// Returns the length in bytes of the import that the bytes begin with. Returns `None` unless its names are short and
+/// ASCII, and it is a function or a global.
+#[inline(always)]
+fn scan_import(bytes: &[u8]) -> Option<usize>
+    ensures { IfSome result (λ count. Scans import_entry bytes.now (Some (Shortest count))) }
+{
+    let module_name = scan_name(bytes)?;
+    let field = scan_name(&bytes[module_name..])?;
+    let names = module_name + field;
+    let ty = scan_entity_type(&bytes[names..])?;
+    Some(names + ty)
+}
+
+/// Rewrites an import to its minimal encoding.
+#[inline(never)]
+#[tactic(auto, using(std::proofs::Common::append_assoc), unfolding(crate::specs::formats::Entries::import_entry))]
+fn rewrite_import(rewriter: &mut Rewriter) -> Result<(), Fault>
+    ensures rewrites { Rewrites import_entry rewriter.old rewriter.new result }
+{
+    rewrite_name(rewriter)?;
+    rewrite_name(rewriter)?;
+    rewrite_entity_type(rewriter)
 }
 
 /// Appends an import. On error a part of it may remain.

@@ -22,13 +22,13 @@ abbrev pub IsWhole : ℕ → Type 0
 IsWhole b = (more : List ℕ) → Scans val_type (b ∷ more) (Some (Shortest 1))
 
 -- it holds of each number from one up to another
-abbrev Between : (ℕ → Type 0) → ℕ → ℕ → Type 0
+abbrev pub Between : (ℕ → Type 0) → ℕ → ℕ → Type 0
 Between P low high = (b : ℕ) → low ≤ b → b < high → P b
 
-none_between : (P : ℕ → Type 0) (n : ℕ) → Between P n n
+pub none_between : (P : ℕ → Type 0) (n : ℕ) → Between P n n
 none_between P n b le lt = absurd (omega (arith, le, lt))
 
-one_more : (P : ℕ → Type 0) (low n : ℕ) → P n → Between P low n → Between P low (n + 1)
+pub one_more : (P : ℕ → Type 0) (low n : ℕ) → P n → Between P low n → Between P low (n + 1)
 one_more P low n holds before b le lt = elim (cases_lt b n) [
   | inl less ↦ before b le less
   | inr high ↦

@@ -18,6 +18,7 @@ use crate::normaliser::heap_types::rewrite_field_type;
 use crate::normaliser::scan::scan_function_type;
 use crate::types::{FieldType, SubType, TypeEntry, ValType};
 pub use heap_types::{rewrite_heap_type, rewrite_ref_type, rewrite_val_type};
+pub use scan::is_whole_type;
 pub use type_sections::{normalise_type_section, rewrite_type_section};
 use wasm_codec::reader::cursor::Fault;
 use wasm_codec::reader::malformed::Construct;
@@ -204,6 +205,7 @@ impl Rewritable for TypeEntry {
     #[tactic(auto, using(crate::proofs::TypeFormatLaws::type_laws))]
     fn is_lawful() {}
 
+    #[inline(always)]
     fn rewrite(rewriter: &mut Rewriter) -> Result<(), Fault> {
         rewriter.are_bytes();
         if let Some(scanned) = scan_function_type(rewriter.left()) {

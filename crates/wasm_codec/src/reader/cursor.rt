@@ -7,7 +7,7 @@ ghost use Rattle.wasm_codec.specs.Reading.{map_ok};
 ghost use Rattle.wasm_codec.specs.Places.{Place, place, Reads, Sees, byte_at, number_at, u32_at, u64_at, s32_at, s64_at, index_at};
 ghost use Rattle.wasm_codec.specs.formats.Bodies.{body_at};
 ghost use Rattle.wasm_codec.specs.ReadDigits.{ReadsDigits, ReadsManyDigits, ReadsOne, fewest};
-ghost use Rattle.wasm_codec.specs.Outcomes.{IsMalformed};
+ghost use Rattle.wasm_codec.specs.Outcomes.{IsMalformed, NamesItem};
 ghost use Rattle.wasm_codec.specs.declared.reader.cursor.Fault.TheVariants.{Memory};
 
 use crate::reader::malformed::{Construct, Malformed, Reason};
@@ -115,7 +115,9 @@ fn is_fewest_of_many(top: u128, unit: u128, value: u128) -> bool
 
 /// Returns the fault that the number with `left` bytes up to the end is out of range.
 #[cold]
-fn out_of_range(construct: Construct, left: usize) -> Malformed {
+fn out_of_range(construct: Construct, left: usize) -> Malformed
+    ensures item { result.item ≡ None }
+{
     Malformed::new(Reason::NumberOutOfRange { construct }, left)
 }
 
@@ -206,7 +208,9 @@ impl<'a> Cursor<'a> {
 
     /// Returns the fault that the bytes end before or inside this part.
     #[cold]
-    pub fn ends_in(&self, construct: Construct) -> Malformed {
+    pub fn ends_in(&self, construct: Construct) -> Malformed
+        ensures item { result.item ≡ None }
+    {
         Malformed::new(Reason::UnexpectedEnd { construct }, self.behind).in_body(self.body)
     }
 
@@ -240,6 +244,7 @@ impl<'a> Cursor<'a> {
     pub fn byte_of(&mut self, construct: Construct) -> Result<u8, Fault>
         ensures reads { Reads byte_at self.old self.new result }
         ensures err { IfErr result IsMalformed }
+        ensures item { NamesItem None result }
     {
         if self.position == self.bytes.len() {
             return Err(Fault::Malformed(self.ends_in(construct)));
@@ -267,6 +272,7 @@ impl<'a> Cursor<'a> {
         ensures ok { IfOk result (λ taken. (taken.now ≡ take count self.old.left) × (self.new ≡ place self.old.shortest (drop count self.old.left))) }
         ensures enough { IfOk result (λ _. count ≤ length self.old.left) }
         ensures err { IfErr result (λ e. IsMalformed e × (length self.old.left < count)) }
+        ensures item { NamesItem None result }
     {
         if self.bytes.len() - self.position < count {
             return Err(Fault::Malformed(self.ends_in(construct)));
@@ -283,6 +289,7 @@ impl<'a> Cursor<'a> {
         ensures ok { IfOk result (λ taken. (taken.now ≡ take size self.old.left) × (self.new ≡ place self.old.shortest (drop size self.old.left))) }
         ensures enough { IfOk result (λ _. size ≤ length self.old.left) }
         ensures err { IfErr result (λ e. IsMalformed e × (length self.old.left < size)) }
+        ensures item { NamesItem None result }
     {
         let left = self.len();
         if left < size as usize {
@@ -302,6 +309,7 @@ impl<'a> Cursor<'a> {
         ensures bytes { IfOk result (λ body. IsBytes body.left) }
         ensures counted { IfOk result (λ body. length body.left < 2 ^ 32) }
         ensures err { IfErr result IsMalformed }
+        ensures item { NamesItem None result }
     {
         let start = self.to_end();
         let size = self.u32()?;
@@ -346,6 +354,7 @@ impl<'a> Cursor<'a> {
         ensures reads { ReadsDigits most self.old self.new result }
         ensures few { IfOk result (λ d. d.unit ≤ 128 ^ 5) }
         ensures err { IfErr result IsMalformed }
+        ensures item { NamesItem None result }
     {
         let start = self.to_end();
         let mut unsigned: u64 = 0;
@@ -438,6 +447,7 @@ impl<'a> Cursor<'a> {
     pub fn u32(&mut self) -> Result<u32, Fault>
         ensures reads { Reads u32_at self.old self.new result }
         ensures err { IfErr result IsMalformed }
+        ensures item { NamesItem None result }
     {
         if let Some(byte) = self.one_digit() {
             return Ok(u32::from(byte));
@@ -451,6 +461,7 @@ impl<'a> Cursor<'a> {
     fn long_u32(&mut self) -> Result<u32, Fault>
         ensures reads { Reads u32_at self.old self.new result }
         ensures err { IfErr result IsMalformed }
+        ensures item { NamesItem None result }
     {
         let start = self.to_end();
         let digits = self.digits(5)?;

@@ -330,7 +330,9 @@ impl Malformed {
     }
 
     /// Records that the part lies in the section with this id.
-    pub fn in_section(self, id: u8) -> Malformed {
+    pub fn in_section(self, id: u8) -> Malformed
+        ensures item { result.item ≡ self.item }
+    {
         Malformed {
             section: Some(id),
             ..self

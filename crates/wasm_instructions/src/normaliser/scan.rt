@@ -6,9 +6,11 @@ ghost use Rattle.wasm_instructions.specs.formats.Instructions.{operands_format, 
 ghost use Rattle.wasm_instructions.specs.formats.Operands.{block_type, mem_arg};
 
 mod opcodes;
+mod prefixed;
 
 use crate::normaliser::scan::opcodes::{SCANNED, scanned_kind};
 use crate::table::Kind;
+pub(crate) use prefixed::scan_rare_call;
 use wasm_codec::rewriter::{Scanned, scan_s32, scan_s64, scan_u32, scan_u64};
 
 /// Scans the instruction that the bytes begin with. Returns `None` unless it is of a frequent kind.

@@ -11,9 +11,9 @@ ghost use Rattle.wasm_codec.specs.Lawful.{IsLawful};
 ghost use Rattle.wasm_codec.specs.formats.Grammar.{TakesBytes};
 ghost use Rattle.wasm_codec.specs.Rewriter.{Rewrites};
 
-use crate::reader::operands::read_operands;
+use crate::reader::operands::{read_mem_arg, read_operands};
 use crate::reader::read_opcode;
-use crate::table::Call;
+use crate::table::{Call, Kind, Operands};
 use std::alloc::Global;
 use wasm_codec::reader::cursor::{Cursor, Fault};
 use wasm_codec::reader::malformed::Malformed;
@@ -93,6 +93,13 @@ fn read_opcode_and_operands(alloc: Global, cursor: &mut Cursor<'_>) -> Result<Ca
     let Some(kind) = op.kind() else {
         return Err(Fault::Malformed(Malformed::new(op.unknown(), start)));
     };
+    // The most frequent kinds first: operands of any kind take long to hand on.
+    match kind {
+        Kind::None => return Ok(Call::from_parts(op, Operands::None)),
+        Kind::Index => return Ok(Call::from_parts(op, Operands::Index(cursor.u32()?))),
+        Kind::Mem => return Ok(Call::from_parts(op, Operands::Mem(read_mem_arg(cursor)?))),
+        _ => {}
+    }
     let operands = read_operands(alloc, cursor, kind)?;
     Ok(Call::from_parts(op, operands))
 }

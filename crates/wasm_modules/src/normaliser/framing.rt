@@ -1,6 +1,6 @@
 //! The normaliser of modules, generic over the format of their sections (Core 3.0, Modules).
 ghost use Rattle.std.specs.Prelude.{IfErr, length};
-ghost use Rattle.wasm_codec.specs.Outcomes.{IfMalformed, LiesIn, NeedsNoMemory, as_read};
+ghost use Rattle.wasm_codec.specs.Outcomes.{IfMalformed, IfRefusedInItem, LiesIn, NeedsNoMemory, as_read};
 ghost use Rattle.wasm_codec.specs.formats.Combinators.{minimal_only};
 ghost use Rattle.wasm_modules.specs.Modules.{CountsSections, IsModulePrefixOf};
 ghost use Rattle.wasm_modules.specs.formats.Modules.{module_of};
@@ -43,6 +43,8 @@ pub fn rewrite_module_of<S: Joinable>(bytes: Vec<u8>) -> Result<Vec<u8>, DecodeE
     ensures place { IfErr result (LiesIn (length bytes.items)) }
     // The section that a refusal names counts the sections before it.
     ensures counts { S.NeverScans → IfMalformed result (CountsSections S.format bytes.items) }
+    // The section begins with a list that breaks off at the item that a refusal names.
+    ensures names { IfMalformed result (IfRefusedInItem S.Breaks bytes.items) }
 {
     S::is_lawful();
     let len = bytes.len();

@@ -1,5 +1,6 @@
 -- Sections with their content, and modules of such sections (WebAssembly Core 3.0, Modules).
-use Rattle.std.specs.Prelude.{◌≡◌, ◌<◌, ℕ, List, Option, ⊤}
+use Rattle.std.specs.Prelude.{◌≡◌, ◌<◌, ℕ, List, ◌∷◌, Option, ⊤}
+use Rattle.wasm_codec.specs.Lists.{BreaksAtItem, BreaksInBody}
 use Rattle.wasm_codec.specs.formats.Bodies.{sized}
 use Rattle.wasm_codec.specs.formats.Grammar.{Grammar}
 use Rattle.wasm_codec.specs.formats.Combinators.{Format, made, any_of, no_other, tagged, minimal_only, items, u32}
@@ -89,6 +90,17 @@ pub data OfKind (Listed Body : (V : Type 0) → Format V → Format ModuleSectio
 -- The property holds of the items of a section with this id.
 abbrev pub OfItems : ((V : Type 0) → Format V → Type 0) → ℕ → Type 0
 OfItems P id = OfKind (λ V F C. P V F) (λ V F C. ⊥) ⊥ id
+
+-- The content begins with a size and a list, which breaks off at the item with this index.
+abbrev pub BreaksInList : {V : Type 0} → Format V → List ℕ → ℕ → Type 0
+BreaksInList F = BreaksInBody (BreaksAtItem u32 F)
+
+-- The bytes begin with a section whose list breaks off at the item with this index.
+pub record BreaksInSection (bytes : List ℕ) (index : ℕ) : Type 0 where
+  pub id : ℕ
+  pub content : List ℕ
+  pub parts : bytes ≡ id ∷ content
+  pub breaks : OfItems (λ V F. BreaksInList F content index) id
 
 -- Sections with this id hold a list of items.
 abbrev pub HoldsItems : ℕ → Type 0

@@ -4,13 +4,13 @@ ghost use Rattle.std.proofs.lemmas.List.{map_push};
 ghost use Rattle.wasm_codec.specs.formats.Grammar.{TakesBytes};
 ghost use Rattle.wasm_codec.specs.Lawful.{IsLawful};
 ghost use Rattle.wasm_codec.specs.Places.{Reads};
-ghost use Rattle.wasm_codec.specs.Outcomes.{FailsMalformed};
+ghost use Rattle.wasm_codec.specs.Outcomes.{FailsMalformed, IfInItem};
 ghost use Rattle.wasm_codec.specs.Reading.{map_ok};
 ghost use Rattle.wasm_codec.specs.formats.Bodies.{sized};
 ghost use Rattle.wasm_codec.specs.formats.Combinators.{items, u32 as u32_format};
 ghost use Rattle.wasm_sections.specs.formats.EntryParts.{custom_parts};
 ghost use Rattle.wasm_sections.specs.formats.ModuleSectionParts.{ModuleSectionParts, module_section_parts, all_module_section_parts};
-ghost use Rattle.wasm_sections.specs.formats.ModuleSections.{module_section};
+ghost use Rattle.wasm_sections.specs.formats.ModuleSections.{BreaksInList, BreaksInSection, module_section};
 ghost use Rattle.wasm_sections.specs.formats.Sections.{custom_body};
 ghost use Rattle.wasm_codec.specs.Rewriter.{Rewrites};
 
@@ -39,6 +39,8 @@ impl<'a> Readable<'a> for ModuleSection<'a> {
 
     ghost format = { module_section };
 
+    ghost Breaks = { BreaksInSection };
+
     #[inline(always)]
     #[tactic(auto, using(crate::proofs::ModuleSectionLaws::module_section_is_lawful, crate::proofs::ModuleSectionLaws::module_section_takes))]
     fn is_lawful()
@@ -63,7 +65,10 @@ pub(crate) fn read_sized_list<'a, T: Readable<'a>>(
     cursor: &mut Cursor<'a>,
 ) -> Result<Items<T>, Fault>
     ensures reads { Reads (sized (items T.format)).at cursor.old cursor.new (map_ok T.views result) }
+    ensures names { IfInItem result (BreaksInList T.format cursor.old.left) }
 {
+    // `fork` shows the proof that all remaining items are bytes.
+    let _start = cursor.fork();
     let mut body = cursor.body()?;
     let items = read_list(alloc, &mut body)?;
     if body.len() > 0 {
@@ -107,11 +112,11 @@ struct ContentReader<'a> {
 impl<'a> SectionVisitor for ContentReader<'a> {
     type Output = Result<ModuleSection<'a>, Fault>;
 
-    ghost visits_list = { λ V F C old new section. Reads C.at old.cursor new.cursor (map_ok module_section_parts section) };
+    ghost visits_list = { λ V F C B old new section. Reads C.at old.cursor new.cursor (map_ok module_section_parts section) × IfInItem section (B old.cursor.left) };
 
-    ghost visits_body = { λ V F C old new section. Reads C.at old.cursor new.cursor (map_ok module_section_parts section) };
+    ghost visits_body = { λ V F C old new section. Reads C.at old.cursor new.cursor (map_ok module_section_parts section) × IfInItem section (λ _. ⊥) };
 
-    ghost visits_unknown = { λ old new section. FailsMalformed section };
+    ghost visits_unknown = { λ old new section. FailsMalformed section × IfInItem section (λ _. ⊥) };
 
     fn visit_list<T: Rewritable + SectionKind>(&mut self) -> Result<ModuleSection<'a>, Fault> {
         T::read(self.alloc, &mut self.cursor)
@@ -120,7 +125,11 @@ impl<'a> SectionVisitor for ContentReader<'a> {
     fn visit_body<B: RewritableBody, K: SectionKind>(
         &mut self,
     ) -> Result<ModuleSection<'a>, Fault> {
-        K::read(self.alloc, &mut self.cursor)
+        match K::read(self.alloc, &mut self.cursor) {
+            Ok(section) => Ok(section),
+            Err(Fault::Malformed(malformed)) => Err(Fault::Malformed(malformed.outside_items())),
+            Err(Fault::Memory) => Err(Fault::Memory),
+        }
     }
 
     fn visit_unknown(&mut self, id: u8) -> Result<ModuleSection<'a>, Fault> {
@@ -129,12 +138,14 @@ impl<'a> SectionVisitor for ContentReader<'a> {
 }
 
 /// Reads a section.
-#[tactic(auto, using(crate::proofs::ModuleSectionLaws::read_by_kind), unfolding(crate::specs::formats::ModuleSections::module_section))]
+#[tactic(auto, using(crate::proofs::ModuleSectionLaws::read_by_kind, crate::proofs::ModuleSectionLaws::broken_read), unfolding(crate::specs::formats::ModuleSections::module_section))]
 fn read_module_section<'a>(
     alloc: Global,
     cursor: &mut Cursor<'a>,
 ) -> Result<ModuleSection<'a>, Fault>
     ensures reads { Reads module_section.at cursor.old cursor.new (map_ok module_section_parts result) }
+    // The section is a list that breaks off at the item that a fault names.
+    ensures names { IfInItem result (BreaksInSection cursor.old.left) }
 {
     let id = cursor.byte_of(Construct::SectionId)?;
     let mut reader = ContentReader {

@@ -1,12 +1,13 @@
 //! Rewriting of single decoded sections.
-ghost use Rattle.std.specs.Prelude.{⊤, List};
+ghost use Rattle.std.specs.Prelude.{◌≡◌, ⊤, List, None};
 ghost use Rattle.wasm_codec.specs.formats.Grammar.{TakesBytes};
 ghost use Rattle.wasm_codec.specs.Lawful.{IsLawful, IsLawfulBody};
+ghost use Rattle.wasm_codec.specs.Lists.{BreaksAtItem};
 ghost use Rattle.wasm_codec.specs.Rewriter.{Rewrites};
-ghost use Rattle.wasm_codec.specs.Outcomes.{FailsMalformed};
+ghost use Rattle.wasm_codec.specs.Outcomes.{FailsMalformed, IfInItem};
 ghost use Rattle.wasm_codec.specs.formats.Bodies.{sized};
-ghost use Rattle.wasm_codec.specs.formats.Combinators.{items};
-ghost use Rattle.wasm_sections.specs.formats.ModuleSections.{module_section};
+ghost use Rattle.wasm_codec.specs.formats.Combinators.{items, u32 as u32_format};
+ghost use Rattle.wasm_sections.specs.formats.ModuleSections.{BreaksInList, BreaksInSection, module_section};
 ghost use Rattle.wasm_sections.specs.formats.ModuleSectionParts.{ModuleSectionParts};
 
 use crate::module_sections::kinds::{SectionKind, SectionVisitor, visit_section};
@@ -23,6 +24,8 @@ impl Rewritable for AnySection {
     ghost Value = { ModuleSectionParts };
 
     ghost format = { module_section };
+
+    ghost Breaks = { BreaksInSection };
 
     #[inline(always)]
     #[tactic(auto, using(crate::proofs::ModuleSectionLaws::module_section_is_lawful, crate::proofs::ModuleSectionLaws::module_section_takes))]
@@ -52,6 +55,8 @@ impl<T: Rewritable> RewritableBody for ListOf<T> {
 
     ghost format = { items T.format };
 
+    ghost Breaks = { BreaksAtItem u32_format T.format };
+
     #[inline(always)]
     fn is_lawful() {
         T::is_lawful();
@@ -65,18 +70,22 @@ impl<T: Rewritable> RewritableBody for ListOf<T> {
 impl SectionVisitor for Rewriter {
     type Output = Result<(), Fault>;
 
-    ghost visits_list = { λ V F C old new result. Rewrites (sized (items F)) old new result };
+    ghost visits_list = { λ V F C B old new result. Rewrites (sized (items F)) old new result × IfInItem result (BreaksInList F old.place.left) };
 
-    ghost visits_body = { λ V F C old new result. Rewrites (sized F) old new result };
+    ghost visits_body = { λ V F C old new result. Rewrites (sized F) old new result × IfInItem result (λ _. ⊥) };
 
-    ghost visits_unknown = { λ old new result. FailsMalformed result };
+    ghost visits_unknown = { λ old new result. FailsMalformed result × IfInItem result (λ _. ⊥) };
 
     fn visit_list<T: Rewritable + SectionKind>(&mut self) -> Result<(), Fault> {
         rewrite_sized::<ListOf<T>>(self)
     }
 
     fn visit_body<B: RewritableBody, K: SectionKind>(&mut self) -> Result<(), Fault> {
-        rewrite_sized::<B>(self)
+        match rewrite_sized::<B>(self) {
+            Ok(()) => Ok(()),
+            Err(Fault::Malformed(malformed)) => Err(Fault::Malformed(malformed.outside_items())),
+            Err(Fault::Memory) => Err(Fault::Memory),
+        }
     }
 
     fn visit_unknown(&mut self, id: u8) -> Result<(), Fault> {
@@ -85,13 +94,17 @@ impl SectionVisitor for Rewriter {
 }
 
 /// Returns the fault that no section has the id just read, with `left` bytes up to the end after it.
-pub(crate) fn unknown_section(id: u8, left: usize) -> Malformed {
+pub(crate) fn unknown_section(id: u8, left: usize) -> Malformed
+    ensures item { result.item ≡ None }
+{
     Malformed::new(Reason::UnknownSection { id }, left.wrapping_add(1))
 }
 
 /// Rewrites a section to its minimal encoding. A fault carries the section's id.
 pub(crate) fn rewrite_module_section(rewriter: &mut Rewriter) -> Result<(), Fault>
     ensures rewrites { Rewrites module_section rewriter.old rewriter.new result }
+    // The section is a list that breaks off at the item that a fault names.
+    ensures names { IfInItem result (BreaksInSection rewriter.old.place.left) }
 {
     let id = rewriter.peek(Construct::SectionId).unwrap_or(0);
     match rewrite_any_section(rewriter) {
@@ -102,10 +115,17 @@ pub(crate) fn rewrite_module_section(rewriter: &mut Rewriter) -> Result<(), Faul
 }
 
 /// Rewrites a section to its minimal encoding.
-#[tactic(auto, using(crate::proofs::ModuleSectionLaws::rewritten_by_kind), unfolding(crate::specs::formats::ModuleSections::module_section))]
+#[tactic(auto, using(crate::proofs::ModuleSectionLaws::rewritten_with_names, crate::proofs::ModuleSectionLaws::broken_rewritten), unfolding(crate::specs::formats::ModuleSections::module_section))]
 fn rewrite_any_section(rewriter: &mut Rewriter) -> Result<(), Fault>
     ensures rewrites { Rewrites module_section rewriter.old rewriter.new result }
+    ensures names { IfInItem result (BreaksInSection rewriter.old.place.left) }
 {
-    let id = rewriter.byte_of(Construct::SectionId)?;
+    let id = match rewriter.byte_of(Construct::SectionId) {
+        Ok(id) => id,
+        Err(Fault::Malformed(malformed)) => {
+            return Err(Fault::Malformed(malformed.outside_items()));
+        }
+        Err(Fault::Memory) => return Err(Fault::Memory),
+    };
     visit_section(id, rewriter)
 }

@@ -50,7 +50,7 @@ fn scan_result_type(bytes: &[u8]) -> Option<usize>
 /// Checks whether the byte alone is a minimally encoded value type: a number or vector type, or a nullable reference to
 /// an abstract heap type.
 #[inline(always)]
-fn is_whole_type(byte: u8) -> bool
+pub fn is_whole_type(byte: u8) -> bool
     ensures { result ≡ true → (more : List ℕ) → Scans val_type (byte ∷ more) (Some (Shortest 1)) }
 {
     if byte < 0x68 {

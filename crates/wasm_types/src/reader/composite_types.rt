@@ -1,6 +1,6 @@
 //! Readers of composite types, subtypes and entries of a type section (Core 3.0, Composite Types, Recursive Types and
 //! Type Section).
-ghost use Rattle.std.specs.Prelude.{◌≡◌, IfErr, refl};
+ghost use Rattle.std.specs.Prelude.{⊤, ◌≡◌, IfErr, refl};
 ghost use Rattle.wasm_codec.specs.formats.Grammar.{TakesBytes};
 ghost use Rattle.wasm_codec.specs.Reading.{map_ok};
 ghost use Rattle.wasm_codec.specs.Places.{Reads};
@@ -8,7 +8,7 @@ ghost use Rattle.wasm_codec.specs.Lawful.{IsLawful};
 ghost use Rattle.wasm_codec.specs.formats.Combinators.{◌⊗◌, made, optional, items, u32};
 ghost use Rattle.wasm_types.specs.formats.Types.{val_type, field_type, inner_type, composite_type, sub_of, sub_type, recursive_type};
 ghost use Rattle.wasm_types.specs.TypeParts.{sub_parts};
-ghost use Rattle.wasm_codec.specs.Outcomes.{IsMalformed};
+ghost use Rattle.wasm_codec.specs.Outcomes.{IfInItem, IsMalformed};
 ghost use Rattle.wasm_types.specs.declared.types.value.ValType.{ValType};
 ghost use Rattle.wasm_types.specs.declared.types.composite.FieldType.{FieldType};
 ghost use Rattle.wasm_types.specs.declared.types.composite.SubType.{SubType};
@@ -42,6 +42,7 @@ impl<'a> Readable<'a> for ValType {
 
     fn read(_alloc: Global, cursor: &mut Cursor<'a>) -> Result<ValType, Fault>
         ensures reads { Reads val_type.at cursor.old cursor.new (map_ok (λ x. x) result) }
+        ensures names { IfInItem result (λ index. ⊤) }
         ensures err { IfErr result IsMalformed }
     {
         read_val_type(cursor)
@@ -74,6 +75,7 @@ impl<'a> Readable<'a> for FieldType {
 
     fn read(_alloc: Global, cursor: &mut Cursor<'a>) -> Result<FieldType, Fault>
         ensures reads { Reads field_type.at cursor.old cursor.new (map_ok (λ x. x) result) }
+        ensures names { IfInItem result (λ index. ⊤) }
         ensures err { IfErr result IsMalformed }
     {
         read_field_type(cursor)

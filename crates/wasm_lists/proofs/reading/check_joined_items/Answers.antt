@@ -1,7 +1,7 @@
-use Rattle.std.proofs.Common.{◌≡◌, true, List, length, refl, ap, arith}
+use Rattle.std.proofs.Common.{true, List, length, refl, ap, arith}
 use Rattle.wasm_codec.specs.Places.{Place, place}
 use Rattle.wasm_codec.specs.formats.Combinators.{minimal_only}
-use Rattle.wasm_codec.proofs.RefusalNumbers.{stops_behind, unless_malformed}
+use Rattle.wasm_codec.proofs.RefusalNumbers.{stops_behind, stops_in_item, unless_malformed}
 use Rattle.wasm_lists.proofs.EndLaws.{none_counted, one_counted, longest_passed}
 use Rattle.wasm_lists.proofs.reading.check_joined_items.Goals as goal
 
@@ -29,3 +29,10 @@ loop-cursor-preserved-in-Ok g c =
     let h = c.in-Ok.ensures in
     let one = one_counted h.lawful h.some (place true c.args.bytes.now) c.loop-cursor.cursor c.read_next_item.new.cursor c.loop-cursor.passed (g.T.Readable.view c.in-Ok.field-0) h.bytes c.loop-cursor.invariant.some h.reads in
     record { some = one.counted; minimal = h.passed; few = omega (arith, one.fewer, c.loop-cursor.invariant.few) }
+
+pub returns-in-Err-clause-names : goal.returns-in-Err-clause-names
+returns-in-Err-clause-names g c =
+    let h = c.in-Err.ensures in
+    let w = c.loop-cursor.invariant.some in
+    let here = c.loop-cursor.cursor in
+    rw c.new.ensures (stops_in_item g.row.T.Denot g.T.Readable.Breaks c.args.bytes.now w.passed.progress.prefix here.left c.len-in-Err.result c.loop-cursor.passed c.in-Err.fault w.passed.progress.parts (omega (arith, c.len-in-Err.ensures, ap (λ (p : Place). length p.left) h.stays)) (h.uncounted refl))

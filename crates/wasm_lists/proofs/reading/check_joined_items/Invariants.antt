@@ -1,4 +1,4 @@
-use Rattle.std.proofs.Common.{◌≡◌, ◌≤◌, ◌+◌, true, List, length}
+use Rattle.std.proofs.Common.{◌≡◌, ◌≤◌, ◌+◌, true, length}
 use Rattle.wasm_codec.specs.Places.{place}
 use Rattle.wasm_codec.specs.formats.Combinators.{minimal_only}
 use Rattle.wasm_lists.proofs.EndLaws.{PassedCount}

@@ -3,7 +3,7 @@ use Rattle.wasm_codec.specs.Places.{Place}
 use Rattle.wasm_codec.specs.formats.Combinators.{minimal_if}
 use Rattle.wasm_codec.proofs.MinimalIfLaws.{flag}
 use Rattle.wasm_codec.proofs.ListReading.{end}
-use Rattle.wasm_codec.proofs.RefusalNumbers.{joined_before, stops_behind, unless_malformed}
+use Rattle.wasm_codec.proofs.RefusalNumbers.{stops_in_item, joined_before, stops_behind, unless_malformed}
 use Rattle.wasm_lists.proofs.EndLaws.{none_passed, one_passed, wanting, all_passed, longest_passed, whole_passed, none_left}
 use Rattle.wasm_lists.proofs.reading.read_items_minimal_if.Goals as goal
 
@@ -30,6 +30,7 @@ returns-in-Err g c =
       stopped = λ malformed. omega (arith, ap (λ (p : Place). length p.left) h.stays);
       stops = stops_behind F old.left new.left (record { left = c.len-in-Err.result; passed = c.len-in-Err-2.result; fault = fault }) (unless_malformed (List g.row.T.Denot) fault longest) left (omega (arith, ap (λ (p : Place). length p.left) h.stays));
       counts = λ malformed. joined_before F.Encodes old.left here.left vs c.len-in-Err-2.result c.len-in-Err.result w.progress (omega (arith, c.loop-alloc.invariant.len, c.len-in-Err-2.ensures)) (omega (arith, left, ap (λ (p : Place). length p.left) h.stays));
+      names = stops_in_item g.row.T.Denot g.T.Readable.Breaks old.left w.progress.prefix here.left c.len-in-Err.result c.len-in-Err-2.result fault w.progress.parts (omega (arith, left, ap (λ (p : Place). length p.left) h.stays)) (h.uncounted refl);
     })
 
 pub loop-alloc-smaller : goal.loop-alloc-smaller
@@ -59,4 +60,5 @@ returns g c =
       stopped = tt;
       stops = tt;
       counts = tt;
+      names = tt;
     })

@@ -5,7 +5,8 @@ use Rattle.wasm_codec.specs.Lawful.{plain}
 use Rattle.wasm_codec.specs.formats.Combinators.{u32, minimal_if}
 use Rattle.wasm_codec.proofs.ListLaws.{gone_none, gone_more, count_wanting, unread_count, item_wanting, unread_item, all_read, all_answered}
 use Rattle.wasm_codec.proofs.PlaceLists.{plain_reads, passed_none, passed_more, passed_fault, passed_all, no_count}
-use Rattle.wasm_codec.proofs.RefusalNumbers.{all_before, count_fault, item_fault}
+use Rattle.wasm_codec.proofs.RefusalNumbers.{all_before, breaks_at_read, breaks_nowhere, count_fault, item_fault}
+use Rattle.wasm_lists.proofs.EndLaws.{unread}
 use Rattle.wasm_codec.proofs.MinimalIfLaws.{flag}
 use Rattle.wasm_lists.proofs.reading.read_list_minimal_if.Goals as goal
 
@@ -26,6 +27,7 @@ returns-in_err-count g c =
       prefix = a.prefix;
       counted = tt;
       numbers = count_fault (List g.row.T.Denot) ℕ (flag g.row.STRICT) g.T.Readable.format old.left new.left fault (ap (λ (p : Place). p.left) h.stays) (h.count refl);
+      names = breaks_nowhere (List g.row.T.Denot) ℕ number item old.left fault (h.count refl);
     })
 
 pub loop-index-init : goal.loop-index-init
@@ -59,6 +61,7 @@ returns-in_err-item g c =
       prefix = a.prefix;
       counted = tt;
       numbers = item_fault (List g.row.T.Denot) g.T.Readable.Value (flag g.row.STRICT) g.T.Readable.format old.left here.left new.left c.in_ok-count.count c.loop-index.index vs fault c.loop-index.invariant.gone c.loop-index-test.true (ap (λ (p : Place). p.left) h.stays) (h.item c.loop-index.index refl);
+      names = breaks_at_read (List g.row.T.Denot) g.T.Readable.Value number item old.left here.left c.in_ok-count.count c.loop-index.index vs fault c.loop-index.invariant.gone c.loop-index-test.true (unread (plain item.at) here.left new.left fault h.left) (h.item c.loop-index.index refl);
     })
 
 pub loop-index-preserved : goal.loop-index-preserved
@@ -89,4 +92,5 @@ returns g c =
       prefix = a.prefix;
       counted = omega arith;
       numbers = all_before c.args.cursor.now.left c.loop-index.cursor.left c.in_ok-count.count c.loop-index.index vs c.loop-index.invariant.gone full;
+      names = λ index e. absurd e;
     })

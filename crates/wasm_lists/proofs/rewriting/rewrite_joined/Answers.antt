@@ -1,7 +1,7 @@
 use Rattle.std.proofs.Common.{◌≡◌, [], length, length-drop, ap, arith}
 use Rattle.std.proofs.lemmas.List.{nil_from_length}
 use Rattle.wasm_codec.specs.Rewriter.{Rewriting}
-use Rattle.wasm_codec.proofs.RefusalNumbers.{counted_before, counted_more, counted_none, counted_skipped}
+use Rattle.wasm_codec.proofs.RefusalNumbers.{stops_in_item, counted_before, counted_more, counted_none, counted_skipped}
 use Rattle.wasm_codec.proofs.RewriterLaws.{going, goes_on, run_passed, all_gone, stops}
 use Rattle.wasm_lists.proofs.rewriting.rewrite_joined.Goals as goal
 
@@ -18,6 +18,7 @@ returns-in-Err g c =
       rewrites = stops law.lawful old here c.rewrite.new.rewriter c.rewrite.new.rewriter c.in-Err.fault c.len-left.result c.loop-rewriter.passed c.are_bytes.ensures passed (omega arith) c.len-left.ensures c.in-Err.ensures.rewrites;
       passed = λ never. λ malformed. counted_before g.T.Rewritable.format old.place.left here.place.left c.loop-rewriter.passed c.len-left.result
           (counted_skipped g.T.Rewritable.format old c.loop-rewriter.rewriter here c.loop-rewriter.passed c.short_run-run.result (c.short_run-run.ensures.never never) c.skip.ensures (c.loop-rewriter.invariant.counted never)) c.len-left.ensures;
+      names = stops_in_item (Unit {0}) g.T.Rewritable.Breaks old.place.left passed.progress.prefix here.place.left c.len-left.result c.loop-rewriter.passed c.in-Err.fault passed.progress.parts c.len-left.ensures (c.in-Err.ensures.names);
     })
 
 pub loop-rewriter-smaller-then-left-ne0 : goal.loop-rewriter-smaller-then-left-ne0
@@ -55,4 +56,4 @@ loop-rewriter-preserved g c =
 pub returns : goal.returns
 returns g c =
     let none : c.loop-rewriter.rewriter.place.left ≡ [] = nil_from_length c.loop-rewriter.rewriter.place.left (omega arith) in
-    record { rewrites = (all_gone g.T.Rewritable.format c.args.rewriter.now c.loop-rewriter.rewriter c.loop-rewriter.invariant.going none, none); passed = λ never. tt }
+    record { rewrites = (all_gone g.T.Rewritable.format c.args.rewriter.now c.loop-rewriter.rewriter c.loop-rewriter.invariant.going none, none); passed = λ never. tt; names = tt }

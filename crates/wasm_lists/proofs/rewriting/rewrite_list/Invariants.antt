@@ -1,5 +1,9 @@
+use Rattle.wasm_codec.proofs.RefusalNumbers.{ListPassed}
 use Rattle.wasm_codec.proofs.RewriterLaws.{ItemsRewritten}
 use Rattle.wasm_lists.proofs.rewriting.rewrite_list.Given as goal
 
 abbrev pub invariant-loop-index : goal.invariant-loop-index
-invariant-loop-index g l = ItemsRewritten g.T.Rewritable.format l.fn.rewriter l.rewriter l.count l.index
+invariant-loop-index g l = record {
+  rewritten : ItemsRewritten g.T.Rewritable.format l.fn.rewriter l.rewriter l.count l.index;
+  passed : ListPassed g.T.Rewritable.format l.fn.rewriter.place.left l.rewriter.place.left l.count l.index;
+}

@@ -1,5 +1,3 @@
-use Rattle.std.proofs.Common.{true, ap, ◌∙◌}
-use Rattle.wasm_codec.specs.Places.{place}
 use Rattle.std.proofs.lemmas.Result.{err_from_is_err_and}
 use Rattle.wasm_types.proofs.TypeFormatLaws.{Lawful-ref-type}
 use Rattle.wasm_codec.proofs.Shortening.{no_number}

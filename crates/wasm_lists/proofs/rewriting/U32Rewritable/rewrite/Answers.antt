@@ -2,5 +2,5 @@ use Rattle.wasm_codec.proofs.FormatLaws.{Lawful-u32}
 use Rattle.wasm_codec.proofs.Shortening.{scanned_rewritten}
 use Rattle.wasm_lists.proofs.rewriting.U32Rewritable.rewrite.Goals as goal
 
-pub returns-in-Some : goal.returns-in-Some
-returns-in-Some c = record { rewrites = scanned_rewritten Lawful-u32 c.args.rewriter.now c.rewrite_scanned.new.self c.left.result.now c.left.ensures c.are_bytes.ensures c.in-Some.scanned c.in-Some.ensures c.rewrite_scanned.ensures }
+pub returns-in-Some-clause-rewrites : goal.returns-in-Some-clause-rewrites
+returns-in-Some-clause-rewrites c = scanned_rewritten Lawful-u32 c.args.rewriter.now c.rewrite_scanned.new.self c.left.result.now c.left.ensures c.are_bytes.ensures c.in-Some.scanned c.in-Some.ensures c.rewrite_scanned.ensures

@@ -1,0 +1,189 @@
+-- Instructions with a prefix, `ref.null` and `br_table`, seen at once to be in their shortest encodings.
+use Rattle.std.proofs.Common.{◌≡◌, ℕ, zero, suc, ◌+◌, ◌-◌, ◌<◌, ◌≤◌, true, false, List, [], ◌∷◌, ◌++◌, length, get_or, take, drop, drop-drop, length-drop, Option, Some, None, IfSome, refl, sym, ap, subst, ◌∙◌, arith}
+use Rattle.std.specs.List.{AllByRecursion}
+use Rattle.std.proofs.lemmas.List.{take_more}
+use Rattle.wasm_codec.specs.Places.{place, byte_at, times_at}
+use Rattle.wasm_codec.specs.Scanning.{Scans}
+use Rattle.wasm_codec.specs.declared.rewriter.scan.Scanned.TheVariants.{Shortest}
+use Rattle.wasm_codec.specs.formats.Combinators.{Format, ◌⊗◌, made, items, u32}
+use Rattle.wasm_codec.proofs.NumberReading.{u32_one}
+use Rattle.wasm_types.specs.declared.types.heap.AbstractHeapType.TheVariants as abstracts
+use Rattle.wasm_types.specs.declared.types.heap.HeapType.TheVariants.{Abstract}
+use Rattle.wasm_types.specs.formats.Types.{abstract_type, heap_type}
+use Rattle.wasm_types.proofs.ScannedTypes.{Between, none_between, one_more}
+use Rattle.wasm_instructions.specs.declared.table.opcode.Opcode.{Opcode}
+use Rattle.wasm_instructions.specs.declared.table.opcode.Kind.{Kind}
+use Rattle.wasm_instructions.specs.declared.table.opcode.Kind.TheVariants as kinds
+use Rattle.wasm_instructions.specs.declared.table.call.Operands.TheVariants as operands
+use Rattle.wasm_instructions.specs.OperandParts.{index_part, two_indexes_part, br_table_part, mem_part, heap_part}
+use Rattle.wasm_instructions.specs.formats.Operands.{mem_arg}
+use Rattle.wasm_instructions.specs.formats.Instructions.{call, opcode, operands_format, instruction}
+use Rattle.wasm_instructions.specs.formats.Opcodes.{without_prefix, after_fb, after_fc, after_fd, after_fe, opcode_kind, ranges}
+use Rattle.wasm_instructions.proofs.ScannedCalls.{call_scanned, made_scanned}
+
+-- ---- one after the other
+
+pub pair_scanned : {A B : Type 0} (F : Format A) (G : Format B) (bytes : List ℕ) (m n : ℕ) → Scans F bytes (Some (Shortest m)) → Scans G (drop m bytes) (Some (Shortest n)) → Scans (F ⊗ G) bytes (Some (Shortest (m + n)))
+pair_scanned F G bytes m n a b =
+    let left : drop n (drop m bytes) ≡ drop (m + n) bytes = drop-drop n m bytes in
+    (omega (arith, a.0, b.0, length-drop m bytes), ((a.1.0, b.1.0), rw (a.1.1, b.1.1, left) refl))
+
+-- ---- opcodes
+
+-- after this byte, a number of one byte makes this opcode
+abbrev pub Makes : ℕ → (ℕ → Opcode) → Type 0
+Makes b make = (n : ℕ) (more : List ℕ) → n < 128 → opcode.at (place true (b ∷ n ∷ more)) ≡ Some (make n, place true more)
+
+pub makes_fb : Makes 0xfb after_fb
+unfolding opcode byte_at
+makes_fb n more lt = rw (u32_one (place true (n ∷ more)) (place true more) n lt refl) refl
+
+pub makes_fc : Makes 0xfc after_fc
+unfolding opcode byte_at
+makes_fc n more lt = rw (u32_one (place true (n ∷ more)) (place true more) n lt refl) refl
+
+pub makes_fd : Makes 0xfd after_fd
+unfolding opcode byte_at
+makes_fd n more lt = rw (u32_one (place true (n ∷ more)) (place true more) n lt refl) refl
+
+pub makes_fe : Makes 0xfe after_fe
+unfolding opcode byte_at
+makes_fe n more lt = rw (u32_one (place true (n ∷ more)) (place true more) n lt refl) refl
+
+pub prefixed : (b : ℕ) (make : ℕ → Opcode) (bytes : List ℕ) (n : ℕ) → Makes b make → 2 ≤ length bytes → get_or bytes 0 0 ≡ b → get_or bytes 1 0 ≡ n → n < 128 → opcode.at (place true bytes) ≡ Some (make n, place true (drop 2 bytes))
+prefixed b make [] n makes some first second lt = absurd (omega (arith, some))
+prefixed b make (a ∷ []) n makes some first second lt = absurd (omega (arith, some))
+prefixed b make (a ∷ c ∷ bytes) n makes some first second lt = rw (first, second) (makes n bytes lt)
+
+pub prefixed_scanned : (bytes : List ℕ) (op : Opcode) (k : Kind) (n : ℕ) → 2 ≤ length bytes → opcode.at (place true bytes) ≡ Some (op, place true (drop 2 bytes)) → opcode_kind op ≡ Some k → Scans (operands_format k) (drop 2 bytes) (Some (Shortest n)) → Scans instruction bytes (Some (Shortest (2 + n)))
+unfolding instruction
+prefixed_scanned bytes op k n some e is r =
+    let left : drop n (drop 2 bytes) ≡ drop (2 + n) bytes = drop-drop n 2 bytes in
+    (omega (arith, some, r.0, length-drop 2 bytes), (call op r.1.0, rw (e, is, r.1.1, left) refl))
+
+pub heap_scanned : (bytes : List ℕ) (n : ℕ) → Scans heap_type bytes (Some (Shortest n)) → Scans (operands_format kinds.Heap) bytes (Some (Shortest n))
+unfolding operands_format
+heap_scanned bytes n r = made_scanned operands.Heap heap_part heap_type (λ a. refl) bytes (Some (Shortest n)) r
+
+null_kind : opcode_kind (without_prefix 0xd0) ≡ Some kinds.Heap
+unfolding ranges
+null_kind = refl
+
+table_kind : opcode_kind (without_prefix 0x0e) ≡ Some kinds.BrTable
+unfolding ranges
+table_kind = refl
+
+pub null_scanned : (bytes : List ℕ) (n : ℕ) → 0 < length bytes → get_or bytes 0 0 ≡ 0xd0 → Scans heap_type (drop 1 bytes) (Some (Shortest n)) → Scans instruction bytes (Some (Shortest (1 + n)))
+null_scanned bytes n some is r = call_scanned bytes kinds.Heap (Shortest n) some (ap (λ (b : ℕ). opcode_kind (without_prefix b)) is ∙ null_kind) (heap_scanned (drop 1 bytes) n r)
+
+pub table_scanned : (bytes : List ℕ) (n : ℕ) → 0 < length bytes → get_or bytes 0 0 ≡ 0x0e → Scans (operands_format kinds.BrTable) (drop 1 bytes) (Some (Shortest n)) → Scans instruction bytes (Some (Shortest (1 + n)))
+table_scanned bytes n some is r = call_scanned bytes kinds.BrTable (Shortest n) some (ap (λ (b : ℕ). opcode_kind (without_prefix b)) is ∙ table_kind) r
+
+-- ---- operands
+
+-- the operands of a kind, if their one part is found
+found_made : {A B : Type 0} (make : A → B) (parts : B → Option A) (F : Format A) → ((a : A) → parts (make a) ≡ Some a) → (bytes : List ℕ) (r : Option ℕ) → IfSome r (λ n. Scans F bytes (Some (Shortest n))) → IfSome r (λ n. Scans (made make parts F) bytes (Some (Shortest n)))
+found_made make parts F back bytes None h = h
+found_made make parts F back bytes (Some n) h = made_scanned make parts F back bytes (Some (Shortest n)) h
+
+pub index_found : (bytes : List ℕ) (r : Option ℕ) → IfSome r (λ n. Scans u32 bytes (Some (Shortest n))) → IfSome r (λ n. Scans (operands_format kinds.Index) bytes (Some (Shortest n)))
+unfolding operands_format
+index_found bytes r h = found_made operands.Index index_part u32 (λ a. refl) bytes r h
+
+pub heap_found : (bytes : List ℕ) (r : Option ℕ) → IfSome r (λ n. Scans heap_type bytes (Some (Shortest n))) → IfSome r (λ n. Scans (operands_format kinds.Heap) bytes (Some (Shortest n)))
+unfolding operands_format
+heap_found bytes r h = found_made operands.Heap heap_part heap_type (λ a. refl) bytes r h
+
+pub memory_scanned : (bytes : List ℕ) (n : ℕ) → Scans mem_arg bytes (Some (Shortest n)) → Scans (operands_format kinds.Mem) bytes (Some (Shortest n))
+unfolding operands_format
+memory_scanned bytes n r = made_scanned operands.Mem mem_part mem_arg (λ a. refl) bytes (Some (Shortest n)) r
+
+pub two_scanned : (bytes : List ℕ) (m n : ℕ) → Scans u32 bytes (Some (Shortest m)) → Scans u32 (drop m bytes) (Some (Shortest n)) → Scans (operands_format kinds.TwoIndexes) bytes (Some (Shortest (m + n)))
+unfolding operands_format
+two_scanned bytes m n a b = made_scanned (λ p. operands.TwoIndexes p.0 p.1) two_indexes_part (u32 ⊗ u32) (λ p. refl) bytes (Some (Shortest (m + n))) (pair_scanned u32 u32 bytes m n a b)
+
+-- ---- heap types of one byte
+
+abbrev IsHeap : ℕ → Type 0
+IsHeap b = (more : List ℕ) → Scans heap_type (b ∷ more) (Some (Shortest 1))
+
+abstract_heap : Between IsHeap 0x68 0x76
+unfolding heap_type abstract_type byte_at
+abstract_heap =
+    one_more IsHeap 0x68 0x75 (λ more. (omega arith, (Abstract false abstracts.NoCont, refl)))
+    (one_more IsHeap 0x68 0x74 (λ more. (omega arith, (Abstract false abstracts.NoExn, refl)))
+    (one_more IsHeap 0x68 0x73 (λ more. (omega arith, (Abstract false abstracts.NoFunc, refl)))
+    (one_more IsHeap 0x68 0x72 (λ more. (omega arith, (Abstract false abstracts.NoExtern, refl)))
+    (one_more IsHeap 0x68 0x71 (λ more. (omega arith, (Abstract false abstracts.None, refl)))
+    (one_more IsHeap 0x68 0x70 (λ more. (omega arith, (Abstract false abstracts.Func, refl)))
+    (one_more IsHeap 0x68 0x6f (λ more. (omega arith, (Abstract false abstracts.Extern, refl)))
+    (one_more IsHeap 0x68 0x6e (λ more. (omega arith, (Abstract false abstracts.Any, refl)))
+    (one_more IsHeap 0x68 0x6d (λ more. (omega arith, (Abstract false abstracts.Eq, refl)))
+    (one_more IsHeap 0x68 0x6c (λ more. (omega arith, (Abstract false abstracts.I31, refl)))
+    (one_more IsHeap 0x68 0x6b (λ more. (omega arith, (Abstract false abstracts.Struct, refl)))
+    (one_more IsHeap 0x68 0x6a (λ more. (omega arith, (Abstract false abstracts.Array, refl)))
+    (one_more IsHeap 0x68 0x69 (λ more. (omega arith, (Abstract false abstracts.Exn, refl)))
+    (one_more IsHeap 0x68 0x68 (λ more. (omega arith, (Abstract false abstracts.Cont, refl)))
+    (none_between IsHeap 0x68))))))))))))))
+
+pub one_heap : (bytes : List ℕ) → 0 < length bytes → 0x68 ≤ get_or bytes 0 0 → get_or bytes 0 0 < 0x76 → Scans heap_type bytes (Some (Shortest 1))
+one_heap [] some le lt = absurd (omega (arith, some))
+one_heap (b ∷ bytes) some le lt = abstract_heap b le lt bytes
+
+-- ---- labels of one byte
+
+abbrev pub AreOnes : List ℕ → Type 0
+AreOnes = AllByRecursion (λ b. b < 128)
+
+ones_also : (labels : List ℕ) (b : ℕ) → AreOnes labels → b < 128 → AreOnes (labels ++ b ∷ [])
+ones_also [] b all lt = (lt, tt)
+ones_also (a ∷ labels) b all lt = (all.0, ones_also labels b all.1 lt)
+
+pub ones_taken : (bytes : List ℕ) (i : ℕ) → 1 + i < length bytes → AreOnes (take i (drop 1 bytes)) → get_or bytes (1 + i) 0 < 128 → AreOnes (take (i + 1) (drop 1 bytes))
+ones_taken [] i within all lt = absurd (omega (arith, within))
+ones_taken (n ∷ bytes) i within all lt =
+    let next : 1 + i ≡ suc i = omega arith in
+    rw (take_more bytes i 0 (omega (arith, within))) (ones_also (take i bytes) (get_or bytes i 0) all (rw next at lt))
+
+ones_read : (count : ℕ) (bytes : List ℕ) → count ≤ length bytes → AreOnes (take count bytes) → (vs : List ℕ) × (times_at u32.at count (place true bytes) ≡ Some (vs, place true (drop count bytes)))
+unfolding times_at
+ones_read zero bytes within all = ([], refl)
+ones_read (suc count) [] within all = absurd (omega (arith, within))
+ones_read (suc count) (b ∷ bytes) within all =
+    let vs = ones_read count bytes (omega (arith, within)) all.1 in
+    (b ∷ vs.0, rw (u32_one (place true (b ∷ bytes)) (place true bytes) b all.0 refl, vs.1) refl)
+
+-- one more than the labels that a count tells of
+ones_split : (count : ℕ) (bytes : List ℕ) → count < length bytes → AreOnes (take (suc count) bytes) → AreOnes (take count bytes) × (get_or bytes count 0 < 128)
+ones_split count [] lt all = absurd (omega (arith, lt))
+ones_split zero (b ∷ bytes) lt all = (tt, all.0)
+ones_split (suc count) (b ∷ bytes) lt all =
+    let rest = ones_split count bytes (omega (arith, lt)) all.1 in
+    ((all.0, rest.0), rest.1)
+
+one_u32 : (bytes : List ℕ) → 0 < length bytes → get_or bytes 0 0 < 128 → Scans u32 bytes (Some (Shortest 1))
+one_u32 [] some lt = absurd (omega (arith, some))
+one_u32 (b ∷ bytes) some lt = (omega arith, (b, u32_one (place true (b ∷ bytes)) (place true bytes) b lt refl))
+
+pub get_dropped : (count : ℕ) (bytes : List ℕ) → get_or (drop count bytes) 0 0 ≡ get_or bytes count 0
+get_dropped zero bytes = refl
+get_dropped (suc count) [] = refl
+get_dropped (suc count) (b ∷ bytes) = get_dropped count bytes
+
+behind_count : (count : ℕ) (bytes : List ℕ) → count < 128 → count < length bytes → AreOnes (take (suc count) bytes) → Scans (operands_format kinds.BrTable) (count ∷ bytes) (Some (Shortest (1 + count + 1)))
+unfolding operands_format
+behind_count count bytes lt within all =
+    let parts = ones_split count bytes within all in
+    let labels = ones_read count bytes (omega (arith, within)) parts.0 in
+    let next : 1 + count ≡ suc count = omega arith in
+    let list : Scans (items u32) (count ∷ bytes) (Some (Shortest (1 + count))) = (omega (arith, within), (labels.0, rw (next, u32_one (place true (count ∷ bytes)) (place true bytes) count lt refl, labels.1) refl)) in
+    let default : Scans u32 (drop (1 + count) (count ∷ bytes)) (Some (Shortest 1)) = rw next (one_u32 (drop count bytes) (omega (arith, within, length-drop count bytes)) (rw (get_dropped count bytes) parts.1)) in
+    made_scanned (λ p. operands.BrTable p.0 p.1) br_table_part (items u32 ⊗ u32) (λ p. refl) (count ∷ bytes) (Some (Shortest (1 + count + 1))) (pair_scanned (items u32) u32 (count ∷ bytes) (1 + count) 1 list default)
+
+pub labels_scanned : (bytes : List ℕ) (count : ℕ) → 0 < length bytes → 1 + get_or bytes 0 0 ≡ count → get_or bytes 0 0 < 128 → count ≤ length bytes - 1 → AreOnes (take count (drop 1 bytes)) → Scans (operands_format kinds.BrTable) bytes (Some (Shortest (1 + count)))
+labels_scanned [] count some is lt within all = absurd (omega (arith, some))
+labels_scanned (first ∷ bytes) count some is lt within all =
+    let next : 1 + first ≡ suc first = omega arith in
+    let k : 1 + first + 1 ≡ 1 + count = omega (arith, is) in
+    let taken : AreOnes (take (suc first) bytes) = subst (λ (n : ℕ). AreOnes (take n bytes)) (sym is ∙ next) all in
+    subst (λ (n : ℕ). Scans (operands_format kinds.BrTable) (first ∷ bytes) (Some (Shortest n))) k (behind_count first bytes lt (omega (arith, within, is)) taken)

@@ -1,0 +1,12 @@
+use Rattle.std.proofs.Common.{◌≡◌, ◌+◌, take, drop, slice_index_or, subst, refl, arith}
+use Rattle.wasm_instructions.proofs.ScannedPrefixed.{AreOnes, ones_taken, labels_scanned}
+use Rattle.wasm_instructions.proofs.normaliser.scan.prefixed.scan_labels.Goals as goal
+
+pub loop-index-preserved : goal.loop-index-preserved
+loop-index-preserved c = ones_taken c.args.bytes.now c.loop-index.index (omega arith) c.loop-index.invariant c.if-bytes-index-ge128.false
+
+pub returns : goal.returns
+returns c =
+    let count = 1 + slice_index_or c.args.bytes.now 0 0 in
+    let full : c.loop-index.index ≡ count = omega arith in
+    labels_scanned c.args.bytes.now count (omega arith) refl (omega arith) (omega arith) (subst (λ k. AreOnes (take k (drop 1 c.args.bytes.now))) full c.loop-index.invariant)
