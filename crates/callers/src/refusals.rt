@@ -1,10 +1,10 @@
 //! What the numbers in a refusal count.
-ghost use Rattle.std.specs.Prelude.{ℕ, IfSome};
+ghost use Rattle.std.specs.Prelude.{ℕ, IfSome, drop};
 ghost use Rattle.wasm_codec.specs.formats.Numbers.{EncodesU32};
 ghost use Rattle.wasm_encoder.specs.Lists.{HasItemsBefore};
 ghost use Rattle.wasm_modules.specs.formats.CodeBodies.{code_body};
 ghost use Rattle.wasm_modules.specs.Modules.{HasSectionsBefore};
-ghost use Rattle.wasm_sections.specs.formats.ModuleSections.{module_section};
+ghost use Rattle.wasm_sections.specs.formats.ModuleSections.{BreaksInSection, module_section};
 
 use std::alloc::Global;
 use wasm_encoder::{CodeSection, DecodeError, WholeModule, read};
@@ -26,6 +26,20 @@ pub fn sections_before(alloc: Global, bytes: &[u8]) -> Option<usize>
     match read::<WholeModule>(alloc, bytes) {
         Err(DecodeError::Malformed(refusal)) => match refusal.section {
             Some(place) => Some(place.number),
+            None => None,
+        },
+        _ => None,
+    }
+}
+
+/// Returns where the malformed section of a module begins, and how many items of its list decode before the malformed
+/// one. `None` means that no item is malformed.
+pub fn items_before(alloc: Global, bytes: &[u8]) -> Option<(usize, u32)>
+    ensures { IfSome result (λ place. BreaksInSection (drop place.0 bytes.now) place.1) }
+{
+    match read::<WholeModule>(alloc, bytes) {
+        Err(DecodeError::Malformed(refusal)) => match refusal.item {
+            Some(index) => Some((refusal.at, index)),
             None => None,
         },
         _ => None,

@@ -1,6 +1,8 @@
 pub mod MappedCalls
+pub mod CountingLaws
 pub mod StopLaws
 pub mod ModuleOrderLaws
 pub mod OffsetLaws
 pub mod PatternLaws
 pub mod SelectionLaws
+pub mod RefusalLaws

@@ -1,14 +1,11 @@
 -- The laws of the beginnings of names, and of what readers answer.
-use Rattle.std.proofs.Common.{◌≡◌, ◌∙◌, ℕ, ◌+◌, ◌⊎◌, true, false, List, [], ◌∷◌, ◌++◌, length, take, drop, Option, Some, None, eqb, refl, sym, ap, subst, append_assoc}
+use Rattle.std.proofs.Common.{◌≡◌, ◌∙◌, ℕ, ◌+◌, true, false, List, ◌++◌, length, take, drop, Option, Some, None, eqb, refl, sym, ap, subst}
 use Rattle.std.specs.Prelude.{MatchOption, IfSome, IfNone, IfOk, OnOk, Result, Ok, Err, is_some, is_err}
-use Rattle.std.proofs.lemmas.List.{take_at, take-append-drop, flat_map_more}
+use Rattle.std.proofs.lemmas.List.{take_at, take-append-drop}
 use lib.Pointwise.{pointwise, bytes_decides}
 use Rattle.wasm_codec.specs.Outcomes.{IsOrMemory}
-use Rattle.wasm_codec.specs.Encoding.{byte_list_bytes}
 use Rattle.wasm_codec.specs.declared.reader.ReadError.{ReadError}
 use Rattle.wasm_codec.specs.declared.reader.ReadError.TheVariants.{Refused}
-use Rattle.wasm_modules.specs.formats.Sections.{SectionParts, header}
-use Rattle.wasm_modules.specs.formats.Modules.{raw_module, raw_section}
 use Rattle.wasm_whole_modules.specs.Offsets.{BeginsWith}
 
 -- ---- the beginning of a name

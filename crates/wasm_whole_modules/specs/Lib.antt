@@ -1,3 +1,4 @@
+pub mod Counting
 pub mod IndexSpaces
 pub mod MappedIndices
 pub mod MappedSections
@@ -5,3 +6,4 @@ pub mod ModuleOrder
 pub mod Offsets
 pub mod Selections
 pub mod Stops
+pub mod RefusalNumbers

@@ -2,6 +2,7 @@
 //! what is malformed.
 #![tactic(auto)]
 
+pub mod counting;
 pub mod indices;
 pub mod locate;
 pub mod modules;

@@ -115,7 +115,7 @@ struct ItemCounter<'a> {
 impl SectionVisitor for ItemCounter<'_> {
     type Output = Result<Option<Result<ItemCounts, BrokenItem>>, AllocError>;
 
-    ghost visits_list = { λ V F C old new result. IfOk result (IsToldOf F old.body.now) };
+    ghost visits_list = { λ V F C B old new result. IfOk result (IsToldOf F old.body.now) };
 
     ghost visits_body = { λ V F C old new result. IfOk result (IsNone) };
 

@@ -5,6 +5,7 @@ ghost use Rattle.wasm_codec.specs.Outcomes.{IfMalformed, LiesIn, as_read, NeedsN
 ghost use Rattle.wasm_codec.specs.formats.Combinators.{minimal_if, minimal_only};
 ghost use Rattle.wasm_modules.specs.Judging.{form_of, verdict_of, RefusalLiesIn};
 ghost use Rattle.wasm_modules.specs.Modules.{CountsSections, IsModulePrefixOf};
+ghost use Rattle.wasm_whole_modules.specs.RefusalNumbers.{CountsParts};
 ghost use Rattle.wasm_sections.specs.formats.ModuleSectionParts.{ModuleSectionParts, all_module_section_parts};
 ghost use Rattle.wasm_sections.specs.formats.ModuleSections.{module_section, whole_module, ShortestWholeModule};
 ghost use Rattle.wasm_codec.specs.Decoding.{Decodes, DecodesMinimal, Checks, Normalises, NormalisesInPlace, ChecksAll, RewritesAll, IsMinimal};
@@ -53,7 +54,7 @@ impl<'a> Decode<'a> for WholeModule {
 
     ghost IsMinimalPrefix = { IsModulePrefixOf (minimal_only module_section) };
 
-    ghost Counts = { λ strict. CountsSections (minimal_if strict module_section) };
+    ghost Counts = { λ strict. CountsParts (minimal_if strict module_section) };
 
     #[inline(always)]
     #[tactic(auto, using(wasm_sections::proofs::ModuleSectionLaws::whole_module_is_lawful))]
@@ -62,10 +63,12 @@ impl<'a> Decode<'a> for WholeModule {
         ensures minimal { IsMinimal whole_module ShortestWholeModule }
     {}
 
+    #[tactic(auto, using(crate::proofs::RefusalLaws::counts_parts))]
     fn read_all(alloc: Global, bytes: &'a [u8]) -> Result<Vec<ModuleSection<'a>>, DecodeError> {
         read_module_of::<ModuleSection<'_>, false>(alloc, bytes)
     }
 
+    #[tactic(auto, using(crate::proofs::RefusalLaws::counts_parts))]
     fn read_all_strict(
         alloc: Global,
         bytes: &'a [u8],
@@ -73,19 +76,21 @@ impl<'a> Decode<'a> for WholeModule {
         read_module_of::<ModuleSection<'_>, true>(alloc, bytes)
     }
 
+    #[tactic(auto, using(crate::proofs::RefusalLaws::counts_parts))]
     fn check_all(alloc: Global, bytes: &[u8]) -> Result<(), DecodeError>
         ensures checks { ChecksAll ShortestWholeModule (IsModulePrefixOf (minimal_only module_section)) bytes.now (as_read result) }
         ensures place { IfErr result (LiesIn (length bytes.now)) }
-        ensures counts { IfMalformed result (CountsSections (minimal_only module_section) bytes.now) }
+        ensures counts { IfMalformed result (CountsParts (minimal_only module_section) bytes.now) }
     {
         check_module_of::<AnySection>(alloc, bytes)
     }
 
+    #[tactic(auto, using(crate::proofs::RefusalLaws::counts_parts))]
     fn rewrite_all(bytes: Vec<u8>) -> Result<Vec<u8>, DecodeError>
         ensures rewrites { RewritesAll whole_module (IsModulePrefixOf module_section) bytes.items (as_read result) }
         ensures memory { NeedsNoMemory (as_read result) }
         ensures place { IfErr result (LiesIn (length bytes.items)) }
-        ensures counts { IfMalformed result (CountsSections module_section bytes.items) }
+        ensures counts { IfMalformed result (CountsParts module_section bytes.items) }
     {
         rewrite_module_of::<AnySection>(bytes)
     }
@@ -210,6 +215,9 @@ pub fn judge_whole_module(bytes: Vec<u8>) -> Result<Judged, DecodeError>
     ensures judges { IfOk result (λ judged. Checks whole_module ShortestWholeModule (IsModulePrefixOf (minimal_only module_section)) bytes.items (verdict_of judged.longer)) }
     ensures place { IfErr result (LiesIn (length bytes.items)) }
     ensures within { IfOk result (λ judged. IfSome judged.longer (RefusalLiesIn (length bytes.items))) }
+    ensures counts { IfMalformed result (CountsParts module_section bytes.items) }
+    // The section of the first part that isn't minimal counts the sections before it, which are minimally encoded.
+    ensures numbers { IfOk result (λ judged. IfSome judged.longer (CountsSections (minimal_only module_section) bytes.items)) }
 {
     judge_module_of::<AnySection>(bytes)
 }

@@ -8,6 +8,8 @@ use Rattle.wasm_modules.specs.Modules.{IsModulePrefixOf}
 use Rattle.wasm_modules.specs.declared.judging.Judged.{Judged}
 use Rattle.wasm_sections.proofs.ModuleSectionLaws.{whole_module_is_lawful, whole_module_is_minimal}
 use Rattle.wasm_sections.specs.formats.ModuleSections.{module_section, whole_module, ShortestWholeModule}
+use Rattle.wasm_codec.specs.Outcomes.{refused_place}
+use Rattle.wasm_whole_modules.proofs.RefusalLaws.{counts_parts}
 use Rattle.wasm_whole_modules.proofs.modules.judge_whole_module.Goals as goal
 
 checks_judged : (bytes : List ℕ) (result : Result Judged DecodeError) → IfOk result (λ judged. ChecksAll ShortestWholeModule (IsModulePrefixOf (minimal_only module_section)) bytes (verdict_of judged.longer)) → IfOk result (λ judged. Checks whole_module ShortestWholeModule (IsModulePrefixOf (minimal_only module_section)) bytes (verdict_of judged.longer))
@@ -22,4 +24,6 @@ returns c =
       judges = checks_judged c.args.bytes.items m.result m.ensures.judges;
       place = m.ensures.place;
       within = m.ensures.within;
+      counts = counts_parts module_section c.args.bytes.items (refused_place m.result) m.ensures.counts m.ensures.names;
+      numbers = m.ensures.numbers;
     }

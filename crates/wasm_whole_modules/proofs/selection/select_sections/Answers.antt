@@ -3,7 +3,7 @@ use Rattle.std.proofs.lemmas.List.{nil_from_length}
 use Rattle.wasm_codec.specs.Rewriter.{Rewriting}
 use Rattle.wasm_modules.specs.formats.Sections.{header, SectionParts}
 use Rattle.wasm_whole_modules.specs.Selections.{ChoosesNext, IsSelected}
-use Rattle.wasm_whole_modules.proofs.SelectionLaws.{selecting_none, selecting_kept, selecting_dropped, marked_within, selected_all, selected_nowhere, is_rewritten, rewritten_fewer}
+use Rattle.wasm_whole_modules.proofs.SelectionLaws.{selecting_none, selecting_kept, selecting_dropped, selected_all, selected_nowhere, is_rewritten, rewritten_fewer}
 use Rattle.wasm_whole_modules.proofs.selection.select_sections.Goals as goal
 
 pub loop-rewriter-init : goal.loop-rewriter-init
