@@ -528,19 +528,51 @@ def large_modules():
            function(nops + b"\xFF"))
 
 
+def many_parts():
+    """Modules of which something kept for each part would be noticed, or a copy of a name: what each has, and its
+    bytes."""
+    yield "a million empty code sections", HEADER + b"\x0A\1\0" * 1_000_000
+    yield "two million functions", HEADER + b"\x0A" + after_size(leb(2_000_000) + b"\2\0\x0B" * 2_000_000)
+    yield "a long name", HEADER + b"\0" + after_size(after_size(b"a" * 20_000_000))
+
+
+def least_memory(runs):
+    """The KiB of address space in which the program checks an empty module. In less it may not even be loaded."""
+    least, words = 1024, [runs.program, "--check", runs.room / "header"]
+    while least < 1 << 20 and run_command(*under(f"ulimit -v {least}", *words)).returncode != 0:
+        least += 256
+    return least
+
+
+def in_little_memory(runs, least, name, status, message, *words):
+    """Runs the program on files in as much memory as an empty module needs, 1.1 times their length and 4 MB."""
+    size = sum((runs.room / word).stat().st_size for word in words if not word.startswith("-"))
+    limit = least + (11 * size // 10 + 4_000_000) // 1024
+    ran = run_command(*under(f"ulimit -v {limit}", runs.program, *words), cwd=runs.room, stdout=subprocess.DEVNULL)
+    runs.status, runs.out, runs.err = ran.returncode, b"", ran.stderr.decode()
+    right = runs.status == status and (runs.err.startswith(message) if message else not runs.err)
+    runs.holds(f"{name} in little memory: {' '.join(words)}", right)
+
+
 def try_memory(runs):
-    """A check holds a module once. It runs in as much memory as that of an empty module needs, 1.1 times the length of
-    the module and 4 MB."""
-    least = 1024
-    while run_command(*under(f"ulimit -v {least}", runs.program, "--check", runs.room / "header")).returncode == 3:
-        least += 1024
+    """A check, a report and a comparison hold each module once."""
+    least = least_memory(runs)
     for name, status, message, data in large_modules():
         (runs.room / "large_module").write_bytes(data)
-        limit = least + (11 * len(data) // 10 + 4_000_000) // 1024
-        ran = run_command(*under(f"ulimit -v {limit}", runs.program, "--check", "large_module"), cwd=runs.room)
-        wanted = f"error: large_module: {message}\n" if message else ""
-        runs.status, runs.out, runs.err = ran.returncode, ran.stdout, ran.stderr.decode()
-        runs.holds(f"{name} in a large module, checked in little memory", runs.status == status and runs.err == wanted)
+        error = f"error: large_module: {message}\n" if message else ""
+        in_little_memory(runs, least, name, status, error, "--check", "large_module")
+        reported = (0, "") if "not minimally" in message else (status, error)
+        in_little_memory(runs, least, name, *reported, "--report", "large_module")
+        in_little_memory(runs, least, name, *reported, "--report", "--json", "large_module")
+    for name, data in many_parts():
+        (runs.room / "large_module").write_bytes(data)
+        for words in (["--report"], ["--report", "--json"]):
+            in_little_memory(runs, least, name, 0, "", "--any-order", *words, "large_module")
+    (runs.room / "large_module").write_bytes(FILES["big"][:-1] + b"a")
+    for words in (["--diff"], ["--diff", "--all"], ["--diff", "--all", "--json"]):
+        in_little_memory(runs, least, "a longer size", 0, "", *words, "big", "big_canonical")
+        in_little_memory(runs, least, "another byte", 1, "error: big and large_module differ: ", *words, "big",
+                         "large_module")
     (runs.room / "large_module").unlink()
 
 
@@ -586,6 +618,29 @@ def try_reports(runs):
     encodings = [section["encodings"] for section in json_report(runs, "numbers")["sections"]]
     found = [(it["longer_items"], it["items"], it["longer_size"], it["longer_count"]) for it in encodings]
     runs.holds("a report of longer encodings as JSON", found == ENCODINGS)
+    for name, message, data in MALFORMED:
+        right = is_malformed(runs, message, data, "--report", "broken") and not runs.out
+        right = right and is_malformed(runs, message, data, "--report", "--json", "broken")
+        told = list_in(runs.out)
+        runs.holds(f"no report of {name}", right and len(told) == 1 and "sections" not in told[0]
+                   and told[0]["error"] == f"broken: {message}")
+    runs.run("--report", "--json", "long", "cut", "header")
+    told = list_in(runs.out)
+    runs.holds("a refusal between reports as JSON", runs.status == 1 and len(told) == 3 and told[1] == CUT_AS_JSON
+               and (told[0]["before"], told[0]["after"], told[2]["sections"]) == (23, 19, []))
+    try_cut_reports(runs)
+
+
+def try_cut_reports(runs):
+    """A report that is too long to hold is printed before the section that is malformed."""
+    message = "section 30000, offset 0x15f98: unknown section id 14"
+    (runs.room / "many").write_bytes(HEADER + b"\0\1\0" * 30_000 + b"\x0E\0")
+    right = runs.answers(1, f"error: many: {message}\n", "--report", "many")
+    runs.holds("a long report of a malformed module", right and len(runs.out.splitlines()) == 30_001)
+    right = runs.answers(1, f"error: many: {message}\n", "--report", "--json", "many")
+    told = list_in(runs.out)
+    runs.holds("a long report of a malformed module as JSON", right and len(told) == 1
+               and len(told[0]["sections"]) == 30_000 and told[0]["error"] == f"many: {message}")
 
 
 def json_report(runs, file):

@@ -3,7 +3,9 @@ use Rattle.std.proofs.Common.{sym, subst, ◌∙◌, ℕ, Bool, true, false, Lis
 use Rattle.std.specs.Global.{Vec}
 use Rattle.std.specs.Prelude.{OnOk}
 use Rattle.wasm_codec.specs.Decoding.{Checks, NormalisesInPlace}
+use Rattle.wasm_codec.specs.Outcomes.{place_alone}
 use Rattle.wasm_codec.specs.declared.reader.refusal.Refusal.{Refusal}
+use Rattle.wasm_whole_modules.specs.RefusalNumbers.{CountsParts}
 use Rattle.wasm_codec.specs.formats.Combinators.{minimal_only}
 use Rattle.wasm_modules.specs.Judging.{verdict_of}
 use Rattle.wasm_modules.specs.Modules.{IsModulePrefixOf}
@@ -47,3 +49,9 @@ longer_judged names input bytes refusal form check = by names where
   by : (names : Bool) → Judges names input (verdicts.Longer refusal)
   by false = ((form.given.value, form.given.encoded), longer)
   by true = ((form.given.value, form.given.encoded), inl longer)
+
+-- ---- the place of a refusal
+
+-- what is known of the place without its reason
+pub placed : (bytes : List ℕ) (refusal : Refusal) → CountsParts module_section bytes (place_alone refusal) → CountsParts module_section bytes refusal
+placed bytes refusal c = record { sections = c.sections; items = c.items }

@@ -2,6 +2,7 @@
 use Rattle.std.specs.Prelude.{◌≡◌, ◌⊎◌, ℕ, Bool, true, false, List, Option, Result, Ok, Err}
 use Rattle.std.specs.Io.KnownBytes.{Appends}
 use Rattle.wasm_codec.specs.Outcomes.{EncodesSome, IsNormalForm, IsLongestPrefix}
+use Rattle.wasm_codec.specs.declared.reader.refusal.Refusal.{Refusal}
 use Rattle.wasm_sections.specs.formats.ModuleSectionParts.{ModuleSectionParts}
 use Rattle.wasm_sections.specs.formats.ModuleSections.{module_section, whole_module}
 use Rattle.wasm_codec.specs.formats.Combinators.{minimal_only}
@@ -85,6 +86,15 @@ IfRefused (Err (failures.Disordered error place)) P = Unit {0}
 IfRefused (Err failures.Memory) P = Unit {0}
 IfRefused (Err (failures.Read error)) P = Unit {0}
 IfRefused (Err (failures.Write error)) P = Unit {0}
+
+-- If the run refuses its input, the property holds of the place that it reports.
+abbrev pub IfPlaced : {X : Type 0} → Result X Failure → (Refusal → Type 0) → Type 0
+IfPlaced (Ok x) P = Unit {0}
+IfPlaced (Err (failures.Refused refusal foreign)) P = P refusal
+IfPlaced (Err (failures.Disordered error place)) P = Unit {0}
+IfPlaced (Err failures.Memory) P = Unit {0}
+IfPlaced (Err (failures.Read error)) P = Unit {0}
+IfPlaced (Err (failures.Write error)) P = Unit {0}
 
 -- If the run fails because the sections break a rule, the property holds of the error that it reports.
 abbrev pub IfDisordered : {X : Type 0} → Result X Failure → (ModuleError → Type 0) → Type 0

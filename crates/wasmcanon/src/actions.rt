@@ -1,17 +1,15 @@
 //! The actions on the modules that the command line names.
 use crate::diff::find_difference;
 use crate::differences::{diff_all, print_first};
-use crate::files::{
-    canonicalise_file, check_file, hash_file, is_read_only, read_canonical_at, read_forms_at,
-};
+use crate::files::{canonicalise_file, check_file, hash_file, is_read_only, read_canonical_at};
 use crate::json::{difference_value, digest_value, verdict_value};
 use crate::listings::list_modules;
 use crate::messages::{InputName, OffsetWarning, OutputName};
 use crate::outputs::Outputs;
-use crate::report::Report;
+use crate::reports::report_modules;
 use crate::request::{Action, Location, Request};
 use crate::results::{Results, WRITE_STATUS};
-use crate::run::{Failure, Forms, Verdict};
+use crate::run::Verdict;
 use crate::text::{Hex, SumName};
 use serde_json::Value;
 use std::alloc::AllocError;
@@ -173,39 +171,6 @@ fn note_write(rt: &HostRuntime, results: &mut Results, printed: io::Result<()>) 
         let _ = eprintln!(rt; "error: standard output: write failed: {error}");
         results.raise(WRITE_STATUS);
     }
-}
-
-/// Prints the report of each module.
-fn report_modules(rt: &HostRuntime, request: &Request<'_>) -> Result<u8, AllocError> {
-    let mut results = Results::new(rt, request.json);
-    for word in &request.inputs {
-        let input = Location::named(word);
-        match read_forms_at(rt, request, input) {
-            Ok(forms) => add_report(rt, &mut results, input, &forms, request.inputs.len())?,
-            Err(failure) => results.fail(input, Location::Standard, &failure)?,
-        }
-    }
-    Ok(results.finish())
-}
-
-/// Prints the report of one of `count` modules. Its name precedes it if there are several.
-fn add_report(
-    rt: &HostRuntime,
-    results: &mut Results,
-    input: Location<'_>,
-    forms: &Forms,
-    count: usize,
-) -> Result<(), AllocError> {
-    let report = Report::new(rt.alloc(), &forms.input, &forms.canonical)?;
-    if results.is_json() {
-        return results.push(report.value(rt.alloc(), input)?);
-    }
-    if count > 1 {
-        let name = InputName(input);
-        note_write(rt, results, println!(rt; "{name}:"));
-    }
-    note_write(rt, results, println!(rt; "{report}"));
-    Ok(())
 }
 
 /// Compares the canonical forms of two modules.

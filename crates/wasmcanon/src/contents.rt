@@ -13,7 +13,7 @@ use wasm_codec::reader::refusal::{Refusal, SectionPlace};
 use wasm_custom_sections::contents::{Decoded, contents_of, rewrite_contents};
 use wasm_custom_sections::names::NameSection;
 use wasm_custom_sections::producers::ProducersSection;
-use wasm_modules::decode::check;
+use wasm_modules::decode::{check, normalise};
 use wasm_modules::section::RawSection;
 use wasm_sections::custom::read_custom;
 
@@ -27,6 +27,26 @@ pub fn with_contents(alloc: Global, bytes: Vec<u8>, names: bool) -> Result<Vec<u
         rewrite_contents(alloc, bytes)
     } else {
         Ok(bytes)
+    }
+}
+
+/// Returns the length of a custom section's contents. If they are those of a section `name` or `producers`, it is that of
+/// their minimal encoding.
+///
+/// Fails if memory runs out.
+pub fn minimal_contents_len(alloc: Global, section: RawSection<'_>) -> Result<usize, AllocError> {
+    let Ok(custom) = read_custom(section.body) else {
+        return Ok(0);
+    };
+    let minimal = match contents_of(alloc, section)? {
+        Some(Decoded::Names) => normalise::<NameSection>(alloc, custom.bytes),
+        Some(Decoded::Producers) => normalise::<ProducersSection<'_>>(alloc, custom.bytes),
+        None => return Ok(custom.bytes.len()),
+    };
+    match minimal {
+        Ok(minimal) => Ok(minimal.len()),
+        Err(DecodeError::Memory) => Err(AllocError),
+        Err(DecodeError::Malformed(_)) => Ok(custom.bytes.len()),
     }
 }
 

@@ -1,19 +1,20 @@
 //! The action `--diff --all`, and what `--diff` prints of the first part that differs.
 use crate::actions::two_inputs;
 use crate::diff::{Difference, find_difference};
-use crate::files::read_forms_at;
-use crate::json::{difference_value, text_value};
+use crate::files::read_input_at;
+use crate::held::HeldWriter;
+use crate::json::{difference_value, failure_members, text_value};
 use crate::listing::{
     Detail, Differences, DifferentPart, Lines, Part, Side, Stop, list_differences,
 };
 use crate::messages::InputName;
 use crate::request::{Location, Request};
 use crate::results::Results;
-use crate::run::{Failure, Forms};
+use crate::run::{Failure, accept};
 use crate::sections::{SectionTitle, kind_name};
 use serde_json::{Value, json};
 use std::alloc::{AllocError, Global};
-use std::io::{BufWriter, Write};
+use std::io::{BufWriter, Stdout, Write};
 use std::{fmt, io};
 use wasm_codec::reader::names::section_names;
 
@@ -21,21 +22,26 @@ const DIFFERENT_STATUS: u8 = 1;
 
 /// Compares two modules, and prints all parts in which they differ.
 ///
-/// Fails if memory runs out.
+/// The parts are listed before the modules are rewritten, so that no module is held twice. Fails if memory runs out.
 pub fn diff_all(rt: &HostRuntime, request: &Request<'_>) -> Result<u8, AllocError> {
     let mut results = Results::new(rt, false);
-    let [first, second] = two_inputs(request);
-    let Some(one) = forms_at(rt, request, first, &mut results)? else {
+    let Some((one, other)) = read_two(rt, request, &mut results)? else {
         return Ok(results.finish());
     };
-    let Some(other) = forms_at(rt, request, second, &mut results)? else {
-        return Ok(results.finish());
-    };
-    let difference = find_difference(&one.canonical, &other.canonical);
-    let printed = if request.json {
-        print_values(rt, [first, second], [&one.input, &other.input], difference)
-    } else {
-        print_lines(rt, &one.input, &other.input)
+    let mut writer = HeldWriter::new(rt.alloc(), rt.stdout());
+    writer.mark();
+    let listed = list_parts(rt, request, &one, &other, &mut writer);
+    if let Err(Stop::Memory) = listed {
+        return Err(AllocError);
+    }
+    let printed = match accept_two(rt, request, one, other) {
+        Ok((one, other)) => {
+            let difference = find_difference(&one, &other);
+            let printed = listed.and_then(|_| end_parts(rt, request, difference, &mut writer));
+            tell(rt, request, difference, &mut results);
+            printed
+        }
+        Err((input, failure)) => refuse(rt, request, input, &failure, &mut writer, &mut results),
     };
     match printed {
         Ok(()) | Err(Stop::Malformed | Stop::Enough) => {}
@@ -44,11 +50,6 @@ pub fn diff_all(rt: &HostRuntime, request: &Request<'_>) -> Result<u8, AllocErro
             let output = Location::Standard;
             results.fail(output, output, &Failure::Write(error))?;
         }
-    }
-    if let Some(difference) = difference {
-        let (one, other) = (InputName(first), InputName(second));
-        let _ = eprintln!(rt; "error: {one} and {other} differ: {difference}");
-        results.raise(DIFFERENT_STATUS);
     }
     Ok(results.finish())
 }
@@ -70,56 +71,120 @@ pub fn print_first(rt: &HostRuntime, one: &[u8], other: &[u8]) -> Result<(), All
     Ok(())
 }
 
-/// Reads a module, and returns it with its canonical form. Returns `None` if it failed.
-fn forms_at(
+/// Reads two modules. Returns `None` if that failed. Then a malformed first module is reported before a second one that
+/// can't be read.
+fn read_two(
     rt: &HostRuntime,
     request: &Request<'_>,
-    input: Location<'_>,
     results: &mut Results,
-) -> Result<Option<Forms>, AllocError> {
-    match read_forms_at(rt, request, input) {
-        Ok(forms) => Ok(Some(forms)),
-        Err(failure) => {
-            results.fail(input, Location::Standard, &failure)?;
-            Ok(None)
-        }
+) -> Result<Option<(Vec<u8>, Vec<u8>)>, AllocError> {
+    let [first, second] = two_inputs(request);
+    let (input, failure) = match read_input_at(rt, first) {
+        Ok(one) => match read_input_at(rt, second) {
+            Ok(other) => return Ok(Some((one, other))),
+            Err(failure) => match accept(rt.alloc(), one, request.any_order) {
+                Ok(_) => (second, failure),
+                Err(refused) => (first, refused),
+            },
+        },
+        Err(failure) => (first, failure),
+    };
+    results.fail(input, Location::Standard, &failure)?;
+    Ok(None)
+}
+
+/// Rewrites two modules to their canonical forms. Fails with the first that is refused.
+fn accept_two<'m>(
+    rt: &HostRuntime,
+    request: &Request<'m>,
+    one: Vec<u8>,
+    other: Vec<u8>,
+) -> Result<(Vec<u8>, Vec<u8>), (Location<'m>, Failure)> {
+    let [first, second] = two_inputs(request);
+    match accept(rt.alloc(), one, request.any_order) {
+        Ok(one) => match accept(rt.alloc(), other, request.any_order) {
+            Ok(other) => Ok((one, other)),
+            Err(failure) => Err((second, failure)),
+        },
+        Err(failure) => Err((first, failure)),
     }
 }
 
-/// Prints all parts in which two modules differ.
-fn print_lines(rt: &HostRuntime, one: &[u8], other: &[u8]) -> Result<(), Stop> {
-    let mut writer = BufWriter::new(rt.alloc(), rt.stdout())?;
-    let mut lines = DifferentLines {
-        writer: &mut writer,
+/// Writes the parts in which two modules differ, up to the first malformed part.
+fn list_parts(
+    rt: &HostRuntime,
+    request: &Request<'_>,
+    one: &[u8],
+    other: &[u8],
+    writer: &mut HeldWriter<Stdout>,
+) -> Result<(), Stop> {
+    let alloc = rt.alloc();
+    let listed = if request.json {
+        write!(writer, "{{\"differences\":[")?;
+        let mut values = DifferentValues {
+            alloc,
+            writer,
+            has_members: false,
+        };
+        list_differences(alloc, one, other, &mut values)
+    } else {
+        list_differences(alloc, one, other, &mut DifferentLines { writer })
     };
-    list_differences(rt.alloc(), one, other, &mut lines)?;
+    match listed {
+        Err(Stop::Malformed | Stop::Enough) => Ok(()),
+        listed => listed,
+    }
+}
+
+/// Writes what follows the parts in which two modules differ.
+fn end_parts(
+    rt: &HostRuntime,
+    request: &Request<'_>,
+    difference: Option<Difference<'_>>,
+    writer: &mut HeldWriter<Stdout>,
+) -> Result<(), Stop> {
+    if request.json {
+        let alloc = rt.alloc();
+        let [first, second] = two_inputs(request);
+        let value = difference_value(alloc, first, second, difference)?;
+        let text = format!(in alloc; "{value}")?;
+        let members = text.as_str().strip_prefix("{").unwrap_or("}");
+        writeln!(writer, "],{members}")?;
+    }
     writer.flush()?;
     Ok(())
 }
 
-/// Prints the result of a comparison as JSON, with all parts in which two modules differ.
-fn print_values(
+/// Reports that two modules differ, and where.
+fn tell(
     rt: &HostRuntime,
-    locations: [Location<'_>; 2],
-    modules: [&[u8]; 2],
+    request: &Request<'_>,
     difference: Option<Difference<'_>>,
+    results: &mut Results,
+) {
+    if let Some(difference) = difference {
+        let [first, second] = two_inputs(request);
+        let (one, other) = (InputName(first), InputName(second));
+        let _ = eprintln!(rt; "error: {one} and {other} differ: {difference}");
+        results.raise(DIFFERENT_STATUS);
+    }
+}
+
+/// Reports why a module failed. Takes back the parts that were listed, if there aren't too many.
+fn refuse(
+    rt: &HostRuntime,
+    request: &Request<'_>,
+    input: Location<'_>,
+    failure: &Failure,
+    writer: &mut HeldWriter<Stdout>,
+    results: &mut Results,
 ) -> Result<(), Stop> {
-    let alloc = rt.alloc();
-    let [first, second] = locations;
-    let [one, other] = modules;
-    let mut writer = BufWriter::new(alloc, rt.stdout())?;
-    let value = difference_value(alloc, first, second, difference)?;
-    let text = format!(in alloc; "{value}")?;
-    let members = text.as_str().strip_suffix("}").unwrap_or("{");
-    write!(writer, "{members},\"differences\":[")?;
-    let mut values = DifferentValues {
-        alloc,
-        writer: &mut writer,
-        has_members: false,
-    };
-    list_differences(alloc, one, other, &mut values)?;
-    writeln!(writer, "]}}")?;
+    if !writer.take_back() && request.json {
+        let members = failure_members(rt.alloc(), input, failure)?;
+        writeln!(writer, "],{}", members.as_str())?;
+    }
     writer.flush()?;
+    results.fail(input, Location::Standard, failure)?;
     Ok(())
 }
 

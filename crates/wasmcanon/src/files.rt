@@ -1,15 +1,14 @@
 //! Files: inputs, and outputs that replace a file only once they are complete.
-use crate::contents::with_contents;
 use crate::progress::{Progress, Source};
 use crate::replacement::Replacement;
 use crate::request::{Location, Request};
 use crate::run::{
-    Canonical, Failure, Forms, Verdict, canonicalise, check, hash, read_canonical, read_forms,
-    read_input,
+    Canonical, Failure, Verdict, canonicalise, check, hash, read_canonical, read_input, report,
 };
 use std::alloc::Global;
 use std::io::Write;
 use std::{fs, io};
+use wasm_whole_modules::counting::SectionWatcher;
 
 /// Reads the module at `input`, and writes its canonical form to `output`.
 ///
@@ -67,18 +66,17 @@ pub fn read_canonical_at(
     canonical
 }
 
-/// Reads the module at `input`, and returns it with its canonical form, as `--names` wants it.
-pub fn read_forms_at(
+/// Reads the module at `input`, and shows each section to the watcher while it is rewritten.
+pub fn report_file<S: SectionWatcher>(
     rt: &HostRuntime,
     request: &Request<'_>,
     input: Location<'_>,
-) -> Result<Forms, Failure> {
+    watcher: &mut S,
+) -> Result<(), Failure> {
     let mut source = open(rt, input, Progress::new(rt))?;
-    let forms = read_forms(rt.alloc(), &mut source, request.any_order);
+    let reported = report(rt.alloc(), &mut source, request.any_order, watcher);
     source.end();
-    let Forms { input, canonical } = forms?;
-    let canonical = with_contents(rt.alloc(), canonical, request.names)?;
-    Ok(Forms { input, canonical })
+    reported
 }
 
 /// Reads all bytes of the module at `input`, which may be malformed.

@@ -6,6 +6,7 @@ use crate::run::{Failure, Verdict};
 use crate::sections::kind_name;
 use serde_json::{Value, json};
 use std::alloc::{AllocError, Global};
+use std::fmt;
 use wasm_codec::reader::refusal::{Refusal, SectionPlace};
 
 /// Returns the name of an input.
@@ -35,6 +36,23 @@ pub fn failure_value(
             json!(in alloc; {"file": file, "error": error})
         }
     }
+}
+
+/// Returns the members of the object for a module that failed, and the end of the object.
+pub fn failure_members(
+    alloc: Global,
+    input: Location<'_>,
+    failure: &Failure,
+) -> Result<String, AllocError> {
+    let output = Location::Standard;
+    let message = FailureMessage {
+        input,
+        output,
+        failure,
+    };
+    let value = failure_value(alloc, input, &message)?;
+    let text = format!(in alloc; "{value}")?;
+    String::from_str(alloc, text.as_str().strip_prefix("{").unwrap_or("}"))
 }
 
 /// Returns the result for a module that is refused: where and why, beside this member.
@@ -115,5 +133,24 @@ pub fn difference_value(
             let text = Value::String(format!(in alloc; "{difference}")?);
             json!(in alloc; {"files": [first, second], "same": false, "difference": text})
         }
+    }
+}
+
+/// A text in quotation marks. It is written without a copy, unlike a `Value`.
+#[derive(Clone, Copy)]
+pub struct JsonText<'a>(pub &'a str);
+
+impl fmt::Display for JsonText<'_> {
+    fn fmt<W: fmt::Write>(&self, f: &mut fmt::Formatter<W>) -> fmt::Result {
+        write!(f, "\"")?;
+        for character in self.0.chars() {
+            match character {
+                '"' => write!(f, "\\\"")?,
+                '\\' => write!(f, "\\\\")?,
+                '\0'..='\u{1f}' => write!(f, "\\u{:04x}", u32::from(character))?,
+                _ => write!(f, "{character}")?,
+            }
+        }
+        write!(f, "\"")
     }
 }

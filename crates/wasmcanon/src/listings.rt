@@ -1,12 +1,12 @@
 //! The action `--list`.
 use crate::files::read_input_at;
-use crate::json::{failure_value, file_value};
+use crate::json::{failure_members, file_value};
 use crate::listing::{Lines, Stop, Values, list_module};
-use crate::messages::{FailureMessage, InputName};
+use crate::messages::InputName;
 use crate::request::{Location, Request};
 use crate::results::Results;
 use crate::run::{Failure, accept};
-use std::alloc::{AllocError, Global};
+use std::alloc::AllocError;
 use std::io;
 use std::io::{BufWriter, Stdout, Write};
 
@@ -69,7 +69,7 @@ fn list_as_text(
     }
     goes_on(list_module(rt.alloc(), &module, &mut Lines::new(writer)))?;
     match accept(rt.alloc(), module, request.any_order) {
-        Ok(()) => Ok(()),
+        Ok(_) => Ok(()),
         Err(failure) => fail(writer, results, input, &failure),
     }
 }
@@ -96,7 +96,7 @@ fn list_as_json(
     goes_on(list_module(alloc, &module, &mut values))?;
     values.end()?;
     match accept(alloc, module, request.any_order) {
-        Ok(()) => {
+        Ok(_) => {
             let file = file_value(alloc, input)?;
             write!(writer, ",\"file\":{file}}}")?;
             Ok(())
@@ -115,23 +115,6 @@ fn goes_on(listed: Result<(), Stop>) -> Result<(), Stop> {
         Err(Stop::Malformed) => Ok(()),
         other => other,
     }
-}
-
-/// Returns the members of the object for a module that failed, and the end of the object.
-fn failure_members(
-    alloc: Global,
-    input: Location<'_>,
-    failure: &Failure,
-) -> Result<String, AllocError> {
-    let output = Location::Standard;
-    let message = FailureMessage {
-        input,
-        output,
-        failure,
-    };
-    let value = failure_value(alloc, input, &message)?;
-    let text = format!(in alloc; "{value}")?;
-    String::from_str(alloc, text.as_str().strip_prefix("{").unwrap_or("}"))
 }
 
 /// Writes what was listed, and reports why a module failed.

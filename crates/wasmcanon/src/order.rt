@@ -2,7 +2,7 @@
 ghost use Rattle.std.specs.Prelude.{◌≡◌, OnOk, IfOk, IfSome, IfNone};
 ghost use Rattle.wasm_modules.specs.formats.Sections.{parts_of};
 ghost use Rattle.wasmcanon.specs.Order.{rank, AreInOrder, OfSections, IsOrdered, BreaksOrder, IsOutOfOrderAt, IsWhyNot};
-ghost use Rattle.wasmcanon.specs.Run.{IfRefused, IfDisordered};
+ghost use Rattle.wasmcanon.specs.Run.{IfPlaced, IfRefused, IfDisordered};
 
 use crate::data_uses::find_data_use;
 use crate::run::Failure;
@@ -45,6 +45,7 @@ pub fn check_sections(alloc: Global, input: &[u8]) -> Result<(), Failure>
     ensures disordered { IfDisordered result (BreaksOrder input.now) }
     // The failure isn't `Refused`.
     ensures refused { IfRefused result (λ _. ⊥) }
+    ensures placed { IfPlaced result (λ _. ⊥) }
 {
     let Some(sections) = after_header(input) else {
         // A malformed module has no sections.

@@ -1,46 +1,73 @@
 //! The report: the size of each section before and after, and the number of encodings that are not minimal.
-use crate::json::{file_value, text_value};
+use crate::contents::minimal_contents_len;
+use crate::json::{JsonText, file_value, text_value};
+use crate::listing::Stop;
 use crate::request::Location;
 use crate::sections::{
-    LocatedSection, SectionTitle, SectionWalk, count_items, count_number, has_list, kind_name,
-    longer_number,
+    LocatedSection, SectionTitle, count_number, has_list, kind_name, longer_number, read_located,
 };
 use serde_json::{Value, json};
 use std::alloc::{AllocError, Global};
-use std::fmt;
-use wasm_modules::section::RawSection;
+use std::{fmt, io};
+use wasm_codec::encode::leb128::u32_len;
+use wasm_codec::reader::cursor::Cursor;
+use wasm_modules::section::{HEADER, RawSection};
+use wasm_sections::custom::read_custom;
+use wasm_whole_modules::counting::SectionWatcher;
 use wasm_whole_modules::locate::ItemCounts;
 use wasm_whole_modules::selection::custom_name;
 
-/// The report of a module.
+/// A writer of the report of a module, which is rewritten meanwhile: a row for each section, and then the totals.
 #[derive(Drop)]
-pub struct Report<'a> {
-    module: &'a [u8],
-    canonical: &'a [u8],
-    /// The counts of items, for each section that is a list.
-    lists: Vec<ItemCounts>,
-    items: Tally,
-    sizes: Tally,
-    counts: Tally,
+pub struct Report<'w, W> {
+    alloc: Global,
+    writer: &'w mut W,
+    /// Whether the report is written as JSON.
+    json: bool,
+    /// Whether the contents of sections `name` and `producers` get their minimal encoding too.
+    names: bool,
+    /// The section that is being rewritten, if its row isn't written yet.
+    next: Option<SectionFacts>,
+    totals: Totals,
+    /// Why the report ends before the last section.
+    stop: Option<Stop>,
+}
+
+/// What is known of a section before it is rewritten.
+#[derive(Clone, Copy)]
+struct SectionFacts {
+    id: u8,
+    /// Length in bytes, including the id and the size.
+    len: usize,
+    /// The one item of a section that isn't a list.
+    number: Option<ItemCounts>,
+    /// Whether the size is not minimally encoded.
+    has_longer_size: bool,
+    /// Whether the section is a list whose count is not minimally encoded.
+    has_longer_count: bool,
 }
 
 /// A section, its size in the canonical form, and the encodings in it that are not minimal.
 #[derive(Clone, Copy)]
 struct ReportRow<'a> {
-    section: LocatedSection<'a>,
+    /// Number of sections before it.
+    number: usize,
+    /// The section's id, and its body if it is a custom section.
+    section: RawSection<'a>,
+    facts: SectionFacts,
     after: usize,
-    /// Number of items. The count is 0 if the body is malformed.
     items: ItemCounts,
-    /// Whether the section is a list whose count is not minimally encoded.
-    has_longer_count: bool,
 }
 
-/// The rows of a report one after another.
-#[derive(Drop)]
-struct Rows<'a> {
-    sections: SectionWalk<'a>,
-    canonical: SectionWalk<'a>,
-    lists: &'a [ItemCounts],
+/// The sums over all sections so far.
+#[derive(Clone, Copy)]
+struct Totals {
+    sections: usize,
+    before: usize,
+    after: usize,
+    items: Tally,
+    sizes: Tally,
+    counts: Tally,
 }
 
 /// The number of encodings of one kind, and how many are not minimal.
@@ -62,129 +89,200 @@ impl Tally {
     }
 }
 
-impl<'a> Report<'a> {
-    /// Compares a module with its canonical form.
-    ///
-    /// Fails if memory runs out.
-    pub fn new(
-        alloc: Global,
-        module: &'a [u8],
-        canonical: &'a [u8],
-    ) -> Result<Report<'a>, AllocError> {
-        let lists = count_lists(alloc, module)?;
-        let mut report = Report {
-            module,
-            canonical,
-            lists,
+impl Totals {
+    /// Returns the sums of a module without sections.
+    fn new() -> Totals {
+        Totals {
+            sections: 0,
+            before: HEADER.len(),
+            after: HEADER.len(),
             items: Tally::NONE,
             sizes: Tally::NONE,
             counts: Tally::NONE,
-        };
-        report.add_up();
-        Ok(report)
-    }
-
-    /// Returns the rows from the first on.
-    fn rows(&self) -> Rows<'_> {
-        Rows {
-            sections: SectionWalk::new(self.module),
-            canonical: SectionWalk::new(self.canonical),
-            lists: &self.lists,
         }
     }
 
-    /// Tallies items, section sizes, and the counts of sections that are lists.
-    fn add_up(&mut self) {
-        let (mut items, mut sizes, mut counts) = (Tally::NONE, Tally::NONE, Tally::NONE);
-        let mut rows = self.rows();
-        for _ in 0..self.module.len() {
-            let Some(row) = rows.advance() else {
-                break;
-            };
-            let section = row.section;
-            items = items.with(u64::from(row.items.longer), u64::from(row.items.count));
-            sizes = sizes.with(u64::from(section.has_longer_size), 1);
-            counts = counts.with(
-                u64::from(row.has_longer_count),
-                u64::from(has_list(section.section.id)),
-            );
+    /// Returns the sums with one more section.
+    fn with(self, row: &ReportRow<'_>) -> Totals {
+        let (facts, items) = (row.facts, row.items);
+        Totals {
+            sections: self.sections.saturating_add(1),
+            before: self.before.saturating_add(facts.len),
+            after: self.after.saturating_add(row.after),
+            items: self
+                .items
+                .with(u64::from(items.longer), u64::from(items.count)),
+            sizes: self.sizes.with(u64::from(facts.has_longer_size), 1),
+            counts: self.counts.with(
+                u64::from(facts.has_longer_count),
+                u64::from(has_list(facts.id)),
+            ),
         }
-        self.items = items;
-        self.sizes = sizes;
-        self.counts = counts;
     }
 }
 
-/// Counts the items of each section that is a list. The count is 0 if the body is malformed.
-///
-/// Fails if memory runs out.
-fn count_lists(alloc: Global, module: &[u8]) -> Result<Vec<ItemCounts>, AllocError> {
-    let mut lists = Vec::new(alloc);
-    let mut sections = SectionWalk::new(module);
-    for _ in 0..module.len() {
-        let Some(section) = sections.advance() else {
-            break;
-        };
-        if has_list(section.section.id) {
-            lists.push(count_items(alloc, section.section)?.unwrap_or(NO_ITEMS))?;
+impl SectionFacts {
+    /// Returns what is known of a section.
+    fn new(located: &LocatedSection<'_>) -> SectionFacts {
+        let RawSection { id, body } = located.section;
+        let is_list = has_list(id);
+        SectionFacts {
+            id,
+            len: located.len,
+            number: if is_list { None } else { count_number(body) },
+            has_longer_size: located.has_longer_size,
+            has_longer_count: is_list && longer_number(body) == Some(true),
         }
     }
-    Ok(lists)
 }
 
-/// The counts of a section without items, or with a malformed body.
+impl<'w, W: io::Write> Report<'w, W> {
+    /// Returns the writer of a report.
+    pub fn new(alloc: Global, writer: &'w mut W, json: bool, names: bool) -> Report<'w, W> {
+        Report {
+            alloc,
+            writer,
+            json,
+            names,
+            next: None,
+            totals: Totals::new(),
+            stop: None,
+        }
+    }
+
+    /// Writes what precedes the rows.
+    pub fn begin(&mut self) -> Result<(), Stop> {
+        if self.json {
+            write!(self.writer, "{{\"sections\":[")?;
+        } else {
+            writeln!(
+                self.writer,
+                "section {:>9} {:>9} {:>9} {:>7} {:>7}  kind",
+                "before", "after", "saved", "longer", "out of"
+            )?;
+        }
+        Ok(())
+    }
+
+    /// Fails if a row could not be written.
+    pub fn stopped(&mut self) -> Result<(), Stop> {
+        match self.stop.take() {
+            Some(stop) => Err(stop),
+            None => Ok(()),
+        }
+    }
+
+    /// Writes the totals.
+    pub fn end(&mut self, input: Location<'_>) -> Result<(), Stop> {
+        if self.json {
+            let file = file_value(self.alloc, input)?;
+            let (before, after) = (self.totals.before, self.totals.after);
+            write!(
+                self.writer,
+                "],\"file\":{file},\"before\":{before},\"after\":{after}}}"
+            )?;
+        } else {
+            writeln!(self.writer, "{}", self.totals)?;
+        }
+        Ok(())
+    }
+
+    /// Writes the row of a section, and adds it to the totals.
+    fn add_row(
+        &mut self,
+        facts: SectionFacts,
+        section: RawSection<'_>,
+        after: usize,
+        items: Option<ItemCounts>,
+    ) -> Result<(), Stop> {
+        let row = ReportRow {
+            number: self.totals.sections,
+            section,
+            facts,
+            after,
+            items: items.or(facts.number).unwrap_or(NO_ITEMS),
+        };
+        self.totals = self.totals.with(&row);
+        if self.json {
+            row.write_value(self.alloc, self.writer)
+        } else {
+            writeln!(self.writer, "{row}")?;
+            Ok(())
+        }
+    }
+
+    /// Writes the row of a custom section while its name is there. Keeps what is known of another section.
+    fn look_at(&mut self, located: &LocatedSection<'_>) -> Result<(), Stop> {
+        let facts = SectionFacts::new(located);
+        if custom_name(located.section).is_none() {
+            self.next = Some(facts);
+            return Ok(());
+        }
+        let after = custom_len(self.alloc, located.section, self.names)?;
+        self.add_row(facts, located.section, after, None)
+    }
+
+    /// Writes the row of the section that was rewritten, unless it is written already.
+    fn write_next(&mut self, len: usize, counts: Option<ItemCounts>) -> Result<(), Stop> {
+        match self.next.take() {
+            Some(facts) => {
+                let section = RawSection {
+                    id: facts.id,
+                    body: &[],
+                };
+                self.add_row(facts, section, len, counts)
+            }
+            None => Ok(()),
+        }
+    }
+}
+
+impl<W: io::Write> SectionWatcher for Report<'_, W> {
+    fn before(&mut self, left: &[u8]) {
+        if self.stop.is_some() {
+            return;
+        }
+        // A malformed section has no row.
+        if let Some(located) = read_located(&mut Cursor::new(left), left.len()) {
+            self.stop = self.look_at(&located).err();
+        }
+    }
+
+    fn after(&mut self, len: usize, counts: Option<ItemCounts>) {
+        if self.stop.is_none() {
+            self.stop = self.write_next(len, counts).err();
+        }
+    }
+}
+
+/// The counts of a section without items.
 const NO_ITEMS: ItemCounts = ItemCounts {
     count: 0,
     longer: 0,
 };
 
-impl<'a> Rows<'a> {
-    /// Returns the next row.
-    fn advance(&mut self) -> Option<ReportRow<'a>> {
-        let section = self.sections.advance()?;
-        let short = self.canonical.advance()?;
-        let RawSection { id, body } = section.section;
-        let is_list = has_list(id);
-        Some(ReportRow {
-            section,
-            after: short.len,
-            items: if is_list {
-                self.next_list()
-            } else {
-                count_number(body).unwrap_or(NO_ITEMS)
-            },
-            has_longer_count: is_list && longer_number(body) == Some(true),
-        })
-    }
-
-    /// Returns the counts of the next section that is a list.
-    fn next_list(&mut self) -> ItemCounts {
-        match self.lists.split_first() {
-            Some((counts, rest)) => {
-                self.lists = rest;
-                *counts
-            }
-            None => NO_ITEMS,
-        }
-    }
+/// Returns the length of a custom section's minimal encoding, including the id and the size. With `names` this is that
+/// with minimal contents.
+///
+/// Fails if memory runs out.
+fn custom_len(alloc: Global, section: RawSection<'_>, names: bool) -> Result<usize, AllocError> {
+    let (name_len, contents_len) = match read_custom(section.body) {
+        Ok(custom) if names => (custom.name.len(), minimal_contents_len(alloc, section)?),
+        Ok(custom) => (custom.name.len(), custom.bytes.len()),
+        Err(_) => (0, 0),
+    };
+    Ok(1usize.saturating_add(sized_len(sized_len(name_len).saturating_add(contents_len))))
 }
 
-impl fmt::Display for Report<'_> {
+/// Returns the length of this number of bytes after their size.
+fn sized_len(len: usize) -> usize {
+    u32_len(u32::try_from(len).unwrap_or(u32::MAX)).saturating_add(len)
+}
+
+impl fmt::Display for Totals {
     fn fmt<W: fmt::Write>(&self, f: &mut fmt::Formatter<W>) -> fmt::Result {
-        writeln!(
-            f,
-            "section {:>9} {:>9} {:>9} {:>7} {:>7}  kind",
-            "before", "after", "saved", "longer", "out of"
-        )?;
-        let mut rows = self.rows();
-        for number in 0..self.module.len() {
-            let Some(row) = rows.advance() else {
-                break;
-            };
-            writeln!(f, "{number:>7} {row}")?;
-        }
-        let (before, after) = (self.module.len(), self.canonical.len());
-        let (saved, items) = (before.saturating_sub(after), self.items);
+        let (before, after, items) = (self.before, self.after, self.items);
+        let saved = before.saturating_sub(after);
         writeln!(
             f,
             "  total {before:>9} {after:>9} {saved:>9} {:>7} {:>7}  items",
@@ -198,52 +296,40 @@ impl fmt::Display for Report<'_> {
 
 impl fmt::Display for ReportRow<'_> {
     fn fmt<W: fmt::Write>(&self, f: &mut fmt::Formatter<W>) -> fmt::Result {
-        let (before, title) = (self.section.len, SectionTitle(self.section.section));
+        let (before, title) = (self.facts.len, SectionTitle(self.section));
         let saved = before.saturating_sub(self.after);
         write!(
             f,
-            "{before:>9} {:>9} {saved:>9} {:>7} {:>7}  {title}",
-            self.after, self.items.longer, self.items.count
+            "{:>7} {before:>9} {:>9} {saved:>9} {:>7} {:>7}  {title}",
+            self.number, self.after, self.items.longer, self.items.count
         )
     }
 }
 
-impl Report<'_> {
-    /// Returns the report as JSON.
-    ///
-    /// Fails if memory runs out.
-    pub fn value(&self, alloc: Global, input: Location<'_>) -> Result<Value, AllocError> {
-        let mut sections = Vec::new(alloc);
-        let mut rows = self.rows();
-        for number in 0..self.module.len() {
-            let Some(row) = rows.advance() else {
-                break;
-            };
-            sections.push(row.value(alloc, number)?)?;
-        }
-        let file = file_value(alloc, input)?;
-        let sections = Value::Array(sections);
-        let (before, after) = (self.module.len(), self.canonical.len());
-        json!(in alloc; {"file": file, "before": before, "after": after, "sections": sections})
-    }
-}
-
 impl ReportRow<'_> {
-    /// Returns the row as JSON.
-    fn value(&self, alloc: Global, number: usize) -> Result<Value, AllocError> {
-        let section = self.section.section;
-        let kind = text_value(alloc, kind_name(section.id))?;
-        let name = match custom_name(section) {
-            Some(name) => text_value(alloc, name)?,
-            None => Value::Null,
-        };
+    /// Writes the row as JSON. The name comes last: it can be too long to copy.
+    fn write_value<W: io::Write>(&self, alloc: Global, writer: &mut W) -> Result<(), Stop> {
+        let text = format!(in alloc; "{}", self.value(alloc)?)?;
+        let members = text.as_str().strip_suffix("}").unwrap_or("{");
+        let separator = if self.number == 0 { "" } else { "," };
+        write!(writer, "{separator}\n{members},\"name\":")?;
+        match custom_name(self.section) {
+            Some(name) => write!(writer, "{}}}", JsonText(name))?,
+            None => write!(writer, "null}}")?,
+        }
+        Ok(())
+    }
+
+    /// Returns the row as JSON, without the name.
+    fn value(&self, alloc: Global) -> Result<Value, AllocError> {
+        let kind = text_value(alloc, kind_name(self.facts.id))?;
         let encodings = self.encodings_value(alloc)?;
-        let (id, before, after) = (section.id, self.section.len, self.after);
+        let (number, id) = (self.number, self.facts.id);
+        let (before, after) = (self.facts.len, self.after);
         json!(in alloc; {
             "section": number,
             "id": id,
             "kind": kind,
-            "name": name,
             "before": before,
             "after": after,
             "encodings": encodings
@@ -253,7 +339,8 @@ impl ReportRow<'_> {
     /// Returns the numbers of encodings as JSON.
     fn encodings_value(&self, alloc: Global) -> Result<Value, AllocError> {
         let (items, longer_items) = (self.items.count, self.items.longer);
-        let (longer_size, longer_count) = (self.section.has_longer_size, self.has_longer_count);
+        let facts = self.facts;
+        let (longer_size, longer_count) = (facts.has_longer_size, facts.has_longer_count);
         json!(in alloc; {
             "items": items,
             "longer_items": longer_items,

@@ -4,8 +4,9 @@ ghost use Rattle.std.specs.Io.KnownBytes.{IsAtEnd, Keeps};
 ghost use Rattle.wasm_codec.specs.Outcomes.{IsLongestPrefix};
 ghost use Rattle.wasm_modules.specs.Modules.{IsModulePrefixOf};
 ghost use Rattle.wasm_sections.specs.formats.ModuleSections.{module_section};
+ghost use Rattle.wasm_whole_modules.specs.RefusalNumbers.{CountsParts};
 ghost use Rattle.wasmcanon.specs.Order.{IsOrdered, BreaksOrder};
-ghost use Rattle.wasmcanon.specs.Run.{IsNoModule, IsCanonicalForm, AppendsForm, IsForm, IsHash, IfRefused, IfDisordered, OnceAllIsRead, BeforeAnyWrite, IsReadFailure, Judges, status_of};
+ghost use Rattle.wasmcanon.specs.Run.{IsModule, IsNoModule, IsCanonicalForm, AppendsForm, IsForm, IsHash, IfPlaced, IfRefused, IfDisordered, OnceAllIsRead, BeforeAnyWrite, IsReadFailure, Judges, status_of};
 ghost use Rattle.wasmcanon.specs.declared.run.Failure.TheVariants.{Memory};
 
 use crate::contents::{judge_contents, with_contents};
@@ -20,6 +21,7 @@ use std::io::{ErrorKind, Write};
 use wasm_codec::reader::DecodeError;
 use wasm_codec::reader::refusal::Refusal;
 use wasm_modules::decode::rewrite;
+use wasm_whole_modules::counting::{SectionWatcher, rewrite_watched};
 use wasm_whole_modules::modules::{WholeModule, judge_whole_module};
 use wasm_whole_modules::order::ModuleError;
 use wasm_whole_modules::selection::{Sections, choose_sections};
@@ -80,15 +82,6 @@ pub struct Canonical {
     pub has_moved: bool,
 }
 
-/// A module, and its canonical form.
-#[derive(Drop)]
-pub struct Forms {
-    /// The module.
-    pub input: Vec<u8>,
-    /// Its canonical form.
-    pub canonical: Vec<u8>,
-}
-
 /// What is written of a canonical form.
 #[derive(Clone, Copy)]
 pub struct FormOptions<'a> {
@@ -134,6 +127,9 @@ pub fn canonicalise<R: Input, W: Write>(
     // `at` is the length of the longest prefix that decodes.
     ensures refused { IfRefused result (λ at. IfSome (R.remaining reader.old) (λ input.
         IsLongestPrefix (IsModulePrefixOf module_section) input at)) }
+    // The section and the item that it names are numbered by those before them.
+    ensures numbers { IfPlaced result (λ refusal. IfSome (R.remaining reader.old) (λ input.
+        CountsParts module_section input refusal)) }
     // Nothing was written, unless the failure is `Write`.
     ensures nothing_written { BeforeAnyWrite result (Keeps (W.contents writer.old) (W.contents writer.new)) }
 {
@@ -164,6 +160,9 @@ pub fn hash<R: Input>(
     // `at` is the length of the longest prefix that decodes.
     ensures refused { IfRefused result (λ at. IfSome (R.remaining reader.old) (λ input.
         IsLongestPrefix (IsModulePrefixOf module_section) input at)) }
+    // The section and the item that it names are numbered by those before them.
+    ensures numbers { IfPlaced result (λ refusal. IfSome (R.remaining reader.old) (λ input.
+        CountsParts module_section input refusal)) }
 {
     let form = read_form(alloc, reader, any_order, options)?;
     Ok(Sha256::digest(form.bytes.as_slice()))
@@ -192,6 +191,8 @@ fn read_form<R: Input>(
     ensures unencoded { IfRefused result (λ _. IfSome (R.remaining reader.old) IsNoModule) }
     ensures refused { IfRefused result (λ at. IfSome (R.remaining reader.old) (λ input.
         IsLongestPrefix (IsModulePrefixOf module_section) input at)) }
+    ensures numbers { IfPlaced result (λ refusal. IfSome (R.remaining reader.old) (λ input.
+        CountsParts module_section input refusal)) }
 {
     let canonical = read_canonical(alloc, reader, any_order)?;
     let chosen = choose_sections(canonical.bytes, options.sections);
@@ -226,35 +227,32 @@ pub fn read_canonical<R: Input>(
     // `at` is the length of the longest prefix that decodes.
     ensures refused { IfRefused result (λ at. IfSome (R.remaining reader.old) (λ input.
         IsLongestPrefix (IsModulePrefixOf module_section) input at)) }
+    // The section and the item that it names are numbered by those before them.
+    ensures numbers { IfPlaced result (λ refusal. IfSome (R.remaining reader.old) (λ input.
+        CountsParts module_section input refusal)) }
 {
     let input = read_all(alloc, reader)?;
     let len = input.len();
-    // Rewriting takes the input, so the order is checked first. A malformed module is refused all the same.
-    let order = check_order_unless(alloc, &input, any_order);
-    let bytes = canonical_form(input)?;
-    order?;
+    let bytes = accept(alloc, input, any_order)?;
     let has_moved = bytes.len() != len;
     Ok(Canonical { bytes, has_moved })
 }
 
-/// Reads a module, and returns it with its canonical form.
+/// Reads a module, and rewrites it to its canonical form. Shows each section to the watcher before and after.
 ///
-/// Fails as `canonicalise` does, but never with `Write`.
-pub fn read_forms<R: Input>(
+/// Sections before a malformed one are shown too. Fails as `canonicalise` does, but never with `Write`.
+pub fn report<R: Input, S: SectionWatcher>(
     alloc: Global,
     reader: &mut R,
     any_order: bool,
-) -> Result<Forms, Failure>
-    // All bytes of the input are returned, if they are known.
-    ensures all { IfOk result (λ forms. IfSome (R.remaining reader.old) (λ input. forms.input.items ≡ input)) }
-    // With their canonical form.
-    ensures ok { IfOk result (λ forms. IsCanonicalForm forms.input.items forms.canonical.items) }
+    watcher: &mut S,
+) -> Result<(), Failure>
+    // The input is a module.
+    ensures ok { OnOk result (IfSome (R.remaining reader.old) IsModule) }
     // Unless any order is allowed, the sections are in order.
     ensures in_order { any_order ≡ false → OnOk result (IfSome (R.remaining reader.old) IsOrdered) }
     // If the failure names a section, this is the first one that is out of order.
     ensures disordered { IfDisordered result (λ error. IfSome (R.remaining reader.old) (λ input. BreaksOrder input error)) }
-    // All of the input is read before it is refused.
-    ensures read_to_end { OnceAllIsRead result (IsAtEnd (R.remaining reader.new)) }
     // Only a malformed input is refused.
     ensures unencoded { IfRefused result (λ _. IfSome (R.remaining reader.old) IsNoModule) }
     // `at` is the length of the longest prefix that decodes.
@@ -262,9 +260,14 @@ pub fn read_forms<R: Input>(
         IsLongestPrefix (IsModulePrefixOf module_section) input at)) }
 {
     let input = read_all(alloc, reader)?;
-    let canonical = canonical_copy(alloc, &input)?;
-    check_order_unless(alloc, &input, any_order)?;
-    Ok(Forms { input, canonical })
+    match check_order_unless(alloc, &input, any_order) {
+        Ok(()) => show_sections(input, watcher),
+        // A malformed module is refused all the same.
+        Err(disorder) => {
+            let _form = canonical_form(input)?;
+            Err(disorder)
+        }
+    }
 }
 
 /// Reads a module, and checks whether it is its own canonical form. With `names`, the contents of its sections `name`
@@ -288,6 +291,9 @@ pub fn check<R: Input>(
     // `at` is the length of the longest prefix that decodes.
     ensures refused { IfRefused result (λ at. IfSome (R.remaining reader.old) (λ input.
         IsLongestPrefix (IsModulePrefixOf module_section) input at)) }
+    // The section and the item that it names are numbered by those before them.
+    ensures numbers { IfPlaced result (λ refusal. IfSome (R.remaining reader.old) (λ input.
+        CountsParts module_section input refusal)) }
 {
     let input = read_all(alloc, reader)?;
     let order = check_order_unless(alloc, &input, any_order);
@@ -308,8 +314,12 @@ pub fn read_input<R: Input>(alloc: Global, reader: &mut R) -> Result<Vec<u8>, Fa
     read_all(alloc, reader)
 }
 
-/// Fails if a module is malformed or its sections are out of order, as `canonicalise` does.
-pub fn accept(alloc: Global, input: Vec<u8>, any_order: bool) -> Result<(), Failure>
+/// Rewrites a module in place to its canonical form.
+///
+/// Fails with `Refused`, `Disordered` and `Memory` as `canonicalise` does.
+pub fn accept(alloc: Global, input: Vec<u8>, any_order: bool) -> Result<Vec<u8>, Failure>
+    // The result is the canonical form of the input.
+    ensures ok { IfOk result (λ form. IsCanonicalForm input.items form.items) }
     // Unless any order is allowed, the sections are in order.
     ensures in_order { any_order ≡ false → OnOk result (IsOrdered input.items) }
     // If the failure names a section, this is the first one that is out of order.
@@ -318,10 +328,14 @@ pub fn accept(alloc: Global, input: Vec<u8>, any_order: bool) -> Result<(), Fail
     ensures unencoded { IfRefused result (λ _. IsNoModule input.items) }
     // `at` is the length of the longest prefix that decodes.
     ensures refused { IfRefused result (IsLongestPrefix (IsModulePrefixOf module_section) input.items) }
+    // The section and the item that it names are numbered by those before them.
+    ensures numbers { IfPlaced result (CountsParts module_section input.items) }
 {
+    // Rewriting takes the input, so the order is checked first. A malformed module is refused all the same.
     let order = check_order_unless(alloc, &input, any_order);
-    let _form = canonical_form(input)?;
-    order
+    let form = canonical_form(input)?;
+    order?;
+    Ok(form)
 }
 
 /// Checks the order and the counts of a module's sections, unless any order is allowed. Accepts a malformed module.
@@ -329,6 +343,7 @@ fn check_order_unless(alloc: Global, input: &[u8], any_order: bool) -> Result<()
     ensures in_order { any_order ≡ false → OnOk result (IsOrdered input.now) }
     ensures disordered { IfDisordered result (BreaksOrder input.now) }
     ensures refused { IfRefused result (λ _. ⊥) }
+    ensures placed { IfPlaced result (λ _. ⊥) }
 {
     if any_order {
         Ok(())
@@ -339,11 +354,12 @@ fn check_order_unless(alloc: Global, input: &[u8], any_order: bool) -> Result<()
 
 /// Checks whether a module is its own canonical form, with `names` down to the contents of `name` and `producers`.
 /// Rewrites it in place.
-#[tactic(auto, using(crate::proofs::ResultLaws::contents_judged, crate::proofs::ResultLaws::longer_judged))]
+#[tactic(auto, using(crate::proofs::ResultLaws::contents_judged, crate::proofs::ResultLaws::longer_judged, crate::proofs::ResultLaws::placed))]
 fn judge(alloc: Global, input: Vec<u8>, names: bool) -> Result<Verdict, Failure>
     ensures ok { IfOk result (Judges names input.items) }
     ensures unencoded { IfRefused result (λ _. IsNoModule input.items) }
     ensures refused { IfRefused result (IsLongestPrefix (IsModulePrefixOf module_section) input.items) }
+    ensures numbers { IfPlaced result (CountsParts module_section input.items) }
     ensures disordered { IfDisordered result (λ _. ⊥) }
 {
     let foreign = Foreign::find(&input);
@@ -364,21 +380,31 @@ fn judge(alloc: Global, input: Vec<u8>, names: bool) -> Result<Verdict, Failure>
     }
 }
 
-/// Returns the canonical form of a module, and keeps the module.
-fn canonical_copy(alloc: Global, input: &[u8]) -> Result<Vec<u8>, Failure>
-    ensures ok { IfOk result (λ canonical. IsCanonicalForm input.now canonical.items) }
-    ensures unencoded { IfRefused result (λ _. IsNoModule input.now) }
-    ensures refused { IfRefused result (IsLongestPrefix (IsModulePrefixOf module_section) input.now) }
+/// Rewrites a module, and shows each section to the watcher before and after.
+fn show_sections<S: SectionWatcher>(input: Vec<u8>, watcher: &mut S) -> Result<(), Failure>
+    ensures ok { OnOk result (IsModule input.items) }
+    ensures unencoded { IfRefused result (λ _. IsNoModule input.items) }
+    ensures refused { IfRefused result (IsLongestPrefix (IsModulePrefixOf module_section) input.items) }
     ensures disordered { IfDisordered result (λ _. ⊥) }
 {
-    canonical_form(Vec::from_slice(alloc, input)?)
+    let foreign = Foreign::find(&input);
+    match rewrite_watched(input, watcher) {
+        Ok(_) => Ok(()),
+        Err(DecodeError::Memory) => Err(Failure::Memory),
+        Err(DecodeError::Malformed(malformed)) => Err(Failure::Refused {
+            refusal: malformed,
+            foreign,
+        }),
+    }
 }
 
 /// Rewrites a module in place to its canonical form.
+#[tactic(auto, using(crate::proofs::ResultLaws::placed))]
 fn canonical_form(input: Vec<u8>) -> Result<Vec<u8>, Failure>
     ensures ok { IfOk result (λ canonical. IsCanonicalForm input.items canonical.items) }
     ensures unencoded { IfRefused result (λ _. IsNoModule input.items) }
     ensures refused { IfRefused result (IsLongestPrefix (IsModulePrefixOf module_section) input.items) }
+    ensures numbers { IfPlaced result (CountsParts module_section input.items) }
     ensures disordered { IfDisordered result (λ _. ⊥) }
 {
     let foreign = Foreign::find(&input);

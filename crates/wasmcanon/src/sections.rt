@@ -1,12 +1,11 @@
 //! The sections of a module: their offsets, and their titles in messages.
 use crate::text::Escaped;
-use std::alloc::{AllocError, Global};
 use std::fmt;
 use wasm_codec::reader::cursor::Cursor;
 use wasm_codec::reader::names::section_names;
 use wasm_modules::raw::{after_header, read_section};
 use wasm_modules::section::RawSection;
-use wasm_whole_modules::locate::{ItemCounts, count_longer_items};
+use wasm_whole_modules::locate::ItemCounts;
 use wasm_whole_modules::selection::custom_name;
 
 /// A section and its offset in the module.
@@ -67,20 +66,6 @@ pub fn read_located<'a>(cursor: &mut Cursor<'a>, len: usize) -> Option<LocatedSe
         }),
         Err(_) => None,
     }
-}
-
-/// Counts the items of a section, and those that are not minimally encoded. In a section that isn't a list, the one
-/// item is the number at the start of the body.
-///
-/// `None` means that the body is malformed. Fails if memory runs out.
-pub fn count_items(
-    alloc: Global,
-    section: RawSection<'_>,
-) -> Result<Option<ItemCounts>, AllocError> {
-    if has_list(section.id) {
-        return count_longer_items(alloc, section.id, section.body);
-    }
-    Ok(count_number(section.body))
 }
 
 /// Counts the one item of a section that isn't a list: the number at the start of its body. `None` means that there is no
