@@ -1,17 +1,26 @@
 #!/usr/bin/env python3
-"""bench/inputs.py FOLDER: writes a module of each kind that normalisers are measured with, as FOLDER/KIND.wasm.
+"""bench/inputs.py FOLDER: writes a module of each kind that programs are measured with, as FOLDER/KIND.wasm.
 
 FOLDER/kinds has a line for each: the kind, how many things the module holds, and what one is called.
 Where plain_normaliser.rs doesn't know the kind, its normal form stands beside it, as KIND.normal.
-Every run writes the same bytes. All modules are well formed; none is valid.
+FOLDER/linked_instructions has the instructions of linked_code.wasm alone.
+Every run writes the same bytes, but for `debug`, which clang and wasm-ld write if they are there. All modules are well
+formed; but for `debug` and `linked_json`, none is valid.
 """
+import shutil
+import subprocess
 import sys
+import tempfile
 from pathlib import Path
 
 HEAD = bytes.fromhex("00 61 73 6D 01 00 00 00")
-LINKED = (Path(__file__).parent / "linked_code.wasm").read_bytes()[len(HEAD):]
+HERE = Path(__file__).parent
+LINKED = (HERE / "linked_code.wasm").read_bytes()[len(HEAD):]
 LINKED_INSTRUCTIONS = 822029
-TYPES, CODE, DATA = 1, 10, 11
+LINKED_BYTES = 2000000
+DEBUG_COPIES = 100
+JSON = (HERE / "linked_json.wasm").read_bytes()[len(HEAD):]
+CUSTOM, TYPES, IMPORT, GLOBAL, EXPORT, ELEMENT, CODE, DATA = 0, 1, 2, 6, 7, 9, 10, 11
 
 END = b"\x0B"
 DROP = b"\x1A"
@@ -30,9 +39,30 @@ def section(kind, body):
     return bytes([kind]) + number(len(body)) + body
 
 
+def repeated_list(kind, count, entry):
+    """A section that holds an entry so many times; and how many that is."""
+    return section(kind, number(count) + entry * count), count, "entry"
+
+
 def types(count, entry):
-    """A type section that holds an entry so many times."""
-    return section(TYPES, number(count) + entry * count)
+    return repeated_list(TYPES, count, entry)[0]
+
+
+def name(text):
+    return number(len(text)) + text
+
+
+def debug(folder):
+    """The sections of one module of many copies of the programs of linked/, with the debug sections of clang."""
+    compiled = []
+    for file in sorted((HERE.parent / "linked").glob("*.c")):
+        for copy in range(DEBUG_COPIES):
+            compiled.append(folder / f"{file.stem}_{copy}.o")
+            subprocess.run(["clang", "--target=wasm32", "-ffreestanding", "-nostdlib", "-O1", "-g", "-c", "-o",
+                            compiled[-1], "-Dexport_name(name)=used", f"-Drun={file.stem}_{copy}", file], check=True)
+    linked = folder / "linked.wasm"
+    subprocess.run(["wasm-ld", "--no-entry", "--export-all", "-o", linked, *compiled], check=True)
+    return linked.read_bytes()[len(HEAD):]
 
 
 def functions(count, code):
@@ -73,6 +103,18 @@ def kinds():
     length = 10000000
     segment = b"\x00" + I32_CONST_0 + END + number(length) + bytes(length)
     yield "data", functions(1, b"") + section(DATA, number(1) + segment), length, "byte"
+    yield "imports", *repeated_list(IMPORT, 200000, name(b"env") + name(b"a_function") + b"\x00\x05")
+    yield "globals", *repeated_list(GLOBAL, 300000, b"\x7F\x01" + I32_CONST_1 + END)
+    yield "exports", *repeated_list(EXPORT, 200000, name(b"a_function") + b"\x00\x05")
+    indexes = b"".join(map(number, [*range(8), *range(130, 138)]))
+    yield "elements", *repeated_list(ELEMENT, 100000, b"\x00" + I32_CONST_0 + END + number(16) + indexes)
+    yield "data_segments", *repeated_list(DATA, 150000, b"\x00" + I32_CONST_0 + END + name(b"sixteen bytes..."))
+    yield "custom", section(CUSTOM, name(b"a_function") + bytes(1000)) * 3000, 3000, "section"
+    yield "linked_json", JSON, len(JSON), "byte"
+    if shutil.which("clang") and shutil.which("wasm-ld"):
+        with tempfile.TemporaryDirectory() as folder:
+            sections = debug(Path(folder))
+        yield "debug", sections, len(sections), "byte"
 
 
 # The normal forms of the kinds that plain_normaliser.rs doesn't know: it refuses 0xFB, and copies type sections.
@@ -89,6 +131,7 @@ def main(folder):
             if kind in NORMAL:
                 (folder / f"{kind}.normal").write_bytes(HEAD + NORMAL[kind](sections))
             print(kind, count, thing, file=table)
+    (folder / "linked_instructions").write_bytes(LINKED[-LINKED_BYTES:])
 
 
 if __name__ == "__main__":

@@ -3,7 +3,7 @@
 use std::alloc::Allocator;
 use wasm_encoder::{BlockType, EncodeError, HeapType, Ieee64, InstructionSink, MemArg, ValType};
 
-/// Twenty instructions, of which half have an operand.
+/// Writes twenty instructions. Half of them have an operand.
 pub fn write_mix<A: Allocator>(code: &mut Vec<u8, A>, round: u32) -> Result<(), EncodeError> {
     let memarg = MemArg {
         offset: u64::from(round % 300),
