@@ -32,12 +32,12 @@ sources() {
     checksum "$program"
 }
 
-# Prints the paths of all that a build depends on, each with a zero byte after it: the files and folders of the crates,
-# crates.txt, HANDLES, and the kit's command. Arguments: conditions for find.
+# Prints the paths of all that a build depends on, each with a zero byte after it: the files and folders of the crates
+# except for proofs, crates.txt, HANDLES, and the kit's command. Arguments: conditions for find.
 paths() {
     local list
     read -ra list < <(folders "$program")
-    find -L "${list[@]}" -name out -prune -o "$@" -print0
+    find -L "${list[@]}" \( -name out -o -name proofs \) -prune -o "$@" -print0
     printf '%s\0' crates.txt HANDLES "$(command -v rt || true)"
 }
 

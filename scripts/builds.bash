@@ -33,15 +33,16 @@ crates_below() { crates_of "$1" | grep -vx "$1"; }
 # Prints the folders of this CRATE and its dependencies in one line.
 folders() { crates_of "$1" | sed 's|^|crates/|' | paste -sd ' '; }
 
-# Prints a checksum of all that a build of this CRATE depends on, except for the kit.
+# Prints a checksum of all that a build of this CRATE depends on, except for the kit. What was proved of a source stays
+# proved whatever becomes of its proof, so proofs don't count.
 checksum() {
     local list
     read -ra list < <(folders "$1")
     {
         crate_lines "$1"
         cat HANDLES 2>/dev/null || true
-        find -L "${list[@]}" -name out -prune -o -type f \( -name '*.rt' -o -name '*.antt' \) -print0 |
-            LC_ALL=C sort -z | xargs -0 sha256sum
+        find -L "${list[@]}" \( -name out -o -name proofs \) -prune -o \
+            -type f \( -name '*.rt' -o -name '*.antt' \) -print0 | LC_ALL=C sort -z | xargs -0 sha256sum
     } | sha256sum
 }
 

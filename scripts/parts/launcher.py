@@ -55,6 +55,7 @@ FILES = {
     "crates.txt": "low: thiserror\nwasmnorm: low\nwasmcanon: low clap\nother: low\n",
     "crates/wasmnorm/src/main.rt": "A",
     "crates/low/src/lib.rt": "1",
+    "crates/low/specs/Lib.antt": "definition",
     "crates/low/proofs/Lib.antt": "law",
     "crates/other/src/lib.rt": "X",
     "crates/wasmcanon/src/main.rt": "C",
@@ -263,8 +264,10 @@ def changed_trees(it):
     it.proves_again("an added file", "B45")
     (it.root / "crates/low/src/more.rt").unlink()
     it.proves_again("a removed file", "B4")
-    (it.root / "crates/low/proofs/Lib.antt").rename(it.root / "crates/low/proofs/Law.antt")
+    (it.root / "crates/low/specs/Lib.antt").rename(it.root / "crates/low/specs/More.antt")
     it.proves_again("a renamed file", "B4")
+    it.write("crates/low/proofs/Lib.antt", "another law")
+    it.stays("another proof of what was proved", "B4")
     it.write("crates.txt", "low: thiserror\nwasmnorm: low other\nwasmcanon: low clap\nother: low\n")
     it.proves_again("a crate more", "B4")
     it.check("a crate more: it is proved", "lib other" in it.calls)
@@ -282,10 +285,12 @@ def changed_trees(it):
 def changes_of_stamps(it):
     """Once the stamps are kept, a change of the trees is seen all the same."""
     added, handles = it.root / "crates/low/src/it's more.rt", it.root / "HANDLES"
+    definition = it.root / "crates/low/specs/More.antt"
     for name, change, before, after in (
             ("a file that is added beside kept stamps", lambda: added.write_text("5"), "B6", "B56"),
             ("HANDLES that is added beside kept stamps", lambda: handles.write_text("none"), "B56", "B56"),
-            ("a file that is removed beside kept stamps", added.unlink, "B56", "B6")):
+            ("a file that is removed beside kept stamps", added.unlink, "B56", "B6"),
+            ("a definition that changes beside kept stamps", lambda: definition.write_text("other"), "B6", "B6")):
         time.sleep(UNTIL_STAMPS_ARE_KEPT)
         it.stays(f"before {name}", before)
         it.launch("calls")
