@@ -1,5 +1,5 @@
 -- The laws of lists and sections that are rewritten and counted.
-use Rattle.std.proofs.Common.{◌≡◌, ℕ, ◌+◌, ◌<◌, ◌≤◌, true, false, List, [], ◌∷◌, ◌++◌, length, Result, Ok, Err, Option, Some, refl, sym, ap, subst, ◌∙◌, append_assoc, length-append, inl, inr, arith}
+use Rattle.std.proofs.Common.{◌≡◌, ℕ, ◌+◌, ◌-◌, ◌<◌, ◌≤◌, true, false, List, [], ◌∷◌, ◌++◌, length, Result, Ok, Err, Option, Some, refl, sym, ap, subst, ◌∙◌, append_assoc, length-append, inl, inr, arith}
 use Rattle.std.proofs.lemmas.List.{append-nil}
 use Rattle.wasm_codec.specs.declared.reader.cursor.Fault.{Fault}
 use Rattle.wasm_codec.specs.declared.reader.cursor.Fault.TheVariants as faults
@@ -16,8 +16,8 @@ use Rattle.wasm_codec.proofs.Shortening.{bytes_after}
 use Rattle.wasm_codec.proofs.RewriterLaws.{is_given, ItemsRewritten, no_items_rewritten, item_rewritten}
 use Rattle.wasm_lists.proofs.CheckLaws.{Item, an_item}
 use Rattle.wasm_sections.specs.formats.ModuleSections.{module_section, OfKind}
-use Rattle.wasm_sections.proofs.ModuleSectionLaws.{of_kind, rewritten_by_kind}
-use Rattle.wasm_whole_modules.specs.Counting.{as_done, TellsLonger, CountsBefore, CountsSized, CountsList, CountsNone, CountsSection}
+use Rattle.wasm_sections.proofs.ModuleSectionLaws.{module_section_is_lawful, of_kind, rewritten_by_kind}
+use Rattle.wasm_whole_modules.specs.Counting.{as_done, TellsLonger, CountsBefore, CountsSized, CountsList, CountsNone, CountsSection, IsCountedSection}
 use Rattle.wasm_whole_modules.specs.Stops.{CountsLonger, HasLonger, nothing, shortest, more}
 use Rattle.wasm_whole_modules.specs.declared.locate.ItemCounts.{ItemCounts}
 
@@ -120,3 +120,9 @@ section_counted {id} old mid new counts fits begun content =
       parts = one.parts ∙ ap (λ (l : List ℕ). l ++ mid.place.left) one.encodes.0;
       told = of_kind (λ V F G h. h.counts) (λ V F G h. h.counts) (λ bad. bad) content;
     }
+
+-- a section was rewritten, and its items counted
+pub counted_section : (here next : Rewriting) (len : ℕ) (counts : Option ItemCounts) → IsBytes here.place.left → rewriting_after module_section here ≡ Some next → len ≡ length next.done - length here.done → CountsSection here.place.left counts → IsCountedSection here.place.left next.place.left len counts
+counted_section here next len counts fits e written counted =
+    let one = an_item module_section_is_lawful here next fits e in
+    record { bytes = one.prefix; section = one.value; parts = one.parts; encodes = one.encodes; minimal = omega (arith, one.written_len, written); counted = counted }

@@ -1,11 +1,13 @@
 -- Sections that are rewritten, with counts of the items that aren't minimally encoded.
-use Rattle.std.specs.Prelude.{◌≡◌, ◌<◌, ◌≤◌, ◌-◌, ℕ, Bool, true, false, List, ◌∷◌, ◌++◌, length, Result, Ok, Err, Option, IfOk, IsNone, IsSomeAnd}
+use Rattle.std.specs.Prelude.{◌≡◌, ◌<◌, ◌≤◌, ◌-◌, ℕ, Bool, true, false, List, [], ◌∷◌, ◌++◌, length, Result, Ok, Err, Option, IfOk, IsNone, IsSomeAnd}
 use Rattle.wasm_codec.specs.declared.reader.cursor.Fault.{Fault}
 use Rattle.wasm_codec.specs.formats.Bodies.{sized}
 use Rattle.wasm_codec.specs.formats.Combinators.{Format, items}
 use Rattle.wasm_codec.specs.formats.Numbers.{EncodesU32}
 use Rattle.wasm_codec.specs.Rewriter.{Rewriting, Rewrites}
-use Rattle.wasm_sections.specs.formats.ModuleSections.{OfKind}
+use Rattle.wasm_modules.specs.formats.Sections.{header}
+use Rattle.wasm_sections.specs.formats.ModuleSectionParts.{ModuleSectionParts}
+use Rattle.wasm_sections.specs.formats.ModuleSections.{OfKind, module_section}
 use Rattle.wasm_whole_modules.specs.Stops.{CountsLonger}
 use Rattle.wasm_whole_modules.specs.declared.locate.ItemCounts.{ItemCounts}
 
@@ -50,3 +52,24 @@ pub record CountsSection (left : List ℕ) (counts : Option ItemCounts) : Type 0
   pub back : List ℕ
   pub parts : left ≡ id ∷ back
   pub told : OfKind (λ V F C. IsSomeAnd counts (CountsSized F back)) (λ V F C. IsNone counts) ⊥ id
+
+-- A section stands before these last bytes. Its minimal encoding has this length, and its items are counted so.
+pub record IsCountedSection (left after : List ℕ) (len : ℕ) (counts : Option ItemCounts) : Type 0 where
+  pub bytes : List ℕ
+  pub section : ModuleSectionParts
+  pub parts : left ≡ bytes ++ after
+  pub encodes : module_section.Encodes bytes section
+  pub minimal : len ≡ length (module_section.bytes section)
+  pub counted : CountsSection left counts
+
+-- A watcher was shown the sections before these last bytes, one after another: it saw the bytes from each on, and then
+-- took the length and the counts.
+pub data Shows {W : Type 0} (Sees : List ℕ → W → W → Type 0) (Takes : ℕ → Option ItemCounts → W → W → Type 0) (left : List ℕ) (old : W) : List ℕ → W → Type 0 where
+  nothing : Shows Sees Takes left old left old
+  more : {here after : List ℕ} {before seen new : W} {len : ℕ} {counts : Option ItemCounts} → Shows Sees Takes left old here before → Sees here before seen → IsCountedSection here after len counts → Takes len counts seen new → Shows Sees Takes left old after new
+
+-- A watcher was shown each section of the module.
+pub record ShowsModule {W : Type 0} (Sees : List ℕ → W → W → Type 0) (Takes : ℕ → Option ItemCounts → W → W → Type 0) (bytes : List ℕ) (old new : W) : Type 0 where
+  pub sections : List ℕ
+  pub parts : bytes ≡ header ++ sections
+  pub shows : Shows Sees Takes sections old [] new

@@ -1,5 +1,5 @@
 //! Modules rewritten section by section, with counts of the items that weren't minimally encoded.
-ghost use Rattle.std.specs.Prelude.{IfOk, IfErr, length};
+ghost use Rattle.std.specs.Prelude.{⊤, ℕ, List, [], Option, OnOk, IfOk, IfErr, length};
 ghost use Rattle.wasm_codec.specs.Decoding.{RewritesAll};
 ghost use Rattle.wasm_codec.specs.Lawful.{IsLawful};
 ghost use Rattle.wasm_codec.specs.Outcomes.{FailsMalformed, LiesIn, NeedsNoMemory, as_read};
@@ -8,7 +8,8 @@ ghost use Rattle.wasm_codec.specs.formats.Bodies.{sized};
 ghost use Rattle.wasm_codec.specs.formats.Combinators.{items};
 ghost use Rattle.wasm_modules.specs.Modules.{IsModulePrefixOf};
 ghost use Rattle.wasm_sections.specs.formats.ModuleSections.{module_section, whole_module};
-ghost use Rattle.wasm_whole_modules.specs.Counting.{as_done, TellsLonger, CountsBefore, CountsSized, CountsList, CountsNone, CountsSection};
+ghost use Rattle.wasm_whole_modules.specs.Counting.{as_done, TellsLonger, CountsBefore, CountsSized, CountsList, CountsNone, CountsSection, Shows, ShowsModule};
+ghost use Rattle.wasm_whole_modules.specs.declared.locate.ItemCounts.{ItemCounts};
 
 use crate::locate::ItemCounts;
 use wasm_codec::reader::DecodeError;
@@ -23,12 +24,20 @@ use wasm_sections::module_sections::{AnySection, SectionKind, SectionVisitor, vi
 
 /// What is done with each section of a module that is rewritten.
 pub trait SectionWatcher {
+    /// How the watcher changes when it sees these bytes, in contracts. By default nothing is known.
+    ghost Sees: { List ℕ → Self → Self → Type 0 } = { λ left old new. ⊤ };
+
+    /// How it changes when it takes this length and these counts, in contracts. By default nothing is known.
+    ghost Takes: { ℕ → Option ItemCounts → Self → Self → Type 0 } = { λ len counts old new. ⊤ };
+
     /// Looks at the bytes from the next section on, before it is rewritten.
-    fn before(&mut self, left: &[u8]);
+    fn before(&mut self, left: &[u8])
+        ensures sees { Sees left.now self.old self.new };
 
     /// Takes the length of the section's minimal encoding in bytes, and the counts of its items. `None` means that it isn't
     /// a list.
-    fn after(&mut self, len: usize, counts: Option<ItemCounts>);
+    fn after(&mut self, len: usize, counts: Option<ItemCounts>)
+        ensures takes { Takes len counts self.old self.new };
 }
 
 /// Replaces a module by its minimal encoding in place (Core 3.0, Modules), and shows each section to the watcher.
@@ -42,6 +51,8 @@ pub fn rewrite_watched<W: SectionWatcher>(
     ensures rewrites { RewritesAll whole_module (IsModulePrefixOf module_section) bytes.items (as_read result) }
     ensures memory { NeedsNoMemory (as_read result) }
     ensures place { IfErr result (LiesIn (length bytes.items)) }
+    // The watcher is shown each section of a module.
+    ensures shows { OnOk result (ShowsModule W.Sees W.Takes bytes.items watcher.old watcher.new) }
 {
     let len = bytes.len();
     let Some(_sections) = after_header(&bytes) else {
@@ -64,11 +75,13 @@ fn rewrite_sections<W: SectionWatcher>(
     counting: &mut CountingRewriter,
     watcher: &mut W,
 ) -> Result<(), Stop>
-    ensures { RewritesToEnd module_section counting.old.rewriter counting.new.rewriter result }
+    ensures rewrites { RewritesToEnd module_section counting.old.rewriter counting.new.rewriter result }
+    ensures shows { OnOk result (Shows W.Sees W.Takes counting.old.rewriter.place.left watcher.old [] watcher.new) }
 {
     counting.rewriter.are_bytes();
     let mut passed = 0usize;
     while counting.rewriter.len() > 0 {
+        counting.rewriter.are_bytes();
         watcher.before(counting.rewriter.left());
         let (left, mark) = (counting.rewriter.len(), counting.rewriter.written_len());
         match counting.rewrite_section() {

@@ -1,7 +1,7 @@
 -- What holds of the results of runs, told otherwise.
-use Rattle.std.proofs.Common.{sym, subst, ◌∙◌, ℕ, Bool, true, false, List, Some, Result, Ok, Err, inl}
+use Rattle.std.proofs.Common.{sym, subst, ◌≡◌, ◌∙◌, ℕ, Bool, true, false, List, Option, Some, Result, Ok, Err, inl}
+use Rattle.std.proofs.lemmas.Bool.{true≢false}
 use Rattle.std.specs.Global.{Vec}
-use Rattle.std.specs.Prelude.{OnOk}
 use Rattle.wasm_codec.specs.Decoding.{Checks, NormalisesInPlace}
 use Rattle.wasm_codec.specs.Outcomes.{place_alone}
 use Rattle.wasm_codec.specs.declared.reader.refusal.Refusal.{Refusal}
@@ -11,23 +11,13 @@ use Rattle.wasm_modules.specs.Judging.{verdict_of}
 use Rattle.wasm_modules.specs.Modules.{IsModulePrefixOf}
 use Rattle.wasm_sections.specs.formats.ModuleSections.{module_section, whole_module, ShortestWholeModule}
 use Rattle.wasm_whole_modules.specs.declared.order.ModuleError.{ModuleError}
-use Rattle.wasmcanon.specs.Run.{IfDisordered, IsCanonicalForm, IsLonger, Judges}
+use Rattle.wasmcanon.specs.Order.{IsOrdered, BreaksOrder}
+use Rattle.wasmcanon.specs.Run.{Accepts, IsCanonicalForm, IsLonger, IsReadFailure, Judges}
+use Rattle.wasmcanon.specs.declared.order.MisplacedSection.{MisplacedSection}
 use Rattle.wasmcanon.specs.declared.run.Verdict.{Verdict}
 use Rattle.wasmcanon.specs.declared.run.Failure.{Failure}
 use Rattle.wasmcanon.specs.declared.run.Failure.TheVariants as failures
 use Rattle.wasmcanon.specs.declared.run.Verdict.TheVariants as verdicts
-
-pub on_ok : {X E : Type 0} {P Q : Type 0} (r : Result X E) → (P → Q) → OnOk r P → OnOk r Q
-on_ok (Ok x) f h = f h
-on_ok (Err e) f h = tt
-
-pub if_disordered : {X : Type 0} {P Q : ModuleError → Type 0} (r : Result X Failure) → ((e : ModuleError) → P e → Q e) → IfDisordered r P → IfDisordered r Q
-if_disordered (Ok x) f h = tt
-if_disordered (Err (failures.Refused refusal foreign)) f h = tt
-if_disordered (Err (failures.Disordered error place)) f h = f error h
-if_disordered (Err failures.Memory) f h = tt
-if_disordered (Err (failures.Read error)) f h = tt
-if_disordered (Err (failures.Write error)) f h = tt
 
 -- ---- the verdict on a module
 
@@ -55,3 +45,49 @@ longer_judged names input bytes refusal form check = by names where
 -- what is known of the place without its reason
 pub placed : (bytes : List ℕ) (refusal : Refusal) → CountsParts module_section bytes (place_alone refusal) → CountsParts module_section bytes refusal
 placed bytes refusal c = record { sections = c.sections; items = c.items }
+
+-- ---- inputs that are accepted or refused
+
+-- a run that fails to read refuses nothing
+pub failed_to_read : (any_order : Bool) (input : List ℕ) (failure : Failure) → IsReadFailure failure → Accepts any_order input (Err failure)
+failed_to_read any_order input (failures.Refused refusal foreign) is = absurd is
+failed_to_read any_order input (failures.Disordered error place) is = absurd is
+failed_to_read any_order input failures.Memory is = record { in_order = λ _. tt; disordered = tt; unencoded = tt; refused = tt }
+failed_to_read any_order input (failures.Read error) is = record { in_order = λ _. tt; disordered = tt; unencoded = tt; refused = tt }
+failed_to_read any_order input (failures.Write error) is = absurd is
+
+-- The failure is `Write`.
+abbrev pub IsWriteFailure : Failure → Type 0
+IsWriteFailure (failures.Refused refusal foreign) = ⊥
+IsWriteFailure (failures.Disordered error place) = ⊥
+IsWriteFailure failures.Memory = ⊥
+IsWriteFailure (failures.Read error) = ⊥
+IsWriteFailure (failures.Write error) = Unit {0}
+
+-- nor does one that fails to write
+pub failed_to_write : (any_order : Bool) (input : List ℕ) (failure : Failure) → IsWriteFailure failure → Accepts any_order input (Err failure)
+failed_to_write any_order input (failures.Refused refusal foreign) is = absurd is
+failed_to_write any_order input (failures.Disordered error place) is = absurd is
+failed_to_write any_order input failures.Memory is = absurd is
+failed_to_write any_order input (failures.Read error) is = absurd is
+failed_to_write any_order input (failures.Write error) is = record { in_order = λ _. tt; disordered = tt; unencoded = tt; refused = tt }
+
+-- the order of the sections was checked
+pub found_in_order : (any_order : Bool) (input : List ℕ) → IsOrdered input → Accepts any_order input (Ok tt)
+found_in_order any_order input ordered = record { in_order = λ _. ordered; disordered = tt; unencoded = tt; refused = tt }
+
+pub found_out_of_order : (any_order : Bool) (input : List ℕ) (error : ModuleError) (place : Option MisplacedSection) → BreaksOrder input error → Accepts any_order input (Err (failures.Disordered error place))
+found_out_of_order any_order input error place why = record { in_order = λ _. tt; disordered = why; unencoded = tt; refused = tt }
+
+-- any order is allowed
+pub not_checked : (input : List ℕ) → Accepts true input (Ok tt)
+not_checked input = record { in_order = λ same. absurd (true≢false same); disordered = tt; unencoded = tt; refused = tt }
+
+-- what is refused in any order is refused in order too
+pub refused_in_order : (any_order : Bool) (input : List ℕ) (failure : Failure) → Accepts true input (Err failure) → Accepts any_order input (Err failure)
+refused_in_order any_order input failure a = record { in_order = λ _. tt; disordered = a.disordered; unencoded = a.unencoded; refused = a.refused }
+
+-- what is in order is accepted if it is accepted in any order
+pub accepted_in_order : (any_order : Bool) (input : List ℕ) (outcome : Result (Unit {0}) Failure) → Accepts any_order input (Ok tt) → Accepts true input outcome → Accepts any_order input outcome
+accepted_in_order any_order input (Ok tt) order a = order
+accepted_in_order any_order input (Err failure) order a = refused_in_order any_order input failure a

@@ -1,5 +1,5 @@
 -- The output of a run of `wasmcanon`, and its result.
-use Rattle.std.specs.Prelude.{◌≡◌, ◌⊎◌, ℕ, Bool, true, false, List, Option, Result, Ok, Err}
+use Rattle.std.specs.Prelude.{◌≡◌, ◌⊎◌, ℕ, Bool, true, false, List, Option, Result, Ok, Err, OnOk}
 use Rattle.std.specs.Io.KnownBytes.{Appends}
 use Rattle.wasm_codec.specs.Outcomes.{EncodesSome, IsNormalForm, IsLongestPrefix}
 use Rattle.wasm_codec.specs.declared.reader.refusal.Refusal.{Refusal}
@@ -11,6 +11,7 @@ use Rattle.wasm_whole_modules.specs.declared.order.ModuleError.{ModuleError}
 use Rattle.sha2.specs.Sha256.{sha256}
 use Rattle.wasm_whole_modules.specs.Selections.{IsChosen}
 use Rattle.wasm_custom_sections.specs.MinimalContents.{MinimisesContents}
+use Rattle.wasmcanon.specs.Order.{IsOrdered, BreaksOrder}
 use Rattle.wasmcanon.specs.declared.run.FormOptions.{FormOptions}
 use Rattle.wasmcanon.specs.declared.run.Verdict.{Verdict}
 use Rattle.wasmcanon.specs.declared.run.Verdict.TheVariants as verdicts
@@ -104,6 +105,22 @@ IfDisordered (Err (failures.Disordered error place)) P = P error
 IfDisordered (Err failures.Memory) P = Unit {0}
 IfDisordered (Err (failures.Read error)) P = Unit {0}
 IfDisordered (Err (failures.Write error)) P = Unit {0}
+
+-- The same result, without its value.
+abbrev pub outcome_of : {X : Type 0} → Result X Failure → Result (Unit {0}) Failure
+outcome_of (Ok x) = Ok tt
+outcome_of (Err failure) = Err failure
+
+-- What a run promises that accepts or refuses its input.
+pub record Accepts (any_order : Bool) (input : List ℕ) (outcome : Result (Unit {0}) Failure) : Type 0 where
+  -- Unless any order is allowed, the sections of what it accepts are in order.
+  pub in_order : any_order ≡ false → OnOk outcome (IsOrdered input)
+  -- If the failure names a section, this is the first one that is out of order.
+  pub disordered : IfDisordered outcome (BreaksOrder input)
+  -- It refuses only a malformed input.
+  pub unencoded : IfRefused outcome (λ _. IsNoModule input)
+  -- `at` is the length of the longest prefix that decodes.
+  pub refused : IfRefused outcome (IsLongestPrefix (IsModulePrefixOf module_section) input)
 
 -- The property holds of each result that is returned after all input was read.
 abbrev pub OnceAllIsRead : {X : Type 0} → Result X Failure → Type 0 → Type 0

@@ -1,8 +1,8 @@
 //! The order of a module's sections, and counts that must agree (Core 3.0, Modules).
-ghost use Rattle.std.specs.Prelude.{◌≡◌, OnOk, IfOk, IfSome, IfNone};
+ghost use Rattle.std.specs.Prelude.{◌≡◌, false, IfOk, IfSome, IfNone};
 ghost use Rattle.wasm_modules.specs.formats.Sections.{parts_of};
-ghost use Rattle.wasmcanon.specs.Order.{rank, AreInOrder, OfSections, IsOrdered, BreaksOrder, IsOutOfOrderAt, IsWhyNot};
-ghost use Rattle.wasmcanon.specs.Run.{IfPlaced, IfRefused, IfDisordered};
+ghost use Rattle.wasmcanon.specs.Order.{rank, AreInOrder, OfSections, IsOutOfOrderAt, IsWhyNot};
+ghost use Rattle.wasmcanon.specs.Run.{Accepts, IfPlaced, outcome_of};
 
 use crate::data_uses::find_data_use;
 use crate::run::Failure;
@@ -38,13 +38,11 @@ pub struct MisplacedSection {
 /// Checks the order of a module's sections, and the counts that must agree. Accepts a malformed module.
 ///
 /// Fails with `Disordered` if a rule is broken, and with `Memory` if memory runs out.
+#[tactic(auto, using(crate::proofs::ResultLaws::found_in_order, crate::proofs::ResultLaws::found_out_of_order, crate::proofs::ResultLaws::failed_to_read))]
 pub fn check_sections(alloc: Global, input: &[u8]) -> Result<(), Failure>
-    // The sections are in order.
-    ensures in_order { OnOk result (IsOrdered input.now) }
-    // If the failure names a section, this is the first one that is out of order.
-    ensures disordered { IfDisordered result (BreaksOrder input.now) }
+    // An input whose sections are out of order is refused.
+    ensures accepts { Accepts false input.now (outcome_of result) }
     // The failure isn't `Refused`.
-    ensures refused { IfRefused result (λ _. ⊥) }
     ensures placed { IfPlaced result (λ _. ⊥) }
 {
     let Some(sections) = after_header(input) else {

@@ -1,12 +1,10 @@
 //! A run of the program, for any reader and any writer.
-ghost use Rattle.std.specs.Prelude.{◌≡◌, ℕ, List, false, IfOk, IfErr, IfSome, OnOk};
+ghost use Rattle.std.specs.Prelude.{◌≡◌, ℕ, List, true, IfOk, IfErr, IfSome, OnOk};
 ghost use Rattle.std.specs.Io.KnownBytes.{IsAtEnd, Keeps};
-ghost use Rattle.wasm_codec.specs.Outcomes.{IsLongestPrefix};
-ghost use Rattle.wasm_modules.specs.Modules.{IsModulePrefixOf};
 ghost use Rattle.wasm_sections.specs.formats.ModuleSections.{module_section};
+ghost use Rattle.wasm_whole_modules.specs.Counting.{ShowsModule};
 ghost use Rattle.wasm_whole_modules.specs.RefusalNumbers.{CountsParts};
-ghost use Rattle.wasmcanon.specs.Order.{IsOrdered, BreaksOrder};
-ghost use Rattle.wasmcanon.specs.Run.{IsModule, IsNoModule, IsCanonicalForm, AppendsForm, IsForm, IsHash, IfPlaced, IfRefused, IfDisordered, OnceAllIsRead, BeforeAnyWrite, IsReadFailure, Judges, status_of};
+ghost use Rattle.wasmcanon.specs.Run.{Accepts, IsModule, IsCanonicalForm, AppendsForm, IsForm, IsHash, IfPlaced, OnceAllIsRead, BeforeAnyWrite, IsReadFailure, Judges, outcome_of, status_of};
 ghost use Rattle.wasmcanon.specs.declared.run.Failure.TheVariants.{Memory};
 
 use crate::contents::{judge_contents, with_contents};
@@ -106,6 +104,7 @@ pub enum Verdict {
 /// section's name. Fails with `Refused` if the input is malformed, and with `Disordered` if its sections are out of
 /// order or their counts disagree, unless any order is allowed. Fails with `Memory` if memory runs out, and with `Read`
 /// or `Write` if a read or a write fails.
+#[tactic(auto, using(crate::proofs::ResultLaws::failed_to_write))]
 pub fn canonicalise<R: Input, W: Write>(
     alloc: Global,
     reader: &mut R,
@@ -116,17 +115,10 @@ pub fn canonicalise<R: Input, W: Write>(
     // The canonical form of the input with these options was appended, and nothing else.
     ensures ok { OnOk result (IfSome (R.remaining reader.old) (λ input.
         AppendsForm options.entry input (W.contents writer.old) (W.contents writer.new))) }
-    // Unless any order is allowed, the sections are in order.
-    ensures in_order { any_order ≡ false → OnOk result (IfSome (R.remaining reader.old) IsOrdered) }
-    // If the failure names a section, this is the first one that is out of order.
-    ensures disordered { IfDisordered result (λ error. IfSome (R.remaining reader.old) (λ input. BreaksOrder input error)) }
+    // Exactly a malformed input is refused, and one whose sections are out of order.
+    ensures accepts { IfSome (R.remaining reader.old) (λ input. Accepts any_order input (outcome_of result)) }
     // All of the input is read before it is refused or a byte is written.
     ensures read_to_end { OnceAllIsRead result (IsAtEnd (R.remaining reader.new)) }
-    // Only a malformed input is refused.
-    ensures unencoded { IfRefused result (λ _. IfSome (R.remaining reader.old) IsNoModule) }
-    // `at` is the length of the longest prefix that decodes.
-    ensures refused { IfRefused result (λ at. IfSome (R.remaining reader.old) (λ input.
-        IsLongestPrefix (IsModulePrefixOf module_section) input at)) }
     // The section and the item that it names are numbered by those before them.
     ensures numbers { IfPlaced result (λ refusal. IfSome (R.remaining reader.old) (λ input.
         CountsParts module_section input refusal)) }
@@ -151,15 +143,8 @@ pub fn hash<R: Input>(
 ) -> Result<[u8; 32], Failure>
     // The result is the digest of the canonical form of the input with these options.
     ensures ok { IfOk result (λ digest. IfSome (R.remaining reader.old) (λ input. IsHash options.entry input digest)) }
-    // Unless any order is allowed, the sections are in order.
-    ensures in_order { any_order ≡ false → OnOk result (IfSome (R.remaining reader.old) IsOrdered) }
-    // If the failure names a section, this is the first one that is out of order.
-    ensures disordered { IfDisordered result (λ error. IfSome (R.remaining reader.old) (λ input. BreaksOrder input error)) }
-    // Only a malformed input is refused.
-    ensures unencoded { IfRefused result (λ _. IfSome (R.remaining reader.old) IsNoModule) }
-    // `at` is the length of the longest prefix that decodes.
-    ensures refused { IfRefused result (λ at. IfSome (R.remaining reader.old) (λ input.
-        IsLongestPrefix (IsModulePrefixOf module_section) input at)) }
+    // Exactly a malformed input is refused, and one whose sections are out of order.
+    ensures accepts { IfSome (R.remaining reader.old) (λ input. Accepts any_order input (outcome_of result)) }
     // The section and the item that it names are numbered by those before them.
     ensures numbers { IfPlaced result (λ refusal. IfSome (R.remaining reader.old) (λ input.
         CountsParts module_section input refusal)) }
@@ -177,6 +162,7 @@ struct Form {
 }
 
 /// Reads a module, and returns its canonical form with these options.
+#[tactic(auto, using(crate::proofs::ResultLaws::failed_to_read))]
 fn read_form<R: Input>(
     alloc: Global,
     reader: &mut R,
@@ -185,12 +171,8 @@ fn read_form<R: Input>(
 ) -> Result<Form, Failure>
     ensures ok { IfOk result (λ form. IfSome (R.remaining reader.old) (λ input.
         IsForm options.entry input form.bytes.items)) }
-    ensures in_order { any_order ≡ false → OnOk result (IfSome (R.remaining reader.old) IsOrdered) }
-    ensures disordered { IfDisordered result (λ error. IfSome (R.remaining reader.old) (λ input. BreaksOrder input error)) }
+    ensures accepts { IfSome (R.remaining reader.old) (λ input. Accepts any_order input (outcome_of result)) }
     ensures read_to_end { OnceAllIsRead result (IsAtEnd (R.remaining reader.new)) }
-    ensures unencoded { IfRefused result (λ _. IfSome (R.remaining reader.old) IsNoModule) }
-    ensures refused { IfRefused result (λ at. IfSome (R.remaining reader.old) (λ input.
-        IsLongestPrefix (IsModulePrefixOf module_section) input at)) }
     ensures numbers { IfPlaced result (λ refusal. IfSome (R.remaining reader.old) (λ input.
         CountsParts module_section input refusal)) }
 {
@@ -209,6 +191,7 @@ fn read_form<R: Input>(
 /// Reads a module, and returns its canonical form.
 ///
 /// Fails as `canonicalise` does, but never with `Write`.
+#[tactic(auto, using(crate::proofs::ResultLaws::failed_to_read))]
 pub fn read_canonical<R: Input>(
     alloc: Global,
     reader: &mut R,
@@ -216,17 +199,10 @@ pub fn read_canonical<R: Input>(
 ) -> Result<Canonical, Failure>
     // The result is the canonical form of the input.
     ensures ok { IfOk result (λ form. IfSome (R.remaining reader.old) (λ input. IsCanonicalForm input form.bytes.items)) }
-    // Unless any order is allowed, the sections are in order.
-    ensures in_order { any_order ≡ false → OnOk result (IfSome (R.remaining reader.old) IsOrdered) }
-    // If the failure names a section, this is the first one that is out of order.
-    ensures disordered { IfDisordered result (λ error. IfSome (R.remaining reader.old) (λ input. BreaksOrder input error)) }
+    // Exactly a malformed input is refused, and one whose sections are out of order.
+    ensures accepts { IfSome (R.remaining reader.old) (λ input. Accepts any_order input (outcome_of result)) }
     // All of the input is read before it is refused.
     ensures read_to_end { OnceAllIsRead result (IsAtEnd (R.remaining reader.new)) }
-    // Only a malformed input is refused.
-    ensures unencoded { IfRefused result (λ _. IfSome (R.remaining reader.old) IsNoModule) }
-    // `at` is the length of the longest prefix that decodes.
-    ensures refused { IfRefused result (λ at. IfSome (R.remaining reader.old) (λ input.
-        IsLongestPrefix (IsModulePrefixOf module_section) input at)) }
     // The section and the item that it names are numbered by those before them.
     ensures numbers { IfPlaced result (λ refusal. IfSome (R.remaining reader.old) (λ input.
         CountsParts module_section input refusal)) }
@@ -241,6 +217,7 @@ pub fn read_canonical<R: Input>(
 /// Reads a module, and rewrites it to its canonical form. Shows each section to the watcher before and after.
 ///
 /// Sections before a malformed one are shown too. Fails as `canonicalise` does, but never with `Write`.
+#[tactic(auto, using(crate::proofs::ResultLaws::failed_to_read, crate::proofs::ResultLaws::accepted_in_order, crate::proofs::ResultLaws::refused_in_order))]
 pub fn report<R: Input, S: SectionWatcher>(
     alloc: Global,
     reader: &mut R,
@@ -249,15 +226,11 @@ pub fn report<R: Input, S: SectionWatcher>(
 ) -> Result<(), Failure>
     // The input is a module.
     ensures ok { OnOk result (IfSome (R.remaining reader.old) IsModule) }
-    // Unless any order is allowed, the sections are in order.
-    ensures in_order { any_order ≡ false → OnOk result (IfSome (R.remaining reader.old) IsOrdered) }
-    // If the failure names a section, this is the first one that is out of order.
-    ensures disordered { IfDisordered result (λ error. IfSome (R.remaining reader.old) (λ input. BreaksOrder input error)) }
-    // Only a malformed input is refused.
-    ensures unencoded { IfRefused result (λ _. IfSome (R.remaining reader.old) IsNoModule) }
-    // `at` is the length of the longest prefix that decodes.
-    ensures refused { IfRefused result (λ at. IfSome (R.remaining reader.old) (λ input.
-        IsLongestPrefix (IsModulePrefixOf module_section) input at)) }
+    // Exactly a malformed input is refused, and one whose sections are out of order.
+    ensures accepts { IfSome (R.remaining reader.old) (λ input. Accepts any_order input (outcome_of result)) }
+    // The watcher is shown each section of the input.
+    ensures shows { OnOk result (IfSome (R.remaining reader.old) (λ input.
+        ShowsModule S.Sees S.Takes input watcher.old watcher.new)) }
 {
     let input = read_all(alloc, reader)?;
     match check_order_unless(alloc, &input, any_order) {
@@ -274,6 +247,7 @@ pub fn report<R: Input, S: SectionWatcher>(
 /// and `producers` must be minimally encoded too.
 ///
 /// Fails as `canonicalise` does, but never with `Write`.
+#[tactic(auto, using(crate::proofs::ResultLaws::failed_to_read, crate::proofs::ResultLaws::refused_in_order))]
 pub fn check<R: Input>(
     alloc: Global,
     reader: &mut R,
@@ -282,15 +256,8 @@ pub fn check<R: Input>(
 ) -> Result<Verdict, Failure>
     // The verdict is right.
     ensures ok { IfOk result (λ verdict. IfSome (R.remaining reader.old) (λ input. Judges names input verdict)) }
-    // Unless any order is allowed, the sections are in order.
-    ensures in_order { any_order ≡ false → OnOk result (IfSome (R.remaining reader.old) IsOrdered) }
-    // If the failure names a section, this is the first one that is out of order.
-    ensures disordered { IfDisordered result (λ error. IfSome (R.remaining reader.old) (λ input. BreaksOrder input error)) }
-    // Only a malformed input is refused.
-    ensures unencoded { IfRefused result (λ _. IfSome (R.remaining reader.old) IsNoModule) }
-    // `at` is the length of the longest prefix that decodes.
-    ensures refused { IfRefused result (λ at. IfSome (R.remaining reader.old) (λ input.
-        IsLongestPrefix (IsModulePrefixOf module_section) input at)) }
+    // Exactly a malformed input is refused, and one whose sections are out of order.
+    ensures accepts { IfSome (R.remaining reader.old) (λ input. Accepts any_order input (outcome_of result)) }
     // The section and the item that it names are numbered by those before them.
     ensures numbers { IfPlaced result (λ refusal. IfSome (R.remaining reader.old) (λ input.
         CountsParts module_section input refusal)) }
@@ -317,17 +284,12 @@ pub fn read_input<R: Input>(alloc: Global, reader: &mut R) -> Result<Vec<u8>, Fa
 /// Rewrites a module in place to its canonical form.
 ///
 /// Fails with `Refused`, `Disordered` and `Memory` as `canonicalise` does.
+#[tactic(auto, using(crate::proofs::ResultLaws::refused_in_order))]
 pub fn accept(alloc: Global, input: Vec<u8>, any_order: bool) -> Result<Vec<u8>, Failure>
     // The result is the canonical form of the input.
     ensures ok { IfOk result (λ form. IsCanonicalForm input.items form.items) }
-    // Unless any order is allowed, the sections are in order.
-    ensures in_order { any_order ≡ false → OnOk result (IsOrdered input.items) }
-    // If the failure names a section, this is the first one that is out of order.
-    ensures disordered { IfDisordered result (BreaksOrder input.items) }
-    // Only a malformed input is refused.
-    ensures unencoded { IfRefused result (λ _. IsNoModule input.items) }
-    // `at` is the length of the longest prefix that decodes.
-    ensures refused { IfRefused result (IsLongestPrefix (IsModulePrefixOf module_section) input.items) }
+    // Exactly a malformed input is refused, and one whose sections are out of order.
+    ensures accepts { Accepts any_order input.items (outcome_of result) }
     // The section and the item that it names are numbered by those before them.
     ensures numbers { IfPlaced result (CountsParts module_section input.items) }
 {
@@ -339,10 +301,9 @@ pub fn accept(alloc: Global, input: Vec<u8>, any_order: bool) -> Result<Vec<u8>,
 }
 
 /// Checks the order and the counts of a module's sections, unless any order is allowed. Accepts a malformed module.
+#[tactic(auto, using(crate::proofs::ResultLaws::not_checked))]
 fn check_order_unless(alloc: Global, input: &[u8], any_order: bool) -> Result<(), Failure>
-    ensures in_order { any_order ≡ false → OnOk result (IsOrdered input.now) }
-    ensures disordered { IfDisordered result (BreaksOrder input.now) }
-    ensures refused { IfRefused result (λ _. ⊥) }
+    ensures accepts { Accepts any_order input.now (outcome_of result) }
     ensures placed { IfPlaced result (λ _. ⊥) }
 {
     if any_order {
@@ -357,10 +318,8 @@ fn check_order_unless(alloc: Global, input: &[u8], any_order: bool) -> Result<()
 #[tactic(auto, using(crate::proofs::ResultLaws::contents_judged, crate::proofs::ResultLaws::longer_judged, crate::proofs::ResultLaws::placed))]
 fn judge(alloc: Global, input: Vec<u8>, names: bool) -> Result<Verdict, Failure>
     ensures ok { IfOk result (Judges names input.items) }
-    ensures unencoded { IfRefused result (λ _. IsNoModule input.items) }
-    ensures refused { IfRefused result (IsLongestPrefix (IsModulePrefixOf module_section) input.items) }
+    ensures accepts { Accepts true input.items (outcome_of result) }
     ensures numbers { IfPlaced result (CountsParts module_section input.items) }
-    ensures disordered { IfDisordered result (λ _. ⊥) }
 {
     let foreign = Foreign::find(&input);
     match judge_whole_module(input) {
@@ -383,9 +342,8 @@ fn judge(alloc: Global, input: Vec<u8>, names: bool) -> Result<Verdict, Failure>
 /// Rewrites a module, and shows each section to the watcher before and after.
 fn show_sections<S: SectionWatcher>(input: Vec<u8>, watcher: &mut S) -> Result<(), Failure>
     ensures ok { OnOk result (IsModule input.items) }
-    ensures unencoded { IfRefused result (λ _. IsNoModule input.items) }
-    ensures refused { IfRefused result (IsLongestPrefix (IsModulePrefixOf module_section) input.items) }
-    ensures disordered { IfDisordered result (λ _. ⊥) }
+    ensures shows { OnOk result (ShowsModule S.Sees S.Takes input.items watcher.old watcher.new) }
+    ensures accepts { Accepts true input.items (outcome_of result) }
 {
     let foreign = Foreign::find(&input);
     match rewrite_watched(input, watcher) {
@@ -402,10 +360,8 @@ fn show_sections<S: SectionWatcher>(input: Vec<u8>, watcher: &mut S) -> Result<(
 #[tactic(auto, using(crate::proofs::ResultLaws::placed))]
 fn canonical_form(input: Vec<u8>) -> Result<Vec<u8>, Failure>
     ensures ok { IfOk result (λ canonical. IsCanonicalForm input.items canonical.items) }
-    ensures unencoded { IfRefused result (λ _. IsNoModule input.items) }
-    ensures refused { IfRefused result (IsLongestPrefix (IsModulePrefixOf module_section) input.items) }
+    ensures accepts { Accepts true input.items (outcome_of result) }
     ensures numbers { IfPlaced result (CountsParts module_section input.items) }
-    ensures disordered { IfDisordered result (λ _. ⊥) }
 {
     let foreign = Foreign::find(&input);
     match rewrite::<WholeModule>(input) {
