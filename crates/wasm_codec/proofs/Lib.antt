@@ -10,6 +10,7 @@ pub mod NumberReading
 pub mod DigitSteps
 pub mod FormatLaws
 pub mod RawFormatLaws
+pub mod LowBytes
 pub mod PlaceLists
 pub mod BodyLaws
 pub mod MinimalIfLaws
@@ -23,3 +24,4 @@ pub mod BodyRewriting
 pub mod ListRewriting
 pub mod RawRewriting
 pub mod RefusalNumbers
+pub mod Skipping

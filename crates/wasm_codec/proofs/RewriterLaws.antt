@@ -152,13 +152,13 @@ goes_on {V} {F} r some old here next fits w more e =
     }
 
 -- what stays of what is left after what stays
-stayed_on : (n m : ℕ) (p : Rewriting) → skipped m (skipped n p) ≡ skipped (n + m) p
+pub stayed_on : (n m : ℕ) (p : Rewriting) → skipped m (skipped n p) ≡ skipped (n + m) p
 stayed_on n m p =
     let done : (p.done ++ take n p.place.left) ++ take m (drop n p.place.left) ≡ p.done ++ take (n + m) p.place.left = append_assoc p.done (take n p.place.left) (take m (drop n p.place.left)) ∙ ap (λ (t : List ℕ). p.done ++ t) (sym (take-add n m p.place.left)) in
     let left : drop m (drop n p.place.left) ≡ drop (n + m) p.place.left = drop-drop m n p.place.left in
     rw (done, left) refl
 
-reads_shorter : {V : Type 0} {F : Format V} → IsLawful F → (values : List V) (bytes left : List ℕ) → IsBytes bytes → ReadsShort F values bytes left → length left ≤ length bytes
+pub reads_shorter : {V : Type 0} {F : Format V} → IsLawful F → (values : List V) (bytes left : List ℕ) → IsBytes bytes → ReadsShort F values bytes left → length left ≤ length bytes
 reads_shorter law [] bytes left fits reads = omega (arith, ap (length {A = ℕ}) reads)
 reads_shorter {V} {F} law (v ∷ values) bytes left fits (next, (read, reads)) =
     let one = step law (place true bytes) v (place true next) fits read in

@@ -135,7 +135,7 @@ takes_some G some [] v g = absurd (some v g)
 takes_some G some (b ∷ prefix) v g = omega arith
 
 -- what is seen of the first bytes is seen of all of them
-in_window : {V : Type 0} {F : Format V} → IsLawful F → (bytes : List ℕ) (n count : ℕ) → IsBytes bytes → Scans F (take n bytes) (Some (scanned.Shortest count)) → Scans F bytes (Some (scanned.Shortest count))
+pub in_window : {V : Type 0} {F : Format V} → IsLawful F → (bytes : List ℕ) (n count : ℕ) → IsBytes bytes → Scans F (take n bytes) (Some (scanned.Shortest count)) → Scans F bytes (Some (scanned.Shortest count))
 in_window {V} {F} law bytes n count fits (le, x) =
     let w = take n bytes in
     let one = step law (place true w) x.0 (place true (drop count w)) (IsBytes-take bytes n fits) x.1 in

@@ -58,6 +58,10 @@ ScansDigits signed most top bytes None = Unit {0}
 ScansDigits signed most top bytes (Some (scanned.Shortest count)) = IsShortNumber signed most top bytes count
 ScansDigits signed most top bytes (Some (scanned.Padded sign start more)) = (sign ≡ signed) × (start ≡ 0) × IsPaddedNumber signed most bytes more
 
+-- Bytes below 128: each is a number of one byte.
+abbrev pub AreLow : List ℕ → Type 0
+AreLow = AllByRecursion (λ b. b < 128)
+
 -- ---- items
 
 -- The bytes begin with a longer encoding, and its first bytes, the last without its high bit, are the minimal one.
@@ -103,3 +107,17 @@ pub record BeginsShort {V : Type 0} (F : Format V) (bytes : List ℕ) (count : �
   pub values : List V
   pub within : count ≤ length bytes
   pub reads : ReadsShort F values bytes (drop count bytes)
+
+-- The bytes begin with this number of minimally encoded items, `size` bytes in all.
+pub record BeginsItems {V : Type 0} (F : Format V) (bytes : List ℕ) (items size : ℕ) : Type 0 where
+  pub values : List V
+  pub counted : length values ≡ items
+  pub within : size ≤ length bytes
+  pub reads : ReadsShort F values bytes (drop size bytes)
+
+-- The call skips this number of minimally encoded items, at most `most`, which stay as they are.
+pub record SkipsMinimal {V : Type 0} (F : Format V) (most : ℕ) (old new : Rewriting) (items : ℕ) : Type 0 where
+  pub few : items ≤ most
+  pub size : ℕ
+  pub begins : BeginsItems F old.place.left items size
+  pub kept : new ≡ skipped size old

@@ -7,9 +7,12 @@ ghost use Rattle.wasm_codec.specs.Lawful.{IsLawful, IsLawfulBody};
 ghost use Rattle.wasm_codec.specs.Lists.{BreaksAtItem, BreaksInBody, CountsItems, EncodesList, items_bytes, IsListPrefix};
 ghost use Rattle.wasm_codec.specs.formats.Combinators.{Format, items, u32 as u32_format};
 ghost use Rattle.wasm_codec.specs.formats.Bodies.{sized, to_end};
-ghost use Rattle.wasm_codec.specs.Scanning.{BeginsShort, Scans};
+ghost use Rattle.wasm_codec.specs.Scanning.{BeginsShort, Scans, SkipsMinimal};
 ghost use Rattle.wasm_codec.specs.Rewriter.{CountsPassed, Rewrites, RewritesAll, RewritesList, StopsInItem};
 
+mod numbers;
+
+use crate::rewriting::numbers::number_run;
 use wasm_codec::reader::DecodeError;
 use wasm_codec::reader::cursor::Fault;
 use wasm_codec::reader::malformed::Stop;
@@ -36,6 +39,13 @@ pub trait Rewritable {
     fn rewrite(rewriter: &mut Rewriter) -> Result<(), Fault>
         ensures rewrites { Rewrites format rewriter.old rewriter.new result }
         ensures names { IfInItem result (Breaks rewriter.old.place.left) };
+
+    /// Skips items that are minimally encoded, at most `most`. Returns how many. By default it skips none.
+    fn skip_minimal(rewriter: &mut Rewriter, most: u32) -> u32
+        ensures { SkipsMinimal format most rewriter.old rewriter.new result }
+    {
+        0
+    }
 }
 
 /// An item of which any number can be rewritten one after another, up to the end of the bytes.
@@ -67,6 +77,14 @@ impl Rewritable for u32 {
         rewriter.u32()?;
         Ok(())
     }
+
+    #[inline(always)]
+    fn skip_minimal(rewriter: &mut Rewriter, most: u32) -> u32 {
+        rewriter.are_bytes();
+        let run = number_run(rewriter.left(), most);
+        rewriter.skip(run.size);
+        run.items
+    }
 }
 
 /// Rewrites a list: a count, and then the items (Core 3.0, Lists).
@@ -75,6 +93,7 @@ pub fn rewrite_list<T: Rewritable>(rewriter: &mut Rewriter) -> Result<(), Fault>
     // If a fault names an item, the list breaks off there.
     ensures names { IfInItem result (BreaksAtItem u32_format T.format rewriter.old.place.left) }
 {
+    T::is_lawful();
     rewriter.are_bytes();
     let start = rewriter.start();
     let count = match rewriter.u32() {
@@ -85,8 +104,13 @@ pub fn rewrite_list<T: Rewritable>(rewriter: &mut Rewriter) -> Result<(), Fault>
         Err(Fault::Memory) => return Err(Fault::Memory),
     };
     rewriter.end_part(&start, Part::Number);
-    for index in 0..count {
-        rewrite_item::<T>(rewriter, index)?;
+    let mut index = 0;
+    while index < count {
+        index += T::skip_minimal(rewriter, count - index);
+        if index < count {
+            rewrite_item::<T>(rewriter, index)?;
+            index += 1;
+        }
     }
     Ok(())
 }

@@ -1,5 +1,5 @@
 -- The laws of lists and sections that are rewritten and counted.
-use Rattle.std.proofs.Common.{◌≡◌, ℕ, ◌+◌, ◌-◌, ◌<◌, ◌≤◌, true, false, List, [], ◌∷◌, ◌++◌, length, Result, Ok, Err, Option, Some, refl, sym, ap, subst, ◌∙◌, append_assoc, length-append, inl, inr, arith}
+use Rattle.std.proofs.Common.{◌≡◌, ℕ, ◌+◌, ◌-◌, ◌<◌, ◌≤◌, true, false, List, [], ◌∷◌, ◌++◌, length, take, Result, Ok, Err, Option, Some, refl, sym, ap, subst, ◌∙◌, append_assoc, length-append, length-drop, length-take-le, inl, inr, arith}
 use Rattle.std.proofs.lemmas.List.{append-nil}
 use Rattle.wasm_codec.specs.declared.reader.cursor.Fault.{Fault}
 use Rattle.wasm_codec.specs.declared.reader.cursor.Fault.TheVariants as faults
@@ -8,11 +8,13 @@ use Rattle.wasm_codec.specs.formats.Combinators.{Format, u32, a_byte}
 use Rattle.wasm_codec.specs.formats.Numbers.{EncodesU32}
 use Rattle.wasm_codec.specs.Lawful.{IsLawful}
 use Rattle.wasm_codec.specs.Outcomes.{FailsMalformed}
+use Rattle.wasm_codec.specs.Scanning.{SkipsMinimal}
 use Rattle.wasm_codec.specs.Rewriter.{Rewriting, rewritten_at, rewriting_after, Gives, Rewrites, IsOpen}
 use Rattle.wasm_codec.proofs.BodyLaws.{body_sound}
 use Rattle.wasm_codec.proofs.FormatLaws.{Lawful-byte, Lawful-u32}
 use Rattle.wasm_codec.proofs.Laws.{IsBytes-after}
 use Rattle.wasm_codec.proofs.Shortening.{bytes_after}
+use Rattle.wasm_codec.proofs.Skipping.{Stays, all_stay}
 use Rattle.wasm_codec.proofs.RewriterLaws.{is_given, ItemsRewritten, no_items_rewritten, item_rewritten}
 use Rattle.wasm_lists.proofs.CheckLaws.{Item, an_item}
 use Rattle.wasm_sections.specs.formats.ModuleSections.{module_section, OfKind}
@@ -68,6 +70,18 @@ counted_short {V} {F} r old here next count i longer w lt e as_many =
     let same : one.prefix ≡ F.bytes one.value = elim (r.shortest.least one.prefix one.value one.encodes) [ inl p ↦ p | inr fewer ↦ absurd (omega (arith, one.read_len, one.written_len, as_many)) ] in
     let has : HasLonger F (w.back ++ one.prefix) (w.items ++ one.value ∷ []) longer = subst (λ (t : List ℕ). HasLonger F (w.back ++ t) (w.items ++ one.value ∷ []) longer) (sym same) (shortest one.value w.longer_items (r.shortest.again one.prefix one.value one.encodes)) in
     counted_next r old here next count i longer longer w lt e one has (omega (arith, w.few))
+
+-- what stays isn't told to be longer
+stays_short : {V : Type 0} (F : Format V) (here next : Rewriting) → Stays F here next → TellsLonger here next false
+stays_short F here next s =
+    let done : length next.done ≡ length here.done + s.size = omega (arith, ap (λ (r : Rewriting). length r.done) s.kept, length-append here.done (take s.size here.place.left), length-take-le s.size here.place.left s.within) in
+    let left : length next.place.left ≡ length here.place.left - s.size = omega (arith, ap (λ (r : Rewriting). length r.place.left) s.kept, length-drop s.size here.place.left) in
+    omega (arith, done, left)
+
+-- a run of items that are minimally encoded was skipped
+pub counted_skipped : {V : Type 0} {F : Format V} → IsLawful F → (old here next : Rewriting) (count i longer most items : ℕ) → Counted F old here count i longer → i + most ≤ count → SkipsMinimal F most here next items → Counted F old next count (i + items) longer
+counted_skipped {F = F} r old here next count i longer most items w few skips =
+    all_stay r (λ at n. Counted F old at count n longer) count (λ at after n h lt s. counted_short r old at after count n longer h lt s.passed (stays_short F at after s)) here next i most items w.fits w few skips
 
 -- all were rewritten
 pub counted_all : {V : Type 0} (F : Format V) (old here : Rewriting) (count i longer : ℕ) → Counted F old here count i longer → i ≡ count → CountsBefore F old.place.left here.place.left record { count = count; longer = longer }

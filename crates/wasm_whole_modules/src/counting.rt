@@ -176,12 +176,18 @@ fn rewrite_list<T: Rewritable>(rewriter: &mut Rewriter) -> Result<ItemCounts, Fa
     ensures rewrites { Rewrites (items T.format) rewriter.old rewriter.new (as_done result) }
     ensures counts { IfOk result (CountsBefore T.format rewriter.old.place.left rewriter.new.place.left) }
 {
+    T::is_lawful();
     rewriter.are_bytes();
     let count = rewriter.u32()?;
+    let mut index = 0;
     let mut longer = 0;
-    for index in 0..count {
-        if rewrite_item::<T>(rewriter, index)? {
-            longer += 1;
+    while index < count {
+        index += T::skip_minimal(rewriter, count - index);
+        if index < count {
+            if rewrite_item::<T>(rewriter, index)? {
+                longer += 1;
+            }
+            index += 1;
         }
     }
     Ok(ItemCounts { count, longer })

@@ -1,9 +1,13 @@
 //! Scanning of items: it finds the end of an item and its minimal encoding without decoding it.
-ghost use Rattle.std.specs.Prelude.{◌≡◌, ◌-◌, ◌<◌, ◌≤◌, ◌^◌, length};
-ghost use Rattle.wasm_codec.specs.Scanning.{IsWithin, KeepsDigits, Scans, ScansDigits, behind_byte, repeats};
+ghost use Rattle.std.specs.Prelude.{◌≡◌, ◌-◌, ◌<◌, ◌≤◌, ◌^◌, length, take, true};
+ghost use Rattle.wasm_codec.specs.Scanning.{AreLow, IsWithin, KeepsDigits, Scans, ScansDigits, behind_byte, repeats};
 ghost use Rattle.wasm_codec.specs.formats.Combinators.{u32 as u32_format, u64 as u64_format, s32 as s32_format, s64 as s64_format};
 
 use crate::encode::leb128::complemented;
+use crate::rewriter::are_bytes;
+
+/// The high bit of each of eight bytes.
+const HIGH_BITS: u64 = 0x8080_8080_8080_8080;
 
 /// An item at the start of bytes, as scanned.
 #[derive(Clone, Copy)]
@@ -39,6 +43,20 @@ impl Scanned {
             },
         }
     }
+}
+
+/// Checks whether the first eight bytes are below 128, so that each is a minimally encoded number. Returns `false` if
+/// there are fewer.
+#[inline(always)]
+pub fn begins_low(bytes: &[u8]) -> bool
+    ensures within { result ≡ true → 8 ≤ length bytes.now }
+    ensures low { result ≡ true → AreLow (take 8 bytes.now) }
+{
+    are_bytes(bytes);
+    let [a, b, c, d, e, f, g, h, ..] = bytes else {
+        return false;
+    };
+    u64::from_le_bytes([*a, *b, *c, *d, *e, *f, *g, *h]) & HIGH_BITS == 0
 }
 
 /// Scans the number of at most `most` digits that the bytes begin with.
