@@ -16,6 +16,13 @@ ahead prefix read = read >>= λ more. Some (prefix ++ more.0, more.1)
 abbrev pub reads_on : ℕ → List ℕ → ℕ → Option (List ℕ × List ℕ)
 reads_on most bytes i = ahead (take i bytes) (digits_at (most - i) (drop i bytes))
 
+none_ahead : (read : Option (List ℕ × List ℕ)) → ahead [] read ≡ read
+none_ahead (Some x) = refl
+none_ahead None = refl
+
+pub at_start : (most : ℕ) (bytes : List ℕ) → reads_on most bytes 0 ≡ digits_at most bytes
+at_start most bytes = let n : most - 0 ≡ most = omega arith in rw n (none_ahead (digits_at most bytes))
+
 regroup : (prefix : List ℕ) (b : ℕ) (read : Option (List ℕ × List ℕ)) → ahead prefix (read >>= λ more. Some (b ∷ more.0, more.1)) ≡ ahead (prefix ++ b ∷ []) read
 regroup prefix b (Some x) = ap (λ (ds : List ℕ). Some (ds, x.1)) (simp append_assoc)
 regroup prefix b None = refl

@@ -18,6 +18,7 @@ use wasm_codec::reader::malformed::{Construct, Malformed, Reason};
 use wasm_codec::rewriter::{Rewriter, Scanned};
 use wasm_instructions::calls::append_calls;
 use wasm_instructions::reader::instructions::read_call;
+use wasm_instructions::reader::lists::read_next_frequent_call;
 use wasm_instructions::table::{Call, Opcode, Prefix};
 use wasm_lists::list::Items;
 use wasm_lists::rewriting::{Joinable, Rewritable};
@@ -111,6 +112,9 @@ pub fn read_expr(alloc: Global, cursor: &mut Cursor<'_>) -> Result<Items<Call>, 
 fn read_next_call(alloc: Global, cursor: &mut Cursor<'_>) -> Result<Call, Fault>
     ensures reads { Reads instruction.at cursor.old cursor.new result }
 {
+    if let Some(call) = read_next_frequent_call::<false>(cursor) {
+        return Ok(call);
+    }
     let is_at_end = cursor.len() == 0;
     match read_call(alloc, cursor) {
         Ok(call) => Ok(call),

@@ -94,7 +94,7 @@ behind F G b bytes reads (scanned.Padded signed start more) (le, told) =
     )
 
 -- a byte that is an opcode is no prefix
-no_prefix : (b : ℕ) (k : Kind) → opcode_kind (without_prefix b) ≡ Some k → b < 0xfb
+pub no_prefix : (b : ℕ) (k : Kind) → opcode_kind (without_prefix b) ≡ Some k → b < 0xfb
 unfolding ranges
 no_prefix b k is = in_table (ranges prefixes.None) 0xfb b k refl is
 

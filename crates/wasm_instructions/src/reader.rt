@@ -1,6 +1,7 @@
 //! Readers of opcodes and operands.
 
 pub mod instructions;
+pub mod lists;
 mod opcodes;
 pub mod operands;
 

@@ -67,7 +67,7 @@ fn read_list_minimal_if<'a, T: Readable<'a>, const STRICT: bool>(
 
 /// The number of what is read, which a fault in it carries on.
 #[derive(Clone, Copy)]
-enum Number {
+pub enum Number {
     /// The count of a list.
     Count,
     /// An item of a list, with its index.
@@ -93,7 +93,7 @@ impl Number {
 
 /// Reads the next item, minimally encoded if `STRICT` is set. If it fails, the cursor stays where it was.
 #[tactic(auto, using(wasm_codec::proofs::PlaceLists::plain_code))]
-fn read_next_item<'a, T: Readable<'a>, const STRICT: bool>(
+pub fn read_next_item<'a, T: Readable<'a>, const STRICT: bool>(
     alloc: Global,
     cursor: &mut Cursor<'a>,
     number: Number,
@@ -245,26 +245,6 @@ pub fn check_joined_items<'a, T: Readable<'a>>(alloc: Global, bytes: &'a [u8]) -
         }
     }
     Ok(())
-}
-
-/// Reads items one after another, without a count, up to the end of the cursor's bytes.
-///
-/// If an item is malformed, the cursor stays at its start.
-pub fn read_items<'a, T: Readable<'a>>(
-    alloc: Global,
-    cursor: &mut Cursor<'a>,
-) -> Result<Items<T>, Fault>
-    ensures reads { Reads (to_end T.format).at cursor.old cursor.new (map_ok T.views result) }
-    ensures given { IfOk result (λ items. Joined T.format.Encodes cursor.old.left (T.views items)) }
-    ensures ended { IfOk result (λ _. cursor.new.left ≡ []) }
-    // The cursor stays after the longest well-formed prefix.
-    ensures prefix { UnlessMemory result (IsAfterLongest (EncodesSome (Joined T.format.Encodes)) cursor.old.left cursor.new.left) }
-    ensures stopped { IfErr result (λ fault. IsMalformed fault → 0 < length cursor.new.left) }
-{
-    match read_items_minimal_if::<T, false>(alloc, cursor) {
-        Ok(items) => Ok(items),
-        Err(stop) => Err(stop.fault),
-    }
 }
 
 /// Reads items up to the end of the cursor's bytes, minimally encoded if `STRICT` is set.

@@ -80,6 +80,10 @@ impl Rewritable for u32 {
 
     #[inline(always)]
     fn skip_minimal(rewriter: &mut Rewriter, most: u32) -> u32 {
+        if most < 2 {
+            // A run of one isn't worth the call.
+            return 0;
+        }
         rewriter.are_bytes();
         let run = number_run(rewriter.left(), most);
         rewriter.skip(run.size);

@@ -1,5 +1,5 @@
 //! `Cursor`, a position in bytes from which values are read.
-ghost use Rattle.std.specs.Prelude.{◌≡◌, ◌^◌, ◌<◌, ◌≤◌, ◌&&◌, ◌-◌, ◌*◌, Some, None, IfOk, IfErr, length, take, drop, true, false, pos, negsuc};
+ghost use Rattle.std.specs.Prelude.{◌≡◌, ◌^◌, ◌<◌, ◌≤◌, ◌&&◌, ◌-◌, ◌*◌, Some, None, IfSome, IsNone, IfOk, IfErr, length, take, drop, true, false, pos, negsuc};
 ghost use Rattle.wasm_codec.specs.formats.Grammar.{IsBytes};
 ghost use Rattle.wasm_codec.specs.formats.Numbers.{signed};
 ghost use Rattle.wasm_codec.specs.Leb128.{signed_leb128};
@@ -347,6 +347,66 @@ impl<'a> Cursor<'a> {
         Some(byte)
     }
 
+    /// Reads one byte. Returns `None` at the end of the bytes.
+    #[inline(always)]
+    #[tactic(auto, unfolding(crate::specs::Places::byte_at))]
+    pub fn next_byte(&mut self) -> Option<u8>
+        ensures { IfSome result (λ byte. byte_at self.old ≡ Some (byte, self.new)) }
+    {
+        if self.position == self.bytes.len() {
+            return None;
+        }
+        let byte = self.bytes[self.position];
+        self.position += 1;
+        Some(byte)
+    }
+
+    /// Reads a u32 of one or two bytes. Returns `None` if the next number is longer or cut off: then the position is
+    /// unspecified.
+    #[inline(always)]
+    pub fn short_u32(&mut self) -> Option<u32>
+        ensures { IfSome result (λ number. u32_at self.old ≡ Some (number, self.new)) }
+    {
+        let first = self.next_byte()?;
+        if first < 128 {
+            return Some(u32::from(first));
+        }
+        let last = self.next_byte()?;
+        if last >= 128 {
+            return None;
+        }
+        let number = u32::from(first % 128) + u32::from(last) * 128;
+        self.keep(is_fewest(128, 16384, u64::from(number)));
+        Some(number)
+    }
+
+    /// Reads a u64 of one byte. Returns `None` and doesn't move if the next number is longer or missing.
+    #[inline(always)]
+    pub fn short_u64(&mut self) -> Option<u64>
+        ensures reads { IfSome result (λ number. u64_at self.old ≡ Some (number, self.new)) }
+        ensures stays { IsNone result → self.new ≡ self.old }
+    {
+        match self.one_digit() {
+            Some(byte) => Some(u64::from(byte)),
+            None => None,
+        }
+    }
+
+    /// Reads an s32 of one byte. Returns `None` and doesn't move if the next number is longer or missing.
+    #[inline(always)]
+    pub fn short_s32(&mut self) -> Option<i32>
+        ensures reads { IfSome result (λ number. s32_at self.old ≡ Some (number, self.new)) }
+        ensures stays { IsNone result → self.new ≡ self.old }
+    {
+        match self.one_digit() {
+            Some(byte) => {
+                let value = i32::from(byte);
+                Some(if byte < 64 { value } else { value - 128 })
+            }
+            None => None,
+        }
+    }
+
     /// Reads the digits of a number, at most `most` of them.
     #[inline(always)]
     fn digits(&mut self, most: u32) -> Result<Digits, Fault>
@@ -479,8 +539,8 @@ impl<'a> Cursor<'a> {
         ensures reads { Reads u64_at self.old self.new result }
         ensures err { IfErr result IsMalformed }
     {
-        if let Some(byte) = self.one_digit() {
-            return Ok(u64::from(byte));
+        if let Some(number) = self.short_u64() {
+            return Ok(number);
         }
         self.long_u64()
     }
@@ -504,14 +564,12 @@ impl<'a> Cursor<'a> {
     /// Reads an s32 (Core 3.0, Integers). Fails with `Malformed` if it is cut off, has more than 5 bytes or is out of
     /// range.
     #[inline(always)]
-    #[tactic(auto, using(crate::proofs::NumberReading::s32_low, crate::proofs::NumberReading::s32_high), unfolding(crate::specs::Places::s32_at))]
     pub fn s32(&mut self) -> Result<i32, Fault>
         ensures reads { Reads s32_at self.old self.new result }
         ensures err { IfErr result IsMalformed }
     {
-        if let Some(byte) = self.one_digit() {
-            let value = i32::from(byte);
-            return Ok(if byte < 64 { value } else { value - 128 });
+        if let Some(number) = self.short_s32() {
+            return Ok(number);
         }
         self.long_s32()
     }

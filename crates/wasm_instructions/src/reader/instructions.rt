@@ -11,6 +11,7 @@ ghost use Rattle.wasm_codec.specs.Lawful.{IsLawful};
 ghost use Rattle.wasm_codec.specs.formats.Grammar.{TakesBytes};
 ghost use Rattle.wasm_codec.specs.Rewriter.{Rewrites};
 
+use crate::reader::lists::read_calls_to_end;
 use crate::reader::operands::{read_mem_arg, read_operands};
 use crate::reader::read_opcode;
 use crate::table::{Call, Kind, Operands};
@@ -21,7 +22,6 @@ use wasm_codec::reader::{ReadError, without_reason};
 use wasm_codec::rewriter::Rewriter;
 use wasm_lists::checking::check_items_to_end;
 use wasm_lists::readable::Readable;
-use wasm_lists::reading::read_items_to_end;
 use wasm_lists::rewriting::Rewritable;
 
 /// Reads a list of instructions, in any encoding (Core 3.0, Instructions).
@@ -44,7 +44,7 @@ pub fn read_instructions(alloc: Global, bytes: &[u8]) -> Result<Vec<Call>, ReadE
     ensures decodes { Decodes (λ calls. calls.items) (to_end instruction) (EncodesSome Instructions) bytes.now result }
     ensures prefix_free { InstructionsArePrefixFree }
 {
-    without_reason(read_items_to_end::<Call, false>(alloc, bytes))
+    without_reason(read_calls_to_end::<false>(alloc, bytes))
 }
 
 /// Reads a minimally encoded list of instructions (Core 3.0, Instructions).
@@ -64,7 +64,7 @@ pub fn read_instructions(alloc: Global, bytes: &[u8]) -> Result<Vec<Call>, ReadE
 pub fn read_instructions_strict(alloc: Global, bytes: &[u8]) -> Result<Vec<Call>, ReadError>
     ensures decodes { DecodesMinimal (λ calls. calls.items) (to_end instruction) ShortestInstructions (EncodesSome ShortestInstructions) bytes.now result }
 {
-    without_reason(read_items_to_end::<Call, true>(alloc, bytes))
+    without_reason(read_calls_to_end::<true>(alloc, bytes))
 }
 
 /// Reads an instruction (Core 3.0, Instructions).
@@ -98,6 +98,7 @@ fn read_opcode_and_operands(alloc: Global, cursor: &mut Cursor<'_>) -> Result<Ca
         Kind::None => return Ok(Call::from_parts(op, Operands::None)),
         Kind::Index => return Ok(Call::from_parts(op, Operands::Index(cursor.u32()?))),
         Kind::Mem => return Ok(Call::from_parts(op, Operands::Mem(read_mem_arg(cursor)?))),
+        Kind::I32 => return Ok(Call::from_parts(op, Operands::I32(cursor.s32()?))),
         _ => {}
     }
     let operands = read_operands(alloc, cursor, kind)?;

@@ -1,5 +1,5 @@
 //! Readers of the parts of operands (Core 3.0, Instructions).
-ghost use Rattle.std.specs.Prelude.{◌≡◌, ◌<◌, IfOk, IfErr, refl};
+ghost use Rattle.std.specs.Prelude.{◌≡◌, ◌<◌, Some, IfSome, IfOk, IfErr, refl};
 ghost use Rattle.wasm_codec.specs.Places.{Reads, map_at};
 ghost use Rattle.wasm_codec.specs.formats.Combinators.{little_endian};
 ghost use Rattle.wasm_codec.specs.Outcomes.{IsMalformed};
@@ -261,6 +261,38 @@ pub fn read_operands(alloc: Global, cursor: &mut Cursor<'_>, kind: Kind) -> Resu
         Kind::OrderIndex => read_order_index(cursor),
         Kind::OrderTwoIndexes => read_order_two_indexes(cursor),
     }
+}
+
+/// Reads a memory argument of short numbers, without the index of its memory. Returns `None` if the next one has
+/// another form: then the position is unspecified.
+#[inline(always)]
+#[tactic(auto, unfolding(crate::specs::formats::Operands::mem_arg))]
+pub(crate) fn read_short_mem_arg(cursor: &mut Cursor<'_>) -> Option<MemArg>
+    ensures reads { IfSome result (λ arg. mem_arg.at cursor.old ≡ Some (arg, cursor.new)) }
+    ensures aligned { IfSome result (λ arg. arg.align < 64) }
+{
+    let align = cursor.short_u32()?;
+    if align >= 64 {
+        return None;
+    }
+    let offset = cursor.short_u64()?;
+    Some(MemArg {
+        offset,
+        align,
+        memory_index: 0,
+    })
+}
+
+/// Reads an empty block type. Returns `None` if the next one isn't empty: then the position is unspecified.
+#[inline(always)]
+#[tactic(auto, unfolding(crate::specs::formats::Operands::block_type))]
+pub(crate) fn read_empty_block_type(cursor: &mut Cursor<'_>) -> Option<BlockType>
+    ensures { IfSome result (λ ty. block_type.at cursor.old ≡ Some (ty, cursor.new)) }
+{
+    if cursor.next_byte()? != 0x40 {
+        return None;
+    }
+    Some(BlockType::Empty)
 }
 
 /// Reads two indexes.

@@ -17,10 +17,11 @@ use std::alloc::Global;
 use wasm_codec::reader::cursor::{Cursor, Fault};
 use wasm_codec::reader::{ReadError, without_reason};
 use wasm_codec::rewriter::Rewriter;
+use wasm_instructions::reader::lists::read_calls;
 use wasm_lists::checking::check_list_to_end;
 use wasm_lists::list::Items;
 use wasm_lists::readable::Readable;
-use wasm_lists::reading::{read_items, read_list_to_end};
+use wasm_lists::reading::read_list_to_end;
 use wasm_lists::rewriting::Rewritable;
 use wasm_types::types::ValType;
 
@@ -103,7 +104,7 @@ fn read_code_body(alloc: Global, cursor: &mut Cursor<'_>) -> Result<CodeBody, Fa
 {
     let mut code = cursor.body()?;
     let locals = read_locals(alloc, &mut code)?;
-    let calls = read_items(alloc, &mut code)?;
+    let calls = read_calls(alloc, &mut code)?;
     cursor.set_shortest(code.is_shortest());
     Ok(CodeBody { locals, calls })
 }

@@ -13,10 +13,10 @@ use Rattle.wasm_instructions.proofs.reader.instructions.read_instructions.Goals 
 
 pub returns : goal.returns
 returns c =
-    let e = c.read_items_to_end.ensures in
-    let none = none_within Instructions c.args.bytes.now (as_read c.read_items_to_end.result) e.prefix e.within in
+    let e = c.read_calls_to_end.ensures in
+    let none = none_within Instructions c.args.bytes.now (as_read c.read_calls_to_end.result) e.prefix e.within in
     rw c.without_reason.ensures (record {
-      decodes = decodes (Lawful-to-end Lawful-instruction instruction_takes) c.args.bytes.now (λ calls. calls.items) (as_read c.read_items_to_end.result) (record { given = e.given; prefix = e.prefix; unencoded = none });
+      decodes = decodes (Lawful-to-end Lawful-instruction instruction_takes) c.args.bytes.now (λ calls. calls.items) (as_read c.read_calls_to_end.result) (record { given = e.given; prefix = e.prefix; unencoded = none });
       prefix_free = record {
         u32 = prefix_free Lawful-u32;
         u64 = prefix_free Lawful-u64;

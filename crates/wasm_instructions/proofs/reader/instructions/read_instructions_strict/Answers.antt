@@ -8,6 +8,6 @@ use Rattle.wasm_instructions.proofs.reader.instructions.read_instructions_strict
 
 pub returns : goal.returns
 returns c =
-    let e = c.read_items_to_end.ensures in
-    let none = none_within ShortestInstructions c.args.bytes.now (as_read c.read_items_to_end.result) e.prefix e.within in
-    rw c.without_reason.ensures (record { decodes = decodes_minimal (Lawful-to-end Lawful-instruction instruction_takes) c.args.bytes.now are_shortest (λ calls. calls.items) (as_read c.read_items_to_end.result) (record { given = e.given; prefix = e.prefix; unencoded = none }) })
+    let e = c.read_calls_to_end.ensures in
+    let none = none_within ShortestInstructions c.args.bytes.now (as_read c.read_calls_to_end.result) e.prefix e.within in
+    rw c.without_reason.ensures (record { decodes = decodes_minimal (Lawful-to-end Lawful-instruction instruction_takes) c.args.bytes.now are_shortest (λ calls. calls.items) (as_read c.read_calls_to_end.result) (record { given = e.given; prefix = e.prefix; unencoded = none }) })

@@ -1,6 +1,7 @@
-use Rattle.std.proofs.Common.{Ok, Err}
+use Rattle.std.proofs.Common.{rules, Ok, Err, w32, FitsSigned}
+use Rattle.std.proofs.lemmas.Int.{to_z-of_z}
 use Rattle.std.proofs.lemmas.Result.{err_from_is_err_and}
-use Rattle.wasm_instructions.proofs.InstructionReading.{index_read, mem_read, nothing_read}
+use Rattle.wasm_instructions.proofs.InstructionReading.{index_read, int_read, mem_read, nothing_read}
 use Rattle.wasm_instructions.proofs.reader.instructions.read_opcode_and_operands.Goals as goal
 
 pub returns-in-None-clause-reads : goal.returns-in-None-clause-reads
@@ -21,3 +22,13 @@ returns-in_err-read_mem_arg-in-Mem-clause-reads c =
 
 pub returns-in-Mem-clause-reads : goal.returns-in-Mem-clause-reads
 returns-in-Mem-clause-reads c = rw c.from_parts-in-Mem.ensures (mem_read c.in_ok-op.op c.in-Some.kind c.args.cursor.now c.read_opcode.new.cursor c.read_mem_arg.new.cursor (Ok c.in_ok-read_mem_arg-in-Mem.field-0) c.in_ok-op.ensures.reads c.in-Some.ensures c.in-Mem.is c.in_ok-read_mem_arg-in-Mem.ensures.reads)
+
+pub returns-in_err-s32-in-I32-clause-reads : goal.returns-in_err-s32-in-I32-clause-reads
+returns-in_err-s32-in-I32-clause-reads c =
+    let p = err_from_is_err_and c.from_residual-in_err-s32-in-I32.result c.from_residual-in_err-s32-in-I32.ensures.1 in
+    rw (p.1, p.2) (int_read c.in_ok-op.op c.in-Some.kind c.args.cursor.now c.read_opcode.new.cursor c.s32.new.self (Err c.in_err-s32-in-I32.field-0.0) c.in_ok-op.ensures.reads c.in-Some.ensures c.in-I32.is c.in_err-s32-in-I32.ensures.reads)
+
+pub returns-in-I32-clause-reads : goal.returns-in-I32-clause-reads
+returns-in-I32-clause-reads c =
+    let f : FitsSigned w32 c.in_ok-s32-in-I32.field-0 = search rules in
+    rw (c.from_parts-in-I32.ensures, to_z-of_z w32 c.in_ok-s32-in-I32.field-0 f) (int_read c.in_ok-op.op c.in-Some.kind c.args.cursor.now c.read_opcode.new.cursor c.s32.new.self (Ok c.in_ok-s32-in-I32.field-0) c.in_ok-op.ensures.reads c.in-Some.ensures c.in-I32.is c.in_ok-s32-in-I32.ensures.reads)

@@ -17,9 +17,9 @@ pub returns-in_err-calls : goal.returns-in_err-calls
 returns-in_err-calls c =
     let p = err_from_is_err_and c.from_residual-in_err-calls.result c.from_residual-in_err-calls.ensures.1 in
     let at : CodeAt c.args.cursor.now c.body.new.self c.in_ok-code.code = record { body = c.in_ok-code.ensures.reads; tells = c.in_ok-code.ensures.tells } in
-    rw (p.1, p.2) (record { reads = no_calls c.args.cursor.now c.body.new.self c.in_ok-code.code c.read_locals.new.cursor c.read_items.new.cursor c.body.new.self c.in_ok-locals.locals c.in_err-calls.field-0.0 at c.in_ok-locals.ensures.reads c.in_err-calls.ensures.reads })
+    rw (p.1, p.2) (record { reads = no_calls c.args.cursor.now c.body.new.self c.in_ok-code.code c.read_locals.new.cursor c.read_calls.new.cursor c.body.new.self c.in_ok-locals.locals c.in_err-calls.field-0.0 at c.in_ok-locals.ensures.reads c.in_err-calls.ensures.reads })
 
 pub returns : goal.returns
 returns c =
     let at : CodeAt c.args.cursor.now c.body.new.self c.in_ok-code.code = record { body = c.in_ok-code.ensures.reads; tells = c.in_ok-code.ensures.tells } in
-    rw (c.set_shortest.ensures, c.is_shortest.ensures) (record { reads = code_read c.args.cursor.now c.body.new.self c.in_ok-code.code c.read_locals.new.cursor c.read_items.new.cursor c.in_ok-locals.locals c.in_ok-calls.calls at c.in_ok-locals.ensures.reads c.in_ok-calls.ensures.reads c.in_ok-calls.ensures.ended })
+    rw (c.set_shortest.ensures, c.is_shortest.ensures) (record { reads = code_read c.args.cursor.now c.body.new.self c.in_ok-code.code c.read_locals.new.cursor c.read_calls.new.cursor c.in_ok-locals.locals c.in_ok-calls.calls at c.in_ok-locals.ensures.reads c.in_ok-calls.ensures.reads c.in_ok-calls.ensures.ended })
