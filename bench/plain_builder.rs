@@ -3,6 +3,7 @@
 //! `plain_builder NUMBER WORD` writes a module of so many items. Each byte is written at its place in the module, so it
 //! is copied once. `copied_functions` and `copied_raw_functions` copy as the crate `wasm-encoder` does: instructions go
 //! into a list for their function, functions into a list for their section, and the section into the module.
+//! `written_functions` leaves out the last of these copies: it writes the section from its list.
 use std::io::Write;
 
 const ROUNDS: u32 = 20;
@@ -113,8 +114,8 @@ fn constant(bytes: &mut Vec<u8>, index: u32) {
     bytes.push(0x0b);
 }
 
-/// A code section, copied as the crate `wasm-encoder` does.
-fn copied_functions(module: &mut Vec<u8>, number: u32, write: impl Fn(&mut Vec<u8>, u32)) {
+/// A code section, copied as the crate `wasm-encoder` does. The module gets what stands in front of the functions.
+fn copied_functions(module: &mut Vec<u8>, number: u32, write: impl Fn(&mut Vec<u8>, u32)) -> Vec<u8> {
     let mut code = Vec::new();
     for index in 0..number {
         let mut body = Vec::new();
@@ -124,10 +125,11 @@ fn copied_functions(module: &mut Vec<u8>, number: u32, write: impl Fn(&mut Vec<u
     module.push(10);
     unsigned(module, (digits_of(number as usize) + code.len()) as u64);
     unsigned(module, u64::from(number));
-    module.extend_from_slice(&code);
+    code
 }
 
-fn build(module: &mut Vec<u8>, number: u32, word: &str) {
+/// Builds a module, and returns what is to be written after it.
+fn build(module: &mut Vec<u8>, number: u32, word: &str) -> Vec<u8> {
     let mut body = Vec::new();
     rounds(&mut body, 0);
     let copy = |bytes: &mut Vec<u8>, _: u32| bytes.extend_from_slice(&body);
@@ -138,8 +140,15 @@ fn build(module: &mut Vec<u8>, number: u32, word: &str) {
         "build_raw_functions" => section(module, 10, number, 1000, |bytes, index| {
             sized(bytes, 2, |bytes| function(bytes, |bytes| copy(bytes, index)));
         }),
-        "copied_functions" => copied_functions(module, number, rounds),
-        "copied_raw_functions" => copied_functions(module, number, copy),
+        "copied_functions" => {
+            let code = copied_functions(module, number, rounds);
+            module.extend_from_slice(&code);
+        }
+        "copied_raw_functions" => {
+            let code = copied_functions(module, number, copy);
+            module.extend_from_slice(&code);
+        }
+        "written_functions" => return copied_functions(module, number, rounds),
         "build_types" => section(module, 1, number, 7, |bytes, _| {
             bytes.extend_from_slice(b"\x60\x03\x7f\x7f\x7e\x01\x7f");
         }),
@@ -182,11 +191,13 @@ fn build(module: &mut Vec<u8>, number: u32, word: &str) {
         }
         other => panic!("{other} is no word of plain_builder"),
     }
+    Vec::new()
 }
 
 fn main() {
     let words: Vec<String> = std::env::args().skip(1).collect();
     let mut module = b"\0asm\x01\0\0\0".to_vec();
-    build(&mut module, words[0].parse().unwrap(), &words[1]);
+    let rest = build(&mut module, words[0].parse().unwrap(), &words[1]);
     std::io::stdout().write_all(&module).unwrap();
+    std::io::stdout().write_all(&rest).unwrap();
 }

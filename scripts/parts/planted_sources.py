@@ -90,8 +90,18 @@ def label(words, with_arguments=False):
         return f"Tuple{words.count(',') + 1}"
     if words.startswith("["):
         return "Array" if ";" in words else "Slice"
-    name = last_name(words)
-    return name[:1].upper() + name[1:] + "".join(label(it) for it in arguments_of(words) if with_arguments)
+    return camel(last_name(words)) + "".join(argument_label(it) for it in arguments_of(words) if with_arguments)
+
+
+def argument_label(words):
+    """The name of a trait's argument, in front of which the checker puts the module that it is named by, as in
+    `WriteErrorFromIoError`."""
+    module = words.partition("<")[0].strip().rpartition("::")[0].rpartition("::")[2]
+    return camel(module) + label(words)
+
+
+def camel(name):
+    return name[:1].upper() + name[1:]
 
 
 def last_name(words):

@@ -2,10 +2,11 @@
 
 use crate::mix::write_mix;
 use std::alloc::Global;
+use std::io::Write;
 use wasm_encoder::{
     CodeSection, ConstExpr, CustomSection, DataSection, ElementSection, Elements, EncodeError,
     EntityType, ExportKind, ExportSection, Function, GlobalSection, GlobalType, ImportSection,
-    Module, TypeSection, ValType,
+    Module, ModuleWriter, TypeSection, ValType, WriteError,
 };
 
 /// How often the mix stands in one function: about a thousand bytes.
@@ -60,6 +61,19 @@ pub fn build(alloc: Global, part: Part, number: u32) -> Result<Vec<u8>, EncodeEr
         Part::Custom => add_custom_sections(&mut module, number)?,
     }
     Ok(module.finish())
+}
+
+/// Builds so many functions, and writes a module of them without a copy of their section.
+pub fn write_functions<W: Write + Drop>(
+    alloc: Global,
+    number: u32,
+    writer: W,
+) -> Result<(), WriteError> {
+    let code = functions(alloc, number)?;
+    let mut module = ModuleWriter::new(alloc, writer)?;
+    module.section(&code)?;
+    module.finish()?;
+    Ok(())
 }
 
 fn functions(alloc: Global, number: u32) -> Result<CodeSection, EncodeError> {

@@ -6,6 +6,7 @@
 //!   values. For 0 they print the values.
 //! - `build_functions`, `build_raw_functions`, `build_types`, `build_imports`, `build_globals`, `build_exports`,
 //!   `build_elements`, `build_data` and `build_custom` build a module of so many items, and write it.
+//! - `write_functions` builds the section of `build_functions`, and writes the module with `ModuleWriter`.
 //! - `canonicalise` rewrites the module that is standard input, once, and writes it.
 //! - `size_of_call`, which it is if there is no second argument, prints the size of a `Call` in bytes.
 #![tactic(auto)]
@@ -14,18 +15,19 @@ mod builders;
 mod mix;
 mod readers;
 
-use crate::builders::{Part, build};
+use crate::builders::{Part, build, write_functions};
 use crate::readers::{Form, canonical, print_values, read_times};
 use std::io::{Read, Write};
 use std::process::ExitCode;
 use std::{env, io};
-use wasm_encoder::Call;
+use wasm_encoder::{Call, WriteError};
 
 /// What is measured.
 #[derive(Clone, Copy)]
 enum Work {
     Read(Form),
     Build(Part),
+    WriteFunctions,
     Canonicalise,
     SizeOfCall,
 }
@@ -37,6 +39,7 @@ fn work_of(word: &str) -> Option<Work> {
         "read_module" => Work::Read(Form::Module),
         "read_types" => Work::Read(Form::Types),
         "read_imports" => Work::Read(Form::Imports),
+        "write_functions" => Work::WriteFunctions,
         "canonicalise" => Work::Canonicalise,
         "size_of_call" => Work::SizeOfCall,
         _ => Work::Build(part_of(word)?),
@@ -108,6 +111,11 @@ fn run(rt: &HostRuntime, number: u32, work: Work) -> io::Result<Option<()>> {
             };
             rt.stdout().write_all(&module)?;
         }
+        Work::WriteFunctions => match write_functions(rt.alloc(), number, rt.stdout()) {
+            Ok(()) => {}
+            Err(WriteError::Io(error)) => return Err(error),
+            Err(WriteError::Encode(_)) => return Ok(None),
+        },
         Work::Canonicalise => {
             let Some(module) = canonical(input(rt)?) else {
                 return Ok(None);

@@ -5,6 +5,7 @@ pub mod code_sections;
 pub mod constants;
 pub mod held_lists;
 pub mod instructions;
+pub mod module_writers;
 pub mod modules;
 pub mod refusals;
 pub mod sections;

@@ -6,6 +6,7 @@ mod functions;
 mod instructions;
 mod iterators;
 mod lists;
+mod module_writer;
 mod modules;
 mod operands;
 mod own;

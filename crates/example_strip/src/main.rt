@@ -1,7 +1,7 @@
 //! Copies a module from standard input to standard output without its custom sections.
 //!
-//! `read_module` borrows the section bodies from the bytes, and `Module::section` accepts them unchanged. The contract
-//! of `strip` says what stays: the sections whose id isn't 0, in order, with minimally encoded sizes.
+//! `read_module` borrows the section bodies from the bytes, and `ModuleWriter` writes them from there. The contract of
+//! `strip` says what stays: the sections whose id isn't 0, in order, with minimally encoded sizes.
 //!
 //! Names and debug information are custom sections, so the program does what `wasm-strip` does. Linked modules run
 //! without them; relocatable object files need theirs.
@@ -10,12 +10,11 @@
 mod strip;
 
 use anyhow::Result;
-use std::io::{Read, Write};
+use std::io::Read;
 
 fn main(rt: HostRuntime) -> Result<()> {
     let mut bytes = Vec::new(rt.alloc());
     rt.stdin().read_to_end(&mut bytes)?;
-    let stripped = strip::strip(rt.alloc(), &bytes)?;
-    rt.stdout().write_all(&stripped)?;
+    strip::strip(rt.alloc(), &bytes, rt.stdout())?;
     Ok(())
 }

@@ -8,3 +8,4 @@ pub mod OnLiterals
 pub mod WholeModuleLaws
 pub mod LocalGroups
 pub mod SameTypes
+pub mod WriterLaws

@@ -1,5 +1,5 @@
 -- Why values aren't added: which part of what can be written fails.
-use Rattle.std.proofs.Common.{◌≡◌, ℕ, suc, ◌+◌, ◌⊎◌, List, [], ◌∷◌, length, Option, Result, Ok, Err, IfErr, refl, subst, inl, inr, arith}
+use Rattle.std.proofs.Common.{ℕ, suc, ◌+◌, ◌⊎◌, List, [], ◌∷◌, length, Option, Result, Ok, Err, IfErr, refl, inl, inr, arith}
 use Rattle.std.specs.List.{All, AllByRecursion, Any}
 use Rattle.std.specs.Iterator.{Count, size}
 use Rattle.std.proofs.lemmas.List.Elements.{All-nil, All-cons}

@@ -77,3 +77,4 @@ pub mod CodeSections
 pub mod RawSections
 pub mod SectionIds
 pub mod TypeSections
+pub mod WrittenModules

@@ -14,6 +14,7 @@ ghost use Rattle.wasm_encoder.specs.EncodedLists.{Adds, AddsAll, EncodesSection,
 ghost use Rattle.wasm_encoder.specs.CodeSections.{bytes_row};
 ghost use Rattle.wasm_encoder.specs.CodeSections.{AreGroups, GainsBodies, GainsFunction, GoesOnWith, GoesOnWithBytes, HoldsBodies, IsCodeSection, MakesFunction, MakesLocals, StandsForBodies, UncountedBody};
 
+use crate::encoded_section::EncodedSection;
 use crate::wasm_core::{Section, SectionId};
 use std::alloc::{Allocator, Global};
 use std::marker::Model;
@@ -402,5 +403,9 @@ impl Section for CodeSection {
 
     fn id(&self) -> u8 {
         u8::from(SectionId::Code)
+    }
+
+    fn encoded(&self, alloc: Global) -> Result<EncodedSection<'_>, EncodeError> {
+        EncodedSection::of_list(alloc, self.id(), self.bodies.len(), self.bodies.as_slice())
     }
 }

@@ -25,9 +25,10 @@ use crate::type_section::TypeSection;
 use crate::wasm_core::Module;
 use std::alloc::Global;
 use wasm_codec::reader::DecodeError;
+use wasm_instructions::reader::lists::read_calls_to_end;
 use wasm_instructions::table::Call;
 use wasm_lists::checking::{check_items_to_end, check_list_to_end};
-use wasm_lists::reading::{read_items_to_end, read_list_to_end};
+use wasm_lists::reading::read_list_to_end;
 use wasm_lists::rewriting::{rewrite_items_to_end, rewrite_list_to_end};
 use wasm_modules::code::CodeBody;
 pub use wasm_modules::decode::{Decode, check, normalise, read, read_strict, rewrite};
@@ -70,12 +71,12 @@ impl<'a> Decode<'a> for Instructions {
 
     #[tactic(auto, using(wasm_codec::proofs::ListReading::none_within))]
     fn read_all(alloc: Global, bytes: &'a [u8]) -> Result<Vec<Call>, DecodeError> {
-        read_items_to_end::<Call, false>(alloc, bytes)
+        read_calls_to_end::<false>(alloc, bytes)
     }
 
     #[tactic(auto, using(wasm_codec::proofs::ListReading::none_within))]
     fn read_all_strict(alloc: Global, bytes: &'a [u8]) -> Result<Vec<Call>, DecodeError> {
-        read_items_to_end::<Call, true>(alloc, bytes)
+        read_calls_to_end::<true>(alloc, bytes)
     }
 
     #[tactic(auto, using(wasm_codec::proofs::ListReading::none_within))]

@@ -69,6 +69,8 @@
 pub mod code;
 pub mod decode;
 pub mod encode;
+pub mod encoded_section;
+pub mod module_writer;
 pub mod raw;
 pub mod reader;
 pub mod sections;
@@ -92,6 +94,9 @@ pub use encode::encode_bytes;
 pub use encode::encode_list;
 pub use encode::encode_str;
 pub use encode::keep_or_undo;
+pub use encoded_section::EncodedSection;
+pub use module_writer::ModuleWriter;
+pub use module_writer::WriteError;
 pub use raw::RawSection;
 pub use raw::first_body;
 pub use reader::Construct;

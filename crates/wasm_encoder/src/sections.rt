@@ -4,10 +4,18 @@
 //! A builder of a list is a [`ListSection`] of its items: `ExportSection` is `ListSection<Export>`, and so on. Each has
 //! `new`, `len`, `is_empty`, `push`, `entries` and `try_clone`, and a method named after what it adds, such as
 //! `export`.
-ghost use Rattle.std.specs.Prelude.{◌≡◌};
+ghost use Rattle.std.specs.Prelude.{◌≡◌, ◌∷◌, OnOk, IfOk, IfErr};
+ghost use Rattle.wasm_codec.specs.Encoding.{byte_list_bytes, IsRefusal, IsShortest, OnlyTooLong};
 ghost use Rattle.wasm_lists.specs.EncodedLists.{EncodedItems};
+ghost use Rattle.wasm_sections.specs.SectionBytes.{CountedCustom, IsSectionAfter};
+ghost use Rattle.wasm_sections.specs.formats.EntryParts.{custom_parts};
+ghost use Rattle.wasm_sections.specs.formats.ModuleSectionParts.{custom};
+ghost use Rattle.wasm_sections.specs.formats.Sections.{custom_body};
 
+use crate::encoded_section::EncodedSection;
 use crate::wasm_core::Section;
+use std::alloc::Global as GlobalAllocator;
+use wasm_codec::encode::EncodeError;
 pub use wasm_codec::reader::names::{SectionNames, section_names};
 pub use wasm_custom_sections::branch_hints::{BranchHint, BranchHints, FunctionHints};
 pub use wasm_custom_sections::custom_list::{CustomItem, CustomList};
@@ -26,6 +34,7 @@ pub use wasm_custom_sections::target_features::{
 pub use wasm_entities::const_expr::ConstExpr;
 pub use wasm_entities::limits::{MemoryType, TableType};
 pub use wasm_entities::types::{EntityType, ExportKind, GlobalType, TagKind, TagType};
+use wasm_sections::custom::append_front;
 pub use wasm_sections::custom::{CustomSection, read_custom};
 pub use wasm_sections::data::{DataSection, DataSegment, DataSegmentMode};
 pub use wasm_sections::elements::{Element, ElementMode, ElementSection, Elements};
@@ -57,6 +66,11 @@ impl<T: SectionItem> Section for ListSection<T> {
     fn id(&self) -> u8 {
         T::section_id()
     }
+
+    fn encoded(&self, alloc: GlobalAllocator) -> Result<EncodedSection<'_>, EncodeError> {
+        T::is_lawful();
+        EncodedSection::of_list(alloc, self.id(), self.len(), self.as_slice())
+    }
 }
 
 impl Section for StartSection {
@@ -81,6 +95,30 @@ impl<'a> Section for CustomSection<'a> {
     fn id(&self) -> u8 {
         0
     }
+
+    fn encoded(&self, alloc: GlobalAllocator) -> Result<EncodedSection<'_>, EncodeError> {
+        encoded_custom(alloc, self)
+    }
+}
+
+/// Returns a custom section, whose contents stay where they are.
+///
+/// Fails with `TooLong` if the body is longer than 4,294,967,295 bytes.
+fn encoded_custom<'a>(
+    alloc: GlobalAllocator,
+    section: &CustomSection<'a>,
+) -> Result<EncodedSection<'a>, EncodeError>
+    ensures ok { IfOk result (λ encoded. encoded ≡ 0 ∷ byte_list_bytes (custom_body.bytes (custom_parts section.now))) }
+    ensures can { OnOk result (CountedCustom section.now) }
+    ensures shortest { OnOk result (IsShortest custom_body.Encodes custom_body.bytes (custom_parts section.now)) }
+    ensures whole { OnOk result (IsSectionAfter 0 (byte_list_bytes (custom_body.bytes (custom_parts section.now))) (custom (custom_parts section.now))) }
+    ensures refused { IfErr result (IsRefusal CountedCustom OnlyTooLong section.now) }
+{
+    let mut front = Vec::new(alloc);
+    front.reserve(1)?;
+    front.push_reserved(CUSTOM_SECTION_ID);
+    append_front(section, &mut front)?;
+    Ok(EncodedSection::new(front, section.bytes))
 }
 
 impl Section for NameSection {
@@ -88,6 +126,15 @@ impl Section for NameSection {
 
     fn id(&self) -> u8 {
         CUSTOM_SECTION_ID
+    }
+
+    #[tactic(auto, using(wasm_custom_sections::proofs::NameSectionLaws::holds_names))]
+    fn encoded(&self, alloc: GlobalAllocator) -> Result<EncodedSection<'_>, EncodeError> {
+        let section = CustomSection {
+            name: "name",
+            bytes: self.as_slice(),
+        };
+        encoded_custom(alloc, &section)
     }
 }
 

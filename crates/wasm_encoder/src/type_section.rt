@@ -12,6 +12,7 @@ ghost use Rattle.wasm_types.specs.declared.types.composite.TypeEntry.{TypeEntry}
 ghost use Rattle.wasm_types.specs.declared.types.composite.CompositeInnerType.TheVariants as inner;
 ghost use Rattle.wasm_types.specs.declared.types.composite.TypeEntry.TheVariants as entries;
 
+use crate::encoded_section::EncodedSection;
 use crate::wasm_core::{Section, SectionId};
 use std::alloc::{Allocator, Global};
 use std::marker::Model;
@@ -161,6 +162,15 @@ impl Section for TypeSection {
 
     fn id(&self) -> u8 {
         u8::from(SectionId::Types)
+    }
+
+    fn encoded(&self, alloc: Global) -> Result<EncodedSection<'_>, EncodeError> {
+        EncodedSection::of_list(
+            alloc,
+            self.id(),
+            self.entries.len(),
+            self.entries.as_slice(),
+        )
     }
 }
 

@@ -4,10 +4,12 @@ ghost use Rattle.wasm_codec.specs.Encoding.{IsRefusal};
 ghost use Rattle.wasm_modules.specs.formats.Sections.{header};
 ghost use Rattle.wasm_sections.specs.formats.ModuleSections.{ShortestWholeModule};
 ghost use Rattle.wasm_encoder.specs.BuiltModules.{AppendsTo, AppendsSection};
+ghost use Rattle.wasm_encoder.specs.WrittenModules.{EncodesInParts};
 ghost use Rattle.wasm_encoder.specs.EncodedLists.{Makes};
 ghost use Rattle.wasm_encoder.specs.SectionIds.{section_id};
 ghost use Rattle.wasm_codec.specs.declared.encode.EncodeError.TheVariants.{Memory};
 
+use crate::encoded_section::EncodedSection;
 use std::alloc::{Allocator, Global};
 use std::marker::Model;
 use wasm_codec::encode::EncodeError;
@@ -43,6 +45,20 @@ pub trait Section: Encode {
     {
         append_section(self.id(), self, dst)
     }
+
+    /// Returns the id and the encoding of the section, for a [`ModuleWriter`](crate::ModuleWriter).
+    ///
+    /// By default it copies the encoding. Sections that keep their bytes lend them instead: `TypeSection`, `CodeSection`,
+    /// each `ListSection`, `CustomSection`, `NameSection` and `RawSection`. Fails with `Memory`, and with the errors of
+    /// `encode`.
+    fn encoded(&self, alloc: Global) -> Result<EncodedSection<'_>, EncodeError>
+        ensures encodes { EncodesInParts (id self.now) (Self.bytes self.now) (Self.CanEncode self.now) (Self.IsWritten self.now)
+            (IsRefusal Self.CanEncode Self.refuses self.now) result }
+    {
+        let mut front = Vec::new(alloc);
+        append_section(self.id(), self, &mut front)?;
+        Ok(EncodedSection::new(front, &[]))
+    }
 }
 
 impl<'a> Section for RawSection<'a> {
@@ -50,6 +66,10 @@ impl<'a> Section for RawSection<'a> {
 
     fn id(&self) -> u8 {
         self.id
+    }
+
+    fn encoded(&self, alloc: Global) -> Result<EncodedSection<'_>, EncodeError> {
+        EncodedSection::of_body(alloc, self.id, self.body)
     }
 }
 

@@ -49,6 +49,13 @@ impl EncodedList {
         self.count
     }
 
+    /// Returns the bytes of the values, without their number.
+    pub fn as_slice(&self) -> &[u8]
+        ensures { result.now ≡ self.now.bytes }
+    {
+        self.bytes.as_slice()
+    }
+
     /// Copies the list. Fails with `Memory` if it can't allocate.
     pub fn try_clone(&self) -> Result<EncodedList, EncodeError>
         ensures ok { IfOk result (λ list. list ≡ self.now) }

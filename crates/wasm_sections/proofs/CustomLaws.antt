@@ -1,8 +1,8 @@
 -- The laws of custom sections, and what is read and written of them.
-use Rattle.std.proofs.Common.{◌≡◌, ℕ, ◌≤◌, true, false, List, [], ◌++◌, length, take, length-append, Option, Some, None, Err, refl, sym, ap, subst, ◌∙◌, append_assoc, inl, inr, arith, ◌+◌}
+use Rattle.std.proofs.Common.{◌≡◌, ℕ, ◌≤◌, true, false, List, [], ◌++◌, length, take, length-append, Option, Some, None, Result, Ok, Err, OnOk, refl, sym, ap, subst, ◌∙◌, append_assoc, inl, inr, arith, ◌+◌}
 use Rattle.std.proofs.Math.Seq.{take-length}
 use Rattle.std.proofs.lemmas.List.{append-nil}
-use Rattle.wasm_codec.specs.Encoding.{IsShortestOrLonger, IsShortest}
+use Rattle.wasm_codec.specs.Encoding.{byte_list_bytes, IsShortestOrLonger, IsShortest}
 use Rattle.wasm_codec.specs.formats.Grammar.{IsBytes}
 use Rattle.wasm_codec.specs.declared.reader.cursor.Fault.{Fault}
 use Rattle.wasm_codec.specs.Outcomes.{IsMalformed}
@@ -24,7 +24,6 @@ use Rattle.wasm_sections.specs.Prefixes.{IsNothingOr, IsRefusedAt, AreLawfulPref
 use Rattle.wasm_entities.specs.formats.Names.{name}
 use Rattle.wasm_sections.specs.formats.Sections.{custom_of, parts_of_custom, custom_body}
 use Rattle.wasm_entities.proofs.NameLaws.{name_is_lawful}
-use Rattle.wasm_entities.proofs.ExternalLaws.{two}
 
 pub custom_is_lawful : IsLawfulBody custom_body
 unfolding custom_body
@@ -152,9 +151,15 @@ pub body_counted : (c : CustomParts) → length (unsigned_leb128 (length c.name)
 unfolding custom_body name
 body_counted c = omega (arith, length-append (unsigned_leb128 (length c.name) ++ c.name) c.data_bytes, length-append (unsigned_leb128 (length c.name)) c.name)
 
-pub body_appended : (c : CustomParts) (old named new : List ℕ) → named ≡ old ++ name.bytes c.name → new ≡ named ++ c.data_bytes → new ≡ old ++ custom_body.bytes c
+-- the size and the name are what the encoding has in front of the contents
+pub front_appended : {T E : Type 0} (r : Result T E) (c : CustomParts) (size : ℕ) (old sized named : List ℕ) → size ≡ length (custom_body.bytes c) → sized ≡ old ++ unsigned_leb128 size → OnOk r (named ≡ sized ++ name.bytes c.name)
+    → OnOk r (named ++ c.data_bytes ≡ old ++ byte_list_bytes (custom_body.bytes c))
 unfolding custom_body
-body_appended c old named new p q = two old (name.bytes c.name) c.data_bytes named new p q
+front_appended (Ok x) c size old sized named counted first second =
+    let digits : sized ≡ old ++ unsigned_leb128 (length (custom_body.bytes c)) = first ∙ ap (λ (n : ℕ). old ++ unsigned_leb128 n) counted in
+    ap (λ (t : List ℕ). t ++ c.data_bytes) second ∙ append_assoc sized (name.bytes c.name) c.data_bytes
+    ∙ ap (λ (t : List ℕ). t ++ (name.bytes c.name ++ c.data_bytes)) digits ∙ append_assoc old (unsigned_leb128 (length (custom_body.bytes c))) (name.bytes c.name ++ c.data_bytes)
+front_appended (Err e) c size old sized named counted first second = tt
 
 custom_in_range : (c : CustomParts) → name.InRange c.name → IsBytes c.data_bytes → custom_body.InRange c
 unfolding custom_body

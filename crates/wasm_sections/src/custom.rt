@@ -7,7 +7,7 @@ ghost use Rattle.wasm_sections.specs.formats.Sections.{custom_body};
 ghost use Rattle.wasm_codec.specs.Decoding.{ReadsAll, ChecksAll, RewritesAll, IsMinimal, Decodes};
 ghost use Rattle.wasm_codec.specs.Lawful.{IsLawfulBody};
 ghost use Rattle.wasm_codec.specs.Outcomes.{IfMalformed, LiesIn, as_read, NeedsNoMemory};
-ghost use Rattle.wasm_codec.specs.Encoding.{byte_list_bytes, IsCount, IsCountRefusal, IsRefusal, IsShortest, IsTooLong, OnlyTooLong};
+ghost use Rattle.wasm_codec.specs.Encoding.{byte_list_bytes, IsRefusal, IsShortest, IsTooLong, OnlyTooLong};
 ghost use Rattle.wasm_sections.specs.formats.ModuleSectionParts.{custom};
 ghost use Rattle.wasm_sections.specs.SectionBytes.{CountedCustom, IsSectionAfter};
 
@@ -210,9 +210,29 @@ fn append_custom<A: Allocator>(
     ensures refused { IfErr result (IsRefusal CountedCustom OnlyTooLong section.now) }
     ensures kept { take (length sink.old.items) sink.new.items ≡ sink.old.items }
 {
+    append_front(section, sink)?;
+    sink.extend_from_slice(section.bytes)?;
+    Ok(())
+}
+
+/// Appends what a custom section's encoding has in front of the contents: the size of the body, and the name.
+///
+/// On error a part of it may remain. Fails with `TooLong` if the body is longer than 4,294,967,295 bytes.
+pub fn append_front<A: Allocator>(
+    section: &CustomSection<'_>,
+    sink: &mut Vec<u8, A>,
+) -> Result<(), EncodeError>
+    ensures ok { OnOk result (sink.new.items ++ section.now.bytes.now ≡ sink.old.items ++ byte_list_bytes (custom_body.bytes (custom_parts section.now))) }
+    ensures can { OnOk result (CountedCustom section.now) }
+    ensures shortest { OnOk result (IsShortest custom_body.Encodes custom_body.bytes (custom_parts section.now)) }
+    ensures whole { OnOk result (IsSectionAfter 0 (byte_list_bytes (custom_body.bytes (custom_parts section.now))) (custom (custom_parts section.now))) }
+    ensures refused { IfErr result (IsRefusal CountedCustom OnlyTooLong section.now) }
+    ensures kept { take (length sink.old.items) sink.new.items ≡ sink.old.items }
+{
+    are_bytes(section.bytes);
     let size = body_len(section)?;
     size.encode(sink)?;
-    append_body(section, sink)
+    append_name(section.name, sink)
 }
 
 /// Returns the length of the body of a custom section, in bytes. Fails with `TooLong` if the name is longer than
@@ -225,21 +245,4 @@ fn body_len(section: &CustomSection<'_>) -> Result<usize, EncodeError>
         return Err(EncodeError::TooLong);
     };
     Ok(u32_len(name_len) + section.name.len() + section.bytes.len())
-}
-
-/// Appends the body of a custom section. On error a part of it may remain.
-fn append_body<A: Allocator>(
-    section: &CustomSection<'_>,
-    sink: &mut Vec<u8, A>,
-) -> Result<(), EncodeError>
-    ensures ok { OnOk result (sink.new.items ≡ sink.old.items ++ custom_body.bytes (custom_parts section.now)) }
-    ensures can { OnOk result (IsCount (length section.now.name.now)) }
-    ensures shortest { OnOk result (IsShortest custom_body.Encodes custom_body.bytes (custom_parts section.now)) }
-    ensures refused { IfErr result (IsCountRefusal (length section.now.name.now)) }
-    ensures kept { take (length sink.old.items) sink.new.items ≡ sink.old.items }
-{
-    are_bytes(section.bytes);
-    append_name(section.name, sink)?;
-    sink.extend_from_slice(section.bytes)?;
-    Ok(())
 }

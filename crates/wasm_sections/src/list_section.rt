@@ -119,6 +119,22 @@ impl<T: SectionItem> ListSection<T> {
         self.items.len() == 0
     }
 
+    /// Returns the encoded items, without their number.
+    ///
+    /// # Examples
+    ///
+    /// ```
+    /// # use wasm_encoder::FunctionSection;
+    /// let mut functions = FunctionSection::new(rt.alloc());
+    /// functions.entries(&[7, 130])?;
+    /// assert_eq!(rt; functions.as_slice(), b"\x07\x82\x01".as_slice());
+    /// ```
+    pub fn as_slice(&self) -> &[u8]
+        ensures { result.now ≡ self.now.bytes }
+    {
+        self.items.as_slice()
+    }
+
     /// Copies the section. Fails with `Memory` if it can't allocate.
     pub fn try_clone(&self) -> Result<ListSection<T>, EncodeError>
         ensures makes { Makes self.now result }

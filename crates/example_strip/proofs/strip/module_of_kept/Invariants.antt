@@ -1,8 +1,0 @@
-use Rattle.std.proofs.Common.{◌≡◌, take}
-use Rattle.wasm_encoder.specs.ModuleFormats.{raw_module}
-use Rattle.wasm_encoder.specs.Sections.{all_parts_of}
-use Rattle.example_strip.specs.Kept.{kept}
-use Rattle.example_strip.proofs.strip.module_of_kept.Given as goal
-
-abbrev pub invariant-loop-section : goal.invariant-loop-section
-invariant-loop-section l = l.module ≡ raw_module.bytes (kept (all_parts_of (take l.section-index l.sections)))
