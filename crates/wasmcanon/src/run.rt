@@ -115,7 +115,7 @@ pub fn canonicalise<R: Input, W: Write>(
     // The canonical form of the input with these options was appended, and nothing else.
     ensures ok { OnOk result (IfSome (R.remaining reader.old) (λ input.
         AppendsForm options.entry input (W.contents writer.old) (W.contents writer.new))) }
-    // Exactly a malformed input is refused, and one whose sections are out of order.
+    // A refused input is malformed, and unless any order is allowed, the sections of an accepted one are in order.
     ensures accepts { IfSome (R.remaining reader.old) (λ input. Accepts any_order input (outcome_of result)) }
     // All of the input is read before it is refused or a byte is written.
     ensures read_to_end { OnceAllIsRead result (IsAtEnd (R.remaining reader.new)) }
@@ -143,7 +143,7 @@ pub fn hash<R: Input>(
 ) -> Result<[u8; 32], Failure>
     // The result is the digest of the canonical form of the input with these options.
     ensures ok { IfOk result (λ digest. IfSome (R.remaining reader.old) (λ input. IsHash options.entry input digest)) }
-    // Exactly a malformed input is refused, and one whose sections are out of order.
+    // A refused input is malformed, and unless any order is allowed, the sections of an accepted one are in order.
     ensures accepts { IfSome (R.remaining reader.old) (λ input. Accepts any_order input (outcome_of result)) }
     // The section and the item that it names are numbered by those before them.
     ensures numbers { IfPlaced result (λ refusal. IfSome (R.remaining reader.old) (λ input.
@@ -199,7 +199,7 @@ pub fn read_canonical<R: Input>(
 ) -> Result<Canonical, Failure>
     // The result is the canonical form of the input.
     ensures ok { IfOk result (λ form. IfSome (R.remaining reader.old) (λ input. IsCanonicalForm input form.bytes.items)) }
-    // Exactly a malformed input is refused, and one whose sections are out of order.
+    // A refused input is malformed, and unless any order is allowed, the sections of an accepted one are in order.
     ensures accepts { IfSome (R.remaining reader.old) (λ input. Accepts any_order input (outcome_of result)) }
     // All of the input is read before it is refused.
     ensures read_to_end { OnceAllIsRead result (IsAtEnd (R.remaining reader.new)) }
@@ -226,7 +226,7 @@ pub fn report<R: Input, S: SectionWatcher>(
 ) -> Result<(), Failure>
     // The input is a module.
     ensures ok { OnOk result (IfSome (R.remaining reader.old) IsModule) }
-    // Exactly a malformed input is refused, and one whose sections are out of order.
+    // A refused input is malformed, and unless any order is allowed, the sections of an accepted one are in order.
     ensures accepts { IfSome (R.remaining reader.old) (λ input. Accepts any_order input (outcome_of result)) }
     // The watcher is shown each section of the input.
     ensures shows { OnOk result (IfSome (R.remaining reader.old) (λ input.
@@ -256,7 +256,7 @@ pub fn check<R: Input>(
 ) -> Result<Verdict, Failure>
     // The verdict is right.
     ensures ok { IfOk result (λ verdict. IfSome (R.remaining reader.old) (λ input. Judges names input verdict)) }
-    // Exactly a malformed input is refused, and one whose sections are out of order.
+    // A refused input is malformed, and unless any order is allowed, the sections of an accepted one are in order.
     ensures accepts { IfSome (R.remaining reader.old) (λ input. Accepts any_order input (outcome_of result)) }
     // The section and the item that it names are numbered by those before them.
     ensures numbers { IfPlaced result (λ refusal. IfSome (R.remaining reader.old) (λ input.
@@ -288,7 +288,7 @@ pub fn read_input<R: Input>(alloc: Global, reader: &mut R) -> Result<Vec<u8>, Fa
 pub fn accept(alloc: Global, input: Vec<u8>, any_order: bool) -> Result<Vec<u8>, Failure>
     // The result is the canonical form of the input.
     ensures ok { IfOk result (λ form. IsCanonicalForm input.items form.items) }
-    // Exactly a malformed input is refused, and one whose sections are out of order.
+    // A refused input is malformed, and unless any order is allowed, the sections of an accepted one are in order.
     ensures accepts { Accepts any_order input.items (outcome_of result) }
     // The section and the item that it names are numbered by those before them.
     ensures numbers { IfPlaced result (CountsParts module_section input.items) }
