@@ -25,3 +25,4 @@ pub mod ListRewriting
 pub mod RawRewriting
 pub mod RefusalNumbers
 pub mod Skipping
+pub mod StreamLaws

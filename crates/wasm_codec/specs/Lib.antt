@@ -10,3 +10,4 @@ pub mod formats
 pub mod Lawful
 pub mod Rewriter
 pub mod Scanning
+pub mod Streams

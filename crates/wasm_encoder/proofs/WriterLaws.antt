@@ -1,7 +1,5 @@
 -- The laws of modules that are being written.
 use Rattle.std.proofs.Common.{◌≡◌, ℕ, ◌+◌, ◌-◌, ◌≤◌, List, [], ◌∷◌, ◌++◌, Result, Ok, Err, refl, length, take, drop, sym, ap, ◌∙◌, subst, arith, append_assoc, length-append, length-drop}
-use Rattle.std.proofs.Math.Seq.{take-add}
-use Rattle.std.proofs.lemmas.List.{take_rest}
 use Rattle.std.specs.Prelude.{Option, OnOk, IfOk, IfErr}
 use Rattle.std.specs.Io.KnownBytes.{Appends, Keeps}
 use Rattle.std.proofs.KnownBytes.{Appends-trans, Appends-kept, Keeps-refl}
@@ -11,24 +9,14 @@ use Rattle.wasm_encoder.specs.declared.module_writer.WriteError.{WriteError}
 use Rattle.wasm_encoder.specs.declared.module_writer.WriteError.TheVariants as errors
 use Rattle.wasm_encoder.proofs.WholeModuleLaws.{appends_section, no_sections}
 use Rattle.wasm_codec.specs.Encoding.{byte_list_bytes, IsRefusal, OnlyTooLong}
+use Rattle.wasm_codec.specs.Streams.{AppendsPrefix, WritesAll}
 use Rattle.wasm_modules.specs.formats.Sections.{header}
 use Rattle.wasm_sections.specs.formats.ModuleSectionParts.{ModuleSectionParts}
 use Rattle.wasm_encoder.specs.BuiltModules.{AppendsSection}
 use Rattle.wasm_encoder.specs.EncodedLists.{EncodedItems, CountedSection, body_bytes}
-use Rattle.wasm_encoder.specs.WrittenModules.{AppendsPrefix, EncodesInParts, IsWrittenModule, WritesAll, WritesSection}
+use Rattle.wasm_encoder.specs.WrittenModules.{EncodesInParts, IsWrittenModule, WritesSection}
 
--- ---- bytes in several writes
-
--- a write of what follows a prefix makes the prefix longer
-pub more_written : (a b c : Option (List ℕ)) (bytes : List ℕ) (n m : ℕ) → Appends a b (take n bytes)
-    → Appends b c (take m (take (length bytes - n) (drop n bytes))) → Appends a c (take (n + m) bytes)
-more_written a b c bytes n m before write =
-    let joined = take-add n m bytes ∙ ap (λ rest. take n bytes ++ take m rest) (sym (take_rest bytes n)) in
-    subst (Appends a c) (sym joined) (Appends-trans a b c _ _ before write)
-
--- and leaves it within the bytes
-pub still_within : (bytes : List ℕ) (n m : ℕ) → n ≤ length bytes → m ≤ length (take (length bytes - n) (drop n bytes)) → n + m ≤ length bytes
-still_within bytes n m within bound = omega (arith, length-drop n bytes, ap length (take_rest bytes n))
+-- ---- bytes in two parts
 
 -- what is written of the second part follows the first part
 pub after_front : {T E : Type 0} (a b c : Option (List ℕ)) (front rest whole : List ℕ) (r : Result T E) → front ++ rest ≡ whole → Appends a b front → WritesAll rest b c r → WritesAll whole a c r

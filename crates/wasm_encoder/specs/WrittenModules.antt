@@ -1,6 +1,7 @@
 -- Modules that are written section by section (WebAssembly Core 3.0, Modules).
 use Rattle.std.specs.Prelude.{◌≡◌, ◌<◌, ◌++◌, ◌∷◌, [], ℕ, List, length, Option, Result, Ok, Err, OnOk, OnErr, IfOk, IfErr}
 use Rattle.std.specs.Io.KnownBytes.{Appends, Keeps}
+use Rattle.wasm_codec.specs.Streams.{AppendsPrefix}
 use Rattle.wasm_codec.specs.declared.encode.EncodeError.{EncodeError}
 use Rattle.wasm_sections.specs.formats.ModuleSectionParts.{ModuleSectionParts}
 use Rattle.wasm_sections.specs.formats.ModuleSections.{ShortestWholeModule}
@@ -8,21 +9,6 @@ use Rattle.wasm_sections.specs.SectionBytes.{IsSectionAfter}
 use Rattle.wasm_encoder.specs.BuiltModules.{AppendsSection}
 use Rattle.wasm_encoder.specs.declared.module_writer.WriteError.{WriteError}
 use Rattle.wasm_encoder.specs.declared.module_writer.WriteError.TheVariants as errors
-
--- The writer's known contents grew by a proper prefix of these bytes.
-pub record AppendsPrefix (old new : Option (List ℕ)) (bytes : List ℕ) : Type 0 where
-  pub prefix : List ℕ
-  pub rest : List ℕ
-  pub parts : bytes ≡ prefix ++ rest
-  pub left : 0 < length rest
-  pub appended : Appends old new prefix
-
--- A call that writes these bytes.
-pub record WritesAll {T E : Type 0} (bytes : List ℕ) (old new : Option (List ℕ)) (result : Result T E) : Type 0 where
-  -- It appends them to the writer's known contents, and nothing else.
-  pub ok : OnOk result (Appends old new bytes)
-  -- After an error, a proper prefix of them was appended.
-  pub err : OnErr result (AppendsPrefix old new bytes)
 
 -- Since the writer's contents were `start`, the minimal encoding of a module with these decoded sections was appended.
 pub record IsWrittenModule (start new : Option (List ℕ)) (sections : List ModuleSectionParts) : Type 0 where

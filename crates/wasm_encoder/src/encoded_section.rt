@@ -1,17 +1,16 @@
 //! Encoded sections whose bytes mostly stay where the builder keeps them (Core 3.0, Sections).
 ghost use Rattle.std.specs.Prelude.{◌≡◌, ◌++◌, ◌∷◌, OnOk, IfOk, IfErr, length};
-ghost use Rattle.std.specs.Io.{WritesAtMost};
-ghost use Rattle.std.specs.Io.KnownBytes.{WriteAppends};
 ghost use Rattle.wasm_codec.specs.Encoding.{byte_list_bytes, IsCount, IsRefusal, OnlyTooLong};
+ghost use Rattle.wasm_codec.specs.Streams.{WritesAll};
 ghost use Rattle.wasm_encoder.specs.EncodedLists.{CountedSection, body_bytes};
-ghost use Rattle.wasm_encoder.specs.WrittenModules.{WritesAll};
 
 use std::alloc::Global;
 use std::io;
-use std::io::{ErrorKind, Write};
+use std::io::Write;
 use std::marker::Model;
 use wasm_codec::encode::EncodeError;
 use wasm_codec::encode::leb128::{put_u32, u32_len};
+use wasm_codec::streams::write_all;
 
 /// The id and the encoding of a section, in two parts: a list of its own, and borrowed bytes after it.
 ///
@@ -101,38 +100,7 @@ impl<'a> EncodedSection<'a> {
     pub fn write_to<W: Write>(&self, writer: &mut W) -> io::Result<()>
         ensures writes { WritesAll self.now (W.contents writer.old) (W.contents writer.new) result }
     {
-        write_bytes(writer, &self.front)?;
-        write_bytes(writer, self.rest)
+        write_all(writer, &self.front)?;
+        write_all(writer, self.rest)
     }
-}
-
-/// Writes bytes, in as many writes as necessary.
-///
-/// Fails with the kind `WriteZero` if a write takes no byte, and with the errors of the writer. `write_all` of the
-/// standard library doesn't say which bytes were written before an error.
-pub(crate) fn write_bytes<W: Write>(writer: &mut W, bytes: &[u8]) -> io::Result<()>
-    ensures writes { WritesAll bytes.now (W.contents writer.old) (W.contents writer.new) result }
-{
-    let mut written = 0;
-    while written < bytes.len() {
-        match write_once(writer, &bytes[written..])? {
-            0 => return Err(io::Error::from(ErrorKind::WriteZero)),
-            count => written += count,
-        }
-    }
-    Ok(())
-}
-
-/// Writes some of the bytes, and returns their number. Repeats an interrupted write.
-fn write_once<W: Write>(writer: &mut W, bytes: &[u8]) -> io::Result<usize>
-    ensures bound { WritesAtMost result bytes.now }
-    ensures bytes { WriteAppends (W.contents writer.old) (W.contents writer.new) result bytes.now }
-{
-    for _ in 0..u32::MAX {
-        match writer.write(bytes) {
-            Err(error) if error.kind() == ErrorKind::Interrupted => {}
-            result => return result,
-        }
-    }
-    Err(io::Error::from(ErrorKind::Interrupted))
 }

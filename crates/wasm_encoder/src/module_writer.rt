@@ -7,7 +7,6 @@ ghost use Rattle.wasm_sections.specs.formats.ModuleSectionParts.{ModuleSectionPa
 ghost use Rattle.wasm_encoder.specs.WrittenModules.{IsWrittenModule, WritesSection};
 ghost use Rattle.wasm_encoder.specs.declared.module_writer.WriteError.TheVariants as errors;
 
-use crate::encoded_section::write_bytes;
 use crate::wasm_core::{Module, Section};
 use std::alloc::Global;
 use std::io;
@@ -15,6 +14,7 @@ use std::io::Write;
 use std::marker::Model;
 use thiserror::Error;
 use wasm_codec::encode::EncodeError;
+use wasm_codec::streams::write_all;
 
 /// Error of [`ModuleWriter::section`].
 #[derive(Debug, Drop, Error)]
@@ -89,7 +89,7 @@ impl<W: Write + Drop> ModuleWriter<W> {
         // A module without sections was written.
         ensures whole { IfOk result (λ m. IsWrittenModule (W.contents writer) m []) }
     {
-        write_bytes(&mut writer, &Module::HEADER)?;
+        write_all(&mut writer, &Module::HEADER)?;
         Ok(ModuleWriter { writer, alloc })
     }
 

@@ -1,10 +1,10 @@
 -- The output of a run of `wasmnorm`, and its result.
 use Rattle.std.specs.Prelude.{ℕ, List, Option, Result, Ok, Err}
 use Rattle.std.specs.Io.KnownBytes.{Appends}
+use Rattle.wasm_codec.specs.Streams.{AppendsPrefix}
 use Rattle.wasm_codec.specs.declared.reader.ReadError.{ReadError}
 use Rattle.wasm_codec.specs.declared.reader.ReadError.TheVariants as read_errors
 use Rattle.wasmnorm.specs.Modes.{NormalForm}
-use Rattle.wasmnorm.specs.Streams.{AppendsPrefix}
 use Rattle.wasmnorm.specs.declared.modes.Mode.{Mode}
 use Rattle.wasmnorm.specs.declared.run.RunError.{RunError}
 use Rattle.wasmnorm.specs.declared.run.RunError.TheVariants as errors

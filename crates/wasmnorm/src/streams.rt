@@ -1,7 +1,8 @@
 //! Reads and writes everything. An interrupted call is a failed call.
 ghost use Rattle.std.specs.Prelude.{◌≡◌, ◌<◌, ◌≤◌, ◌+◌, take, drop, length, IfOk, IfErr, IfSome, OnOk, OnErr, IsOkUnless, vec_len};
 ghost use Rattle.std.specs.Io.KnownBytes.{IsAtEnd, Appends, Consumes, Keeps};
-ghost use Rattle.wasmnorm.specs.Streams.{AppendsPrefix, IsReadError};
+ghost use Rattle.wasm_codec.specs.Streams.{AppendsPrefix};
+ghost use Rattle.wasmnorm.specs.Streams.{IsReadError};
 
 use crate::run::RunError;
 use std::alloc::{AllocError, Global};

@@ -1,5 +1,5 @@
 use Rattle.std.proofs.Common.{arith}
-use Rattle.wasmnorm.proofs.StreamLaws.{more_written, still_within, prefix_written, prefix_kept}
+use Rattle.wasm_codec.proofs.StreamLaws.{more_written, still_within, prefix_written, prefix_kept}
 use Rattle.wasmnorm.proofs.streams.write_all.Goals as goal
 
 pub loop-written-preserved : goal.loop-written-preserved

@@ -5,4 +5,4 @@ use Rattle.wasm_encoder.proofs.encoded_section.EncodedSection.write_to.Goals as 
 pub returns : goal.returns
 returns g c =
     let parts : c.deref.result.now ++ c.self.inside.rest.now ≡ c.args.self.now = ap (λ (t : List ℕ). t ++ c.self.inside.rest.now) c.deref.ensures.value ∙ c.self.view_is in
-    record { writes = after_front _ _ _ _ _ _ _ parts c.in_ok-write_bytes.ensures.writes.ok c.write_bytes-2.ensures.writes }
+    record { writes = after_front _ _ _ _ _ _ _ parts c.in_ok-write_all.ensures.writes.ok c.write_all-2.ensures.writes }

@@ -1,5 +1,5 @@
-use Rattle.wasm_encoder.proofs.WriterLaws.{more_written, still_within}
-use Rattle.wasm_encoder.proofs.encoded_section.write_bytes.Goals as goal
+use Rattle.wasm_codec.proofs.StreamLaws.{more_written, still_within}
+use Rattle.wasm_codec.proofs.streams.write_all.Goals as goal
 
 pub loop-written-preserved : goal.loop-written-preserved
 loop-written-preserved g c = record {

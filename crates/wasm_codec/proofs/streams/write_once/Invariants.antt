@@ -1,6 +1,6 @@
 -- Nothing is written yet.
 use Rattle.std.specs.Io.KnownBytes.{Keeps}
-use Rattle.wasm_encoder.proofs.encoded_section.write_once.Given as goal
+use Rattle.wasm_codec.proofs.streams.write_once.Given as goal
 
 abbrev pub invariant-loop : goal.invariant-loop
 invariant-loop g l = Keeps (g.W.Write.contents l.fn.writer) (g.W.Write.contents l.writer)

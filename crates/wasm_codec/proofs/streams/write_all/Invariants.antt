@@ -1,7 +1,7 @@
 -- What is written so far is a prefix of the bytes.
 use Rattle.std.proofs.Common.{◌-◌, ◌≤◌, length, take}
 use Rattle.std.specs.Io.KnownBytes.{Appends}
-use Rattle.wasm_encoder.proofs.encoded_section.write_bytes.Given as goal
+use Rattle.wasm_codec.proofs.streams.write_all.Given as goal
 
 abbrev pub invariant-loop-written : goal.invariant-loop-written
 invariant-loop-written g l = record {
