@@ -13,12 +13,14 @@ use wasm_encoder::{
     ModuleWriter, NameSection, RawSection, Section, TypeSection, ValType, WriteError,
 };
 
-/// A writer that interrupts every other write, takes at most three bytes at a time, and fails if it has no room left.
+/// A writer that interrupts every other write, takes at most three bytes at a time, fails if it has no room left, and
+/// counts its flushes.
 #[derive(Drop)]
 struct Slow {
     bytes: Vec<u8>,
     room: usize,
     interrupts: bool,
+    flushes: u32,
 }
 
 impl Slow {
@@ -27,6 +29,7 @@ impl Slow {
             bytes: Vec::new(alloc),
             room,
             interrupts: true,
+            flushes: 0,
         }
     }
 }
@@ -52,6 +55,7 @@ impl Write for Slow {
     fn flush(&mut self) -> io::Result<()>
         ensures bytes { Keeps None None }
     {
+        self.flushes = self.flushes.saturating_add(1);
         Ok(())
     }
 }
@@ -136,6 +140,7 @@ fn a_write_that_fails(rt: HostRuntime) -> Result<(), Fail> {
     }
     let mut slow = Slow::new(rt.alloc(), 16);
     write_code(rt.alloc(), &mut slow)?;
+    assert_eq!(rt; slow.flushes, 1);
     is(rt.alloc(), &slow.bytes, "0061736D010000000A06010400412A0B")
 }
 
