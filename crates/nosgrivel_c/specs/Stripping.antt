@@ -15,6 +15,8 @@ pub record IsStripped (selection : Selection) (input bytes : List ℕ) : Type 0 
   pub canonical : List ℕ
   pub normal : IsNormalForm whole_module.Encodes whole_module.bytes input canonical
   pub chosen : (sections : List SectionParts) → raw_module.Encodes canonical sections → IsSelected selection sections bytes
+  -- The bytes are canonical themselves.
+  pub stays : IsNormalForm whole_module.Encodes whole_module.bytes bytes bytes
 
 -- The bytes are the canonical form of the input without the custom sections that some selection drops.
 abbrev pub IsStrippedOfSome : List ℕ → List ℕ → Type 0

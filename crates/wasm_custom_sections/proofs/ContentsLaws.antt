@@ -1,14 +1,15 @@
 -- The laws of modules whose custom sections have minimally encoded contents.
-use Rattle.std.proofs.Common.{◌≡◌, ◌∙◌, ℕ, ◌+◌, ◌<◌, ◌≤◌, inl, inr, true, List, [], ◌∷◌, ◌++◌, length, take, drop, Option, Some, None, Result, Ok, Err, is_ok, IfOk, refl, sym, ap, subst, append_assoc, length-append, arith}
+use Rattle.std.proofs.Common.{◌≡◌, ◌∙◌, ℕ, ◌+◌, ◌^◌, ◌<◌, ◌≤◌, inl, inr, true, List, [], ◌∷◌, ◌++◌, length, take, drop, Option, Some, None, Result, Ok, Err, is_ok, IfOk, refl, sym, ap, subst, append_assoc, length-append, arith}
+use Rattle.std.specs.List.{AllByRecursion}
 use Rattle.std.proofs.lemmas.List.{flat_map_more, append-nil, take_at, drop_at}
 use Rattle.std.specs.Prelude.{codes}
 use Rattle.wasm_codec.specs.Lawful.{IsLawful, IsLawfulBody}
-use Rattle.wasm_codec.specs.Outcomes.{IsNormalForm}
+use Rattle.wasm_codec.specs.Outcomes.{EncodesSome, IsNormalForm}
 use Rattle.wasm_codec.specs.Places.{Place, place, keeps}
 use Rattle.wasm_codec.specs.Rewriter.{Rewriting, rewriting, rewriting_after, Rewrites, skipped}
 use Rattle.wasm_codec.specs.declared.reader.cursor.Fault.{Fault}
 use Rattle.wasm_codec.specs.declared.reader.cursor.Fault.TheVariants as faults
-use Rattle.wasm_codec.specs.formats.Combinators.{Format, ◌⊗◌, items}
+use Rattle.wasm_codec.specs.formats.Combinators.{Format, ◌⊗◌, items, minimal_only}
 use Rattle.wasm_codec.specs.formats.Grammar.{AByte, IsBytes, Joined}
 use Rattle.wasm_codec.proofs.BodyLaws.{Lawful-then-body, Lawful-sized, encodes_one}
 use Rattle.wasm_codec.proofs.FormatLaws.{Lawful-byte, Lawful-both, not_longer}
@@ -21,8 +22,12 @@ use Rattle.wasm_modules.specs.formats.Sections.{SectionParts, header}
 use Rattle.wasm_modules.proofs.ModuleFormatLaws.{Lawful-raw-module, Lawful-raw-section}
 use Rattle.wasm_modules.proofs.SectionWalks.{next_section, no_section, none_left, section_takes}
 use Rattle.wasm_sections.specs.formats.EntryParts.{CustomParts}
+use Rattle.wasm_sections.specs.formats.ModuleSectionParts.{custom}
+use Rattle.wasm_sections.specs.formats.ModuleSections.{module_section, ShortestWholeModule}
 use Rattle.wasm_sections.specs.formats.Sections.{custom_body}
 use Rattle.wasm_sections.proofs.CustomLaws.{custom_is_lawful}
+use Rattle.wasm_sections.proofs.ModuleSectionLaws.{custom_kind, module_section_is_lawful}
+use Rattle.wasm_sections.proofs.RawSections.{IsMinimalSection, raw_sections, whole_again}
 use Rattle.wasm_custom_sections.specs.MinimalContents.{AreMinimised, none, more, DecodesNext, HasContents, HasMinimalContents, IsDecodedAs, IsMinimised, Minimises, MinimisesContents, MinimisesNext, WritesNext, section_with}
 use Rattle.wasm_custom_sections.specs.NamedSections.{named}
 use Rattle.wasm_custom_sections.specs.declared.contents.Decoded.{Decoded}
@@ -281,3 +286,45 @@ module _ (bytes module_bytes : List ℕ) (normal : IsNormalForm raw_module.Encod
           no_longer = omega (arith, has.no_longer, short, ap (length {A = ℕ}) normal.is_shortest);
         },
       )
+
+-- ---- minimally encoded modules
+
+in_range : (c : CustomParts) → custom_body.InRange c × (length (custom_body.bytes c) < 2 ^ 32) → module_section.InRange (custom c)
+unfolding module_section
+in_range c r = (r, refl)
+
+-- a section with minimal contents is minimally encoded
+named_minimal : {V : Type 0} {F : Format V} → IsLawfulBody F → (text : List ℕ) (s m : SectionParts) → Minimises text F s m → raw_section.InRange s → IsMinimalSection m
+unfolding raw_section custom_body
+named_minimal {V} {F} r text s m k fits =
+    let has = k.has in
+    let minimal = F.bytes has.value in
+    let c : CustomParts = named text minimal in
+    let encoded : F.Encodes has.custom.data_bytes has.value = has.contents.1 in
+    let are : IsBytes minimal = r.are_bytes minimal has.value (r.shortest.again has.custom.data_bytes has.value encoded) in
+    let called : name.InRange text = subst name.InRange has.contents.0 (custom_is_lawful.in_range s.body has.custom has.holds).0.0 in
+    let shorter = not_longer has.custom.data_bytes minimal (r.shortest.least has.custom.data_bytes has.value encoded) in
+    let body = not_longer s.body (custom_body.bytes has.custom) (custom_is_lawful.shortest.least s.body has.custom has.holds) in
+    let old = length-append (name.bytes has.custom.name) has.custom.data_bytes in
+    let new = length-append (name.bytes text) minimal in
+    let same = ap (λ (t : List ℕ). length (name.bytes t)) has.contents.0 in
+    let short : length (custom_body.bytes c) < 2 ^ 32 = omega (arith, shorter, body, old, new, same, fits.0.1.1) in
+    let encodes : module_section.Encodes (module_section.bytes (custom c)) (custom c) = module_section_is_lawful.shortest.encodes (custom c) (in_range c (((called, are), refl), short)) in
+    rw k.is (custom c, subst (λ (b : List ℕ). (minimal_only module_section).Encodes b (custom c)) (custom_kind.bytes_are c) (encodes, refl))
+
+one_minimal : (s m : SectionParts) → IsMinimised s m → raw_section.InRange s → IsMinimalSection s → IsMinimalSection m
+one_minimal s m (inl k) fits minimal = named_minimal name_data_is_lawful (codes "name") s m k fits
+one_minimal s m (inr (inl k)) fits minimal = named_minimal (list_body_is_lawful field_is_lawful) (codes "producers") s m k fits
+one_minimal s m (inr (inr other)) fits minimal = subst IsMinimalSection (sym other.0) minimal
+
+all_minimal : {sections minimal : List SectionParts} → AreMinimised sections minimal → AllByRecursion raw_section.InRange sections → AllByRecursion IsMinimalSection sections → AllByRecursion IsMinimalSection minimal
+all_minimal none fits all = tt
+all_minimal (more {s = s} {m = m} one rest) fits all = (one_minimal s m one fits.0 all.0, all_minimal rest fits.1 all.1)
+
+-- a minimally encoded module stays one with minimal contents
+pub minimal_contents : (bytes result : List ℕ) → MinimisesContents bytes result → EncodesSome ShortestWholeModule bytes → EncodesSome ShortestWholeModule result
+minimal_contents bytes result h g =
+    let raw = raw_sections bytes g in
+    let w = h raw.sections raw.encodes in
+    let fits = Lawful-raw-module.in_range bytes raw.sections raw.encodes in
+    subst (EncodesSome ShortestWholeModule) (sym w.written) (whole_again w.minimal (all_minimal w.minimised fits raw.minimal))

@@ -6,4 +6,5 @@ pub mod ElementLaws
 pub mod ValueReading
 pub mod CustomLaws
 pub mod ModuleSectionLaws
+pub mod RawSections
 pub mod ScannedEntries

@@ -1,7 +1,9 @@
 -- The laws of modules without the sections that a selection drops.
 use Rattle.std.proofs.Common.{◌≡◌, ◌∙◌, ℕ, ◌+◌, ◌-◌, ◌<◌, ◌≤◌, Bool, true, false, List, [], ◌∷◌, ◌++◌, length, take, drop, Some, Result, Ok, Err, is_err, refl, sym, ap, ap₂, subst, append_assoc, length-append, arith}
+use Rattle.std.specs.List.{AllByRecursion}
 use Rattle.std.proofs.lemmas.List.{flat_map_more, append-nil, take_at, drop_at, drop_all}
 use Rattle.wasm_codec.specs.formats.Grammar.{IsBytes, Joined}
+use Rattle.wasm_codec.specs.Outcomes.{EncodesSome}
 use Rattle.wasm_codec.specs.Places.{place}
 use Rattle.wasm_codec.specs.Rewriter.{Rewriting, rewriting, rewriting_after, Rewrites, skipped, without}
 use Rattle.wasm_codec.specs.declared.reader.cursor.Fault.{Fault}
@@ -10,6 +12,8 @@ use Rattle.wasm_codec.proofs.RewriterLaws.{is_after}
 use Rattle.wasm_modules.proofs.SectionWalks.{next_section, no_section, none_left, plainly, section_takes}
 use Rattle.wasm_modules.specs.formats.Sections.{SectionParts, header}
 use Rattle.wasm_modules.specs.formats.Modules.{raw_module, raw_section}
+use Rattle.wasm_sections.specs.formats.ModuleSections.{ShortestWholeModule}
+use Rattle.wasm_sections.proofs.RawSections.{IsMinimalSection, raw_sections, whole_again}
 use Rattle.wasm_whole_modules.specs.Offsets.{IsNameOf}
 use Rattle.wasm_whole_modules.specs.Selections.{IsDroppedName, IsDropped, ChoosesNext, Without, none, kept, dropped, IsSelected}
 use Rattle.wasm_whole_modules.specs.declared.selection.Selection.{Selection}
@@ -155,3 +159,17 @@ pub selected_nowhere : (selection : Selection) (bytes : List ℕ) (here new : Re
 selected_nowhere selection bytes here new (Ok done) P so_far some rewrites err sections g = absurd cc
 selected_nowhere selection bytes here new (Err faults.Memory) P so_far some rewrites err sections g = absurd rewrites
 selected_nowhere selection bytes here new (Err (faults.Malformed m)) P so_far some rewrites err sections g = absurd (no_section here.place (so_far sections g).rest some (so_far sections g).encodes rewrites)
+
+-- ---- minimally encoded modules
+
+kept_all : {selection : Selection} {sections left : List SectionParts} (P : SectionParts → Type 0) → Without selection sections left → AllByRecursion P sections → AllByRecursion P left
+kept_all P none all = tt
+kept_all P (kept m w) all = (all.0, kept_all P w all.1)
+kept_all P (dropped k w) all = kept_all P w all.1
+
+-- a minimally encoded module stays one without some of its sections
+pub minimal_left : (selection : Selection) (bytes result : List ℕ) → ((sections : List SectionParts) → raw_module.Encodes bytes sections → IsSelected selection sections result) → EncodesSome ShortestWholeModule bytes → EncodesSome ShortestWholeModule result
+minimal_left selection bytes result selected g =
+    let raw = raw_sections bytes g in
+    let w = selected raw.sections raw.encodes in
+    subst (EncodesSome ShortestWholeModule) (sym w.written) (whole_again w.left (kept_all IsMinimalSection w.chosen raw.minimal))

@@ -1,19 +1,24 @@
 -- What holds of the results of runs, told otherwise.
-use Rattle.std.proofs.Common.{sym, subst, ◌≡◌, ◌∙◌, ℕ, Bool, true, false, List, Option, Some, Result, Ok, Err, inl}
+use Rattle.std.proofs.Common.{sym, subst, ◌≡◌, ◌∙◌, ℕ, Bool, true, false, List, Option, Some, None, Result, Ok, Err, inl}
 use Rattle.std.proofs.lemmas.Bool.{true≢false}
 use Rattle.std.specs.Global.{Vec}
+use Rattle.std.specs.Prelude.{IfSome}
 use Rattle.wasm_codec.specs.Decoding.{Checks, NormalisesInPlace}
-use Rattle.wasm_codec.specs.Outcomes.{place_alone}
+use Rattle.wasm_codec.specs.Outcomes.{EncodesSome, place_alone}
 use Rattle.wasm_codec.specs.declared.reader.refusal.Refusal.{Refusal}
 use Rattle.wasm_whole_modules.specs.RefusalNumbers.{CountsParts}
 use Rattle.wasm_codec.specs.formats.Combinators.{minimal_only}
 use Rattle.wasm_modules.specs.Judging.{verdict_of}
 use Rattle.wasm_modules.specs.Modules.{IsModulePrefixOf}
 use Rattle.wasm_sections.specs.formats.ModuleSections.{module_section, whole_module, ShortestWholeModule}
+use Rattle.wasm_sections.proofs.RawSections.{minimal_normal, normal_minimal}
+use Rattle.wasm_custom_sections.specs.MinimalContents.{MinimisesContents}
+use Rattle.wasm_whole_modules.specs.Selections.{IsChosen}
 use Rattle.wasm_whole_modules.specs.declared.order.ModuleError.{ModuleError}
 use Rattle.wasmcanon.specs.Order.{IsOrdered, BreaksOrder}
-use Rattle.wasmcanon.specs.Run.{Accepts, IsCanonicalForm, IsLonger, IsReadFailure, Judges}
+use Rattle.wasmcanon.specs.Run.{Accepts, HasContents, HasLongerContents, IsCanonicalForm, IsForm, IsLonger, IsReadFailure, Judges}
 use Rattle.wasmcanon.specs.declared.order.MisplacedSection.{MisplacedSection}
+use Rattle.wasmcanon.specs.declared.run.FormOptions.{FormOptions}
 use Rattle.wasmcanon.specs.declared.run.Verdict.{Verdict}
 use Rattle.wasmcanon.specs.declared.run.Failure.{Failure}
 use Rattle.wasmcanon.specs.declared.run.Failure.TheVariants as failures
@@ -39,6 +44,28 @@ longer_judged names input bytes refusal form check = by names where
   by : (names : Bool) → Judges names input (verdicts.Longer refusal)
   by false = ((form.given.value, form.given.encoded), longer)
   by true = ((form.given.value, form.given.encoded), inl longer)
+
+-- ---- canonical forms
+
+-- a call takes minimally encoded modules to such modules
+abbrev pub KeepsMinimal : List ℕ → List ℕ → Type 0
+KeepsMinimal bytes result = EncodesSome ShortestWholeModule bytes → EncodesSome ShortestWholeModule result
+
+-- the form of an input that is known
+pub is_form : (known : Option (List ℕ)) (options : FormOptions) (encoding part bytes : List ℕ) → IfSome known (λ input. IsCanonicalForm input encoding) → IsChosen options.sections encoding part → KeepsMinimal encoding part → HasContents options.names part bytes → KeepsMinimal part bytes → IfSome known (λ input. IsForm options input bytes)
+is_form None options encoding part bytes canonical chosen keeps contents still = tt
+is_form (Some input) options encoding part bytes canonical chosen keeps contents still = record {
+  encoding = encoding;
+  canonical = canonical;
+  part = part;
+  chosen = chosen;
+  contents = contents;
+  stays = minimal_normal bytes (still (keeps (normal_minimal input encoding canonical)));
+}
+
+-- contents that a copy shows to be longer
+pub contents_differ : (input copy minimal : List ℕ) → copy ≡ input → MinimisesContents copy minimal → (minimal ≡ input → ⊥) → HasLongerContents input
+contents_differ input copy minimal same minimised differs = record { minimal = minimal; minimised = subst (λ (b : List ℕ). MinimisesContents b minimal) same minimised; differs = differs }
 
 -- ---- the place of a refusal
 

@@ -2,6 +2,7 @@
 use Rattle.std.specs.Prelude.{◌≡◌, ◌⊎◌, ℕ, Bool, true, false, List, Option, Result, Ok, Err, OnOk}
 use Rattle.std.specs.Io.KnownBytes.{Appends}
 use Rattle.wasm_codec.specs.Outcomes.{EncodesSome, IsNormalForm, IsLongestPrefix}
+use Rattle.wasm_codec.specs.Streams.{AppendsPrefix}
 use Rattle.wasm_codec.specs.declared.reader.refusal.Refusal.{Refusal}
 use Rattle.wasm_sections.specs.formats.ModuleSectionParts.{ModuleSectionParts}
 use Rattle.wasm_sections.specs.formats.ModuleSections.{module_section, whole_module}
@@ -42,12 +43,20 @@ pub record IsForm (options : FormOptions) (input bytes : List ℕ) : Type 0 wher
   pub part : List ℕ
   pub chosen : IsChosen options.sections encoding part
   pub contents : HasContents options.names part bytes
+  -- The bytes are canonical themselves.
+  pub stays : IsCanonicalForm bytes bytes
 
 -- The writer's known contents grew by the canonical form of the input with these options.
 pub record AppendsForm (options : FormOptions) (input : List ℕ) (old new : Option (List ℕ)) : Type 0 where
   pub bytes : List ℕ
   pub form : IsForm options input bytes
   pub appended : Appends old new bytes
+
+-- The writer's known contents grew by a proper prefix of the canonical form of the input with these options.
+pub record AppendsBeginning (options : FormOptions) (input : List ℕ) (old new : Option (List ℕ)) : Type 0 where
+  pub bytes : List ℕ
+  pub form : IsForm options input bytes
+  pub appended : AppendsPrefix old new bytes
 
 -- The digest is SHA-256 of the canonical form of the input with these options.
 pub record IsHash (options : FormOptions) (input digest : List ℕ) : Type 0 where
@@ -139,6 +148,15 @@ BeforeAnyWrite (Err (failures.Disordered error place)) P = P
 BeforeAnyWrite (Err failures.Memory) P = P
 BeforeAnyWrite (Err (failures.Read error)) P = P
 BeforeAnyWrite (Err (failures.Write error)) P = Unit {0}
+
+-- The property holds if a write failed.
+abbrev pub IfWriteFailed : {X : Type 0} → Result X Failure → Type 0 → Type 0
+IfWriteFailed (Ok x) P = Unit {0}
+IfWriteFailed (Err (failures.Refused refusal foreign)) P = Unit {0}
+IfWriteFailed (Err (failures.Disordered error place)) P = Unit {0}
+IfWriteFailed (Err failures.Memory) P = Unit {0}
+IfWriteFailed (Err (failures.Read error)) P = Unit {0}
+IfWriteFailed (Err (failures.Write error)) P = P
 
 -- The failure is `Memory` or `Read`.
 abbrev pub IsReadFailure : Failure → Type 0

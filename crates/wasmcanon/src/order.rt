@@ -2,7 +2,7 @@
 ghost use Rattle.std.specs.Prelude.{◌≡◌, false, IfOk, IfSome, IfNone};
 ghost use Rattle.wasm_modules.specs.formats.Sections.{parts_of};
 ghost use Rattle.wasmcanon.specs.Order.{rank, AreInOrder, OfSections, IsOutOfOrderAt, IsWhyNot};
-ghost use Rattle.wasmcanon.specs.Run.{Accepts, IfPlaced, outcome_of};
+ghost use Rattle.wasmcanon.specs.Run.{Accepts, IfPlaced, IfWriteFailed, outcome_of};
 
 use crate::data_uses::find_data_use;
 use crate::run::Failure;
@@ -44,6 +44,8 @@ pub fn check_sections(alloc: Global, input: &[u8]) -> Result<(), Failure>
     ensures accepts { Accepts false input.now (outcome_of result) }
     // The failure isn't `Refused`.
     ensures placed { IfPlaced result (λ _. ⊥) }
+    // The failure isn't `Write`.
+    ensures unwritten { IfWriteFailed result ⊥ }
 {
     let Some(sections) = after_header(input) else {
         // A malformed module has no sections.

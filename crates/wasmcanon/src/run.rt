@@ -4,7 +4,7 @@ ghost use Rattle.std.specs.Io.KnownBytes.{IsAtEnd, Keeps};
 ghost use Rattle.wasm_sections.specs.formats.ModuleSections.{module_section};
 ghost use Rattle.wasm_whole_modules.specs.Counting.{ShowsModule};
 ghost use Rattle.wasm_whole_modules.specs.RefusalNumbers.{CountsParts};
-ghost use Rattle.wasmcanon.specs.Run.{Accepts, IsModule, IsCanonicalForm, AppendsForm, IsForm, IsHash, IfPlaced, OnceAllIsRead, BeforeAnyWrite, IsReadFailure, Judges, outcome_of, status_of};
+ghost use Rattle.wasmcanon.specs.Run.{Accepts, IsModule, IsCanonicalForm, AppendsBeginning, AppendsForm, IsForm, IsHash, IfPlaced, IfWriteFailed, OnceAllIsRead, BeforeAnyWrite, IsReadFailure, Judges, outcome_of, status_of};
 ghost use Rattle.wasmcanon.specs.declared.run.Failure.TheVariants.{Memory};
 
 use crate::contents::{judge_contents, with_contents};
@@ -18,6 +18,7 @@ use std::io;
 use std::io::{ErrorKind, Write};
 use wasm_codec::reader::DecodeError;
 use wasm_codec::reader::refusal::Refusal;
+use wasm_codec::streams::write_all;
 use wasm_modules::decode::rewrite;
 use wasm_whole_modules::counting::{SectionWatcher, rewrite_watched};
 use wasm_whole_modules::modules::{WholeModule, judge_whole_module};
@@ -124,9 +125,12 @@ pub fn canonicalise<R: Input, W: Write>(
         CountsParts module_section input refusal)) }
     // Nothing was written, unless the failure is `Write`.
     ensures nothing_written { BeforeAnyWrite result (Keeps (W.contents writer.old) (W.contents writer.new)) }
+    // After `Write`, a proper prefix of the canonical form was appended.
+    ensures beginning { IfWriteFailed result (IfSome (R.remaining reader.old) (λ input.
+        AppendsBeginning options.entry input (W.contents writer.old) (W.contents writer.new))) }
 {
     let form = read_form(alloc, reader, any_order, options)?;
-    match writer.write_all(&form.bytes) {
+    match write_all(writer, &form.bytes) {
         Ok(()) => Ok(form.stale),
         Err(error) => Err(Failure::Write(error)),
     }
@@ -175,6 +179,7 @@ fn read_form<R: Input>(
     ensures read_to_end { OnceAllIsRead result (IsAtEnd (R.remaining reader.new)) }
     ensures numbers { IfPlaced result (λ refusal. IfSome (R.remaining reader.old) (λ input.
         CountsParts module_section input refusal)) }
+    ensures unwritten { IfWriteFailed result ⊥ }
 {
     let canonical = read_canonical(alloc, reader, any_order)?;
     let chosen = choose_sections(canonical.bytes, options.sections);
@@ -206,6 +211,8 @@ pub fn read_canonical<R: Input>(
     // The section and the item that it names are numbered by those before them.
     ensures numbers { IfPlaced result (λ refusal. IfSome (R.remaining reader.old) (λ input.
         CountsParts module_section input refusal)) }
+    // The failure isn't `Write`.
+    ensures unwritten { IfWriteFailed result ⊥ }
 {
     let input = read_all(alloc, reader)?;
     let len = input.len();
@@ -292,6 +299,8 @@ pub fn accept(alloc: Global, input: Vec<u8>, any_order: bool) -> Result<Vec<u8>,
     ensures accepts { Accepts any_order input.items (outcome_of result) }
     // The section and the item that it names are numbered by those before them.
     ensures numbers { IfPlaced result (CountsParts module_section input.items) }
+    // The failure isn't `Write`.
+    ensures unwritten { IfWriteFailed result ⊥ }
 {
     // Rewriting takes the input, so the order is checked first. A malformed module is refused all the same.
     let order = check_order_unless(alloc, &input, any_order);
@@ -305,6 +314,7 @@ pub fn accept(alloc: Global, input: Vec<u8>, any_order: bool) -> Result<Vec<u8>,
 fn check_order_unless(alloc: Global, input: &[u8], any_order: bool) -> Result<(), Failure>
     ensures accepts { Accepts any_order input.now (outcome_of result) }
     ensures placed { IfPlaced result (λ _. ⊥) }
+    ensures unwritten { IfWriteFailed result ⊥ }
 {
     if any_order {
         Ok(())
@@ -362,6 +372,7 @@ fn canonical_form(input: Vec<u8>) -> Result<Vec<u8>, Failure>
     ensures ok { IfOk result (λ canonical. IsCanonicalForm input.items canonical.items) }
     ensures accepts { Accepts true input.items (outcome_of result) }
     ensures numbers { IfPlaced result (CountsParts module_section input.items) }
+    ensures unwritten { IfWriteFailed result ⊥ }
 {
     let foreign = Foreign::find(&input);
     match rewrite::<WholeModule>(input) {

@@ -2,8 +2,8 @@ use Rattle.std.proofs.Common.{◌≡◌, ◌<◌, ◌++◌, length, Err, subst, 
 use Rattle.std.proofs.lemmas.List.{nil_from_length}
 use Rattle.wasm_codec.specs.declared.reader.cursor.Fault.{Fault}
 use Rattle.wasm_modules.specs.formats.Sections.{header}
-use Rattle.wasm_custom_sections.specs.MinimalContents.{MinimisesNext}
-use Rattle.wasm_custom_sections.proofs.ContentsLaws.{minimising_none, minimising_more, minimised_all, minimised_nowhere, written_fewer}
+use Rattle.wasm_custom_sections.specs.MinimalContents.{MinimisesContents, MinimisesNext}
+use Rattle.wasm_custom_sections.proofs.ContentsLaws.{minimal_contents, minimising_none, minimising_more, minimised_all, minimised_nowhere, written_fewer}
 use Rattle.wasm_custom_sections.proofs.contents.rewrite_contents.Goals as goal
 
 pub loop-alloc-init : goal.loop-alloc-init
@@ -23,7 +23,10 @@ pub returns-in-Err-Malformed : goal.returns-in-Err-Malformed
 returns-in-Err-Malformed c =
     let some : 0 < length c.loop-alloc.rewriter.place.left = omega (arith, c.loop-alloc-test.true, c.len.ensures) in
     let none = subst (λ (f : Fault). MinimisesNext c.loop-alloc.rewriter c.rewrite_next.new.rewriter (Err f)) c.in-Err-Malformed.field-0-is c.in-Err-Malformed.ensures.next in
-    record { ok = minimised_nowhere c.args.bytes.items c.loop-alloc.rewriter c.finish.result.items c.loop-alloc.invariant some none }
+    let ok : MinimisesContents c.args.bytes.items c.finish.result.items = minimised_nowhere c.args.bytes.items c.loop-alloc.rewriter c.finish.result.items c.loop-alloc.invariant some none in
+    record { ok = ok; minimal = minimal_contents c.args.bytes.items c.finish.result.items ok }
 
 pub returns : goal.returns
-returns c = record { ok = rw c.finish-2.ensures (minimised_all c.args.bytes.items c.loop-alloc.rewriter c.loop-alloc.invariant (nil_from_length c.loop-alloc.rewriter.place.left (omega (arith, c.loop-alloc-test.false, c.len.ensures)))) }
+returns c =
+    let ok : MinimisesContents c.args.bytes.items c.finish-2.result.items = rw c.finish-2.ensures (minimised_all c.args.bytes.items c.loop-alloc.rewriter c.loop-alloc.invariant (nil_from_length c.loop-alloc.rewriter.place.left (omega (arith, c.loop-alloc-test.false, c.len.ensures)))) in
+    record { ok = ok; minimal = minimal_contents c.args.bytes.items c.finish-2.result.items ok }

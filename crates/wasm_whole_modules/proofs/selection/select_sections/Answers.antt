@@ -2,8 +2,9 @@ use Rattle.std.proofs.Common.{◌≡◌, ◌∙◌, ◌++◌, ◌-◌, ◌<◌, 
 use Rattle.std.proofs.lemmas.List.{nil_from_length}
 use Rattle.wasm_codec.specs.Rewriter.{Rewriting}
 use Rattle.wasm_modules.specs.formats.Sections.{header, SectionParts}
+use Rattle.wasm_modules.specs.formats.Modules.{raw_module}
 use Rattle.wasm_whole_modules.specs.Selections.{ChoosesNext, IsSelected}
-use Rattle.wasm_whole_modules.proofs.SelectionLaws.{selecting_none, selecting_kept, selecting_dropped, selected_all, selected_nowhere, is_rewritten, rewritten_fewer}
+use Rattle.wasm_whole_modules.proofs.SelectionLaws.{selecting_none, selecting_kept, selecting_dropped, selected_all, selected_nowhere, minimal_left, is_rewritten, rewritten_fewer}
 use Rattle.wasm_whole_modules.proofs.selection.select_sections.Goals as goal
 
 pub loop-rewriter-init : goal.loop-rewriter-init
@@ -36,9 +37,12 @@ loop-rewriter-preserved c =
     selecting_kept c.args.selection c.args.bytes.items c.loop-rewriter.rewriter c.rewrite_raw_section.new.rewriter c.next_is_dropped-dropped.result c.loop-rewriter.invariant some chooses rewritten c.if-dropped.false
 
 pub returns : goal.returns
-returns c = record { ok = rw c.finish-2.ensures (selected_all c.args.selection c.args.bytes.items c.loop-rewriter.rewriter c.loop-rewriter.invariant (nil_from_length c.loop-rewriter.rewriter.place.left (omega (arith, c.loop-rewriter-test.false, c.len.ensures)))) }
+returns c =
+    let ok : (sections : List SectionParts) → raw_module.Encodes c.args.bytes.items sections → IsSelected c.args.selection sections c.finish-2.result.items = rw c.finish-2.ensures (selected_all c.args.selection c.args.bytes.items c.loop-rewriter.rewriter c.loop-rewriter.invariant (nil_from_length c.loop-rewriter.rewriter.place.left (omega (arith, c.loop-rewriter-test.false, c.len.ensures)))) in
+    record { ok = ok; minimal = minimal_left c.args.selection c.args.bytes.items c.finish-2.result.items ok }
 
 pub returns-then-is_err : goal.returns-then-is_err
 returns-then-is_err c =
     let some : 0 < length c.loop-rewriter.rewriter.place.left = omega (arith, c.loop-rewriter-test.true, c.len.ensures) in
-    record { ok = selected_nowhere c.args.selection c.args.bytes.items c.loop-rewriter.rewriter c.rewrite_raw_section.new.rewriter c.rewrite_raw_section.result (λ (sections : List SectionParts). IsSelected c.args.selection sections c.finish.result.items) c.loop-rewriter.invariant some c.rewrite_raw_section.ensures.rewrites (sym c.is_err.ensures.value ∙ c.if-is_err.true) }
+    let ok : (sections : List SectionParts) → raw_module.Encodes c.args.bytes.items sections → IsSelected c.args.selection sections c.finish.result.items = selected_nowhere c.args.selection c.args.bytes.items c.loop-rewriter.rewriter c.rewrite_raw_section.new.rewriter c.rewrite_raw_section.result (λ (sections : List SectionParts). IsSelected c.args.selection sections c.finish.result.items) c.loop-rewriter.invariant some c.rewrite_raw_section.ensures.rewrites (sym c.is_err.ensures.value ∙ c.if-is_err.true) in
+    record { ok = ok; minimal = minimal_left c.args.selection c.args.bytes.items c.finish.result.items ok }

@@ -1,0 +1,115 @@
+-- The sections of a minimally encoded module, with their bodies as bytes.
+use Rattle.std.proofs.Common.{◌≡◌, ◌∙◌, ℕ, ◌<◌, ◌^◌, List, [], ◌∷◌, length, refl, subst, sym}
+use Rattle.std.specs.List.{AllByRecursion, flat_map}
+use Rattle.wasm_codec.specs.Leb128.{unsigned_leb128}
+use Rattle.wasm_codec.specs.Outcomes.{EncodesSome, IsNormalForm}
+use Rattle.wasm_codec.specs.formats.Bodies.{sized}
+use Rattle.wasm_codec.specs.formats.Combinators.{Format, items, minimal_only, u32}
+use Rattle.wasm_codec.specs.formats.Grammar.{IsBytes, Joined}
+use Rattle.wasm_codec.proofs.Laws.{IsBytes-back}
+use Rattle.wasm_types.specs.formats.Types.{recursive_type}
+use Rattle.wasm_modules.specs.formats.CodeBodies.{code_body}
+use Rattle.wasm_modules.specs.formats.Modules.{raw_module, raw_section}
+use Rattle.wasm_modules.specs.formats.Sections.{SectionParts}
+use Rattle.wasm_modules.proofs.ModuleFormatLaws.{Lawful-raw-section}
+use Rattle.wasm_entities.specs.formats.Externals.{memory_type, tag_type}
+use Rattle.wasm_sections.specs.formats.Elements.{element_segment}
+use Rattle.wasm_sections.specs.formats.Entries.{import_entry, table_entry, global_entry, export_entry}
+use Rattle.wasm_sections.specs.formats.ModuleSectionParts.{ModuleSectionParts, custom, types, imports, functions, tables, memories, globals, exports, start, elements, code, data_segments, data_count, tags}
+use Rattle.wasm_sections.specs.formats.ModuleSections.{module_section, whole_module, ShortestWholeModule}
+use Rattle.wasm_sections.specs.formats.Sections.{custom_body}
+use Rattle.wasm_sections.specs.formats.Segments.{data_segment}
+use Rattle.wasm_sections.proofs.ModuleSectionLaws.{IsKind, module_section_is_lawful, whole_module_is_lawful, whole_module_is_minimal, custom_kind, types_kind, imports_kind, functions_kind, tables_kind, memories_kind, globals_kind, exports_kind, start_kind, elements_kind, code_kind, data_segments_kind, data_count_kind, tags_kind}
+
+-- the section is the minimal encoding of some section with its content
+abbrev pub IsMinimalSection : SectionParts → Type 0
+IsMinimalSection section = EncodesSome (minimal_only module_section).Encodes (raw_section.bytes section)
+
+-- ---- one section
+
+-- the bytes are the minimal encoding of a section with its body as bytes
+record IsRaw (bytes : List ℕ) : Type 0 where
+  pub section : SectionParts
+  pub encodes : raw_section.Encodes bytes section
+  pub written : bytes ≡ raw_section.bytes section
+
+of_kind : {V : Type 0} {id : ℕ} {make : V → ModuleSectionParts} {F : Format V} → IsKind id make F → (v : V) (bytes : List ℕ) → (minimal_only module_section).Encodes bytes (make v) → length (F.bytes v) < 2 ^ 32 → IsRaw bytes
+unfolding raw_section
+of_kind {V} {id} {make} {F} k v bytes g short =
+    let section : SectionParts = record { id = id; body = F.bytes v } in
+    let is : bytes ≡ raw_section.bytes section = g.1 ∙ k.bytes_are v in
+    let all : IsBytes (raw_section.bytes section) = subst IsBytes is (module_section_is_lawful.are_bytes bytes (make v) g.0) in
+    let body : IsBytes (F.bytes v) = IsBytes-back (unsigned_leb128 (length (F.bytes v))) (F.bytes v) all.1 in
+    record {
+      section = section;
+      encodes = subst (λ (b : List ℕ). raw_section.Encodes b section) (sym is) (Lawful-raw-section.shortest.encodes section ((k.small, (body, short)), refl));
+      written = is;
+    }
+
+raw_by : (bytes : List ℕ) (s : ModuleSectionParts) → (minimal_only module_section).Encodes bytes s → module_section.InRange s → IsRaw bytes
+unfolding module_section
+raw_by bytes (custom v) g r = of_kind custom_kind v bytes g r.0.1
+raw_by bytes (types v) g r = of_kind types_kind v bytes g r.0.1
+raw_by bytes (imports v) g r = of_kind imports_kind v bytes g r.0.1
+raw_by bytes (functions v) g r = of_kind functions_kind v bytes g r.0.1
+raw_by bytes (tables v) g r = of_kind tables_kind v bytes g r.0.1
+raw_by bytes (memories v) g r = of_kind memories_kind v bytes g r.0.1
+raw_by bytes (globals v) g r = of_kind globals_kind v bytes g r.0.1
+raw_by bytes (exports v) g r = of_kind exports_kind v bytes g r.0.1
+raw_by bytes (start v) g r = of_kind start_kind v bytes g r.0.1
+raw_by bytes (elements v) g r = of_kind elements_kind v bytes g r.0.1
+raw_by bytes (code v) g r = of_kind code_kind v bytes g r.0.1
+raw_by bytes (data_segments v) g r = of_kind data_segments_kind v bytes g r.0.1
+raw_by bytes (data_count v) g r = of_kind data_count_kind v bytes g r.0.1
+raw_by bytes (tags v) g r = of_kind tags_kind v bytes g r.0.1
+
+one_raw : (bytes : List ℕ) (s : ModuleSectionParts) → (minimal_only module_section).Encodes bytes s → IsRaw bytes
+one_raw bytes s g = raw_by bytes s g (module_section_is_lawful.in_range bytes s g.0)
+
+-- ---- all sections
+
+-- the bytes encode sections with their bodies as bytes, each of them minimally encoded
+pub record HasRaw (G : List ℕ → List SectionParts → Type 0) (bytes : List ℕ) : Type 0 where
+  pub sections : List SectionParts
+  pub encodes : G bytes sections
+  pub minimal : AllByRecursion IsMinimalSection sections
+
+joined_raw : (bytes : List ℕ) (parts : List ModuleSectionParts) → Joined (minimal_only module_section).Encodes bytes parts → HasRaw (Joined raw_section.Encodes) bytes
+joined_raw bytes [] g = record { sections = []; encodes = g; minimal = tt }
+joined_raw bytes (s ∷ parts) g =
+    let one = one_raw g.0 s g.3 in
+    let more = joined_raw g.1 parts g.4 in
+    record {
+      sections = one.section ∷ more.sections;
+      encodes = (g.0, g.1, g.2, one.encodes, more.encodes);
+      minimal = ((s, subst (λ (b : List ℕ). (minimal_only module_section).Encodes b s) one.written g.3), more.minimal);
+    }
+
+pub raw_sections : (bytes : List ℕ) → EncodesSome ShortestWholeModule bytes → HasRaw raw_module.Encodes bytes
+raw_sections bytes g =
+    let r = joined_raw g.1.0 g.0 g.1.2 in
+    record { sections = r.sections; encodes = (g.1.0, g.1.1, r.encodes); minimal = r.minimal }
+
+joined_whole : (sections : List SectionParts) → AllByRecursion IsMinimalSection sections → EncodesSome (Joined (minimal_only module_section).Encodes) (flat_map raw_section.bytes sections)
+joined_whole [] minimal = ([], refl)
+joined_whole (s ∷ sections) minimal =
+    let more = joined_whole sections minimal.1 in
+    (minimal.0.0 ∷ more.0, (raw_section.bytes s, flat_map raw_section.bytes sections, refl, minimal.0.1, more.1))
+
+-- minimally encoded sections are a minimally encoded module
+pub whole_again : (sections : List SectionParts) → AllByRecursion IsMinimalSection sections → EncodesSome ShortestWholeModule (raw_module.bytes sections)
+whole_again sections minimal =
+    let all = joined_whole sections minimal in
+    (all.0, (flat_map raw_section.bytes sections, refl, all.1))
+
+-- ---- canonical forms
+
+pub normal_minimal : (bytes encoding : List ℕ) → IsNormalForm whole_module.Encodes whole_module.bytes bytes encoding → EncodesSome ShortestWholeModule encoding
+normal_minimal bytes encoding form =
+    let again = whole_module_is_lawful.shortest.again bytes form.value form.encoded in
+    (form.value, (whole_module_is_minimal encoding form.value).1 (subst (λ (b : List ℕ). whole_module.Encodes b form.value) (sym form.is_shortest) again, form.is_shortest))
+
+pub minimal_normal : (bytes : List ℕ) → EncodesSome ShortestWholeModule bytes → IsNormalForm whole_module.Encodes whole_module.bytes bytes bytes
+minimal_normal bytes g =
+    let both = (whole_module_is_minimal bytes g.0).0 g.1 in
+    record { value = g.0; encoded = both.0; is_shortest = both.1 }
