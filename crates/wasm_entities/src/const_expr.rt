@@ -174,8 +174,8 @@ impl ConstExpr {
         requires closed { IsClosed (call (without_prefix number) immediates ∷ []) }
         ensures makes { Makes (call (without_prefix number) immediates ∷ []) result }
     {
-        let mut calls = Vec::new(alloc);
-        calls.push(Call::from_parts(Opcode::without_prefix(number), immediates))?;
+        let mut calls = Vec::with_capacity(alloc, 1)?;
+        calls.push_reserved(Call::from_parts(Opcode::without_prefix(number), immediates));
         Ok(ConstExpr {
             calls: Items::from(calls),
         })

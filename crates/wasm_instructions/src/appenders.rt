@@ -21,6 +21,7 @@ pub(crate) const ROOM: usize = 24;
 /// Appends an opcode, and reserves room for its operands if none of them is a list. Appends nothing on error.
 ///
 /// Fails with `Memory` if it can't reserve 24 bytes.
+#[inline(always)]
 pub fn append_opcode<A: Allocator>(bytes: &mut Vec<u8, A>, op: Opcode) -> Result<(), EncodeError>
     requires short { IsShort op }
     ensures ok { OnOk result (bytes.new.items ≡ bytes.old.items ++ opcode.bytes op) }

@@ -1,4 +1,6 @@
 //! The instruction sink: one method for each instruction (Core 3.0, Instructions).
+//!
+//! Methods without a list are inlined always: LLVM counts a call after several `?` as rare, and wouldn't inline it.
 ghost use Rattle.std.specs.Prelude.{◌≡◌};
 ghost use Rattle.std.specs.Borrow.{sem};
 ghost use Rattle.wasm_sink.specs.Sink.{IsUnchangedAtErr, EmitsCall, EmitsCalls};

@@ -26,6 +26,7 @@ fn put_prefixed<A: Allocator>(bytes: &mut Vec<u8, A>, prefix: u8, number: u32)
 }
 
 /// Writes an opcode in 1 to 3 bytes (Core 3.0, Instructions).
+#[inline(always)]
 #[tactic(auto, unfolding(crate::specs::formats::Instructions::opcode))]
 pub fn put_opcode<A: Allocator>(bytes: &mut Vec<u8, A>, op: Opcode)
     requires short { IsShort op }

@@ -18,6 +18,7 @@ use wasm_lists::encode::Encode;
 use wasm_types::encode::put_val_type;
 
 /// Writes a block type in 1 to 7 bytes (Core 3.0, Control Instructions).
+#[inline(always)]
 #[tactic(auto, unfolding(crate::specs::formats::Operands::block_type))]
 pub fn put_block_type<A: Allocator>(bytes: &mut Vec<u8, A>, ty: BlockType)
     requires { vec_len bytes.old + 7 ≤ vec_capacity bytes.old }

@@ -14,6 +14,7 @@ use wasm_codec::encode::{EncodeError, mend_count};
 ///
 /// Writes the iterator's `len` as the count, and corrects it if the iterator yields fewer items. Fails with `TooLong`
 /// if `len` is over 4,294,967,295, before it asks for an item, and with any error of an item.
+#[inline(always)]
 pub fn append_items<T: Encode + Drop, I: ExactSizeIterator<Item = T>, A: Allocator>(
     items: I,
     sink: &mut Vec<u8, A>,
@@ -38,6 +39,7 @@ pub fn append_items<T: Encode + Drop, I: ExactSizeIterator<Item = T>, A: Allocat
 
 /// Appends the encodings of the items that the iterator yields, and returns their number. On error some of them may
 /// remain.
+#[inline(always)]
 fn append_given<T: Encode + Drop, I: ExactSizeIterator<Item = T>, A: Allocator>(
     items: I,
     sink: &mut Vec<u8, A>,

@@ -13,6 +13,7 @@ use wasm_instructions::table::Prefix;
 #[tactic(auto, unfolding(wasm_instructions::specs::formats::Opcodes::ranges))]
 impl<'a, A: Allocator> InstructionSink<'a, A> {
     /// `struct.new`: `0xFB 0x00`, then a type index.
+    #[inline(always)]
     pub fn struct_new(self, ty: u32) -> Result<InstructionSink<'a, A>, EncodeError>
         ensures emits { Emits self.entry (after_fb 0x00) (operands.Index ty) result }
         ensures* unchanged { sem 𝓛 (IsUnchangedAtErr A.row A.Allocator self.entry result) }
@@ -21,6 +22,7 @@ impl<'a, A: Allocator> InstructionSink<'a, A> {
     }
 
     /// `struct.new_default`: `0xFB 0x01`, then a type index.
+    #[inline(always)]
     pub fn struct_new_default(self, ty: u32) -> Result<InstructionSink<'a, A>, EncodeError>
         ensures emits { Emits self.entry (after_fb 0x01) (operands.Index ty) result }
         ensures* unchanged { sem 𝓛 (IsUnchangedAtErr A.row A.Allocator self.entry result) }
@@ -29,6 +31,7 @@ impl<'a, A: Allocator> InstructionSink<'a, A> {
     }
 
     /// `struct.get`: `0xFB 0x02`, then a type index and a field index.
+    #[inline(always)]
     pub fn struct_get(self, ty: u32, field: u32) -> Result<InstructionSink<'a, A>, EncodeError>
         ensures emits { Emits self.entry (after_fb 0x02) (operands.TwoIndexes ty field) result }
         ensures* unchanged { sem 𝓛 (IsUnchangedAtErr A.row A.Allocator self.entry result) }
@@ -37,6 +40,7 @@ impl<'a, A: Allocator> InstructionSink<'a, A> {
     }
 
     /// `struct.get_s`: `0xFB 0x03`, then a type index and a field index.
+    #[inline(always)]
     pub fn struct_get_s(self, ty: u32, field: u32) -> Result<InstructionSink<'a, A>, EncodeError>
         ensures emits { Emits self.entry (after_fb 0x03) (operands.TwoIndexes ty field) result }
         ensures* unchanged { sem 𝓛 (IsUnchangedAtErr A.row A.Allocator self.entry result) }
@@ -45,6 +49,7 @@ impl<'a, A: Allocator> InstructionSink<'a, A> {
     }
 
     /// `struct.get_u`: `0xFB 0x04`, then a type index and a field index.
+    #[inline(always)]
     pub fn struct_get_u(self, ty: u32, field: u32) -> Result<InstructionSink<'a, A>, EncodeError>
         ensures emits { Emits self.entry (after_fb 0x04) (operands.TwoIndexes ty field) result }
         ensures* unchanged { sem 𝓛 (IsUnchangedAtErr A.row A.Allocator self.entry result) }
@@ -53,6 +58,7 @@ impl<'a, A: Allocator> InstructionSink<'a, A> {
     }
 
     /// `struct.set`: `0xFB 0x05`, then a type index and a field index.
+    #[inline(always)]
     pub fn struct_set(self, ty: u32, field: u32) -> Result<InstructionSink<'a, A>, EncodeError>
         ensures emits { Emits self.entry (after_fb 0x05) (operands.TwoIndexes ty field) result }
         ensures* unchanged { sem 𝓛 (IsUnchangedAtErr A.row A.Allocator self.entry result) }
@@ -61,6 +67,7 @@ impl<'a, A: Allocator> InstructionSink<'a, A> {
     }
 
     /// `array.new`: `0xFB 0x06`, then a type index.
+    #[inline(always)]
     pub fn array_new(self, ty: u32) -> Result<InstructionSink<'a, A>, EncodeError>
         ensures emits { Emits self.entry (after_fb 0x06) (operands.Index ty) result }
         ensures* unchanged { sem 𝓛 (IsUnchangedAtErr A.row A.Allocator self.entry result) }
@@ -69,6 +76,7 @@ impl<'a, A: Allocator> InstructionSink<'a, A> {
     }
 
     /// `array.new_default`: `0xFB 0x07`, then a type index.
+    #[inline(always)]
     pub fn array_new_default(self, ty: u32) -> Result<InstructionSink<'a, A>, EncodeError>
         ensures emits { Emits self.entry (after_fb 0x07) (operands.Index ty) result }
         ensures* unchanged { sem 𝓛 (IsUnchangedAtErr A.row A.Allocator self.entry result) }
@@ -77,6 +85,7 @@ impl<'a, A: Allocator> InstructionSink<'a, A> {
     }
 
     /// `array.new_fixed`: `0xFB 0x08`, then a type index and a length.
+    #[inline(always)]
     pub fn array_new_fixed(
         self,
         ty: u32,
@@ -89,6 +98,7 @@ impl<'a, A: Allocator> InstructionSink<'a, A> {
     }
 
     /// `array.new_data`: `0xFB 0x09`, then a type index and a data index.
+    #[inline(always)]
     pub fn array_new_data(
         self,
         ty: u32,
@@ -101,6 +111,7 @@ impl<'a, A: Allocator> InstructionSink<'a, A> {
     }
 
     /// `array.new_elem`: `0xFB 0x0A`, then a type index and an element index.
+    #[inline(always)]
     pub fn array_new_elem(
         self,
         ty: u32,
@@ -113,6 +124,7 @@ impl<'a, A: Allocator> InstructionSink<'a, A> {
     }
 
     /// `array.get`: `0xFB 0x0B`, then a type index.
+    #[inline(always)]
     pub fn array_get(self, ty: u32) -> Result<InstructionSink<'a, A>, EncodeError>
         ensures emits { Emits self.entry (after_fb 0x0b) (operands.Index ty) result }
         ensures* unchanged { sem 𝓛 (IsUnchangedAtErr A.row A.Allocator self.entry result) }
@@ -121,6 +133,7 @@ impl<'a, A: Allocator> InstructionSink<'a, A> {
     }
 
     /// `array.get_s`: `0xFB 0x0C`, then a type index.
+    #[inline(always)]
     pub fn array_get_s(self, ty: u32) -> Result<InstructionSink<'a, A>, EncodeError>
         ensures emits { Emits self.entry (after_fb 0x0c) (operands.Index ty) result }
         ensures* unchanged { sem 𝓛 (IsUnchangedAtErr A.row A.Allocator self.entry result) }
@@ -129,6 +142,7 @@ impl<'a, A: Allocator> InstructionSink<'a, A> {
     }
 
     /// `array.get_u`: `0xFB 0x0D`, then a type index.
+    #[inline(always)]
     pub fn array_get_u(self, ty: u32) -> Result<InstructionSink<'a, A>, EncodeError>
         ensures emits { Emits self.entry (after_fb 0x0d) (operands.Index ty) result }
         ensures* unchanged { sem 𝓛 (IsUnchangedAtErr A.row A.Allocator self.entry result) }
@@ -137,6 +151,7 @@ impl<'a, A: Allocator> InstructionSink<'a, A> {
     }
 
     /// `array.set`: `0xFB 0x0E`, then a type index.
+    #[inline(always)]
     pub fn array_set(self, ty: u32) -> Result<InstructionSink<'a, A>, EncodeError>
         ensures emits { Emits self.entry (after_fb 0x0e) (operands.Index ty) result }
         ensures* unchanged { sem 𝓛 (IsUnchangedAtErr A.row A.Allocator self.entry result) }
@@ -145,6 +160,7 @@ impl<'a, A: Allocator> InstructionSink<'a, A> {
     }
 
     /// `array.len`: `0xFB 0x0F`.
+    #[inline(always)]
     pub fn array_len(self) -> Result<InstructionSink<'a, A>, EncodeError>
         ensures emits { Emits self.entry (after_fb 0x0f) operands.None result }
         ensures* unchanged { sem 𝓛 (IsUnchangedAtErr A.row A.Allocator self.entry result) }
@@ -153,6 +169,7 @@ impl<'a, A: Allocator> InstructionSink<'a, A> {
     }
 
     /// `array.fill`: `0xFB 0x10`, then a type index.
+    #[inline(always)]
     pub fn array_fill(self, ty: u32) -> Result<InstructionSink<'a, A>, EncodeError>
         ensures emits { Emits self.entry (after_fb 0x10) (operands.Index ty) result }
         ensures* unchanged { sem 𝓛 (IsUnchangedAtErr A.row A.Allocator self.entry result) }
@@ -161,6 +178,7 @@ impl<'a, A: Allocator> InstructionSink<'a, A> {
     }
 
     /// `array.copy`: `0xFB 0x11`, then the destination's type index and the source's type index.
+    #[inline(always)]
     pub fn array_copy(
         self,
         destination_type: u32,
@@ -173,6 +191,7 @@ impl<'a, A: Allocator> InstructionSink<'a, A> {
     }
 
     /// `array.init_data`: `0xFB 0x12`, then a type index and a data index.
+    #[inline(always)]
     pub fn array_init_data(
         self,
         ty: u32,
@@ -185,6 +204,7 @@ impl<'a, A: Allocator> InstructionSink<'a, A> {
     }
 
     /// `array.init_elem`: `0xFB 0x13`, then a type index and an element index.
+    #[inline(always)]
     pub fn array_init_elem(
         self,
         ty: u32,
@@ -197,6 +217,7 @@ impl<'a, A: Allocator> InstructionSink<'a, A> {
     }
 
     /// `struct.new_desc`: `0xFB 0x20`, then a type index.
+    #[inline(always)]
     pub fn struct_new_desc(self, ty: u32) -> Result<InstructionSink<'a, A>, EncodeError>
         ensures emits { Emits self.entry (after_fb 0x20) (operands.Index ty) result }
         ensures* unchanged { sem 𝓛 (IsUnchangedAtErr A.row A.Allocator self.entry result) }
@@ -205,6 +226,7 @@ impl<'a, A: Allocator> InstructionSink<'a, A> {
     }
 
     /// `struct.new_default_desc`: `0xFB 0x21`, then a type index.
+    #[inline(always)]
     pub fn struct_new_default_desc(self, ty: u32) -> Result<InstructionSink<'a, A>, EncodeError>
         ensures emits { Emits self.entry (after_fb 0x21) (operands.Index ty) result }
         ensures* unchanged { sem 𝓛 (IsUnchangedAtErr A.row A.Allocator self.entry result) }

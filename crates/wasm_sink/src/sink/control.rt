@@ -16,6 +16,7 @@ use wasm_instructions::table::Prefix;
 #[tactic(auto, unfolding(wasm_instructions::specs::formats::Opcodes::ranges))]
 impl<'a, A: Allocator> InstructionSink<'a, A> {
     /// `unreachable`: `0x00`.
+    #[inline(always)]
     pub fn unreachable(self) -> Result<InstructionSink<'a, A>, EncodeError>
         ensures emits { Emits self.entry (without_prefix 0x00) operands.None result }
         ensures* unchanged { sem 𝓛 (IsUnchangedAtErr A.row A.Allocator self.entry result) }
@@ -24,6 +25,7 @@ impl<'a, A: Allocator> InstructionSink<'a, A> {
     }
 
     /// `nop`: `0x01`.
+    #[inline(always)]
     pub fn nop(self) -> Result<InstructionSink<'a, A>, EncodeError>
         ensures emits { Emits self.entry (without_prefix 0x01) operands.None result }
         ensures* unchanged { sem 𝓛 (IsUnchangedAtErr A.row A.Allocator self.entry result) }
@@ -32,6 +34,7 @@ impl<'a, A: Allocator> InstructionSink<'a, A> {
     }
 
     /// `block`: `0x02`, then a block type.
+    #[inline(always)]
     pub fn block(self, block_type: BlockType) -> Result<InstructionSink<'a, A>, EncodeError>
         ensures emits { Emits self.entry (without_prefix 0x02) (operands.Block block_type) result }
         ensures* unchanged { sem 𝓛 (IsUnchangedAtErr A.row A.Allocator self.entry result) }
@@ -40,6 +43,7 @@ impl<'a, A: Allocator> InstructionSink<'a, A> {
     }
 
     /// `loop`: `0x03`, then a block type.
+    #[inline(always)]
     pub fn loop_(self, block_type: BlockType) -> Result<InstructionSink<'a, A>, EncodeError>
         ensures emits { Emits self.entry (without_prefix 0x03) (operands.Block block_type) result }
         ensures* unchanged { sem 𝓛 (IsUnchangedAtErr A.row A.Allocator self.entry result) }
@@ -48,6 +52,7 @@ impl<'a, A: Allocator> InstructionSink<'a, A> {
     }
 
     /// `if`: `0x04`, then a block type.
+    #[inline(always)]
     pub fn if_(self, block_type: BlockType) -> Result<InstructionSink<'a, A>, EncodeError>
         ensures emits { Emits self.entry (without_prefix 0x04) (operands.Block block_type) result }
         ensures* unchanged { sem 𝓛 (IsUnchangedAtErr A.row A.Allocator self.entry result) }
@@ -56,6 +61,7 @@ impl<'a, A: Allocator> InstructionSink<'a, A> {
     }
 
     /// `else`: `0x05`.
+    #[inline(always)]
     pub fn else_(self) -> Result<InstructionSink<'a, A>, EncodeError>
         ensures emits { Emits self.entry (without_prefix 0x05) operands.None result }
         ensures* unchanged { sem 𝓛 (IsUnchangedAtErr A.row A.Allocator self.entry result) }
@@ -64,6 +70,7 @@ impl<'a, A: Allocator> InstructionSink<'a, A> {
     }
 
     /// `try`: `0x06`, then a block type.
+    #[inline(always)]
     pub fn try_(self, block_type: BlockType) -> Result<InstructionSink<'a, A>, EncodeError>
         ensures emits { Emits self.entry (without_prefix 0x06) (operands.Block block_type) result }
         ensures* unchanged { sem 𝓛 (IsUnchangedAtErr A.row A.Allocator self.entry result) }
@@ -72,6 +79,7 @@ impl<'a, A: Allocator> InstructionSink<'a, A> {
     }
 
     /// `catch`: `0x07`, then a tag index.
+    #[inline(always)]
     pub fn catch(self, tag: u32) -> Result<InstructionSink<'a, A>, EncodeError>
         ensures emits { Emits self.entry (without_prefix 0x07) (operands.Index tag) result }
         ensures* unchanged { sem 𝓛 (IsUnchangedAtErr A.row A.Allocator self.entry result) }
@@ -80,6 +88,7 @@ impl<'a, A: Allocator> InstructionSink<'a, A> {
     }
 
     /// `throw`: `0x08`, then a tag index.
+    #[inline(always)]
     pub fn throw(self, tag: u32) -> Result<InstructionSink<'a, A>, EncodeError>
         ensures emits { Emits self.entry (without_prefix 0x08) (operands.Index tag) result }
         ensures* unchanged { sem 𝓛 (IsUnchangedAtErr A.row A.Allocator self.entry result) }
@@ -88,6 +97,7 @@ impl<'a, A: Allocator> InstructionSink<'a, A> {
     }
 
     /// `rethrow`: `0x09`, then a label index.
+    #[inline(always)]
     pub fn rethrow(self, label: u32) -> Result<InstructionSink<'a, A>, EncodeError>
         ensures emits { Emits self.entry (without_prefix 0x09) (operands.Index label) result }
         ensures* unchanged { sem 𝓛 (IsUnchangedAtErr A.row A.Allocator self.entry result) }
@@ -96,6 +106,7 @@ impl<'a, A: Allocator> InstructionSink<'a, A> {
     }
 
     /// `throw_ref`: `0x0A`.
+    #[inline(always)]
     pub fn throw_ref(self) -> Result<InstructionSink<'a, A>, EncodeError>
         ensures emits { Emits self.entry (without_prefix 0x0a) operands.None result }
         ensures* unchanged { sem 𝓛 (IsUnchangedAtErr A.row A.Allocator self.entry result) }
@@ -104,6 +115,7 @@ impl<'a, A: Allocator> InstructionSink<'a, A> {
     }
 
     /// `end`: `0x0B`.
+    #[inline(always)]
     pub fn end(self) -> Result<InstructionSink<'a, A>, EncodeError>
         ensures emits { Emits self.entry (without_prefix 0x0b) operands.None result }
         ensures* unchanged { sem 𝓛 (IsUnchangedAtErr A.row A.Allocator self.entry result) }
@@ -112,6 +124,7 @@ impl<'a, A: Allocator> InstructionSink<'a, A> {
     }
 
     /// `br`: `0x0C`, then a label index.
+    #[inline(always)]
     pub fn br(self, label: u32) -> Result<InstructionSink<'a, A>, EncodeError>
         ensures emits { Emits self.entry (without_prefix 0x0c) (operands.Index label) result }
         ensures* unchanged { sem 𝓛 (IsUnchangedAtErr A.row A.Allocator self.entry result) }
@@ -120,6 +133,7 @@ impl<'a, A: Allocator> InstructionSink<'a, A> {
     }
 
     /// `br_if`: `0x0D`, then a label index.
+    #[inline(always)]
     pub fn br_if(self, label: u32) -> Result<InstructionSink<'a, A>, EncodeError>
         ensures emits { Emits self.entry (without_prefix 0x0d) (operands.Index label) result }
         ensures* unchanged { sem 𝓛 (IsUnchangedAtErr A.row A.Allocator self.entry result) }
@@ -142,6 +156,7 @@ impl<'a, A: Allocator> InstructionSink<'a, A> {
     }
 
     /// `return`: `0x0F`.
+    #[inline(always)]
     pub fn return_(self) -> Result<InstructionSink<'a, A>, EncodeError>
         ensures emits { Emits self.entry (without_prefix 0x0f) operands.None result }
         ensures* unchanged { sem 𝓛 (IsUnchangedAtErr A.row A.Allocator self.entry result) }
@@ -150,6 +165,7 @@ impl<'a, A: Allocator> InstructionSink<'a, A> {
     }
 
     /// `call`: `0x10`, then a function index.
+    #[inline(always)]
     pub fn call(self, function: u32) -> Result<InstructionSink<'a, A>, EncodeError>
         ensures emits { Emits self.entry (without_prefix 0x10) (operands.Index function) result }
         ensures* unchanged { sem 𝓛 (IsUnchangedAtErr A.row A.Allocator self.entry result) }
@@ -158,6 +174,7 @@ impl<'a, A: Allocator> InstructionSink<'a, A> {
     }
 
     /// `call_indirect`: `0x11`, then a type index and a table index.
+    #[inline(always)]
     pub fn call_indirect(self, table: u32, ty: u32) -> Result<InstructionSink<'a, A>, EncodeError>
         ensures emits { Emits self.entry (without_prefix 0x11) (operands.TwoIndexes ty table) result }
         ensures* unchanged { sem 𝓛 (IsUnchangedAtErr A.row A.Allocator self.entry result) }
@@ -166,6 +183,7 @@ impl<'a, A: Allocator> InstructionSink<'a, A> {
     }
 
     /// `return_call`: `0x12`, then a function index.
+    #[inline(always)]
     pub fn return_call(self, function: u32) -> Result<InstructionSink<'a, A>, EncodeError>
         ensures emits { Emits self.entry (without_prefix 0x12) (operands.Index function) result }
         ensures* unchanged { sem 𝓛 (IsUnchangedAtErr A.row A.Allocator self.entry result) }
@@ -174,6 +192,7 @@ impl<'a, A: Allocator> InstructionSink<'a, A> {
     }
 
     /// `return_call_indirect`: `0x13`, then a type index and a table index.
+    #[inline(always)]
     pub fn return_call_indirect(
         self,
         table: u32,
@@ -186,6 +205,7 @@ impl<'a, A: Allocator> InstructionSink<'a, A> {
     }
 
     /// `call_ref`: `0x14`, then a type index.
+    #[inline(always)]
     pub fn call_ref(self, ty: u32) -> Result<InstructionSink<'a, A>, EncodeError>
         ensures emits { Emits self.entry (without_prefix 0x14) (operands.Index ty) result }
         ensures* unchanged { sem 𝓛 (IsUnchangedAtErr A.row A.Allocator self.entry result) }
@@ -194,6 +214,7 @@ impl<'a, A: Allocator> InstructionSink<'a, A> {
     }
 
     /// `return_call_ref`: `0x15`, then a type index.
+    #[inline(always)]
     pub fn return_call_ref(self, ty: u32) -> Result<InstructionSink<'a, A>, EncodeError>
         ensures emits { Emits self.entry (without_prefix 0x15) (operands.Index ty) result }
         ensures* unchanged { sem 𝓛 (IsUnchangedAtErr A.row A.Allocator self.entry result) }
@@ -202,6 +223,7 @@ impl<'a, A: Allocator> InstructionSink<'a, A> {
     }
 
     /// `delegate`: `0x18`, then a label index.
+    #[inline(always)]
     pub fn delegate(self, label: u32) -> Result<InstructionSink<'a, A>, EncodeError>
         ensures emits { Emits self.entry (without_prefix 0x18) (operands.Index label) result }
         ensures* unchanged { sem 𝓛 (IsUnchangedAtErr A.row A.Allocator self.entry result) }
@@ -210,6 +232,7 @@ impl<'a, A: Allocator> InstructionSink<'a, A> {
     }
 
     /// `catch_all`: `0x19`.
+    #[inline(always)]
     pub fn catch_all(self) -> Result<InstructionSink<'a, A>, EncodeError>
         ensures emits { Emits self.entry (without_prefix 0x19) operands.None result }
         ensures* unchanged { sem 𝓛 (IsUnchangedAtErr A.row A.Allocator self.entry result) }

@@ -21,6 +21,7 @@ use wasm_instructions::table::{Opcode, Prefix};
 #[tactic(auto, using(crate::proofs::WrittenCalls::short_opcode))]
 impl<'a, A: Allocator> InstructionSink<'a, A> {
     /// Appends an instruction without operands.
+    #[inline(always)]
     pub(super) fn emit(
         self,
         prefix: Prefix,
@@ -36,6 +37,7 @@ impl<'a, A: Allocator> InstructionSink<'a, A> {
     }
 
     /// Appends an instruction with one index.
+    #[inline(always)]
     pub(super) fn emit_index(
         self,
         prefix: Prefix,
@@ -53,6 +55,7 @@ impl<'a, A: Allocator> InstructionSink<'a, A> {
     }
 
     /// Appends an instruction with two indexes, `first` before `second`.
+    #[inline(always)]
     pub(super) fn emit_two_indexes(
         self,
         prefix: Prefix,

@@ -14,6 +14,7 @@ use wasm_instructions::table::Prefix;
 #[tactic(auto, unfolding(wasm_instructions::specs::formats::Opcodes::ranges))]
 impl<'a, A: Allocator> InstructionSink<'a, A> {
     /// `i32.load`: `0x28`, then a memory argument. `Alignment` where `memarg.align` is 64 or more.
+    #[inline(always)]
     pub fn i32_load(self, memarg: MemArg) -> Result<InstructionSink<'a, A>, EncodeError>
         ensures emits { EmitsAligned self.entry (without_prefix 0x28) (operands.Mem memarg) memarg.align result }
         ensures* unchanged { sem 𝓛 (IsUnchangedAtErr A.row A.Allocator self.entry result) }
@@ -22,6 +23,7 @@ impl<'a, A: Allocator> InstructionSink<'a, A> {
     }
 
     /// `i64.load`: `0x29`, then a memory argument. `Alignment` where `memarg.align` is 64 or more.
+    #[inline(always)]
     pub fn i64_load(self, memarg: MemArg) -> Result<InstructionSink<'a, A>, EncodeError>
         ensures emits { EmitsAligned self.entry (without_prefix 0x29) (operands.Mem memarg) memarg.align result }
         ensures* unchanged { sem 𝓛 (IsUnchangedAtErr A.row A.Allocator self.entry result) }
@@ -30,6 +32,7 @@ impl<'a, A: Allocator> InstructionSink<'a, A> {
     }
 
     /// `f32.load`: `0x2A`, then a memory argument. `Alignment` where `memarg.align` is 64 or more.
+    #[inline(always)]
     pub fn f32_load(self, memarg: MemArg) -> Result<InstructionSink<'a, A>, EncodeError>
         ensures emits { EmitsAligned self.entry (without_prefix 0x2a) (operands.Mem memarg) memarg.align result }
         ensures* unchanged { sem 𝓛 (IsUnchangedAtErr A.row A.Allocator self.entry result) }
@@ -38,6 +41,7 @@ impl<'a, A: Allocator> InstructionSink<'a, A> {
     }
 
     /// `f64.load`: `0x2B`, then a memory argument. `Alignment` where `memarg.align` is 64 or more.
+    #[inline(always)]
     pub fn f64_load(self, memarg: MemArg) -> Result<InstructionSink<'a, A>, EncodeError>
         ensures emits { EmitsAligned self.entry (without_prefix 0x2b) (operands.Mem memarg) memarg.align result }
         ensures* unchanged { sem 𝓛 (IsUnchangedAtErr A.row A.Allocator self.entry result) }
@@ -46,6 +50,7 @@ impl<'a, A: Allocator> InstructionSink<'a, A> {
     }
 
     /// `i32.load8_s`: `0x2C`, then a memory argument. `Alignment` where `memarg.align` is 64 or more.
+    #[inline(always)]
     pub fn i32_load8_s(self, memarg: MemArg) -> Result<InstructionSink<'a, A>, EncodeError>
         ensures emits { EmitsAligned self.entry (without_prefix 0x2c) (operands.Mem memarg) memarg.align result }
         ensures* unchanged { sem 𝓛 (IsUnchangedAtErr A.row A.Allocator self.entry result) }
@@ -54,6 +59,7 @@ impl<'a, A: Allocator> InstructionSink<'a, A> {
     }
 
     /// `i32.load8_u`: `0x2D`, then a memory argument. `Alignment` where `memarg.align` is 64 or more.
+    #[inline(always)]
     pub fn i32_load8_u(self, memarg: MemArg) -> Result<InstructionSink<'a, A>, EncodeError>
         ensures emits { EmitsAligned self.entry (without_prefix 0x2d) (operands.Mem memarg) memarg.align result }
         ensures* unchanged { sem 𝓛 (IsUnchangedAtErr A.row A.Allocator self.entry result) }
@@ -62,6 +68,7 @@ impl<'a, A: Allocator> InstructionSink<'a, A> {
     }
 
     /// `i32.load16_s`: `0x2E`, then a memory argument. `Alignment` where `memarg.align` is 64 or more.
+    #[inline(always)]
     pub fn i32_load16_s(self, memarg: MemArg) -> Result<InstructionSink<'a, A>, EncodeError>
         ensures emits { EmitsAligned self.entry (without_prefix 0x2e) (operands.Mem memarg) memarg.align result }
         ensures* unchanged { sem 𝓛 (IsUnchangedAtErr A.row A.Allocator self.entry result) }
@@ -70,6 +77,7 @@ impl<'a, A: Allocator> InstructionSink<'a, A> {
     }
 
     /// `i32.load16_u`: `0x2F`, then a memory argument. `Alignment` where `memarg.align` is 64 or more.
+    #[inline(always)]
     pub fn i32_load16_u(self, memarg: MemArg) -> Result<InstructionSink<'a, A>, EncodeError>
         ensures emits { EmitsAligned self.entry (without_prefix 0x2f) (operands.Mem memarg) memarg.align result }
         ensures* unchanged { sem 𝓛 (IsUnchangedAtErr A.row A.Allocator self.entry result) }
@@ -78,6 +86,7 @@ impl<'a, A: Allocator> InstructionSink<'a, A> {
     }
 
     /// `i64.load8_s`: `0x30`, then a memory argument. `Alignment` where `memarg.align` is 64 or more.
+    #[inline(always)]
     pub fn i64_load8_s(self, memarg: MemArg) -> Result<InstructionSink<'a, A>, EncodeError>
         ensures emits { EmitsAligned self.entry (without_prefix 0x30) (operands.Mem memarg) memarg.align result }
         ensures* unchanged { sem 𝓛 (IsUnchangedAtErr A.row A.Allocator self.entry result) }
@@ -86,6 +95,7 @@ impl<'a, A: Allocator> InstructionSink<'a, A> {
     }
 
     /// `i64.load8_u`: `0x31`, then a memory argument. `Alignment` where `memarg.align` is 64 or more.
+    #[inline(always)]
     pub fn i64_load8_u(self, memarg: MemArg) -> Result<InstructionSink<'a, A>, EncodeError>
         ensures emits { EmitsAligned self.entry (without_prefix 0x31) (operands.Mem memarg) memarg.align result }
         ensures* unchanged { sem 𝓛 (IsUnchangedAtErr A.row A.Allocator self.entry result) }
@@ -94,6 +104,7 @@ impl<'a, A: Allocator> InstructionSink<'a, A> {
     }
 
     /// `i64.load16_s`: `0x32`, then a memory argument. `Alignment` where `memarg.align` is 64 or more.
+    #[inline(always)]
     pub fn i64_load16_s(self, memarg: MemArg) -> Result<InstructionSink<'a, A>, EncodeError>
         ensures emits { EmitsAligned self.entry (without_prefix 0x32) (operands.Mem memarg) memarg.align result }
         ensures* unchanged { sem 𝓛 (IsUnchangedAtErr A.row A.Allocator self.entry result) }
@@ -102,6 +113,7 @@ impl<'a, A: Allocator> InstructionSink<'a, A> {
     }
 
     /// `i64.load16_u`: `0x33`, then a memory argument. `Alignment` where `memarg.align` is 64 or more.
+    #[inline(always)]
     pub fn i64_load16_u(self, memarg: MemArg) -> Result<InstructionSink<'a, A>, EncodeError>
         ensures emits { EmitsAligned self.entry (without_prefix 0x33) (operands.Mem memarg) memarg.align result }
         ensures* unchanged { sem 𝓛 (IsUnchangedAtErr A.row A.Allocator self.entry result) }
@@ -110,6 +122,7 @@ impl<'a, A: Allocator> InstructionSink<'a, A> {
     }
 
     /// `i64.load32_s`: `0x34`, then a memory argument. `Alignment` where `memarg.align` is 64 or more.
+    #[inline(always)]
     pub fn i64_load32_s(self, memarg: MemArg) -> Result<InstructionSink<'a, A>, EncodeError>
         ensures emits { EmitsAligned self.entry (without_prefix 0x34) (operands.Mem memarg) memarg.align result }
         ensures* unchanged { sem 𝓛 (IsUnchangedAtErr A.row A.Allocator self.entry result) }
@@ -118,6 +131,7 @@ impl<'a, A: Allocator> InstructionSink<'a, A> {
     }
 
     /// `i64.load32_u`: `0x35`, then a memory argument. `Alignment` where `memarg.align` is 64 or more.
+    #[inline(always)]
     pub fn i64_load32_u(self, memarg: MemArg) -> Result<InstructionSink<'a, A>, EncodeError>
         ensures emits { EmitsAligned self.entry (without_prefix 0x35) (operands.Mem memarg) memarg.align result }
         ensures* unchanged { sem 𝓛 (IsUnchangedAtErr A.row A.Allocator self.entry result) }
@@ -126,6 +140,7 @@ impl<'a, A: Allocator> InstructionSink<'a, A> {
     }
 
     /// `i32.store`: `0x36`, then a memory argument. `Alignment` where `memarg.align` is 64 or more.
+    #[inline(always)]
     pub fn i32_store(self, memarg: MemArg) -> Result<InstructionSink<'a, A>, EncodeError>
         ensures emits { EmitsAligned self.entry (without_prefix 0x36) (operands.Mem memarg) memarg.align result }
         ensures* unchanged { sem 𝓛 (IsUnchangedAtErr A.row A.Allocator self.entry result) }
@@ -134,6 +149,7 @@ impl<'a, A: Allocator> InstructionSink<'a, A> {
     }
 
     /// `i64.store`: `0x37`, then a memory argument. `Alignment` where `memarg.align` is 64 or more.
+    #[inline(always)]
     pub fn i64_store(self, memarg: MemArg) -> Result<InstructionSink<'a, A>, EncodeError>
         ensures emits { EmitsAligned self.entry (without_prefix 0x37) (operands.Mem memarg) memarg.align result }
         ensures* unchanged { sem 𝓛 (IsUnchangedAtErr A.row A.Allocator self.entry result) }
@@ -142,6 +158,7 @@ impl<'a, A: Allocator> InstructionSink<'a, A> {
     }
 
     /// `f32.store`: `0x38`, then a memory argument. `Alignment` where `memarg.align` is 64 or more.
+    #[inline(always)]
     pub fn f32_store(self, memarg: MemArg) -> Result<InstructionSink<'a, A>, EncodeError>
         ensures emits { EmitsAligned self.entry (without_prefix 0x38) (operands.Mem memarg) memarg.align result }
         ensures* unchanged { sem 𝓛 (IsUnchangedAtErr A.row A.Allocator self.entry result) }
@@ -150,6 +167,7 @@ impl<'a, A: Allocator> InstructionSink<'a, A> {
     }
 
     /// `f64.store`: `0x39`, then a memory argument. `Alignment` where `memarg.align` is 64 or more.
+    #[inline(always)]
     pub fn f64_store(self, memarg: MemArg) -> Result<InstructionSink<'a, A>, EncodeError>
         ensures emits { EmitsAligned self.entry (without_prefix 0x39) (operands.Mem memarg) memarg.align result }
         ensures* unchanged { sem 𝓛 (IsUnchangedAtErr A.row A.Allocator self.entry result) }
@@ -158,6 +176,7 @@ impl<'a, A: Allocator> InstructionSink<'a, A> {
     }
 
     /// `i32.store8`: `0x3A`, then a memory argument. `Alignment` where `memarg.align` is 64 or more.
+    #[inline(always)]
     pub fn i32_store8(self, memarg: MemArg) -> Result<InstructionSink<'a, A>, EncodeError>
         ensures emits { EmitsAligned self.entry (without_prefix 0x3a) (operands.Mem memarg) memarg.align result }
         ensures* unchanged { sem 𝓛 (IsUnchangedAtErr A.row A.Allocator self.entry result) }
@@ -166,6 +185,7 @@ impl<'a, A: Allocator> InstructionSink<'a, A> {
     }
 
     /// `i32.store16`: `0x3B`, then a memory argument. `Alignment` where `memarg.align` is 64 or more.
+    #[inline(always)]
     pub fn i32_store16(self, memarg: MemArg) -> Result<InstructionSink<'a, A>, EncodeError>
         ensures emits { EmitsAligned self.entry (without_prefix 0x3b) (operands.Mem memarg) memarg.align result }
         ensures* unchanged { sem 𝓛 (IsUnchangedAtErr A.row A.Allocator self.entry result) }
@@ -174,6 +194,7 @@ impl<'a, A: Allocator> InstructionSink<'a, A> {
     }
 
     /// `i64.store8`: `0x3C`, then a memory argument. `Alignment` where `memarg.align` is 64 or more.
+    #[inline(always)]
     pub fn i64_store8(self, memarg: MemArg) -> Result<InstructionSink<'a, A>, EncodeError>
         ensures emits { EmitsAligned self.entry (without_prefix 0x3c) (operands.Mem memarg) memarg.align result }
         ensures* unchanged { sem 𝓛 (IsUnchangedAtErr A.row A.Allocator self.entry result) }
@@ -182,6 +203,7 @@ impl<'a, A: Allocator> InstructionSink<'a, A> {
     }
 
     /// `i64.store16`: `0x3D`, then a memory argument. `Alignment` where `memarg.align` is 64 or more.
+    #[inline(always)]
     pub fn i64_store16(self, memarg: MemArg) -> Result<InstructionSink<'a, A>, EncodeError>
         ensures emits { EmitsAligned self.entry (without_prefix 0x3d) (operands.Mem memarg) memarg.align result }
         ensures* unchanged { sem 𝓛 (IsUnchangedAtErr A.row A.Allocator self.entry result) }
@@ -190,6 +212,7 @@ impl<'a, A: Allocator> InstructionSink<'a, A> {
     }
 
     /// `i64.store32`: `0x3E`, then a memory argument. `Alignment` where `memarg.align` is 64 or more.
+    #[inline(always)]
     pub fn i64_store32(self, memarg: MemArg) -> Result<InstructionSink<'a, A>, EncodeError>
         ensures emits { EmitsAligned self.entry (without_prefix 0x3e) (operands.Mem memarg) memarg.align result }
         ensures* unchanged { sem 𝓛 (IsUnchangedAtErr A.row A.Allocator self.entry result) }
@@ -198,6 +221,7 @@ impl<'a, A: Allocator> InstructionSink<'a, A> {
     }
 
     /// `memory.size`: `0x3F`, then a memory index.
+    #[inline(always)]
     pub fn memory_size(self, memory: u32) -> Result<InstructionSink<'a, A>, EncodeError>
         ensures emits { Emits self.entry (without_prefix 0x3f) (operands.Index memory) result }
         ensures* unchanged { sem 𝓛 (IsUnchangedAtErr A.row A.Allocator self.entry result) }
@@ -206,6 +230,7 @@ impl<'a, A: Allocator> InstructionSink<'a, A> {
     }
 
     /// `memory.grow`: `0x40`, then a memory index.
+    #[inline(always)]
     pub fn memory_grow(self, memory: u32) -> Result<InstructionSink<'a, A>, EncodeError>
         ensures emits { Emits self.entry (without_prefix 0x40) (operands.Index memory) result }
         ensures* unchanged { sem 𝓛 (IsUnchangedAtErr A.row A.Allocator self.entry result) }
@@ -214,6 +239,7 @@ impl<'a, A: Allocator> InstructionSink<'a, A> {
     }
 
     /// `memory.init`: `0xFC 0x08`, then a data index and a memory index.
+    #[inline(always)]
     pub fn memory_init(
         self,
         memory: u32,
@@ -226,6 +252,7 @@ impl<'a, A: Allocator> InstructionSink<'a, A> {
     }
 
     /// `data.drop`: `0xFC 0x09`, then a data index.
+    #[inline(always)]
     pub fn data_drop(self, segment: u32) -> Result<InstructionSink<'a, A>, EncodeError>
         ensures emits { Emits self.entry (after_fc 0x09) (operands.Index segment) result }
         ensures* unchanged { sem 𝓛 (IsUnchangedAtErr A.row A.Allocator self.entry result) }
@@ -234,6 +261,7 @@ impl<'a, A: Allocator> InstructionSink<'a, A> {
     }
 
     /// `memory.copy`: `0xFC 0x0A`, then the destination's memory index and the source's memory index.
+    #[inline(always)]
     pub fn memory_copy(
         self,
         destination: u32,
@@ -246,6 +274,7 @@ impl<'a, A: Allocator> InstructionSink<'a, A> {
     }
 
     /// `memory.fill`: `0xFC 0x0B`, then a memory index.
+    #[inline(always)]
     pub fn memory_fill(self, memory: u32) -> Result<InstructionSink<'a, A>, EncodeError>
         ensures emits { Emits self.entry (after_fc 0x0b) (operands.Index memory) result }
         ensures* unchanged { sem 𝓛 (IsUnchangedAtErr A.row A.Allocator self.entry result) }
@@ -254,6 +283,7 @@ impl<'a, A: Allocator> InstructionSink<'a, A> {
     }
 
     /// `memory.discard`: `0xFC 0x12`, then a memory index.
+    #[inline(always)]
     pub fn memory_discard(self, memory: u32) -> Result<InstructionSink<'a, A>, EncodeError>
         ensures emits { Emits self.entry (after_fc 0x12) (operands.Index memory) result }
         ensures* unchanged { sem 𝓛 (IsUnchangedAtErr A.row A.Allocator self.entry result) }

@@ -15,6 +15,7 @@ use wasm_types::types::ValType;
 #[tactic(auto, unfolding(wasm_instructions::specs::formats::Opcodes::ranges))]
 impl<'a, A: Allocator> InstructionSink<'a, A> {
     /// `drop`: `0x1A`.
+    #[inline(always)]
     pub fn drop(self) -> Result<InstructionSink<'a, A>, EncodeError>
         ensures emits { Emits self.entry (without_prefix 0x1a) operands.None result }
         ensures* unchanged { sem 𝓛 (IsUnchangedAtErr A.row A.Allocator self.entry result) }
@@ -23,6 +24,7 @@ impl<'a, A: Allocator> InstructionSink<'a, A> {
     }
 
     /// `select`: `0x1B`.
+    #[inline(always)]
     pub fn select(self) -> Result<InstructionSink<'a, A>, EncodeError>
         ensures emits { Emits self.entry (without_prefix 0x1b) operands.None result }
         ensures* unchanged { sem 𝓛 (IsUnchangedAtErr A.row A.Allocator self.entry result) }
@@ -31,6 +33,7 @@ impl<'a, A: Allocator> InstructionSink<'a, A> {
     }
 
     /// `select` with one type: `0x1C`, then a list of one value type.
+    #[inline(always)]
     pub fn typed_select(self, ty: ValType) -> Result<InstructionSink<'a, A>, EncodeError>
         ensures emits { Emits self.entry (without_prefix 0x1c) (operands.Types (ty ∷ [])) result }
         ensures* unchanged { sem 𝓛 (IsUnchangedAtErr A.row A.Allocator self.entry result) }

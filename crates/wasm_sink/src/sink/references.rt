@@ -14,6 +14,7 @@ use wasm_types::types::{HeapType, RefType};
 #[tactic(auto, unfolding(wasm_instructions::specs::formats::Opcodes::ranges))]
 impl<'a, A: Allocator> InstructionSink<'a, A> {
     /// `ref.null`: `0xD0`, then a heap type.
+    #[inline(always)]
     pub fn ref_null(self, heap_type: HeapType) -> Result<InstructionSink<'a, A>, EncodeError>
         ensures emits { Emits self.entry (without_prefix 0xd0) (operands.Heap heap_type) result }
         ensures* unchanged { sem 𝓛 (IsUnchangedAtErr A.row A.Allocator self.entry result) }
@@ -22,6 +23,7 @@ impl<'a, A: Allocator> InstructionSink<'a, A> {
     }
 
     /// `ref.is_null`: `0xD1`.
+    #[inline(always)]
     pub fn ref_is_null(self) -> Result<InstructionSink<'a, A>, EncodeError>
         ensures emits { Emits self.entry (without_prefix 0xd1) operands.None result }
         ensures* unchanged { sem 𝓛 (IsUnchangedAtErr A.row A.Allocator self.entry result) }
@@ -30,6 +32,7 @@ impl<'a, A: Allocator> InstructionSink<'a, A> {
     }
 
     /// `ref.func`: `0xD2`, then a function index.
+    #[inline(always)]
     pub fn ref_func(self, function: u32) -> Result<InstructionSink<'a, A>, EncodeError>
         ensures emits { Emits self.entry (without_prefix 0xd2) (operands.Index function) result }
         ensures* unchanged { sem 𝓛 (IsUnchangedAtErr A.row A.Allocator self.entry result) }
@@ -38,6 +41,7 @@ impl<'a, A: Allocator> InstructionSink<'a, A> {
     }
 
     /// `ref.eq`: `0xD3`.
+    #[inline(always)]
     pub fn ref_eq(self) -> Result<InstructionSink<'a, A>, EncodeError>
         ensures emits { Emits self.entry (without_prefix 0xd3) operands.None result }
         ensures* unchanged { sem 𝓛 (IsUnchangedAtErr A.row A.Allocator self.entry result) }
@@ -46,6 +50,7 @@ impl<'a, A: Allocator> InstructionSink<'a, A> {
     }
 
     /// `ref.as_non_null`: `0xD4`.
+    #[inline(always)]
     pub fn ref_as_non_null(self) -> Result<InstructionSink<'a, A>, EncodeError>
         ensures emits { Emits self.entry (without_prefix 0xd4) operands.None result }
         ensures* unchanged { sem 𝓛 (IsUnchangedAtErr A.row A.Allocator self.entry result) }
@@ -54,6 +59,7 @@ impl<'a, A: Allocator> InstructionSink<'a, A> {
     }
 
     /// `br_on_null`: `0xD5`, then a label index.
+    #[inline(always)]
     pub fn br_on_null(self, label: u32) -> Result<InstructionSink<'a, A>, EncodeError>
         ensures emits { Emits self.entry (without_prefix 0xd5) (operands.Index label) result }
         ensures* unchanged { sem 𝓛 (IsUnchangedAtErr A.row A.Allocator self.entry result) }
@@ -62,6 +68,7 @@ impl<'a, A: Allocator> InstructionSink<'a, A> {
     }
 
     /// `br_on_non_null`: `0xD6`, then a label index.
+    #[inline(always)]
     pub fn br_on_non_null(self, label: u32) -> Result<InstructionSink<'a, A>, EncodeError>
         ensures emits { Emits self.entry (without_prefix 0xd6) (operands.Index label) result }
         ensures* unchanged { sem 𝓛 (IsUnchangedAtErr A.row A.Allocator self.entry result) }
@@ -70,6 +77,7 @@ impl<'a, A: Allocator> InstructionSink<'a, A> {
     }
 
     /// `ref.test` of a type without null: `0xFB 0x14`, then a heap type.
+    #[inline(always)]
     pub fn ref_test_non_null(
         self,
         heap_type: HeapType,
@@ -81,6 +89,7 @@ impl<'a, A: Allocator> InstructionSink<'a, A> {
     }
 
     /// `ref.test` of a type with null: `0xFB 0x15`, then a heap type.
+    #[inline(always)]
     pub fn ref_test_nullable(
         self,
         heap_type: HeapType,
@@ -92,6 +101,7 @@ impl<'a, A: Allocator> InstructionSink<'a, A> {
     }
 
     /// `ref.cast` to a type without null: `0xFB 0x16`, then a heap type.
+    #[inline(always)]
     pub fn ref_cast_non_null(
         self,
         heap_type: HeapType,
@@ -103,6 +113,7 @@ impl<'a, A: Allocator> InstructionSink<'a, A> {
     }
 
     /// `ref.cast` to a type with null: `0xFB 0x17`, then a heap type.
+    #[inline(always)]
     pub fn ref_cast_nullable(
         self,
         heap_type: HeapType,
@@ -114,6 +125,7 @@ impl<'a, A: Allocator> InstructionSink<'a, A> {
     }
 
     /// `br_on_cast`: `0xFB 0x18`, then a byte for nullability, a label index and the heap types of `from` and `to`.
+    #[inline(always)]
     pub fn br_on_cast(
         self,
         label: u32,
@@ -128,6 +140,7 @@ impl<'a, A: Allocator> InstructionSink<'a, A> {
 
     /// `br_on_cast_fail`: `0xFB 0x19`, then a byte for nullability, a label index and the heap types of `from` and
     /// `to`.
+    #[inline(always)]
     pub fn br_on_cast_fail(
         self,
         label: u32,
@@ -141,6 +154,7 @@ impl<'a, A: Allocator> InstructionSink<'a, A> {
     }
 
     /// `any.convert_extern`: `0xFB 0x1A`.
+    #[inline(always)]
     pub fn any_convert_extern(self) -> Result<InstructionSink<'a, A>, EncodeError>
         ensures emits { Emits self.entry (after_fb 0x1a) operands.None result }
         ensures* unchanged { sem 𝓛 (IsUnchangedAtErr A.row A.Allocator self.entry result) }
@@ -149,6 +163,7 @@ impl<'a, A: Allocator> InstructionSink<'a, A> {
     }
 
     /// `extern.convert_any`: `0xFB 0x1B`.
+    #[inline(always)]
     pub fn extern_convert_any(self) -> Result<InstructionSink<'a, A>, EncodeError>
         ensures emits { Emits self.entry (after_fb 0x1b) operands.None result }
         ensures* unchanged { sem 𝓛 (IsUnchangedAtErr A.row A.Allocator self.entry result) }
@@ -157,6 +172,7 @@ impl<'a, A: Allocator> InstructionSink<'a, A> {
     }
 
     /// `ref.i31`: `0xFB 0x1C`.
+    #[inline(always)]
     pub fn ref_i31(self) -> Result<InstructionSink<'a, A>, EncodeError>
         ensures emits { Emits self.entry (after_fb 0x1c) operands.None result }
         ensures* unchanged { sem 𝓛 (IsUnchangedAtErr A.row A.Allocator self.entry result) }
@@ -165,6 +181,7 @@ impl<'a, A: Allocator> InstructionSink<'a, A> {
     }
 
     /// `i31.get_s`: `0xFB 0x1D`.
+    #[inline(always)]
     pub fn i31_get_s(self) -> Result<InstructionSink<'a, A>, EncodeError>
         ensures emits { Emits self.entry (after_fb 0x1d) operands.None result }
         ensures* unchanged { sem 𝓛 (IsUnchangedAtErr A.row A.Allocator self.entry result) }
@@ -173,6 +190,7 @@ impl<'a, A: Allocator> InstructionSink<'a, A> {
     }
 
     /// `i31.get_u`: `0xFB 0x1E`.
+    #[inline(always)]
     pub fn i31_get_u(self) -> Result<InstructionSink<'a, A>, EncodeError>
         ensures emits { Emits self.entry (after_fb 0x1e) operands.None result }
         ensures* unchanged { sem 𝓛 (IsUnchangedAtErr A.row A.Allocator self.entry result) }
@@ -181,6 +199,7 @@ impl<'a, A: Allocator> InstructionSink<'a, A> {
     }
 
     /// `ref.get_desc`: `0xFB 0x22`, then a type index.
+    #[inline(always)]
     pub fn ref_get_desc(self, ty: u32) -> Result<InstructionSink<'a, A>, EncodeError>
         ensures emits { Emits self.entry (after_fb 0x22) (operands.Index ty) result }
         ensures* unchanged { sem 𝓛 (IsUnchangedAtErr A.row A.Allocator self.entry result) }
@@ -189,6 +208,7 @@ impl<'a, A: Allocator> InstructionSink<'a, A> {
     }
 
     /// `ref.cast_desc_eq` to a type without null: `0xFB 0x23`, then a heap type.
+    #[inline(always)]
     pub fn ref_cast_desc_eq_non_null(
         self,
         heap_type: HeapType,
@@ -200,6 +220,7 @@ impl<'a, A: Allocator> InstructionSink<'a, A> {
     }
 
     /// `ref.cast_desc_eq` to a type with null: `0xFB 0x24`, then a heap type.
+    #[inline(always)]
     pub fn ref_cast_desc_eq_nullable(
         self,
         heap_type: HeapType,
@@ -212,6 +233,7 @@ impl<'a, A: Allocator> InstructionSink<'a, A> {
 
     /// `br_on_cast_desc_eq`: `0xFB 0x25`, then a byte for nullability, a label index and the heap types of `from` and
     /// `to`.
+    #[inline(always)]
     pub fn br_on_cast_desc_eq(
         self,
         label: u32,
@@ -226,6 +248,7 @@ impl<'a, A: Allocator> InstructionSink<'a, A> {
 
     /// `br_on_cast_desc_eq_fail`: `0xFB 0x26`, then a byte for nullability, a label index and the heap types of `from`
     /// and `to`.
+    #[inline(always)]
     pub fn br_on_cast_desc_eq_fail(
         self,
         label: u32,

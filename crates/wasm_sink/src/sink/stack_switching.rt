@@ -15,6 +15,7 @@ use wasm_instructions::table::Prefix;
 #[tactic(auto, unfolding(wasm_instructions::specs::formats::Opcodes::ranges))]
 impl<'a, A: Allocator> InstructionSink<'a, A> {
     /// `cont.new`: `0xE0`, then a type index.
+    #[inline(always)]
     pub fn cont_new(self, ty: u32) -> Result<InstructionSink<'a, A>, EncodeError>
         ensures emits { Emits self.entry (without_prefix 0xe0) (operands.Index ty) result }
         ensures* unchanged { sem 𝓛 (IsUnchangedAtErr A.row A.Allocator self.entry result) }
@@ -23,6 +24,7 @@ impl<'a, A: Allocator> InstructionSink<'a, A> {
     }
 
     /// `cont.bind`: `0xE1`, then the argument's type index and the result's type index.
+    #[inline(always)]
     pub fn cont_bind(
         self,
         argument_type: u32,
@@ -35,6 +37,7 @@ impl<'a, A: Allocator> InstructionSink<'a, A> {
     }
 
     /// `suspend`: `0xE2`, then a tag index.
+    #[inline(always)]
     pub fn suspend(self, tag: u32) -> Result<InstructionSink<'a, A>, EncodeError>
         ensures emits { Emits self.entry (without_prefix 0xe2) (operands.Index tag) result }
         ensures* unchanged { sem 𝓛 (IsUnchangedAtErr A.row A.Allocator self.entry result) }
@@ -86,6 +89,7 @@ impl<'a, A: Allocator> InstructionSink<'a, A> {
     }
 
     /// `switch`: `0xE6`, then a type index and a tag index.
+    #[inline(always)]
     pub fn switch(self, ty: u32, tag: u32) -> Result<InstructionSink<'a, A>, EncodeError>
         ensures emits { Emits self.entry (without_prefix 0xe6) (operands.TwoIndexes ty tag) result }
         ensures* unchanged { sem 𝓛 (IsUnchangedAtErr A.row A.Allocator self.entry result) }

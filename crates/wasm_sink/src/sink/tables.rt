@@ -12,6 +12,7 @@ use wasm_instructions::table::Prefix;
 #[tactic(auto, unfolding(wasm_instructions::specs::formats::Opcodes::ranges))]
 impl<'a, A: Allocator> InstructionSink<'a, A> {
     /// `table.get`: `0x25`, then a table index.
+    #[inline(always)]
     pub fn table_get(self, table: u32) -> Result<InstructionSink<'a, A>, EncodeError>
         ensures emits { Emits self.entry (without_prefix 0x25) (operands.Index table) result }
         ensures* unchanged { sem 𝓛 (IsUnchangedAtErr A.row A.Allocator self.entry result) }
@@ -20,6 +21,7 @@ impl<'a, A: Allocator> InstructionSink<'a, A> {
     }
 
     /// `table.set`: `0x26`, then a table index.
+    #[inline(always)]
     pub fn table_set(self, table: u32) -> Result<InstructionSink<'a, A>, EncodeError>
         ensures emits { Emits self.entry (without_prefix 0x26) (operands.Index table) result }
         ensures* unchanged { sem 𝓛 (IsUnchangedAtErr A.row A.Allocator self.entry result) }
@@ -28,6 +30,7 @@ impl<'a, A: Allocator> InstructionSink<'a, A> {
     }
 
     /// `table.init`: `0xFC 0x0C`, then an element index and a table index.
+    #[inline(always)]
     pub fn table_init(self, table: u32, segment: u32) -> Result<InstructionSink<'a, A>, EncodeError>
         ensures emits { Emits self.entry (after_fc 0x0c) (operands.TwoIndexes segment table) result }
         ensures* unchanged { sem 𝓛 (IsUnchangedAtErr A.row A.Allocator self.entry result) }
@@ -36,6 +39,7 @@ impl<'a, A: Allocator> InstructionSink<'a, A> {
     }
 
     /// `elem.drop`: `0xFC 0x0D`, then an element index.
+    #[inline(always)]
     pub fn elem_drop(self, segment: u32) -> Result<InstructionSink<'a, A>, EncodeError>
         ensures emits { Emits self.entry (after_fc 0x0d) (operands.Index segment) result }
         ensures* unchanged { sem 𝓛 (IsUnchangedAtErr A.row A.Allocator self.entry result) }
@@ -44,6 +48,7 @@ impl<'a, A: Allocator> InstructionSink<'a, A> {
     }
 
     /// `table.copy`: `0xFC 0x0E`, then the destination's table index and the source's table index.
+    #[inline(always)]
     pub fn table_copy(
         self,
         destination: u32,
@@ -56,6 +61,7 @@ impl<'a, A: Allocator> InstructionSink<'a, A> {
     }
 
     /// `table.grow`: `0xFC 0x0F`, then a table index.
+    #[inline(always)]
     pub fn table_grow(self, table: u32) -> Result<InstructionSink<'a, A>, EncodeError>
         ensures emits { Emits self.entry (after_fc 0x0f) (operands.Index table) result }
         ensures* unchanged { sem 𝓛 (IsUnchangedAtErr A.row A.Allocator self.entry result) }
@@ -64,6 +70,7 @@ impl<'a, A: Allocator> InstructionSink<'a, A> {
     }
 
     /// `table.size`: `0xFC 0x10`, then a table index.
+    #[inline(always)]
     pub fn table_size(self, table: u32) -> Result<InstructionSink<'a, A>, EncodeError>
         ensures emits { Emits self.entry (after_fc 0x10) (operands.Index table) result }
         ensures* unchanged { sem 𝓛 (IsUnchangedAtErr A.row A.Allocator self.entry result) }
@@ -72,6 +79,7 @@ impl<'a, A: Allocator> InstructionSink<'a, A> {
     }
 
     /// `table.fill`: `0xFC 0x11`, then a table index.
+    #[inline(always)]
     pub fn table_fill(self, table: u32) -> Result<InstructionSink<'a, A>, EncodeError>
         ensures emits { Emits self.entry (after_fc 0x11) (operands.Index table) result }
         ensures* unchanged { sem 𝓛 (IsUnchangedAtErr A.row A.Allocator self.entry result) }

@@ -12,6 +12,7 @@ use wasm_instructions::table::Prefix;
 #[tactic(auto, unfolding(wasm_instructions::specs::formats::Opcodes::ranges))]
 impl<'a, A: Allocator> InstructionSink<'a, A> {
     /// `local.get`: `0x20`, then a local index.
+    #[inline(always)]
     pub fn local_get(self, local: u32) -> Result<InstructionSink<'a, A>, EncodeError>
         ensures emits { Emits self.entry (without_prefix 0x20) (operands.Index local) result }
         ensures* unchanged { sem 𝓛 (IsUnchangedAtErr A.row A.Allocator self.entry result) }
@@ -20,6 +21,7 @@ impl<'a, A: Allocator> InstructionSink<'a, A> {
     }
 
     /// `local.set`: `0x21`, then a local index.
+    #[inline(always)]
     pub fn local_set(self, local: u32) -> Result<InstructionSink<'a, A>, EncodeError>
         ensures emits { Emits self.entry (without_prefix 0x21) (operands.Index local) result }
         ensures* unchanged { sem 𝓛 (IsUnchangedAtErr A.row A.Allocator self.entry result) }
@@ -28,6 +30,7 @@ impl<'a, A: Allocator> InstructionSink<'a, A> {
     }
 
     /// `local.tee`: `0x22`, then a local index.
+    #[inline(always)]
     pub fn local_tee(self, local: u32) -> Result<InstructionSink<'a, A>, EncodeError>
         ensures emits { Emits self.entry (without_prefix 0x22) (operands.Index local) result }
         ensures* unchanged { sem 𝓛 (IsUnchangedAtErr A.row A.Allocator self.entry result) }
@@ -36,6 +39,7 @@ impl<'a, A: Allocator> InstructionSink<'a, A> {
     }
 
     /// `global.get`: `0x23`, then a global index.
+    #[inline(always)]
     pub fn global_get(self, global: u32) -> Result<InstructionSink<'a, A>, EncodeError>
         ensures emits { Emits self.entry (without_prefix 0x23) (operands.Index global) result }
         ensures* unchanged { sem 𝓛 (IsUnchangedAtErr A.row A.Allocator self.entry result) }
@@ -44,6 +48,7 @@ impl<'a, A: Allocator> InstructionSink<'a, A> {
     }
 
     /// `global.set`: `0x24`, then a global index.
+    #[inline(always)]
     pub fn global_set(self, global: u32) -> Result<InstructionSink<'a, A>, EncodeError>
         ensures emits { Emits self.entry (without_prefix 0x24) (operands.Index global) result }
         ensures* unchanged { sem 𝓛 (IsUnchangedAtErr A.row A.Allocator self.entry result) }

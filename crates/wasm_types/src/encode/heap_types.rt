@@ -49,6 +49,7 @@ fn put_abstract<A: Allocator>(bytes: &mut Vec<u8, A>, shared: bool, ty: Abstract
 }
 
 /// Writes a heap type in 1 to 6 bytes (Core 3.0, Heap Types).
+#[inline(always)]
 #[tactic(auto, unfolding(crate::specs::formats::Types::heap_type))]
 pub fn put_heap_type<A: Allocator>(bytes: &mut Vec<u8, A>, ty: HeapType)
     requires { vec_len bytes.old + 6 ≤ vec_capacity bytes.old }
@@ -68,6 +69,7 @@ pub fn put_heap_type<A: Allocator>(bytes: &mut Vec<u8, A>, ty: HeapType)
 }
 
 /// Writes a reference type in 1 to 7 bytes, in its short form if it has one (Core 3.0, Reference Types).
+#[inline(never)]
 #[tactic(auto, unfolding(crate::specs::formats::Types::ref_type))]
 pub fn put_ref_type<A: Allocator>(bytes: &mut Vec<u8, A>, ty: RefType)
     requires { vec_len bytes.old + 7 ≤ vec_capacity bytes.old }
@@ -91,6 +93,7 @@ pub fn put_ref_type<A: Allocator>(bytes: &mut Vec<u8, A>, ty: RefType)
 }
 
 /// Writes a value type in 1 to 7 bytes (Core 3.0, Value Types).
+#[inline(always)]
 #[tactic(auto, unfolding(crate::specs::formats::Types::val_type))]
 pub fn put_val_type<A: Allocator>(bytes: &mut Vec<u8, A>, ty: ValType)
     requires { vec_len bytes.old + 7 ≤ vec_capacity bytes.old }
@@ -99,14 +102,18 @@ pub fn put_val_type<A: Allocator>(bytes: &mut Vec<u8, A>, ty: ValType)
     ensures len { vec_len bytes.new ≤ vec_len bytes.old + 7 }
     ensures capacity { vec_capacity bytes.new ≡ vec_capacity bytes.old }
 {
-    match ty {
-        ValType::I32 => bytes.push_reserved(0x7f),
-        ValType::I64 => bytes.push_reserved(0x7e),
-        ValType::F32 => bytes.push_reserved(0x7d),
-        ValType::F64 => bytes.push_reserved(0x7c),
-        ValType::V128 => bytes.push_reserved(0x7b),
-        ValType::Ref(ty) => put_ref_type(bytes, ty),
-    }
+    let byte = match ty {
+        ValType::I32 => 0x7f,
+        ValType::I64 => 0x7e,
+        ValType::F32 => 0x7d,
+        ValType::F64 => 0x7c,
+        ValType::V128 => 0x7b,
+        ValType::Ref(ty) => {
+            put_ref_type(bytes, ty);
+            return;
+        }
+    };
+    bytes.push_reserved(byte);
 }
 
 /// Writes a storage type in 1 to 7 bytes (Core 3.0, Composite Types).

@@ -14,6 +14,7 @@ use wasm_instructions::table::Prefix;
 #[tactic(auto, unfolding(wasm_instructions::specs::formats::Opcodes::ranges))]
 impl<'a, A: Allocator> InstructionSink<'a, A> {
     /// `memory.atomic.notify`: `0xFE 0x00`, then a memory argument. `Alignment` where `memarg.align` is 64 or more.
+    #[inline(always)]
     pub fn memory_atomic_notify(self, memarg: MemArg) -> Result<InstructionSink<'a, A>, EncodeError>
         ensures emits { EmitsAligned self.entry (after_fe 0x00) (operands.Mem memarg) memarg.align result }
         ensures* unchanged { sem 𝓛 (IsUnchangedAtErr A.row A.Allocator self.entry result) }
@@ -22,6 +23,7 @@ impl<'a, A: Allocator> InstructionSink<'a, A> {
     }
 
     /// `memory.atomic.wait32`: `0xFE 0x01`, then a memory argument. `Alignment` where `memarg.align` is 64 or more.
+    #[inline(always)]
     pub fn memory_atomic_wait32(self, memarg: MemArg) -> Result<InstructionSink<'a, A>, EncodeError>
         ensures emits { EmitsAligned self.entry (after_fe 0x01) (operands.Mem memarg) memarg.align result }
         ensures* unchanged { sem 𝓛 (IsUnchangedAtErr A.row A.Allocator self.entry result) }
@@ -30,6 +32,7 @@ impl<'a, A: Allocator> InstructionSink<'a, A> {
     }
 
     /// `memory.atomic.wait64`: `0xFE 0x02`, then a memory argument. `Alignment` where `memarg.align` is 64 or more.
+    #[inline(always)]
     pub fn memory_atomic_wait64(self, memarg: MemArg) -> Result<InstructionSink<'a, A>, EncodeError>
         ensures emits { EmitsAligned self.entry (after_fe 0x02) (operands.Mem memarg) memarg.align result }
         ensures* unchanged { sem 𝓛 (IsUnchangedAtErr A.row A.Allocator self.entry result) }
@@ -38,6 +41,7 @@ impl<'a, A: Allocator> InstructionSink<'a, A> {
     }
 
     /// `atomic.fence`: `0xFE 0x03`, then an ordering.
+    #[inline(always)]
     pub fn atomic_fence(self, ordering: Ordering) -> Result<InstructionSink<'a, A>, EncodeError>
         ensures emits { Emits self.entry (after_fe 0x03) (operands.Order ordering) result }
         ensures* unchanged { sem 𝓛 (IsUnchangedAtErr A.row A.Allocator self.entry result) }
@@ -46,6 +50,7 @@ impl<'a, A: Allocator> InstructionSink<'a, A> {
     }
 
     /// `pause`: `0xFE 0x04`.
+    #[inline(always)]
     pub fn pause(self) -> Result<InstructionSink<'a, A>, EncodeError>
         ensures emits { Emits self.entry (after_fe 0x04) operands.None result }
         ensures* unchanged { sem 𝓛 (IsUnchangedAtErr A.row A.Allocator self.entry result) }
@@ -54,6 +59,7 @@ impl<'a, A: Allocator> InstructionSink<'a, A> {
     }
 
     /// `i32.atomic.load`: `0xFE 0x10`, then a memory argument. `Alignment` where `memarg.align` is 64 or more.
+    #[inline(always)]
     pub fn i32_atomic_load(self, memarg: MemArg) -> Result<InstructionSink<'a, A>, EncodeError>
         ensures emits { EmitsAligned self.entry (after_fe 0x10) (operands.Mem memarg) memarg.align result }
         ensures* unchanged { sem 𝓛 (IsUnchangedAtErr A.row A.Allocator self.entry result) }
@@ -62,6 +68,7 @@ impl<'a, A: Allocator> InstructionSink<'a, A> {
     }
 
     /// `i64.atomic.load`: `0xFE 0x11`, then a memory argument. `Alignment` where `memarg.align` is 64 or more.
+    #[inline(always)]
     pub fn i64_atomic_load(self, memarg: MemArg) -> Result<InstructionSink<'a, A>, EncodeError>
         ensures emits { EmitsAligned self.entry (after_fe 0x11) (operands.Mem memarg) memarg.align result }
         ensures* unchanged { sem 𝓛 (IsUnchangedAtErr A.row A.Allocator self.entry result) }
@@ -70,6 +77,7 @@ impl<'a, A: Allocator> InstructionSink<'a, A> {
     }
 
     /// `i32.atomic.load8_u`: `0xFE 0x12`, then a memory argument. `Alignment` where `memarg.align` is 64 or more.
+    #[inline(always)]
     pub fn i32_atomic_load8_u(self, memarg: MemArg) -> Result<InstructionSink<'a, A>, EncodeError>
         ensures emits { EmitsAligned self.entry (after_fe 0x12) (operands.Mem memarg) memarg.align result }
         ensures* unchanged { sem 𝓛 (IsUnchangedAtErr A.row A.Allocator self.entry result) }
@@ -78,6 +86,7 @@ impl<'a, A: Allocator> InstructionSink<'a, A> {
     }
 
     /// `i32.atomic.load16_u`: `0xFE 0x13`, then a memory argument. `Alignment` where `memarg.align` is 64 or more.
+    #[inline(always)]
     pub fn i32_atomic_load16_u(self, memarg: MemArg) -> Result<InstructionSink<'a, A>, EncodeError>
         ensures emits { EmitsAligned self.entry (after_fe 0x13) (operands.Mem memarg) memarg.align result }
         ensures* unchanged { sem 𝓛 (IsUnchangedAtErr A.row A.Allocator self.entry result) }
@@ -86,6 +95,7 @@ impl<'a, A: Allocator> InstructionSink<'a, A> {
     }
 
     /// `i64.atomic.load8_u`: `0xFE 0x14`, then a memory argument. `Alignment` where `memarg.align` is 64 or more.
+    #[inline(always)]
     pub fn i64_atomic_load8_u(self, memarg: MemArg) -> Result<InstructionSink<'a, A>, EncodeError>
         ensures emits { EmitsAligned self.entry (after_fe 0x14) (operands.Mem memarg) memarg.align result }
         ensures* unchanged { sem 𝓛 (IsUnchangedAtErr A.row A.Allocator self.entry result) }
@@ -94,6 +104,7 @@ impl<'a, A: Allocator> InstructionSink<'a, A> {
     }
 
     /// `i64.atomic.load16_u`: `0xFE 0x15`, then a memory argument. `Alignment` where `memarg.align` is 64 or more.
+    #[inline(always)]
     pub fn i64_atomic_load16_u(self, memarg: MemArg) -> Result<InstructionSink<'a, A>, EncodeError>
         ensures emits { EmitsAligned self.entry (after_fe 0x15) (operands.Mem memarg) memarg.align result }
         ensures* unchanged { sem 𝓛 (IsUnchangedAtErr A.row A.Allocator self.entry result) }
@@ -102,6 +113,7 @@ impl<'a, A: Allocator> InstructionSink<'a, A> {
     }
 
     /// `i64.atomic.load32_u`: `0xFE 0x16`, then a memory argument. `Alignment` where `memarg.align` is 64 or more.
+    #[inline(always)]
     pub fn i64_atomic_load32_u(self, memarg: MemArg) -> Result<InstructionSink<'a, A>, EncodeError>
         ensures emits { EmitsAligned self.entry (after_fe 0x16) (operands.Mem memarg) memarg.align result }
         ensures* unchanged { sem 𝓛 (IsUnchangedAtErr A.row A.Allocator self.entry result) }
@@ -110,6 +122,7 @@ impl<'a, A: Allocator> InstructionSink<'a, A> {
     }
 
     /// `i32.atomic.store`: `0xFE 0x17`, then a memory argument. `Alignment` where `memarg.align` is 64 or more.
+    #[inline(always)]
     pub fn i32_atomic_store(self, memarg: MemArg) -> Result<InstructionSink<'a, A>, EncodeError>
         ensures emits { EmitsAligned self.entry (after_fe 0x17) (operands.Mem memarg) memarg.align result }
         ensures* unchanged { sem 𝓛 (IsUnchangedAtErr A.row A.Allocator self.entry result) }
@@ -118,6 +131,7 @@ impl<'a, A: Allocator> InstructionSink<'a, A> {
     }
 
     /// `i64.atomic.store`: `0xFE 0x18`, then a memory argument. `Alignment` where `memarg.align` is 64 or more.
+    #[inline(always)]
     pub fn i64_atomic_store(self, memarg: MemArg) -> Result<InstructionSink<'a, A>, EncodeError>
         ensures emits { EmitsAligned self.entry (after_fe 0x18) (operands.Mem memarg) memarg.align result }
         ensures* unchanged { sem 𝓛 (IsUnchangedAtErr A.row A.Allocator self.entry result) }
@@ -126,6 +140,7 @@ impl<'a, A: Allocator> InstructionSink<'a, A> {
     }
 
     /// `i32.atomic.store8`: `0xFE 0x19`, then a memory argument. `Alignment` where `memarg.align` is 64 or more.
+    #[inline(always)]
     pub fn i32_atomic_store8(self, memarg: MemArg) -> Result<InstructionSink<'a, A>, EncodeError>
         ensures emits { EmitsAligned self.entry (after_fe 0x19) (operands.Mem memarg) memarg.align result }
         ensures* unchanged { sem 𝓛 (IsUnchangedAtErr A.row A.Allocator self.entry result) }
@@ -134,6 +149,7 @@ impl<'a, A: Allocator> InstructionSink<'a, A> {
     }
 
     /// `i32.atomic.store16`: `0xFE 0x1A`, then a memory argument. `Alignment` where `memarg.align` is 64 or more.
+    #[inline(always)]
     pub fn i32_atomic_store16(self, memarg: MemArg) -> Result<InstructionSink<'a, A>, EncodeError>
         ensures emits { EmitsAligned self.entry (after_fe 0x1a) (operands.Mem memarg) memarg.align result }
         ensures* unchanged { sem 𝓛 (IsUnchangedAtErr A.row A.Allocator self.entry result) }
@@ -142,6 +158,7 @@ impl<'a, A: Allocator> InstructionSink<'a, A> {
     }
 
     /// `i64.atomic.store8`: `0xFE 0x1B`, then a memory argument. `Alignment` where `memarg.align` is 64 or more.
+    #[inline(always)]
     pub fn i64_atomic_store8(self, memarg: MemArg) -> Result<InstructionSink<'a, A>, EncodeError>
         ensures emits { EmitsAligned self.entry (after_fe 0x1b) (operands.Mem memarg) memarg.align result }
         ensures* unchanged { sem 𝓛 (IsUnchangedAtErr A.row A.Allocator self.entry result) }
@@ -150,6 +167,7 @@ impl<'a, A: Allocator> InstructionSink<'a, A> {
     }
 
     /// `i64.atomic.store16`: `0xFE 0x1C`, then a memory argument. `Alignment` where `memarg.align` is 64 or more.
+    #[inline(always)]
     pub fn i64_atomic_store16(self, memarg: MemArg) -> Result<InstructionSink<'a, A>, EncodeError>
         ensures emits { EmitsAligned self.entry (after_fe 0x1c) (operands.Mem memarg) memarg.align result }
         ensures* unchanged { sem 𝓛 (IsUnchangedAtErr A.row A.Allocator self.entry result) }
@@ -158,6 +176,7 @@ impl<'a, A: Allocator> InstructionSink<'a, A> {
     }
 
     /// `i64.atomic.store32`: `0xFE 0x1D`, then a memory argument. `Alignment` where `memarg.align` is 64 or more.
+    #[inline(always)]
     pub fn i64_atomic_store32(self, memarg: MemArg) -> Result<InstructionSink<'a, A>, EncodeError>
         ensures emits { EmitsAligned self.entry (after_fe 0x1d) (operands.Mem memarg) memarg.align result }
         ensures* unchanged { sem 𝓛 (IsUnchangedAtErr A.row A.Allocator self.entry result) }

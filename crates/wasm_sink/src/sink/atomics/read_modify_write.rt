@@ -14,6 +14,7 @@ use wasm_instructions::table::Prefix;
 #[tactic(auto, unfolding(wasm_instructions::specs::formats::Opcodes::ranges))]
 impl<'a, A: Allocator> InstructionSink<'a, A> {
     /// `i32.atomic.rmw.add`: `0xFE 0x1E`, then a memory argument. `Alignment` where `memarg.align` is 64 or more.
+    #[inline(always)]
     pub fn i32_atomic_rmw_add(self, memarg: MemArg) -> Result<InstructionSink<'a, A>, EncodeError>
         ensures emits { EmitsAligned self.entry (after_fe 0x1e) (operands.Mem memarg) memarg.align result }
         ensures* unchanged { sem 𝓛 (IsUnchangedAtErr A.row A.Allocator self.entry result) }
@@ -22,6 +23,7 @@ impl<'a, A: Allocator> InstructionSink<'a, A> {
     }
 
     /// `i64.atomic.rmw.add`: `0xFE 0x1F`, then a memory argument. `Alignment` where `memarg.align` is 64 or more.
+    #[inline(always)]
     pub fn i64_atomic_rmw_add(self, memarg: MemArg) -> Result<InstructionSink<'a, A>, EncodeError>
         ensures emits { EmitsAligned self.entry (after_fe 0x1f) (operands.Mem memarg) memarg.align result }
         ensures* unchanged { sem 𝓛 (IsUnchangedAtErr A.row A.Allocator self.entry result) }
@@ -30,6 +32,7 @@ impl<'a, A: Allocator> InstructionSink<'a, A> {
     }
 
     /// `i32.atomic.rmw8.add_u`: `0xFE 0x20`, then a memory argument. `Alignment` where `memarg.align` is 64 or more.
+    #[inline(always)]
     pub fn i32_atomic_rmw8_add_u(
         self,
         memarg: MemArg,
@@ -41,6 +44,7 @@ impl<'a, A: Allocator> InstructionSink<'a, A> {
     }
 
     /// `i32.atomic.rmw16.add_u`: `0xFE 0x21`, then a memory argument. `Alignment` where `memarg.align` is 64 or more.
+    #[inline(always)]
     pub fn i32_atomic_rmw16_add_u(
         self,
         memarg: MemArg,
@@ -52,6 +56,7 @@ impl<'a, A: Allocator> InstructionSink<'a, A> {
     }
 
     /// `i64.atomic.rmw8.add_u`: `0xFE 0x22`, then a memory argument. `Alignment` where `memarg.align` is 64 or more.
+    #[inline(always)]
     pub fn i64_atomic_rmw8_add_u(
         self,
         memarg: MemArg,
@@ -63,6 +68,7 @@ impl<'a, A: Allocator> InstructionSink<'a, A> {
     }
 
     /// `i64.atomic.rmw16.add_u`: `0xFE 0x23`, then a memory argument. `Alignment` where `memarg.align` is 64 or more.
+    #[inline(always)]
     pub fn i64_atomic_rmw16_add_u(
         self,
         memarg: MemArg,
@@ -74,6 +80,7 @@ impl<'a, A: Allocator> InstructionSink<'a, A> {
     }
 
     /// `i64.atomic.rmw32.add_u`: `0xFE 0x24`, then a memory argument. `Alignment` where `memarg.align` is 64 or more.
+    #[inline(always)]
     pub fn i64_atomic_rmw32_add_u(
         self,
         memarg: MemArg,
@@ -85,6 +92,7 @@ impl<'a, A: Allocator> InstructionSink<'a, A> {
     }
 
     /// `i32.atomic.rmw.sub`: `0xFE 0x25`, then a memory argument. `Alignment` where `memarg.align` is 64 or more.
+    #[inline(always)]
     pub fn i32_atomic_rmw_sub(self, memarg: MemArg) -> Result<InstructionSink<'a, A>, EncodeError>
         ensures emits { EmitsAligned self.entry (after_fe 0x25) (operands.Mem memarg) memarg.align result }
         ensures* unchanged { sem 𝓛 (IsUnchangedAtErr A.row A.Allocator self.entry result) }
@@ -93,6 +101,7 @@ impl<'a, A: Allocator> InstructionSink<'a, A> {
     }
 
     /// `i64.atomic.rmw.sub`: `0xFE 0x26`, then a memory argument. `Alignment` where `memarg.align` is 64 or more.
+    #[inline(always)]
     pub fn i64_atomic_rmw_sub(self, memarg: MemArg) -> Result<InstructionSink<'a, A>, EncodeError>
         ensures emits { EmitsAligned self.entry (after_fe 0x26) (operands.Mem memarg) memarg.align result }
         ensures* unchanged { sem 𝓛 (IsUnchangedAtErr A.row A.Allocator self.entry result) }
@@ -101,6 +110,7 @@ impl<'a, A: Allocator> InstructionSink<'a, A> {
     }
 
     /// `i32.atomic.rmw8.sub_u`: `0xFE 0x27`, then a memory argument. `Alignment` where `memarg.align` is 64 or more.
+    #[inline(always)]
     pub fn i32_atomic_rmw8_sub_u(
         self,
         memarg: MemArg,
@@ -112,6 +122,7 @@ impl<'a, A: Allocator> InstructionSink<'a, A> {
     }
 
     /// `i32.atomic.rmw16.sub_u`: `0xFE 0x28`, then a memory argument. `Alignment` where `memarg.align` is 64 or more.
+    #[inline(always)]
     pub fn i32_atomic_rmw16_sub_u(
         self,
         memarg: MemArg,
@@ -123,6 +134,7 @@ impl<'a, A: Allocator> InstructionSink<'a, A> {
     }
 
     /// `i64.atomic.rmw8.sub_u`: `0xFE 0x29`, then a memory argument. `Alignment` where `memarg.align` is 64 or more.
+    #[inline(always)]
     pub fn i64_atomic_rmw8_sub_u(
         self,
         memarg: MemArg,
@@ -134,6 +146,7 @@ impl<'a, A: Allocator> InstructionSink<'a, A> {
     }
 
     /// `i64.atomic.rmw16.sub_u`: `0xFE 0x2A`, then a memory argument. `Alignment` where `memarg.align` is 64 or more.
+    #[inline(always)]
     pub fn i64_atomic_rmw16_sub_u(
         self,
         memarg: MemArg,
@@ -145,6 +158,7 @@ impl<'a, A: Allocator> InstructionSink<'a, A> {
     }
 
     /// `i64.atomic.rmw32.sub_u`: `0xFE 0x2B`, then a memory argument. `Alignment` where `memarg.align` is 64 or more.
+    #[inline(always)]
     pub fn i64_atomic_rmw32_sub_u(
         self,
         memarg: MemArg,
@@ -156,6 +170,7 @@ impl<'a, A: Allocator> InstructionSink<'a, A> {
     }
 
     /// `i32.atomic.rmw.and`: `0xFE 0x2C`, then a memory argument. `Alignment` where `memarg.align` is 64 or more.
+    #[inline(always)]
     pub fn i32_atomic_rmw_and(self, memarg: MemArg) -> Result<InstructionSink<'a, A>, EncodeError>
         ensures emits { EmitsAligned self.entry (after_fe 0x2c) (operands.Mem memarg) memarg.align result }
         ensures* unchanged { sem 𝓛 (IsUnchangedAtErr A.row A.Allocator self.entry result) }
@@ -164,6 +179,7 @@ impl<'a, A: Allocator> InstructionSink<'a, A> {
     }
 
     /// `i64.atomic.rmw.and`: `0xFE 0x2D`, then a memory argument. `Alignment` where `memarg.align` is 64 or more.
+    #[inline(always)]
     pub fn i64_atomic_rmw_and(self, memarg: MemArg) -> Result<InstructionSink<'a, A>, EncodeError>
         ensures emits { EmitsAligned self.entry (after_fe 0x2d) (operands.Mem memarg) memarg.align result }
         ensures* unchanged { sem 𝓛 (IsUnchangedAtErr A.row A.Allocator self.entry result) }
@@ -172,6 +188,7 @@ impl<'a, A: Allocator> InstructionSink<'a, A> {
     }
 
     /// `i32.atomic.rmw8.and_u`: `0xFE 0x2E`, then a memory argument. `Alignment` where `memarg.align` is 64 or more.
+    #[inline(always)]
     pub fn i32_atomic_rmw8_and_u(
         self,
         memarg: MemArg,
@@ -183,6 +200,7 @@ impl<'a, A: Allocator> InstructionSink<'a, A> {
     }
 
     /// `i32.atomic.rmw16.and_u`: `0xFE 0x2F`, then a memory argument. `Alignment` where `memarg.align` is 64 or more.
+    #[inline(always)]
     pub fn i32_atomic_rmw16_and_u(
         self,
         memarg: MemArg,
@@ -194,6 +212,7 @@ impl<'a, A: Allocator> InstructionSink<'a, A> {
     }
 
     /// `i64.atomic.rmw8.and_u`: `0xFE 0x30`, then a memory argument. `Alignment` where `memarg.align` is 64 or more.
+    #[inline(always)]
     pub fn i64_atomic_rmw8_and_u(
         self,
         memarg: MemArg,
@@ -205,6 +224,7 @@ impl<'a, A: Allocator> InstructionSink<'a, A> {
     }
 
     /// `i64.atomic.rmw16.and_u`: `0xFE 0x31`, then a memory argument. `Alignment` where `memarg.align` is 64 or more.
+    #[inline(always)]
     pub fn i64_atomic_rmw16_and_u(
         self,
         memarg: MemArg,
@@ -216,6 +236,7 @@ impl<'a, A: Allocator> InstructionSink<'a, A> {
     }
 
     /// `i64.atomic.rmw32.and_u`: `0xFE 0x32`, then a memory argument. `Alignment` where `memarg.align` is 64 or more.
+    #[inline(always)]
     pub fn i64_atomic_rmw32_and_u(
         self,
         memarg: MemArg,
@@ -227,6 +248,7 @@ impl<'a, A: Allocator> InstructionSink<'a, A> {
     }
 
     /// `i32.atomic.rmw.or`: `0xFE 0x33`, then a memory argument. `Alignment` where `memarg.align` is 64 or more.
+    #[inline(always)]
     pub fn i32_atomic_rmw_or(self, memarg: MemArg) -> Result<InstructionSink<'a, A>, EncodeError>
         ensures emits { EmitsAligned self.entry (after_fe 0x33) (operands.Mem memarg) memarg.align result }
         ensures* unchanged { sem 𝓛 (IsUnchangedAtErr A.row A.Allocator self.entry result) }
@@ -235,6 +257,7 @@ impl<'a, A: Allocator> InstructionSink<'a, A> {
     }
 
     /// `i64.atomic.rmw.or`: `0xFE 0x34`, then a memory argument. `Alignment` where `memarg.align` is 64 or more.
+    #[inline(always)]
     pub fn i64_atomic_rmw_or(self, memarg: MemArg) -> Result<InstructionSink<'a, A>, EncodeError>
         ensures emits { EmitsAligned self.entry (after_fe 0x34) (operands.Mem memarg) memarg.align result }
         ensures* unchanged { sem 𝓛 (IsUnchangedAtErr A.row A.Allocator self.entry result) }
@@ -243,6 +266,7 @@ impl<'a, A: Allocator> InstructionSink<'a, A> {
     }
 
     /// `i32.atomic.rmw8.or_u`: `0xFE 0x35`, then a memory argument. `Alignment` where `memarg.align` is 64 or more.
+    #[inline(always)]
     pub fn i32_atomic_rmw8_or_u(self, memarg: MemArg) -> Result<InstructionSink<'a, A>, EncodeError>
         ensures emits { EmitsAligned self.entry (after_fe 0x35) (operands.Mem memarg) memarg.align result }
         ensures* unchanged { sem 𝓛 (IsUnchangedAtErr A.row A.Allocator self.entry result) }
@@ -251,6 +275,7 @@ impl<'a, A: Allocator> InstructionSink<'a, A> {
     }
 
     /// `i32.atomic.rmw16.or_u`: `0xFE 0x36`, then a memory argument. `Alignment` where `memarg.align` is 64 or more.
+    #[inline(always)]
     pub fn i32_atomic_rmw16_or_u(
         self,
         memarg: MemArg,
@@ -262,6 +287,7 @@ impl<'a, A: Allocator> InstructionSink<'a, A> {
     }
 
     /// `i64.atomic.rmw8.or_u`: `0xFE 0x37`, then a memory argument. `Alignment` where `memarg.align` is 64 or more.
+    #[inline(always)]
     pub fn i64_atomic_rmw8_or_u(self, memarg: MemArg) -> Result<InstructionSink<'a, A>, EncodeError>
         ensures emits { EmitsAligned self.entry (after_fe 0x37) (operands.Mem memarg) memarg.align result }
         ensures* unchanged { sem 𝓛 (IsUnchangedAtErr A.row A.Allocator self.entry result) }
@@ -270,6 +296,7 @@ impl<'a, A: Allocator> InstructionSink<'a, A> {
     }
 
     /// `i64.atomic.rmw16.or_u`: `0xFE 0x38`, then a memory argument. `Alignment` where `memarg.align` is 64 or more.
+    #[inline(always)]
     pub fn i64_atomic_rmw16_or_u(
         self,
         memarg: MemArg,
@@ -281,6 +308,7 @@ impl<'a, A: Allocator> InstructionSink<'a, A> {
     }
 
     /// `i64.atomic.rmw32.or_u`: `0xFE 0x39`, then a memory argument. `Alignment` where `memarg.align` is 64 or more.
+    #[inline(always)]
     pub fn i64_atomic_rmw32_or_u(
         self,
         memarg: MemArg,
@@ -292,6 +320,7 @@ impl<'a, A: Allocator> InstructionSink<'a, A> {
     }
 
     /// `i32.atomic.rmw.xor`: `0xFE 0x3A`, then a memory argument. `Alignment` where `memarg.align` is 64 or more.
+    #[inline(always)]
     pub fn i32_atomic_rmw_xor(self, memarg: MemArg) -> Result<InstructionSink<'a, A>, EncodeError>
         ensures emits { EmitsAligned self.entry (after_fe 0x3a) (operands.Mem memarg) memarg.align result }
         ensures* unchanged { sem 𝓛 (IsUnchangedAtErr A.row A.Allocator self.entry result) }
@@ -300,6 +329,7 @@ impl<'a, A: Allocator> InstructionSink<'a, A> {
     }
 
     /// `i64.atomic.rmw.xor`: `0xFE 0x3B`, then a memory argument. `Alignment` where `memarg.align` is 64 or more.
+    #[inline(always)]
     pub fn i64_atomic_rmw_xor(self, memarg: MemArg) -> Result<InstructionSink<'a, A>, EncodeError>
         ensures emits { EmitsAligned self.entry (after_fe 0x3b) (operands.Mem memarg) memarg.align result }
         ensures* unchanged { sem 𝓛 (IsUnchangedAtErr A.row A.Allocator self.entry result) }
@@ -308,6 +338,7 @@ impl<'a, A: Allocator> InstructionSink<'a, A> {
     }
 
     /// `i32.atomic.rmw8.xor_u`: `0xFE 0x3C`, then a memory argument. `Alignment` where `memarg.align` is 64 or more.
+    #[inline(always)]
     pub fn i32_atomic_rmw8_xor_u(
         self,
         memarg: MemArg,
@@ -319,6 +350,7 @@ impl<'a, A: Allocator> InstructionSink<'a, A> {
     }
 
     /// `i32.atomic.rmw16.xor_u`: `0xFE 0x3D`, then a memory argument. `Alignment` where `memarg.align` is 64 or more.
+    #[inline(always)]
     pub fn i32_atomic_rmw16_xor_u(
         self,
         memarg: MemArg,
@@ -330,6 +362,7 @@ impl<'a, A: Allocator> InstructionSink<'a, A> {
     }
 
     /// `i64.atomic.rmw8.xor_u`: `0xFE 0x3E`, then a memory argument. `Alignment` where `memarg.align` is 64 or more.
+    #[inline(always)]
     pub fn i64_atomic_rmw8_xor_u(
         self,
         memarg: MemArg,
@@ -341,6 +374,7 @@ impl<'a, A: Allocator> InstructionSink<'a, A> {
     }
 
     /// `i64.atomic.rmw16.xor_u`: `0xFE 0x3F`, then a memory argument. `Alignment` where `memarg.align` is 64 or more.
+    #[inline(always)]
     pub fn i64_atomic_rmw16_xor_u(
         self,
         memarg: MemArg,
@@ -352,6 +386,7 @@ impl<'a, A: Allocator> InstructionSink<'a, A> {
     }
 
     /// `i64.atomic.rmw32.xor_u`: `0xFE 0x40`, then a memory argument. `Alignment` where `memarg.align` is 64 or more.
+    #[inline(always)]
     pub fn i64_atomic_rmw32_xor_u(
         self,
         memarg: MemArg,
@@ -363,6 +398,7 @@ impl<'a, A: Allocator> InstructionSink<'a, A> {
     }
 
     /// `i32.atomic.rmw.xchg`: `0xFE 0x41`, then a memory argument. `Alignment` where `memarg.align` is 64 or more.
+    #[inline(always)]
     pub fn i32_atomic_rmw_xchg(self, memarg: MemArg) -> Result<InstructionSink<'a, A>, EncodeError>
         ensures emits { EmitsAligned self.entry (after_fe 0x41) (operands.Mem memarg) memarg.align result }
         ensures* unchanged { sem 𝓛 (IsUnchangedAtErr A.row A.Allocator self.entry result) }
@@ -371,6 +407,7 @@ impl<'a, A: Allocator> InstructionSink<'a, A> {
     }
 
     /// `i64.atomic.rmw.xchg`: `0xFE 0x42`, then a memory argument. `Alignment` where `memarg.align` is 64 or more.
+    #[inline(always)]
     pub fn i64_atomic_rmw_xchg(self, memarg: MemArg) -> Result<InstructionSink<'a, A>, EncodeError>
         ensures emits { EmitsAligned self.entry (after_fe 0x42) (operands.Mem memarg) memarg.align result }
         ensures* unchanged { sem 𝓛 (IsUnchangedAtErr A.row A.Allocator self.entry result) }
@@ -379,6 +416,7 @@ impl<'a, A: Allocator> InstructionSink<'a, A> {
     }
 
     /// `i32.atomic.rmw8.xchg_u`: `0xFE 0x43`, then a memory argument. `Alignment` where `memarg.align` is 64 or more.
+    #[inline(always)]
     pub fn i32_atomic_rmw8_xchg_u(
         self,
         memarg: MemArg,
@@ -390,6 +428,7 @@ impl<'a, A: Allocator> InstructionSink<'a, A> {
     }
 
     /// `i32.atomic.rmw16.xchg_u`: `0xFE 0x44`, then a memory argument. `Alignment` where `memarg.align` is 64 or more.
+    #[inline(always)]
     pub fn i32_atomic_rmw16_xchg_u(
         self,
         memarg: MemArg,
@@ -401,6 +440,7 @@ impl<'a, A: Allocator> InstructionSink<'a, A> {
     }
 
     /// `i64.atomic.rmw8.xchg_u`: `0xFE 0x45`, then a memory argument. `Alignment` where `memarg.align` is 64 or more.
+    #[inline(always)]
     pub fn i64_atomic_rmw8_xchg_u(
         self,
         memarg: MemArg,
@@ -412,6 +452,7 @@ impl<'a, A: Allocator> InstructionSink<'a, A> {
     }
 
     /// `i64.atomic.rmw16.xchg_u`: `0xFE 0x46`, then a memory argument. `Alignment` where `memarg.align` is 64 or more.
+    #[inline(always)]
     pub fn i64_atomic_rmw16_xchg_u(
         self,
         memarg: MemArg,
@@ -423,6 +464,7 @@ impl<'a, A: Allocator> InstructionSink<'a, A> {
     }
 
     /// `i64.atomic.rmw32.xchg_u`: `0xFE 0x47`, then a memory argument. `Alignment` where `memarg.align` is 64 or more.
+    #[inline(always)]
     pub fn i64_atomic_rmw32_xchg_u(
         self,
         memarg: MemArg,
@@ -434,6 +476,7 @@ impl<'a, A: Allocator> InstructionSink<'a, A> {
     }
 
     /// `i32.atomic.rmw.cmpxchg`: `0xFE 0x48`, then a memory argument. `Alignment` where `memarg.align` is 64 or more.
+    #[inline(always)]
     pub fn i32_atomic_rmw_cmpxchg(
         self,
         memarg: MemArg,
@@ -445,6 +488,7 @@ impl<'a, A: Allocator> InstructionSink<'a, A> {
     }
 
     /// `i64.atomic.rmw.cmpxchg`: `0xFE 0x49`, then a memory argument. `Alignment` where `memarg.align` is 64 or more.
+    #[inline(always)]
     pub fn i64_atomic_rmw_cmpxchg(
         self,
         memarg: MemArg,
@@ -457,6 +501,7 @@ impl<'a, A: Allocator> InstructionSink<'a, A> {
 
     /// `i32.atomic.rmw8.cmpxchg_u`: `0xFE 0x4A`, then a memory argument.
     /// `Alignment` where `memarg.align` is 64 or more.
+    #[inline(always)]
     pub fn i32_atomic_rmw8_cmpxchg_u(
         self,
         memarg: MemArg,
@@ -469,6 +514,7 @@ impl<'a, A: Allocator> InstructionSink<'a, A> {
 
     /// `i32.atomic.rmw16.cmpxchg_u`: `0xFE 0x4B`, then a memory argument.
     /// `Alignment` where `memarg.align` is 64 or more.
+    #[inline(always)]
     pub fn i32_atomic_rmw16_cmpxchg_u(
         self,
         memarg: MemArg,
@@ -481,6 +527,7 @@ impl<'a, A: Allocator> InstructionSink<'a, A> {
 
     /// `i64.atomic.rmw8.cmpxchg_u`: `0xFE 0x4C`, then a memory argument.
     /// `Alignment` where `memarg.align` is 64 or more.
+    #[inline(always)]
     pub fn i64_atomic_rmw8_cmpxchg_u(
         self,
         memarg: MemArg,
@@ -493,6 +540,7 @@ impl<'a, A: Allocator> InstructionSink<'a, A> {
 
     /// `i64.atomic.rmw16.cmpxchg_u`: `0xFE 0x4D`, then a memory argument.
     /// `Alignment` where `memarg.align` is 64 or more.
+    #[inline(always)]
     pub fn i64_atomic_rmw16_cmpxchg_u(
         self,
         memarg: MemArg,
@@ -505,6 +553,7 @@ impl<'a, A: Allocator> InstructionSink<'a, A> {
 
     /// `i64.atomic.rmw32.cmpxchg_u`: `0xFE 0x4E`, then a memory argument.
     /// `Alignment` where `memarg.align` is 64 or more.
+    #[inline(always)]
     pub fn i64_atomic_rmw32_cmpxchg_u(
         self,
         memarg: MemArg,

@@ -14,6 +14,7 @@ use wasm_instructions::table::Prefix;
 #[tactic(auto, unfolding(wasm_instructions::specs::formats::Opcodes::ranges))]
 impl<'a, A: Allocator> InstructionSink<'a, A> {
     /// `global.atomic.get`: `0xFE 0x4F`, then an ordering and a global index.
+    #[inline(always)]
     pub fn global_atomic_get(
         self,
         ordering: Ordering,
@@ -26,6 +27,7 @@ impl<'a, A: Allocator> InstructionSink<'a, A> {
     }
 
     /// `global.atomic.set`: `0xFE 0x50`, then an ordering and a global index.
+    #[inline(always)]
     pub fn global_atomic_set(
         self,
         ordering: Ordering,
@@ -38,6 +40,7 @@ impl<'a, A: Allocator> InstructionSink<'a, A> {
     }
 
     /// `global.atomic.rmw.add`: `0xFE 0x51`, then an ordering and a global index.
+    #[inline(always)]
     pub fn global_atomic_rmw_add(
         self,
         ordering: Ordering,
@@ -50,6 +53,7 @@ impl<'a, A: Allocator> InstructionSink<'a, A> {
     }
 
     /// `global.atomic.rmw.sub`: `0xFE 0x52`, then an ordering and a global index.
+    #[inline(always)]
     pub fn global_atomic_rmw_sub(
         self,
         ordering: Ordering,
@@ -62,6 +66,7 @@ impl<'a, A: Allocator> InstructionSink<'a, A> {
     }
 
     /// `global.atomic.rmw.and`: `0xFE 0x53`, then an ordering and a global index.
+    #[inline(always)]
     pub fn global_atomic_rmw_and(
         self,
         ordering: Ordering,
@@ -74,6 +79,7 @@ impl<'a, A: Allocator> InstructionSink<'a, A> {
     }
 
     /// `global.atomic.rmw.or`: `0xFE 0x54`, then an ordering and a global index.
+    #[inline(always)]
     pub fn global_atomic_rmw_or(
         self,
         ordering: Ordering,
@@ -86,6 +92,7 @@ impl<'a, A: Allocator> InstructionSink<'a, A> {
     }
 
     /// `global.atomic.rmw.xor`: `0xFE 0x55`, then an ordering and a global index.
+    #[inline(always)]
     pub fn global_atomic_rmw_xor(
         self,
         ordering: Ordering,
@@ -98,6 +105,7 @@ impl<'a, A: Allocator> InstructionSink<'a, A> {
     }
 
     /// `global.atomic.rmw.xchg`: `0xFE 0x56`, then an ordering and a global index.
+    #[inline(always)]
     pub fn global_atomic_rmw_xchg(
         self,
         ordering: Ordering,
@@ -110,6 +118,7 @@ impl<'a, A: Allocator> InstructionSink<'a, A> {
     }
 
     /// `global.atomic.rmw.cmpxchg`: `0xFE 0x57`, then an ordering and a global index.
+    #[inline(always)]
     pub fn global_atomic_rmw_cmpxchg(
         self,
         ordering: Ordering,
@@ -122,6 +131,7 @@ impl<'a, A: Allocator> InstructionSink<'a, A> {
     }
 
     /// `table.atomic.get`: `0xFE 0x58`, then an ordering and a table index.
+    #[inline(always)]
     pub fn table_atomic_get(
         self,
         ordering: Ordering,
@@ -134,6 +144,7 @@ impl<'a, A: Allocator> InstructionSink<'a, A> {
     }
 
     /// `table.atomic.set`: `0xFE 0x59`, then an ordering and a table index.
+    #[inline(always)]
     pub fn table_atomic_set(
         self,
         ordering: Ordering,
@@ -146,6 +157,7 @@ impl<'a, A: Allocator> InstructionSink<'a, A> {
     }
 
     /// `table.atomic.rmw.xchg`: `0xFE 0x5A`, then an ordering and a table index.
+    #[inline(always)]
     pub fn table_atomic_rmw_xchg(
         self,
         ordering: Ordering,
@@ -158,6 +170,7 @@ impl<'a, A: Allocator> InstructionSink<'a, A> {
     }
 
     /// `table.atomic.rmw.cmpxchg`: `0xFE 0x5B`, then an ordering and a table index.
+    #[inline(always)]
     pub fn table_atomic_rmw_cmpxchg(
         self,
         ordering: Ordering,
@@ -170,6 +183,7 @@ impl<'a, A: Allocator> InstructionSink<'a, A> {
     }
 
     /// `struct.atomic.get`: `0xFE 0x5C`, then an ordering, a type index and a field index.
+    #[inline(always)]
     pub fn struct_atomic_get(
         self,
         ordering: Ordering,
@@ -183,6 +197,7 @@ impl<'a, A: Allocator> InstructionSink<'a, A> {
     }
 
     /// `struct.atomic.get_s`: `0xFE 0x5D`, then an ordering, a type index and a field index.
+    #[inline(always)]
     pub fn struct_atomic_get_s(
         self,
         ordering: Ordering,
@@ -196,6 +211,7 @@ impl<'a, A: Allocator> InstructionSink<'a, A> {
     }
 
     /// `struct.atomic.get_u`: `0xFE 0x5E`, then an ordering, a type index and a field index.
+    #[inline(always)]
     pub fn struct_atomic_get_u(
         self,
         ordering: Ordering,
@@ -209,6 +225,7 @@ impl<'a, A: Allocator> InstructionSink<'a, A> {
     }
 
     /// `struct.atomic.set`: `0xFE 0x5F`, then an ordering, a type index and a field index.
+    #[inline(always)]
     pub fn struct_atomic_set(
         self,
         ordering: Ordering,
@@ -222,6 +239,7 @@ impl<'a, A: Allocator> InstructionSink<'a, A> {
     }
 
     /// `struct.atomic.rmw.add`: `0xFE 0x60`, then an ordering, a type index and a field index.
+    #[inline(always)]
     pub fn struct_atomic_rmw_add(
         self,
         ordering: Ordering,
@@ -235,6 +253,7 @@ impl<'a, A: Allocator> InstructionSink<'a, A> {
     }
 
     /// `struct.atomic.rmw.sub`: `0xFE 0x61`, then an ordering, a type index and a field index.
+    #[inline(always)]
     pub fn struct_atomic_rmw_sub(
         self,
         ordering: Ordering,
@@ -248,6 +267,7 @@ impl<'a, A: Allocator> InstructionSink<'a, A> {
     }
 
     /// `struct.atomic.rmw.and`: `0xFE 0x62`, then an ordering, a type index and a field index.
+    #[inline(always)]
     pub fn struct_atomic_rmw_and(
         self,
         ordering: Ordering,
@@ -261,6 +281,7 @@ impl<'a, A: Allocator> InstructionSink<'a, A> {
     }
 
     /// `struct.atomic.rmw.or`: `0xFE 0x63`, then an ordering, a type index and a field index.
+    #[inline(always)]
     pub fn struct_atomic_rmw_or(
         self,
         ordering: Ordering,
@@ -274,6 +295,7 @@ impl<'a, A: Allocator> InstructionSink<'a, A> {
     }
 
     /// `struct.atomic.rmw.xor`: `0xFE 0x64`, then an ordering, a type index and a field index.
+    #[inline(always)]
     pub fn struct_atomic_rmw_xor(
         self,
         ordering: Ordering,
@@ -287,6 +309,7 @@ impl<'a, A: Allocator> InstructionSink<'a, A> {
     }
 
     /// `struct.atomic.rmw.xchg`: `0xFE 0x65`, then an ordering, a type index and a field index.
+    #[inline(always)]
     pub fn struct_atomic_rmw_xchg(
         self,
         ordering: Ordering,
@@ -300,6 +323,7 @@ impl<'a, A: Allocator> InstructionSink<'a, A> {
     }
 
     /// `struct.atomic.rmw.cmpxchg`: `0xFE 0x66`, then an ordering, a type index and a field index.
+    #[inline(always)]
     pub fn struct_atomic_rmw_cmpxchg(
         self,
         ordering: Ordering,
@@ -313,6 +337,7 @@ impl<'a, A: Allocator> InstructionSink<'a, A> {
     }
 
     /// `array.atomic.get`: `0xFE 0x67`, then an ordering and a type index.
+    #[inline(always)]
     pub fn array_atomic_get(
         self,
         ordering: Ordering,
@@ -325,6 +350,7 @@ impl<'a, A: Allocator> InstructionSink<'a, A> {
     }
 
     /// `array.atomic.get_s`: `0xFE 0x68`, then an ordering and a type index.
+    #[inline(always)]
     pub fn array_atomic_get_s(
         self,
         ordering: Ordering,
@@ -337,6 +363,7 @@ impl<'a, A: Allocator> InstructionSink<'a, A> {
     }
 
     /// `array.atomic.get_u`: `0xFE 0x69`, then an ordering and a type index.
+    #[inline(always)]
     pub fn array_atomic_get_u(
         self,
         ordering: Ordering,
@@ -349,6 +376,7 @@ impl<'a, A: Allocator> InstructionSink<'a, A> {
     }
 
     /// `array.atomic.set`: `0xFE 0x6A`, then an ordering and a type index.
+    #[inline(always)]
     pub fn array_atomic_set(
         self,
         ordering: Ordering,
@@ -361,6 +389,7 @@ impl<'a, A: Allocator> InstructionSink<'a, A> {
     }
 
     /// `array.atomic.rmw.add`: `0xFE 0x6B`, then an ordering and a type index.
+    #[inline(always)]
     pub fn array_atomic_rmw_add(
         self,
         ordering: Ordering,
@@ -373,6 +402,7 @@ impl<'a, A: Allocator> InstructionSink<'a, A> {
     }
 
     /// `array.atomic.rmw.sub`: `0xFE 0x6C`, then an ordering and a type index.
+    #[inline(always)]
     pub fn array_atomic_rmw_sub(
         self,
         ordering: Ordering,
@@ -385,6 +415,7 @@ impl<'a, A: Allocator> InstructionSink<'a, A> {
     }
 
     /// `array.atomic.rmw.and`: `0xFE 0x6D`, then an ordering and a type index.
+    #[inline(always)]
     pub fn array_atomic_rmw_and(
         self,
         ordering: Ordering,
@@ -397,6 +428,7 @@ impl<'a, A: Allocator> InstructionSink<'a, A> {
     }
 
     /// `array.atomic.rmw.or`: `0xFE 0x6E`, then an ordering and a type index.
+    #[inline(always)]
     pub fn array_atomic_rmw_or(
         self,
         ordering: Ordering,
@@ -409,6 +441,7 @@ impl<'a, A: Allocator> InstructionSink<'a, A> {
     }
 
     /// `array.atomic.rmw.xor`: `0xFE 0x6F`, then an ordering and a type index.
+    #[inline(always)]
     pub fn array_atomic_rmw_xor(
         self,
         ordering: Ordering,
@@ -421,6 +454,7 @@ impl<'a, A: Allocator> InstructionSink<'a, A> {
     }
 
     /// `array.atomic.rmw.xchg`: `0xFE 0x70`, then an ordering and a type index.
+    #[inline(always)]
     pub fn array_atomic_rmw_xchg(
         self,
         ordering: Ordering,
@@ -433,6 +467,7 @@ impl<'a, A: Allocator> InstructionSink<'a, A> {
     }
 
     /// `array.atomic.rmw.cmpxchg`: `0xFE 0x71`, then an ordering and a type index.
+    #[inline(always)]
     pub fn array_atomic_rmw_cmpxchg(
         self,
         ordering: Ordering,
@@ -445,6 +480,7 @@ impl<'a, A: Allocator> InstructionSink<'a, A> {
     }
 
     /// `ref.i31_shared`: `0xFE 0x72`.
+    #[inline(always)]
     pub fn ref_i31_shared(self) -> Result<InstructionSink<'a, A>, EncodeError>
         ensures emits { Emits self.entry (after_fe 0x72) operands.None result }
         ensures* unchanged { sem 𝓛 (IsUnchangedAtErr A.row A.Allocator self.entry result) }

@@ -17,6 +17,7 @@ use wasm_instructions::table::Opcode;
 #[tactic(auto, using(wasm_instructions::proofs::OpcodeLaws::in_table_short))]
 impl<'a, A: Allocator> InstructionSink<'a, A> {
     /// Appends an instruction without a prefix, with a signed 32-bit number.
+    #[inline(always)]
     pub(in crate::sink) fn emit_i32(
         self,
         number: u8,
@@ -33,6 +34,7 @@ impl<'a, A: Allocator> InstructionSink<'a, A> {
     }
 
     /// Appends an instruction without a prefix, with a signed 64-bit number.
+    #[inline(always)]
     pub(in crate::sink) fn emit_i64(
         self,
         number: u8,
@@ -49,6 +51,7 @@ impl<'a, A: Allocator> InstructionSink<'a, A> {
     }
 
     /// Appends an instruction without a prefix, with the bits of a 32-bit floating-point number.
+    #[inline(always)]
     pub(in crate::sink) fn emit_f32(
         self,
         number: u8,
@@ -65,6 +68,7 @@ impl<'a, A: Allocator> InstructionSink<'a, A> {
     }
 
     /// Appends an instruction without a prefix, with the bits of a 64-bit floating-point number.
+    #[inline(always)]
     pub(in crate::sink) fn emit_f64(
         self,
         number: u8,
@@ -81,6 +85,7 @@ impl<'a, A: Allocator> InstructionSink<'a, A> {
     }
 
     /// Appends an instruction after `0xFD`, with a 128-bit vector.
+    #[inline(always)]
     pub(in crate::sink) fn emit_v128(
         self,
         number: u32,
@@ -97,6 +102,7 @@ impl<'a, A: Allocator> InstructionSink<'a, A> {
     }
 
     /// Appends an instruction after `0xFD`, with sixteen lane indexes.
+    #[inline(always)]
     pub(in crate::sink) fn emit_shuffle(
         self,
         number: u32,
@@ -113,6 +119,7 @@ impl<'a, A: Allocator> InstructionSink<'a, A> {
     }
 
     /// Appends an instruction after `0xFD`, with one lane index.
+    #[inline(always)]
     pub(in crate::sink) fn emit_lane(
         self,
         number: u32,

@@ -18,6 +18,7 @@ use wasm_instructions::table::{Opcode, Prefix};
 #[tactic(auto, using(crate::proofs::WrittenCalls::short_opcode, wasm_instructions::proofs::OpcodeLaws::in_table_short))]
 impl<'a, A: Allocator> InstructionSink<'a, A> {
     /// Appends an instruction with a memory argument.
+    #[inline(always)]
     pub(in crate::sink) fn emit_mem(
         self,
         prefix: Prefix,
@@ -38,6 +39,7 @@ impl<'a, A: Allocator> InstructionSink<'a, A> {
     }
 
     /// Appends an instruction after `0xFD`, with a memory argument and a lane index.
+    #[inline(always)]
     pub(in crate::sink) fn emit_mem_lane(
         self,
         number: u32,

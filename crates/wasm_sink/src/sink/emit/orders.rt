@@ -17,6 +17,7 @@ use wasm_instructions::table::Opcode;
 #[tactic(auto, using(wasm_instructions::proofs::OpcodeLaws::in_table_short))]
 impl<'a, A: Allocator> InstructionSink<'a, A> {
     /// Appends an instruction after `0xFE`, with an ordering.
+    #[inline(always)]
     pub(in crate::sink) fn emit_order(
         self,
         number: u32,
@@ -33,6 +34,7 @@ impl<'a, A: Allocator> InstructionSink<'a, A> {
     }
 
     /// Appends an instruction after `0xFE`, with an ordering and an index.
+    #[inline(always)]
     pub(in crate::sink) fn emit_order_index(
         self,
         number: u32,
@@ -51,6 +53,7 @@ impl<'a, A: Allocator> InstructionSink<'a, A> {
     }
 
     /// Appends an instruction after `0xFE`, with an ordering and two indexes, `first` before `second`.
+    #[inline(always)]
     pub(in crate::sink) fn emit_order_two_indexes(
         self,
         number: u32,

@@ -20,6 +20,7 @@ use wasm_types::types::{HeapType, RefType, ValType};
 #[tactic(auto, using(crate::proofs::WrittenCalls::short_opcode, wasm_instructions::proofs::OpcodeLaws::in_table_short))]
 impl<'a, A: Allocator> InstructionSink<'a, A> {
     /// Appends an instruction without a prefix, with a block type.
+    #[inline(always)]
     pub(in crate::sink) fn emit_block(
         self,
         number: u8,
@@ -36,6 +37,7 @@ impl<'a, A: Allocator> InstructionSink<'a, A> {
     }
 
     /// Appends an instruction with a heap type.
+    #[inline(always)]
     pub(in crate::sink) fn emit_heap(
         self,
         prefix: Prefix,
@@ -53,6 +55,7 @@ impl<'a, A: Allocator> InstructionSink<'a, A> {
     }
 
     /// Appends an instruction without a prefix, with a list of one value type.
+    #[inline(always)]
     pub(in crate::sink) fn emit_type(
         self,
         number: u8,
@@ -68,6 +71,7 @@ impl<'a, A: Allocator> InstructionSink<'a, A> {
     }
 
     /// Appends a branch on a cast, after `0xFB`.
+    #[inline(always)]
     pub(in crate::sink) fn emit_cast(
         self,
         number: u32,

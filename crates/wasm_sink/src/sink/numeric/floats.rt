@@ -13,6 +13,7 @@ use wasm_instructions::table::Prefix;
 #[tactic(auto, unfolding(wasm_instructions::specs::formats::Opcodes::ranges))]
 impl<'a, A: Allocator> InstructionSink<'a, A> {
     /// `f32.const`: `0x43`, then 4 bytes, the lowest first.
+    #[inline(always)]
     pub fn f32_const(self, value: Ieee32) -> Result<InstructionSink<'a, A>, EncodeError>
         ensures emits { Emits self.entry (without_prefix 0x43) (operands.F32 value) result }
         ensures* unchanged { sem 𝓛 (IsUnchangedAtErr A.row A.Allocator self.entry result) }
@@ -21,6 +22,7 @@ impl<'a, A: Allocator> InstructionSink<'a, A> {
     }
 
     /// `f64.const`: `0x44`, then 8 bytes, the lowest first.
+    #[inline(always)]
     pub fn f64_const(self, value: Ieee64) -> Result<InstructionSink<'a, A>, EncodeError>
         ensures emits { Emits self.entry (without_prefix 0x44) (operands.F64 value) result }
         ensures* unchanged { sem 𝓛 (IsUnchangedAtErr A.row A.Allocator self.entry result) }
@@ -29,6 +31,7 @@ impl<'a, A: Allocator> InstructionSink<'a, A> {
     }
 
     /// `f32.eq`: `0x5B`.
+    #[inline(always)]
     pub fn f32_eq(self) -> Result<InstructionSink<'a, A>, EncodeError>
         ensures emits { Emits self.entry (without_prefix 0x5b) operands.None result }
         ensures* unchanged { sem 𝓛 (IsUnchangedAtErr A.row A.Allocator self.entry result) }
@@ -37,6 +40,7 @@ impl<'a, A: Allocator> InstructionSink<'a, A> {
     }
 
     /// `f32.ne`: `0x5C`.
+    #[inline(always)]
     pub fn f32_ne(self) -> Result<InstructionSink<'a, A>, EncodeError>
         ensures emits { Emits self.entry (without_prefix 0x5c) operands.None result }
         ensures* unchanged { sem 𝓛 (IsUnchangedAtErr A.row A.Allocator self.entry result) }
@@ -45,6 +49,7 @@ impl<'a, A: Allocator> InstructionSink<'a, A> {
     }
 
     /// `f32.lt`: `0x5D`.
+    #[inline(always)]
     pub fn f32_lt(self) -> Result<InstructionSink<'a, A>, EncodeError>
         ensures emits { Emits self.entry (without_prefix 0x5d) operands.None result }
         ensures* unchanged { sem 𝓛 (IsUnchangedAtErr A.row A.Allocator self.entry result) }
@@ -53,6 +58,7 @@ impl<'a, A: Allocator> InstructionSink<'a, A> {
     }
 
     /// `f32.gt`: `0x5E`.
+    #[inline(always)]
     pub fn f32_gt(self) -> Result<InstructionSink<'a, A>, EncodeError>
         ensures emits { Emits self.entry (without_prefix 0x5e) operands.None result }
         ensures* unchanged { sem 𝓛 (IsUnchangedAtErr A.row A.Allocator self.entry result) }
@@ -61,6 +67,7 @@ impl<'a, A: Allocator> InstructionSink<'a, A> {
     }
 
     /// `f32.le`: `0x5F`.
+    #[inline(always)]
     pub fn f32_le(self) -> Result<InstructionSink<'a, A>, EncodeError>
         ensures emits { Emits self.entry (without_prefix 0x5f) operands.None result }
         ensures* unchanged { sem 𝓛 (IsUnchangedAtErr A.row A.Allocator self.entry result) }
@@ -69,6 +76,7 @@ impl<'a, A: Allocator> InstructionSink<'a, A> {
     }
 
     /// `f32.ge`: `0x60`.
+    #[inline(always)]
     pub fn f32_ge(self) -> Result<InstructionSink<'a, A>, EncodeError>
         ensures emits { Emits self.entry (without_prefix 0x60) operands.None result }
         ensures* unchanged { sem 𝓛 (IsUnchangedAtErr A.row A.Allocator self.entry result) }
@@ -77,6 +85,7 @@ impl<'a, A: Allocator> InstructionSink<'a, A> {
     }
 
     /// `f64.eq`: `0x61`.
+    #[inline(always)]
     pub fn f64_eq(self) -> Result<InstructionSink<'a, A>, EncodeError>
         ensures emits { Emits self.entry (without_prefix 0x61) operands.None result }
         ensures* unchanged { sem 𝓛 (IsUnchangedAtErr A.row A.Allocator self.entry result) }
@@ -85,6 +94,7 @@ impl<'a, A: Allocator> InstructionSink<'a, A> {
     }
 
     /// `f64.ne`: `0x62`.
+    #[inline(always)]
     pub fn f64_ne(self) -> Result<InstructionSink<'a, A>, EncodeError>
         ensures emits { Emits self.entry (without_prefix 0x62) operands.None result }
         ensures* unchanged { sem 𝓛 (IsUnchangedAtErr A.row A.Allocator self.entry result) }
@@ -93,6 +103,7 @@ impl<'a, A: Allocator> InstructionSink<'a, A> {
     }
 
     /// `f64.lt`: `0x63`.
+    #[inline(always)]
     pub fn f64_lt(self) -> Result<InstructionSink<'a, A>, EncodeError>
         ensures emits { Emits self.entry (without_prefix 0x63) operands.None result }
         ensures* unchanged { sem 𝓛 (IsUnchangedAtErr A.row A.Allocator self.entry result) }
@@ -101,6 +112,7 @@ impl<'a, A: Allocator> InstructionSink<'a, A> {
     }
 
     /// `f64.gt`: `0x64`.
+    #[inline(always)]
     pub fn f64_gt(self) -> Result<InstructionSink<'a, A>, EncodeError>
         ensures emits { Emits self.entry (without_prefix 0x64) operands.None result }
         ensures* unchanged { sem 𝓛 (IsUnchangedAtErr A.row A.Allocator self.entry result) }
@@ -109,6 +121,7 @@ impl<'a, A: Allocator> InstructionSink<'a, A> {
     }
 
     /// `f64.le`: `0x65`.
+    #[inline(always)]
     pub fn f64_le(self) -> Result<InstructionSink<'a, A>, EncodeError>
         ensures emits { Emits self.entry (without_prefix 0x65) operands.None result }
         ensures* unchanged { sem 𝓛 (IsUnchangedAtErr A.row A.Allocator self.entry result) }
@@ -117,6 +130,7 @@ impl<'a, A: Allocator> InstructionSink<'a, A> {
     }
 
     /// `f64.ge`: `0x66`.
+    #[inline(always)]
     pub fn f64_ge(self) -> Result<InstructionSink<'a, A>, EncodeError>
         ensures emits { Emits self.entry (without_prefix 0x66) operands.None result }
         ensures* unchanged { sem 𝓛 (IsUnchangedAtErr A.row A.Allocator self.entry result) }
@@ -125,6 +139,7 @@ impl<'a, A: Allocator> InstructionSink<'a, A> {
     }
 
     /// `f32.abs`: `0x8B`.
+    #[inline(always)]
     pub fn f32_abs(self) -> Result<InstructionSink<'a, A>, EncodeError>
         ensures emits { Emits self.entry (without_prefix 0x8b) operands.None result }
         ensures* unchanged { sem 𝓛 (IsUnchangedAtErr A.row A.Allocator self.entry result) }
@@ -133,6 +148,7 @@ impl<'a, A: Allocator> InstructionSink<'a, A> {
     }
 
     /// `f32.neg`: `0x8C`.
+    #[inline(always)]
     pub fn f32_neg(self) -> Result<InstructionSink<'a, A>, EncodeError>
         ensures emits { Emits self.entry (without_prefix 0x8c) operands.None result }
         ensures* unchanged { sem 𝓛 (IsUnchangedAtErr A.row A.Allocator self.entry result) }
@@ -141,6 +157,7 @@ impl<'a, A: Allocator> InstructionSink<'a, A> {
     }
 
     /// `f32.ceil`: `0x8D`.
+    #[inline(always)]
     pub fn f32_ceil(self) -> Result<InstructionSink<'a, A>, EncodeError>
         ensures emits { Emits self.entry (without_prefix 0x8d) operands.None result }
         ensures* unchanged { sem 𝓛 (IsUnchangedAtErr A.row A.Allocator self.entry result) }
@@ -149,6 +166,7 @@ impl<'a, A: Allocator> InstructionSink<'a, A> {
     }
 
     /// `f32.floor`: `0x8E`.
+    #[inline(always)]
     pub fn f32_floor(self) -> Result<InstructionSink<'a, A>, EncodeError>
         ensures emits { Emits self.entry (without_prefix 0x8e) operands.None result }
         ensures* unchanged { sem 𝓛 (IsUnchangedAtErr A.row A.Allocator self.entry result) }
@@ -157,6 +175,7 @@ impl<'a, A: Allocator> InstructionSink<'a, A> {
     }
 
     /// `f32.trunc`: `0x8F`.
+    #[inline(always)]
     pub fn f32_trunc(self) -> Result<InstructionSink<'a, A>, EncodeError>
         ensures emits { Emits self.entry (without_prefix 0x8f) operands.None result }
         ensures* unchanged { sem 𝓛 (IsUnchangedAtErr A.row A.Allocator self.entry result) }
@@ -165,6 +184,7 @@ impl<'a, A: Allocator> InstructionSink<'a, A> {
     }
 
     /// `f32.nearest`: `0x90`.
+    #[inline(always)]
     pub fn f32_nearest(self) -> Result<InstructionSink<'a, A>, EncodeError>
         ensures emits { Emits self.entry (without_prefix 0x90) operands.None result }
         ensures* unchanged { sem 𝓛 (IsUnchangedAtErr A.row A.Allocator self.entry result) }
@@ -173,6 +193,7 @@ impl<'a, A: Allocator> InstructionSink<'a, A> {
     }
 
     /// `f32.sqrt`: `0x91`.
+    #[inline(always)]
     pub fn f32_sqrt(self) -> Result<InstructionSink<'a, A>, EncodeError>
         ensures emits { Emits self.entry (without_prefix 0x91) operands.None result }
         ensures* unchanged { sem 𝓛 (IsUnchangedAtErr A.row A.Allocator self.entry result) }
@@ -181,6 +202,7 @@ impl<'a, A: Allocator> InstructionSink<'a, A> {
     }
 
     /// `f32.add`: `0x92`.
+    #[inline(always)]
     pub fn f32_add(self) -> Result<InstructionSink<'a, A>, EncodeError>
         ensures emits { Emits self.entry (without_prefix 0x92) operands.None result }
         ensures* unchanged { sem 𝓛 (IsUnchangedAtErr A.row A.Allocator self.entry result) }
@@ -189,6 +211,7 @@ impl<'a, A: Allocator> InstructionSink<'a, A> {
     }
 
     /// `f32.sub`: `0x93`.
+    #[inline(always)]
     pub fn f32_sub(self) -> Result<InstructionSink<'a, A>, EncodeError>
         ensures emits { Emits self.entry (without_prefix 0x93) operands.None result }
         ensures* unchanged { sem 𝓛 (IsUnchangedAtErr A.row A.Allocator self.entry result) }
@@ -197,6 +220,7 @@ impl<'a, A: Allocator> InstructionSink<'a, A> {
     }
 
     /// `f32.mul`: `0x94`.
+    #[inline(always)]
     pub fn f32_mul(self) -> Result<InstructionSink<'a, A>, EncodeError>
         ensures emits { Emits self.entry (without_prefix 0x94) operands.None result }
         ensures* unchanged { sem 𝓛 (IsUnchangedAtErr A.row A.Allocator self.entry result) }
@@ -205,6 +229,7 @@ impl<'a, A: Allocator> InstructionSink<'a, A> {
     }
 
     /// `f32.div`: `0x95`.
+    #[inline(always)]
     pub fn f32_div(self) -> Result<InstructionSink<'a, A>, EncodeError>
         ensures emits { Emits self.entry (without_prefix 0x95) operands.None result }
         ensures* unchanged { sem 𝓛 (IsUnchangedAtErr A.row A.Allocator self.entry result) }
@@ -213,6 +238,7 @@ impl<'a, A: Allocator> InstructionSink<'a, A> {
     }
 
     /// `f32.min`: `0x96`.
+    #[inline(always)]
     pub fn f32_min(self) -> Result<InstructionSink<'a, A>, EncodeError>
         ensures emits { Emits self.entry (without_prefix 0x96) operands.None result }
         ensures* unchanged { sem 𝓛 (IsUnchangedAtErr A.row A.Allocator self.entry result) }
@@ -221,6 +247,7 @@ impl<'a, A: Allocator> InstructionSink<'a, A> {
     }
 
     /// `f32.max`: `0x97`.
+    #[inline(always)]
     pub fn f32_max(self) -> Result<InstructionSink<'a, A>, EncodeError>
         ensures emits { Emits self.entry (without_prefix 0x97) operands.None result }
         ensures* unchanged { sem 𝓛 (IsUnchangedAtErr A.row A.Allocator self.entry result) }
@@ -229,6 +256,7 @@ impl<'a, A: Allocator> InstructionSink<'a, A> {
     }
 
     /// `f32.copysign`: `0x98`.
+    #[inline(always)]
     pub fn f32_copysign(self) -> Result<InstructionSink<'a, A>, EncodeError>
         ensures emits { Emits self.entry (without_prefix 0x98) operands.None result }
         ensures* unchanged { sem 𝓛 (IsUnchangedAtErr A.row A.Allocator self.entry result) }
@@ -237,6 +265,7 @@ impl<'a, A: Allocator> InstructionSink<'a, A> {
     }
 
     /// `f64.abs`: `0x99`.
+    #[inline(always)]
     pub fn f64_abs(self) -> Result<InstructionSink<'a, A>, EncodeError>
         ensures emits { Emits self.entry (without_prefix 0x99) operands.None result }
         ensures* unchanged { sem 𝓛 (IsUnchangedAtErr A.row A.Allocator self.entry result) }
@@ -245,6 +274,7 @@ impl<'a, A: Allocator> InstructionSink<'a, A> {
     }
 
     /// `f64.neg`: `0x9A`.
+    #[inline(always)]
     pub fn f64_neg(self) -> Result<InstructionSink<'a, A>, EncodeError>
         ensures emits { Emits self.entry (without_prefix 0x9a) operands.None result }
         ensures* unchanged { sem 𝓛 (IsUnchangedAtErr A.row A.Allocator self.entry result) }
@@ -253,6 +283,7 @@ impl<'a, A: Allocator> InstructionSink<'a, A> {
     }
 
     /// `f64.ceil`: `0x9B`.
+    #[inline(always)]
     pub fn f64_ceil(self) -> Result<InstructionSink<'a, A>, EncodeError>
         ensures emits { Emits self.entry (without_prefix 0x9b) operands.None result }
         ensures* unchanged { sem 𝓛 (IsUnchangedAtErr A.row A.Allocator self.entry result) }
@@ -261,6 +292,7 @@ impl<'a, A: Allocator> InstructionSink<'a, A> {
     }
 
     /// `f64.floor`: `0x9C`.
+    #[inline(always)]
     pub fn f64_floor(self) -> Result<InstructionSink<'a, A>, EncodeError>
         ensures emits { Emits self.entry (without_prefix 0x9c) operands.None result }
         ensures* unchanged { sem 𝓛 (IsUnchangedAtErr A.row A.Allocator self.entry result) }
@@ -269,6 +301,7 @@ impl<'a, A: Allocator> InstructionSink<'a, A> {
     }
 
     /// `f64.trunc`: `0x9D`.
+    #[inline(always)]
     pub fn f64_trunc(self) -> Result<InstructionSink<'a, A>, EncodeError>
         ensures emits { Emits self.entry (without_prefix 0x9d) operands.None result }
         ensures* unchanged { sem 𝓛 (IsUnchangedAtErr A.row A.Allocator self.entry result) }
@@ -277,6 +310,7 @@ impl<'a, A: Allocator> InstructionSink<'a, A> {
     }
 
     /// `f64.nearest`: `0x9E`.
+    #[inline(always)]
     pub fn f64_nearest(self) -> Result<InstructionSink<'a, A>, EncodeError>
         ensures emits { Emits self.entry (without_prefix 0x9e) operands.None result }
         ensures* unchanged { sem 𝓛 (IsUnchangedAtErr A.row A.Allocator self.entry result) }
@@ -285,6 +319,7 @@ impl<'a, A: Allocator> InstructionSink<'a, A> {
     }
 
     /// `f64.sqrt`: `0x9F`.
+    #[inline(always)]
     pub fn f64_sqrt(self) -> Result<InstructionSink<'a, A>, EncodeError>
         ensures emits { Emits self.entry (without_prefix 0x9f) operands.None result }
         ensures* unchanged { sem 𝓛 (IsUnchangedAtErr A.row A.Allocator self.entry result) }
@@ -293,6 +328,7 @@ impl<'a, A: Allocator> InstructionSink<'a, A> {
     }
 
     /// `f64.add`: `0xA0`.
+    #[inline(always)]
     pub fn f64_add(self) -> Result<InstructionSink<'a, A>, EncodeError>
         ensures emits { Emits self.entry (without_prefix 0xa0) operands.None result }
         ensures* unchanged { sem 𝓛 (IsUnchangedAtErr A.row A.Allocator self.entry result) }
@@ -301,6 +337,7 @@ impl<'a, A: Allocator> InstructionSink<'a, A> {
     }
 
     /// `f64.sub`: `0xA1`.
+    #[inline(always)]
     pub fn f64_sub(self) -> Result<InstructionSink<'a, A>, EncodeError>
         ensures emits { Emits self.entry (without_prefix 0xa1) operands.None result }
         ensures* unchanged { sem 𝓛 (IsUnchangedAtErr A.row A.Allocator self.entry result) }
@@ -309,6 +346,7 @@ impl<'a, A: Allocator> InstructionSink<'a, A> {
     }
 
     /// `f64.mul`: `0xA2`.
+    #[inline(always)]
     pub fn f64_mul(self) -> Result<InstructionSink<'a, A>, EncodeError>
         ensures emits { Emits self.entry (without_prefix 0xa2) operands.None result }
         ensures* unchanged { sem 𝓛 (IsUnchangedAtErr A.row A.Allocator self.entry result) }
@@ -317,6 +355,7 @@ impl<'a, A: Allocator> InstructionSink<'a, A> {
     }
 
     /// `f64.div`: `0xA3`.
+    #[inline(always)]
     pub fn f64_div(self) -> Result<InstructionSink<'a, A>, EncodeError>
         ensures emits { Emits self.entry (without_prefix 0xa3) operands.None result }
         ensures* unchanged { sem 𝓛 (IsUnchangedAtErr A.row A.Allocator self.entry result) }
@@ -325,6 +364,7 @@ impl<'a, A: Allocator> InstructionSink<'a, A> {
     }
 
     /// `f64.min`: `0xA4`.
+    #[inline(always)]
     pub fn f64_min(self) -> Result<InstructionSink<'a, A>, EncodeError>
         ensures emits { Emits self.entry (without_prefix 0xa4) operands.None result }
         ensures* unchanged { sem 𝓛 (IsUnchangedAtErr A.row A.Allocator self.entry result) }
@@ -333,6 +373,7 @@ impl<'a, A: Allocator> InstructionSink<'a, A> {
     }
 
     /// `f64.max`: `0xA5`.
+    #[inline(always)]
     pub fn f64_max(self) -> Result<InstructionSink<'a, A>, EncodeError>
         ensures emits { Emits self.entry (without_prefix 0xa5) operands.None result }
         ensures* unchanged { sem 𝓛 (IsUnchangedAtErr A.row A.Allocator self.entry result) }
@@ -341,6 +382,7 @@ impl<'a, A: Allocator> InstructionSink<'a, A> {
     }
 
     /// `f64.copysign`: `0xA6`.
+    #[inline(always)]
     pub fn f64_copysign(self) -> Result<InstructionSink<'a, A>, EncodeError>
         ensures emits { Emits self.entry (without_prefix 0xa6) operands.None result }
         ensures* unchanged { sem 𝓛 (IsUnchangedAtErr A.row A.Allocator self.entry result) }

@@ -12,6 +12,7 @@ use wasm_instructions::table::Prefix;
 #[tactic(auto, unfolding(wasm_instructions::specs::formats::Opcodes::ranges))]
 impl<'a, A: Allocator> InstructionSink<'a, A> {
     /// `i64.const`: `0x42`, then a signed number of 64 bits.
+    #[inline(always)]
     pub fn i64_const(self, value: i64) -> Result<InstructionSink<'a, A>, EncodeError>
         ensures emits { Emits self.entry (without_prefix 0x42) (operands.I64 value) result }
         ensures* unchanged { sem 𝓛 (IsUnchangedAtErr A.row A.Allocator self.entry result) }
@@ -20,6 +21,7 @@ impl<'a, A: Allocator> InstructionSink<'a, A> {
     }
 
     /// `i64.eqz`: `0x50`.
+    #[inline(always)]
     pub fn i64_eqz(self) -> Result<InstructionSink<'a, A>, EncodeError>
         ensures emits { Emits self.entry (without_prefix 0x50) operands.None result }
         ensures* unchanged { sem 𝓛 (IsUnchangedAtErr A.row A.Allocator self.entry result) }
@@ -28,6 +30,7 @@ impl<'a, A: Allocator> InstructionSink<'a, A> {
     }
 
     /// `i64.eq`: `0x51`.
+    #[inline(always)]
     pub fn i64_eq(self) -> Result<InstructionSink<'a, A>, EncodeError>
         ensures emits { Emits self.entry (without_prefix 0x51) operands.None result }
         ensures* unchanged { sem 𝓛 (IsUnchangedAtErr A.row A.Allocator self.entry result) }
@@ -36,6 +39,7 @@ impl<'a, A: Allocator> InstructionSink<'a, A> {
     }
 
     /// `i64.ne`: `0x52`.
+    #[inline(always)]
     pub fn i64_ne(self) -> Result<InstructionSink<'a, A>, EncodeError>
         ensures emits { Emits self.entry (without_prefix 0x52) operands.None result }
         ensures* unchanged { sem 𝓛 (IsUnchangedAtErr A.row A.Allocator self.entry result) }
@@ -44,6 +48,7 @@ impl<'a, A: Allocator> InstructionSink<'a, A> {
     }
 
     /// `i64.lt_s`: `0x53`.
+    #[inline(always)]
     pub fn i64_lt_s(self) -> Result<InstructionSink<'a, A>, EncodeError>
         ensures emits { Emits self.entry (without_prefix 0x53) operands.None result }
         ensures* unchanged { sem 𝓛 (IsUnchangedAtErr A.row A.Allocator self.entry result) }
@@ -52,6 +57,7 @@ impl<'a, A: Allocator> InstructionSink<'a, A> {
     }
 
     /// `i64.lt_u`: `0x54`.
+    #[inline(always)]
     pub fn i64_lt_u(self) -> Result<InstructionSink<'a, A>, EncodeError>
         ensures emits { Emits self.entry (without_prefix 0x54) operands.None result }
         ensures* unchanged { sem 𝓛 (IsUnchangedAtErr A.row A.Allocator self.entry result) }
@@ -60,6 +66,7 @@ impl<'a, A: Allocator> InstructionSink<'a, A> {
     }
 
     /// `i64.gt_s`: `0x55`.
+    #[inline(always)]
     pub fn i64_gt_s(self) -> Result<InstructionSink<'a, A>, EncodeError>
         ensures emits { Emits self.entry (without_prefix 0x55) operands.None result }
         ensures* unchanged { sem 𝓛 (IsUnchangedAtErr A.row A.Allocator self.entry result) }
@@ -68,6 +75,7 @@ impl<'a, A: Allocator> InstructionSink<'a, A> {
     }
 
     /// `i64.gt_u`: `0x56`.
+    #[inline(always)]
     pub fn i64_gt_u(self) -> Result<InstructionSink<'a, A>, EncodeError>
         ensures emits { Emits self.entry (without_prefix 0x56) operands.None result }
         ensures* unchanged { sem 𝓛 (IsUnchangedAtErr A.row A.Allocator self.entry result) }
@@ -76,6 +84,7 @@ impl<'a, A: Allocator> InstructionSink<'a, A> {
     }
 
     /// `i64.le_s`: `0x57`.
+    #[inline(always)]
     pub fn i64_le_s(self) -> Result<InstructionSink<'a, A>, EncodeError>
         ensures emits { Emits self.entry (without_prefix 0x57) operands.None result }
         ensures* unchanged { sem 𝓛 (IsUnchangedAtErr A.row A.Allocator self.entry result) }
@@ -84,6 +93,7 @@ impl<'a, A: Allocator> InstructionSink<'a, A> {
     }
 
     /// `i64.le_u`: `0x58`.
+    #[inline(always)]
     pub fn i64_le_u(self) -> Result<InstructionSink<'a, A>, EncodeError>
         ensures emits { Emits self.entry (without_prefix 0x58) operands.None result }
         ensures* unchanged { sem 𝓛 (IsUnchangedAtErr A.row A.Allocator self.entry result) }
@@ -92,6 +102,7 @@ impl<'a, A: Allocator> InstructionSink<'a, A> {
     }
 
     /// `i64.ge_s`: `0x59`.
+    #[inline(always)]
     pub fn i64_ge_s(self) -> Result<InstructionSink<'a, A>, EncodeError>
         ensures emits { Emits self.entry (without_prefix 0x59) operands.None result }
         ensures* unchanged { sem 𝓛 (IsUnchangedAtErr A.row A.Allocator self.entry result) }
@@ -100,6 +111,7 @@ impl<'a, A: Allocator> InstructionSink<'a, A> {
     }
 
     /// `i64.ge_u`: `0x5A`.
+    #[inline(always)]
     pub fn i64_ge_u(self) -> Result<InstructionSink<'a, A>, EncodeError>
         ensures emits { Emits self.entry (without_prefix 0x5a) operands.None result }
         ensures* unchanged { sem 𝓛 (IsUnchangedAtErr A.row A.Allocator self.entry result) }
@@ -108,6 +120,7 @@ impl<'a, A: Allocator> InstructionSink<'a, A> {
     }
 
     /// `i64.clz`: `0x79`.
+    #[inline(always)]
     pub fn i64_clz(self) -> Result<InstructionSink<'a, A>, EncodeError>
         ensures emits { Emits self.entry (without_prefix 0x79) operands.None result }
         ensures* unchanged { sem 𝓛 (IsUnchangedAtErr A.row A.Allocator self.entry result) }
@@ -116,6 +129,7 @@ impl<'a, A: Allocator> InstructionSink<'a, A> {
     }
 
     /// `i64.ctz`: `0x7A`.
+    #[inline(always)]
     pub fn i64_ctz(self) -> Result<InstructionSink<'a, A>, EncodeError>
         ensures emits { Emits self.entry (without_prefix 0x7a) operands.None result }
         ensures* unchanged { sem 𝓛 (IsUnchangedAtErr A.row A.Allocator self.entry result) }
@@ -124,6 +138,7 @@ impl<'a, A: Allocator> InstructionSink<'a, A> {
     }
 
     /// `i64.popcnt`: `0x7B`.
+    #[inline(always)]
     pub fn i64_popcnt(self) -> Result<InstructionSink<'a, A>, EncodeError>
         ensures emits { Emits self.entry (without_prefix 0x7b) operands.None result }
         ensures* unchanged { sem 𝓛 (IsUnchangedAtErr A.row A.Allocator self.entry result) }
@@ -132,6 +147,7 @@ impl<'a, A: Allocator> InstructionSink<'a, A> {
     }
 
     /// `i64.add`: `0x7C`.
+    #[inline(always)]
     pub fn i64_add(self) -> Result<InstructionSink<'a, A>, EncodeError>
         ensures emits { Emits self.entry (without_prefix 0x7c) operands.None result }
         ensures* unchanged { sem 𝓛 (IsUnchangedAtErr A.row A.Allocator self.entry result) }
@@ -140,6 +156,7 @@ impl<'a, A: Allocator> InstructionSink<'a, A> {
     }
 
     /// `i64.sub`: `0x7D`.
+    #[inline(always)]
     pub fn i64_sub(self) -> Result<InstructionSink<'a, A>, EncodeError>
         ensures emits { Emits self.entry (without_prefix 0x7d) operands.None result }
         ensures* unchanged { sem 𝓛 (IsUnchangedAtErr A.row A.Allocator self.entry result) }
@@ -148,6 +165,7 @@ impl<'a, A: Allocator> InstructionSink<'a, A> {
     }
 
     /// `i64.mul`: `0x7E`.
+    #[inline(always)]
     pub fn i64_mul(self) -> Result<InstructionSink<'a, A>, EncodeError>
         ensures emits { Emits self.entry (without_prefix 0x7e) operands.None result }
         ensures* unchanged { sem 𝓛 (IsUnchangedAtErr A.row A.Allocator self.entry result) }
@@ -156,6 +174,7 @@ impl<'a, A: Allocator> InstructionSink<'a, A> {
     }
 
     /// `i64.div_s`: `0x7F`.
+    #[inline(always)]
     pub fn i64_div_s(self) -> Result<InstructionSink<'a, A>, EncodeError>
         ensures emits { Emits self.entry (without_prefix 0x7f) operands.None result }
         ensures* unchanged { sem 𝓛 (IsUnchangedAtErr A.row A.Allocator self.entry result) }
@@ -164,6 +183,7 @@ impl<'a, A: Allocator> InstructionSink<'a, A> {
     }
 
     /// `i64.div_u`: `0x80`.
+    #[inline(always)]
     pub fn i64_div_u(self) -> Result<InstructionSink<'a, A>, EncodeError>
         ensures emits { Emits self.entry (without_prefix 0x80) operands.None result }
         ensures* unchanged { sem 𝓛 (IsUnchangedAtErr A.row A.Allocator self.entry result) }
@@ -172,6 +192,7 @@ impl<'a, A: Allocator> InstructionSink<'a, A> {
     }
 
     /// `i64.rem_s`: `0x81`.
+    #[inline(always)]
     pub fn i64_rem_s(self) -> Result<InstructionSink<'a, A>, EncodeError>
         ensures emits { Emits self.entry (without_prefix 0x81) operands.None result }
         ensures* unchanged { sem 𝓛 (IsUnchangedAtErr A.row A.Allocator self.entry result) }
@@ -180,6 +201,7 @@ impl<'a, A: Allocator> InstructionSink<'a, A> {
     }
 
     /// `i64.rem_u`: `0x82`.
+    #[inline(always)]
     pub fn i64_rem_u(self) -> Result<InstructionSink<'a, A>, EncodeError>
         ensures emits { Emits self.entry (without_prefix 0x82) operands.None result }
         ensures* unchanged { sem 𝓛 (IsUnchangedAtErr A.row A.Allocator self.entry result) }
@@ -188,6 +210,7 @@ impl<'a, A: Allocator> InstructionSink<'a, A> {
     }
 
     /// `i64.and`: `0x83`.
+    #[inline(always)]
     pub fn i64_and(self) -> Result<InstructionSink<'a, A>, EncodeError>
         ensures emits { Emits self.entry (without_prefix 0x83) operands.None result }
         ensures* unchanged { sem 𝓛 (IsUnchangedAtErr A.row A.Allocator self.entry result) }
@@ -196,6 +219,7 @@ impl<'a, A: Allocator> InstructionSink<'a, A> {
     }
 
     /// `i64.or`: `0x84`.
+    #[inline(always)]
     pub fn i64_or(self) -> Result<InstructionSink<'a, A>, EncodeError>
         ensures emits { Emits self.entry (without_prefix 0x84) operands.None result }
         ensures* unchanged { sem 𝓛 (IsUnchangedAtErr A.row A.Allocator self.entry result) }
@@ -204,6 +228,7 @@ impl<'a, A: Allocator> InstructionSink<'a, A> {
     }
 
     /// `i64.xor`: `0x85`.
+    #[inline(always)]
     pub fn i64_xor(self) -> Result<InstructionSink<'a, A>, EncodeError>
         ensures emits { Emits self.entry (without_prefix 0x85) operands.None result }
         ensures* unchanged { sem 𝓛 (IsUnchangedAtErr A.row A.Allocator self.entry result) }
@@ -212,6 +237,7 @@ impl<'a, A: Allocator> InstructionSink<'a, A> {
     }
 
     /// `i64.shl`: `0x86`.
+    #[inline(always)]
     pub fn i64_shl(self) -> Result<InstructionSink<'a, A>, EncodeError>
         ensures emits { Emits self.entry (without_prefix 0x86) operands.None result }
         ensures* unchanged { sem 𝓛 (IsUnchangedAtErr A.row A.Allocator self.entry result) }
@@ -220,6 +246,7 @@ impl<'a, A: Allocator> InstructionSink<'a, A> {
     }
 
     /// `i64.shr_s`: `0x87`.
+    #[inline(always)]
     pub fn i64_shr_s(self) -> Result<InstructionSink<'a, A>, EncodeError>
         ensures emits { Emits self.entry (without_prefix 0x87) operands.None result }
         ensures* unchanged { sem 𝓛 (IsUnchangedAtErr A.row A.Allocator self.entry result) }
@@ -228,6 +255,7 @@ impl<'a, A: Allocator> InstructionSink<'a, A> {
     }
 
     /// `i64.shr_u`: `0x88`.
+    #[inline(always)]
     pub fn i64_shr_u(self) -> Result<InstructionSink<'a, A>, EncodeError>
         ensures emits { Emits self.entry (without_prefix 0x88) operands.None result }
         ensures* unchanged { sem 𝓛 (IsUnchangedAtErr A.row A.Allocator self.entry result) }
@@ -236,6 +264,7 @@ impl<'a, A: Allocator> InstructionSink<'a, A> {
     }
 
     /// `i64.rotl`: `0x89`.
+    #[inline(always)]
     pub fn i64_rotl(self) -> Result<InstructionSink<'a, A>, EncodeError>
         ensures emits { Emits self.entry (without_prefix 0x89) operands.None result }
         ensures* unchanged { sem 𝓛 (IsUnchangedAtErr A.row A.Allocator self.entry result) }
@@ -244,6 +273,7 @@ impl<'a, A: Allocator> InstructionSink<'a, A> {
     }
 
     /// `i64.rotr`: `0x8A`.
+    #[inline(always)]
     pub fn i64_rotr(self) -> Result<InstructionSink<'a, A>, EncodeError>
         ensures emits { Emits self.entry (without_prefix 0x8a) operands.None result }
         ensures* unchanged { sem 𝓛 (IsUnchangedAtErr A.row A.Allocator self.entry result) }
@@ -252,6 +282,7 @@ impl<'a, A: Allocator> InstructionSink<'a, A> {
     }
 
     /// `i64.extend8_s`: `0xC2`.
+    #[inline(always)]
     pub fn i64_extend8_s(self) -> Result<InstructionSink<'a, A>, EncodeError>
         ensures emits { Emits self.entry (without_prefix 0xc2) operands.None result }
         ensures* unchanged { sem 𝓛 (IsUnchangedAtErr A.row A.Allocator self.entry result) }
@@ -260,6 +291,7 @@ impl<'a, A: Allocator> InstructionSink<'a, A> {
     }
 
     /// `i64.extend16_s`: `0xC3`.
+    #[inline(always)]
     pub fn i64_extend16_s(self) -> Result<InstructionSink<'a, A>, EncodeError>
         ensures emits { Emits self.entry (without_prefix 0xc3) operands.None result }
         ensures* unchanged { sem 𝓛 (IsUnchangedAtErr A.row A.Allocator self.entry result) }
@@ -268,6 +300,7 @@ impl<'a, A: Allocator> InstructionSink<'a, A> {
     }
 
     /// `i64.extend32_s`: `0xC4`.
+    #[inline(always)]
     pub fn i64_extend32_s(self) -> Result<InstructionSink<'a, A>, EncodeError>
         ensures emits { Emits self.entry (without_prefix 0xc4) operands.None result }
         ensures* unchanged { sem 𝓛 (IsUnchangedAtErr A.row A.Allocator self.entry result) }
@@ -276,6 +309,7 @@ impl<'a, A: Allocator> InstructionSink<'a, A> {
     }
 
     /// `i64.add128`: `0xFC 0x13`.
+    #[inline(always)]
     pub fn i64_add128(self) -> Result<InstructionSink<'a, A>, EncodeError>
         ensures emits { Emits self.entry (after_fc 0x13) operands.None result }
         ensures* unchanged { sem 𝓛 (IsUnchangedAtErr A.row A.Allocator self.entry result) }
@@ -284,6 +318,7 @@ impl<'a, A: Allocator> InstructionSink<'a, A> {
     }
 
     /// `i64.sub128`: `0xFC 0x14`.
+    #[inline(always)]
     pub fn i64_sub128(self) -> Result<InstructionSink<'a, A>, EncodeError>
         ensures emits { Emits self.entry (after_fc 0x14) operands.None result }
         ensures* unchanged { sem 𝓛 (IsUnchangedAtErr A.row A.Allocator self.entry result) }
@@ -292,6 +327,7 @@ impl<'a, A: Allocator> InstructionSink<'a, A> {
     }
 
     /// `i64.mul_wide_s`: `0xFC 0x15`.
+    #[inline(always)]
     pub fn i64_mul_wide_s(self) -> Result<InstructionSink<'a, A>, EncodeError>
         ensures emits { Emits self.entry (after_fc 0x15) operands.None result }
         ensures* unchanged { sem 𝓛 (IsUnchangedAtErr A.row A.Allocator self.entry result) }
@@ -300,6 +336,7 @@ impl<'a, A: Allocator> InstructionSink<'a, A> {
     }
 
     /// `i64.mul_wide_u`: `0xFC 0x16`.
+    #[inline(always)]
     pub fn i64_mul_wide_u(self) -> Result<InstructionSink<'a, A>, EncodeError>
         ensures emits { Emits self.entry (after_fc 0x16) operands.None result }
         ensures* unchanged { sem 𝓛 (IsUnchangedAtErr A.row A.Allocator self.entry result) }

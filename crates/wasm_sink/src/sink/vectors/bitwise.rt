@@ -12,6 +12,7 @@ use wasm_instructions::table::Prefix;
 #[tactic(auto, unfolding(wasm_instructions::specs::formats::Opcodes::ranges))]
 impl<'a, A: Allocator> InstructionSink<'a, A> {
     /// `v128.not`: `0xFD 0x4D`.
+    #[inline(always)]
     pub fn v128_not(self) -> Result<InstructionSink<'a, A>, EncodeError>
         ensures emits { Emits self.entry (after_fd 0x4d) operands.None result }
         ensures* unchanged { sem 𝓛 (IsUnchangedAtErr A.row A.Allocator self.entry result) }
@@ -20,6 +21,7 @@ impl<'a, A: Allocator> InstructionSink<'a, A> {
     }
 
     /// `v128.and`: `0xFD 0x4E`.
+    #[inline(always)]
     pub fn v128_and(self) -> Result<InstructionSink<'a, A>, EncodeError>
         ensures emits { Emits self.entry (after_fd 0x4e) operands.None result }
         ensures* unchanged { sem 𝓛 (IsUnchangedAtErr A.row A.Allocator self.entry result) }
@@ -28,6 +30,7 @@ impl<'a, A: Allocator> InstructionSink<'a, A> {
     }
 
     /// `v128.andnot`: `0xFD 0x4F`.
+    #[inline(always)]
     pub fn v128_andnot(self) -> Result<InstructionSink<'a, A>, EncodeError>
         ensures emits { Emits self.entry (after_fd 0x4f) operands.None result }
         ensures* unchanged { sem 𝓛 (IsUnchangedAtErr A.row A.Allocator self.entry result) }
@@ -36,6 +39,7 @@ impl<'a, A: Allocator> InstructionSink<'a, A> {
     }
 
     /// `v128.or`: `0xFD 0x50`.
+    #[inline(always)]
     pub fn v128_or(self) -> Result<InstructionSink<'a, A>, EncodeError>
         ensures emits { Emits self.entry (after_fd 0x50) operands.None result }
         ensures* unchanged { sem 𝓛 (IsUnchangedAtErr A.row A.Allocator self.entry result) }
@@ -44,6 +48,7 @@ impl<'a, A: Allocator> InstructionSink<'a, A> {
     }
 
     /// `v128.xor`: `0xFD 0x51`.
+    #[inline(always)]
     pub fn v128_xor(self) -> Result<InstructionSink<'a, A>, EncodeError>
         ensures emits { Emits self.entry (after_fd 0x51) operands.None result }
         ensures* unchanged { sem 𝓛 (IsUnchangedAtErr A.row A.Allocator self.entry result) }
@@ -52,6 +57,7 @@ impl<'a, A: Allocator> InstructionSink<'a, A> {
     }
 
     /// `v128.bitselect`: `0xFD 0x52`.
+    #[inline(always)]
     pub fn v128_bitselect(self) -> Result<InstructionSink<'a, A>, EncodeError>
         ensures emits { Emits self.entry (after_fd 0x52) operands.None result }
         ensures* unchanged { sem 𝓛 (IsUnchangedAtErr A.row A.Allocator self.entry result) }
@@ -60,6 +66,7 @@ impl<'a, A: Allocator> InstructionSink<'a, A> {
     }
 
     /// `v128.any_true`: `0xFD 0x53`.
+    #[inline(always)]
     pub fn v128_any_true(self) -> Result<InstructionSink<'a, A>, EncodeError>
         ensures emits { Emits self.entry (after_fd 0x53) operands.None result }
         ensures* unchanged { sem 𝓛 (IsUnchangedAtErr A.row A.Allocator self.entry result) }

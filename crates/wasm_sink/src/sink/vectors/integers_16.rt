@@ -12,6 +12,7 @@ use wasm_instructions::table::Prefix;
 #[tactic(auto, unfolding(wasm_instructions::specs::formats::Opcodes::ranges))]
 impl<'a, A: Allocator> InstructionSink<'a, A> {
     /// `i16x8.extadd_pairwise_i8x16_s`: `0xFD 0x7C`.
+    #[inline(always)]
     pub fn i16x8_extadd_pairwise_i8x16_s(self) -> Result<InstructionSink<'a, A>, EncodeError>
         ensures emits { Emits self.entry (after_fd 0x7c) operands.None result }
         ensures* unchanged { sem 𝓛 (IsUnchangedAtErr A.row A.Allocator self.entry result) }
@@ -20,6 +21,7 @@ impl<'a, A: Allocator> InstructionSink<'a, A> {
     }
 
     /// `i16x8.extadd_pairwise_i8x16_u`: `0xFD 0x7D`.
+    #[inline(always)]
     pub fn i16x8_extadd_pairwise_i8x16_u(self) -> Result<InstructionSink<'a, A>, EncodeError>
         ensures emits { Emits self.entry (after_fd 0x7d) operands.None result }
         ensures* unchanged { sem 𝓛 (IsUnchangedAtErr A.row A.Allocator self.entry result) }
@@ -28,6 +30,7 @@ impl<'a, A: Allocator> InstructionSink<'a, A> {
     }
 
     /// `i16x8.abs`: `0xFD 0x80 0x01`.
+    #[inline(always)]
     pub fn i16x8_abs(self) -> Result<InstructionSink<'a, A>, EncodeError>
         ensures emits { Emits self.entry (after_fd 0x80) operands.None result }
         ensures* unchanged { sem 𝓛 (IsUnchangedAtErr A.row A.Allocator self.entry result) }
@@ -36,6 +39,7 @@ impl<'a, A: Allocator> InstructionSink<'a, A> {
     }
 
     /// `i16x8.neg`: `0xFD 0x81 0x01`.
+    #[inline(always)]
     pub fn i16x8_neg(self) -> Result<InstructionSink<'a, A>, EncodeError>
         ensures emits { Emits self.entry (after_fd 0x81) operands.None result }
         ensures* unchanged { sem 𝓛 (IsUnchangedAtErr A.row A.Allocator self.entry result) }
@@ -44,6 +48,7 @@ impl<'a, A: Allocator> InstructionSink<'a, A> {
     }
 
     /// `i16x8.q15mulr_sat_s`: `0xFD 0x82 0x01`.
+    #[inline(always)]
     pub fn i16x8_q15mulr_sat_s(self) -> Result<InstructionSink<'a, A>, EncodeError>
         ensures emits { Emits self.entry (after_fd 0x82) operands.None result }
         ensures* unchanged { sem 𝓛 (IsUnchangedAtErr A.row A.Allocator self.entry result) }
@@ -52,6 +57,7 @@ impl<'a, A: Allocator> InstructionSink<'a, A> {
     }
 
     /// `i16x8.all_true`: `0xFD 0x83 0x01`.
+    #[inline(always)]
     pub fn i16x8_all_true(self) -> Result<InstructionSink<'a, A>, EncodeError>
         ensures emits { Emits self.entry (after_fd 0x83) operands.None result }
         ensures* unchanged { sem 𝓛 (IsUnchangedAtErr A.row A.Allocator self.entry result) }
@@ -60,6 +66,7 @@ impl<'a, A: Allocator> InstructionSink<'a, A> {
     }
 
     /// `i16x8.bitmask`: `0xFD 0x84 0x01`.
+    #[inline(always)]
     pub fn i16x8_bitmask(self) -> Result<InstructionSink<'a, A>, EncodeError>
         ensures emits { Emits self.entry (after_fd 0x84) operands.None result }
         ensures* unchanged { sem 𝓛 (IsUnchangedAtErr A.row A.Allocator self.entry result) }
@@ -68,6 +75,7 @@ impl<'a, A: Allocator> InstructionSink<'a, A> {
     }
 
     /// `i16x8.narrow_i32x4_s`: `0xFD 0x85 0x01`.
+    #[inline(always)]
     pub fn i16x8_narrow_i32x4_s(self) -> Result<InstructionSink<'a, A>, EncodeError>
         ensures emits { Emits self.entry (after_fd 0x85) operands.None result }
         ensures* unchanged { sem 𝓛 (IsUnchangedAtErr A.row A.Allocator self.entry result) }
@@ -76,6 +84,7 @@ impl<'a, A: Allocator> InstructionSink<'a, A> {
     }
 
     /// `i16x8.narrow_i32x4_u`: `0xFD 0x86 0x01`.
+    #[inline(always)]
     pub fn i16x8_narrow_i32x4_u(self) -> Result<InstructionSink<'a, A>, EncodeError>
         ensures emits { Emits self.entry (after_fd 0x86) operands.None result }
         ensures* unchanged { sem 𝓛 (IsUnchangedAtErr A.row A.Allocator self.entry result) }
@@ -84,6 +93,7 @@ impl<'a, A: Allocator> InstructionSink<'a, A> {
     }
 
     /// `i16x8.extend_low_i8x16_s`: `0xFD 0x87 0x01`.
+    #[inline(always)]
     pub fn i16x8_extend_low_i8x16_s(self) -> Result<InstructionSink<'a, A>, EncodeError>
         ensures emits { Emits self.entry (after_fd 0x87) operands.None result }
         ensures* unchanged { sem 𝓛 (IsUnchangedAtErr A.row A.Allocator self.entry result) }
@@ -92,6 +102,7 @@ impl<'a, A: Allocator> InstructionSink<'a, A> {
     }
 
     /// `i16x8.extend_high_i8x16_s`: `0xFD 0x88 0x01`.
+    #[inline(always)]
     pub fn i16x8_extend_high_i8x16_s(self) -> Result<InstructionSink<'a, A>, EncodeError>
         ensures emits { Emits self.entry (after_fd 0x88) operands.None result }
         ensures* unchanged { sem 𝓛 (IsUnchangedAtErr A.row A.Allocator self.entry result) }
@@ -100,6 +111,7 @@ impl<'a, A: Allocator> InstructionSink<'a, A> {
     }
 
     /// `i16x8.extend_low_i8x16_u`: `0xFD 0x89 0x01`.
+    #[inline(always)]
     pub fn i16x8_extend_low_i8x16_u(self) -> Result<InstructionSink<'a, A>, EncodeError>
         ensures emits { Emits self.entry (after_fd 0x89) operands.None result }
         ensures* unchanged { sem 𝓛 (IsUnchangedAtErr A.row A.Allocator self.entry result) }
@@ -108,6 +120,7 @@ impl<'a, A: Allocator> InstructionSink<'a, A> {
     }
 
     /// `i16x8.extend_high_i8x16_u`: `0xFD 0x8A 0x01`.
+    #[inline(always)]
     pub fn i16x8_extend_high_i8x16_u(self) -> Result<InstructionSink<'a, A>, EncodeError>
         ensures emits { Emits self.entry (after_fd 0x8a) operands.None result }
         ensures* unchanged { sem 𝓛 (IsUnchangedAtErr A.row A.Allocator self.entry result) }
@@ -116,6 +129,7 @@ impl<'a, A: Allocator> InstructionSink<'a, A> {
     }
 
     /// `i16x8.shl`: `0xFD 0x8B 0x01`.
+    #[inline(always)]
     pub fn i16x8_shl(self) -> Result<InstructionSink<'a, A>, EncodeError>
         ensures emits { Emits self.entry (after_fd 0x8b) operands.None result }
         ensures* unchanged { sem 𝓛 (IsUnchangedAtErr A.row A.Allocator self.entry result) }
@@ -124,6 +138,7 @@ impl<'a, A: Allocator> InstructionSink<'a, A> {
     }
 
     /// `i16x8.shr_s`: `0xFD 0x8C 0x01`.
+    #[inline(always)]
     pub fn i16x8_shr_s(self) -> Result<InstructionSink<'a, A>, EncodeError>
         ensures emits { Emits self.entry (after_fd 0x8c) operands.None result }
         ensures* unchanged { sem 𝓛 (IsUnchangedAtErr A.row A.Allocator self.entry result) }
@@ -132,6 +147,7 @@ impl<'a, A: Allocator> InstructionSink<'a, A> {
     }
 
     /// `i16x8.shr_u`: `0xFD 0x8D 0x01`.
+    #[inline(always)]
     pub fn i16x8_shr_u(self) -> Result<InstructionSink<'a, A>, EncodeError>
         ensures emits { Emits self.entry (after_fd 0x8d) operands.None result }
         ensures* unchanged { sem 𝓛 (IsUnchangedAtErr A.row A.Allocator self.entry result) }
@@ -140,6 +156,7 @@ impl<'a, A: Allocator> InstructionSink<'a, A> {
     }
 
     /// `i16x8.add`: `0xFD 0x8E 0x01`.
+    #[inline(always)]
     pub fn i16x8_add(self) -> Result<InstructionSink<'a, A>, EncodeError>
         ensures emits { Emits self.entry (after_fd 0x8e) operands.None result }
         ensures* unchanged { sem 𝓛 (IsUnchangedAtErr A.row A.Allocator self.entry result) }
@@ -148,6 +165,7 @@ impl<'a, A: Allocator> InstructionSink<'a, A> {
     }
 
     /// `i16x8.add_sat_s`: `0xFD 0x8F 0x01`.
+    #[inline(always)]
     pub fn i16x8_add_sat_s(self) -> Result<InstructionSink<'a, A>, EncodeError>
         ensures emits { Emits self.entry (after_fd 0x8f) operands.None result }
         ensures* unchanged { sem 𝓛 (IsUnchangedAtErr A.row A.Allocator self.entry result) }
@@ -156,6 +174,7 @@ impl<'a, A: Allocator> InstructionSink<'a, A> {
     }
 
     /// `i16x8.add_sat_u`: `0xFD 0x90 0x01`.
+    #[inline(always)]
     pub fn i16x8_add_sat_u(self) -> Result<InstructionSink<'a, A>, EncodeError>
         ensures emits { Emits self.entry (after_fd 0x90) operands.None result }
         ensures* unchanged { sem 𝓛 (IsUnchangedAtErr A.row A.Allocator self.entry result) }
@@ -164,6 +183,7 @@ impl<'a, A: Allocator> InstructionSink<'a, A> {
     }
 
     /// `i16x8.sub`: `0xFD 0x91 0x01`.
+    #[inline(always)]
     pub fn i16x8_sub(self) -> Result<InstructionSink<'a, A>, EncodeError>
         ensures emits { Emits self.entry (after_fd 0x91) operands.None result }
         ensures* unchanged { sem 𝓛 (IsUnchangedAtErr A.row A.Allocator self.entry result) }
@@ -172,6 +192,7 @@ impl<'a, A: Allocator> InstructionSink<'a, A> {
     }
 
     /// `i16x8.sub_sat_s`: `0xFD 0x92 0x01`.
+    #[inline(always)]
     pub fn i16x8_sub_sat_s(self) -> Result<InstructionSink<'a, A>, EncodeError>
         ensures emits { Emits self.entry (after_fd 0x92) operands.None result }
         ensures* unchanged { sem 𝓛 (IsUnchangedAtErr A.row A.Allocator self.entry result) }
@@ -180,6 +201,7 @@ impl<'a, A: Allocator> InstructionSink<'a, A> {
     }
 
     /// `i16x8.sub_sat_u`: `0xFD 0x93 0x01`.
+    #[inline(always)]
     pub fn i16x8_sub_sat_u(self) -> Result<InstructionSink<'a, A>, EncodeError>
         ensures emits { Emits self.entry (after_fd 0x93) operands.None result }
         ensures* unchanged { sem 𝓛 (IsUnchangedAtErr A.row A.Allocator self.entry result) }
@@ -188,6 +210,7 @@ impl<'a, A: Allocator> InstructionSink<'a, A> {
     }
 
     /// `i16x8.mul`: `0xFD 0x95 0x01`.
+    #[inline(always)]
     pub fn i16x8_mul(self) -> Result<InstructionSink<'a, A>, EncodeError>
         ensures emits { Emits self.entry (after_fd 0x95) operands.None result }
         ensures* unchanged { sem 𝓛 (IsUnchangedAtErr A.row A.Allocator self.entry result) }
@@ -196,6 +219,7 @@ impl<'a, A: Allocator> InstructionSink<'a, A> {
     }
 
     /// `i16x8.min_s`: `0xFD 0x96 0x01`.
+    #[inline(always)]
     pub fn i16x8_min_s(self) -> Result<InstructionSink<'a, A>, EncodeError>
         ensures emits { Emits self.entry (after_fd 0x96) operands.None result }
         ensures* unchanged { sem 𝓛 (IsUnchangedAtErr A.row A.Allocator self.entry result) }
@@ -204,6 +228,7 @@ impl<'a, A: Allocator> InstructionSink<'a, A> {
     }
 
     /// `i16x8.min_u`: `0xFD 0x97 0x01`.
+    #[inline(always)]
     pub fn i16x8_min_u(self) -> Result<InstructionSink<'a, A>, EncodeError>
         ensures emits { Emits self.entry (after_fd 0x97) operands.None result }
         ensures* unchanged { sem 𝓛 (IsUnchangedAtErr A.row A.Allocator self.entry result) }
@@ -212,6 +237,7 @@ impl<'a, A: Allocator> InstructionSink<'a, A> {
     }
 
     /// `i16x8.max_s`: `0xFD 0x98 0x01`.
+    #[inline(always)]
     pub fn i16x8_max_s(self) -> Result<InstructionSink<'a, A>, EncodeError>
         ensures emits { Emits self.entry (after_fd 0x98) operands.None result }
         ensures* unchanged { sem 𝓛 (IsUnchangedAtErr A.row A.Allocator self.entry result) }
@@ -220,6 +246,7 @@ impl<'a, A: Allocator> InstructionSink<'a, A> {
     }
 
     /// `i16x8.max_u`: `0xFD 0x99 0x01`.
+    #[inline(always)]
     pub fn i16x8_max_u(self) -> Result<InstructionSink<'a, A>, EncodeError>
         ensures emits { Emits self.entry (after_fd 0x99) operands.None result }
         ensures* unchanged { sem 𝓛 (IsUnchangedAtErr A.row A.Allocator self.entry result) }
@@ -228,6 +255,7 @@ impl<'a, A: Allocator> InstructionSink<'a, A> {
     }
 
     /// `i16x8.avgr_u`: `0xFD 0x9B 0x01`.
+    #[inline(always)]
     pub fn i16x8_avgr_u(self) -> Result<InstructionSink<'a, A>, EncodeError>
         ensures emits { Emits self.entry (after_fd 0x9b) operands.None result }
         ensures* unchanged { sem 𝓛 (IsUnchangedAtErr A.row A.Allocator self.entry result) }
@@ -236,6 +264,7 @@ impl<'a, A: Allocator> InstructionSink<'a, A> {
     }
 
     /// `i16x8.extmul_low_i8x16_s`: `0xFD 0x9C 0x01`.
+    #[inline(always)]
     pub fn i16x8_extmul_low_i8x16_s(self) -> Result<InstructionSink<'a, A>, EncodeError>
         ensures emits { Emits self.entry (after_fd 0x9c) operands.None result }
         ensures* unchanged { sem 𝓛 (IsUnchangedAtErr A.row A.Allocator self.entry result) }
@@ -244,6 +273,7 @@ impl<'a, A: Allocator> InstructionSink<'a, A> {
     }
 
     /// `i16x8.extmul_high_i8x16_s`: `0xFD 0x9D 0x01`.
+    #[inline(always)]
     pub fn i16x8_extmul_high_i8x16_s(self) -> Result<InstructionSink<'a, A>, EncodeError>
         ensures emits { Emits self.entry (after_fd 0x9d) operands.None result }
         ensures* unchanged { sem 𝓛 (IsUnchangedAtErr A.row A.Allocator self.entry result) }
@@ -252,6 +282,7 @@ impl<'a, A: Allocator> InstructionSink<'a, A> {
     }
 
     /// `i16x8.extmul_low_i8x16_u`: `0xFD 0x9E 0x01`.
+    #[inline(always)]
     pub fn i16x8_extmul_low_i8x16_u(self) -> Result<InstructionSink<'a, A>, EncodeError>
         ensures emits { Emits self.entry (after_fd 0x9e) operands.None result }
         ensures* unchanged { sem 𝓛 (IsUnchangedAtErr A.row A.Allocator self.entry result) }
@@ -260,6 +291,7 @@ impl<'a, A: Allocator> InstructionSink<'a, A> {
     }
 
     /// `i16x8.extmul_high_i8x16_u`: `0xFD 0x9F 0x01`.
+    #[inline(always)]
     pub fn i16x8_extmul_high_i8x16_u(self) -> Result<InstructionSink<'a, A>, EncodeError>
         ensures emits { Emits self.entry (after_fd 0x9f) operands.None result }
         ensures* unchanged { sem 𝓛 (IsUnchangedAtErr A.row A.Allocator self.entry result) }

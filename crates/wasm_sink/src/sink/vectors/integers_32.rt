@@ -12,6 +12,7 @@ use wasm_instructions::table::Prefix;
 #[tactic(auto, unfolding(wasm_instructions::specs::formats::Opcodes::ranges))]
 impl<'a, A: Allocator> InstructionSink<'a, A> {
     /// `i32x4.extadd_pairwise_i16x8_s`: `0xFD 0x7E`.
+    #[inline(always)]
     pub fn i32x4_extadd_pairwise_i16x8_s(self) -> Result<InstructionSink<'a, A>, EncodeError>
         ensures emits { Emits self.entry (after_fd 0x7e) operands.None result }
         ensures* unchanged { sem 𝓛 (IsUnchangedAtErr A.row A.Allocator self.entry result) }
@@ -20,6 +21,7 @@ impl<'a, A: Allocator> InstructionSink<'a, A> {
     }
 
     /// `i32x4.extadd_pairwise_i16x8_u`: `0xFD 0x7F`.
+    #[inline(always)]
     pub fn i32x4_extadd_pairwise_i16x8_u(self) -> Result<InstructionSink<'a, A>, EncodeError>
         ensures emits { Emits self.entry (after_fd 0x7f) operands.None result }
         ensures* unchanged { sem 𝓛 (IsUnchangedAtErr A.row A.Allocator self.entry result) }
@@ -28,6 +30,7 @@ impl<'a, A: Allocator> InstructionSink<'a, A> {
     }
 
     /// `i32x4.abs`: `0xFD 0xA0 0x01`.
+    #[inline(always)]
     pub fn i32x4_abs(self) -> Result<InstructionSink<'a, A>, EncodeError>
         ensures emits { Emits self.entry (after_fd 0xa0) operands.None result }
         ensures* unchanged { sem 𝓛 (IsUnchangedAtErr A.row A.Allocator self.entry result) }
@@ -36,6 +39,7 @@ impl<'a, A: Allocator> InstructionSink<'a, A> {
     }
 
     /// `i32x4.neg`: `0xFD 0xA1 0x01`.
+    #[inline(always)]
     pub fn i32x4_neg(self) -> Result<InstructionSink<'a, A>, EncodeError>
         ensures emits { Emits self.entry (after_fd 0xa1) operands.None result }
         ensures* unchanged { sem 𝓛 (IsUnchangedAtErr A.row A.Allocator self.entry result) }
@@ -44,6 +48,7 @@ impl<'a, A: Allocator> InstructionSink<'a, A> {
     }
 
     /// `i32x4.all_true`: `0xFD 0xA3 0x01`.
+    #[inline(always)]
     pub fn i32x4_all_true(self) -> Result<InstructionSink<'a, A>, EncodeError>
         ensures emits { Emits self.entry (after_fd 0xa3) operands.None result }
         ensures* unchanged { sem 𝓛 (IsUnchangedAtErr A.row A.Allocator self.entry result) }
@@ -52,6 +57,7 @@ impl<'a, A: Allocator> InstructionSink<'a, A> {
     }
 
     /// `i32x4.bitmask`: `0xFD 0xA4 0x01`.
+    #[inline(always)]
     pub fn i32x4_bitmask(self) -> Result<InstructionSink<'a, A>, EncodeError>
         ensures emits { Emits self.entry (after_fd 0xa4) operands.None result }
         ensures* unchanged { sem 𝓛 (IsUnchangedAtErr A.row A.Allocator self.entry result) }
@@ -60,6 +66,7 @@ impl<'a, A: Allocator> InstructionSink<'a, A> {
     }
 
     /// `i32x4.extend_low_i16x8_s`: `0xFD 0xA7 0x01`.
+    #[inline(always)]
     pub fn i32x4_extend_low_i16x8_s(self) -> Result<InstructionSink<'a, A>, EncodeError>
         ensures emits { Emits self.entry (after_fd 0xa7) operands.None result }
         ensures* unchanged { sem 𝓛 (IsUnchangedAtErr A.row A.Allocator self.entry result) }
@@ -68,6 +75,7 @@ impl<'a, A: Allocator> InstructionSink<'a, A> {
     }
 
     /// `i32x4.extend_high_i16x8_s`: `0xFD 0xA8 0x01`.
+    #[inline(always)]
     pub fn i32x4_extend_high_i16x8_s(self) -> Result<InstructionSink<'a, A>, EncodeError>
         ensures emits { Emits self.entry (after_fd 0xa8) operands.None result }
         ensures* unchanged { sem 𝓛 (IsUnchangedAtErr A.row A.Allocator self.entry result) }
@@ -76,6 +84,7 @@ impl<'a, A: Allocator> InstructionSink<'a, A> {
     }
 
     /// `i32x4.extend_low_i16x8_u`: `0xFD 0xA9 0x01`.
+    #[inline(always)]
     pub fn i32x4_extend_low_i16x8_u(self) -> Result<InstructionSink<'a, A>, EncodeError>
         ensures emits { Emits self.entry (after_fd 0xa9) operands.None result }
         ensures* unchanged { sem 𝓛 (IsUnchangedAtErr A.row A.Allocator self.entry result) }
@@ -84,6 +93,7 @@ impl<'a, A: Allocator> InstructionSink<'a, A> {
     }
 
     /// `i32x4.extend_high_i16x8_u`: `0xFD 0xAA 0x01`.
+    #[inline(always)]
     pub fn i32x4_extend_high_i16x8_u(self) -> Result<InstructionSink<'a, A>, EncodeError>
         ensures emits { Emits self.entry (after_fd 0xaa) operands.None result }
         ensures* unchanged { sem 𝓛 (IsUnchangedAtErr A.row A.Allocator self.entry result) }
@@ -92,6 +102,7 @@ impl<'a, A: Allocator> InstructionSink<'a, A> {
     }
 
     /// `i32x4.shl`: `0xFD 0xAB 0x01`.
+    #[inline(always)]
     pub fn i32x4_shl(self) -> Result<InstructionSink<'a, A>, EncodeError>
         ensures emits { Emits self.entry (after_fd 0xab) operands.None result }
         ensures* unchanged { sem 𝓛 (IsUnchangedAtErr A.row A.Allocator self.entry result) }
@@ -100,6 +111,7 @@ impl<'a, A: Allocator> InstructionSink<'a, A> {
     }
 
     /// `i32x4.shr_s`: `0xFD 0xAC 0x01`.
+    #[inline(always)]
     pub fn i32x4_shr_s(self) -> Result<InstructionSink<'a, A>, EncodeError>
         ensures emits { Emits self.entry (after_fd 0xac) operands.None result }
         ensures* unchanged { sem 𝓛 (IsUnchangedAtErr A.row A.Allocator self.entry result) }
@@ -108,6 +120,7 @@ impl<'a, A: Allocator> InstructionSink<'a, A> {
     }
 
     /// `i32x4.shr_u`: `0xFD 0xAD 0x01`.
+    #[inline(always)]
     pub fn i32x4_shr_u(self) -> Result<InstructionSink<'a, A>, EncodeError>
         ensures emits { Emits self.entry (after_fd 0xad) operands.None result }
         ensures* unchanged { sem 𝓛 (IsUnchangedAtErr A.row A.Allocator self.entry result) }
@@ -116,6 +129,7 @@ impl<'a, A: Allocator> InstructionSink<'a, A> {
     }
 
     /// `i32x4.add`: `0xFD 0xAE 0x01`.
+    #[inline(always)]
     pub fn i32x4_add(self) -> Result<InstructionSink<'a, A>, EncodeError>
         ensures emits { Emits self.entry (after_fd 0xae) operands.None result }
         ensures* unchanged { sem 𝓛 (IsUnchangedAtErr A.row A.Allocator self.entry result) }
@@ -124,6 +138,7 @@ impl<'a, A: Allocator> InstructionSink<'a, A> {
     }
 
     /// `i32x4.sub`: `0xFD 0xB1 0x01`.
+    #[inline(always)]
     pub fn i32x4_sub(self) -> Result<InstructionSink<'a, A>, EncodeError>
         ensures emits { Emits self.entry (after_fd 0xb1) operands.None result }
         ensures* unchanged { sem 𝓛 (IsUnchangedAtErr A.row A.Allocator self.entry result) }
@@ -132,6 +147,7 @@ impl<'a, A: Allocator> InstructionSink<'a, A> {
     }
 
     /// `i32x4.mul`: `0xFD 0xB5 0x01`.
+    #[inline(always)]
     pub fn i32x4_mul(self) -> Result<InstructionSink<'a, A>, EncodeError>
         ensures emits { Emits self.entry (after_fd 0xb5) operands.None result }
         ensures* unchanged { sem 𝓛 (IsUnchangedAtErr A.row A.Allocator self.entry result) }
@@ -140,6 +156,7 @@ impl<'a, A: Allocator> InstructionSink<'a, A> {
     }
 
     /// `i32x4.min_s`: `0xFD 0xB6 0x01`.
+    #[inline(always)]
     pub fn i32x4_min_s(self) -> Result<InstructionSink<'a, A>, EncodeError>
         ensures emits { Emits self.entry (after_fd 0xb6) operands.None result }
         ensures* unchanged { sem 𝓛 (IsUnchangedAtErr A.row A.Allocator self.entry result) }
@@ -148,6 +165,7 @@ impl<'a, A: Allocator> InstructionSink<'a, A> {
     }
 
     /// `i32x4.min_u`: `0xFD 0xB7 0x01`.
+    #[inline(always)]
     pub fn i32x4_min_u(self) -> Result<InstructionSink<'a, A>, EncodeError>
         ensures emits { Emits self.entry (after_fd 0xb7) operands.None result }
         ensures* unchanged { sem 𝓛 (IsUnchangedAtErr A.row A.Allocator self.entry result) }
@@ -156,6 +174,7 @@ impl<'a, A: Allocator> InstructionSink<'a, A> {
     }
 
     /// `i32x4.max_s`: `0xFD 0xB8 0x01`.
+    #[inline(always)]
     pub fn i32x4_max_s(self) -> Result<InstructionSink<'a, A>, EncodeError>
         ensures emits { Emits self.entry (after_fd 0xb8) operands.None result }
         ensures* unchanged { sem 𝓛 (IsUnchangedAtErr A.row A.Allocator self.entry result) }
@@ -164,6 +183,7 @@ impl<'a, A: Allocator> InstructionSink<'a, A> {
     }
 
     /// `i32x4.max_u`: `0xFD 0xB9 0x01`.
+    #[inline(always)]
     pub fn i32x4_max_u(self) -> Result<InstructionSink<'a, A>, EncodeError>
         ensures emits { Emits self.entry (after_fd 0xb9) operands.None result }
         ensures* unchanged { sem 𝓛 (IsUnchangedAtErr A.row A.Allocator self.entry result) }
@@ -172,6 +192,7 @@ impl<'a, A: Allocator> InstructionSink<'a, A> {
     }
 
     /// `i32x4.dot_i16x8_s`: `0xFD 0xBA 0x01`.
+    #[inline(always)]
     pub fn i32x4_dot_i16x8_s(self) -> Result<InstructionSink<'a, A>, EncodeError>
         ensures emits { Emits self.entry (after_fd 0xba) operands.None result }
         ensures* unchanged { sem 𝓛 (IsUnchangedAtErr A.row A.Allocator self.entry result) }
@@ -180,6 +201,7 @@ impl<'a, A: Allocator> InstructionSink<'a, A> {
     }
 
     /// `i32x4.extmul_low_i16x8_s`: `0xFD 0xBC 0x01`.
+    #[inline(always)]
     pub fn i32x4_extmul_low_i16x8_s(self) -> Result<InstructionSink<'a, A>, EncodeError>
         ensures emits { Emits self.entry (after_fd 0xbc) operands.None result }
         ensures* unchanged { sem 𝓛 (IsUnchangedAtErr A.row A.Allocator self.entry result) }
@@ -188,6 +210,7 @@ impl<'a, A: Allocator> InstructionSink<'a, A> {
     }
 
     /// `i32x4.extmul_high_i16x8_s`: `0xFD 0xBD 0x01`.
+    #[inline(always)]
     pub fn i32x4_extmul_high_i16x8_s(self) -> Result<InstructionSink<'a, A>, EncodeError>
         ensures emits { Emits self.entry (after_fd 0xbd) operands.None result }
         ensures* unchanged { sem 𝓛 (IsUnchangedAtErr A.row A.Allocator self.entry result) }
@@ -196,6 +219,7 @@ impl<'a, A: Allocator> InstructionSink<'a, A> {
     }
 
     /// `i32x4.extmul_low_i16x8_u`: `0xFD 0xBE 0x01`.
+    #[inline(always)]
     pub fn i32x4_extmul_low_i16x8_u(self) -> Result<InstructionSink<'a, A>, EncodeError>
         ensures emits { Emits self.entry (after_fd 0xbe) operands.None result }
         ensures* unchanged { sem 𝓛 (IsUnchangedAtErr A.row A.Allocator self.entry result) }
@@ -204,6 +228,7 @@ impl<'a, A: Allocator> InstructionSink<'a, A> {
     }
 
     /// `i32x4.extmul_high_i16x8_u`: `0xFD 0xBF 0x01`.
+    #[inline(always)]
     pub fn i32x4_extmul_high_i16x8_u(self) -> Result<InstructionSink<'a, A>, EncodeError>
         ensures emits { Emits self.entry (after_fd 0xbf) operands.None result }
         ensures* unchanged { sem 𝓛 (IsUnchangedAtErr A.row A.Allocator self.entry result) }
@@ -212,6 +237,7 @@ impl<'a, A: Allocator> InstructionSink<'a, A> {
     }
 
     /// `i32x4.trunc_sat_f32x4_s`: `0xFD 0xF8 0x01`.
+    #[inline(always)]
     pub fn i32x4_trunc_sat_f32x4_s(self) -> Result<InstructionSink<'a, A>, EncodeError>
         ensures emits { Emits self.entry (after_fd 0xf8) operands.None result }
         ensures* unchanged { sem 𝓛 (IsUnchangedAtErr A.row A.Allocator self.entry result) }
@@ -220,6 +246,7 @@ impl<'a, A: Allocator> InstructionSink<'a, A> {
     }
 
     /// `i32x4.trunc_sat_f32x4_u`: `0xFD 0xF9 0x01`.
+    #[inline(always)]
     pub fn i32x4_trunc_sat_f32x4_u(self) -> Result<InstructionSink<'a, A>, EncodeError>
         ensures emits { Emits self.entry (after_fd 0xf9) operands.None result }
         ensures* unchanged { sem 𝓛 (IsUnchangedAtErr A.row A.Allocator self.entry result) }
@@ -228,6 +255,7 @@ impl<'a, A: Allocator> InstructionSink<'a, A> {
     }
 
     /// `i32x4.trunc_sat_f64x2_s_zero`: `0xFD 0xFC 0x01`.
+    #[inline(always)]
     pub fn i32x4_trunc_sat_f64x2_s_zero(self) -> Result<InstructionSink<'a, A>, EncodeError>
         ensures emits { Emits self.entry (after_fd 0xfc) operands.None result }
         ensures* unchanged { sem 𝓛 (IsUnchangedAtErr A.row A.Allocator self.entry result) }
@@ -236,6 +264,7 @@ impl<'a, A: Allocator> InstructionSink<'a, A> {
     }
 
     /// `i32x4.trunc_sat_f64x2_u_zero`: `0xFD 0xFD 0x01`.
+    #[inline(always)]
     pub fn i32x4_trunc_sat_f64x2_u_zero(self) -> Result<InstructionSink<'a, A>, EncodeError>
         ensures emits { Emits self.entry (after_fd 0xfd) operands.None result }
         ensures* unchanged { sem 𝓛 (IsUnchangedAtErr A.row A.Allocator self.entry result) }

@@ -13,6 +13,7 @@ use wasm_instructions::table::Prefix;
 #[tactic(auto, unfolding(wasm_instructions::specs::formats::Opcodes::ranges))]
 impl<'a, A: Allocator> InstructionSink<'a, A> {
     /// `v128.const`: `0xFD 0x0C`, then 16 bytes, the lowest first.
+    #[inline(always)]
     pub fn v128_const(self, value: i128) -> Result<InstructionSink<'a, A>, EncodeError>
         ensures emits { Emits self.entry (after_fd 0x0c) (operands.V128 value) result }
         ensures* unchanged { sem 𝓛 (IsUnchangedAtErr A.row A.Allocator self.entry result) }
@@ -21,6 +22,7 @@ impl<'a, A: Allocator> InstructionSink<'a, A> {
     }
 
     /// `i8x16.shuffle`: `0xFD 0x0D`, then 16 lanes.
+    #[inline(always)]
     pub fn i8x16_shuffle(self, lanes: [Lane; 16]) -> Result<InstructionSink<'a, A>, EncodeError>
         ensures emits { Emits self.entry (after_fd 0x0d) (operands.Shuffle lanes) result }
         ensures* unchanged { sem 𝓛 (IsUnchangedAtErr A.row A.Allocator self.entry result) }
@@ -29,6 +31,7 @@ impl<'a, A: Allocator> InstructionSink<'a, A> {
     }
 
     /// `i8x16.swizzle`: `0xFD 0x0E`.
+    #[inline(always)]
     pub fn i8x16_swizzle(self) -> Result<InstructionSink<'a, A>, EncodeError>
         ensures emits { Emits self.entry (after_fd 0x0e) operands.None result }
         ensures* unchanged { sem 𝓛 (IsUnchangedAtErr A.row A.Allocator self.entry result) }
@@ -37,6 +40,7 @@ impl<'a, A: Allocator> InstructionSink<'a, A> {
     }
 
     /// `i8x16.splat`: `0xFD 0x0F`.
+    #[inline(always)]
     pub fn i8x16_splat(self) -> Result<InstructionSink<'a, A>, EncodeError>
         ensures emits { Emits self.entry (after_fd 0x0f) operands.None result }
         ensures* unchanged { sem 𝓛 (IsUnchangedAtErr A.row A.Allocator self.entry result) }
@@ -45,6 +49,7 @@ impl<'a, A: Allocator> InstructionSink<'a, A> {
     }
 
     /// `i16x8.splat`: `0xFD 0x10`.
+    #[inline(always)]
     pub fn i16x8_splat(self) -> Result<InstructionSink<'a, A>, EncodeError>
         ensures emits { Emits self.entry (after_fd 0x10) operands.None result }
         ensures* unchanged { sem 𝓛 (IsUnchangedAtErr A.row A.Allocator self.entry result) }
@@ -53,6 +58,7 @@ impl<'a, A: Allocator> InstructionSink<'a, A> {
     }
 
     /// `i32x4.splat`: `0xFD 0x11`.
+    #[inline(always)]
     pub fn i32x4_splat(self) -> Result<InstructionSink<'a, A>, EncodeError>
         ensures emits { Emits self.entry (after_fd 0x11) operands.None result }
         ensures* unchanged { sem 𝓛 (IsUnchangedAtErr A.row A.Allocator self.entry result) }
@@ -61,6 +67,7 @@ impl<'a, A: Allocator> InstructionSink<'a, A> {
     }
 
     /// `i64x2.splat`: `0xFD 0x12`.
+    #[inline(always)]
     pub fn i64x2_splat(self) -> Result<InstructionSink<'a, A>, EncodeError>
         ensures emits { Emits self.entry (after_fd 0x12) operands.None result }
         ensures* unchanged { sem 𝓛 (IsUnchangedAtErr A.row A.Allocator self.entry result) }
@@ -69,6 +76,7 @@ impl<'a, A: Allocator> InstructionSink<'a, A> {
     }
 
     /// `f32x4.splat`: `0xFD 0x13`.
+    #[inline(always)]
     pub fn f32x4_splat(self) -> Result<InstructionSink<'a, A>, EncodeError>
         ensures emits { Emits self.entry (after_fd 0x13) operands.None result }
         ensures* unchanged { sem 𝓛 (IsUnchangedAtErr A.row A.Allocator self.entry result) }
@@ -77,6 +85,7 @@ impl<'a, A: Allocator> InstructionSink<'a, A> {
     }
 
     /// `f64x2.splat`: `0xFD 0x14`.
+    #[inline(always)]
     pub fn f64x2_splat(self) -> Result<InstructionSink<'a, A>, EncodeError>
         ensures emits { Emits self.entry (after_fd 0x14) operands.None result }
         ensures* unchanged { sem 𝓛 (IsUnchangedAtErr A.row A.Allocator self.entry result) }
@@ -85,6 +94,7 @@ impl<'a, A: Allocator> InstructionSink<'a, A> {
     }
 
     /// `i8x16.extract_lane_s`: `0xFD 0x15`, then a lane.
+    #[inline(always)]
     pub fn i8x16_extract_lane_s(self, lane: Lane) -> Result<InstructionSink<'a, A>, EncodeError>
         ensures emits { Emits self.entry (after_fd 0x15) (operands.Lane lane) result }
         ensures* unchanged { sem 𝓛 (IsUnchangedAtErr A.row A.Allocator self.entry result) }
@@ -93,6 +103,7 @@ impl<'a, A: Allocator> InstructionSink<'a, A> {
     }
 
     /// `i8x16.extract_lane_u`: `0xFD 0x16`, then a lane.
+    #[inline(always)]
     pub fn i8x16_extract_lane_u(self, lane: Lane) -> Result<InstructionSink<'a, A>, EncodeError>
         ensures emits { Emits self.entry (after_fd 0x16) (operands.Lane lane) result }
         ensures* unchanged { sem 𝓛 (IsUnchangedAtErr A.row A.Allocator self.entry result) }
@@ -101,6 +112,7 @@ impl<'a, A: Allocator> InstructionSink<'a, A> {
     }
 
     /// `i8x16.replace_lane`: `0xFD 0x17`, then a lane.
+    #[inline(always)]
     pub fn i8x16_replace_lane(self, lane: Lane) -> Result<InstructionSink<'a, A>, EncodeError>
         ensures emits { Emits self.entry (after_fd 0x17) (operands.Lane lane) result }
         ensures* unchanged { sem 𝓛 (IsUnchangedAtErr A.row A.Allocator self.entry result) }
@@ -109,6 +121,7 @@ impl<'a, A: Allocator> InstructionSink<'a, A> {
     }
 
     /// `i16x8.extract_lane_s`: `0xFD 0x18`, then a lane.
+    #[inline(always)]
     pub fn i16x8_extract_lane_s(self, lane: Lane) -> Result<InstructionSink<'a, A>, EncodeError>
         ensures emits { Emits self.entry (after_fd 0x18) (operands.Lane lane) result }
         ensures* unchanged { sem 𝓛 (IsUnchangedAtErr A.row A.Allocator self.entry result) }
@@ -117,6 +130,7 @@ impl<'a, A: Allocator> InstructionSink<'a, A> {
     }
 
     /// `i16x8.extract_lane_u`: `0xFD 0x19`, then a lane.
+    #[inline(always)]
     pub fn i16x8_extract_lane_u(self, lane: Lane) -> Result<InstructionSink<'a, A>, EncodeError>
         ensures emits { Emits self.entry (after_fd 0x19) (operands.Lane lane) result }
         ensures* unchanged { sem 𝓛 (IsUnchangedAtErr A.row A.Allocator self.entry result) }
@@ -125,6 +139,7 @@ impl<'a, A: Allocator> InstructionSink<'a, A> {
     }
 
     /// `i16x8.replace_lane`: `0xFD 0x1A`, then a lane.
+    #[inline(always)]
     pub fn i16x8_replace_lane(self, lane: Lane) -> Result<InstructionSink<'a, A>, EncodeError>
         ensures emits { Emits self.entry (after_fd 0x1a) (operands.Lane lane) result }
         ensures* unchanged { sem 𝓛 (IsUnchangedAtErr A.row A.Allocator self.entry result) }
@@ -133,6 +148,7 @@ impl<'a, A: Allocator> InstructionSink<'a, A> {
     }
 
     /// `i32x4.extract_lane`: `0xFD 0x1B`, then a lane.
+    #[inline(always)]
     pub fn i32x4_extract_lane(self, lane: Lane) -> Result<InstructionSink<'a, A>, EncodeError>
         ensures emits { Emits self.entry (after_fd 0x1b) (operands.Lane lane) result }
         ensures* unchanged { sem 𝓛 (IsUnchangedAtErr A.row A.Allocator self.entry result) }
@@ -141,6 +157,7 @@ impl<'a, A: Allocator> InstructionSink<'a, A> {
     }
 
     /// `i32x4.replace_lane`: `0xFD 0x1C`, then a lane.
+    #[inline(always)]
     pub fn i32x4_replace_lane(self, lane: Lane) -> Result<InstructionSink<'a, A>, EncodeError>
         ensures emits { Emits self.entry (after_fd 0x1c) (operands.Lane lane) result }
         ensures* unchanged { sem 𝓛 (IsUnchangedAtErr A.row A.Allocator self.entry result) }
@@ -149,6 +166,7 @@ impl<'a, A: Allocator> InstructionSink<'a, A> {
     }
 
     /// `i64x2.extract_lane`: `0xFD 0x1D`, then a lane.
+    #[inline(always)]
     pub fn i64x2_extract_lane(self, lane: Lane) -> Result<InstructionSink<'a, A>, EncodeError>
         ensures emits { Emits self.entry (after_fd 0x1d) (operands.Lane lane) result }
         ensures* unchanged { sem 𝓛 (IsUnchangedAtErr A.row A.Allocator self.entry result) }
@@ -157,6 +175,7 @@ impl<'a, A: Allocator> InstructionSink<'a, A> {
     }
 
     /// `i64x2.replace_lane`: `0xFD 0x1E`, then a lane.
+    #[inline(always)]
     pub fn i64x2_replace_lane(self, lane: Lane) -> Result<InstructionSink<'a, A>, EncodeError>
         ensures emits { Emits self.entry (after_fd 0x1e) (operands.Lane lane) result }
         ensures* unchanged { sem 𝓛 (IsUnchangedAtErr A.row A.Allocator self.entry result) }
@@ -165,6 +184,7 @@ impl<'a, A: Allocator> InstructionSink<'a, A> {
     }
 
     /// `f32x4.extract_lane`: `0xFD 0x1F`, then a lane.
+    #[inline(always)]
     pub fn f32x4_extract_lane(self, lane: Lane) -> Result<InstructionSink<'a, A>, EncodeError>
         ensures emits { Emits self.entry (after_fd 0x1f) (operands.Lane lane) result }
         ensures* unchanged { sem 𝓛 (IsUnchangedAtErr A.row A.Allocator self.entry result) }
@@ -173,6 +193,7 @@ impl<'a, A: Allocator> InstructionSink<'a, A> {
     }
 
     /// `f32x4.replace_lane`: `0xFD 0x20`, then a lane.
+    #[inline(always)]
     pub fn f32x4_replace_lane(self, lane: Lane) -> Result<InstructionSink<'a, A>, EncodeError>
         ensures emits { Emits self.entry (after_fd 0x20) (operands.Lane lane) result }
         ensures* unchanged { sem 𝓛 (IsUnchangedAtErr A.row A.Allocator self.entry result) }
@@ -181,6 +202,7 @@ impl<'a, A: Allocator> InstructionSink<'a, A> {
     }
 
     /// `f64x2.extract_lane`: `0xFD 0x21`, then a lane.
+    #[inline(always)]
     pub fn f64x2_extract_lane(self, lane: Lane) -> Result<InstructionSink<'a, A>, EncodeError>
         ensures emits { Emits self.entry (after_fd 0x21) (operands.Lane lane) result }
         ensures* unchanged { sem 𝓛 (IsUnchangedAtErr A.row A.Allocator self.entry result) }
@@ -189,6 +211,7 @@ impl<'a, A: Allocator> InstructionSink<'a, A> {
     }
 
     /// `f64x2.replace_lane`: `0xFD 0x22`, then a lane.
+    #[inline(always)]
     pub fn f64x2_replace_lane(self, lane: Lane) -> Result<InstructionSink<'a, A>, EncodeError>
         ensures emits { Emits self.entry (after_fd 0x22) (operands.Lane lane) result }
         ensures* unchanged { sem 𝓛 (IsUnchangedAtErr A.row A.Allocator self.entry result) }

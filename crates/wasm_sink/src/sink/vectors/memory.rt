@@ -14,6 +14,7 @@ use wasm_instructions::table::Prefix;
 #[tactic(auto, unfolding(wasm_instructions::specs::formats::Opcodes::ranges))]
 impl<'a, A: Allocator> InstructionSink<'a, A> {
     /// `v128.load`: `0xFD 0x00`, then a memory argument. `Alignment` where `memarg.align` is 64 or more.
+    #[inline(always)]
     pub fn v128_load(self, memarg: MemArg) -> Result<InstructionSink<'a, A>, EncodeError>
         ensures emits { EmitsAligned self.entry (after_fd 0x00) (operands.Mem memarg) memarg.align result }
         ensures* unchanged { sem 𝓛 (IsUnchangedAtErr A.row A.Allocator self.entry result) }
@@ -22,6 +23,7 @@ impl<'a, A: Allocator> InstructionSink<'a, A> {
     }
 
     /// `v128.load8x8_s`: `0xFD 0x01`, then a memory argument. `Alignment` where `memarg.align` is 64 or more.
+    #[inline(always)]
     pub fn v128_load8x8_s(self, memarg: MemArg) -> Result<InstructionSink<'a, A>, EncodeError>
         ensures emits { EmitsAligned self.entry (after_fd 0x01) (operands.Mem memarg) memarg.align result }
         ensures* unchanged { sem 𝓛 (IsUnchangedAtErr A.row A.Allocator self.entry result) }
@@ -30,6 +32,7 @@ impl<'a, A: Allocator> InstructionSink<'a, A> {
     }
 
     /// `v128.load8x8_u`: `0xFD 0x02`, then a memory argument. `Alignment` where `memarg.align` is 64 or more.
+    #[inline(always)]
     pub fn v128_load8x8_u(self, memarg: MemArg) -> Result<InstructionSink<'a, A>, EncodeError>
         ensures emits { EmitsAligned self.entry (after_fd 0x02) (operands.Mem memarg) memarg.align result }
         ensures* unchanged { sem 𝓛 (IsUnchangedAtErr A.row A.Allocator self.entry result) }
@@ -38,6 +41,7 @@ impl<'a, A: Allocator> InstructionSink<'a, A> {
     }
 
     /// `v128.load16x4_s`: `0xFD 0x03`, then a memory argument. `Alignment` where `memarg.align` is 64 or more.
+    #[inline(always)]
     pub fn v128_load16x4_s(self, memarg: MemArg) -> Result<InstructionSink<'a, A>, EncodeError>
         ensures emits { EmitsAligned self.entry (after_fd 0x03) (operands.Mem memarg) memarg.align result }
         ensures* unchanged { sem 𝓛 (IsUnchangedAtErr A.row A.Allocator self.entry result) }
@@ -46,6 +50,7 @@ impl<'a, A: Allocator> InstructionSink<'a, A> {
     }
 
     /// `v128.load16x4_u`: `0xFD 0x04`, then a memory argument. `Alignment` where `memarg.align` is 64 or more.
+    #[inline(always)]
     pub fn v128_load16x4_u(self, memarg: MemArg) -> Result<InstructionSink<'a, A>, EncodeError>
         ensures emits { EmitsAligned self.entry (after_fd 0x04) (operands.Mem memarg) memarg.align result }
         ensures* unchanged { sem 𝓛 (IsUnchangedAtErr A.row A.Allocator self.entry result) }
@@ -54,6 +59,7 @@ impl<'a, A: Allocator> InstructionSink<'a, A> {
     }
 
     /// `v128.load32x2_s`: `0xFD 0x05`, then a memory argument. `Alignment` where `memarg.align` is 64 or more.
+    #[inline(always)]
     pub fn v128_load32x2_s(self, memarg: MemArg) -> Result<InstructionSink<'a, A>, EncodeError>
         ensures emits { EmitsAligned self.entry (after_fd 0x05) (operands.Mem memarg) memarg.align result }
         ensures* unchanged { sem 𝓛 (IsUnchangedAtErr A.row A.Allocator self.entry result) }
@@ -62,6 +68,7 @@ impl<'a, A: Allocator> InstructionSink<'a, A> {
     }
 
     /// `v128.load32x2_u`: `0xFD 0x06`, then a memory argument. `Alignment` where `memarg.align` is 64 or more.
+    #[inline(always)]
     pub fn v128_load32x2_u(self, memarg: MemArg) -> Result<InstructionSink<'a, A>, EncodeError>
         ensures emits { EmitsAligned self.entry (after_fd 0x06) (operands.Mem memarg) memarg.align result }
         ensures* unchanged { sem 𝓛 (IsUnchangedAtErr A.row A.Allocator self.entry result) }
@@ -70,6 +77,7 @@ impl<'a, A: Allocator> InstructionSink<'a, A> {
     }
 
     /// `v128.load8_splat`: `0xFD 0x07`, then a memory argument. `Alignment` where `memarg.align` is 64 or more.
+    #[inline(always)]
     pub fn v128_load8_splat(self, memarg: MemArg) -> Result<InstructionSink<'a, A>, EncodeError>
         ensures emits { EmitsAligned self.entry (after_fd 0x07) (operands.Mem memarg) memarg.align result }
         ensures* unchanged { sem 𝓛 (IsUnchangedAtErr A.row A.Allocator self.entry result) }
@@ -78,6 +86,7 @@ impl<'a, A: Allocator> InstructionSink<'a, A> {
     }
 
     /// `v128.load16_splat`: `0xFD 0x08`, then a memory argument. `Alignment` where `memarg.align` is 64 or more.
+    #[inline(always)]
     pub fn v128_load16_splat(self, memarg: MemArg) -> Result<InstructionSink<'a, A>, EncodeError>
         ensures emits { EmitsAligned self.entry (after_fd 0x08) (operands.Mem memarg) memarg.align result }
         ensures* unchanged { sem 𝓛 (IsUnchangedAtErr A.row A.Allocator self.entry result) }
@@ -86,6 +95,7 @@ impl<'a, A: Allocator> InstructionSink<'a, A> {
     }
 
     /// `v128.load32_splat`: `0xFD 0x09`, then a memory argument. `Alignment` where `memarg.align` is 64 or more.
+    #[inline(always)]
     pub fn v128_load32_splat(self, memarg: MemArg) -> Result<InstructionSink<'a, A>, EncodeError>
         ensures emits { EmitsAligned self.entry (after_fd 0x09) (operands.Mem memarg) memarg.align result }
         ensures* unchanged { sem 𝓛 (IsUnchangedAtErr A.row A.Allocator self.entry result) }
@@ -94,6 +104,7 @@ impl<'a, A: Allocator> InstructionSink<'a, A> {
     }
 
     /// `v128.load64_splat`: `0xFD 0x0A`, then a memory argument. `Alignment` where `memarg.align` is 64 or more.
+    #[inline(always)]
     pub fn v128_load64_splat(self, memarg: MemArg) -> Result<InstructionSink<'a, A>, EncodeError>
         ensures emits { EmitsAligned self.entry (after_fd 0x0a) (operands.Mem memarg) memarg.align result }
         ensures* unchanged { sem 𝓛 (IsUnchangedAtErr A.row A.Allocator self.entry result) }
@@ -102,6 +113,7 @@ impl<'a, A: Allocator> InstructionSink<'a, A> {
     }
 
     /// `v128.store`: `0xFD 0x0B`, then a memory argument. `Alignment` where `memarg.align` is 64 or more.
+    #[inline(always)]
     pub fn v128_store(self, memarg: MemArg) -> Result<InstructionSink<'a, A>, EncodeError>
         ensures emits { EmitsAligned self.entry (after_fd 0x0b) (operands.Mem memarg) memarg.align result }
         ensures* unchanged { sem 𝓛 (IsUnchangedAtErr A.row A.Allocator self.entry result) }
@@ -111,6 +123,7 @@ impl<'a, A: Allocator> InstructionSink<'a, A> {
 
     /// `v128.load8_lane`: `0xFD 0x54`, then a memory argument and a lane.
     /// `Alignment` where `memarg.align` is 64 or more.
+    #[inline(always)]
     pub fn v128_load8_lane(
         self,
         memarg: MemArg,
@@ -124,6 +137,7 @@ impl<'a, A: Allocator> InstructionSink<'a, A> {
 
     /// `v128.load16_lane`: `0xFD 0x55`, then a memory argument and a lane.
     /// `Alignment` where `memarg.align` is 64 or more.
+    #[inline(always)]
     pub fn v128_load16_lane(
         self,
         memarg: MemArg,
@@ -137,6 +151,7 @@ impl<'a, A: Allocator> InstructionSink<'a, A> {
 
     /// `v128.load32_lane`: `0xFD 0x56`, then a memory argument and a lane.
     /// `Alignment` where `memarg.align` is 64 or more.
+    #[inline(always)]
     pub fn v128_load32_lane(
         self,
         memarg: MemArg,
@@ -150,6 +165,7 @@ impl<'a, A: Allocator> InstructionSink<'a, A> {
 
     /// `v128.load64_lane`: `0xFD 0x57`, then a memory argument and a lane.
     /// `Alignment` where `memarg.align` is 64 or more.
+    #[inline(always)]
     pub fn v128_load64_lane(
         self,
         memarg: MemArg,
@@ -163,6 +179,7 @@ impl<'a, A: Allocator> InstructionSink<'a, A> {
 
     /// `v128.store8_lane`: `0xFD 0x58`, then a memory argument and a lane.
     /// `Alignment` where `memarg.align` is 64 or more.
+    #[inline(always)]
     pub fn v128_store8_lane(
         self,
         memarg: MemArg,
@@ -176,6 +193,7 @@ impl<'a, A: Allocator> InstructionSink<'a, A> {
 
     /// `v128.store16_lane`: `0xFD 0x59`, then a memory argument and a lane.
     /// `Alignment` where `memarg.align` is 64 or more.
+    #[inline(always)]
     pub fn v128_store16_lane(
         self,
         memarg: MemArg,
@@ -189,6 +207,7 @@ impl<'a, A: Allocator> InstructionSink<'a, A> {
 
     /// `v128.store32_lane`: `0xFD 0x5A`, then a memory argument and a lane.
     /// `Alignment` where `memarg.align` is 64 or more.
+    #[inline(always)]
     pub fn v128_store32_lane(
         self,
         memarg: MemArg,
@@ -202,6 +221,7 @@ impl<'a, A: Allocator> InstructionSink<'a, A> {
 
     /// `v128.store64_lane`: `0xFD 0x5B`, then a memory argument and a lane.
     /// `Alignment` where `memarg.align` is 64 or more.
+    #[inline(always)]
     pub fn v128_store64_lane(
         self,
         memarg: MemArg,
@@ -214,6 +234,7 @@ impl<'a, A: Allocator> InstructionSink<'a, A> {
     }
 
     /// `v128.load32_zero`: `0xFD 0x5C`, then a memory argument. `Alignment` where `memarg.align` is 64 or more.
+    #[inline(always)]
     pub fn v128_load32_zero(self, memarg: MemArg) -> Result<InstructionSink<'a, A>, EncodeError>
         ensures emits { EmitsAligned self.entry (after_fd 0x5c) (operands.Mem memarg) memarg.align result }
         ensures* unchanged { sem 𝓛 (IsUnchangedAtErr A.row A.Allocator self.entry result) }
@@ -222,6 +243,7 @@ impl<'a, A: Allocator> InstructionSink<'a, A> {
     }
 
     /// `v128.load64_zero`: `0xFD 0x5D`, then a memory argument. `Alignment` where `memarg.align` is 64 or more.
+    #[inline(always)]
     pub fn v128_load64_zero(self, memarg: MemArg) -> Result<InstructionSink<'a, A>, EncodeError>
         ensures emits { EmitsAligned self.entry (after_fd 0x5d) (operands.Mem memarg) memarg.align result }
         ensures* unchanged { sem 𝓛 (IsUnchangedAtErr A.row A.Allocator self.entry result) }

@@ -12,6 +12,7 @@ use wasm_instructions::table::Prefix;
 #[tactic(auto, unfolding(wasm_instructions::specs::formats::Opcodes::ranges))]
 impl<'a, A: Allocator> InstructionSink<'a, A> {
     /// `i8x16.relaxed_swizzle`: `0xFD 0x80 0x02`.
+    #[inline(always)]
     pub fn i8x16_relaxed_swizzle(self) -> Result<InstructionSink<'a, A>, EncodeError>
         ensures emits { Emits self.entry (after_fd 0x100) operands.None result }
         ensures* unchanged { sem 𝓛 (IsUnchangedAtErr A.row A.Allocator self.entry result) }
@@ -20,6 +21,7 @@ impl<'a, A: Allocator> InstructionSink<'a, A> {
     }
 
     /// `i32x4.relaxed_trunc_f32x4_s`: `0xFD 0x81 0x02`.
+    #[inline(always)]
     pub fn i32x4_relaxed_trunc_f32x4_s(self) -> Result<InstructionSink<'a, A>, EncodeError>
         ensures emits { Emits self.entry (after_fd 0x101) operands.None result }
         ensures* unchanged { sem 𝓛 (IsUnchangedAtErr A.row A.Allocator self.entry result) }
@@ -28,6 +30,7 @@ impl<'a, A: Allocator> InstructionSink<'a, A> {
     }
 
     /// `i32x4.relaxed_trunc_f32x4_u`: `0xFD 0x82 0x02`.
+    #[inline(always)]
     pub fn i32x4_relaxed_trunc_f32x4_u(self) -> Result<InstructionSink<'a, A>, EncodeError>
         ensures emits { Emits self.entry (after_fd 0x102) operands.None result }
         ensures* unchanged { sem 𝓛 (IsUnchangedAtErr A.row A.Allocator self.entry result) }
@@ -36,6 +39,7 @@ impl<'a, A: Allocator> InstructionSink<'a, A> {
     }
 
     /// `i32x4.relaxed_trunc_f64x2_s_zero`: `0xFD 0x83 0x02`.
+    #[inline(always)]
     pub fn i32x4_relaxed_trunc_f64x2_s_zero(self) -> Result<InstructionSink<'a, A>, EncodeError>
         ensures emits { Emits self.entry (after_fd 0x103) operands.None result }
         ensures* unchanged { sem 𝓛 (IsUnchangedAtErr A.row A.Allocator self.entry result) }
@@ -44,6 +48,7 @@ impl<'a, A: Allocator> InstructionSink<'a, A> {
     }
 
     /// `i32x4.relaxed_trunc_f64x2_u_zero`: `0xFD 0x84 0x02`.
+    #[inline(always)]
     pub fn i32x4_relaxed_trunc_f64x2_u_zero(self) -> Result<InstructionSink<'a, A>, EncodeError>
         ensures emits { Emits self.entry (after_fd 0x104) operands.None result }
         ensures* unchanged { sem 𝓛 (IsUnchangedAtErr A.row A.Allocator self.entry result) }
@@ -52,6 +57,7 @@ impl<'a, A: Allocator> InstructionSink<'a, A> {
     }
 
     /// `f32x4.relaxed_madd`: `0xFD 0x85 0x02`.
+    #[inline(always)]
     pub fn f32x4_relaxed_madd(self) -> Result<InstructionSink<'a, A>, EncodeError>
         ensures emits { Emits self.entry (after_fd 0x105) operands.None result }
         ensures* unchanged { sem 𝓛 (IsUnchangedAtErr A.row A.Allocator self.entry result) }
@@ -60,6 +66,7 @@ impl<'a, A: Allocator> InstructionSink<'a, A> {
     }
 
     /// `f32x4.relaxed_nmadd`: `0xFD 0x86 0x02`.
+    #[inline(always)]
     pub fn f32x4_relaxed_nmadd(self) -> Result<InstructionSink<'a, A>, EncodeError>
         ensures emits { Emits self.entry (after_fd 0x106) operands.None result }
         ensures* unchanged { sem 𝓛 (IsUnchangedAtErr A.row A.Allocator self.entry result) }
@@ -68,6 +75,7 @@ impl<'a, A: Allocator> InstructionSink<'a, A> {
     }
 
     /// `f64x2.relaxed_madd`: `0xFD 0x87 0x02`.
+    #[inline(always)]
     pub fn f64x2_relaxed_madd(self) -> Result<InstructionSink<'a, A>, EncodeError>
         ensures emits { Emits self.entry (after_fd 0x107) operands.None result }
         ensures* unchanged { sem 𝓛 (IsUnchangedAtErr A.row A.Allocator self.entry result) }
@@ -76,6 +84,7 @@ impl<'a, A: Allocator> InstructionSink<'a, A> {
     }
 
     /// `f64x2.relaxed_nmadd`: `0xFD 0x88 0x02`.
+    #[inline(always)]
     pub fn f64x2_relaxed_nmadd(self) -> Result<InstructionSink<'a, A>, EncodeError>
         ensures emits { Emits self.entry (after_fd 0x108) operands.None result }
         ensures* unchanged { sem 𝓛 (IsUnchangedAtErr A.row A.Allocator self.entry result) }
@@ -84,6 +93,7 @@ impl<'a, A: Allocator> InstructionSink<'a, A> {
     }
 
     /// `i8x16.relaxed_laneselect`: `0xFD 0x89 0x02`.
+    #[inline(always)]
     pub fn i8x16_relaxed_laneselect(self) -> Result<InstructionSink<'a, A>, EncodeError>
         ensures emits { Emits self.entry (after_fd 0x109) operands.None result }
         ensures* unchanged { sem 𝓛 (IsUnchangedAtErr A.row A.Allocator self.entry result) }
@@ -92,6 +102,7 @@ impl<'a, A: Allocator> InstructionSink<'a, A> {
     }
 
     /// `i16x8.relaxed_laneselect`: `0xFD 0x8A 0x02`.
+    #[inline(always)]
     pub fn i16x8_relaxed_laneselect(self) -> Result<InstructionSink<'a, A>, EncodeError>
         ensures emits { Emits self.entry (after_fd 0x10a) operands.None result }
         ensures* unchanged { sem 𝓛 (IsUnchangedAtErr A.row A.Allocator self.entry result) }
@@ -100,6 +111,7 @@ impl<'a, A: Allocator> InstructionSink<'a, A> {
     }
 
     /// `i32x4.relaxed_laneselect`: `0xFD 0x8B 0x02`.
+    #[inline(always)]
     pub fn i32x4_relaxed_laneselect(self) -> Result<InstructionSink<'a, A>, EncodeError>
         ensures emits { Emits self.entry (after_fd 0x10b) operands.None result }
         ensures* unchanged { sem 𝓛 (IsUnchangedAtErr A.row A.Allocator self.entry result) }
@@ -108,6 +120,7 @@ impl<'a, A: Allocator> InstructionSink<'a, A> {
     }
 
     /// `i64x2.relaxed_laneselect`: `0xFD 0x8C 0x02`.
+    #[inline(always)]
     pub fn i64x2_relaxed_laneselect(self) -> Result<InstructionSink<'a, A>, EncodeError>
         ensures emits { Emits self.entry (after_fd 0x10c) operands.None result }
         ensures* unchanged { sem 𝓛 (IsUnchangedAtErr A.row A.Allocator self.entry result) }
@@ -116,6 +129,7 @@ impl<'a, A: Allocator> InstructionSink<'a, A> {
     }
 
     /// `f32x4.relaxed_min`: `0xFD 0x8D 0x02`.
+    #[inline(always)]
     pub fn f32x4_relaxed_min(self) -> Result<InstructionSink<'a, A>, EncodeError>
         ensures emits { Emits self.entry (after_fd 0x10d) operands.None result }
         ensures* unchanged { sem 𝓛 (IsUnchangedAtErr A.row A.Allocator self.entry result) }
@@ -124,6 +138,7 @@ impl<'a, A: Allocator> InstructionSink<'a, A> {
     }
 
     /// `f32x4.relaxed_max`: `0xFD 0x8E 0x02`.
+    #[inline(always)]
     pub fn f32x4_relaxed_max(self) -> Result<InstructionSink<'a, A>, EncodeError>
         ensures emits { Emits self.entry (after_fd 0x10e) operands.None result }
         ensures* unchanged { sem 𝓛 (IsUnchangedAtErr A.row A.Allocator self.entry result) }
@@ -132,6 +147,7 @@ impl<'a, A: Allocator> InstructionSink<'a, A> {
     }
 
     /// `f64x2.relaxed_min`: `0xFD 0x8F 0x02`.
+    #[inline(always)]
     pub fn f64x2_relaxed_min(self) -> Result<InstructionSink<'a, A>, EncodeError>
         ensures emits { Emits self.entry (after_fd 0x10f) operands.None result }
         ensures* unchanged { sem 𝓛 (IsUnchangedAtErr A.row A.Allocator self.entry result) }
@@ -140,6 +156,7 @@ impl<'a, A: Allocator> InstructionSink<'a, A> {
     }
 
     /// `f64x2.relaxed_max`: `0xFD 0x90 0x02`.
+    #[inline(always)]
     pub fn f64x2_relaxed_max(self) -> Result<InstructionSink<'a, A>, EncodeError>
         ensures emits { Emits self.entry (after_fd 0x110) operands.None result }
         ensures* unchanged { sem 𝓛 (IsUnchangedAtErr A.row A.Allocator self.entry result) }
@@ -148,6 +165,7 @@ impl<'a, A: Allocator> InstructionSink<'a, A> {
     }
 
     /// `i16x8.relaxed_q15mulr_s`: `0xFD 0x91 0x02`.
+    #[inline(always)]
     pub fn i16x8_relaxed_q15mulr_s(self) -> Result<InstructionSink<'a, A>, EncodeError>
         ensures emits { Emits self.entry (after_fd 0x111) operands.None result }
         ensures* unchanged { sem 𝓛 (IsUnchangedAtErr A.row A.Allocator self.entry result) }
@@ -156,6 +174,7 @@ impl<'a, A: Allocator> InstructionSink<'a, A> {
     }
 
     /// `i16x8.relaxed_dot_i8x16_i7x16_s`: `0xFD 0x92 0x02`.
+    #[inline(always)]
     pub fn i16x8_relaxed_dot_i8x16_i7x16_s(self) -> Result<InstructionSink<'a, A>, EncodeError>
         ensures emits { Emits self.entry (after_fd 0x112) operands.None result }
         ensures* unchanged { sem 𝓛 (IsUnchangedAtErr A.row A.Allocator self.entry result) }
@@ -164,6 +183,7 @@ impl<'a, A: Allocator> InstructionSink<'a, A> {
     }
 
     /// `i32x4.relaxed_dot_i8x16_i7x16_add_s`: `0xFD 0x93 0x02`.
+    #[inline(always)]
     pub fn i32x4_relaxed_dot_i8x16_i7x16_add_s(self) -> Result<InstructionSink<'a, A>, EncodeError>
         ensures emits { Emits self.entry (after_fd 0x113) operands.None result }
         ensures* unchanged { sem 𝓛 (IsUnchangedAtErr A.row A.Allocator self.entry result) }
