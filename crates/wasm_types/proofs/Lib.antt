@@ -2,3 +2,4 @@ pub mod TypeFormatLaws
 pub mod WrittenTypes
 pub mod FinalTypes
 pub mod ScannedTypes
+pub mod ShortTypes

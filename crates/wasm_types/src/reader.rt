@@ -1,6 +1,7 @@
 //! Readers of the types that hold no list.
 
 pub mod composite_types;
+mod function_types;
 mod heap_types;
 pub mod type_sections;
 

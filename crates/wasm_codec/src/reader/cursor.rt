@@ -380,6 +380,34 @@ impl<'a> Cursor<'a> {
         Some(number)
     }
 
+    /// Reads a size of one or two bytes, and that many bytes. Returns `None` if the size is longer or exceeds the bytes
+    /// left: then the position is unspecified.
+    #[inline(always)]
+    pub fn short_sized(&mut self) -> Option<&'a [u8]>
+        ensures { IfSome result (λ bytes. body_at self.old ≡ Some (bytes.now, self.new)) }
+    {
+        let size = self.short_u32()? as usize;
+        if self.bytes.len() - self.position < size {
+            return None;
+        }
+        let end = self.position + size;
+        let bytes = &self.bytes[self.position..end];
+        self.position = end;
+        Some(bytes)
+    }
+
+    /// Reads a size of one or two bytes and returns a cursor over that many bytes, which it skips, as `body` does. Returns
+    /// `None` if the size is longer or exceeds the bytes left: then the position is unspecified.
+    #[inline(always)]
+    pub fn short_body(&mut self) -> Option<Cursor<'a>>
+        ensures reads { IfSome result (λ body. body_at self.old ≡ Some (body.left, self.new)) }
+        ensures tells { IfSome result (λ body. body ≡ place self.new.shortest body.left) }
+    {
+        let start = self.to_end();
+        let bytes = self.short_sized()?;
+        Some(Cursor::at(bytes, 0, self.shortest).within(self.to_end(), Some(start)))
+    }
+
     /// Reads a u64 of one byte. Returns `None` and doesn't move if the next number is longer or missing.
     #[inline(always)]
     pub fn short_u64(&mut self) -> Option<u64>

@@ -15,6 +15,7 @@ ghost use Rattle.wasm_types.specs.declared.types.composite.SubType.{SubType};
 ghost use Rattle.wasm_types.specs.declared.types.composite.TypeEntry.{TypeEntry};
 ghost use Rattle.wasm_codec.specs.Rewriter.{Rewrites};
 
+use crate::reader::function_types::read_function_type;
 use crate::reader::{read_field_type, read_val_type};
 use crate::types::{
     ArrayType, CompositeInnerType, CompositeType, ContType, FieldType, FuncType, StructType,
@@ -186,8 +187,21 @@ fn read_with_supertypes(
 }
 
 /// Reads a subtype.
-#[tactic(auto, unfolding(crate::specs::formats::Types::sub_type))]
+#[inline(always)]
 fn read_sub_type(alloc: Global, cursor: &mut Cursor<'_>) -> Result<SubType, Fault>
+    ensures reads { Reads sub_type.at cursor.old cursor.new result }
+{
+    let start = cursor.fork();
+    if let Some(ty) = read_function_type(alloc, cursor)? {
+        return Ok(ty);
+    }
+    *cursor = start;
+    read_any_sub_type(alloc, cursor)
+}
+
+/// Reads a subtype of any form.
+#[tactic(auto, unfolding(crate::specs::formats::Types::sub_type))]
+fn read_any_sub_type(alloc: Global, cursor: &mut Cursor<'_>) -> Result<SubType, Fault>
     ensures reads { Reads sub_type.at cursor.old cursor.new result }
 {
     let first = cursor.peek(Construct::TypeForm)?;
