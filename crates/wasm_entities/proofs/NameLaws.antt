@@ -7,7 +7,7 @@ use Rattle.wasm_codec.specs.formats.Grammar.{IsBytes}
 use Rattle.wasm_codec.specs.Places.{Place, place, u32_at}
 use Rattle.wasm_codec.specs.Lawful.{IsLawful, IsLawfulBody}
 use Rattle.wasm_codec.specs.Rewriter.{Rewriting, rewriting_after}
-use Rattle.wasm_codec.specs.formats.Bodies.{bytes_to_end}
+use Rattle.wasm_codec.specs.formats.Bodies.{bytes_to_end, body_at}
 use Rattle.wasm_codec.specs.Encoding.{IsCount, IsShortest}
 use Rattle.wasm_codec.proofs.Laws.{some_is}
 use Rattle.wasm_codec.proofs.NumberLaws.{written}
@@ -54,6 +54,12 @@ name_refused p mid n text e le is not =
     by : (t : Bool) → is_utf8 text ≡ t → t ≡ false
     by true h = absurd (not (IsUtf8-from_is_utf8 text h))
     by false h = refl
+
+pub short_name_read : (p q : Place) (bytes text : List ℕ) → body_at p ≡ Some (bytes, q) → text ≡ bytes → IsUtf8 bytes → name.at p ≡ Some (text, q)
+unfolding name
+short_name_read p q bytes text e is u =
+    let test : is_utf8 bytes ≡ true = is_utf8-from_IsUtf8 bytes u in
+    rw (is, e, test) refl
 
 pub no_size : (p : Place) → u32_at p ≡ None → name.at p ≡ None
 unfolding name

@@ -38,6 +38,18 @@ pub fn read_name<'a>(cursor: &mut Cursor<'a>) -> Result<&'a str, Fault>
     }
 }
 
+/// Reads a name whose size has one or two bytes. Returns `None` if the size is longer or the name is malformed: then the
+/// position is unspecified.
+#[inline(always)]
+pub fn read_short_name<'a>(cursor: &mut Cursor<'a>) -> Option<&'a str>
+    ensures { IfSome result (λ text. name.at cursor.old ≡ Some (text.now, cursor.new)) }
+{
+    match str::from_utf8(cursor.short_sized()?) {
+        Ok(text) => Some(text),
+        Err(_) => None,
+    }
+}
+
 /// Rewrites a name to its minimal encoding.
 #[tactic(auto, unfolding(crate::specs::formats::Names::name))]
 pub fn rewrite_name(rewriter: &mut Rewriter) -> Result<(), Fault>

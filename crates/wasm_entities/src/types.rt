@@ -209,6 +209,27 @@ pub fn read_entity_type(cursor: &mut Cursor<'_>) -> Result<EntityType, Fault>
     }
 }
 
+/// Reads the type of an import. Returns `None` if it is malformed: then the position is unspecified.
+///
+/// A function, the frequent kind, is read without a fault to hand on.
+#[inline(always)]
+#[tactic(auto, unfolding(crate::specs::formats::Externals::entity_type))]
+pub fn read_frequent_entity_type(cursor: &mut Cursor<'_>) -> Option<EntityType>
+    ensures { IfSome result (λ ty. entity_type.at cursor.old ≡ Some (ty, cursor.new)) }
+{
+    if let Ok(0x00) = cursor.peek(Construct::ImportKind) {
+        cursor.next_byte()?;
+        return match cursor.u32() {
+            Ok(index) => Some(EntityType::Function(index)),
+            Err(_) => None,
+        };
+    }
+    match read_entity_type(cursor) {
+        Ok(ty) => Some(ty),
+        Err(_) => None,
+    }
+}
+
 /// Passes the flags of a global, which have one encoding.
 #[tactic(auto, unfolding(crate::specs::formats::Externals::global_flags))]
 fn rewrite_global_flags(rewriter: &mut Rewriter) -> Result<(), Fault>

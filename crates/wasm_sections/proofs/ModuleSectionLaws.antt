@@ -279,6 +279,9 @@ module _ (old outer body : Place) (is_body : body_at old ≡ Some (body.left, ou
   no_custom view here new (faults.Malformed m) none = sized_none custom_body old outer body.left is_body (ap custom_body.at (sym tells) ∙ custom_refused body none)
   no_custom view here new faults.Memory none = tt
 
+pub custom_section_read : (old mid new : Place) (v : CustomParts) → byte_at old ≡ Some (0, mid) → (sized custom_body).at mid ≡ Some (v, new) → module_section.at old ≡ Some (custom v, new)
+custom_section_read old mid new v first read = custom_kind.at_is old mid first ∙ rw read refl
+
 -- ---- writing
 
 -- a section of this kind has such bodies

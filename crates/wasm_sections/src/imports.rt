@@ -20,9 +20,10 @@ use std::alloc::{Allocator, Global};
 use wasm_codec::encode::{EncodeError, keep_or_undo};
 use wasm_codec::reader::cursor::{Cursor, Fault};
 use wasm_codec::rewriter::{Rewriter, Scanned};
-use wasm_entities::names::{append_name, read_name, rewrite_name, scan_name};
+use wasm_entities::names::{append_name, read_name, read_short_name, rewrite_name, scan_name};
 use wasm_entities::types::{
-    EntityType, put_entity_type, read_entity_type, rewrite_entity_type, scan_entity_type,
+    EntityType, put_entity_type, read_entity_type, read_frequent_entity_type, rewrite_entity_type,
+    scan_entity_type,
 };
 use wasm_lists::encode::Encode;
 use wasm_lists::readable::Readable;
@@ -36,6 +37,19 @@ pub struct Import<'a> {
     pub field: &'a str,
     /// Type of the item.
     pub ty: EntityType,
+}
+
+/// Reads an import whose names are short. Returns `None` if a name is longer or the import is malformed: then the position
+/// is unspecified.
+#[inline(always)]
+#[tactic(auto, unfolding(crate::specs::formats::Entries::import_entry))]
+fn read_short_import<'a>(cursor: &mut Cursor<'a>) -> Option<Import<'a>>
+    ensures { IfSome result (λ import. import_entry.at cursor.old ≡ Some (import_parts import, cursor.new)) }
+{
+    let module = read_short_name(cursor)?;
+    let field = read_short_name(cursor)?;
+    let ty = read_frequent_entity_type(cursor)?;
+    Some(Import { module, field, ty })
 }
 
 /// Reads an import.
@@ -69,6 +83,11 @@ impl<'a> Readable<'a> for Import<'a> {
     {}
 
     fn read(_alloc: Global, cursor: &mut Cursor<'a>) -> Result<Import<'a>, Fault> {
+        let start = cursor.fork();
+        if let Some(import) = read_short_import(cursor) {
+            return Ok(import);
+        }
+        *cursor = start;
         read_import(cursor)
     }
 

@@ -1,5 +1,5 @@
 //! Readers of single decoded sections.
-ghost use Rattle.std.specs.Prelude.{refl};
+ghost use Rattle.std.specs.Prelude.{◌≡◌, Some, IfSome, refl};
 ghost use Rattle.std.proofs.lemmas.List.{map_push};
 ghost use Rattle.wasm_codec.specs.formats.Grammar.{TakesBytes};
 ghost use Rattle.wasm_codec.specs.Lawful.{IsLawful};
@@ -22,7 +22,7 @@ use std::alloc::Global;
 use wasm_codec::reader::cursor::{Cursor, Fault};
 use wasm_codec::reader::malformed::Construct;
 use wasm_codec::rewriter::Rewriter;
-use wasm_entities::names::read_name;
+use wasm_entities::names::{read_name, read_short_name};
 use wasm_lists::list::Items;
 use wasm_lists::readable::Readable;
 use wasm_lists::reading::read_list;
@@ -138,11 +138,45 @@ impl<'a> SectionVisitor for ContentReader<'a> {
 }
 
 /// Reads a section.
-#[tactic(auto, using(crate::proofs::ModuleSectionLaws::read_by_kind, crate::proofs::ModuleSectionLaws::broken_read), unfolding(crate::specs::formats::ModuleSections::module_section))]
 fn read_module_section<'a>(
     alloc: Global,
     cursor: &mut Cursor<'a>,
 ) -> Result<ModuleSection<'a>, Fault>
+    ensures reads { Reads module_section.at cursor.old cursor.new (map_ok module_section_parts result) }
+    // The section is a list that breaks off at the item that a fault names.
+    ensures names { IfInItem result (BreaksInSection cursor.old.left) }
+{
+    let start = cursor.fork();
+    if let Some(section) = read_short_custom(cursor) {
+        return Ok(section);
+    }
+    *cursor = start;
+    read_any_section(alloc, cursor)
+}
+
+/// Reads a custom section whose size has one or two bytes. Returns `None` if the next section is another, longer or
+/// malformed: then the position is unspecified.
+#[inline(always)]
+fn read_short_custom<'a>(cursor: &mut Cursor<'a>) -> Option<ModuleSection<'a>>
+    ensures { IfSome result (λ section. module_section.at cursor.old ≡ Some (module_section_parts section, cursor.new)) }
+{
+    let Some(0) = cursor.next_byte() else {
+        return None;
+    };
+    let mut body = cursor.short_body()?;
+    let name = read_short_name(&mut body)?;
+    match body.take(body.len(), Construct::Body) {
+        Ok(bytes) => {
+            cursor.set_shortest(body.is_shortest());
+            Some(ModuleSection::Custom(CustomSection { name, bytes }))
+        }
+        Err(_) => None,
+    }
+}
+
+/// Reads a section of any kind.
+#[tactic(auto, using(crate::proofs::ModuleSectionLaws::read_by_kind, crate::proofs::ModuleSectionLaws::broken_read), unfolding(crate::specs::formats::ModuleSections::module_section))]
+fn read_any_section<'a>(alloc: Global, cursor: &mut Cursor<'a>) -> Result<ModuleSection<'a>, Fault>
     ensures reads { Reads module_section.at cursor.old cursor.new (map_ok module_section_parts result) }
     // The section is a list that breaks off at the item that a fault names.
     ensures names { IfInItem result (BreaksInSection cursor.old.left) }
