@@ -142,6 +142,27 @@ signed_high most old new n unit end d few le =
     let value : any_signed d.digits ≡ Some (negsuc m) = rw (← d.end_is, le-ltb end 64 le, same, ← d.unit_is, negative) refl in
     rw negative (number_is any_signed signed_leb128 most old new n unit end d (negsuc m) (fewest 64 unit m) value (told true 64 m most old new n unit end d few (omega arith)))
 
+-- the same within a limit
+pub low_within : (limit most : ℕ) (old new : Place) (n unit end : ℕ) → Read most old new n unit end → most ≤ 10 → end < 64 → n < limit → number_at most (signed_within limit) signed_leb128 old ≡ Some (pos n, place (new.shortest && fewest 64 unit n) new.left)
+unfolding signed_leb128
+low_within limit most old new n unit end d few lt within =
+    let same : unsigned d.digits ≡ n = sym d.value_is in
+    let value : signed_within limit d.digits ≡ Some (pos n) = rw (← d.end_is, lt-ltb end 64 lt, same, lt-ltb n limit within) refl in
+    let small : n * 2 < unit = d.low lt in
+    number_is (signed_within limit) signed_leb128 most old new n unit end d (pos n) (fewest 64 unit n) value (told false 64 n most old new n unit end d few (omega arith))
+
+pub high_within : (limit most : ℕ) (old new : Place) (n unit end : ℕ) → Read most old new n unit end → most ≤ 10 → 64 ≤ end → unit - 1 - n < limit → number_at most (signed_within limit) signed_leb128 old ≡ Some (pos n -ℤ pos unit, place (new.shortest && fewest 64 unit (unit - 1 - n)) new.left)
+unfolding signed_leb128
+high_within limit most old new n unit end d few le within =
+    let m = unit - 1 - n in
+    let e : m ≡ unit - 1 - n = refl in
+    let same : unsigned d.digits ≡ n = sym d.value_is in
+    let high : unit ≤ n * 2 = d.high le in
+    let small : n < unit = d.below in
+    let negative : pos n -ℤ pos unit ≡ negsuc m = omega (arith, ints, e) in
+    let value : signed_within limit d.digits ≡ Some (negsuc m) = rw (← d.end_is, le-ltb end 64 le, same, ← d.unit_is, negative, lt-ltb m limit within) refl in
+    rw negative (number_is (signed_within limit) signed_leb128 most old new n unit end d (negsuc m) (fewest 64 unit m) value (told true 64 m most old new n unit end d few (omega arith)))
+
 -- ---- numbers of one byte
 
 digit_at : (most : ℕ) (p q : Place) (b : ℕ) → b < 128 → p ≡ place q.shortest (b ∷ q.left) → digits_at (suc most) p.left ≡ Some (b ∷ [], q.left)

@@ -422,7 +422,7 @@ impl<'a> Cursor<'a> {
 
     /// Reads an s32 of one byte. Returns `None` and doesn't move if the next number is longer or missing.
     #[inline(always)]
-    pub fn short_s32(&mut self) -> Option<i32>
+    fn shortest_s32(&mut self) -> Option<i32>
         ensures reads { IfSome result (λ number. s32_at self.old ≡ Some (number, self.new)) }
         ensures stays { IsNone result → self.new ≡ self.old }
     {
@@ -433,6 +433,29 @@ impl<'a> Cursor<'a> {
             }
             None => None,
         }
+    }
+
+    /// Reads an s32 of one or two bytes. Returns `None` if the next number is longer or cut off: then the position is
+    /// unspecified.
+    #[inline(always)]
+    pub fn short_s32(&mut self) -> Option<i32>
+        ensures { IfSome result (λ number. s32_at self.old ≡ Some (number, self.new)) }
+    {
+        if let Some(number) = self.shortest_s32() {
+            return Some(number);
+        }
+        let first = self.next_byte()?;
+        let last = self.next_byte()?;
+        if first < 128 || last >= 128 {
+            return None;
+        }
+        let unsigned = u16::from(first % 128) + u16::from(last) * 128;
+        if last < 64 {
+            self.keep(is_fewest(64, 16384, u64::from(unsigned)));
+            return Some(i32::from(unsigned));
+        }
+        self.keep(is_fewest(64, 16384, 16383 - u64::from(unsigned)));
+        Some(i32::from(unsigned) - 16384)
     }
 
     /// Reads the digits of a number, at most `most` of them.
@@ -596,7 +619,7 @@ impl<'a> Cursor<'a> {
         ensures reads { Reads s32_at self.old self.new result }
         ensures err { IfErr result IsMalformed }
     {
-        if let Some(number) = self.short_s32() {
+        if let Some(number) = self.shortest_s32() {
             return Ok(number);
         }
         self.long_s32()

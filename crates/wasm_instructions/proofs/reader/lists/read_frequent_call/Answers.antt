@@ -16,7 +16,7 @@ returns c =
       | in-I32+in_ok-short_s32-in-I32 w ↦
           let n = w.in_ok-short_s32-in-I32.field-0 in
           let f : FitsSigned w32 n = search rules in
-          rw (w.in-I32.is, w.cursor-is, w.operands-is, to_z-of_z w32 n f, w.in_ok-short_s32-in-I32.ensures.reads) refl
+          rw (w.in-I32.is, w.cursor-is, w.operands-is, to_z-of_z w32 n f, w.in_ok-short_s32-in-I32.ensures) refl
       | in-Block+in_ok-read_empty_block_type-in-Block w ↦ rw (w.in-Block.is, w.cursor-is, w.operands-is, w.in_ok-read_empty_block_type-in-Block.ensures) refl
     ] in
     rw (c.from_parts.ensures, c.without_prefix-op.ensures) (unprefixed_read c.in_ok-next_byte.field-0 c.in_ok-kind.field-0 c.match-branch-3.operands c.args.cursor.now c.next_byte.new.self c.match-branch-3.cursor c.in_ok-next_byte.ensures is read)
