@@ -11,6 +11,7 @@ pub use Rattle.wasm_codec.specs.Decoding
 pub use Rattle.wasm_lists.specs.Iterators
 pub use Rattle.wasm_codec.specs.Lists
 pub use Rattle.wasm_codec.specs.Rewriter
+pub use Rattle.wasm_codec.specs.Streams
 pub use Rattle.wasm_types.specs.formats.Types as TypeFormats
 pub use Rattle.wasm_types.specs.Types
 pub use Rattle.wasm_types.specs.TypeCounts
