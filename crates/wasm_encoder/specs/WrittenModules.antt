@@ -1,5 +1,5 @@
 -- Modules that are written section by section (WebAssembly Core 3.0, Modules).
-use Rattle.std.specs.Prelude.{◌≡◌, ◌<◌, ◌++◌, ◌∷◌, [], ℕ, List, length, Option, Result, Ok, Err, OnOk, OnErr, IfOk, IfErr}
+use Rattle.std.specs.Prelude.{◌≡◌, ◌++◌, ◌∷◌, [], ℕ, List, Option, Result, Ok, Err, OnOk, IfOk, IfErr}
 use Rattle.std.specs.Io.KnownBytes.{Appends, Keeps}
 use Rattle.wasm_codec.specs.Streams.{AppendsPrefix}
 use Rattle.wasm_codec.specs.declared.encode.EncodeError.{EncodeError}

@@ -3,22 +3,14 @@ use Rattle.std.proofs.Common.{◌≡◌, ◌∙◌, ℕ, ◌<◌, ◌^◌, List,
 use Rattle.std.specs.List.{AllByRecursion, flat_map}
 use Rattle.wasm_codec.specs.Leb128.{unsigned_leb128}
 use Rattle.wasm_codec.specs.Outcomes.{EncodesSome, IsNormalForm}
-use Rattle.wasm_codec.specs.formats.Bodies.{sized}
-use Rattle.wasm_codec.specs.formats.Combinators.{Format, items, minimal_only, u32}
+use Rattle.wasm_codec.specs.formats.Combinators.{Format, minimal_only}
 use Rattle.wasm_codec.specs.formats.Grammar.{IsBytes, Joined}
 use Rattle.wasm_codec.proofs.Laws.{IsBytes-back}
-use Rattle.wasm_types.specs.formats.Types.{recursive_type}
-use Rattle.wasm_modules.specs.formats.CodeBodies.{code_body}
 use Rattle.wasm_modules.specs.formats.Modules.{raw_module, raw_section}
 use Rattle.wasm_modules.specs.formats.Sections.{SectionParts}
 use Rattle.wasm_modules.proofs.ModuleFormatLaws.{Lawful-raw-section}
-use Rattle.wasm_entities.specs.formats.Externals.{memory_type, tag_type}
-use Rattle.wasm_sections.specs.formats.Elements.{element_segment}
-use Rattle.wasm_sections.specs.formats.Entries.{import_entry, table_entry, global_entry, export_entry}
 use Rattle.wasm_sections.specs.formats.ModuleSectionParts.{ModuleSectionParts, custom, types, imports, functions, tables, memories, globals, exports, start, elements, code, data_segments, data_count, tags}
 use Rattle.wasm_sections.specs.formats.ModuleSections.{module_section, whole_module, ShortestWholeModule}
-use Rattle.wasm_sections.specs.formats.Sections.{custom_body}
-use Rattle.wasm_sections.specs.formats.Segments.{data_segment}
 use Rattle.wasm_sections.proofs.ModuleSectionLaws.{IsKind, module_section_is_lawful, whole_module_is_lawful, whole_module_is_minimal, custom_kind, types_kind, imports_kind, functions_kind, tables_kind, memories_kind, globals_kind, exports_kind, start_kind, elements_kind, code_kind, data_segments_kind, data_count_kind, tags_kind}
 
 -- the section is the minimal encoding of some section with its content
