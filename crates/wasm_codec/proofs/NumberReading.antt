@@ -122,46 +122,45 @@ unsigned_none limit most old new n unit end d le =
 abbrev pub any_signed : List ℕ → Option ℤ
 any_signed digits = Some (signed digits)
 
-pub signed_low : (most : ℕ) (old new : Place) (n unit end : ℕ) → Read most old new n unit end → most ≤ 10 → end < 64 → number_at most any_signed signed_leb128 old ≡ Some (pos n, place (new.shortest && fewest 64 unit n) new.left)
-unfolding signed_leb128
-signed_low most old new n unit end d few lt =
-    let same : unsigned d.digits ≡ n = sym d.value_is in
-    let value : any_signed d.digits ≡ Some (pos n) = rw (← d.end_is, lt-ltb end 64 lt, same) refl in
-    let small : n * 2 < unit = d.low lt in
-    number_is any_signed signed_leb128 most old new n unit end d (pos n) (fewest 64 unit n) value (told false 64 n most old new n unit end d few (omega arith))
+below_zero : (n unit : ℕ) → n < unit → pos n -ℤ pos unit ≡ negsuc (unit - 1 - n)
+below_zero n unit lt = omega (arith, ints, lt)
 
-pub signed_high : (most : ℕ) (old new : Place) (n unit end : ℕ) → Read most old new n unit end → most ≤ 10 → 64 ≤ end → number_at most any_signed signed_leb128 old ≡ Some (pos n -ℤ pos unit, place (new.shortest && fewest 64 unit (unit - 1 - n)) new.left)
+-- a signed number whose last digit is low
+low_is : (value : List ℕ → Option ℤ) (most : ℕ) (old new : Place) (n unit end : ℕ) (d : Read most old new n unit end) → most ≤ 10 → end < 64 → value d.digits ≡ Some (pos n) → number_at most value signed_leb128 old ≡ Some (pos n, place (new.shortest && fewest 64 unit n) new.left)
 unfolding signed_leb128
-signed_high most old new n unit end d few le =
+low_is value most old new n unit end d few lt is =
+    let small : n * 2 < unit = d.low lt in
+    number_is value signed_leb128 most old new n unit end d (pos n) (fewest 64 unit n) is (told false 64 n most old new n unit end d few (omega arith))
+
+-- one whose last digit is high
+high_is : (value : List ℕ → Option ℤ) (most : ℕ) (old new : Place) (n unit end : ℕ) (d : Read most old new n unit end) → most ≤ 10 → 64 ≤ end → value d.digits ≡ Some (negsuc (unit - 1 - n)) → number_at most value signed_leb128 old ≡ Some (pos n -ℤ pos unit, place (new.shortest && fewest 64 unit (unit - 1 - n)) new.left)
+unfolding signed_leb128
+high_is value most old new n unit end d few le is =
     let m = unit - 1 - n in
-    let e : m ≡ unit - 1 - n = refl in
-    let same : unsigned d.digits ≡ n = sym d.value_is in
     let high : unit ≤ n * 2 = d.high le in
     let small : n < unit = d.below in
-    let negative : pos n -ℤ pos unit ≡ negsuc m = omega (arith, ints, e) in
-    let value : any_signed d.digits ≡ Some (negsuc m) = rw (← d.end_is, le-ltb end 64 le, same, ← d.unit_is, negative) refl in
-    rw negative (number_is any_signed signed_leb128 most old new n unit end d (negsuc m) (fewest 64 unit m) value (told true 64 m most old new n unit end d few (omega arith)))
+    rw (below_zero n unit small) (number_is value signed_leb128 most old new n unit end d (negsuc m) (fewest 64 unit m) is (told true 64 m most old new n unit end d few (omega arith)))
+
+pub signed_low : (most : ℕ) (old new : Place) (n unit end : ℕ) → Read most old new n unit end → most ≤ 10 → end < 64 → number_at most any_signed signed_leb128 old ≡ Some (pos n, place (new.shortest && fewest 64 unit n) new.left)
+signed_low most old new n unit end d few lt =
+    let same : unsigned d.digits ≡ n = sym d.value_is in
+    low_is any_signed most old new n unit end d few lt (rw (← d.end_is, lt-ltb end 64 lt, same) refl)
+
+pub signed_high : (most : ℕ) (old new : Place) (n unit end : ℕ) → Read most old new n unit end → most ≤ 10 → 64 ≤ end → number_at most any_signed signed_leb128 old ≡ Some (pos n -ℤ pos unit, place (new.shortest && fewest 64 unit (unit - 1 - n)) new.left)
+signed_high most old new n unit end d few le =
+    let same : unsigned d.digits ≡ n = sym d.value_is in
+    high_is any_signed most old new n unit end d few le (rw (← d.end_is, le-ltb end 64 le, same, ← d.unit_is, below_zero n unit d.below) refl)
 
 -- the same within a limit
 pub low_within : (limit most : ℕ) (old new : Place) (n unit end : ℕ) → Read most old new n unit end → most ≤ 10 → end < 64 → n < limit → number_at most (signed_within limit) signed_leb128 old ≡ Some (pos n, place (new.shortest && fewest 64 unit n) new.left)
-unfolding signed_leb128
 low_within limit most old new n unit end d few lt within =
     let same : unsigned d.digits ≡ n = sym d.value_is in
-    let value : signed_within limit d.digits ≡ Some (pos n) = rw (← d.end_is, lt-ltb end 64 lt, same, lt-ltb n limit within) refl in
-    let small : n * 2 < unit = d.low lt in
-    number_is (signed_within limit) signed_leb128 most old new n unit end d (pos n) (fewest 64 unit n) value (told false 64 n most old new n unit end d few (omega arith))
+    low_is (signed_within limit) most old new n unit end d few lt (rw (← d.end_is, lt-ltb end 64 lt, same, lt-ltb n limit within) refl)
 
 pub high_within : (limit most : ℕ) (old new : Place) (n unit end : ℕ) → Read most old new n unit end → most ≤ 10 → 64 ≤ end → unit - 1 - n < limit → number_at most (signed_within limit) signed_leb128 old ≡ Some (pos n -ℤ pos unit, place (new.shortest && fewest 64 unit (unit - 1 - n)) new.left)
-unfolding signed_leb128
 high_within limit most old new n unit end d few le within =
-    let m = unit - 1 - n in
-    let e : m ≡ unit - 1 - n = refl in
     let same : unsigned d.digits ≡ n = sym d.value_is in
-    let high : unit ≤ n * 2 = d.high le in
-    let small : n < unit = d.below in
-    let negative : pos n -ℤ pos unit ≡ negsuc m = omega (arith, ints, e) in
-    let value : signed_within limit d.digits ≡ Some (negsuc m) = rw (← d.end_is, le-ltb end 64 le, same, ← d.unit_is, negative, lt-ltb m limit within) refl in
-    rw negative (number_is (signed_within limit) signed_leb128 most old new n unit end d (negsuc m) (fewest 64 unit m) value (told true 64 m most old new n unit end d few (omega arith)))
+    high_is (signed_within limit) most old new n unit end d few le (rw (← d.end_is, le-ltb end 64 le, same, ← d.unit_is, below_zero n unit d.below, lt-ltb (unit - 1 - n) limit within) refl)
 
 -- ---- numbers of one byte
 

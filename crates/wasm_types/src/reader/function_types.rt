@@ -50,6 +50,7 @@ fn are_number_types(bytes: &[u8]) -> bool
 
 /// Returns the number or vector type that this byte alone is.
 #[inline(always)]
+#[tactic(auto, unfolding(crate::specs::formats::Types::val_type, wasm_codec::specs::Places::byte_at))]
 fn number_type(byte: u8) -> ValType
     requires { (0x7b ≤ byte) × (byte ≤ 0x7f) }
     ensures { (shortest : Bool) → (more : List ℕ) → val_type.at (place shortest (byte ∷ more)) ≡ Some (result, place shortest more) }
