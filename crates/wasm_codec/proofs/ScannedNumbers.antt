@@ -102,7 +102,7 @@ magnitude_from_two turn (a ∷ c ∷ front) b some le =
 -- ---- as few digits as there can be
 
 -- digits that stand for a number, where one less can't
-pub fewest_stand : (turn : Bool) (top k n : ℕ) (digits : List ℕ) → top ≤ 128 → n < top * 128 ^ 9 → k < 9 → Stands turn top digits n → (k ≡ 0 ⊎ (0 < k × (top * 128 ^ (k - 1) ≤ n))) → length digits ≡ suc k → digits ≡ digits_of turn top 9 n
+pub fewest_stand : (turn : Bool) (top k n : ℕ) (digits : List ℕ) → top ≤ 128 → n < top * 128 ^ 9 → k < 10 → Stands turn top digits n → (k ≡ 0 ⊎ (0 < k × (top * 128 ^ (k - 1) ≤ n))) → length digits ≡ suc k → digits ≡ digits_of turn top 9 n
 fewest_stand turn top k n digits wide room few h at_least len = elim (digits_least turn top 9 digits n wide room h) [
   | inl same ↦ same
   | inr less ↦ elim at_least [
@@ -186,7 +186,7 @@ record Cutting (signed : Bool) (most limit : ℕ) (front : List ℕ) (end : ℕ)
   few : length front ≤ most
   more_kept : AreMore begin
   small_kept : last < 128
-  few_kept : length begin < 9
+  few_kept : length begin < 10
   below : magnitude (turns signed last) (begin ++ last ∷ []) < limit
   fewest : AreFewest signed begin last
   is_same : SameNumber signed front end begin last
@@ -256,7 +256,7 @@ signed_is : (turn : Bool) (front : List ℕ) (end : ℕ) → leb 64 end ≡ turn
 signed_is true front end is = signed_high (front ++ end ∷ []) (rw (last-is front end) (leb-true _ _ is))
 signed_is false front end is = signed_low (front ++ end ∷ []) (rw (last-is front end) (leb-false _ _ is))
 
-signed_least : (turn : Bool) (front : List ℕ) (end : ℕ) → end < 128 → leb 64 end ≡ turn → AreFewest true front end → AreMore front → length front < 9 → magnitude turn (front ++ end ∷ []) < 64 * 128 ^ 9 → front ++ end ∷ [] ≡ signed_leb128 (signed_by turn (magnitude turn (front ++ end ∷ [])))
+signed_least : (turn : Bool) (front : List ℕ) (end : ℕ) → end < 128 → leb 64 end ≡ turn → AreFewest true front end → AreMore front → length front < 10 → magnitude turn (front ++ end ∷ []) < 64 * 128 ^ 9 → front ++ end ∷ [] ≡ signed_leb128 (signed_by turn (magnitude turn (front ++ end ∷ [])))
 unfolding signed_leb128
 signed_least true front end lt is fewest more few room =
     fewest_stand true 64 (length front) (magnitude true (front ++ end ∷ [])) (front ++ end ∷ []) (omega arith) room few (record { are = digits_are front end more lt; ends = rw (last-is front end) (omega (arith, leb-true _ _ is)); value = refl }) (signed_at_least true front end lt is fewest) (digits-length front end)
@@ -300,7 +300,6 @@ record Bounds (most top limit : ℕ) : Type 0 where
   wide : 128 ^ most ≤ limit
   tops : top * 128 ^ most ≤ limit
   few : most ≤ 9
-  fewer : 0 < top → most < 9
 
 -- the last of the most digits is below top
 top_below : (turn : Bool) (most top limit : ℕ) (front : List ℕ) (end : ℕ) → Bounds most top limit → length front ≤ most → end < 128 → complemented turn end < top → magnitude turn (front ++ end ∷ []) < limit
@@ -337,7 +336,7 @@ short_scanned {V} {F} law signed most top limit b finds bytes count s =
       few = omega (arith, len, d.few, d.count_is);
       more_kept = d.more;
       small_kept = d.small;
-      few_kept = few_there s.fewer;
+      few_kept = omega (arith, s.digits.few, s.digits.count_is, b.few, len_there);
       below = below_there s.fewer;
       fewest = s.fewest;
       is_same = same_again signed (take i bytes) (get_or bytes i 0);
@@ -350,10 +349,6 @@ short_scanned {V} {F} law signed most top limit b finds bytes count s =
 
     len_there : length (take s.before bytes) ≡ s.before
     len_there = length-take-le s.before bytes (omega (arith, s.digits.within))
-
-    few_there : (count < suc most) ⊎ (complemented (turns signed end) end < top) → length (take s.before bytes) < 9
-    few_there (inl lt) = omega (arith, lt, s.digits.count_is, b.few, len_there)
-    few_there (inr low) = omega (arith, s.digits.few, s.digits.count_is, b.fewer (omega (arith, low)), len_there)
 
     below_there : (count < suc most) ⊎ (complemented (turns signed end) end < top) → magnitude (turns signed end) (take s.before bytes ++ end ∷ []) < limit
     below_there (inl lt) = omega (arith, few_below (turns signed end) most (take s.before bytes) end (omega (arith, lt, s.digits.count_is, len_there)), b.wide)
@@ -410,16 +405,26 @@ digits_scanned {V} {F} law signed most top limit b finds bytes (Some (scanned.Pa
 
 pub u32_scanned : (bytes : List ℕ) (r : Option Scanned) → ScansDigits false 5 16 bytes r → Scans u32 bytes r
 unfolding EncodesU32
-u32_scanned = digits_scanned Lawful-u32 false 4 16 (2 ^ 32) (record { wide = lit≤ tt; tops = lit≤ tt; few = omega arith; fewer = λ lt. omega (arith, lt) }) (unsigned_found 4 (2 ^ 32) (lit≤ tt))
+u32_scanned = digits_scanned Lawful-u32 false 4 16 (2 ^ 32) (record { wide = lit≤ tt; tops = lit≤ tt; few = omega arith }) (unsigned_found 4 (2 ^ 32) (lit≤ tt))
 
-pub u64_scanned : (bytes : List ℕ) (r : Option Scanned) → ScansDigits false 10 0 bytes r → Scans u64 bytes r
+pub short_u32_scanned : (bytes : List ℕ) (count : ℕ) → IsShortNumber false 2 128 bytes count → Scans u32 bytes (Some (scanned.Shortest count))
+short_u32_scanned bytes count s =
+    let d = s.digits in
+    u32_scanned bytes (Some (scanned.Shortest count)) (record {
+      before = s.before;
+      digits = record { count_is = d.count_is; few = omega (arith, d.few); within = d.within; more = d.more; small = d.small };
+      fewer = inl (omega (arith, d.few));
+      fewest = s.fewest;
+    })
+
+pub u64_scanned : (bytes : List ℕ) (r : Option Scanned) → ScansDigits false 10 2 bytes r → Scans u64 bytes r
 unfolding EncodesU64
-u64_scanned = digits_scanned Lawful-u64 false 9 0 (2 ^ 64) (record { wide = lit≤ tt; tops = lit≤ tt; few = omega arith; fewer = λ lt. omega (arith, lt) }) (unsigned_found 9 (2 ^ 64) (lit≤ tt))
+u64_scanned = digits_scanned Lawful-u64 false 9 2 (2 ^ 64) (record { wide = lit≤ tt; tops = lit≤ tt; few = omega arith }) (unsigned_found 9 (2 ^ 64) (lit≤ tt))
 
 pub s32_scanned : (bytes : List ℕ) (r : Option Scanned) → ScansDigits true 5 8 bytes r → Scans s32 bytes r
 unfolding EncodesS32
-s32_scanned = digits_scanned Lawful-s32 true 4 8 (2 ^ 31) (record { wide = lit≤ tt; tops = lit≤ tt; few = omega arith; fewer = λ lt. omega (arith, lt) }) (signed_found 4 (2 ^ 31) (lit≤ tt))
+s32_scanned = digits_scanned Lawful-s32 true 4 8 (2 ^ 31) (record { wide = lit≤ tt; tops = lit≤ tt; few = omega arith }) (signed_found 4 (2 ^ 31) (lit≤ tt))
 
-pub s64_scanned : (bytes : List ℕ) (r : Option Scanned) → ScansDigits true 10 0 bytes r → Scans s64 bytes r
+pub s64_scanned : (bytes : List ℕ) (r : Option Scanned) → ScansDigits true 10 1 bytes r → Scans s64 bytes r
 unfolding EncodesS64
-s64_scanned = digits_scanned Lawful-s64 true 9 0 (2 ^ 63) (record { wide = lit≤ tt; tops = lit≤ tt; few = omega arith; fewer = λ lt. omega (arith, lt) }) (signed_found 9 (2 ^ 63) (lit≤ tt))
+s64_scanned = digits_scanned Lawful-s64 true 9 1 (2 ^ 63) (record { wide = lit≤ tt; tops = lit≤ tt; few = omega arith }) (signed_found 9 (2 ^ 63) (lit≤ tt))

@@ -104,6 +104,25 @@ call_scanned [] k s some is r = absurd (omega arith)
 call_scanned (first ∷ bytes) k s some is r = behind (operands_format k) instruction first bytes (λ v t left e.
     (call (without_prefix first) v, (rw (one_byte first bytes true (no_prefix first k is), is, e) refl, ap (λ (k : Kind). first ∷ (operands_format k).bytes v) (of_kind k (place true bytes) v (place t left) e)))) s r
 
+-- the opcodes from local.get to table.set take an index
+variable_kind : (i : ℕ) → i < 7 → opcode_kind (without_prefix (0x20 + i)) ≡ Some kinds.Index
+unfolding ranges
+variable_kind zero lt = refl
+variable_kind (suc zero) lt = refl
+variable_kind (suc (suc zero)) lt = refl
+variable_kind (suc (suc (suc zero))) lt = refl
+variable_kind (suc (suc (suc (suc zero)))) lt = refl
+variable_kind (suc (suc (suc (suc (suc zero))))) lt = refl
+variable_kind (suc (suc (suc (suc (suc (suc zero)))))) lt = refl
+variable_kind (suc (suc (suc (suc (suc (suc (suc i))))))) lt = absurd (omega arith)
+
+pub variable_scanned : (bytes : List ℕ) (count : ℕ) → 0 < length bytes → 0x20 ≤ get_or bytes 0 0 → get_or bytes 0 0 ≤ 0x26 → Scans u32 (take (length bytes - 1) (drop 1 bytes)) (Some (scanned.Shortest count)) → Scans instruction bytes (Some (scanned.Shortest (1 + count)))
+variable_scanned bytes count some from to r =
+    let b = get_or bytes 0 0 in
+    let at : 0x20 + (b - 0x20) ≡ b = omega (arith, from) in
+    let kind = subst (λ (n : ℕ). opcode_kind (without_prefix n) ≡ Some kinds.Index) at (variable_kind (b - 0x20) (omega (arith, to, from))) in
+    call_scanned bytes kinds.Index (scanned.Shortest count) some kind (index_scanned (drop 1 bytes) (Some (scanned.Shortest count)) (behind_first u32 bytes (scanned.Shortest count) r))
+
 mem_arg_there : (align : ℕ) (bytes : List ℕ) (offset : ℕ) (s : Bool) (left : List ℕ) → align < 64 → u64.at (place true bytes) ≡ Some (offset, place s left) → (w : MemArg) × ((mem_arg.at (place true (align ∷ bytes)) ≡ Some (w, place s left)) × (mem_arg.bytes w ≡ align ∷ u64.bytes offset))
 unfolding mem_arg
 mem_arg_there align bytes offset s left lt e = (

@@ -10,7 +10,7 @@ mod operands;
 mod scan;
 
 use crate::normaliser::operands::rewrite_operands;
-use crate::normaliser::scan::{scan_call, scan_rare_call};
+use crate::normaliser::scan::{scan_call, scan_frequent_call, scan_rare_call};
 use crate::table::{Call, Opcode};
 use std::alloc::Global;
 use wasm_codec::reader::cursor::Fault;
@@ -92,6 +92,11 @@ impl Joinable for Call {
     #[inline(always)]
     fn scan(bytes: &[u8]) -> Option<Scanned> {
         scan_call(bytes)
+    }
+
+    #[inline(always)]
+    fn scan_frequent(bytes: &[u8]) -> Option<usize> {
+        scan_frequent_call(bytes)
     }
 }
 

@@ -1,5 +1,5 @@
 //! Lists and bodies, rewritten in place.
-ghost use Rattle.std.specs.Prelude.{◌≡◌, ◌<◌, ⊤, List, ℕ, length, true, false, Some, IsNone, IfOk, IfErr};
+ghost use Rattle.std.specs.Prelude.{◌≡◌, ◌-◌, ◌<◌, ◌≤◌, ⊤, List, ℕ, length, true, false, Some, IfSome, IsNone, IfOk, IfErr};
 ghost use Rattle.std.specs.List.{flat_map};
 ghost use Rattle.wasm_codec.specs.formats.Grammar.{TakesBytes, Joined};
 ghost use Rattle.wasm_codec.specs.Outcomes.{IfMalformed, IfInItem, LiesIn, NamesItem, as_read, IfRefused, NeedsNoMemory, IsLongestPrefix, IsNormalForm, EncodesSome};
@@ -8,6 +8,7 @@ ghost use Rattle.wasm_codec.specs.Lists.{BreaksAtItem, BreaksInBody, CountsItems
 ghost use Rattle.wasm_codec.specs.formats.Combinators.{Format, items, u32 as u32_format};
 ghost use Rattle.wasm_codec.specs.formats.Bodies.{sized, to_end};
 ghost use Rattle.wasm_codec.specs.Scanning.{BeginsShort, Scans, SkipsMinimal};
+ghost use Rattle.wasm_codec.specs.declared.rewriter.scan.Scanned.TheVariants.{Shortest};
 ghost use Rattle.wasm_codec.specs.Rewriter.{CountsPassed, Rewrites, RewritesAll, RewritesList, StopsInItem};
 
 mod numbers;
@@ -57,6 +58,15 @@ pub trait Joinable: Rewritable {
     fn scan(bytes: &[u8]) -> Option<Scanned>
         ensures scans { Scans Self.format bytes.now result }
         ensures never { NeverScans → IsNone result };
+
+    /// Returns the length of the item that the bytes begin with, if it is of a frequent kind and minimally encoded. By
+    /// default no kind is frequent.
+    fn scan_frequent(bytes: &[u8]) -> Option<usize>
+        ensures scans { IfSome result (λ count. Scans Self.format bytes.now (Some (Shortest count))) }
+        ensures never { NeverScans → IsNone result }
+    {
+        None
+    }
 }
 
 impl Rewritable for u32 {
@@ -225,9 +235,10 @@ fn short_run<T: Joinable>(bytes: &[u8]) -> usize
     ensures never { T.NeverScans → result ≡ 0 }
 {
     // With 16 bytes ahead, the compiler drops most length checks.
-    let run = short_run_ahead::<T, 16>(bytes, 0);
-    if bytes.len() - run < 16 {
-        short_run_ahead::<T, 1>(bytes, run)
+    let left = left_after_run::<T, 16>(bytes, 0);
+    let run = bytes.len() - left;
+    if left < 16 {
+        bytes.len() - left_after_run::<T, 1>(bytes, run)
     } else {
         run
     }
@@ -243,7 +254,7 @@ pub fn begins_run<T: Joinable>(bytes: &[u8], count: usize) -> bool
     are_bytes(bytes);
     let mut run = 0;
     while run < count && run + 16 <= bytes.len() {
-        let Some(Scanned::Shortest(count)) = T::scan(&bytes[run..run + 16]) else {
+        let Some(count) = scan_short::<T>(&bytes[run..run + 16]) else {
             return false;
         };
         run += count;
@@ -251,28 +262,46 @@ pub fn begins_run<T: Joinable>(bytes: &[u8], count: usize) -> bool
     run == count
 }
 
-/// Extends a run that has `begun` bytes, while at least `AHEAD` bytes follow.
+/// Returns the length of the item that the bytes begin with. Returns `None` unless it is scanned and minimally encoded.
+#[inline(always)]
+fn scan_short<T: Joinable>(bytes: &[u8]) -> Option<usize>
+    ensures scans { IfSome result (λ count. Scans T.format bytes.now (Some (Shortest count))) }
+    ensures never { T.NeverScans → IsNone result }
+{
+    // Tests for the frequent kinds alone are predicted better than a jump to one of all kinds.
+    if let Some(count) = T::scan_frequent(bytes) {
+        return Some(count);
+    }
+    match T::scan(bytes)? {
+        Scanned::Shortest(count) => Some(count),
+        Scanned::Padded { .. } => None,
+    }
+}
+
+/// Extends a run that has `begun` bytes, while at least `AHEAD` bytes follow. Returns the number of bytes after the run:
+/// with its length, the loop would copy a register in each turn.
 #[inline(never)]
-fn short_run_ahead<T: Joinable, const AHEAD: usize>(bytes: &[u8], begun: usize) -> usize
+fn left_after_run<T: Joinable, const AHEAD: usize>(bytes: &[u8], begun: usize) -> usize
     requires { BeginsShort T.format bytes.now begun }
-    ensures begins { BeginsShort T.format bytes.now result }
-    ensures never { T.NeverScans → result ≡ begun }
+    ensures within { result ≤ length bytes.now }
+    ensures begins { BeginsShort T.format bytes.now (length bytes.now - result) }
+    ensures never { T.NeverScans → length bytes.now - result ≡ begun }
 {
     T::is_lawful();
     are_bytes(bytes);
     let mut run = begun;
     if bytes.len() < AHEAD {
-        return run;
+        return bytes.len() - run;
     }
     let last = bytes.len() - AHEAD;
     while run <= last {
         let end = if AHEAD > 1 { run + AHEAD } else { bytes.len() };
-        let Some(Scanned::Shortest(count)) = T::scan(&bytes[run..end]) else {
-            return run;
+        let Some(count) = scan_short::<T>(&bytes[run..end]) else {
+            break;
         };
         run += count;
     }
-    run
+    bytes.len() - run
 }
 
 /// Returns the minimal encoding of the items that the bytes encode one after another, without a count.

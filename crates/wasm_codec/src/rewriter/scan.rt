@@ -1,6 +1,7 @@
 //! Scanning of items: it finds the end of an item and its minimal encoding without decoding it.
-ghost use Rattle.std.specs.Prelude.{◌≡◌, ◌-◌, ◌<◌, ◌≤◌, ◌^◌, length, take, true};
+ghost use Rattle.std.specs.Prelude.{◌≡◌, ◌-◌, ◌<◌, ◌≤◌, ◌^◌, length, take, true, Some, IfSome};
 ghost use Rattle.wasm_codec.specs.Scanning.{AreLow, IsWithin, KeepsDigits, Scans, ScansDigits, behind_byte, repeats};
+ghost use Rattle.wasm_codec.specs.declared.rewriter.scan.Scanned.TheVariants.{Shortest};
 ghost use Rattle.wasm_codec.specs.formats.Combinators.{u32 as u32_format, u64 as u64_format, s32 as s32_format, s64 as s64_format};
 
 use crate::encode::leb128::complemented;
@@ -81,6 +82,11 @@ fn scan_digits(bytes: &[u8], signed: bool, most: usize, top: u8) -> Option<Scann
             return None;
         }
         let byte = bytes[index];
+        if signed && byte >= 128 {
+            // Only a last digit can be redundant. In an unsigned number, one comparison tells both.
+            before = byte;
+            continue;
+        }
         if repeats(signed, before, byte) {
             return Some(Scanned::Padded {
                 signed,
@@ -100,8 +106,7 @@ fn scan_digits(bytes: &[u8], signed: bool, most: usize, top: u8) -> Option<Scann
 }
 
 /// Returns how many of the first `count` digits are needed if the digit after them is redundant.
-#[cold]
-#[inline(never)]
+#[inline(always)]
 pub(crate) fn kept_digits(bytes: &[u8], signed: bool, count: usize) -> usize
     requires some { 0 < count }
     requires within { count ≤ length bytes.now }
@@ -135,13 +140,25 @@ pub fn scan_u32(bytes: &[u8]) -> Option<Scanned>
     scan_digits(bytes, false, 5, 16)
 }
 
+/// Returns the number of digits of the u32 that the bytes begin with, if it is minimally encoded in one or two.
+#[inline(always)]
+#[tactic(auto, using(crate::proofs::ScannedNumbers::short_u32_scanned))]
+pub fn scan_short_u32(bytes: &[u8]) -> Option<usize>
+    ensures { IfSome result (λ count. Scans u32_format bytes.now (Some (Shortest count))) }
+{
+    match scan_digits(bytes, false, 2, 128)? {
+        Scanned::Shortest(count) => Some(count),
+        Scanned::Padded { .. } => None,
+    }
+}
+
 /// Scans the u64 that the bytes begin with.
 #[inline(always)]
 #[tactic(auto, using(crate::proofs::ScannedNumbers::u64_scanned))]
 pub fn scan_u64(bytes: &[u8]) -> Option<Scanned>
     ensures { Scans u64_format bytes.now result }
 {
-    scan_digits(bytes, false, 10, 0)
+    scan_digits(bytes, false, 10, 2)
 }
 
 /// Scans the s32 that the bytes begin with.
@@ -159,5 +176,5 @@ pub fn scan_s32(bytes: &[u8]) -> Option<Scanned>
 pub fn scan_s64(bytes: &[u8]) -> Option<Scanned>
     ensures { Scans s64_format bytes.now result }
 {
-    scan_digits(bytes, true, 10, 0)
+    scan_digits(bytes, true, 10, 1)
 }

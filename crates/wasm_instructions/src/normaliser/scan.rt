@@ -1,6 +1,8 @@
 //! Scanning of instructions: it finds the end of an instruction and its minimal encoding without decoding it (Core 3.0,
 //! Instructions).
+ghost use Rattle.std.specs.Prelude.{Some, IfSome};
 ghost use Rattle.wasm_codec.specs.Scanning.{Scans};
+ghost use Rattle.wasm_codec.specs.declared.rewriter.scan.Scanned.TheVariants.{Shortest};
 ghost use Rattle.wasm_codec.specs.formats.Combinators.{little_endian};
 ghost use Rattle.wasm_instructions.specs.formats.Instructions.{operands_format, instruction};
 ghost use Rattle.wasm_instructions.specs.formats.Operands.{block_type, mem_arg};
@@ -11,7 +13,13 @@ mod prefixed;
 use crate::normaliser::scan::opcodes::{SCANNED, scanned_kind};
 use crate::table::Kind;
 pub(crate) use prefixed::scan_rare_call;
-use wasm_codec::rewriter::{Scanned, scan_s32, scan_s64, scan_u32, scan_u64};
+use wasm_codec::rewriter::{Scanned, scan_s32, scan_s64, scan_short_u32, scan_u32, scan_u64};
+
+/// The opcode of `local.get`, the first one that `scan_frequent_call` takes.
+const FIRST_VARIABLE: u8 = 0x20;
+
+/// The opcode of `table.set`, the last one that `scan_frequent_call` takes.
+const LAST_VARIABLE: u8 = 0x26;
 
 /// Scans the instruction that the bytes begin with. Returns `None` unless it is of a frequent kind.
 #[inline(always)]
@@ -26,9 +34,26 @@ pub(crate) fn scan_call(bytes: &[u8]) -> Option<Scanned>
         // The most frequent kinds have branches of their own, so that the compiler adds their lengths beforehand.
         Kind::None => return Some(Scanned::Shortest(1)),
         Kind::Index => return Some(scan_u32(operands)?.behind_byte()),
+        Kind::Mem => return Some(scan_operands(Kind::Mem, operands)?.behind_byte()),
         kind => scan_operands(kind, operands)?,
     };
     Some(scanned.behind_byte())
+}
+
+/// Returns the length of the instruction that the bytes begin with, if it reads or writes a local, a global or a table,
+/// with an index of one or two digits.
+#[inline(always)]
+pub(crate) fn scan_frequent_call(bytes: &[u8]) -> Option<usize>
+    ensures { IfSome result (λ count. Scans instruction bytes.now (Some (Shortest count))) }
+{
+    if bytes.len() == 0 {
+        return None;
+    }
+    let opcode = bytes[0];
+    if opcode < FIRST_VARIABLE || opcode > LAST_VARIABLE {
+        return None;
+    }
+    Some(1 + scan_short_u32(&bytes[1..])?)
 }
 
 /// Scans operands of a less frequent kind.

@@ -19,6 +19,11 @@ returns-in-Index c =
     let s = c.in_ok-scan_u32-in-Index.field-0 in
     rw c.behind_byte.ensures (call_scanned c.args.bytes.now kinds.Index s (omega arith) (c.in_ok-kind.ensures ∙ ap Some c.in-Index.is) (index_scanned (drop 1 c.args.bytes.now) (Some s) (behind_first u32 c.args.bytes.now s c.in_ok-scan_u32-in-Index.ensures)))
 
+pub returns-in-Mem : goal.returns-in-Mem
+returns-in-Mem c =
+    let s = c.in_ok-scan_operands-in-Mem.field-0 in
+    rw c.behind_byte-in-Mem.ensures (call_scanned c.args.bytes.now kinds.Mem s (omega arith) (c.in_ok-kind.ensures ∙ ap Some c.in-Mem.is) (behind_first (operands_format kinds.Mem) c.args.bytes.now s c.in_ok-scan_operands-in-Mem.ensures))
+
 pub returns : goal.returns
 returns c =
     let k = c.in_ok-kind.kind in

@@ -1,6 +1,6 @@
 use Rattle.std.proofs.Common.{◌≡◌, ◌-◌, length}
 use Rattle.wasm_codec.specs.Scanning.{BeginsShort}
-use Rattle.wasm_lists.proofs.rewriting.short_run_ahead.Given as goal
+use Rattle.wasm_lists.proofs.rewriting.left_after_run.Given as goal
 
 abbrev pub invariant-loop-run : goal.invariant-loop-run
 invariant-loop-run g l = record {
