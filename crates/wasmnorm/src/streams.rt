@@ -11,6 +11,9 @@ use std::io::{Read, Write};
 /// Size in bytes of the room for a read.
 const ROOM: usize = 64 * 1024;
 
+/// Number of zeros that are written at once. A longer write is no faster, and counts as an instruction for each byte.
+const STEP: usize = 2 * 1024;
+
 /// Reads all of the input, in at most `most_reads` reads.
 ///
 /// `expected_len` is the length of the input in bytes, if it is known. A wrong length costs only time and memory.
@@ -99,7 +102,11 @@ fn make_room(bytes: &mut Vec<u8>, filled: usize) -> Result<(), AllocError>
         bytes.reserve(ROOM)?;
     }
     let end = filled + (bytes.capacity() - filled).min(ROOM);
-    bytes.resize(end, 0)
+    while bytes.len() < end {
+        let next = end.min(bytes.len() + STEP);
+        bytes.resize(next, 0)?;
+    }
+    Ok(())
 }
 
 /// Writes all of the bytes, in as many writes as necessary.
