@@ -1,4 +1,5 @@
-//! `Items`, a list that owns its items. In contracts it is the plain list of them.
+//! `Items`, a list that owns its items, and `BoxedItems`, such a list behind a pointer. In contracts both are the plain
+//! list of the items.
 ghost use Rattle.std.specs.Prelude.{◌≡◌, ◌↔◌, List, [], length, IfOk, IfErr, IsTrue};
 ghost use Rattle.wasm_codec.specs.declared.encode.EncodeError.TheVariants.{Memory};
 
@@ -143,5 +144,113 @@ impl<T: Hash> Hash for Items<T> {
 impl<T: Debug> Debug for Items<T> {
     fn fmt<W: fmt::Write>(&self, f: &mut fmt::Formatter<W>) -> fmt::Result {
         Debug::fmt(&self.items, f)
+    }
+}
+
+/// A list that owns its items, behind a pointer.
+///
+/// The clauses of a `try_table` are such a list, because it is smaller than [`Items`]. Otherwise a `try_table` would be
+/// larger than all other instructions, and every `Call` would have its size.
+///
+/// # Examples
+///
+/// ```
+/// # use wasm_encoder::{BoxedItems, Items};
+/// let items = BoxedItems::new(Items::from_slice(rt.alloc(), &[3, 5])?)?;
+/// assert_eq!(rt; items.as_slice(), [3, 5].as_slice());
+/// assert_eq!(rt; items.into_items().into_vec().pop(), Some(5));
+/// ```
+#[derive(Drop)]
+pub struct BoxedItems<T> {
+    items: Box<Items<T>>,
+}
+
+impl<T> Model for BoxedItems<T> {
+    ghost use Rattle.std.specs.Prelude.{List};
+
+    ghost Value = { List T };
+
+    ghost view = { λ a. a.items.value };
+}
+
+impl<T: Drop> BoxedItems<T> {
+    /// Moves a list behind a pointer. If it can't allocate, it drops the list and fails with `Memory`.
+    pub fn new(items: Items<T>) -> Result<BoxedItems<T>, EncodeError>
+        ensures ok { IfOk result (λ list. list ≡ items) }
+        ensures err { IfErr result (λ e. e ≡ Memory) }
+    {
+        let items = Box::new(items.allocator(), items)?;
+        Ok(BoxedItems { items })
+    }
+}
+
+impl<T> BoxedItems<T> {
+    /// Returns the items as a slice.
+    pub fn as_slice(&self) -> &[T]
+        ensures value { result.now ≡ self.now }
+    {
+        self.items().as_slice()
+    }
+
+    /// Returns the list.
+    pub fn items(&self) -> &Items<T>
+        ensures value { result.now ≡ self.now }
+    {
+        &self.items
+    }
+
+    /// Returns the list itself.
+    pub fn into_items(self) -> Items<T>
+        ensures { result ≡ self }
+    {
+        let BoxedItems { items } = self;
+        Box::into_inner(items)
+    }
+}
+
+impl<T: Copy> BoxedItems<T> {
+    /// Returns a copy. Fails with `Memory` if an allocation fails.
+    pub fn try_clone(&self) -> Result<BoxedItems<T>, EncodeError>
+        ensures ok { IfOk result (λ list. list ≡ self.now) }
+        ensures err { IfErr result (λ e. e ≡ Memory) }
+    {
+        BoxedItems::new(self.items().try_clone()?)
+    }
+}
+
+impl<T: PartialEq> PartialEq for BoxedItems<T> {
+    ghost use Rattle.std.specs.Cmp.Lexicographic.{pointwise, lists_per};
+
+    ghost eq = { pointwise T.eq };
+
+    ghost laws = { lists_per T.laws };
+
+    fn eq(&self, other: &Self) -> bool {
+        self.items().eq(other.items())
+    }
+}
+
+impl<T: Eq> Eq for BoxedItems<T> {
+    ghost use Rattle.std.specs.Cmp.Lexicographic.{lists_equiv};
+
+    ghost laws = { lists_equiv T.Eq.laws };
+}
+
+impl<T: Hash> Hash for BoxedItems<T> {
+    ghost use Rattle.std.specs.Hash as fed;
+    ghost use Rattle.std.specs.Hash.{items_Alike};
+
+    ghost hash_input = { fed.slice T.hash_input };
+
+    ghost respects_eq = { (items_Alike (record { fed = T.respects_eq })).fed };
+
+    fn hash<H: Hasher>(&self, state: &mut H) {
+        self.items().hash(state);
+    }
+}
+
+impl<T: Debug> Debug for BoxedItems<T> {
+    fn fmt<W: fmt::Write>(&self, f: &mut fmt::Formatter<W>) -> fmt::Result {
+        Debug::fmt(self.items(), f)
     }
 }
