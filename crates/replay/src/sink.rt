@@ -11,7 +11,7 @@ use crate::sink::methods::is_called;
 use crate::written::{Written, check_growth, check_written};
 use std::alloc::{Allocator, Global};
 use wasm_encoder::{
-    Call, InstructionSink, Items, Opcode, Operands, Prefix, normalise_instructions,
+    Call, InstructionSink, Items, Opcode, Operands, Prefix, V128, normalise_instructions,
     read_instructions,
 };
 
@@ -83,7 +83,7 @@ fn call_of(alloc: Global, method: &str, operands: &str, bytes: &[u8]) -> Result<
 /// The operands of the call, in written order.
 fn operands_of(alloc: Global, method: &str, operands: &str) -> Result<Operands, Mismatch> {
     if let Some(listed) = lists::parse_listed(alloc, method, operands)? {
-        return Ok(lists::operands(listed));
+        return Ok(lists::operands(listed)?);
     }
     let arguments = arguments(alloc, operands)?;
     match arguments.as_slice() {
@@ -109,7 +109,7 @@ fn one_operand(alloc: Global, only: Argument) -> Result<Operands, Mismatch> {
         Argument::U32(index) => Operands::Index(index),
         Argument::I32(value) => Operands::I32(value),
         Argument::I64(value) => Operands::I64(value),
-        Argument::I128(value) => Operands::V128(value),
+        Argument::I128(value) => Operands::V128(V128::new(value)),
         Argument::F32(value) => Operands::F32(value),
         Argument::F64(value) => Operands::F64(value),
         Argument::Lane(lane) => Operands::Lane(lane),

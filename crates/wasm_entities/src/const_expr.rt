@@ -2,6 +2,7 @@
 ghost use Rattle.std.specs.Prelude.{◌≡◌, ◌∷◌, [], IfOk, IfErr, IsOk, ◌↔◌};
 ghost use Rattle.wasm_instructions.specs.formats.Instructions.{call};
 ghost use Rattle.wasm_instructions.specs.formats.Opcodes.{after_fd, without_prefix};
+ghost use Rattle.wasm_instructions.specs.formats.Operands.{v128};
 ghost use Rattle.wasm_instructions.specs.Instructions.{IsAligned, IsCall};
 ghost use Rattle.wasm_instructions.specs.declared.table.call.Operands.TheVariants as operands;
 ghost use Rattle.wasm_entities.specs.ClosedExpressions.{IsClosed, ReadsClosed};
@@ -140,7 +141,7 @@ impl ConstExpr {
 
     /// Makes the expression `v128.const value`. Fails with `Memory` if it can't allocate.
     pub fn v128_const(alloc: Global, value: i128) -> Result<ConstExpr, EncodeError>
-        ensures makes { Makes (call (after_fd 0x0c) (operands.V128 value) ∷ []) result }
+        ensures makes { Makes (call (after_fd 0x0c) (operands.V128 (v128 value)) ∷ []) result }
     {
         ConstExpr::empty(alloc).with_v128_const(value)
     }

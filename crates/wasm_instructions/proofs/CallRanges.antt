@@ -82,6 +82,7 @@ operands_in_range (operands.Heap ty) fits in_lists counted = (heap_in_range ty f
 operands_in_range (operands.Resume index handlers) fits in_lists counted = ((fits, (counted, all_of HandleFits handle_clause.InRange handlers handle_in_range in_lists)), refl)
 operands_in_range (operands.ResumeThrow index tag handlers) fits in_lists counted = ((fits.0, (fits.1, (counted, all_of HandleFits handle_clause.InRange handlers handle_in_range in_lists))), refl)
 operands_in_range (operands.Cast label before after) fits in_lists counted = ((castop_in_range (before.nullable, after.nullable), (fits.0, (heap_in_range before.heap_type fits.1, heap_in_range after.heap_type fits.2))), refl)
+operands_in_range (operands.V128 value) fits in_lists counted = ((fits, refl), refl)
 operands_in_range (operands.Shuffle lanes) fits in_lists counted = ((fits.0, IsBytes-from lanes fits.1), refl)
 operands_in_range (operands.MemLane arg lane) fits in_lists counted = ((mem_arg_in_range arg fits.0, fits.1), refl)
 operands_in_range (operands.Order o) fits in_lists counted = (ordering_in_range o, refl)

@@ -4,7 +4,7 @@ use Rattle.std.specs.Prelude.{IsSomeAnd}
 use Rattle.wasm_codec.specs.formats.Numbers.{EncodesU32, EncodesU64, EncodesS32, EncodesS64, EncodesIndex}
 use Rattle.wasm_codec.specs.Leb128.{unsigned_leb128}
 use Rattle.wasm_codec.proofs.Digits.{length-digits_of}
-use Rattle.wasm_codec.specs.formats.Combinators.{Format, a_byte, nothing, ◌⊗◌, bytes_of, made, made_of, either_range, Choice, any_of, or_else, either, after, after_long, one_byte, u32, u64, s32, s64, index, raw, little_endian}
+use Rattle.wasm_codec.specs.formats.Combinators.{Format, a_byte, nothing, ◌⊗◌, bytes_of, made, either_range, Choice, any_of, or_else, either, after, after_long, one_byte, u32, u64, s32, s64, index, raw, little_endian}
 use Rattle.wasm_codec.proofs.NumberLaws.{Shortest-u32, Shortest-u64, Shortest-s32, Shortest-s64, Shortest-index}
 
 -- the shortest encoding of a value in range has at most so many bytes
@@ -65,9 +65,6 @@ AtMost-made {A} {B} {most} {F} make parts p = record { bound = λ b. by b (parts
   by : (b : B) (o : Option A) → IsSomeAnd o (λ a. F.InRange a × (make a ≡ b)) → length (bytes_of F.bytes o) ≤ most
   by b (Some a) fits = p.bound a fits.0
   by b None fits = absurd fits
-
-pub AtMost-made-of : {A B : Type 0} {most : ℕ} {F : Format A} {make : A → B} {parts : B → A} {R : B → Type 0} → ((b : B) → R b → F.InRange (parts b)) → AtMost most F → AtMost most (made_of make parts R F)
-AtMost-made-of {parts = parts} there p = record { bound = λ b fits. p.bound (parts b) (there b fits) }
 
 length-little-endian : (count n : ℕ) → length ((little_endian count).bytes n) ≡ count
 unfolding little_endian

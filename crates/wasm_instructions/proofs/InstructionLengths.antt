@@ -16,18 +16,16 @@ use Rattle.wasm_instructions.specs.declared.table.call.Operands.{Operands}
 use Rattle.wasm_instructions.specs.declared.table.call.Operands.TheVariants as operands
 use Rattle.wasm_codec.specs.Leb128.{unsigned_leb128}
 use Rattle.wasm_codec.specs.formats.Combinators.{flagged, items}
-use Rattle.wasm_codec.proofs.RawFormatLaws.{little_range}
-use Rattle.wasm_instructions.proofs.FormatLengths.{AtMost, AtMost-more, AtMost-byte, AtMost-nothing, AtMost-one-byte, AtMost-raw, AtMost-u32, AtMost-u64, AtMost-s32, AtMost-s64, AtMost-index, length-number, AtMost-both, AtMost-made, AtMost-made-of, AtMost-little-endian, AtMost-any, AtMost-or-else, AtMost-either, AtMost-after, AtMost-after-long}
+use Rattle.wasm_instructions.proofs.FormatLengths.{AtMost, AtMost-more, AtMost-byte, AtMost-nothing, AtMost-one-byte, AtMost-raw, AtMost-u32, AtMost-u64, AtMost-s32, AtMost-s64, AtMost-index, length-number, AtMost-both, AtMost-made, AtMost-little-endian, AtMost-any, AtMost-or-else, AtMost-either, AtMost-after, AtMost-after-long}
 use Rattle.wasm_types.specs.formats.Types.{abstract_byte, abstract_type, abstract_of, heap_type, reference, ref_type, number_byte, val_type}
 use Rattle.wasm_types.specs.TypeParts.{abstract_types, abstract_parts, concrete_part, exact_part, nullable_part, has_short_form, number_types, ref_part}
-use Rattle.wasm_instructions.specs.formats.Operands.{empty_byte, block_type, nullables_byte, castop, mem_arg, ordering_byte, ordering, vector, lanes, ieee32, ieee64}
-use Rattle.wasm_instructions.specs.OperandParts.{function_type_part, result_part, all_nullables, MemArgInRange, to_halves, block_part, index_part, two_indexes_part, mem_part, i32_part, i64_part, f32_part, f64_part, heap_part, cast_part, v128_part, shuffle_part, lane_part, mem_lane_part, order_part, order_index_part, order_two_indexes_part}
+use Rattle.wasm_instructions.specs.formats.Operands.{empty_byte, block_type, nullables_byte, castop, mem_arg, ordering_byte, ordering, from_halves, vector, lanes, ieee32, ieee64}
+use Rattle.wasm_instructions.specs.OperandParts.{function_type_part, result_part, all_nullables, MemArgInRange, halves_part, block_part, index_part, two_indexes_part, mem_part, i32_part, i64_part, f32_part, f64_part, heap_part, cast_part, v128_part, shuffle_part, lane_part, mem_lane_part, order_part, order_index_part, order_two_indexes_part}
 use Rattle.wasm_instructions.specs.formats.Opcodes.{ranges, kind_among, opcode_kind}
 use Rattle.wasm_instructions.specs.Instructions.{NumbersInRange, IsCounted, IsShort, ItemsInRange, kind_of}
 use Rattle.wasm_instructions.specs.formats.Instructions.{call, opcode, cast_of, operands_format, instruction}
 use Rattle.wasm_instructions.specs.Lengths.{HasNoLongList, IsShortEncoding}
 use Rattle.wasm_instructions.proofs.OpcodeLaws.{cast_is_low}
-use Rattle.wasm_instructions.proofs.OperandFormatLaws.{halves_back}
 use Rattle.wasm_instructions.proofs.CallRanges.{operands_in_range}
 
 -- ---- types
@@ -89,7 +87,7 @@ most_of k = 17
 
 AtMost-vector : AtMost 16 vector
 unfolding vector
-AtMost-vector = AtMost-made-of (λ z fits. let h = halves_back z fits in (little_range 8 (to_halves z).0 h.0, little_range 8 (to_halves z).1 h.1)) (AtMost-both (AtMost-little-endian 8) (AtMost-little-endian 8))
+AtMost-vector = AtMost-made from_halves halves_part (AtMost-both (AtMost-little-endian 8) (AtMost-little-endian 8))
 
 -- none of the operands is a list
 abbrev IsAlone : Kind → Type 0

@@ -1,7 +1,6 @@
 -- The laws of the formats of what stands after opcodes.
-use Rattle.std.proofs.Common.{◌≡◌, ℕ, ℤ, ◌+◌, ◌-◌, ◌*◌, ◌%◌, ◌/◌, ◌^◌, ◌<◌, ◌≤◌, Bool, true, false, not, ◌&&◌, cond, ltb, eqb, List, [], ◌∷◌, ◌++◌, length, Some, refl, sym, ap, subst, ◌∙◌, length-append, inl, inr, arith, lit≤, pos, negsuc, ◌-ℤ◌}
+use Rattle.std.proofs.Common.{◌≡◌, ℕ, ◌+◌, ◌-◌, ◌^◌, ◌<◌, ◌≤◌, Bool, true, false, not, ◌&&◌, cond, ltb, eqb, List, [], ◌∷◌, ◌++◌, length, Some, refl, sym, ap, subst, ◌∙◌, length-append, inl, inr, arith, lit≤}
 use Rattle.std.proofs.lemmas.Bool.{ltb-true, ltb-false, lt-ltb, le-ltb, eqb-true}
-use Rattle.std.proofs.lemmas.Int.{ints}
 use Rattle.wasm_instructions.specs.declared.operands.control.BlockType.{BlockType}
 use Rattle.wasm_instructions.specs.declared.operands.control.BlockType.TheVariants as blocks
 use Rattle.wasm_instructions.specs.declared.operands.control.Catch.TheVariants as catches
@@ -10,18 +9,18 @@ use Rattle.wasm_instructions.specs.declared.operands.memory.MemArg.{MemArg}
 use Rattle.wasm_instructions.specs.declared.operands.memory.Ordering.{Ordering}
 use Rattle.wasm_instructions.specs.declared.operands.memory.Ordering.TheVariants as orderings
 use Rattle.wasm_codec.specs.formats.Grammar.{Grammar, TakesBytes, Then, Mapped, Never, Either}
-use Rattle.wasm_codec.specs.formats.Numbers.{Within, EncodesU32, EncodesU64}
+use Rattle.wasm_codec.specs.formats.Numbers.{EncodesU32, EncodesU64}
 use Rattle.wasm_codec.specs.Leb128.{digits_of, unsigned_leb128}
 use Rattle.wasm_codec.specs.Encoding.{IsShortestOrLonger}
 use Rattle.wasm_codec.proofs.Laws.{least_then}
 use Rattle.wasm_codec.proofs.NumberLaws.{Shortest-u32, Shortest-u64}
-use Rattle.wasm_codec.specs.formats.Combinators.{◌⊗◌, ◌⊗>◌, made, choose, never, u32, u64, little_endian}
+use Rattle.wasm_codec.specs.formats.Combinators.{◌⊗◌, ◌⊗>◌, made, choose, never, u32, u64}
 use Rattle.wasm_codec.proofs.FormatLaws.{IsShorter, IsFound, Every-made, Lawful-made, Lawful-made-as, Lawful-then, Lawful-both, Lawful-choose, Lawful-never, Lawful-one-byte, Lawful-byte-or, Lawful-variant, Lawful-or-else, Every-either, Tagged-or, Tagged-never, Lawful-u32, Lawful-u64, Lawful-index, takes_bytes}
-use Rattle.wasm_codec.proofs.RawFormatLaws.{Lawful-made-of, Lawful-raw, Lawful-little-endian}
+use Rattle.wasm_codec.proofs.RawFormatLaws.{Lawful-raw, Lawful-little-endian}
 use Rattle.wasm_types.specs.formats.Types.{abstract_type, ref_type, val_type}
 use Rattle.wasm_types.proofs.TypeFormatLaws.{Lawful-val-type}
-use Rattle.wasm_instructions.specs.formats.Operands.{empty_byte, block_type, catch_clause, handle_clause, nullables_byte, castop, in_first, in_memory, after_alignment, mem_arg, ordering_byte, ordering, from_bits, from_halves, vector, lanes}
-use Rattle.wasm_instructions.specs.OperandParts.{function_type_part, result_part, catch_byte, tag_and_label, label_alone, handle_byte, on_label_part, on_switch_part, all_nullables, mem_arg_bytes, MemArgInRange, is_named_first, to_bits, to_halves}
+use Rattle.wasm_instructions.specs.formats.Operands.{empty_byte, block_type, catch_clause, handle_clause, nullables_byte, castop, in_first, in_memory, after_alignment, mem_arg, ordering_byte, ordering, from_halves, vector, lanes}
+use Rattle.wasm_instructions.specs.OperandParts.{function_type_part, result_part, catch_byte, tag_and_label, label_alone, handle_byte, on_label_part, on_switch_part, all_nullables, mem_arg_bytes, MemArgInRange, is_named_first, halves_part}
 use Rattle.wasm_codec.specs.Lawful.{Shortest, IsLawful}
 
 -- ---- block types
@@ -86,49 +85,9 @@ Lawful-ordering = Lawful-one-byte ordering_byte (orderings.SeqCst ∷ orderings.
 
 -- ---- vectors
 
-bits_below : (z : ℤ) → Within (2 ^ 127) z → to_bits z < 2 ^ 128
-bits_below (pos n) fits = omega arith
-bits_below (negsuc n) fits = omega arith
-
-bits_back : (z : ℤ) → Within (2 ^ 127) z → from_bits (to_bits z) ≡ z
-bits_back (pos n) fits = rw (lt-ltb n (2 ^ 127) fits) refl
-bits_back (negsuc n) fits = rw (le-ltb (2 ^ 128 - 1 - n) (2 ^ 127) (omega arith)) (omega (arith, ints))
-
--- the bits of a number that is less by 2^128, which is within
-wrapped : (z : ℤ) (n : ℕ) → 2 ^ 127 ≤ n → n < 2 ^ 128 → z ≡ pos n -ℤ pos (2 ^ 128) → Within (2 ^ 127) z × (to_bits z ≡ n)
-wrapped (pos k) n le lt e = absurd (omega (arith, ints, e))
-wrapped (negsuc k) n le lt e = (omega (arith, ints, e), omega (arith, ints, e))
-
-bits_again : (n : ℕ) → n < 2 ^ 128 → Within (2 ^ 127) (from_bits n) × (to_bits (from_bits n) ≡ n)
-bits_again n lt = by (ltb n (2 ^ 127)) refl where
-  by : (test : Bool) → ltb n (2 ^ 127) ≡ test → Within (2 ^ 127) (cond test (pos n) (pos n -ℤ pos (2 ^ 128))) × (to_bits (cond test (pos n) (pos n -ℤ pos (2 ^ 128))) ≡ n)
-  by true is = (ltb-true _ _ is, refl)
-  by false not = wrapped (pos n -ℤ pos (2 ^ 128)) n (ltb-false _ _ not) lt refl
-
-abbrev halved : ℕ → ℕ × ℕ
-halved k = (k % 2 ^ 64, k / 2 ^ 64)
-
-halves_are : (k low high : ℕ) → k % 2 ^ 64 ≡ low → k / 2 ^ 64 ≡ high → halved k ≡ (low, high)
-halves_are k low high e f = ap (λ (a : ℕ). (a, k / 2 ^ 64)) e ∙ ap (λ (b : ℕ). (low, b)) f
-
-pub halves_of : (p : ℕ × ℕ) → (p.0 < 256 ^ 8) × (p.1 < 256 ^ 8) → Within (2 ^ 127) (from_halves p) × (to_halves (from_halves p) ≡ p)
-halves_of p fits =
-    let again = bits_again (p.0 + 2 ^ 64 * p.1) (omega (arith, fits.0, fits.1)) in
-    (again.0, halves_are (to_bits (from_bits (p.0 + 2 ^ 64 * p.1))) p.0 p.1 (rw again.1 (omega (arith, fits.0))) (rw again.1 (omega (arith, fits.0))))
-
-pub halves_back : (z : ℤ) → Within (2 ^ 127) z → ((to_halves z).0 < 256 ^ 8) × ((to_halves z).1 < 256 ^ 8) × (from_halves (to_halves z) ≡ z)
-halves_back z fits =
-    let lt = bits_below z fits in
-    let n = to_bits z in
-    let e : n % 2 ^ 64 + 2 ^ 64 * (n / 2 ^ 64) ≡ n = omega arith in
-    (omega arith, omega (arith, lt), ap from_bits e ∙ bits_back z fits)
-
 pub Lawful-vector : IsLawful vector
-unfolding vector little_endian
-Lawful-vector =
-    Lawful-made-of from_halves to_halves (Within (2 ^ 127)) halves_of
-    (λ z fits. let h = halves_back z fits in ((h.0, h.1), h.2))
-    (Lawful-both (Lawful-little-endian 8) (Lawful-little-endian 8))
+unfolding vector
+Lawful-vector = Lawful-made from_halves halves_part (λ p. refl) (Lawful-both (Lawful-little-endian 8) (Lawful-little-endian 8))
 
 pub Lawful-lanes : IsLawful lanes
 unfolding lanes

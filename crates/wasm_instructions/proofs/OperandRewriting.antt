@@ -1,50 +1,15 @@
--- The laws of vectors, and of memory arguments that name memory 0, which are left without its index.
-use Rattle.std.proofs.Common.{◌≡◌, ℕ, ◌+◌, ◌-◌, ◌<◌, ◌≤◌, Bool, false, List, [], ◌∷◌, ◌++◌, length, set, take, drop, Some, Err, refl, sym, ap, ◌∙◌, append_assoc, length-append, arith}
+-- The laws of memory arguments that name memory 0, which are left without its index.
+use Rattle.std.proofs.Common.{◌≡◌, ℕ, ◌+◌, ◌-◌, ◌<◌, ◌≤◌, Bool, false, List, [], ◌∷◌, ◌++◌, length, set, take, drop, Some, refl, sym, ap, ◌∙◌, append_assoc, length-append, arith}
 use Rattle.std.proofs.lemmas.Bool.{lt-ltb, le-ltb}
 use Rattle.std.proofs.Math.Bool.{and-false}
 use Rattle.std.proofs.lemmas.List.{take_at, drop_at, set_at, length-take-le, length-drop}
-use Rattle.wasm_codec.specs.declared.reader.cursor.Fault.{Fault}
-use Rattle.wasm_codec.specs.declared.reader.cursor.Fault.TheVariants as faults
-use Rattle.wasm_codec.specs.formats.Grammar.{IsBytes}
 use Rattle.wasm_codec.specs.Leb128.{unsigned_leb128}
 use Rattle.wasm_codec.specs.Places.{place}
-use Rattle.wasm_codec.specs.Rewriter.{Rewriting, rewritten_at, rewriting_after, Rewrites, without, with_byte}
-use Rattle.wasm_codec.specs.formats.Combinators.{little_endian, u32, u64}
-use Rattle.wasm_codec.proofs.Laws.{IsBytes-after}
-use Rattle.wasm_codec.proofs.RawFormatLaws.{Lawful-little-endian, little_below}
+use Rattle.wasm_codec.specs.Rewriter.{Rewriting, rewritten_at, rewriting_after, without, with_byte}
+use Rattle.wasm_codec.specs.formats.Combinators.{u32, u64}
 use Rattle.wasm_codec.proofs.RewriterLaws.{is_given, is_after, after_is}
-use Rattle.wasm_instructions.specs.formats.Operands.{in_memory, mem_arg, from_halves, vector}
-use Rattle.wasm_instructions.proofs.OperandFormatLaws.{halves_of, one_digit}
-
--- ---- vectors
-
--- both halves stay as they are
-pub vector_rewritten : (old mid new : Rewriting) → IsBytes old.place.left → rewriting_after (little_endian 8) old ≡ Some mid → rewriting_after (little_endian 8) mid ≡ Some new → rewriting_after vector old ≡ Some new
-unfolding vector
-vector_rewritten old mid new fits first second =
-    let law = Lawful-little-endian 8 in
-    let a = is_after (little_endian 8) old mid first in
-    let b = is_after (little_endian 8) mid new second in
-    let low = law.reads.sound old.place a.value mid.place fits a.given.is_read in
-    let left = IsBytes-after old.place.left mid.place.left a.value low fits in
-    let high = law.reads.sound mid.place b.value new.place left b.given.is_read in
-    let halves = halves_of (a.value, b.value) (little_below 8 a.value (law.in_range low.prefix a.value low.encodes), little_below 8 b.value (law.in_range high.prefix b.value high.encodes)) in
-    let bytes : vector.bytes (from_halves (a.value, b.value)) ≡ (little_endian 8).bytes a.value ++ (little_endian 8).bytes b.value = ap (λ (p : ℕ × ℕ). (little_endian 8).bytes p.0 ++ (little_endian 8).bytes p.1) halves.1 in
-    after_is vector old new (from_halves (a.value, b.value)) (rw (a.given.is_read, b.given.is_read) refl)
-    (b.given.written ∙ ap (λ (t : List ℕ). t ++ (little_endian 8).bytes b.value) a.given.written ∙ append_assoc old.done ((little_endian 8).bytes a.value) ((little_endian 8).bytes b.value) ∙ ap (λ (t : List ℕ). old.done ++ t) (sym bytes))
-    (b.given.rest ∙ a.given.rest)
-
-pub no_low_half : (old mid new : Rewriting) (fault : Fault) → Rewrites (little_endian 8) old mid (Err fault) → Rewrites vector old new (Err fault)
-unfolding vector
-no_low_half old mid new faults.Memory none = none
-no_low_half old mid new (faults.Malformed m) none = rw none refl
-
-pub no_high_half : (old mid end new : Rewriting) (fault : Fault) → rewriting_after (little_endian 8) old ≡ Some mid → Rewrites (little_endian 8) mid end (Err fault) → Rewrites vector old new (Err fault)
-unfolding vector
-no_high_half old mid end new faults.Memory first none = none
-no_high_half old mid end new (faults.Malformed m) first none =
-    let a = is_after (little_endian 8) old mid first in
-    rw (a.given.is_read, none) refl
+use Rattle.wasm_instructions.specs.formats.Operands.{in_memory, mem_arg}
+use Rattle.wasm_instructions.proofs.OperandFormatLaws.{one_digit}
 
 -- ---- memory arguments that name memory 0
 

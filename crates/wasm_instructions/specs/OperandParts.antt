@@ -1,5 +1,5 @@
 -- The parts that opcodes and operands are written from.
-use Rattle.std.specs.Prelude.{ℕ, ℤ, ◌+◌, ◌-◌, ◌%◌, ◌/◌, ◌^◌, ◌<◌, Bool, true, false, not, ◌&&◌, ◌==◌, nat_lt, if◌then◌else◌, List, [], ◌∷◌, ◌++◌, Option, Some, None, pos, negsuc}
+use Rattle.std.specs.Prelude.{ℕ, ℤ, ◌+◌, ◌^◌, ◌<◌, Bool, true, false, not, ◌&&◌, ◌==◌, nat_lt, if◌then◌else◌, List, [], ◌∷◌, ◌++◌, Option, Some, None}
 use Rattle.wasm_types.specs.declared.types.heap.HeapType.{HeapType}
 use Rattle.wasm_types.specs.declared.types.value.ValType.{ValType}
 use Rattle.wasm_instructions.specs.declared.operands.control.BlockType.{BlockType}
@@ -8,6 +8,7 @@ use Rattle.wasm_instructions.specs.declared.operands.control.Catch.{Catch}
 use Rattle.wasm_instructions.specs.declared.operands.control.Catch.TheVariants as catches
 use Rattle.wasm_instructions.specs.declared.operands.control.Handle.{Handle}
 use Rattle.wasm_instructions.specs.declared.operands.control.Handle.TheVariants as handles
+use Rattle.wasm_instructions.specs.declared.operands.constants.V128.{V128}
 use Rattle.wasm_instructions.specs.declared.operands.memory.MemArg.{MemArg}
 use Rattle.wasm_instructions.specs.declared.operands.memory.Ordering.{Ordering}
 use Rattle.wasm_instructions.specs.declared.table.opcode.Prefix.TheVariants as prefixes
@@ -95,7 +96,7 @@ abbrev pub cast_part : Operands → Option ((Bool × Bool) × (ℕ × (HeapType 
 cast_part (operands.Cast label before after) = Some ((before.nullable, after.nullable), (label, (before.heap_type, after.heap_type)))
 cast_part o = None
 
-abbrev pub v128_part : Operands → Option ℤ
+abbrev pub v128_part : Operands → Option V128
 v128_part (operands.V128 value) = Some value
 v128_part o = None
 
@@ -183,11 +184,6 @@ pub record MemArgInRange (arg : MemArg) : Type 0 where
 abbrev pub is_named_first : ℕ × MemArg → Bool
 is_named_first p = not (nat_lt p.0 64) && (p.1.memory_index == 0)
 
--- The 128 bits of the number, in two's complement.
-abbrev pub to_bits : ℤ → ℕ
-to_bits (pos n) = n
-to_bits (negsuc n) = 2 ^ 128 - 1 - n
-
--- The low and the high 64 bits of the number.
-abbrev pub to_halves : ℤ → ℕ × ℕ
-to_halves value = (to_bits value % 2 ^ 64, to_bits value / 2 ^ 64)
+-- The low and the high half of the vector.
+abbrev pub halves_part : V128 → Option (ℕ × ℕ)
+halves_part value = Some (value.low, value.high)

@@ -5,6 +5,6 @@ mod constants;
 mod control;
 mod memory;
 
-pub use constants::{Ieee32, Ieee64, Lane};
+pub use constants::{Ieee32, Ieee64, Lane, V128};
 pub use control::{BlockType, Catch, Handle};
 pub use memory::{MemArg, Ordering};

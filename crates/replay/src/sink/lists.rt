@@ -5,7 +5,7 @@ use crate::sink::arguments::{block_type, catch, handler, index, value_type};
 use crate::words::{Words, number};
 use std::alloc::{Allocator, Global};
 use wasm_encoder::{
-    BlockType, Catch, EncodeError, Handle, InstructionSink, Items, Operands, ValType,
+    BlockType, BoxedItems, Catch, EncodeError, Handle, InstructionSink, Items, Operands, ValType,
 };
 
 /// The operands of a call with a list.
@@ -94,14 +94,16 @@ fn resume<'a, A: Allocator>(
 }
 
 /// The operands of the call, in written order.
-pub fn operands(listed: Listed) -> Operands {
-    match listed {
+pub fn operands(listed: Listed) -> Result<Operands, EncodeError> {
+    Ok(match listed {
         Listed::Labels(labels, default) => Operands::BrTable(Items::from(labels), default),
         Listed::Types(types) => Operands::Types(Items::from(types)),
-        Listed::Clauses(ty, clauses) => Operands::TryTable(ty, Items::from(clauses)),
+        Listed::Clauses(ty, clauses) => {
+            Operands::TryTable(ty, BoxedItems::new(Items::from(clauses))?)
+        }
         Listed::Handlers(ty, handlers) => Operands::Resume(ty, Items::from(handlers)),
         Listed::HandlersAfterTwo(ty, tag, handlers) => {
             Operands::ResumeThrow(ty, tag, Items::from(handlers))
         }
-    }
+    })
 }

@@ -2,6 +2,7 @@
 ghost use Rattle.std.specs.Prelude.{◌≡◌, ◌∷◌, ◌++◌, [], ℕ};
 ghost use Rattle.wasm_instructions.specs.formats.Instructions.{call};
 ghost use Rattle.wasm_instructions.specs.formats.Opcodes.{without_prefix, after_fb, after_fd};
+ghost use Rattle.wasm_instructions.specs.formats.Operands.{v128};
 ghost use Rattle.wasm_instructions.specs.Instructions.{IsAligned, IsCall};
 ghost use Rattle.wasm_instructions.specs.declared.table.call.Operands.TheVariants as operands;
 ghost use Rattle.wasm_entities.specs.formats.Expressions.{nested};
@@ -10,7 +11,7 @@ ghost use Rattle.wasm_entities.specs.Making.{Makes};
 
 use crate::const_expr::ConstExpr;
 use wasm_codec::encode::EncodeError;
-use wasm_instructions::operands::{Ieee32, Ieee64};
+use wasm_instructions::operands::{Ieee32, Ieee64, V128};
 use wasm_instructions::table::{Call, Opcode, Operands};
 use wasm_lists::list::Items;
 use wasm_types::types::HeapType;
@@ -48,9 +49,9 @@ impl ConstExpr {
 
     /// Appends `v128.const value`.
     pub fn with_v128_const(self, value: i128) -> Result<ConstExpr, EncodeError>
-        ensures makes { Makes (self ++ call (after_fd 0x0c) (operands.V128 value) ∷ []) result }
+        ensures makes { Makes (self ++ call (after_fd 0x0c) (operands.V128 (v128 value)) ∷ []) result }
     {
-        self.and(Opcode::after_fd(0x0C), Operands::V128(value))
+        self.and(Opcode::after_fd(0x0C), Operands::V128(V128::new(value)))
     }
 
     /// Appends `global.get index`.

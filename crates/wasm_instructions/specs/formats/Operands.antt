@@ -1,6 +1,6 @@
 -- Operands (WebAssembly Core 3.0, Instructions). Handlers, orderings and casts to descriptors belong to proposals:
 -- there this is the project's own profile.
-use Rattle.std.specs.Prelude.{ℕ, ℤ, ◌+◌, ◌-◌, ◌*◌, ◌^◌, Bool, true, false, nat_lt, if◌then◌else◌, List, [], ◌∷◌, Option, Some, None, pos, ◌-ℤ◌}
+use Rattle.std.specs.Prelude.{ℕ, ℤ, ◌-◌, ◌%◌, ◌/◌, ◌^◌, Bool, true, false, nat_lt, List, [], ◌∷◌, Option, Some, None, pos, negsuc}
 use Rattle.wasm_instructions.specs.declared.operands.control.BlockType.{BlockType}
 use Rattle.wasm_instructions.specs.declared.operands.control.BlockType.TheVariants as blocks
 use Rattle.wasm_instructions.specs.declared.operands.control.Catch.{Catch}
@@ -12,10 +12,10 @@ use Rattle.wasm_instructions.specs.declared.operands.memory.Ordering.{Ordering}
 use Rattle.wasm_instructions.specs.declared.operands.memory.Ordering.TheVariants as orderings
 use Rattle.wasm_instructions.specs.declared.operands.constants.Ieee32.{Ieee32}
 use Rattle.wasm_instructions.specs.declared.operands.constants.Ieee64.{Ieee64}
-use Rattle.wasm_codec.specs.formats.Numbers.{Within}
-use Rattle.wasm_codec.specs.formats.Combinators.{Format, never, ◌⊗◌, ◌⊗>◌, made, made_with_long_forms, made_of, any_of, or_else, no_other, variant, tagged, choose, one_byte, byte_or, u32, u64, index, raw, little_endian}
+use Rattle.wasm_instructions.specs.declared.operands.constants.V128.{V128}
+use Rattle.wasm_codec.specs.formats.Combinators.{Format, never, ◌⊗◌, ◌⊗>◌, made, made_with_long_forms, any_of, or_else, no_other, variant, tagged, choose, one_byte, byte_or, u32, u64, index, raw, little_endian}
 use Rattle.wasm_types.specs.formats.Types.{val_type}
-use Rattle.wasm_instructions.specs.OperandParts.{function_type_part, result_part, catch_byte, tag_and_label, label_alone, handle_byte, on_label_part, on_switch_part, all_nullables, mem_arg_bytes, MemArgInRange, is_named_first, to_halves}
+use Rattle.wasm_instructions.specs.OperandParts.{function_type_part, result_part, catch_byte, tag_and_label, label_alone, handle_byte, on_label_part, on_switch_part, all_nullables, mem_arg_bytes, MemArgInRange, is_named_first, halves_part}
 
 -- ---- block types (Control Instructions)
 
@@ -110,20 +110,25 @@ ieee32 bits = record { bits = bits }
 abbrev pub ieee64 : ℕ → Ieee64
 ieee64 bits = record { bits = bits }
 
--- ---- vectors (Vector Instructions)
+-- ---- vectors (Vector Instructions), whose values are their halves
 
--- The number with these 128 bits, in two's complement.
-abbrev pub from_bits : ℕ → ℤ
-from_bits bits = if nat_lt bits (2 ^ 127) then pos bits else pos bits -ℤ pos (2 ^ 128)
-
--- The number with this low half and this high half.
-abbrev pub from_halves : ℕ × ℕ → ℤ
-from_halves p = from_bits (p.0 + 2 ^ 64 * p.1)
+-- The vector with this low half and this high half.
+abbrev pub from_halves : ℕ × ℕ → V128
+from_halves p = record { low = p.0; high = p.1 }
 
 -- The 128 bits of a vector.
 -- 0xFD 12:u32 (b:byte)^16 => v128.const bytes^-1_i128(b^16): the least byte first
-unfoldable pub vector : Format ℤ
-vector = made_of from_halves to_halves (Within (2 ^ 127)) (little_endian 8 ⊗ little_endian 8)
+unfoldable pub vector : Format V128
+vector = made from_halves halves_part (little_endian 8 ⊗ little_endian 8)
+
+-- The 128 bits of the number, in two's complement.
+abbrev pub to_bits : ℤ → ℕ
+to_bits (pos n) = n
+to_bits (negsuc n) = 2 ^ 128 - 1 - n
+
+-- The vector with the 128 bits of the number.
+abbrev pub v128 : ℤ → V128
+v128 value = from_halves (to_bits value % 2 ^ 64, to_bits value / 2 ^ 64)
 
 -- The 16 lanes of a shuffle.
 -- 0xFD 13:u32 (l:laneidx)^16 => i8x16.shuffle l^16

@@ -2,7 +2,7 @@
 ghost use Rattle.std.specs.Prelude.{◌≡◌, ◌++◌, ◌+◌, ◌<◌, ◌≤◌, vec_len, vec_capacity};
 ghost use Rattle.wasm_codec.specs.formats.Combinators.{little_endian};
 ghost use Rattle.wasm_instructions.specs.Operands.{BlockTypeFits, CatchFits, HandleFits};
-ghost use Rattle.wasm_instructions.specs.OperandParts.{MemArgInRange, to_bits};
+ghost use Rattle.wasm_instructions.specs.OperandParts.{MemArgInRange};
 ghost use Rattle.wasm_instructions.specs.formats.Operands.{block_type, castop, catch_clause, handle_clause, lanes as lanes_format, mem_arg, ordering as ordering_format, vector};
 ghost use Rattle.wasm_codec.specs.declared.encode.EncodeError.TheVariants.{Alignment};
 ghost use Rattle.wasm_codec.specs.Encoding.{IsShortest};
@@ -10,7 +10,7 @@ ghost use Rattle.wasm_instructions.specs.Instructions.{NumbersInRange};
 ghost use Rattle.wasm_instructions.specs.declared.table.call.Operands.TheVariants as operands;
 ghost use Rattle.wasm_instructions.specs.MemArgs.{HasAlignment, misaligned_at_once};
 
-use crate::operands::{BlockType, Catch, Handle, Lane, MemArg, Ordering};
+use crate::operands::{BlockType, Catch, Handle, Lane, MemArg, Ordering, V128};
 use std::alloc::Allocator;
 use wasm_codec::encode::EncodeError;
 use wasm_codec::encode::leb128::{put_index, put_u32, put_u64};
@@ -180,28 +180,16 @@ pub fn put_bits_64<A: Allocator>(bytes: &mut Vec<u8, A>, value: u64)
     bytes.push_reserved((eighth % 0x100) as u8);
 }
 
-/// Returns the bits of a vector: its 128-bit two's complement.
-fn vector_bits(value: i128) -> u128
-    ensures { result ≡ to_bits value }
-{
-    if value < 0 {
-        (value - i128::MIN) as u128 + (1 << 127)
-    } else {
-        value as u128
-    }
-}
-
-/// Writes a vector in 16 bytes, little-endian, in two's complement.
+/// Writes a vector in 16 bytes, little-endian.
 #[tactic(auto, unfolding(crate::specs::formats::Operands::vector))]
-pub fn put_vector<A: Allocator>(bytes: &mut Vec<u8, A>, value: i128)
+pub fn put_vector<A: Allocator>(bytes: &mut Vec<u8, A>, value: V128)
     requires { vec_len bytes.old + 16 ≤ vec_capacity bytes.old }
     ensures items { bytes.new.items ≡ bytes.old.items ++ vector.bytes value }
     ensures len { vec_len bytes.new ≤ vec_len bytes.old + 16 }
     ensures capacity { vec_capacity bytes.new ≡ vec_capacity bytes.old }
 {
-    let bits = vector_bits(value);
-    put_bits_64(bytes, (bits % (1 << 64)) as u64);
-    put_bits_64(bytes, (bits / (1 << 64)) as u64);
+    put_bits_64(bytes, value.low);
+    put_bits_64(bytes, value.high);
 }
 
 /// Writes sixteen lane indexes in 16 bytes (Core 3.0, Vector Instructions).

@@ -194,13 +194,12 @@ fn rewrite_castop(rewriter: &mut Rewriter) -> Result<(), Fault>
 }
 
 /// Rewrites the constant of a `v128.const`.
+#[tactic(auto, using(std::proofs::Common::append_assoc), unfolding(crate::specs::formats::Operands::vector))]
 fn rewrite_vector(rewriter: &mut Rewriter) -> Result<(), Fault>
     ensures rewrites { Rewrites vector rewriter.old rewriter.new result }
 {
-    rewriter.are_bytes();
     rewriter.number(8)?;
-    rewriter.number(8)?;
-    Ok(())
+    rewriter.number(8)
 }
 
 impl Rewritable for Catch {

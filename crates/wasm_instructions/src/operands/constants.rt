@@ -1,5 +1,6 @@
-//! Constants kept as their bits, and lane indexes (Core 3.0, Floating-Point and Instructions).
+//! Constants kept as their bits, and lane indexes (Core 3.0, Floating-Point, Vectors and Instructions).
 ghost use Rattle.std.specs.Prelude.{◌≡◌};
+ghost use Rattle.wasm_instructions.specs.formats.Operands.{to_bits, v128};
 
 /// Index of a lane of a vector. Every byte is read and written, in range or not.
 pub type Lane = u8;
@@ -45,5 +46,66 @@ impl Ieee64 {
         ensures { result ≡ self.bits }
     {
         self.bits
+    }
+}
+
+/// A vector of 128 bits, kept as two halves. With an `i128`, which is aligned to 16 bytes, every `Call` would be larger.
+///
+/// # Examples
+///
+/// ```
+/// # use wasm_encoder::V128;
+/// let vector = V128::new(-2);
+/// assert_eq!(rt; vector.low, u64::MAX - 1);
+/// assert_eq!(rt; vector.high, u64::MAX);
+/// assert_eq!(rt; vector.value(), -2);
+/// ```
+#[derive(Clone, Copy, Debug, PartialEq, Eq)]
+pub struct V128 {
+    /// Bits 0 to 63.
+    pub low: u64,
+    /// Bits 64 to 127.
+    pub high: u64,
+}
+
+impl V128 {
+    /// Returns the vector whose bits are those of `value`, in two's complement.
+    pub fn new(value: i128) -> V128
+        ensures { result ≡ v128 value }
+    {
+        let bits = bits_of(value);
+        V128 {
+            low: (bits % (1 << 64)) as u64,
+            high: (bits / (1 << 64)) as u64,
+        }
+    }
+
+    /// Returns the number whose bits are those of the vector, in two's complement.
+    pub fn value(self) -> i128
+        ensures { v128 result ≡ self }
+    {
+        from_bits(u128::from(self.low) + (1 << 64) * u128::from(self.high))
+    }
+}
+
+/// Returns the 128 bits of a number, in two's complement.
+fn bits_of(value: i128) -> u128
+    ensures { result ≡ to_bits value }
+{
+    if value < 0 {
+        (value - i128::MIN) as u128 + (1 << 127)
+    } else {
+        value as u128
+    }
+}
+
+/// Returns the number with these bits, in two's complement.
+fn from_bits(bits: u128) -> i128
+    ensures { to_bits result ≡ bits }
+{
+    if bits < 1 << 127 {
+        bits as i128
+    } else {
+        (bits - (1 << 127)) as i128 + i128::MIN
     }
 }

@@ -3,7 +3,7 @@ ghost use Rattle.std.specs.Prelude.{◌≡◌, ◌<◌, Some, IfSome, IfOk, IfEr
 ghost use Rattle.wasm_codec.specs.Places.{Reads, map_at};
 ghost use Rattle.wasm_codec.specs.formats.Combinators.{little_endian};
 ghost use Rattle.wasm_codec.specs.Outcomes.{IsMalformed};
-ghost use Rattle.wasm_instructions.specs.formats.Operands.{ieee32, ieee64, block_type, catch_clause, handle_clause, castop, mem_arg, ordering, from_bits, vector, lanes};
+ghost use Rattle.wasm_instructions.specs.formats.Operands.{ieee32, ieee64, block_type, catch_clause, handle_clause, castop, mem_arg, ordering, vector, lanes};
 ghost use Rattle.wasm_instructions.specs.declared.operands.control.Catch.{Catch};
 ghost use Rattle.wasm_instructions.specs.declared.operands.control.Handle.{Handle};
 ghost use Rattle.wasm_instructions.specs.declared.table.opcode.Kind.TheVariants as kinds;
@@ -13,12 +13,13 @@ ghost use Rattle.wasm_codec.specs.Lawful.{IsLawful};
 ghost use Rattle.wasm_codec.specs.formats.Grammar.{TakesBytes};
 ghost use Rattle.wasm_codec.specs.Rewriter.{Rewrites};
 
-use crate::operands::{BlockType, Catch, Handle, Ieee32, Ieee64, Lane, MemArg, Ordering};
+use crate::operands::{BlockType, Catch, Handle, Ieee32, Ieee64, Lane, MemArg, Ordering, V128};
 use crate::table::{Kind, Operands};
 use std::alloc::Global;
 use wasm_codec::reader::cursor::{Cursor, Fault};
 use wasm_codec::reader::malformed::{Construct, Malformed, Reason};
 use wasm_codec::rewriter::Rewriter;
+use wasm_lists::list::BoxedItems;
 use wasm_lists::readable::Readable;
 use wasm_lists::reading::read_list;
 use wasm_lists::rewriting::Rewritable;
@@ -145,15 +146,15 @@ pub fn read_bits_64(cursor: &mut Cursor<'_>) -> Result<u64, Fault>
     Ok(u64::from(low) + (1 << 32) * u64::from(high))
 }
 
-/// Reads a vector: a little-endian number of 16 bytes, in two's complement.
+/// Reads a vector of 16 bytes, little-endian.
 #[tactic(auto, unfolding(crate::specs::formats::Operands::vector))]
-pub fn read_vector(cursor: &mut Cursor<'_>) -> Result<i128, Fault>
+pub fn read_vector(cursor: &mut Cursor<'_>) -> Result<V128, Fault>
     ensures reads { Reads vector.at cursor.old cursor.new result }
     ensures err { IfErr result IsMalformed }
 {
     let low = read_bits_64(cursor)?;
     let high = read_bits_64(cursor)?;
-    Ok(from_bits(u128::from(low) + (1 << 64) * u128::from(high)))
+    Ok(V128 { low, high })
 }
 
 /// Reads sixteen lane indexes.
@@ -166,17 +167,6 @@ pub fn read_lanes(cursor: &mut Cursor<'_>) -> Result<[Lane; 16], Fault>
     let mut lanes = [0; 16];
     lanes.copy_from_slice(bytes);
     Ok(lanes)
-}
-
-/// Returns the value of 128 bits in two's complement.
-fn from_bits(bits: u128) -> i128
-    ensures { result ≡ from_bits bits }
-{
-    if bits < 1 << 127 {
-        bits as i128
-    } else {
-        (bits - (1 << 127)) as i128 + i128::MIN
-    }
 }
 
 /// Reads a clause of a `try_table` (Core 3.0, Control Instructions).
@@ -330,7 +320,9 @@ fn read_try_table(alloc: Global, cursor: &mut Cursor<'_>) -> Result<Operands, Fa
     ensures counted { IfOk result (λ o. IsCounted o) }
 {
     let ty = read_block_type(cursor)?;
-    let clauses = read_list(alloc, cursor)?;
+    let Ok(clauses) = BoxedItems::new(read_list(alloc, cursor)?) else {
+        return Err(Fault::Memory);
+    };
     Ok(Operands::TryTable(ty, clauses))
 }
 

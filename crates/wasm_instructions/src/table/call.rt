@@ -4,11 +4,12 @@ ghost use Rattle.wasm_instructions.specs.Instructions.{NumbersInRange, IsAligned
 ghost use Rattle.wasm_instructions.specs.formats.Instructions.{call};
 ghost use Rattle.wasm_codec.specs.declared.encode.EncodeError.TheVariants.{Memory};
 
-use crate::operands::{BlockType, Catch, Handle, Ieee32, Ieee64, Lane, MemArg, Ordering};
+use crate::operands::{BlockType, Catch, Handle, Ieee32, Ieee64, Lane, MemArg, Ordering, V128};
 use crate::table::opcode::{Kind, Opcode};
 use std::marker::Model;
+use std::mem::size_of;
 use wasm_codec::encode::EncodeError;
-use wasm_lists::list::Items;
+use wasm_lists::list::{BoxedItems, Items};
 use wasm_types::types::{HeapType, RefType, ValType};
 
 /// The operands of an instruction. It has one variant for each [`Kind`], with fields in the order of the binary format.
@@ -27,7 +28,7 @@ pub enum Operands {
     /// The types of a `select`.
     Types(Items<ValType>),
     /// The block type of a `try_table`, and its clauses.
-    TryTable(BlockType, Items<Catch>),
+    TryTable(BlockType, BoxedItems<Catch>),
     /// A memory argument.
     Mem(MemArg),
     /// The constant of an `i32.const`.
@@ -47,7 +48,7 @@ pub enum Operands {
     /// The label of a branch on a cast, and the types before and after the cast.
     Cast(u32, RefType, RefType),
     /// The constant of a `v128.const`.
-    V128(i128),
+    V128(V128),
     /// The lane indexes of an `i8x16.shuffle`.
     Shuffle([Lane; 16]),
     /// A lane index.
@@ -79,6 +80,9 @@ pub struct Call {
     op: Opcode,
     operands: Operands,
 }
+
+// The opcode has 8 bytes, and the operands have 40. Modules have many instructions, so their size matters.
+const _: () = prove!(size_of::<Call>() == 48);
 
 impl Model for Call {
     ghost use Rattle.wasm_instructions.specs.formats.Instructions.{Instruction};

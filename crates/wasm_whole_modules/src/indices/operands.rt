@@ -10,6 +10,7 @@ use std::alloc::Global;
 use wasm_codec::encode::EncodeError;
 use wasm_instructions::operands::{BlockType, Catch, Handle, MemArg};
 use wasm_instructions::table::{Call, Opcode, Operands};
+use wasm_lists::list::BoxedItems;
 
 impl MapIndices for BlockType {
     ghost mapped = { mapped_block_type };
@@ -138,7 +139,8 @@ fn map_operands<M: Renumbering>(
         Operands::Types(types) => Ok(Operands::Types(types.map_indices(alloc, indices)?)),
         Operands::TryTable(ty, clauses) => {
             let ty = ty.map_indices(alloc, indices)?;
-            Ok(Operands::TryTable(ty, clauses.map_indices(alloc, indices)?))
+            let clauses = clauses.items().map_indices(alloc, indices)?;
+            Ok(Operands::TryTable(ty, BoxedItems::new(clauses)?))
         }
         Operands::Mem(arg) => Ok(Operands::Mem(arg.map_indices(alloc, indices)?)),
         Operands::MemLane(arg, lane) => {

@@ -76,7 +76,7 @@ fn write_constant<W: fmt::Write>(f: &mut fmt::Formatter<W>, operands: &Operands)
         Operands::I64(value) => write!(f, " {value}"),
         Operands::F32(value) => write!(f, " {}", FloatText::from(*value)),
         Operands::F64(value) => write!(f, " {}", FloatText::from(*value)),
-        Operands::V128(value) => write_words(f, value.to_le_bytes()),
+        Operands::V128(value) => write_words(f, value.value().to_le_bytes()),
         Operands::Shuffle(lanes) => write_words(f, *lanes),
         Operands::Lane(lane) => write!(f, " {lane}"),
         _ => Ok(()),

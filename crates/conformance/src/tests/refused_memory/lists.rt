@@ -3,7 +3,9 @@
 use super::{call, is_cloned};
 use std::alloc::Global;
 use std::test::Fail;
-use wasm_encoder::{BlockType, Call, Catch, EncodeError, Handle, Items, Operands, ValType};
+use wasm_encoder::{
+    BlockType, BoxedItems, Call, Catch, EncodeError, Handle, Items, Operands, ValType,
+};
 
 /// A list of these items, though the first request for memory be refused.
 fn items<T: Copy>(alloc: Global, items: &[T]) -> Result<Items<T>, EncodeError> {
@@ -13,12 +15,20 @@ fn items<T: Copy>(alloc: Global, items: &[T]) -> Result<Items<T>, EncodeError> {
     }
 }
 
+/// The same behind a pointer.
+fn boxed<T: Copy>(alloc: Global, list: &[T]) -> Result<BoxedItems<T>, EncodeError> {
+    match BoxedItems::new(items(alloc, list)?) {
+        Err(EncodeError::Memory) => BoxedItems::new(items(alloc, list)?),
+        boxed => boxed,
+    }
+}
+
 /// `br_table`, `select` and `try_table`.
 fn branches(alloc: Global) -> Result<[Call; 3], Fail> {
     let clauses = [Catch::One { tag: 1, label: 0 }, Catch::AllRef { label: 2 }];
     let labels = items(alloc, &[1, 2])?;
     let types = items(alloc, &[ValType::I32, ValType::I64])?;
-    let clauses = items(alloc, &clauses)?;
+    let clauses = boxed(alloc, &clauses)?;
     Ok([
         call(0x0e, Operands::BrTable(labels, 3))?,
         call(0x1c, Operands::Types(types))?,

@@ -11,7 +11,7 @@ use wasm_codec::encode::EncodeError;
 use wasm_codec::encode::leb128::{put_i32, put_i64};
 use wasm_instructions::appenders::append_opcode;
 use wasm_instructions::encode::{put_bits_32, put_bits_64, put_lanes, put_vector};
-use wasm_instructions::operands::{Ieee32, Ieee64, Lane};
+use wasm_instructions::operands::{Ieee32, Ieee64, Lane, V128};
 use wasm_instructions::table::Opcode;
 
 #[tactic(auto, using(wasm_instructions::proofs::OpcodeLaws::in_table_short))]
@@ -89,7 +89,7 @@ impl<'a, A: Allocator> InstructionSink<'a, A> {
     pub(in crate::sink) fn emit_v128(
         self,
         number: u32,
-        value: i128,
+        value: V128,
     ) -> Result<InstructionSink<'a, A>, EncodeError>
         requires call { IsCall (after_fd number) (operands.V128 value) }
         ensures emits { Emits self.entry (after_fd number) (operands.V128 value) result }

@@ -2,12 +2,13 @@
 ghost use Rattle.std.specs.Borrow.{sem};
 ghost use Rattle.wasm_sink.specs.Sink.{IsUnchangedAtErr, Emits};
 ghost use Rattle.wasm_instructions.specs.formats.Opcodes.{after_fd};
+ghost use Rattle.wasm_instructions.specs.formats.Operands.{v128};
 ghost use Rattle.wasm_instructions.specs.declared.table.call.Operands.TheVariants as operands;
 
 use crate::sink::InstructionSink;
 use std::alloc::Allocator;
 use wasm_codec::encode::EncodeError;
-use wasm_instructions::operands::Lane;
+use wasm_instructions::operands::{Lane, V128};
 use wasm_instructions::table::Prefix;
 
 #[tactic(auto, unfolding(wasm_instructions::specs::formats::Opcodes::ranges))]
@@ -15,10 +16,10 @@ impl<'a, A: Allocator> InstructionSink<'a, A> {
     /// `v128.const`: `0xFD 0x0C`, then 16 bytes, the lowest first.
     #[inline(always)]
     pub fn v128_const(self, value: i128) -> Result<InstructionSink<'a, A>, EncodeError>
-        ensures emits { Emits self.entry (after_fd 0x0c) (operands.V128 value) result }
+        ensures emits { Emits self.entry (after_fd 0x0c) (operands.V128 (v128 value)) result }
         ensures* unchanged { sem 𝓛 (IsUnchangedAtErr A.row A.Allocator self.entry result) }
     {
-        self.emit_v128(0x0c, value)
+        self.emit_v128(0x0c, V128::new(value))
     }
 
     /// `i8x16.shuffle`: `0xFD 0x0D`, then 16 lanes.
