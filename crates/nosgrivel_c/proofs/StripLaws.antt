@@ -4,12 +4,12 @@ use Rattle.std.specs.Global.{Vec}
 use Rattle.std.specs.Prelude.{IfOk}
 use Rattle.wasm_codec.specs.declared.reader.ReadError.{ReadError}
 use Rattle.wasm_codec.specs.declared.reader.ReadError.TheVariants as errors
-use Rattle.wasm_codec.specs.Outcomes.{EncodesSome, IfRefused, IsLongestPrefix, IsNormalForm}
+use Rattle.wasm_codec.specs.Outcomes.{IfRefused, IsLongestPrefix, IsNormalForm}
 use Rattle.wasm_modules.specs.Modules.{IsModulePrefixOf}
 use Rattle.wasm_modules.specs.formats.Sections.{SectionParts}
 use Rattle.wasm_modules.specs.formats.Modules.{raw_module}
 use Rattle.wasm_sections.specs.formats.ModuleSectionParts.{ModuleSectionParts}
-use Rattle.wasm_sections.specs.formats.ModuleSections.{module_section, whole_module, ShortestWholeModule}
+use Rattle.wasm_sections.specs.formats.ModuleSections.{KeepsMinimal, module_section, whole_module}
 use Rattle.wasm_sections.proofs.RawSections.{minimal_normal, normal_minimal}
 use Rattle.wasm_whole_modules.specs.Selections.{IsSelected}
 use Rattle.wasm_whole_modules.specs.declared.selection.Selection.{Selection}
@@ -17,7 +17,7 @@ use Rattle.nosgrivel_c.specs.Delivery.{IsDelivered}
 use Rattle.nosgrivel_c.specs.Stripping.{IsPatternError, IsStripped, WritesStripped}
 use Rattle.nosgrivel_c.proofs.DeliveryLaws.{at_count}
 
-pub stripped : (selection : Selection) (input canonical bytes : List ℕ) → IsNormalForm whole_module.Encodes whole_module.bytes input canonical → ((sections : List SectionParts) → raw_module.Encodes canonical sections → IsSelected selection sections bytes) → (EncodesSome ShortestWholeModule canonical → EncodesSome ShortestWholeModule bytes) → IsStripped selection input bytes
+pub stripped : (selection : Selection) (input canonical bytes : List ℕ) → IsNormalForm whole_module.Encodes whole_module.bytes input canonical → ((sections : List SectionParts) → raw_module.Encodes canonical sections → IsSelected selection sections bytes) → KeepsMinimal canonical bytes → IsStripped selection input bytes
 stripped selection input canonical bytes normal chosen minimal = record { canonical = canonical; normal = normal; chosen = chosen; stays = minimal_normal bytes (minimal (normal_minimal input canonical normal)) }
 
 pub writes_stripped : (selection : Selection) (result : Result (Vec ℕ) ReadError) (input old new : List ℕ) (before count status : ℕ) → IfOk result (λ left. IsStripped selection input left.items) → IfRefused result (IsLongestPrefix (IsModulePrefixOf module_section) input) → IfRefused result (λ _. (sections : List ModuleSectionParts) → whole_module.Encodes input sections → ⊥)

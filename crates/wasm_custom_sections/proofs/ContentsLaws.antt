@@ -23,7 +23,7 @@ use Rattle.wasm_modules.proofs.ModuleFormatLaws.{Lawful-raw-module, Lawful-raw-s
 use Rattle.wasm_modules.proofs.SectionWalks.{next_section, no_section, none_left, section_takes}
 use Rattle.wasm_sections.specs.formats.EntryParts.{CustomParts}
 use Rattle.wasm_sections.specs.formats.ModuleSectionParts.{custom}
-use Rattle.wasm_sections.specs.formats.ModuleSections.{module_section, ShortestWholeModule}
+use Rattle.wasm_sections.specs.formats.ModuleSections.{KeepsMinimal, ShortestWholeModule, module_section}
 use Rattle.wasm_sections.specs.formats.Sections.{custom_body}
 use Rattle.wasm_sections.proofs.CustomLaws.{custom_is_lawful}
 use Rattle.wasm_sections.proofs.ModuleSectionLaws.{custom_kind, module_section_is_lawful}
@@ -322,7 +322,7 @@ all_minimal none fits all = tt
 all_minimal (more {s = s} {m = m} one rest) fits all = (one_minimal s m one fits.0 all.0, all_minimal rest fits.1 all.1)
 
 -- a minimally encoded module stays one with minimal contents
-pub minimal_contents : (bytes result : List ℕ) → MinimisesContents bytes result → EncodesSome ShortestWholeModule bytes → EncodesSome ShortestWholeModule result
+pub minimal_contents : (bytes result : List ℕ) → MinimisesContents bytes result → KeepsMinimal bytes result
 minimal_contents bytes result h g =
     let raw = raw_sections bytes g in
     let w = h raw.sections raw.encodes in

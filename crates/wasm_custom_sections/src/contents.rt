@@ -6,7 +6,7 @@ ghost use Rattle.wasm_codec.specs.Rewriter.{Rewrites};
 ghost use Rattle.wasm_codec.specs.formats.Combinators.{◌⊗◌};
 ghost use Rattle.wasm_entities.specs.formats.Names.{name};
 ghost use Rattle.wasm_modules.specs.formats.Sections.{parts_of};
-ghost use Rattle.wasm_sections.specs.formats.ModuleSections.{ShortestWholeModule};
+ghost use Rattle.wasm_sections.specs.formats.ModuleSections.{KeepsMinimal};
 ghost use Rattle.wasm_custom_sections.specs.MinimalContents.{DecodesNext, IsDecodedAs, MinimisesContents, MinimisesNext, RewritesContents, section_with};
 ghost use Rattle.wasm_custom_sections.specs.formats.NameParts.{SubsectionParts};
 ghost use Rattle.wasm_custom_sections.specs.formats.Names.{name_data};
@@ -47,8 +47,7 @@ pub fn rewrite_module_contents(alloc: Global, bytes: Vec<u8>) -> Result<Vec<u8>,
 /// Fails if there is no memory for a copy of one section's contents.
 pub fn rewrite_contents(alloc: Global, bytes: Vec<u8>) -> Result<Vec<u8>, AllocError>
     ensures ok { IfOk result (λ minimal. MinimisesContents bytes.items minimal.items) }
-    // A minimally encoded module stays one.
-    ensures minimal { IfOk result (λ minimal. EncodesSome ShortestWholeModule bytes.items → EncodesSome ShortestWholeModule minimal.items) }
+    ensures minimal { IfOk result (λ minimal. KeepsMinimal bytes.items minimal.items) }
 {
     let Some(_sections) = after_header(&bytes) else {
         // A malformed module has no sections.

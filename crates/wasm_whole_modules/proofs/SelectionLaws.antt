@@ -12,7 +12,7 @@ use Rattle.wasm_codec.proofs.RewriterLaws.{is_after}
 use Rattle.wasm_modules.proofs.SectionWalks.{next_section, no_section, none_left, plainly, section_takes}
 use Rattle.wasm_modules.specs.formats.Sections.{SectionParts, header}
 use Rattle.wasm_modules.specs.formats.Modules.{raw_module, raw_section}
-use Rattle.wasm_sections.specs.formats.ModuleSections.{ShortestWholeModule}
+use Rattle.wasm_sections.specs.formats.ModuleSections.{KeepsMinimal, ShortestWholeModule}
 use Rattle.wasm_sections.proofs.RawSections.{IsMinimalSection, raw_sections, whole_again}
 use Rattle.wasm_whole_modules.specs.Offsets.{IsNameOf}
 use Rattle.wasm_whole_modules.specs.Selections.{IsDroppedName, IsDropped, ChoosesNext, Without, none, kept, dropped, IsSelected}
@@ -168,7 +168,7 @@ kept_all P (kept m w) all = (all.0, kept_all P w all.1)
 kept_all P (dropped k w) all = kept_all P w all.1
 
 -- a minimally encoded module stays one without some of its sections
-pub minimal_left : (selection : Selection) (bytes result : List ℕ) → ((sections : List SectionParts) → raw_module.Encodes bytes sections → IsSelected selection sections result) → EncodesSome ShortestWholeModule bytes → EncodesSome ShortestWholeModule result
+pub minimal_left : (selection : Selection) (bytes result : List ℕ) → ((sections : List SectionParts) → raw_module.Encodes bytes sections → IsSelected selection sections result) → KeepsMinimal bytes result
 minimal_left selection bytes result selected g =
     let raw = raw_sections bytes g in
     let w = selected raw.sections raw.encodes in

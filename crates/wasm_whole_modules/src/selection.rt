@@ -1,9 +1,8 @@
 //! Modules without some of their custom sections, which are chosen by name.
 ghost use Rattle.std.specs.Prelude.{◌≡◌, ℕ, List, true, false, IfSome, IfNone};
-ghost use Rattle.wasm_codec.specs.Outcomes.{EncodesSome};
 ghost use Rattle.wasm_modules.specs.formats.Sections.{SectionParts, parts_of};
 ghost use Rattle.wasm_modules.specs.formats.Modules.{raw_module};
-ghost use Rattle.wasm_sections.specs.formats.ModuleSections.{ShortestWholeModule};
+ghost use Rattle.wasm_sections.specs.formats.ModuleSections.{KeepsMinimal};
 ghost use Rattle.wasm_whole_modules.specs.Offsets.{IsNameOf};
 ghost use Rattle.wasm_whole_modules.specs.Selections.{Matches, MatchesSome, LiesAround, IsDroppedName, IsDropped, ChoosesNext, IsSelected, IsChosen};
 
@@ -70,8 +69,7 @@ pub enum Sections<'a> {
 /// Returns a canonical form with only these sections. It works in place.
 pub fn choose_sections(canonical: Vec<u8>, sections: Sections<'_>) -> Vec<u8>
     ensures chosen { IsChosen sections.entry canonical.items result.items }
-    // A minimally encoded module stays one.
-    ensures minimal { EncodesSome ShortestWholeModule canonical.items → EncodesSome ShortestWholeModule result.items }
+    ensures minimal { KeepsMinimal canonical.items result.items }
 {
     match sections {
         Sections::All => canonical,
@@ -86,8 +84,7 @@ pub fn select_sections(bytes: Vec<u8>, selection: Selection<'_>) -> Vec<u8>
     // The result is the minimal encoding of the sections that aren't dropped.
     ensures ok { (sections : List SectionParts) → raw_module.Encodes bytes.items sections →
         IsSelected selection.entry sections result.items }
-    // A minimally encoded module stays one.
-    ensures minimal { EncodesSome ShortestWholeModule bytes.items → EncodesSome ShortestWholeModule result.items }
+    ensures minimal { KeepsMinimal bytes.items result.items }
 {
     let Some(_sections) = after_header(&bytes) else {
         // A malformed module has no sections to drop.

@@ -4,13 +4,13 @@ use Rattle.std.proofs.lemmas.Bool.{true≢false}
 use Rattle.std.specs.Global.{Vec}
 use Rattle.std.specs.Prelude.{IfSome}
 use Rattle.wasm_codec.specs.Decoding.{Checks, NormalisesInPlace}
-use Rattle.wasm_codec.specs.Outcomes.{EncodesSome, place_alone}
+use Rattle.wasm_codec.specs.Outcomes.{place_alone}
 use Rattle.wasm_codec.specs.declared.reader.refusal.Refusal.{Refusal}
 use Rattle.wasm_whole_modules.specs.RefusalNumbers.{CountsParts}
 use Rattle.wasm_codec.specs.formats.Combinators.{minimal_only}
 use Rattle.wasm_modules.specs.Judging.{verdict_of}
 use Rattle.wasm_modules.specs.Modules.{IsModulePrefixOf}
-use Rattle.wasm_sections.specs.formats.ModuleSections.{module_section, whole_module, ShortestWholeModule}
+use Rattle.wasm_sections.specs.formats.ModuleSections.{KeepsMinimal, ShortestWholeModule, module_section, whole_module}
 use Rattle.wasm_sections.proofs.RawSections.{minimal_normal, normal_minimal}
 use Rattle.wasm_custom_sections.specs.MinimalContents.{MinimisesContents}
 use Rattle.wasm_whole_modules.specs.Selections.{IsChosen}
@@ -46,10 +46,6 @@ longer_judged names input bytes refusal form check = by names where
   by true = ((form.given.value, form.given.encoded), inl longer)
 
 -- ---- canonical forms
-
--- a call takes minimally encoded modules to such modules
-abbrev pub KeepsMinimal : List ℕ → List ℕ → Type 0
-KeepsMinimal bytes result = EncodesSome ShortestWholeModule bytes → EncodesSome ShortestWholeModule result
 
 -- the form of an input that is known
 pub is_form : (known : Option (List ℕ)) (options : FormOptions) (encoding part bytes : List ℕ) → IfSome known (λ input. IsCanonicalForm input encoding) → IsChosen options.sections encoding part → KeepsMinimal encoding part → HasContents options.names part bytes → KeepsMinimal part bytes → IfSome known (λ input. IsForm options input bytes)

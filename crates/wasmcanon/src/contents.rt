@@ -1,7 +1,6 @@
 //! The contents of the custom sections `name` and `producers`, which `--names` puts into their minimal encoding too.
 ghost use Rattle.std.specs.Prelude.{IfOk, IfSome, IfNone};
-ghost use Rattle.wasm_codec.specs.Outcomes.{EncodesSome};
-ghost use Rattle.wasm_sections.specs.formats.ModuleSections.{ShortestWholeModule};
+ghost use Rattle.wasm_sections.specs.formats.ModuleSections.{KeepsMinimal};
 ghost use Rattle.wasmcanon.specs.Run.{HasContents, HasLongerContents, HasMinimalContents, IsCanonicalForm, Judges};
 
 use crate::run::Verdict;
@@ -24,8 +23,7 @@ use wasm_sections::custom::read_custom;
 /// Fails if memory runs out.
 pub fn with_contents(alloc: Global, bytes: Vec<u8>, names: bool) -> Result<Vec<u8>, AllocError>
     ensures contents { IfOk result (λ form. HasContents names bytes.items form.items) }
-    // A minimally encoded module stays one.
-    ensures minimal { IfOk result (λ form. EncodesSome ShortestWholeModule bytes.items → EncodesSome ShortestWholeModule form.items) }
+    ensures minimal { IfOk result (λ form. KeepsMinimal bytes.items form.items) }
 {
     if names {
         rewrite_contents(alloc, bytes)

@@ -1,6 +1,7 @@
 -- Sections with their content, and modules of such sections (WebAssembly Core 3.0, Modules).
 use Rattle.std.specs.Prelude.{◌≡◌, ◌<◌, ℕ, List, ◌∷◌, Option, ⊤}
 use Rattle.wasm_codec.specs.Lists.{BreaksAtItem, BreaksInBody}
+use Rattle.wasm_codec.specs.Outcomes.{EncodesSome}
 use Rattle.wasm_codec.specs.formats.Bodies.{sized}
 use Rattle.wasm_codec.specs.formats.Grammar.{Grammar}
 use Rattle.wasm_codec.specs.formats.Combinators.{Format, made, any_of, no_other, tagged, minimal_only, items, u32}
@@ -65,6 +66,10 @@ whole_module = module_of module_section
 -- The bytes encode these sections, each of them minimally.
 abbrev pub ShortestWholeModule : Grammar (List ModuleSectionParts)
 ShortestWholeModule = (module_of (minimal_only module_section)).Encodes
+
+-- If the bytes are a minimally encoded module, so is the result.
+abbrev pub KeepsMinimal : List ℕ → List ℕ → Type 0
+KeepsMinimal bytes result = EncodesSome ShortestWholeModule bytes → EncodesSome ShortestWholeModule result
 
 -- ---- by kinds
 
