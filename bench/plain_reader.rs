@@ -432,6 +432,12 @@ struct Ieee64 {
 }
 
 #[derive(Debug)]
+struct V128 {
+    low: u64,
+    high: u64,
+}
+
+#[derive(Debug)]
 enum BlockType {
     Empty,
     Result(ValType),
@@ -510,7 +516,7 @@ enum Operands {
     Resume(u32, Vec<Handle>),
     ResumeThrow(u32, u32, Vec<Handle>),
     Cast(u32, RefType, RefType),
-    V128(i128),
+    V128(V128),
     Shuffle([u8; 16]),
     Lane(u8),
     MemLane(MemArg, u8),
@@ -735,7 +741,10 @@ impl Operands {
             Kind::Resume => Operands::Resume(cursor.u32()?, cursor.list(Handle::read)?),
             Kind::ResumeThrow => Operands::ResumeThrow(cursor.u32()?, cursor.u32()?, cursor.list(Handle::read)?),
             Kind::Cast => Operands::cast(cursor)?,
-            Kind::V128 => Operands::V128(i128::from_le_bytes(cursor.array()?)),
+            Kind::V128 => Operands::V128(V128 {
+                low: u64::from_le_bytes(cursor.array()?),
+                high: u64::from_le_bytes(cursor.array()?),
+            }),
             Kind::Shuffle => Operands::Shuffle(cursor.array()?),
             Kind::Lane => Operands::Lane(cursor.byte()?),
             Kind::MemLane => Operands::MemLane(MemArg::read(cursor)?, cursor.byte()?),
