@@ -4,9 +4,10 @@
 FOLDER/kinds has a line for each: the kind, how many things the module holds, and what one is called.
 Where plain_normaliser.rs doesn't know the kind, its normal form stands beside it, as KIND.normal.
 FOLDER/linked_instructions has the instructions of linked_code.wasm alone.
-Every run writes the same bytes, but for `debug`, which clang and wasm-ld write if they are there. All modules are well
-formed; but for `debug` and `linked_json`, none is valid.
+Every run writes the same bytes, but for `debug`, `go` and `rust`, which compilers write if they are there. All modules
+are well formed; but for these and `linked_json`, none is valid.
 """
+import os
 import shutil
 import subprocess
 import sys
@@ -65,6 +66,33 @@ def debug(folder):
     return linked.read_bytes()[len(HEAD):]
 
 
+def go(folder):
+    """The sections of words.go with Go's runtime."""
+    built = folder / "words.wasm"
+    target = {**os.environ, "GOOS": "js", "GOARCH": "wasm", "GOCACHE": str(folder), "GO111MODULE": "off"}
+    subprocess.run(["go", "build", "-trimpath", "-o", built, HERE / "words.go"], env=target, check=True)
+    return built.read_bytes()[len(HEAD):]
+
+
+def rust_compiler():
+    """A rustc that has the standard library for WebAssembly, such as that of Debian's libstd-rust-dev-wasm32."""
+    for folder in os.get_exec_path():
+        rustc = Path(folder, "rustc")
+        if rustc.exists():
+            found = subprocess.run([rustc, "--print", "sysroot"], stdout=subprocess.PIPE, text=True)
+            if Path(found.stdout.strip(), "lib/rustlib/wasm32-unknown-unknown").exists():
+                return rustc
+    return None
+
+
+def rust(folder, rustc):
+    """The sections of letters.rs with Rust's standard library and its debug sections."""
+    built = folder / "letters.wasm"
+    subprocess.run([rustc, "--target", "wasm32-unknown-unknown", "-g", "-C", "opt-level=1", "--crate-type", "cdylib",
+                    "-o", built, HERE / "letters.rs"], check=True)
+    return built.read_bytes()[len(HEAD):]
+
+
 def functions(count, code):
     """A code section of equal functions without locals."""
     body = b"\x00" + code + END
@@ -111,10 +139,19 @@ def kinds():
     yield "data_segments", *repeated_list(DATA, 150000, b"\x00" + I32_CONST_0 + END + name(b"sixteen bytes..."))
     yield "custom", section(CUSTOM, name(b"a_function") + bytes(1000)) * 3000, 3000, "section"
     yield "linked_json", JSON, len(JSON), "byte"
-    if shutil.which("clang") and shutil.which("wasm-ld"):
-        with tempfile.TemporaryDirectory() as folder:
-            sections = debug(Path(folder))
-        yield "debug", sections, len(sections), "byte"
+    for kind, sections in compiled():
+        yield kind, sections, len(sections), "byte"
+
+
+def compiled():
+    """Modules of the compilers that are there."""
+    with tempfile.TemporaryDirectory() as folder:
+        if shutil.which("clang") and shutil.which("wasm-ld"):
+            yield "debug", debug(Path(folder))
+        if shutil.which("go"):
+            yield "go", go(Path(folder))
+        if rustc := rust_compiler():
+            yield "rust", rust(Path(folder), rustc)
 
 
 # The normal forms of the kinds that plain_normaliser.rs doesn't know: it refuses 0xFB, and copies type sections.
