@@ -139,11 +139,11 @@ def kinds():
     yield "data_segments", *repeated_list(DATA, 150000, b"\x00" + I32_CONST_0 + END + name(b"sixteen bytes..."))
     yield "custom", section(CUSTOM, name(b"a_function") + bytes(1000)) * 3000, 3000, "section"
     yield "linked_json", JSON, len(JSON), "byte"
-    for kind, sections in compiled():
+    for kind, sections in real_modules():
         yield kind, sections, len(sections), "byte"
 
 
-def compiled():
+def real_modules():
     """Modules of the compilers that are there."""
     with tempfile.TemporaryDirectory() as folder:
         if shutil.which("clang") and shutil.which("wasm-ld"):

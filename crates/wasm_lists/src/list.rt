@@ -236,19 +236,6 @@ impl<T: Eq> Eq for BoxedItems<T> {
     ghost laws = { lists_equiv T.Eq.laws };
 }
 
-impl<T: Hash> Hash for BoxedItems<T> {
-    ghost use Rattle.std.specs.Hash as fed;
-    ghost use Rattle.std.specs.Hash.{items_Alike};
-
-    ghost hash_input = { fed.slice T.hash_input };
-
-    ghost respects_eq = { (items_Alike (record { fed = T.respects_eq })).fed };
-
-    fn hash<H: Hasher>(&self, state: &mut H) {
-        self.items().hash(state);
-    }
-}
-
 impl<T: Debug> Debug for BoxedItems<T> {
     fn fmt<W: fmt::Write>(&self, f: &mut fmt::Formatter<W>) -> fmt::Result {
         Debug::fmt(self.items(), f)
