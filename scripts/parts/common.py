@@ -35,6 +35,11 @@ def kit():
     return pathlib.Path(page.strip()).parent
 
 
+def kit_line():
+    """The kit's line of itself."""
+    return subprocess.run(["rt", "version"], capture_output=True, text=True, check=True).stdout.strip()
+
+
 def run(*words, **how):
     """Runs a command, and returns its status and outputs. Without `input` or `stdin`, it has no input."""
     if "input" not in how:

@@ -1,21 +1,49 @@
-"""Every proof, test, must-fail edit, program and vector: `rt ci`, with a job for each processor."""
-import os
+"""Every proof, test, must-fail edit, program and vector: `rt ci`.
 
-from parts.common import counted, program
+Two runs share the processors better than one. Each crate of the library waits for those below it, so `rt ci LIBRARY`
+gives several processors to one crate. The programs and tests above don't wait for each other, and rt would count on
+more memory than they take; so RT_JOBS lets `rt ci` prove one on each processor. It takes what the first run kept.
+"""
+import os
+import subprocess
+import sys
+
+from parts import times
+from parts.common import ROOT, counted, program, room
 from parts.kept import keep, sources
 
+LIBRARY = "wasm_encoder"
 PROGRAMS = ("wasmcanon", "wasmnorm")
 # The sources that this run of the gate proved, by the crates that are built from them.
 proved = {}
+# The calls of rattle in a timed run.
+calls = []
 
 
-def run(report):
+def run(report, is_timed=False):
     """If all is proved, the user's cache keeps the programs, so that launchers and scripts/install prove nothing."""
     before = {crate: sources(crate) for crate in (*PROGRAMS, "nosgrivel_c")}
-    jobs = len(os.sched_getaffinity(0))
-    counted(report, "rt ci", ["rt", "ci"], env={**os.environ, "RT_JOBS": str(jobs)})
+    if is_timed:
+        prove_timed(report)
+    else:
+        prove(report, ["rt", "ci"])
     if not report.counts["failed"]:
         proved.update({crate: known for crate, known in before.items() if sources(crate) == known})
     for crate in PROGRAMS:
         if crate in proved and program(crate).exists():
             keep(crate, proved[crate], program(crate))
+
+
+def prove(report, command, environment=None):
+    """Proves the library, and then all. Only the second run counts: it judges the library as well."""
+    environment = {**os.environ, **(environment or {})}
+    subprocess.run([*command, LIBRARY], stdin=subprocess.DEVNULL, cwd=ROOT, env=environment)
+    counted(report, "rt ci", command, env={**environment, "RT_JOBS": str(times.cores())})
+
+
+def prove_timed(report):
+    """Does the same, and notes what each call of rattle takes."""
+    with room() as folder:
+        file = folder / "calls"
+        prove(report, [sys.executable, str(ROOT / "scripts/parts/timed_ci.py")], {"RATTLE_TIMES": str(file)})
+        calls.extend(times.calls_of(file))

@@ -1,0 +1,104 @@
+"""Which functions and law files take the prover longest.
+
+Each crate is proved from nothing by one process, as many crates at a time as there are processors. The prover writes a
+file when it has checked a module, so the times of these files say what each module took. A function's modules are its
+contract, the borrow checker's part, and its proof.
+"""
+import collections
+import concurrent.futures
+import dataclasses
+import pathlib
+import re
+import subprocess
+import sys
+
+from parts import times
+from parts.common import ROOT, room
+from parts.planted_crates import prepare_libraries
+from parts.planted_kit import Fault, kit
+
+# How many functions and law files the table names.
+MOST = 20
+RUN = "import resource, subprocess, sys; subprocess.run(sys.argv[1:]); " \
+      "print('processor', sum(resource.getrusage(resource.RUSAGE_CHILDREN)[:2]))"
+
+
+@dataclasses.dataclass
+class Cost:
+    """What the prover took for a crate: its processor seconds, the number of functions, and the seconds of each thing."""
+
+    crate: str
+    processor: float
+    functions: int
+    things: collections.Counter
+
+
+def measure(crate):
+    """Proves a crate, and reads what each of its modules took."""
+    with room() as kept:
+        words = crate.words(["--jobs", "1"], tests=crate.has_tests(), keeps=False)
+        command = [sys.executable, "-c", RUN, kit().rtlib.RATTLE, "check", *words, "--progress", "--incremental", str(kept)]
+        ran = subprocess.run(command, cwd=crate.folder, stdin=subprocess.DEVNULL, capture_output=True, text=True,
+                             errors="replace")
+        said = ran.stdout
+        if not re.search(r"^logic=proved", said, re.MULTILINE):
+            raise Fault(f"{crate.name} isn't proved: {said[-300:]}")
+        functions = {name.replace("::", ".") for name in re.findall(r"^checked \w+?::(\S+), \d+ of", said, re.MULTILINE)}
+        things = things_of(crate, functions, modules_in(kept))
+    return Cost(crate.name, float(re.search(r"^processor (\S+)", said, re.MULTILINE)[1]), len(functions), things)
+
+
+def modules_in(folder):
+    """The modules that the prover wrote below a folder, each with its seconds, in their order."""
+    files = sorted((file.stat().st_mtime, file.stem) for file in folder.rglob("*.oantt") if file.parent.name != "records")
+    starts = [files[0][0], *(written for written, _ in files)] if files else []
+    return [(name, written - start) for (written, name), start in zip(files, starts)]
+
+
+def things_of(crate, functions, modules):
+    """The seconds of the functions and law files of a crate, by what the table calls them."""
+    things = collections.Counter()
+    for name, took in modules:
+        found = re.match(rf"Rattle-{crate.name}-(specs|proofs)\.(.*)", name)
+        if found:
+            things[thing(crate, functions, *found.groups())] += took
+    return things
+
+
+def thing(crate, functions, part, name):
+    """What a module belongs to: a function, or a file of specs/ or proofs/."""
+    words = name.removeprefix("contracts.").split(".")
+    for count in range(len(words), 0, -1):
+        path = ".".join(words[:count])
+        if path in functions:
+            return f"{crate.name}::{path.replace('.', '::')}"
+    file = pathlib.Path(crate.folder, part, *words).with_suffix(".antt")
+    return f"crates/{crate.name}/{part}/{'/'.join(words)}.antt" if file.exists() else f"{crate.name}: types"
+
+
+def crates_table(costs):
+    rows = [[f"`{it.crate}`", it.functions, times.seconds(it.processor)]
+            for it in sorted(costs, key=lambda it: -it.processor)]
+    rows.append(["all", sum(it.functions for it in costs), times.seconds(sum(it.processor for it in costs))])
+    return times.table(["crate", "functions", "processor s"], rows)
+
+
+def things_table(costs):
+    things = sum((it.things for it in costs), collections.Counter())
+    rows = [[f"`{name}`", f"{took:.0f}"] for name, took in things.most_common(MOST)]
+    return times.table(["function or law file", "s"], rows)
+
+
+def run(report, words):
+    """Measures the crates that the words name, or all, and writes the tables into the page."""
+    crates = [it for it in kit().rtlib.crates_below(str(ROOT)) if not words or it.name in words]
+    held = kit().rtlib.lock(list(dict.fromkeys(it for crate in crates for it in [*crate.below(), crate])))
+    prepare_libraries(crates, False)
+    longest = sorted(crates, key=lambda it: -it.count(rb"\n"))
+    with concurrent.futures.ThreadPoolExecutor(times.cores()) as pool:
+        costs = list(pool.map(measure, longest))
+    del held
+    for cost in costs:
+        report.passed(cost.crate)
+    text = "\n\n".join([crates_table(costs), things_table(costs), f"{times.machine()}."])
+    print(text) if words else times.write("costs", text)
