@@ -1,10 +1,10 @@
 -- The laws of the subsections of a name section, and what is read and rewritten of them.
-use Rattle.std.proofs.Common.{◌≡◌, ℕ, ◌<◌, ◌==◌, false, List, [], ◌∷◌, ◌++◌, Option, Some, None, Result, Ok, Err, refl, sym, ap, subst, ◌∙◌, append_assoc, lit≤, arith}
+use Rattle.std.proofs.Common.{◌≡◌, ℕ, ◌<◌, ◌==◌, false, List, [], ◌∷◌, ◌++◌, Option, Some, None, Result, Ok, Err, IsOkAnd, MatchResult, refl, sym, ap, subst, ◌∙◌, append_assoc, lit≤, arith}
 use Rattle.std.proofs.lemmas.Bool.{lt-ltb, ne_eqb}
 use Rattle.wasm_codec.specs.Decoding.{IsMinimal}
 use Rattle.wasm_codec.specs.Lawful.{IsLawful, IsLawfulBody}
 use Rattle.wasm_codec.specs.Places.{Place, byte_at, map_at, Reads}
-use Rattle.wasm_codec.specs.Reading.{◌>>=◌}
+use Rattle.wasm_codec.specs.Reading.{◌>>=◌, map_ok}
 use Rattle.wasm_codec.specs.Rewriter.{Gives, Rewriting, rewritten_at, Rewrites}
 use Rattle.wasm_codec.specs.declared.reader.cursor.Fault.{Fault}
 use Rattle.wasm_codec.specs.declared.reader.cursor.Fault.TheVariants as faults
@@ -157,6 +157,12 @@ module _ (n : ℕ) (old mid new : Place) (begun : byte_at old ≡ Some (n, mid))
     pub kind_fault : (fault : Fault) → Reads (sized F).at mid new (Err fault) → Reads name_subsection.at old new (Err fault)
     kind_fault (faults.Malformed m) none = at_mid ∙ rw none refl
     kind_fault faults.Memory none = tt
+
+    -- a content that was read gets a wrapper that stands for the kind
+    pub kind_mapped : {X Y : Type 0} (parts : X → V) (view : Y → SubsectionParts) (wrap : X → Y) → ((x : X) → view (wrap x) ≡ make (parts x)) → (r : Result X Fault) (s : Result Y Fault) → Reads (sized F).at mid new (map_ok parts r) → MatchResult r (λ x. IsOkAnd s (λ y. y ≡ wrap x)) (λ e. s ≡ Err e) → Reads name_subsection.at old new (map_ok view s)
+    kind_mapped parts view wrap same (Ok x) (Ok y) reads is = kind_read (parts x) reads ∙ ap (λ v. Some (v, new)) (sym (ap view is ∙ same x))
+    kind_mapped parts view wrap same (Ok x) (Err e) reads is = absurd is
+    kind_mapped parts view wrap same (Err e) s reads is = rw is (kind_fault e reads)
 
   pub unknown_read : 11 < n → (bytes : List ℕ) → byte_list.at mid ≡ Some (bytes, new) → name_subsection.at old ≡ Some (unknown n bytes, new)
   unknown_read far bytes e = unknown_at n far old mid begun ∙ rw e refl

@@ -12,7 +12,7 @@ ghost use Rattle.wasm_custom_sections.specs.formats.NameParts.{SubsectionParts};
 ghost use Rattle.wasm_custom_sections.specs.formats.Names.{name_data};
 
 use crate::names::{AnySubsection, NameSection};
-use crate::producers::{AnyProducers, ProducersSection};
+use crate::producers::{Producers, ProducersSection};
 use crate::sized::ListOf;
 use std::alloc::{AllocError, Global};
 use std::marker::PhantomData;
@@ -21,6 +21,7 @@ use wasm_codec::reader::cursor::{Cursor, Fault};
 use wasm_codec::reader::malformed::Construct;
 use wasm_codec::rewriter::Rewriter;
 use wasm_entities::names::rewrite_name;
+use wasm_lists::readable::Item;
 use wasm_lists::rewriting::{RewritableBody, rewrite_sized, rewrite_to_end};
 use wasm_modules::decode::{Decode, normalise};
 use wasm_modules::raw::{after_header, read_section, rewrite_raw_module, rewrite_raw_section};
@@ -76,7 +77,9 @@ fn rewrite_next(alloc: Global, rewriter: &mut Rewriter) -> Result<(), Fault>
     rewriter.are_bytes();
     match next_contents(alloc, rewriter.left())? {
         Some(Decoded::Names) => rewrite_with::<Subsections>(rewriter),
-        Some(Decoded::Producers) => rewrite_with::<ListOf<AnyProducers>>(rewriter),
+        Some(Decoded::Producers) => rewrite_with::<ListOf<Item<'static, Producers<'static>>>>(
+            rewriter,
+        ),
         None => rewrite_raw_section(rewriter),
     }
 }

@@ -26,7 +26,7 @@ ghost use Rattle.wasm_custom_sections.specs.formats.Symbols.{symbol};
 use crate::counted_bytes::CountedBytes;
 use crate::sized::{ListOf, RawBody, read_sized_bytes, read_sized_list};
 use crate::symbol_table::SymbolTable;
-use crate::symbols::{AnySymbol, Symbol};
+use crate::symbols::Symbol;
 use std::alloc::{Allocator, Global};
 use std::marker::Model;
 use wasm_codec::encode::EncodeError;
@@ -38,7 +38,7 @@ use wasm_codec::rewriter::{Rewriter, Scanned};
 use wasm_lists::checking::check_items_to_end;
 use wasm_lists::encode::Encode;
 use wasm_lists::list::Items;
-use wasm_lists::readable::Readable;
+use wasm_lists::readable::{Item, Readable};
 use wasm_lists::reading::read_items_to_end;
 use wasm_lists::rewriting::{Joinable, Rewritable, rewrite_joined, rewrite_sized};
 use wasm_modules::decode::Decode;
@@ -83,7 +83,7 @@ fn rewrite_subsection(rewriter: &mut Rewriter) -> Result<(), Fault>
     ensures rewrites { Rewrites linking_subsection rewriter.old rewriter.new result }
 {
     if rewriter.byte_of(Construct::SubsectionId)? == 8 {
-        return rewrite_sized::<ListOf<AnySymbol>>(rewriter);
+        return rewrite_sized::<ListOf<Item<'static, Symbol<'static>>>>(rewriter);
     }
     rewrite_sized::<RawBody>(rewriter)
 }

@@ -27,7 +27,7 @@ use wasm_codec::rewriter::Rewriter;
 use wasm_entities::names::{append_name, read_name, rewrite_name};
 use wasm_lists::encode::Encode;
 use wasm_lists::list::Items;
-use wasm_lists::readable::Readable;
+use wasm_lists::readable::{Item, Readable};
 use wasm_lists::reading::read_list;
 use wasm_lists::rewriting::{Rewritable, rewrite_list};
 
@@ -98,23 +98,6 @@ impl<'a> Readable<'a> for Naming<'a> {
     }
 }
 
-/// A name for an index, to rewrite.
-pub(crate) struct AnyNaming;
-
-impl Rewritable for AnyNaming {
-    ghost Value = { NamingParts };
-
-    ghost format = { naming };
-
-    #[inline(always)]
-    #[tactic(auto, using(crate::proofs::NamingLaws::naming_is_lawful, crate::proofs::NamingLaws::naming_takes))]
-    fn is_lawful() {}
-
-    fn rewrite(rewriter: &mut Rewriter) -> Result<(), Fault> {
-        rewrite_naming(rewriter)
-    }
-}
-
 /// Reads names inside an item.
 #[tactic(auto, unfolding(crate::specs::formats::Names::indirect_naming))]
 fn read_indirect_naming<'a>(
@@ -134,7 +117,7 @@ fn rewrite_indirect_naming(rewriter: &mut Rewriter) -> Result<(), Fault>
     ensures rewrites { Rewrites indirect_naming rewriter.old rewriter.new result }
 {
     rewriter.u32()?;
-    rewrite_list::<AnyNaming>(rewriter)
+    rewrite_list::<Item<'static, Naming<'static>>>(rewriter)
 }
 
 impl<'a> Readable<'a> for IndirectNaming<'a> {

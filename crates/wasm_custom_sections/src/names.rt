@@ -20,9 +20,7 @@ ghost use Rattle.wasm_custom_sections.specs.declared.names.NameError.TheVariants
 ghost use Rattle.wasm_custom_sections.specs.formats.NameParts.{SubsectionParts, subsection_parts, all_subsection_parts, module_name, functions, locals, labels, types, tables, memories, globals, elements, data_segments, fields, tags};
 ghost use Rattle.wasm_custom_sections.specs.formats.Names.{indirect_naming, name_data, name_subsection, naming};
 
-use crate::name_maps::{
-    AnyIndirectNaming, AnyNaming, IndirectNameMap, IndirectNaming, NameMap, Naming,
-};
+use crate::name_maps::{AnyIndirectNaming, IndirectNameMap, IndirectNaming, NameMap, Naming};
 use crate::sized::{
     ListOf, NameBody, RawBody, append_subsection, read_sized_bytes, read_sized_list,
     read_sized_name,
@@ -39,7 +37,7 @@ use wasm_entities::names::append_name;
 use wasm_lists::checking::check_items_to_end;
 use wasm_lists::encode::Encode;
 use wasm_lists::list::Items;
-use wasm_lists::readable::Readable;
+use wasm_lists::readable::{Item, Readable};
 use wasm_lists::reading::read_items_to_end;
 use wasm_lists::rewriting::{Joinable, Rewritable, rewrite_items_to_end, rewrite_sized};
 use wasm_modules::decode::Decode;
@@ -89,18 +87,18 @@ fn read_subsection<'a>(alloc: Global, cursor: &mut Cursor<'a>) -> Result<NameSub
 {
     let id = cursor.byte_of(Construct::SubsectionId)?;
     match id {
-        0 => Ok(NameSubsection::Module(read_sized_name(cursor)?)),
-        1 => Ok(NameSubsection::Functions(read_sized_list(alloc, cursor)?)),
-        2 => Ok(NameSubsection::Locals(read_sized_list(alloc, cursor)?)),
-        3 => Ok(NameSubsection::Labels(read_sized_list(alloc, cursor)?)),
-        4 => Ok(NameSubsection::Types(read_sized_list(alloc, cursor)?)),
-        5 => Ok(NameSubsection::Tables(read_sized_list(alloc, cursor)?)),
-        6 => Ok(NameSubsection::Memories(read_sized_list(alloc, cursor)?)),
-        7 => Ok(NameSubsection::Globals(read_sized_list(alloc, cursor)?)),
-        8 => Ok(NameSubsection::Elements(read_sized_list(alloc, cursor)?)),
-        9 => Ok(NameSubsection::Data(read_sized_list(alloc, cursor)?)),
-        10 => Ok(NameSubsection::Fields(read_sized_list(alloc, cursor)?)),
-        11 => Ok(NameSubsection::Tags(read_sized_list(alloc, cursor)?)),
+        0 => read_sized_name(cursor).map(NameSubsection::Module),
+        1 => read_sized_list(alloc, cursor).map(NameSubsection::Functions),
+        2 => read_sized_list(alloc, cursor).map(NameSubsection::Locals),
+        3 => read_sized_list(alloc, cursor).map(NameSubsection::Labels),
+        4 => read_sized_list(alloc, cursor).map(NameSubsection::Types),
+        5 => read_sized_list(alloc, cursor).map(NameSubsection::Tables),
+        6 => read_sized_list(alloc, cursor).map(NameSubsection::Memories),
+        7 => read_sized_list(alloc, cursor).map(NameSubsection::Globals),
+        8 => read_sized_list(alloc, cursor).map(NameSubsection::Elements),
+        9 => read_sized_list(alloc, cursor).map(NameSubsection::Data),
+        10 => read_sized_list(alloc, cursor).map(NameSubsection::Fields),
+        11 => read_sized_list(alloc, cursor).map(NameSubsection::Tags),
         12.. => {
             let bytes = read_sized_bytes(cursor)?;
             Ok(NameSubsection::Unknown { id, bytes })
@@ -133,7 +131,7 @@ fn rewrite_subsection(rewriter: &mut Rewriter) -> Result<(), Fault>
 fn rewrite_names(rewriter: &mut Rewriter) -> Result<(), Fault>
     ensures rewrites { Rewrites (sized (items naming)) rewriter.old rewriter.new result }
 {
-    rewrite_sized::<ListOf<AnyNaming>>(rewriter)
+    rewrite_sized::<ListOf<Item<'static, Naming<'static>>>>(rewriter)
 }
 
 /// Rewrites a size and an indirect name map to their minimal encoding.

@@ -26,9 +26,9 @@ use wasm_codec::rewriter::Rewriter;
 use wasm_entities::names::{append_name, read_name, rewrite_name};
 use wasm_lists::encode::Encode;
 use wasm_lists::list::Items;
-use wasm_lists::readable::Readable;
+use wasm_lists::readable::{Item, Readable};
 use wasm_lists::reading::read_list;
-use wasm_lists::rewriting::{Rewritable, rewrite_list};
+use wasm_lists::rewriting::rewrite_list;
 
 /// A language or a tool, with its version.
 #[derive(Clone, Copy, Debug)]
@@ -97,23 +97,6 @@ impl<'a> Readable<'a> for Producer<'a> {
     }
 }
 
-/// A language or a tool, to rewrite.
-struct AnyProducer;
-
-impl Rewritable for AnyProducer {
-    ghost Value = { ProducerParts };
-
-    ghost format = { producer };
-
-    #[inline(always)]
-    #[tactic(auto, using(crate::proofs::ProducerLaws::producer_is_lawful, crate::proofs::ProducerLaws::producer_takes))]
-    fn is_lawful() {}
-
-    fn rewrite(rewriter: &mut Rewriter) -> Result<(), Fault> {
-        rewrite_producer(rewriter)
-    }
-}
-
 /// Reads a field.
 #[tactic(auto, unfolding(crate::specs::formats::Producers::producers_field))]
 fn read_producers<'a>(alloc: Global, cursor: &mut Cursor<'a>) -> Result<Producers<'a>, Fault>
@@ -130,7 +113,7 @@ fn rewrite_producers(rewriter: &mut Rewriter) -> Result<(), Fault>
     ensures rewrites { Rewrites producers_field rewriter.old rewriter.new result }
 {
     rewrite_name(rewriter)?;
-    rewrite_list::<AnyProducer>(rewriter)
+    rewrite_list::<Item<'static, Producer<'static>>>(rewriter)
 }
 
 impl<'a> Readable<'a> for Producers<'a> {
@@ -158,23 +141,6 @@ impl<'a> Readable<'a> for Producers<'a> {
     fn rewrite(rewriter: &mut Rewriter) -> Result<(), Fault>
         ensures rewrites { Rewrites producers_field rewriter.old rewriter.new result }
     {
-        rewrite_producers(rewriter)
-    }
-}
-
-/// A field, to rewrite.
-pub(crate) struct AnyProducers;
-
-impl Rewritable for AnyProducers {
-    ghost Value = { FieldParts };
-
-    ghost format = { producers_field };
-
-    #[inline(always)]
-    #[tactic(auto, using(crate::proofs::ProducerLaws::field_is_lawful, crate::proofs::ProducerLaws::field_takes))]
-    fn is_lawful() {}
-
-    fn rewrite(rewriter: &mut Rewriter) -> Result<(), Fault> {
         rewrite_producers(rewriter)
     }
 }

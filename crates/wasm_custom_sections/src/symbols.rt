@@ -19,7 +19,6 @@ use wasm_codec::reader::malformed::Construct;
 use wasm_codec::rewriter::Rewriter;
 use wasm_entities::names::{read_name, rewrite_name};
 use wasm_lists::readable::Readable;
-use wasm_lists::rewriting::Rewritable;
 
 /// A symbol of a function, a global, a tag or a table.
 #[derive(Clone, Copy, Debug)]
@@ -294,23 +293,6 @@ impl<'a> Readable<'a> for Symbol<'a> {
     fn rewrite(rewriter: &mut Rewriter) -> Result<(), Fault>
         ensures rewrites { Rewrites symbol rewriter.old rewriter.new result }
     {
-        rewrite_symbol(rewriter)
-    }
-}
-
-/// A symbol of any kind, to rewrite.
-pub(crate) struct AnySymbol;
-
-impl Rewritable for AnySymbol {
-    ghost Value = { SymbolParts };
-
-    ghost format = { symbol };
-
-    #[inline(always)]
-    #[tactic(auto, using(crate::proofs::SymbolLaws::symbol_is_lawful, crate::proofs::SymbolLaws::symbol_takes))]
-    fn is_lawful() {}
-
-    fn rewrite(rewriter: &mut Rewriter) -> Result<(), Fault> {
         rewrite_symbol(rewriter)
     }
 }

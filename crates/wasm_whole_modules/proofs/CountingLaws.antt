@@ -20,8 +20,8 @@ use Rattle.wasm_lists.proofs.CheckLaws.{Item, an_item}
 use Rattle.wasm_sections.specs.formats.ModuleSections.{module_section, OfKind}
 use Rattle.wasm_sections.proofs.ModuleSectionLaws.{module_section_is_lawful, of_kind, rewritten_by_kind}
 use Rattle.wasm_whole_modules.specs.Counting.{as_done, TellsLonger, CountsBefore, CountsSized, CountsList, CountsNone, CountsSection, IsCountedSection}
-use Rattle.wasm_whole_modules.specs.Stops.{CountsLonger, HasLonger, nothing, shortest, more}
-use Rattle.wasm_whole_modules.specs.declared.locate.ItemCounts.{ItemCounts}
+use Rattle.wasm_whole_modules.specs.LongerItems.{CountsLonger, HasLonger, nothing, shortest, more}
+use Rattle.wasm_whole_modules.specs.declared.counting.ItemCounts.{ItemCounts}
 
 -- So many items after the count were rewritten, of which so many were longer.
 pub record Counted {V : Type 0} (F : Format V) (old here : Rewriting) (count i longer : ℕ) : Type 0 where

@@ -1,6 +1,5 @@
 pub mod MappedCalls
 pub mod CountingLaws
-pub mod StopLaws
 pub mod ModuleOrderLaws
 pub mod OffsetLaws
 pub mod PatternLaws

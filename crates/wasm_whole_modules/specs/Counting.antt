@@ -8,8 +8,8 @@ use Rattle.wasm_codec.specs.Rewriter.{Rewriting, Rewrites}
 use Rattle.wasm_modules.specs.formats.Sections.{header}
 use Rattle.wasm_sections.specs.formats.ModuleSectionParts.{ModuleSectionParts}
 use Rattle.wasm_sections.specs.formats.ModuleSections.{OfKind, module_section}
-use Rattle.wasm_whole_modules.specs.Stops.{CountsLonger}
-use Rattle.wasm_whole_modules.specs.declared.locate.ItemCounts.{ItemCounts}
+use Rattle.wasm_whole_modules.specs.LongerItems.{CountsLonger}
+use Rattle.wasm_whole_modules.specs.declared.counting.ItemCounts.{ItemCounts}
 
 -- The same result, without its value.
 abbrev pub as_done : {X : Type 0} → Result X Fault → Result (Unit {0}) Fault

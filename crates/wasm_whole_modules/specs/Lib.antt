@@ -2,8 +2,8 @@ pub mod Counting
 pub mod IndexSpaces
 pub mod MappedIndices
 pub mod MappedSections
+pub mod LongerItems
 pub mod ModuleOrder
 pub mod Offsets
 pub mod Selections
-pub mod Stops
 pub mod RefusalNumbers

@@ -9,9 +9,8 @@ ghost use Rattle.wasm_codec.specs.formats.Combinators.{items};
 ghost use Rattle.wasm_modules.specs.Modules.{IsModulePrefixOf};
 ghost use Rattle.wasm_sections.specs.formats.ModuleSections.{module_section, whole_module};
 ghost use Rattle.wasm_whole_modules.specs.Counting.{as_done, TellsLonger, CountsBefore, CountsSized, CountsList, CountsNone, CountsSection, Shows, ShowsModule};
-ghost use Rattle.wasm_whole_modules.specs.declared.locate.ItemCounts.{ItemCounts};
+ghost use Rattle.wasm_whole_modules.specs.declared.counting.ItemCounts.{ItemCounts};
 
-use crate::locate::ItemCounts;
 use wasm_codec::reader::DecodeError;
 use wasm_codec::reader::cursor::Fault;
 use wasm_codec::reader::malformed::{Construct, Malformed, Reason, Stop};
@@ -21,6 +20,15 @@ use wasm_modules::normaliser::framing::rewrite_module_of;
 use wasm_modules::raw::after_header;
 use wasm_modules::section::HEADER;
 use wasm_sections::module_sections::{AnySection, SectionKind, SectionVisitor, visit_section};
+
+/// The number of items in a list, and how many aren't minimally encoded.
+#[derive(Clone, Copy, Debug, PartialEq, Eq)]
+pub struct ItemCounts {
+    /// Number of items.
+    pub count: u32,
+    /// Number of items that are longer than their minimal encoding.
+    pub longer: u32,
+}
 
 /// What is done with each section of a module that is rewritten.
 pub trait SectionWatcher {

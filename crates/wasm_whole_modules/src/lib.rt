@@ -4,7 +4,6 @@
 
 pub mod counting;
 pub mod indices;
-pub mod locate;
 pub mod modules;
 pub mod offsets;
 pub mod order;

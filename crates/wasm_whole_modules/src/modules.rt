@@ -11,9 +11,7 @@ ghost use Rattle.wasm_sections.specs.formats.ModuleSections.{module_section, who
 ghost use Rattle.wasm_codec.specs.Decoding.{Decodes, DecodesMinimal, Checks, Normalises, NormalisesInPlace, ChecksAll, RewritesAll, IsMinimal};
 ghost use Rattle.wasm_codec.specs.Lawful.{IsLawfulBody};
 
-pub use crate::locate::{
-    BrokenItem, BrokenPart, ItemCounts, count_longer_items, first_broken_item, first_broken_part,
-};
+pub use crate::counting::ItemCounts;
 pub use crate::order::{ModuleError, check_order};
 use std::alloc::Global;
 use wasm_codec::reader::{DecodeError, ReadError, without_reason};

@@ -14,7 +14,7 @@ use wasm_codec::reader::cursor::Cursor;
 use wasm_modules::section::{HEADER, RawSection};
 use wasm_sections::custom::read_custom;
 use wasm_whole_modules::counting::SectionWatcher;
-use wasm_whole_modules::locate::ItemCounts;
+use wasm_whole_modules::counting::ItemCounts;
 use wasm_whole_modules::selection::custom_name;
 
 /// A writer of the report of a module, which is rewritten meanwhile: a row for each section, and then the totals.

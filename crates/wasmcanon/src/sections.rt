@@ -5,7 +5,7 @@ use wasm_codec::reader::cursor::Cursor;
 use wasm_codec::reader::names::section_names;
 use wasm_modules::raw::{after_header, read_section};
 use wasm_modules::section::RawSection;
-use wasm_whole_modules::locate::ItemCounts;
+use wasm_whole_modules::counting::ItemCounts;
 use wasm_whole_modules::selection::custom_name;
 
 /// A section and its offset in the module.

@@ -1,8 +1,10 @@
 //! Instructions with new indices (Core 3.0, Instructions).
-ghost use Rattle.std.specs.Prelude.{◌≡◌, IfErr, IfOk};
+ghost use Rattle.std.specs.Prelude.{◌≡◌, IfErr, IfOk, map};
 ghost use Rattle.wasm_lists.specs.EncodedLists.{IsMemoryOrTooLong};
 ghost use Rattle.wasm_whole_modules.specs.MappedIndices.{Overflows};
-ghost use Rattle.wasm_whole_modules.specs.MappedIndices.{mapped_block_type, mapped_catch, mapped_handle, mapped_mem_arg, mapped_operands, mapped_call};
+ghost use Rattle.wasm_whole_modules.specs.IndexSpaces.{index_spaces};
+ghost use Rattle.wasm_whole_modules.specs.MappedIndices.{index_in, mapped_ref_type, mapped_block_type, mapped_catch, mapped_handle, mapped_mem_arg, mapped_operands, mapped_call};
+ghost use Rattle.wasm_instructions.specs.declared.table.call.Operands.TheVariants as operands;
 
 use crate::indices::renumbering::{new_index_in, new_index_of};
 use crate::indices::{IndexSpace, MapIndices, Renumbering, index_spaces};
@@ -10,7 +12,8 @@ use std::alloc::Global;
 use wasm_codec::encode::EncodeError;
 use wasm_instructions::operands::{BlockType, Catch, Handle, MemArg};
 use wasm_instructions::table::{Call, Opcode, Operands};
-use wasm_lists::list::BoxedItems;
+use wasm_lists::list::{BoxedItems, Items};
+use wasm_types::types::RefType;
 
 impl MapIndices for BlockType {
     ghost mapped = { mapped_block_type };
@@ -112,45 +115,101 @@ fn map_operands<M: Renumbering>(
 {
     let (first, second) = index_spaces(op);
     match operands {
-        Operands::Index(index) => Ok(Operands::Index(new_index_in(indices, first, *index)?)),
+        Operands::Index(index) => new_index_in(indices, first, *index).map(Operands::Index),
         Operands::TwoIndexes(one, two) => {
-            let one = new_index_in(indices, first, *one)?;
-            Ok(Operands::TwoIndexes(one, new_index_in(indices, second, *two)?))
+            let (one, two) = map_pair(indices, op, *one, *two)?;
+            Ok(Operands::TwoIndexes(one, two))
         }
         Operands::OrderIndex(ordering, index) => {
             let index = new_index_in(indices, first, *index)?;
             Ok(Operands::OrderIndex(*ordering, index))
         }
         Operands::OrderTwoIndexes(ordering, one, two) => {
-            let one = new_index_in(indices, first, *one)?;
-            let two = new_index_in(indices, second, *two)?;
+            let (one, two) = map_pair(indices, op, *one, *two)?;
             Ok(Operands::OrderTwoIndexes(*ordering, one, two))
         }
-        Operands::Resume(ty, handlers) => {
-            let ty = new_index_in(indices, first, *ty)?;
-            Ok(Operands::Resume(ty, handlers.map_indices(alloc, indices)?))
-        }
+        Operands::Resume(ty, handlers) => map_resume(alloc, indices, first, *ty, handlers),
         Operands::ResumeThrow(ty, tag, handlers) => {
-            let ty = new_index_in(indices, first, *ty)?;
-            let tag = new_index_in(indices, second, *tag)?;
-            Ok(Operands::ResumeThrow(ty, tag, handlers.map_indices(alloc, indices)?))
+            let (ty, tag) = map_pair(indices, op, *ty, *tag)?;
+            let handlers = handlers.map_indices(alloc, indices)?;
+            Ok(Operands::ResumeThrow(ty, tag, handlers))
         }
-        Operands::Block(ty) => Ok(Operands::Block(ty.map_indices(alloc, indices)?)),
-        Operands::Types(types) => Ok(Operands::Types(types.map_indices(alloc, indices)?)),
-        Operands::TryTable(ty, clauses) => {
-            let ty = ty.map_indices(alloc, indices)?;
-            let clauses = clauses.items().map_indices(alloc, indices)?;
-            Ok(Operands::TryTable(ty, BoxedItems::new(clauses)?))
-        }
-        Operands::Mem(arg) => Ok(Operands::Mem(arg.map_indices(alloc, indices)?)),
+        Operands::Block(ty) => ty.map_indices(alloc, indices).map(Operands::Block),
+        Operands::Types(types) => types.map_indices(alloc, indices).map(Operands::Types),
+        Operands::TryTable(ty, clauses) => map_try_table(alloc, indices, *ty, clauses),
+        Operands::Mem(arg) => arg.map_indices(alloc, indices).map(Operands::Mem),
         Operands::MemLane(arg, lane) => {
-            Ok(Operands::MemLane(arg.map_indices(alloc, indices)?, *lane))
+            let arg = arg.map_indices(alloc, indices)?;
+            Ok(Operands::MemLane(arg, *lane))
         }
-        Operands::Heap(ty) => Ok(Operands::Heap(ty.map_indices(alloc, indices)?)),
+        Operands::Heap(ty) => ty.map_indices(alloc, indices).map(Operands::Heap),
         Operands::Cast(label, before, after) => {
-            let before = before.map_indices(alloc, indices)?;
-            Ok(Operands::Cast(*label, before, after.map_indices(alloc, indices)?))
+            map_cast(alloc, indices, *label, *before, *after)
         }
         others => others.try_clone(),
     }
+}
+
+/// Returns the new indices of the two indices of an instruction with this opcode.
+fn map_pair<M: Renumbering>(
+    indices: &M,
+    op: Opcode,
+    one: u32,
+    two: u32,
+) -> Result<(u32, u32), EncodeError>
+    ensures first { IfOk result (λ pair. pair.0 ≡ index_in (M.new_indices indices.now) (index_spaces op).0 one) }
+    ensures second { IfOk result (λ pair. pair.1 ≡ index_in (M.new_indices indices.now) (index_spaces op).1 two) }
+    ensures refused { IfErr result (IsMemoryOrTooLong (Overflows (M.new_indices indices.now))) }
+{
+    let (first, second) = index_spaces(op);
+    let one = new_index_in(indices, first, one)?;
+    Ok((one, new_index_in(indices, second, two)?))
+}
+
+/// Returns the operands of a `resume` with new indices.
+fn map_resume<M: Renumbering>(
+    alloc: Global,
+    indices: &M,
+    space: Option<IndexSpace>,
+    ty: u32,
+    handlers: &Items<Handle>,
+) -> Result<Operands, EncodeError>
+    ensures ok { IfOk result (λ copy. copy ≡
+        operands.Resume (index_in (M.new_indices indices.now) space ty) (map (mapped_handle (M.new_indices indices.now)) handlers.now)) }
+    ensures refused { IfErr result (IsMemoryOrTooLong (Overflows (M.new_indices indices.now))) }
+{
+    let ty = new_index_in(indices, space, ty)?;
+    Ok(Operands::Resume(ty, handlers.map_indices(alloc, indices)?))
+}
+
+/// Returns the operands of a `try_table` with new indices.
+fn map_try_table<M: Renumbering>(
+    alloc: Global,
+    indices: &M,
+    ty: BlockType,
+    clauses: &BoxedItems<Catch>,
+) -> Result<Operands, EncodeError>
+    ensures ok { IfOk result (λ copy. copy ≡
+        operands.TryTable (mapped_block_type (M.new_indices indices.now) ty) (map (mapped_catch (M.new_indices indices.now)) clauses.now)) }
+    ensures refused { IfErr result (IsMemoryOrTooLong (Overflows (M.new_indices indices.now))) }
+{
+    let ty = ty.map_indices(alloc, indices)?;
+    let clauses = clauses.items().map_indices(alloc, indices)?;
+    Ok(Operands::TryTable(ty, BoxedItems::new(clauses)?))
+}
+
+/// Returns the operands of a branch on a cast with new indices.
+fn map_cast<M: Renumbering>(
+    alloc: Global,
+    indices: &M,
+    label: u32,
+    before: RefType,
+    after: RefType,
+) -> Result<Operands, EncodeError>
+    ensures ok { IfOk result (λ copy. copy ≡
+        operands.Cast label (mapped_ref_type (M.new_indices indices.now) before) (mapped_ref_type (M.new_indices indices.now) after)) }
+    ensures refused { IfErr result (IsMemoryOrTooLong (Overflows (M.new_indices indices.now))) }
+{
+    let before = before.map_indices(alloc, indices)?;
+    Ok(Operands::Cast(label, before, after.map_indices(alloc, indices)?))
 }
