@@ -16,7 +16,7 @@ speaker=$program
 # less than 1 MiB. $usual is the usual time of a proof from a fresh clone, and $help the source of its help text.
 case $program in
     wasmnorm) words=--version trial=module usual="15 minutes" help=crates/wasmnorm/src/texts.rt ;;
-    wasmcanon) words=--version trial=--check usual="30 minutes" help=crates/wasmcanon/src/options.rt ;;
+    wasmcanon) words=--version trial=--check usual="30 minutes" help=crates/canon_cli/src/options.rt ;;
 esac
 out=$root/crates/$program/out
 built=$out/$program

@@ -14,7 +14,7 @@ from documentation.sources import ROOT
 VECTORS = ROOT / "crates/replay/data"
 VERSION = (ROOT / "VERSION").read_text("utf-8").strip()
 # The sources of the help texts.
-HELP = {"wasmnorm": "crates/wasmnorm/src/texts.rt", "wasmcanon": "crates/wasmcanon/src/options.rt"}
+HELP = {"wasmnorm": "crates/wasmnorm/src/texts.rt", "wasmcanon": "crates/canon_cli/src/options.rt"}
 LAST_LINE = re.compile(r"(\d+) passed, (\d+) failed(?:, \d+ skipped)?$")
 
 

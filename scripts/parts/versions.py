@@ -10,7 +10,7 @@ HEADER = "bindings/c/nosgrivel.h"
 PLACES = [
     ("CHANGELOG.md", r"^## (\S+)", VERSION),
     ("bindings/rust/Cargo.toml", r'^version = "(.*)"', VERSION),
-    ("crates/wasmcanon/src/options.rt", r'VERSION: &str = "([^,"]*), written', VERSION),
+    ("crates/canon_cli/src/options.rt", r'VERSION: &str = "([^,"]*), written', VERSION),
     ("crates/wasmnorm/src/texts.rt", r'VERSION: &str = "wasmnorm (.*)"', VERSION),
     ("crates/nosgrivel_c/src/version.rt", r"ensures version \{ result ≡ (\w+) \}", f"0x{NUMBER:06x}"),
     (HEADER, r'^#define NOSGRIVEL_VERSION "(.*)"', VERSION),

@@ -9,7 +9,7 @@ import pty
 import re
 import subprocess
 
-from parts.common import ROOT, both_programs, lacks, room, run as run_command, under
+from parts.common import HELP, ROOT, both_programs, lacks, room, run as run_command, under
 from parts.listing_cases import (ALL_DIFFERENCES, CALL_AS_JSON, CUT_LISTINGS, EVERY, EVERY_AS_JSON, INSTRUCTIONS,
                                  LISTING, code)
 
@@ -811,7 +811,7 @@ def is_help(text):
     """Whether the launcher's help begins with this text, and the text names each option in lines of 80 columns."""
     lines = text.splitlines()
     launched = run_command(ROOT / "bin/wasmcanon", "--help").stdout.decode().splitlines()
-    source = (ROOT / "crates/wasmcanon/src/options.rt").read_text("utf-8")
+    source = (ROOT / HELP["wasmcanon"]).read_text("utf-8")
     options = set(re.findall(r'^ *name: "(.*)",$', source, re.MULTILINE)) - {"input"}
     named = all(any(re.match(rf"  .*--{option} ", line) for line in lines) for option in options)
     return lines and launched[:len(lines)] == lines and max(map(len, lines)) <= 80 and named

@@ -10,7 +10,8 @@ use Rattle.wasm_codec.specs.declared.reader.cursor.Fault.TheVariants as faults
 use Rattle.wasm_modules.specs.formats.Sections.{SectionParts}
 use Rattle.wasm_modules.specs.formats.Modules.{raw_section}
 use Rattle.wasm_modules.proofs.SectionWalks.{next_section, no_section, none_left}
-use Rattle.wasmcanon.specs.Order.{rank, later, AreInOrder, IsOutOfOrderAt, OfSections}
+use Rattle.wasm_listing.specs.Ranks.{rank}
+use Rattle.wasmcanon.specs.Order.{later, AreInOrder, IsOutOfOrderAt, OfSections}
 
 later_some : (last r : ℕ) → (r ≡ 0 → ⊥) → later last r ≡ r
 later_some last r some = by (eqb r 0) refl where

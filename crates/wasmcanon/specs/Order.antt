@@ -1,15 +1,11 @@
 -- The order of a module's sections (WebAssembly Core 3.0, Modules).
-use Rattle.std.specs.Prelude.{◌≡◌, ℕ, ◌==◌, ◌<◌, ◌+◌, ◌*◌, ◌⊎◌, List, [], ◌∷◌, take, if◌then◌else◌}
+use Rattle.std.specs.Prelude.{◌≡◌, ℕ, ◌==◌, ◌<◌, ◌+◌, ◌⊎◌, List, [], ◌∷◌, take, if◌then◌else◌}
 use Rattle.wasm_modules.specs.formats.Sections.{SectionParts}
 use Rattle.wasm_codec.specs.formats.Grammar.{Joined}
 use Rattle.wasm_modules.specs.formats.Modules.{raw_module, raw_section}
+use Rattle.wasm_listing.specs.Ranks.{rank}
 use Rattle.wasm_whole_modules.specs.declared.order.ModuleError.{ModuleError}
 use Rattle.wasm_whole_modules.specs.declared.order.ModuleError.TheVariants as errors
-
--- The position of a section in the standard's order; 0 for a custom section, which may come anywhere. Sections come in
--- the order of their ids, but tags (13) come after memories (5), and the data count (12) after elements (9).
-abbrev pub rank : SectionParts → ℕ
-rank s = if s.id == 13 then 11 else if s.id == 12 then 19 else 2 * s.id
 
 -- The rank of the last section that isn't a custom one.
 abbrev pub later : ℕ → ℕ → ℕ

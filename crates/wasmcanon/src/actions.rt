@@ -1,44 +1,45 @@
 //! The actions on the modules that the command line names.
-use crate::diff::find_difference;
 use crate::differences::{diff_all, print_first};
-use crate::files::{canonicalise_file, check_file, hash_file, is_read_only, read_canonical_at};
+use crate::files::{canonicalise_file, check_file, hash_file, read_canonical_at};
+use crate::job::Job;
 use crate::json::{difference_value, digest_value, verdict_value};
 use crate::listings::list_modules;
-use crate::messages::{InputName, OffsetWarning, OutputName};
-use crate::outputs::Outputs;
 use crate::reports::report_modules;
-use crate::request::{Action, Location, Request};
-use crate::results::{Results, WRITE_STATUS};
+use crate::results::Results;
 use crate::run::Verdict;
-use crate::text::{Hex, SumName};
+use canon_cli::outputs::Outputs;
+use canon_cli::paths::is_read_only;
+use canon_cli::request::{Action, Location, Request};
+use canon_cli::statuses::{USAGE_STATUS, WRITE_STATUS};
+use canon_cli::text::{Hex, InputName, OffsetWarning, OutputName, SumName};
 use serde_json::Value;
 use std::alloc::AllocError;
 use std::io;
+use wasm_listing::diff::find_difference;
 
 const NOT_CANONICAL_STATUS: u8 = 1;
 
 const DIFFERENT_STATUS: u8 = 1;
 
-const USAGE_STATUS: u8 = 2;
-
 /// Does what the command line asks for, and returns the exit status.
 ///
 /// Fails if memory runs out.
-pub fn run_request(rt: &HostRuntime, request: &Request<'_>) -> Result<u8, AllocError> {
+pub fn run_job(rt: &HostRuntime, job: &Job<'_>) -> Result<u8, AllocError> {
+    let request = &job.request;
     match request.action {
-        Action::Write => write_modules(rt, request),
+        Action::Write => write_modules(rt, job),
         Action::Diff if request.all => diff_all(rt, request),
         Action::Diff => diff_modules(rt, request),
         Action::Check => check_modules(rt, request),
-        Action::Hash => hash_modules(rt, request),
+        Action::Hash => hash_modules(rt, job),
         Action::Report => report_modules(rt, request),
         Action::List => list_modules(rt, request),
     }
 }
 
 /// Writes the canonical form of each module.
-fn write_modules(rt: &HostRuntime, request: &Request<'_>) -> Result<u8, AllocError> {
-    let outputs = match Outputs::new(rt, request) {
+fn write_modules(rt: &HostRuntime, job: &Job<'_>) -> Result<u8, AllocError> {
+    let outputs = match Outputs::new(rt, &job.request) {
         Ok(outputs) => outputs,
         Err(message) => {
             let _ = eprintln!(rt; "error: {message}");
@@ -46,8 +47,8 @@ fn write_modules(rt: &HostRuntime, request: &Request<'_>) -> Result<u8, AllocErr
         }
     };
     let mut results = Results::new(rt, false);
-    for word in &request.inputs {
-        write_module(rt, request, outputs, Location::named(word), &mut results)?;
+    for word in &job.request.inputs {
+        write_module(rt, job, outputs, Location::named(word), &mut results)?;
     }
     Ok(results.finish())
 }
@@ -55,32 +56,32 @@ fn write_modules(rt: &HostRuntime, request: &Request<'_>) -> Result<u8, AllocErr
 /// Writes the canonical form of a module to its output.
 fn write_module<'m>(
     rt: &HostRuntime,
-    request: &Request<'_>,
+    job: &Job<'_>,
     outputs: Outputs<'m>,
     input: Location<'m>,
     results: &mut Results,
 ) -> Result<(), AllocError> {
     match outputs.path_in_folder(rt.alloc(), input)? {
-        Some(path) => write_to(rt, request, input, Location::File(path.as_str()), results),
-        None => write_to(rt, request, input, outputs.location(input), results),
+        Some(path) => write_to(rt, job, input, Location::File(path.as_str()), results),
+        None => write_to(rt, job, input, outputs.location(input), results),
     }
 }
 
 /// Writes the canonical form of a module to this output.
 fn write_to(
     rt: &HostRuntime,
-    request: &Request<'_>,
+    job: &Job<'_>,
     input: Location<'_>,
     output: Location<'_>,
     results: &mut Results,
 ) -> Result<(), AllocError> {
-    if is_protected(rt, request, output) {
+    if is_protected(rt, &job.request, output) {
         let output = OutputName(output);
         let _ = eprintln!(rt; "error: {output}: read-only file: use --force to replace it");
         results.raise(USAGE_STATUS);
         return Ok(());
     }
-    match canonicalise_file(rt, request, input, output) {
+    match canonicalise_file(rt, job, input, output) {
         Ok(Some(name)) => warn_of_offsets(rt, input, name),
         Ok(None) => {}
         Err(failure) => results.fail(input, output, &failure)?,
@@ -135,11 +136,11 @@ fn add_verdict(
 }
 
 /// Prints the digest of the canonical form of each module.
-fn hash_modules(rt: &HostRuntime, request: &Request<'_>) -> Result<u8, AllocError> {
-    let mut results = Results::new(rt, request.json);
-    for word in &request.inputs {
+fn hash_modules(rt: &HostRuntime, job: &Job<'_>) -> Result<u8, AllocError> {
+    let mut results = Results::new(rt, job.request.json);
+    for word in &job.request.inputs {
         let input = Location::named(word);
-        match hash_file(rt, request, input) {
+        match hash_file(rt, job, input) {
             Ok(digest) => add_digest(rt, &mut results, input, digest)?,
             Err(failure) => results.fail(input, Location::Standard, &failure)?,
         }

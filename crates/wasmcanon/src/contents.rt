@@ -4,7 +4,6 @@ ghost use Rattle.wasm_sections.specs.formats.ModuleSections.{KeepsMinimal};
 ghost use Rattle.wasmcanon.specs.Run.{HasContents, HasLongerContents, HasMinimalContents, IsCanonicalForm, Judges};
 
 use crate::run::Verdict;
-use crate::sections::SectionWalk;
 use std::alloc::{AllocError, Global};
 use wasm_codec::encode::leb128::u32_len;
 use wasm_codec::reader::DecodeError;
@@ -14,7 +13,8 @@ use wasm_codec::reader::refusal::{Refusal, SectionPlace};
 use wasm_custom_sections::contents::{Decoded, contents_of, rewrite_contents};
 use wasm_custom_sections::names::NameSection;
 use wasm_custom_sections::producers::ProducersSection;
-use wasm_modules::decode::{check, normalise};
+use wasm_listing::sections::SectionWalk;
+use wasm_modules::decode::check;
 use wasm_modules::section::RawSection;
 use wasm_sections::custom::read_custom;
 
@@ -29,26 +29,6 @@ pub fn with_contents(alloc: Global, bytes: Vec<u8>, names: bool) -> Result<Vec<u
         rewrite_contents(alloc, bytes)
     } else {
         Ok(bytes)
-    }
-}
-
-/// Returns the length of a custom section's contents. If they are those of a section `name` or `producers`, it is that of
-/// their minimal encoding.
-///
-/// Fails if memory runs out.
-pub fn minimal_contents_len(alloc: Global, section: RawSection<'_>) -> Result<usize, AllocError> {
-    let Ok(custom) = read_custom(section.body) else {
-        return Ok(0);
-    };
-    let minimal = match contents_of(alloc, section)? {
-        Some(Decoded::Names) => normalise::<NameSection>(alloc, custom.bytes),
-        Some(Decoded::Producers) => normalise::<ProducersSection<'_>>(alloc, custom.bytes),
-        None => return Ok(custom.bytes.len()),
-    };
-    match minimal {
-        Ok(minimal) => Ok(minimal.len()),
-        Err(DecodeError::Memory) => Err(AllocError),
-        Err(DecodeError::Malformed(_)) => Ok(custom.bytes.len()),
     }
 }
 

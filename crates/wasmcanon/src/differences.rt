@@ -1,22 +1,16 @@
 //! The action `--diff --all`, and what `--diff` prints of the first part that differs.
 use crate::actions::two_inputs;
-use crate::diff::{Difference, find_difference};
 use crate::files::read_input_at;
-use crate::held::HeldWriter;
-use crate::json::{difference_value, failure_members, text_value};
-use crate::listing::{
-    Detail, Differences, DifferentPart, Lines, Part, Side, Stop, list_differences,
-};
-use crate::messages::InputName;
-use crate::request::{Location, Request};
+use crate::json::{difference_value, failure_members};
 use crate::results::Results;
 use crate::run::{Failure, accept};
-use crate::sections::{SectionTitle, kind_name};
-use serde_json::{Value, json};
-use std::alloc::{AllocError, Global};
+use canon_cli::held::HeldWriter;
+use canon_cli::request::{Location, Request};
+use canon_cli::text::InputName;
+use std::alloc::AllocError;
 use std::io::{BufWriter, Stdout, Write};
-use std::{fmt, io};
-use wasm_codec::reader::names::section_names;
+use wasm_listing::diff::{Difference, find_difference};
+use wasm_listing::listing::{DifferentLines, DifferentValues, FirstLines, Stop, list_differences};
 
 const DIFFERENT_STATUS: u8 = 1;
 
@@ -61,9 +55,7 @@ pub fn print_first(rt: &HostRuntime, one: &[u8], other: &[u8]) -> Result<(), All
     let Ok(mut writer) = BufWriter::new(rt.alloc(), rt.stderr()) else {
         return Err(AllocError);
     };
-    let mut first = FirstLines {
-        writer: &mut writer,
-    };
+    let mut first = FirstLines::new(&mut writer);
     if let Err(Stop::Memory) = list_differences(rt.alloc(), one, other, &mut first) {
         return Err(AllocError);
     }
@@ -121,14 +113,9 @@ fn list_parts(
     let alloc = rt.alloc();
     let listed = if request.json {
         write!(writer, "{{\"differences\":[")?;
-        let mut values = DifferentValues {
-            alloc,
-            writer,
-            has_members: false,
-        };
-        list_differences(alloc, one, other, &mut values)
+        list_differences(alloc, one, other, &mut DifferentValues::new(alloc, writer))
     } else {
-        list_differences(alloc, one, other, &mut DifferentLines { writer })
+        list_differences(alloc, one, other, &mut DifferentLines::new(writer))
     };
     match listed {
         Err(Stop::Malformed | Stop::Enough) => Ok(()),
@@ -186,148 +173,4 @@ fn refuse(
     writer.flush()?;
     results.fail(input, Location::Standard, failure)?;
     Ok(())
-}
-
-/// A writer of the parts that differ as text.
-#[derive(Drop)]
-struct DifferentLines<'w, W> {
-    writer: &'w mut W,
-}
-
-impl<W: io::Write> Differences for DifferentLines<'_, W> {
-    fn part(&mut self, part: &DifferentPart<'_>) -> Result<(), Stop> {
-        write_part(self.writer, part)
-    }
-}
-
-/// A writer of the first part that differs as text.
-#[derive(Drop)]
-struct FirstLines<'w, W> {
-    writer: &'w mut W,
-}
-
-impl<W: io::Write> Differences for FirstLines<'_, W> {
-    fn part(&mut self, part: &DifferentPart<'_>) -> Result<(), Stop> {
-        write_part(self.writer, part)?;
-        Err(Stop::Enough)
-    }
-}
-
-/// Writes a part that differs: its title, and what each module has.
-fn write_part<W: io::Write>(writer: &mut W, part: &DifferentPart<'_>) -> Result<(), Stop> {
-    writeln!(writer, "{}", PartTitle(part))?;
-    write_side(writer, '-', &part.first)?;
-    write_side(writer, '+', &part.second)
-}
-
-/// Writes what a module has, in lines that begin with `lead`.
-fn write_side<W: io::Write>(
-    writer: &mut W,
-    lead: char,
-    side: &Option<Side<'_>>,
-) -> Result<(), Stop> {
-    let Some(side) = side else {
-        return Ok(());
-    };
-    let mut lines = Lines::led_by(writer, lead);
-    if side.is_section {
-        lines.plain(&format_args!("{lead}{}", side.text.as_str()))?;
-    } else {
-        lines.text_of(&side.part, side.text.as_str())?;
-    }
-    match &side.detail {
-        Some(Detail::Code(part, text)) => lines.code_of(part, text.as_str()),
-        Some(Detail::Row(part)) => lines.row_of(part),
-        None => Ok(()),
-    }
-}
-
-/// The title of a part that differs.
-#[derive(Clone, Copy)]
-struct PartTitle<'a, 'p>(&'p DifferentPart<'a>);
-
-impl fmt::Display for PartTitle<'_, '_> {
-    fn fmt<W: fmt::Write>(&self, f: &mut fmt::Formatter<W>) -> fmt::Result {
-        let part = self.0;
-        write!(f, "{} section", SectionTitle(part.section))?;
-        if let Some(number) = part.item {
-            let item = match section_names(part.section.id) {
-                Some(names) => names.item,
-                None => "item",
-            };
-            write!(f, ", {item} {number}")?;
-        }
-        match (&part.first, &part.second) {
-            (Some(_), None) => write!(f, ": only in the first module"),
-            (None, Some(_)) => write!(f, ": only in the second module"),
-            _ => Ok(()),
-        }
-    }
-}
-
-/// A writer of the parts that differ as JSON, one at a time.
-#[derive(Drop)]
-struct DifferentValues<'w, W> {
-    alloc: Global,
-    writer: &'w mut W,
-    has_members: bool,
-}
-
-impl<W: io::Write> Differences for DifferentValues<'_, W> {
-    fn part(&mut self, part: &DifferentPart<'_>) -> Result<(), Stop> {
-        let alloc = self.alloc;
-        let id = part.section.id;
-        let kind = text_value(alloc, kind_name(id))?;
-        let first = side_value(alloc, &part.first)?;
-        let second = side_value(alloc, &part.second)?;
-        let item = part.item;
-        let value = json!(in alloc; {
-            "id": id,
-            "kind": kind,
-            "item": item,
-            "first": first,
-            "second": second
-        })?;
-        if self.has_members {
-            write!(self.writer, ",")?;
-        }
-        self.has_members = true;
-        write!(self.writer, "\n{value}")?;
-        Ok(())
-    }
-}
-
-/// Returns what a module has. `Null` means nothing.
-fn side_value(alloc: Global, side: &Option<Side<'_>>) -> Result<Value, AllocError> {
-    let Some(side) = side else {
-        return Ok(Value::Null);
-    };
-    let (offset, size) = (side.part.at, side.part.bytes.len());
-    let text = text_value(alloc, side.text.as_str())?;
-    let detail = detail_value(alloc, &side.detail)?;
-    json!(in alloc; {"offset": offset, "size": size, "text": text, "detail": detail})
-}
-
-/// Returns the first detail that differs. `Null` means that there is none.
-fn detail_value(alloc: Global, detail: &Option<Detail<'_>>) -> Result<Value, AllocError> {
-    let (part, text) = match detail {
-        None => return Ok(Value::Null),
-        Some(Detail::Code(part, text)) => (part, text_value(alloc, text.as_str())?),
-        Some(Detail::Row(part)) => (part, Value::String(format!(in alloc; "{}", RowText(part))?)),
-    };
-    let (offset, size) = (part.at, part.bytes.len());
-    json!(in alloc; {"offset": offset, "size": size, "text": text})
-}
-
-/// Bytes in hexadecimal digits.
-#[derive(Clone, Copy)]
-struct RowText<'a, 'p>(&'p Part<'a>);
-
-impl fmt::Display for RowText<'_, '_> {
-    fn fmt<W: fmt::Write>(&self, f: &mut fmt::Formatter<W>) -> fmt::Result {
-        for byte in self.0.bytes {
-            write!(f, "{byte:02x}")?;
-        }
-        Ok(())
-    }
 }

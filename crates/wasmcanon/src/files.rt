@@ -1,13 +1,16 @@
 //! Files: inputs, and outputs that replace a file only once they are complete.
-use crate::progress::{Progress, Source};
-use crate::replacement::Replacement;
-use crate::request::{Location, Request};
+use crate::job::Job;
 use crate::run::{
     Canonical, Failure, Verdict, canonicalise, check, hash, read_canonical, read_input, report,
 };
+use canon_cli::paths::is_special;
+use canon_cli::progress::{Progress, Source};
+use canon_cli::replacement::Replacement;
+use canon_cli::request::{Location, Request};
 use std::alloc::Global;
 use std::io::Write;
 use std::{fs, io};
+use wasm_modules::section::HEADER;
 use wasm_whole_modules::counting::SectionWatcher;
 
 /// Reads the module at `input`, and writes its canonical form to `output`.
@@ -15,12 +18,12 @@ use wasm_whole_modules::counting::SectionWatcher;
 /// If bytes have moved and a section that keeps offsets is written, returns the beginning of its name.
 pub fn canonicalise_file(
     rt: &HostRuntime,
-    request: &Request<'_>,
+    job: &Job<'_>,
     input: Location<'_>,
     output: Location<'_>,
 ) -> Result<Option<&'static str>, Failure> {
     let mut source = open(rt, input, Progress::new(rt).beside(output))?;
-    let stale = canonicalise_to(rt, &mut source, output, request);
+    let stale = canonicalise_to(rt, &mut source, output, job);
     source.end();
     stale
 }
@@ -40,15 +43,15 @@ pub fn check_file(
 /// Returns the digest of the canonical form of the module at `input`.
 pub fn hash_file(
     rt: &HostRuntime,
-    request: &Request<'_>,
+    job: &Job<'_>,
     input: Location<'_>,
 ) -> Result<[u8; 32], Failure> {
     let mut source = open(rt, input, Progress::new(rt))?;
     let digest = hash(
         rt.alloc(),
         &mut source,
-        request.any_order,
-        request.form_options(),
+        job.request.any_order,
+        job.form_options(),
     );
     source.end();
     digest
@@ -88,23 +91,23 @@ pub fn read_input_at(rt: &HostRuntime, input: Location<'_>) -> Result<Vec<u8>, F
 }
 
 fn open(rt: &HostRuntime, input: Location<'_>, progress: Progress) -> Result<Source, Failure> {
-    Source::open(rt, input, progress).map_err(Failure::Read)
+    Source::open(rt, input, HEADER, progress).map_err(Failure::Read)
 }
 
 fn canonicalise_to(
     rt: &HostRuntime,
     source: &mut Source,
     output: Location<'_>,
-    request: &Request<'_>,
+    job: &Job<'_>,
 ) -> Result<Option<&'static str>, Failure> {
     match output {
         Location::Standard => {
             let mut writer = rt.stdout();
-            let stale = write_form(rt.alloc(), source, &mut writer, request)?;
+            let stale = write_form(rt.alloc(), source, &mut writer, job)?;
             writer.flush().map_err(Failure::Write)?;
             Ok(stale)
         }
-        Location::File(path) => canonicalise_to_file(rt, source, path, request),
+        Location::File(path) => canonicalise_to_file(rt, source, path, job),
     }
 }
 
@@ -113,15 +116,15 @@ fn write_form<W: Write>(
     alloc: Global,
     source: &mut Source,
     writer: &mut W,
-    request: &Request<'_>,
+    job: &Job<'_>,
 ) -> Result<Option<&'static str>, Failure> {
     let mut writer = source.watch(writer);
     canonicalise(
         alloc,
         source,
         &mut writer,
-        request.any_order,
-        request.form_options(),
+        job.request.any_order,
+        job.form_options(),
     )
 }
 
@@ -132,14 +135,14 @@ fn canonicalise_to_file(
     rt: &HostRuntime,
     source: &mut Source,
     path: &str,
-    request: &Request<'_>,
+    job: &Job<'_>,
 ) -> Result<Option<&'static str>, Failure> {
     if is_special(rt, path) {
         let mut file = fs::create(rt, path).map_err(write_failure)?;
-        return write_form(rt.alloc(), source, &mut file, request);
+        return write_form(rt.alloc(), source, &mut file, job);
     }
     let mut replacement = Replacement::create(rt, path).map_err(write_failure)?;
-    match write_form(rt.alloc(), source, &mut replacement.file, request) {
+    match write_form(rt.alloc(), source, &mut replacement.file, job) {
         Ok(stale) => match replacement.put(rt) {
             Ok(()) => Ok(stale),
             Err(error) => Err(write_failure(error)),
@@ -158,20 +161,4 @@ fn write_failure(error: io::Error) -> Failure {
     } else {
         Failure::Write(error)
     }
-}
-
-/// Checks whether `path` is a device, a pipe or a folder.
-fn is_special(rt: &HostRuntime, path: &str) -> bool {
-    fs::metadata(rt, path).is_ok_and(|metadata| !metadata.is_file())
-}
-
-/// Checks whether `path` is a folder.
-pub fn is_folder(rt: &HostRuntime, path: &str) -> bool {
-    fs::metadata(rt, path).is_ok_and(|metadata| metadata.is_dir())
-}
-
-/// Checks whether `path` is a file that nobody may write to.
-pub fn is_read_only(rt: &HostRuntime, path: &str) -> bool {
-    fs::metadata(rt, path).is_ok_and(|metadata| metadata.is_file()
-        && metadata.permissions().readonly())
 }

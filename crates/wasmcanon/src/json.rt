@@ -1,25 +1,17 @@
 //! Results as JSON.
-use crate::diff::Difference;
 use crate::messages::FailureMessage;
-use crate::request::Location;
 use crate::run::{Failure, Verdict};
-use crate::sections::kind_name;
+use canon_cli::request::Location;
 use serde_json::{Value, json};
 use std::alloc::{AllocError, Global};
-use std::fmt;
 use wasm_codec::reader::refusal::{Refusal, SectionPlace};
+use wasm_listing::diff::Difference;
+use wasm_listing::json::text_value;
+use wasm_listing::sections::kind_name;
 
 /// Returns the name of an input.
 pub fn file_value(alloc: Global, input: Location<'_>) -> Result<Value, AllocError> {
-    match input {
-        Location::Standard => text_value(alloc, "-"),
-        Location::File(path) => text_value(alloc, path),
-    }
-}
-
-/// Returns a text.
-pub fn text_value(alloc: Global, text: &str) -> Result<Value, AllocError> {
-    Ok(Value::String(String::from_str(alloc, text)?))
+    text_value(alloc, input.word())
 }
 
 /// Returns the result for a module that failed.
@@ -133,24 +125,5 @@ pub fn difference_value(
             let text = Value::String(format!(in alloc; "{difference}")?);
             json!(in alloc; {"files": [first, second], "same": false, "difference": text})
         }
-    }
-}
-
-/// A text in quotation marks. It is written without a copy, unlike a `Value`.
-#[derive(Clone, Copy)]
-pub struct JsonText<'a>(pub &'a str);
-
-impl fmt::Display for JsonText<'_> {
-    fn fmt<W: fmt::Write>(&self, f: &mut fmt::Formatter<W>) -> fmt::Result {
-        write!(f, "\"")?;
-        for character in self.0.chars() {
-            match character {
-                '"' => write!(f, "\\\"")?,
-                '\\' => write!(f, "\\\\")?,
-                '\0'..='\u{1f}' => write!(f, "\\u{:04x}", u32::from(character))?,
-                _ => write!(f, "{character}")?,
-            }
-        }
-        write!(f, "\"")
     }
 }

@@ -1,14 +1,14 @@
 //! The action `--list`.
 use crate::files::read_input_at;
 use crate::json::{failure_members, file_value};
-use crate::listing::{Lines, Stop, Values, list_module};
-use crate::messages::InputName;
-use crate::request::{Location, Request};
 use crate::results::Results;
 use crate::run::{Failure, accept};
+use canon_cli::request::{Location, Request};
+use canon_cli::text::InputName;
 use std::alloc::AllocError;
 use std::io;
 use std::io::{BufWriter, Stdout, Write};
+use wasm_listing::listing::{Lines, Stop, Values, list_module};
 
 /// Prints a listing of each module.
 ///

@@ -1,17 +1,15 @@
 //! The order of a module's sections, and counts that must agree (Core 3.0, Modules).
 ghost use Rattle.std.specs.Prelude.{◌≡◌, false, IfOk, IfSome, IfNone};
-ghost use Rattle.wasm_modules.specs.formats.Sections.{parts_of};
-ghost use Rattle.wasmcanon.specs.Order.{rank, AreInOrder, OfSections, IsOutOfOrderAt, IsWhyNot};
+ghost use Rattle.wasmcanon.specs.Order.{AreInOrder, OfSections, IsOutOfOrderAt, IsWhyNot};
 ghost use Rattle.wasmcanon.specs.Run.{Accepts, IfPlaced, IfWriteFailed, outcome_of};
 
 use crate::data_uses::find_data_use;
 use crate::run::Failure;
-use crate::sections::kind_name;
 use std::alloc::{AllocError, Global};
 use std::fmt;
 use wasm_codec::reader::cursor::Cursor;
+use wasm_listing::sections::{kind_name, rank};
 use wasm_modules::raw::{after_header, read_section};
-use wasm_modules::section::RawSection;
 use wasm_whole_modules::order::ModuleError;
 
 const FUNCTION_SECTION: u8 = 3;
@@ -21,8 +19,6 @@ const CODE_SECTION: u8 = 10;
 const DATA_SECTION: u8 = 11;
 
 const DATA_COUNT_SECTION: u8 = 12;
-
-const TAG_SECTION: u8 = 13;
 
 /// A section that is out of order.
 #[derive(Clone, Copy)]
@@ -99,20 +95,6 @@ fn find_out_of_order(sections: &[u8]) -> Option<usize>
         index += 1;
     }
     None
-}
-
-/// Returns the position of a section in the standard's order. Returns 0 for a custom section, which may come anywhere.
-pub fn rank(section: &RawSection<'_>) -> u16
-    ensures { result ≡ rank (parts_of section.now) }
-{
-    let id = section.id;
-    if id == TAG_SECTION {
-        11 // after memories, whose id is 5
-    } else if id == DATA_COUNT_SECTION {
-        19 // after elements, whose id is 9
-    } else {
-        2 * u16::from(id)
-    }
 }
 
 /// Finds counts that disagree. Each kind of section is there at most once.

@@ -1,15 +1,16 @@
 //! The action `--report`.
 use crate::files::report_file;
-use crate::held::HeldWriter;
 use crate::json::{failure_members, failure_value};
-use crate::listing::Stop;
-use crate::messages::{FailureMessage, InputName};
-use crate::report::Report;
-use crate::request::{Location, Request};
+use crate::messages::FailureMessage;
 use crate::results::Results;
 use crate::run::Failure;
+use canon_cli::held::HeldWriter;
+use canon_cli::request::{Location, Request};
+use canon_cli::text::InputName;
 use std::alloc::AllocError;
 use std::io::{Stdout, Write};
+use wasm_listing::listing::Stop;
+use wasm_listing::report::Report;
 
 /// Prints the report of each module. A row is printed once its section is rewritten, so that none is kept.
 ///
@@ -65,7 +66,7 @@ fn report_module(
     let reported = report_file(rt, request, input, &mut report);
     report.stopped()?;
     match reported {
-        Ok(()) => report.end(input)?,
+        Ok(()) => report.end(input.word())?,
         Err(failure) => return fail(rt, request, input, writer, results, &failure),
     }
     writer.flush()?;

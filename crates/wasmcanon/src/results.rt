@@ -1,13 +1,11 @@
 //! The results of a run over several modules: the exit status, and what is printed as JSON.
 use crate::json::failure_value;
 use crate::messages::FailureMessage;
-use crate::request::Location;
 use crate::run::Failure;
+use canon_cli::request::Location;
+use canon_cli::statuses::WRITE_STATUS;
 use serde_json::Value;
 use std::alloc::AllocError;
-
-/// Exit status of a run whose write failed.
-pub const WRITE_STATUS: u8 = 4;
 
 /// The results of a run so far.
 #[derive(Drop)]

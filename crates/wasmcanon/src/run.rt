@@ -9,9 +9,9 @@ ghost use Rattle.wasmcanon.specs.declared.run.Failure.TheVariants.{Memory};
 
 use crate::contents::{judge_contents, with_contents};
 use crate::foreign::Foreign;
-use crate::input::Input;
 use crate::offsets::first_offset_name;
 use crate::order::{MisplacedSection, check_sections};
+use canon_cli::input::Input;
 use sha2::{Digest, Sha256};
 use std::alloc::{AllocError, Global};
 use std::io;

@@ -1,5 +1,7 @@
 //! The listing of a module: its sections, their items, and the instructions of its functions, one at a time.
 mod differences;
+mod different_lines;
+mod different_values;
 mod floats;
 mod function_names;
 mod index_spaces;
@@ -13,6 +15,8 @@ mod values;
 
 use crate::sections::{LocatedSection, has_list, read_located};
 pub use differences::{Detail, Differences, DifferentPart, Side, list_differences};
+pub use different_lines::{DifferentLines, FirstLines};
+pub use different_values::DifferentValues;
 pub use function_names::FunctionNames;
 pub use index_spaces::{IndexSpaces, Listed};
 pub use instructions::{CallText, Nesting, function_of};

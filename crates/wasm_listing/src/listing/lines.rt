@@ -3,7 +3,7 @@ use crate::listing::{
     CallText, FunctionHead, ItemText, Listing, LocalsText, Longer, Nesting, Part, SectionHead, Stop,
 };
 use crate::sections::SectionTitle;
-use crate::text::Escaped;
+use escaped_text::Escaped;
 use std::fmt::Write;
 use std::{fmt, io};
 use wasm_codec::reader::names::section_names;

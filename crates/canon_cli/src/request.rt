@@ -1,8 +1,6 @@
 //! What the command line asks for.
-use crate::run::FormOptions;
 use clap::ArgMatches;
 use std::alloc::{AllocError, Global};
-use wasm_whole_modules::selection::{Pattern, Sections, Selection};
 
 /// An input or an output of bytes.
 #[derive(Clone, Copy, PartialEq, Eq)]
@@ -20,6 +18,14 @@ impl<'a> Location<'a> {
             Location::Standard
         } else {
             Location::File(word)
+        }
+    }
+
+    /// Returns the word that names the location.
+    pub fn word(self) -> &'a str {
+        match self {
+            Location::Standard => "-",
+            Location::File(path) => path,
         }
     }
 }
@@ -89,42 +95,25 @@ pub struct Request<'a> {
     pub json: bool,
     /// Whether all items that differ are listed.
     pub all: bool,
+    /// Whether all custom sections are dropped.
+    pub strip_all: bool,
     /// Whether custom sections are dropped that keep offsets.
-    strip_offsets: bool,
+    pub strip_offsets: bool,
     /// Patterns of the names of custom sections to drop.
-    dropped: Vec<Pattern<'a>>,
+    pub dropped: Vec<&'a str>,
     /// Patterns of the names of custom sections to keep even so.
-    kept: Vec<Pattern<'a>>,
-}
-
-/// Why there is no request.
-#[derive(Drop)]
-pub enum RequestError {
-    /// The words don't go together.
-    Usage(&'static str),
-    /// Memory ran out.
-    Memory,
-}
-
-impl From<AllocError> for RequestError {
-    fn from(_error: AllocError) -> RequestError {
-        RequestError::Memory
-    }
+    pub kept: Vec<&'a str>,
 }
 
 impl<'a> Request<'a> {
     /// Reads the request from the matches of a command line.
     ///
-    /// Fails with `Usage` if the words don't go together, and with `Memory` if memory runs out.
+    /// Fails if memory runs out.
     pub fn from_matches(
         alloc: Global,
         matches: &ArgMatches<'a>,
-    ) -> Result<Request<'a>, RequestError> {
-        let mut dropped = parse_patterns(alloc, matches.get_strs("strip").unwrap_or(&[]))?;
-        if matches.get_flag("strip-all") || matches.get_flag("no-custom") {
-            dropped.push(Pattern::of_all()).map_err(AllocError::from)?;
-        }
-        let request = Request {
+    ) -> Result<Request<'a>, AllocError> {
+        Ok(Request {
             inputs: inputs_of(alloc, matches)?,
             action: Action::from_matches(matches),
             output: output_of(matches),
@@ -133,38 +122,15 @@ impl<'a> Request<'a> {
             names: matches.get_flag("names"),
             json: matches.get_flag("json"),
             all: matches.get_flag("all"),
+            strip_all: matches.get_flag("strip-all") || matches.get_flag("no-custom"),
             strip_offsets: matches.get_flag("strip-offsets"),
-            dropped,
-            kept: parse_patterns(alloc, matches.get_strs("keep").unwrap_or(&[]))?,
-        };
-        match request.fault() {
-            Some(message) => Err(RequestError::Usage(message)),
-            None => Ok(request),
-        }
-    }
-
-    /// Returns what is written of a module.
-    pub fn form_options(&self) -> FormOptions<'_> {
-        FormOptions {
-            sections: self.sections(),
-            names: self.names,
-        }
-    }
-
-    /// Returns the sections to write.
-    fn sections(&self) -> Sections<'_> {
-        if !self.strip_offsets && self.dropped.is_empty() {
-            return Sections::All;
-        }
-        Sections::Selected(Selection {
-            offsets: self.strip_offsets,
-            dropped: self.dropped.as_slice(),
-            kept: self.kept.as_slice(),
+            dropped: words_of(alloc, matches, "strip")?,
+            kept: words_of(alloc, matches, "keep")?,
         })
     }
 
     /// Returns what doesn't go together, if anything.
-    fn fault(&self) -> Option<&'static str> {
+    pub fn fault(&self) -> Option<&'static str> {
         let count = self.inputs.len();
         let standard = self.inputs.iter().filter(|word| **word == "-").count();
         if standard > 1 {
@@ -187,16 +153,24 @@ impl<'a> Request<'a> {
 
 /// Returns the inputs that the command line names: standard input if it names none.
 fn inputs_of<'a>(alloc: Global, matches: &ArgMatches<'a>) -> Result<Vec<&'a str>, AllocError> {
-    let mut inputs = Vec::new(alloc);
-    match matches.get_strs("input") {
-        Some(words) => {
-            for word in words {
-                inputs.push(*word)?;
-            }
-        }
-        None => inputs.push("-")?,
+    let mut inputs = words_of(alloc, matches, "input")?;
+    if inputs.is_empty() {
+        inputs.push("-")?;
     }
     Ok(inputs)
+}
+
+/// Returns the values of an argument.
+fn words_of<'a>(
+    alloc: Global,
+    matches: &ArgMatches<'a>,
+    name: &str,
+) -> Result<Vec<&'a str>, AllocError> {
+    let mut words = Vec::new(alloc);
+    for word in matches.get_strs(name).unwrap_or(&[]) {
+        words.push(*word)?;
+    }
+    Ok(words)
 }
 
 fn output_of<'a>(matches: &ArgMatches<'a>) -> Output<'a> {
@@ -207,16 +181,4 @@ fn output_of<'a>(matches: &ArgMatches<'a>) -> Output<'a> {
         None | Some("-") => Output::Standard,
         Some(path) => Output::Path(path),
     }
-}
-
-/// Parses patterns of names. Fails with `Usage` if one has more than one `*`.
-fn parse_patterns<'a>(alloc: Global, words: &[&'a str]) -> Result<Vec<Pattern<'a>>, RequestError> {
-    let mut patterns = Vec::new(alloc);
-    for word in words {
-        let Some(pattern) = Pattern::parse(word) else {
-            return Err(RequestError::Usage("a pattern of names has at most one `*`"));
-        };
-        patterns.push(pattern).map_err(AllocError::from)?;
-    }
-    Ok(patterns)
 }

@@ -1,7 +1,7 @@
 //! Text of the items of sections.
 use crate::listing::instructions::ExprText;
 use crate::listing::types::{EntryText, RefText, ValText};
-use crate::text::Escaped;
+use escaped_text::Escaped;
 use std::fmt;
 use wasm_entities::limits::{MemoryType, TableType};
 use wasm_entities::types::{EntityType, ExportKind, GlobalType, TagType};

@@ -1,5 +1,5 @@
 //! The outputs of a run.
-use crate::files::is_folder;
+use crate::paths::is_folder;
 use crate::request::{Location, Output, Request};
 use std::alloc::{AllocError, Global};
 use std::io::IsTerminal;

@@ -1,5 +1,9 @@
 //! The sections of a module: their offsets, and their titles in messages.
-use crate::text::Escaped;
+ghost use Rattle.std.specs.Prelude.{◌≡◌};
+ghost use Rattle.wasm_modules.specs.formats.Sections.{parts_of};
+ghost use Rattle.wasm_listing.specs.Ranks.{rank};
+
+use escaped_text::Escaped;
 use std::fmt;
 use wasm_codec::reader::cursor::Cursor;
 use wasm_codec::reader::names::section_names;
@@ -7,6 +11,10 @@ use wasm_modules::raw::{after_header, read_section};
 use wasm_modules::section::RawSection;
 use wasm_whole_modules::counting::ItemCounts;
 use wasm_whole_modules::selection::custom_name;
+
+const DATA_COUNT_SECTION: u8 = 12;
+
+const TAG_SECTION: u8 = 13;
 
 /// A section and its offset in the module.
 #[derive(Clone, Copy)]
@@ -80,6 +88,20 @@ pub fn count_number(body: &[u8]) -> Option<ItemCounts> {
 /// Checks whether sections with this id are lists of items. Custom, start and data count sections are not.
 pub fn has_list(id: u8) -> bool {
     !matches!(id, 0 | 8 | 12)
+}
+
+/// Returns the position of a section in the standard's order. Returns 0 for a custom section, which may come anywhere.
+pub fn rank(section: &RawSection<'_>) -> u16
+    ensures { result ≡ rank (parts_of section.now) }
+{
+    let id = section.id;
+    if id == TAG_SECTION {
+        11 // after memories, whose id is 5
+    } else if id == DATA_COUNT_SECTION {
+        19 // after elements, whose id is 9
+    } else {
+        2 * u16::from(id)
+    }
 }
 
 /// Checks whether the number at the start of the bytes is not minimally encoded. `None` means that there is no number.

@@ -1,34 +1,55 @@
 //! Text in messages.
 use crate::request::Location;
+use escaped_text::Escaped;
 use std::fmt;
 
-/// A name. Characters that a terminal may act on are escaped.
+/// The name of the input in messages.
 #[derive(Clone, Copy)]
-pub struct Escaped<'a>(pub &'a str);
+pub struct InputName<'a>(pub Location<'a>);
 
-impl fmt::Display for Escaped<'_> {
+impl fmt::Display for InputName<'_> {
     fn fmt<W: fmt::Write>(&self, f: &mut fmt::Formatter<W>) -> fmt::Result {
-        if !self.0.chars().any(is_unprintable) {
-            return f.write_str(self.0);
+        match self.0 {
+            Location::Standard => write!(f, "standard input"),
+            Location::File(path) => write!(f, "{}", Escaped(path)),
         }
-        for character in self.0.chars() {
-            if is_unprintable(character) {
-                write!(f, "\\u{{{:x}}}", u32::from(character))?;
-            } else {
-                write!(f, "{character}")?;
-            }
-        }
-        Ok(())
     }
 }
 
-/// Checks for control characters, and for characters that hide or reorder text.
-fn is_unprintable(character: char) -> bool {
-    character.is_control()
-        || matches!(
-            character,
-            '\u{200b}'..='\u{200f}' | '\u{2028}'..='\u{202e}' | '\u{2060}'..='\u{206f}' | '\u{feff}'
+/// The name of the output in messages.
+#[derive(Clone, Copy)]
+pub struct OutputName<'a>(pub Location<'a>);
+
+impl fmt::Display for OutputName<'_> {
+    fn fmt<W: fmt::Write>(&self, f: &mut fmt::Formatter<W>) -> fmt::Result {
+        match self.0 {
+            Location::Standard => write!(f, "standard output"),
+            Location::File(path) => write!(f, "{}", Escaped(path)),
+        }
+    }
+}
+
+/// The warning that a custom section keeps stale offsets.
+#[derive(Clone, Copy)]
+pub struct OffsetWarning<'a> {
+    /// The module.
+    pub input: InputName<'a>,
+    /// The beginning of the section's name.
+    pub name: &'static str,
+}
+
+impl fmt::Display for OffsetWarning<'_> {
+    fn fmt<W: fmt::Write>(&self, f: &mut fmt::Formatter<W>) -> fmt::Result {
+        let OffsetWarning { input, name } = *self;
+        writeln!(
+            f,
+            "warning: {input}: custom sections {name}*: offsets are stale, because bytes have moved"
+        )?;
+        write!(
+            f,
+            "help: drop such sections with --strip-offsets, or generate them again from the output"
         )
+    }
 }
 
 /// A digest in hexadecimal digits.
@@ -51,10 +72,7 @@ pub struct SumName<'a>(&'a str);
 impl<'a> SumName<'a> {
     /// Returns the name of an input.
     pub fn of(input: Location<'a>) -> SumName<'a> {
-        match input {
-            Location::Standard => SumName("-"),
-            Location::File(path) => SumName(path),
-        }
+        SumName(input.word())
     }
 
     /// Returns what precedes the digest: a backslash if something in the name is escaped.

@@ -4,7 +4,6 @@ use crate::request::Location;
 use std::fs::{File, Metadata};
 use std::io::{IsTerminal, Read, Stdin, Write};
 use std::{fs, io};
-use wasm_modules::section::HEADER;
 
 /// Size in bytes from which a module's progress is shown.
 const LARGE: usize = 16 << 20;
@@ -63,7 +62,9 @@ pub struct Source {
     file_len: Option<usize>,
     /// Number of bytes read so far.
     len: usize,
-    /// Whether the first bytes differ from the header of a module. Then no more is read than the header's length.
+    /// The header of a module.
+    header: [u8; 8],
+    /// Whether the first bytes differ from the header. Then no more is read than the header's length.
     is_foreign: bool,
 }
 
@@ -74,10 +75,15 @@ enum Stream {
 }
 
 impl Source {
-    /// Opens a location for reading.
+    /// Opens a location for reading a module, which begins with this header.
     ///
     /// Fails if a file can't be opened.
-    pub fn open(rt: &HostRuntime, input: Location<'_>, progress: Progress) -> io::Result<Source> {
+    pub fn open(
+        rt: &HostRuntime,
+        input: Location<'_>,
+        header: [u8; 8],
+        progress: Progress,
+    ) -> io::Result<Source> {
         let (stream, file_len) = match input {
             Location::Standard => {
                 let file_len = file_len(fs::metadata(rt, "/dev/stdin"));
@@ -94,13 +100,14 @@ impl Source {
             progress,
             file_len,
             len: 0,
+            header,
             is_foreign: false,
         })
     }
 
     /// Compares bytes that come after the first `start` bytes with the header of a module.
     fn compare_with_header(&mut self, start: usize, bytes: &[u8]) {
-        for (expected, found) in HEADER.iter().skip(start).zip(bytes) {
+        for (expected, found) in self.header.iter().skip(start).zip(bytes) {
             if expected != found {
                 self.is_foreign = true;
             }
@@ -123,7 +130,7 @@ impl Source {
 
 impl Read for Source {
     fn read(&mut self, buffer: &mut [u8]) -> io::Result<usize> {
-        if self.is_foreign && self.len >= HEADER.len() {
+        if self.is_foreign && self.len >= self.header.len() {
             return Ok(0);
         }
         let count = match &mut self.stream {
@@ -132,7 +139,7 @@ impl Read for Source {
         };
         let before = self.len;
         self.len = before.saturating_add(count);
-        if before < HEADER.len() {
+        if before < self.header.len() {
             self.compare_with_header(before, buffer.get(..count).unwrap_or(&[]));
         }
         if count == 0 {

@@ -1,16 +1,20 @@
 //! The report: the size of each section before and after, and the number of encodings that are not minimal.
-use crate::contents::minimal_contents_len;
-use crate::json::{JsonText, file_value, text_value};
+use crate::json::text_value;
 use crate::listing::Stop;
-use crate::request::Location;
 use crate::sections::{
     LocatedSection, SectionTitle, count_number, has_list, kind_name, longer_number, read_located,
 };
+use escaped_text::JsonText;
 use serde_json::{Value, json};
 use std::alloc::{AllocError, Global};
 use std::{fmt, io};
 use wasm_codec::encode::leb128::u32_len;
+use wasm_codec::reader::DecodeError;
 use wasm_codec::reader::cursor::Cursor;
+use wasm_custom_sections::contents::{Decoded, contents_of};
+use wasm_custom_sections::names::NameSection;
+use wasm_custom_sections::producers::ProducersSection;
+use wasm_modules::decode::normalise;
 use wasm_modules::section::{HEADER, RawSection};
 use wasm_sections::custom::read_custom;
 use wasm_whole_modules::counting::SectionWatcher;
@@ -172,10 +176,10 @@ impl<'w, W: io::Write> Report<'w, W> {
         }
     }
 
-    /// Writes the totals.
-    pub fn end(&mut self, input: Location<'_>) -> Result<(), Stop> {
+    /// Writes the totals of the module in this file.
+    pub fn end(&mut self, file: &str) -> Result<(), Stop> {
         if self.json {
-            let file = file_value(self.alloc, input)?;
+            let file = text_value(self.alloc, file)?;
             let (before, after) = (self.totals.before, self.totals.after);
             write!(
                 self.writer,
@@ -272,6 +276,26 @@ fn custom_len(alloc: Global, section: RawSection<'_>, names: bool) -> Result<usi
         Err(_) => (0, 0),
     };
     Ok(1usize.saturating_add(sized_len(sized_len(name_len).saturating_add(contents_len))))
+}
+
+/// Returns the length of a custom section's contents. If they are those of a section `name` or `producers`, it is that of
+/// their minimal encoding.
+///
+/// Fails if memory runs out.
+fn minimal_contents_len(alloc: Global, section: RawSection<'_>) -> Result<usize, AllocError> {
+    let Ok(custom) = read_custom(section.body) else {
+        return Ok(0);
+    };
+    let minimal = match contents_of(alloc, section)? {
+        Some(Decoded::Names) => normalise::<NameSection>(alloc, custom.bytes),
+        Some(Decoded::Producers) => normalise::<ProducersSection<'_>>(alloc, custom.bytes),
+        None => return Ok(custom.bytes.len()),
+    };
+    match minimal {
+        Ok(minimal) => Ok(minimal.len()),
+        Err(DecodeError::Memory) => Err(AllocError),
+        Err(DecodeError::Malformed(_)) => Ok(custom.bytes.len()),
+    }
 }
 
 /// Returns the length of this number of bytes after their size.

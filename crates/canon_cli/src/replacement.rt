@@ -1,5 +1,5 @@
 //! A new file that replaces another one once it is complete.
-use crate::text::Escaped;
+use escaped_text::Escaped;
 use std::fs::{File, Metadata, OpenOptions};
 use std::os::unix::fs::{MetadataExt, OpenOptionsExt, chown};
 use std::path::{Path, PathBuf};

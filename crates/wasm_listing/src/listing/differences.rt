@@ -3,8 +3,7 @@ use crate::listing::{
     CallText, FunctionNames, HeadText, IndexSpaces, ItemText, Listed, LocalsText, Part, PartReader,
     SectionHead, Silent, Stop, is_same, list_section,
 };
-use crate::order::rank;
-use crate::sections::{LocatedSection, SectionWalk};
+use crate::sections::{LocatedSection, SectionWalk, rank};
 use std::alloc::{AllocError, Global};
 use wasm_entities::limits::MemoryType;
 use wasm_entities::types::TagType;

@@ -1,0 +1,44 @@
+//! The command line: the request that its words make, and the answer to words that make none.
+use crate::options::{USAGE, command};
+use crate::request::Request;
+use crate::statuses::{USAGE_STATUS, WRITE_STATUS};
+use clap::error::ErrorKind;
+use std::alloc::AllocError;
+
+/// Reads the request from the words of the command line, the program's name among them. If they ask for the help or the
+/// version, or are wrong, prints the answer and returns the exit status as `Err`.
+///
+/// Fails if memory runs out.
+pub fn read_request<'a>(
+    rt: &HostRuntime,
+    words: &'a [String],
+) -> Result<Result<Request<'a>, u8>, AllocError> {
+    match command(rt.alloc())?.try_get_matches_from(words) {
+        Ok(matches) => Ok(Ok(Request::from_matches(rt.alloc(), &matches)?)),
+        Err(error) if error.kind() == ErrorKind::OutOfMemory => Err(AllocError),
+        Err(error) => Ok(Err(print_answer(rt, &error))),
+    }
+}
+
+/// Prints an error in the words, the help or the version, and returns the exit status.
+fn print_answer(rt: &HostRuntime, error: &clap::Error) -> u8 {
+    let printed = error.print(rt);
+    if error.use_stderr() {
+        return USAGE_STATUS;
+    }
+    match printed {
+        Ok(()) => 0,
+        Err(error) => {
+            let _ = eprintln!(rt; "error: standard output: write failed: {error}");
+            WRITE_STATUS
+        }
+    }
+}
+
+/// Reports that the words don't go together, and returns the exit status.
+pub fn refuse_usage(rt: &HostRuntime, message: &str) -> u8 {
+    let _ = eprintln!(rt;
+        "error: {message}\n\nUsage: {USAGE}\n\nFor more information, try '--help'."
+    );
+    USAGE_STATUS
+}

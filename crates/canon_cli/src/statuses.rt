@@ -1,0 +1,10 @@
+//! Exit statuses of a run.
+
+/// Exit status of a run with invalid arguments, or without leave to write its output.
+pub const USAGE_STATUS: u8 = 2;
+
+/// Exit status of a run whose memory ran out.
+pub const MEMORY_STATUS: u8 = 3;
+
+/// Exit status of a run whose write failed.
+pub const WRITE_STATUS: u8 = 4;
