@@ -21,7 +21,7 @@ PAGES = [ROOT / "README.md", ROOT / "CHANGELOG.md", *sorted(ROOT.glob("docs/*.md
 MADE = sorted(ROOT.glob("docs/api/*.md"))
 SECONDS = 300
 LINES_OF_README = 120
-WORDS = 13200
+WORDS = 13300
 
 # Commands that prove or measure, or that the gate runs.
 OF_THE_GATE = re.compile(r"(bash \.ci/run|rt \w+|scripts/(gate|c-library|install|vendor|bench)|cd \S+)( |$)"

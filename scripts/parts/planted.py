@@ -1,4 +1,12 @@
-"""Tries the planted edits of crates/NAME/planted.edits: the proof must refuse each.
+"""Tries planted edits of crates/NAME/planted.edits, by turns: the proof must refuse each.
+
+Without names, it tries the edits of the crates that changed since the last landing, and of a fifth of the others. A
+landing is a commit of main that the gate passed. Their number in scripts/landings says whose turn it is, so each crate
+is tried within five landings. The output names the crates that aren't tried. If the clone lacks the last landing, all
+crates are tried.
+
+The user's cache keeps the verdict on an edit that was refused, by the checksum of all that it stands on: the kit, this
+tool, the edit, its crate, and the code, definitions and laws of the crates below. A later run takes it from there.
 
 The edits of a crate are laid into one copy of it, which is checked once: the first edit of a function into the
 function, each further one into a copy of the function beside it. An edit of a constant is laid into copies of the
@@ -19,7 +27,7 @@ import argparse
 import sys
 
 from parts.common import ROOT, counted_here
-from parts.planted_crates import Options, counted, try_all
+from parts.planted_crates import Options, chosen, counted, try_all
 from parts.planted_kit import Fault
 from parts.planted_self_test import self_test
 
@@ -27,15 +35,21 @@ from parts.planted_self_test import self_test
 def options_of(arguments):
     parser = argparse.ArgumentParser(prog="gate planted", description=__doc__,
                                      formatter_class=argparse.RawTextHelpFormatter)
-    parser.add_argument("edits", nargs="*", metavar="CRATE or CRATE:EDIT", help="the edits to try [default: all]")
+    parser.add_argument("edits", nargs="*", metavar="CRATE or CRATE:EDIT", help="the edits to try [default: by turns]")
+    parser.add_argument("--all", action="store_true", help="try the edits of all crates")
+    parser.add_argument("--anew", action="store_true", help="try edits whose verdict is kept once more")
     parser.add_argument("--after-gate", action="store_true", help="take the libraries that rt ci left")
     parser.add_argument("--clauses", action="store_true",
-                        help="try the right functions: each clause that an edit names must be proved by itself")
+                        help="try the right functions, by default of all crates: each clause that an edit names must "
+                             "be proved by itself")
     parser.add_argument("--searched", action="store_true",
                         help="try an edit that only answers refuse once more without these answers")
     parser.add_argument("--verbose", action="store_true", help="print the verdict on each edit")
     parser.add_argument("--self-test", action="store_true", help="try a small crate of which every verdict is known")
-    return parser.parse_args(arguments, Options())
+    options = parser.parse_args(arguments, Options())
+    if options.all and options.edits:
+        parser.error("--all takes no names of edits")
+    return options
 
 
 def main(arguments):
@@ -44,12 +58,16 @@ def main(arguments):
     if options.self_test:
         return self_test()
     try:
-        verdicts = try_all(ROOT, options)
+        edits, left = chosen(ROOT, options)
+        verdicts = try_all(edits, options)
     except Fault as fault:
         print(f"planted: {fault}", file=sys.stderr)
         return 2
     passed = sum(it.kind == options.expected for it in verdicts)
-    print(f"all: {counted(verdicts)}\n{passed} passed, {len(verdicts) - passed} failed")
+    print(f"in all: {counted(verdicts)}")
+    if left:
+        print(left)
+    print(f"{passed} passed, {len(verdicts) - passed} failed")
     return int(passed < len(verdicts))
 
 

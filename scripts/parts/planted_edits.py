@@ -166,6 +166,6 @@ def laid_beside(others, edit, sources):
 
 
 def edits_of(folder, names):
-    """The sources of a crate, and its edits of these names, or all."""
+    """The sources of a crate, and its edits of these names."""
     sources, entries = Sources(folder), entries_of(folder)
-    return sources, [read_edit(entry, sources) for name, entry in entries.items() if not names or name in names]
+    return sources, [read_edit(entry, sources) for name, entry in entries.items() if name in names]

@@ -27,9 +27,10 @@ class Verdict:
     is_proved: bool = False  # whether each function is proved with the edit
     unfound: frozenset = frozenset()  # the goals that the search didn't prove
     unfit: frozenset = frozenset()  # the answers that antt refused
+    is_kept: bool = False  # whether an earlier run came to it
 
     def __str__(self):
-        return f"{self.kind}{' ' * bool(self.how)}{self.how}: {self.why[:240]}"
+        return f"{self.kind}{' ' * bool(self.how)}{self.how}{', kept' * self.is_kept}: {self.why[:240]}"
 
 
 class Trial:

@@ -1,8 +1,11 @@
-"""The planted edits tried on a small crate of which every verdict is known."""
+"""The planted edits tried on a small crate of which every verdict is known, and cases for the choice and the cache."""
 import dataclasses
+import os
+import unittest.mock
 
+from parts import planted_kept_test, planted_turns_test
 from parts.common import room
-from parts.planted_crates import Options, chosen, try_all
+from parts.planted_crates import Options, chosen, named, try_all
 from parts.planted_edits import FILE, parse
 from parts.planted_kit import Fault, kit
 from parts.planted_rounds import BAD, BY_ANSWER_ALONE, BY_BOTH, BY_SEARCH, NOT_REFUSED, REFUSED
@@ -272,27 +275,46 @@ def fault_of(call):
     return ""
 
 
+def verdicts_of(root):
+    """The verdicts on the edits of the sample, by the edits' names."""
+    options = Options(all=True, searched=True, verbose=True)
+    return {it.edit.name: it for it in try_all(chosen(root, options)[0], options)}
+
+
 def wrong_verdicts(root):
     """The edits of the sample whose verdict isn't the one that is right."""
-    verdicts = {it.edit.name: it for it in try_all(root, Options(searched=True, verbose=True))}
+    verdicts = verdicts_of(root)
     found = {name: (it.kind, it.how) for name, it in verdicts.items()}
     wrong = [name for name, case in EDITS.items() if found.get(name) != (case.kind, case.how)]
     above = [name for name in EDITS if name.startswith("the_same_above_")]
     return wrong + [name for name in above if name in verdicts and not verdicts[name].alone]
 
 
+def wrong_again(root):
+    """The edits of the sample that a second run tries though they were refused, or that it takes for refused."""
+    kept = unittest.mock.Mock(side_effect=lambda works, _: [it for work in works for it in work.known])
+    with unittest.mock.patch("parts.planted_crates.try_pending", kept):
+        found = {name: it.how for name, it in verdicts_of(root).items()}
+    expected = {name: case.how for name, case in EDITS.items() if case.kind == REFUSED}
+    return [f"{name}, kept" for name in EDITS if found.get(name) != expected.get(name)]
+
+
 def wrong_faults(root):
     """The malformed files and the unknown names that aren't refused."""
     crates = kit().rtlib.crates_below(str(root))
     wrong = [text for text, fault in MALFORMED.items() if fault_of(lambda: parse(text, "at")) != f"at:{fault}"]
-    return wrong + [word for word in UNKNOWN if not fault_of(lambda: chosen(crates, [word]))]
+    return wrong + [word for word in UNKNOWN if not fault_of(lambda: named(crates, [word]))]
 
 
 def self_test():
-    with room() as root:
+    """Tries the sample and all cases, prints the wrong ones, and returns the exit status."""
+    with room() as root, room() as cache, unittest.mock.patch.dict(os.environ, {"XDG_CACHE_HOME": str(cache)}):
         write_sample(root)
-        wrong = [*wrong_faults(root), *wrong_verdicts(root)]
+        wrong = [*wrong_faults(root), *wrong_verdicts(root), *wrong_again(root)]
+    cases = [*planted_turns_test.cases(), *planted_kept_test.cases()]
+    wrong += [name for name, is_right in cases if not is_right]
     for it in wrong:
-        print(f"planted --self-test: the verdict on {it!r} isn't the one that is right")
-    print(f"{len(EDITS) + len(MALFORMED) + len(UNKNOWN) - len(wrong)} passed, {len(wrong)} failed")
+        print(f"planted --self-test: {it!r} doesn't end as it should")
+    total = sum(map(len, (MALFORMED, UNKNOWN, EDITS, EDITS, cases)))
+    print(f"{total - len(wrong)} passed, {len(wrong)} failed")
     return int(bool(wrong))
