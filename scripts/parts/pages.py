@@ -21,7 +21,8 @@ PAGES = [ROOT / "README.md", ROOT / "CHANGELOG.md", *sorted(ROOT.glob("docs/*.md
 MADE = sorted(ROOT.glob("docs/api/*.md"))
 SECONDS = 300
 LINES_OF_README = 120
-WORDS = 13300
+WORDS = 13400
+WRITTEN_BY_THE_GATE = re.compile(r"<!-- \w+: written by scripts/gate -->.*?<!-- end of \w+ -->", re.DOTALL)
 
 # Commands that prove or measure, or that the gate runs.
 OF_THE_GATE = re.compile(r"(bash \.ci/run|rt \w+|scripts/(gate|c-library|install|vendor|bench)|cd \S+)( |$)"
@@ -344,7 +345,8 @@ def check_limits(judge):
     judge("limits", "README.md", "" if f"`{version}`" in readme else f"expected the kit's line `{version}`")
     lines = len(readme.splitlines())
     judge("limits", "README.md", "" if lines <= LINES_OF_README else f"{lines} lines, more than {LINES_OF_README}")
-    words = sum(len(file.read_text("utf-8").split()) for file in [ROOT / "README.md", *ROOT.glob("docs/*.md")])
+    texts = (file.read_text("utf-8") for file in [ROOT / "README.md", *ROOT.glob("docs/*.md")])
+    words = sum(len(WRITTEN_BY_THE_GATE.sub("", text).split()) for text in texts)
     judge("limits", "README.md and docs", "" if words <= WORDS else f"{words} words, more than {WORDS}")
 
 
