@@ -101,4 +101,4 @@ def run(report, words):
     for cost in costs:
         report.passed(cost.crate)
     text = "\n\n".join([crates_table(costs), things_table(costs), f"{times.machine()}."])
-    print(text) if words else times.write("costs", text)
+    times.write("costs", text)

@@ -51,7 +51,6 @@ pub use Rattle.wasm_whole_modules.specs.IndexSpaces
 pub use Rattle.wasm_whole_modules.specs.MappedIndices
 pub use Rattle.wasm_whole_modules.specs.MappedSections
 pub use Rattle.wasm_whole_modules.specs.RefusalNumbers
-pub use Rattle.wasm_whole_modules.specs.Stops
 pub use Rattle.wasm_sections.specs.SectionKinds
 pub use Rattle.wasm_sections.specs.ListSections
 pub use Rattle.wasm_sections.specs.ElementSections

@@ -48,7 +48,6 @@ pub use wasm_sections::module_sections::ModuleSection;
 pub use wasm_sections::numbers::{DataCountSection, StartSection, read_number, read_number_strict};
 pub use wasm_sections::tables::{Table, TableSection};
 pub use wasm_sections::tags::TagSection;
-pub use wasm_whole_modules::counting::ItemCounts;
 pub use wasm_whole_modules::modules::{
     Judged, WholeModule, check_whole_module, judge_whole_module, normalise_whole_module,
     read_whole_module, read_whole_module_strict, rewrite_whole_module,
