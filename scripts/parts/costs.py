@@ -37,10 +37,9 @@ def measure(crate):
     """Proves a crate, and reads what each of its modules took."""
     with room() as kept:
         words = crate.words(["--jobs", "1"], tests=crate.has_tests(), keeps=False)
-        command = [sys.executable, "-c", RUN, kit().rtlib.RATTLE, "check", *words, "--progress", "--incremental", str(kept)]
-        ran = subprocess.run(command, cwd=crate.folder, stdin=subprocess.DEVNULL, capture_output=True, text=True,
-                             errors="replace")
-        said = ran.stdout
+        check = [kit().rtlib.RATTLE, "check", *words, "--progress", "--incremental", str(kept)]
+        said = subprocess.run([sys.executable, "-c", RUN, *check], cwd=crate.folder, stdin=subprocess.DEVNULL,
+                              stdout=subprocess.PIPE, stderr=subprocess.STDOUT, text=True, errors="replace").stdout
         if not re.search(r"^logic=proved", said, re.MULTILINE):
             raise Fault(f"{crate.name} isn't proved: {said[-300:]}")
         functions = {name.replace("::", ".") for name in re.findall(r"^checked \w+?::(\S+), \d+ of", said, re.MULTILINE)}

@@ -191,26 +191,36 @@ pub fn list_section<L: Listing>(
     listing: &mut L,
 ) -> Result<(), Stop> {
     listing.section(head)?;
+    list_contents(alloc, head, spaces, listing)?;
+    listing.section_end()
+}
+
+/// Lists what a section holds.
+fn list_contents<L: Listing>(
+    alloc: Global,
+    head: &SectionHead<'_>,
+    spaces: &mut IndexSpaces<'_>,
+    listing: &mut L,
+) -> Result<(), Stop> {
     let section = head.located.section;
     let mut parts = PartReader::new(alloc, head.located);
     match section.id {
-        0 if custom_name(section).is_some() => {}
-        1 => list_items::<TypeEntry, L>(&mut parts, spaces, listing)?,
-        2 => list_items::<Import<'_>, L>(&mut parts, spaces, listing)?,
-        3 => list_items::<u32, L>(&mut parts, spaces, listing)?,
-        4 => list_items::<Table, L>(&mut parts, spaces, listing)?,
-        5 => list_items::<MemoryType, L>(&mut parts, spaces, listing)?,
-        6 => list_items::<GlobalEntry, L>(&mut parts, spaces, listing)?,
-        7 => list_items::<Export<'_>, L>(&mut parts, spaces, listing)?,
-        8 => list_start(&mut parts, spaces, listing)?,
-        9 => list_items::<Element, L>(&mut parts, spaces, listing)?,
-        10 => list_functions(&mut parts, spaces, listing)?,
-        11 => list_items::<DataSegment<'_>, L>(&mut parts, spaces, listing)?,
-        12 => list_data_count(&mut parts, listing)?,
-        13 => list_items::<TagType, L>(&mut parts, spaces, listing)?,
-        _ => return Err(Stop::Malformed),
+        0 if custom_name(section).is_some() => Ok(()),
+        1 => list_items::<TypeEntry, L>(&mut parts, spaces, listing),
+        2 => list_items::<Import<'_>, L>(&mut parts, spaces, listing),
+        3 => list_items::<u32, L>(&mut parts, spaces, listing),
+        4 => list_items::<Table, L>(&mut parts, spaces, listing),
+        5 => list_items::<MemoryType, L>(&mut parts, spaces, listing),
+        6 => list_items::<GlobalEntry, L>(&mut parts, spaces, listing),
+        7 => list_items::<Export<'_>, L>(&mut parts, spaces, listing),
+        8 => list_start(&mut parts, spaces, listing),
+        9 => list_items::<Element, L>(&mut parts, spaces, listing),
+        10 => list_functions(&mut parts, spaces, listing),
+        11 => list_items::<DataSegment<'_>, L>(&mut parts, spaces, listing),
+        12 => list_data_count(&mut parts, listing),
+        13 => list_items::<TagType, L>(&mut parts, spaces, listing),
+        _ => Err(Stop::Malformed),
     }
-    listing.section_end()
 }
 
 /// Lists the items of a list.

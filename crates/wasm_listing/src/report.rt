@@ -17,8 +17,7 @@ use wasm_custom_sections::producers::ProducersSection;
 use wasm_modules::decode::normalise;
 use wasm_modules::section::{HEADER, RawSection};
 use wasm_sections::custom::read_custom;
-use wasm_whole_modules::counting::SectionWatcher;
-use wasm_whole_modules::counting::ItemCounts;
+use wasm_whole_modules::counting::{ItemCounts, SectionWatcher};
 use wasm_whole_modules::selection::custom_name;
 
 /// A writer of the report of a module, which is rewritten meanwhile: a row for each section, and then the totals.

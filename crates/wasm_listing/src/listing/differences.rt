@@ -386,13 +386,23 @@ fn row_at<'a>(part: &Part<'a>, start: usize) -> Part<'a> {
 
 /// Lists the number in a start section or a data count section, if it differs.
 fn compare_numbers<'a, D: Differences>(pair: &mut Pair<'a, 'a>, out: &mut D) -> Result<(), Stop> {
-    let (part, one) = pair.one.item::<u32>(0)?;
-    let (other_part, other) = pair.other.item::<u32>(0)?;
-    if one == other {
+    let one = pair.one.item::<u32>(0)?;
+    let other = pair.other.item::<u32>(0)?;
+    if one.1 == other.1 {
         return Ok(());
     }
-    let first = number_side(pair.alloc, pair.section.id, part, one)?;
-    let second = number_side(pair.alloc, pair.section.id, other_part, other)?;
+    list_numbers(pair, one, other, out)
+}
+
+/// Lists the different numbers in two start sections or data count sections.
+fn list_numbers<'a, D: Differences>(
+    pair: &Pair<'a, 'a>,
+    one: (Part<'a>, u32),
+    other: (Part<'a>, u32),
+    out: &mut D,
+) -> Result<(), Stop> {
+    let first = number_side(pair.alloc, pair.section.id, one)?;
+    let second = number_side(pair.alloc, pair.section.id, other)?;
     out.part(&pair.part(None, Some(first), Some(second)))
 }
 
@@ -400,8 +410,7 @@ fn compare_numbers<'a, D: Differences>(pair: &mut Pair<'a, 'a>, out: &mut D) -> 
 fn number_side<'a>(
     alloc: Global,
     id: u8,
-    part: Part<'a>,
-    number: u32,
+    (part, number): (Part<'a>, u32),
 ) -> Result<Side<'a>, AllocError> {
     let text = if id == 8 {
         ItemText::Start(number, None)
@@ -456,12 +465,11 @@ fn contents_of<'a>(head: &SectionHead<'a>) -> Part<'a> {
 
 /// Returns the length of the longest common prefix.
 fn common_len(first: &[u8], second: &[u8]) -> usize {
-    for (index, (one, other)) in first.iter().zip(second).enumerate() {
-        if one != other {
-            return index;
-        }
-    }
-    first.len().min(second.len())
+    let differ = first
+        .iter()
+        .zip(second)
+        .position(|(one, other)| one != other);
+    differ.unwrap_or(first.len().min(second.len()))
 }
 
 /// Lists the functions in which two code sections differ.

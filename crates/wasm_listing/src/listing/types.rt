@@ -153,13 +153,26 @@ fn write_composite<W: fmt::Write>(f: &mut fmt::Formatter<W>, ty: &CompositeType)
     if ty.shared {
         write!(f, "shared ")?;
     }
-    if let Some(index) = ty.descriptor {
-        write!(f, "descriptor {index} ")?;
+    write_index(f, "descriptor", ty.descriptor)?;
+    write_index(f, "describes", ty.describes)?;
+    write_inner(f, &ty.inner)
+}
+
+/// Writes a word and the index of a type, if there is one.
+fn write_index<W: fmt::Write>(
+    f: &mut fmt::Formatter<W>,
+    word: &str,
+    index: Option<u32>,
+) -> fmt::Result {
+    match index {
+        Some(index) => write!(f, "{word} {index} "),
+        None => Ok(()),
     }
-    if let Some(index) = ty.describes {
-        write!(f, "describes {index} ")?;
-    }
-    match &ty.inner {
+}
+
+/// Writes a composite type without what precedes its form.
+fn write_inner<W: fmt::Write>(f: &mut fmt::Formatter<W>, ty: &CompositeInnerType) -> fmt::Result {
+    match ty {
         CompositeInnerType::Func(ty) => write!(f, "{}", FuncText(ty)),
         CompositeInnerType::Array(ty) => write!(f, "array ({})", FieldText(ty.0)),
         CompositeInnerType::Struct(ty) => {
