@@ -25,7 +25,7 @@ RUN = "import resource, subprocess, sys; subprocess.run(sys.argv[1:]); " \
 
 @dataclasses.dataclass
 class Cost:
-    """What the prover took for a crate: its processor seconds, the number of functions, and the seconds of each thing."""
+    """What the prover took for a crate: processor seconds, the number of functions, and the seconds of each thing."""
 
     crate: str
     processor: float
@@ -42,14 +42,16 @@ def measure(crate):
                               stdout=subprocess.PIPE, stderr=subprocess.STDOUT, text=True, errors="replace").stdout
         if not re.search(r"^logic=proved", said, re.MULTILINE):
             raise Fault(f"{crate.name} isn't proved: {said[-300:]}")
-        functions = {name.replace("::", ".") for name in re.findall(r"^checked \w+?::(\S+), \d+ of", said, re.MULTILINE)}
+        names = re.findall(r"^checked \w+?::(\S+), \d+ of", said, re.MULTILINE)
+        functions = {name.replace("::", ".") for name in names}
         things = things_of(crate, functions, modules_in(kept))
     return Cost(crate.name, float(re.search(r"^processor (\S+)", said, re.MULTILINE)[1]), len(functions), things)
 
 
 def modules_in(folder):
     """The modules that the prover wrote below a folder, each with its seconds, in their order."""
-    files = sorted((file.stat().st_mtime, file.stem) for file in folder.rglob("*.oantt") if file.parent.name != "records")
+    found = (file for file in folder.rglob("*.oantt") if file.parent.name != "records")
+    files = sorted((file.stat().st_mtime, file.stem) for file in found)
     starts = [files[0][0], *(written for written, _ in files)] if files else []
     return [(name, written - start) for (written, name), start in zip(files, starts)]
 

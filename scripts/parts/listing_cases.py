@@ -102,6 +102,44 @@ INSTRUCTIONS = [
      " 000017: fd 0c 01 00 00 00 02 00 00 | v128.const 0x00000001 0x00000002\n"
      "         00 03 00 00 00 ff ff ff ff |   0x00000003 0xffffffff"),
     (b"\x20\xC2\x80\0", " 000017: 20 c2 80 00                | local.get 66; 4 bytes, minimal is 2"),
+    (b"\2\x40\6\x40\1\x18\0\x0B", " 000017: 02 40                      | block\n"
+     " 000019: 06 40                      |   try\n 00001b: 01                         |     nop\n"
+     " 00001c: 18 00                      |   delegate 0\n 00001e: 0b                         | end"),
+    (b"\xFB\x18\1\0\x6E\5", " 000017: fb 18 01 00 6e 05          | br_on_cast 0 anyref (ref 5)"),
+    (b"\xFB\x19\2\1\x70\x6F", " 000017: fb 19 02 01 70 6f          | br_on_cast_fail 1 (ref func) externref"),
+    (b"\xFE\x5C\1\2\3", " 000017: fe 5c 01 02 03             | struct.atomic.get acq_rel 2 3"),
+    (b"\xFE\x67\0\2", " 000017: fe 67 00 02                | array.atomic.get seq_cst 2"),
+    (b"\x43\0\0\xC0\x7F", " 000017: 43 00 00 c0 7f             | f32.const nan"),
+    (b"\x44\1\0\0\0\0\0\xF0\x7F", " 000017: 44 01 00 00 00 00 00 f0 7f | f64.const nan:0x1"),
+    (b"\x44\0\0\0\0\0\0\xF8\xFF", " 000017: 44 00 00 00 00 00 00 f8 ff | f64.const -nan"),
+]
+
+NAMED_F, NAMED_G = (b"\0\x0B\4name\1\4\1\0\1" + name for name in (b"f", b"g"))
+# Modules: what each shows, the bytes after the header, and the listing.
+LISTINGS = [
+    ("indices after a recursive group", b"\1\x0D\2\x4E\2\x60\0\0\x60\1\x7F\0\x60\0\0", """\
+section 0: type, offset 0x8, 15 bytes, 2 types
+ 00000b      9 | rec type[0] func () -> nil, type[1] func (i32) -> nil
+ 000014      3 | type[2] func () -> nil
+"""),
+    ("tags after an imported one", b"\2\x08\1\1a\1b\4\0\0\x0D\3\1\0\0", """\
+section 0: import, offset 0x8, 10 bytes, 1 import
+ 00000b      7 | tag[0] type 0 <- "a" "b"
+section 1: tag, offset 0x12, 5 bytes, 1 tag
+ 000015      2 | tag[1] type 0
+"""),
+    ("names of the first of two sections", b"\1\4\1\x60\0\0\3\2\1\0\x0A\4\1\2\0\x0B" + NAMED_F + NAMED_G, """\
+section 0: type, offset 0x8, 6 bytes, 1 type
+ 00000b      3 | type[0] func () -> nil
+section 1: function, offset 0xe, 4 bytes, 1 function
+ 000011      1 | func[0] type 0 <f>
+section 2: code, offset 0x12, 6 bytes, 1 function
+ 000015      3 | func[0] <f>
+ 000017: 0b                         | end
+section 3: custom "name", offset 0x18, 13 bytes
+section 4: custom "name", offset 0x25, 13 bytes
+"""),
+    ("a name that reorders text", b"\0\6\5a\xE2\x80\xAEb", 'section 0: custom "a\\u{202e}b", offset 0x8, 8 bytes\n'),
 ]
 
 # Malformed modules: what each is, the listing up to there, the message, and the bytes after the header.

@@ -1,4 +1,4 @@
-"""Runs `rt ci` with these words and each call of rattle timed by timed_rattle.py, into the file that RATTLE_TIMES names."""
+"""Runs `rt ci` with these words. timed_rattle.py adds a line on each call of rattle to the file RATTLE_TIMES."""
 import os
 import pathlib
 import sys

@@ -11,7 +11,7 @@ import subprocess
 
 from parts.common import HELP, ROOT, both_programs, lacks, room, run as run_command, under
 from parts.listing_cases import (ALL_DIFFERENCES, CALL_AS_JSON, CUT_LISTINGS, EVERY, EVERY_AS_JSON, INSTRUCTIONS,
-                                 LISTING, code)
+                                 LISTING, LISTINGS, code)
 
 HEADER = b"\0asm\1\0\0\0"
 ZEROS = bytes(49_999_998)
@@ -289,6 +289,36 @@ def try_outputs(runs):
     runs.holds("a file in its own place", runs.puts("there", "-o", "there"))
     runs.link("device", "/dev/null")
     runs.holds("a device", runs.answers(0, "", "long", "-o", "device"))
+    runs.fresh(0o600)
+    right = runs.puts("long", "-o", "there")
+    runs.holds("the permissions of a private file", right and (runs.room / "there").stat().st_mode & 0o777 == 0o600)
+    try_owner(runs)
+    try_synced(runs)
+
+
+def try_owner(runs):
+    """A file that is replaced keeps its owner and its group, if the program may give them."""
+    if os.geteuid():
+        runs.report.skipped("the owner of a file", "only root may give files away")
+        return
+    runs.fresh()
+    os.chown(runs.room / "there", 1234, 2345)
+    right, found = runs.puts("long", "-o", "there"), (runs.room / "there").stat()
+    runs.holds("the owner of a file", right and (found.st_uid, found.st_gid) == (1234, 2345))
+    runs.fresh()
+
+
+def try_synced(runs):
+    """The bytes reach the disk before their file gets the name of the output."""
+    if lacks(runs.report, "strace", "writes were not traced"):
+        return
+    runs.fresh()
+    words = ["strace", "-f", "-e", "trace=fsync,fdatasync,rename", runs.program, "long", "-o", "there"]
+    ran = run_command(*words, cwd=runs.room)
+    calls = re.findall(rb"^(?:\[pid +\d+\] )?(\w+)\(", ran.stderr, re.MULTILINE)
+    runs.status, runs.out, runs.err = ran.returncode, ran.stdout, ran.stderr.decode("utf-8", "replace")
+    runs.holds("a file is written to the disk and then renamed", runs.status == 0 and calls in (
+        [b"fsync", b"rename"], [b"fdatasync", b"rename"]))
 
 
 def goes_past_a_stale_file(runs):
@@ -315,6 +345,12 @@ def try_links(runs):
     runs.holds("a link to a name that isn't UTF-8", right and (runs.room / "a").is_symlink())
     for name in ("a", "b", "gone"):
         (runs.room / name).unlink()
+    (runs.room / "beside").mkdir()
+    runs.link("beside/link", "there")
+    runs.fresh()
+    right = runs.answers(0, "", "long", "-o", "beside/link") and runs.there() == b"kept"
+    runs.holds("a link in another folder is followed from there",
+               right and (runs.room / "beside/there").read_bytes() == FILES["canonical"])
 
 
 def try_read_only(runs):
@@ -440,6 +476,11 @@ def try_names(runs):
     runs.holds("a hash of names", runs.status == 0 and runs.out.decode() == f"{sum_of(unpadded)}  padded\n")
     runs.run("--report", "--names", "padded")
     runs.holds("a report of names", runs.status == 0 and runs.out == REPORT_OF_NAMES)
+    runs.run("--report", "padded")
+    runs.holds("a report without names", runs.status == 0 and b"  total        91        91         0" in runs.out)
+    runs.run("--check", "--names", "--json", "padded")
+    told = [[it[name] for name in ("section", "id", "section_offset", "offset")] for it in list_in(runs.out)]
+    runs.holds("names as JSON", told == [[1, 0, 0x0E, 0x15]])
     runs.holds("no offsets are stale", runs.answers(0, "", "padded_debug"))
     runs.run("--names", "padded_debug")
     runs.holds("a warning of offsets after names", runs.status == 0 and runs.err == STALE.format(file="padded_debug"))
@@ -464,6 +505,10 @@ def try_foreign(runs):
     for found, message, data in FOREIGN:
         (runs.room / "foreign").write_bytes(data)
         runs.holds(found, runs.answers(1, f"error: foreign: {message}\n", "--check", "foreign"))
+    (runs.room / "a\u202eb").write_bytes(b"")
+    runs.holds("a file whose name reorders text",
+               runs.answers(1, f"error: a\\u{{202e}}b: {NO_HEADER}, found no bytes\n", "--check", "a\u202eb"))
+    (runs.room / "a\u202eb").unlink()
     ran = run_command("sh", "-c", 'cat /dev/zero | "$1" --check', "sh", runs.program)
     runs.holds("an input without end", ran.returncode == 1 and b"found 00 00 00 00" in ran.stderr)
 
@@ -687,6 +732,10 @@ def try_listings(runs):
         (runs.room / "disordered").write_bytes(HEADER + data)
         right = runs.answers(1, f"error: disordered: {message}", "--list", "disordered")
         runs.holds(f"a listing of {name}", right and runs.answers(0, "", "--any-order", "--list", "disordered"))
+    for name, data, wanted in LISTINGS:
+        (runs.room / "listed").write_bytes(HEADER + data)
+        runs.run("--list", "--any-order", "listed")
+        runs.holds(f"a listing: {name}", runs.status == 0 and runs.out.decode() == wanted)
     try_long_listing(runs)
 
 
@@ -826,10 +875,13 @@ def try_failing_writes(runs):
         with open("/dev/full", "wb") as full:
             runs.run("long", stdout=full)
         runs.holds("a device that is full", runs.status == 4 and write_failed(runs))
-        for word in ("--help", "--version", "--hash", "--report", "--list"):
+        for words in (["--help"], ["--version"], ["--hash", "long"], ["--report", "long"], ["--list", "long"],
+                      ["--check", "--json", "long"], ["--hash", "--json", "long"], ["--report", "--json", "long"],
+                      ["--list", "--json", "long"], ["--diff", "--json", "long", "canonical"],
+                      ["--diff", "--all", "long", "other"], ["--diff", "--all", "--json", "long", "other"]):
             with open("/dev/full", "wb") as full:
-                runs.run(word, *(["long"] if word in ("--hash", "--report", "--list") else []), stdout=full)
-            runs.holds(f"a device that is full, {word}", runs.status == 4 and write_failed(runs))
+                runs.run(*words, stdout=full)
+            runs.holds(f"a device that is full, {' '.join(words)}", runs.status == 4 and write_failed(runs))
     whole = run_command(runs.program, "large", cwd=runs.room).stdout
     with open(runs.room / "out", "wb") as output:
         ran = run_command(*under("trap '' XFSZ; ulimit -f 1", runs.program, "large"), cwd=runs.room, stdout=output)
