@@ -7,6 +7,7 @@ programs of `rt ci`, unless --unproved follows. The modules of bench/ that they 
 of a source, whatever its comments and line breaks.
 """
 import collections
+import functools
 import os
 import pathlib
 import re
@@ -134,6 +135,20 @@ def check_paths(judge, page):
                 folders += [ROOT / "crates" / around] if own and around else ROOT.glob("crates/*") if own else []
                 there = any(any(folder.glob(path.rstrip("/"))) for folder in folders)
                 judge("paths", page.place(number), "" if there else f"`{path}` doesn't exist")
+
+
+@functools.lru_cache(maxsize=None)
+def file_names():
+    """The names of the files that git has, without their folders."""
+    listed = subprocess.check_output(["git", "ls-files", "-co", "--exclude-standard"], cwd=ROOT, text=True)
+    return {line.rpartition("/")[2] for line in listed.splitlines()}
+
+
+def check_names(judge, page):
+    """A name of a source file or a script, such as `order.rt`, is that of a file somewhere in the tree."""
+    for number, line in page.prose:
+        for name in re.findall(r"`(\w+\.(?:rt|antt|py|sh|bash|wat|tsv))`", line):
+            judge("names of files", page.place(number), "" if name in file_names() else f"no file is named `{name}`")
 
 
 # ---- commands
@@ -373,6 +388,7 @@ def run(report):
         for page in (pages[file] for file in PAGES):
             check_links(judge, page, pages)
             check_paths(judge, page)
+            check_names(judge, page)
             check_unfenced(judge, page)
             check_modules(judge, page)
             check_numbers(judge, page, known)
