@@ -3,6 +3,7 @@ import re
 
 from documentation import sources
 from documentation.api_pages import API, LEADS_NOWHERE, all_pages
+from documentation.definitions import PAGE as DEFINITIONS, definitions_page
 from documentation.handed_on import kept_back
 from documentation.interface import BUILDERS
 from documentation.promises import BEGIN, END, PROMISES, promises_page
@@ -25,6 +26,7 @@ WITHOUT_EXAMPLE = {
 def made(interface):
     """The texts of the files that scripts/api writes."""
     files = all_pages(interface)
+    files[DEFINITIONS] = definitions_page(interface)
     page = promises_page(interface)
     if page:
         files[PROMISES] = page
