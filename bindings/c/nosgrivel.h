@@ -15,7 +15,8 @@
  * allocates.
  *
  * Normalising moves bytes, so offsets in custom sections become stale: those of relocatable object files (`linking`,
- * `reloc.*`) and of debug information (DWARF, `.debug_*`). Normalise linked modules that need neither. */
+ * `reloc.*`), of debug information (`.debug_*`, `external_debug_info`, `sourceMappingURL`) and of code metadata
+ * (`metadata.code.*`). Normalise linked modules that need none of these. */
 #ifndef NOSGRIVEL_H
 #define NOSGRIVEL_H
 

@@ -15,7 +15,8 @@
 //! longer, and only malformed inputs are refused. This crate isn't proved: it calls the static library.
 //!
 //! **Normalising moves bytes.** Offsets in custom sections become stale: those of relocatable object files (`linking`,
-//! `reloc.*`) and of debug information (DWARF, `.debug_*`). Normalise linked modules that need neither.
+//! `reloc.*`), of debug information (`.debug_*`, `external_debug_info`, `sourceMappingURL`) and of code metadata
+//! (`metadata.code.*`). Normalise linked modules that need none of these.
 //!
 //! [`explain`] says why and where a module is refused. [`strip`] leaves custom sections out.
 //!
