@@ -26,7 +26,7 @@ def run(report, is_timed=False):
     if is_timed:
         prove_timed(report)
     else:
-        prove(report, ["rt", "ci"])
+        prove(report, ["rt", "ci"], os.environ)
     if not report.counts["failed"]:
         proved.update({crate: known for crate, known in before.items() if sources(crate) == known})
     for crate in PROGRAMS:
@@ -34,10 +34,13 @@ def run(report, is_timed=False):
             keep(crate, proved[crate], program(crate))
 
 
-def prove(report, command, environment=None):
-    """Proves the library, and then all. Only the second run counts: it judges the library as well."""
-    environment = {**os.environ, **(environment or {})}
-    subprocess.run([*command, LIBRARY], stdin=subprocess.DEVNULL, cwd=ROOT, env=environment)
+# Runs `rt ci` with words, as scripts/parts/kit_ci.py does.
+KIT_CI = [sys.executable, str(ROOT / "scripts/parts/kit_ci.py")]
+
+
+def prove(report, command, environment):
+    """Proves the library, and then all by a command. Only the second run counts: it judges the library as well."""
+    subprocess.run([*KIT_CI, LIBRARY], stdin=subprocess.DEVNULL, cwd=ROOT, env=environment)
     counted(report, "rt ci", command, env={**environment, "RT_JOBS": str(times.cores())})
 
 
@@ -45,5 +48,5 @@ def prove_timed(report):
     """Does the same, and notes what each call of rattle takes."""
     with room() as folder:
         file = folder / "calls"
-        prove(report, [sys.executable, str(ROOT / "scripts/parts/timed_ci.py")], {"RATTLE_TIMES": str(file)})
+        prove(report, KIT_CI, {**os.environ, "RATTLE_TIMES": str(file)})
         calls.extend(times.calls_of(file))

@@ -1,0 +1,31 @@
+"""Runs `rt ci` with these words, and shares out the processors among proofs alone.
+
+The kit counts the tests of each crate as a second proof, also if there are none, and then gives half of the processors
+to a crate that all others wait for. If RATTLE_TIMES names a file, timed_rattle.py adds a line on each call of rattle.
+"""
+import os
+import pathlib
+import sys
+
+sys.path.insert(0, str(pathlib.Path(__file__).resolve().parents[1]))
+from parts.planted_kit import kit  # noqa: E402
+
+
+def in_lanes(tasks, kits=kit().in_lanes):
+    """Does the tasks as the kit does, and at the end those of crates without tests, which nothing else waits for."""
+    awaited = {key for waits, *_ in tasks.values() for key in waits if key[1] == "tests"}
+    empty = [key for key, (_, lines, *_) in tasks.items() if key[1] == "tests" and not lines and key not in awaited]
+    given = kits({key: task for key, task in tasks.items() if key not in empty})
+    given.update({key: tasks[key][3](given, 1) for key in empty})
+    return given
+
+
+def main():
+    kit().in_lanes = in_lanes
+    if "RATTLE_TIMES" in os.environ:
+        os.environ["RATTLE"] = kit().rtlib.RATTLE
+        kit().rtlib.RATTLE = str(pathlib.Path(__file__).resolve().with_name("timed_rattle.py"))
+    return kit().main(["ci", *sys.argv[1:]])
+
+
+sys.exit(main())
