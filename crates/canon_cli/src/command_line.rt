@@ -5,18 +5,24 @@ use crate::statuses::{USAGE_STATUS, WRITE_STATUS};
 use clap::error::ErrorKind;
 use std::alloc::AllocError;
 
-/// Reads the request from the words of the command line, the program's name among them. If they ask for the help or the
-/// version, or are wrong, prints the answer and returns the exit status as `Err`.
+/// What the words of the command line ask for.
+#[derive(Drop)]
+pub enum Asked<'a> {
+    /// A run.
+    Run(Request<'a>),
+    /// Nothing more: the answer is printed. Holds the exit status.
+    Answered(u8),
+}
+
+/// Reads the words of the command line, the program's name among them. If they are wrong, or if they ask for the help or
+/// the version, prints the answer.
 ///
 /// Fails if memory runs out.
-pub fn read_request<'a>(
-    rt: &HostRuntime,
-    words: &'a [String],
-) -> Result<Result<Request<'a>, u8>, AllocError> {
+pub fn read_request<'a>(rt: &HostRuntime, words: &'a [String]) -> Result<Asked<'a>, AllocError> {
     match command(rt.alloc())?.try_get_matches_from(words) {
-        Ok(matches) => Ok(Ok(Request::from_matches(rt.alloc(), &matches)?)),
+        Ok(matches) => Ok(Asked::Run(Request::from_matches(rt.alloc(), &matches)?)),
         Err(error) if error.kind() == ErrorKind::OutOfMemory => Err(AllocError),
-        Err(error) => Ok(Err(print_answer(rt, &error))),
+        Err(error) => Ok(Asked::Answered(print_answer(rt, &error))),
     }
 }
 

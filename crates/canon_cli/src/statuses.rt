@@ -1,6 +1,6 @@
 //! Exit statuses of a run.
 
-/// Exit status of a run with invalid arguments, or without leave to write its output.
+/// Exit status of a run with invalid arguments, or with an output that it may not write.
 pub const USAGE_STATUS: u8 = 2;
 
 /// Exit status of a run whose memory ran out.

@@ -22,7 +22,7 @@ mod results;
 mod run;
 
 use actions::run_job;
-use canon_cli::command_line::{read_request, refuse_usage};
+use canon_cli::command_line::{Asked, read_request, refuse_usage};
 use canon_cli::statuses::{MEMORY_STATUS, USAGE_STATUS};
 use job::{Job, JobError};
 use std::alloc::AllocError;
@@ -57,11 +57,11 @@ fn no_memory(rt: &HostRuntime) -> u8 {
 /// Fails if memory runs out.
 fn run_words(rt: &HostRuntime, words: &[String]) -> Result<u8, AllocError> {
     match read_request(rt, words)? {
-        Ok(request) => match Job::new(rt.alloc(), request) {
+        Asked::Run(request) => match Job::new(rt.alloc(), request) {
             Ok(job) => run_job(rt, &job),
             Err(JobError::Memory) => Err(AllocError),
             Err(JobError::Usage(message)) => Ok(refuse_usage(rt, message)),
         },
-        Err(status) => Ok(status),
+        Asked::Answered(status) => Ok(status),
     }
 }
