@@ -20,7 +20,8 @@ case $program in
 esac
 out=$root/crates/$program/out
 built=$out/$program
-kept=$out/kept # the program, the checksum and stamps of its sources, and the output of rt; without proof $out/unproved
+# The program, the checksum and stamps of its sources, and the output of the build; without proof in $out/unproved.
+kept=$out/kept
 
 need_rt() {
     command -v rt >/dev/null || { say "rt not found: put the kit's command rt on the PATH"; exit 5; }
@@ -91,7 +92,7 @@ keep() {
 
 fail() {
     tail -n 5 "$kept/log" | cut -c 1-300 >&2
-    say "$1: the output of rt is in $kept/log"
+    say "$1: the output of the build is in $kept/log"
     exit 5
 }
 
@@ -115,7 +116,6 @@ build() {
     count=$(crates_of "$program" | wc -l)
     say "proving and building the program and its dependencies: about $usual on two cores from a fresh clone"
     rm -f "$built"
-    trap stop_clock EXIT
     for crate in $(crates_of "$program"); do
         number=$((number + 1))
         with_clock "$number of $count: $crate" 60 prove "$crate" || break
@@ -126,31 +126,29 @@ build() {
     cache "$program" "$now" "$kept/$program"
 }
 
-# Links the program that rt try builds in a folder of this ROOM, before rt removes that folder.
+# Links the program that scripts/trial builds in a folder of this ROOM, before it removes that folder. Ends without it
+# when standard input is closed.
 watch() {
     local file
-    until for file in "$1"/*/*/program; do [ -e "$file" ] && ln "$file" "$1/kept"; done 2>/dev/null; do
-        sleep 0.05
-    done
+    while tick 0.02; do
+        for file in "$1"/*/program; do [ -e "$file" ] && ln "$file" "$1/kept" && return; done
+    done 2>/dev/null
 }
 
-# Runs the program with rt try. Its temporary files go to this ROOM.
+# Runs the program with scripts/trial, and keeps it. Its temporary files go to this ROOM.
 try() {
-    (cd "crates/$program" && TMPDIR=$1 rt try -- "$trial") <bench/linked_json.wasm >"$1/output" 2>"$kept/log" || true
+    { TMPDIR=$1 scripts/trial "$program" --stdin "$root/bench/linked_json.wasm" --arg "$trial" >"$1/output" \
+        2>"$kept/log" || true; } | watch "$1" || true
 }
 
-# Builds the sources without proof. rt try builds a program with run-time checks, runs it and removes it, and limits its
-# output to 1 MiB. The program itself has no such limit, so it is kept for all later runs.
+# Builds the sources without proof. scripts/trial builds a program with run-time checks, runs it and removes it, and
+# limits its output to 1 MiB. The program itself has no such limit, so it is kept for all later runs.
 build_unproved() {
-    local began before now room watcher
+    local began before now room
     begin
     room=$(mktemp -d "$kept/room.XXXXXX")
-    watch "$room" &
-    watcher=$!
-    trap 'stop_clock; kill "$watcher" 2>/dev/null || true; rm -rf "$room"' EXIT
+    trap 'rm -rf "$room"' EXIT
     with_clock "building without proof: about half a minute" 10 try "$room"
-    kill "$watcher" 2>/dev/null || true
-    wait "$watcher" 2>/dev/null || true
     grep -q '^run=ended ' "$kept/log" && [ -x "$room/kept" ] || fail "build without proof failed"
     keep "$room/kept" "built without proof in $((SECONDS - began)) seconds"
     rm -rf "$room"

@@ -77,33 +77,29 @@ cache() {
     rm -rf "$room"
 } 2>/dev/null
 
-# Shows how long a build has taken: on a terminal each second in one line, else in a line after so many seconds.
+# Waits for so many seconds. Fails at once when standard input, which nothing is written to, is closed.
+tick() {
+    local status=0
+    read -rt "$1" || status=$?
+    [ "$status" -gt 128 ]
+}
+
+# Shows how long a build has taken, until standard input is closed: on a terminal each second in one line, else in a
+# line after so many seconds.
 clock() {
     local began=$SECONDS
     if [ -t 2 ]; then
-        while printf '\r%s: %s: %d s' "$speaker" "$1" $((SECONDS - began)) >&2; do
-            sleep 1 >/dev/null 2>&1
-        done
+        while printf '\r%s: %s: %d s' "$speaker" "$1" $((SECONDS - began)) >&2; tick 1; do :; done
+        echo >&2
     else
         say "$1"
-        while sleep "$2" >/dev/null 2>&1; do say "$1: $((SECONDS - began)) s"; done
+        while tick "$2"; do say "$1: $((SECONDS - began)) s"; done
     fi
 }
 
-# Runs a command beside a clock. Arguments: a line on what it does, the seconds between lines, the command.
+# Runs a command beside a clock. Arguments: a line on what it does, the seconds between lines, the command. The status
+# is the command's if `pipefail` is set. A pipe between the two ends the clock: if an EXIT trap is set and a shell in
+# the background is killed, bash 5.2 prints `wait_for: No record of process`.
 with_clock() {
-    local status=0
-    clock "$1" "$2" </dev/null &
-    clock=$!
-    "${@:3}" || status=$?
-    stop_clock
-    return "$status"
-}
-
-stop_clock() {
-    [ -n "${clock-}" ] || return 0
-    kill "$clock" 2>/dev/null || true
-    wait "$clock" 2>/dev/null || true
-    clock=
-    [ ! -t 2 ] || echo >&2
+    { { "${@:3}" >&3 3>&-; } | clock "$1" "$2" 3>&-; } 3>&1
 }

@@ -63,6 +63,18 @@ def text_of(output):
     return (output or b"").decode("utf-8", "replace").strip()
 
 
+def read_terminal(ours):
+    """Reads a terminal from our side, which is then closed, until no program has the other side open."""
+    text = bytearray()
+    try:
+        while more := os.read(ours, 1 << 16):
+            text += more
+    except OSError:  # the end of a terminal
+        pass
+    os.close(ours)
+    return text
+
+
 def last_lines(text, count=20):
     """The last lines of a text, indented below the line that they explain."""
     return "".join(f"\n    {line}" for line in text.splitlines()[-count:])

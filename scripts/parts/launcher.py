@@ -1,7 +1,7 @@
 """The launchers bin/wasmnorm and bin/wasmcanon, and scripts/c-library: when they prove, their messages and arguments.
 
-They run in a small repository of their own, with a command rt that proves nothing: it logs its calls, and builds a
-program that writes its first argument and its sources.
+They run in a small repository of their own, with stand-ins for rt and scripts/trial that prove nothing: they log their
+calls, and build a program that writes its first argument and its sources.
 """
 import os
 import pty
@@ -9,10 +9,10 @@ import re
 import shutil
 import time
 
-from parts.common import HELP, ROOT, VERSION, help_of, kit, lacks, room, run as run_command
+from parts.common import HELP, ROOT, VERSION, help_of, kit, lacks, read_terminal, room, run as run_command
 
 USAGE = "usage: wasmnorm calls|types|module"
-# Stamps that are two seconds old are kept.
+# Seconds after which stamps are kept: by the launcher's clock of whole seconds, they are then more than one second old.
 UNTIL_STAMPS_ARE_KEPT = 2.1
 
 # The stand-in for rt. It sources the file `edit` during a build, if that file exists.
@@ -34,19 +34,28 @@ case $1 in
         printf '#!/bin/sh\ncat >/dev/null\necho "$1 of %s"\n' "$(sources)" >"out/${{PWD##*/}}"
         chmod +x "out/${{PWD##*/}}"
         [ ! -e "$room/edit" ] || . "$room/edit" ;;
-    try)
-        echo "$*" >"$room/try"
-        if [ ! -e "$room/no_program" ]; then
-            mkdir -p "$TMPDIR/try/native"
-            program=$TMPDIR/try/native/program
-            printf '#!/bin/sh\necho "unproved %s: $*: $PWD: $(cat)"\nexit 7\n' "$(sources)" >"$program"
-            chmod 700 "$program"
-        fi
-        [ ! -e "$room/edit" ] || . "$room/edit"
-        sleep 0.3
-        rm -rf "$TMPDIR/try"
-        cat "$room/try.err" >&2 ;;
 esac
+"""
+
+# The stand-in for scripts/trial. What it builds stays until the launcher has linked it.
+TRIAL = r"""#!/bin/bash
+room='{room}'
+echo "try $1" >>"$room/calls"
+echo "$*" >"$room/try"
+cd "crates/$1"
+if [ ! -e "$room/no_program" ]; then
+    mkdir "$TMPDIR/native"
+    sources=$(cat src/main.rt ../low/src/*.rt | tr -d '\n')
+    printf '#!/bin/sh\necho "unproved %s: $*: $PWD: $(cat)"\nexit 7\n' "$sources" >"$TMPDIR/program"
+    chmod 700 "$TMPDIR/program"
+    mv "$TMPDIR/program" "$TMPDIR/native"
+fi
+[ ! -e "$room/edit" ] || . "$room/edit"
+for _ in {{1..1000}}; do
+    [ ! -e "$TMPDIR/kept" ] && [ ! -e "$room/no_program" ] && sleep 0.05 || break
+done
+rm -rf "$TMPDIR/native"
+cat "$room/trial.err" >&2
 """
 
 # The files of the small repository, beside copies of the launchers and of what they read.
@@ -76,7 +85,9 @@ class Launchers:
         self.status, self.out, self.err, self.calls = 0, "", "", []
         self.put(folder / "kit/version", "kit 1 logic 1\n")
         self.put(folder / "kit/rt", STAND_IN.format(room=folder, kit=kit()))
-        (folder / "kit/rt").chmod(0o755)
+        self.write("scripts/trial", TRIAL.format(room=folder))
+        for file in (folder / "kit/rt", self.root / "scripts/trial"):
+            file.chmod(0o755)
         self.ends_with("run=ended status=0 runners=1 proved=no\n")
         for name, text in FILES.items():
             self.write(name, text)
@@ -92,8 +103,8 @@ class Launchers:
         self.put(self.root / name, text)
 
     def ends_with(self, text):
-        """Sets what `rt try` writes to standard error."""
-        self.put(self.room / "try.err", text)
+        """Sets what scripts/trial writes to standard error."""
+        self.put(self.room / "trial.err", text)
 
     def launch(self, *words, program="wasmnorm", launcher=None, **more):
         """Runs a launcher in the room, with `more` in its environment."""
@@ -133,7 +144,9 @@ class Launchers:
         """Checks the calls of rt, in their order, without those that ask for its version."""
         self.check(name, [call for call in self.calls if "version" not in call] == list(calls))
 
-    def tried(self, name, words):
+    def tried(self, name, program, word):
+        """Checks the words of scripts/trial."""
+        words = f"{program} --stdin {self.root}/bench/linked_json.wasm --arg {word}"
         self.check(name, (self.room / "try").read_text("utf-8").rstrip("\n") == words)
 
     def leaves_nothing(self, name):
@@ -320,7 +333,7 @@ def unproved(it):
     it.says("unproved, the first use: it says so", "without proof: running the sources as they are")
     it.says("unproved, the first use: how long", "building without proof: about half a minute")
     it.builds("unproved, the first use: no proof", "try wasmnorm")
-    it.tried("unproved, the first use: the trial", "try -- module")
+    it.tried("unproved, the first use: the trial", "wasmnorm", "module")
     it.leaves_nothing("unproved, the first use: no other file is left")
     it.launch("--unproved", "types")
     it.answers("unproved, the second use", 7, f"unproved B6: types: {it.room}: bytes")
@@ -372,7 +385,7 @@ def runs_of_wasmcanon(it):
     it.launch("--unproved", "--diff", "a b", "-", program="wasmcanon")
     it.answers("wasmcanon unproved, the first use", 7, f"unproved C9: --diff a b -: {it.room}: bytes")
     it.builds("wasmcanon unproved, the first use: no proof", "try wasmcanon")
-    it.tried("wasmcanon unproved, the first use: the trial", "try -- --check")
+    it.tried("wasmcanon unproved, the first use: the trial", "wasmcanon", "--check")
     it.launch("--unproved", program="wasmcanon")
     it.answers("wasmcanon unproved, no arguments", 7, f"unproved C9: : {it.room}: bytes")
     it.proves_nothing("wasmcanon unproved, the second use: no build")
@@ -479,9 +492,9 @@ def on_a_terminal(it):
     environment = {**os.environ, "PATH": it.path, "XDG_CACHE_HOME": str(it.cache)}
     run_command(it.root / "bin/wasmnorm", "--unproved", "calls", stderr=error, env=environment)
     os.close(error)
-    it.err = os.read(terminal, 4096).decode("utf-8", "replace")
-    os.close(terminal)
-    it.says("progress on a terminal", "\rwasmnorm: building without proof: about half a minute: 0 s\r\n")
+    it.err = read_terminal(terminal).decode("utf-8", "replace")
+    line = r"\rwasmnorm: building without proof: about half a minute: "
+    it.says("progress on a terminal", rf"{line}0 s({line}\d+ s)*\r\n")
 
 
 def run(report):

@@ -9,7 +9,7 @@ import pty
 import re
 import subprocess
 
-from parts.common import HELP, ROOT, both_programs, lacks, room, run as run_command, under
+from parts.common import HELP, ROOT, both_programs, lacks, read_terminal, room, run as run_command, under
 from parts.listing_cases import (ALL_DIFFERENCES, CALL_AS_JSON, CUT_LISTINGS, EVERY, EVERY_AS_JSON, INSTRUCTIONS,
                                  LISTING, LISTINGS, code)
 
@@ -900,16 +900,7 @@ def on_a_terminal(runs, *words, both=False):
     process = subprocess.Popen([runs.program, *words], cwd=runs.room, stdin=subprocess.DEVNULL, stderr=theirs,
                                stdout=theirs if both else subprocess.DEVNULL)
     os.close(theirs)
-    text = bytearray()
-    try:
-        while True:
-            more = os.read(ours, 1 << 16)
-            if not more:
-                break
-            text += more
-    except OSError:  # the end of a terminal
-        pass
-    os.close(ours)
+    text = read_terminal(ours)
     phases = dict(re.findall(rb"wasmcanon: (\w+) ([\d.]+ MB)", text))
     runs.status, runs.out, runs.err = process.wait(), b"", ""
     told = [str(runs.status), *(f"{phase.decode()} {size.decode()}" for phase, size in phases.items())]
