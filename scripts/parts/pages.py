@@ -20,7 +20,8 @@ from parts.common import ROOT, copy_tree, last_lines, program as built, room, ru
 PAGES = [ROOT / "README.md", ROOT / "CHANGELOG.md", *sorted(ROOT.glob("docs/*.md")), *sorted(ROOT.glob("bench/*.md")),
          *(ROOT / folder / "README.md" for folder in ("bindings", "built", "linked"))]
 MADE = sorted(ROOT.glob("docs/api/*.md"))
-SECONDS = 300
+# Limit of a command, for one that hangs: far more than any takes on a busy machine, a build without proof too.
+SECONDS = 900
 LINES_OF_README = 120
 WORDS = 13400
 WRITTEN_BY_THE_GATE = re.compile(r"<!-- \w+: written by scripts/gate -->.*?<!-- end of \w+ -->", re.DOTALL)

@@ -1,7 +1,8 @@
 """All that runs without proof: tests of crates, programs with vectors and examples, `wasmnorm` at its edges, launchers,
 long modules.
 
-It runs two tasks at a time, in about three minutes. It proves nothing: that is for `rt check` and the gate.
+It runs two tasks at a time, and builds as few programs as it can: most of a build is the libraries. It proves nothing:
+that is for `rt check` and the gate.
 """
 import concurrent.futures
 import difflib
@@ -9,11 +10,11 @@ import re
 import subprocess
 import time
 
-from parts import launcher, long_modules
-from parts.common import ROOT, last_lines, room, said
+from parts import launcher, long_modules, one_build
+from parts.common import HELP, ROOT, kit, last_lines, room, run as run_command, said, text_of
 from parts.program_runs import CASES
 from parts.report import Report
-from parts.trial import data_words, declared_crates, try_crate
+from parts.trial import declared_crates, try_crate
 
 TASKS_AT_A_TIME = 2
 
@@ -24,18 +25,30 @@ def has_tests(crate):
 
 
 def tasks():
-    """What is run: the program that takes longest, then tests, and the other programs in the order of crates.txt."""
-    crates = list(declared_crates())
-    programs = [crate for crate in crates if (ROOT / "crates" / crate / "stdout").exists()]
-    yield "program", run_program, "replay"
-    for crate in filter(has_tests, crates):
-        yield "tests", run_tests, crate
-    yield "edges", run_edges, "wasmnorm"
-    for crate in programs:
-        if crate not in ("wasmnorm", "replay"):
-            yield "program", run_program, crate
-    yield "launchers", run_launchers, "bin"
-    yield "long modules", run_long_modules, "bin"
+    """What is run, each task with the title of its report: those that take longest first."""
+    yield "programs", run_programs
+    yield "built by launchers", run_launched
+    for crate in filter(has_tests, declared_crates()):
+        yield f"tests of {crate}", lambda report, crate=crate: run_tests(report, crate)
+    yield "launchers of bin", launcher.run
+
+
+def run_programs(report):
+    """Runs the programs that have no launcher."""
+    programs = [crate for crate in declared_crates() if (ROOT / "crates" / crate / "stdout").exists()]
+    with room() as folder:
+        faults = one_build.faults(folder, [crate for crate in programs if crate not in HELP])
+    for crate, why in faults.items():
+        program = Report(f"program of {crate}", report.verbose)
+        program.check(crate, not why, why)
+        report.add(program)
+
+
+def run_launched(report):
+    """Runs what needs the programs that the launchers build without proof. Long modules are the first use of each."""
+    for title, task in (("long modules of bin", long_modules.run), ("edges of wasmnorm", run_edges),
+                        ("program of wasmcanon", run_wasmcanon)):
+        report.add(timed(title, task, report.verbose))
 
 
 def run_tests(report, crate):
@@ -48,68 +61,47 @@ def run_tests(report, crate):
         report.failed(crate, f"tests failed{last_lines(said(ran), 40)}", failed or 1)
 
 
-def run_program(report, crate):
-    """Gives a program the input, arguments and data of the gate. It must write its stdout, and end with its status."""
-    folder = ROOT / "crates" / crate
-    words = ["--stdin", "stdin"] if (folder / "stdin").exists() else []
-    for word in read_lines(folder / "args"):
-        words += ["--arg", word]
-    words += data_words({file.name: f"data/{file.name}" for file in sorted((folder / "data").glob("*"))})
-    with room() as temporary:
-        ran = try_crate(temporary, crate, *words)
-    status, told = (read_lines(folder / "status") or ["0"])[0], ran.stderr.decode("utf-8", "replace")
-    ended = re.search(rf"^run=ended status={status} ", told, re.MULTILINE)
-    expected = (folder / "stdout").read_bytes()
-    why = "it prints something else" + differences(expected, ran.stdout) if ended else "not ended" + last_lines(told)
-    report.check(crate, ended and ran.stdout == expected, why)
-
-
-def read_lines(file):
-    return file.read_text("utf-8").splitlines() if file.exists() else []
-
-
 def differences(expected, found):
     lines = [text.decode("utf-8", "replace").splitlines() for text in (expected, found)]
     return last_lines("\n".join(difflib.unified_diff(*lines, "expected", "found", lineterm="", n=0)), 40)
 
 
-def run_edges(report, crate):
-    """Runs the cases of program_runs. The program reads each case from a file as standard input."""
-    output, error = b"", b""
-    with room() as folder:
-        cases = folder / "cases"
-        cases.mkdir()
-        for number, case in enumerate(CASES, 10):
-            (cases / str(number)).write_bytes(case.input)
-            (cases / f"{number}.args").write_bytes(b"".join(word + b"\n" for word in case.words))
-            output += f"== {number}\n".encode() + case.output + b"\n" * (case.output[-1:] not in (b"", b"\n"))
-            error += case.error + f"case={number} run=ended status={case.status} runners=1 proved=no\n".encode()
-        ran = try_crate(folder, crate, "--cases", cases)
-    told = b"".join(ran.stderr.splitlines(True)[:-1])
-    if (ran.stdout, told) == (output, error):
-        report.passed(crate, len(CASES))
-    else:
-        report.failed(crate, "its answers differ" + differences(output + error, ran.stdout + told))
+def run_wasmcanon(report):
+    """Gives wasmcanon the input of the gate."""
+    folder = ROOT / "crates/wasmcanon"
+    ran = run_command(ROOT / "bin/wasmcanon", "--unproved", input=(folder / "stdin").read_bytes())
+    expected = (folder / "stdout").read_bytes()
+    why = f"status {ran.returncode}{differences(expected, ran.stdout)}{last_lines(text_of(ran.stderr))}"
+    report.check("wasmcanon", (ran.returncode, ran.stdout) == (0, expected), why)
 
 
-def run_launchers(report, _):
-    launcher.run(report)
+def run_edges(report):
+    """Runs the cases of program_runs, which the launcher of wasmnorm refuses in part."""
+    built = run_command(ROOT / "bin/wasmnorm", "--unproved", "calls")
+    if built.returncode:
+        report.failed("wasmnorm", f"not built{last_lines(said(built))}", len(CASES))
+        return
+    program, wrong = ROOT / "crates/wasmnorm/out/unproved/wasmnorm", []
+    for case in CASES:
+        ran = run_command(program, *case.words, input=case.input, env={})
+        if (ran.returncode, ran.stdout, ran.stderr) != (case.status, case.output, case.error):
+            found = f"status {ran.returncode}, output {ran.stdout[:80]!r}, error {ran.stderr[-300:]!r}"
+            wrong.append(f"{case.name}: {found}")
+    report.passed("wasmnorm", len(CASES) - len(wrong))
+    if wrong:
+        report.failed("wasmnorm", f"its answers differ{last_lines(chr(10).join(wrong))}", len(wrong))
 
 
-def run_long_modules(report, _):
-    long_modules.run(report)
-
-
-def timed(title, task, crate, verbose):
+def timed(title, task, verbose):
     """Runs a task with a report of its own."""
-    report, began = Report(f"{title} of {crate}", verbose), time.monotonic()
-    task(report, crate)
+    report, began = Report(title, verbose), time.monotonic()
+    task(report)
     report.note(f"{report.total()}, {time.monotonic() - began:.0f} s")
     return report
 
 
 def run(report):
+    kit()  # or nothing can run
     with concurrent.futures.ThreadPoolExecutor(TASKS_AT_A_TIME) as pool:
-        begun = [pool.submit(timed, title, task, crate, report.verbose) for title, task, crate in tasks()]
-        for done in begun:
+        for done in [pool.submit(timed, title, task, report.verbose) for title, task in tasks()]:
             report.add(done.result())
