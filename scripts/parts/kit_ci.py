@@ -1,7 +1,8 @@
-"""Runs `rt ci` with these words, and shares out the processors among proofs alone.
+"""Runs `rt ci` with these words, and shares out the processors in another way.
 
-The kit counts the tests of each crate as a second proof, also if there are none, and then gives half of the processors
-to a crate that all others wait for. If RATTLE_TIMES names a file, timed_rattle.py adds a line on each call of rattle.
+The kit counts the tests of each crate as a second proof, also if there are none, and plans with two to four times the
+memory that proofs take here. Both keep processors from a crate that all others wait for. If RATTLE_TIMES names a file,
+timed_rattle.py adds a line on each call of rattle.
 """
 import os
 import pathlib
@@ -20,8 +21,13 @@ def in_lanes(tasks, kits=kit().in_lanes):
     return given
 
 
+def need(crate, kits=kit().need):
+    """The memory that a proof is likely to take, in bytes."""
+    return max(kits(crate) // 2, 1_500_000_000)
+
+
 def main():
-    kit().in_lanes = in_lanes
+    kit().in_lanes, kit().need = in_lanes, need
     if "RATTLE_TIMES" in os.environ:
         os.environ["RATTLE"] = kit().rtlib.RATTLE
         kit().rtlib.RATTLE = str(pathlib.Path(__file__).resolve().with_name("timed_rattle.py"))

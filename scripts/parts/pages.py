@@ -23,7 +23,7 @@ MADE = sorted(ROOT.glob("docs/api/*.md"))
 # Limit of a command, for one that hangs: far more than any takes on a busy machine, a build without proof too.
 SECONDS = 900
 LINES_OF_README = 120
-WORDS = 13400
+WORDS = 13500
 WRITTEN_BY_THE_GATE = re.compile(r"<!-- \w+: written by scripts/gate -->.*?<!-- end of \w+ -->", re.DOTALL)
 
 # Commands that prove or measure, or that the gate runs.

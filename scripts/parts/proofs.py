@@ -1,8 +1,8 @@
 """Every proof, test, must-fail edit, program and vector: `rt ci`.
 
-Two runs share the processors better than one. Each crate of the library waits for those below it, so `rt ci LIBRARY`
-gives several processors to one crate. The programs and tests above don't wait for each other, and rt would count on
-more memory than they take; so RT_JOBS lets `rt ci` prove one on each processor. It takes what the first run kept.
+Two runs share the processors better than one. Each library waits for those below it, so the first run proves these
+alone, and gives several processors to one crate. The programs and tests above don't wait for each other, and rt would
+count on more memory than they take; so RT_JOBS lets `rt ci` prove one on each processor. It takes what the first kept.
 """
 import os
 import subprocess
@@ -12,7 +12,8 @@ from parts import times
 from parts.common import ROOT, counted, program, room
 from parts.kept import keep, sources
 
-LIBRARY = "wasm_encoder"
+# The libraries on which no other library stands.
+LIBRARIES = ("wasm_encoder", "wasm_listing")
 PROGRAMS = ("wasmcanon", "wasmnorm")
 # The sources that this run of the gate proved, by the crates that are built from them.
 proved = {}
@@ -39,8 +40,8 @@ KIT_CI = [sys.executable, str(ROOT / "scripts/parts/kit_ci.py")]
 
 
 def prove(report, command, environment):
-    """Proves the library, and then all by a command. Only the second run counts: it judges the library as well."""
-    subprocess.run([*KIT_CI, LIBRARY], stdin=subprocess.DEVNULL, cwd=ROOT, env=environment)
+    """Proves the libraries, and then all by a command. Only the second run counts: it judges the libraries as well."""
+    subprocess.run([*KIT_CI, *LIBRARIES], stdin=subprocess.DEVNULL, cwd=ROOT, env=environment)
     counted(report, "rt ci", command, env={**environment, "RT_JOBS": str(times.cores())})
 
 
