@@ -96,6 +96,10 @@ def try_streams(runs):
         with open("/dev/full", "wb") as full:
             ran = runs.on_file(b"\x20\0", "calls", stdout=full)
         runs.judge("a device that is full", ran, 4, error=b"write failed\n")
+        for word in ("--help", "--version"):
+            with open("/dev/full", "wb") as full:
+                ran = run_command(runs.program, word, stdout=full)
+            runs.judge(f"a device that is full, {word}", ran, 4, error=b"write failed\n")
     ran = run_command(*under("exec >&-", runs.program, "calls"), input=b"\x20\0")
     runs.judge("a closed output", ran, 4, error=b"write failed\n")
     ran = run_command(*under("exec <&-", runs.program, "calls"))

@@ -345,7 +345,8 @@ def try_links(runs):
     runs.holds("a link to a name that isn't UTF-8", right and (runs.room / "a").is_symlink())
     for name in ("a", "b", "gone"):
         (runs.room / name).unlink()
-    (runs.room / "beside").mkdir()
+    (runs.room / "beside").mkdir(exist_ok=True)
+    (runs.room / "beside/there").unlink(missing_ok=True)
     runs.link("beside/link", "there")
     runs.fresh()
     right = runs.answers(0, "", "long", "-o", "beside/link") and runs.there() == b"kept"
