@@ -11,7 +11,7 @@ def add(root):
         raise CannotRun("git finds no commit HEAD here")
     text = file.read_text("utf-8") if file.is_file() else ""
     if head in landings_of(text):
-        raise CannotRun(f"{LANDINGS}: {head} is there already")
+        raise CannotRun(f"{LANDINGS}: {head} is listed already")
     if git(root, "status", "--porcelain"):
         raise CannotRun("the tree has uncommitted changes: add a landing before the first change")
     file.write_text("\n".join([*text.splitlines(), head, ""]), "utf-8")

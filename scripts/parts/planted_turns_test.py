@@ -135,7 +135,7 @@ def additions(folder):
     yield "the first landing", (add(it.root), landings_of((it.root / LANDINGS).read_text("utf-8"))) == (first, [first])
     second = it.commit()
     yield "the second landing", (add(it.root), turn_of(it.root).landings, turn_of(it.root).base) == (second, 2, second)
-    yield "a landing that is there", fault_of(CannotRun, add, it.root) == f"{LANDINGS}: {second} is there already"
+    yield "a landing that is listed", fault_of(CannotRun, add, it.root) == f"{LANDINGS}: {second} is listed already"
 
 
 def cases():
