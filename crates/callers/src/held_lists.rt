@@ -7,8 +7,8 @@ ghost use Rattle.wasm_instructions.specs.formats.Instructions.{call};
 ghost use Rattle.wasm_instructions.specs.formats.Opcodes.{without_prefix};
 ghost use Rattle.wasm_instructions.specs.declared.table.call.Operands.TheVariants as operands;
 ghost use Rattle.wasm_types.specs.declared.types.composite.CompositeInnerType.TheVariants as inner;
-ghost use Rattle.wasm_types.specs.declared.types.composite.TypeEntry.{TypeEntry};
-ghost use Rattle.wasm_types.specs.declared.types.composite.TypeEntry.TheVariants as entries;
+ghost use Rattle.wasm_types.specs.declared.types.recursive.TypeEntry.{TypeEntry};
+ghost use Rattle.wasm_types.specs.declared.types.recursive.TypeEntry.TheVariants as entries;
 
 use crate::whole_way::{function, group};
 use std::alloc::Global;

@@ -5,8 +5,8 @@ ghost use Rattle.wasm_encoder.specs.EncodedLists.{body_bytes};
 ghost use Rattle.wasm_encoder.specs.TypeFormats.{type_body};
 ghost use Rattle.wasm_encoder.specs.TypeSections.{StandsFor, final_entry};
 ghost use Rattle.wasm_types.specs.declared.types.composite.CompositeInnerType.TheVariants as inner;
-ghost use Rattle.wasm_types.specs.declared.types.composite.TypeEntry.{TypeEntry};
-ghost use Rattle.wasm_types.specs.declared.types.composite.TypeEntry.TheVariants as entries;
+ghost use Rattle.wasm_types.specs.declared.types.recursive.TypeEntry.{TypeEntry};
+ghost use Rattle.wasm_types.specs.declared.types.recursive.TypeEntry.TheVariants as entries;
 
 use std::alloc::Global;
 use wasm_encoder::{

@@ -6,10 +6,10 @@ ghost use Rattle.wasm_encoder.specs.ModuleFormats.{raw_module};
 ghost use Rattle.wasm_encoder.specs.Sections.{all_parts_of, header, section_of};
 ghost use Rattle.wasm_encoder.specs.TypeSections.{HoldsEntries, StandsFor, final_entry};
 ghost use Rattle.wasm_types.specs.declared.types.value.ValType.{ValType};
-ghost use Rattle.wasm_types.specs.declared.types.composite.SubType.{SubType};
+ghost use Rattle.wasm_types.specs.declared.types.recursive.SubType.{SubType};
 ghost use Rattle.wasm_types.specs.declared.types.composite.CompositeInnerType.TheVariants as inner;
-ghost use Rattle.wasm_types.specs.declared.types.composite.TypeEntry.{TypeEntry};
-ghost use Rattle.wasm_types.specs.declared.types.composite.TypeEntry.TheVariants as entries;
+ghost use Rattle.wasm_types.specs.declared.types.recursive.TypeEntry.{TypeEntry};
+ghost use Rattle.wasm_types.specs.declared.types.recursive.TypeEntry.TheVariants as entries;
 
 use std::alloc::Global;
 use wasm_encoder::{

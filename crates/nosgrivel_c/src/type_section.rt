@@ -4,8 +4,7 @@ ghost use Rattle.nosgrivel_c.specs.Calls.{ChecksNormal, JudgesNormal, WritesInPl
 
 use crate::delivery::{answer, deliver, judge};
 use std::alloc::Global;
-use wasm_types::normaliser::normalise_type_section;
-use wasm_types::reader::type_sections::check_type_section;
+use wasm_types::type_sections::{check_type_section, normalise_type_section};
 
 /// Writes the minimal encoding of the body of a type section to the start of the output.
 ///

@@ -20,6 +20,7 @@ pub mod Windows
 pub mod Shortening
 pub mod ScannedNumbers
 pub mod RewriterLaws
+pub mod InputLaws
 pub mod BodyRewriting
 pub mod ListRewriting
 pub mod RawRewriting

@@ -9,7 +9,7 @@ use Rattle.wasm_codec.specs.formats.Grammar.{Grammar, IsBytes, TakesBytes}
 use Rattle.wasm_codec.specs.Lawful.{IsLawful}
 use Rattle.wasm_codec.specs.Places.{Place, place, Reads, keeps}
 use Rattle.wasm_codec.specs.formats.Combinators.{Format}
-use Rattle.wasm_codec.specs.Rewriter.{Rewriting, rewriting, rewritten_at, Gives, Rewrites, rewriting_after, skipped, shortened, cut}
+use Rattle.wasm_codec.specs.Rewriter.{Rewriting, rewriting, rewritten_at, Gives, rewriting_after, skipped, shortened, cut}
 use Rattle.wasm_codec.specs.Scanning.{Scans, RewritesScanned, ReadsShort, BeginsShort}
 use Rattle.wasm_codec.specs.declared.rewriter.scan.Scanned.{Scanned}
 use Rattle.wasm_codec.specs.declared.rewriter.scan.Scanned.TheVariants as scanned
@@ -75,7 +75,6 @@ pub record NumberRead {V : Type 0} (F : Format V) (p : Rewriting) (v : V) (short
   pub left_over : left ≤ length p.place.left
   pub fewer : digits ≤ length p.place.left - left
   pub gives : rewritten_at F p ≡ Some (v, if shortest then skipped (length p.place.left - left) p else shortened digits (length p.place.left - left) p)
-  pub rewrites : rewriting_after F p ≡ Some (if shortest then skipped (length p.place.left - left) p else shortened digits (length p.place.left - left) p)
 
 pub number_read : {V : Type 0} {F : Format V} → IsLawful F → IsCut F.Encodes F.bytes → (p : Rewriting) (here : Place) (v : V) (q : Place) (shortest : Bool) (left digits : ℕ) → IsBytes p.place.left → here ≡ place true p.place.left → F.at here ≡ Some (v, q)
     → shortest ≡ q.shortest → left ≡ length q.left → digits ≡ length (F.bytes v) → NumberRead F p v shortest left digits
@@ -88,7 +87,6 @@ number_read {V} {F} r cuts p here v q shortest left digits fits here-is e shorte
       left_over = omega (arith, parts, length-append one.prefix q.left);
       fewer = omega (arith, parts, length-append one.prefix q.left);
       gives = rw (shortest-is, left-is, digits-is) (by read q.shortest refl);
-      rewrites = without_value F p v _ (rw (shortest-is, left-is, digits-is) (by read q.shortest refl));
     }
   where
     by : F.at (place true p.place.left) ≡ Some (v, q) → (t : Bool) → q.shortest ≡ t → rewritten_at F p ≡ Some (v, if t then skipped (length p.place.left - length q.left) p else shortened (length (F.bytes v)) (length p.place.left - length q.left) p)
@@ -99,10 +97,6 @@ number_read {V} {F} r cuts p here v q shortest left digits fits here-is e shorte
 pub no_number : {V : Type 0} {F : Format V} → IsLawful F → (p new : Rewriting) (here q : Place) (fault : Fault) → IsBytes p.place.left → here ≡ place true p.place.left → IsMalformed fault → Reads F.at here q (Err fault) → Gives F p new (Err fault)
 no_number {V} {F} r p new here q Memory fits here-is e none = absurd e
 no_number {V} {F} r p new here q (Malformed m) fits here-is e none = none_there r p.place.left true p.place.shortest fits (ap F.at (sym here-is) ∙ none)
-
-pub nothing_rewritten : {V : Type 0} {F : Format V} → IsLawful F → (p new : Rewriting) (here q : Place) (fault : Fault) → IsBytes p.place.left → here ≡ place true p.place.left → IsMalformed fault → Reads F.at here q (Err fault) → Rewrites F p new (Err fault)
-nothing_rewritten {V} {F} r p new here q Memory fits here-is e none = absurd e
-nothing_rewritten {V} {F} r p new here q (Malformed m) fits here-is e none = none_there r p.place.left true p.place.shortest fits (ap F.at (sym here-is) ∙ none)
 
 -- an item that was scanned is left in its shortest encoding
 pub scanned_rewritten : {V : Type 0} {F : Format V} → IsLawful F → (p q : Rewriting) (left : List ℕ) → left ≡ p.place.left → IsBytes p.place.left → (s : Scanned) → Scans F left (Some s) → RewritesScanned s p q → rewriting_after F p ≡ Some q

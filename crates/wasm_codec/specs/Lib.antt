@@ -9,5 +9,6 @@ pub mod ReadDigits
 pub mod formats
 pub mod Lawful
 pub mod Rewriter
+pub mod Inputs
 pub mod Scanning
 pub mod Streams

@@ -3,6 +3,7 @@
 #![tactic(auto)]
 
 pub mod encode;
+pub mod input;
 pub mod reader;
 pub mod rewriter;
 pub mod streams;

@@ -18,6 +18,7 @@ use crate::reader::cursor::{Cursor, Fault};
 use crate::reader::malformed::{Construct, Malformed, Reason};
 use crate::rewriter::scan::kept_digits;
 pub use scan::{Scanned, begins_low, scan_s32, scan_s64, scan_short_u32, scan_u32, scan_u64};
+use std::alloc::Global;
 use std::marker::Model;
 
 /// A body that is being rewritten.
@@ -129,6 +130,11 @@ impl Rewriter {
         let end = move_run(&mut bytes, written, from, position);
         bytes.truncate(end);
         bytes
+    }
+
+    /// Returns the allocator of the bytes.
+    pub fn allocator(&self) -> Global {
+        *self.bytes.allocator()
     }
 
     /// Returns the number of bytes left up to the end.
@@ -487,9 +493,9 @@ impl Rewriter {
         Ok(value)
     }
 
-    /// Rewrites a u64 (Core 3.0, Integers).
-    pub fn u64(&mut self) -> Result<(), Fault>
-        ensures { Rewrites u64_format self.old self.new result }
+    /// Rewrites a u64 and returns it (Core 3.0, Integers).
+    pub fn u64(&mut self) -> Result<u64, Fault>
+        ensures { Gives u64_format self.old self.new result }
     {
         let mut cursor = self.cursor();
         let value = cursor.u64()?;
@@ -499,12 +505,12 @@ impl Rewriter {
         } else {
             self.shorten(unsigned_digit_count(value), self.len() - left);
         }
-        Ok(())
+        Ok(value)
     }
 
-    /// Rewrites an s32 (Core 3.0, Integers).
-    pub fn s32(&mut self) -> Result<(), Fault>
-        ensures { Rewrites s32_format self.old self.new result }
+    /// Rewrites an s32 and returns it (Core 3.0, Integers).
+    pub fn s32(&mut self) -> Result<i32, Fault>
+        ensures { Gives s32_format self.old self.new result }
     {
         let mut cursor = self.cursor();
         let value = cursor.s32()?;
@@ -514,12 +520,12 @@ impl Rewriter {
         } else {
             self.shorten(s32_digit_count(value), self.len() - left);
         }
-        Ok(())
+        Ok(value)
     }
 
-    /// Rewrites an s64 (Core 3.0, Integers).
-    pub fn s64(&mut self) -> Result<(), Fault>
-        ensures { Rewrites s64_format self.old self.new result }
+    /// Rewrites an s64 and returns it (Core 3.0, Integers).
+    pub fn s64(&mut self) -> Result<i64, Fault>
+        ensures { Gives s64_format self.old self.new result }
     {
         let mut cursor = self.cursor();
         let value = cursor.s64()?;
@@ -529,12 +535,12 @@ impl Rewriter {
         } else {
             self.shorten(signed_digit_count(value), self.len() - left);
         }
-        Ok(())
+        Ok(value)
     }
 
-    /// Rewrites a type index, encoded as a non-negative s33 (Core 3.0, Heap Types).
-    pub fn index(&mut self) -> Result<(), Fault>
-        ensures { Rewrites index_format self.old self.new result }
+    /// Rewrites a type index, encoded as a non-negative s33, and returns it (Core 3.0, Heap Types).
+    pub fn index(&mut self) -> Result<u32, Fault>
+        ensures { Gives index_format self.old self.new result }
     {
         let mut cursor = self.cursor();
         let value = cursor.index()?;
@@ -544,7 +550,7 @@ impl Rewriter {
         } else {
             self.shorten(index_digit_count(value), self.len() - left);
         }
-        Ok(())
+        Ok(value)
     }
 
     /// Reads one byte, which stays as it is.

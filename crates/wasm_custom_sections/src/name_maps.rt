@@ -4,6 +4,7 @@ ghost use Rattle.std.proofs.lemmas.List.{map_push};
 ghost use Rattle.wasm_codec.specs.Encoding.{IsCount, IsCountRefusal, IsShortest, OnlyTooLong};
 ghost use Rattle.wasm_codec.specs.Lawful.{IsLawful};
 ghost use Rattle.wasm_codec.specs.Leb128.{unsigned_leb128};
+ghost use Rattle.wasm_codec.specs.Inputs.{Passes};
 ghost use Rattle.wasm_codec.specs.Places.{Reads};
 ghost use Rattle.wasm_codec.specs.Reading.{map_ok};
 ghost use Rattle.wasm_codec.specs.Rewriter.{Rewrites};
@@ -24,7 +25,7 @@ use wasm_codec::encode::leb128::put_u32;
 use wasm_codec::encode::{EncodeError, keep_or_undo};
 use wasm_codec::reader::cursor::{Cursor, Fault};
 use wasm_codec::rewriter::Rewriter;
-use wasm_entities::names::{append_name, read_name, rewrite_name};
+use wasm_entities::names::{NameInput, append_name};
 use wasm_lists::encode::Encode;
 use wasm_lists::list::Items;
 use wasm_lists::readable::{Item, Readable};
@@ -49,24 +50,15 @@ pub struct IndirectNaming<'a> {
     pub names: Items<Naming<'a>>,
 }
 
-/// Reads a name for an index.
+/// Takes a name for an index (Core 3.0, Name Maps).
 #[tactic(auto, unfolding(crate::specs::formats::Names::naming))]
-fn read_naming<'a>(cursor: &mut Cursor<'a>) -> Result<Naming<'a>, Fault>
-    ensures reads { Reads naming.at cursor.old cursor.new (map_ok naming_parts result) }
+fn take_naming<'a, I: NameInput<'a>>(input: &mut I) -> Result<Naming<'a>, Fault>
+    ensures passes { Passes I.writes naming_parts naming (I.state input.old) (I.state input.new) result }
     ensures err { IfErr result IsMalformed }
 {
-    let index = cursor.u32()?;
-    let name = read_name(cursor)?;
+    let index = input.u32()?;
+    let name = input.name()?;
     Ok(Naming { index, name })
-}
-
-/// Rewrites a name for an index to its minimal encoding.
-#[tactic(auto, using(std::proofs::Common::append_assoc), unfolding(crate::specs::formats::Names::naming))]
-fn rewrite_naming(rewriter: &mut Rewriter) -> Result<(), Fault>
-    ensures rewrites { Rewrites naming rewriter.old rewriter.new result }
-{
-    rewriter.u32()?;
-    rewrite_name(rewriter)
 }
 
 impl<'a> Readable<'a> for Naming<'a> {
@@ -88,13 +80,14 @@ impl<'a> Readable<'a> for Naming<'a> {
     {}
 
     fn read(_alloc: Global, cursor: &mut Cursor<'a>) -> Result<Naming<'a>, Fault> {
-        read_naming(cursor)
+        take_naming(cursor)
     }
 
     fn rewrite(rewriter: &mut Rewriter) -> Result<(), Fault>
         ensures rewrites { Rewrites naming rewriter.old rewriter.new result }
     {
-        rewrite_naming(rewriter)
+        take_naming(rewriter)?;
+        Ok(())
     }
 }
 

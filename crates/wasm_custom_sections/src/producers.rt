@@ -3,6 +3,7 @@ ghost use Rattle.std.specs.Prelude.{◌≡◌, ◌↔◌, ◌++◌, ◌⊎◌, [
 ghost use Rattle.std.proofs.lemmas.List.{map_push};
 ghost use Rattle.wasm_codec.specs.Encoding.{IsCount, IsRefusal, IsCountRefusal, IsShortest, OnlyTooLong};
 ghost use Rattle.wasm_codec.specs.Lawful.{IsLawful};
+ghost use Rattle.wasm_codec.specs.Inputs.{Passes};
 ghost use Rattle.wasm_codec.specs.Places.{Reads};
 ghost use Rattle.wasm_codec.specs.Reading.{map_ok};
 ghost use Rattle.wasm_codec.specs.Rewriter.{Rewrites};
@@ -23,7 +24,7 @@ use std::marker::Model;
 use wasm_codec::encode::{EncodeError, keep_or_undo};
 use wasm_codec::reader::cursor::{Cursor, Fault};
 use wasm_codec::rewriter::Rewriter;
-use wasm_entities::names::{append_name, read_name, rewrite_name};
+use wasm_entities::names::{NameInput, append_name, read_name, rewrite_name};
 use wasm_lists::encode::Encode;
 use wasm_lists::list::Items;
 use wasm_lists::readable::{Item, Readable};
@@ -48,24 +49,15 @@ pub struct Producers<'a> {
     pub values: Items<Producer<'a>>,
 }
 
-/// Reads a name and a version.
+/// Takes a name and a version.
 #[tactic(auto, unfolding(crate::specs::formats::Producers::producer))]
-fn read_producer<'a>(cursor: &mut Cursor<'a>) -> Result<Producer<'a>, Fault>
-    ensures reads { Reads producer.at cursor.old cursor.new (map_ok producer_parts result) }
+fn take_producer<'a, I: NameInput<'a>>(input: &mut I) -> Result<Producer<'a>, Fault>
+    ensures passes { Passes I.writes producer_parts producer (I.state input.old) (I.state input.new) result }
     ensures err { IfErr result IsMalformed }
 {
-    let name = read_name(cursor)?;
-    let version = read_name(cursor)?;
+    let name = input.name()?;
+    let version = input.name()?;
     Ok(Producer { name, version })
-}
-
-/// Rewrites a name and a version to their minimal encodings.
-#[tactic(auto, using(std::proofs::Common::append_assoc), unfolding(crate::specs::formats::Producers::producer))]
-fn rewrite_producer(rewriter: &mut Rewriter) -> Result<(), Fault>
-    ensures rewrites { Rewrites producer rewriter.old rewriter.new result }
-{
-    rewrite_name(rewriter)?;
-    rewrite_name(rewriter)
 }
 
 impl<'a> Readable<'a> for Producer<'a> {
@@ -87,13 +79,14 @@ impl<'a> Readable<'a> for Producer<'a> {
     {}
 
     fn read(_alloc: Global, cursor: &mut Cursor<'a>) -> Result<Producer<'a>, Fault> {
-        read_producer(cursor)
+        take_producer(cursor)
     }
 
     fn rewrite(rewriter: &mut Rewriter) -> Result<(), Fault>
         ensures rewrites { Rewrites producer rewriter.old rewriter.new result }
     {
-        rewrite_producer(rewriter)
+        take_producer(rewriter)?;
+        Ok(())
     }
 }
 

@@ -3,8 +3,7 @@ ghost use Rattle.std.specs.Prelude.{◌≡◌, ◌↔◌, ◌∷◌, ◌++◌, �
 ghost use Rattle.std.proofs.lemmas.List.{map_push};
 ghost use Rattle.wasm_codec.specs.Encoding.{byte_list_bytes, IsCount, IsCountRefusal, IsRefusal, IsShortest, OnlyTooLong};
 ghost use Rattle.wasm_codec.specs.Lawful.{IsLawful};
-ghost use Rattle.wasm_codec.specs.Places.{Reads};
-ghost use Rattle.wasm_codec.specs.Reading.{map_ok};
+ghost use Rattle.wasm_codec.specs.Inputs.{Passes, Takes};
 ghost use Rattle.wasm_codec.specs.Rewriter.{Rewrites};
 ghost use Rattle.wasm_codec.specs.Outcomes.{IsMalformed};
 ghost use Rattle.wasm_codec.specs.formats.Grammar.{TakesBytes};
@@ -14,10 +13,11 @@ ghost use Rattle.wasm_custom_sections.specs.formats.SymbolParts.{SymbolParts, al
 ghost use Rattle.wasm_custom_sections.specs.formats.Symbols.{data_symbol, definition as definition_format, has_name as names_item, is_defined as defines, item_symbol, section_symbol, symbol};
 
 use std::alloc::Global;
+use wasm_codec::input::Input;
 use wasm_codec::reader::cursor::{Cursor, Fault};
 use wasm_codec::reader::malformed::Construct;
 use wasm_codec::rewriter::Rewriter;
-use wasm_entities::names::{read_name, rewrite_name};
+use wasm_entities::names::NameInput;
 use wasm_lists::readable::Readable;
 
 /// A symbol of a function, a global, a tag or a table.
@@ -93,39 +93,38 @@ pub(crate) fn has_name(flags: u32) -> bool
     is_defined(flags) || flags & 0x40 != 0
 }
 
-/// Reads a name if a flag says that there is one.
+/// Takes a name if a flag says that there is one.
 #[tactic(auto, unfolding(wasm_entities::specs::formats::PartCombinators::part_if))]
-fn read_name_if<'a>(cursor: &mut Cursor<'a>, there: bool) -> Result<Option<&'a str>, Fault>
-    ensures reads { Reads (part_if there name_format).at cursor.old cursor.new (map_ok (option_map (λ text. text.now)) result) }
+fn take_name_if<'a, I: NameInput<'a>>(input: &mut I, there: bool) -> Result<Option<&'a str>, Fault>
+    ensures passes { Passes I.writes (option_map (λ text. text.now)) (part_if there name_format) (I.state input.old) (I.state input.new) result }
     ensures err { IfErr result IsMalformed }
 {
     if !there {
         return Ok(None);
     }
-    Ok(Some(read_name(cursor)?))
+    Ok(Some(input.name()?))
 }
 
-/// Reads the symbol of an item after its kind.
+/// Takes the symbol of an item after its kind.
 #[tactic(auto, unfolding(crate::specs::formats::Symbols::item_symbol))]
-fn read_item_symbol<'a>(cursor: &mut Cursor<'a>) -> Result<ItemSymbol<'a>, Fault>
-    ensures reads { Reads item_symbol.at cursor.old cursor.new (map_ok item_parts result) }
+fn take_item_symbol<'a, I: NameInput<'a>>(input: &mut I) -> Result<ItemSymbol<'a>, Fault>
+    ensures passes { Passes I.writes item_parts item_symbol (I.state input.old) (I.state input.new) result }
     ensures err { IfErr result IsMalformed }
 {
-    let flags = cursor.u32()?;
-    let index = cursor.u32()?;
-    let name = read_name_if(cursor, has_name(flags))?;
+    let flags = input.u32()?;
+    let index = input.u32()?;
+    let name = take_name_if(input, has_name(flags))?;
     Ok(ItemSymbol { flags, index, name })
 }
 
-/// Reads the place of data.
+/// Takes the place of data.
 #[tactic(auto, unfolding(crate::specs::formats::Symbols::definition))]
-fn read_definition(cursor: &mut Cursor<'_>) -> Result<DataSymbolDefinition, Fault>
-    ensures reads { Reads definition_format.at cursor.old cursor.new result }
-    ensures err { IfErr result IsMalformed }
+fn take_definition<I: Input>(input: &mut I) -> Result<DataSymbolDefinition, Fault>
+    ensures takes { Takes I.writes definition_format (I.state input.old) (I.state input.new) result }
 {
-    let index = cursor.u32()?;
-    let offset = cursor.u32()?;
-    let size = cursor.u32()?;
+    let index = input.u32()?;
+    let offset = input.u32()?;
+    let size = input.u32()?;
     Ok(DataSymbolDefinition {
         index,
         offset,
@@ -133,30 +132,29 @@ fn read_definition(cursor: &mut Cursor<'_>) -> Result<DataSymbolDefinition, Faul
     })
 }
 
-/// Reads the place of data if a flag says that there is one.
+/// Takes the place of data if a flag says that there is one.
 #[tactic(auto, unfolding(wasm_entities::specs::formats::PartCombinators::part_if))]
-fn read_definition_if(
-    cursor: &mut Cursor<'_>,
+fn take_definition_if<I: Input>(
+    input: &mut I,
     there: bool,
 ) -> Result<Option<DataSymbolDefinition>, Fault>
-    ensures reads { Reads (part_if there definition_format).at cursor.old cursor.new result }
-    ensures err { IfErr result IsMalformed }
+    ensures takes { Takes I.writes (part_if there definition_format) (I.state input.old) (I.state input.new) result }
 {
     if !there {
         return Ok(None);
     }
-    Ok(Some(read_definition(cursor)?))
+    Ok(Some(take_definition(input)?))
 }
 
-/// Reads the symbol of data after its kind.
+/// Takes the symbol of data after its kind.
 #[tactic(auto, unfolding(crate::specs::formats::Symbols::data_symbol))]
-fn read_data_symbol<'a>(cursor: &mut Cursor<'a>) -> Result<DataSymbol<'a>, Fault>
-    ensures reads { Reads data_symbol.at cursor.old cursor.new (map_ok data_parts result) }
+fn take_data_symbol<'a, I: NameInput<'a>>(input: &mut I) -> Result<DataSymbol<'a>, Fault>
+    ensures passes { Passes I.writes data_parts data_symbol (I.state input.old) (I.state input.new) result }
     ensures err { IfErr result IsMalformed }
 {
-    let flags = cursor.u32()?;
-    let name = read_name(cursor)?;
-    let definition = read_definition_if(cursor, is_defined(flags))?;
+    let flags = input.u32()?;
+    let name = input.name()?;
+    let definition = take_definition_if(input, is_defined(flags))?;
     Ok(DataSymbol {
         flags,
         name,
@@ -164,107 +162,30 @@ fn read_data_symbol<'a>(cursor: &mut Cursor<'a>) -> Result<DataSymbol<'a>, Fault
     })
 }
 
-/// Reads the symbol of a section after its kind.
+/// Takes the symbol of a section after its kind.
 #[tactic(auto, unfolding(crate::specs::formats::Symbols::section_symbol))]
-fn read_section_symbol(cursor: &mut Cursor<'_>) -> Result<SectionSymbol, Fault>
-    ensures reads { Reads section_symbol.at cursor.old cursor.new result }
-    ensures err { IfErr result IsMalformed }
+fn take_section_symbol<I: Input>(input: &mut I) -> Result<SectionSymbol, Fault>
+    ensures takes { Takes I.writes section_symbol (I.state input.old) (I.state input.new) result }
 {
-    let flags = cursor.u32()?;
-    let section = cursor.u32()?;
+    let flags = input.u32()?;
+    let section = input.u32()?;
     Ok(SectionSymbol { flags, section })
 }
 
-/// Reads a symbol.
+/// Takes a symbol (tool conventions, WebAssembly Object File Linking).
 #[tactic(auto, unfolding(crate::specs::formats::Symbols::symbol))]
-fn read_symbol<'a>(cursor: &mut Cursor<'a>) -> Result<Symbol<'a>, Fault>
-    ensures reads { Reads symbol.at cursor.old cursor.new (map_ok symbol_parts result) }
+fn take_symbol<'a, I: NameInput<'a>>(input: &mut I) -> Result<Symbol<'a>, Fault>
+    ensures passes { Passes I.writes symbol_parts symbol (I.state input.old) (I.state input.new) result }
     ensures err { IfErr result IsMalformed }
 {
-    match cursor.byte_of(Construct::Field)? {
-        0 => Ok(Symbol::Function(read_item_symbol(cursor)?)),
-        1 => Ok(Symbol::Data(read_data_symbol(cursor)?)),
-        2 => Ok(Symbol::Global(read_item_symbol(cursor)?)),
-        3 => Ok(Symbol::Section(read_section_symbol(cursor)?)),
-        4 => Ok(Symbol::Tag(read_item_symbol(cursor)?)),
-        5 => Ok(Symbol::Table(read_item_symbol(cursor)?)),
-        kind => Err(Fault::Malformed(cursor.invalid(Construct::Field, kind))),
-    }
-}
-
-/// Rewrites a name to its minimal encoding if a flag says that there is one.
-#[tactic(auto, using(wasm_entities::proofs::ExternalLaws::none_there), unfolding(wasm_entities::specs::formats::PartCombinators::part_if))]
-fn rewrite_name_if(rewriter: &mut Rewriter, there: bool) -> Result<(), Fault>
-    ensures rewrites { Rewrites (part_if there name_format) rewriter.old rewriter.new result }
-{
-    if there {
-        rewrite_name(rewriter)?;
-    }
-    Ok(())
-}
-
-/// Rewrites the symbol of an item after its kind to its minimal encoding.
-#[tactic(auto, using(std::proofs::Common::append_assoc), unfolding(crate::specs::formats::Symbols::item_symbol))]
-fn rewrite_item_symbol(rewriter: &mut Rewriter) -> Result<(), Fault>
-    ensures rewrites { Rewrites item_symbol rewriter.old rewriter.new result }
-{
-    let flags = rewriter.u32()?;
-    rewriter.u32()?;
-    rewrite_name_if(rewriter, has_name(flags))
-}
-
-/// Rewrites the place of data to its minimal encoding.
-#[tactic(auto, using(std::proofs::Common::append_assoc), unfolding(crate::specs::formats::Symbols::definition))]
-fn rewrite_definition(rewriter: &mut Rewriter) -> Result<(), Fault>
-    ensures rewrites { Rewrites definition_format rewriter.old rewriter.new result }
-{
-    rewriter.u32()?;
-    rewriter.u32()?;
-    rewriter.u32()?;
-    Ok(())
-}
-
-/// Rewrites the place of data to its minimal encoding if a flag says that there is one.
-#[tactic(auto, using(wasm_entities::proofs::ExternalLaws::none_there), unfolding(wasm_entities::specs::formats::PartCombinators::part_if))]
-fn rewrite_definition_if(rewriter: &mut Rewriter, there: bool) -> Result<(), Fault>
-    ensures rewrites { Rewrites (part_if there definition_format) rewriter.old rewriter.new result }
-{
-    if there {
-        rewrite_definition(rewriter)?;
-    }
-    Ok(())
-}
-
-/// Rewrites the symbol of data after its kind to its minimal encoding.
-#[tactic(auto, using(std::proofs::Common::append_assoc), unfolding(crate::specs::formats::Symbols::data_symbol))]
-fn rewrite_data_symbol(rewriter: &mut Rewriter) -> Result<(), Fault>
-    ensures rewrites { Rewrites data_symbol rewriter.old rewriter.new result }
-{
-    let flags = rewriter.u32()?;
-    rewrite_name(rewriter)?;
-    rewrite_definition_if(rewriter, is_defined(flags))
-}
-
-/// Rewrites the symbol of a section after its kind to its minimal encoding.
-#[tactic(auto, using(std::proofs::Common::append_assoc), unfolding(crate::specs::formats::Symbols::section_symbol))]
-fn rewrite_section_symbol(rewriter: &mut Rewriter) -> Result<(), Fault>
-    ensures rewrites { Rewrites section_symbol rewriter.old rewriter.new result }
-{
-    rewriter.u32()?;
-    rewriter.u32()?;
-    Ok(())
-}
-
-/// Rewrites a symbol to its minimal encoding.
-#[tactic(auto, using(std::proofs::Common::append_assoc), unfolding(crate::specs::formats::Symbols::symbol))]
-fn rewrite_symbol(rewriter: &mut Rewriter) -> Result<(), Fault>
-    ensures rewrites { Rewrites symbol rewriter.old rewriter.new result }
-{
-    match rewriter.byte_of(Construct::Field)? {
-        0 | 2 | 4 | 5 => rewrite_item_symbol(rewriter),
-        1 => rewrite_data_symbol(rewriter),
-        3 => rewrite_section_symbol(rewriter),
-        kind => Err(Fault::Malformed(rewriter.invalid(Construct::Field, kind))),
+    match input.byte_of(Construct::Field)? {
+        0 => Ok(Symbol::Function(take_item_symbol(input)?)),
+        1 => Ok(Symbol::Data(take_data_symbol(input)?)),
+        2 => Ok(Symbol::Global(take_item_symbol(input)?)),
+        3 => Ok(Symbol::Section(take_section_symbol(input)?)),
+        4 => Ok(Symbol::Tag(take_item_symbol(input)?)),
+        5 => Ok(Symbol::Table(take_item_symbol(input)?)),
+        kind => Err(Fault::Malformed(input.invalid(Construct::Field, kind))),
     }
 }
 
@@ -287,12 +208,13 @@ impl<'a> Readable<'a> for Symbol<'a> {
     {}
 
     fn read(_alloc: Global, cursor: &mut Cursor<'a>) -> Result<Symbol<'a>, Fault> {
-        read_symbol(cursor)
+        take_symbol(cursor)
     }
 
     fn rewrite(rewriter: &mut Rewriter) -> Result<(), Fault>
         ensures rewrites { Rewrites symbol rewriter.old rewriter.new result }
     {
-        rewrite_symbol(rewriter)
+        take_symbol(rewriter)?;
+        Ok(())
     }
 }

@@ -4,8 +4,7 @@ ghost use Rattle.std.specs.Prelude.{◌≡◌, ◌∷◌, ◌++◌, [], refl, co
 ghost use Rattle.std.proofs.lemmas.List.{map_push};
 ghost use Rattle.wasm_codec.specs.Encoding.{IsCount, IsCountRefusal, IsShortest, OnlyTooLong};
 ghost use Rattle.wasm_codec.specs.Lawful.{IsLawful};
-ghost use Rattle.wasm_codec.specs.Places.{Reads};
-ghost use Rattle.wasm_codec.specs.Reading.{map_ok};
+ghost use Rattle.wasm_codec.specs.Inputs.{Passes, Takes};
 ghost use Rattle.wasm_codec.specs.Rewriter.{Rewrites};
 ghost use Rattle.wasm_codec.specs.Outcomes.{IsMalformed};
 ghost use Rattle.wasm_codec.specs.formats.Grammar.{TakesBytes};
@@ -15,10 +14,11 @@ ghost use Rattle.wasm_custom_sections.specs.formats.TargetFeatures.{FeatureParts
 use crate::custom_list::{CustomItem, CustomList};
 use std::alloc::{Allocator, Global};
 use wasm_codec::encode::{EncodeError, keep_or_undo};
+use wasm_codec::input::Input;
 use wasm_codec::reader::cursor::{Cursor, Fault};
 use wasm_codec::reader::malformed::Construct;
 use wasm_codec::rewriter::Rewriter;
-use wasm_entities::names::{append_name, read_name, rewrite_name};
+use wasm_entities::names::{NameInput, append_name};
 use wasm_lists::encode::Encode;
 use wasm_lists::readable::Readable;
 
@@ -40,28 +40,15 @@ pub struct TargetFeature<'a> {
     pub name: &'a str,
 }
 
-/// Reads the prefix of a feature.
+/// Takes the prefix of a feature.
 #[tactic(auto, unfolding(crate::specs::formats::TargetFeatures::feature_prefix))]
-fn read_prefix(cursor: &mut Cursor<'_>) -> Result<FeaturePrefix, Fault>
-    ensures reads { Reads feature_prefix.at cursor.old cursor.new result }
-    ensures err { IfErr result IsMalformed }
+fn take_prefix<I: Input>(input: &mut I) -> Result<FeaturePrefix, Fault>
+    ensures takes { Takes I.writes feature_prefix (I.state input.old) (I.state input.new) result }
 {
-    match cursor.byte_of(Construct::Field)? {
+    match input.byte_of(Construct::Field)? {
         0x2B => Ok(FeaturePrefix::Used),
         0x2D => Ok(FeaturePrefix::Disallowed),
-        byte => Err(Fault::Malformed(cursor.invalid(Construct::Field, byte))),
-    }
-}
-
-/// Passes the prefix of a feature, which has one encoding.
-#[tactic(auto, unfolding(crate::specs::formats::TargetFeatures::feature_prefix))]
-fn rewrite_prefix(rewriter: &mut Rewriter) -> Result<(), Fault>
-    ensures rewrites { Rewrites feature_prefix rewriter.old rewriter.new result }
-{
-    match rewriter.byte_of(Construct::Field)? {
-        0x2B => Ok(()),
-        0x2D => Ok(()),
-        byte => Err(Fault::Malformed(rewriter.invalid(Construct::Field, byte))),
+        byte => Err(Fault::Malformed(input.invalid(Construct::Field, byte))),
     }
 }
 
@@ -76,24 +63,15 @@ fn prefix_byte(prefix: FeaturePrefix) -> u8
     }
 }
 
-/// Reads a feature.
+/// Takes a feature.
 #[tactic(auto, unfolding(crate::specs::formats::TargetFeatures::target_feature))]
-fn read_feature<'a>(cursor: &mut Cursor<'a>) -> Result<TargetFeature<'a>, Fault>
-    ensures reads { Reads target_feature.at cursor.old cursor.new (map_ok feature_parts result) }
+fn take_feature<'a, I: NameInput<'a>>(input: &mut I) -> Result<TargetFeature<'a>, Fault>
+    ensures passes { Passes I.writes feature_parts target_feature (I.state input.old) (I.state input.new) result }
     ensures err { IfErr result IsMalformed }
 {
-    let prefix = read_prefix(cursor)?;
-    let name = read_name(cursor)?;
+    let prefix = take_prefix(input)?;
+    let name = input.name()?;
     Ok(TargetFeature { prefix, name })
-}
-
-/// Rewrites a feature to its minimal encoding.
-#[tactic(auto, using(std::proofs::Common::append_assoc), unfolding(crate::specs::formats::TargetFeatures::target_feature))]
-fn rewrite_feature(rewriter: &mut Rewriter) -> Result<(), Fault>
-    ensures rewrites { Rewrites target_feature rewriter.old rewriter.new result }
-{
-    rewrite_prefix(rewriter)?;
-    rewrite_name(rewriter)
 }
 
 impl<'a> Readable<'a> for TargetFeature<'a> {
@@ -115,13 +93,14 @@ impl<'a> Readable<'a> for TargetFeature<'a> {
     {}
 
     fn read(_alloc: Global, cursor: &mut Cursor<'a>) -> Result<TargetFeature<'a>, Fault> {
-        read_feature(cursor)
+        take_feature(cursor)
     }
 
     fn rewrite(rewriter: &mut Rewriter) -> Result<(), Fault>
         ensures rewrites { Rewrites target_feature rewriter.old rewriter.new result }
     {
-        rewrite_feature(rewriter)
+        take_feature(rewriter)?;
+        Ok(())
     }
 }
 

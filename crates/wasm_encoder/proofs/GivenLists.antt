@@ -7,10 +7,10 @@ use Rattle.std.specs.Iterator.{Count, Drains, size}
 use Rattle.std.proofs.lemmas.Iterator.{YieldsList, items_from_drains}
 use Rattle.wasm_types.specs.declared.types.value.ValType.{ValType}
 use Rattle.wasm_types.specs.declared.types.composite.CompositeInnerType.TheVariants as inner
-use Rattle.wasm_types.specs.declared.types.composite.TypeEntry.{TypeEntry}
-use Rattle.wasm_types.specs.declared.types.composite.TypeEntry.TheVariants as entries
+use Rattle.wasm_types.specs.declared.types.recursive.TypeEntry.{TypeEntry}
+use Rattle.wasm_types.specs.declared.types.recursive.TypeEntry.TheVariants as entries
 use Rattle.wasm_types.specs.declared.types.composite.FieldType.{FieldType}
-use Rattle.wasm_types.specs.declared.types.composite.SubType.{SubType}
+use Rattle.wasm_types.specs.declared.types.recursive.SubType.{SubType}
 use Rattle.wasm_types.specs.formats.Types.{field_type, sub_type, val_type}
 use Rattle.wasm_types.specs.TypeCounts.{CountedSub}
 use Rattle.wasm_codec.specs.declared.encode.EncodeError.{EncodeError}

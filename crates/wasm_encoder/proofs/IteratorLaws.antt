@@ -9,9 +9,9 @@ use Rattle.wasm_types.specs.declared.types.composite.FuncType.{FuncType}
 use Rattle.wasm_types.specs.declared.types.composite.CompositeInnerType.TheVariants as inner
 use Rattle.wasm_types.specs.declared.types.composite.FieldType.{FieldType}
 use Rattle.wasm_types.specs.declared.types.composite.StructType.{StructType}
-use Rattle.wasm_types.specs.declared.types.composite.SubType.{SubType}
-use Rattle.wasm_types.specs.declared.types.composite.TypeEntry.{TypeEntry}
-use Rattle.wasm_types.specs.declared.types.composite.TypeEntry.TheVariants as entries
+use Rattle.wasm_types.specs.declared.types.recursive.SubType.{SubType}
+use Rattle.wasm_types.specs.declared.types.recursive.TypeEntry.{TypeEntry}
+use Rattle.wasm_types.specs.declared.types.recursive.TypeEntry.TheVariants as entries
 use Rattle.wasm_codec.specs.Encoding.{IsShortest, CanEncodeList}
 use Rattle.wasm_codec.specs.Lists.{items_bytes}
 use Rattle.wasm_types.specs.formats.Types.{result_type, field_type, inner_type, sub_type, recursive_type, val_type}

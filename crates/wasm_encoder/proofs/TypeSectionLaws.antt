@@ -7,9 +7,9 @@ use Rattle.wasm_types.specs.declared.types.composite.ContType.{ContType}
 use Rattle.wasm_types.specs.declared.types.composite.FuncType.{FuncType}
 use Rattle.wasm_types.specs.declared.types.composite.CompositeInnerType.TheVariants as inner
 use Rattle.wasm_types.specs.declared.types.composite.CompositeInnerType.{CompositeInnerType}
-use Rattle.wasm_types.specs.declared.types.composite.SubType.{SubType}
-use Rattle.wasm_types.specs.declared.types.composite.TypeEntry.{TypeEntry}
-use Rattle.wasm_types.specs.declared.types.composite.TypeEntry.TheVariants as entries
+use Rattle.wasm_types.specs.declared.types.recursive.SubType.{SubType}
+use Rattle.wasm_types.specs.declared.types.recursive.TypeEntry.{TypeEntry}
+use Rattle.wasm_types.specs.declared.types.recursive.TypeEntry.TheVariants as entries
 use Rattle.wasm_codec.specs.declared.encode.EncodeError.{EncodeError}
 use Rattle.wasm_codec.specs.declared.encode.EncodeError.TheVariants.{TooLong}
 use Rattle.wasm_codec.specs.Encoding.{byte_list_bytes, IsCount, IsRefusal, IsShortest, OnlyTooLong}

@@ -10,7 +10,7 @@ ghost use Rattle.wasm_codec.specs.Lawful.{IsLawfulBody};
 ghost use Rattle.wasm_codec.specs.formats.Bodies.{to_end};
 ghost use Rattle.wasm_codec.specs.formats.Combinators.{minimal_if, minimal_only};
 ghost use Rattle.wasm_codec.specs.Lists.{CountsItems};
-ghost use Rattle.wasm_types.specs.declared.types.composite.TypeEntry.{TypeEntry};
+ghost use Rattle.wasm_types.specs.declared.types.recursive.TypeEntry.{TypeEntry};
 ghost use Rattle.wasm_types.specs.formats.Types.{recursive_type, type_body, IsTypeBodyPrefix, ShortestTypeBody, IsShortestTypeBodyPrefix};
 ghost use Rattle.wasm_instructions.specs.formats.Instructions.{Instruction, Instructions as InstructionList, ShortestInstructions, instruction};
 ghost use Rattle.wasm_modules.specs.declared.code.CodeBody.{CodeBody};

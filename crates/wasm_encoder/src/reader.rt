@@ -25,7 +25,7 @@ pub use wasm_modules::code::reader::{
 };
 pub use wasm_modules::normaliser::{normalise_module, rewrite_module};
 pub use wasm_modules::raw::{check_module, read_module, read_module_strict};
-pub use wasm_types::normaliser::{normalise_type_section, rewrite_type_section};
-pub use wasm_types::reader::type_sections::{
-    check_type_section, read_type_section, read_type_section_strict,
+pub use wasm_types::type_sections::{
+    check_type_section, normalise_type_section, read_type_section, read_type_section_strict,
+    rewrite_type_section,
 };

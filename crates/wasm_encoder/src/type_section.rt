@@ -8,9 +8,9 @@ ghost use Rattle.wasm_types.specs.formats.Types.{type_body};
 ghost use Rattle.wasm_modules.specs.formats.Sections.{typed_section_of, type_entries, type_section_id};
 ghost use Rattle.wasm_modules.specs.Modules.{IsTypedSection};
 ghost use Rattle.wasm_sections.specs.formats.ModuleSectionParts.{types as holding_types};
-ghost use Rattle.wasm_types.specs.declared.types.composite.TypeEntry.{TypeEntry};
+ghost use Rattle.wasm_types.specs.declared.types.recursive.TypeEntry.{TypeEntry};
 ghost use Rattle.wasm_types.specs.declared.types.composite.CompositeInnerType.TheVariants as inner;
-ghost use Rattle.wasm_types.specs.declared.types.composite.TypeEntry.TheVariants as entries;
+ghost use Rattle.wasm_types.specs.declared.types.recursive.TypeEntry.TheVariants as entries;
 
 use crate::encoded_section::EncodedSection;
 use crate::wasm_core::{Section, SectionId};

@@ -1,21 +1,16 @@
 -- The laws of types of imports and exports, and what is read, rewritten and written of them.
-use Rattle.std.proofs.Common.{◌≡◌, [], ◌∷◌, Bool, true, false, Some, refl, ap, ◌∙◌, lit≤, ℕ, List, Option, None, IfSome, ok_or, sym, ◌++◌, ◌+◌, ◌^◌, ◌<◌, length, take, drop, append_assoc, Result, Ok, Err, OnOk, OnErr}
+use Rattle.std.proofs.Common.{◌≡◌, [], ◌∷◌, Bool, true, false, Some, refl, ap, ◌∙◌, lit≤, ℕ, List, Option, None, IfSome, sym, ◌++◌, ◌+◌, ◌^◌, ◌<◌, length, take, drop, append_assoc, Result, Ok, Err, OnOk, OnErr}
 use Rattle.std.specs.Prelude.{is_some, IfSome}
 use Rattle.std.proofs.lemmas.List.{append-nil, take-append-drop}
 use Rattle.std.proofs.Math.Seq.{take-append_seam}
-use Rattle.wasm_codec.specs.formats.Combinators.{u32, u64, a_byte, find, one_byte, Format, made_of}
+use Rattle.wasm_codec.specs.formats.Combinators.{u32, u64}
 use Rattle.wasm_codec.specs.Lawful.{IsLawful}
-use Rattle.wasm_codec.specs.Places.{Place, Reads, byte_at}
-use Rattle.wasm_codec.specs.Rewriter.{Rewriting, Gives, rewritten_at, rewriting, rewriting_after}
-use Rattle.wasm_codec.specs.declared.reader.cursor.Fault.TheVariants.{Malformed}
-use Rattle.wasm_codec.specs.declared.reader.malformed.Malformed.{Malformed as Details}
-use Rattle.wasm_codec.specs.formats.Grammar.{IsBytes, TakesBytes}
+use Rattle.wasm_codec.specs.formats.Grammar.{TakesBytes}
 use Rattle.wasm_codec.specs.Encoding.{IsShortest}
 use Rattle.wasm_codec.specs.Leb128.{unsigned_leb128}
 use Rattle.wasm_codec.specs.formats.Numbers.{EncodesU32, EncodesU64}
-use Rattle.wasm_codec.proofs.FormatLaws.{IsFound, Every-made, Lawful-made, Lawful-then, Lawful-both, Lawful-one-byte, Lawful-u32, Lawful-u64, Tagged-or, Tagged-never, read_in_range, takes_bytes}
+use Rattle.wasm_codec.proofs.FormatLaws.{IsFound, Every-made, Lawful-made, Lawful-then, Lawful-both, Lawful-one-byte, Lawful-u32, Lawful-u64, Tagged-or, Tagged-never, takes_bytes}
 use Rattle.wasm_codec.proofs.RawFormatLaws.{Lawful-made-of}
-use Rattle.wasm_codec.proofs.RewriterLaws.{is_given, is_after, after_is}
 use Rattle.wasm_codec.proofs.Laws.{some_is}
 use Rattle.wasm_codec.proofs.NumberLaws.{written}
 use Rattle.wasm_types.specs.formats.Types.{ref_type, val_type}
@@ -181,53 +176,6 @@ export_found exports.Tag = (refl, refl)
 pub Lawful-export-kind : IsLawful export_kind
 unfolding export_kind
 Lawful-export-kind = Lawful-one-byte export_kind_byte (exports.Func ∷ exports.Table ∷ exports.Memory ∷ exports.Global ∷ exports.Tag ∷ []) export_found
-
--- ---- bytes that tell flags
-
--- the code that looks a byte up reads what it is found to be
-pub flags_read : {A : Type 0} (byte_of : A → Option ℕ) (values : List A) (old new : Place) (b : ℕ) (o : Option A) (m : Details) → byte_at old ≡ Some (b, new) → o ≡ find byte_of values b → Reads (one_byte byte_of values).at old new (ok_or o (Malformed m))
-flags_read byte_of values old new b (Some a) m read known = rw (read, ← known) refl
-flags_read byte_of values old new b None m read known = rw (read, ← known) refl
-
--- and leaves it as it is
-pub flags_given : {A : Type 0} (byte_of : A → Option ℕ) (values : List A) (old new : Rewriting) (b : ℕ) (o : Option A) (m : Details) → rewritten_at a_byte old ≡ Some (b, new) → o ≡ find byte_of values b → IfSome o (λ a. byte_of a ≡ Some b) → Gives (one_byte byte_of values) old new (ok_or o (Malformed m))
-flags_given byte_of values old new b (Some a) m given known same =
-    let byte = is_given a_byte old b new given in
-    let read = flags_read byte_of values old.place new.place b (Some a) m byte.is_read known in
-    rw (read, same, ← byte.written, ← byte.rest) refl
-flags_given byte_of values old new b None m given known same =
-    flags_read byte_of values old.place new.place b None m (is_given a_byte old b new given).is_read known
-
--- ---- rewriting
-
--- nothing stands there
-pub none_there : {A : Type 0} (F : Format A) (r : Rewriting) → rewriting_after (part_if false F) r ≡ Some r
-unfolding part_if
-none_there F r = ap (λ (done : List ℕ). Some (rewriting done r.place r.rest)) (append-nil r.done)
-
--- where its parts were rewritten, so was what they make
-made_rewritten : {A B : Type 0} {F : Format A} (make : A → B) (parts : B → A) (R : B → Type 0) → IsLawful F → ((a : A) → F.InRange a → parts (make a) ≡ a)
-    → (old new : Rewriting) → IsBytes old.place.left → rewriting_after F old ≡ Some new → rewriting_after (made_of make parts R F) old ≡ Some new
-made_rewritten {A} {B} {F} make parts R r back old new fits e =
-    let one = is_after F old new e in
-    let same = back one.value (read_in_range r old.place one.value new.place fits one.given.is_read) in
-    after_is (made_of make parts R F) old new (make one.value) (rw one.given.is_read refl) (one.given.written ∙ ap (λ (a : A). old.done ++ F.bytes a) (sym same)) one.given.rest
-
-pub memory_rewritten : (old new : Rewriting) → IsBytes old.place.left → rewriting_after memory_format old ≡ Some new → rewriting_after memory_type old ≡ Some new
-unfolding memory_type
-memory_rewritten = made_rewritten memory_of memory_parts MemoryInRange Lawful-memory-format (λ p fits. (memory_back p fits).1)
-
-pub memory_refused : (p : Place) → memory_format.at p ≡ None → memory_type.at p ≡ None
-unfolding memory_type
-memory_refused p e = rw e refl
-
-pub table_rewritten : (old new : Rewriting) → IsBytes old.place.left → rewriting_after table_format old ≡ Some new → rewriting_after table_type old ≡ Some new
-unfolding table_type
-table_rewritten = made_rewritten table_of table_parts TableInRange Lawful-table-format (λ p fits. (table_back p fits).1)
-
-pub table_refused : (p : Place) → table_format.at p ≡ None → table_type.at p ≡ None
-unfolding table_type
-table_refused p e = rw e refl
 
 -- ---- writing
 

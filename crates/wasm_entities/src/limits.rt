@@ -1,11 +1,10 @@
 //! Limits, and the types of memories and tables (Core 3.0, Types).
-ghost use Rattle.std.specs.Prelude.{◌≡◌, Some, None, false, IfErr, IfSome, refl, ◌++◌, ◌+◌, ◌≤◌, is_some, vec_len, vec_capacity};
-ghost use Rattle.wasm_codec.specs.Places.{Reads};
-ghost use Rattle.wasm_codec.specs.Rewriter.{Gives, Rewrites};
+ghost use Rattle.std.specs.Prelude.{◌≡◌, Some, None, false, IfSome, refl, ◌++◌, ◌+◌, ◌≤◌, is_some, vec_len, vec_capacity};
+ghost use Rattle.wasm_codec.specs.Inputs.{Takes};
+ghost use Rattle.wasm_codec.specs.Rewriter.{Rewrites};
 ghost use Rattle.wasm_codec.specs.formats.Combinators.{find, u32 as u32_format, u64 as u64_format};
-ghost use Rattle.wasm_codec.specs.Outcomes.{IsMalformed};
 ghost use Rattle.wasm_entities.specs.formats.PartCombinators.{part_if};
-ghost use Rattle.wasm_entities.specs.formats.Externals.{flags_byte, all_flags, paged_byte, all_paged, limits_flags, memory_flags, memory_type, memory_format, table_type, table_format};
+ghost use Rattle.wasm_entities.specs.formats.Externals.{flags_byte, all_flags, paged_byte, all_paged, limits_flags, memory_flags, memory_type, table_type};
 ghost use Rattle.wasm_entities.specs.declared.limits.MemoryType.{MemoryType};
 ghost use Rattle.wasm_codec.specs.Lawful.{IsLawful};
 ghost use Rattle.wasm_codec.specs.formats.Grammar.{TakesBytes};
@@ -16,15 +15,13 @@ ghost use Rattle.wasm_codec.specs.formats.Numbers.{EncodesU32, EncodesU64};
 use std::alloc::{Allocator, Global};
 use wasm_codec::encode::EncodeError;
 use wasm_codec::encode::leb128::{put_u32, put_u64};
+use wasm_codec::input::Input;
 use wasm_codec::reader::cursor::{Cursor, Fault};
 use wasm_codec::reader::malformed::Construct;
 use wasm_codec::rewriter::Rewriter;
 use wasm_lists::encode::Encode;
 use wasm_lists::readable::Readable;
-use wasm_types::encode::put_ref_type;
-use wasm_types::normaliser::rewrite_ref_type;
-use wasm_types::reader::read_ref_type;
-use wasm_types::types::RefType;
+use wasm_types::types::{RefType, put_ref_type, take_ref_type};
 
 /// The type of a memory (Core 3.0, Memory Types).
 ///
@@ -141,60 +138,61 @@ fn memory_flags_of(byte: u8) -> Option<((bool, (bool, bool)), bool)>
     }
 }
 
-/// Reads the flags of limits.
-#[tactic(auto, using(crate::proofs::ExternalLaws::flags_read), unfolding(crate::specs::formats::Externals::limits_flags))]
-fn read_limits_flags(cursor: &mut Cursor<'_>) -> Result<(bool, (bool, bool)), Fault>
-    ensures reads { Reads limits_flags.at cursor.old cursor.new result }
-    ensures err { IfErr result IsMalformed }
+/// Takes the flags of limits.
+#[tactic(auto, unfolding(crate::specs::formats::Externals::limits_flags))]
+fn take_limits_flags<I: Input>(input: &mut I) -> Result<(bool, (bool, bool)), Fault>
+    ensures takes { Takes I.writes limits_flags (I.state input.old) (I.state input.new) result }
 {
-    let byte = cursor.byte_of(Construct::Limits)?;
-    limits_flags_of(byte).ok_or(Fault::Malformed(cursor.invalid(Construct::Limits, byte)))
+    let byte = input.byte_of(Construct::Limits)?;
+    match limits_flags_of(byte) {
+        Some(flags) => Ok(flags),
+        None => Err(Fault::Malformed(input.invalid(Construct::Limits, byte))),
+    }
 }
 
-/// Reads the flags of a memory's limits.
-#[tactic(auto, using(crate::proofs::ExternalLaws::flags_read), unfolding(crate::specs::formats::Externals::memory_flags))]
-fn read_memory_flags(cursor: &mut Cursor<'_>) -> Result<((bool, (bool, bool)), bool), Fault>
-    ensures reads { Reads memory_flags.at cursor.old cursor.new result }
-    ensures err { IfErr result IsMalformed }
+/// Takes the flags of a memory's limits.
+#[tactic(auto, unfolding(crate::specs::formats::Externals::memory_flags))]
+fn take_memory_flags<I: Input>(input: &mut I) -> Result<((bool, (bool, bool)), bool), Fault>
+    ensures takes { Takes I.writes memory_flags (I.state input.old) (I.state input.new) result }
 {
-    let byte = cursor.byte_of(Construct::MemoryFlags)?;
-    memory_flags_of(byte).ok_or(Fault::Malformed(cursor.invalid(Construct::MemoryFlags, byte)))
+    let byte = input.byte_of(Construct::MemoryFlags)?;
+    match memory_flags_of(byte) {
+        Some(flags) => Ok(flags),
+        None => Err(Fault::Malformed(input.invalid(Construct::MemoryFlags, byte))),
+    }
 }
 
-/// Reads a u64 if a flag says that there is one.
+/// Takes a u64 if a flag says that there is one.
 #[tactic(auto, unfolding(crate::specs::formats::PartCombinators::part_if))]
-fn read_u64_if(cursor: &mut Cursor<'_>, there: bool) -> Result<Option<u64>, Fault>
-    ensures reads { Reads (part_if there u64_format).at cursor.old cursor.new result }
-    ensures err { IfErr result IsMalformed }
+fn take_u64_if<I: Input>(input: &mut I, there: bool) -> Result<Option<u64>, Fault>
+    ensures takes { Takes I.writes (part_if there u64_format) (I.state input.old) (I.state input.new) result }
 {
     if !there {
         return Ok(None);
     }
-    Ok(Some(cursor.u64()?))
+    Ok(Some(input.u64()?))
 }
 
-/// Reads a u32 if a flag says that there is one.
+/// Takes a u32 if a flag says that there is one.
 #[tactic(auto, unfolding(crate::specs::formats::PartCombinators::part_if))]
-fn read_u32_if(cursor: &mut Cursor<'_>, there: bool) -> Result<Option<u32>, Fault>
-    ensures reads { Reads (part_if there u32_format).at cursor.old cursor.new result }
-    ensures err { IfErr result IsMalformed }
+fn take_u32_if<I: Input>(input: &mut I, there: bool) -> Result<Option<u32>, Fault>
+    ensures takes { Takes I.writes (part_if there u32_format) (I.state input.old) (I.state input.new) result }
 {
     if !there {
         return Ok(None);
     }
-    Ok(Some(cursor.u32()?))
+    Ok(Some(input.u32()?))
 }
 
-/// Reads a memory type.
-#[tactic(auto, unfolding(crate::specs::formats::Externals::memory_type))]
-pub(crate) fn read_memory_type(cursor: &mut Cursor<'_>) -> Result<MemoryType, Fault>
-    ensures reads { Reads memory_type.at cursor.old cursor.new result }
-    ensures err { IfErr result IsMalformed }
+/// Takes a memory type (Core 3.0, Memory Types).
+#[tactic(auto, using(std::proofs::Common::append_assoc), unfolding(crate::specs::formats::Externals::memory_type, crate::specs::formats::PartCombinators::part_if))]
+pub(crate) fn take_memory_type<I: Input>(input: &mut I) -> Result<MemoryType, Fault>
+    ensures takes { Takes I.writes memory_type (I.state input.old) (I.state input.new) result }
 {
-    let ((has_maximum, (shared, memory64)), has_page_size) = read_memory_flags(cursor)?;
-    let minimum = cursor.u64()?;
-    let maximum = read_u64_if(cursor, has_maximum)?;
-    let page_size_log2 = read_u32_if(cursor, has_page_size)?;
+    let ((has_maximum, (shared, memory64)), has_page_size) = take_memory_flags(input)?;
+    let minimum = input.u64()?;
+    let maximum = take_u64_if(input, has_maximum)?;
+    let page_size_log2 = take_u32_if(input, has_page_size)?;
     Ok(MemoryType {
         minimum,
         maximum,
@@ -204,16 +202,15 @@ pub(crate) fn read_memory_type(cursor: &mut Cursor<'_>) -> Result<MemoryType, Fa
     })
 }
 
-/// Reads a table type.
-#[tactic(auto, unfolding(crate::specs::formats::Externals::table_type))]
-pub fn read_table_type(cursor: &mut Cursor<'_>) -> Result<TableType, Fault>
-    ensures reads { Reads table_type.at cursor.old cursor.new result }
-    ensures err { IfErr result IsMalformed }
+/// Takes a table type (Core 3.0, Table Types).
+#[tactic(auto, using(std::proofs::Common::append_assoc), unfolding(crate::specs::formats::Externals::table_type, crate::specs::formats::PartCombinators::part_if))]
+pub fn take_table_type<I: Input>(input: &mut I) -> Result<TableType, Fault>
+    ensures takes { Takes I.writes table_type (I.state input.old) (I.state input.new) result }
 {
-    let element_type = read_ref_type(cursor)?;
-    let (has_maximum, (shared, table64)) = read_limits_flags(cursor)?;
-    let minimum = cursor.u64()?;
-    let maximum = read_u64_if(cursor, has_maximum)?;
+    let element_type = take_ref_type(input)?;
+    let (has_maximum, (shared, table64)) = take_limits_flags(input)?;
+    let minimum = input.u64()?;
+    let maximum = take_u64_if(input, has_maximum)?;
     Ok(TableType {
         element_type,
         table64,
@@ -221,86 +218,6 @@ pub fn read_table_type(cursor: &mut Cursor<'_>) -> Result<TableType, Fault>
         maximum,
         shared,
     })
-}
-
-/// Passes the flags of limits, which have one encoding, and returns them.
-#[tactic(auto, using(crate::proofs::ExternalLaws::flags_given), unfolding(crate::specs::formats::Externals::limits_flags))]
-fn rewrite_limits_flags(rewriter: &mut Rewriter) -> Result<(bool, (bool, bool)), Fault>
-    ensures gives { Gives limits_flags rewriter.old rewriter.new result }
-{
-    let byte = rewriter.byte_of(Construct::Limits)?;
-    limits_flags_of(byte).ok_or(Fault::Malformed(rewriter.invalid(Construct::Limits, byte)))
-}
-
-/// Passes the flags of a memory's limits, which have one encoding, and returns them.
-#[tactic(auto, using(crate::proofs::ExternalLaws::flags_given), unfolding(crate::specs::formats::Externals::memory_flags))]
-fn rewrite_memory_flags(rewriter: &mut Rewriter) -> Result<((bool, (bool, bool)), bool), Fault>
-    ensures gives { Gives memory_flags rewriter.old rewriter.new result }
-{
-    let byte = rewriter.byte_of(Construct::MemoryFlags)?;
-    memory_flags_of(byte).ok_or(Fault::Malformed(rewriter.invalid(Construct::MemoryFlags, byte)))
-}
-
-/// Rewrites a u64 to its minimal encoding if a flag says that there is one.
-#[tactic(auto, using(crate::proofs::ExternalLaws::none_there), unfolding(crate::specs::formats::PartCombinators::part_if))]
-fn rewrite_u64_if(rewriter: &mut Rewriter, there: bool) -> Result<(), Fault>
-    ensures rewrites { Rewrites (part_if there u64_format) rewriter.old rewriter.new result }
-{
-    if there {
-        rewriter.u64()?;
-    }
-    Ok(())
-}
-
-/// Rewrites a u32 to its minimal encoding if a flag says that there is one.
-#[tactic(auto, using(crate::proofs::ExternalLaws::none_there), unfolding(crate::specs::formats::PartCombinators::part_if))]
-fn rewrite_u32_if(rewriter: &mut Rewriter, there: bool) -> Result<(), Fault>
-    ensures rewrites { Rewrites (part_if there u32_format) rewriter.old rewriter.new result }
-{
-    if there {
-        rewriter.u32()?;
-    }
-    Ok(())
-}
-
-/// Rewrites the parts of a memory type to their minimal encodings.
-#[tactic(auto, using(std::proofs::Common::append_assoc))]
-fn rewrite_memory_parts(rewriter: &mut Rewriter) -> Result<(), Fault>
-    ensures rewrites { Rewrites memory_format rewriter.old rewriter.new result }
-{
-    let ((has_maximum, _), has_page_size) = rewrite_memory_flags(rewriter)?;
-    rewriter.u64()?;
-    rewrite_u64_if(rewriter, has_maximum)?;
-    rewrite_u32_if(rewriter, has_page_size)
-}
-
-/// Rewrites a memory type to its minimal encoding.
-#[tactic(auto, using(crate::proofs::ExternalLaws::memory_rewritten, crate::proofs::ExternalLaws::memory_refused))]
-pub(crate) fn rewrite_memory_type(rewriter: &mut Rewriter) -> Result<(), Fault>
-    ensures rewrites { Rewrites memory_type rewriter.old rewriter.new result }
-{
-    rewriter.are_bytes();
-    rewrite_memory_parts(rewriter)
-}
-
-/// Rewrites the parts of a table type to their minimal encodings.
-#[tactic(auto, using(std::proofs::Common::append_assoc))]
-fn rewrite_table_parts(rewriter: &mut Rewriter) -> Result<(), Fault>
-    ensures rewrites { Rewrites table_format rewriter.old rewriter.new result }
-{
-    rewrite_ref_type(rewriter)?;
-    let (has_maximum, _) = rewrite_limits_flags(rewriter)?;
-    rewriter.u64()?;
-    rewrite_u64_if(rewriter, has_maximum)
-}
-
-/// Rewrites a table type to its minimal encoding.
-#[tactic(auto, using(crate::proofs::ExternalLaws::table_rewritten, crate::proofs::ExternalLaws::table_refused))]
-pub fn rewrite_table_type(rewriter: &mut Rewriter) -> Result<(), Fault>
-    ensures rewrites { Rewrites table_type rewriter.old rewriter.new result }
-{
-    rewriter.are_bytes();
-    rewrite_table_parts(rewriter)
 }
 
 impl<'a> Readable<'a> for MemoryType {
@@ -322,13 +239,14 @@ impl<'a> Readable<'a> for MemoryType {
     {}
 
     fn read(_alloc: Global, cursor: &mut Cursor<'a>) -> Result<MemoryType, Fault> {
-        read_memory_type(cursor)
+        take_memory_type(cursor)
     }
 
     fn rewrite(rewriter: &mut Rewriter) -> Result<(), Fault>
         ensures rewrites { Rewrites memory_type rewriter.old rewriter.new result }
     {
-        rewrite_memory_type(rewriter)
+        take_memory_type(rewriter)?;
+        Ok(())
     }
 }
 

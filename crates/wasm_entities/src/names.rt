@@ -2,6 +2,7 @@
 ghost use Rattle.std.specs.Prelude.{◌≡◌, List, ℕ, IfErr, ◌++◌, true, OnOk, length, take, Some, IfSome};
 ghost use Rattle.wasm_codec.specs.Scanning.{Scans};
 ghost use Rattle.wasm_codec.specs.declared.rewriter.scan.Scanned.TheVariants.{Shortest};
+ghost use Rattle.wasm_codec.specs.Inputs.{Passes};
 ghost use Rattle.wasm_codec.specs.Places.{Reads};
 ghost use Rattle.wasm_codec.specs.Reading.{map_ok};
 ghost use Rattle.wasm_codec.specs.Rewriter.{Rewrites};
@@ -14,6 +15,7 @@ ghost use Rattle.wasm_codec.specs.formats.Grammar.{IsBytes};
 use std::alloc::Allocator;
 use std::str::Utf8Error;
 use wasm_codec::encode::EncodeError;
+use wasm_codec::input::Input;
 use wasm_codec::reader::cursor::{Cursor, Fault};
 use wasm_codec::reader::malformed::{Malformed, Reason};
 use wasm_codec::rewriter::Rewriter;
@@ -80,6 +82,29 @@ pub fn scan_name(bytes: &[u8]) -> Option<usize>
         }
     }
     Some(1 + count)
+}
+
+/// An input of names.
+pub trait NameInput<'a>: Input {
+    /// Passes a name. Returns its text if the input only reads, and else an empty text.
+    fn name(&mut self) -> Result<&'a str, Fault>
+        ensures passes { Passes Self.writes (λ text. text.now) name (Self.state self.old) (Self.state self.new) result }
+        ensures err { IfErr result IsMalformed };
+}
+
+impl<'a> NameInput<'a> for Cursor<'a> {
+    #[inline(always)]
+    fn name(&mut self) -> Result<&'a str, Fault> {
+        read_name(self)
+    }
+}
+
+impl<'a> NameInput<'a> for Rewriter {
+    #[inline(always)]
+    fn name(&mut self) -> Result<&'a str, Fault> {
+        rewrite_name(self)?;
+        Ok("")
+    }
 }
 
 /// The text of a name, up to the end.

@@ -1,10 +1,9 @@
 //! The types of globals, tags and imports (Core 3.0, Types), and the kinds of exports (Export Section).
-ghost use Rattle.std.specs.Prelude.{[], ◌≡◌, false, IfErr, refl, ◌++◌, ◌+◌, ◌≤◌, ◌∷◌, Some, vec_len, vec_capacity, IfSome};
+ghost use Rattle.std.specs.Prelude.{[], ◌≡◌, false, refl, ◌++◌, ◌+◌, ◌≤◌, ◌∷◌, Some, vec_len, vec_capacity, IfSome};
 ghost use Rattle.wasm_codec.specs.Scanning.{Scans};
 ghost use Rattle.wasm_codec.specs.declared.rewriter.scan.Scanned.TheVariants.{Shortest};
-ghost use Rattle.wasm_codec.specs.Places.{Reads};
+ghost use Rattle.wasm_codec.specs.Inputs.{Takes};
 ghost use Rattle.wasm_codec.specs.Rewriter.{Rewrites};
-ghost use Rattle.wasm_codec.specs.Outcomes.{IsMalformed};
 ghost use Rattle.wasm_entities.specs.formats.Externals.{global_flags, global_type, tag_type, entity_type, global_byte, export_kind};
 ghost use Rattle.wasm_entities.specs.declared.types.EntityType.TheVariants as entity_types;
 ghost use Rattle.wasm_entities.specs.declared.types.TagType.{TagType};
@@ -13,21 +12,18 @@ ghost use Rattle.wasm_codec.specs.formats.Grammar.{TakesBytes};
 ghost use Rattle.wasm_codec.specs.Encoding.{IsShortest};
 
 use crate::limits::{
-    MemoryType, TableType, put_memory_type, put_table_type, read_memory_type, read_table_type,
-    rewrite_memory_type, rewrite_table_type,
+    MemoryType, TableType, put_memory_type, put_table_type, take_memory_type, take_table_type,
 };
 use std::alloc::{Allocator, Global};
 use wasm_codec::encode::EncodeError;
 use wasm_codec::encode::leb128::put_u32;
+use wasm_codec::input::Input;
 use wasm_codec::reader::cursor::{Cursor, Fault};
 use wasm_codec::reader::malformed::Construct;
 use wasm_codec::rewriter::{Rewriter, Scanned, scan_u32};
 use wasm_lists::encode::Encode;
 use wasm_lists::readable::Readable;
-use wasm_types::encode::put_val_type;
-use wasm_types::normaliser::{is_whole_type, rewrite_val_type};
-use wasm_types::reader::read_val_type;
-use wasm_types::types::ValType;
+use wasm_types::types::{ValType, is_whole_type, put_val_type, take_val_type};
 
 /// The type of a global (Core 3.0, Global Types).
 #[derive(Clone, Copy, Debug, PartialEq, Eq)]
@@ -145,29 +141,27 @@ pub enum ExportKind {
     Tag,
 }
 
-/// Reads whether a global is mutable and whether it is shared.
+/// Takes whether a global is mutable and whether it is shared.
 #[tactic(auto, unfolding(crate::specs::formats::Externals::global_flags))]
-fn read_global_flags(cursor: &mut Cursor<'_>) -> Result<(bool, bool), Fault>
-    ensures reads { Reads global_flags.at cursor.old cursor.new result }
-    ensures err { IfErr result IsMalformed }
+fn take_global_flags<I: Input>(input: &mut I) -> Result<(bool, bool), Fault>
+    ensures takes { Takes I.writes global_flags (I.state input.old) (I.state input.new) result }
 {
-    match cursor.byte_of(Construct::Mutability)? {
+    match input.byte_of(Construct::Mutability)? {
         0x00 => Ok((false, false)),
         0x01 => Ok((true, false)),
         0x02 => Ok((false, true)),
         0x03 => Ok((true, true)),
-        byte => Err(Fault::Malformed(cursor.invalid(Construct::Mutability, byte))),
+        byte => Err(Fault::Malformed(input.invalid(Construct::Mutability, byte))),
     }
 }
 
-/// Reads a global type.
+/// Takes a global type (Core 3.0, Global Types).
 #[tactic(auto, unfolding(crate::specs::formats::Externals::global_type))]
-pub fn read_global_type(cursor: &mut Cursor<'_>) -> Result<GlobalType, Fault>
-    ensures reads { Reads global_type.at cursor.old cursor.new result }
-    ensures err { IfErr result IsMalformed }
+pub fn take_global_type<I: Input>(input: &mut I) -> Result<GlobalType, Fault>
+    ensures takes { Takes I.writes global_type (I.state input.old) (I.state input.new) result }
 {
-    let val_type = read_val_type(cursor)?;
-    let (mutable, shared) = read_global_flags(cursor)?;
+    let val_type = take_val_type(input)?;
+    let (mutable, shared) = take_global_flags(input)?;
     Ok(GlobalType {
         val_type,
         mutable,
@@ -175,37 +169,50 @@ pub fn read_global_type(cursor: &mut Cursor<'_>) -> Result<GlobalType, Fault>
     })
 }
 
-/// Reads a tag type.
+/// Takes a tag type (Core 3.0, Tag Types).
 #[tactic(auto, unfolding(crate::specs::formats::Externals::tag_type))]
-pub(crate) fn read_tag_type(cursor: &mut Cursor<'_>) -> Result<TagType, Fault>
-    ensures reads { Reads tag_type.at cursor.old cursor.new result }
-    ensures err { IfErr result IsMalformed }
+pub(crate) fn take_tag_type<I: Input>(input: &mut I) -> Result<TagType, Fault>
+    ensures takes { Takes I.writes tag_type (I.state input.old) (I.state input.new) result }
 {
-    let byte = cursor.byte_of(Construct::TagAttribute)?;
+    let byte = input.byte_of(Construct::TagAttribute)?;
     if byte != 0x00 {
-        return Err(Fault::Malformed(cursor.invalid(Construct::TagAttribute, byte)));
+        return Err(Fault::Malformed(input.invalid(Construct::TagAttribute, byte)));
     }
-    let func_type_idx = cursor.u32()?;
+    let func_type_idx = input.u32()?;
     Ok(TagType {
         kind: TagKind::Exception,
         func_type_idx,
     })
 }
 
-/// Reads the type of an import.
+/// Takes the type of an import (Core 3.0, External Types).
 #[tactic(auto, unfolding(crate::specs::formats::Externals::entity_type))]
-pub fn read_entity_type(cursor: &mut Cursor<'_>) -> Result<EntityType, Fault>
-    ensures reads { Reads entity_type.at cursor.old cursor.new result }
-    ensures err { IfErr result IsMalformed }
+pub fn take_entity_type<I: Input>(input: &mut I) -> Result<EntityType, Fault>
+    ensures takes { Takes I.writes entity_type (I.state input.old) (I.state input.new) result }
 {
-    match cursor.byte_of(Construct::ImportKind)? {
-        0x00 => Ok(EntityType::Function(cursor.u32()?)),
-        0x01 => Ok(EntityType::Table(read_table_type(cursor)?)),
-        0x02 => Ok(EntityType::Memory(read_memory_type(cursor)?)),
-        0x03 => Ok(EntityType::Global(read_global_type(cursor)?)),
-        0x04 => Ok(EntityType::Tag(read_tag_type(cursor)?)),
-        0x20 => Ok(EntityType::FunctionExact(cursor.u32()?)),
-        byte => Err(Fault::Malformed(cursor.invalid(Construct::ImportKind, byte))),
+    match input.byte_of(Construct::ImportKind)? {
+        0x00 => Ok(EntityType::Function(input.u32()?)),
+        0x01 => Ok(EntityType::Table(take_table_type(input)?)),
+        0x02 => Ok(EntityType::Memory(take_memory_type(input)?)),
+        0x03 => Ok(EntityType::Global(take_global_type(input)?)),
+        0x04 => Ok(EntityType::Tag(take_tag_type(input)?)),
+        0x20 => Ok(EntityType::FunctionExact(input.u32()?)),
+        byte => Err(Fault::Malformed(input.invalid(Construct::ImportKind, byte))),
+    }
+}
+
+/// Takes the kind of an export (Core 3.0, Export Section).
+#[tactic(auto, unfolding(crate::specs::formats::Externals::export_kind))]
+pub fn take_export_kind<I: Input>(input: &mut I) -> Result<ExportKind, Fault>
+    ensures takes { Takes I.writes export_kind (I.state input.old) (I.state input.new) result }
+{
+    match input.byte_of(Construct::ExportKind)? {
+        0x00 => Ok(ExportKind::Func),
+        0x01 => Ok(ExportKind::Table),
+        0x02 => Ok(ExportKind::Memory),
+        0x03 => Ok(ExportKind::Global),
+        0x04 => Ok(ExportKind::Tag),
+        byte => Err(Fault::Malformed(input.invalid(Construct::ExportKind, byte))),
     }
 }
 
@@ -224,33 +231,10 @@ pub fn read_frequent_entity_type(cursor: &mut Cursor<'_>) -> Option<EntityType>
             Err(_) => None,
         };
     }
-    match read_entity_type(cursor) {
+    match take_entity_type(cursor) {
         Ok(ty) => Some(ty),
         Err(_) => None,
     }
-}
-
-/// Passes the flags of a global, which have one encoding.
-#[tactic(auto, unfolding(crate::specs::formats::Externals::global_flags))]
-fn rewrite_global_flags(rewriter: &mut Rewriter) -> Result<(), Fault>
-    ensures rewrites { Rewrites global_flags rewriter.old rewriter.new result }
-{
-    match rewriter.byte_of(Construct::Mutability)? {
-        0x00 => Ok(()),
-        0x01 => Ok(()),
-        0x02 => Ok(()),
-        0x03 => Ok(()),
-        byte => Err(Fault::Malformed(rewriter.invalid(Construct::Mutability, byte))),
-    }
-}
-
-/// Rewrites a global type to its minimal encoding.
-#[tactic(auto, using(std::proofs::Common::append_assoc), unfolding(crate::specs::formats::Externals::global_type))]
-pub fn rewrite_global_type(rewriter: &mut Rewriter) -> Result<(), Fault>
-    ensures rewrites { Rewrites global_type rewriter.old rewriter.new result }
-{
-    rewrite_val_type(rewriter)?;
-    rewrite_global_flags(rewriter)
 }
 
 /// Returns the length in bytes of the global type that the bytes begin with. Returns `None` unless its value type has one
@@ -294,37 +278,6 @@ pub fn scan_entity_type(bytes: &[u8]) -> Option<usize>
     }
 }
 
-/// Rewrites a tag type to its minimal encoding.
-#[tactic(auto, using(std::proofs::Common::append_assoc), unfolding(crate::specs::formats::Externals::tag_type))]
-pub(crate) fn rewrite_tag_type(rewriter: &mut Rewriter) -> Result<(), Fault>
-    ensures rewrites { Rewrites tag_type rewriter.old rewriter.new result }
-{
-    let byte = rewriter.byte_of(Construct::TagAttribute)?;
-    if byte != 0x00 {
-        return Err(Fault::Malformed(rewriter.invalid(Construct::TagAttribute, byte)));
-    }
-    rewriter.u32()?;
-    Ok(())
-}
-
-/// Rewrites the type of an import to its minimal encoding.
-#[tactic(auto, using(std::proofs::Common::append_assoc), unfolding(crate::specs::formats::Externals::entity_type))]
-pub fn rewrite_entity_type(rewriter: &mut Rewriter) -> Result<(), Fault>
-    ensures rewrites { Rewrites entity_type rewriter.old rewriter.new result }
-{
-    match rewriter.byte_of(Construct::ImportKind)? {
-        0x00 | 0x20 => {
-            rewriter.u32()?;
-            Ok(())
-        }
-        0x01 => rewrite_table_type(rewriter),
-        0x02 => rewrite_memory_type(rewriter),
-        0x03 => rewrite_global_type(rewriter),
-        0x04 => rewrite_tag_type(rewriter),
-        byte => Err(Fault::Malformed(rewriter.invalid(Construct::ImportKind, byte))),
-    }
-}
-
 impl<'a> Readable<'a> for TagType {
     ghost Value = { TagType };
 
@@ -344,13 +297,14 @@ impl<'a> Readable<'a> for TagType {
     {}
 
     fn read(_alloc: Global, cursor: &mut Cursor<'a>) -> Result<TagType, Fault> {
-        read_tag_type(cursor)
+        take_tag_type(cursor)
     }
 
     fn rewrite(rewriter: &mut Rewriter) -> Result<(), Fault>
         ensures rewrites { Rewrites tag_type rewriter.old rewriter.new result }
     {
-        rewrite_tag_type(rewriter)
+        take_tag_type(rewriter)?;
+        Ok(())
     }
 }
 

@@ -1,12 +1,13 @@
 -- The laws of instructions that are rewritten: an opcode, and then operands of its kind.
-use Rattle.std.proofs.Common.{◌≡◌, ℕ, List, ◌++◌, Option, Some, Result, Ok, Err, refl, sym, ap, ◌∙◌, append_assoc}
+use Rattle.std.proofs.Common.{◌≡◌, true, ℕ, List, ◌++◌, Option, Some, Result, Ok, Err, refl, sym, ap, ◌∙◌, append_assoc}
 use Rattle.wasm_codec.specs.declared.reader.cursor.Fault.{Fault}
 use Rattle.wasm_codec.specs.declared.reader.cursor.Fault.TheVariants as faults
 use Rattle.wasm_codec.specs.Places.{Place}
 use Rattle.wasm_codec.specs.Reading.{◌>>=◌}
-use Rattle.wasm_codec.specs.Rewriter.{Rewriting, rewritten_at, Rewrites}
+use Rattle.wasm_codec.specs.Inputs.{Took}
+use Rattle.wasm_codec.specs.Rewriter.{Rewriting, Rewrites}
 use Rattle.wasm_codec.proofs.Laws.{bind_some, some_is}
-use Rattle.wasm_codec.proofs.RewriterLaws.{is_given, is_after, after_is}
+use Rattle.wasm_codec.proofs.RewriterLaws.{is_after, after_is}
 use Rattle.wasm_instructions.specs.declared.table.opcode.Opcode.{Opcode}
 use Rattle.wasm_instructions.specs.declared.table.opcode.Kind.{Kind}
 use Rattle.wasm_instructions.specs.declared.table.opcode.Kind.TheVariants as kinds
@@ -28,17 +29,14 @@ unfolding operands_format
 of_kind kinds.None p o q e = sym (ap (λ (r : Operands × Place). kind_of r.0) (some_is (operands.None, p) (o, q) e))
 of_kind k p o q e = made_kind k _ _ o q e (λ a. refl)
 
-pub after_opcode : (op : Opcode) (k : Kind) (old mid new : Rewriting) (result : Result (Unit {0}) Fault) → rewritten_at opcode old ≡ Some (op, mid) → opcode_kind op ≡ Some k → Rewrites (operands_format k) mid new result → Rewrites instruction old new result
+pub after_opcode : (op : Opcode) (k : Kind) (old mid new : Rewriting) (result : Result (Unit {0}) Fault) → Took true opcode old mid op → opcode_kind op ≡ Some k → Rewrites (operands_format k) mid new result → Rewrites instruction old new result
 unfolding instruction
-after_opcode op k old mid new (Err faults.Memory) reads is none = none
-after_opcode op k old mid new (Err (faults.Malformed m)) reads is none =
-    let g = is_given opcode old op mid reads in
-    rw (g.is_read, is, none) refl
-after_opcode op k old mid new (Ok done) reads is e =
-    let g = is_given opcode old op mid reads in
+after_opcode op k old mid new (Err faults.Memory) g is none = none
+after_opcode op k old mid new (Err (faults.Malformed m)) g is none = rw (g.read, is, none) refl
+after_opcode op k old mid new (Ok done) g is e =
     let one = is_after (operands_format k) mid new e in
     let same : kind_of one.value ≡ k = of_kind k mid.place one.value new.place one.given.is_read in
     let whole : new.done ≡ old.done ++ (opcode.bytes op ++ (operands_format (kind_of one.value)).bytes one.value) =
     one.given.written ∙ ap (λ (t : List ℕ). t ++ (operands_format k).bytes one.value) g.written ∙ append_assoc old.done (opcode.bytes op) ((operands_format k).bytes one.value)
     ∙ ap (λ (j : Kind). old.done ++ (opcode.bytes op ++ (operands_format j).bytes one.value)) (sym same) in
-    after_is instruction old new (call op one.value) (rw (g.is_read, is, one.given.is_read) refl) whole (one.given.rest ∙ g.rest)
+    after_is instruction old new (call op one.value) (rw (g.read, is, one.given.is_read) refl) whole (one.given.rest ∙ g.rest)

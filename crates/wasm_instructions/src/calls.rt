@@ -16,7 +16,7 @@ use std::alloc::Allocator;
 use wasm_codec::encode::leb128::{put_i32, put_i64, put_u32};
 use wasm_codec::encode::{EncodeError, keep_or_undo};
 use wasm_lists::encode::Encode;
-use wasm_types::encode::put_heap_type;
+use wasm_types::types::put_heap_type;
 
 /// Appends the minimal encodings of `calls`, all of them or none.
 ///

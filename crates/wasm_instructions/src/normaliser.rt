@@ -1,8 +1,8 @@
 //! The normaliser of lists of instructions (Core 3.0, Instructions).
 ghost use Rattle.std.specs.Prelude.{◌<◌, length};
 ghost use Rattle.wasm_codec.specs.Outcomes.{EncodesSome};
-ghost use Rattle.wasm_instructions.specs.formats.Instructions.{Instruction, Instructions, ShortestInstructions, opcode, instruction};
-ghost use Rattle.wasm_codec.specs.Rewriter.{Gives, Rewrites};
+ghost use Rattle.wasm_instructions.specs.formats.Instructions.{Instruction, Instructions, ShortestInstructions, instruction};
+ghost use Rattle.wasm_codec.specs.Rewriter.{Rewrites};
 ghost use Rattle.wasm_codec.specs.Decoding.{Normalises, NormalisesInPlace, RewritesAll};
 ghost use Rattle.wasm_codec.specs.formats.Bodies.{to_end};
 
@@ -11,10 +11,11 @@ mod scan;
 
 use crate::normaliser::operands::rewrite_operands;
 use crate::normaliser::scan::{scan_call, scan_frequent_call, scan_rare_call};
-use crate::table::{Call, Opcode};
+use crate::reader::take_opcode;
+use crate::table::Call;
 use std::alloc::Global;
 use wasm_codec::reader::cursor::Fault;
-use wasm_codec::reader::malformed::{Construct, Malformed};
+use wasm_codec::reader::malformed::Malformed;
 use wasm_codec::reader::{ReadError, without_reason};
 use wasm_codec::rewriter::{Part, Rewriter, Scanned};
 use wasm_lists::rewriting::{Joinable, Rewritable, rewrite_items_to_end};
@@ -100,27 +101,13 @@ impl Joinable for Call {
     }
 }
 
-/// Rewrites an opcode and returns it: one byte, or a prefix byte and a number.
-#[tactic(auto, using(std::proofs::Common::append_assoc), unfolding(crate::specs::formats::Instructions::opcode))]
-fn rewrite_opcode(rewriter: &mut Rewriter) -> Result<Opcode, Fault>
-    ensures gives { Gives opcode rewriter.old rewriter.new result }
-{
-    match rewriter.byte_of(Construct::Opcode)? {
-        0xfb => Ok(Opcode::after_fb(rewriter.u32()?)),
-        0xfc => Ok(Opcode::after_fc(rewriter.u32()?)),
-        0xfd => Ok(Opcode::after_fd(rewriter.u32()?)),
-        0xfe => Ok(Opcode::after_fe(rewriter.u32()?)),
-        byte => Ok(Opcode::without_prefix(byte)),
-    }
-}
-
 /// Rewrites an opcode and its operands.
 #[tactic(auto, using(crate::proofs::CallRewriting::after_opcode), unfolding(crate::specs::formats::Instructions::instruction))]
 fn rewrite_call(rewriter: &mut Rewriter) -> Result<(), Fault>
     ensures rewrites { Rewrites instruction rewriter.old rewriter.new result }
 {
     let start = rewriter.to_end();
-    let op = rewrite_opcode(rewriter)?;
+    let op = take_opcode(rewriter)?;
     let Some(kind) = op.kind() else {
         return Err(Fault::Malformed(Malformed::new(op.unknown(), start)));
     };

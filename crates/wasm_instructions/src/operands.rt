@@ -2,9 +2,11 @@
 //! operands of the proposals on stack switching and shared-everything threads.
 
 mod constants;
-mod control;
+pub(crate) mod control;
 mod memory;
 
 pub use constants::{Ieee32, Ieee64, Lane, V128};
+pub(crate) use control::take_castop;
 pub use control::{BlockType, Catch, Handle};
 pub use memory::{MemArg, Ordering};
+pub(crate) use memory::{take_mem_arg, take_ordering};

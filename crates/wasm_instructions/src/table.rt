@@ -2,7 +2,7 @@
 
 mod call;
 mod kinds;
-mod opcode;
+pub(crate) mod opcode;
 
 pub use call::{Call, Operands};
 pub use opcode::{Kind, Opcode, Prefix};

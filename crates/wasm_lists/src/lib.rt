@@ -5,6 +5,7 @@
 pub mod checking;
 pub mod encode;
 pub mod encoded_list;
+pub mod input;
 pub mod judging;
 pub mod list;
 pub mod readable;

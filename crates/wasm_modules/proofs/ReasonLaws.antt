@@ -3,7 +3,9 @@ use Rattle.std.proofs.Common.{◌≡◌, ◌<◌, ◌≤◌, ◌+◌, ◌||◌, 
 use Rattle.std.proofs.lemmas.Bool.{eqb-true, lt-ltb, le-ltb}
 use Rattle.std.proofs.Math.Seq.{take-length}
 use Rattle.std.specs.Str.{IsUtf8}
+use Rattle.wasm_codec.specs.Inputs.{Took}
 use Rattle.wasm_codec.specs.Places.{Place, place, Reads, u32_at}
+use Rattle.wasm_codec.specs.Rewriter.{rewriting}
 use Rattle.wasm_codec.specs.formats.Bodies.{body_at}
 use Rattle.wasm_instructions.specs.declared.table.opcode.Opcode.{Opcode}
 use Rattle.wasm_instructions.specs.formats.Opcodes.{opcode_kind}
@@ -45,11 +47,11 @@ begins read number bytes here after is reads same = record {
 }
 
 -- an opcode that is read and isn't in the table is unknown
-pub unknown : (op : Opcode) (prefix : Option ℕ) (number : ℕ) (bytes : List ℕ) (here after : Place) → here ≡ place true bytes → Reads opcode.at here after (Ok op) → prefix_byte op.prefix ≡ prefix → op.number ≡ number → opcode_kind op ≡ None → IsUnknownOpcode prefix number bytes
+pub unknown : (op : Opcode) (prefix : Option ℕ) (number : ℕ) (bytes : List ℕ) (here after : Place) → here ≡ place true bytes → Took false opcode (rewriting [] here []) (rewriting [] after []) op → prefix_byte op.prefix ≡ prefix → op.number ≡ number → opcode_kind op ≡ None → IsUnknownOpcode prefix number bytes
 unknown op prefix number bytes here after is reads before numbered none = record {
   op = op;
   after = after;
-  is_read = subst (λ (p : Place). opcode.at p ≡ Some (op, after)) is reads;
+  is_read = subst (λ (p : Place). opcode.at p ≡ Some (op, after)) is reads.read;
   prefix_is = before;
   number_is = numbered;
   unknown = none;

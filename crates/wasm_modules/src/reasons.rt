@@ -13,7 +13,7 @@ use wasm_codec::reader::DecodeError;
 use wasm_codec::reader::cursor::{Cursor, Fault};
 use wasm_codec::reader::malformed::{Construct, Reason};
 use wasm_codec::reader::refusal::Refusal;
-use wasm_instructions::reader::read_opcode;
+use wasm_instructions::reader::take_opcode;
 use wasm_instructions::table::Prefix;
 
 /// Returns the same result, with a reason for a refusal that is true of the bytes.
@@ -281,7 +281,7 @@ fn is_unknown_opcode(prefix: Option<u8>, number: u32, bytes: &[u8]) -> bool
     ensures { result ≡ true → IsUnknownOpcode prefix number bytes.now }
 {
     let mut cursor = Cursor::new(bytes);
-    let Ok(op) = read_opcode(&mut cursor) else {
+    let Ok(op) = take_opcode(&mut cursor) else {
         return false;
     };
     if op.number != number || !is_prefix_byte(prefix, op.prefix) {

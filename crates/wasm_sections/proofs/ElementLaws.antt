@@ -1,12 +1,12 @@
 -- The laws of element segments, and what is read, rewritten and written of them.
-use Rattle.std.proofs.Common.{◌≡◌, None, ℕ, zero, suc, ◌<◌, ◌≤◌, Bool, true, false, eqb, cond, ◌&&◌, List, ◌++◌, length, length-append, refl, sym, ap, subst, ◌∙◌, lit≤, arith, Option, Some, ◌+◌, ◌%◌, ◌/◌, nat_lt, if◌then◌else◌, [], ◌∷◌, take, drop, Ok, append_assoc, length-take-le, length-drop, ◌^◌}
+use Rattle.std.proofs.Common.{◌≡◌, None, ℕ, zero, suc, ◌<◌, ◌≤◌, Bool, true, false, eqb, cond, ◌&&◌, List, ◌++◌, length, length-append, refl, sym, ap, subst, ◌∙◌, lit≤, arith, Option, Some, ◌+◌, ◌%◌, ◌/◌, nat_lt, if◌then◌else◌, [], ◌∷◌, take, drop, append_assoc, length-take-le, length-drop, ◌^◌}
 use Rattle.std.proofs.lemmas.Bool.{eqb-true}
 use Rattle.std.proofs.lemmas.List.{take_at, drop_at, set_at}
 use Rattle.std.specs.Prelude.{is_some}
 use Rattle.std.specs.List.{All}
 use Rattle.wasm_codec.specs.formats.Combinators.{◌⊗◌, u32, items, Format}
-use Rattle.wasm_codec.specs.formats.Grammar.{TakesBytes, IsBytes}
-use Rattle.wasm_codec.specs.Places.{Place, Reader, u32_at, place, Reads}
+use Rattle.wasm_codec.specs.formats.Grammar.{TakesBytes}
+use Rattle.wasm_codec.specs.Places.{Place, Reader, u32_at, place}
 use Rattle.wasm_codec.specs.Lawful.{IsLawful}
 use Rattle.wasm_codec.specs.Reading.{◌>>=◌}
 use Rattle.wasm_codec.specs.Leb128.{unsigned_leb128, digits_of, complemented}
@@ -15,7 +15,6 @@ use Rattle.wasm_codec.specs.formats.Numbers.{EncodesU32}
 use Rattle.wasm_codec.specs.Encoding.{IsCount, IsShortest}
 use Rattle.wasm_codec.proofs.FormatLaws.{takes_bytes, Lawful-never, Lawful-after, Lawful-made, Lawful-both, Lawful-u32, Lawful-items}
 use Rattle.wasm_codec.proofs.RewriterLaws.{is_given, is_after}
-use Rattle.wasm_codec.proofs.PlaceLists.{plain_some}
 use Rattle.wasm_codec.proofs.NumberLaws.{written}
 use Rattle.wasm_types.specs.declared.types.heap.AbstractHeapType.{AbstractHeapType}
 use Rattle.wasm_types.specs.declared.types.heap.HeapType.{HeapType}
@@ -213,19 +212,6 @@ no_elements n p q mode first none = sym (by_parts n p) ∙ rw (first, none) refl
 pub expr_takes : TakesBytes expr.Encodes
 unfolding expr
 expr_takes = takes_bytes expr_is_lawful refl
-
--- ---- a type that was read before it was rewritten
-
-given_is : {V : Type 0} (F : Format V) (p q : Rewriting) (v : V) → F.at p.place ≡ Some (v, q.place) → q.done ≡ p.done ++ F.bytes v → q.rest ≡ p.rest → rewritten_at F p ≡ Some (v, q)
-given_is F p q v read written rest = rw (read, ← written, ← rest) refl
-
-pub told_type : (old new : Rewriting) (here cursor : Place) (ty : RefType) → IsBytes old.place.left → here ≡ place true old.place.left → Reads ref_type.at here cursor (Ok ty) → rewriting_after ref_type old ≡ Some new → rewritten_at ref_type old ≡ Some (ty, new)
-told_type old new here cursor ty fits is read e =
-    let one = is_after ref_type old new e in
-    let plain_old = plain_some Lawful-ref-type old.place one.value new.place fits one.given.is_read in
-    let plain_true = plain_some Lawful-ref-type (place true old.place.left) ty cursor fits (ap ref_type.at (sym is) ∙ read) in
-    let same : one.value ≡ ty = ap (λ (o : Option (RefType × List ℕ)). elim o [ Some x ↦ x.0 | None ↦ ty ]) (sym plain_old ∙ plain_true) in
-    given_is ref_type old new ty (one.given.is_read ∙ ap (λ (t : RefType). Some (t, new.place)) same) (one.given.written ∙ ap (λ (t : RefType). old.done ++ ref_type.bytes t) same) one.given.rest
 
 -- ---- forms that name table 0, and are written without what they needn't tell
 

@@ -1,7 +1,7 @@
 //! Element sections (Core 3.0, Element Section).
 ghost use Rattle.std.specs.Prelude.{◌≡◌, ◌<◌, true, List, length, refl, ◌++◌, ◌⊎◌, OnOk, OnErr, IfErr, take};
 ghost use Rattle.wasm_codec.specs.Places.{Reads};
-ghost use Rattle.wasm_codec.specs.Rewriter.{Rewrites, Gives};
+ghost use Rattle.wasm_codec.specs.Rewriter.{Rewrites};
 ghost use Rattle.wasm_codec.specs.formats.Combinators.{◌⊗◌, made, items};
 ghost use Rattle.wasm_sections.specs.declared.elements.Element.{Element};
 ghost use Rattle.wasm_sections.specs.ElementForms.{RewritesForm, place_at, mode_at, elements_at};
@@ -40,10 +40,7 @@ use wasm_lists::list::Items;
 use wasm_lists::readable::Readable;
 use wasm_lists::reading::read_list;
 use wasm_lists::rewriting::{Rewritable, rewrite_list};
-use wasm_types::encode::put_ref_type;
-use wasm_types::normaliser::rewrite_ref_type;
-use wasm_types::reader::read_ref_type;
-use wasm_types::types::{AbstractHeapType, HeapType, RefType};
+use wasm_types::types::{AbstractHeapType, HeapType, RefType, put_ref_type, take_ref_type};
 
 /// Mode of an element segment.
 #[derive(Debug, PartialEq, Eq, Drop)]
@@ -154,7 +151,7 @@ fn read_expressions(alloc: Global, cursor: &mut Cursor<'_>) -> Result<Items<Item
 fn read_typed(alloc: Global, cursor: &mut Cursor<'_>) -> Result<Elements, Fault>
     ensures reads { Reads (made typed_of typed_part (ref_type ⊗ items expr)).at cursor.old cursor.new result }
 {
-    let ty = read_ref_type(cursor)?;
+    let ty = take_ref_type(cursor)?;
     let expressions = read_expressions(alloc, cursor)?;
     Ok(Elements::Expressions(ty, expressions))
 }
@@ -326,22 +323,12 @@ fn rewrite_functions(rewriter: &mut Rewriter) -> Result<(), Fault>
     rewrite_list::<u32>(rewriter)
 }
 
-/// Rewrites a reference type to its minimal encoding and returns the type.
-fn rewrite_told_type(rewriter: &mut Rewriter) -> Result<RefType, Fault>
-    ensures gives { Gives ref_type rewriter.old rewriter.new result }
-{
-    let mut cursor = rewriter.cursor();
-    let ty = read_ref_type(&mut cursor)?;
-    rewrite_ref_type(rewriter)?;
-    Ok(ty)
-}
-
 /// Rewrites a reference type and a list of expressions to their minimal encodings.
 #[tactic(auto, using(std::proofs::Common::append_assoc))]
 fn rewrite_typed(rewriter: &mut Rewriter) -> Result<(), Fault>
     ensures rewrites { Rewrites (ref_type ⊗ items expr) rewriter.old rewriter.new result }
 {
-    rewrite_ref_type(rewriter)?;
+    take_ref_type(rewriter)?;
     rewrite_list::<Expression>(rewriter)
 }
 
@@ -373,7 +360,7 @@ fn rewrite_expressions_of_table(rewriter: &mut Rewriter, mark: usize) -> Result<
     let table = rewriter.u32()?;
     rewrite_expr(rewriter)?;
     let type_mark = rewriter.written_len();
-    let ty = rewrite_told_type(rewriter)?;
+    let ty = take_ref_type(rewriter)?;
     rewrite_list::<Expression>(rewriter)?;
     if table == 0 && is_funcref(ty) {
         rewriter.cut_out(type_mark, 1);

@@ -2,15 +2,13 @@
 ghost use Rattle.std.specs.Prelude.{◌≡◌, refl, IfErr, ◌++◌, OnOk, length, take, Some, IfSome};
 ghost use Rattle.wasm_codec.specs.Scanning.{Scans};
 ghost use Rattle.wasm_codec.specs.declared.rewriter.scan.Scanned.TheVariants.{Shortest};
-ghost use Rattle.wasm_codec.specs.Places.{Reads};
+ghost use Rattle.wasm_codec.specs.Inputs.{Passes};
 ghost use Rattle.wasm_codec.specs.Rewriter.{Rewrites};
 ghost use Rattle.wasm_codec.specs.Outcomes.{IsMalformed};
 ghost use Rattle.std.proofs.lemmas.List.{map_push};
 ghost use Rattle.wasm_codec.specs.formats.Grammar.{TakesBytes};
 ghost use Rattle.wasm_codec.specs.Lawful.{IsLawful};
-ghost use Rattle.wasm_codec.specs.Reading.{map_ok};
 ghost use Rattle.wasm_sections.specs.formats.EntryParts.{ExportParts, export_parts, all_export_parts};
-ghost use Rattle.wasm_entities.specs.formats.Externals.{export_kind};
 ghost use Rattle.wasm_sections.specs.formats.Entries.{export_entry, export_of};
 ghost use Rattle.wasm_codec.specs.Encoding.{IsCount, IsCountRefusal, IsShortest, OnlyTooLong};
 ghost use Rattle.wasm_entities.specs.formats.Names.{name};
@@ -22,10 +20,9 @@ use std::alloc::{Allocator, Global};
 use wasm_codec::encode::leb128::put_u32;
 use wasm_codec::encode::{EncodeError, keep_or_undo};
 use wasm_codec::reader::cursor::{Cursor, Fault};
-use wasm_codec::reader::malformed::Construct;
 use wasm_codec::rewriter::{Rewriter, Scanned, scan_u32};
-use wasm_entities::names::{append_name, read_name, rewrite_name, scan_name};
-use wasm_entities::types::{ExportKind, kind_byte};
+use wasm_entities::names::{NameInput, append_name, scan_name};
+use wasm_entities::types::{ExportKind, kind_byte, take_export_kind};
 use wasm_lists::encode::Encode;
 use wasm_lists::readable::Readable;
 
@@ -40,31 +37,16 @@ pub struct Export<'a> {
     pub index: u32,
 }
 
-/// Reads the kind of an export.
-#[tactic(auto, unfolding(wasm_entities::specs::formats::Externals::export_kind))]
-fn read_export_kind(cursor: &mut Cursor<'_>) -> Result<ExportKind, Fault>
-    ensures reads { Reads export_kind.at cursor.old cursor.new result }
-    ensures err { IfErr result IsMalformed }
-{
-    match cursor.byte_of(Construct::ExportKind)? {
-        0x00 => Ok(ExportKind::Func),
-        0x01 => Ok(ExportKind::Table),
-        0x02 => Ok(ExportKind::Memory),
-        0x03 => Ok(ExportKind::Global),
-        0x04 => Ok(ExportKind::Tag),
-        byte => Err(Fault::Malformed(cursor.invalid(Construct::ExportKind, byte))),
-    }
-}
-
-/// Reads an export.
+/// Takes an export (Core 3.0, Export Section).
+#[inline(never)]
 #[tactic(auto, unfolding(crate::specs::formats::Entries::export_entry))]
-fn read_export<'a>(cursor: &mut Cursor<'a>) -> Result<Export<'a>, Fault>
-    ensures reads { Reads export_entry.at cursor.old cursor.new (map_ok export_parts result) }
+fn take_export<'a, I: NameInput<'a>>(input: &mut I) -> Result<Export<'a>, Fault>
+    ensures passes { Passes I.writes export_parts export_entry (I.state input.old) (I.state input.new) result }
     ensures err { IfErr result IsMalformed }
 {
-    let name = read_name(cursor)?;
-    let kind = read_export_kind(cursor)?;
-    let index = cursor.u32()?;
+    let name = input.name()?;
+    let kind = take_export_kind(input)?;
+    let index = input.u32()?;
     Ok(Export { name, kind, index })
 }
 
@@ -87,7 +69,7 @@ impl<'a> Readable<'a> for Export<'a> {
     {}
 
     fn read(_alloc: Global, cursor: &mut Cursor<'a>) -> Result<Export<'a>, Fault> {
-        read_export(cursor)
+        take_export(cursor)
     }
 
     #[inline(always)]
@@ -99,7 +81,8 @@ impl<'a> Readable<'a> for Export<'a> {
             rewriter.rewrite_scanned(Scanned::Shortest(count));
             return Ok(());
         }
-        rewrite_export(rewriter)
+        take_export(rewriter)?;
+        Ok(())
     }
 }
 
@@ -120,33 +103,6 @@ fn scan_export(bytes: &[u8]) -> Option<usize>
         Some(Scanned::Shortest(count)) => Some(name + 1 + count),
         _ => None,
     }
-}
-
-/// Passes the kind of an export, which has one encoding.
-#[tactic(auto, unfolding(wasm_entities::specs::formats::Externals::export_kind))]
-fn rewrite_export_kind(rewriter: &mut Rewriter) -> Result<(), Fault>
-    ensures rewrites { Rewrites export_kind rewriter.old rewriter.new result }
-{
-    match rewriter.byte_of(Construct::ExportKind)? {
-        0x00 => Ok(()),
-        0x01 => Ok(()),
-        0x02 => Ok(()),
-        0x03 => Ok(()),
-        0x04 => Ok(()),
-        byte => Err(Fault::Malformed(rewriter.invalid(Construct::ExportKind, byte))),
-    }
-}
-
-/// Rewrites an export to its minimal encoding.
-#[inline(never)]
-#[tactic(auto, using(std::proofs::Common::append_assoc), unfolding(crate::specs::formats::Entries::export_entry))]
-fn rewrite_export(rewriter: &mut Rewriter) -> Result<(), Fault>
-    ensures rewrites { Rewrites export_entry rewriter.old rewriter.new result }
-{
-    rewrite_name(rewriter)?;
-    rewrite_export_kind(rewriter)?;
-    rewriter.u32()?;
-    Ok(())
 }
 
 /// Appends an export. On error a part of it may remain.

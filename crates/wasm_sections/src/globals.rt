@@ -2,7 +2,7 @@
 ghost use Rattle.std.specs.Prelude.{refl, ◌≡◌, ◌++◌, OnOk, IfErr, length, take, Some, IfSome};
 ghost use Rattle.wasm_codec.specs.Scanning.{Scans};
 ghost use Rattle.wasm_codec.specs.declared.rewriter.scan.Scanned.TheVariants.{Shortest};
-ghost use Rattle.wasm_codec.specs.Places.{Reads};
+ghost use Rattle.wasm_codec.specs.Inputs.{Passes};
 ghost use Rattle.wasm_sections.specs.declared.globals.Global.{Global};
 ghost use Rattle.wasm_sections.specs.formats.Entries.{global_entry, global_of};
 ghost use Rattle.wasm_codec.specs.Lawful.{IsLawful};
@@ -19,10 +19,8 @@ use wasm_codec::encode::{EncodeError, keep_or_undo};
 use wasm_codec::reader::cursor::{Cursor, Fault};
 use wasm_codec::rewriter::{Rewriter, Scanned};
 use wasm_entities::const_expr::ConstExpr;
-use wasm_entities::expressions::{encode_expr, read_expr, rewrite_expr, scan_expr};
-use wasm_entities::types::{
-    GlobalType, put_global_type, read_global_type, rewrite_global_type, scan_global_type,
-};
+use wasm_entities::expressions::{ExprInput, encode_expr, scan_expr};
+use wasm_entities::types::{GlobalType, put_global_type, scan_global_type, take_global_type};
 use wasm_instructions::table::Call;
 use wasm_lists::encode::Encode;
 use wasm_lists::list::Items;
@@ -37,13 +35,14 @@ pub struct Global {
     pub init: Items<Call>,
 }
 
-/// Reads a global.
+/// Takes a global (Core 3.0, Global Section).
+#[inline(never)]
 #[tactic(auto, unfolding(crate::specs::formats::Entries::global_entry))]
-fn read_global(alloc: Heap, cursor: &mut Cursor<'_>) -> Result<Global, Fault>
-    ensures reads { Reads global_entry.at cursor.old cursor.new result }
+fn take_global<I: ExprInput>(alloc: Heap, input: &mut I) -> Result<Global, Fault>
+    ensures passes { Passes I.writes (λ x. x) global_entry (I.state input.old) (I.state input.new) result }
 {
-    let ty = read_global_type(cursor)?;
-    let init = read_expr(alloc, cursor)?;
+    let ty = take_global_type(input)?;
+    let init = input.expr(alloc)?;
     Ok(Global { ty, init })
 }
 
@@ -66,7 +65,7 @@ impl<'a> Readable<'a> for Global {
     {}
 
     fn read(alloc: Heap, cursor: &mut Cursor<'a>) -> Result<Global, Fault> {
-        read_global(alloc, cursor)
+        take_global(alloc, cursor)
     }
 
     #[inline(always)]
@@ -78,7 +77,9 @@ impl<'a> Readable<'a> for Global {
             rewriter.rewrite_scanned(Scanned::Shortest(count));
             return Ok(());
         }
-        rewrite_global(rewriter)
+        let alloc = rewriter.allocator();
+        take_global(alloc, rewriter)?;
+        Ok(())
     }
 }
 
@@ -91,16 +92,6 @@ fn scan_global(bytes: &[u8]) -> Option<usize>
     let ty = scan_global_type(bytes)?;
     let init = scan_expr(&bytes[ty..])?;
     Some(ty + init)
-}
-
-/// Rewrites a global to its minimal encoding.
-#[inline(never)]
-#[tactic(auto, using(std::proofs::Common::append_assoc), unfolding(crate::specs::formats::Entries::global_entry))]
-fn rewrite_global(rewriter: &mut Rewriter) -> Result<(), Fault>
-    ensures rewrites { Rewrites global_entry rewriter.old rewriter.new result }
-{
-    rewrite_global_type(rewriter)?;
-    rewrite_expr(rewriter)
 }
 
 /// Appends a global. On error a part of it may remain.

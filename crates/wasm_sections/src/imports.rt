@@ -2,13 +2,12 @@
 ghost use Rattle.std.specs.Prelude.{◌≡◌, refl, IfErr, ◌++◌, OnOk, length, take, ◌⊎◌, Some, IfSome};
 ghost use Rattle.wasm_codec.specs.Scanning.{Scans};
 ghost use Rattle.wasm_codec.specs.declared.rewriter.scan.Scanned.TheVariants.{Shortest};
-ghost use Rattle.wasm_codec.specs.Places.{Reads};
+ghost use Rattle.wasm_codec.specs.Inputs.{Passes};
 ghost use Rattle.wasm_codec.specs.Rewriter.{Rewrites};
 ghost use Rattle.wasm_codec.specs.Outcomes.{IsMalformed};
 ghost use Rattle.std.proofs.lemmas.List.{map_push};
 ghost use Rattle.wasm_codec.specs.formats.Grammar.{TakesBytes};
 ghost use Rattle.wasm_codec.specs.Lawful.{IsLawful};
-ghost use Rattle.wasm_codec.specs.Reading.{map_ok};
 ghost use Rattle.wasm_sections.specs.formats.EntryParts.{ImportParts, import_parts, all_import_parts};
 ghost use Rattle.wasm_sections.specs.formats.Entries.{import_entry, import_of};
 ghost use Rattle.wasm_codec.specs.Encoding.{IsCount, IsRefusal, IsShortest, OnlyTooLong};
@@ -20,10 +19,9 @@ use std::alloc::{Allocator, Global};
 use wasm_codec::encode::{EncodeError, keep_or_undo};
 use wasm_codec::reader::cursor::{Cursor, Fault};
 use wasm_codec::rewriter::{Rewriter, Scanned};
-use wasm_entities::names::{append_name, read_name, read_short_name, rewrite_name, scan_name};
+use wasm_entities::names::{NameInput, append_name, read_short_name, scan_name};
 use wasm_entities::types::{
-    EntityType, put_entity_type, read_entity_type, read_frequent_entity_type, rewrite_entity_type,
-    scan_entity_type,
+    EntityType, put_entity_type, read_frequent_entity_type, scan_entity_type, take_entity_type,
 };
 use wasm_lists::encode::Encode;
 use wasm_lists::readable::Readable;
@@ -52,15 +50,16 @@ fn read_short_import<'a>(cursor: &mut Cursor<'a>) -> Option<Import<'a>>
     Some(Import { module, field, ty })
 }
 
-/// Reads an import.
+/// Takes an import (Core 3.0, Import Section).
+#[inline(never)]
 #[tactic(auto, unfolding(crate::specs::formats::Entries::import_entry))]
-fn read_import<'a>(cursor: &mut Cursor<'a>) -> Result<Import<'a>, Fault>
-    ensures reads { Reads import_entry.at cursor.old cursor.new (map_ok import_parts result) }
+fn take_import<'a, I: NameInput<'a>>(input: &mut I) -> Result<Import<'a>, Fault>
+    ensures passes { Passes I.writes import_parts import_entry (I.state input.old) (I.state input.new) result }
     ensures err { IfErr result IsMalformed }
 {
-    let module = read_name(cursor)?;
-    let field = read_name(cursor)?;
-    let ty = read_entity_type(cursor)?;
+    let module = input.name()?;
+    let field = input.name()?;
+    let ty = take_entity_type(input)?;
     Ok(Import { module, field, ty })
 }
 
@@ -88,7 +87,7 @@ impl<'a> Readable<'a> for Import<'a> {
             return Ok(import);
         }
         *cursor = start;
-        read_import(cursor)
+        take_import(cursor)
     }
 
     #[inline(always)]
@@ -100,7 +99,8 @@ impl<'a> Readable<'a> for Import<'a> {
             rewriter.rewrite_scanned(Scanned::Shortest(count));
             return Ok(());
         }
-        rewrite_import(rewriter)
+        take_import(rewriter)?;
+        Ok(())
     }
 }
 
@@ -115,17 +115,6 @@ fn scan_import(bytes: &[u8]) -> Option<usize>
     let names = module_name + field;
     let ty = scan_entity_type(&bytes[names..])?;
     Some(names + ty)
-}
-
-/// Rewrites an import to its minimal encoding.
-#[inline(never)]
-#[tactic(auto, using(std::proofs::Common::append_assoc), unfolding(crate::specs::formats::Entries::import_entry))]
-fn rewrite_import(rewriter: &mut Rewriter) -> Result<(), Fault>
-    ensures rewrites { Rewrites import_entry rewriter.old rewriter.new result }
-{
-    rewrite_name(rewriter)?;
-    rewrite_name(rewriter)?;
-    rewrite_entity_type(rewriter)
 }
 
 /// Appends an import. On error a part of it may remain.

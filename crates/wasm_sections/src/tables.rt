@@ -1,7 +1,6 @@
 //! Table sections (Core 3.0, Table Section).
 ghost use Rattle.std.specs.Prelude.{refl, ◌≡◌, ◌++◌, OnOk, IfErr, length, take};
-ghost use Rattle.wasm_codec.specs.Places.{Reads};
-ghost use Rattle.wasm_codec.specs.declared.reader.cursor.Fault.TheVariants.{Malformed};
+ghost use Rattle.wasm_codec.specs.Inputs.{Passes};
 ghost use Rattle.wasm_sections.specs.declared.tables.Table.{Table};
 ghost use Rattle.wasm_sections.specs.formats.Entries.{table_entry, filled_of, unfilled};
 ghost use Rattle.wasm_codec.specs.Lawful.{IsLawful};
@@ -19,8 +18,8 @@ use wasm_codec::reader::cursor::{Cursor, Fault};
 use wasm_codec::reader::malformed::Construct;
 use wasm_codec::rewriter::Rewriter;
 use wasm_entities::const_expr::ConstExpr;
-use wasm_entities::expressions::{encode_expr, read_expr, rewrite_expr};
-use wasm_entities::limits::{TableType, put_table_type, read_table_type, rewrite_table_type};
+use wasm_entities::expressions::{ExprInput, encode_expr};
+use wasm_entities::limits::{TableType, put_table_type, take_table_type};
 use wasm_instructions::table::Call;
 use wasm_lists::encode::Encode;
 use wasm_lists::list::Items;
@@ -35,22 +34,22 @@ pub struct Table {
     pub init: Option<Items<Call>>,
 }
 
-/// Reads a table.
-#[tactic(auto, unfolding(crate::specs::formats::Entries::table_entry))]
-fn read_table(alloc: Global, cursor: &mut Cursor<'_>) -> Result<Table, Fault>
-    ensures reads { Reads table_entry.at cursor.old cursor.new result }
+/// Takes a table (Core 3.0, Table Section).
+#[tactic(auto, using(std::proofs::Common::append_assoc), unfolding(crate::specs::formats::Entries::table_entry))]
+fn take_table<I: ExprInput>(alloc: Global, input: &mut I) -> Result<Table, Fault>
+    ensures passes { Passes I.writes (λ x. x) table_entry (I.state input.old) (I.state input.new) result }
 {
-    if cursor.peek(Construct::Table)? != 0x40 {
-        let ty = read_table_type(cursor)?;
+    if input.peek(Construct::Table)? != 0x40 {
+        let ty = take_table_type(input)?;
         return Ok(Table { ty, init: None });
     }
-    cursor.byte()?;
-    let byte = cursor.byte_of(Construct::Table)?;
+    input.byte_of(Construct::Table)?;
+    let byte = input.byte_of(Construct::Table)?;
     if byte != 0x00 {
-        return Err(Fault::Malformed(cursor.invalid(Construct::Table, byte)));
+        return Err(Fault::Malformed(input.invalid(Construct::Table, byte)));
     }
-    let ty = read_table_type(cursor)?;
-    let init = read_expr(alloc, cursor)?;
+    let ty = take_table_type(input)?;
+    let init = input.expr(alloc)?;
     Ok(Table {
         ty,
         init: Some(init),
@@ -76,23 +75,15 @@ impl<'a> Readable<'a> for Table {
     {}
 
     fn read(alloc: Global, cursor: &mut Cursor<'a>) -> Result<Table, Fault> {
-        read_table(alloc, cursor)
+        take_table(alloc, cursor)
     }
 
-    #[tactic(auto, using(std::proofs::Common::append_assoc), unfolding(crate::specs::formats::Entries::table_entry))]
     fn rewrite(rewriter: &mut Rewriter) -> Result<(), Fault>
         ensures rewrites { Rewrites table_entry rewriter.old rewriter.new result }
     {
-        if rewriter.peek(Construct::Table)? != 0x40 {
-            return rewrite_table_type(rewriter);
-        }
-        rewriter.byte()?;
-        let byte = rewriter.byte_of(Construct::Table)?;
-        if byte != 0x00 {
-            return Err(Fault::Malformed(rewriter.invalid(Construct::Table, byte)));
-        }
-        rewrite_table_type(rewriter)?;
-        rewrite_expr(rewriter)
+        let alloc = rewriter.allocator();
+        take_table(alloc, rewriter)?;
+        Ok(())
     }
 }
 

@@ -13,7 +13,7 @@ use Rattle.wasm_types.specs.declared.types.heap.AbstractHeapType.TheVariants as 
 use Rattle.wasm_types.specs.declared.types.heap.HeapType.TheVariants.{Abstract}
 use Rattle.wasm_types.specs.declared.types.value.ValType.{ValType}
 use Rattle.wasm_types.specs.declared.types.value.ValType.TheVariants as values
-use Rattle.wasm_types.specs.declared.types.composite.TypeEntry.TheVariants as entries
+use Rattle.wasm_types.specs.declared.types.recursive.TypeEntry.TheVariants as entries
 use Rattle.wasm_types.specs.formats.Types.{abstract_type, reference, ref_type, val_type, result_type, func_of, inner_type, composite_of, composite_type, sub_of, sub_type, recursive_type}
 
 -- ---- bytes that are a value type each

@@ -10,9 +10,9 @@ use Rattle.wasm_types.specs.declared.types.value.ValType.TheVariants as values
 use Rattle.wasm_types.specs.declared.types.value.StorageType.{StorageType}
 use Rattle.wasm_types.specs.declared.types.value.StorageType.TheVariants as storages
 use Rattle.wasm_types.specs.declared.types.composite.CompositeType.{CompositeType}
-use Rattle.wasm_types.specs.declared.types.composite.SubType.{SubType}
-use Rattle.wasm_types.specs.declared.types.composite.TypeEntry.{TypeEntry}
-use Rattle.wasm_types.specs.declared.types.composite.TypeEntry.TheVariants as entries
+use Rattle.wasm_types.specs.declared.types.recursive.SubType.{SubType}
+use Rattle.wasm_types.specs.declared.types.recursive.TypeEntry.{TypeEntry}
+use Rattle.wasm_types.specs.declared.types.recursive.TypeEntry.TheVariants as entries
 use Rattle.wasm_codec.specs.formats.Grammar.{Mapped}
 use Rattle.wasm_codec.specs.formats.Grammar.{TakesBytes}
 use Rattle.wasm_codec.specs.formats.Combinators.{Choice, ◌⊗◌, made, or_else, after, flagged, u32, items}

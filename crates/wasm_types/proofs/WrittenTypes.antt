@@ -19,8 +19,8 @@ use Rattle.wasm_types.specs.declared.types.composite.ContType.{ContType}
 use Rattle.wasm_types.specs.declared.types.composite.CompositeInnerType.{CompositeInnerType}
 use Rattle.wasm_types.specs.declared.types.composite.CompositeInnerType.TheVariants as inner
 use Rattle.wasm_types.specs.declared.types.composite.CompositeType.{CompositeType}
-use Rattle.wasm_types.specs.declared.types.composite.SubType.{SubType}
-use Rattle.wasm_types.specs.declared.types.composite.TypeEntry.TheVariants as entries
+use Rattle.wasm_types.specs.declared.types.recursive.SubType.{SubType}
+use Rattle.wasm_types.specs.declared.types.recursive.TypeEntry.TheVariants as entries
 use Rattle.wasm_codec.specs.Encoding.{CanEncodeList, IsCount, IsShortest}
 use Rattle.wasm_codec.specs.Lawful.{IsLawful}
 use Rattle.wasm_codec.specs.formats.Numbers.{EncodesU32}

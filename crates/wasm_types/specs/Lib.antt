@@ -3,4 +3,5 @@ pub mod Types
 pub mod formats
 pub mod TypeCounts
 pub mod TypeRanges
+pub mod TypeInputs
 pub mod PrefixFree

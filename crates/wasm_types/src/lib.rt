@@ -2,7 +2,5 @@
 //! rewrites them.
 #![tactic(auto)]
 
-pub mod encode;
-pub mod normaliser;
-pub mod reader;
+pub mod type_sections;
 pub mod types;

@@ -1,14 +1,20 @@
 //! Heap, reference, value, storage and composite types, subtypes, and entries of a type section (Core 3.0, Types and
-//! Type Section).
+//! Type Section). Each file has types, the functions that take them from an input, and those that write them.
 
 mod composite;
 mod copies;
+mod function;
 mod heap;
+mod items;
+mod recursive;
 mod value;
 
 pub use composite::{
     ArrayType, CompositeInnerType, CompositeType, ContType, FieldType, FuncType, StructType,
-    SubType, TypeEntry,
 };
-pub use heap::{AbstractHeapType, HeapType, RefType};
-pub use value::{StorageType, ValType};
+pub use function::is_whole_type;
+pub use heap::{
+    AbstractHeapType, HeapType, RefType, put_heap_type, put_ref_type, take_heap_type, take_ref_type,
+};
+pub use recursive::{SubType, TypeEntry};
+pub use value::{StorageType, ValType, put_val_type, take_val_type};

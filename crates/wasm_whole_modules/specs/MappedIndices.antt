@@ -12,9 +12,9 @@ use Rattle.wasm_types.specs.declared.types.composite.FuncType.{FuncType}
 use Rattle.wasm_types.specs.declared.types.composite.CompositeInnerType.{CompositeInnerType}
 use Rattle.wasm_types.specs.declared.types.composite.CompositeInnerType.TheVariants as inner
 use Rattle.wasm_types.specs.declared.types.composite.CompositeType.{CompositeType}
-use Rattle.wasm_types.specs.declared.types.composite.SubType.{SubType}
-use Rattle.wasm_types.specs.declared.types.composite.TypeEntry.{TypeEntry}
-use Rattle.wasm_types.specs.declared.types.composite.TypeEntry.TheVariants as entries
+use Rattle.wasm_types.specs.declared.types.recursive.SubType.{SubType}
+use Rattle.wasm_types.specs.declared.types.recursive.TypeEntry.{TypeEntry}
+use Rattle.wasm_types.specs.declared.types.recursive.TypeEntry.TheVariants as entries
 use Rattle.wasm_instructions.specs.declared.operands.control.BlockType.{BlockType}
 use Rattle.wasm_instructions.specs.declared.operands.control.BlockType.TheVariants as blocks
 use Rattle.wasm_instructions.specs.declared.operands.control.Catch.{Catch}

@@ -6,7 +6,7 @@ ghost use Rattle.wasmnorm.specs.Modes.{IsEncoded, NormalForm, IsWholePrefix};
 use wasm_codec::reader::ReadError;
 use wasm_instructions::normaliser::rewrite_instructions;
 use wasm_modules::normaliser::rewrite_module;
-use wasm_types::normaliser::rewrite_type_section;
+use wasm_types::type_sections::rewrite_type_section;
 
 /// The form of the input.
 #[derive(Clone, Copy, Debug, PartialEq, Eq)]

@@ -14,8 +14,7 @@ use crate::operands::{Catch, Handle};
 use std::alloc::{AllocError, Allocator};
 use wasm_codec::encode::leb128::put_u32;
 use wasm_codec::encode::{EncodeError, mend_count};
-use wasm_types::encode::put_val_type;
-use wasm_types::types::ValType;
+use wasm_types::types::{ValType, put_val_type};
 
 /// The bytes to reserve for an item.
 const ITEM_ROOM: usize = 11;

@@ -20,8 +20,7 @@ use crate::table::Opcode;
 use std::alloc::{AllocError, Allocator};
 use wasm_codec::encode::leb128::put_u32;
 use wasm_codec::encode::{EncodeError, keep_or_undo};
-use wasm_types::encode::put_val_type;
-use wasm_types::types::ValType;
+use wasm_types::types::{ValType, put_val_type};
 
 /// Appends an opcode, the operands before a list, the list, and the index after it, if there is one. Appends all or
 /// nothing.

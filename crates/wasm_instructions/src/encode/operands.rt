@@ -15,7 +15,7 @@ use std::alloc::Allocator;
 use wasm_codec::encode::EncodeError;
 use wasm_codec::encode::leb128::{put_index, put_u32, put_u64};
 use wasm_lists::encode::Encode;
-use wasm_types::encode::put_val_type;
+use wasm_types::types::put_val_type;
 
 /// Writes a block type in 1 to 7 bytes (Core 3.0, Control Instructions).
 #[inline(always)]

@@ -1,8 +1,23 @@
-//! Block types and the clauses of `try_table` (Core 3.0, Control Instructions) and of `resume`.
-ghost use Rattle.std.specs.Prelude.{◌≡◌};
+//! Block types, the clauses of `try_table` (Core 3.0, Control Instructions) and of `resume`, and the flags of branches on
+//! casts.
+ghost use Rattle.std.specs.Prelude.{◌≡◌, refl};
+ghost use Rattle.wasm_codec.specs.Inputs.{Takes};
+ghost use Rattle.wasm_codec.specs.Lawful.{IsLawful};
+ghost use Rattle.wasm_codec.specs.Rewriter.{Rewrites};
+ghost use Rattle.wasm_codec.specs.formats.Grammar.{TakesBytes};
 ghost use Rattle.wasm_instructions.specs.declared.operands.control.BlockType.TheVariants as block_types;
+ghost use Rattle.wasm_instructions.specs.declared.operands.control.Catch.{Catch};
+ghost use Rattle.wasm_instructions.specs.declared.operands.control.Handle.{Handle};
+ghost use Rattle.wasm_instructions.specs.formats.Operands.{block_type, castop, catch_clause, handle_clause};
 
-use wasm_types::types::ValType;
+use std::alloc::Global;
+use wasm_codec::input::Input;
+use wasm_codec::reader::cursor::{Cursor, Fault};
+use wasm_codec::reader::malformed::Construct;
+use wasm_codec::rewriter::Rewriter;
+use wasm_lists::readable::Readable;
+use wasm_lists::rewriting::Rewritable;
+use wasm_types::types::{ValType, take_val_type};
 
 /// The type of a block (Core 3.0, Control Instructions).
 ///
@@ -79,4 +94,169 @@ pub enum Handle {
         /// Index of the tag.
         tag: u32,
     },
+}
+
+/// Takes a block type (Core 3.0, Control Instructions).
+#[tactic(auto, unfolding(crate::specs::formats::Operands::block_type))]
+pub fn take_block_type<I: Input>(input: &mut I) -> Result<BlockType, Fault>
+    ensures takes { Takes I.writes block_type (I.state input.old) (I.state input.new) result }
+{
+    let first = input.peek(Construct::BlockType)?;
+    if first == 0x40 {
+        input.byte_of(Construct::BlockType)?;
+        return Ok(BlockType::Empty);
+    }
+    if !(0x40..0x80).contains(&first) {
+        return Ok(BlockType::FunctionType(input.index()?));
+    }
+    Ok(BlockType::Result(take_val_type(input)?))
+}
+
+/// Takes the flags of a branch on a cast: whether the types before and after it are nullable.
+#[tactic(auto, unfolding(crate::specs::formats::Operands::castop))]
+pub(crate) fn take_castop<I: Input>(input: &mut I) -> Result<(bool, bool), Fault>
+    ensures takes { Takes I.writes castop (I.state input.old) (I.state input.new) result }
+{
+    match input.byte_of(Construct::CastFlags)? {
+        0x00 => Ok((false, false)),
+        0x01 => Ok((true, false)),
+        0x02 => Ok((false, true)),
+        0x03 => Ok((true, true)),
+        byte => Err(Fault::Malformed(input.invalid(Construct::CastFlags, byte))),
+    }
+}
+
+/// Takes a clause of a `try_table` (Core 3.0, Control Instructions).
+#[tactic(auto, unfolding(crate::specs::formats::Operands::catch_clause))]
+fn take_catch<I: Input>(input: &mut I) -> Result<Catch, Fault>
+    ensures takes { Takes I.writes catch_clause (I.state input.old) (I.state input.new) result }
+{
+    match input.byte_of(Construct::Clause)? {
+        0x00 => {
+            let tag = input.u32()?;
+            let label = input.u32()?;
+            Ok(Catch::One { tag, label })
+        }
+        0x01 => {
+            let tag = input.u32()?;
+            let label = input.u32()?;
+            Ok(Catch::OneRef { tag, label })
+        }
+        0x02 => {
+            let label = input.u32()?;
+            Ok(Catch::All { label })
+        }
+        0x03 => {
+            let label = input.u32()?;
+            Ok(Catch::AllRef { label })
+        }
+        byte => Err(Fault::Malformed(input.invalid(Construct::Clause, byte))),
+    }
+}
+
+/// Takes a clause of a `resume`.
+#[tactic(auto, unfolding(crate::specs::formats::Operands::handle_clause))]
+fn take_handle<I: Input>(input: &mut I) -> Result<Handle, Fault>
+    ensures takes { Takes I.writes handle_clause (I.state input.old) (I.state input.new) result }
+{
+    match input.byte_of(Construct::HandlerClause)? {
+        0x00 => {
+            let tag = input.u32()?;
+            let label = input.u32()?;
+            Ok(Handle::OnLabel { tag, label })
+        }
+        0x01 => {
+            let tag = input.u32()?;
+            Ok(Handle::OnSwitch { tag })
+        }
+        byte => Err(Fault::Malformed(input.invalid(Construct::HandlerClause, byte))),
+    }
+}
+
+impl<'a> Readable<'a> for Catch {
+    ghost Value = { Catch };
+
+    ghost view = { λ catch. catch };
+
+    ghost views = { λ catches. catches };
+
+    ghost views_each = { record { none = refl; more = λ catches catch. refl } };
+
+    ghost format = { catch_clause };
+
+    fn read(_alloc: Global, cursor: &mut Cursor<'a>) -> Result<Catch, Fault> {
+        take_catch(cursor)
+    }
+
+    #[inline(always)]
+    #[tactic(auto, using(crate::proofs::OperandFormatLaws::item_laws))]
+    fn is_lawful()
+        ensures lawful { IsLawful catch_clause }
+        ensures some { TakesBytes catch_clause.Encodes }
+    {}
+
+    fn rewrite(rewriter: &mut Rewriter) -> Result<(), Fault>
+        ensures rewrites { Rewrites catch_clause rewriter.old rewriter.new result }
+    {
+        <Catch as Rewritable>::rewrite(rewriter)
+    }
+}
+
+impl Rewritable for Catch {
+    ghost Value = { Catch };
+
+    ghost format = { catch_clause };
+
+    #[inline(always)]
+    #[tactic(auto, using(crate::proofs::OperandFormatLaws::item_laws))]
+    fn is_lawful() {}
+
+    fn rewrite(rewriter: &mut Rewriter) -> Result<(), Fault> {
+        take_catch(rewriter)?;
+        Ok(())
+    }
+}
+
+impl<'a> Readable<'a> for Handle {
+    ghost Value = { Handle };
+
+    ghost view = { λ handle. handle };
+
+    ghost views = { λ handles. handles };
+
+    ghost views_each = { record { none = refl; more = λ handles handle. refl } };
+
+    ghost format = { handle_clause };
+
+    fn read(_alloc: Global, cursor: &mut Cursor<'a>) -> Result<Handle, Fault> {
+        take_handle(cursor)
+    }
+
+    #[inline(always)]
+    #[tactic(auto, using(crate::proofs::OperandFormatLaws::item_laws))]
+    fn is_lawful()
+        ensures lawful { IsLawful handle_clause }
+        ensures some { TakesBytes handle_clause.Encodes }
+    {}
+
+    fn rewrite(rewriter: &mut Rewriter) -> Result<(), Fault>
+        ensures rewrites { Rewrites handle_clause rewriter.old rewriter.new result }
+    {
+        <Handle as Rewritable>::rewrite(rewriter)
+    }
+}
+
+impl Rewritable for Handle {
+    ghost Value = { Handle };
+
+    ghost format = { handle_clause };
+
+    #[inline(always)]
+    #[tactic(auto, using(crate::proofs::OperandFormatLaws::item_laws))]
+    fn is_lawful() {}
+
+    fn rewrite(rewriter: &mut Rewriter) -> Result<(), Fault> {
+        take_handle(rewriter)?;
+        Ok(())
+    }
 }

@@ -11,9 +11,10 @@ ghost use Rattle.wasm_codec.specs.Lawful.{IsLawful};
 ghost use Rattle.wasm_codec.specs.formats.Grammar.{TakesBytes};
 ghost use Rattle.wasm_codec.specs.Rewriter.{Rewrites};
 
+use crate::operands::take_mem_arg;
 use crate::reader::lists::read_calls_to_end;
-use crate::reader::operands::{read_mem_arg, read_operands};
-use crate::reader::read_opcode;
+use crate::reader::operands::read_operands;
+use crate::reader::take_opcode;
 use crate::table::{Call, Kind, Operands};
 use std::alloc::Global;
 use wasm_codec::reader::cursor::{Cursor, Fault};
@@ -89,7 +90,7 @@ fn read_opcode_and_operands(alloc: Global, cursor: &mut Cursor<'_>) -> Result<Ca
     ensures counted { IfOk result (λ call. IsCounted call.operands) }
 {
     let start = cursor.to_end();
-    let op = read_opcode(cursor)?;
+    let op = take_opcode(cursor)?;
     let Some(kind) = op.kind() else {
         return Err(Fault::Malformed(Malformed::new(op.unknown(), start)));
     };
@@ -97,7 +98,7 @@ fn read_opcode_and_operands(alloc: Global, cursor: &mut Cursor<'_>) -> Result<Ca
     match kind {
         Kind::None => return Ok(Call::from_parts(op, Operands::None)),
         Kind::Index => return Ok(Call::from_parts(op, Operands::Index(cursor.u32()?))),
-        Kind::Mem => return Ok(Call::from_parts(op, Operands::Mem(read_mem_arg(cursor)?))),
+        Kind::Mem => return Ok(Call::from_parts(op, Operands::Mem(take_mem_arg(cursor)?))),
         Kind::I32 => return Ok(Call::from_parts(op, Operands::I32(cursor.s32()?))),
         _ => {}
     }

@@ -1,113 +1,27 @@
 //! Readers of the parts of operands (Core 3.0, Instructions).
-ghost use Rattle.std.specs.Prelude.{◌≡◌, ◌<◌, Some, IfSome, IfOk, IfErr, refl};
+ghost use Rattle.std.specs.Prelude.{◌≡◌, ◌<◌, IfErr, IfOk, IfSome, Some};
 ghost use Rattle.wasm_codec.specs.Places.{Reads, map_at};
 ghost use Rattle.wasm_codec.specs.formats.Combinators.{little_endian};
 ghost use Rattle.wasm_codec.specs.Outcomes.{IsMalformed};
-ghost use Rattle.wasm_instructions.specs.formats.Operands.{ieee32, ieee64, block_type, catch_clause, handle_clause, castop, mem_arg, ordering, vector, lanes};
-ghost use Rattle.wasm_instructions.specs.declared.operands.control.Catch.{Catch};
-ghost use Rattle.wasm_instructions.specs.declared.operands.control.Handle.{Handle};
+ghost use Rattle.wasm_instructions.specs.formats.Operands.{block_type, ieee32, ieee64, lanes, mem_arg, vector};
 ghost use Rattle.wasm_instructions.specs.declared.table.opcode.Kind.TheVariants as kinds;
 ghost use Rattle.wasm_instructions.specs.formats.Instructions.{operands_format};
 ghost use Rattle.wasm_instructions.specs.Instructions.{IsAligned, IsCounted, kind_of};
-ghost use Rattle.wasm_codec.specs.Lawful.{IsLawful};
-ghost use Rattle.wasm_codec.specs.formats.Grammar.{TakesBytes};
-ghost use Rattle.wasm_codec.specs.Rewriter.{Rewrites};
 
-use crate::operands::{BlockType, Catch, Handle, Ieee32, Ieee64, Lane, MemArg, Ordering, V128};
+use crate::operands::{
+    BlockType, Ieee32, Ieee64, Lane, MemArg, V128, take_castop, take_mem_arg, take_ordering,
+};
+use crate::reader::take_block_type;
 use crate::table::{Kind, Operands};
 use std::alloc::Global;
 use wasm_codec::reader::cursor::{Cursor, Fault};
-use wasm_codec::reader::malformed::{Construct, Malformed, Reason};
-use wasm_codec::rewriter::Rewriter;
+use wasm_codec::reader::malformed::Construct;
 use wasm_lists::list::BoxedItems;
-use wasm_lists::readable::Readable;
 use wasm_lists::reading::read_list;
-use wasm_lists::rewriting::Rewritable;
-use wasm_types::reader::{read_heap_type, read_val_type};
-use wasm_types::types::RefType;
-
-/// Reads a block type (Core 3.0, Control Instructions).
-#[inline]
-#[tactic(auto, unfolding(crate::specs::formats::Operands::block_type))]
-pub fn read_block_type(cursor: &mut Cursor<'_>) -> Result<BlockType, Fault>
-    ensures reads { Reads block_type.at cursor.old cursor.new result }
-    ensures err { IfErr result IsMalformed }
-{
-    let first = cursor.peek(Construct::BlockType)?;
-    if first == 0x40 {
-        cursor.byte()?;
-        return Ok(BlockType::Empty);
-    }
-    if !(0x40..0x80).contains(&first) {
-        return Ok(BlockType::FunctionType(cursor.index()?));
-    }
-    Ok(BlockType::Result(read_val_type(cursor)?))
-}
-
-/// Reads a memory argument, with or without the index of its memory (Core 3.0, Memory Instructions).
-#[inline(always)]
-#[tactic(auto, unfolding(crate::specs::formats::Operands::mem_arg))]
-pub fn read_mem_arg(cursor: &mut Cursor<'_>) -> Result<MemArg, Fault>
-    ensures reads { Reads mem_arg.at cursor.old cursor.new result }
-    ensures err { IfErr result IsMalformed }
-    ensures aligned { IfOk result (λ arg. arg.align < 64) }
-{
-    let start = cursor.to_end();
-    let first = cursor.u32()?;
-    if first < 64 {
-        let offset = cursor.u64()?;
-        return Ok(MemArg {
-            offset,
-            align: first,
-            memory_index: 0,
-        });
-    }
-    if first >= 128 {
-        let reason = Reason::InvalidAlignment { flags: first };
-        return Err(Fault::Malformed(Malformed::new(reason, start)));
-    }
-    let memory_index = cursor.u32()?;
-    let offset = cursor.u64()?;
-    if memory_index == 0 {
-        cursor.note_long_form();
-    }
-    Ok(MemArg {
-        offset,
-        align: first - 64,
-        memory_index,
-    })
-}
-
-/// Reads an ordering.
-#[tactic(auto, unfolding(crate::specs::formats::Operands::ordering))]
-pub fn read_ordering(cursor: &mut Cursor<'_>) -> Result<Ordering, Fault>
-    ensures reads { Reads ordering.at cursor.old cursor.new result }
-    ensures err { IfErr result IsMalformed }
-{
-    match cursor.byte_of(Construct::Ordering)? {
-        0x00 => Ok(Ordering::SeqCst),
-        0x01 => Ok(Ordering::AcqRel),
-        byte => Err(Fault::Malformed(cursor.invalid(Construct::Ordering, byte))),
-    }
-}
-
-/// Reads the flags of a branch on a cast: whether the types before and after it are nullable.
-#[tactic(auto, unfolding(crate::specs::formats::Operands::castop))]
-pub fn read_castop(cursor: &mut Cursor<'_>) -> Result<(bool, bool), Fault>
-    ensures reads { Reads castop.at cursor.old cursor.new result }
-    ensures err { IfErr result IsMalformed }
-{
-    match cursor.byte_of(Construct::CastFlags)? {
-        0x00 => Ok((false, false)),
-        0x01 => Ok((true, false)),
-        0x02 => Ok((false, true)),
-        0x03 => Ok((true, true)),
-        byte => Err(Fault::Malformed(cursor.invalid(Construct::CastFlags, byte))),
-    }
-}
+use wasm_types::types::{RefType, take_heap_type};
 
 /// Reads a 32-bit floating-point number as its bits.
-pub fn read_f32(cursor: &mut Cursor<'_>) -> Result<Ieee32, Fault>
+fn read_f32(cursor: &mut Cursor<'_>) -> Result<Ieee32, Fault>
     ensures reads { Reads (map_at ieee32 (little_endian 4).at) cursor.old cursor.new result }
     ensures err { IfErr result IsMalformed }
 {
@@ -115,7 +29,7 @@ pub fn read_f32(cursor: &mut Cursor<'_>) -> Result<Ieee32, Fault>
 }
 
 /// Reads a 64-bit floating-point number as its bits.
-pub fn read_f64(cursor: &mut Cursor<'_>) -> Result<Ieee64, Fault>
+fn read_f64(cursor: &mut Cursor<'_>) -> Result<Ieee64, Fault>
     ensures reads { Reads (map_at ieee64 (little_endian 8).at) cursor.old cursor.new result }
     ensures err { IfErr result IsMalformed }
 {
@@ -124,7 +38,7 @@ pub fn read_f64(cursor: &mut Cursor<'_>) -> Result<Ieee64, Fault>
 
 /// Reads a little-endian number of 4 bytes.
 #[tactic(auto, unfolding(wasm_codec::specs::formats::Combinators::little_endian))]
-pub fn read_bits_32(cursor: &mut Cursor<'_>) -> Result<u32, Fault>
+fn read_bits_32(cursor: &mut Cursor<'_>) -> Result<u32, Fault>
     ensures reads { Reads (little_endian 4).at cursor.old cursor.new result }
     ensures err { IfErr result IsMalformed }
 {
@@ -137,7 +51,7 @@ pub fn read_bits_32(cursor: &mut Cursor<'_>) -> Result<u32, Fault>
 
 /// Reads a little-endian number of 8 bytes.
 #[tactic(auto, using(crate::proofs::LittleEndianHalves::both_halves, crate::proofs::LittleEndianHalves::no_low_half, crate::proofs::LittleEndianHalves::no_high_half))]
-pub fn read_bits_64(cursor: &mut Cursor<'_>) -> Result<u64, Fault>
+fn read_bits_64(cursor: &mut Cursor<'_>) -> Result<u64, Fault>
     ensures reads { Reads (little_endian 8).at cursor.old cursor.new result }
     ensures err { IfErr result IsMalformed }
 {
@@ -148,7 +62,7 @@ pub fn read_bits_64(cursor: &mut Cursor<'_>) -> Result<u64, Fault>
 
 /// Reads a vector of 16 bytes, little-endian.
 #[tactic(auto, unfolding(crate::specs::formats::Operands::vector))]
-pub fn read_vector(cursor: &mut Cursor<'_>) -> Result<V128, Fault>
+fn read_vector(cursor: &mut Cursor<'_>) -> Result<V128, Fault>
     ensures reads { Reads vector.at cursor.old cursor.new result }
     ensures err { IfErr result IsMalformed }
 {
@@ -159,7 +73,7 @@ pub fn read_vector(cursor: &mut Cursor<'_>) -> Result<V128, Fault>
 
 /// Reads sixteen lane indexes.
 #[tactic(auto, unfolding(crate::specs::formats::Operands::lanes, wasm_codec::specs::Places::raw_at))]
-pub fn read_lanes(cursor: &mut Cursor<'_>) -> Result<[Lane; 16], Fault>
+fn read_lanes(cursor: &mut Cursor<'_>) -> Result<[Lane; 16], Fault>
     ensures reads { Reads lanes.at cursor.old cursor.new result }
     ensures err { IfErr result IsMalformed }
 {
@@ -167,55 +81,6 @@ pub fn read_lanes(cursor: &mut Cursor<'_>) -> Result<[Lane; 16], Fault>
     let mut lanes = [0; 16];
     lanes.copy_from_slice(bytes);
     Ok(lanes)
-}
-
-/// Reads a clause of a `try_table` (Core 3.0, Control Instructions).
-#[tactic(auto, unfolding(crate::specs::formats::Operands::catch_clause))]
-pub fn read_catch(cursor: &mut Cursor<'_>) -> Result<Catch, Fault>
-    ensures reads { Reads catch_clause.at cursor.old cursor.new result }
-    ensures err { IfErr result IsMalformed }
-{
-    match cursor.byte_of(Construct::Clause)? {
-        0x00 => {
-            let tag = cursor.u32()?;
-            let label = cursor.u32()?;
-            Ok(Catch::One { tag, label })
-        }
-        0x01 => {
-            let tag = cursor.u32()?;
-            let label = cursor.u32()?;
-            Ok(Catch::OneRef { tag, label })
-        }
-        0x02 => {
-            let label = cursor.u32()?;
-            Ok(Catch::All { label })
-        }
-        0x03 => {
-            let label = cursor.u32()?;
-            Ok(Catch::AllRef { label })
-        }
-        byte => Err(Fault::Malformed(cursor.invalid(Construct::Clause, byte))),
-    }
-}
-
-/// Reads a clause of a `resume`.
-#[tactic(auto, unfolding(crate::specs::formats::Operands::handle_clause))]
-pub fn read_handle(cursor: &mut Cursor<'_>) -> Result<Handle, Fault>
-    ensures reads { Reads handle_clause.at cursor.old cursor.new result }
-    ensures err { IfErr result IsMalformed }
-{
-    match cursor.byte_of(Construct::HandlerClause)? {
-        0x00 => {
-            let tag = cursor.u32()?;
-            let label = cursor.u32()?;
-            Ok(Handle::OnLabel { tag, label })
-        }
-        0x01 => {
-            let tag = cursor.u32()?;
-            Ok(Handle::OnSwitch { tag })
-        }
-        byte => Err(Fault::Malformed(cursor.invalid(Construct::HandlerClause, byte))),
-    }
 }
 
 /// Reads operands of a kind.
@@ -228,18 +93,18 @@ pub fn read_operands(alloc: Global, cursor: &mut Cursor<'_>, kind: Kind) -> Resu
 {
     match kind {
         Kind::None => Ok(Operands::None),
-        Kind::Block => Ok(Operands::Block(read_block_type(cursor)?)),
+        Kind::Block => Ok(Operands::Block(take_block_type(cursor)?)),
         Kind::Index => Ok(Operands::Index(cursor.u32()?)),
         Kind::TwoIndexes => read_two_indexes(cursor),
         Kind::BrTable => read_br_table(alloc, cursor),
         Kind::Types => Ok(Operands::Types(read_list(alloc, cursor)?)),
         Kind::TryTable => read_try_table(alloc, cursor),
-        Kind::Mem => Ok(Operands::Mem(read_mem_arg(cursor)?)),
+        Kind::Mem => Ok(Operands::Mem(take_mem_arg(cursor)?)),
         Kind::I32 => Ok(Operands::I32(cursor.s32()?)),
         Kind::I64 => Ok(Operands::I64(cursor.s64()?)),
         Kind::F32 => Ok(Operands::F32(read_f32(cursor)?)),
         Kind::F64 => Ok(Operands::F64(read_f64(cursor)?)),
-        Kind::Heap => Ok(Operands::Heap(read_heap_type(cursor)?)),
+        Kind::Heap => Ok(Operands::Heap(take_heap_type(cursor)?)),
         Kind::Resume => read_resume(alloc, cursor),
         Kind::ResumeThrow => read_resume_throw(alloc, cursor),
         Kind::Cast => read_cast(cursor),
@@ -247,7 +112,7 @@ pub fn read_operands(alloc: Global, cursor: &mut Cursor<'_>, kind: Kind) -> Resu
         Kind::Shuffle => Ok(Operands::Shuffle(read_lanes(cursor)?)),
         Kind::Lane => Ok(Operands::Lane(cursor.byte()?)),
         Kind::MemLane => read_mem_lane(cursor),
-        Kind::Order => Ok(Operands::Order(read_ordering(cursor)?)),
+        Kind::Order => Ok(Operands::Order(take_ordering(cursor)?)),
         Kind::OrderIndex => read_order_index(cursor),
         Kind::OrderTwoIndexes => read_order_two_indexes(cursor),
     }
@@ -319,7 +184,7 @@ fn read_try_table(alloc: Global, cursor: &mut Cursor<'_>) -> Result<Operands, Fa
     ensures aligned { IfOk result (λ o. IsAligned o) }
     ensures counted { IfOk result (λ o. IsCounted o) }
 {
-    let ty = read_block_type(cursor)?;
+    let ty = take_block_type(cursor)?;
     let Ok(clauses) = BoxedItems::new(read_list(alloc, cursor)?) else {
         return Err(Fault::Memory);
     };
@@ -361,7 +226,7 @@ fn read_mem_lane(cursor: &mut Cursor<'_>) -> Result<Operands, Fault>
     ensures aligned { IfOk result (λ o. IsAligned o) }
     ensures counted { IfOk result (λ o. IsCounted o) }
 {
-    let arg = read_mem_arg(cursor)?;
+    let arg = take_mem_arg(cursor)?;
     let lane = cursor.byte()?;
     Ok(Operands::MemLane(arg, lane))
 }
@@ -374,7 +239,7 @@ fn read_order_index(cursor: &mut Cursor<'_>) -> Result<Operands, Fault>
     ensures aligned { IfOk result (λ o. IsAligned o) }
     ensures counted { IfOk result (λ o. IsCounted o) }
 {
-    let ordering = read_ordering(cursor)?;
+    let ordering = take_ordering(cursor)?;
     let index = cursor.u32()?;
     Ok(Operands::OrderIndex(ordering, index))
 }
@@ -387,7 +252,7 @@ fn read_order_two_indexes(cursor: &mut Cursor<'_>) -> Result<Operands, Fault>
     ensures aligned { IfOk result (λ o. IsAligned o) }
     ensures counted { IfOk result (λ o. IsCounted o) }
 {
-    let ordering = read_ordering(cursor)?;
+    let ordering = take_ordering(cursor)?;
     let first = cursor.u32()?;
     let second = cursor.u32()?;
     Ok(Operands::OrderTwoIndexes(ordering, first, second))
@@ -401,73 +266,15 @@ fn read_cast(cursor: &mut Cursor<'_>) -> Result<Operands, Fault>
     ensures aligned { IfOk result (λ o. IsAligned o) }
     ensures counted { IfOk result (λ o. IsCounted o) }
 {
-    let (before_nullable, after_nullable) = read_castop(cursor)?;
+    let (before_nullable, after_nullable) = take_castop(cursor)?;
     let label = cursor.u32()?;
     let before = RefType {
         nullable: before_nullable,
-        heap_type: read_heap_type(cursor)?,
+        heap_type: take_heap_type(cursor)?,
     };
     let after = RefType {
         nullable: after_nullable,
-        heap_type: read_heap_type(cursor)?,
+        heap_type: take_heap_type(cursor)?,
     };
     Ok(Operands::Cast(label, before, after))
-}
-
-impl<'a> Readable<'a> for Catch {
-    ghost Value = { Catch };
-
-    ghost view = { λ catch. catch };
-
-    ghost views = { λ catches. catches };
-
-    ghost views_each = { record { none = refl; more = λ catches catch. refl } };
-
-    ghost format = { catch_clause };
-
-    fn read(_alloc: Global, cursor: &mut Cursor<'a>) -> Result<Catch, Fault> {
-        read_catch(cursor)
-    }
-
-    #[inline(always)]
-    #[tactic(auto, using(crate::proofs::OperandFormatLaws::item_laws))]
-    fn is_lawful()
-        ensures lawful { IsLawful catch_clause }
-        ensures some { TakesBytes catch_clause.Encodes }
-    {}
-
-    fn rewrite(rewriter: &mut Rewriter) -> Result<(), Fault>
-        ensures rewrites { Rewrites catch_clause rewriter.old rewriter.new result }
-    {
-        <Catch as Rewritable>::rewrite(rewriter)
-    }
-}
-
-impl<'a> Readable<'a> for Handle {
-    ghost Value = { Handle };
-
-    ghost view = { λ handle. handle };
-
-    ghost views = { λ handles. handles };
-
-    ghost views_each = { record { none = refl; more = λ handles handle. refl } };
-
-    ghost format = { handle_clause };
-
-    fn read(_alloc: Global, cursor: &mut Cursor<'a>) -> Result<Handle, Fault> {
-        read_handle(cursor)
-    }
-
-    #[inline(always)]
-    #[tactic(auto, using(crate::proofs::OperandFormatLaws::item_laws))]
-    fn is_lawful()
-        ensures lawful { IsLawful handle_clause }
-        ensures some { TakesBytes handle_clause.Encodes }
-    {}
-
-    fn rewrite(rewriter: &mut Rewriter) -> Result<(), Fault>
-        ensures rewrites { Rewrites handle_clause rewriter.old rewriter.new result }
-    {
-        <Handle as Rewritable>::rewrite(rewriter)
-    }
 }

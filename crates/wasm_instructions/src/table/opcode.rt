@@ -1,10 +1,14 @@
 //! Opcodes, and the table of the kinds of their operands (Core 3.0, Instructions).
 ghost use Rattle.std.specs.Prelude.{◌≡◌};
+ghost use Rattle.wasm_codec.specs.Inputs.{Takes};
 ghost use Rattle.wasm_instructions.specs.OpcodeTables.{IsTable};
+ghost use Rattle.wasm_instructions.specs.formats.Instructions.{opcode};
 ghost use Rattle.wasm_instructions.specs.formats.Opcodes.{opcode_kind, kind_among, ranges, without_prefix, after_fb, after_fc, after_fd, after_fe};
 
 use crate::table::kinds::{AFTER_FB, AFTER_FC, AFTER_FD, AFTER_FE, WITHOUT_PREFIX};
-use wasm_codec::reader::malformed::Reason;
+use wasm_codec::input::Input;
+use wasm_codec::reader::cursor::Fault;
+use wasm_codec::reader::malformed::{Construct, Reason};
 
 /// The prefix byte of an opcode.
 #[derive(Clone, Copy, Debug, PartialEq, Eq)]
@@ -198,5 +202,20 @@ fn kind_at(prefix: Prefix, places: &[Option<Kind>], number: u32) -> Option<Kind>
         places[place]
     } else {
         None
+    }
+}
+
+/// Takes an opcode: one byte, or a prefix byte and a number. It may be outside the table.
+#[inline(always)]
+#[tactic(auto, unfolding(crate::specs::formats::Instructions::opcode))]
+pub fn take_opcode<I: Input>(input: &mut I) -> Result<Opcode, Fault>
+    ensures takes { Takes I.writes opcode (I.state input.old) (I.state input.new) result }
+{
+    match input.byte_of(Construct::Opcode)? {
+        0xfb => Ok(Opcode::after_fb(input.u32()?)),
+        0xfc => Ok(Opcode::after_fc(input.u32()?)),
+        0xfd => Ok(Opcode::after_fd(input.u32()?)),
+        0xfe => Ok(Opcode::after_fe(input.u32()?)),
+        byte => Ok(Opcode::without_prefix(byte)),
     }
 }

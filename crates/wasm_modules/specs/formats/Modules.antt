@@ -1,6 +1,6 @@
 -- Modules in the binary format, each part stated once, under the standard's production (WebAssembly Core 3.0, Modules).
 use Rattle.std.specs.Prelude.{ℕ, ◌==◌, Bool, true, List, Option, Some, None}
-use Rattle.wasm_types.specs.declared.types.composite.TypeEntry.{TypeEntry}
+use Rattle.wasm_types.specs.declared.types.recursive.TypeEntry.{TypeEntry}
 use Rattle.wasm_types.specs.formats.Types.{type_body}
 use Rattle.wasm_codec.specs.formats.Combinators.{Format, a_byte, ◌⊗>◌, ◌⊗◌, made, choose, minimal_if}
 use Rattle.wasm_codec.specs.formats.Grammar.{Grammar}

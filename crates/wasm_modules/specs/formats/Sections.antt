@@ -1,6 +1,6 @@
 -- The parts of a module: sections with their bodies as bytes, or with their content.
 use Rattle.std.specs.Prelude.{ℕ, List, [], ◌∷◌, map}
-use Rattle.wasm_types.specs.declared.types.composite.TypeEntry.{TypeEntry}
+use Rattle.wasm_types.specs.declared.types.recursive.TypeEntry.{TypeEntry}
 use Rattle.wasm_modules.specs.declared.code.CodeBody.{CodeBody}
 use Rattle.wasm_modules.specs.declared.section.RawSection.{RawSection}
 

@@ -21,9 +21,7 @@ use wasm_lists::rewriting::{
     Rewritable, RewritableBody, begins_run, rewrite_list, rewrite_list_to_end, rewrite_sized,
     rewrite_to_end,
 };
-use wasm_types::normaliser::rewrite_val_type;
-use wasm_types::reader::read_val_type;
-use wasm_types::types::ValType;
+use wasm_types::types::{ValType, take_val_type};
 
 /// Returns the minimal encoding of the code bodies in a code section body (Core 3.0, Code Section).
 ///
@@ -179,7 +177,7 @@ impl Rewritable for LocalGroup {
         let start = rewriter.start();
         rewriter.u32()?;
         rewriter.end_part(&start, Part::Number);
-        rewrite_val_type(rewriter)?;
+        take_val_type(rewriter)?;
         rewriter.end_part(&start, Part::LocalGroup);
         Ok(())
     }
@@ -191,6 +189,6 @@ pub fn read_local_group(cursor: &mut Cursor<'_>) -> Result<(u32, ValType), Fault
     ensures err { IfErr result IsMalformed }
 {
     let count = cursor.u32()?;
-    let ty = read_val_type(cursor)?;
+    let ty = take_val_type(cursor)?;
     Ok((count, ty))
 }

@@ -1,6 +1,6 @@
 -- The contents of sections (WebAssembly Core 3.0, Modules).
 use Rattle.std.specs.Prelude.{ℕ, List, map, Option, Some, None}
-use Rattle.wasm_types.specs.declared.types.composite.TypeEntry.{TypeEntry}
+use Rattle.wasm_types.specs.declared.types.recursive.TypeEntry.{TypeEntry}
 use Rattle.wasm_modules.specs.declared.code.CodeBody.{CodeBody}
 use Rattle.wasm_sections.specs.declared.elements.Element.{Element}
 use Rattle.wasm_sections.specs.declared.globals.Global.{Global}

@@ -14,9 +14,9 @@ use Rattle.wasm_types.specs.declared.types.composite.FieldType.{FieldType}
 use Rattle.wasm_types.specs.declared.types.composite.CompositeInnerType.{CompositeInnerType}
 use Rattle.wasm_types.specs.declared.types.composite.CompositeInnerType.TheVariants as inner
 use Rattle.wasm_types.specs.declared.types.composite.CompositeType.{CompositeType}
-use Rattle.wasm_types.specs.declared.types.composite.SubType.{SubType}
-use Rattle.wasm_types.specs.declared.types.composite.TypeEntry.{TypeEntry}
-use Rattle.wasm_types.specs.declared.types.composite.TypeEntry.TheVariants as entries
+use Rattle.wasm_types.specs.declared.types.recursive.SubType.{SubType}
+use Rattle.wasm_types.specs.declared.types.recursive.TypeEntry.{TypeEntry}
+use Rattle.wasm_types.specs.declared.types.recursive.TypeEntry.TheVariants as entries
 use Rattle.wasm_codec.specs.formats.Grammar.{Grammar}
 use Rattle.wasm_codec.specs.Lists.{IsListPrefix, ListMinimalIf, IsListPrefixMinimalIf}
 use Rattle.wasm_codec.specs.formats.Combinators.{Format, ◌⊗◌, made, any_of, or_else, no_other, after, after_long, tagged, variant, variant_after, flagged, optional, one_byte, byte_or, u32, index, items}

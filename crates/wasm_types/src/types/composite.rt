@@ -1,11 +1,24 @@
-//! Composite types, subtypes and the entries of a type section (Core 3.0, Composite Types to Recursive Types).
-ghost use Rattle.std.specs.Prelude.{◌≡◌, IfOk, IfErr};
+//! Composite types: types of fields, structures, arrays, functions and continuations (Core 3.0, Composite Types).
 ghost use Rattle.std.specs.Iterator.{Drains, IsFinite};
+ghost use Rattle.std.specs.Prelude.{◌≡◌, ◌++◌, ◌+◌, ◌≤◌, IfErr, IfOk, OnOk, length, take, vec_len, vec_capacity};
+ghost use Rattle.wasm_codec.specs.Encoding.{IsRefusal, IsShortest, OnlyTooLong};
+ghost use Rattle.wasm_codec.specs.Inputs.{Passes, Takes};
 ghost use Rattle.wasm_codec.specs.declared.encode.EncodeError.TheVariants.{Memory};
+ghost use Rattle.wasm_codec.specs.formats.Combinators.{optional, u32};
+ghost use Rattle.wasm_types.specs.TypeCounts.{CountedComposite, CountedFunc, CountedInner, CountedStruct};
+ghost use Rattle.wasm_types.specs.TypeRanges.{StorageTypeFits};
+ghost use Rattle.wasm_types.specs.declared.types.composite.CompositeInnerType.TheVariants as inner;
+ghost use Rattle.wasm_types.specs.formats.Types.{composite_type, field_type, inner_type};
 
-use crate::types::value::{StorageType, ValType};
-use std::alloc::Global;
-use wasm_codec::encode::EncodeError;
+use crate::types::value::{StorageType, ValType, put_storage_type, take_storage_type};
+use std::alloc::{Allocator, Global};
+use wasm_codec::encode::leb128::{put_index, put_u32};
+use wasm_codec::encode::{EncodeError, keep_or_undo};
+use wasm_codec::input::Input;
+use wasm_codec::reader::cursor::Fault;
+use wasm_codec::reader::malformed::Construct;
+use wasm_lists::encode::{Encode, encode_list, encode_list_after};
+use wasm_lists::input::ListInput;
 use wasm_lists::list::Items;
 
 /// The type of a structure's field or an array's elements.
@@ -142,25 +155,273 @@ pub struct CompositeType {
     pub describes: Option<u32>,
 }
 
-/// A composite type with its supertypes (Core 3.0, Recursive Types).
-#[derive(Debug, PartialEq, Eq, Drop)]
-pub struct SubType {
-    /// Whether it can't have subtypes.
-    pub is_final: bool,
-    /// Indexes of the supertypes.
-    pub supertype_idxs: Items<u32>,
-    /// The composite type.
-    pub composite_type: CompositeType,
+/// Takes a field type (Core 3.0, Composite Types).
+#[tactic(auto, unfolding(crate::specs::formats::Types::field_type, crate::specs::formats::Types::mutability))]
+pub(crate) fn take_field_type<I: Input>(input: &mut I) -> Result<FieldType, Fault>
+    ensures takes { Takes I.writes field_type (I.state input.old) (I.state input.new) result }
+{
+    let element_type = take_storage_type(input)?;
+    let mutable = match input.byte_of(Construct::Mutability)? {
+        0x00 => false,
+        0x01 => true,
+        byte => return Err(Fault::Malformed(input.invalid(Construct::Mutability, byte))),
+    };
+    Ok(FieldType {
+        element_type,
+        mutable,
+    })
 }
 
-/// An entry of a type section: a single type, or a group of types that can refer to each other (Core 3.0, Type
-/// Section).
+/// Takes a function, structure, array or continuation type.
+#[tactic(auto, unfolding(crate::specs::formats::Types::inner_type, crate::specs::formats::Types::result_type))]
+pub(crate) fn take_inner_type<I: ListInput>(
+    alloc: Global,
+    input: &mut I,
+) -> Result<CompositeInnerType, Fault>
+    ensures passes { Passes I.writes (λ x. x) inner_type (I.state input.old) (I.state input.new) result }
+{
+    match input.byte_of(Construct::TypeForm)? {
+        0x60 => {
+            let params = input.list(alloc)?;
+            let results = input.list(alloc)?;
+            Ok(CompositeInnerType::Func(FuncType::from_lists(params, results)))
+        }
+        0x5f => {
+            let fields = input.list(alloc)?;
+            Ok(CompositeInnerType::Struct(StructType { fields }))
+        }
+        0x5e => Ok(CompositeInnerType::Array(ArrayType(take_field_type(input)?))),
+        0x5d => Ok(CompositeInnerType::Cont(ContType(input.index()?))),
+        byte => Err(Fault::Malformed(input.invalid(Construct::TypeForm, byte))),
+    }
+}
+
+/// Takes an optional descriptor and the type after it.
+fn take_described_type<I: ListInput>(
+    alloc: Global,
+    input: &mut I,
+) -> Result<(Option<u32>, CompositeInnerType), Fault>
+    ensures passes { Passes I.writes (λ x. x) (optional 0x4d u32 inner_type) (I.state input.old) (I.state input.new) result }
+{
+    if input.peek(Construct::TypeForm)? == 0x4d {
+        input.byte_of(Construct::TypeForm)?;
+        let descriptor = input.u32()?;
+        let inner = take_inner_type(alloc, input)?;
+        return Ok((Some(descriptor), inner));
+    }
+    let inner = take_inner_type(alloc, input)?;
+    Ok((None, inner))
+}
+
+/// Takes an optional described type, and then the rest of a composite type.
+fn take_describing_type<I: ListInput>(
+    alloc: Global,
+    input: &mut I,
+) -> Result<(Option<u32>, (Option<u32>, CompositeInnerType)), Fault>
+    ensures passes { Passes I.writes (λ x. x) (optional 0x4c u32 (optional 0x4d u32 inner_type)) (I.state input.old) (I.state input.new) result }
+{
+    if input.peek(Construct::TypeForm)? == 0x4c {
+        input.byte_of(Construct::TypeForm)?;
+        let describes = input.u32()?;
+        let rest = take_described_type(alloc, input)?;
+        return Ok((Some(describes), rest));
+    }
+    let rest = take_described_type(alloc, input)?;
+    Ok((None, rest))
+}
+
+/// Takes a composite type (Core 3.0, Composite Types).
+#[tactic(auto, unfolding(crate::specs::formats::Types::composite_type))]
+pub(crate) fn take_composite_type<I: ListInput>(
+    alloc: Global,
+    input: &mut I,
+) -> Result<CompositeType, Fault>
+    ensures passes { Passes I.writes (λ x. x) composite_type (I.state input.old) (I.state input.new) result }
+{
+    let shared = input.peek(Construct::TypeForm)? == 0x65;
+    if shared {
+        input.byte_of(Construct::TypeForm)?;
+    }
+    let (describes, (descriptor, inner)) = take_describing_type(alloc, input)?;
+    Ok(CompositeType {
+        inner,
+        shared,
+        descriptor,
+        describes,
+    })
+}
+
+/// Writes a field type in 2 to 8 bytes (Core 3.0, Composite Types).
+#[tactic(auto, unfolding(crate::specs::formats::Types::field_type, crate::specs::formats::Types::mutability))]
+fn put_field_type<A: Allocator>(bytes: &mut Vec<u8, A>, field: FieldType)
+    requires { vec_len bytes.old + 8 ≤ vec_capacity bytes.old }
+    ensures items { bytes.new.items ≡ bytes.old.items ++ field_type.bytes field }
+    ensures fits { StorageTypeFits field.element_type }
+    ensures capacity { vec_capacity bytes.new ≡ vec_capacity bytes.old }
+{
+    put_storage_type(bytes, field.element_type);
+    bytes.push_reserved(u8::from(field.mutable));
+}
+
+/// A storage type, then `0x00` if the field is immutable or `0x01` if it is mutable (Core 3.0, Composite Types).
+#[tactic(auto, using(crate::proofs::WrittenTypes::field_written))]
+impl Encode for FieldType {
+    ghost bytes = { field_type.bytes };
+
+    ghost IsWritten = { IsShortest field_type.Encodes field_type.bytes };
+
+    fn encode<A: Allocator>(&self, sink: &mut Vec<u8, A>) -> Result<(), EncodeError> {
+        sink.reserve(8)?;
+        put_field_type(sink, *self);
+        Ok(())
+    }
+}
+
+/// Appends a function type. On error a part of it may remain.
+#[tactic(auto, using(crate::proofs::WrittenTypes::func_ok), unfolding(crate::specs::formats::Types::inner_type, crate::specs::formats::Types::result_type))]
+fn append_func<A: Allocator>(ty: &FuncType, sink: &mut Vec<u8, A>) -> Result<(), EncodeError>
+    ensures ok { OnOk result (sink.new.items ≡ sink.old.items ++ inner_type.bytes (inner.Func ty.now)) }
+    ensures can { OnOk result (CountedFunc ty.now) }
+    ensures written { OnOk result (IsShortest inner_type.Encodes inner_type.bytes (inner.Func ty.now)) }
+    ensures refused { IfErr result (IsRefusal CountedFunc OnlyTooLong ty.now) }
+    ensures kept { take (length sink.old.items) sink.new.items ≡ sink.old.items }
+{
+    encode_list_after(0x60, ty.params(), sink)?;
+    encode_list(ty.results(), sink)
+}
+
+/// `0x60`, the parameters and the results (Core 3.0, Composite Types).
 ///
-/// A group of one type and that type alone are different entries.
-#[derive(Debug, PartialEq, Eq, Drop)]
-pub enum TypeEntry {
-    /// A single type.
-    Sub(SubType),
-    /// A recursion group.
-    Rec(Items<SubType>),
+/// Fails with `TooLong` if there are more than 4,294,967,295 parameters or results.
+impl Encode for FuncType {
+    ghost bytes = { λ ty. inner_type.bytes (inner.Func ty) };
+
+    ghost IsWritten = { λ ty. IsShortest inner_type.Encodes inner_type.bytes (inner.Func ty) };
+
+    ghost CanEncode = { CountedFunc };
+
+    ghost refuses = { OnlyTooLong };
+
+    fn encode<A: Allocator>(&self, sink: &mut Vec<u8, A>) -> Result<(), EncodeError> {
+        let start = sink.len();
+        let result = append_func(self, sink);
+        keep_or_undo(sink, start, result)
+    }
+}
+
+/// `0x5F` and the fields (Core 3.0, Composite Types).
+///
+/// Fails with `TooLong` if there are more than 4,294,967,295 fields.
+#[tactic(auto, using(crate::proofs::WrittenTypes::struct_ok), unfolding(crate::specs::formats::Types::inner_type, crate::specs::formats::Types::result_type))]
+impl Encode for StructType {
+    ghost bytes = { λ ty. inner_type.bytes (inner.Struct ty) };
+
+    ghost IsWritten = { λ ty. IsShortest inner_type.Encodes inner_type.bytes (inner.Struct ty) };
+
+    ghost CanEncode = { CountedStruct };
+
+    ghost refuses = { OnlyTooLong };
+
+    fn encode<A: Allocator>(&self, sink: &mut Vec<u8, A>) -> Result<(), EncodeError> {
+        encode_list_after(0x5f, self.fields.as_slice(), sink)
+    }
+}
+
+/// `0x5E` and the field (Core 3.0, Composite Types).
+#[tactic(auto, using(crate::proofs::WrittenTypes::array_written), unfolding(crate::specs::formats::Types::inner_type, crate::specs::formats::Types::result_type))]
+impl Encode for ArrayType {
+    ghost bytes = { λ ty. inner_type.bytes (inner.Array ty) };
+
+    ghost IsWritten = { λ ty. IsShortest inner_type.Encodes inner_type.bytes (inner.Array ty) };
+
+    fn encode<A: Allocator>(&self, sink: &mut Vec<u8, A>) -> Result<(), EncodeError> {
+        sink.reserve(9)?;
+        sink.push_reserved(0x5e);
+        put_field_type(sink, self.0);
+        Ok(())
+    }
+}
+
+/// `0x5D` and the index of a function type, as an s33 (stack switching proposal).
+#[tactic(auto, using(crate::proofs::WrittenTypes::cont_written), unfolding(crate::specs::formats::Types::inner_type, crate::specs::formats::Types::result_type))]
+impl Encode for ContType {
+    ghost bytes = { λ ty. inner_type.bytes (inner.Cont ty) };
+
+    ghost IsWritten = { λ ty. IsShortest inner_type.Encodes inner_type.bytes (inner.Cont ty) };
+
+    fn encode<A: Allocator>(&self, sink: &mut Vec<u8, A>) -> Result<(), EncodeError> {
+        sink.reserve(6)?;
+        sink.push_reserved(0x5d);
+        put_index(sink, self.0);
+        Ok(())
+    }
+}
+
+/// The encoding of the function, struct, array or continuation type (Core 3.0, Composite Types).
+///
+/// Fails with `TooLong` if a list in the type has more than 4,294,967,295 items.
+impl Encode for CompositeInnerType {
+    ghost bytes = { inner_type.bytes };
+
+    ghost IsWritten = { IsShortest inner_type.Encodes inner_type.bytes };
+
+    ghost CanEncode = { CountedInner };
+
+    ghost refuses = { OnlyTooLong };
+
+    fn encode<A: Allocator>(&self, sink: &mut Vec<u8, A>) -> Result<(), EncodeError> {
+        match self {
+            CompositeInnerType::Func(ty) => ty.encode(sink),
+            CompositeInnerType::Struct(ty) => ty.encode(sink),
+            CompositeInnerType::Array(ty) => ty.encode(sink),
+            CompositeInnerType::Cont(ty) => ty.encode(sink),
+        }
+    }
+}
+
+/// Appends a composite type. On error a part of it may remain.
+#[tactic(auto, using(crate::proofs::WrittenTypes::composite_ok), unfolding(crate::specs::formats::Types::composite_type))]
+fn append_composite<A: Allocator>(
+    ty: &CompositeType,
+    sink: &mut Vec<u8, A>,
+) -> Result<(), EncodeError>
+    ensures ok { OnOk result (sink.new.items ≡ sink.old.items ++ composite_type.bytes ty.now) }
+    ensures can { OnOk result (CountedComposite ty.now) }
+    ensures written { OnOk result (IsShortest composite_type.Encodes composite_type.bytes ty.now) }
+    ensures refused { IfErr result (IsRefusal CountedComposite OnlyTooLong ty.now) }
+    ensures kept { take (length sink.old.items) sink.new.items ≡ sink.old.items }
+{
+    sink.reserve(13)?;
+    if ty.shared {
+        sink.push_reserved(0x65);
+    }
+    if let Some(index) = ty.describes {
+        sink.push_reserved(0x4c);
+        put_u32(sink, index);
+    }
+    if let Some(index) = ty.descriptor {
+        sink.push_reserved(0x4d);
+        put_u32(sink, index);
+    }
+    ty.inner.encode(sink)
+}
+
+/// `0x65` if the type is shared, `0x4C` and the index of the type that it describes, `0x4D` and the index of its
+/// descriptor, and the inner type (Core 3.0, Composite Types; proposals).
+///
+/// Fails with `TooLong` if a list in the type has more than 4,294,967,295 items.
+impl Encode for CompositeType {
+    ghost bytes = { composite_type.bytes };
+
+    ghost IsWritten = { IsShortest composite_type.Encodes composite_type.bytes };
+
+    ghost CanEncode = { CountedComposite };
+
+    ghost refuses = { OnlyTooLong };
+
+    fn encode<A: Allocator>(&self, sink: &mut Vec<u8, A>) -> Result<(), EncodeError> {
+        let start = sink.len();
+        let result = append_composite(self, sink);
+        keep_or_undo(sink, start, result)
+    }
 }

@@ -2,9 +2,8 @@
 ghost use Rattle.std.specs.Prelude.{◌≡◌, IfOk, IfErr};
 ghost use Rattle.wasm_codec.specs.declared.encode.EncodeError.TheVariants.{Memory};
 
-use crate::types::composite::{
-    CompositeInnerType, CompositeType, FuncType, StructType, SubType, TypeEntry,
-};
+use crate::types::composite::{CompositeInnerType, CompositeType, StructType};
+use crate::types::recursive::{SubType, TypeEntry};
 use std::alloc::Global;
 use wasm_codec::encode::EncodeError;
 use wasm_lists::list::Items;

@@ -1,10 +1,20 @@
 //! Value types and storage types (Core 3.0, Value Types and Composite Types).
-ghost use Rattle.std.specs.Prelude.{◌≡◌};
+ghost use Rattle.std.specs.Prelude.{◌≡◌, ◌++◌, ◌+◌, ◌≤◌, vec_len, vec_capacity};
+ghost use Rattle.wasm_codec.specs.Encoding.{IsShortest};
+ghost use Rattle.wasm_codec.specs.Inputs.{Takes};
+ghost use Rattle.wasm_types.specs.TypeRanges.{StorageTypeFits, ValTypeFits};
 ghost use Rattle.wasm_types.specs.Types.{is_defaultable, is_numeric, is_reference, is_vector, unpacked};
-ghost use Rattle.wasm_types.specs.declared.types.value.ValType.TheVariants.{Ref};
 ghost use Rattle.wasm_types.specs.declared.types.value.StorageType.TheVariants as storage_types;
+ghost use Rattle.wasm_types.specs.declared.types.value.ValType.TheVariants.{Ref};
+ghost use Rattle.wasm_types.specs.formats.Types.{storage_type, val_type};
 
-use crate::types::heap::RefType;
+use crate::types::heap::{RefType, put_ref_type, take_ref_type_as};
+use std::alloc::Allocator;
+use wasm_codec::encode::EncodeError;
+use wasm_codec::input::Input;
+use wasm_codec::reader::cursor::Fault;
+use wasm_codec::reader::malformed::Construct;
+use wasm_lists::encode::Encode;
 
 /// A value type (Core 3.0, Value Types).
 ///
@@ -130,5 +140,105 @@ impl StorageType {
         ensures { result ≡ is_defaultable (unpacked self.now) }
     {
         self.unpack().is_defaultable()
+    }
+}
+
+/// Takes a value type (Core 3.0, Value Types).
+#[inline(always)]
+#[tactic(auto, unfolding(crate::specs::formats::Types::val_type))]
+pub fn take_val_type<I: Input>(input: &mut I) -> Result<ValType, Fault>
+    ensures takes { Takes I.writes val_type (I.state input.old) (I.state input.new) result }
+{
+    let ty = match input.peek(Construct::ValType)? {
+        0x7f => ValType::I32,
+        0x7e => ValType::I64,
+        0x7d => ValType::F32,
+        0x7c => ValType::F64,
+        0x7b => ValType::V128,
+        _ => return Ok(ValType::Ref(take_ref_type_as(input, Construct::ValType)?)),
+    };
+    input.byte_of(Construct::ValType)?;
+    Ok(ty)
+}
+
+/// Takes a storage type (Core 3.0, Composite Types).
+#[tactic(auto, unfolding(crate::specs::formats::Types::storage_type))]
+pub(crate) fn take_storage_type<I: Input>(input: &mut I) -> Result<StorageType, Fault>
+    ensures takes { Takes I.writes storage_type (I.state input.old) (I.state input.new) result }
+{
+    let ty = match input.peek(Construct::ValType)? {
+        0x78 => StorageType::I8,
+        0x77 => StorageType::I16,
+        _ => return Ok(StorageType::Val(take_val_type(input)?)),
+    };
+    input.byte_of(Construct::ValType)?;
+    Ok(ty)
+}
+
+/// Writes a value type in 1 to 7 bytes (Core 3.0, Value Types).
+#[inline(always)]
+#[tactic(auto, unfolding(crate::specs::formats::Types::val_type))]
+pub fn put_val_type<A: Allocator>(bytes: &mut Vec<u8, A>, ty: ValType)
+    requires { vec_len bytes.old + 7 ≤ vec_capacity bytes.old }
+    ensures items { bytes.new.items ≡ bytes.old.items ++ val_type.bytes ty }
+    ensures fits { ValTypeFits ty }
+    ensures len { vec_len bytes.new ≤ vec_len bytes.old + 7 }
+    ensures capacity { vec_capacity bytes.new ≡ vec_capacity bytes.old }
+{
+    let byte = match ty {
+        ValType::I32 => 0x7f,
+        ValType::I64 => 0x7e,
+        ValType::F32 => 0x7d,
+        ValType::F64 => 0x7c,
+        ValType::V128 => 0x7b,
+        ValType::Ref(ty) => {
+            put_ref_type(bytes, ty);
+            return;
+        }
+    };
+    bytes.push_reserved(byte);
+}
+
+/// Writes a storage type in 1 to 7 bytes (Core 3.0, Composite Types).
+#[tactic(auto, unfolding(crate::specs::formats::Types::storage_type))]
+pub(crate) fn put_storage_type<A: Allocator>(bytes: &mut Vec<u8, A>, ty: StorageType)
+    requires { vec_len bytes.old + 7 ≤ vec_capacity bytes.old }
+    ensures items { bytes.new.items ≡ bytes.old.items ++ storage_type.bytes ty }
+    ensures fits { StorageTypeFits ty }
+    ensures len { vec_len bytes.new ≤ vec_len bytes.old + 7 }
+    ensures capacity { vec_capacity bytes.new ≡ vec_capacity bytes.old }
+{
+    match ty {
+        StorageType::I8 => bytes.push_reserved(0x78),
+        StorageType::I16 => bytes.push_reserved(0x77),
+        StorageType::Val(ty) => put_val_type(bytes, ty),
+    }
+}
+
+/// One byte, or a reference type (Core 3.0, Value Types).
+#[tactic(auto, using(crate::proofs::WrittenTypes::val_written))]
+impl Encode for ValType {
+    ghost bytes = { val_type.bytes };
+
+    ghost IsWritten = { IsShortest val_type.Encodes val_type.bytes };
+
+    fn encode<A: Allocator>(&self, sink: &mut Vec<u8, A>) -> Result<(), EncodeError> {
+        sink.reserve(7)?;
+        put_val_type(sink, *self);
+        Ok(())
+    }
+}
+
+/// One byte for a packed type, otherwise a value type (Core 3.0, Composite Types).
+#[tactic(auto, using(crate::proofs::WrittenTypes::storage_written))]
+impl Encode for StorageType {
+    ghost bytes = { storage_type.bytes };
+
+    ghost IsWritten = { IsShortest storage_type.Encodes storage_type.bytes };
+
+    fn encode<A: Allocator>(&self, sink: &mut Vec<u8, A>) -> Result<(), EncodeError> {
+        sink.reserve(7)?;
+        put_storage_type(sink, *self);
+        Ok(())
     }
 }

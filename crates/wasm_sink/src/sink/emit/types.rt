@@ -14,8 +14,7 @@ use wasm_instructions::appenders::{append_opcode, append_type};
 use wasm_instructions::encode::{put_block_type, put_castop};
 use wasm_instructions::operands::BlockType;
 use wasm_instructions::table::{Opcode, Prefix};
-use wasm_types::encode::put_heap_type;
-use wasm_types::types::{HeapType, RefType, ValType};
+use wasm_types::types::{HeapType, RefType, ValType, put_heap_type};
 
 #[tactic(auto, using(crate::proofs::WrittenCalls::short_opcode, wasm_instructions::proofs::OpcodeLaws::in_table_short))]
 impl<'a, A: Allocator> InstructionSink<'a, A> {

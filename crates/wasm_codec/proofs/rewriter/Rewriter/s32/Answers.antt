@@ -4,7 +4,7 @@ use Rattle.wasm_codec.specs.Leb128.{signed_leb128}
 use Rattle.std.proofs.lemmas.Result.{err_from_is_err_and}
 use Rattle.wasm_codec.proofs.FormatLaws.{Lawful-s32}
 use Rattle.wasm_codec.proofs.NumberLaws.{cut_s32}
-use Rattle.wasm_codec.proofs.Shortening.{number_read, nothing_rewritten}
+use Rattle.wasm_codec.proofs.Shortening.{number_read, no_number}
 use Rattle.wasm_codec.proofs.rewriter.Rewriter.s32.Goals as goal
 
 by_fit : (z : ℤ) (count : ℕ) → SFits w32 z → count ≡ length (signed_leb128 (to_z w32 (of_z w32 z))) → count ≡ length (signed_leb128 z)
@@ -13,14 +13,15 @@ by_fit z count fits e = e ∙ ap (λ (y : ℤ). length (signed_leb128 y)) (to_z-
 pub returns-in_err-value : goal.returns-in_err-value
 returns-in_err-value c =
     let p = err_from_is_err_and c.from_residual.result c.from_residual.ensures.1 in
-    rw (p.1, p.2) (nothing_rewritten Lawful-s32 c.args.self.now c.args.self.now c.cursor-cursor.result c.s32.new.self c.in_err-value.field-0.0 c.cursor-cursor.ensures.bytes c.cursor-cursor.ensures.place c.in_err-value.ensures.err c.in_err-value.ensures.reads)
+    rw (p.1, p.2) (no_number Lawful-s32 c.args.self.now c.args.self.now c.cursor-cursor.result c.s32.new.self c.in_err-value.field-0.0 c.cursor-cursor.ensures.bytes c.cursor-cursor.ensures.place c.in_err-value.ensures.err c.in_err-value.ensures.reads)
 
 pub overflow_sub-len : goal.overflow_sub-len
 overflow_sub-len c = rw c.len.ensures (number_read Lawful-s32 cut_s32 c.args.self.now c.cursor-cursor.result c.in_ok-value.value c.s32.new.self c.is_shortest-shortest.result c.len-left.result (length (signed_leb128 c.in_ok-value.value)) c.cursor-cursor.ensures.bytes c.cursor-cursor.ensures.place c.in_ok-value.ensures.reads c.is_shortest-shortest.ensures c.len-left.ensures refl).left_over
 
 pub returns-then-shortest : goal.returns-then-shortest
 returns-then-shortest c =
-    rw (c.skip.ensures, c.len.ensures) (rw c.if-shortest.true at (number_read Lawful-s32 cut_s32 c.args.self.now c.cursor-cursor.result c.in_ok-value.value c.s32.new.self c.is_shortest-shortest.result c.len-left.result (length (signed_leb128 c.in_ok-value.value)) c.cursor-cursor.ensures.bytes c.cursor-cursor.ensures.place c.in_ok-value.ensures.reads c.is_shortest-shortest.ensures c.len-left.ensures refl).rewrites)
+    let fits : SFits w32 c.in_ok-value.value = search rules in
+    rw (c.skip.ensures, c.len.ensures, to_z-of_z w32 c.in_ok-value.value fits) (rw c.if-shortest.true at (number_read Lawful-s32 cut_s32 c.args.self.now c.cursor-cursor.result c.in_ok-value.value c.s32.new.self c.is_shortest-shortest.result c.len-left.result (length (signed_leb128 c.in_ok-value.value)) c.cursor-cursor.ensures.bytes c.cursor-cursor.ensures.place c.in_ok-value.ensures.reads c.is_shortest-shortest.ensures c.len-left.ensures refl).gives)
 
 pub overflow_sub-len-else-shortest : goal.overflow_sub-len-else-shortest
 overflow_sub-len-else-shortest c = rw c.len-else-shortest.ensures (number_read Lawful-s32 cut_s32 c.args.self.now c.cursor-cursor.result c.in_ok-value.value c.s32.new.self c.is_shortest-shortest.result c.len-left.result (length (signed_leb128 c.in_ok-value.value)) c.cursor-cursor.ensures.bytes c.cursor-cursor.ensures.place c.in_ok-value.ensures.reads c.is_shortest-shortest.ensures c.len-left.ensures refl).left_over
@@ -33,4 +34,4 @@ shorten-requires-clause-shorter c =
 pub returns-else-shortest : goal.returns-else-shortest
 returns-else-shortest c =
     let fits : SFits w32 c.in_ok-value.value = search rules in
-    rw (c.shorten.ensures, c.len-else-shortest.ensures) (rw c.if-shortest.false at (number_read Lawful-s32 cut_s32 c.args.self.now c.cursor-cursor.result c.in_ok-value.value c.s32.new.self c.is_shortest-shortest.result c.len-left.result c.s32_digit_count.result c.cursor-cursor.ensures.bytes c.cursor-cursor.ensures.place c.in_ok-value.ensures.reads c.is_shortest-shortest.ensures c.len-left.ensures (by_fit c.in_ok-value.value c.s32_digit_count.result fits c.s32_digit_count.ensures.count)).rewrites)
+    rw (c.shorten.ensures, c.len-else-shortest.ensures, to_z-of_z w32 c.in_ok-value.value fits) (rw c.if-shortest.false at (number_read Lawful-s32 cut_s32 c.args.self.now c.cursor-cursor.result c.in_ok-value.value c.s32.new.self c.is_shortest-shortest.result c.len-left.result c.s32_digit_count.result c.cursor-cursor.ensures.bytes c.cursor-cursor.ensures.place c.in_ok-value.ensures.reads c.is_shortest-shortest.ensures c.len-left.ensures (by_fit c.in_ok-value.value c.s32_digit_count.result fits c.s32_digit_count.ensures.count)).gives)

@@ -1,5 +1,0 @@
-use Rattle.wasm_types.proofs.WrittenTypes.{array_written}
-use Rattle.wasm_types.proofs.encode.composite_types.ArrayTypeEncode.encode.Goals as goal
-
-pub returns-clause-written : goal.returns-clause-written
-returns-clause-written g c = array_written c.args.self.now c.put_field_type.ensures.fits

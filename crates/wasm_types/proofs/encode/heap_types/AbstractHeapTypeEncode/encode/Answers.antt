@@ -1,5 +1,0 @@
-use Rattle.wasm_types.proofs.WrittenTypes.{abstract_written}
-use Rattle.wasm_types.proofs.encode.heap_types.AbstractHeapTypeEncode.encode.Goals as goal
-
-pub returns-clause-written : goal.returns-clause-written
-returns-clause-written g c = abstract_written c.args.self.now

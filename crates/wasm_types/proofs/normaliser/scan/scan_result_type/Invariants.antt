@@ -1,6 +1,0 @@
-use Rattle.std.proofs.Common.{take, drop}
-use Rattle.wasm_types.proofs.ScannedTypes.{AreWhole}
-use Rattle.wasm_types.proofs.normaliser.scan.scan_result_type.Given as goal
-
-abbrev pub invariant-loop-index : goal.invariant-loop-index
-invariant-loop-index l = AreWhole (take l.index (drop 1 l.bytes))

@@ -1,0 +1,272 @@
+//! Types as items of lists: what reads, rewrites and skips them there.
+ghost use Rattle.std.specs.Prelude.{⊤, ◌≡◌, IfErr, refl};
+ghost use Rattle.wasm_codec.specs.Lawful.{IsLawful};
+ghost use Rattle.wasm_codec.specs.Outcomes.{IfInItem, IsMalformed};
+ghost use Rattle.wasm_codec.specs.Places.{Reads};
+ghost use Rattle.wasm_codec.specs.Reading.{map_ok};
+ghost use Rattle.wasm_codec.specs.Rewriter.{Rewrites};
+ghost use Rattle.wasm_codec.specs.formats.Grammar.{TakesBytes};
+ghost use Rattle.wasm_types.specs.declared.types.composite.FieldType.{FieldType};
+ghost use Rattle.wasm_types.specs.declared.types.recursive.SubType.{SubType};
+ghost use Rattle.wasm_types.specs.declared.types.recursive.TypeEntry.{TypeEntry};
+ghost use Rattle.wasm_types.specs.declared.types.value.ValType.{ValType};
+ghost use Rattle.wasm_types.specs.formats.Types.{field_type, recursive_type, sub_type, val_type};
+
+use crate::types::composite::{FieldType, take_field_type};
+use crate::types::function::scan_function_type;
+use crate::types::recursive::{SubType, TypeEntry, take_entry, take_sub_type};
+use crate::types::value::{ValType, take_val_type};
+use std::alloc::Global;
+use wasm_codec::reader::cursor::{Cursor, Fault};
+use wasm_codec::rewriter::Rewriter;
+use wasm_lists::input::OwnedItem;
+use wasm_lists::list::Items;
+use wasm_lists::readable::Readable;
+use wasm_lists::reading::read_list;
+use wasm_lists::rewriting::{Rewritable, rewrite_list};
+
+impl<'a> Readable<'a> for ValType {
+    ghost Value = { ValType };
+
+    ghost view = { λ ty. ty };
+
+    ghost views = { λ types. types };
+
+    ghost views_each = { record { none = refl; more = λ types ty. refl } };
+
+    ghost format = { val_type };
+
+    fn read(_alloc: Global, cursor: &mut Cursor<'a>) -> Result<ValType, Fault>
+        ensures reads { Reads val_type.at cursor.old cursor.new (map_ok (λ x. x) result) }
+        ensures names { IfInItem result (λ index. ⊤) }
+        ensures err { IfErr result IsMalformed }
+    {
+        take_val_type(cursor)
+    }
+
+    #[inline(always)]
+    #[tactic(auto, using(crate::proofs::TypeFormatLaws::type_laws))]
+    fn is_lawful()
+        ensures lawful { IsLawful val_type }
+        ensures some { TakesBytes val_type.Encodes }
+    {}
+
+    fn rewrite(rewriter: &mut Rewriter) -> Result<(), Fault>
+        ensures rewrites { Rewrites val_type rewriter.old rewriter.new result }
+    {
+        <ValType as Rewritable>::rewrite(rewriter)
+    }
+}
+
+impl Rewritable for ValType {
+    ghost Value = { ValType };
+
+    ghost format = { val_type };
+
+    #[inline(always)]
+    #[tactic(auto, using(crate::proofs::TypeFormatLaws::type_laws))]
+    fn is_lawful() {}
+
+    fn rewrite(rewriter: &mut Rewriter) -> Result<(), Fault> {
+        take_val_type(rewriter)?;
+        Ok(())
+    }
+}
+
+impl OwnedItem for ValType {
+    ghost Value = { ValType };
+
+    ghost views = { λ types. types };
+
+    ghost format = { val_type };
+
+    #[inline(always)]
+    fn read_items(alloc: Global, cursor: &mut Cursor<'_>) -> Result<Items<ValType>, Fault> {
+        read_list(alloc, cursor)
+    }
+
+    #[inline(always)]
+    fn rewrite_items(rewriter: &mut Rewriter) -> Result<(), Fault> {
+        rewrite_list::<ValType>(rewriter)
+    }
+}
+
+impl<'a> Readable<'a> for FieldType {
+    ghost Value = { FieldType };
+
+    ghost view = { λ field. field };
+
+    ghost views = { λ fields. fields };
+
+    ghost views_each = { record { none = refl; more = λ fields field. refl } };
+
+    ghost format = { field_type };
+
+    fn read(_alloc: Global, cursor: &mut Cursor<'a>) -> Result<FieldType, Fault>
+        ensures reads { Reads field_type.at cursor.old cursor.new (map_ok (λ x. x) result) }
+        ensures names { IfInItem result (λ index. ⊤) }
+        ensures err { IfErr result IsMalformed }
+    {
+        take_field_type(cursor)
+    }
+
+    #[inline(always)]
+    #[tactic(auto, using(crate::proofs::TypeFormatLaws::type_laws))]
+    fn is_lawful()
+        ensures lawful { IsLawful field_type }
+        ensures some { TakesBytes field_type.Encodes }
+    {}
+
+    fn rewrite(rewriter: &mut Rewriter) -> Result<(), Fault>
+        ensures rewrites { Rewrites field_type rewriter.old rewriter.new result }
+    {
+        <FieldType as Rewritable>::rewrite(rewriter)
+    }
+}
+
+impl Rewritable for FieldType {
+    ghost Value = { FieldType };
+
+    ghost format = { field_type };
+
+    #[inline(always)]
+    #[tactic(auto, using(crate::proofs::TypeFormatLaws::type_laws))]
+    fn is_lawful() {}
+
+    fn rewrite(rewriter: &mut Rewriter) -> Result<(), Fault> {
+        take_field_type(rewriter)?;
+        Ok(())
+    }
+}
+
+impl OwnedItem for FieldType {
+    ghost Value = { FieldType };
+
+    ghost views = { λ types. types };
+
+    ghost format = { field_type };
+
+    #[inline(always)]
+    fn read_items(alloc: Global, cursor: &mut Cursor<'_>) -> Result<Items<FieldType>, Fault> {
+        read_list(alloc, cursor)
+    }
+
+    #[inline(always)]
+    fn rewrite_items(rewriter: &mut Rewriter) -> Result<(), Fault> {
+        rewrite_list::<FieldType>(rewriter)
+    }
+}
+
+impl<'a> Readable<'a> for SubType {
+    ghost Value = { SubType };
+
+    ghost view = { λ ty. ty };
+
+    ghost views = { λ types. types };
+
+    ghost views_each = { record { none = refl; more = λ types ty. refl } };
+
+    ghost format = { sub_type };
+
+    fn read(alloc: Global, cursor: &mut Cursor<'a>) -> Result<SubType, Fault> {
+        take_sub_type(alloc, cursor)
+    }
+
+    #[inline(always)]
+    #[tactic(auto, using(crate::proofs::TypeFormatLaws::type_laws))]
+    fn is_lawful()
+        ensures lawful { IsLawful sub_type }
+        ensures some { TakesBytes sub_type.Encodes }
+    {}
+
+    fn rewrite(rewriter: &mut Rewriter) -> Result<(), Fault>
+        ensures rewrites { Rewrites sub_type rewriter.old rewriter.new result }
+    {
+        <SubType as Rewritable>::rewrite(rewriter)
+    }
+}
+
+impl Rewritable for SubType {
+    ghost Value = { SubType };
+
+    ghost format = { sub_type };
+
+    #[inline(always)]
+    #[tactic(auto, using(crate::proofs::TypeFormatLaws::type_laws))]
+    fn is_lawful() {}
+
+    fn rewrite(rewriter: &mut Rewriter) -> Result<(), Fault> {
+        let alloc = rewriter.allocator();
+        take_sub_type(alloc, rewriter)?;
+        Ok(())
+    }
+}
+
+impl OwnedItem for SubType {
+    ghost Value = { SubType };
+
+    ghost views = { λ types. types };
+
+    ghost format = { sub_type };
+
+    #[inline(always)]
+    fn read_items(alloc: Global, cursor: &mut Cursor<'_>) -> Result<Items<SubType>, Fault> {
+        read_list(alloc, cursor)
+    }
+
+    #[inline(always)]
+    fn rewrite_items(rewriter: &mut Rewriter) -> Result<(), Fault> {
+        rewrite_list::<SubType>(rewriter)
+    }
+}
+
+impl<'a> Readable<'a> for TypeEntry {
+    ghost Value = { TypeEntry };
+
+    ghost view = { λ entry. entry };
+
+    ghost views = { λ entries. entries };
+
+    ghost views_each = { record { none = refl; more = λ entries entry. refl } };
+
+    ghost format = { recursive_type };
+
+    fn read(alloc: Global, cursor: &mut Cursor<'a>) -> Result<TypeEntry, Fault> {
+        take_entry(alloc, cursor)
+    }
+
+    #[inline(always)]
+    #[tactic(auto, using(crate::proofs::TypeFormatLaws::type_laws))]
+    fn is_lawful()
+        ensures lawful { IsLawful recursive_type }
+        ensures some { TakesBytes recursive_type.Encodes }
+    {}
+
+    fn rewrite(rewriter: &mut Rewriter) -> Result<(), Fault>
+        ensures rewrites { Rewrites recursive_type rewriter.old rewriter.new result }
+    {
+        <TypeEntry as Rewritable>::rewrite(rewriter)
+    }
+}
+
+impl Rewritable for TypeEntry {
+    ghost Value = { TypeEntry };
+
+    ghost format = { recursive_type };
+
+    #[inline(always)]
+    #[tactic(auto, using(crate::proofs::TypeFormatLaws::type_laws))]
+    fn is_lawful() {}
+
+    #[inline(always)]
+    fn rewrite(rewriter: &mut Rewriter) -> Result<(), Fault> {
+        rewriter.are_bytes();
+        if let Some(scanned) = scan_function_type(rewriter.left()) {
+            rewriter.rewrite_scanned(scanned);
+            return Ok(());
+        }
+        let alloc = rewriter.allocator();
+        take_entry(alloc, rewriter)?;
+        Ok(())
+    }
+}
