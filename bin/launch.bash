@@ -18,13 +18,15 @@ case $program in
     wasmnorm) words=--version trial=module usual="15 minutes" help=crates/wasmnorm/src/texts.rt ;;
     wasmcanon) words=--version trial=--check usual="30 minutes" help=crates/canon_cli/src/options.rt ;;
 esac
+# The exit status if the program can't be built: `git bisect run` skips such a commit.
+not_built=125
 out=$root/crates/$program/out
 built=$out/$program
 # The program, the checksum and stamps of its sources, and the output of the build; without proof in $out/unproved.
 kept=$out/kept
 
 need_rt() {
-    command -v rt >/dev/null || { say "rt not found: put the kit's command rt on the PATH"; exit 5; }
+    command -v rt >/dev/null || { say "rt not found: put the kit's command rt on the PATH"; exit "$not_built"; }
 }
 
 # Prints the kit's version and a checksum of the sources. Without the kit, takes the version of the last build.
@@ -82,7 +84,7 @@ begin() {
 keep() {
     if [ "$(file_stamps)" != "$before" ]; then
         say "the sources changed during the build: run it again"
-        exit 5
+        exit "$not_built"
     fi
     rm -f "$kept/stamps.sh" "$kept/sources"
     mv -f "$1" "$kept/$program"
@@ -93,7 +95,7 @@ keep() {
 fail() {
     tail -n 5 "$kept/log" | cut -c 1-300 >&2
     say "$1: the output of the build is in $kept/log"
-    exit 5
+    exit "$not_built"
 }
 
 # Proves and builds a crate in its folder, and the program in the last one.
@@ -148,7 +150,7 @@ build_unproved() {
     begin
     room=$(mktemp -d "$kept/room.XXXXXX")
     trap 'rm -rf "$room"' EXIT
-    with_clock "building without proof: about half a minute" 10 try "$room"
+    with_clock "building all crates without proof" 10 try "$room"
     grep -q '^run=ended ' "$kept/log" && [ -x "$room/kept" ] || fail "build without proof failed"
     keep "$room/kept" "built without proof in $((SECONDS - began)) seconds"
     rm -rf "$room"
@@ -159,11 +161,11 @@ build_unproved() {
 print_help() {
     sed -n '/^const HELP: /,/";$/ { /^const/d; s/";$//; p }' "$help"
     cat <<END_OF_HELP
-  5  the program could not be built
+  $not_built  the program could not be built
 
 The first run proves and builds the program: about $usual on two cores.
 With --unproved as the first argument, $program runs without proof. The first
-such run builds the program: about half a minute.
+such run builds it, and shows for how long.
 END_OF_HELP
 }
 

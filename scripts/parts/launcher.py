@@ -12,6 +12,8 @@ import time
 from parts.common import HELP, ROOT, VERSION, help_of, kit, lacks, read_terminal, room, run as run_command
 
 USAGE = "usage: wasmnorm calls|types|module"
+# The status of a launcher that can't build its program.
+NOT_BUILT = 125
 # Seconds after which stamps are kept: by the launcher's clock of whole seconds, they are then more than one second old.
 UNTIL_STAMPS_ARE_KEPT = 2.1
 
@@ -176,8 +178,8 @@ def words(it):
             it.check(name, it.status == 0)
             it.check(f"{name}: the text of the source", begins_with_help_of_the_source(it, program))
             it.check(f"{name}: the usage", re.search(f"^Usage: {program} .*$", it.out, re.MULTILINE))
-            it.check(f"{name}: the statuses", re.search("^  4  .*\n  5  .*$", it.out, re.MULTILINE))
-            it.check(f"{name}: no code", not re.search(";$|^const", it.out, re.MULTILINE))
+            it.check(f"{name}: the statuses", re.search("^  [45]  .*\n  125  .*$", it.out, re.MULTILINE))
+            it.check(f"{name}: no code", not re.search('";$|^const', it.out, re.MULTILINE))
             it.fits(f"{name}: lines of 80 columns")
             it.is_silent(f"{name}: no rt")
         for option in ("--version", "-V"):
@@ -201,7 +203,7 @@ def begins_with_help_of_the_source(it, program):
 def first_use(it):
     it.put(it.room / "no_proof", "")
     it.launch("calls")
-    it.answers("a failed proof", 5, "")
+    it.answers("a failed proof", NOT_BUILT, "")
     it.says("a failed proof: the output of rt", "not proved")
     (it.room / "no_proof").unlink()
     it.launch("calls")
@@ -290,7 +292,7 @@ def changed_trees(it):
     it.put(it.room / "edit", "printf 6 >../low/src/lib.rt\n")
     it.write("crates/low/src/lib.rt", "5")
     it.launch("calls")
-    it.answers("an edit during the proof", 5, "")
+    it.answers("an edit during the proof", NOT_BUILT, "")
     (it.room / "edit").unlink()
     it.proves_again("after an edit during the proof", "B6")
 
@@ -321,7 +323,7 @@ def without_kit(it):
         it.answers("without the kit", 0, "calls of B6")
         it.write("crates/low/src/lib.rt", "7")
         it.launch("calls")
-        it.answers("changed, without the kit", 5, "")
+        it.answers("changed, without the kit", NOT_BUILT, "")
     it.path = path
 
 
@@ -331,7 +333,7 @@ def unproved(it):
     it.launch("--unproved", "module")
     it.answers("unproved, the first use", 7, f"unproved B6: module: {it.room}: bytes")
     it.says("unproved, the first use: it says so", "without proof: running the sources as they are")
-    it.says("unproved, the first use: how long", "building without proof: about half a minute")
+    it.says("unproved, the first use: what it does", "building all crates without proof")
     it.builds("unproved, the first use: no proof", "try wasmnorm")
     it.tried("unproved, the first use: the trial", "wasmnorm", "module")
     it.leaves_nothing("unproved, the first use: no other file is left")
@@ -365,7 +367,7 @@ def failures_unproved(it):
 
 def fails_unproved(it, name):
     it.launch("--unproved", "calls")
-    it.answers(f"unproved, {name}", 5, "")
+    it.answers(f"unproved, {name}", NOT_BUILT, "")
     it.builds(f"unproved, {name}: no proof", "try wasmnorm")
     it.leaves_nothing(f"unproved, {name}: no other file is left")
 
@@ -445,7 +447,7 @@ def damaged_caches(it):
     it.put(it.room / "edit", "printf 7 >../low/src/lib.rt\n")
     clone(it, third)
     it.launch("calls")
-    it.check("an edit during the proof: no entry of the cache", it.status == 5 and not it.cache.exists())
+    it.check("an edit during the proof: no entry of the cache", it.status == NOT_BUILT and not it.cache.exists())
     (it.room / "edit").unlink()
     it.launch("--unproved", "calls")
     it.check("unproved: no entry of the cache", it.status == 7 and not it.cache.exists())
@@ -493,7 +495,7 @@ def on_a_terminal(it):
     run_command(it.root / "bin/wasmnorm", "--unproved", "calls", stderr=error, env=environment)
     os.close(error)
     it.err = read_terminal(terminal).decode("utf-8", "replace")
-    line = r"\rwasmnorm: building without proof: about half a minute: "
+    line = r"\rwasmnorm: building all crates without proof: "
     it.says("progress on a terminal", rf"{line}0 s({line}\d+ s)*\r\n")
 
 

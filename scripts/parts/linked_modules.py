@@ -22,10 +22,10 @@ def fault_of_normal(modules, module):
     return "" if again.stdout == ran.stdout else "not its own normal form"
 
 
-def fault_of_canonical(modules, module):
+def fault_of_canonical(modules, module, *words):
     """Writes the canonical form of a module beside it, and returns what is wrong with it."""
     canonical = beside(module, "canonical")
-    ran = run_command(modules.wasmcanon, module, "-o", canonical)
+    ran = run_command(modules.wasmcanon, module, "-o", canonical, *words)
     if ran.returncode:
         return said(ran)
     if canonical.stat().st_size > beside(module, "normal").stat().st_size:
@@ -84,7 +84,7 @@ class Modules:
         self.normalises(name, module)
         self.is_listed(name, module)
         if self.canonicalises:
-            self.holds(f"{name}: canonical form", fault_of_canonical(self, module))
+            self.holds(f"{name}: canonical form", fault_of_canonical(self, module, "--force"))
 
     def rewrites_linked(self, name, module, compiled):
         self.is_listed(name, module)

@@ -12,204 +12,11 @@ import subprocess
 from parts.common import HELP, ROOT, both_programs, lacks, read_terminal, room, run as run_command, under
 from parts.listing_cases import (ALL_DIFFERENCES, CALL_AS_JSON, CUT_LISTINGS, EVERY, EVERY_AS_JSON, INSTRUCTIONS,
                                  LISTING, LISTINGS, code)
-
-HEADER = b"\0asm\1\0\0\0"
-ZEROS = bytes(49_999_998)
-TYPE, IMPORT, FUNCTION = b"\1\4\1\x60\0\0", b"\2\1\0", b"\3\2\1\0"
-# A section `name` with the name "f" of function 0, and a section `producers` with the language C of an empty version,
-# both padded; the same in minimal encoding; and what is no such section, though its contents look alike.
-PADDED_NAMES = b"\0\x0F\4name\1\x87\0\x81\0\x80\0\x81\0f"
-NAMES = b"\0\x0B\4name\1\4\1\0\1f"
-PADDED_PRODUCERS = b"\0\x1D\x09producers\x81\0\x88\0language\x81\0\x81\0C\x80\0"
-PRODUCERS = b"\0\x18\x09producers\1\x08language\1\1C\0"
-OTHER_NAMES = b"\0\x0F\4nabe\1\x87\0\x81\0\x80\0\x81\0f\0\x0A\4name\1\x84\0\1\0"
-# The files that the program is given, by their names.
-FILES = {
-    # A module with a size of two bytes, a final subtype that is written out, and a memory whose minimum has two bytes;
-    # its canonical form; and the module cut within its last section.
-    "long": HEADER + b"\1\x86\0\1\x4F\0\x60\0\0\5\4\1\0\x81\0",
-    "canonical": HEADER + b"\1\4\1\x60\0\0\5\3\1\0\1",
-    "cut": HEADER + b"\1\x86\0\1\x4F\0\x60\0\0\5\4\1\0\x81",
-    # The module with a custom section .debug_ before its sections, and one whose memory has a minimum of 2.
-    "debug": HEADER + b"\0\x08\7.debug_\1\x86\0\1\x4F\0\x60\0\0\5\4\1\0\x81\0",
-    "other": HEADER + b"\1\4\1\x60\0\0\5\3\1\0\2",
-    # Their first sections, and a module of a custom section whose name is an escape character.
-    "nothing": b"",
-    "header": HEADER,
-    "types": HEADER + b"\1\4\1\x60\0\0",
-    "cut_type": HEADER + b"\1\x86\0\1\x4F\0\x60\0",
-    "escape": HEADER + b"\0\2\1\x1B",
-    # Custom sections: one of 50 MB with a size of five bytes, its canonical form, and two of which .debug_ is dropped.
-    "big": HEADER + b"\0\x80\xE1\xEB\x97\0\1a" + ZEROS,
-    "big_canonical": HEADER + b"\0\x80\xE1\xEB\x17\1a" + ZEROS,
-    "customs": HEADER + b"\0\x08\7.debug_\0\x82\0\1a",
-    "custom": HEADER + b"\0\2\1a",
-    # A custom section of 2,000 bytes with a size of three bytes.
-    "large": HEADER + b"\0\xD2\x8F\0\1a" + bytes(2000),
-    # A custom section whose name's length has two bytes, a function section whose count has two, a start section whose
-    # index has two, and a code section with an i32.const whose number has two in the second of two functions.
-    "numbers": HEADER + b"\0\4\x81\0ax\3\4\x82\0\0\0\x08\2\x80\0\x0A\x0A\2\2\0\x0B\5\0\x41\x80\0\x0B",
-    # Every kind of section.
-    "every": EVERY,
-    # Sections `name` and `producers` whose sizes, counts, lengths and indices have two bytes each; the same contents
-    # under another name, and some that are cut. Then this module with minimal contents, and its names before a .debug_.
-    "padded": HEADER + TYPE + PADDED_NAMES + PADDED_PRODUCERS + OTHER_NAMES,
-    "unpadded": HEADER + TYPE + NAMES + PRODUCERS + OTHER_NAMES,
-    "padded_debug": HEADER + PADDED_NAMES + b"\0\x08\7.debug_",
-    # Custom sections of four names.
-    "named": HEADER + b"\0\5\4name\0\5\4nabe\0\x08\7.debug_\0\2\1e",
-}
-EXPORT, CODE, DATA_COUNT, DATA = b"\7\1\0", b"\x0A\4\1\2\0\x0B", b"\x0C\1\1", b"\x0B\3\1\1\0"
-# A function with memory.init 0 0 as its fourth instruction.
-INIT = b"\x0A\x0E\1\x0C\0\x41\0\x41\0\x41\0\xFC\x08\0\0\x0B"
-# Modules that break a rule: what each is, the message, and the bytes after the header.
-DISORDERED = [
-    ("an import section after the functions", "import section, offset 0x12: out of order: expected before the function "
-     "section", TYPE + FUNCTION + IMPORT),
-    ("a second type section", "type section, offset 0xe: second type section", TYPE + TYPE),
-    ("a custom section between two of one kind", "type section, offset 0x12: second type section",
-     TYPE + b"\0\2\1a" + TYPE),
-    ("tags before memories", "memory section, offset 0xb: out of order: expected before the tag section",
-     b"\x0D\1\0\5\1\0"),
-    ("a data count after the code", "data count section, offset 0x18: out of order: expected before the code section",
-     TYPE + FUNCTION + CODE + DATA_COUNT + DATA),
-    ("no code", "code section: wrong number of functions: expected 1 as in the function section, found 0",
-     TYPE + FUNCTION),
-    ("code without functions", "code section: wrong number of functions: expected 0 as in the function section, found "
-     "1", TYPE + CODE),
-    ("no data", "data section: wrong number of segments: expected 1 as in the data count section, found 0",
-     TYPE + DATA_COUNT),
-    ("no data count", "code section, function 0, instruction 3: data segment used without a data count section",
-     TYPE + FUNCTION + INIT + DATA),
-]
-# The sections in the standard's order, and code that names data segments.
-IN_ORDER = [TYPE + IMPORT + FUNCTION + b"\4\1\0\5\1\0\x0D\1\0\6\1\0" + EXPORT + b"\x08\1\0\x09\1\0" + DATA_COUNT
-            + CODE + DATA, TYPE + FUNCTION + DATA_COUNT + INIT + DATA]
-NO_HEADER = "offset 0x0: not a WebAssembly module: expected the header 00 61 73 6D 01 00 00 00"
-# Inputs that are no module: what each is, the message, and its beginning.
-FOREIGN = [(found, f"{NO_HEADER}, found {found}", data) for found, data in (
-    ("no bytes", b""), ("a part of it", b"\0as"), ("another version", b"\0asm\2"),
-    ("an `ar` archive", b"!<arch>\nfoo.o/"), ("a gzip file", b"\x1F\x8B\x08\0\0\0\0\0\0"),
-    ("LLVM bitcode", b"BC\xC0\xDE5\x14\0\0"), ("the text format", b"(module $a)"),
-    ("text", b"#!/bin/sh\necho \xC3\xA4"), ("7F 45 4C 46", b"\x7FELF\2\1\1\0\0"),
-)] + [
-    ("a component", "offset 0x0: unsupported version 0x1000d: expected 1, found a component", b"\0asm\x0D\0\1\0"),
-    ("version 2", "offset 0x0: unsupported version 0x2: expected 1", b"\0asm\2\0\0\0"),
-]
-
-REPORT = b"""\
-section    before     after     saved  longer  out of  kind
-      0         9         6         3       1       1  type
-      1         6         5         1       1       1  memory
-  total        23        19         4       2       2  items
-                                            1       2  section sizes
-                                            0       2  item counts
-"""
-REPORT_OF_NUMBERS = b"""\
-section    before     after     saved  longer  out of  kind
-      0         6         5         1       1       1  custom "a"
-      1         6         5         1       0       2  function
-      2         4         3         1       1       1  start
-      3        12        11         1       1       2  code
-  total        36        32         4       3       6  items
-                                            0       4  section sizes
-                                            1       2  item counts
-"""
-REPORT_OF_NAMES = b"""\
-section    before     after     saved  longer  out of  kind
-      0         6         6         0       0       1  type
-      1        17        13         4       0       1  custom "name"
-      2        31        26         5       0       1  custom "producers"
-      3        17        17         0       0       1  custom "nabe"
-      4        12        12         0       0       1  custom "name"
-  total        91        82         9       0       5  items
-                                            0       5  section sizes
-                                            0       1  item counts
-"""
-# Of each section in the report of numbers: the longer items, the items, and whether the size or the count is longer.
-ENCODINGS = [(1, 1, False, False), (0, 2, False, True), (1, 1, False, False), (1, 2, False, False)]
-
-CUT = "memory section, offset 0x12: size 4 too large: 3 bytes left"
-LONG_SIZE = "not minimally encoded: 2 bytes, minimal is 1"
-NOT_CANONICAL = f"not canonical: type section, offset 0x9: {LONG_SIZE}"
-# What is told as JSON of the long module and of the one that is cut.
-LONG_AS_JSON = {"file": "long", "canonical": False, "section": 0, "id": 1, "kind": "type", "section_offset": 8,
-                "item": None, "local_group": None, "instruction": None, "offset": 9, "reason": LONG_SIZE}
-CUT_AS_JSON = {"file": "cut", "error": f"cut: {CUT}", "section": 1, "id": 5, "kind": "memory", "section_offset": 17,
-               "item": None, "local_group": None, "instruction": None, "offset": 18,
-               "reason": "size 4 too large: 3 bytes left"}
-STALE = """\
-warning: {file}: custom sections .debug_*: offsets are stale, because bytes have moved
-help: drop such sections with --strip-offsets, or generate them again from the output
-"""
-
-NO_NUMBER = "unexpected end: expected LEB128 number"
-# Malformed modules: what each is, the message, and the bytes after the header and an empty type section, from 0xb on.
-MALFORMED = [
-    ("a value type", "type section, type 0, offset 0x10: invalid value type 0x7a", b"\1\5\1\x60\1\x7A\0"),
-    ("a mutability", "type section, type 1, offset 0x13: invalid mutability 0x02", b"\1\7\2\x60\0\0\x5E\x7F\2"),
-    ("an import of another kind", "import section, import 0, offset 0x12: invalid import kind 0x05",
-     b"\2\7\1\1a\1b\5\0"),
-    ("an import's name", "import section, import 0, offset 0x11: name isn't UTF-8 from its byte 0 on",
-     b"\2\7\1\1a\1\xFF\0\0"),
-    ("an index of six bytes", "import section, import 0, offset 0x13: LEB128 number too long: more than 5 bytes",
-     b"\2\x0C\1\1a\1b\0\x80\x80\x80\x80\x80\0"),
-    ("an instruction that is cut", f"code section, function 0, offset 0x13: {NO_NUMBER}",
-     b"\x0A\6\1\4\1\1\x7F\x41"),
-    ("an opcode of two bytes", "code section, function 0, offset 0x10: unknown opcode 0xFD 0x12C",
-     b"\x0A\7\1\5\0\xFD\xAC\2\x0B"),
-    ("an alignment", "code section, function 0, offset 0x11: alignment flags 128 out of range: expected less than 128",
-     b"\x0A\x08\1\6\0\x28\x80\1\0\x0B"),
-    ("a group of locals of no type", "code section, function 0, local group 1, offset 0x13: invalid value type 0x00",
-     b"\x0A\x08\1\6\2\1\x7F\1\0\x0B"),
-    ("a count of locals", "code section, function 0, local group 0, offset 0x10: LEB128 number out of range of u32",
-     b"\x0A\x0A\1\x08\1\xFF\xFF\xFF\xFF\x1F\x7F\x0B"),
-    ("a function body without bytes", f"code section, function 0, offset 0xf: {NO_NUMBER}", b"\x0A\2\1\0"),
-    ("a function body that is cut", "code section, function 0, offset 0xe: size 5 too large: 2 bytes left",
-     b"\x0A\4\1\5\0\0"),
-    ("an export of another kind", "export section, export 0, offset 0x10: invalid export kind 0x05", b"\7\5\1\1a\5\0"),
-    ("a segment of another form", "element section, segment 0, offset 0xe: invalid element segment form 8",
-     b"\x09\2\1\x08"),
-    ("a segment of another kind", "element section, segment 1, offset 0x12: invalid element kind 0x01",
-     b"\x09\7\2\1\0\0\1\1\0"),
-    ("trailing bytes", "function section, offset 0xf: 2 trailing bytes", b"\3\4\1\0\0\0"),
-    ("a count that is cut", f"memory section, offset 0xe: {NO_NUMBER}", b"\5\1\x80"),
-    ("an index that is cut", f"start section, offset 0xe: {NO_NUMBER}", b"\x08\1\x80"),
-    ("bytes after an index", "start section, offset 0xf: 2 trailing bytes", b"\x08\4\x80\0\0\0"),
-    ("bytes after a count", "data count section, offset 0xe: 2 trailing bytes", b"\x0C\3\0\0\0"),
-    ("a name that is cut", "custom section, offset 0xd: size 5 too large: 2 bytes left", b"\0\3\5ab"),
-    ("another id", "section 1, offset 0xb: unknown section id 14", b"\x0E\0"),
-    ("another id after sections out of order", "section 3, offset 0x11: unknown section id 14",
-     b"\5\1\0\1\1\0\x0E\0"),
-    ("a body that is cut", "data section, offset 0xc: size 5 too large: 2 bytes left", b"\x0B\5\0\0"),
-    ("no size", f"data section, offset 0xc: {NO_NUMBER}", b"\x0B"),
-    ("a section that is cut after one that is longer", f"type section, offset 0x10: {NO_NUMBER}",
-     b"\5\x81\0\0\1"),
-]
-# Modules that aren't canonical: what is longer, the message, and the bytes after the header.
-LONGER = [
-    ("a size", f"type section, offset 0x9: {LONG_SIZE}", b"\1\x81\0\0"),
-    ("the size of the second section", "memory section, offset 0xc: not minimally encoded: 5 bytes, minimal is 1",
-     b"\1\1\0\5\x81\x80\x80\x80\0\0"),
-    ("a count", f"memory section, offset 0xa: {LONG_SIZE}", b"\5\6\x82\0\0\0\0\0"),
-    ("a form", "type section, type 0, offset 0xb: not minimally encoded: 5 bytes, minimal is 3",
-     b"\1\6\1\x4F\0\x60\0\0"),
-    ("a memory", "memory section, memory 1, offset 0xd: not minimally encoded: 3 bytes, minimal is 2",
-     b"\5\6\2\0\0\0\x81\0"),
-    ("an instruction", "code section, function 1, offset 0x1b: not minimally encoded: 3 bytes, minimal is 2",
-     TYPE + b"\3\3\2\0\0\x0A\x0A\2\2\0\x0B\5\0\x41\x80\0\x0B"),
-    ("a function's size", f"code section, function 0, offset 0x15: {LONG_SIZE}",
-     TYPE + FUNCTION + b"\x0A\5\1\x82\0\0\x0B"),
-    ("a number of local groups", f"code section, function 0, offset 0x16: {LONG_SIZE}",
-     TYPE + FUNCTION + b"\x0A\5\1\3\x80\0\x0B"),
-    ("a number of locals", f"code section, function 0, local group 0, offset 0x17: {LONG_SIZE}",
-     TYPE + FUNCTION + b"\x0A\7\1\5\1\x81\0\x7F\x0B"),
-    ("a local's type", "code section, function 0, local group 0, offset 0x17: not minimally encoded",
-     TYPE + FUNCTION + b"\x0A\7\1\5\1\1\x63\x70\x0B"),
-    ("an index", f"start section, offset 0xa: {LONG_SIZE}", b"\x08\2\x80\0"),
-    ("a name's length", f"custom section, offset 0xa: {LONG_SIZE}", b"\0\4\x81\0ax"),
-    ("a count alone", f"data count section, offset 0xd: {LONG_SIZE}", b"\5\1\0\x0C\2\x80\0"),
-]
+from parts.wasmcanon_cases import (CUT, CUT_AS_JSON, DISORDERED, ENCODINGS, FILES, FOREIGN, FUNCTION, HEADER, IN_ORDER,
+                                   LONGER, LONG_AS_JSON, LONG_SIZE, MALFORMED, NAMES, NO, NOT_CANONICAL, NO_HEADER,
+                                   PADDED_NAMES, PADDED_PRODUCERS, PRODUCERS, REPORT, REPORT_OF_NAMES,
+                                   REPORT_OF_NUMBERS, STALE, STALE_NAMES, STALE_SECTIONS, TYPE)
+from parts.wasmcanon_files import try_links, try_object_files, try_outputs, try_read_only, try_several
 
 
 class Runs:
@@ -263,106 +70,6 @@ class Runs:
         (self.room / name).symlink_to(target)
 
 
-def try_outputs(runs):
-    runs.holds("a file", runs.writes("long"))
-    runs.holds("what is canonical", runs.writes("canonical"))
-    for name, words in (("standard input", []), ("standard input by its name", ["-", "-o", "-"])):
-        with open(runs.room / "long", "rb") as source:
-            runs.run(*words, stdin=source)
-        runs.holds(name, runs.status == 0 and runs.out == FILES["canonical"])
-    runs.fresh()
-    runs.holds("a new file", runs.puts("long", "-o", "there"))
-    runs.fresh()
-    runs.holds("a new file by the long option", runs.puts("--output=there", "long"))
-    runs.fresh(0o640)
-    right = runs.puts("long", "-o", "there")
-    runs.holds("the permissions of a file", right and (runs.room / "there").stat().st_mode & 0o777 == 0o640)
-    runs.fresh()
-    runs.link("link", "there")
-    runs.holds("a link", runs.puts("long", "-o", "link") and (runs.room / "link").is_symlink())
-    (runs.room / "there").unlink()
-    runs.holds("a link that leads nowhere", runs.puts("long", "-o", "link") and (runs.room / "link").is_symlink())
-    runs.fresh()
-    runs.holds("a file that a killed run left", goes_past_a_stale_file(runs))
-    runs.fresh()
-    (runs.room / "there").write_bytes(FILES["long"])
-    runs.holds("a file in its own place", runs.puts("there", "-o", "there"))
-    runs.link("device", "/dev/null")
-    runs.holds("a device", runs.answers(0, "", "long", "-o", "device"))
-    runs.fresh(0o600)
-    right = runs.puts("long", "-o", "there")
-    runs.holds("the permissions of a private file", right and (runs.room / "there").stat().st_mode & 0o777 == 0o600)
-    try_owner(runs)
-    try_synced(runs)
-
-
-def try_owner(runs):
-    """A file that is replaced keeps its owner and its group, if the program may give them."""
-    if os.geteuid():
-        runs.report.skipped("the owner of a file", "only root may give files away")
-        return
-    runs.fresh()
-    os.chown(runs.room / "there", 1234, 2345)
-    right, found = runs.puts("long", "-o", "there"), (runs.room / "there").stat()
-    runs.holds("the owner of a file", right and (found.st_uid, found.st_gid) == (1234, 2345))
-    runs.fresh()
-
-
-def try_synced(runs):
-    """The bytes reach the disk before their file gets the name of the output."""
-    if lacks(runs.report, "strace", "writes were not traced"):
-        return
-    runs.fresh()
-    words = ["strace", "-f", "-e", "trace=fsync,fdatasync,rename", runs.program, "long", "-o", "there"]
-    ran = run_command(*words, cwd=runs.room)
-    calls = re.findall(rb"^(?:\[pid +\d+\] )?(\w+)\(", ran.stderr, re.MULTILINE)
-    runs.status, runs.out, runs.err = ran.returncode, ran.stdout, ran.stderr.decode("utf-8", "replace")
-    runs.holds("a file is written to the disk and then renamed", runs.status == 0 and calls in (
-        [b"fsync", b"rename"], [b"fdatasync", b"rename"]))
-
-
-def goes_past_a_stale_file(runs):
-    stale = runs.room / "there.0.wasmcanon"
-    stale.touch()
-    right = (runs.answers(0, "warning: there.0.wasmcanon: left by a killed run", "long", "-o", "there")
-             and runs.there() == FILES["canonical"] and stale.exists())
-    stale.unlink()
-    return right and runs.leaves_nothing_beside()
-
-
-def try_links(runs):
-    runs.link("a", "b")
-    runs.link("b", "gone")
-    (runs.room / "gone").unlink(missing_ok=True)
-    right = runs.answers(0, "", "long", "-o", "a") and (runs.room / "gone").read_bytes() == FILES["canonical"]
-    runs.holds("a chain of links that leads nowhere", right and (runs.room / "b").is_symlink())
-    runs.link("b", "a")
-    right = runs.answers(4, "error: a: write failed: ", "long", "-o", "a")
-    runs.holds("a loop of links", right and (runs.room / "a").is_symlink() and (runs.room / "b").is_symlink())
-    os.unlink(runs.room / "a")
-    os.symlink(b"\xFF", os.fsencode(runs.room / "a"))
-    right = runs.answers(4, "error: a: write failed: ", "long", "-o", "a")
-    runs.holds("a link to a name that isn't UTF-8", right and (runs.room / "a").is_symlink())
-    for name in ("a", "b", "gone"):
-        (runs.room / name).unlink()
-    (runs.room / "beside").mkdir(exist_ok=True)
-    (runs.room / "beside/there").unlink(missing_ok=True)
-    runs.link("beside/link", "there")
-    runs.fresh()
-    right = runs.answers(0, "", "long", "-o", "beside/link") and runs.there() == b"kept"
-    runs.holds("a link in another folder is followed from there",
-               right and (runs.room / "beside/there").read_bytes() == FILES["canonical"])
-
-
-def try_read_only(runs):
-    runs.fresh(0o444)
-    message = "there: read-only file: use --force to replace it"
-    runs.holds("a read-only file", runs.refuses(2, f"error: {message}", "long", "-o", "there"))
-    right = runs.puts("long", "-o", "there", "--force")
-    runs.holds("a read-only file, by force", right and (runs.room / "there").stat().st_mode & 0o777 == 0o444)
-    runs.fresh()
-
-
 def try_order(runs):
     for name, message, data in DISORDERED:
         (runs.room / "disordered").write_bytes(HEADER + data)
@@ -373,34 +80,6 @@ def try_order(runs):
     for data in IN_ORDER:
         (runs.room / "ordered").write_bytes(HEADER + data)
         runs.holds("sections in order", runs.writes("ordered", data=HEADER + data))
-
-
-def try_several(runs):
-    for name in ("one", "two"):
-        (runs.room / name).write_bytes(FILES["long"])
-    (runs.room / "into").mkdir(exist_ok=True)
-    right = runs.answers(1, "error: cut: ", "one", "cut", "two", "-o", "into")
-    written = {file.name: file.read_bytes() for file in (runs.room / "into").iterdir()}
-    runs.holds("a folder", right and written == {name: FILES["canonical"] for name in ("one", "two")})
-    runs.holds("two of one name", runs.answers(2, "error: modules that go to a folder need names that differ", "one",
-                                               "into/one", "-o", "into/"))
-    runs.holds("standard input to a folder",
-               runs.answers(2, "error: modules that go to a folder need names", "-o", "into"))
-    runs.holds("no such folder", runs.answers(4, "error: gone/one: write failed: ", "one", "-o", "gone/"))
-    runs.holds("several to one file",
-               runs.answers(2, "error: several modules need -o FOLDER/", "one", "two", "-o", "there"))
-    right = runs.answers(1, "error: cut: ", "--in-place", "one", "cut", "two")
-    runs.holds("files in their places", right and all((runs.room / name).read_bytes() == FILES["canonical"]
-                                                      for name in ("one", "two")))
-    runs.holds("several checks", runs.answers(1, f"error: long: {NOT_CANONICAL}", "--check", "one", "long", "two"))
-    runs.holds("several checks, one not read", runs.answers(4, "error: none: read failed: ", "--check", "none", "long"))
-    runs.run("--report", "one", "long")
-    right = runs.out.startswith(b"one:\n") and b"\nlong:\n" + REPORT in runs.out
-    runs.holds("several reports", runs.status == 0 and right)
-    for words in (["--in-place"], ["--in-place", "-"], ["one", "two"], ["--check", "-", "-"], ["--diff", "-", "-"],
-                  ["--diff", "one"], ["--diff", "one", "two", "one"], ["--in-place", "one", "-o", "two"],
-                  ["--keep", "a", "one"], ["--no-custom", "one"], ["--strip", "a*b*", "one"]):
-        runs.holds(" ".join(words), runs.answers(2, "error: ", *words) and "\nUsage: wasmcanon " in runs.err)
 
 
 def sum_of(data):
@@ -421,6 +100,10 @@ def try_hashes(runs):
     runs.run("--hash", "--no-custom", "debug", "long", "named")
     wanted = [f"{hashed}  debug", f"{hashed}  long", f"{sum_of(HEADER)}  named"]
     runs.holds("hashes without custom sections", runs.status == 0 and runs.out.decode().splitlines() == wanted)
+
+
+def stale(file, names=".debug_"):
+    return STALE.format(file=file, names=names)
 
 
 def custom_sections(data):
@@ -447,9 +130,12 @@ def try_selections(runs):
     ):
         right = runs.answers(0, "", *words, "named") and custom_sections(runs.out) == wanted
         runs.holds(" ".join(words), right)
+    (runs.room / "stale").write_bytes(HEADER + STALE_SECTIONS)
+    runs.run("stale")
+    runs.holds("a warning of several sections", runs.status == 0 and runs.err == stale("stale", STALE_NAMES))
     runs.fresh()
     runs.run("--strip", "name", "debug", "-o", "there")
-    runs.holds("a warning of offsets that stay", runs.status == 0 and runs.err == STALE.format(file="debug"))
+    runs.holds("a warning of offsets that stay", runs.status == 0 and runs.err == stale("debug"))
 
 
 def try_names(runs):
@@ -465,14 +151,14 @@ def try_names(runs):
                                           + PRODUCERS))
     runs.holds("names as they are, checked", runs.answers(0, "", "--check", "padded"))
     message = "not canonical: custom section, offset 0x15: not minimally encoded: 10 bytes, minimal is 6"
-    runs.holds("names, checked", runs.answers(1, f"error: padded: {message}\n", "--check", "--names", "padded"))
+    runs.holds("names, checked", runs.answers(NO, f"error: padded: {message}\n", "--check", "--names", "padded"))
     (runs.room / "producers").write_bytes(HEADER + NAMES + PADDED_PRODUCERS)
     message = f"not canonical: custom section, offset 0x21: {LONG_SIZE}"
-    runs.holds("producers, checked", runs.answers(1, f"error: producers: {message}\n", "--check", "--names",
-                                                  "producers"))
+    runs.holds("producers, checked",
+               runs.answers(NO, f"error: producers: {message}\n", "--check", "--names", "producers"))
     runs.holds("minimal names, checked", runs.answers(0, "", "--check", "--names", "unpadded"))
     runs.holds("a longer module, checked with names",
-               runs.answers(1, f"error: long: {NOT_CANONICAL}", "--check", "--names", "long"))
+               runs.answers(NO, f"error: long: {NOT_CANONICAL}", "--check", "--names", "long"))
     runs.run("--hash", "--names", "padded")
     runs.holds("a hash of names", runs.status == 0 and runs.out.decode() == f"{sum_of(unpadded)}  padded\n")
     runs.run("--report", "--names", "padded")
@@ -484,7 +170,7 @@ def try_names(runs):
     runs.holds("names as JSON", told == [[1, 0, 0x0E, 0x15]])
     runs.holds("no offsets are stale", runs.answers(0, "", "padded_debug"))
     runs.run("--names", "padded_debug")
-    runs.holds("a warning of offsets after names", runs.status == 0 and runs.err == STALE.format(file="padded_debug"))
+    runs.holds("a warning of offsets after names", runs.status == 0 and runs.err == stale("padded_debug"))
     runs.holds("names of no module", runs.answers(1, f"error: cut: {CUT}\n", "--names", "cut"))
     for words in (["--diff", "long"], ["--list"]):
         right = runs.answers(2, "error: ", "--names", *words, "long")
@@ -523,6 +209,13 @@ def try_json(runs):
     runs.run("--check", "--json", "longer")
     told = [[it[name] for name in ("section", "id", "item", "instruction", "offset")] for it in list_in(runs.out)]
     runs.holds("an instruction as JSON", told == [[2, 10, 0, 23, 23]])
+    quoted = 'back\\slash "quoted"'
+    (runs.room / quoted).write_bytes(HEADER + b'\0\5\4a\\"b')
+    runs.run("--list", "--json", quoted)
+    told = list_in(runs.out)
+    right = told[0]["file"] == quoted and json.dumps('a\\"b') in json.dumps(told)
+    runs.holds("backslashes and quotes as JSON", runs.status == 0 and right)
+    (runs.room / quoted).unlink()
     runs.run("--hash", "--json", "long")
     runs.holds("hashes as JSON", list_in(runs.out) == [{"file": "long", "sha256": sum_of(FILES["canonical"])}])
     runs.run("--diff", "--json", "long", "canonical")
@@ -530,18 +223,31 @@ def try_json(runs):
                == {"files": ["long", "canonical"], "same": True})
     runs.run("--diff", "--json", "long", "other")
     told = json.loads(runs.out)
-    runs.holds("a difference as JSON", runs.status == 1 and told["same"] is False
+    runs.holds("a difference as JSON", runs.status == NO and told["same"] is False
                and told["difference"].startswith("memory section, offset 0x12"))
 
 
 def try_checks(runs):
     runs.holds("a canonical module, checked", runs.answers(0, "", "--check", "canonical"))
-    runs.holds("a longer module, checked", runs.answers(1, f"error: long: {NOT_CANONICAL}", "--check", "long"))
+    runs.holds("a longer module, checked", runs.answers(NO, f"error: long: {NOT_CANONICAL}", "--check", "long"))
     runs.holds("no module, checked", runs.answers(1, f"error: cut: {CUT}\n", "--check", "cut"))
     for name, message, data in LONGER:
         (runs.room / "longer").write_bytes(HEADER + data)
-        right = runs.answers(1, f"error: longer: not canonical: {message}\n", "--check", "longer")
+        right = runs.answers(NO, f"error: longer: not canonical: {message}\n", "--check", "longer")
         runs.holds(f"{name} that is longer, checked", right)
+
+
+def try_quiet(runs):
+    for status, words in ((0, ["--check", "canonical"]), (NO, ["--check", "long"]), (1, ["--check", "cut"]),
+                          (4, ["--check", "none"]), (1, ["--check", "long", "cut"]),
+                          (0, ["--diff", "long", "canonical"]), (NO, ["--diff", "long", "other"]),
+                          (1, ["--diff", "long", "cut"])):
+        for option in ("--quiet", "-q"):
+            runs.holds(" ".join([*words, option]), runs.answers(status, "", *words, option) and not runs.out)
+    runs.holds("not canonical and malformed", runs.answers(1, "error: ", "--check", "long", "cut"))
+    for words in (["-o", "there"], ["--hash"], ["--list"], ["--report"], ["--check", "--json"]):
+        right = runs.answers(2, "error: ", "--quiet", *words, "long")
+        runs.holds(f"--quiet {words[0]}", right and "\nUsage: wasmcanon " in runs.err)
 
 
 def after_size(body):
@@ -563,12 +269,12 @@ def large_modules():
     """Modules of which a copy would be noticed: what each has, the status and message of a check, and its bytes."""
     nops, not_minimal = b"\1" * 30_000_000, "not minimally encoded: {} bytes, minimal is {}"
     yield "a canonical section", 0, "", FILES["big_canonical"]
-    yield "a longer size", 1, "not canonical: custom section, offset 0x9: " + not_minimal.format(5, 4), FILES["big"]
+    yield "a longer size", NO, "not canonical: custom section, offset 0x9: " + not_minimal.format(5, 4), FILES["big"]
     yield "a function", 0, "", function(nops)
     yield "a br_table", 0, "", function(b"\x0E\x80\x87\xA7\x0E" + nops + b"\0")
     at = len(function(nops)) - 1
     there = f"code section, function 0, offset {at:#x}: "
-    yield ("a function that ends with a longer instruction", 1, "not canonical: " + there + not_minimal.format(3, 2),
+    yield ("a function that ends with a longer instruction", NO, "not canonical: " + there + not_minimal.format(3, 2),
            function(nops + b"\x20\x80\0"))
     yield ("a function that ends with a malformed instruction", 1, there + "unknown opcode 0xFF",
            function(nops + b"\xFF"))
@@ -617,7 +323,7 @@ def try_memory(runs):
     (runs.room / "large_module").write_bytes(FILES["big"][:-1] + b"a")
     for words in (["--diff"], ["--diff", "--all"], ["--diff", "--all", "--json"]):
         in_little_memory(runs, least, "a longer size", 0, "", *words, "big", "big_canonical")
-        in_little_memory(runs, least, "another byte", 1, "error: big and large_module differ: ", *words, "big",
+        in_little_memory(runs, least, "another byte", NO, "error: big and large_module differ: ", *words, "big",
                          "large_module")
     (runs.room / "large_module").unlink()
 
@@ -625,7 +331,7 @@ def try_memory(runs):
 def try_offsets(runs):
     runs.fresh()
     runs.run("debug", "-o", "there")
-    runs.holds("a warning of offsets", runs.status == 0 and runs.err == STALE.format(file="debug"))
+    runs.holds("a warning of offsets", runs.status == 0 and runs.err == stale("debug"))
     runs.run("there")
     runs.holds("no warning if no bytes move", runs.status == 0 and not runs.err and b"debug_" in runs.out)
     runs.holds("offsets left out", runs.writes("--strip-offsets", "debug"))
@@ -645,7 +351,7 @@ def try_differences(runs):
          'section 0, offset 0x8: custom "\\u{1b}" in the first canonical form, type in the second'),
     ):
         error = f"error: {first} and {second} differ: {message}"
-        runs.holds(name, runs.answers(1, error, "--diff", first, second))
+        runs.holds(name, runs.answers(NO, error, "--diff", first, second))
     runs.run("--diff", "long", "other")
     shown = ["memory section, memory 0", "-000011      2 | memory[0] initial=1",
              "+000011      2 | memory[0] initial=2"]
@@ -797,7 +503,7 @@ def try_all_differences(runs):
         (runs.room / "other_of_two").write_bytes(other)
         runs.run("--diff", "--all", "one_of_two", "other_of_two")
         message = "error: one_of_two and other_of_two differ: " if wanted else ""
-        right = runs.status == bool(wanted) and runs.err.startswith(message) and bool(runs.err) == bool(wanted)
+        right = runs.status == (NO if wanted else 0) and runs.err.startswith(message) and bool(runs.err) == bool(wanted)
         runs.holds(f"all differences: {name}", right and runs.out.decode() == wanted)
         runs.run("--diff", "--all", "--json", "one_of_two", "other_of_two")
         told = json.loads(runs.out)
@@ -844,6 +550,44 @@ def try_malformed(runs):
         runs.holds(f"the same by {' '.join(words)}", is_malformed(runs, message, data, *words))
     for name, message, data in MALFORMED:
         runs.holds(name, is_malformed(runs, message, data))
+    # The reason of a refusal is checked at its place, however large the input is.
+    (runs.room / "large_malformed").write_bytes(HEADER + b"\0\xC2\x9A\x0C\1a" + bytes(200_000) + b"\1\5\1\x60\1\x7A\0")
+    message = "error: large_malformed: type section, type 0, offset 0x30d53: invalid value type 0x7a\n"
+    runs.holds("a large malformed module", all(runs.answers(1, message, *words, "large_malformed")
+                                               for words in ([], ["--check"], ["--hash"])))
+
+
+def try_mistaken_options(runs):
+    """Names of options without their dashes, and a file of such a name."""
+    for word in ("check", "strip", "help", "in-place"):
+        message = f"error: {word}: no such file: did you mean --{word}?\n"
+        right = runs.answers(2, message, word, "long") and "\nUsage: wasmcanon " in runs.err
+        runs.holds(f"{word} without dashes", right)
+    (runs.room / "check").write_bytes(FILES["long"])
+    runs.holds("a file that is named as an option", runs.writes("check"))
+    (runs.room / "check").unlink()
+    runs.holds("no such file", runs.answers(4, "error: input: read failed: ", "input"))
+
+
+def try_closed_pipes(runs):
+    """A reader that closes its end wants no more of a text, but a module is lost."""
+    (runs.room / "many").write_bytes(HEADER + b"\0\2\1a" * 20_000)
+    for words in (["--list", "many"], ["--list", "--json", "many"], ["--report", "many"], ["--help"], ["--version"],
+                  ["--check", "--json", "long"], ["--hash", "long"], ["--diff", "--all", "many", "long"]):
+        into_closed_pipe(runs, *words)
+        right = runs.status == (NO if words[0] in ("--check", "--diff") else 0) and "write failed" not in runs.err
+        runs.holds(f"a closed pipe, {' '.join(words)}", right)
+    into_closed_pipe(runs, "many")
+    runs.holds("a closed pipe, a module", runs.status == 4 and write_failed(runs))
+    (runs.room / "many").unlink()
+
+
+def into_closed_pipe(runs, *words):
+    """Runs the program with a pipe as standard output that nobody reads."""
+    ours, theirs = os.pipe()
+    os.close(ours)
+    runs.run(*words, stdout=theirs)
+    os.close(theirs)
 
 
 def try_help(runs):
@@ -926,7 +670,7 @@ def try_progress(runs):
     runs.holds("a big module without a terminal", runs.writes("big", data=FILES["big_canonical"]))
     told = on_a_terminal(runs, "--check", "big")
     message = "not canonical: custom section, offset 0x9: not minimally encoded: 5 bytes, minimal is 4"
-    wanted = ["1; reading 49.4 MB; canonicalising 50.0 MB", f"error: big: {message}"]
+    wanted = [f"{NO}; reading 49.4 MB; canonicalising 50.0 MB", f"error: big: {message}"]
     runs.holds("progress before a message", told == wanted)
     runs.holds("no progress of a small module", on_a_terminal(runs, "long") == ["0"])
     runs.holds("no progress among bytes", on_a_terminal(runs, "--force", "big", both=True) == ["0"])
@@ -940,8 +684,9 @@ def run(report):
             (folder / name).write_bytes(data)
         for program in both_programs(report, "wasmcanon"):
             runs = Runs(report, program, folder)
-            for attempt in (try_outputs, try_links, try_read_only, try_several, try_checks, try_memory, try_order,
-                            try_hashes, try_selections, try_names, try_foreign, try_json, try_offsets,
-                            try_differences, try_reports, try_listings, try_listings_as_json, try_all_differences,
-                            try_refusals, try_malformed, try_help, try_failing_writes, try_progress):
+            for attempt in (try_outputs, try_links, try_read_only, try_object_files, try_several, try_checks, try_quiet,
+                            try_memory, try_order, try_hashes, try_selections, try_names, try_foreign, try_json,
+                            try_offsets, try_differences, try_reports, try_listings, try_listings_as_json,
+                            try_all_differences, try_refusals, try_malformed, try_mistaken_options, try_closed_pipes,
+                            try_help, try_failing_writes, try_progress):
                 attempt(runs)

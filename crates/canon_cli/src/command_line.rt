@@ -1,7 +1,9 @@
 //! The command line: the request that its words make, and the answer to words that make none.
-use crate::options::{USAGE, command};
+use crate::options::{USAGE, command, is_option};
+use crate::outputs::report_failed_write;
+use crate::paths::exists;
 use crate::request::Request;
-use crate::statuses::{USAGE_STATUS, WRITE_STATUS};
+use crate::statuses::USAGE_STATUS;
 use clap::error::ErrorKind;
 use std::alloc::AllocError;
 
@@ -34,10 +36,17 @@ fn print_answer(rt: &HostRuntime, error: &clap::Error) -> u8 {
     }
     match printed {
         Ok(()) => 0,
-        Err(error) => {
-            let _ = eprintln!(rt; "error: standard output: write failed: {error}");
-            WRITE_STATUS
-        }
+        Err(error) => report_failed_write(rt, &error),
+    }
+}
+
+/// Returns the first input if it is the name of an option and no file: whoever writes `check` means `--check`.
+pub fn mistaken_option<'a>(rt: &HostRuntime, request: &Request<'a>) -> Option<&'a str> {
+    let word = *request.inputs.first()?;
+    if is_option(word) && !exists(rt, word) {
+        Some(word)
+    } else {
+        None
     }
 }
 

@@ -10,8 +10,8 @@ pub const USAGE: &str = "\
 wasmcanon [FILE] [-o OUTPUT] [--force] [STRIP]
        wasmcanon FILE.. -o FOLDER/ [--force] [STRIP]
        wasmcanon --in-place FILE.. [--force] [STRIP]
-       wasmcanon --check [FILE..] [--json]
-       wasmcanon --diff FILE OTHER [--all] [--json]
+       wasmcanon --check [FILE..] [--json | --quiet]
+       wasmcanon --diff FILE OTHER [--all] [--json | --quiet]
        wasmcanon --hash [FILE..] [--no-custom] [--json] [STRIP]
        wasmcanon --list [FILE..] [--json]
        wasmcanon --report [FILE..] [--json]";
@@ -24,8 +24,8 @@ index and limit has its minimal encoding.
 Usage: wasmcanon [FILE] [-o OUTPUT] [--force] [STRIP]
        wasmcanon FILE.. -o FOLDER/ [--force] [STRIP]
        wasmcanon --in-place FILE.. [--force] [STRIP]
-       wasmcanon --check [FILE..] [--json]
-       wasmcanon --diff FILE OTHER [--all] [--json]
+       wasmcanon --check [FILE..] [--json | --quiet]
+       wasmcanon --diff FILE OTHER [--all] [--json | --quiet]
        wasmcanon --hash [FILE..] [--no-custom] [--json] [STRIP]
        wasmcanon --list [FILE..] [--json]
        wasmcanon --report [FILE..] [--json]
@@ -37,11 +37,14 @@ Options:
   -o, --output <OUTPUT>  Output file, or a folder in which each output has its
                          input's name [default: standard output]
       --in-place         Replace each FILE by its canonical form
-      --force            Write to a terminal; replace read-only files
+      --force            Write to terminals; replace read-only files and inputs;
+                         write object files
       --check            Check whether each FILE is canonical; write nothing
       --diff             Check whether FILE and OTHER have the same canonical
                          form
       --all              With --diff, print all items that differ
+  -q, --quiet            With --check or --diff, print nothing; the exit status
+                         is the answer
       --hash             Print the SHA-256 digest of each canonical form
       --list             Print the sections, items and instructions of each
                          FILE, and what is not minimally encoded
@@ -77,17 +80,19 @@ Examples:
 Canonicalising moves bytes, so offsets in custom sections become stale: those in
 `linking`, `reloc.*`, `.debug_*`, `external_debug_info`, `sourceMappingURL` and
 `metadata.code.*`. wasmcanon warns if bytes have moved and such a section is
-kept; --strip-offsets drops them all.
+kept; --strip-offsets drops them all. A module with `linking` or `reloc.*` is
+an object file: canonicalise after linking.
 
 Messages and reports number sections, and the items of a section, from 0.
 
-Exit status; of several modules, the highest:
+Exit status; of several modules, the highest of 1 to 4 if there is one:
   0  written; --check: canonical; --diff: same canonical form
-  1  malformed module; --check: not canonical; --diff: different canonical forms
-  2  invalid arguments; without --force: a terminal or a read-only file as
-     output
+  1  malformed module, or sections out of order
+  2  invalid arguments; without --force: a terminal, a read-only file or an
+     input as output, or an object file to write to a file
   3  out of memory
-  4  a read or a write failed";
+  4  a read or a write failed
+  5  --check: not canonical; --diff: different canonical forms";
 
 /// The group of the options that write no module. At most one of them is allowed.
 const QUESTION: &str = "question";
@@ -119,9 +124,11 @@ enum Form {
     Values(&'static str),
     /// As a long option without a value.
     Flag,
+    /// As a short or a long option without a value.
+    ShortFlag(char),
 }
 
-const ARGUMENTS: [Argument; 18] = [
+const ARGUMENTS: [Argument; 19] = [
     Argument {
         name: "input",
         form: Form::Named("FILE"),
@@ -193,6 +200,13 @@ const ARGUMENTS: [Argument; 18] = [
         needs: &["diff"],
     },
     Argument {
+        name: "quiet",
+        form: Form::ShortFlag('q'),
+        groups: &[],
+        conflicts: &["hash", "list", "report", "all", "json"],
+        needs: &[QUESTION],
+    },
+    Argument {
         name: "json",
         form: Form::Flag,
         groups: &[],
@@ -250,6 +264,20 @@ const ARGUMENTS: [Argument; 18] = [
     },
 ];
 
+/// Checks whether a word is the name of an option.
+pub fn is_option(word: &str) -> bool {
+    if word == "help" || word == "version" {
+        return true;
+    }
+    for argument in &ARGUMENTS {
+        let is_named = !matches!(argument.form, Form::Named(_));
+        if is_named && argument.name == word {
+            return true;
+        }
+    }
+    false
+}
+
 /// Builds the command line.
 ///
 /// Fails if memory runs out.
@@ -288,5 +316,9 @@ fn written_as<'a>(arg: Arg<'a>, argument: &Argument) -> Arg<'a> {
             .value_name(word)
             .action(ArgAction::Append),
         Form::Flag => arg.long(argument.name).action(ArgAction::SetTrue),
+        Form::ShortFlag(letter) => arg
+            .short(letter)
+            .long(argument.name)
+            .action(ArgAction::SetTrue),
     }
 }

@@ -28,6 +28,14 @@ impl Progress {
         }
     }
 
+    /// Suppresses the line if `quiet` is set.
+    pub fn unless(self, quiet: bool) -> Progress {
+        Progress {
+            is_shown: self.is_shown && !quiet,
+            ..self
+        }
+    }
+
     /// Suppresses the line if the module's bytes go to a terminal too.
     pub fn beside(self, output: Location<'_>) -> Progress {
         let is_taken = output == Location::Standard && self.rt.stdout().is_terminal();

@@ -1,23 +1,81 @@
 //! A new file that replaces another one once it is complete.
 use escaped_text::Escaped;
 use std::fs::{File, Metadata, OpenOptions};
+use std::io::Write;
 use std::os::unix::fs::{MetadataExt, OpenOptionsExt, chown};
 use std::path::{Path, PathBuf};
 use std::{fs, io};
 
+/// A new file that replaces another one once it is complete. It is created when the first bytes are written, so that a
+/// run that is killed while it reads leaves nothing.
+#[derive(Drop)]
+pub struct LateReplacement<'p> {
+    rt: HostRuntime,
+    path: &'p str,
+    /// The new file. `None` means that nothing was written.
+    replacement: Option<Replacement>,
+}
+
+impl<'p> LateReplacement<'p> {
+    /// Returns the replacement of the file at `path`. Creates nothing.
+    pub fn new(rt: &HostRuntime, path: &'p str) -> LateReplacement<'p> {
+        LateReplacement {
+            rt: *rt,
+            path,
+            replacement: None,
+        }
+    }
+
+    /// Renames the new file, once it is on the disk, to the path that it replaces.
+    pub fn put(self) -> io::Result<()> {
+        let rt = self.rt;
+        match self.replacement {
+            Some(replacement) => replacement.put(&rt),
+            None => Ok(()),
+        }
+    }
+
+    /// Removes the new file.
+    pub fn remove(self) {
+        let rt = self.rt;
+        if let Some(replacement) = self.replacement {
+            replacement.remove(&rt);
+        }
+    }
+}
+
+impl Write for LateReplacement<'_> {
+    fn write(&mut self, bytes: &[u8]) -> io::Result<usize> {
+        if let Some(replacement) = &mut self.replacement {
+            return replacement.file.write(bytes);
+        }
+        let mut replacement = Replacement::create(&self.rt, self.path)?;
+        let written = replacement.file.write(bytes);
+        self.replacement = Some(replacement);
+        written
+    }
+
+    fn flush(&mut self) -> io::Result<()> {
+        match &mut self.replacement {
+            Some(replacement) => replacement.file.flush(),
+            None => Ok(()),
+        }
+    }
+}
+
 /// A new file that replaces another one once it is complete.
 #[derive(Drop)]
-pub struct Replacement {
+struct Replacement {
     path: PathBuf,
     beside: String,
     /// The new file.
-    pub file: File,
+    file: File,
 }
 
 impl Replacement {
     /// Creates a new file beside the file at `path`, or beside the target if `path` is a link. Copies the owner, if
     /// that is allowed, and the permissions.
-    pub fn create(rt: &HostRuntime, path: &str) -> io::Result<Replacement> {
+    fn create(rt: &HostRuntime, path: &str) -> io::Result<Replacement> {
         let path = follow_links(rt, path)?;
         match fs::metadata(rt, path.as_str()) {
             Ok(old) => {
@@ -47,7 +105,7 @@ impl Replacement {
     }
 
     /// Renames the new file, once it is on the disk, to the path that it replaces.
-    pub fn put(self, rt: &HostRuntime) -> io::Result<()> {
+    fn put(self, rt: &HostRuntime) -> io::Result<()> {
         let result = self.sync_and_rename(rt);
         if result.is_err() {
             self.remove(rt);
@@ -61,7 +119,7 @@ impl Replacement {
     }
 
     /// Removes the new file.
-    pub fn remove(self, rt: &HostRuntime) {
+    fn remove(self, rt: &HostRuntime) {
         let _ = fs::remove_file(rt, self.beside.as_str());
     }
 }
@@ -72,8 +130,9 @@ impl Replacement {
 fn create_beside(rt: &HostRuntime, path: &str, mode: u32) -> io::Result<(String, File)> {
     let mut options = OpenOptions::new();
     options.write(true).create_new(true).mode(mode);
+    let begun = shortened(path);
     for number in 0..u32::MAX {
-        let beside = format!(in rt.alloc(); "{path}.{number}.wasmcanon")?;
+        let beside = format!(in rt.alloc(); "{begun}.{number}.wasmcanon")?;
         match options.open(rt, beside.as_str()) {
             Ok(file) => return Ok((beside, file)),
             Err(error) if error.kind() == io::ErrorKind::AlreadyExists => {
@@ -86,6 +145,25 @@ fn create_beside(rt: &HostRuntime, path: &str, mode: u32) -> io::Result<(String,
         }
     }
     Err(io::Error::from(io::ErrorKind::AlreadyExists))
+}
+
+/// Number of bytes that the name of a new file takes over. File systems take names of at most 255 bytes.
+const MOST_TAKEN: usize = 200;
+
+/// Returns a path without the end of a long name.
+fn shortened(path: &str) -> &str {
+    let name = Path::new(path).file_name().unwrap_or(path);
+    let most = path
+        .len()
+        .saturating_sub(name.len())
+        .saturating_add(MOST_TAKEN);
+    // A character has at most four bytes.
+    for less in 0..4 {
+        if let Some(begun) = path.get(..most.saturating_sub(less)) {
+            return begun;
+        }
+    }
+    path
 }
 
 /// Number of symbolic links to follow, as Linux does.

@@ -85,7 +85,7 @@ pub struct Request<'a> {
     pub action: Action,
     /// The output, if canonical forms are written.
     pub output: Output<'a>,
-    /// Whether a terminal may be written to, and a read-only file replaced.
+    /// Whether a terminal may be written to, a read-only file or an input replaced, and an object file written.
     pub force: bool,
     /// Whether sections may come in any order, and more than once.
     pub any_order: bool,
@@ -95,6 +95,8 @@ pub struct Request<'a> {
     pub json: bool,
     /// Whether all items that differ are listed.
     pub all: bool,
+    /// Whether the exit status is the only answer.
+    pub quiet: bool,
     /// Whether all custom sections are dropped.
     pub strip_all: bool,
     /// Whether custom sections are dropped that keep offsets.
@@ -122,6 +124,7 @@ impl<'a> Request<'a> {
             names: matches.get_flag("names"),
             json: matches.get_flag("json"),
             all: matches.get_flag("all"),
+            quiet: matches.get_flag("quiet"),
             strip_all: matches.get_flag("strip-all") || matches.get_flag("no-custom"),
             strip_offsets: matches.get_flag("strip-offsets"),
             dropped: words_of(alloc, matches, "strip")?,

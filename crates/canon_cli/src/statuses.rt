@@ -8,3 +8,6 @@ pub const MEMORY_STATUS: u8 = 3;
 
 /// Exit status of a run whose write failed.
 pub const WRITE_STATUS: u8 = 4;
+
+/// Exit status of a run whose answer is no: a module isn't canonical, or two have different canonical forms.
+pub const NO_STATUS: u8 = 5;

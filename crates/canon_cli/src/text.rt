@@ -29,22 +29,23 @@ impl fmt::Display for OutputName<'_> {
     }
 }
 
-/// The warning that a custom section keeps stale offsets.
+/// The warning that custom sections keep stale offsets.
 #[derive(Clone, Copy)]
 pub struct OffsetWarning<'a> {
     /// The module.
     pub input: InputName<'a>,
-    /// The beginning of the section's name.
-    pub name: &'static str,
+    /// The names of the sections.
+    pub names: &'a [String],
 }
 
 impl fmt::Display for OffsetWarning<'_> {
     fn fmt<W: fmt::Write>(&self, f: &mut fmt::Formatter<W>) -> fmt::Result {
-        let OffsetWarning { input, name } = *self;
-        writeln!(
-            f,
-            "warning: {input}: custom sections {name}*: offsets are stale, because bytes have moved"
-        )?;
+        write!(f, "warning: {}: custom sections ", self.input)?;
+        for (number, name) in self.names.iter().enumerate() {
+            let comma = if number == 0 { "" } else { ", " };
+            write!(f, "{comma}{}", Escaped(name.as_str()))?;
+        }
+        writeln!(f, ": offsets are stale, because bytes have moved")?;
         write!(
             f,
             "help: drop such sections with --strip-offsets, or generate them again from the output"

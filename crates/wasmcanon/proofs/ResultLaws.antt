@@ -75,6 +75,7 @@ placed bytes refusal c = record { sections = c.sections; items = c.items }
 pub failed_to_read : (any_order : Bool) (input : List ℕ) (failure : Failure) → IsReadFailure failure → Accepts any_order input (Err failure)
 failed_to_read any_order input (failures.Refused refusal foreign) is = absurd is
 failed_to_read any_order input (failures.Disordered error place) is = absurd is
+failed_to_read any_order input failures.ObjectFile is = absurd is
 failed_to_read any_order input failures.Memory is = record { in_order = λ _. tt; disordered = tt; unencoded = tt; refused = tt }
 failed_to_read any_order input (failures.Read error) is = record { in_order = λ _. tt; disordered = tt; unencoded = tt; refused = tt }
 failed_to_read any_order input (failures.Write error) is = absurd is
@@ -83,6 +84,7 @@ failed_to_read any_order input (failures.Write error) is = absurd is
 abbrev pub IsWriteFailure : Failure → Type 0
 IsWriteFailure (failures.Refused refusal foreign) = ⊥
 IsWriteFailure (failures.Disordered error place) = ⊥
+IsWriteFailure failures.ObjectFile = ⊥
 IsWriteFailure failures.Memory = ⊥
 IsWriteFailure (failures.Read error) = ⊥
 IsWriteFailure (failures.Write error) = Unit {0}
@@ -91,9 +93,14 @@ IsWriteFailure (failures.Write error) = Unit {0}
 pub failed_to_write : (any_order : Bool) (input : List ℕ) (failure : Failure) → IsWriteFailure failure → Accepts any_order input (Err failure)
 failed_to_write any_order input (failures.Refused refusal foreign) is = absurd is
 failed_to_write any_order input (failures.Disordered error place) is = absurd is
+failed_to_write any_order input failures.ObjectFile is = absurd is
 failed_to_write any_order input failures.Memory is = absurd is
 failed_to_write any_order input (failures.Read error) is = absurd is
 failed_to_write any_order input (failures.Write error) is = record { in_order = λ _. tt; disordered = tt; unencoded = tt; refused = tt }
+
+-- nor does one that doesn't write an object file
+pub not_written : (any_order : Bool) (input : List ℕ) → Accepts any_order input (Err failures.ObjectFile)
+not_written any_order input = record { in_order = λ _. tt; disordered = tt; unencoded = tt; refused = tt }
 
 -- the order of the sections was checked
 pub found_in_order : (any_order : Bool) (input : List ℕ) → IsOrdered input → Accepts any_order input (Ok tt)

@@ -93,6 +93,7 @@ abbrev pub IfRefused : {X : Type 0} → Result X Failure → (ℕ → Type 0) �
 IfRefused (Ok x) P = Unit {0}
 IfRefused (Err (failures.Refused refusal foreign)) P = P refusal.at
 IfRefused (Err (failures.Disordered error place)) P = Unit {0}
+IfRefused (Err failures.ObjectFile) P = Unit {0}
 IfRefused (Err failures.Memory) P = Unit {0}
 IfRefused (Err (failures.Read error)) P = Unit {0}
 IfRefused (Err (failures.Write error)) P = Unit {0}
@@ -102,6 +103,7 @@ abbrev pub IfPlaced : {X : Type 0} → Result X Failure → (Refusal → Type 0)
 IfPlaced (Ok x) P = Unit {0}
 IfPlaced (Err (failures.Refused refusal foreign)) P = P refusal
 IfPlaced (Err (failures.Disordered error place)) P = Unit {0}
+IfPlaced (Err failures.ObjectFile) P = Unit {0}
 IfPlaced (Err failures.Memory) P = Unit {0}
 IfPlaced (Err (failures.Read error)) P = Unit {0}
 IfPlaced (Err (failures.Write error)) P = Unit {0}
@@ -111,6 +113,7 @@ abbrev pub IfDisordered : {X : Type 0} → Result X Failure → (ModuleError →
 IfDisordered (Ok x) P = Unit {0}
 IfDisordered (Err (failures.Refused refusal foreign)) P = Unit {0}
 IfDisordered (Err (failures.Disordered error place)) P = P error
+IfDisordered (Err failures.ObjectFile) P = Unit {0}
 IfDisordered (Err failures.Memory) P = Unit {0}
 IfDisordered (Err (failures.Read error)) P = Unit {0}
 IfDisordered (Err (failures.Write error)) P = Unit {0}
@@ -136,6 +139,7 @@ abbrev pub OnceAllIsRead : {X : Type 0} → Result X Failure → Type 0 → Type
 OnceAllIsRead (Ok x) P = P
 OnceAllIsRead (Err (failures.Refused refusal foreign)) P = P
 OnceAllIsRead (Err (failures.Disordered error place)) P = P
+OnceAllIsRead (Err failures.ObjectFile) P = P
 OnceAllIsRead (Err failures.Memory) P = Unit {0}
 OnceAllIsRead (Err (failures.Read error)) P = Unit {0}
 OnceAllIsRead (Err (failures.Write error)) P = P
@@ -145,6 +149,7 @@ abbrev pub BeforeAnyWrite : {X : Type 0} → Result X Failure → Type 0 → Typ
 BeforeAnyWrite (Ok x) P = Unit {0}
 BeforeAnyWrite (Err (failures.Refused refusal foreign)) P = P
 BeforeAnyWrite (Err (failures.Disordered error place)) P = P
+BeforeAnyWrite (Err failures.ObjectFile) P = P
 BeforeAnyWrite (Err failures.Memory) P = P
 BeforeAnyWrite (Err (failures.Read error)) P = P
 BeforeAnyWrite (Err (failures.Write error)) P = Unit {0}
@@ -154,14 +159,36 @@ abbrev pub IfWriteFailed : {X : Type 0} → Result X Failure → Type 0 → Type
 IfWriteFailed (Ok x) P = Unit {0}
 IfWriteFailed (Err (failures.Refused refusal foreign)) P = Unit {0}
 IfWriteFailed (Err (failures.Disordered error place)) P = Unit {0}
+IfWriteFailed (Err failures.ObjectFile) P = Unit {0}
 IfWriteFailed (Err failures.Memory) P = Unit {0}
 IfWriteFailed (Err (failures.Read error)) P = Unit {0}
 IfWriteFailed (Err (failures.Write error)) P = P
+
+-- The call writes nothing, so it fails neither with `Write` nor with `ObjectFile`.
+abbrev pub NeverWrites : {X : Type 0} → Result X Failure → Type 0
+NeverWrites (Ok x) = Unit {0}
+NeverWrites (Err (failures.Refused refusal foreign)) = Unit {0}
+NeverWrites (Err (failures.Disordered error place)) = Unit {0}
+NeverWrites (Err failures.ObjectFile) = ⊥
+NeverWrites (Err failures.Memory) = Unit {0}
+NeverWrites (Err (failures.Read error)) = Unit {0}
+NeverWrites (Err (failures.Write error)) = ⊥
+
+-- The property holds if the module isn't written because it is an object file.
+abbrev pub IfObjectFile : {X : Type 0} → Result X Failure → Type 0 → Type 0
+IfObjectFile (Ok x) P = Unit {0}
+IfObjectFile (Err (failures.Refused refusal foreign)) P = Unit {0}
+IfObjectFile (Err (failures.Disordered error place)) P = Unit {0}
+IfObjectFile (Err failures.ObjectFile) P = P
+IfObjectFile (Err failures.Memory) P = Unit {0}
+IfObjectFile (Err (failures.Read error)) P = Unit {0}
+IfObjectFile (Err (failures.Write error)) P = Unit {0}
 
 -- The failure is `Memory` or `Read`.
 abbrev pub IsReadFailure : Failure → Type 0
 IsReadFailure (failures.Refused refusal foreign) = ⊥
 IsReadFailure (failures.Disordered error place) = ⊥
+IsReadFailure failures.ObjectFile = ⊥
 IsReadFailure failures.Memory = Unit {0}
 IsReadFailure (failures.Read error) = Unit {0}
 IsReadFailure (failures.Write error) = ⊥
@@ -170,6 +197,7 @@ IsReadFailure (failures.Write error) = ⊥
 abbrev pub status_of : Failure → ℕ
 status_of (failures.Refused refusal foreign) = 1
 status_of (failures.Disordered error place) = 1
+status_of failures.ObjectFile = 2
 status_of failures.Memory = 3
 status_of (failures.Read error) = 4
 status_of (failures.Write error) = 4

@@ -7,19 +7,14 @@ use crate::listings::list_modules;
 use crate::reports::report_modules;
 use crate::results::Results;
 use crate::run::Verdict;
-use canon_cli::outputs::Outputs;
-use canon_cli::paths::is_read_only;
+use canon_cli::outputs::{OutputError, Outputs, refusal_of};
 use canon_cli::request::{Action, Location, Request};
-use canon_cli::statuses::{USAGE_STATUS, WRITE_STATUS};
+use canon_cli::statuses::USAGE_STATUS;
 use canon_cli::text::{Hex, InputName, OffsetWarning, OutputName, SumName};
 use serde_json::Value;
 use std::alloc::AllocError;
 use std::io;
 use wasm_listing::diff::find_difference;
-
-const NOT_CANONICAL_STATUS: u8 = 1;
-
-const DIFFERENT_STATUS: u8 = 1;
 
 /// Does what the command line asks for, and returns the exit status.
 ///
@@ -41,7 +36,8 @@ pub fn run_job(rt: &HostRuntime, job: &Job<'_>) -> Result<u8, AllocError> {
 fn write_modules(rt: &HostRuntime, job: &Job<'_>) -> Result<u8, AllocError> {
     let outputs = match Outputs::new(rt, &job.request) {
         Ok(outputs) => outputs,
-        Err(message) => {
+        Err(OutputError::Memory) => return Err(AllocError),
+        Err(OutputError::Usage(message)) => {
             let _ = eprintln!(rt; "error: {message}");
             return Ok(USAGE_STATUS);
         }
@@ -75,38 +71,31 @@ fn write_to(
     output: Location<'_>,
     results: &mut Results,
 ) -> Result<(), AllocError> {
-    if is_protected(rt, &job.request, output) {
+    if let Some(reason) = refusal_of(rt, &job.request, input, output) {
         let output = OutputName(output);
-        let _ = eprintln!(rt; "error: {output}: read-only file: use --force to replace it");
+        let _ = eprintln!(rt; "error: {output}: {reason}");
         results.raise(USAGE_STATUS);
         return Ok(());
     }
     match canonicalise_file(rt, job, input, output) {
-        Ok(Some(name)) => warn_of_offsets(rt, input, name),
-        Ok(None) => {}
+        Ok(names) => warn_of_offsets(rt, input, &names),
         Err(failure) => results.fail(input, output, &failure)?,
     }
     Ok(())
 }
 
-/// Checks whether the output is a read-only file that isn't to be replaced by force.
-fn is_protected(rt: &HostRuntime, request: &Request<'_>, output: Location<'_>) -> bool {
-    match output {
-        Location::File(path) => !request.force && is_read_only(rt, path),
-        Location::Standard => false,
+/// Warns of sections with stale offsets, if there are any.
+fn warn_of_offsets(rt: &HostRuntime, input: Location<'_>, names: &[String]) {
+    if !names.is_empty() {
+        let input = InputName(input);
+        let warning = OffsetWarning { input, names };
+        let _ = eprintln!(rt; "{warning}");
     }
-}
-
-/// Warns of stale offsets.
-fn warn_of_offsets(rt: &HostRuntime, input: Location<'_>, name: &'static str) {
-    let input = InputName(input);
-    let warning = OffsetWarning { input, name };
-    let _ = eprintln!(rt; "{warning}");
 }
 
 /// Checks whether each module is canonical.
 fn check_modules(rt: &HostRuntime, request: &Request<'_>) -> Result<u8, AllocError> {
-    let mut results = Results::new(rt, request.json);
+    let mut results = Results::new(rt, request.json).silenced(request.quiet);
     for word in &request.inputs {
         let input = Location::named(word);
         match check_file(rt, request, input) {
@@ -125,9 +114,11 @@ fn add_verdict(
     verdict: Verdict,
 ) -> Result<(), AllocError> {
     if let Verdict::Longer(refusal) = verdict {
-        let input = InputName(input);
-        let _ = eprintln!(rt; "error: {input}: not canonical: {refusal}");
-        results.raise(NOT_CANONICAL_STATUS);
+        results.deny();
+        if !results.is_quiet() {
+            let input = InputName(input);
+            let _ = eprintln!(rt; "error: {input}: not canonical: {refusal}");
+        }
     }
     if results.is_json() {
         results.push(verdict_value(rt.alloc(), input, verdict)?)?;
@@ -162,21 +153,20 @@ fn add_digest(
     }
     let name = SumName::of(input);
     let mark = name.mark();
-    note_write(rt, results, println!(rt; "{mark}{hex}  {name}"));
+    note_write(results, println!(rt; "{mark}{hex}  {name}"));
     Ok(())
 }
 
-/// Reports that a write to standard output failed.
-fn note_write(rt: &HostRuntime, results: &mut Results, printed: io::Result<()>) {
+/// Reports a write to standard output that failed.
+fn note_write(results: &mut Results, printed: io::Result<()>) {
     if let Err(error) = printed {
-        let _ = eprintln!(rt; "error: standard output: write failed: {error}");
-        results.raise(WRITE_STATUS);
+        results.fail_write(&error);
     }
 }
 
 /// Compares the canonical forms of two modules.
 fn diff_modules(rt: &HostRuntime, request: &Request<'_>) -> Result<u8, AllocError> {
-    let mut results = Results::new(rt, false);
+    let mut results = Results::new(rt, false).silenced(request.quiet);
     let [first, second] = two_inputs(request);
     let Some(one) = canonical_form_at(rt, request, first, &mut results)? else {
         return Ok(results.finish());
@@ -186,10 +176,12 @@ fn diff_modules(rt: &HostRuntime, request: &Request<'_>) -> Result<u8, AllocErro
     };
     let difference = find_difference(&one, &other);
     if let Some(difference) = difference {
-        let (first_name, second_name) = (InputName(first), InputName(second));
-        let _ = eprintln!(rt; "error: {first_name} and {second_name} differ: {difference}");
-        print_first(rt, &one, &other)?;
-        results.raise(DIFFERENT_STATUS);
+        results.deny();
+        if !request.quiet {
+            let (first_name, second_name) = (InputName(first), InputName(second));
+            let _ = eprintln!(rt; "error: {first_name} and {second_name} differ: {difference}");
+            print_first(rt, &one, &other)?;
+        }
     }
     if request.json {
         let value = difference_value(rt.alloc(), first, second, difference)?;
@@ -199,7 +191,7 @@ fn diff_modules(rt: &HostRuntime, request: &Request<'_>) -> Result<u8, AllocErro
 }
 
 fn print_value(rt: &HostRuntime, results: &mut Results, value: &Value) {
-    note_write(rt, results, println!(rt; "{value}"));
+    note_write(results, println!(rt; "{value}"));
 }
 
 /// Returns the two modules to compare.

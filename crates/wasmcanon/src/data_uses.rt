@@ -3,7 +3,7 @@ use std::alloc::{AllocError, Global};
 use wasm_codec::reader::cursor::{Cursor, Fault};
 use wasm_instructions::operands::{Catch, Handle};
 use wasm_instructions::reader::operands::read_operands;
-use wasm_instructions::reader::{read_block_type, read_opcode};
+use wasm_instructions::reader::{take_block_type, take_opcode};
 use wasm_instructions::table::{Kind, Opcode, Prefix};
 use wasm_lists::readable::Readable;
 use wasm_modules::code::normaliser::read_local_group;
@@ -78,7 +78,7 @@ fn names_data(op: Opcode) -> bool {
 
 /// Moves a cursor over an instruction, and returns its opcode.
 fn skip_call(alloc: Global, code: &mut Cursor<'_>) -> Result<Opcode, Fault> {
-    let op = read_opcode(code)?;
+    let op = take_opcode(code)?;
     let Some(kind) = op.kind() else {
         return Err(Fault::Malformed(code.malformed(op.unknown())));
     };
@@ -89,7 +89,7 @@ fn skip_call(alloc: Global, code: &mut Cursor<'_>) -> Result<Opcode, Fault> {
         }
         Kind::Types => skip_list::<ValType>(alloc, code)?,
         Kind::TryTable => {
-            read_block_type(code)?;
+            take_block_type(code)?;
             skip_list::<Catch>(alloc, code)?;
         }
         Kind::Resume => {

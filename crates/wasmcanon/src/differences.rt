@@ -12,8 +12,6 @@ use std::io::{BufWriter, Stdout, Write};
 use wasm_listing::diff::{Difference, find_difference};
 use wasm_listing::listing::{DifferentLines, DifferentValues, FirstLines, Stop, list_differences};
 
-const DIFFERENT_STATUS: u8 = 1;
-
 /// Compares two modules, and prints all parts in which they differ.
 ///
 /// The parts are listed before the modules are rewritten, so that no module is held twice. Fails if memory runs out.
@@ -40,10 +38,7 @@ pub fn diff_all(rt: &HostRuntime, request: &Request<'_>) -> Result<u8, AllocErro
     match printed {
         Ok(()) | Err(Stop::Malformed | Stop::Enough) => {}
         Err(Stop::Memory) => return Err(AllocError),
-        Err(Stop::Write(error)) => {
-            let output = Location::Standard;
-            results.fail(output, output, &Failure::Write(error))?;
-        }
+        Err(Stop::Write(error)) => results.fail_write(&error),
     }
     Ok(results.finish())
 }
@@ -153,7 +148,7 @@ fn tell(
         let [first, second] = two_inputs(request);
         let (one, other) = (InputName(first), InputName(second));
         let _ = eprintln!(rt; "error: {one} and {other} differ: {difference}");
-        results.raise(DIFFERENT_STATUS);
+        results.deny();
     }
 }
 

@@ -5,7 +5,7 @@ use crate::run::{
 };
 use canon_cli::paths::is_special;
 use canon_cli::progress::{Progress, Source};
-use canon_cli::replacement::Replacement;
+use canon_cli::replacement::LateReplacement;
 use canon_cli::request::{Location, Request};
 use std::alloc::Global;
 use std::io::Write;
@@ -15,13 +15,13 @@ use wasm_whole_modules::counting::SectionWatcher;
 
 /// Reads the module at `input`, and writes its canonical form to `output`.
 ///
-/// If bytes have moved and a section that keeps offsets is written, returns the beginning of its name.
+/// If bytes have moved, returns the names of the sections that keep offsets and are written.
 pub fn canonicalise_file(
     rt: &HostRuntime,
     job: &Job<'_>,
     input: Location<'_>,
     output: Location<'_>,
-) -> Result<Option<&'static str>, Failure> {
+) -> Result<Vec<String>, Failure> {
     let mut source = open(rt, input, Progress::new(rt).beside(output))?;
     let stale = canonicalise_to(rt, &mut source, output, job);
     source.end();
@@ -34,7 +34,7 @@ pub fn check_file(
     request: &Request<'_>,
     input: Location<'_>,
 ) -> Result<Verdict, Failure> {
-    let mut source = open(rt, input, Progress::new(rt))?;
+    let mut source = open(rt, input, Progress::new(rt).unless(request.quiet))?;
     let verdict = check(rt.alloc(), &mut source, request.any_order, request.names);
     source.end();
     verdict
@@ -63,7 +63,7 @@ pub fn read_canonical_at(
     request: &Request<'_>,
     input: Location<'_>,
 ) -> Result<Canonical, Failure> {
-    let mut source = open(rt, input, Progress::new(rt))?;
+    let mut source = open(rt, input, Progress::new(rt).unless(request.quiet))?;
     let canonical = read_canonical(rt.alloc(), &mut source, request.any_order);
     source.end();
     canonical
@@ -99,11 +99,11 @@ fn canonicalise_to(
     source: &mut Source,
     output: Location<'_>,
     job: &Job<'_>,
-) -> Result<Option<&'static str>, Failure> {
+) -> Result<Vec<String>, Failure> {
     match output {
         Location::Standard => {
             let mut writer = rt.stdout();
-            let stale = write_form(rt.alloc(), source, &mut writer, job)?;
+            let stale = write_form(rt.alloc(), source, &mut writer, job, true)?;
             writer.flush().map_err(Failure::Write)?;
             Ok(stale)
         }
@@ -111,45 +111,51 @@ fn canonicalise_to(
     }
 }
 
-/// Reads a module, and writes its canonical form.
+/// Reads a module, and writes its canonical form, unless it is an object file and `objects` isn't set.
 fn write_form<W: Write>(
     alloc: Global,
     source: &mut Source,
     writer: &mut W,
     job: &Job<'_>,
-) -> Result<Option<&'static str>, Failure> {
+    objects: bool,
+) -> Result<Vec<String>, Failure> {
     let mut writer = source.watch(writer);
     canonicalise(
         alloc,
         source,
         &mut writer,
         job.request.any_order,
+        objects,
         job.form_options(),
     )
 }
 
 /// Writes the canonical form to a new file beside `path`, and renames it to `path` once it is complete.
 ///
-/// If the run fails, the file at `path` is unchanged. A device or a pipe is written to directly.
+/// The new file is created once the module was read. If the run fails, the file at `path` is unchanged. A device or a pipe
+/// is written to directly.
 fn canonicalise_to_file(
     rt: &HostRuntime,
     source: &mut Source,
     path: &str,
     job: &Job<'_>,
-) -> Result<Option<&'static str>, Failure> {
+) -> Result<Vec<String>, Failure> {
     if is_special(rt, path) {
         let mut file = fs::create(rt, path).map_err(write_failure)?;
-        return write_form(rt.alloc(), source, &mut file, job);
+        return write_form(rt.alloc(), source, &mut file, job, true);
     }
-    let mut replacement = Replacement::create(rt, path).map_err(write_failure)?;
-    match write_form(rt.alloc(), source, &mut replacement.file, job) {
-        Ok(stale) => match replacement.put(rt) {
+    let mut replacement = LateReplacement::new(rt, path);
+    match write_form(rt.alloc(), source, &mut replacement, job, job.request.force) {
+        Ok(stale) => match replacement.put() {
             Ok(()) => Ok(stale),
             Err(error) => Err(write_failure(error)),
         },
         Err(failure) => {
-            replacement.remove(rt);
-            Err(failure)
+            replacement.remove();
+            Err(match failure {
+                Failure::Write(error) => write_failure(error),
+                other => other,
+            })
         }
     }
 }

@@ -21,10 +21,7 @@ pub fn list_modules(rt: &HostRuntime, request: &Request<'_>) -> Result<u8, Alloc
     match list_all(rt, request, &mut writer, &mut results) {
         Ok(()) | Err(Stop::Malformed | Stop::Enough) => {}
         Err(Stop::Memory) => return Err(AllocError),
-        Err(Stop::Write(error)) => {
-            let output = Location::Standard;
-            results.fail(output, output, &Failure::Write(error))?;
-        }
+        Err(Stop::Write(error)) => results.fail_write(&error),
     }
     Ok(results.finish())
 }

@@ -22,7 +22,8 @@ mod results;
 mod run;
 
 use actions::run_job;
-use canon_cli::command_line::{Asked, read_request, refuse_usage};
+use canon_cli::command_line::{Asked, mistaken_option, read_request, refuse_usage};
+use canon_cli::request::Request;
 use canon_cli::statuses::{MEMORY_STATUS, USAGE_STATUS};
 use job::{Job, JobError};
 use std::alloc::AllocError;
@@ -57,11 +58,22 @@ fn no_memory(rt: &HostRuntime) -> u8 {
 /// Fails if memory runs out.
 fn run_words(rt: &HostRuntime, words: &[String]) -> Result<u8, AllocError> {
     match read_request(rt, words)? {
-        Asked::Run(request) => match Job::new(rt.alloc(), request) {
-            Ok(job) => run_job(rt, &job),
-            Err(JobError::Memory) => Err(AllocError),
-            Err(JobError::Usage(message)) => Ok(refuse_usage(rt, message)),
-        },
+        Asked::Run(request) => run_request(rt, request),
         Asked::Answered(status) => Ok(status),
+    }
+}
+
+/// Does what the command line asks for, and returns the exit status.
+///
+/// Fails if memory runs out.
+fn run_request(rt: &HostRuntime, request: Request<'_>) -> Result<u8, AllocError> {
+    if let Some(word) = mistaken_option(rt, &request) {
+        let message = format!(in rt.alloc(); "{word}: no such file: did you mean --{word}?")?;
+        return Ok(refuse_usage(rt, message.as_str()));
+    }
+    match Job::new(rt.alloc(), request) {
+        Ok(job) => run_job(rt, &job),
+        Err(JobError::Memory) => Err(AllocError),
+        Err(JobError::Usage(message)) => Ok(refuse_usage(rt, message)),
     }
 }

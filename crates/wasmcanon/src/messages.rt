@@ -31,6 +31,10 @@ impl fmt::Display for FailureMessage<'_, '_, '_> {
                 let section = *section;
                 write!(f, "{input}: {}", DisorderMessage { error, section })
             }
+            Failure::ObjectFile => write!(
+                f,
+                "{input}: object file: canonicalise after linking, or use --force"
+            ),
             Failure::Memory => write!(f, "out of memory"),
             Failure::Read(error) => write!(f, "{input}: read failed: {error}"),
             Failure::Write(error) => {

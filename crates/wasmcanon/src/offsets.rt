@@ -1,21 +1,42 @@
 //! Custom sections that keep offsets into the module. Once bytes have moved, these offsets are stale.
+use std::alloc::{AllocError, Global};
 use wasm_codec::reader::cursor::Cursor;
 use wasm_modules::raw::{after_header, read_section};
-use wasm_whole_modules::offsets::offset_name;
+use wasm_whole_modules::offsets::is_offset_name;
 use wasm_whole_modules::selection::custom_name;
 
-/// Returns the beginning of the name of the first custom section that keeps offsets. `None` means that no section does.
-pub fn first_offset_name(module: &[u8]) -> Option<&'static str> {
-    let rest = after_header(module)?;
+/// Checks whether a module is an object file: it has a section `linking`, or relocations.
+pub fn is_object_file(module: &[u8]) -> bool {
+    let rest = after_header(module).unwrap_or(&[]);
     let mut cursor = Cursor::new(rest);
     for _ in 0..rest.len() {
         let Ok(section) = read_section(&mut cursor) else {
             break;
         };
-        let found = custom_name(section).and_then(offset_name);
-        if found.is_some() {
-            return found;
+        let name = custom_name(section).unwrap_or("");
+        if name == "linking" || name.starts_with("reloc.") {
+            return true;
         }
     }
-    None
+    false
+}
+
+/// Returns the names of the custom sections that keep offsets, in their order.
+///
+/// Fails if memory runs out.
+pub fn offset_names(alloc: Global, module: &[u8]) -> Result<Vec<String>, AllocError> {
+    let mut names = Vec::new(alloc);
+    let rest = after_header(module).unwrap_or(&[]);
+    let mut cursor = Cursor::new(rest);
+    for _ in 0..rest.len() {
+        let Ok(section) = read_section(&mut cursor) else {
+            break;
+        };
+        if let Some(name) = custom_name(section) {
+            if is_offset_name(name) {
+                names.push(String::from_str(alloc, name)?)?;
+            }
+        }
+    }
+    Ok(names)
 }

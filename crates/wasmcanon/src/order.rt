@@ -1,7 +1,7 @@
 //! The order of a module's sections, and counts that must agree (Core 3.0, Modules).
 ghost use Rattle.std.specs.Prelude.{◌≡◌, false, IfOk, IfSome, IfNone};
 ghost use Rattle.wasmcanon.specs.Order.{AreInOrder, OfSections, IsOutOfOrderAt, IsWhyNot};
-ghost use Rattle.wasmcanon.specs.Run.{Accepts, IfPlaced, IfWriteFailed, outcome_of};
+ghost use Rattle.wasmcanon.specs.Run.{Accepts, IfPlaced, NeverWrites, outcome_of};
 
 use crate::data_uses::find_data_use;
 use crate::run::Failure;
@@ -41,7 +41,7 @@ pub fn check_sections(alloc: Global, input: &[u8]) -> Result<(), Failure>
     // The failure isn't `Refused`.
     ensures placed { IfPlaced result (λ _. ⊥) }
     // The failure isn't `Write`.
-    ensures unwritten { IfWriteFailed result ⊥ }
+    ensures unwritten { NeverWrites result }
 {
     let Some(sections) = after_header(input) else {
         // A malformed module has no sections.

@@ -2,10 +2,12 @@
 use crate::json::failure_value;
 use crate::messages::FailureMessage;
 use crate::run::Failure;
+use canon_cli::outputs::report_failed_write;
 use canon_cli::request::Location;
-use canon_cli::statuses::WRITE_STATUS;
+use canon_cli::statuses::NO_STATUS;
 use serde_json::Value;
 use std::alloc::AllocError;
+use std::io;
 
 /// The results of a run so far.
 #[derive(Drop)]
@@ -13,8 +15,12 @@ pub struct Results {
     rt: HostRuntime,
     /// The results as JSON, if they are printed so.
     values: Option<Vec<Value>>,
-    /// The highest exit status.
+    /// The highest exit status of a failure, or 0.
     status: u8,
+    /// Whether a question was answered with no.
+    is_denied: bool,
+    /// Whether nothing is printed.
+    is_quiet: bool,
 }
 
 impl Results {
@@ -29,7 +35,22 @@ impl Results {
             rt: *rt,
             values,
             status: 0,
+            is_denied: false,
+            is_quiet: false,
         }
+    }
+
+    /// Prints nothing if `quiet` is set.
+    pub fn silenced(self, quiet: bool) -> Results {
+        Results {
+            is_quiet: quiet,
+            ..self
+        }
+    }
+
+    /// Checks whether nothing is printed.
+    pub fn is_quiet(&self) -> bool {
+        self.is_quiet
     }
 
     /// Checks whether results are printed as JSON.
@@ -37,9 +58,14 @@ impl Results {
         self.values.is_some()
     }
 
-    /// Raises the exit status to `status`.
+    /// Raises the exit status to `status`, that of a failure.
     pub fn raise(&mut self, status: u8) {
         self.status = self.status.max(status);
+    }
+
+    /// Answers a question with no.
+    pub fn deny(&mut self) {
+        self.is_denied = true;
     }
 
     /// Keeps a result as JSON.
@@ -57,6 +83,10 @@ impl Results {
         output: Location<'_>,
         failure: &Failure,
     ) -> Result<(), AllocError> {
+        self.raise(failure.status());
+        if self.is_quiet {
+            return Ok(());
+        }
         let message = FailureMessage {
             input,
             output,
@@ -67,26 +97,31 @@ impl Results {
         if let Failure::Disordered { .. } = failure {
             let _ = eprintln!(rt; "help: --any-order takes such modules");
         }
-        self.raise(failure.status());
         if self.is_json() {
             self.push(failure_value(rt.alloc(), input, &message)?)?;
         }
         Ok(())
     }
 
+    /// Reports that a write to standard output failed, unless its reader closed its end.
+    pub fn fail_write(&mut self, error: &io::Error) {
+        let status = report_failed_write(&self.rt, error);
+        self.raise(status);
+    }
+
     /// Prints the results that are printed as JSON, and returns the exit status.
-    pub fn finish(self) -> u8 {
-        let (rt, status) = (self.rt, self.status);
-        let Some(values) = self.values else {
-            return status;
-        };
-        let list = Value::Array(values);
-        match println!(rt; "{list}") {
-            Ok(()) => status,
-            Err(error) => {
-                let _ = eprintln!(rt; "error: standard output: write failed: {error}");
-                status.max(WRITE_STATUS)
+    pub fn finish(mut self) -> u8 {
+        let rt = self.rt;
+        if let Some(values) = self.values.take() {
+            let list = Value::Array(values);
+            if let Err(error) = println!(rt; "{list}") {
+                self.fail_write(&error);
             }
+        }
+        if self.status == 0 && self.is_denied {
+            NO_STATUS
+        } else {
+            self.status
         }
     }
 }

@@ -1,15 +1,15 @@
 //! A run of the program, for any reader and any writer.
-ghost use Rattle.std.specs.Prelude.{◌≡◌, ℕ, List, true, IfOk, IfErr, IfSome, OnOk};
+ghost use Rattle.std.specs.Prelude.{◌≡◌, ℕ, List, false, true, IfOk, IfErr, IfSome, OnOk};
 ghost use Rattle.std.specs.Io.KnownBytes.{IsAtEnd, Keeps};
 ghost use Rattle.wasm_sections.specs.formats.ModuleSections.{module_section};
 ghost use Rattle.wasm_whole_modules.specs.Counting.{ShowsModule};
 ghost use Rattle.wasm_whole_modules.specs.RefusalNumbers.{CountsParts};
-ghost use Rattle.wasmcanon.specs.Run.{Accepts, IsModule, IsCanonicalForm, AppendsBeginning, AppendsForm, IsForm, IsHash, IfPlaced, IfWriteFailed, OnceAllIsRead, BeforeAnyWrite, IsReadFailure, Judges, outcome_of, status_of};
+ghost use Rattle.wasmcanon.specs.Run.{Accepts, IsModule, IsCanonicalForm, AppendsBeginning, AppendsForm, IsForm, IsHash, IfObjectFile, IfPlaced, IfWriteFailed, NeverWrites, OnceAllIsRead, BeforeAnyWrite, IsReadFailure, Judges, outcome_of, status_of};
 ghost use Rattle.wasmcanon.specs.declared.run.Failure.TheVariants.{Memory};
 
 use crate::contents::{judge_contents, with_contents};
 use crate::foreign::Foreign;
-use crate::offsets::first_offset_name;
+use crate::offsets::{is_object_file, offset_names};
 use crate::order::{MisplacedSection, check_sections};
 use canon_cli::input::Input;
 use sha2::{Digest, Sha256};
@@ -42,6 +42,8 @@ pub enum Failure {
         /// The section that is out of order. `None` means that counts disagree.
         section: Option<MisplacedSection>,
     },
+    /// The module is an object file, which isn't written unless that is asked for.
+    ObjectFile,
     /// Memory ran out.
     Memory,
     /// A read failed.
@@ -51,13 +53,14 @@ pub enum Failure {
 }
 
 impl Failure {
-    /// Returns the exit status: 1 if the input is malformed or out of order, 3 if memory ran out, 4 if a read or a write
-    /// failed.
+    /// Returns the exit status: 1 if the input is malformed or out of order, 2 if it is an object file, 3 if memory ran
+    /// out, 4 if a read or a write failed.
     pub fn status(&self) -> u8
         ensures { result ≡ status_of self.now }
     {
         match self {
             Failure::Refused { .. } | Failure::Disordered { .. } => 1,
+            Failure::ObjectFile => 2,
             Failure::Memory => 3,
             Failure::Read(_) | Failure::Write(_) => 4,
         }
@@ -101,18 +104,20 @@ pub enum Verdict {
 
 /// Reads a module, and writes its canonical form with these options.
 ///
-/// If bytes have moved and a custom section that keeps offsets is written, returns the beginning of the first such
-/// section's name. Fails with `Refused` if the input is malformed, and with `Disordered` if its sections are out of
-/// order or their counts disagree, unless any order is allowed. Fails with `Memory` if memory runs out, and with `Read`
-/// or `Write` if a read or a write fails.
-#[tactic(auto, using(crate::proofs::ResultLaws::failed_to_write))]
+/// If bytes have moved, returns the names of the custom sections that keep offsets and are written. Fails with `Refused`
+/// if the input is malformed, and with `Disordered` if its sections are out of order or their counts disagree, unless any
+/// order is allowed. Fails with `ObjectFile` if the output would be an object file, unless `objects` is set: its
+/// relocations would be stale. Fails with `Memory` if memory runs out, and with `Read` or `Write` if a read or a write
+/// fails.
+#[tactic(auto, using(crate::proofs::ResultLaws::failed_to_write, crate::proofs::ResultLaws::not_written))]
 pub fn canonicalise<R: Input, W: Write>(
     alloc: Global,
     reader: &mut R,
     writer: &mut W,
     any_order: bool,
+    objects: bool,
     options: FormOptions<'_>,
-) -> Result<Option<&'static str>, Failure>
+) -> Result<Vec<String>, Failure>
     // The canonical form of the input with these options was appended, and nothing else.
     ensures ok { OnOk result (IfSome (R.remaining reader.old) (λ input.
         AppendsForm options.entry input (W.contents writer.old) (W.contents writer.new))) }
@@ -125,11 +130,16 @@ pub fn canonicalise<R: Input, W: Write>(
         CountsParts module_section input refusal)) }
     // Nothing was written, unless the failure is `Write`.
     ensures nothing_written { BeforeAnyWrite result (Keeps (W.contents writer.old) (W.contents writer.new)) }
+    // An object file is refused only if that is asked for.
+    ensures objects { IfObjectFile result (objects ≡ false) }
     // After `Write`, a proper prefix of the canonical form was appended.
     ensures beginning { IfWriteFailed result (IfSome (R.remaining reader.old) (λ input.
         AppendsBeginning options.entry input (W.contents writer.old) (W.contents writer.new))) }
 {
     let form = read_form(alloc, reader, any_order, options)?;
+    if !objects && is_object_file(&form.bytes) {
+        return Err(Failure::ObjectFile);
+    }
     match write_all(writer, &form.bytes) {
         Ok(()) => Ok(form.stale),
         Err(error) => Err(Failure::Write(error)),
@@ -138,7 +148,7 @@ pub fn canonicalise<R: Input, W: Write>(
 
 /// Reads a module, and returns the SHA-256 digest of its canonical form with these options.
 ///
-/// Fails as `canonicalise` does, but never with `Write`.
+/// Fails as `canonicalise` does, but never with `Write` or `ObjectFile`.
 pub fn hash<R: Input>(
     alloc: Global,
     reader: &mut R,
@@ -161,8 +171,8 @@ pub fn hash<R: Input>(
 #[derive(Drop)]
 struct Form {
     bytes: Vec<u8>,
-    /// If bytes have moved, the beginning of the name of the first custom section that keeps offsets.
-    stale: Option<&'static str>,
+    /// If bytes have moved, the names of the custom sections that keep offsets.
+    stale: Vec<String>,
 }
 
 /// Reads a module, and returns its canonical form with these options.
@@ -179,23 +189,24 @@ fn read_form<R: Input>(
     ensures read_to_end { OnceAllIsRead result (IsAtEnd (R.remaining reader.new)) }
     ensures numbers { IfPlaced result (λ refusal. IfSome (R.remaining reader.old) (λ input.
         CountsParts module_section input refusal)) }
-    ensures unwritten { IfWriteFailed result ⊥ }
+    ensures unwritten { NeverWrites result }
 {
     let canonical = read_canonical(alloc, reader, any_order)?;
     let chosen = choose_sections(canonical.bytes, options.sections);
     let len = chosen.len();
     let bytes = with_contents(alloc, chosen, options.names)?;
-    let stale = if canonical.has_moved || bytes.len() != len {
-        first_offset_name(&bytes)
+    let has_moved = canonical.has_moved || bytes.len() != len;
+    let stale = if has_moved {
+        offset_names(alloc, &bytes)?
     } else {
-        None
+        Vec::new(alloc)
     };
     Ok(Form { bytes, stale })
 }
 
 /// Reads a module, and returns its canonical form.
 ///
-/// Fails as `canonicalise` does, but never with `Write`.
+/// Fails as `canonicalise` does, but never with `Write` or `ObjectFile`.
 #[tactic(auto, using(crate::proofs::ResultLaws::failed_to_read))]
 pub fn read_canonical<R: Input>(
     alloc: Global,
@@ -211,8 +222,8 @@ pub fn read_canonical<R: Input>(
     // The section and the item that it names are numbered by those before them.
     ensures numbers { IfPlaced result (λ refusal. IfSome (R.remaining reader.old) (λ input.
         CountsParts module_section input refusal)) }
-    // The failure isn't `Write`.
-    ensures unwritten { IfWriteFailed result ⊥ }
+    // The failure is neither `Write` nor `ObjectFile`.
+    ensures unwritten { NeverWrites result }
 {
     let input = read_all(alloc, reader)?;
     let len = input.len();
@@ -223,7 +234,7 @@ pub fn read_canonical<R: Input>(
 
 /// Reads a module, and rewrites it to its canonical form. Shows each section to the watcher before and after.
 ///
-/// Sections before a malformed one are shown too. Fails as `canonicalise` does, but never with `Write`.
+/// Sections before a malformed one are shown too. Fails as `canonicalise` does, but never with `Write` or `ObjectFile`.
 #[tactic(auto, using(crate::proofs::ResultLaws::failed_to_read, crate::proofs::ResultLaws::accepted_in_order, crate::proofs::ResultLaws::refused_in_order))]
 pub fn report<R: Input, S: SectionWatcher>(
     alloc: Global,
@@ -253,7 +264,7 @@ pub fn report<R: Input, S: SectionWatcher>(
 /// Reads a module, and checks whether it is its own canonical form. With `names`, the contents of its sections `name`
 /// and `producers` must be minimally encoded too.
 ///
-/// Fails as `canonicalise` does, but never with `Write`.
+/// Fails as `canonicalise` does, but never with `Write` or `ObjectFile`.
 #[tactic(auto, using(crate::proofs::ResultLaws::failed_to_read, crate::proofs::ResultLaws::refused_in_order))]
 pub fn check<R: Input>(
     alloc: Global,
@@ -299,8 +310,8 @@ pub fn accept(alloc: Global, input: Vec<u8>, any_order: bool) -> Result<Vec<u8>,
     ensures accepts { Accepts any_order input.items (outcome_of result) }
     // The section and the item that it names are numbered by those before them.
     ensures numbers { IfPlaced result (CountsParts module_section input.items) }
-    // The failure isn't `Write`.
-    ensures unwritten { IfWriteFailed result ⊥ }
+    // The failure is neither `Write` nor `ObjectFile`.
+    ensures unwritten { NeverWrites result }
 {
     // Rewriting takes the input, so the order is checked first. A malformed module is refused all the same.
     let order = check_order_unless(alloc, &input, any_order);
@@ -314,7 +325,7 @@ pub fn accept(alloc: Global, input: Vec<u8>, any_order: bool) -> Result<Vec<u8>,
 fn check_order_unless(alloc: Global, input: &[u8], any_order: bool) -> Result<(), Failure>
     ensures accepts { Accepts any_order input.now (outcome_of result) }
     ensures placed { IfPlaced result (λ _. ⊥) }
-    ensures unwritten { IfWriteFailed result ⊥ }
+    ensures unwritten { NeverWrites result }
 {
     if any_order {
         Ok(())
@@ -372,7 +383,7 @@ fn canonical_form(input: Vec<u8>) -> Result<Vec<u8>, Failure>
     ensures ok { IfOk result (λ canonical. IsCanonicalForm input.items canonical.items) }
     ensures accepts { Accepts true input.items (outcome_of result) }
     ensures numbers { IfPlaced result (CountsParts module_section input.items) }
-    ensures unwritten { IfWriteFailed result ⊥ }
+    ensures unwritten { NeverWrites result }
 {
     let foreign = Foreign::find(&input);
     match rewrite::<WholeModule>(input) {
