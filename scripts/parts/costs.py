@@ -3,6 +3,8 @@
 Each crate is proved from nothing by one process, as many crates at a time as there are processors. The prover writes a
 file when it has checked a module, so the times of these files say what each module took. A function's modules are its
 contract, the borrow checker's part, and its proof.
+
+With --after-gate it takes the libraries that `rt ci` left, and otherwise first proves those that aren't kept.
 """
 import collections
 import concurrent.futures
@@ -19,6 +21,7 @@ from parts.planted_kit import Fault, kit
 
 # How many functions and law files the table names.
 MOST = 20
+AFTER_GATE = "--after-gate"
 RUN = "import resource, subprocess, sys; subprocess.run(sys.argv[1:]); " \
       "print('processor', sum(resource.getrusage(resource.RUSAGE_CHILDREN)[:2]))"
 
@@ -92,9 +95,10 @@ def things_table(costs):
 
 def run(report, words):
     """Measures the crates that the words name, or all, and writes the tables into the page."""
-    crates = [it for it in kit().rtlib.crates_below(str(ROOT)) if not words or it.name in words]
+    names = [word for word in words if word != AFTER_GATE]
+    crates = [it for it in kit().rtlib.crates_below(str(ROOT)) if not names or it.name in names]
     held = kit().rtlib.lock(list(dict.fromkeys(it for crate in crates for it in [*crate.below(), crate])))
-    prepare_libraries(crates, False)
+    prepare_libraries(crates, AFTER_GATE in words)
     longest = sorted(crates, key=lambda it: -it.count(rb"\n"))
     with concurrent.futures.ThreadPoolExecutor(times.cores()) as pool:
         costs = list(pool.map(measure, longest))
