@@ -5,7 +5,7 @@ FOLDER/kinds has a line for each: the kind, how many things the module holds, an
 Where plain_normaliser.rs doesn't know the kind, its normal form stands beside it, as KIND.normal.
 FOLDER/linked_instructions has the instructions of linked_code.wasm alone.
 Every run writes the same bytes, but for `debug`, `go` and `rust`, which compilers write if they are there. All modules
-are well formed; but for these and `linked_json`, none is valid.
+are well formed; but for these, `linked_json` and `json_functions`, none is valid.
 """
 import os
 import shutil
@@ -21,8 +21,9 @@ LINKED_INSTRUCTIONS = 822029
 LINKED_BYTES = 2000000
 DEBUG_COPIES = 100
 JSON = (HERE / "linked_json.wasm").read_bytes()[len(HEAD):]
-CUSTOM, TYPES, IMPORT, GLOBAL, EXPORT, ELEMENT, CODE, DATA = 0, 1, 2, 6, 7, 9, 10, 11
+CUSTOM, TYPES, IMPORT, FUNCTIONS, GLOBAL, EXPORT, ELEMENT, CODE, DATA = 0, 1, 2, 3, 6, 7, 9, 10, 11
 
+FUNCTION_TYPE = bytes.fromhex("60 00 00")
 END = b"\x0B"
 DROP = b"\x1A"
 I32_ADD = b"\x6A"
@@ -110,6 +111,26 @@ def br_tables(count, labels):
     return functions(count, code), count * (len(labels) + 1), "label"
 
 
+def number_at(data, place):
+    """The number in LEB128 at a place, and the place behind it."""
+    end = place + next(index for index, byte in enumerate(data[place:]) if byte < 128) + 1
+    return sum((byte & 127) << 7 * index for index, byte in enumerate(data[place:end])), end
+
+
+def many_functions(times):
+    """The sections of linked_json.wasm with its functions so many times; and how many bytes they have."""
+    sections, place = b"", 0
+    while place < len(JSON):
+        size, start = number_at(JSON, place + 1)
+        body = JSON[start:start + size]
+        if JSON[place] in (FUNCTIONS, CODE):
+            count, items = number_at(body, 0)
+            body = number(count * times) + body[items:] * times
+        sections += section(JSON[place], body)
+        place = start + size
+    return sections, len(sections), "byte"
+
+
 def kinds():
     """Each kind: its name, its sections, how many things they hold, and what one is called."""
     for times in 1, 2, 4, 8:
@@ -139,6 +160,8 @@ def kinds():
     yield "data_segments", *repeated_list(DATA, 150000, b"\x00" + I32_CONST_0 + END + name(b"sixteen bytes..."))
     yield "custom", section(CUSTOM, name(b"a_function") + bytes(1000)) * 3000, 3000, "section"
     yield "linked_json", JSON, len(JSON), "byte"
+    yield "json_functions", *many_functions(20)
+    yield "one_function", types(1, FUNCTION_TYPE) + section(FUNCTIONS, b"\x01\x00") + LINKED, LINKED_INSTRUCTIONS, "instruction"
     for kind, sections in real_modules():
         yield kind, sections, len(sections), "byte"
 

@@ -46,10 +46,28 @@ FILES = {
     "padded_debug": HEADER + PADDED_NAMES + b"\0\x08\7.debug_",
     # Custom sections of four names.
     "named": HEADER + b"\0\5\4name\0\5\4nabe\0\x08\7.debug_\0\2\1e",
+    # Custom sections whose names begin like those that keep offsets, and two that keep them.
+    "alike": HEADER + b"\0\x09\x08linkingX\0\x08\7linking\0\7\6reloc.\0\7\6relocs\0\x12\x11sourceMappingURL2",
 }
 EXPORT, CODE, DATA_COUNT, DATA = b"\7\1\0", b"\x0A\4\1\2\0\x0B", b"\x0C\1\1", b"\x0B\3\1\1\0"
 # A function with memory.init 0 0 as its fourth instruction.
 INIT = b"\x0A\x0E\1\x0C\0\x41\0\x41\0\x41\0\xFC\x08\0\0\x0B"
+
+
+def functions(*bodies):
+    """The function and the code section of functions with these bodies."""
+    items = bytes([len(bodies)]) + b"".join(bytes([len(body)]) + body for body in bodies)
+    return bytes([3, len(bodies) + 1, len(bodies)]) + bytes(len(bodies)) + bytes([10, len(items)]) + items
+
+
+# A function with bytes in a constant and in labels that could be the opcode of memory.init: i32.const 1148, drop,
+# br_table 1148 1148, end.
+LIKE_A_DATA_USE = bytes.fromhex("00 41 FC 08 1A 0E 01 FC 08 FC 08 0B")
+# Instructions that name data segments.
+DATA_USES = {"memory.init": "FC 08 00 00", "data.drop": "FC 09 00", "array.new_data": "FB 09 00 00",
+             "array.init_data": "FB 12 00 00"}
+# Locals and instructions with lists: br_table 0 0, select (i32), try_table (catch 0 0), resume 0 (on 0 0), end.
+LISTS = bytes.fromhex("01 03 7F 0E 01 00 00 1C 01 7F 1F 40 01 00 00 00 E3 00 01 00 00 00")
 # Modules that break a rule: what each is, the message, and the bytes after the header.
 DISORDERED = [
     ("an import section after the functions", "import section, offset 0x12: out of order: expected before the function "
@@ -69,10 +87,20 @@ DISORDERED = [
      TYPE + DATA_COUNT),
     ("no data count", "code section, function 0, instruction 3: data segment used without a data count section",
      TYPE + FUNCTION + INIT + DATA),
+    ("no data count, after instructions with lists", "code section, function 0, instruction 4: data segment used without "
+     "a data count section", TYPE + functions(LISTS + b"\xFC\x09\0\x0B")),
+] + [
+    (f"{name} without a data count", "code section, function 1, instruction 2: data segment used without a data count "
+     "section", TYPE + functions(LIKE_A_DATA_USE, b"\0\x20\0\x1A" + bytes.fromhex(use) + b"\x0B"))
+    for name, use in DATA_USES.items()
 ]
+# The same with a padded opcode.
+PADDED_DATA_USE = ("code section, function 0, instruction 0: data segment used without a data count section",
+                   TYPE + functions(bytes.fromhex("00 FC 89 80 00 00 0B")))
 # The sections in the standard's order, and code that names data segments.
 IN_ORDER = [TYPE + IMPORT + FUNCTION + b"\4\1\0\5\1\0\x0D\1\0\6\1\0" + EXPORT + b"\x08\1\0\x09\1\0" + DATA_COUNT
-            + CODE + DATA, TYPE + FUNCTION + DATA_COUNT + INIT + DATA]
+            + CODE + DATA, TYPE + FUNCTION + DATA_COUNT + INIT + DATA, TYPE + functions(LIKE_A_DATA_USE),
+            TYPE + functions(LISTS + b"\x0B")]
 NO_HEADER = "offset 0x0: not a WebAssembly module: expected the header 00 61 73 6D 01 00 00 00"
 # Inputs that are no module: what each is, the message, and its beginning.
 FOREIGN = [(found, f"{NO_HEADER}, found {found}", data) for found, data in (

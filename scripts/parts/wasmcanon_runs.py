@@ -14,8 +14,8 @@ from parts.listing_cases import (ALL_DIFFERENCES, CALL_AS_JSON, CUT_LISTINGS, EV
                                  LISTING, LISTINGS, code)
 from parts.wasmcanon_cases import (CUT, CUT_AS_JSON, DISORDERED, ENCODINGS, FILES, FOREIGN, FUNCTION, HEADER, IN_ORDER,
                                    LONGER, LONG_AS_JSON, LONG_SIZE, MALFORMED, NAMES, NO, NOT_CANONICAL, NO_HEADER,
-                                   PADDED_NAMES, PADDED_PRODUCERS, PRODUCERS, REPORT, REPORT_OF_NAMES,
-                                   REPORT_OF_NUMBERS, STALE, STALE_NAMES, STALE_SECTIONS, TYPE)
+                                   PADDED_DATA_USE, PADDED_NAMES, PADDED_PRODUCERS, PRODUCERS, REPORT,
+                                   REPORT_OF_NAMES, REPORT_OF_NUMBERS, STALE, STALE_NAMES, STALE_SECTIONS, TYPE)
 from parts.wasmcanon_files import try_links, try_object_files, try_outputs, try_read_only, try_several
 
 
@@ -77,6 +77,9 @@ def try_order(runs):
                     for words in ([], ["--check"], ["--hash"], ["--report"], ["--diff", "long"]))
         runs.holds(name, right and runs.err.endswith("\nhelp: --any-order takes such modules\n"))
         runs.holds(f"{name}, in any order", runs.writes("--any-order", "disordered", data=HEADER + data))
+    message, data = PADDED_DATA_USE
+    (runs.room / "padded_use").write_bytes(HEADER + data)
+    runs.holds("a padded data use", runs.answers(1, f"error: padded_use: {message}", "--hash", "padded_use"))
     for data in IN_ORDER:
         (runs.room / "ordered").write_bytes(HEADER + data)
         runs.holds("sections in order", runs.writes("ordered", data=HEADER + data))
@@ -130,6 +133,9 @@ def try_selections(runs):
     ):
         right = runs.answers(0, "", *words, "named") and custom_sections(runs.out) == wanted
         runs.holds(" ".join(words), right)
+    right = runs.answers(0, "", "--strip-offsets", "alike")
+    runs.holds("names like those with offsets", right and custom_sections(runs.out) == ["linkingX", "relocs",
+                                                                                         "sourceMappingURL2"])
     (runs.room / "stale").write_bytes(HEADER + STALE_SECTIONS)
     runs.run("stale")
     runs.holds("a warning of several sections", runs.status == 0 and runs.err == stale("stale", STALE_NAMES))

@@ -52,7 +52,7 @@ pub use wasm_whole_modules::modules::{
     Judged, WholeModule, check_whole_module, judge_whole_module, normalise_whole_module,
     read_whole_module, read_whole_module_strict, rewrite_whole_module,
 };
-pub use wasm_whole_modules::order::{ModuleError, check_order};
+pub use wasm_whole_modules::order::{ModuleError, check_order, find_order_error};
 
 /// The id of sections whose name says what they hold.
 const CUSTOM_SECTION_ID: u8 = 0;

@@ -5,3 +5,8 @@ pub mod OffsetLaws
 pub mod PatternLaws
 pub mod SelectionLaws
 pub mod RefusalLaws
+pub mod DataOpcodeLaws
+pub mod DataUseLaws
+pub mod EncodedOrderLaws
+pub mod EncodedSectionLaws
+pub mod SkippingLaws

@@ -7,3 +7,6 @@ pub mod ModuleOrder
 pub mod Offsets
 pub mod Selections
 pub mod RefusalNumbers
+pub mod DataOpcodes
+pub mod EncodedSections
+pub mod Skipping

@@ -8,15 +8,18 @@ use Rattle.wasm_sections.specs.formats.Sections.{custom_body}
 abbrev pub BeginsWith : List ℕ → List ℕ → Type 0
 BeginsWith beginning name = (rest : List ℕ) × (name ≡ beginning ++ rest)
 
+-- Custom sections of this name are those of object files.
+abbrev pub IsObjectName : List ℕ → Type 0
+IsObjectName name = (name ≡ codes "linking") ⊎ BeginsWith (codes "reloc.") name
+
 -- Custom sections of this name keep offsets.
 abbrev pub IsOffsetName : List ℕ → Type 0
 IsOffsetName name =
-    BeginsWith (codes "linking") name
-    ⊎ (BeginsWith (codes "reloc.") name
+    IsObjectName name
     ⊎ (BeginsWith (codes ".debug_") name
-    ⊎ (BeginsWith (codes "external_debug_info") name
-    ⊎ (BeginsWith (codes "sourceMappingURL") name
-    ⊎ BeginsWith (codes "metadata.code.") name))))
+    ⊎ ((name ≡ codes "external_debug_info")
+    ⊎ ((name ≡ codes "sourceMappingURL")
+    ⊎ BeginsWith (codes "metadata.code.") name)))
 
 -- The section is a custom section of this name.
 pub record IsNameOf (section : SectionParts) (name : List ℕ) : Type 0 where

@@ -1,36 +1,26 @@
 //! Names of custom sections that keep offsets into the module. Once bytes have moved, these offsets are stale.
-ghost use Rattle.std.specs.Prelude.{◌≡◌, true, false, IfSome, IfNone};
-ghost use Rattle.wasm_whole_modules.specs.Offsets.{BeginsWith, IsOffsetName};
+ghost use Rattle.std.specs.Prelude.{◌≡◌, true, false};
+ghost use Rattle.wasm_whole_modules.specs.Offsets.{BeginsWith, IsObjectName, IsOffsetName};
 
-/// Checks whether sections of this name keep offsets.
+/// Checks whether sections of this name keep offsets: relocations and symbols of a linker, debug information (DWARF) or a
+/// source map, here or in another file, and annotations of instructions.
 pub fn is_offset_name(name: &str) -> bool
     ensures yes { result ≡ true → IsOffsetName name.now }
     ensures no { result ≡ false → IsOffsetName name.now → ⊥ }
 {
-    offset_name(name).is_some()
+    is_object_name(name)
+        || begins_with(name, ".debug_")
+        || name == "external_debug_info"
+        || name == "sourceMappingURL"
+        || begins_with(name, "metadata.code.")
 }
 
-/// Returns the beginning of the name if sections of this name keep offsets: relocations and symbols of a linker, debug
-/// information (DWARF) or a source map, here or in another file, and annotations of instructions.
-pub fn offset_name(name: &str) -> Option<&'static str>
-    ensures found { IfSome result (λ _. IsOffsetName name.now) }
-    ensures none { IfNone result (IsOffsetName name.now → ⊥) }
+/// Checks whether sections of this name are those of object files: symbols and relocations of a linker.
+pub fn is_object_name(name: &str) -> bool
+    ensures yes { result ≡ true → IsObjectName name.now }
+    ensures no { result ≡ false → IsObjectName name.now → ⊥ }
 {
-    if begins_with(name, "linking") {
-        Some("linking")
-    } else if begins_with(name, "reloc.") {
-        Some("reloc.")
-    } else if begins_with(name, ".debug_") {
-        Some(".debug_")
-    } else if begins_with(name, "external_debug_info") {
-        Some("external_debug_info")
-    } else if begins_with(name, "sourceMappingURL") {
-        Some("sourceMappingURL")
-    } else if begins_with(name, "metadata.code.") {
-        Some("metadata.code.")
-    } else {
-        None
-    }
+    name == "linking" || begins_with(name, "reloc.")
 }
 
 /// Checks whether `name` begins with `beginning`.

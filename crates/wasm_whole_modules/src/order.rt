@@ -1,15 +1,21 @@
 //! The order of sections, and counts that must agree (Core 3.0, Modules).
-ghost use Rattle.std.specs.Prelude.{◌≡◌, OnOk, IfErr, IfSome, IfNone};
+ghost use Rattle.std.specs.Prelude.{◌≡◌, OnOk, IfErr, IfOk, IfSome, IfNone};
 ghost use Rattle.wasm_sections.specs.formats.ModuleSectionParts.{module_section_parts, all_module_section_parts};
-ghost use Rattle.wasm_whole_modules.specs.ModuleOrder.{rank, AreInOrder, function_count, code_bodies, segment_count, first_data_count, names_data, first_data_use, is_data, NameNoData, IsFirstDataUse, IsModule, IsWhyNot};
+ghost use Rattle.wasm_whole_modules.specs.ModuleOrder.{code_bodies, facts_of, IsModule, IsWhyNot, OfModule};
 
-use crate::indices::{IndexSpace, index_spaces};
+mod check;
+mod data_uses;
+mod encoded;
+mod opcodes;
+
+use crate::order::check::{OrderCheck, SectionFacts};
+use crate::order::data_uses::{InstructionPlace, find_data_use};
+pub use encoded::find_order_error;
 use thiserror::Error;
-use wasm_instructions::table::Call;
 use wasm_modules::code::CodeBody;
 use wasm_sections::module_sections::ModuleSection;
 
-/// An error of `check_order`.
+/// A rule that the sections of a module break.
 #[derive(Debug, PartialEq, Eq, Drop, Error)]
 pub enum ModuleError {
     /// A section other than a custom one comes after a section that it must precede, or a second time.
@@ -66,66 +72,38 @@ pub fn check_order(sections: &[ModuleSection<'_>]) -> Result<(), ModuleError>
     // The error names a rule that the sections break, and the first place or the numbers that break it.
     ensures why { IfErr result (IsWhyNot (all_module_section_parts sections.now)) }
 {
-    check_ranks(sections)?;
-    let functions = count_functions(sections);
-    let bodies = find_code_bodies(sections).len();
-    if functions != bodies {
-        return Err(ModuleError::FunctionCount { functions, bodies });
+    let mut check = OrderCheck::new();
+    for (index, section) in sections.iter().enumerate() {
+        check.section(index, facts_of(section))?;
     }
-    check_data_count(sections)
+    let data_use = if check.needs_data_use() {
+        find_data_use(find_code_bodies(sections))
+    } else {
+        None
+    };
+    check.finish(data_use)
 }
 
-/// Returns the position of a section in the standard's order, from 1. Returns 0 for a custom section, which may come
-/// anywhere.
-fn rank(section: &ModuleSection<'_>) -> u8
-    ensures { result ≡ rank (module_section_parts section.now) }
+/// Returns what the order of the section and its counts depend on.
+fn facts_of(section: &ModuleSection<'_>) -> SectionFacts
+    ensures { result ≡ facts_of (module_section_parts section.now) }
 {
     match section {
-        ModuleSection::Custom(_) => 0,
-        ModuleSection::Types(_) => 1,
-        ModuleSection::Imports(_) => 2,
-        ModuleSection::Functions(_) => 3,
-        ModuleSection::Tables(_) => 4,
-        ModuleSection::Memories(_) => 5,
-        ModuleSection::Tags(_) => 6,
-        ModuleSection::Globals(_) => 7,
-        ModuleSection::Exports(_) => 8,
-        ModuleSection::Start(_) => 9,
-        ModuleSection::Elements(_) => 10,
-        ModuleSection::DataCount(_) => 11,
-        ModuleSection::Code(_) => 12,
-        ModuleSection::Data(_) => 13,
+        ModuleSection::Custom(_) => SectionFacts::Other(0),
+        ModuleSection::Types(_) => SectionFacts::Other(1),
+        ModuleSection::Imports(_) => SectionFacts::Other(2),
+        ModuleSection::Functions(functions) => SectionFacts::Functions(functions.len()),
+        ModuleSection::Tables(_) => SectionFacts::Other(4),
+        ModuleSection::Memories(_) => SectionFacts::Other(5),
+        ModuleSection::Globals(_) => SectionFacts::Other(6),
+        ModuleSection::Exports(_) => SectionFacts::Other(7),
+        ModuleSection::Start(_) => SectionFacts::Other(8),
+        ModuleSection::Elements(_) => SectionFacts::Other(9),
+        ModuleSection::Code(bodies) => SectionFacts::Code(bodies.len()),
+        ModuleSection::Data(segments) => SectionFacts::Data(segments.len()),
+        ModuleSection::DataCount(count) => SectionFacts::DataCount(*count),
+        ModuleSection::Tags(_) => SectionFacts::Other(13),
     }
-}
-
-/// Checks the order of the sections.
-fn check_ranks(sections: &[ModuleSection<'_>]) -> Result<(), ModuleError>
-    ensures ok { OnOk result (AreInOrder 0 (all_module_section_parts sections.now)) }
-    ensures why { IfErr result (IsWhyNot (all_module_section_parts sections.now)) }
-{
-    let mut last = 0;
-    for (index, section) in sections.iter().enumerate() {
-        let rank = rank(section);
-        if rank != 0 {
-            if rank <= last {
-                return Err(ModuleError::OutOfOrder { index });
-            }
-            last = rank;
-        }
-    }
-    Ok(())
-}
-
-/// Returns the number of functions in the first function section, or 0.
-fn count_functions(sections: &[ModuleSection<'_>]) -> usize
-    ensures { result ≡ function_count (all_module_section_parts sections.now) }
-{
-    for section in sections {
-        if let ModuleSection::Functions(functions) = section {
-            return functions.len();
-        }
-    }
-    0
 }
 
 /// Returns the bodies of the first code section, or none.
@@ -138,82 +116,4 @@ fn find_code_bodies<'s>(sections: &'s [ModuleSection<'_>]) -> &'s [CodeBody]
         }
     }
     &[]
-}
-
-/// Returns the number of segments in the first data section, or 0.
-fn count_segments(sections: &[ModuleSection<'_>]) -> usize
-    ensures { result ≡ segment_count (all_module_section_parts sections.now) }
-{
-    for section in sections {
-        if let ModuleSection::Data(segments) = section {
-            return segments.len();
-        }
-    }
-    0
-}
-
-/// Returns the number in the first data count section. `None` means that there is no such section.
-fn find_data_count(sections: &[ModuleSection<'_>]) -> Option<u32>
-    ensures { result ≡ first_data_count (all_module_section_parts sections.now) }
-{
-    for section in sections {
-        if let ModuleSection::DataCount(told) = section {
-            return Some(*told);
-        }
-    }
-    None
-}
-
-/// Checks that the data count section agrees with the data segments, or that there is none and code names none.
-fn check_data_count(sections: &[ModuleSection<'_>]) -> Result<(), ModuleError>
-    ensures segments { OnOk result (IfSome (first_data_count (all_module_section_parts sections.now)) (λ told.
-        told ≡ segment_count (all_module_section_parts sections.now))) }
-    ensures data_uses { OnOk result (IfNone (first_data_count (all_module_section_parts sections.now))
-        (NameNoData (code_bodies (all_module_section_parts sections.now)))) }
-    ensures why { IfErr result (IsWhyNot (all_module_section_parts sections.now)) }
-{
-    if let Some(told) = find_data_count(sections) {
-        let segments = count_segments(sections);
-        if told as usize != segments {
-            return Err(ModuleError::DataCount { told, segments });
-        }
-    } else if let Some((body, instruction)) = find_data_use(find_code_bodies(sections)) {
-        return Err(ModuleError::MissingDataCount { body, instruction });
-    }
-    Ok(())
-}
-
-/// Locates the first instruction that names a data segment. Returns the index of its body, and its index there.
-fn find_data_use(bodies: &[CodeBody]) -> Option<(usize, usize)>
-    ensures first { IfSome result (λ place. IsFirstDataUse bodies.now place.0 place.1) }
-    ensures none { IfNone result (NameNoData bodies.now) }
-{
-    for (body, code) in bodies.iter().enumerate() {
-        if let Some(instruction) = first_data_use(code) {
-            return Some((body, instruction));
-        }
-    }
-    None
-}
-
-/// Returns the index of a body's first instruction that names a data segment.
-fn first_data_use(body: &CodeBody) -> Option<usize>
-    ensures { result ≡ first_data_use body.now }
-{
-    body.calls.as_slice().iter().position(names_data)
-}
-
-/// Checks whether an instruction names a data segment.
-fn names_data(call: &Call) -> bool
-    ensures { result ≡ names_data call.now }
-{
-    let (first, second) = index_spaces(call.op());
-    is_data(first) || is_data(second)
-}
-
-/// Checks whether an index space is that of data segments.
-fn is_data(space: Option<IndexSpace>) -> bool
-    ensures { result ≡ is_data space }
-{
-    matches!(space, Some(IndexSpace::Data))
 }

@@ -1,2 +1,2 @@
-pub mod OrderLaws
+pub mod ObjectLaws
 pub mod ResultLaws

@@ -1,5 +1,5 @@
 -- What holds of the results of runs, told otherwise.
-use Rattle.std.proofs.Common.{sym, subst, ◌≡◌, ◌∙◌, ℕ, Bool, true, false, List, Option, Some, None, Result, Ok, Err, inl}
+use Rattle.std.proofs.Common.{refl, sym, subst, ◌≡◌, ◌∙◌, ℕ, Bool, true, false, List, Option, Some, None, Result, Ok, Err, inl}
 use Rattle.std.proofs.lemmas.Bool.{true≢false}
 use Rattle.std.specs.Global.{Vec}
 use Rattle.std.specs.Prelude.{IfSome}
@@ -15,7 +15,8 @@ use Rattle.wasm_sections.proofs.RawSections.{minimal_normal, normal_minimal}
 use Rattle.wasm_custom_sections.specs.MinimalContents.{MinimisesContents}
 use Rattle.wasm_whole_modules.specs.Selections.{IsChosen}
 use Rattle.wasm_whole_modules.specs.declared.order.ModuleError.{ModuleError}
-use Rattle.wasmcanon.specs.Order.{IsOrdered, BreaksOrder}
+use Rattle.wasm_whole_modules.specs.ModuleOrder.{OfModule, IsWhyNot}
+use Rattle.wasm_whole_modules.specs.ModuleOrder as order
 use Rattle.wasmcanon.specs.Run.{Accepts, HasContents, HasLongerContents, IsCanonicalForm, IsForm, IsLonger, IsReadFailure, Judges}
 use Rattle.wasmcanon.specs.declared.order.MisplacedSection.{MisplacedSection}
 use Rattle.wasmcanon.specs.declared.run.FormOptions.{FormOptions}
@@ -103,11 +104,11 @@ pub not_written : (any_order : Bool) (input : List ℕ) → Accepts any_order in
 not_written any_order input = record { in_order = λ _. tt; disordered = tt; unencoded = tt; refused = tt }
 
 -- the order of the sections was checked
-pub found_in_order : (any_order : Bool) (input : List ℕ) → IsOrdered input → Accepts any_order input (Ok tt)
+pub found_in_order : (any_order : Bool) (input : List ℕ) → OfModule input order.IsModule → Accepts any_order input (Ok tt)
 found_in_order any_order input ordered = record { in_order = λ _. ordered; disordered = tt; unencoded = tt; refused = tt }
 
-pub found_out_of_order : (any_order : Bool) (input : List ℕ) (error : ModuleError) (place : Option MisplacedSection) → BreaksOrder input error → Accepts any_order input (Err (failures.Disordered error place))
-found_out_of_order any_order input error place why = record { in_order = λ _. tt; disordered = why; unencoded = tt; refused = tt }
+pub found_out_of_order : (input : List ℕ) (error : ModuleError) (place : Option MisplacedSection) → OfModule input (λ sections. IsWhyNot sections error) → Accepts false input (Err (failures.Disordered error place))
+found_out_of_order input error place why = record { in_order = λ _. tt; disordered = (refl, why); unencoded = tt; refused = tt }
 
 -- any order is allowed
 pub not_checked : (input : List ℕ) → Accepts true input (Ok tt)
@@ -115,9 +116,19 @@ not_checked input = record { in_order = λ same. absurd (true≢false same); dis
 
 -- what is refused in any order is refused in order too
 pub refused_in_order : (any_order : Bool) (input : List ℕ) (failure : Failure) → Accepts true input (Err failure) → Accepts any_order input (Err failure)
-refused_in_order any_order input failure a = record { in_order = λ _. tt; disordered = a.disordered; unencoded = a.unencoded; refused = a.refused }
+refused_in_order any_order input (failures.Refused refusal foreign) a = record { in_order = λ _. tt; disordered = tt; unencoded = a.unencoded; refused = a.refused }
+refused_in_order any_order input (failures.Disordered error place) a = absurd (true≢false a.disordered.0)
+refused_in_order any_order input failures.ObjectFile a = record { in_order = λ _. tt; disordered = tt; unencoded = tt; refused = tt }
+refused_in_order any_order input failures.Memory a = record { in_order = λ _. tt; disordered = tt; unencoded = tt; refused = tt }
+refused_in_order any_order input (failures.Read error) a = record { in_order = λ _. tt; disordered = tt; unencoded = tt; refused = tt }
+refused_in_order any_order input (failures.Write error) a = record { in_order = λ _. tt; disordered = tt; unencoded = tt; refused = tt }
 
 -- what is in order is accepted if it is accepted in any order
 pub accepted_in_order : (any_order : Bool) (input : List ℕ) (outcome : Result (Unit {0}) Failure) → Accepts any_order input (Ok tt) → Accepts true input outcome → Accepts any_order input outcome
-accepted_in_order any_order input (Ok tt) order a = order
-accepted_in_order any_order input (Err failure) order a = refused_in_order any_order input failure a
+accepted_in_order any_order input (Ok tt) ordered a = ordered
+accepted_in_order any_order input (Err failure) ordered a = refused_in_order any_order input failure a
+
+-- what is accepted of the bytes of an input that is known
+pub accepts_known : (known : Option (List ℕ)) (any_order : Bool) (bytes : List ℕ) (outcome : Result (Unit {0}) Failure) → IfSome known (λ input. bytes ≡ input) → Accepts any_order bytes outcome → IfSome known (λ input. Accepts any_order input outcome)
+accepts_known None any_order bytes outcome same a = tt
+accepts_known (Some input) any_order bytes outcome same a = subst (λ (b : List ℕ). Accepts any_order b outcome) same a

@@ -12,7 +12,8 @@ use Rattle.wasm_whole_modules.specs.declared.order.ModuleError.{ModuleError}
 use Rattle.sha2.specs.Sha256.{sha256}
 use Rattle.wasm_whole_modules.specs.Selections.{IsChosen}
 use Rattle.wasm_custom_sections.specs.MinimalContents.{MinimisesContents}
-use Rattle.wasmcanon.specs.Order.{IsOrdered, BreaksOrder}
+use Rattle.wasm_whole_modules.specs.ModuleOrder.{OfModule, IsWhyNot}
+use Rattle.wasm_whole_modules.specs.ModuleOrder as order
 use Rattle.wasmcanon.specs.declared.run.FormOptions.{FormOptions}
 use Rattle.wasmcanon.specs.declared.run.Verdict.{Verdict}
 use Rattle.wasmcanon.specs.declared.run.Verdict.TheVariants as verdicts
@@ -57,6 +58,12 @@ pub record AppendsBeginning (options : FormOptions) (input : List ℕ) (old new 
   pub bytes : List ℕ
   pub form : IsForm options input bytes
   pub appended : AppendsPrefix old new bytes
+
+-- The property holds of the input's form.
+pub record FormIs (options : FormOptions) (input : List ℕ) (P : List ℕ → Type 0) : Type 0 where
+  pub bytes : List ℕ
+  pub form : IsForm options input bytes
+  pub holds : P bytes
 
 -- The digest is SHA-256 of the canonical form of the input with these options.
 pub record IsHash (options : FormOptions) (input digest : List ℕ) : Type 0 where
@@ -125,10 +132,10 @@ outcome_of (Err failure) = Err failure
 
 -- What a run promises that accepts or refuses its input.
 pub record Accepts (any_order : Bool) (input : List ℕ) (outcome : Result (Unit {0}) Failure) : Type 0 where
-  -- Unless any order is allowed, the sections of what it accepts are in order.
-  pub in_order : any_order ≡ false → OnOk outcome (IsOrdered input)
-  -- If the failure names a section, this is the first one that is out of order.
-  pub disordered : IfDisordered outcome (BreaksOrder input)
+  -- Unless any order is allowed, the sections of what it accepts make a module.
+  pub in_order : any_order ≡ false → OnOk outcome (OfModule input order.IsModule)
+  -- Only if order is asked for, it refuses sections that make no module, and names a rule that they break.
+  pub disordered : IfDisordered outcome (λ error. (any_order ≡ false) × OfModule input (λ sections. IsWhyNot sections error))
   -- It refuses only a malformed input.
   pub unencoded : IfRefused outcome (λ _. IsNoModule input)
   -- `at` is the length of the longest prefix that decodes.

@@ -7,7 +7,6 @@
 
 mod actions;
 mod contents;
-mod data_uses;
 mod differences;
 mod files;
 mod foreign;
@@ -15,6 +14,7 @@ mod job;
 mod json;
 mod listings;
 mod messages;
+mod objects;
 mod offsets;
 mod order;
 mod reports;

@@ -5,22 +5,6 @@ use wasm_modules::raw::{after_header, read_section};
 use wasm_whole_modules::offsets::is_offset_name;
 use wasm_whole_modules::selection::custom_name;
 
-/// Checks whether a module is an object file: it has a section `linking`, or relocations.
-pub fn is_object_file(module: &[u8]) -> bool {
-    let rest = after_header(module).unwrap_or(&[]);
-    let mut cursor = Cursor::new(rest);
-    for _ in 0..rest.len() {
-        let Ok(section) = read_section(&mut cursor) else {
-            break;
-        };
-        let name = custom_name(section).unwrap_or("");
-        if name == "linking" || name.starts_with("reloc.") {
-            return true;
-        }
-    }
-    false
-}
-
 /// Returns the names of the custom sections that keep offsets, in their order.
 ///
 /// Fails if memory runs out.

@@ -1,24 +1,14 @@
 //! The order of a module's sections, and counts that must agree (Core 3.0, Modules).
-ghost use Rattle.std.specs.Prelude.{◌≡◌, false, IfOk, IfSome, IfNone};
-ghost use Rattle.wasmcanon.specs.Order.{AreInOrder, OfSections, IsOutOfOrderAt, IsWhyNot};
+ghost use Rattle.std.specs.Prelude.{false};
 ghost use Rattle.wasmcanon.specs.Run.{Accepts, IfPlaced, NeverWrites, outcome_of};
 
-use crate::data_uses::find_data_use;
 use crate::run::Failure;
-use std::alloc::{AllocError, Global};
+use std::alloc::Global;
 use std::fmt;
 use wasm_codec::reader::cursor::Cursor;
-use wasm_listing::sections::{kind_name, rank};
+use wasm_listing::sections::kind_name;
 use wasm_modules::raw::{after_header, read_section};
-use wasm_whole_modules::order::ModuleError;
-
-const FUNCTION_SECTION: u8 = 3;
-
-const CODE_SECTION: u8 = 10;
-
-const DATA_SECTION: u8 = 11;
-
-const DATA_COUNT_SECTION: u8 = 12;
+use wasm_whole_modules::order::{ModuleError, find_order_error};
 
 /// A section that is out of order.
 #[derive(Clone, Copy)]
@@ -36,112 +26,19 @@ pub struct MisplacedSection {
 /// Fails with `Disordered` if a rule is broken, and with `Memory` if memory runs out.
 #[tactic(auto, using(crate::proofs::ResultLaws::found_in_order, crate::proofs::ResultLaws::found_out_of_order, crate::proofs::ResultLaws::failed_to_read))]
 pub fn check_sections(alloc: Global, input: &[u8]) -> Result<(), Failure>
-    // An input whose sections are out of order is refused.
+    // An input whose sections are out of order, or whose counts disagree, is refused.
     ensures accepts { Accepts false input.now (outcome_of result) }
     // The failure isn't `Refused`.
     ensures placed { IfPlaced result (λ _. ⊥) }
     // The failure isn't `Write`.
     ensures unwritten { NeverWrites result }
 {
-    let Some(sections) = after_header(input) else {
-        // A malformed module has no sections.
-        return Ok(());
-    };
-    match find_error(alloc, sections)? {
+    match find_order_error(alloc, input)? {
         Some(error) => {
             let section = find_misplaced(input, &error);
             Err(Failure::Disordered { error, section })
         }
         None => Ok(()),
-    }
-}
-
-/// Finds a rule that the sections break.
-///
-/// Fails if memory runs out.
-fn find_error(alloc: Global, sections: &[u8]) -> Result<Option<ModuleError>, AllocError>
-    ensures none { IfOk result (λ error. IfNone error (OfSections sections.now (AreInOrder 0))) }
-    ensures why { IfOk result (λ error. IfSome error (λ error. OfSections sections.now (λ all. IsWhyNot all error))) }
-{
-    match find_out_of_order(sections) {
-        Some(index) => Ok(Some(ModuleError::OutOfOrder { index })),
-        None => find_count_error(alloc, sections),
-    }
-}
-
-/// Returns the index of the first section that is out of order.
-fn find_out_of_order(sections: &[u8]) -> Option<usize>
-    ensures none { IfNone result (OfSections sections.now (AreInOrder 0)) }
-    ensures first { IfSome result (λ index. OfSections sections.now (λ all. IsOutOfOrderAt all index)) }
-{
-    let mut cursor = Cursor::new(sections);
-    let mut last = 0;
-    let mut index = 0;
-    while cursor.len() > 0 {
-        // `fork` shows the proof that all remaining items are bytes.
-        let _start = cursor.fork();
-        let section = match read_section(&mut cursor) {
-            Ok(section) => section,
-            // Malformed bytes encode no sections.
-            Err(_) => return None,
-        };
-        let rank = rank(&section);
-        if rank != 0 {
-            if rank <= last {
-                return Some(index);
-            }
-            last = rank;
-        }
-        index += 1;
-    }
-    None
-}
-
-/// Finds counts that disagree. Each kind of section is there at most once.
-///
-/// Fails if memory runs out.
-fn find_count_error(alloc: Global, sections: &[u8]) -> Result<Option<ModuleError>, AllocError>
-    ensures why { IfOk result (λ error. IfSome error (λ error. OfSections sections.now (λ all. IsWhyNot all error))) }
-{
-    let functions = count_items(sections, FUNCTION_SECTION);
-    let bodies = count_items(sections, CODE_SECTION);
-    if functions != bodies {
-        let (functions, bodies) = (functions as usize, bodies as usize);
-        return Ok(Some(ModuleError::FunctionCount { functions, bodies }));
-    }
-    if find_body(sections, DATA_COUNT_SECTION).is_some() {
-        let told = count_items(sections, DATA_COUNT_SECTION);
-        let segments = count_items(sections, DATA_SECTION);
-        if told != segments {
-            let segments = segments as usize;
-            return Ok(Some(ModuleError::DataCount { told, segments }));
-        }
-    } else if let Some(code) = find_body(sections, CODE_SECTION) {
-        if let Some(place) = find_data_use(alloc, code)? {
-            let (body, instruction) = (place.body, place.instruction);
-            return Ok(Some(ModuleError::MissingDataCount { body, instruction }));
-        }
-    }
-    Ok(None)
-}
-
-/// Returns the body of the first section with this id.
-fn find_body(sections: &[u8], id: u8) -> Option<&[u8]> {
-    let mut cursor = Cursor::new(sections);
-    for _ in 0..sections.len() {
-        let section = read_section(&mut cursor).ok()?;
-        if section.id == id {
-            return Some(section.body);
-        }
-    }
-    None
-}
-
-/// Returns the number at the start of the first section with this id. Returns 0 if there is no such section.
-fn count_items(sections: &[u8], id: u8) -> u32 {
-    match find_body(sections, id) {
-        Some(body) => Cursor::new(body).u32().unwrap_or(0),
-        None => 0,
     }
 }
 

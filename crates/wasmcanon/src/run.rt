@@ -4,12 +4,14 @@ ghost use Rattle.std.specs.Io.KnownBytes.{IsAtEnd, Keeps};
 ghost use Rattle.wasm_sections.specs.formats.ModuleSections.{module_section};
 ghost use Rattle.wasm_whole_modules.specs.Counting.{ShowsModule};
 ghost use Rattle.wasm_whole_modules.specs.RefusalNumbers.{CountsParts};
-ghost use Rattle.wasmcanon.specs.Run.{Accepts, IsModule, IsCanonicalForm, AppendsBeginning, AppendsForm, IsForm, IsHash, IfObjectFile, IfPlaced, IfWriteFailed, NeverWrites, OnceAllIsRead, BeforeAnyWrite, IsReadFailure, Judges, outcome_of, status_of};
+ghost use Rattle.wasmcanon.specs.Objects.{IsObjectFile, IsNoObjectFile};
+ghost use Rattle.wasmcanon.specs.Run.{Accepts, FormIs, IsModule, IsCanonicalForm, AppendsBeginning, AppendsForm, IsForm, IsHash, IfObjectFile, IfPlaced, IfWriteFailed, NeverWrites, OnceAllIsRead, BeforeAnyWrite, IsReadFailure, Judges, outcome_of, status_of};
 ghost use Rattle.wasmcanon.specs.declared.run.Failure.TheVariants.{Memory};
 
 use crate::contents::{judge_contents, with_contents};
 use crate::foreign::Foreign;
-use crate::offsets::{is_object_file, offset_names};
+use crate::objects::is_object_file;
+use crate::offsets::offset_names;
 use crate::order::{MisplacedSection, check_sections};
 use canon_cli::input::Input;
 use sha2::{Digest, Sha256};
@@ -109,7 +111,7 @@ pub enum Verdict {
 /// order is allowed. Fails with `ObjectFile` if the output would be an object file, unless `objects` is set: its
 /// relocations would be stale. Fails with `Memory` if memory runs out, and with `Read` or `Write` if a read or a write
 /// fails.
-#[tactic(auto, using(crate::proofs::ResultLaws::failed_to_write, crate::proofs::ResultLaws::not_written))]
+#[tactic(auto, using(crate::proofs::ResultLaws::failed_to_write, crate::proofs::ResultLaws::not_written, crate::proofs::ObjectLaws::form_is))]
 pub fn canonicalise<R: Input, W: Write>(
     alloc: Global,
     reader: &mut R,
@@ -130,8 +132,13 @@ pub fn canonicalise<R: Input, W: Write>(
         CountsParts module_section input refusal)) }
     // Nothing was written, unless the failure is `Write`.
     ensures nothing_written { BeforeAnyWrite result (Keeps (W.contents writer.old) (W.contents writer.new)) }
-    // An object file is refused only if that is asked for.
+    // The failure is `ObjectFile` only if the output would be an object file, and none may be written.
     ensures objects { IfObjectFile result (objects ≡ false) }
+    ensures is_object { IfObjectFile result (IfSome (R.remaining reader.old) (λ input.
+        FormIs options.entry input IsObjectFile)) }
+    // Unless `objects` is set, the output is no object file.
+    ensures no_object { objects ≡ false → OnOk result (IfSome (R.remaining reader.old) (λ input.
+        FormIs options.entry input IsNoObjectFile)) }
     // After `Write`, a proper prefix of the canonical form was appended.
     ensures beginning { IfWriteFailed result (IfSome (R.remaining reader.old) (λ input.
         AppendsBeginning options.entry input (W.contents writer.old) (W.contents writer.new))) }

@@ -9,7 +9,7 @@ use wasm_codec::reader::ReadError;
 use wasm_lists::encode::encode_bytes;
 use wasm_modules::section::HEADER;
 use wasm_whole_modules::modules::read_whole_module;
-use wasm_whole_modules::order::check_order;
+use wasm_whole_modules::order::{check_order, find_order_error};
 
 /// The id of a section.
 pub fn id_of(section: &str) -> u8 {
@@ -89,7 +89,7 @@ fn check_beginning(answers: &Answers, normal: &[u8]) -> Result<(), Mismatch> {
     }
 }
 
-/// What `check_order` answers of the module's sections is this text.
+/// What `check_order` answers of the module's sections is this text, and so is what `find_order_error` finds.
 pub fn check_order_of(alloc: Global, module: &[u8], answer: &str) -> Result<(), Mismatch> {
     let sections = match read_whole_module(alloc, module) {
         Ok(sections) => sections,
@@ -99,6 +99,19 @@ pub fn check_order_of(alloc: Global, module: &[u8], answer: &str) -> Result<(), 
     let told = match check_order(sections.as_slice()) {
         Ok(()) => format!(in alloc; "ok"),
         Err(why) => format!(in alloc; "{why}"),
+    };
+    match told {
+        Ok(told) if told.as_str() == answer => check_encoded_order(alloc, module, answer),
+        Ok(_) => Err(Mismatch::Order),
+        Err(_) => Err(Mismatch::Memory),
+    }
+}
+
+/// What `find_order_error` finds in the module is this text.
+fn check_encoded_order(alloc: Global, module: &[u8], answer: &str) -> Result<(), Mismatch> {
+    let told = match find_order_error(alloc, module)? {
+        None => format!(in alloc; "ok"),
+        Some(why) => format!(in alloc; "{why}"),
     };
     match told {
         Ok(told) if told.as_str() == answer => Ok(()),

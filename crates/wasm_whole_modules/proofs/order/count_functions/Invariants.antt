@@ -1,9 +1,0 @@
-use Rattle.std.proofs.Common.{◌≡◌, drop}
-use Rattle.wasm_sections.specs.formats.ModuleSectionParts.{all_module_section_parts}
-use Rattle.wasm_whole_modules.specs.ModuleOrder.{function_count}
-use Rattle.wasm_whole_modules.proofs.order.count_functions.Given as goal
-
-abbrev pub invariant-loop-section : goal.invariant-loop-section
-invariant-loop-section l = record {
-  left : function_count (all_module_section_parts l.sections) ≡ function_count (all_module_section_parts (drop l.section-index l.sections));
-}
