@@ -11,7 +11,8 @@ SOURCES = ROOT / "crates/wasm_sink/src/sink"
 VECTORS = [ROOT / "crates/replay/data" / name for name in ("sink.tsv", "worked_sink.tsv")]
 NAMES = ROOT / "crates/wasm_instructions/src/names/opcodes.rt"
 PREFIXES = {None: "WITHOUT_PREFIX", 0xFB: "AFTER_FB", 0xFC: "AFTER_FC", 0xFD: "AFTER_FD", 0xFE: "AFTER_FE"}
-METHOD = re.compile(r"((?:    ///.*\n)*)(?:    #\[inline.*\n)?    pub fn (\w+)(?s:.*?)ensures emits \{ \w+ [^(]*\((\w+) 0x(\w+)\)")
+METHOD = re.compile(r"((?:    ///.*\n)*)(?:    #\[inline.*\n)?    pub fn (\w+)(?s:.*?)ensures emits \{.*?"
+                    r"\((without_prefix|after_f[b-e]) 0x(\w+)\)")
 WIDTH = 120 - len("    /// ")
 
 OPERANDS = {

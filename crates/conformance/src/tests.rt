@@ -3,6 +3,7 @@
 
 mod expressions;
 mod functions;
+mod index_spaces;
 mod instructions;
 mod iterators;
 mod lists;

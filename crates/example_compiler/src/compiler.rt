@@ -79,7 +79,7 @@ struct Compiler {
 impl Compiler {
     fn new(alloc: Global) -> Result<Compiler, CompileError> {
         Ok(Compiler {
-            function: Function::new(alloc, [].iter().copied())?,
+            function: Function::new(alloc, [])?,
             pending: Vec::new(alloc),
             wants_operand: true,
         })

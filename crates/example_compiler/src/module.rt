@@ -25,12 +25,10 @@ pub fn module_of(alloc: Global, function: &Function) -> Result<Vec<u8>, EncodeEr
 
 /// Returns the type section: the type of the function.
 fn types(alloc: Global) -> Result<TypeSection, EncodeError> {
-    let params = [ValType::I32, ValType::I32];
-    let results = [ValType::I32];
     let mut types = TypeSection::new(alloc);
     types
         .ty()
-        .function(params.iter().copied(), results.iter().copied())?;
+        .function([ValType::I32, ValType::I32], [ValType::I32])?;
     Ok(types)
 }
 

@@ -103,10 +103,7 @@ fn count_functions(imports: &[Import<'_>]) -> u32 {
 fn add_type(alloc: Global, types: &[TypeEntry]) -> Result<TypeSection, EncodeError> {
     let mut section = TypeSection::new(alloc);
     section.entries(types)?;
-    let params = [ValType::I32];
-    section
-        .ty()
-        .function(params.iter().copied(), [].iter().copied())?;
+    section.ty().function([ValType::I32], [])?;
     Ok(section)
 }
 

@@ -38,12 +38,8 @@ fn hello(alloc: Global, line: &[u8]) -> Result<Vec<u8>, EncodeError> {
 /// Returns the types: that of `fd_write`, and that of `_start`.
 fn types(alloc: Global) -> Result<TypeSection, EncodeError> {
     let mut types = TypeSection::new(alloc);
-    let params = [ValType::I32; 4];
-    let results = [ValType::I32];
-    types
-        .ty()
-        .function(params.iter().copied(), results.iter().copied())?;
-    types.ty().function([].iter().copied(), [].iter().copied())?;
+    types.ty().function([ValType::I32; 4], [ValType::I32])?;
+    types.ty().function([], [])?;
     Ok(types)
 }
 
@@ -85,7 +81,7 @@ fn code(alloc: Global, line: &[u8]) -> Result<CodeSection, EncodeError> {
     let Ok(length) = i32::try_from(line.len()) else {
         return Err(EncodeError::TooLong);
     };
-    let mut start = Function::new(alloc, [].iter().copied())?; // no locals
+    let mut start = Function::new(alloc, [])?; // no locals
     print_line(&mut start, length)?;
     let mut code = CodeSection::new(alloc);
     code.function(&start)?;

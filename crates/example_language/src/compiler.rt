@@ -79,7 +79,7 @@ impl<'a> Compiler<'a> {
                 code: CodeSection::new(alloc),
                 locals: IndirectNameMap::new(alloc),
             },
-            function: Function::new(alloc, [].iter().copied())?,
+            function: Function::new(alloc, [])?,
             locals: Vec::new(alloc),
             blocks: Vec::new(alloc),
             begun: 0,
@@ -212,7 +212,7 @@ impl<'a> Compiler<'a> {
             let Some(called) = program.function(name) else {
                 return Err(Fault::Unknown);
             };
-            let mut start = Function::new(self.alloc, [].iter().copied())?;
+            let mut start = Function::new(self.alloc, [])?;
             start.instructions().call(called.index)?.drop()?.end()?;
             self.compiled.code.function(&start)?;
         }

@@ -59,16 +59,13 @@ fn add<T: SectionItem>(module: &mut Module, section: &ListSection<T>) -> Result<
 /// Returns the types: functions of 0 to 8 parameters, the tags, and the function that runs at the start.
 fn types(alloc: Global) -> Result<TypeSection, EncodeError> {
     let values = [ValType::I32; MOST_PARAMETERS];
-    let result = [ValType::I32];
     let mut types = TypeSection::new(alloc);
     for count in 0..MOST_PARAMETERS + 1 {
         types
             .ty()
-            .function(values[..count].iter().copied(), result.iter().copied())?;
+            .function(values[..count].iter().copied(), [ValType::I32])?;
     }
-    types
-        .ty()
-        .function(result.iter().copied(), [].iter().copied())?;
+    types.ty().function([ValType::I32], [])?;
     let nothing = FuncType::new(alloc, [].iter().copied(), [].iter().copied())?;
     types.ty().func_type(&nothing)?;
     Ok(types)

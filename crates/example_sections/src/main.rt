@@ -19,22 +19,19 @@ use anyhow::Result;
 use std::io;
 use wasm_encoder::reader::DecodeError;
 use wasm_encoder::{
-    CodeSection, Function, FunctionSection, SectionId, TypeSection, ValType, check, first_body,
-    normalise, read, read_module, read_strict, rewrite,
+    CodeSection, Function, FunctionSection, SectionId, TypeSection, check, first_body, normalise,
+    read, read_module, read_strict, rewrite,
 };
 
 /// A body with a minimal count. The length and the index of its first export are padded.
 const PADDED: [u8; 17] = *b"\x02\x83\x80\x00run\x00\x80\x00\x04main\x00\x00";
 
 fn main(rt: HostRuntime) -> Result<()> {
-    let none: [ValType; 0] = [];
     let mut types = TypeSection::new(rt.alloc());
-    types
-        .ty()
-        .function(none.iter().copied(), none.iter().copied())?;
+    types.ty().function([], [])?;
     let mut functions = FunctionSection::new(rt.alloc());
     functions.function(0)?;
-    let mut function = Function::new(rt.alloc(), [].iter().copied())?;
+    let mut function = Function::new(rt.alloc(), [])?;
     function.instructions().end()?;
     let mut code = CodeSection::new(rt.alloc());
     code.function(&function)?;

@@ -10,6 +10,7 @@ ghost use Rattle.wasm_modules.specs.formats.CodeBodies.{code_section_body};
 ghost use Rattle.wasm_modules.specs.formats.Sections.{typed_section_of, code_bodies, code_section_id};
 ghost use Rattle.wasm_modules.specs.Modules.{IsTypedSection};
 ghost use Rattle.wasm_sections.specs.formats.ModuleSectionParts.{code};
+ghost use Rattle.wasm_sink.specs.ListCalls.{OfIterator};
 ghost use Rattle.wasm_encoder.specs.EncodedLists.{Adds, AddsAll, EncodesSection, EncodedItems, CountedSection, IsFull, IsMemoryOrTooLong, IsUncounted, Makes, body_bytes};
 ghost use Rattle.wasm_encoder.specs.CodeSections.{bytes_row};
 ghost use Rattle.wasm_encoder.specs.CodeSections.{AreGroups, GainsBodies, GainsFunction, GoesOnWith, GoesOnWithBytes, HoldsBodies, IsCodeSection, MakesFunction, MakesLocals, StandsForBodies, UncountedBody};
@@ -35,7 +36,7 @@ use wasm_types::types::ValType;
 ///
 /// ```
 /// # use wasm_encoder::{Encode, Function, ValType};
-/// let mut function = Function::new(rt.alloc(), [(1, ValType::I64)].iter().copied())?;
+/// let mut function = Function::new(rt.alloc(), [(1, ValType::I64)])?;
 /// function.instructions().local_get(0)?.drop()?.end()?;
 /// let mut bytes = Vec::new(rt.alloc());
 /// function.encode(&mut bytes)?;
@@ -57,21 +58,23 @@ impl Model for Function {
 impl Function {
     ghost use Rattle.wasm_encoder.specs.contracts.code.Function.{the_row};
 
-    /// Returns a function without instructions. `locals` yields groups of locals, each a number of locals and their
-    /// type.
+    /// Returns a function without instructions. `locals` are groups, each a number of locals and their type: an array,
+    /// `vec.into_iter()` or `slice.iter().copied()`.
     ///
     /// Fails with `TooLong` if there are more than 4,294,967,295 groups, before it asks for one, and with `Memory` if
     /// it can't allocate.
     #[tactic(auto, using(crate::proofs::GivenLists::function_not_made))]
-    pub fn new<L: ExactSizeIterator<Item = (u32, ValType)>>(
+    pub fn new<L: IntoIterator<Item = (u32, ValType)>>(
         alloc: Global,
         locals: L,
     ) -> Result<Function, EncodeError>
-        requires { L.can_next locals }
-        ensures makes { MakesFunction L.next_gives locals (size (L.remaining locals)) result }
+    where
+        L::IntoIter: ExactSizeIterator,
+        requires { (groups : L.IntoIter) → L.into_iter_gives locals groups → L.IntoIter.can_next groups }
+        ensures makes { OfIterator L.into_iter_gives locals (λ groups. MakesFunction L.IntoIter.next_gives groups (size (L.IntoIter.remaining groups)) result) }
     {
         let mut bytes = Vec::new(alloc);
-        append_items(locals, &mut bytes)?;
+        append_items(locals.into_iter(), &mut bytes)?;
         Ok(Function { bytes })
     }
 
@@ -254,7 +257,7 @@ impl Encode for Function {
 ///
 /// ```
 /// # use wasm_encoder::{CodeSection, Encode, Function};
-/// let mut function = Function::new(rt.alloc(), [].iter().copied())?; // no locals
+/// let mut function = Function::new(rt.alloc(), [])?; // no locals
 /// function.instructions().i32_const(42)?.end()?;
 /// let mut code = CodeSection::new(rt.alloc());
 /// code.function(&function)?;

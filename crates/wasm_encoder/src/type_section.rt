@@ -1,6 +1,7 @@
 //! The type section (Core 3.0, Type Section).
 ghost use Rattle.std.specs.Prelude.{◌≡◌, List, ◌⊎◌, [], OnOk, IsTrue, ◌↔◌};
 ghost use Rattle.std.specs.Iterator.{size};
+ghost use Rattle.wasm_sink.specs.ListCalls.{OfIterator};
 ghost use Rattle.wasm_encoder.specs.EncodedLists.{AddsAll, EncodesSection, EncodedItems, CountedSection, GivesSome, IsUncounted, Makes};
 ghost use Rattle.wasm_encoder.specs.TypeSections.{AddsEntry, AddsEntryOr, AddsFunction, AddsGiven, StandsFor, GainsAll, HoldsEntries, IsTypeSection, UncountedEntry, UncountedFunc, UncountedSub, type_section_bytes, final_entry, struct_entry, array_entry};
 ghost use Rattle.wasm_codec.specs.Encoding.{OnlyTooLong};
@@ -33,8 +34,7 @@ use wasm_types::types::{
 /// ```
 /// # use wasm_encoder::{Encode, TypeSection, ValType};
 /// let mut types = TypeSection::new(rt.alloc());
-/// let params = [ValType::I32, ValType::I32];
-/// types.ty().function(params.iter().copied(), [ValType::I32].iter().copied())?;
+/// types.ty().function([ValType::I32, ValType::I32], [ValType::I32])?;
 /// let mut bytes = Vec::new(rt.alloc());
 /// types.encode(&mut bytes)?;
 /// assert_eq!(rt; bytes.as_slice(), b"\x07\x01\x60\x02\x7f\x7f\x01\x7f".as_slice());
@@ -61,7 +61,7 @@ impl Model for TypeSection {
 /// let mut types = TypeSection::new(rt.alloc());
 /// types.ty().array(&StorageType::I8, true)?;
 /// let field = FieldType { element_type: StorageType::Val(ValType::I64), mutable: false };
-/// types.ty().struct_([field].iter().copied())?;
+/// types.ty().struct_([field])?;
 /// let mut bytes = Vec::new(rt.alloc());
 /// types.encode(&mut bytes)?;
 /// assert_eq!(rt; bytes.as_slice(), b"\x08\x02\x5e\x78\x01\x5f\x01\x7e\x00".as_slice());
@@ -222,52 +222,59 @@ impl<'a> CoreTypeEncoder<'a> {
         section.entries.add(ty)
     }
 
-    /// Adds a function type of the parameters and results that two iterators yield. It is final, without supertypes and
-    /// not shared (Core 3.0, Composite Types). The counts are those of the types yielded, whatever `len` says.
+    /// Adds a function type of these parameters and results: arrays, `vec.into_iter()` or `slice.iter().copied()`. It
+    /// is final, without supertypes and not shared (Core 3.0, Composite Types). The counts are those of the types that
+    /// the iterators yield, whatever `len` says.
     ///
     /// Fails with `TooLong` if the section already has 4,294,967,295 entries or a `len` is over 4,294,967,295, before
     /// it asks for a type.
-    pub fn function<P: ExactSizeIterator<Item = ValType>, R: ExactSizeIterator<Item = ValType>>(
+    pub fn function<P: IntoIterator<Item = ValType>, R: IntoIterator<Item = ValType>>(
         self,
         params: P,
         results: R,
     ) -> Result<(), EncodeError>
-        requires params { P.can_next params }
-        requires results { R.can_next results }
-        ensures adds { AddsFunction P.next_gives R.next_gives params results
-            (IsUncounted (size (P.remaining params)) ⊎ IsUncounted (size (R.remaining results))) self.entry.section.now self.exit.0.now result }
+    where
+        P::IntoIter: ExactSizeIterator,
+        R::IntoIter: ExactSizeIterator,
+        requires params { (items : P.IntoIter) → P.into_iter_gives params items → P.IntoIter.can_next items }
+        requires results { (items : R.IntoIter) → R.into_iter_gives results items → R.IntoIter.can_next items }
+        ensures adds { OfIterator P.into_iter_gives params (λ ps. OfIterator R.into_iter_gives results (λ rs. AddsFunction P.IntoIter.next_gives R.IntoIter.next_gives ps rs
+            (IsUncounted (size (P.IntoIter.remaining ps)) ⊎ IsUncounted (size (R.IntoIter.remaining rs))) self.entry.section.now self.exit.0.now result)) }
     {
         let CoreTypeEncoder { section } = self;
+        let (params, results) = (params.into_iter(), results.into_iter());
         section.entries.add_tagged_pair(0x60, params, results)
     }
 
-    /// Adds a struct type of the fields that an iterator yields. It is final, without supertypes and not shared (Core
-    /// 3.0, Composite Types). The count is that of the fields yielded, whatever `len` says.
+    /// Adds a struct type of these fields: an array, `vec.into_iter()` or `slice.iter().copied()`. It is final, without
+    /// supertypes and not shared (Core 3.0, Composite Types). The count is that of the fields that the iterator yields,
+    /// whatever `len` says.
     ///
     /// Fails with `TooLong` if the section already has 4,294,967,295 entries or `len` is over 4,294,967,295, before it
     /// asks for a field.
-    pub fn struct_<F: ExactSizeIterator<Item = FieldType>>(
-        self,
-        fields: F,
-    ) -> Result<(), EncodeError>
-        requires { F.can_next fields }
-        ensures adds { AddsGiven F.next_gives fields struct_entry (IsUncounted (size (F.remaining fields))) self.entry.section.now self.exit.0.now result }
+    pub fn struct_<F: IntoIterator<Item = FieldType>>(self, fields: F) -> Result<(), EncodeError>
+    where
+        F::IntoIter: ExactSizeIterator,
+        requires { (items : F.IntoIter) → F.into_iter_gives fields items → F.IntoIter.can_next items }
+        ensures adds { OfIterator F.into_iter_gives fields (λ items. AddsGiven F.IntoIter.next_gives items struct_entry (IsUncounted (size (F.IntoIter.remaining items))) self.entry.section.now self.exit.0.now result) }
     {
         let CoreTypeEncoder { section } = self;
-        section.entries.add_tagged(0x5f, fields)
+        section.entries.add_tagged(0x5f, fields.into_iter())
     }
 
-    /// Adds a recursion group of the types that an iterator yields, as one entry (Core 3.0, Recursive Types). The count
-    /// is that of the types yielded, whatever `len` says.
+    /// Adds a recursion group of these types, as one entry (Core 3.0, Recursive Types): an array, or `vec.into_iter()`.
+    /// The count is that of the types that the iterator yields, whatever `len` says.
     ///
     /// Fails with `TooLong` if the section already has 4,294,967,295 entries or `len` is over 4,294,967,295, before it
     /// asks for a type, or if a list in a type has more items than that.
-    pub fn rec<S: ExactSizeIterator<Item = SubType>>(self, types: S) -> Result<(), EncodeError>
-        requires { S.can_next types }
-        ensures adds { AddsGiven S.next_gives types entries.Rec
-            (IsUncounted (size (S.remaining types)) ⊎ GivesSome S.next_gives types UncountedSub) self.entry.section.now self.exit.0.now result }
+    pub fn rec<S: IntoIterator<Item = SubType>>(self, types: S) -> Result<(), EncodeError>
+    where
+        S::IntoIter: ExactSizeIterator,
+        requires { (items : S.IntoIter) → S.into_iter_gives types items → S.IntoIter.can_next items }
+        ensures adds { OfIterator S.into_iter_gives types (λ items. AddsGiven S.IntoIter.next_gives items entries.Rec
+            (IsUncounted (size (S.IntoIter.remaining items)) ⊎ GivesSome S.IntoIter.next_gives items UncountedSub) self.entry.section.now self.exit.0.now result) }
     {
         let CoreTypeEncoder { section } = self;
-        section.entries.add_tagged(0x4e, types)
+        section.entries.add_tagged(0x4e, types.into_iter())
     }
 }

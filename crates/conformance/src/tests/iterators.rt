@@ -7,8 +7,9 @@ use std::alloc::Global;
 use std::cell::Cell;
 use std::test::Fail;
 use wasm_encoder::{
-    ArrayType, CompositeInnerType, CompositeType, ContType, Encode, EncodeError, FieldType,
-    InstructionSink, Items, StorageType, SubType, TypeSection, ValType, encode_bytes,
+    ArrayType, BlockType, Catch, CompositeInnerType, CompositeType, ContType, Encode, EncodeError,
+    FieldType, Function, InstructionSink, Items, StorageType, SubType, TypeSection, ValType,
+    encode_bytes,
 };
 
 /// Gives its items from the last on, tells how many are to come, and counts how often it was asked for one.
@@ -264,4 +265,29 @@ fn iterators_of_the_library(rt: HostRuntime) -> Result<(), Fail> {
         .ty()
         .function(params.into_iter(), [ValType::I64].into_iter())?;
     is_encoded(rt.alloc(), &types, "0D0260027F7F017F60027E7E017E")
+}
+
+/// Arrays and vectors are taken as they are.
+#[test]
+fn arrays_and_vectors(rt: HostRuntime) -> Result<(), Fail> {
+    let mut types = TypeSection::new(rt.alloc());
+    types.ty().function([ValType::I32, ValType::I32], [])?;
+    types
+        .ty()
+        .function(vec![in rt.alloc(); ValType::I64; 1]?, [ValType::F32])?;
+    types.ty().struct_([BYTE])?;
+    types.ty().rec([array(rt.alloc())])?;
+    is_encoded(
+        rt.alloc(),
+        &types,
+        "140460027F7F0060017E017D5F0178014E015E7801",
+    )?;
+    let mut function = Function::new(rt.alloc(), [(2, ValType::F64)])?;
+    function
+        .instructions()
+        .try_table(BlockType::Empty, [Catch::All { label: 0 }])?
+        .br_table([0, 1], 0)?
+        .end()?
+        .end()?;
+    is_encoded(rt.alloc(), &function, "0F01027C1F400102000E020001000B0B")
 }

@@ -74,9 +74,7 @@ fn is_written<S: Section>(alloc: Global, section: &S, hex: &str) -> Result<(), F
 fn sections_of_each_kind(rt: HostRuntime) -> Result<(), Fail> {
     let alloc = rt.alloc();
     let mut types = TypeSection::new(alloc);
-    types
-        .ty()
-        .function([ValType::I32].iter().copied(), [].iter().copied())?;
+    types.ty().function([ValType::I32], [])?;
     is_written(alloc, &types, "0061736D0100000001050160017F00")?;
     is_written(alloc, &code(alloc)?, "0061736D010000000A06010400412A0B")?;
     let mut exports = ExportSection::new(alloc);
@@ -106,7 +104,7 @@ fn sections_of_bytes(rt: HostRuntime) -> Result<(), Fail> {
 /// A code section with one function, which returns 42.
 fn code(alloc: Global) -> Result<CodeSection, EncodeError> {
     let mut code = CodeSection::new(alloc);
-    let mut function = Function::new(alloc, [].iter().copied())?;
+    let mut function = Function::new(alloc, [])?;
     function.instructions().i32_const(42)?.end()?;
     code.function(&function)?;
     Ok(code)

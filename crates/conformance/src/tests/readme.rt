@@ -18,7 +18,7 @@ fn add_module(alloc: Global) -> Result<Vec<u8>, EncodeError> {
 }
 
 fn code(alloc: Global) -> Result<CodeSection, EncodeError> {
-    let mut add = Function::new(alloc, [].iter().copied())?; // no locals
+    let mut add = Function::new(alloc, [])?; // no locals
     let sink = add.instructions();
     sink.local_get(0)?.local_get(1)?.i32_add()?.end()?;
     let mut code = CodeSection::new(alloc);
@@ -29,11 +29,9 @@ fn code(alloc: Global) -> Result<CodeSection, EncodeError> {
 /// A section with the type of functions that take two numbers and return one.
 fn types(alloc: Global) -> Result<TypeSection, EncodeError> {
     let mut types = TypeSection::new(alloc);
-    let params = [ValType::I32, ValType::I32];
-    let results = [ValType::I32];
     types
         .ty()
-        .function(params.iter().copied(), results.iter().copied())?;
+        .function([ValType::I32, ValType::I32], [ValType::I32])?;
     Ok(types)
 }
 

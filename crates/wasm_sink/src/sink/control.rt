@@ -3,7 +3,7 @@
 ghost use Rattle.std.specs.Borrow.{sem};
 ghost use Rattle.std.specs.Iterator.{size};
 ghost use Rattle.wasm_sink.specs.Sink.{IsUnchangedAtErr, Emits};
-ghost use Rattle.wasm_sink.specs.ListCalls.{EmitsItems};
+ghost use Rattle.wasm_sink.specs.ListCalls.{EmitsItems, OfIterator};
 ghost use Rattle.wasm_instructions.specs.formats.Opcodes.{without_prefix};
 ghost use Rattle.wasm_instructions.specs.declared.table.call.Operands.TheVariants as operands;
 
@@ -143,16 +143,18 @@ impl<'a, A: Allocator> InstructionSink<'a, A> {
 
     /// `br_table`: `0x0E`, then a list of label indexes and the default's label index.
     /// `TooLong` where `labels.len()` is above 4,294,967,295.
-    pub fn br_table<I: ExactSizeIterator<Item = u32>>(
+    pub fn br_table<I: IntoIterator<Item = u32>>(
         self,
         labels: I,
         default: u32,
     ) -> Result<InstructionSink<'a, A>, EncodeError>
-        requires { I.can_next labels }
-        ensures emits { EmitsItems I.next_gives self.entry (without_prefix 0x0e) (λ xs. operands.BrTable xs default) labels (size (I.remaining labels)) result }
+    where
+        I::IntoIter: ExactSizeIterator,
+        requires { (items : I.IntoIter) → I.into_iter_gives labels items → I.IntoIter.can_next items }
+        ensures emits { OfIterator I.into_iter_gives labels (λ items. EmitsItems I.IntoIter.next_gives self.entry (without_prefix 0x0e) (λ xs. operands.BrTable xs default) items (size (I.IntoIter.remaining items)) result) }
         ensures* unchanged { sem 𝓛 (IsUnchangedAtErr A.row A.Allocator self.entry result) }
     {
-        self.emit_branch_table(0x0e, labels, default)
+        self.emit_branch_table(0x0e, labels.into_iter(), default)
     }
 
     /// `return`: `0x0F`.
@@ -242,15 +244,17 @@ impl<'a, A: Allocator> InstructionSink<'a, A> {
 
     /// `try_table`: `0x1F`, then a block type and a list of catch clauses.
     /// `TooLong` where `clauses.len()` is above 4,294,967,295.
-    pub fn try_table<I: ExactSizeIterator<Item = Catch>>(
+    pub fn try_table<I: IntoIterator<Item = Catch>>(
         self,
         block_type: BlockType,
         clauses: I,
     ) -> Result<InstructionSink<'a, A>, EncodeError>
-        requires { I.can_next clauses }
-        ensures emits { EmitsItems I.next_gives self.entry (without_prefix 0x1f) (λ xs. operands.TryTable block_type xs) clauses (size (I.remaining clauses)) result }
+    where
+        I::IntoIter: ExactSizeIterator,
+        requires { (items : I.IntoIter) → I.into_iter_gives clauses items → I.IntoIter.can_next items }
+        ensures emits { OfIterator I.into_iter_gives clauses (λ items. EmitsItems I.IntoIter.next_gives self.entry (without_prefix 0x1f) (λ xs. operands.TryTable block_type xs) items (size (I.IntoIter.remaining items)) result) }
         ensures* unchanged { sem 𝓛 (IsUnchangedAtErr A.row A.Allocator self.entry result) }
     {
-        self.emit_try_table(0x1f, block_type, clauses)
+        self.emit_try_table(0x1f, block_type, clauses.into_iter())
     }
 }

@@ -2,7 +2,7 @@
 ghost use Rattle.std.specs.Borrow.{sem};
 ghost use Rattle.std.specs.Iterator.{size};
 ghost use Rattle.wasm_sink.specs.Sink.{IsUnchangedAtErr, Emits};
-ghost use Rattle.wasm_sink.specs.ListCalls.{EmitsItems};
+ghost use Rattle.wasm_sink.specs.ListCalls.{EmitsItems, OfIterator};
 ghost use Rattle.wasm_instructions.specs.formats.Opcodes.{without_prefix};
 ghost use Rattle.wasm_instructions.specs.declared.table.call.Operands.TheVariants as operands;
 
@@ -47,45 +47,51 @@ impl<'a, A: Allocator> InstructionSink<'a, A> {
 
     /// `resume`: `0xE3`, then a type index and a list of handlers.
     /// `TooLong` where `handlers.len()` is above 4,294,967,295.
-    pub fn resume<I: ExactSizeIterator<Item = Handle>>(
+    pub fn resume<I: IntoIterator<Item = Handle>>(
         self,
         ty: u32,
         handlers: I,
     ) -> Result<InstructionSink<'a, A>, EncodeError>
-        requires { I.can_next handlers }
-        ensures emits { EmitsItems I.next_gives self.entry (without_prefix 0xe3) (λ xs. operands.Resume ty xs) handlers (size (I.remaining handlers)) result }
+    where
+        I::IntoIter: ExactSizeIterator,
+        requires { (items : I.IntoIter) → I.into_iter_gives handlers items → I.IntoIter.can_next items }
+        ensures emits { OfIterator I.into_iter_gives handlers (λ items. EmitsItems I.IntoIter.next_gives self.entry (without_prefix 0xe3) (λ xs. operands.Resume ty xs) items (size (I.IntoIter.remaining items)) result) }
         ensures* unchanged { sem 𝓛 (IsUnchangedAtErr A.row A.Allocator self.entry result) }
     {
-        self.emit_resume(0xe3, ty, handlers)
+        self.emit_resume(0xe3, ty, handlers.into_iter())
     }
 
     /// `resume_throw`: `0xE4`, then a type index, a tag index and a list of handlers.
     /// `TooLong` where `handlers.len()` is above 4,294,967,295.
-    pub fn resume_throw<I: ExactSizeIterator<Item = Handle>>(
+    pub fn resume_throw<I: IntoIterator<Item = Handle>>(
         self,
         ty: u32,
         tag: u32,
         handlers: I,
     ) -> Result<InstructionSink<'a, A>, EncodeError>
-        requires { I.can_next handlers }
-        ensures emits { EmitsItems I.next_gives self.entry (without_prefix 0xe4) (λ xs. operands.ResumeThrow ty tag xs) handlers (size (I.remaining handlers)) result }
+    where
+        I::IntoIter: ExactSizeIterator,
+        requires { (items : I.IntoIter) → I.into_iter_gives handlers items → I.IntoIter.can_next items }
+        ensures emits { OfIterator I.into_iter_gives handlers (λ items. EmitsItems I.IntoIter.next_gives self.entry (without_prefix 0xe4) (λ xs. operands.ResumeThrow ty tag xs) items (size (I.IntoIter.remaining items)) result) }
         ensures* unchanged { sem 𝓛 (IsUnchangedAtErr A.row A.Allocator self.entry result) }
     {
-        self.emit_resume_throw(0xe4, ty, tag, handlers)
+        self.emit_resume_throw(0xe4, ty, tag, handlers.into_iter())
     }
 
     /// `resume_throw_ref`: `0xE5`, then a type index and a list of handlers.
     /// `TooLong` where `handlers.len()` is above 4,294,967,295.
-    pub fn resume_throw_ref<I: ExactSizeIterator<Item = Handle>>(
+    pub fn resume_throw_ref<I: IntoIterator<Item = Handle>>(
         self,
         ty: u32,
         handlers: I,
     ) -> Result<InstructionSink<'a, A>, EncodeError>
-        requires { I.can_next handlers }
-        ensures emits { EmitsItems I.next_gives self.entry (without_prefix 0xe5) (λ xs. operands.Resume ty xs) handlers (size (I.remaining handlers)) result }
+    where
+        I::IntoIter: ExactSizeIterator,
+        requires { (items : I.IntoIter) → I.into_iter_gives handlers items → I.IntoIter.can_next items }
+        ensures emits { OfIterator I.into_iter_gives handlers (λ items. EmitsItems I.IntoIter.next_gives self.entry (without_prefix 0xe5) (λ xs. operands.Resume ty xs) items (size (I.IntoIter.remaining items)) result) }
         ensures* unchanged { sem 𝓛 (IsUnchangedAtErr A.row A.Allocator self.entry result) }
     {
-        self.emit_resume(0xe5, ty, handlers)
+        self.emit_resume(0xe5, ty, handlers.into_iter())
     }
 
     /// `switch`: `0xE6`, then a type index and a tag index.

@@ -2,4 +2,6 @@ use Rattle.wasm_encoder.proofs.GivenLists.{adds_group}
 use Rattle.wasm_encoder.proofs.type_section.CoreTypeEncoder.rec.Goals as goal
 
 pub returns : goal.returns
-returns g c = record { adds = adds_group c.section.inside.entries c.args.self.section.now c.add_tagged.new.self c.add_tagged.result c.section.view_is c.add_tagged.ensures.count c.add_tagged.ensures.err g.S.Iterator.next_gives g.S.Iterator.remaining c.args.types c.add_tagged.ensures.ok c.add_tagged.ensures.refused }
+returns g c = record {
+  adds = (c.into_iter.result, c.into_iter.ensures.into_iter_gives, adds_group c.section.inside.entries c.args.self.section.now c.add_tagged.new.self c.add_tagged.result c.section.view_is c.add_tagged.ensures.count c.add_tagged.ensures.err g.S.IntoIter.Iterator.next_gives g.S.IntoIter.Iterator.remaining c.into_iter.result c.add_tagged.ensures.ok c.add_tagged.ensures.refused);
+}
