@@ -153,7 +153,7 @@ def named_calls(calls, having):
 # Relations that say of one kind of thing what another says of all. They share its row.
 OF_ONE_KIND = {"IsSectionAfter": re.compile("IsTypeSection|IsCodeSection|IsSectionOfItems"),
                "Adds": re.compile(r"Adds(?!If|EachIf|Segment)\w+"), "AddsIf": re.compile("AddsSegment"),
-               "IsShortest": re.compile(r"IsWritten\w+")}
+               "IsShortest": re.compile(r"IsWritten\w+"), "CallExceeds": re.compile(r"(?!Call)\w+Exceeds?")}
 PREFIX_FREE = re.compile(r"No encoding of .* is a proper prefix of another.*")
 
 

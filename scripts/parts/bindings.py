@@ -1,8 +1,9 @@
 """The static library from C and Rust.
 
-scripts/c-library builds it. The archive defines and needs certain names alone. The example in C runs, also beside a
-plain normaliser. Every call runs while each allocation fails once, under the address and undefined-behaviour
-sanitizers. The Rust crate passes its tests. If a tool is missing, the checks that need it are skipped.
+scripts/c-library builds it. The archive defines and needs certain names alone. The header's numbers are those of the
+contracts. The example in C runs, also beside a plain normaliser. Every call runs while each allocation fails once,
+under the address and undefined-behaviour sanitizers. The Rust crate passes its tests. If a tool is missing, the checks
+that need it are skipped.
 """
 import os
 import re
@@ -16,6 +17,8 @@ ARCHIVE = OUT / "libnosgrivel.a"
 # What rt built for the archive.
 BUILT = OUT / "nosgrivel_c.a"
 HEADER = ROOT / "bindings/c/nosgrivel.h"
+# The definitions of the numbers that contracts give.
+NUMBERS = ROOT / "crates/nosgrivel_c/specs/Explaining.antt"
 # The functions of the heap, and those that the compiler calls to move and to fill bytes.
 NEEDED = {"free", "malloc", "memcpy", "memmove", "memset", "realloc"}
 SANITIZERS = ["-g", "-fsanitize=address,undefined", "-fno-sanitize-recover=all"]
@@ -48,6 +51,24 @@ def try_names(report, folder):
     report.check("the names that the archive defines", declared and not differing, f"differ: {differing}")
     more = sorted(listed("--undefined-only") - NEEDED)
     report.check("the names that the archive needs", not more, f"too many: {more}")
+
+
+def try_numbers(report):
+    """Compares the numbers of reasons and of parts in the header with those of the contracts."""
+    header, defined = HEADER.read_text("utf-8"), NUMBERS.read_text("utf-8")
+    for kind, prefix, line in (
+            ("reason", "", r"flat_reason \(?reasons\.(\w+).*\)? = (?:naming|numbers) (\d+)"),
+            ("construct", "CONSTRUCT_", r"construct_code constructs\.(\w+) = (\d+)")):
+        members = re.search(rf"enum nosgrivel_{kind} {{(.*?)}};", header, re.DOTALL)[1]
+        in_header = dict(re.findall(rf"NOSGRIVEL_{prefix}(\w+) = (\d+)", members))
+        proved = {constant_name(name): number for name, number in re.findall(line, defined)}
+        differing = sorted({it for it in in_header.items() if it[1] != "0"} ^ set(proved.items()))
+        report.check(f"the numbers of each {kind} in the header", proved and not differing, f"differ: {differing}")
+
+
+def constant_name(name):
+    """A name of an enum's variant as a constant's name: `InvalidUtf8` is INVALID_UTF8."""
+    return re.sub(r"\B(?=[A-Z])", "_", name).upper()
 
 
 def try_c(report, folder):
@@ -120,6 +141,7 @@ def run(report, words):
         keep("nosgrivel_c", proofs.proved["nosgrivel_c"], BUILT)
     with room() as folder:
         try_names(report, folder)
+        try_numbers(report)
         if not lacks(report, "cc", "the tests in C"):
             try_c(report, folder)
         if not lacks(report, "c++", "the header in C++"):

@@ -1,8 +1,12 @@
 //! Why and where whole modules are refused (Core 3.0, Modules).
-ghost use Rattle.std.specs.Prelude.{◌≡◌, true, false};
-ghost use Rattle.wasm_codec.specs.Outcomes.{as_read};
+ghost use Rattle.std.specs.Prelude.{◌≡◌, true, false, length, IfErr};
+ghost use Rattle.wasm_codec.specs.Outcomes.{IfMalformed, LiesIn, as_read};
+ghost use Rattle.wasm_modules.specs.Reasons.{IsTrueOf};
+ghost use Rattle.wasm_whole_modules.specs.RefusalNumbers.{CountsParts};
+ghost use Rattle.nosgrivel_c.specs.Explaining.{Explains, flat_accepted};
+ghost use Rattle.nosgrivel_c.specs.declared.delivery.TheConstants.{NORMAL, REFUSED};
 ghost use Rattle.wasm_codec.specs.Decoding.{ChecksAll};
-ghost use Rattle.wasm_codec.specs.formats.Combinators.{minimal_only};
+ghost use Rattle.wasm_codec.specs.formats.Combinators.{minimal_if, minimal_only};
 ghost use Rattle.wasm_modules.specs.Modules.{IsModulePrefixOf};
 ghost use Rattle.wasm_sections.specs.formats.ModuleSections.{ShortestWholeModule, module_section, whole_module};
 ghost use Rattle.nosgrivel_c.specs.Calls.{ChecksNormal};
@@ -26,6 +30,9 @@ pub extern "C" fn nosgrivel_explain_module(
     ensures strict { strict ≡ true → ChecksNormal ShortestWholeModule (IsModulePrefixOf (minimal_only module_section)) input.now refusal.old.at refusal.new.at result }
     ensures any { strict ≡ false → ChecksNormal whole_module.Encodes (IsModulePrefixOf module_section) input.now refusal.old.at refusal.new.at result }
     ensures status { refusal.new.status ≡ result }
+    // The numbers are those of a refusal by the library.
+    ensures explained { result ≡ REFUSED → Explains (CountsParts (minimal_if strict module_section) input.now) input.now refusal.new }
+    ensures accepted { result ≡ NORMAL → refusal.new ≡ flat_accepted (length input.now) }
 {
     if strict {
         explain_strict(alloc, input, refusal)
@@ -38,6 +45,8 @@ pub extern "C" fn nosgrivel_explain_module(
 fn explain_strict(alloc: Global, input: &[u8], refusal: &mut FlatRefusal) -> u32
     ensures checks { ChecksNormal ShortestWholeModule (IsModulePrefixOf (minimal_only module_section)) input.now refusal.old.at refusal.new.at result }
     ensures status { refusal.new.status ≡ result }
+    ensures explained { result ≡ REFUSED → Explains (CountsParts (minimal_if true module_section) input.now) input.now refusal.new }
+    ensures accepted { result ≡ NORMAL → refusal.new ≡ flat_accepted (length input.now) }
 {
     explain(check::<WholeModule>(alloc, input), input, refusal)
 }
@@ -46,6 +55,8 @@ fn explain_strict(alloc: Global, input: &[u8], refusal: &mut FlatRefusal) -> u32
 fn explain_any(alloc: Global, input: &[u8], refusal: &mut FlatRefusal) -> u32
     ensures checks { ChecksNormal whole_module.Encodes (IsModulePrefixOf module_section) input.now refusal.old.at refusal.new.at result }
     ensures status { refusal.new.status ≡ result }
+    ensures explained { result ≡ REFUSED → Explains (CountsParts (minimal_if false module_section) input.now) input.now refusal.new }
+    ensures accepted { result ≡ NORMAL → refusal.new ≡ flat_accepted (length input.now) }
 {
     explain(check_any(alloc, input), input, refusal)
 }
@@ -53,6 +64,9 @@ fn explain_any(alloc: Global, input: &[u8], refusal: &mut FlatRefusal) -> u32
 /// Checks whether every section of a module decodes, in any encoding.
 fn check_any(alloc: Global, input: &[u8]) -> Result<(), DecodeError>
     ensures checks { ChecksAll whole_module.Encodes (IsModulePrefixOf module_section) input.now (as_read result) }
+    ensures place { IfErr result (LiesIn (length input.now)) }
+    ensures counts { IfMalformed result (CountsParts (minimal_if false module_section) input.now) }
+    ensures why { IfErr result (IsTrueOf input.now) }
 {
     match normalise::<WholeModule>(alloc, input) {
         Ok(_canonical) => Ok(()),

@@ -1,4 +1,9 @@
 //! Reasons as numbers, for C. `bindings/c/nosgrivel.h` lists the codes.
+ghost use Rattle.std.specs.Prelude.{◌≡◌, ◌⊎◌, Some, IfSome, IfNone};
+ghost use Rattle.wasm_codec.specs.declared.reader.malformed.Construct.{Construct};
+ghost use Rattle.wasm_codec.specs.declared.reader.malformed.Reason.{Reason};
+ghost use Rattle.nosgrivel_c.specs.Explaining.{Fits, NamesBytes, NamesPart, construct_code, flat_reason, naming, numbers};
+
 use wasm_codec::reader::malformed::{Construct, Reason};
 
 /// The bytes end before or inside a part.
@@ -72,16 +77,10 @@ pub(crate) struct FlatReason {
 }
 
 impl FlatReason {
-    /// No reason.
-    pub const NONE: FlatReason = FlatReason {
-        code: 0,
-        construct: 0,
-        first: 0,
-        second: 0,
-    };
-
     /// Returns a reason with two numbers.
-    fn with(code: u32, first: u64, second: u64) -> FlatReason {
+    fn with(code: u32, first: u64, second: u64) -> FlatReason
+        ensures { result ≡ numbers code first second }
+    {
         FlatReason {
             code,
             construct: 0,
@@ -91,7 +90,9 @@ impl FlatReason {
     }
 
     /// Returns a reason with a part and a number.
-    fn naming(code: u32, construct: Construct, first: u64) -> FlatReason {
+    fn naming(code: u32, construct: Construct, first: u64) -> FlatReason
+        ensures { result ≡ naming code construct first }
+    {
         FlatReason {
             code,
             construct: construct_code(construct),
@@ -101,13 +102,12 @@ impl FlatReason {
     }
 
     /// Returns the numbers of a reason.
-    pub fn of(reason: Reason) -> FlatReason {
+    pub fn of(reason: Reason) -> FlatReason
+        ensures { result ≡ flat_reason reason }
+    {
         match reason {
             Reason::UnexpectedEnd { construct } => {
                 FlatReason::naming(UNEXPECTED_END, construct, 0)
-            }
-            Reason::NumberTooLong { most } => {
-                FlatReason::with(NUMBER_TOO_LONG, u64::from(most), 0)
             }
             Reason::NumberOutOfRange { construct } => {
                 FlatReason::naming(NUMBER_OUT_OF_RANGE, construct, 0)
@@ -118,55 +118,48 @@ impl FlatReason {
             Reason::InvalidNumber { construct, number } => {
                 FlatReason::naming(INVALID_NUMBER, construct, u64::from(number))
             }
-            Reason::NotMinimal { bytes, minimal } => {
-                FlatReason::with(NOT_MINIMAL, bytes as u64, minimal as u64)
-            }
-            Reason::MissingEnd => FlatReason::with(MISSING_END, 0, 0),
-            Reason::StrayDelimiter => FlatReason::with(STRAY_DELIMITER, 0, 0),
-            Reason::NotAModule => FlatReason::with(NOT_A_MODULE, 0, 0),
-            Reason::LongForm => FlatReason::with(LONG_FORM, 0, 0),
-            Reason::Unexplained => FlatReason::with(UNEXPLAINED, 0, 0),
             other => FlatReason::of_numbers(other),
         }
     }
 
-    /// Returns the numbers of a reason that carries numbers alone.
-    fn of_numbers(reason: Reason) -> FlatReason {
-        match reason {
-            Reason::UnknownOpcode { number } => {
-                FlatReason::with(UNKNOWN_OPCODE, u64::from(number), 0)
-            }
+    /// Returns the numbers of a reason that names no part.
+    fn of_numbers(reason: Reason) -> FlatReason
+        ensures { NamesPart reason ⊎ (result ≡ flat_reason reason) }
+    {
+        let (code, first, second) = match reason {
+            Reason::NumberTooLong { most } => (NUMBER_TOO_LONG, u64::from(most), 0),
+            Reason::UnknownOpcode { number } => (UNKNOWN_OPCODE, u64::from(number), 0),
             Reason::UnknownPrefixedOpcode { prefix, number } => {
-                FlatReason::with(
+                (
                     UNKNOWN_PREFIXED_OPCODE,
                     u64::from(prefix),
                     u64::from(number),
                 )
             }
-            Reason::InvalidAlignment { flags } => {
-                FlatReason::with(INVALID_ALIGNMENT, u64::from(flags), 0)
-            }
-            Reason::InvalidUtf8 { at } => FlatReason::with(INVALID_UTF8, u64::from(at), 0),
-            Reason::TrailingBytes { count } => FlatReason::with(TRAILING_BYTES, count as u64, 0),
-            Reason::SizeTooLarge { size, left } => {
-                FlatReason::with(SIZE_TOO_LARGE, u64::from(size), left as u64)
-            }
-            Reason::UnknownSection { id } => FlatReason::with(UNKNOWN_SECTION, u64::from(id), 0),
-            Reason::UnsupportedVersion { version } => {
-                FlatReason::with(UNSUPPORTED_VERSION, u64::from(version), 0)
-            }
-            _ => FlatReason::NONE,
-        }
+            Reason::InvalidAlignment { flags } => (INVALID_ALIGNMENT, u64::from(flags), 0),
+            Reason::InvalidUtf8 { at } => (INVALID_UTF8, u64::from(at), 0),
+            Reason::TrailingBytes { count } => (TRAILING_BYTES, count as u64, 0),
+            Reason::SizeTooLarge { size, left } => (SIZE_TOO_LARGE, u64::from(size), left as u64),
+            Reason::MissingEnd => (MISSING_END, 0, 0),
+            Reason::StrayDelimiter => (STRAY_DELIMITER, 0, 0),
+            Reason::UnknownSection { id } => (UNKNOWN_SECTION, u64::from(id), 0),
+            Reason::NotAModule => (NOT_A_MODULE, 0, 0),
+            Reason::UnsupportedVersion { version } => (UNSUPPORTED_VERSION, u64::from(version), 0),
+            Reason::NotMinimal { bytes, minimal } => (NOT_MINIMAL, bytes as u64, minimal as u64),
+            Reason::LongForm => (LONG_FORM, 0, 0),
+            Reason::Unexplained => (UNEXPLAINED, 0, 0),
+            _ => (0, 0, 0),
+        };
+        FlatReason::with(code, first, second)
     }
 
     /// Returns the reason that has these numbers. `None` means that no reason has them.
-    pub fn reason(&self) -> Option<Reason> {
+    pub fn reason(&self) -> Option<Reason>
+        ensures { (reason : Reason) → Fits reason → self.now ≡ flat_reason reason → result ≡ Some reason }
+    {
         match self.code {
             UNEXPECTED_END => Some(Reason::UnexpectedEnd {
                 construct: construct_of(self.construct)?,
-            }),
-            NUMBER_TOO_LONG => Some(Reason::NumberTooLong {
-                most: u8::try_from(self.first).ok()?,
             }),
             NUMBER_OUT_OF_RANGE => Some(Reason::NumberOutOfRange {
                 construct: construct_of(self.construct)?,
@@ -179,6 +172,18 @@ impl FlatReason {
                 construct: construct_of(self.construct)?,
                 number: u32::try_from(self.first).ok()?,
             }),
+            _ => self.reason_of_numbers(),
+        }
+    }
+
+    /// Returns the reason that has these numbers, if it names no part.
+    fn reason_of_numbers(&self) -> Option<Reason>
+        ensures { (reason : Reason) → Fits reason → (NamesPart reason → ⊥) → self.now ≡ flat_reason reason → result ≡ Some reason }
+    {
+        match self.code {
+            NUMBER_TOO_LONG => Some(Reason::NumberTooLong {
+                most: u8::try_from(self.first).ok()?,
+            }),
             NOT_MINIMAL => Some(Reason::NotMinimal {
                 bytes: usize::try_from(self.first).ok()?,
                 minimal: usize::try_from(self.second).ok()?,
@@ -188,12 +193,14 @@ impl FlatReason {
             NOT_A_MODULE => Some(Reason::NotAModule),
             LONG_FORM => Some(Reason::LongForm),
             UNEXPLAINED => Some(Reason::Unexplained),
-            _ => self.reason_of_numbers(),
+            _ => self.reason_of_bytes(),
         }
     }
 
-    /// Returns the reason that has these numbers, if it carries numbers alone.
-    fn reason_of_numbers(&self) -> Option<Reason> {
+    /// Returns the reason that has these numbers, if it names bytes at its offset by numbers.
+    fn reason_of_bytes(&self) -> Option<Reason>
+        ensures { (reason : Reason) → Fits reason → NamesBytes reason → self.now ≡ flat_reason reason → result ≡ Some reason }
+    {
         match self.code {
             UNKNOWN_OPCODE => Some(Reason::UnknownOpcode {
                 number: u32::try_from(self.first).ok()?,
@@ -227,7 +234,9 @@ impl FlatReason {
 }
 
 /// Returns the code of a part of the binary format.
-fn construct_code(construct: Construct) -> u32 {
+fn construct_code(construct: Construct) -> u32
+    ensures { result ≡ construct_code construct }
+{
     match construct {
         Construct::Byte => 1,
         Construct::Number => 2,
@@ -267,7 +276,10 @@ fn construct_code(construct: Construct) -> u32 {
 }
 
 /// Returns the part of the binary format that has this code. `None` means that no part has it.
-fn construct_of(code: u32) -> Option<Construct> {
+fn construct_of(code: u32) -> Option<Construct>
+    ensures some { IfSome result (λ construct. construct_code construct ≡ code) }
+    ensures none { IfNone result ((construct : Construct) → construct_code construct ≡ code → ⊥) }
+{
     Some(match code {
         1 => Construct::Byte,
         2 => Construct::Number,

@@ -1,5 +1,9 @@
 //! Refusals as C sees them.
-ghost use Rattle.std.specs.Prelude.{◌≡◌, length};
+ghost use Rattle.std.specs.Prelude.{◌≡◌, length, option_map, IfOk, IfErr};
+ghost use Rattle.wasm_codec.specs.declared.reader.DecodeError.TheVariants.{Malformed};
+ghost use Rattle.wasm_codec.specs.declared.reader.refusal.Refusal.{Refusal};
+ghost use Rattle.wasm_codec.specs.declared.reader.refusal.SectionPlace.{SectionPlace};
+ghost use Rattle.nosgrivel_c.specs.Explaining.{flat_accepted, flat_refusal, or_minus_one, offset_or_minus_one};
 ghost use Rattle.wasm_codec.specs.Outcomes.{as_read};
 ghost use Rattle.nosgrivel_c.specs.Delivery.{IsChecked};
 
@@ -41,8 +45,7 @@ pub struct FlatRefusal {
 impl FlatRefusal {
     /// Returns the numbers for an accepted input of this length.
     fn accepted(len: usize) -> FlatRefusal
-        ensures status { result.status ≡ NORMAL }
-        ensures at { result.at ≡ len }
+        ensures { result ≡ flat_accepted len }
     {
         FlatRefusal {
             status: NORMAL,
@@ -62,8 +65,7 @@ impl FlatRefusal {
 
     /// Returns the numbers of a refusal.
     fn of(refusal: &Refusal) -> FlatRefusal
-        ensures status { result.status ≡ REFUSED }
-        ensures at { result.at ≡ refusal.now.at }
+        ensures { result ≡ flat_refusal refusal.now }
     {
         let reason = FlatReason::of(refusal.reason);
         FlatRefusal {
@@ -112,7 +114,9 @@ impl FlatRefusal {
 }
 
 /// Returns the id of the section, or -1.
-fn section_id(section: Option<SectionPlace>) -> i32 {
+fn section_id(section: Option<SectionPlace>) -> i32
+    ensures { result ≡ or_minus_one (option_map (λ (place : SectionPlace). place.id) section) }
+{
     match section {
         Some(place) => i32::from(place.id),
         None => -1,
@@ -120,7 +124,9 @@ fn section_id(section: Option<SectionPlace>) -> i32 {
 }
 
 /// Returns the number of sections before this one, or -1.
-fn section_number(section: Option<SectionPlace>) -> i64 {
+fn section_number(section: Option<SectionPlace>) -> i64
+    ensures { result ≡ offset_or_minus_one (option_map (λ (place : SectionPlace). place.number) section) }
+{
     match section {
         Some(place) => offset_or_none(Some(place.number)),
         None => -1,
@@ -128,7 +134,9 @@ fn section_number(section: Option<SectionPlace>) -> i64 {
 }
 
 /// Returns the number, or -1.
-fn number_or_none(number: Option<u32>) -> i64 {
+fn number_or_none(number: Option<u32>) -> i64
+    ensures { result ≡ or_minus_one number }
+{
     match number {
         Some(number) => i64::from(number),
         None => -1,
@@ -136,7 +144,9 @@ fn number_or_none(number: Option<u32>) -> i64 {
 }
 
 /// Returns the offset, or -1.
-fn offset_or_none(offset: Option<usize>) -> i64 {
+fn offset_or_none(offset: Option<usize>) -> i64
+    ensures { result ≡ offset_or_minus_one offset }
+{
     match offset {
         Some(offset) => i64::try_from(offset).unwrap_or(i64::MAX),
         None => -1,
@@ -147,6 +157,8 @@ fn offset_or_none(offset: Option<usize>) -> i64 {
 pub(crate) fn explain(checked: Result<(), DecodeError>, input: &[u8], told: &mut FlatRefusal) -> u32
     ensures checked { IsChecked (as_read checked) (length input.now) told.old.at told.new.at result }
     ensures status { told.new.status ≡ result }
+    ensures accepted { IfOk checked (λ _. told.new ≡ flat_accepted (length input.now)) }
+    ensures refused { IfErr checked (λ error. (refusal : Refusal) → error ≡ Malformed refusal → told.new ≡ flat_refusal refusal) }
 {
     match checked {
         Ok(()) => {

@@ -50,6 +50,7 @@ pub use Rattle.wasm_whole_modules.specs.ModuleOrder
 pub use Rattle.wasm_whole_modules.specs.IndexSpaces
 pub use Rattle.wasm_whole_modules.specs.MappedIndices
 pub use Rattle.wasm_whole_modules.specs.MappedSections
+pub use Rattle.wasm_whole_modules.specs.IndexOverflows
 pub use Rattle.wasm_whole_modules.specs.RefusalNumbers
 pub use Rattle.wasm_sections.specs.SectionKinds
 pub use Rattle.wasm_sections.specs.ListSections

@@ -1,5 +1,5 @@
 -- The laws of expressions, and what is read, rewritten and written of them.
-use Rattle.std.proofs.Common.{◌≡◌, ℕ, zero, suc, ◌+◌, ◌-◌, ◌<◌, ◌≤◌, Bool, true, false, eqb, cond, List, [], ◌∷◌, ◌++◌, Option, Some, None, refl, sym, ap, subst, ◌∙◌, arith, length, Err, append_assoc}
+use Rattle.std.proofs.Common.{◌≡◌, ℕ, zero, suc, ◌+◌, ◌-◌, ◌<◌, ◌≤◌, Bool, true, false, eqb, cond, List, [], ◌∷◌, ◌++◌, Option, Some, None, refl, sym, ap, subst, ◌∙◌, arith, length, Err, append_assoc, length-append}
 use Rattle.std.proofs.lemmas.Bool.{eqb-true}
 use Rattle.std.proofs.lemmas.List.{append-nil, flat_map_more}
 use Rattle.std.specs.List.{flat_map, AllByRecursion}
@@ -8,7 +8,7 @@ use Rattle.wasm_codec.specs.Places.{Place, Reader, byte_at, u32_at, Sees}
 use Rattle.wasm_codec.specs.formats.Combinators.{◌⊗>◌, by_kind}
 use Rattle.wasm_codec.specs.Lawful.{IsLawful}
 use Rattle.wasm_codec.specs.declared.reader.cursor.Fault.{Fault}
-use Rattle.wasm_codec.specs.Outcomes.{IsMalformed}
+use Rattle.wasm_codec.specs.Outcomes.{IsLongestPrefix, IsMalformed}
 use Rattle.wasm_codec.specs.formats.Grammar.{IsBytes}
 use Rattle.wasm_codec.specs.Rewriter.{Rewriting, rewriting_after, Rewrites}
 use Rattle.wasm_codec.specs.Encoding.{IsShortest}
@@ -303,3 +303,14 @@ one_more_closed calls i flat = by calls 0 where
   by : (calls : List Instruction) (depth : ℕ) → EndsFrom depth calls → EndsFrom depth (calls ++ i ∷ [])
   by [] depth h = rw (flat depth) h
   by (c ∷ calls) depth h = goes_on_with (nested depth c.op) (λ t. by calls t) h
+
+-- Bytes that are whole are their own longest prefix.
+pub longest_whole : (Whole : List ℕ → Type 0) (bytes : List ℕ) → Whole bytes → IsLongestPrefix Whole bytes (length bytes)
+longest_whole Whole bytes whole = record {
+  prefix = bytes;
+  rest = [];
+  parts = sym (append-nil bytes);
+  len_is = refl;
+  whole = whole;
+  longest = λ other after is w. omega (arith, ap (length {A = ℕ}) is, length-append other after);
+}

@@ -2,7 +2,7 @@
 use Rattle.std.specs.Prelude.{ℕ, List, Result, IfOk}
 use Rattle.std.specs.List.{AllByRecursion}
 use Rattle.wasm_codec.specs.Encoding.{IsShortest}
-use Rattle.wasm_codec.specs.Outcomes.{IfRefused, IsOrMemory}
+use Rattle.wasm_codec.specs.Outcomes.{EncodesSome, IfRefused, IsLongestPrefix, IsOrMemory}
 use Rattle.wasm_codec.specs.declared.reader.ReadError.{ReadError}
 use Rattle.wasm_instructions.specs.Appending.{CountedCall}
 use Rattle.wasm_instructions.specs.formats.Instructions.{Instruction, Instructions}
@@ -25,6 +25,8 @@ IsWrittenExpr calls = IsClosed calls → IsShortest expr.Encodes expr.bytes call
 pub record ReadsClosed (bytes : List ℕ) (result : Result (List Instruction) ReadError) : Type 0 where
   -- The bytes encode the instructions that it returns.
   pub given : IfOk result (Instructions bytes)
+  -- It refuses at the length of the longest prefix of whole instructions.
+  pub prefix : IfRefused result (IsLongestPrefix (EncodesSome Instructions) bytes)
   -- If the bytes encode instructions whose blocks are closed, it returns these instructions, or memory ran out.
   pub complete : (calls : List Instruction) → Instructions bytes calls → IsClosed calls → IsOrMemory (λ calls. calls) calls result
   -- It refuses only bytes that encode no such instructions.

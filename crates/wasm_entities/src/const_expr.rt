@@ -92,6 +92,7 @@ impl ConstExpr {
     /// let with_end = ConstExpr::raw(rt.alloc(), b"\x41\x10\x0b");
     /// assert_eq!(rt; with_end.err(), Some(ReadError::Refused { at: 3 }));
     /// ```
+    #[tactic(auto, using(crate::proofs::ExpressionLaws::longest_whole))]
     pub fn raw(alloc: Global, bytes: &[u8]) -> Result<ConstExpr, ReadError>
         ensures reads { ReadsClosed bytes.now result }
     {

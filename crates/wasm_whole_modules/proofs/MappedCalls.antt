@@ -1,14 +1,10 @@
 -- Mapped operands have the kind and the alignment of the operands.
-use Rattle.std.proofs.Common.{◌≡◌, ◌∙◌, ◌^◌, ◌<◌, ◌≤◌, ℕ, Some, ap, inr, refl, sym}
-use Rattle.wasm_codec.specs.declared.encode.EncodeError.{EncodeError}
-use Rattle.wasm_codec.specs.declared.encode.EncodeError.TheVariants.{TooLong}
-use Rattle.wasm_lists.specs.EncodedLists.{IsMemoryOrTooLong}
+use Rattle.std.proofs.Common.{◌≡◌, ◌∙◌, Some, ap, refl, sym}
 use Rattle.wasm_instructions.specs.declared.table.opcode.Opcode.{Opcode}
 use Rattle.wasm_instructions.specs.declared.table.call.Operands.{Operands}
 use Rattle.wasm_instructions.specs.declared.table.call.Operands.TheVariants as operands
 use Rattle.wasm_instructions.specs.Instructions.{IsAligned, IsCall, NumbersInRange, kind_of}
-use Rattle.wasm_whole_modules.specs.MappedIndices.{NewIndices, Overflows, mapped_operands}
-use Rattle.wasm_whole_modules.specs.declared.indices.spaces.IndexSpace.{IndexSpace}
+use Rattle.wasm_whole_modules.specs.MappedIndices.{NewIndices, mapped_operands}
 
 same_kind : (new : NewIndices) (op : Opcode) (o : Operands) → kind_of (mapped_operands new op o) ≡ kind_of o
 same_kind new op operands.None = refl
@@ -62,8 +58,3 @@ mapped_aligned new op (operands.Lane lane) fits = tt
 mapped_aligned new op (operands.Order ordering) fits = tt
 mapped_aligned new op (operands.OrderIndex ordering index) fits = tt
 mapped_aligned new op (operands.OrderTwoIndexes ordering first second) fits = tt
-
--- The error of a map is that of a value whose indices are mapped.
-pub overflowed : (new : NewIndices) (space : IndexSpace) (index : ℕ) (e : EncodeError) → index < 2 ^ 32
-    → (e ≡ TooLong) × (2 ^ 32 ≤ new space index) → IsMemoryOrTooLong (Overflows new) e
-overflowed new space index e fits given = inr (given.0, record { space = space; index = index; fits = fits; exceeds = given.1 })

@@ -10,3 +10,4 @@ pub mod RefusalNumbers
 pub mod DataOpcodes
 pub mod EncodedSections
 pub mod Skipping
+pub mod IndexOverflows

@@ -1,5 +1,5 @@
 -- Values with other indices: only the indices of a module's items change (WebAssembly Core 3.0, Indices).
-use Rattle.std.specs.Prelude.{ℕ, ◌+◌, ◌^◌, ◌<◌, ◌≤◌, ◌&&◌, ◌==◌, nat_le, map, Option, Some, None, option_map, if◌then◌else◌}
+use Rattle.std.specs.Prelude.{ℕ, ◌+◌, ◌&&◌, ◌==◌, nat_le, map, Option, Some, None, option_map, if◌then◌else◌}
 use Rattle.wasm_types.specs.declared.types.heap.HeapType.{HeapType}
 use Rattle.wasm_types.specs.declared.types.heap.HeapType.TheVariants as heaps
 use Rattle.wasm_types.specs.declared.types.heap.RefType.{RefType}
@@ -39,13 +39,6 @@ NewIndices = IndexSpace → ℕ → ℕ
 abbrev pub index_in : NewIndices → Option IndexSpace → ℕ → ℕ
 index_in new None index = index
 index_in new (Some space) index = new space index
-
--- The new index of some index doesn't fit in a u32.
-pub record Overflows (new : NewIndices) : Type 0 where
-  pub space : IndexSpace
-  pub index : ℕ
-  pub fits : index < 2 ^ 32
-  pub exceeds : 2 ^ 32 ≤ new space index
 
 -- ---- types
 

@@ -1,7 +1,7 @@
 //! Entries of sections with new indices (Core 3.0, Modules).
 ghost use Rattle.std.specs.Prelude.{◌≡◌, IfErr, IfOk, option_map};
 ghost use Rattle.wasm_lists.specs.EncodedLists.{IsMemoryOrTooLong};
-ghost use Rattle.wasm_whole_modules.specs.MappedIndices.{Overflows};
+ghost use Rattle.wasm_whole_modules.specs.IndexOverflows.{BodyExceeds, DataModeExceeds, DataSegmentExceeds, ElementExceeds, ElementModeExceeds, ElementsExceed, EntityTypeExceeds, ExportExceeds, GlobalExceeds, GlobalTypeExceeds, ImportExceeds, InitExceeds, LocalGroupExceeds, TableExceeds, TableTypeExceeds, TagTypeExceeds};
 ghost use Rattle.wasm_whole_modules.specs.MappedSections.{mapped_calls, mapped_table_type, mapped_global_type, mapped_tag_type, mapped_entity_type, mapped_import, mapped_table, mapped_global, space_of, mapped_export, mapped_element_mode, mapped_elements, mapped_element, mapped_local_group, mapped_body, mapped_data_mode, mapped_data_segment};
 
 use crate::indices::renumbering::{map_each, new_index_of};
@@ -24,6 +24,8 @@ use wasm_types::types::ValType;
 impl MapIndices for TableType {
     ghost mapped = { mapped_table_type };
 
+    ghost exceeds = { TableTypeExceeds };
+
     fn map_indices<M: Renumbering>(
         &self,
         alloc: Heap,
@@ -42,6 +44,8 @@ impl MapIndices for TableType {
 impl MapIndices for GlobalType {
     ghost mapped = { mapped_global_type };
 
+    ghost exceeds = { GlobalTypeExceeds };
+
     fn map_indices<M: Renumbering>(
         &self,
         alloc: Heap,
@@ -58,6 +62,8 @@ impl MapIndices for GlobalType {
 impl MapIndices for TagType {
     ghost mapped = { mapped_tag_type };
 
+    ghost exceeds = { TagTypeExceeds };
+
     fn map_indices<M: Renumbering>(
         &self,
         _alloc: Heap,
@@ -72,6 +78,8 @@ impl MapIndices for TagType {
 
 impl MapIndices for EntityType {
     ghost mapped = { mapped_entity_type };
+
+    ghost exceeds = { EntityTypeExceeds };
 
     fn map_indices<M: Renumbering>(
         &self,
@@ -96,6 +104,8 @@ impl MapIndices for EntityType {
 impl<'a> MapIndices for Import<'a> {
     ghost mapped = { mapped_import };
 
+    ghost exceeds = { ImportExceeds };
+
     fn map_indices<M: Renumbering>(
         &self,
         alloc: Heap,
@@ -112,6 +122,8 @@ impl<'a> MapIndices for Import<'a> {
 impl MapIndices for Table {
     ghost mapped = { mapped_table };
 
+    ghost exceeds = { TableExceeds };
+
     fn map_indices<M: Renumbering>(&self, alloc: Heap, indices: &M) -> Result<Table, EncodeError> {
         Ok(Table {
             ty: self.ty.map_indices(alloc, indices)?,
@@ -127,7 +139,7 @@ fn map_expression<M: Renumbering>(
     expression: &Option<Items<Call>>,
 ) -> Result<Option<Items<Call>>, EncodeError>
     ensures ok { IfOk result (λ copy. copy ≡ option_map (mapped_calls (M.new_indices indices.now)) expression.now) }
-    ensures refused { IfErr result (IsMemoryOrTooLong (Overflows (M.new_indices indices.now))) }
+    ensures refused { IfErr result (IsMemoryOrTooLong (InitExceeds (M.new_indices indices.now) expression.now)) }
 {
     match expression {
         Some(calls) => Ok(Some(calls.map_indices(alloc, indices)?)),
@@ -137,6 +149,8 @@ fn map_expression<M: Renumbering>(
 
 impl MapIndices for Global {
     ghost mapped = { mapped_global };
+
+    ghost exceeds = { GlobalExceeds };
 
     fn map_indices<M: Renumbering>(&self, alloc: Heap, indices: &M) -> Result<Global, EncodeError> {
         Ok(Global {
@@ -162,6 +176,8 @@ fn space_of(kind: ExportKind) -> IndexSpace
 impl<'a> MapIndices for Export<'a> {
     ghost mapped = { mapped_export };
 
+    ghost exceeds = { ExportExceeds };
+
     fn map_indices<M: Renumbering>(
         &self,
         _alloc: Heap,
@@ -177,6 +193,8 @@ impl<'a> MapIndices for Export<'a> {
 
 impl MapIndices for ElementMode {
     ghost mapped = { mapped_element_mode };
+
+    ghost exceeds = { ElementModeExceeds };
 
     fn map_indices<M: Renumbering>(
         &self,
@@ -200,6 +218,8 @@ impl MapIndices for ElementMode {
 impl MapIndices for Elements {
     ghost mapped = { mapped_elements };
 
+    ghost exceeds = { ElementsExceed };
+
     fn map_indices<M: Renumbering>(
         &self,
         alloc: Heap,
@@ -222,6 +242,8 @@ impl MapIndices for Elements {
 impl MapIndices for Element {
     ghost mapped = { mapped_element };
 
+    ghost exceeds = { ElementExceeds };
+
     fn map_indices<M: Renumbering>(
         &self,
         alloc: Heap,
@@ -237,6 +259,8 @@ impl MapIndices for Element {
 impl MapIndices for (u32, ValType) {
     ghost mapped = { mapped_local_group };
 
+    ghost exceeds = { LocalGroupExceeds };
+
     fn map_indices<M: Renumbering>(
         &self,
         alloc: Heap,
@@ -248,6 +272,8 @@ impl MapIndices for (u32, ValType) {
 
 impl MapIndices for CodeBody {
     ghost mapped = { mapped_body };
+
+    ghost exceeds = { BodyExceeds };
 
     fn map_indices<M: Renumbering>(
         &self,
@@ -263,6 +289,8 @@ impl MapIndices for CodeBody {
 
 impl MapIndices for DataSegmentMode {
     ghost mapped = { mapped_data_mode };
+
+    ghost exceeds = { DataModeExceeds };
 
     fn map_indices<M: Renumbering>(
         &self,
@@ -284,6 +312,8 @@ impl MapIndices for DataSegmentMode {
 
 impl<'a> MapIndices for DataSegment<'a> {
     ghost mapped = { mapped_data_segment };
+
+    ghost exceeds = { DataSegmentExceeds };
 
     fn map_indices<M: Renumbering>(
         &self,

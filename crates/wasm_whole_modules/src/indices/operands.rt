@@ -1,8 +1,8 @@
 //! Instructions with new indices (Core 3.0, Instructions).
-ghost use Rattle.std.specs.Prelude.{◌≡◌, IfErr, IfOk, map};
+ghost use Rattle.std.specs.Prelude.{◌≡◌, IfErr, IfOk, map, ◌⊎◌, Any};
 ghost use Rattle.wasm_lists.specs.EncodedLists.{IsMemoryOrTooLong};
-ghost use Rattle.wasm_whole_modules.specs.MappedIndices.{Overflows};
 ghost use Rattle.wasm_whole_modules.specs.IndexSpaces.{index_spaces};
+ghost use Rattle.wasm_whole_modules.specs.IndexOverflows.{BlockTypeExceeds, CallExceeds, CatchExceeds, ExceedsIn, HandleExceeds, MemArgExceeds, OperandsExceed, PairExceeds, RefTypeExceeds};
 ghost use Rattle.wasm_whole_modules.specs.MappedIndices.{index_in, mapped_ref_type, mapped_block_type, mapped_catch, mapped_handle, mapped_mem_arg, mapped_operands, mapped_call};
 ghost use Rattle.wasm_instructions.specs.declared.table.call.Operands.TheVariants as operands;
 
@@ -17,6 +17,8 @@ use wasm_types::types::RefType;
 
 impl MapIndices for BlockType {
     ghost mapped = { mapped_block_type };
+
+    ghost exceeds = { BlockTypeExceeds };
 
     fn map_indices<M: Renumbering>(
         &self,
@@ -35,6 +37,8 @@ impl MapIndices for BlockType {
 
 impl MapIndices for Catch {
     ghost mapped = { mapped_catch };
+
+    ghost exceeds = { CatchExceeds };
 
     fn map_indices<M: Renumbering>(
         &self,
@@ -59,6 +63,8 @@ impl MapIndices for Catch {
 impl MapIndices for Handle {
     ghost mapped = { mapped_handle };
 
+    ghost exceeds = { HandleExceeds };
+
     fn map_indices<M: Renumbering>(
         &self,
         alloc: Global,
@@ -79,6 +85,8 @@ impl MapIndices for Handle {
 impl MapIndices for MemArg {
     ghost mapped = { mapped_mem_arg };
 
+    ghost exceeds = { MemArgExceeds };
+
     fn map_indices<M: Renumbering>(
         &self,
         alloc: Global,
@@ -94,6 +102,8 @@ impl MapIndices for MemArg {
 
 impl MapIndices for Call {
     ghost mapped = { mapped_call };
+
+    ghost exceeds = { CallExceeds };
 
     #[tactic(auto, using(crate::proofs::MappedCalls::mapped_fits, crate::proofs::MappedCalls::mapped_aligned))]
     fn map_indices<M: Renumbering>(&self, alloc: Global, indices: &M) -> Result<Call, EncodeError> {
@@ -111,7 +121,7 @@ fn map_operands<M: Renumbering>(
     operands: &Operands,
 ) -> Result<Operands, EncodeError>
     ensures ok { IfOk result (λ copy. copy ≡ mapped_operands (M.new_indices indices.now) op operands.now) }
-    ensures refused { IfErr result (IsMemoryOrTooLong (Overflows (M.new_indices indices.now))) }
+    ensures refused { IfErr result (IsMemoryOrTooLong (OperandsExceed (M.new_indices indices.now) op operands.now)) }
 {
     let (first, second) = index_spaces(op);
     match operands {
@@ -159,7 +169,7 @@ fn map_pair<M: Renumbering>(
 ) -> Result<(u32, u32), EncodeError>
     ensures first { IfOk result (λ pair. pair.0 ≡ index_in (M.new_indices indices.now) (index_spaces op).0 one) }
     ensures second { IfOk result (λ pair. pair.1 ≡ index_in (M.new_indices indices.now) (index_spaces op).1 two) }
-    ensures refused { IfErr result (IsMemoryOrTooLong (Overflows (M.new_indices indices.now))) }
+    ensures refused { IfErr result (IsMemoryOrTooLong (PairExceeds (M.new_indices indices.now) op one two)) }
 {
     let (first, second) = index_spaces(op);
     let one = new_index_in(indices, first, one)?;
@@ -176,7 +186,7 @@ fn map_resume<M: Renumbering>(
 ) -> Result<Operands, EncodeError>
     ensures ok { IfOk result (λ copy. copy ≡
         operands.Resume (index_in (M.new_indices indices.now) space ty) (map (mapped_handle (M.new_indices indices.now)) handlers.now)) }
-    ensures refused { IfErr result (IsMemoryOrTooLong (Overflows (M.new_indices indices.now))) }
+    ensures refused { IfErr result (IsMemoryOrTooLong (ExceedsIn (M.new_indices indices.now) space ty ⊎ Any (HandleExceeds (M.new_indices indices.now)) handlers.now)) }
 {
     let ty = new_index_in(indices, space, ty)?;
     Ok(Operands::Resume(ty, handlers.map_indices(alloc, indices)?))
@@ -191,7 +201,7 @@ fn map_try_table<M: Renumbering>(
 ) -> Result<Operands, EncodeError>
     ensures ok { IfOk result (λ copy. copy ≡
         operands.TryTable (mapped_block_type (M.new_indices indices.now) ty) (map (mapped_catch (M.new_indices indices.now)) clauses.now)) }
-    ensures refused { IfErr result (IsMemoryOrTooLong (Overflows (M.new_indices indices.now))) }
+    ensures refused { IfErr result (IsMemoryOrTooLong (BlockTypeExceeds (M.new_indices indices.now) ty ⊎ Any (CatchExceeds (M.new_indices indices.now)) clauses.now)) }
 {
     let ty = ty.map_indices(alloc, indices)?;
     let clauses = clauses.items().map_indices(alloc, indices)?;
@@ -208,7 +218,7 @@ fn map_cast<M: Renumbering>(
 ) -> Result<Operands, EncodeError>
     ensures ok { IfOk result (λ copy. copy ≡
         operands.Cast label (mapped_ref_type (M.new_indices indices.now) before) (mapped_ref_type (M.new_indices indices.now) after)) }
-    ensures refused { IfErr result (IsMemoryOrTooLong (Overflows (M.new_indices indices.now))) }
+    ensures refused { IfErr result (IsMemoryOrTooLong (RefTypeExceeds (M.new_indices indices.now) before ⊎ RefTypeExceeds (M.new_indices indices.now) after)) }
 {
     let before = before.map_indices(alloc, indices)?;
     Ok(Operands::Cast(label, before, after.map_indices(alloc, indices)?))

@@ -1,9 +1,10 @@
 //! Renumberings of a module's items, and the trait of values that they apply to.
-ghost use Rattle.std.specs.Prelude.{◌≡◌, ◌^◌, ◌≤◌, ℕ, List, map, IfOk, IfErr};
+ghost use Rattle.std.specs.Prelude.{◌≡◌, ◌^◌, ◌≤◌, ℕ, List, map, Any, IfOk, IfErr};
 ghost use Rattle.wasm_lists.specs.EncodedLists.{IsMemoryOrTooLong};
 ghost use Rattle.wasm_codec.specs.declared.encode.EncodeError.TheVariants.{TooLong};
 ghost use Rattle.wasm_whole_modules.specs.declared.indices.spaces.IndexSpace.{IndexSpace};
-ghost use Rattle.wasm_whole_modules.specs.MappedIndices.{Overflows, index_in, index_after_insertion};
+ghost use Rattle.wasm_whole_modules.specs.IndexOverflows.{Exceeds, ExceedsIn};
+ghost use Rattle.wasm_whole_modules.specs.MappedIndices.{index_in, index_after_insertion};
 
 use crate::indices::IndexSpace;
 use std::alloc::Global;
@@ -98,16 +99,21 @@ pub trait MapIndices {
     /// The value with new indices, which is otherwise the same.
     ghost mapped: { (IndexSpace → ℕ → ℕ) → Self → Self };
 
+    /// Whether a new index of the value is 2^32 or more.
+    ghost exceeds: { (IndexSpace → ℕ → ℕ) → Self → Type 0 };
+
     /// Returns a copy with new indices. Everything else stays.
     ///
     /// Fails with `TooLong` if a new index is over 4,294,967,295, and with `Memory` if it can't allocate.
     fn map_indices<M: Renumbering>(&self, alloc: Global, indices: &M) -> Result<Self, EncodeError>
         ensures ok { IfOk result (λ copy. copy ≡ mapped (M.new_indices indices.now) self.now) }
-        ensures refused { IfErr result (IsMemoryOrTooLong (Overflows (M.new_indices indices.now))) };
+        ensures refused { IfErr result (IsMemoryOrTooLong (exceeds (M.new_indices indices.now) self.now)) };
 }
 
 impl<T: MapIndices + Drop> MapIndices for Items<T> {
     ghost mapped = { λ new. map (T.mapped new) };
+
+    ghost exceeds = { λ new. Any (T.exceeds new) };
 
     fn map_indices<M: Renumbering>(
         &self,
@@ -143,7 +149,7 @@ pub fn map_all_indices<M: Renumbering, T: MapIndices + Drop>(
     values: &[T],
 ) -> Result<Vec<T>, EncodeError>
     ensures ok { IfOk result (λ copies. copies.items ≡ map (T.mapped (M.new_indices indices.now)) values.now) }
-    ensures refused { IfErr result (IsMemoryOrTooLong (Overflows (M.new_indices indices.now))) }
+    ensures refused { IfErr result (IsMemoryOrTooLong (Any (T.exceeds (M.new_indices indices.now)) values.now)) }
 {
     let mut copies = Vec::with_capacity(alloc, values.len())?;
     for value in values {
@@ -153,14 +159,13 @@ pub fn map_all_indices<M: Renumbering, T: MapIndices + Drop>(
 }
 
 /// Returns the new index of an item, with the error of methods that map values.
-#[tactic(auto, using(crate::proofs::MappedCalls::overflowed))]
 pub(crate) fn new_index_of<M: Renumbering>(
     indices: &M,
     space: IndexSpace,
     index: u32,
 ) -> Result<u32, EncodeError>
     ensures ok { IfOk result (λ new. new ≡ M.new_indices indices.now space index) }
-    ensures refused { IfErr result (IsMemoryOrTooLong (Overflows (M.new_indices indices.now))) }
+    ensures refused { IfErr result (IsMemoryOrTooLong (Exceeds (M.new_indices indices.now) space index)) }
 {
     indices.new_index(space, index)
 }
@@ -172,7 +177,7 @@ pub(crate) fn new_index_in<M: Renumbering>(
     index: u32,
 ) -> Result<u32, EncodeError>
     ensures ok { IfOk result (λ new. new ≡ index_in (M.new_indices indices.now) space index) }
-    ensures refused { IfErr result (IsMemoryOrTooLong (Overflows (M.new_indices indices.now))) }
+    ensures refused { IfErr result (IsMemoryOrTooLong (ExceedsIn (M.new_indices indices.now) space index)) }
 {
     match space {
         Some(space) => new_index_of(indices, space, index),
@@ -188,7 +193,7 @@ pub(crate) fn map_each<M: Renumbering>(
     list: &[u32],
 ) -> Result<Vec<u32>, EncodeError>
     ensures ok { IfOk result (λ copies. copies.items ≡ map (M.new_indices indices.now space) list.now) }
-    ensures refused { IfErr result (IsMemoryOrTooLong (Overflows (M.new_indices indices.now))) }
+    ensures refused { IfErr result (IsMemoryOrTooLong (Any (Exceeds (M.new_indices indices.now) space) list.now)) }
 {
     let mut copies = Vec::with_capacity(alloc, list.len())?;
     for index in list {

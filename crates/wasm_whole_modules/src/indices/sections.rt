@@ -1,4 +1,5 @@
 //! Decoded sections with new indices (Core 3.0, Modules).
+ghost use Rattle.wasm_whole_modules.specs.IndexOverflows.{SectionExceeds};
 ghost use Rattle.wasm_whole_modules.specs.MappedSections.{mapped_section};
 
 use crate::indices::renumbering::{map_each, new_index_of};
@@ -12,6 +13,8 @@ use wasm_sections::module_sections::ModuleSection;
 
 impl<'a> MapIndices for ModuleSection<'a> {
     ghost mapped = { mapped_section };
+
+    ghost exceeds = { SectionExceeds };
 
     fn map_indices<M: Renumbering>(
         &self,

@@ -1,8 +1,8 @@
 //! Types with new indices of types.
 ghost use Rattle.std.specs.Prelude.{◌≡◌, IfErr, IfOk, option_map};
 ghost use Rattle.wasm_lists.specs.EncodedLists.{IsMemoryOrTooLong};
-ghost use Rattle.wasm_whole_modules.specs.MappedIndices.{Overflows};
 ghost use Rattle.wasm_whole_modules.specs.declared.indices.spaces.IndexSpace.TheVariants as spaces;
+ghost use Rattle.wasm_whole_modules.specs.IndexOverflows.{CompositeTypeExceeds, ExceedsIfSome, FieldExceeds, FuncTypeExceeds, HeapTypeExceeds, InnerTypeExceeds, RefTypeExceeds, StorageTypeExceeds, SubTypeExceeds, TypeEntryExceeds, ValTypeExceeds};
 ghost use Rattle.wasm_whole_modules.specs.MappedIndices.{mapped_heap_type, mapped_ref_type, mapped_val_type, mapped_storage_type, mapped_field, mapped_func_type, mapped_inner_type, mapped_composite_type, mapped_sub_type, mapped_type_entry};
 
 use crate::indices::renumbering::{map_all_indices, map_each, new_index_of};
@@ -17,6 +17,8 @@ use wasm_types::types::{
 
 impl MapIndices for HeapType {
     ghost mapped = { mapped_heap_type };
+
+    ghost exceeds = { HeapTypeExceeds };
 
     fn map_indices<M: Renumbering>(
         &self,
@@ -43,6 +45,8 @@ impl MapIndices for HeapType {
 impl MapIndices for RefType {
     ghost mapped = { mapped_ref_type };
 
+    ghost exceeds = { RefTypeExceeds };
+
     fn map_indices<M: Renumbering>(
         &self,
         alloc: Global,
@@ -57,6 +61,8 @@ impl MapIndices for RefType {
 
 impl MapIndices for ValType {
     ghost mapped = { mapped_val_type };
+
+    ghost exceeds = { ValTypeExceeds };
 
     fn map_indices<M: Renumbering>(
         &self,
@@ -73,6 +79,8 @@ impl MapIndices for ValType {
 impl MapIndices for StorageType {
     ghost mapped = { mapped_storage_type };
 
+    ghost exceeds = { StorageTypeExceeds };
+
     fn map_indices<M: Renumbering>(
         &self,
         alloc: Global,
@@ -87,6 +95,8 @@ impl MapIndices for StorageType {
 
 impl MapIndices for FieldType {
     ghost mapped = { mapped_field };
+
+    ghost exceeds = { FieldExceeds };
 
     fn map_indices<M: Renumbering>(
         &self,
@@ -103,6 +113,8 @@ impl MapIndices for FieldType {
 impl MapIndices for FuncType {
     ghost mapped = { mapped_func_type };
 
+    ghost exceeds = { FuncTypeExceeds };
+
     fn map_indices<M: Renumbering>(
         &self,
         alloc: Global,
@@ -116,6 +128,8 @@ impl MapIndices for FuncType {
 
 impl MapIndices for CompositeInnerType {
     ghost mapped = { mapped_inner_type };
+
+    ghost exceeds = { InnerTypeExceeds };
 
     fn map_indices<M: Renumbering>(
         &self,
@@ -146,6 +160,8 @@ impl MapIndices for CompositeInnerType {
 impl MapIndices for CompositeType {
     ghost mapped = { mapped_composite_type };
 
+    ghost exceeds = { CompositeTypeExceeds };
+
     fn map_indices<M: Renumbering>(
         &self,
         alloc: Global,
@@ -166,7 +182,7 @@ fn map_type_index<M: Renumbering>(
     index: Option<u32>,
 ) -> Result<Option<u32>, EncodeError>
     ensures ok { IfOk result (λ copy. copy ≡ option_map (M.new_indices indices.now spaces.Types) index) }
-    ensures refused { IfErr result (IsMemoryOrTooLong (Overflows (M.new_indices indices.now))) }
+    ensures refused { IfErr result (IsMemoryOrTooLong (ExceedsIfSome (M.new_indices indices.now) spaces.Types index)) }
 {
     match index {
         Some(index) => Ok(Some(new_index_of(indices, IndexSpace::Types, index)?)),
@@ -176,6 +192,8 @@ fn map_type_index<M: Renumbering>(
 
 impl MapIndices for SubType {
     ghost mapped = { mapped_sub_type };
+
+    ghost exceeds = { SubTypeExceeds };
 
     fn map_indices<M: Renumbering>(
         &self,
@@ -197,6 +215,8 @@ impl MapIndices for SubType {
 
 impl MapIndices for TypeEntry {
     ghost mapped = { mapped_type_entry };
+
+    ghost exceeds = { TypeEntryExceeds };
 
     fn map_indices<M: Renumbering>(
         &self,

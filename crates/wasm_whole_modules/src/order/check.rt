@@ -1,4 +1,4 @@
-//! `OrderCheck`, which is told of the sections of a module one after another.
+//! A check of the order of sections, which takes them one after another.
 ghost use Rattle.std.specs.Prelude.{◌≡◌, None, ◌∷◌, ◌++◌, [], List, length, is_some, OnOk, IfErr, IfNone};
 ghost use Rattle.wasm_sections.specs.formats.ModuleSectionParts.{ModuleSectionParts};
 ghost use Rattle.wasm_whole_modules.specs.ModuleOrder.{code_bodies, first_data_count, facts_of, rank_of, added, needs_data_use, Notes, TellsDataUse, IsModule, IsWhyNot};
@@ -75,7 +75,7 @@ impl OrderCheck {
         }
     }
 
-    /// Notes the next section, of this index. Fails with `OutOfOrder` if it must come before one that was noted.
+    /// Notes the section `index`. Fails with `OutOfOrder` if it must come before a section that was noted.
     pub fn section(&mut self, index: usize, facts: SectionFacts) -> Result<(), ModuleError>
         ensures ok { OnOk result ((seen : List ModuleSectionParts) (next : ModuleSectionParts) →
             facts ≡ facts_of next → Notes seen self.old → Notes (seen ++ next ∷ []) self.new) }
@@ -94,7 +94,7 @@ impl OrderCheck {
         Ok(())
     }
 
-    /// Adds the counts of a section, unless they are known of an earlier one.
+    /// Notes the count of a section, unless an earlier section of its kind was noted.
     fn add(&mut self, facts: SectionFacts)
         ensures { self.new ≡ added facts self.old }
     {
@@ -114,7 +114,7 @@ impl OrderCheck {
         self.bodies.is_some()
     }
 
-    /// Checks whether no data count section was noted, but code, which then may name no data segment.
+    /// Checks whether a code section was noted, but no data count section. Such code may not name a data segment.
     pub fn needs_data_use(&self) -> bool
         ensures { result ≡ needs_data_use self.now }
     {

@@ -70,7 +70,7 @@ fn find_in_sections(alloc: Global, sections: &[u8]) -> Result<Option<ModuleError
     Ok(check.finish(data_use).err())
 }
 
-/// Returns the body of the first code section: of this one if it is one, and none was noted.
+/// Returns the body of `section` if it is the first code section, and otherwise `last`.
 fn first_code<'a>(check: &OrderCheck, section: &RawSection<'a>, last: &'a [u8]) -> &'a [u8]
     ensures { result.now ≡ next_body check.now.bodies section.now.id section.now.body.now last.now }
 {
