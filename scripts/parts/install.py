@@ -1,7 +1,8 @@
 """scripts/install into an empty folder: the programs, pages, libraries, C and Rust, with no clone beside them.
 
 It runs in a copy of the tree and proves nothing, because the cache there holds what `rt ci` and the part `bindings`
-built. The copy is removed before what was installed is tried.
+built. The copy is removed before what was installed is tried. scripts/release makes an archive twice, which must be the
+same bytes; its program runs in an empty environment, and its files are removed.
 """
 import os
 import shutil
@@ -19,7 +20,8 @@ FILES = [*(f"bin/{name}" for name in PROGRAMS), *(f"share/man/man1/{name}.1" for
          "share/fish/vendor_completions.d/wasmcanon.fish", "include/nosgrivel.h", "lib/libnosgrivel.a",
          "lib/libnosgrivel.so", f"lib/libnosgrivel.so.{VERSION}",
          f"lib/libnosgrivel.so.{VERSION.rpartition('.')[0]}", "lib/pkgconfig/nosgrivel.pc",
-         "share/nosgrivel/example.c", "share/doc/nosgrivel/LICENSE", "share/doc/nosgrivel/CHANGELOG.md"]
+         "share/nosgrivel/example.c", "share/nosgrivel/files", "share/nosgrivel/uninstall",
+         "share/doc/nosgrivel/LICENSE", "share/doc/nosgrivel/CHANGELOG.md"]
 # A memory section with a padded number, and its canonical form.
 PADDED, CANONICAL = MINIMAL[:8] + b"\5\4\1\0\x81\0", MINIMAL[:8] + b"\5\3\1\0\1"
 
@@ -63,11 +65,34 @@ def install(report, folder):
     ran = run_command(tree / "scripts/install", folder / "file/prefix", env=environment, cwd=folder)
     right = ran.returncode == 1 and f"{folder}/file: not a folder that can be written to" in said(ran)
     report.check("into a file", right, f"status {ran.returncode}{last_lines(said(ran))}")
-    for words, status in (([], 2), (["--help"], 0), (["--force"], 2), (["a", "b"], 2)):
-        ran = run_command(tree / "scripts/install", *words, cwd=folder)
-        right = ran.returncode == status and "usage: install PREFIX" in said(ran)
-        report.check(f"words {words}", right, f"status {ran.returncode}{last_lines(said(ran))}")
+    for script, argument in (("install", "PREFIX"), ("release", "FOLDER")):
+        for words, status in (([], 2), (["--help"], 0), (["--force"], 2), (["a", "b"], 2)):
+            ran = run_command(tree / "scripts" / script, *words, cwd=folder)
+            right = ran.returncode == status and f"usage: {script} {argument}" in said(ran)
+            report.check(f"{script}: words {words}", right, f"status {ran.returncode}{last_lines(said(ran))}")
+    try_release(report, folder, tree, {**environment, "SOURCE_DATE_EPOCH": "1700000000"})
     shutil.rmtree(tree)
+
+
+def try_release(report, folder, tree, environment):
+    """Makes a release twice, unpacks it, runs a program of it in an empty environment, and removes what it holds."""
+    for name in ("first", "second"):
+        ran = run_command(tree / "scripts/release", folder / name, env=environment, cwd=folder)
+        report.check(f"the {name} release", ran.returncode == 0, f"status {ran.returncode}{last_lines(said(ran))}")
+    archive = f"nosgrivel-{VERSION}-{os.uname().machine}-linux"
+    one, two = (folder / name / f"{archive}.tar.gz" for name in ("first", "second"))
+    if not one.exists() or not two.exists():
+        return
+    report.check("the releases are the same", one.read_bytes() == two.read_bytes(), "they differ")
+    ran = run_command("sha256sum", "--check", "--strict", "SHA256SUMS", cwd=one.parent)
+    report.check("the digest of a release", ran.returncode == 0, said(ran))
+    run_command("tar", "-xf", one, cwd=folder)
+    ran = run_command("env", "-i", folder / archive / "bin/wasmcanon", input=PADDED)
+    report.check("a program of a release", (ran.returncode, ran.stdout) == (0, CANONICAL), said(ran))
+    (folder / archive / "bin/another").touch()
+    ran = run_command("env", "-i", "PATH=/bin:/usr/bin", folder / archive / "share/nosgrivel/uninstall")
+    left = sorted(str(file.relative_to(folder / archive)) for file in (folder / archive).rglob("*"))
+    report.check("a release is removed", ran.returncode == 0 and left == ["bin", "bin/another"], f"{left}{said(ran)}")
 
 
 def try_files(it):
