@@ -68,8 +68,7 @@ uint32_t nosgrivel_version(void);
  * never if output_len >= input_len. *count: the length that the output needs. Call again with that length. */
 #define NOSGRIVEL_TOO_LONG 5u
 
-/* A pattern has more than one `*`, or isn't UTF-8. Nothing was written. Only `strip` returns this. *count is
- * unchanged. */
+/* A list of patterns isn't UTF-8. Nothing was written. Only `strip` returns this. *count is unchanged. */
 #define NOSGRIVEL_BAD_PATTERN 6u
 
 /* Write the minimal encoding of the input to the start of the output. It is never longer than the input. After
@@ -226,7 +225,7 @@ struct nosgrivel_refusal {
  * module is in its canonical form, as nosgrivel_check_canonical does. Fill *refusal, and return its status:
  *
  * NOSGRIVEL_NORMAL: `reason` is NOSGRIVEL_NO_REASON, `at` and `offset` are input_len, and the places are -1.
- * NOSGRIVEL_REFUSED: all fields say why and where. `status` and `at` are proved; the other fields are tested.
+ * NOSGRIVEL_REFUSED: all fields say why and where.
  * NOSGRIVEL_NO_MEMORY: the fields other than `status` are unchanged. */
 uint32_t nosgrivel_explain_module(
     const uint8_t *input, size_t input_len, bool strict, struct nosgrivel_refusal *refusal);
@@ -245,12 +244,13 @@ size_t nosgrivel_message(const struct nosgrivel_refusal *refusal, char *buffer, 
 /* Write the canonical form of a module to the output, as nosgrivel_canonicalise, but without the custom sections whose
  * names match a pattern of `dropped` and none of `kept`.
  *
- * `dropped` and `kept` are patterns in UTF-8. Each ends at a NUL or at the end of the text; no text is no pattern. One
- * `*` in a pattern stands for any characters. So "*" with 1 byte drops all custom sections, and "name\0producers" with
- * 14 bytes names two. The statuses are those of nosgrivel_canonicalise, and NOSGRIVEL_BAD_PATTERN.
+ * `dropped` and `kept` are lists of patterns in UTF-8. Each pattern ends at a NUL or at the end of the list; an empty
+ * list has no pattern. Each `*` in a pattern stands for any characters, or for none. So "*" with 1 byte drops all
+ * custom sections, and "name\0producers" with 14 bytes names two. The statuses are those of nosgrivel_canonicalise,
+ * and NOSGRIVEL_BAD_PATTERN.
  *
- * Proved: the output is the canonical form without some custom sections, which patterns chose by name. How a text is
- * split into patterns is tested. */
+ * Proved: the output is the canonical form without exactly these custom sections, and the status is
+ * NOSGRIVEL_BAD_PATTERN if and only if a list isn't UTF-8. */
 uint32_t nosgrivel_strip(
     const uint8_t *input, size_t input_len, const char *dropped, size_t dropped_len, const char *kept,
     size_t kept_len, uint8_t *output, size_t output_len, size_t *count);

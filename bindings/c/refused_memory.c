@@ -244,7 +244,11 @@ static void patterns(void) {
     expect_strip("a beginning", status, output, count, with_name, sizeof with_name);
     status = strip("", 0, "*", 1, output, &count);
     expect(status == NOSGRIVEL_NORMAL && count == sizeof named - 2, "no pattern", "count", (long)count);
-    static const char *const wrong[] = {"**", "a*b*", "\xFF", "name\xC3"};
+    status = strip("o*h*r\0n**e", 10, "", 0, output, &count);
+    expect_strip("several stars", status, output, count, with_none, sizeof with_none);
+    status = strip("**", 2, "*a*e*", 5, output, &count);
+    expect_strip("several stars that keep", status, output, count, with_name, sizeof with_name);
+    static const char *const wrong[] = {"\xFF", "*\xC3*", "name\xC3"};
     for (size_t i = 0; i < sizeof wrong / sizeof *wrong; i++) {
         count = 77;
         status = strip(wrong[i], strlen(wrong[i]), "", 0, output, &count);

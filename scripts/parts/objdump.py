@@ -9,18 +9,26 @@ CODE = re.compile(r" ([0-9a-f]{6,}):(?: [0-9a-f]{2})+ +\|(.*)$")
 FURTHER = re.compile(r" {8}[ 0-9a-f]{27} \|(.*)$")
 CALL_INDIRECT = re.compile(r"((?:return_)?call_indirect) (\d+).* \(type (\d+)")
 I32_CONST = re.compile(r"i32\.const (\d+)$")
+# A memory argument of a listing: another memory than 0, the offset, and the alignment in bytes.
+MEM_ARG = re.compile(r"(?: (\d+))? offset=(\d+) align=(\d+)")
 
 
 def one_form(text):
     """The text of an instruction without names and marks. wasm-objdump prints i32 constants without a sign, the
-    fraction of some numbers as a lone point, and an ordering as its number."""
-    text = re.sub(r"; .*", "", text).strip()
+    fraction of some numbers as a lone point, an ordering as its number, and a memory argument as the alignment's
+    logarithm, the offset, and another memory than 0."""
+    text = MEM_ARG.sub(objdump_mem_arg, re.sub(r"; .*", "", text).strip())
     call, constant = CALL_INDIRECT.match(text), I32_CONST.match(text)
     if call:
         return "{} {} (type {})".format(*call.groups())
     if constant and int(constant[1]) >= 1 << 31:
         return f"i32.const {int(constant[1]) - (1 << 32)}"
     return re.sub(r" <.*", "", text).replace("0x1.p", "0x1p").replace("atomic.fence 0", "atomic.fence seq_cst")
+
+
+def objdump_mem_arg(found):
+    memory, offset, align = found.groups()
+    return f" {int(align).bit_length() - 1} {offset}" + (f" (memory {memory})" if memory else "")
 
 
 def listed(wasmcanon, module):

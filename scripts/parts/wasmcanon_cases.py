@@ -49,6 +49,25 @@ FILES = {
     # Custom sections whose names begin like those that keep offsets, and two that keep them.
     "alike": HEADER + b"\0\x09\x08linkingX\0\x08\7linking\0\7\6reloc.\0\7\6relocs\0\x12\x11sourceMappingURL2",
 }
+# Names of custom sections, and for each pattern those that it matches.
+PATTERN_NAMES = ["ab", "aab", "abab", "ba", "b*a", "\u00e9"]
+PATTERNS = {
+    "*": PATTERN_NAMES,
+    "**": PATTERN_NAMES,
+    "": [],
+    "ab": ["ab"],
+    "ab*": ["ab", "abab"],
+    "*ab": ["ab", "aab", "abab"],
+    "a**b": ["ab", "aab", "abab"],
+    "b*a": ["ba", "b*a"],
+    "*b*": ["ab", "aab", "abab", "ba", "b*a"],
+    # The piece in front of a `*` and the end may not overlap.
+    "ab*ab": ["abab"],
+    "*a*ab": ["aab", "abab"],
+    "*ba*ab*": [],
+    "a*b*a*b": ["abab"],
+    "*\u00e9*": ["\u00e9"],
+}
 EXPORT, CODE, DATA_COUNT, DATA = b"\7\1\0", b"\x0A\4\1\2\0\x0B", b"\x0C\1\1", b"\x0B\3\1\1\0"
 # A function with memory.init 0 0 as its fourth instruction.
 INIT = b"\x0A\x0E\1\x0C\0\x41\0\x41\0\x41\0\xFC\x08\0\0\x0B"

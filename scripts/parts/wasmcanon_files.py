@@ -1,5 +1,6 @@
 """What `wasmcanon` writes to files, and what it leaves as it was: part of wasmcanon_runs.py."""
 import fcntl
+import json
 import os
 import re
 import signal
@@ -71,16 +72,23 @@ def try_owner(runs):
 
 
 def try_synced(runs):
-    """The bytes reach the disk before their file gets the name of the output."""
+    """If a file is replaced, the new bytes reach the disk before they get its name. A new file is only renamed."""
     if lacks(runs.report, "strace", "writes were not traced"):
         return
     runs.fresh()
+    calls = traced(runs)
+    runs.holds("a replacement is written to the disk and then renamed", calls in (
+        [b"fsync", b"rename"], [b"fdatasync", b"rename"]))
+    (runs.room / "there").unlink()
+    runs.holds("a new file is only renamed", traced(runs) == [b"rename"])
+
+
+def traced(runs):
+    """The calls of a run that sync or rename, in their order; none if it fails."""
     words = ["strace", "-f", "-e", "trace=fsync,fdatasync,rename", runs.program, "long", "-o", "there"]
     ran = run_command(*words, cwd=runs.room)
-    calls = re.findall(rb"^(?:\[pid +\d+\] )?(\w+)\(", ran.stderr, re.MULTILINE)
     runs.status, runs.out, runs.err = ran.returncode, ran.stdout, ran.stderr.decode("utf-8", "replace")
-    runs.holds("a file is written to the disk and then renamed", runs.status == 0 and calls in (
-        [b"fsync", b"rename"], [b"fdatasync", b"rename"]))
+    return re.findall(rb"^(?:\[pid +\d+\] )?(\w+)\(", ran.stderr, re.MULTILINE) if ran.returncode == 0 else []
 
 
 def goes_past_a_stale_file(runs):
@@ -94,7 +102,9 @@ def goes_past_a_stale_file(runs):
 
 def leaves_nothing_when_killed(runs):
     """Whether a run leaves no file if it is killed while it waits for the rest of its input."""
-    process = subprocess.Popen([runs.program, "-o", "there"], cwd=runs.room, stdin=subprocess.PIPE)
+    # A shell that runs the gate in the background passes on that the signal is ignored.
+    process = subprocess.Popen([runs.program, "-o", "there"], cwd=runs.room, stdin=subprocess.PIPE,
+                               preexec_fn=lambda: signal.signal(signal.SIGINT, signal.SIG_DFL))
     process.stdin.write(HEADER)
     process.stdin.flush()
     for _ in range(1000):
@@ -190,7 +200,7 @@ def try_several(runs):
     runs.holds("several reports", runs.status == 0 and right)
     for words in (["--in-place"], ["--in-place", "-"], ["one", "two"], ["--check", "-", "-"], ["--diff", "-", "-"],
                   ["--diff", "one"], ["--diff", "one", "two", "one"], ["--in-place", "one", "-o", "two"],
-                  ["--keep", "a", "one"], ["--no-custom", "one"], ["--strip", "a*b*", "one"]):
+                  ["--keep", "a", "one"], ["--no-custom", "one"]):
         runs.holds(" ".join(words), runs.answers(2, "error: ", *words) and "\nUsage: wasmcanon " in runs.err)
 
 
@@ -205,3 +215,24 @@ def try_other_places(runs):
     runs.holds("the folder of an input", right and (runs.room / "one").read_bytes() == FILES["long"])
     right = runs.answers(0, "", "one", "-o", ".", "--force")
     runs.holds("the folder of an input, by force", right and (runs.room / "one").read_bytes() == FILES["canonical"])
+
+
+def try_names_not_text(runs):
+    """Names of files that aren't UTF-8, which can't be opened. The other files are done."""
+    name = b"bad\xFFname"
+    (runs.room / "one").write_bytes(FILES["long"])
+    (runs.room / os.fsdecode(name)).write_bytes(FILES["long"])
+    message = "error: bad\\xFFname: read failed: file name is not UTF-8\n"
+    right = runs.answers(4, message, "--in-place", name, "one") and runs.err == message
+    runs.holds("a name that isn't UTF-8", right and (runs.room / "one").read_bytes() == FILES["canonical"])
+    for words in (["--check"], ["--hash"], ["--list"], ["--report"], ["--diff", "one"], ["-o", "there"]):
+        runs.fresh()
+        right = runs.refuses(4, message, *words, name) and runs.err == message
+        runs.holds(f"a name that isn't UTF-8, {' '.join(words)}", right)
+    right = runs.answers(0, "", "--check", "one") and runs.answers(4, message, "--check", "--json", name, "one")
+    told = [it["file"] for it in json.loads(runs.out)] if right else []
+    runs.holds("a name that isn't UTF-8 as JSON", told == ["bad\\xFFname", "one"])
+    for words in (["-o", name], ["--strip", name], [b"--strip=" + name], [b"--" + name]):
+        right = runs.answers(2, "error: invalid argument: expected UTF-8\n", "one", *words)
+        runs.holds(f"an option that isn't UTF-8, {words[0]}", right and not runs.out)
+    (runs.room / os.fsdecode(name)).unlink()

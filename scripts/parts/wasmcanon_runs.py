@@ -10,13 +10,15 @@ import re
 import subprocess
 
 from parts.common import HELP, ROOT, both_programs, lacks, read_terminal, room, run as run_command, under
-from parts.listing_cases import (ALL_DIFFERENCES, CALL_AS_JSON, CUT_LISTINGS, EVERY, EVERY_AS_JSON, INSTRUCTIONS,
-                                 LISTING, LISTINGS, code)
+from parts.listing_cases import (ALL_DIFFERENCES, CALL_AS_JSON, CUT_LISTINGS, EVERY, EVERY_AS_JSON, FUNCTION_NAMES,
+                                 INSTRUCTIONS, LISTING, LISTINGS, NAMED_IMPORT, code)
+from parts.listing_runs import list_in, try_chosen_sections, try_contents, try_places
 from parts.wasmcanon_cases import (CUT, CUT_AS_JSON, DISORDERED, ENCODINGS, FILES, FOREIGN, FUNCTION, HEADER, IN_ORDER,
                                    LONGER, LONG_AS_JSON, LONG_SIZE, MALFORMED, NAMES, NO, NOT_CANONICAL, NO_HEADER,
-                                   PADDED_DATA_USE, PADDED_NAMES, PADDED_PRODUCERS, PRODUCERS, REPORT,
-                                   REPORT_OF_NAMES, REPORT_OF_NUMBERS, STALE, STALE_NAMES, STALE_SECTIONS, TYPE)
-from parts.wasmcanon_files import try_links, try_object_files, try_outputs, try_read_only, try_several
+                                   PADDED_DATA_USE, PADDED_NAMES, PADDED_PRODUCERS, PATTERNS, PATTERN_NAMES, PRODUCERS,
+                                   REPORT, REPORT_OF_NAMES, REPORT_OF_NUMBERS, STALE, STALE_NAMES, STALE_SECTIONS, TYPE)
+from parts.wasmcanon_files import (try_links, try_names_not_text, try_object_files, try_outputs, try_read_only,
+                                   try_several)
 
 
 class Runs:
@@ -109,6 +111,12 @@ def stale(file, names=".debug_"):
     return STALE.format(file=file, names=names)
 
 
+def custom_section(name):
+    """A custom section of this name, without more bytes."""
+    name = name.encode()
+    return bytes([0, len(name) + 1, len(name)]) + name
+
+
 def custom_sections(data):
     """The names of the custom sections of a module that has short ones alone."""
     names, at = [], len(HEADER)
@@ -123,7 +131,8 @@ def try_selections(runs):
         (["--strip", "name"], ["nabe", ".debug_", "e"]),
         (["--strip", "na*e"], [".debug_", "e"]),
         (["--strip", "n*e", "--strip", "e"], [".debug_"]),
-        (["--strip", "e*e"], ["name", "nabe", ".debug_", "e"]),
+        (["--strip", "n*m*"], ["nabe", ".debug_", "e"]),
+        (["--strip", "*a*e", "--strip", "*_*"], ["e"]),
         (["--strip", "*"], []),
         (["--strip-all"], []),
         (["--strip-all", "--keep", "na*"], ["name", "nabe"]),
@@ -133,6 +142,11 @@ def try_selections(runs):
     ):
         right = runs.answers(0, "", *words, "named") and custom_sections(runs.out) == wanted
         runs.holds(" ".join(words), right)
+    for pattern, dropped in PATTERNS.items():
+        (runs.room / "patterns").write_bytes(HEADER + b"".join(map(custom_section, PATTERN_NAMES)))
+        runs.run("--strip", pattern, "patterns")
+        left = [name for name in PATTERN_NAMES if name not in dropped]
+        runs.holds(f"--strip {pattern}", runs.status == 0 and custom_sections(runs.out) == left)
     right = runs.answers(0, "", "--strip-offsets", "alike")
     runs.holds("names like those with offsets", right and custom_sections(runs.out) == ["linkingX", "relocs",
                                                                                          "sourceMappingURL2"])
@@ -140,8 +154,35 @@ def try_selections(runs):
     runs.run("stale")
     runs.holds("a warning of several sections", runs.status == 0 and runs.err == stale("stale", STALE_NAMES))
     runs.fresh()
-    runs.run("--strip", "name", "debug", "-o", "there")
+    runs.run("--strip-offsets", "--keep", ".d*g_", "debug", "-o", "there")
     runs.holds("a warning of offsets that stay", runs.status == 0 and runs.err == stale("debug"))
+
+
+def unused(*words):
+    return f"warning: {' '.join(words)}: no custom section matches\n"
+
+
+def try_unused_patterns(runs):
+    """Warnings of patterns that match no custom section of any module."""
+    (runs.room / "one").write_bytes(FILES["named"])
+    patterns = ["--strip", "e*e", "--strip", "na*", "--keep", "nab", "--keep", "nabe"]
+    for words in (["named"], ["named", "-o", "there"], ["--hash", "named"], ["--in-place", "one"],
+                  ["--hash", "--json", "named", "canonical"]):
+        runs.run(*patterns, *words)
+        right = runs.status == 0 and runs.err == unused("--strip", "e*e") + unused("--keep", "nab")
+        runs.holds(f"patterns that match nothing, {' '.join(words)}", right)
+    for name, words in (
+        ("patterns that match in different modules", ["--hash", "--strip", "name", "--strip", "a", "named", "custom"]),
+        ("two patterns that match one name", ["--strip", "*", "--strip", "name", "--strip-all", "named"]),
+        ("a pattern that keeps what nothing drops", ["--strip", "e", "--keep", "name", "named"]),
+        ("options without a pattern", ["--strip-all", "--strip-offsets", "canonical"]),
+    ):
+        runs.holds(name, runs.answers(0, "", *words))
+    runs.run("--strip", "\x1b", "--strip", "", "named")
+    right = runs.status == 0 and runs.err == unused("--strip", "\\u{1b}") + unused("--strip", "")
+    runs.holds("an escaped pattern that matches nothing", right)
+    runs.run("--hash", "--strip", "x", "cut", "named")
+    runs.holds("a pattern beside a refusal", runs.status == 1 and "warning" not in runs.err)
 
 
 def try_names(runs):
@@ -294,6 +335,26 @@ def many_parts():
     yield "a long name", HEADER + b"\0" + after_size(after_size(b"a" * 20_000_000))
 
 
+def many_contents():
+    """Custom sections of which a list or a copy of their contents would be noticed: what each has, and its bytes."""
+    names, values = b"\0\1t" * 2_000_000, b"\1a\0" * 2_000_000
+    yield "two million names", custom_module(b"name", b"\4" + after_size(leb(2_000_000) + names))
+    yield "two million values", custom_module(b"producers", b"\1\3sdk" + leb(2_000_000) + values)
+    yield "a name of 20 MB", custom_module(b"name", b"\0" + after_size(after_size(b"a" * 20_000_000)))
+
+
+def custom_module(name, contents):
+    return HEADER + b"\0" + after_size(after_size(name) + contents)
+
+
+def many_names():
+    """Modules of which an offset kept for each name would be noticed: what each has, and its bytes."""
+    yield "a million exports", HEADER + b"\7" + after_size(leb(1_000_000) + b"\3abc\0\0" * 1_000_000)
+    yield "a million imports", HEADER + b"\2" + after_size(leb(1_000_000) + bytes(4_000_000))
+    named = leb(1_000_000) + b"".join(leb(at) + b"\0" for at in range(1_000_000))
+    yield "a million names", HEADER + b"\0" + after_size(b"\4name\1" + after_size(named))
+
+
 def least_memory(runs):
     """The KiB of address space in which the program checks an empty module. In less it may not even be loaded."""
     least, words = 1024, [runs.program, "--check", runs.room / "header"]
@@ -313,7 +374,7 @@ def in_little_memory(runs, least, name, status, message, *words):
 
 
 def try_memory(runs):
-    """A check, a report and a comparison hold each module once."""
+    """A check, a report, a comparison and a listing hold each module once."""
     least = least_memory(runs)
     for name, status, message, data in large_modules():
         (runs.room / "large_module").write_bytes(data)
@@ -326,6 +387,13 @@ def try_memory(runs):
         (runs.room / "large_module").write_bytes(data)
         for words in (["--report"], ["--report", "--json"]):
             in_little_memory(runs, least, name, 0, "", "--any-order", *words, "large_module")
+    for name, data in many_contents():
+        (runs.room / "large_module").write_bytes(data)
+        for words in (["--list"], ["--list", "--json"]):
+            in_little_memory(runs, least, name, 0, "", *words, "large_module")
+    for name, data in many_names():
+        (runs.room / "large_module").write_bytes(data)
+        in_little_memory(runs, least, name, 0, "", "--list", "large_module")
     (runs.room / "large_module").write_bytes(FILES["big"][:-1] + b"a")
     for words in (["--diff"], ["--diff", "--all"], ["--diff", "--all", "--json"]):
         in_little_memory(runs, least, "a longer size", 0, "", *words, "big", "big_canonical")
@@ -408,15 +476,6 @@ def json_report(runs, file):
     return told[0] if runs.status == 0 and len(told) == 1 else {"before": 0, "after": 0, "sections": []}
 
 
-def list_in(text):
-    """The list that is printed as JSON; if there is none, an empty one."""
-    try:
-        told = json.loads(text)
-        return told if isinstance(told, list) else []
-    except ValueError:
-        return []
-
-
 def try_listings(runs):
     runs.run("--list", "every")
     runs.holds("a listing", runs.status == 0 and not runs.err and runs.out.decode() == LISTING)
@@ -449,7 +508,30 @@ def try_listings(runs):
         (runs.room / "listed").write_bytes(HEADER + data)
         runs.run("--list", "--any-order", "listed")
         runs.holds(f"a listing: {name}", runs.status == 0 and runs.out.decode() == wanted)
+    try_names_of_functions(runs)
     try_long_listing(runs)
+
+
+def try_names_of_functions(runs):
+    """Lists modules of functions 0 to 5. A section that names them may be malformed, and then ends the listing."""
+    for name, data, wanted in FUNCTION_NAMES:
+        (runs.room / "listed").write_bytes(HEADER + TYPE + b"\3\7\6" + bytes(6) + data)
+        runs.run("--list", "--any-order", "listed")
+        right = names_of_functions(runs.out) == {at: wanted.get(at) for at in range(6)}
+        runs.holds(f"names in a listing: {name}", right)
+    entries = b"".join(leb(2 * at) + leb(len(f"f{at}")) + f"f{at}".encode() for at in range(100))
+    name_map = after_size(leb(100) + entries)
+    (runs.room / "listed").write_bytes(
+        HEADER + TYPE + b"\3" + after_size(leb(210) + bytes(210)) + b"\0" + after_size(b"\4name\1" + name_map))
+    runs.run("--list", "--any-order", "listed")
+    wanted = {at: f"f{at // 2}" if at % 2 == 0 and at < 200 else None for at in range(210)}
+    runs.holds("a hundred names in a listing", runs.status == 0 and names_of_functions(runs.out) == wanted)
+
+
+def names_of_functions(listing):
+    """The names of the functions in the function section of a listing."""
+    lines = re.finditer(r"func\[(\d+)\] type 0(?: <(.*)>)?$", listing.decode(), re.MULTILINE)
+    return {int(line[1]): line[2] for line in lines}
 
 
 def try_long_listing(runs):
@@ -493,6 +575,10 @@ def try_listings_as_json(runs):
         runs.holds(f"an item as JSON: {wanted['text']}", sections and sections[section]["items"][item] == wanted)
     runs.holds("a size as JSON", sections and sections[11]["longer_size"] == {"size": 2, "minimal": 1})
     runs.holds("an instruction in a list as JSON", sections and sections[11]["items"][0]["code"][4] == CALL_AS_JSON)
+    (runs.room / "listed").write_bytes(HEADER + NAMED_IMPORT)
+    runs.run("--list", "--json", "listed")
+    code = list_in(runs.out)[0]["sections"][3]["items"][0]["code"]
+    runs.holds("the name of an import as JSON", [it["name"] for it in code] == ["e.\x1bf", None])
     cut = dict(told[1]) if len(told) > 1 else {}
     listed = cut.pop("sections", None)
     runs.holds("a refusal after a list as JSON", cut == CUT_AS_JSON and [it["id"] for it in listed or []] == [1])
@@ -518,7 +604,9 @@ def try_all_differences(runs):
         runs.holds(f"all differences as JSON: {name}", told["same"] is not bool(wanted) and len(sides) == len(lines)
                    and all(text in line for text, line in zip(sides, lines)))
     runs.holds("a difference from no module", runs.answers(1, f"error: cut: {CUT}\n", "--diff", "--all", "long", "cut"))
-    runs.holds("--all alone", runs.answers(2, "error: ", "--all", "long") and "\nUsage: wasmcanon " in runs.err)
+    for words in (["--all"], ["--check", "--all"], ["--list", "--all"], ["--check", "--no-custom"]):
+        refused = runs.answers(2, "error: ", *words, "long") and "\nUsage: wasmcanon " in runs.err
+        runs.holds(f"{' '.join(words)}: options that don't go together", refused)
 
 
 def try_refusals(runs):
@@ -690,9 +778,10 @@ def run(report):
             (folder / name).write_bytes(data)
         for program in both_programs(report, "wasmcanon"):
             runs = Runs(report, program, folder)
-            for attempt in (try_outputs, try_links, try_read_only, try_object_files, try_several, try_checks, try_quiet,
-                            try_memory, try_order, try_hashes, try_selections, try_names, try_foreign, try_json,
-                            try_offsets, try_differences, try_reports, try_listings, try_listings_as_json,
-                            try_all_differences, try_refusals, try_malformed, try_mistaken_options, try_closed_pipes,
-                            try_help, try_failing_writes, try_progress):
+            for attempt in (try_outputs, try_links, try_read_only, try_object_files, try_several, try_names_not_text,
+                            try_checks, try_quiet, try_memory, try_order, try_hashes, try_selections,
+                            try_unused_patterns, try_names, try_foreign, try_json, try_offsets, try_differences,
+                            try_reports, try_listings, try_contents, try_chosen_sections, try_listings_as_json,
+                            try_all_differences, try_places, try_refusals, try_malformed, try_mistaken_options,
+                            try_closed_pipes, try_help, try_failing_writes, try_progress):
                 attempt(runs)

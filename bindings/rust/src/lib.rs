@@ -42,7 +42,7 @@ pub enum Error {
     },
     /// Memory ran out.
     NoMemory,
-    /// A pattern has more than one `*`, or a NUL. Only [`strip`] returns this.
+    /// A pattern has a NUL. Only [`strip`] returns this.
     InvalidPattern,
 }
 
@@ -52,7 +52,7 @@ impl fmt::Display for Error {
             Error::Refused { at } => write!(f, "refused at {at}"),
             Error::NoMemory => write!(f, "no memory"),
             Error::InvalidPattern => {
-                write!(f, "invalid pattern: expected at most one * and no NUL")
+                write!(f, "invalid pattern: expected no NUL")
             }
         }
     }
@@ -115,7 +115,7 @@ pub fn canonicalise_in_place(module: &mut Vec<u8>) -> Result<(), Error> {
 /// Returns the canonical form of a module without the custom sections whose names match a pattern of `dropped` and none
 /// of `kept`.
 ///
-/// One `*` in a pattern stands for any characters.
+/// Each `*` in a pattern stands for any characters, or for none.
 ///
 /// ```
 /// let header = *b"\0asm\x01\0\0\0";
@@ -128,7 +128,7 @@ pub fn canonicalise_in_place(module: &mut Vec<u8>) -> Result<(), Error> {
 ///
 /// # Errors
 ///
-/// As for [`canonicalise`], and [`Error::InvalidPattern`] if a pattern has more than one `*`, or a NUL.
+/// As for [`canonicalise`], and [`Error::InvalidPattern`] if a pattern has a NUL.
 pub fn strip(module: &[u8], dropped: &[&str], kept: &[&str]) -> Result<Vec<u8>, Error> {
     let (dropped, kept) = (joined(dropped)?, joined(kept)?);
     // The canonical form is no longer than the module, and leaving sections out makes it shorter.

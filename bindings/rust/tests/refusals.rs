@@ -245,10 +245,12 @@ fn stripped() {
         strip(&input, &["Other", "othe", ""], &[]),
         canonicalise(&input)
     );
-    for wrong in ["**", "a*b*", "a\0b"] {
-        assert_eq!(strip(&input, &[wrong], &[]), Err(Error::InvalidPattern));
-        assert_eq!(strip(&input, &[], &[wrong]), Err(Error::InvalidPattern));
-    }
+    assert_eq!(strip(&input, &["o*h*r", "n**e"], &[]).as_ref(), Ok(&all));
+    assert_eq!(strip(&input, &["**"], &["*a*e*"]).as_ref(), Ok(&but_name));
+    assert_eq!(strip(&input, &["*e*e"], &[]), canonicalise(&input));
+    let wrong = "a\0b";
+    assert_eq!(strip(&input, &[wrong], &[]), Err(Error::InvalidPattern));
+    assert_eq!(strip(&input, &[], &[wrong]), Err(Error::InvalidPattern));
     assert_eq!(
         strip(&input[..20], &["*"], &[]),
         Err(Error::Refused { at: 16 })

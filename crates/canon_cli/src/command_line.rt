@@ -4,6 +4,7 @@ use crate::outputs::report_failed_write;
 use crate::paths::exists;
 use crate::request::Request;
 use crate::statuses::USAGE_STATUS;
+use crate::words::inputs_alone_escape;
 use clap::error::ErrorKind;
 use std::alloc::AllocError;
 
@@ -22,7 +23,13 @@ pub enum Asked<'a> {
 /// Fails if memory runs out.
 pub fn read_request<'a>(rt: &HostRuntime, words: &'a [String]) -> Result<Asked<'a>, AllocError> {
     match command(rt.alloc())?.try_get_matches_from(words) {
-        Ok(matches) => Ok(Asked::Run(Request::from_matches(rt.alloc(), &matches)?)),
+        Ok(matches) => {
+            let request = Request::from_matches(rt.alloc(), &matches)?;
+            if inputs_alone_escape(words, &request.inputs) {
+                return Ok(Asked::Run(request));
+            }
+            Ok(Asked::Answered(refuse_usage(rt, "invalid argument: expected UTF-8")))
+        }
         Err(error) if error.kind() == ErrorKind::OutOfMemory => Err(AllocError),
         Err(error) => Ok(Asked::Answered(print_answer(rt, &error))),
     }

@@ -12,3 +12,4 @@ pub mod replacement;
 pub mod request;
 pub mod statuses;
 pub mod text;
+pub mod words;

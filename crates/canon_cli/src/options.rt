@@ -13,7 +13,7 @@ wasmcanon [FILE] [-o OUTPUT] [--force] [STRIP]
        wasmcanon --check [FILE..] [--json | --quiet]
        wasmcanon --diff FILE OTHER [--all] [--json | --quiet]
        wasmcanon --hash [FILE..] [--no-custom] [--json] [STRIP]
-       wasmcanon --list [FILE..] [--json]
+       wasmcanon --list [FILE..] [--section NAME].. [--headers] [--json]
        wasmcanon --report [FILE..] [--json]";
 
 // bin/wasmcanon prints these lines as they are here, so they have no escapes.
@@ -27,7 +27,7 @@ Usage: wasmcanon [FILE] [-o OUTPUT] [--force] [STRIP]
        wasmcanon --check [FILE..] [--json | --quiet]
        wasmcanon --diff FILE OTHER [--all] [--json | --quiet]
        wasmcanon --hash [FILE..] [--no-custom] [--json] [STRIP]
-       wasmcanon --list [FILE..] [--json]
+       wasmcanon --list [FILE..] [--section NAME].. [--headers] [--json]
        wasmcanon --report [FILE..] [--json]
 
 Arguments:
@@ -48,6 +48,9 @@ Options:
       --hash             Print the SHA-256 digest of each canonical form
       --list             Print the sections, items and instructions of each
                          FILE, and what is not minimally encoded
+      --section <NAME>   With --list, print only sections of this kind, such as
+                         `code`, or custom sections of this name
+      --headers          With --list, print sections without their items
       --report           Print the size of each section before and after, and
                          how many of its items are not minimally encoded
       --json             Print an array with an object for each FILE; for --diff
@@ -128,7 +131,7 @@ enum Form {
     ShortFlag(char),
 }
 
-const ARGUMENTS: [Argument; 19] = [
+const ARGUMENTS: [Argument; 21] = [
     Argument {
         name: "input",
         form: Form::Named("FILE"),
@@ -193,10 +196,24 @@ const ARGUMENTS: [Argument; 19] = [
         needs: &[],
     },
     Argument {
+        name: "section",
+        form: Form::Values("NAME"),
+        groups: &[],
+        conflicts: &["check", "diff", "hash", "report"],
+        needs: &["list"],
+    },
+    Argument {
+        name: "headers",
+        form: Form::Flag,
+        groups: &[],
+        conflicts: &["check", "diff", "hash", "report"],
+        needs: &["list"],
+    },
+    Argument {
         name: "all",
         form: Form::Flag,
         groups: &[],
-        conflicts: &[],
+        conflicts: &["check", "hash", "list", "report"],
         needs: &["diff"],
     },
     Argument {
@@ -259,7 +276,7 @@ const ARGUMENTS: [Argument; 19] = [
         name: "no-custom",
         form: Form::Flag,
         groups: &[STRIP],
-        conflicts: &[],
+        conflicts: &["check", "diff", "list", "report"],
         needs: &["hash"],
     },
 ];

@@ -78,7 +78,7 @@ impl<'m> Outputs<'m> {
         input: Location<'_>,
     ) -> Result<Option<PathBuf>, AllocError> {
         match (self, input) {
-            (Outputs::Folder(folder), Location::File(path)) => {
+            (Outputs::Folder(folder), Location::File(path) | Location::NotText(path)) => {
                 let name = name_of(path).unwrap_or(path);
                 Ok(Some(Path::new(folder).join(alloc, name)?))
             }
@@ -90,7 +90,7 @@ impl<'m> Outputs<'m> {
 /// Returns the name of a file, without its folder. Standard input has none.
 fn name_of(word: &str) -> Option<&str> {
     match Location::named(word) {
-        Location::File(path) => Path::new(path).file_name(),
+        Location::File(path) | Location::NotText(path) => Path::new(path).file_name(),
         Location::Standard => None,
     }
 }
@@ -139,7 +139,7 @@ pub fn refusal_of(
 fn is_file_of(rt: &HostRuntime, input: Location<'_>, path: &str) -> bool {
     match input {
         Location::File(input) => is_same_file(rt, input, path),
-        Location::Standard => false,
+        Location::Standard | Location::NotText(_) => false,
     }
 }
 

@@ -102,6 +102,7 @@ impl Source {
                 let file_len = file_len(file.metadata());
                 (Stream::File(file), file_len)
             }
+            Location::NotText(_) => return Err(not_text()),
         };
         Ok(Source {
             stream,
@@ -134,6 +135,11 @@ impl Source {
     pub fn end(self) {
         self.progress.erase(self.len);
     }
+}
+
+/// Returns the error for a file whose name isn't UTF-8.
+pub fn not_text() -> io::Error {
+    io::Error::new(io::ErrorKind::InvalidInput, "file name is not UTF-8")
 }
 
 impl Read for Source {

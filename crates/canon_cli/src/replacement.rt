@@ -26,7 +26,7 @@ impl<'p> LateReplacement<'p> {
         }
     }
 
-    /// Renames the new file, once it is on the disk, to the path that it replaces.
+    /// Renames the new file to the path. If it replaces a file there, it is on the disk first.
     pub fn put(self) -> io::Result<()> {
         let rt = self.rt;
         match self.replacement {
@@ -70,6 +70,8 @@ struct Replacement {
     beside: String,
     /// The new file.
     file: File,
+    /// Whether there is an old file. It would be lost if the machine stopped before the new one is on the disk.
+    replaces_file: bool,
 }
 
 impl Replacement {
@@ -81,12 +83,22 @@ impl Replacement {
             Ok(old) => {
                 // Nobody else may read the file before it has the permissions of the old one.
                 let (beside, file) = create_beside(rt, path.as_str(), 0o600)?;
-                let replacement = Replacement { path, beside, file };
+                let replacement = Replacement {
+                    path,
+                    beside,
+                    file,
+                    replaces_file: true,
+                };
                 replacement.copy_permissions(rt, old)
             }
             Err(error) if error.kind() == io::ErrorKind::NotFound => {
                 let (beside, file) = create_beside(rt, path.as_str(), 0o666)?;
-                Ok(Replacement { path, beside, file })
+                Ok(Replacement {
+                    path,
+                    beside,
+                    file,
+                    replaces_file: false,
+                })
             }
             Err(error) => Err(error),
         }
@@ -104,7 +116,7 @@ impl Replacement {
         }
     }
 
-    /// Renames the new file, once it is on the disk, to the path that it replaces.
+    /// Renames the new file to the path. If it replaces a file there, it is on the disk first.
     fn put(self, rt: &HostRuntime) -> io::Result<()> {
         let result = self.sync_and_rename(rt);
         if result.is_err() {
@@ -114,7 +126,9 @@ impl Replacement {
     }
 
     fn sync_and_rename(&self, rt: &HostRuntime) -> io::Result<()> {
-        self.file.sync_all()?;
+        if self.replaces_file {
+            self.file.sync_all()?;
+        }
         fs::rename(rt, self.beside.as_str(), self.path.as_str())
     }
 

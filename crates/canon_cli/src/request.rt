@@ -1,4 +1,5 @@
 //! What the command line asks for.
+use crate::words::NOT_TEXT;
 use clap::ArgMatches;
 use std::alloc::{AllocError, Global};
 
@@ -9,15 +10,19 @@ pub enum Location<'a> {
     Standard,
     /// A file, by its path.
     File(&'a str),
+    /// A file whose path isn't UTF-8, which can't be opened. Holds the path with escapes.
+    NotText(&'a str),
 }
 
 impl<'a> Location<'a> {
     /// Returns the location that a word names: the standard stream if it is `-`, and a path otherwise.
     pub fn named(word: &'a str) -> Location<'a> {
         if word == "-" {
-            Location::Standard
-        } else {
-            Location::File(word)
+            return Location::Standard;
+        }
+        match word.strip_prefix(NOT_TEXT) {
+            Some(path) => Location::NotText(path),
+            None => Location::File(word),
         }
     }
 
@@ -25,7 +30,7 @@ impl<'a> Location<'a> {
     pub fn word(self) -> &'a str {
         match self {
             Location::Standard => "-",
-            Location::File(path) => path,
+            Location::File(path) | Location::NotText(path) => path,
         }
     }
 }
@@ -93,6 +98,10 @@ pub struct Request<'a> {
     pub names: bool,
     /// Whether results are printed as JSON.
     pub json: bool,
+    /// Kinds and names of the sections that are listed. Without any, all are.
+    pub sections: Vec<&'a str>,
+    /// Whether sections are listed without their items.
+    pub headers: bool,
     /// Whether all items that differ are listed.
     pub all: bool,
     /// Whether the exit status is the only answer.
@@ -123,6 +132,8 @@ impl<'a> Request<'a> {
             any_order: matches.get_flag("any-order"),
             names: matches.get_flag("names"),
             json: matches.get_flag("json"),
+            sections: words_of(alloc, matches, "section")?,
+            headers: matches.get_flag("headers"),
             all: matches.get_flag("all"),
             quiet: matches.get_flag("quiet"),
             strip_all: matches.get_flag("strip-all") || matches.get_flag("no-custom"),

@@ -11,7 +11,7 @@ impl fmt::Display for InputName<'_> {
     fn fmt<W: fmt::Write>(&self, f: &mut fmt::Formatter<W>) -> fmt::Result {
         match self.0 {
             Location::Standard => write!(f, "standard input"),
-            Location::File(path) => write!(f, "{}", Escaped(path)),
+            Location::File(path) | Location::NotText(path) => write!(f, "{}", Escaped(path)),
         }
     }
 }
@@ -24,7 +24,7 @@ impl fmt::Display for OutputName<'_> {
     fn fmt<W: fmt::Write>(&self, f: &mut fmt::Formatter<W>) -> fmt::Result {
         match self.0 {
             Location::Standard => write!(f, "standard output"),
-            Location::File(path) => write!(f, "{}", Escaped(path)),
+            Location::File(path) | Location::NotText(path) => write!(f, "{}", Escaped(path)),
         }
     }
 }
@@ -49,6 +49,26 @@ impl fmt::Display for OffsetWarning<'_> {
         write!(
             f,
             "help: drop such sections with --strip-offsets, or generate them again from the output"
+        )
+    }
+}
+
+/// The warning that a pattern matches no custom section.
+#[derive(Clone, Copy)]
+pub struct UnusedPattern<'a> {
+    /// The option with the pattern.
+    pub option: &'a str,
+    /// The pattern.
+    pub word: &'a str,
+}
+
+impl fmt::Display for UnusedPattern<'_> {
+    fn fmt<W: fmt::Write>(&self, f: &mut fmt::Formatter<W>) -> fmt::Result {
+        let word = Escaped(self.word);
+        write!(
+            f,
+            "warning: {} {word}: no custom section matches",
+            self.option
         )
     }
 }

@@ -22,7 +22,7 @@ pub const NO_MEMORY: u32 = 3;
 /// The output is too short for the result. The count is the length that it needs.
 pub const TOO_LONG: u32 = 5;
 
-/// A pattern of names is malformed. The caller's memory and the count are unchanged.
+/// A list of patterns isn't UTF-8. The caller's memory and the count are unchanged.
 pub const BAD_PATTERN: u32 = 6;
 
 /// Copies the result of a normaliser to the output, and returns the status.

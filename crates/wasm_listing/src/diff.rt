@@ -15,6 +15,42 @@ pub struct Difference<'a> {
     second: Option<LocatedSection<'a>>,
 }
 
+/// The place of a difference.
+#[derive(Clone, Copy)]
+pub struct DifferentPlace {
+    /// Number of equal sections before it.
+    pub section: usize,
+    /// Id of the sections that differ. `None` means that they have different ids.
+    pub id: Option<u8>,
+    /// Offset in the first canonical form. `None` means that it has no more sections.
+    pub first: Option<usize>,
+    /// Offset in the second canonical form. `None` means that it has no more sections.
+    pub second: Option<usize>,
+}
+
+impl Difference<'_> {
+    /// Returns the place of the difference.
+    pub fn place(&self) -> DifferentPlace {
+        let (id, first, second) = match (self.first, self.second) {
+            (Some(first), Some(second)) if first.section.id == second.section.id => {
+                let common = common_len(first.section.body, second.section.body);
+                let (here, there) = (first.offset_of(common), second.offset_of(common));
+                (Some(first.section.id), Some(here), Some(there))
+            }
+            (Some(first), Some(second)) => (None, Some(first.at), Some(second.at)),
+            (Some(only), None) => (Some(only.section.id), Some(only.at), None),
+            (None, Some(only)) => (Some(only.section.id), None, Some(only.at)),
+            (None, None) => (None, None, None),
+        };
+        DifferentPlace {
+            section: self.number,
+            id,
+            first,
+            second,
+        }
+    }
+}
+
 /// Finds the first difference between two canonical forms. Returns `None` if they are equal.
 pub fn find_difference<'a>(first: &'a [u8], second: &'a [u8]) -> Option<Difference<'a>>
     // `None` means that they are equal.

@@ -1,11 +1,14 @@
 //! The listing of a module: its sections, their items, and the instructions of its functions, one at a time.
+mod choice;
+mod custom;
+mod custom_text;
 mod differences;
 mod different_lines;
 mod different_values;
 mod floats;
-mod function_names;
 mod index_spaces;
 mod instructions;
+mod item_names;
 mod items;
 mod lines;
 mod parts;
@@ -14,13 +17,17 @@ mod types;
 mod values;
 
 use crate::sections::{LocatedSection, has_list, read_located};
+use choice::{list_chosen, list_heads};
+pub use choice::{Choice, Unmatched};
+use custom::list_custom;
+pub use custom_text::{CustomText, SubsectionText};
 pub use differences::{Detail, Differences, DifferentPart, Side, list_differences};
 pub use different_lines::{DifferentLines, FirstLines};
-pub use different_values::DifferentValues;
-pub use function_names::FunctionNames;
+pub use different_values::{DifferentValues, FirstItem};
 pub use index_spaces::{IndexSpaces, Listed};
-pub use instructions::{CallText, Nesting, function_of};
-pub use items::{ItemText, LocalsText};
+pub use instructions::{CallText, Nesting, item_of};
+pub use item_names::{ItemName, ItemNames, NameText};
+pub use items::{ItemText, LocalsText, Unnamed};
 pub use lines::{HeadText, Lines};
 pub use parts::{Longer, Part, PartReader, is_same, longer_number};
 pub use silent::Silent;
@@ -40,7 +47,6 @@ use wasm_sections::globals::Global as GlobalEntry;
 use wasm_sections::imports::Import;
 use wasm_sections::tables::Table;
 use wasm_types::types::{TypeEntry, ValType};
-use wasm_whole_modules::selection::custom_name;
 
 /// Why a listing ends before the end of the module.
 #[derive(Drop)]
@@ -128,7 +134,7 @@ pub struct FunctionHead<'a> {
     /// Index of the function in the module.
     pub index: u32,
     /// Name of the function.
-    pub name: Option<&'a str>,
+    pub name: Option<ItemName<'a>>,
     /// The size, if it isn't minimally encoded.
     pub size: Option<Longer>,
     /// The number of groups of locals, if it isn't minimally encoded.
@@ -146,14 +152,22 @@ pub trait Listing {
     /// Lists the contents of a data segment, which begin at this offset.
     fn contents(&mut self, at: usize, bytes: &[u8]) -> Result<(), Stop>;
 
+    /// Lists an item of the contents of a custom section.
+    fn custom_item(&mut self, part: &Part<'_>, text: &CustomText<'_>) -> Result<(), Stop>;
+
     /// Begins a function.
     fn function(&mut self, head: &FunctionHead<'_>) -> Result<(), Stop>;
 
     /// Lists a group of locals.
     fn locals(&mut self, part: &Part<'_>, count: u32, ty: ValType) -> Result<(), Stop>;
 
-    /// Lists an instruction, with the name of the function that it calls or refers to.
-    fn call(&mut self, part: &Part<'_>, call: &Call, name: Option<&str>) -> Result<(), Stop>;
+    /// Lists an instruction, with the name of the item that it refers to.
+    fn call(
+        &mut self,
+        part: &Part<'_>,
+        call: &Call,
+        name: Option<ItemName<'_>>,
+    ) -> Result<(), Stop>;
 
     /// Ends a function.
     fn function_end(&mut self) -> Result<(), Stop>;
@@ -162,9 +176,17 @@ pub trait Listing {
     fn section_end(&mut self) -> Result<(), Stop>;
 }
 
-/// Lists a module, up to the first malformed part.
-pub fn list_module<L: Listing>(alloc: Global, module: &[u8], listing: &mut L) -> Result<(), Stop> {
-    let names = FunctionNames::find(alloc, module)?;
+/// Lists the sections of a module that are shown, up to the first malformed part.
+pub fn list_module<L: Listing>(
+    alloc: Global,
+    module: &[u8],
+    choice: &mut Choice<'_>,
+    listing: &mut L,
+) -> Result<(), Stop> {
+    if choice.headers {
+        return list_heads(module, choice, listing);
+    }
+    let names = ItemNames::find(alloc, module)?;
     let Some(rest) = after_header(module) else {
         return Err(Stop::Malformed);
     };
@@ -178,7 +200,7 @@ pub fn list_module<L: Listing>(alloc: Global, module: &[u8], listing: &mut L) ->
             return Err(Stop::Malformed);
         };
         let head = SectionHead::new(number, located, module);
-        list_section(alloc, &head, &mut spaces, listing)?;
+        list_chosen(alloc, &head, choice, &mut spaces, listing)?;
     }
     Ok(())
 }
@@ -205,7 +227,7 @@ fn list_contents<L: Listing>(
     let section = head.located.section;
     let mut parts = PartReader::new(alloc, head.located);
     match section.id {
-        0 if custom_name(section).is_some() => Ok(()),
+        0 => list_custom(&head.located, &mut parts, listing),
         1 => list_items::<TypeEntry, L>(&mut parts, spaces, listing),
         2 => list_items::<Import<'_>, L>(&mut parts, spaces, listing),
         3 => list_items::<u32, L>(&mut parts, spaces, listing),
@@ -249,7 +271,7 @@ fn list_start<L: Listing>(
     listing: &mut L,
 ) -> Result<(), Stop> {
     let (part, index) = parts.item::<u32>(0)?;
-    listing.item(&part, &ItemText::Start(index, spaces.name(index)))?;
+    listing.item(&part, &ItemText::Start(index, spaces.function_name(index)))?;
     parts.end()
 }
 
@@ -273,7 +295,7 @@ fn list_functions<L: Listing>(
         let head = FunctionHead {
             part,
             index,
-            name: spaces.name(index),
+            name: spaces.function_name(index),
             size: longer_number(part.bytes),
             groups: longer_number(code.left()),
         };
@@ -306,7 +328,7 @@ fn list_calls<L: Listing>(
             break;
         }
         let (part, call) = code.item::<Call>(0)?;
-        let name = function_of(&call).and_then(|index| spaces.name(index));
+        let name = item_of(&call).and_then(|(space, index)| spaces.name(space, index));
         listing.call(&part, &call, name)?;
     }
     Ok(())

@@ -1,23 +1,28 @@
 -- Modules without the custom sections that a selection drops.
-use Rattle.std.specs.Prelude.{◌≡◌, ◌⊎◌, ℕ, Bool, true, false, List, [], ◌∷◌, ◌++◌, Some}
+use Rattle.std.specs.Prelude.{◌≡◌, ◌≢◌, ◌⊎◌, ℕ, Bool, true, false, List, [], ◌∷◌, ◌++◌, Some}
 use Rattle.wasm_codec.specs.Places.{Place, place}
 use Rattle.wasm_modules.specs.formats.Sections.{SectionParts}
 use Rattle.wasm_modules.specs.formats.Modules.{raw_module, raw_section}
 use Rattle.wasm_whole_modules.specs.Offsets.{IsOffsetName, IsNameOf}
 use Rattle.wasm_whole_modules.specs.declared.selection.Pattern.{Pattern}
-use Rattle.wasm_whole_modules.specs.declared.selection.Pattern.TheVariants as patterns
 use Rattle.wasm_whole_modules.specs.declared.selection.Selection.{Selection}
 use Rattle.wasm_whole_modules.specs.declared.selection.Sections.{Sections}
 use Rattle.wasm_whole_modules.specs.declared.selection.Sections.TheVariants as choices
 
--- The name has this beginning and, after it, this end.
-abbrev pub LiesAround : List ℕ → List ℕ → List ℕ → Type 0
-LiesAround beginning end name = (middle : List ℕ) × (name ≡ beginning ++ (middle ++ end))
+-- The byte `*`.
+abbrev pub star : ℕ
+star = 42
+
+-- The bytes match the pattern: each `*` in it stands for any bytes, or for none, and each other byte for itself.
+abbrev pub IsMatch : List ℕ → List ℕ → Type 0
+IsMatch [] bytes = bytes ≡ []
+IsMatch (byte ∷ pattern) bytes =
+    ((byte ≡ star) × ((any : List ℕ) × ((rest : List ℕ) × ((bytes ≡ any ++ rest) × IsMatch pattern rest))))
+    ⊎ ((byte ≢ star) × ((rest : List ℕ) × ((bytes ≡ byte ∷ rest) × IsMatch pattern rest)))
 
 -- The pattern matches the name.
 abbrev pub Matches : Pattern → List ℕ → Type 0
-Matches (patterns.Exact text) name = name ≡ text.now
-Matches (patterns.Around beginning end) name = LiesAround beginning.now end.now name
+Matches pattern name = IsMatch pattern.text.now name
 
 -- One of the patterns matches the name.
 abbrev pub MatchesSome : List Pattern → List ℕ → Type 0

@@ -1,10 +1,10 @@
 //! Modules without some of their custom sections, which are chosen by name.
-ghost use Rattle.std.specs.Prelude.{◌≡◌, ℕ, List, true, false, IfSome, IfNone};
+ghost use Rattle.std.specs.Prelude.{◌≡◌, ◌∷◌, ℕ, List, true, false, codes, IfSome, IfNone};
 ghost use Rattle.wasm_modules.specs.formats.Sections.{SectionParts, parts_of};
 ghost use Rattle.wasm_modules.specs.formats.Modules.{raw_module};
 ghost use Rattle.wasm_sections.specs.formats.ModuleSections.{KeepsMinimal};
 ghost use Rattle.wasm_whole_modules.specs.Offsets.{IsNameOf};
-ghost use Rattle.wasm_whole_modules.specs.Selections.{Matches, MatchesSome, LiesAround, IsDroppedName, IsDropped, ChoosesNext, IsSelected, IsChosen};
+ghost use Rattle.wasm_whole_modules.specs.Selections.{star, IsMatch, Matches, MatchesSome, IsDroppedName, IsDropped, ChoosesNext, IsSelected, IsChosen};
 
 use crate::offsets::is_offset_name;
 use wasm_codec::reader::cursor::Cursor;
@@ -13,37 +13,59 @@ use wasm_modules::raw::{after_header, read_section, rewrite_raw_section};
 use wasm_modules::section::{HEADER, RawSection};
 use wasm_sections::custom::read_custom;
 
-/// A pattern of names of custom sections.
+/// A pattern of names of custom sections. Each `*` in it stands for any characters, or for none.
 #[derive(Clone, Copy)]
-pub enum Pattern<'a> {
-    /// One name.
-    Exact(&'a str),
-    /// All names that have this beginning and, after it, this end.
-    Around {
-        /// The text before the `*`.
-        beginning: &'a str,
-        /// The text after the `*`.
-        end: &'a str,
-    },
+pub struct Pattern<'a> {
+    text: &'a str,
 }
 
 impl<'a> Pattern<'a> {
-    /// Returns the pattern of all names.
-    pub fn of_all() -> Pattern<'a> {
-        Pattern::Around {
-            beginning: "",
-            end: "",
-        }
+    /// Returns the pattern that `text` spells.
+    pub fn new(text: &'a str) -> Pattern<'a>
+        ensures { result.text.now ≡ text.now }
+    {
+        Pattern { text }
     }
 
-    /// Parses a pattern, in which a `*` stands for any characters. Returns `None` if it has more than one `*`.
-    pub fn parse(text: &'a str) -> Option<Pattern<'a>> {
-        match text.split_once('*') {
-            None => Some(Pattern::Exact(text)),
-            Some((_beginning, end)) if end.contains('*') => None,
-            Some((beginning, end)) => Some(Pattern::Around { beginning, end }),
+    /// Returns the pattern of all names.
+    pub fn of_all() -> Pattern<'a>
+        ensures { result.text.now ≡ codes "*" }
+    {
+        Pattern { text: "*" }
+    }
+
+    /// Checks whether the pattern matches `name`.
+    pub fn matches(self, name: &str) -> bool
+        ensures yes { result ≡ true → Matches self.entry name.now }
+        ensures no { result ≡ false → Matches self.entry name.now → ⊥ }
+    {
+        match self.text.split_once('*') {
+            None => name == self.text,
+            Some((beginning, rest)) => match name.strip_prefix(beginning) {
+                Some(end) => matches_some_end(rest, end),
+                None => false,
+            },
         }
     }
+}
+
+/// Checks whether the pattern matches some end of `name`.
+///
+/// Finds each piece in front of a `*` as early as possible: the `*` stands for whatever follows.
+fn matches_some_end(pattern: &str, name: &str) -> bool
+    ensures yes { result ≡ true → IsMatch (star ∷ pattern.now) name.now }
+    ensures no { result ≡ false → IsMatch (star ∷ pattern.now) name.now → ⊥ }
+{
+    let mut pattern = pattern;
+    let mut name = name;
+    while let Some((piece, rest)) = pattern.split_once('*') {
+        let Some((_before, after)) = name.split_once(piece) else {
+            return false;
+        };
+        pattern = rest;
+        name = after;
+    }
+    name.ends_with(pattern)
 }
 
 /// The custom sections to drop.
@@ -170,31 +192,9 @@ fn matches_some(patterns: &[Pattern<'_>], name: &str) -> bool
     ensures no { result ≡ false → MatchesSome patterns.now name.now → ⊥ }
 {
     for pattern in patterns {
-        if matches_pattern(*pattern, name) {
+        if pattern.matches(name) {
             return true;
         }
     }
     false
-}
-
-/// Checks whether the pattern matches `name`.
-fn matches_pattern(pattern: Pattern<'_>, name: &str) -> bool
-    ensures yes { result ≡ true → Matches pattern.entry name.now }
-    ensures no { result ≡ false → Matches pattern.entry name.now → ⊥ }
-{
-    match pattern {
-        Pattern::Exact(text) => name == text,
-        Pattern::Around { beginning, end } => lies_around(beginning, end, name),
-    }
-}
-
-/// Checks whether `name` begins with `beginning` and, after it, ends with `end`.
-fn lies_around(beginning: &str, end: &str, name: &str) -> bool
-    ensures yes { result ≡ true → LiesAround beginning.now end.now name.now }
-    ensures no { result ≡ false → LiesAround beginning.now end.now name.now → ⊥ }
-{
-    match name.as_bytes().strip_prefix(beginning.as_bytes()) {
-        Some(rest) => rest.strip_suffix(end.as_bytes()).is_some(),
-        None => false,
-    }
 }

@@ -1,5 +1,5 @@
 //! The actions on the modules that the command line names.
-use crate::differences::{diff_all, print_first};
+use crate::differences::{diff_all, find_item, print_first};
 use crate::files::{canonicalise_file, check_file, hash_file, read_canonical_at};
 use crate::job::Job;
 use crate::json::{difference_value, digest_value, verdict_value};
@@ -7,6 +7,7 @@ use crate::listings::list_modules;
 use crate::reports::report_modules;
 use crate::results::Results;
 use crate::run::Verdict;
+use crate::uses::PatternUses;
 use canon_cli::outputs::{OutputError, Outputs, refusal_of};
 use canon_cli::request::{Action, Location, Request};
 use canon_cli::statuses::USAGE_STATUS;
@@ -43,9 +44,18 @@ fn write_modules(rt: &HostRuntime, job: &Job<'_>) -> Result<u8, AllocError> {
         }
     };
     let mut results = Results::new(rt, false);
+    let mut uses = PatternUses::new(rt.alloc(), &job.request)?;
     for word in &job.request.inputs {
-        write_module(rt, job, outputs, Location::named(word), &mut results)?;
+        write_module(
+            rt,
+            job,
+            outputs,
+            Location::named(word),
+            &mut results,
+            &mut uses,
+        )?;
     }
+    warn_of_patterns(rt, &results, &uses);
     Ok(results.finish())
 }
 
@@ -56,10 +66,11 @@ fn write_module<'m>(
     outputs: Outputs<'m>,
     input: Location<'m>,
     results: &mut Results,
+    uses: &mut PatternUses<'_>,
 ) -> Result<(), AllocError> {
     match outputs.path_in_folder(rt.alloc(), input)? {
-        Some(path) => write_to(rt, job, input, Location::File(path.as_str()), results),
-        None => write_to(rt, job, input, outputs.location(input), results),
+        Some(path) => write_to(rt, job, input, Location::File(path.as_str()), results, uses),
+        None => write_to(rt, job, input, outputs.location(input), results, uses),
     }
 }
 
@@ -70,6 +81,7 @@ fn write_to(
     input: Location<'_>,
     output: Location<'_>,
     results: &mut Results,
+    uses: &mut PatternUses<'_>,
 ) -> Result<(), AllocError> {
     if let Some(reason) = refusal_of(rt, &job.request, input, output) {
         let output = OutputName(output);
@@ -77,7 +89,7 @@ fn write_to(
         results.raise(USAGE_STATUS);
         return Ok(());
     }
-    match canonicalise_file(rt, job, input, output) {
+    match canonicalise_file(rt, job, input, output, uses) {
         Ok(names) => warn_of_offsets(rt, input, &names),
         Err(failure) => results.fail(input, output, &failure)?,
     }
@@ -90,6 +102,13 @@ fn warn_of_offsets(rt: &HostRuntime, input: Location<'_>, names: &[String]) {
         let input = InputName(input);
         let warning = OffsetWarning { input, names };
         let _ = eprintln!(rt; "{warning}");
+    }
+}
+
+/// Warns of patterns that match no custom section, unless a module wasn't read.
+fn warn_of_patterns(rt: &HostRuntime, results: &Results, uses: &PatternUses<'_>) {
+    if !results.has_failed() {
+        uses.warn(rt);
     }
 }
 
@@ -129,13 +148,15 @@ fn add_verdict(
 /// Prints the digest of the canonical form of each module.
 fn hash_modules(rt: &HostRuntime, job: &Job<'_>) -> Result<u8, AllocError> {
     let mut results = Results::new(rt, job.request.json);
+    let mut uses = PatternUses::new(rt.alloc(), &job.request)?;
     for word in &job.request.inputs {
         let input = Location::named(word);
-        match hash_file(rt, job, input) {
+        match hash_file(rt, job, input, &mut uses) {
             Ok(digest) => add_digest(rt, &mut results, input, digest)?,
             Err(failure) => results.fail(input, Location::Standard, &failure)?,
         }
     }
+    warn_of_patterns(rt, &results, &uses);
     Ok(results.finish())
 }
 
@@ -184,7 +205,8 @@ fn diff_modules(rt: &HostRuntime, request: &Request<'_>) -> Result<u8, AllocErro
         }
     }
     if request.json {
-        let value = difference_value(rt.alloc(), first, second, difference)?;
+        let item = find_item(rt, request, [one.as_slice(), other.as_slice()], difference)?;
+        let value = difference_value(rt.alloc(), [first, second], difference, item)?;
         print_value(rt, &mut results, &value);
     }
     Ok(results.finish())

@@ -10,7 +10,9 @@ use canon_cli::text::InputName;
 use std::alloc::AllocError;
 use std::io::{BufWriter, Stdout, Write};
 use wasm_listing::diff::{Difference, find_difference};
-use wasm_listing::listing::{DifferentLines, DifferentValues, FirstLines, Stop, list_differences};
+use wasm_listing::listing::{
+    DifferentLines, DifferentValues, FirstItem, FirstLines, Stop, list_differences,
+};
 
 /// Compares two modules, and prints all parts in which they differ.
 ///
@@ -29,7 +31,14 @@ pub fn diff_all(rt: &HostRuntime, request: &Request<'_>) -> Result<u8, AllocErro
     let printed = match accept_two(rt, request, one, other) {
         Ok((one, other)) => {
             let difference = find_difference(&one, &other);
-            let printed = listed.and_then(|_| end_parts(rt, request, difference, &mut writer));
+            let item = find_item(rt, request, [one.as_slice(), other.as_slice()], difference)?;
+            let printed = listed.and_then(|_| end_parts(
+                rt,
+                request,
+                difference,
+                item,
+                &mut writer,
+            ));
             tell(rt, request, difference, &mut results);
             printed
         }
@@ -56,6 +65,26 @@ pub fn print_first(rt: &HostRuntime, one: &[u8], other: &[u8]) -> Result<(), All
     }
     let _ = writer.flush();
     Ok(())
+}
+
+/// Returns the number of the first item in which two canonical forms differ, if results are printed as JSON. `None` means
+/// that nothing differs, or a section as a whole.
+///
+/// Fails if memory runs out.
+pub fn find_item(
+    rt: &HostRuntime,
+    request: &Request<'_>,
+    [one, other]: [&[u8]; 2],
+    difference: Option<Difference<'_>>,
+) -> Result<Option<u32>, AllocError> {
+    if difference.is_none() || !request.json {
+        return Ok(None);
+    }
+    let mut first = FirstItem::new();
+    match list_differences(rt.alloc(), one, other, &mut first) {
+        Err(Stop::Memory) => Err(AllocError),
+        _ => Ok(first.number),
+    }
 }
 
 /// Reads two modules. Returns `None` if that failed. Then a malformed first module is reported before a second one that
@@ -123,12 +152,12 @@ fn end_parts(
     rt: &HostRuntime,
     request: &Request<'_>,
     difference: Option<Difference<'_>>,
+    item: Option<u32>,
     writer: &mut HeldWriter<Stdout>,
 ) -> Result<(), Stop> {
     if request.json {
         let alloc = rt.alloc();
-        let [first, second] = two_inputs(request);
-        let value = difference_value(alloc, first, second, difference)?;
+        let value = difference_value(alloc, two_inputs(request), difference, item)?;
         let text = format!(in alloc; "{value}")?;
         let members = text.as_str().strip_prefix("{").unwrap_or("}");
         writeln!(writer, "],{members}")?;

@@ -3,8 +3,9 @@ use crate::job::Job;
 use crate::run::{
     Canonical, Failure, Verdict, canonicalise, check, hash, read_canonical, read_input, report,
 };
+use crate::uses::PatternUses;
 use canon_cli::paths::is_special;
-use canon_cli::progress::{Progress, Source};
+use canon_cli::progress::{Progress, Source, not_text};
 use canon_cli::replacement::LateReplacement;
 use canon_cli::request::{Location, Request};
 use std::alloc::Global;
@@ -13,7 +14,8 @@ use std::{fs, io};
 use wasm_modules::section::HEADER;
 use wasm_whole_modules::counting::SectionWatcher;
 
-/// Reads the module at `input`, and writes its canonical form to `output`.
+/// Reads the module at `input`, and writes its canonical form to `output`. Notes which patterns match its custom
+/// sections.
 ///
 /// If bytes have moved, returns the names of the sections that keep offsets and are written.
 pub fn canonicalise_file(
@@ -21,9 +23,10 @@ pub fn canonicalise_file(
     job: &Job<'_>,
     input: Location<'_>,
     output: Location<'_>,
+    uses: &mut PatternUses<'_>,
 ) -> Result<Vec<String>, Failure> {
     let mut source = open(rt, input, Progress::new(rt).beside(output))?;
-    let stale = canonicalise_to(rt, &mut source, output, job);
+    let stale = canonicalise_to(rt, &mut source, output, job, uses);
     source.end();
     stale
 }
@@ -40,11 +43,12 @@ pub fn check_file(
     verdict
 }
 
-/// Returns the digest of the canonical form of the module at `input`.
+/// Returns the digest of the canonical form of the module at `input`. Notes which patterns match its custom sections.
 pub fn hash_file(
     rt: &HostRuntime,
     job: &Job<'_>,
     input: Location<'_>,
+    uses: &mut PatternUses<'_>,
 ) -> Result<[u8; 32], Failure> {
     let mut source = open(rt, input, Progress::new(rt))?;
     let digest = hash(
@@ -52,6 +56,7 @@ pub fn hash_file(
         &mut source,
         job.request.any_order,
         job.form_options(),
+        uses,
     );
     source.end();
     digest
@@ -99,15 +104,17 @@ fn canonicalise_to(
     source: &mut Source,
     output: Location<'_>,
     job: &Job<'_>,
+    uses: &mut PatternUses<'_>,
 ) -> Result<Vec<String>, Failure> {
     match output {
         Location::Standard => {
             let mut writer = rt.stdout();
-            let stale = write_form(rt.alloc(), source, &mut writer, job, true)?;
+            let stale = write_form(rt.alloc(), source, &mut writer, job, true, uses)?;
             writer.flush().map_err(Failure::Write)?;
             Ok(stale)
         }
-        Location::File(path) => canonicalise_to_file(rt, source, path, job),
+        Location::File(path) => canonicalise_to_file(rt, source, path, job, uses),
+        Location::NotText(_) => Err(Failure::Write(not_text())),
     }
 }
 
@@ -118,6 +125,7 @@ fn write_form<W: Write>(
     writer: &mut W,
     job: &Job<'_>,
     objects: bool,
+    uses: &mut PatternUses<'_>,
 ) -> Result<Vec<String>, Failure> {
     let mut writer = source.watch(writer);
     canonicalise(
@@ -127,6 +135,7 @@ fn write_form<W: Write>(
         job.request.any_order,
         objects,
         job.form_options(),
+        uses,
     )
 }
 
@@ -139,13 +148,21 @@ fn canonicalise_to_file(
     source: &mut Source,
     path: &str,
     job: &Job<'_>,
+    uses: &mut PatternUses<'_>,
 ) -> Result<Vec<String>, Failure> {
     if is_special(rt, path) {
         let mut file = fs::create(rt, path).map_err(write_failure)?;
-        return write_form(rt.alloc(), source, &mut file, job, true);
+        return write_form(rt.alloc(), source, &mut file, job, true, uses);
     }
     let mut replacement = LateReplacement::new(rt, path);
-    match write_form(rt.alloc(), source, &mut replacement, job, job.request.force) {
+    match write_form(
+        rt.alloc(),
+        source,
+        &mut replacement,
+        job,
+        job.request.force,
+        uses,
+    ) {
         Ok(stale) => match replacement.put() {
             Ok(()) => Ok(stale),
             Err(error) => Err(write_failure(error)),

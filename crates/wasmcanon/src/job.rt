@@ -1,4 +1,4 @@
-//! What a run does: what the command line asks for, with its patterns of names parsed.
+//! What a run does: what the command line asks for, with its patterns of names.
 use crate::run::FormOptions;
 use canon_cli::request::Request;
 use std::alloc::{AllocError, Global};
@@ -35,11 +35,11 @@ impl<'a> Job<'a> {
     ///
     /// Fails with `Usage` if the request's words don't go together, and with `Memory` if memory runs out.
     pub fn new(alloc: Global, request: Request<'a>) -> Result<Job<'a>, JobError> {
-        let mut dropped = parse_patterns(alloc, &request.dropped)?;
+        let mut dropped = patterns_of(alloc, &request.dropped)?;
         if request.strip_all {
             dropped.push(Pattern::of_all()).map_err(AllocError::from)?;
         }
-        let kept = parse_patterns(alloc, &request.kept)?;
+        let kept = patterns_of(alloc, &request.kept)?;
         match request.fault() {
             Some(message) => Err(JobError::Usage(message)),
             None => Ok(Job {
@@ -71,14 +71,11 @@ impl<'a> Job<'a> {
     }
 }
 
-/// Parses patterns of names. Fails with `Usage` if one has more than one `*`.
-fn parse_patterns<'a>(alloc: Global, words: &[&'a str]) -> Result<Vec<Pattern<'a>>, JobError> {
+/// Returns the patterns of names that these words spell.
+fn patterns_of<'a>(alloc: Global, words: &[&'a str]) -> Result<Vec<Pattern<'a>>, AllocError> {
     let mut patterns = Vec::new(alloc);
     for word in words {
-        let Some(pattern) = Pattern::parse(word) else {
-            return Err(JobError::Usage("a pattern of names has at most one `*`"));
-        };
-        patterns.push(pattern).map_err(AllocError::from)?;
+        patterns.push(Pattern::new(word))?;
     }
     Ok(patterns)
 }

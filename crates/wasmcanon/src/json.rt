@@ -110,20 +110,33 @@ pub fn digest_value(alloc: Global, input: Location<'_>, digest: &str) -> Result<
     json!(in alloc; {"file": file, "sha256": digest})
 }
 
-/// Returns the result of a comparison.
+/// Returns the result of a comparison of two modules. `item` is the number of the first item that differs.
 pub fn difference_value(
     alloc: Global,
-    first: Location<'_>,
-    second: Location<'_>,
+    [first, second]: [Location<'_>; 2],
     difference: Option<Difference<'_>>,
+    item: Option<u32>,
 ) -> Result<Value, AllocError> {
     let first = file_value(alloc, first)?;
     let second = file_value(alloc, second)?;
-    match difference {
-        None => json!(in alloc; {"files": [first, second], "same": true}),
-        Some(difference) => {
-            let text = Value::String(format!(in alloc; "{difference}")?);
-            json!(in alloc; {"files": [first, second], "same": false, "difference": text})
-        }
-    }
+    let Some(difference) = difference else {
+        return json!(in alloc; {"files": [first, second], "same": true});
+    };
+    let text = Value::String(format!(in alloc; "{difference}")?);
+    let place = difference.place();
+    let kind = match place.id {
+        Some(id) => text_value(alloc, kind_name(id))?,
+        None => Value::Null,
+    };
+    let (section, id, here, there) = (place.section, place.id, place.first, place.second);
+    json!(in alloc; {
+        "files": [first, second],
+        "same": false,
+        "section": section,
+        "id": id,
+        "kind": kind,
+        "item": item,
+        "offsets": [here, there],
+        "difference": text
+    })
 }

@@ -8,7 +8,7 @@ use canon_cli::text::InputName;
 use std::alloc::AllocError;
 use std::io;
 use std::io::{BufWriter, Stdout, Write};
-use wasm_listing::listing::{Lines, Stop, Values, list_module};
+use wasm_listing::listing::{Choice, Lines, Stop, Values, list_module};
 
 /// Prints a listing of each module.
 ///
@@ -33,19 +33,28 @@ fn list_all(
     writer: &mut BufWriter<Stdout>,
     results: &mut Results,
 ) -> Result<(), Stop> {
+    let mut choice = Choice::new(rt.alloc(), request.sections.as_slice(), request.headers)?;
     for (number, word) in request.inputs.iter().enumerate() {
         let input = Location::named(word);
         if request.json {
             write!(writer, "{}", if number == 0 { "[" } else { ",\n" })?;
-            list_as_json(rt, request, input, writer, results)?;
+            list_as_json(rt, request, input, &mut choice, writer, results)?;
         } else {
-            list_as_text(rt, request, input, writer, results)?;
+            list_as_text(rt, request, input, &mut choice, writer, results)?;
         }
     }
     if request.json {
         writeln!(writer, "]")?;
     }
     writer.flush()?;
+    warn_of_unmatched(rt, &choice)
+}
+
+/// Warns of words for sections that no module has.
+fn warn_of_unmatched(rt: &HostRuntime, choice: &Choice<'_>) -> Result<(), Stop> {
+    for warning in &choice.unmatched(rt.alloc())? {
+        let _ = eprintln!(rt; "{warning}");
+    }
     Ok(())
 }
 
@@ -54,6 +63,7 @@ fn list_as_text(
     rt: &HostRuntime,
     request: &Request<'_>,
     input: Location<'_>,
+    choice: &mut Choice<'_>,
     writer: &mut BufWriter<Stdout>,
     results: &mut Results,
 ) -> Result<(), Stop> {
@@ -64,7 +74,8 @@ fn list_as_text(
     if request.inputs.len() > 1 {
         writeln!(writer, "{}:", InputName(input))?;
     }
-    goes_on(list_module(rt.alloc(), &module, &mut Lines::new(writer)))?;
+    let mut lines = Lines::new(writer);
+    goes_on(list_module(rt.alloc(), &module, choice, &mut lines))?;
     match accept(rt.alloc(), module, request.any_order) {
         Ok(_) => Ok(()),
         Err(failure) => fail(writer, results, input, &failure),
@@ -76,6 +87,7 @@ fn list_as_json(
     rt: &HostRuntime,
     request: &Request<'_>,
     input: Location<'_>,
+    choice: &mut Choice<'_>,
     writer: &mut BufWriter<Stdout>,
     results: &mut Results,
 ) -> Result<(), Stop> {
@@ -90,7 +102,7 @@ fn list_as_json(
     };
     let mut values = Values::new(alloc, writer);
     values.begin()?;
-    goes_on(list_module(alloc, &module, &mut values))?;
+    goes_on(list_module(alloc, &module, choice, &mut values))?;
     values.end()?;
     match accept(alloc, module, request.any_order) {
         Ok(_) => {

@@ -20,32 +20,23 @@ mod order;
 mod reports;
 mod results;
 mod run;
+mod uses;
 
 use actions::run_job;
 use canon_cli::command_line::{Asked, mistaken_option, read_request, refuse_usage};
 use canon_cli::request::Request;
-use canon_cli::statuses::{MEMORY_STATUS, USAGE_STATUS};
+use canon_cli::statuses::MEMORY_STATUS;
+use canon_cli::words::read_words;
 use job::{Job, JobError};
 use std::alloc::AllocError;
 use std::process::ExitCode;
-use std::{env, io};
 
 fn main(rt: HostRuntime) -> ExitCode {
     let status = match read_words(&rt) {
         Ok(words) => run_words(&rt, &words),
-        Err(error) if error.kind() == io::ErrorKind::OutOfMemory => Err(AllocError),
-        Err(_) => {
-            let _ = eprintln!(rt; "error: invalid argument: expected UTF-8");
-            Ok(USAGE_STATUS)
-        }
+        Err(error) => Err(error),
     };
     ExitCode::from(status.unwrap_or_else(|_| no_memory(&rt)))
-}
-
-/// Reads the words of the command line, the program's name among them.
-fn read_words(rt: &HostRuntime) -> io::Result<Vec<String>> {
-    let words: Vec<String> = env::args(rt)?.collect(rt.alloc())?;
-    Ok(words)
 }
 
 fn no_memory(rt: &HostRuntime) -> u8 {

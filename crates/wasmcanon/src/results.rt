@@ -63,6 +63,11 @@ impl Results {
         self.status = self.status.max(status);
     }
 
+    /// Checks whether a module has failed.
+    pub fn has_failed(&self) -> bool {
+        self.status != 0
+    }
+
     /// Answers a question with no.
     pub fn deny(&mut self) {
         self.is_denied = true;

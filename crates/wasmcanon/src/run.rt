@@ -13,6 +13,7 @@ use crate::foreign::Foreign;
 use crate::objects::is_object_file;
 use crate::offsets::offset_names;
 use crate::order::{MisplacedSection, check_sections};
+use crate::uses::PatternUses;
 use canon_cli::input::Input;
 use sha2::{Digest, Sha256};
 use std::alloc::{AllocError, Global};
@@ -104,7 +105,7 @@ pub enum Verdict {
     Longer(Refusal),
 }
 
-/// Reads a module, and writes its canonical form with these options.
+/// Reads a module, and writes its canonical form with these options. Notes which patterns match its custom sections.
 ///
 /// If bytes have moved, returns the names of the custom sections that keep offsets and are written. Fails with `Refused`
 /// if the input is malformed, and with `Disordered` if its sections are out of order or their counts disagree, unless any
@@ -119,6 +120,7 @@ pub fn canonicalise<R: Input, W: Write>(
     any_order: bool,
     objects: bool,
     options: FormOptions<'_>,
+    uses: &mut PatternUses<'_>,
 ) -> Result<Vec<String>, Failure>
     // The canonical form of the input with these options was appended, and nothing else.
     ensures ok { OnOk result (IfSome (R.remaining reader.old) (λ input.
@@ -143,7 +145,7 @@ pub fn canonicalise<R: Input, W: Write>(
     ensures beginning { IfWriteFailed result (IfSome (R.remaining reader.old) (λ input.
         AppendsBeginning options.entry input (W.contents writer.old) (W.contents writer.new))) }
 {
-    let form = read_form(alloc, reader, any_order, options)?;
+    let form = read_form(alloc, reader, any_order, options, uses)?;
     if !objects && is_object_file(&form.bytes) {
         return Err(Failure::ObjectFile);
     }
@@ -153,7 +155,8 @@ pub fn canonicalise<R: Input, W: Write>(
     }
 }
 
-/// Reads a module, and returns the SHA-256 digest of its canonical form with these options.
+/// Reads a module, and returns the SHA-256 digest of its canonical form with these options. Notes which patterns match
+/// its custom sections.
 ///
 /// Fails as `canonicalise` does, but never with `Write` or `ObjectFile`.
 pub fn hash<R: Input>(
@@ -161,6 +164,7 @@ pub fn hash<R: Input>(
     reader: &mut R,
     any_order: bool,
     options: FormOptions<'_>,
+    uses: &mut PatternUses<'_>,
 ) -> Result<[u8; 32], Failure>
     // The result is the digest of the canonical form of the input with these options.
     ensures ok { IfOk result (λ digest. IfSome (R.remaining reader.old) (λ input. IsHash options.entry input digest)) }
@@ -170,7 +174,7 @@ pub fn hash<R: Input>(
     ensures numbers { IfPlaced result (λ refusal. IfSome (R.remaining reader.old) (λ input.
         CountsParts module_section input refusal)) }
 {
-    let form = read_form(alloc, reader, any_order, options)?;
+    let form = read_form(alloc, reader, any_order, options, uses)?;
     Ok(Sha256::digest(form.bytes.as_slice()))
 }
 
@@ -182,13 +186,14 @@ struct Form {
     stale: Vec<String>,
 }
 
-/// Reads a module, and returns its canonical form with these options.
+/// Reads a module, and returns its canonical form with these options. Notes which patterns match its custom sections.
 #[tactic(auto, using(crate::proofs::ResultLaws::failed_to_read))]
 fn read_form<R: Input>(
     alloc: Global,
     reader: &mut R,
     any_order: bool,
     options: FormOptions<'_>,
+    uses: &mut PatternUses<'_>,
 ) -> Result<Form, Failure>
     ensures ok { IfOk result (λ form. IfSome (R.remaining reader.old) (λ input.
         IsForm options.entry input form.bytes.items)) }
@@ -199,6 +204,7 @@ fn read_form<R: Input>(
     ensures unwritten { NeverWrites result }
 {
     let canonical = read_canonical(alloc, reader, any_order)?;
+    uses.note_module(&canonical.bytes);
     let chosen = choose_sections(canonical.bytes, options.sections);
     let len = chosen.len();
     let bytes = with_contents(alloc, chosen, options.names)?;

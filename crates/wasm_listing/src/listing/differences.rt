@@ -1,6 +1,6 @@
 //! The parts in which two modules differ.
 use crate::listing::{
-    CallText, FunctionNames, HeadText, IndexSpaces, ItemText, Listed, LocalsText, Part, PartReader,
+    CallText, HeadText, IndexSpaces, ItemNames, ItemText, Listed, LocalsText, Part, PartReader,
     SectionHead, Silent, Stop, is_same, list_section,
 };
 use crate::sections::{LocatedSection, SectionWalk, rank};
@@ -26,6 +26,10 @@ use wasm_whole_modules::selection::custom_name;
 pub struct DifferentPart<'a> {
     /// The section.
     pub section: RawSection<'a>,
+    /// Number of sections before it in the first module. `None` means that the module has no such section.
+    pub first_number: Option<usize>,
+    /// The same number in the second module.
+    pub second_number: Option<usize>,
     /// Number of items before the part in the section. `None` means that the part is the section.
     pub item: Option<u32>,
     /// What the first module has. `None` means nothing.
@@ -109,8 +113,8 @@ pub fn list_differences<'a, D: Differences>(
     second: &'a [u8],
     out: &mut D,
 ) -> Result<(), Stop> {
-    let first_names = FunctionNames::find(alloc, first)?;
-    let second_names = FunctionNames::find(alloc, second)?;
+    let first_names = ItemNames::find(alloc, first)?;
+    let second_names = ItemNames::find(alloc, second)?;
     let mut here = IndexSpaces::new(&first_names);
     let mut there = IndexSpaces::new(&second_names);
     let (mut one, mut other) = (Walk::new(first), Walk::new(second));
@@ -188,6 +192,7 @@ fn list_only<'a, D: Differences>(
     out: &mut D,
 ) -> Result<(), Stop> {
     let side = head_side(alloc, head, None)?;
+    let number = Some(head.number);
     let (first, second) = if is_first {
         (Some(side), None)
     } else {
@@ -195,6 +200,8 @@ fn list_only<'a, D: Differences>(
     };
     out.part(&DifferentPart {
         section: head.located.section,
+        first_number: if is_first { number } else { None },
+        second_number: if is_first { None } else { number },
         item: None,
         first,
         second,
@@ -234,6 +241,8 @@ fn compare_sections<'a, D: Differences>(
     let mut pair = Pair {
         alloc,
         section: one.located.section,
+        first_number: one.number,
+        second_number: other.number,
         one: PartReader::new(alloc, one.located),
         other: PartReader::new(alloc, other.located),
     };
@@ -260,6 +269,8 @@ fn compare_sections<'a, D: Differences>(
 struct Pair<'a, 'b> {
     alloc: Global,
     section: RawSection<'a>,
+    first_number: usize,
+    second_number: usize,
     one: PartReader<'a>,
     other: PartReader<'b>,
 }
@@ -277,6 +288,8 @@ impl<'a> Pair<'a, '_> {
     {
         DifferentPart {
             section: self.section,
+            first_number: Some(self.first_number),
+            second_number: Some(self.second_number),
             item,
             first,
             second,
@@ -440,6 +453,8 @@ fn compare_custom<'a, D: Differences>(
     let rows = [row_at(&here, common), row_at(&there, common)];
     out.part(&DifferentPart {
         section: one.located.section,
+        first_number: Some(one.number),
+        second_number: Some(other.number),
         item: None,
         first: Some(head_side(alloc, one, Some(Detail::Row(rows[0])))?),
         second: Some(head_side(alloc, other, Some(Detail::Row(rows[1])))?),
@@ -545,7 +560,7 @@ fn function_side<'a>(
         return Ok(None);
     };
     let index = spaces.next_body();
-    let text = ItemText::Body(index, spaces.name(index));
+    let text = ItemText::Body(index, spaces.function_name(index));
     Ok(Some(Side {
         is_section: false,
         part: *part,

@@ -63,7 +63,7 @@ fn write_side<W: io::Write>(
     if side.is_section {
         lines.plain(&format_args!("{lead}{}", side.text.as_str()))?;
     } else {
-        lines.text_of(&side.part, side.text.as_str())?;
+        lines.item_of(&side.part, &side.text)?;
     }
     match &side.detail {
         Some(Detail::Code(part, text)) => lines.code_of(part, text.as_str()),

@@ -33,10 +33,12 @@ impl<W: io::Write> Differences for DifferentValues<'_, W> {
         let kind = text_value(alloc, kind_name(id))?;
         let first = side_value(alloc, &part.first)?;
         let second = side_value(alloc, &part.second)?;
+        let (first_number, second_number) = (part.first_number, part.second_number);
         let item = part.item;
         let value = json!(in alloc; {
             "id": id,
             "kind": kind,
+            "sections": [first_number, second_number],
             "item": item,
             "first": first,
             "second": second
@@ -47,6 +49,27 @@ impl<W: io::Write> Differences for DifferentValues<'_, W> {
         self.has_members = true;
         write!(self.writer, "\n{value}")?;
         Ok(())
+    }
+}
+
+/// The number of the first item that differs. It then ends the list with `Enough`.
+#[derive(Drop)]
+pub struct FirstItem {
+    /// Number of items before it in the section. `None` means that the section differs as a whole.
+    pub number: Option<u32>,
+}
+
+impl FirstItem {
+    /// Returns no number.
+    pub fn new() -> FirstItem {
+        FirstItem { number: None }
+    }
+}
+
+impl Differences for FirstItem {
+    fn part(&mut self, part: &DifferentPart<'_>) -> Result<(), Stop> {
+        self.number = part.item;
+        Err(Stop::Enough)
     }
 }
 

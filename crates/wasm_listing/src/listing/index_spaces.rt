@@ -1,5 +1,5 @@
 //! The indexes of items in a module (Core 3.0, Indices).
-use crate::listing::{FunctionNames, ItemText};
+use crate::listing::{ItemName, ItemNames, ItemText};
 use wasm_entities::limits::MemoryType;
 use wasm_entities::types::{EntityType, TagType};
 use wasm_sections::data::DataSegment;
@@ -9,11 +9,12 @@ use wasm_sections::globals::Global;
 use wasm_sections::imports::Import;
 use wasm_sections::tables::Table;
 use wasm_types::types::TypeEntry;
+use wasm_whole_modules::indices::IndexSpace;
 
-/// The next index of each kind of item, and the names of functions.
+/// The next index of each kind of item, and the names of items.
 #[derive(Clone, Copy)]
 pub struct IndexSpaces<'n> {
-    names: &'n FunctionNames<'n>,
+    names: &'n ItemNames<'n>,
     types: u32,
     functions: u32,
     /// Index of the next function whose body comes.
@@ -28,7 +29,7 @@ pub struct IndexSpaces<'n> {
 
 impl<'n> IndexSpaces<'n> {
     /// Returns the indexes of the first items.
-    pub fn new(names: &'n FunctionNames<'n>) -> IndexSpaces<'n> {
+    pub fn new(names: &'n ItemNames<'n>) -> IndexSpaces<'n> {
         IndexSpaces {
             names,
             types: 0,
@@ -43,9 +44,14 @@ impl<'n> IndexSpaces<'n> {
         }
     }
 
+    /// Returns the name of the item with this index.
+    pub fn name(&self, space: IndexSpace, index: u32) -> Option<ItemName<'n>> {
+        self.names.get(space, index)
+    }
+
     /// Returns the name of the function with this index.
-    pub fn name(&self, function: u32) -> Option<&'n str> {
-        self.names.get(function)
+    pub fn function_name(&self, function: u32) -> Option<ItemName<'n>> {
+        self.name(IndexSpace::Functions, function)
     }
 
     /// Returns the index of the next function whose body comes, and counts it.
@@ -77,7 +83,7 @@ pub trait Listed {
 
 impl Listed for TypeEntry {
     fn text<'i>(&'i self, spaces: &IndexSpaces<'i>) -> ItemText<'i> {
-        ItemText::Types(self, spaces.types)
+        ItemText::Types(self, spaces.types, spaces.names)
     }
 
     fn count(&self, spaces: &mut IndexSpaces<'_>) {
@@ -91,14 +97,16 @@ impl Listed for TypeEntry {
 
 impl Listed for Import<'_> {
     fn text<'i>(&'i self, spaces: &IndexSpaces<'i>) -> ItemText<'i> {
-        let index = match self.ty {
-            EntityType::Function(_) | EntityType::FunctionExact(_) => spaces.functions,
-            EntityType::Table(_) => spaces.tables,
-            EntityType::Memory(_) => spaces.memories,
-            EntityType::Global(_) => spaces.globals,
-            EntityType::Tag(_) => spaces.tags,
+        let (space, index) = match self.ty {
+            EntityType::Function(_) | EntityType::FunctionExact(_) => {
+                (IndexSpace::Functions, spaces.functions)
+            }
+            EntityType::Table(_) => (IndexSpace::Tables, spaces.tables),
+            EntityType::Memory(_) => (IndexSpace::Memories, spaces.memories),
+            EntityType::Global(_) => (IndexSpace::Globals, spaces.globals),
+            EntityType::Tag(_) => (IndexSpace::Tags, spaces.tags),
         };
-        ItemText::Import(*self, index)
+        ItemText::Import(*self, index, spaces.names.given(space, index))
     }
 
     fn count(&self, spaces: &mut IndexSpaces<'_>) {
@@ -117,7 +125,11 @@ impl Listed for Import<'_> {
 
 impl Listed for u32 {
     fn text<'i>(&'i self, spaces: &IndexSpaces<'i>) -> ItemText<'i> {
-        ItemText::Function(spaces.functions, *self, spaces.name(spaces.functions))
+        ItemText::Function(
+            spaces.functions,
+            *self,
+            spaces.function_name(spaces.functions),
+        )
     }
 
     fn count(&self, spaces: &mut IndexSpaces<'_>) {
@@ -127,7 +139,8 @@ impl Listed for u32 {
 
 impl Listed for Table {
     fn text<'i>(&'i self, spaces: &IndexSpaces<'i>) -> ItemText<'i> {
-        ItemText::Table(self, spaces.tables)
+        let name = spaces.name(IndexSpace::Tables, spaces.tables);
+        ItemText::Table(self, spaces.tables, name)
     }
 
     fn count(&self, spaces: &mut IndexSpaces<'_>) {
@@ -137,7 +150,8 @@ impl Listed for Table {
 
 impl Listed for MemoryType {
     fn text<'i>(&'i self, spaces: &IndexSpaces<'i>) -> ItemText<'i> {
-        ItemText::Memory(*self, spaces.memories)
+        let name = spaces.name(IndexSpace::Memories, spaces.memories);
+        ItemText::Memory(*self, spaces.memories, name)
     }
 
     fn count(&self, spaces: &mut IndexSpaces<'_>) {
@@ -147,7 +161,8 @@ impl Listed for MemoryType {
 
 impl Listed for TagType {
     fn text<'i>(&'i self, spaces: &IndexSpaces<'i>) -> ItemText<'i> {
-        ItemText::Tag(*self, spaces.tags)
+        let name = spaces.name(IndexSpace::Tags, spaces.tags);
+        ItemText::Tag(*self, spaces.tags, name)
     }
 
     fn count(&self, spaces: &mut IndexSpaces<'_>) {
@@ -157,7 +172,8 @@ impl Listed for TagType {
 
 impl Listed for Global {
     fn text<'i>(&'i self, spaces: &IndexSpaces<'i>) -> ItemText<'i> {
-        ItemText::Global(self, spaces.globals)
+        let name = spaces.name(IndexSpace::Globals, spaces.globals);
+        ItemText::Global(self, spaces.globals, name)
     }
 
     fn count(&self, spaces: &mut IndexSpaces<'_>) {
@@ -175,7 +191,8 @@ impl Listed for Export<'_> {
 
 impl Listed for Element {
     fn text<'i>(&'i self, spaces: &IndexSpaces<'i>) -> ItemText<'i> {
-        ItemText::Element(self, spaces.elements)
+        let name = spaces.name(IndexSpace::Elements, spaces.elements);
+        ItemText::Element(self, spaces.elements, name)
     }
 
     fn count(&self, spaces: &mut IndexSpaces<'_>) {
@@ -185,7 +202,8 @@ impl Listed for Element {
 
 impl Listed for DataSegment<'_> {
     fn text<'i>(&'i self, spaces: &IndexSpaces<'i>) -> ItemText<'i> {
-        ItemText::Data(self, spaces.data)
+        let name = spaces.name(IndexSpace::Data, spaces.data);
+        ItemText::Data(self, spaces.data, name)
     }
 
     fn count(&self, spaces: &mut IndexSpaces<'_>) {

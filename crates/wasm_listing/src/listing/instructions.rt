@@ -6,8 +6,10 @@ use wasm_instructions::names::opcode_name;
 use wasm_instructions::operands::{BlockType, Catch, Handle, MemArg, Ordering};
 use wasm_instructions::table::{Call, Opcode, Operands, Prefix};
 use wasm_types::types::RefType;
+use wasm_whole_modules::indices::{IndexSpace, index_spaces};
 
-/// An instruction: its name, and its operands as `wasm-objdump -d` prints them.
+/// An instruction: its name, a memory argument as the text format has it, and other operands as `wasm-objdump -d` prints
+/// them.
 #[derive(Clone, Copy)]
 pub struct CallText<'a>(pub &'a Call);
 
@@ -46,8 +48,11 @@ fn write_operands<W: fmt::Write>(f: &mut fmt::Formatter<W>, operands: &Operands)
             write_block_type(f, *ty)?;
             write_catches(f, clauses.as_slice())
         }
-        Operands::Mem(arg) => write!(f, " {}", MemText(*arg)),
-        Operands::MemLane(arg, lane) => write!(f, " {} {lane}", MemText(*arg)),
+        Operands::Mem(arg) => write_mem_arg(f, *arg),
+        Operands::MemLane(arg, lane) => {
+            write_mem_arg(f, *arg)?;
+            write!(f, " {lane}")
+        }
         Operands::Heap(ty) => write!(f, " {}", HeapText(*ty)),
         Operands::Resume(ty, clauses) => {
             write!(f, " {ty}")?;
@@ -166,22 +171,16 @@ fn ordering_name(ordering: Ordering) -> &'static str {
     }
 }
 
-/// A memory argument: the alignment's logarithm and the offset, and another memory than 0.
-#[derive(Clone, Copy)]
-struct MemText(MemArg);
-
-impl fmt::Display for MemText {
-    fn fmt<W: fmt::Write>(&self, f: &mut fmt::Formatter<W>) -> fmt::Result {
-        let MemArg {
-            offset,
-            align,
-            memory_index,
-        } = self.0;
-        write!(f, "{align} {offset}")?;
-        if memory_index == 0 {
-            return Ok(());
-        }
-        write!(f, " (memory {memory_index})")
+/// Writes a memory argument, with a space in front of each part: the index of a memory other than 0, the offset, and
+/// the alignment in bytes.
+fn write_mem_arg<W: fmt::Write>(f: &mut fmt::Formatter<W>, arg: MemArg) -> fmt::Result {
+    if arg.memory_index != 0 {
+        write!(f, " {}", arg.memory_index)?;
+    }
+    write!(f, " offset={} align=", arg.offset)?;
+    match 1u64.checked_shl(arg.align) {
+        Some(bytes) => write!(f, "{bytes}"),
+        None => write!(f, "2^{}", arg.align), // no module can hold it
     }
 }
 
@@ -236,13 +235,18 @@ impl Nesting {
     }
 }
 
-/// Returns the index of the function that an instruction calls or refers to.
-pub fn function_of(call: &Call) -> Option<u32> {
-    let op = call.op();
-    let names_function = matches!(op.prefix, Prefix::None)
-        && matches!(op.number, 0x10 | 0x12 | 0xd2); // call, return_call, ref.func
-    match call.operands() {
-        Operands::Index(index) if names_function => Some(*index),
-        _ => None,
+/// Returns the index of the item that an instruction refers to, and its index space. Of two in different spaces this is
+/// the first. `None` means that it refers to none, or to two in one space.
+pub fn item_of(call: &Call) -> Option<(IndexSpace, u32)> {
+    let index = match call.operands() {
+        Operands::Index(index)
+        | Operands::TwoIndexes(index, _)
+        | Operands::OrderIndex(_, index)
+        | Operands::OrderTwoIndexes(_, index, _) => *index,
+        _ => return None,
+    };
+    match index_spaces(call.op()) {
+        (Some(first), Some(second)) if first == second => None,
+        (first, _) => Some((first?, index)),
     }
 }

@@ -1,6 +1,7 @@
 //! Text of the items of sections.
 use crate::listing::instructions::ExprText;
 use crate::listing::types::{EntryText, RefText, ValText};
+use crate::listing::{ItemName, ItemNames, NameText};
 use escaped_text::Escaped;
 use std::fmt;
 use wasm_entities::limits::{MemoryType, TableType};
@@ -14,54 +15,89 @@ use wasm_sections::globals::Global;
 use wasm_sections::imports::Import;
 use wasm_sections::tables::Table;
 use wasm_types::types::{TypeEntry, ValType};
+use wasm_whole_modules::indices::IndexSpace;
 
-/// An item of a section, with the index that it has in the module.
+/// An item of a section, with the index and the name that it has in the module.
 #[derive(Clone, Copy)]
 pub enum ItemText<'i> {
-    /// An entry of a type section, and the index of its first type.
-    Types(&'i TypeEntry, u32),
+    /// An entry of a type section, the index of its first type, and the names of types.
+    Types(&'i TypeEntry, u32, &'i ItemNames<'i>),
     /// An import.
-    Import(Import<'i>, u32),
+    Import(Import<'i>, u32, Option<ItemName<'i>>),
     /// A function: its index, type index and name.
-    Function(u32, u32, Option<&'i str>),
+    Function(u32, u32, Option<ItemName<'i>>),
     /// A table.
-    Table(&'i Table, u32),
+    Table(&'i Table, u32, Option<ItemName<'i>>),
     /// A memory.
-    Memory(MemoryType, u32),
+    Memory(MemoryType, u32, Option<ItemName<'i>>),
     /// A tag.
-    Tag(TagType, u32),
+    Tag(TagType, u32, Option<ItemName<'i>>),
     /// A global.
-    Global(&'i Global, u32),
+    Global(&'i Global, u32, Option<ItemName<'i>>),
     /// An export.
     Export(Export<'i>),
     /// The start function: its index and name.
-    Start(u32, Option<&'i str>),
+    Start(u32, Option<ItemName<'i>>),
     /// An element segment.
-    Element(&'i Element, u32),
+    Element(&'i Element, u32, Option<ItemName<'i>>),
     /// The number of data segments.
     DataCount(u32),
     /// A function's body: its index and name.
-    Body(u32, Option<&'i str>),
+    Body(u32, Option<ItemName<'i>>),
     /// A data segment, without its bytes.
-    Data(&'i DataSegment<'i>, u32),
+    Data(&'i DataSegment<'i>, u32, Option<ItemName<'i>>),
+}
+
+impl<'i> ItemText<'i> {
+    /// Returns the name of the item. The names of a group of types are in its text.
+    pub fn name(&self) -> Option<ItemName<'i>> {
+        match self {
+            ItemText::Types(TypeEntry::Sub(_), first, names) => {
+                names.get(IndexSpace::Types, *first)
+            }
+            ItemText::Import(_, _, name)
+            | ItemText::Function(_, _, name)
+            | ItemText::Table(_, _, name)
+            | ItemText::Memory(_, _, name)
+            | ItemText::Tag(_, _, name)
+            | ItemText::Global(_, _, name)
+            | ItemText::Element(_, _, name)
+            | ItemText::Data(_, _, name)
+            | ItemText::Start(_, name)
+            | ItemText::Body(_, name) => *name,
+            ItemText::Types(..) | ItemText::Export(_) | ItemText::DataCount(_) => None,
+        }
+    }
 }
 
 impl fmt::Display for ItemText<'_> {
     fn fmt<W: fmt::Write>(&self, f: &mut fmt::Formatter<W>) -> fmt::Result {
-        match self {
-            ItemText::Types(entry, first) => {
-                let first = *first;
-                write!(f, "{}", EntryText { entry, first })
+        write!(f, "{}{}", Unnamed(self), NameText(self.name()))
+    }
+}
+
+/// An item without its name.
+#[derive(Clone, Copy)]
+pub struct Unnamed<'i, 't>(pub &'t ItemText<'i>);
+
+impl fmt::Display for Unnamed<'_, '_> {
+    fn fmt<W: fmt::Write>(&self, f: &mut fmt::Formatter<W>) -> fmt::Result {
+        match self.0 {
+            ItemText::Types(entry, first, names) => {
+                let (first, names) = (*first, *names);
+                let text = EntryText {
+                    entry,
+                    first,
+                    names,
+                };
+                write!(f, "{text}")
             }
-            ItemText::Import(import, index) => write_import(f, import, *index),
-            ItemText::Function(index, ty, name) => {
-                write!(f, "func[{index}] type {ty}")?;
-                write_name(f, *name)
-            }
-            ItemText::Table(table, index) => write_table(f, table, *index),
-            ItemText::Memory(ty, index) => write!(f, "memory[{index}] {}", MemoryText(*ty)),
-            ItemText::Tag(ty, index) => write!(f, "tag[{index}] type {}", ty.func_type_idx),
-            ItemText::Global(global, index) => {
+            ItemText::Import(import, index, _) => write_import(f, import, *index),
+            ItemText::Function(index, ty, _) => write!(f, "func[{index}] type {ty}"),
+            ItemText::Table(table, index, _) => write_table(f, table, *index),
+            ItemText::Memory(ty, index, _) => write!(f, "memory[{index}] {}", MemoryText(*ty)),
+            ItemText::Tag(ty, index, _) => write!(f, "tag[{index}] type {}", ty.func_type_idx),
+            ItemText::Global(global, index, _) => {
                 let init = ExprText(global.init.as_slice());
                 write!(f, "global[{index}] {} = {init}", GlobalText(global.ty))
             }
@@ -69,16 +105,13 @@ impl fmt::Display for ItemText<'_> {
                 let (kind, name) = (kind_name(export.kind), Escaped(export.name));
                 write!(f, "{kind}[{}] -> \"{name}\"", export.index)
             }
-            ItemText::Start(index, name) | ItemText::Body(index, name) => {
-                write!(f, "func[{index}]")?;
-                write_name(f, *name)
-            }
-            ItemText::Element(element, index) => write_element(f, element, *index),
+            ItemText::Start(index, _) | ItemText::Body(index, _) => write!(f, "func[{index}]"),
+            ItemText::Element(element, index, _) => write_element(f, element, *index),
             ItemText::DataCount(count) => {
                 let plural = if *count == 1 { "" } else { "s" };
                 write!(f, "{count} data segment{plural}")
             }
-            ItemText::Data(data, index) => write_data(f, data, *index),
+            ItemText::Data(data, index, _) => write_data(f, data, *index),
         }
     }
 }
@@ -92,14 +125,6 @@ impl fmt::Display for LocalsText {
         let LocalsText(count, ty) = *self;
         let noun = if count == 1 { "local" } else { "locals" };
         write!(f, "{count} {noun} of {}", ValText(ty))
-    }
-}
-
-/// Writes the name of a function, if it has one.
-fn write_name<W: fmt::Write>(f: &mut fmt::Formatter<W>, name: Option<&str>) -> fmt::Result {
-    match name {
-        Some(name) => write!(f, " <{}>", Escaped(name)),
-        None => Ok(()),
     }
 }
 

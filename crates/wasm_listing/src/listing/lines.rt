@@ -1,6 +1,7 @@
-//! The listing as text, in lines of at most 80 columns if names and nesting allow it.
+//! The listing as text, in lines of at most 80 columns if names, numbers and nesting allow it.
 use crate::listing::{
-    CallText, FunctionHead, ItemText, Listing, LocalsText, Longer, Nesting, Part, SectionHead, Stop,
+    CallText, CustomText, FunctionHead, ItemName, ItemText, Listing, LocalsText, Longer, Nesting,
+    Part, SectionHead, Stop,
 };
 use crate::sections::SectionTitle;
 use escaped_text::Escaped;
@@ -61,7 +62,7 @@ impl<'w, W: io::Write> Lines<'w, W> {
     }
 
     /// Writes the offset and the length of an item, and then this text.
-    pub fn text_of(&mut self, part: &Part<'_>, text: &str) -> Result<(), Stop> {
+    pub fn item_of<D: fmt::Display>(&mut self, part: &Part<'_>, text: &D) -> Result<(), Stop> {
         begin_item(self.writer, self.lead, part)?;
         let mut line = Line::new(self.writer, ITEM_COLUMN, &[]);
         let written = write!(line, "{text}{}", Mark("", part.longer()));
@@ -130,10 +131,11 @@ impl<W: io::Write> Listing for Lines<'_, W> {
     }
 
     fn item(&mut self, part: &Part<'_>, text: &ItemText<'_>) -> Result<(), Stop> {
-        begin_item(self.writer, self.lead, part)?;
-        let mut line = Line::new(self.writer, ITEM_COLUMN, &[]);
-        let written = write!(line, "{text}{}", Mark("", part.longer()));
-        line.finish(written)
+        self.item_of(part, text)
+    }
+
+    fn custom_item(&mut self, part: &Part<'_>, text: &CustomText<'_>) -> Result<(), Stop> {
+        self.item_of(part, text)
     }
 
     fn contents(&mut self, at: usize, bytes: &[u8]) -> Result<(), Stop> {
@@ -162,7 +164,12 @@ impl<W: io::Write> Listing for Lines<'_, W> {
         line.finish(written)
     }
 
-    fn call(&mut self, part: &Part<'_>, call: &Call, name: Option<&str>) -> Result<(), Stop> {
+    fn call(
+        &mut self,
+        part: &Part<'_>,
+        call: &Call,
+        name: Option<ItemName<'_>>,
+    ) -> Result<(), Stop> {
         let nesting = Nesting::of(call.op());
         let depth = nesting.own_depth(self.depth);
         self.depth = nesting.next_depth(self.depth);
@@ -231,19 +238,37 @@ impl fmt::Display for Mark {
     }
 }
 
-/// A name that refers to a function. A long one is cut.
+/// A name of an item that an instruction refers to. A long one is cut.
 #[derive(Clone, Copy)]
-struct ShortName<'a>(&'a str);
+struct ShortName<'a>(ItemName<'a>);
 
 /// Number of characters of a short name.
 const SHORT: usize = 24;
 
+/// Number of columns for `<`, `>` and the two points of a name that is cut.
+const NAME_MARKS: usize = 4;
+
 impl fmt::Display for ShortName<'_> {
     fn fmt<W: fmt::Write>(&self, f: &mut fmt::Formatter<W>) -> fmt::Result {
-        let name = self.0;
-        match name.char_indices().nth(SHORT) {
-            Some((end, _)) => write!(f, "<{}..>", Escaped(name.get(..end).unwrap_or(name))),
-            None => write!(f, "<{}>", Escaped(name)),
+        match self.0 {
+            ItemName::Given(name) => write!(f, "<{}>", ShortText(name)),
+            ItemName::Imported(module, field) => {
+                write!(f, "<{}.{}>", ShortText(module), ShortText(field))
+            }
+        }
+    }
+}
+
+/// Text of a name. A long one is cut.
+#[derive(Clone, Copy)]
+struct ShortText<'a>(&'a str);
+
+impl fmt::Display for ShortText<'_> {
+    fn fmt<W: fmt::Write>(&self, f: &mut fmt::Formatter<W>) -> fmt::Result {
+        let text = self.0;
+        match text.char_indices().nth(SHORT) {
+            Some((end, _)) => write!(f, "{}..", Escaped(text.get(..end).unwrap_or(text))),
+            None => write!(f, "{}", Escaped(text)),
         }
     }
 }
@@ -285,6 +310,8 @@ struct Line<'l, 'b, W> {
     column: usize,
     /// Number of spaces before the next word. It goes into a further line if this one has no room for it.
     blanks: usize,
+    /// Whether `<` comes before the next word. It stays with the start of a name.
+    opens_name: bool,
     /// The bytes of an instruction that aren't written yet.
     bytes: &'b [u8],
     error: Option<io::Error>,
@@ -298,6 +325,7 @@ impl<'l, 'b, W: io::Write> Line<'l, 'b, W> {
             margin,
             column: margin,
             blanks: 0,
+            opens_name: false,
             bytes,
             error: None,
         }
@@ -326,16 +354,43 @@ impl<'l, 'b, W: io::Write> Line<'l, 'b, W> {
 
     /// Writes a text, with further lines in place of spaces before words that this line has no room for.
     fn write_text(&mut self, text: &str) -> io::Result<()> {
+        let words = match text.strip_suffix("<") {
+            Some(words) if words.is_empty() || words.ends_with(" ") => words,
+            _ => return self.write_words(text),
+        };
+        self.write_words(words)?;
+        if self.opens_name {
+            self.write_word("")?;
+        }
+        self.opens_name = true;
+        Ok(())
+    }
+
+    /// Writes words and the spaces between them.
+    fn write_words(&mut self, text: &str) -> io::Result<()> {
         for (number, word) in text.split(' ').enumerate() {
             if number > 0 {
+                if self.opens_name {
+                    self.write_word("")?;
+                }
                 self.blanks = self.blanks.saturating_add(1);
             }
             if !word.is_empty() {
-                self.write_blanks(room_for(word))?;
-                self.writer.write_all(word.as_bytes())?;
-                self.column = self.column.saturating_add(word.chars().count());
+                self.write_word(word)?;
             }
         }
+        Ok(())
+    }
+
+    /// Writes a word after the spaces before it.
+    fn write_word(&mut self, word: &str) -> io::Result<()> {
+        let opening = if self.opens_name { "<" } else { "" };
+        self.opens_name = false;
+        self.write_blanks(room_for(word).saturating_add(opening.len().saturating_mul(NAME_MARKS)))?;
+        self.writer.write_all(opening.as_bytes())?;
+        self.writer.write_all(word.as_bytes())?;
+        let columns = opening.len().saturating_add(word.chars().count());
+        self.column = self.column.saturating_add(columns);
         Ok(())
     }
 
@@ -376,7 +431,8 @@ impl<'l, 'b, W: io::Write> Line<'l, 'b, W> {
 /// Returns the number of columns that a word needs. More of it follows after an opening mark and after `0x`.
 fn room_for(word: &str) -> usize {
     let more = match word.chars().next_back() {
-        Some('<') => SHORT.saturating_add(4),
+        Some('=') if word == "offset=" => 7,
+        Some('=') if word == "align=" => 2,
         Some('(' | '[' | '"' | '=') => 14,
         Some('x') => 8,
         _ => 1,

@@ -6,6 +6,7 @@ use wasm_codec::encode::EncodeError;
 use wasm_codec::encode::leb128::u32_len;
 use wasm_codec::reader::cursor::Cursor;
 use wasm_codec::rewriter::Rewriter;
+use wasm_entities::names::read_name;
 use wasm_lists::encode::Encode;
 use wasm_lists::readable::Readable;
 use wasm_modules::code::normaliser::read_local_group;
@@ -115,6 +116,46 @@ impl<'a> PartReader<'a> {
         }
     }
 
+    /// Returns the offset of the next part in the module.
+    pub fn at(&self) -> usize {
+        self.located.offset_of(self.position())
+    }
+
+    /// Begins a part of several numbers, names and bytes. Returns the number of bytes of the body before it.
+    pub fn begin(&mut self) -> usize {
+        self.cursor.set_shortest(true);
+        self.position()
+    }
+
+    /// Returns the part that began at `start` and ends here. Its minimal encoding has `minimal` bytes.
+    pub fn part_from(&self, number: u32, start: usize, minimal: usize) -> Part<'a> {
+        let is_minimal = self.cursor.is_shortest();
+        self.part(number, start, if is_minimal { None } else { Some(minimal) })
+    }
+
+    /// Reads a byte.
+    pub fn byte(&mut self) -> Result<u8, Stop> {
+        Ok(self.cursor.byte()?)
+    }
+
+    /// Reads a name.
+    pub fn name(&mut self) -> Result<&'a str, Stop> {
+        match read_name(&mut self.cursor) {
+            Ok(name) => Ok(name),
+            Err(fault) => Err(Stop::from(fault)),
+        }
+    }
+
+    /// Reads a size, and returns a reader of as many bytes.
+    pub fn sized(&mut self) -> Result<PartReader<'a>, Stop> {
+        let cursor = self.cursor.body()?;
+        Ok(PartReader {
+            alloc: self.alloc,
+            located: self.located,
+            cursor,
+        })
+    }
+
     /// Reads a number, such as a count.
     pub fn number(&mut self) -> Result<u32, Stop> {
         Ok(self.cursor.u32()?)
@@ -157,14 +198,8 @@ impl<'a> PartReader<'a> {
     /// Reads a size, and returns a reader of as many bytes. The part is both.
     pub fn body(&mut self, number: u32) -> Result<(Part<'a>, PartReader<'a>), Stop> {
         let start = self.position();
-        let cursor = self.cursor.body()?;
-        let part = self.part(number, start, None);
-        let body = PartReader {
-            alloc: self.alloc,
-            located: self.located,
-            cursor,
-        };
-        Ok((part, body))
+        let body = self.sized()?;
+        Ok((self.part(number, start, None), body))
     }
 }
 

@@ -1,5 +1,7 @@
 //! A listing that shows nothing. It counts the items of a section.
-use crate::listing::{FunctionHead, ItemText, Listing, Part, SectionHead, Stop};
+use crate::listing::{
+    CustomText, FunctionHead, ItemName, ItemText, Listing, Part, SectionHead, Stop,
+};
 use wasm_instructions::table::Call;
 use wasm_types::types::ValType;
 
@@ -20,6 +22,10 @@ impl Listing for Silent {
         Ok(())
     }
 
+    fn custom_item(&mut self, _part: &Part<'_>, _text: &CustomText<'_>) -> Result<(), Stop> {
+        Ok(())
+    }
+
     fn function(&mut self, _head: &FunctionHead<'_>) -> Result<(), Stop> {
         Ok(())
     }
@@ -28,7 +34,12 @@ impl Listing for Silent {
         Ok(())
     }
 
-    fn call(&mut self, _part: &Part<'_>, _call: &Call, _name: Option<&str>) -> Result<(), Stop> {
+    fn call(
+        &mut self,
+        _part: &Part<'_>,
+        _call: &Call,
+        _name: Option<ItemName<'_>>,
+    ) -> Result<(), Stop> {
         Ok(())
     }
 

@@ -1,9 +1,11 @@
 //! Text of types.
+use crate::listing::{ItemNames, NameText};
 use std::fmt;
 use wasm_types::types::{
     AbstractHeapType, CompositeInnerType, CompositeType, FieldType, FuncType, HeapType, RefType,
     StorageType, SubType, TypeEntry, ValType,
 };
+use wasm_whole_modules::indices::IndexSpace;
 
 /// A value type, as `i32` or `funcref`.
 #[derive(Clone, Copy)]
@@ -98,13 +100,15 @@ fn heap_name(ty: AbstractHeapType) -> &'static str {
     }
 }
 
-/// An entry of a type section, with the index of its first type.
+/// An entry of a type section, with the index of its first type. The types of a group are followed by their names.
 #[derive(Clone, Copy)]
 pub struct EntryText<'a> {
     /// The entry.
     pub entry: &'a TypeEntry,
     /// Index of its first type.
     pub first: u32,
+    /// Names of types.
+    pub names: &'a ItemNames<'a>,
 }
 
 impl fmt::Display for EntryText<'_> {
@@ -116,9 +120,10 @@ impl fmt::Display for EntryText<'_> {
         };
         write!(f, "rec")?;
         for (number, ty) in types.iter().enumerate() {
-            let index = (first as usize).saturating_add(number);
+            let index = first.saturating_add(u32::try_from(number).unwrap_or(u32::MAX));
             let separator = if number == 0 { "" } else { "," };
-            write!(f, "{separator} type[{index}] {}", SubText(ty))?;
+            let name = NameText(self.names.get(IndexSpace::Types, index));
+            write!(f, "{separator} type[{index}] {}{name}", SubText(ty))?;
         }
         Ok(())
     }

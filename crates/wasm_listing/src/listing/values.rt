@@ -1,7 +1,8 @@
 //! The listing as JSON, one value at a time.
-use crate::json::text_value;
+use crate::json::{text_value, write_json_text};
 use crate::listing::{
-    CallText, FunctionHead, ItemText, Listing, LocalsText, Longer, Nesting, Part, SectionHead, Stop,
+    CallText, CustomText, FunctionHead, ItemName, ItemText, Listing, LocalsText, Longer, Nesting,
+    Part, SectionHead, Stop, Unnamed,
 };
 use crate::sections::kind_name;
 use serde_json::{Value, json};
@@ -99,10 +100,13 @@ fn longer_value(alloc: Global, longer: Option<Longer>) -> Result<Value, AllocErr
     }
 }
 
-/// Returns a name. `Null` means that there is none.
-fn name_value(alloc: Global, name: Option<&str>) -> Result<Value, AllocError> {
+/// Returns the name of an item. `Null` means that it has none.
+fn name_value(alloc: Global, name: Option<ItemName<'_>>) -> Result<Value, AllocError> {
     match name {
-        Some(name) => text_value(alloc, name),
+        Some(ItemName::Given(name)) => text_value(alloc, name),
+        Some(ItemName::Imported(module, field)) => {
+            Ok(Value::String(format!(in alloc; "{module}.{field}")?))
+        }
         None => Ok(Value::Null),
     }
 }
@@ -111,7 +115,10 @@ fn name_value(alloc: Global, name: Option<&str>) -> Result<Value, AllocError> {
 fn section_value(alloc: Global, head: &SectionHead<'_>) -> Result<Value, AllocError> {
     let section = head.located.section;
     let kind = text_value(alloc, kind_name(section.id))?;
-    let name = name_value(alloc, custom_name(section))?;
+    let name = match custom_name(section) {
+        Some(name) => text_value(alloc, name)?,
+        None => Value::Null,
+    };
     let longer_size = longer_value(alloc, head.size)?;
     let longer_first = longer_value(alloc, head.first)?;
     let (number, id, offset, size) = (head.number, section.id, head.located.at, head.located.len);
@@ -148,7 +155,22 @@ fn function_value(alloc: Global, head: &FunctionHead<'_>) -> Result<Value, Alloc
     })
 }
 
-/// Returns an item, a group of locals or an instruction as JSON.
+/// Returns an item as JSON.
+fn item_value(alloc: Global, part: &Part<'_>, text: &ItemText<'_>) -> Result<Value, AllocError> {
+    let (item, offset, size, minimal) = (part.number, part.at, part.bytes.len(), part.minimal);
+    let name = name_value(alloc, text.name())?;
+    let text = Value::String(format!(in alloc; "{}", Unnamed(text))?);
+    json!(in alloc; {
+        "item": item,
+        "offset": offset,
+        "size": size,
+        "minimal": minimal,
+        "text": text,
+        "name": name
+    })
+}
+
+/// Returns a group of locals as JSON.
 fn part_value(alloc: Global, part: &Part<'_>, text: String) -> Result<Value, AllocError> {
     let (item, offset, size, minimal) = (part.number, part.at, part.bytes.len(), part.minimal);
     let text = Value::String(text);
@@ -166,7 +188,7 @@ fn call_value(
     alloc: Global,
     part: &Part<'_>,
     call: &Call,
-    name: Option<&str>,
+    name: Option<ItemName<'_>>,
     depth: usize,
 ) -> Result<Value, AllocError> {
     let (offset, size, minimal) = (part.at, part.bytes.len(), part.minimal);
@@ -192,9 +214,25 @@ impl<W: io::Write> Listing for Values<'_, W> {
 
     fn item(&mut self, part: &Part<'_>, text: &ItemText<'_>) -> Result<(), Stop> {
         separate(self.writer, &mut self.items)?;
-        let text = format!(in self.alloc; "{text}")?;
-        let value = part_value(self.alloc, part, text)?;
+        let value = item_value(self.alloc, part, text)?;
         write!(self.writer, "{value}")?;
+        Ok(())
+    }
+
+    fn custom_item(&mut self, part: &Part<'_>, text: &CustomText<'_>) -> Result<(), Stop> {
+        separate(self.writer, &mut self.items)?;
+        let (item, offset, size) = (part.number, part.at, part.bytes.len());
+        write!(
+            self.writer,
+            "{{\"item\":{item},\"offset\":{offset},\"size\":{size},\"minimal\":"
+        )?;
+        match part.minimal {
+            Some(minimal) => write!(self.writer, "{minimal}")?,
+            None => write!(self.writer, "null")?,
+        }
+        write!(self.writer, ",\"text\":\"")?;
+        write_json_text(self.writer, text)?;
+        write!(self.writer, "\"}}")?;
         Ok(())
     }
 
@@ -218,7 +256,12 @@ impl<W: io::Write> Listing for Values<'_, W> {
         Ok(())
     }
 
-    fn call(&mut self, part: &Part<'_>, call: &Call, name: Option<&str>) -> Result<(), Stop> {
+    fn call(
+        &mut self,
+        part: &Part<'_>,
+        call: &Call,
+        name: Option<ItemName<'_>>,
+    ) -> Result<(), Stop> {
         separate(self.writer, &mut self.code)?;
         let nesting = Nesting::of(call.op());
         let depth = nesting.own_depth(self.depth);
