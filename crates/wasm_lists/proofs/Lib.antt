@@ -3,3 +3,4 @@ pub mod CheckLaws
 pub mod WrittenLists
 pub mod EncodedListLaws
 pub mod JudgingLaws
+pub mod ItemReadingLaws

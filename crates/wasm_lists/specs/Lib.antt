@@ -1,3 +1,4 @@
 pub mod Iterators
 pub mod EncodedLists
 pub mod Judging
+pub mod ItemReading

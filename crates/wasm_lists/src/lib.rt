@@ -6,6 +6,7 @@ pub mod checking;
 pub mod encode;
 pub mod encoded_list;
 pub mod input;
+pub mod item_reader;
 pub mod judging;
 pub mod list;
 pub mod readable;

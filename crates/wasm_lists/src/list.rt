@@ -1,6 +1,8 @@
 //! `Items`, a list that owns its items, and `BoxedItems`, such a list behind a pointer. In contracts both are the plain
 //! list of the items.
-ghost use Rattle.std.specs.Prelude.{◌≡◌, ◌↔◌, List, [], length, IfOk, IfErr, IsTrue};
+ghost use Rattle.std.specs.Prelude.{◌≡◌, ◌↔◌, ◌<◌, ◌^◌, List, [], length, IfOk, IfErr, IsTrue};
+ghost use Rattle.std.specs.Iterator.Runs.{EveryRun, ItemsMapTo};
+ghost use Rattle.std.specs.Slice.Iter.{iter_rest, iter_steps};
 ghost use Rattle.wasm_codec.specs.declared.encode.EncodeError.TheVariants.{Memory};
 
 use std::alloc::Global;
@@ -8,6 +10,7 @@ use std::fmt;
 use std::fmt::Debug;
 use std::hash::{Hash, Hasher};
 use std::marker::Model;
+use std::slice::Iter;
 use wasm_codec::encode::EncodeError;
 
 /// A list that owns its items. Types and operands store their lists in it.
@@ -21,6 +24,11 @@ use wasm_codec::encode::EncodeError;
 /// let items = Items::from_slice(rt.alloc(), &[3, 5])?;
 /// assert_eq!(rt; items.len(), 2);
 /// assert_eq!(rt; items.as_slice(), [3, 5].as_slice());
+/// let mut sum = 0;
+/// for item in &items {
+///     sum += *item;
+/// }
+/// assert_eq!(rt; sum, 8);
 /// assert_eq!(rt; items.into_vec().pop(), Some(5));
 /// ```
 #[derive(Drop)]
@@ -107,6 +115,19 @@ impl<T> From<Vec<T>> for Items<T> {
 
     fn from(items: Vec<T>) -> Items<T> {
         Items { items }
+    }
+}
+
+/// Yields references to the items, in order.
+impl<'a, T> IntoIterator for &'a Items<T> {
+    type Item = &'a T;
+
+    type IntoIter = Iter<'a, T>;
+
+    ghost into_iter_gives = { λ items iter. (iter_rest iter ≡ items.now) × (length (iter_rest iter) < 2 ^ 64) × EveryRun (iter_steps {A = T}) (λ p. ItemsMapTo p (λ y. y.now) (iter_rest p.from)) };
+
+    fn into_iter(self) -> Iter<'a, T> {
+        self.as_slice().iter()
     }
 }
 
@@ -215,6 +236,19 @@ impl<T: Copy> BoxedItems<T> {
         ensures err { IfErr result (λ e. e ≡ Memory) }
     {
         BoxedItems::new(self.items().try_clone()?)
+    }
+}
+
+/// Yields references to the items, in order.
+impl<'a, T> IntoIterator for &'a BoxedItems<T> {
+    type Item = &'a T;
+
+    type IntoIter = Iter<'a, T>;
+
+    ghost into_iter_gives = { λ items iter. (iter_rest iter ≡ items.now) × (length (iter_rest iter) < 2 ^ 64) × EveryRun (iter_steps {A = T}) (λ p. ItemsMapTo p (λ y. y.now) (iter_rest p.from)) };
+
+    fn into_iter(self) -> Iter<'a, T> {
+        self.items().into_iter()
     }
 }
 

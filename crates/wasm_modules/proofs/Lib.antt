@@ -6,3 +6,4 @@ pub mod SectionWalks
 pub mod ReasonLaws
 pub mod SectionStops
 pub mod JudgedModules
+pub mod FunctionBodyLaws

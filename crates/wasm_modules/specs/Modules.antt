@@ -4,7 +4,8 @@ use Rattle.wasm_codec.specs.Outcomes.{EncodesSome, IsOrMemory}
 use Rattle.wasm_codec.specs.formats.Combinators.{Format, minimal_if}
 use Rattle.wasm_codec.specs.formats.Grammar.{Grammar, Joined}
 use Rattle.wasm_codec.specs.declared.reader.refusal.Refusal.{Refusal}
-use Rattle.wasm_modules.specs.formats.Sections.{header, SectionParts, Content, TypedSection}
+use Rattle.wasm_lists.specs.ItemReading.{GivesToEnd, Reading, starting}
+use Rattle.wasm_modules.specs.formats.Sections.{header, parts_of, SectionParts, Content, TypedSection}
 use Rattle.wasm_modules.specs.formats.Modules.{module_of, raw_section, held_by, typed_section, raw_module, typed_module, HoldsContent}
 use Rattle.std.specs.List.{AllByRecursion}
 use Rattle.wasm_codec.specs.declared.reader.ReadError.{ReadError}
@@ -31,6 +32,18 @@ pub record HasSectionsBefore {V : Type 0} (G : Grammar V) (bytes : List ℕ) (nu
 -- If the refusal names a section, its number counts the sections before it.
 abbrev pub CountsSections : {V : Type 0} → Format V → List ℕ → Refusal → Type 0
 CountsSections F bytes refusal = IfSome refusal.section (λ place. HasSectionsBefore F.Encodes bytes place.number refusal.at)
+
+-- The bytes don't begin with the header.
+abbrev pub HasNoHeader : List ℕ → Type 0
+HasNoHeader bytes = (rest : List ℕ) → bytes ≡ header ++ rest → ⊥
+
+-- What is given are the sections of a module, with their offsets; if `strict`, each size is minimally encoded.
+pub record GivesSections (strict : Bool) (bytes : List ℕ) (reader : Reading) : Type 0 where
+  -- The bytes after the header.
+  pub sections : List ℕ
+  pub parts : bytes ≡ header ++ sections
+  pub start : reader ≡ starting (length header) sections strict
+  pub gives : GivesToEnd parts_of raw_section sections reader
 
 -- The prefix is empty, or it is the header and sections, each with its body as bytes.
 abbrev pub IsModulePrefix : List ℕ → Type 0

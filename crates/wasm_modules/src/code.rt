@@ -5,6 +5,7 @@ ghost use Rattle.wasm_codec.specs.Encoding.{IsRefusal, IsShortest, IsShortestOrL
 ghost use Rattle.wasm_modules.specs.CodeCounts.{CountedBody};
 ghost use Rattle.wasm_modules.specs.formats.CodeBodies.{code_body};
 
+pub mod function_body;
 pub mod normaliser;
 pub mod reader;
 

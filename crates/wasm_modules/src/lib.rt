@@ -9,3 +9,4 @@ pub mod normaliser;
 pub mod raw;
 pub mod reasons;
 pub mod section;
+pub mod sections;

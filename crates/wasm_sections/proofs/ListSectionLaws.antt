@@ -74,11 +74,11 @@ module _ {T V : Type 0} {encoding : T → List ℕ} {IsWritten Fits : T → Type
       let viewed : OnOk r (new.bytes ≡ old.bytes ++ S.format.bytes (view item)) = subst (λ (t : List ℕ). OnOk r (new.bytes ≡ old.bytes ++ t)) (law.bytes item) bytes in
       record { count = count; bytes = viewed; gains = one_gained r old new item count viewed written; same = same; refused = refused }
 
-  all_bytes : (xs : List T) → flat_map encoding xs ≡ flat_map S.format.bytes (map view xs)
+  pub all_bytes : (xs : List T) → flat_map encoding xs ≡ flat_map S.format.bytes (map view xs)
   all_bytes [] = refl
   all_bytes (x ∷ xs) = ap (λ (t : List ℕ). t ++ flat_map encoding xs) (law.bytes x) ∙ ap (λ (t : List ℕ). S.format.bytes (view x) ++ t) (all_bytes xs)
 
-  all_written : (xs : List T) → All IsWritten xs → All Fits xs → All (IsShortest S.format.Encodes S.format.bytes) (map view xs)
+  pub all_written : (xs : List T) → All IsWritten xs → All Fits xs → All (IsShortest S.format.Encodes S.format.bytes) (map view xs)
   all_written [] are fit = All-nil (IsShortest S.format.Encodes S.format.bytes)
   all_written (x ∷ xs) are fit = All-cons (IsShortest S.format.Encodes S.format.bytes) (view x) (map view xs) (law.written x (are 0 x (omega arith)) (fit 0 x (omega arith))) (all_written xs (λ k d lt. are (suc k) d (omega (arith, lt))) (λ k d lt. fit (suc k) d (omega (arith, lt))))
 

@@ -7,6 +7,7 @@ mod function;
 mod heap;
 mod items;
 mod recursive;
+mod text;
 mod value;
 
 pub use composite::{

@@ -12,7 +12,7 @@ ghost use Rattle.wasm_codec.specs.formats.Grammar.{TakesBytes};
 ghost use Rattle.wasm_codec.specs.Rewriter.{Rewrites};
 
 use crate::operands::take_mem_arg;
-use crate::reader::lists::read_calls_to_end;
+use crate::reader::lists::{read_calls_to_end, read_next_frequent_call};
 use crate::reader::operands::read_operands;
 use crate::reader::take_opcode;
 use crate::table::{Call, Kind, Operands};
@@ -117,8 +117,13 @@ impl<'a> Readable<'a> for Call {
 
     ghost format = { instruction };
 
+    // A frequent instruction is tried first, since the compiler makes it in its place.
+    #[inline(always)]
     fn read(alloc: Global, cursor: &mut Cursor<'a>) -> Result<Call, Fault> {
-        read_call(alloc, cursor)
+        match read_next_frequent_call::<false>(cursor) {
+            Some(call) => Ok(call),
+            None => read_call(alloc, cursor),
+        }
     }
 
     #[inline(always)]

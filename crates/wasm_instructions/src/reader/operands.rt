@@ -38,7 +38,7 @@ fn read_f64(cursor: &mut Cursor<'_>) -> Result<Ieee64, Fault>
 
 /// Reads a little-endian number of 4 bytes.
 #[tactic(auto, unfolding(wasm_codec::specs::formats::Combinators::little_endian))]
-fn read_bits_32(cursor: &mut Cursor<'_>) -> Result<u32, Fault>
+pub fn read_bits_32(cursor: &mut Cursor<'_>) -> Result<u32, Fault>
     ensures reads { Reads (little_endian 4).at cursor.old cursor.new result }
     ensures err { IfErr result IsMalformed }
 {
@@ -51,7 +51,7 @@ fn read_bits_32(cursor: &mut Cursor<'_>) -> Result<u32, Fault>
 
 /// Reads a little-endian number of 8 bytes.
 #[tactic(auto, using(crate::proofs::LittleEndianHalves::both_halves, crate::proofs::LittleEndianHalves::no_low_half, crate::proofs::LittleEndianHalves::no_high_half))]
-fn read_bits_64(cursor: &mut Cursor<'_>) -> Result<u64, Fault>
+pub fn read_bits_64(cursor: &mut Cursor<'_>) -> Result<u64, Fault>
     ensures reads { Reads (little_endian 8).at cursor.old cursor.new result }
     ensures err { IfErr result IsMalformed }
 {

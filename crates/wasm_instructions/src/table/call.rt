@@ -75,6 +75,20 @@ pub enum Operands {
 /// let other_kind = Call::new(local_get, Operands::I32(1));
 /// assert_eq!(rt; other_kind.err(), Some(Operands::I32(1)));
 /// ```
+///
+/// `Display` writes the instruction as `wasmcanon --list` does:
+///
+/// ```
+/// # use wasm_encoder::{Call, MemArg, Operands};
+/// let arg = MemArg {
+///     offset: 8,
+///     align: 2,
+///     memory_index: 0,
+/// };
+/// let load = Call::named("i32.load", Operands::Mem(arg)).map_err(|_| "operands of another kind")?;
+/// let text = load.to_string(rt.alloc())?;
+/// assert_eq!(rt; text.as_str(), "i32.load offset=8 align=4");
+/// ```
 #[derive(Debug, PartialEq, Eq, Drop)]
 pub struct Call {
     op: Opcode,

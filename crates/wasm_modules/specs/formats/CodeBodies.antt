@@ -8,8 +8,9 @@ use Rattle.wasm_instructions.specs.formats.Instructions.{instruction}
 use Rattle.wasm_codec.specs.formats.Combinators.{Format, ◌⊗◌, made, u32, items}
 use Rattle.wasm_codec.specs.formats.Grammar.{Grammar}
 use Rattle.wasm_codec.specs.Lists.{IsListPrefix, ListMinimalIf, IsListPrefixMinimalIf}
-use Rattle.wasm_codec.specs.formats.Bodies.{sized, to_end}
+use Rattle.wasm_codec.specs.formats.Bodies.{bytes_to_end, sized, to_end}
 use Rattle.wasm_modules.specs.declared.code.CodeBody.{CodeBody}
+use Rattle.wasm_modules.specs.declared.code.function_body.FunctionBody.{FunctionBody}
 
 -- A group of locals: their number and their type.
 -- local ::= n:u32 t:valtype ⇒ t^n, here as the pair of n and t
@@ -33,6 +34,22 @@ function_code = items local_group ⊗ to_end instruction
 -- A code body: its size, its locals and its instructions.
 unfoldable pub code_body : Format CodeBody
 code_body = made code_body_of code_body_parts (sized function_code)
+
+-- The locals of a function, and its instructions as bytes.
+abbrev pub FunctionParts : Type 0
+FunctionParts = List (ℕ × ValType) × List ℕ
+
+-- What a function body stands for whose instructions are still bytes.
+abbrev pub function_parts : FunctionBody → FunctionParts
+function_parts body = (body.locals, body.instructions.now)
+
+-- A function body without its size: locals, then the bytes of its instructions to the end.
+abbrev pub function_bytes : Format FunctionParts
+function_bytes = items local_group ⊗ bytes_to_end
+
+-- A function body: its size, its locals, and the bytes of its instructions.
+unfoldable pub function_body : Format FunctionParts
+function_body = sized function_bytes
 
 -- The body of a code section: a count, then as many code bodies.
 -- codesec ::= code*:section_10(list(code)) ⇒ code*, without the id and the size of the section

@@ -147,7 +147,7 @@ fn rewrite_function_code(rewriter: &mut Rewriter) -> Result<(), Fault>
 }
 
 /// Rewrites the groups of locals. A fault carries the number of its group.
-fn rewrite_locals(rewriter: &mut Rewriter) -> Result<(), Fault>
+pub(crate) fn rewrite_locals(rewriter: &mut Rewriter) -> Result<(), Fault>
     ensures rewrites { Rewrites (items local_group) rewriter.old rewriter.new result }
 {
     let start = rewriter.start();

@@ -110,7 +110,10 @@ fn read_code_body(alloc: Global, cursor: &mut Cursor<'_>) -> Result<CodeBody, Fa
 }
 
 /// Reads the locals: a count, and as many groups. A pair can't be `Readable` here, since its type isn't of this crate.
-fn read_locals(alloc: Global, cursor: &mut Cursor<'_>) -> Result<Items<(u32, ValType)>, Fault>
+pub(crate) fn read_locals(
+    alloc: Global,
+    cursor: &mut Cursor<'_>,
+) -> Result<Items<(u32, ValType)>, Fault>
     ensures reads { Reads (items local_group).at cursor.old cursor.new result }
 {
     let count = cursor.u32()?;
