@@ -10,3 +10,4 @@ pub mod normaliser;
 pub mod operands;
 pub mod reader;
 pub mod table;
+mod text;

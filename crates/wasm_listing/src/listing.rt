@@ -5,7 +5,6 @@ mod custom_text;
 mod differences;
 mod different_lines;
 mod different_values;
-mod floats;
 mod index_spaces;
 mod instructions;
 mod item_names;
@@ -25,7 +24,7 @@ pub use differences::{Detail, Differences, DifferentPart, Side, list_differences
 pub use different_lines::{DifferentLines, FirstLines};
 pub use different_values::{DifferentValues, FirstItem};
 pub use index_spaces::{IndexSpaces, Listed};
-pub use instructions::{CallText, Nesting, item_of};
+pub use instructions::{Nesting, item_of};
 pub use item_names::{ItemName, ItemNames, NameText};
 pub use items::{ItemText, LocalsText, Unnamed};
 pub use lines::{HeadText, Lines};

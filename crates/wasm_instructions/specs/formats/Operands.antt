@@ -1,6 +1,7 @@
 -- Operands (WebAssembly Core 3.0, Instructions). Handlers, orderings and casts to descriptors belong to proposals:
 -- there this is the project's own profile.
-use Rattle.std.specs.Prelude.{ℕ, ℤ, ◌-◌, ◌%◌, ◌/◌, ◌^◌, Bool, true, false, nat_lt, List, [], ◌∷◌, Option, Some, None, pos, negsuc}
+use Rattle.std.specs.Prelude.{ℕ, ℤ, ◌-◌, ◌%◌, ◌/◌, ◌^◌, Bool, true, false, nat_lt, if◌then◌else◌, List, [], ◌∷◌, Option, Some, None, pos, negsuc, is_nan, to_bits as bits_of_float}
+use Rattle.std.specs.Float.{Float, binary32, binary64}
 use Rattle.wasm_instructions.specs.declared.operands.control.BlockType.{BlockType}
 use Rattle.wasm_instructions.specs.declared.operands.control.BlockType.TheVariants as blocks
 use Rattle.wasm_instructions.specs.declared.operands.control.Catch.{Catch}
@@ -109,6 +110,14 @@ ieee32 bits = record { bits = bits }
 -- The 64-bit floating-point constant with these bits.
 abbrev pub ieee64 : ℕ → Ieee64
 ieee64 bits = record { bits = bits }
+
+-- The bits of a 32-bit floating-point number in the format of IEEE 754. Every NaN gives those of the canonical NaN.
+abbrev pub float_bits_32 : Float → ℕ
+float_bits_32 value = if is_nan value then 0x7fc0_0000 else bits_of_float binary32 value
+
+-- The bits of a 64-bit floating-point number in the format of IEEE 754. Every NaN gives those of the canonical NaN.
+abbrev pub float_bits_64 : Float → ℕ
+float_bits_64 value = if is_nan value then 0x7ff8_0000_0000_0000 else bits_of_float binary64 value
 
 -- ---- vectors (Vector Instructions), whose values are their halves
 

@@ -1,11 +1,22 @@
 //! Constants kept as their bits, and lane indexes (Core 3.0, Floating-Point, Vectors and Instructions).
 ghost use Rattle.std.specs.Prelude.{◌≡◌};
-ghost use Rattle.wasm_instructions.specs.formats.Operands.{to_bits, v128};
+ghost use Rattle.wasm_instructions.specs.formats.Operands.{float_bits_32, float_bits_64, ieee32, ieee64, to_bits, v128};
 
 /// Index of a lane of a vector. Every byte is read and written, in range or not.
 pub type Lane = u8;
 
 /// A 32-bit floating-point number, kept as its bits. A NaN keeps its payload.
+///
+/// # Examples
+///
+/// ```
+/// # use wasm_encoder::{Ieee32, InstructionSink};
+/// let mut code = Vec::new(rt.alloc());
+/// InstructionSink::new(&mut code).f32_const(Ieee32::from(1.5))?;
+/// assert_eq!(rt; code.as_slice(), b"\x43\x00\x00\xc0\x3f".as_slice());
+/// assert_eq!(rt; Ieee32::from(f32::NAN), Ieee32::new(0x7fc0_0000));
+/// assert_eq!(rt; Ieee32::from(1.5).to_string(rt.alloc())?.as_str(), "0x1.8p+0");
+/// ```
 #[derive(Clone, Copy, Debug, PartialEq, Eq)]
 pub struct Ieee32 {
     bits: u32,
@@ -27,7 +38,30 @@ impl Ieee32 {
     }
 }
 
+/// Takes over the bits of a number. Every NaN gives the canonical NaN, `0x7FC00000` (Core 3.0, Floating-Point).
+impl From<f32> for Ieee32 {
+    ghost from_gives = { λ value number. number ≡ ieee32 (float_bits_32 value) };
+
+    fn from(value: f32) -> Ieee32 {
+        if value.is_nan() {
+            return Ieee32::new(0x7fc0_0000);
+        }
+        Ieee32::new(value.to_bits())
+    }
+}
+
 /// A 64-bit floating-point number, kept as its bits. A NaN keeps its payload.
+///
+/// # Examples
+///
+/// ```
+/// # use wasm_encoder::{Ieee64, InstructionSink};
+/// let mut code = Vec::new(rt.alloc());
+/// InstructionSink::new(&mut code).f64_const(Ieee64::from(-1.5))?;
+/// assert_eq!(rt; code.as_slice(), b"\x44\x00\x00\x00\x00\x00\x00\xf8\xbf".as_slice());
+/// assert_eq!(rt; Ieee64::from(f64::NAN), Ieee64::new(0x7ff8_0000_0000_0000));
+/// assert_eq!(rt; Ieee64::from(-1.5).to_string(rt.alloc())?.as_str(), "-0x1.8p+0");
+/// ```
 #[derive(Clone, Copy, Debug, PartialEq, Eq)]
 pub struct Ieee64 {
     bits: u64,
@@ -46,6 +80,18 @@ impl Ieee64 {
         ensures { result ≡ self.bits }
     {
         self.bits
+    }
+}
+
+/// Takes over the bits of a number. Every NaN gives the canonical NaN, `0x7FF8000000000000` (Core 3.0, Floating-Point).
+impl From<f64> for Ieee64 {
+    ghost from_gives = { λ value number. number ≡ ieee64 (float_bits_64 value) };
+
+    fn from(value: f64) -> Ieee64 {
+        if value.is_nan() {
+            return Ieee64::new(0x7ff8_0000_0000_0000);
+        }
+        Ieee64::new(value.to_bits())
     }
 }
 

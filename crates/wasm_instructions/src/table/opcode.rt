@@ -35,6 +35,7 @@ pub enum Prefix {
 /// assert_eq!(rt; local_get.kind(), Some(Kind::Index));
 /// let memory_copy = Opcode::after_fc(10);
 /// assert_eq!(rt; memory_copy.kind(), Some(Kind::TwoIndexes));
+/// assert_eq!(rt; memory_copy.to_string(rt.alloc())?.as_str(), "memory.copy");
 /// assert_eq!(rt; Opcode::without_prefix(0xff).kind(), None);
 /// ```
 #[derive(Clone, Copy, Debug, PartialEq, Eq)]

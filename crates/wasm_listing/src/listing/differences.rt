@@ -1,7 +1,7 @@
 //! The parts in which two modules differ.
 use crate::listing::{
-    CallText, HeadText, IndexSpaces, ItemNames, ItemText, Listed, LocalsText, Part, PartReader,
-    SectionHead, Silent, Stop, is_same, list_section,
+    HeadText, IndexSpaces, ItemNames, ItemText, Listed, LocalsText, Part, PartReader, SectionHead,
+    Silent, Stop, is_same, list_section,
 };
 use crate::sections::{LocatedSection, SectionWalk, rank};
 use std::alloc::{AllocError, Global};
@@ -643,6 +643,6 @@ fn next_call<'a>(alloc: Global, code: &mut PartReader<'a>) -> Result<Option<Deta
         return Ok(None);
     }
     let (part, call) = code.item::<Call>(0)?;
-    let text = format!(in alloc; "{}", CallText(&call))?;
+    let text = format!(in alloc; "{call}")?;
     Ok(Some(Detail::Code(part, text)))
 }

@@ -1,6 +1,6 @@
 //! Text of the items of sections.
 use crate::listing::instructions::ExprText;
-use crate::listing::types::{EntryText, RefText, ValText};
+use crate::listing::types::EntryText;
 use crate::listing::{ItemName, ItemNames, NameText};
 use escaped_text::Escaped;
 use std::fmt;
@@ -124,7 +124,7 @@ impl fmt::Display for LocalsText {
     fn fmt<W: fmt::Write>(&self, f: &mut fmt::Formatter<W>) -> fmt::Result {
         let LocalsText(count, ty) = *self;
         let noun = if count == 1 { "local" } else { "locals" };
-        write!(f, "{count} {noun} of {}", ValText(ty))
+        write!(f, "{count} {noun} of {ty}")
     }
 }
 
@@ -170,8 +170,7 @@ struct TableText(TableType);
 impl fmt::Display for TableText {
     fn fmt<W: fmt::Write>(&self, f: &mut fmt::Formatter<W>) -> fmt::Result {
         let ty = self.0;
-        let element = RefText(ty.element_type);
-        write!(f, "{element} initial={}", ty.minimum)?;
+        write!(f, "{} initial={}", ty.element_type, ty.minimum)?;
         write_limits(f, ty.maximum, ty.shared, ty.table64)
     }
 }
@@ -224,7 +223,7 @@ impl fmt::Display for GlobalText {
         } = self.0;
         let shared = if shared { "shared " } else { "" };
         let mutable = if mutable { "mut " } else { "" };
-        write!(f, "{shared}{mutable}{}", ValText(val_type))
+        write!(f, "{shared}{mutable}{val_type}")
     }
 }
 
@@ -248,7 +247,7 @@ fn write_element<W: fmt::Write>(
     match &element.elements {
         Elements::Functions(indexes) => write_functions(f, indexes.as_slice()),
         Elements::Expressions(ty, expressions) => {
-            write!(f, ": {}", RefText(*ty))?;
+            write!(f, ": {ty}")?;
             write_expressions(f, expressions.as_slice())
         }
     }

@@ -1,7 +1,7 @@
 //! The listing as text, in lines of at most 80 columns if names, numbers and nesting allow it.
 use crate::listing::{
-    CallText, CustomText, FunctionHead, ItemName, ItemText, Listing, LocalsText, Longer, Nesting,
-    Part, SectionHead, Stop,
+    CustomText, FunctionHead, ItemName, ItemText, Listing, LocalsText, Longer, Nesting, Part,
+    SectionHead, Stop,
 };
 use crate::sections::SectionTitle;
 use escaped_text::Escaped;
@@ -176,10 +176,9 @@ impl<W: io::Write> Listing for Lines<'_, W> {
         let indent = depth.min(DEEPEST).saturating_mul(2);
         let left = begin_code(self.writer, self.lead, part, indent)?;
         let mut line = Line::new(self.writer, CODE_COLUMN.saturating_add(indent), left);
-        let text = CallText(call);
         let written = match name {
-            Some(name) => write!(line, "{text} {}", ShortName(name)),
-            None => write!(line, "{text}"),
+            Some(name) => write!(line, "{call} {}", ShortName(name)),
+            None => write!(line, "{call}"),
         };
         let written = match written {
             Ok(()) => write!(line, "{}", Mark("", part.longer())),

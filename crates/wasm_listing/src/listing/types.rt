@@ -2,103 +2,10 @@
 use crate::listing::{ItemNames, NameText};
 use std::fmt;
 use wasm_types::types::{
-    AbstractHeapType, CompositeInnerType, CompositeType, FieldType, FuncType, HeapType, RefType,
-    StorageType, SubType, TypeEntry, ValType,
+    CompositeInnerType, CompositeType, FieldType, FuncType, StorageType, SubType, TypeEntry,
+    ValType,
 };
 use wasm_whole_modules::indices::IndexSpace;
-
-/// A value type, as `i32` or `funcref`.
-#[derive(Clone, Copy)]
-pub struct ValText(pub ValType);
-
-impl fmt::Display for ValText {
-    fn fmt<W: fmt::Write>(&self, f: &mut fmt::Formatter<W>) -> fmt::Result {
-        match self.0 {
-            ValType::I32 => write!(f, "i32"),
-            ValType::I64 => write!(f, "i64"),
-            ValType::F32 => write!(f, "f32"),
-            ValType::F64 => write!(f, "f64"),
-            ValType::V128 => write!(f, "v128"),
-            ValType::Ref(ty) => write!(f, "{}", RefText(ty)),
-        }
-    }
-}
-
-/// A reference type, as `funcref` or `(ref null 3)`.
-#[derive(Clone, Copy)]
-pub struct RefText(pub RefType);
-
-impl fmt::Display for RefText {
-    fn fmt<W: fmt::Write>(&self, f: &mut fmt::Formatter<W>) -> fmt::Result {
-        let RefType {
-            nullable,
-            heap_type,
-        } = self.0;
-        match heap_type {
-            HeapType::Abstract { shared: false, ty } if nullable => {
-                write!(f, "{}", short_name(ty))
-            }
-            _ => {
-                let null = if nullable { "null " } else { "" };
-                write!(f, "(ref {null}{})", HeapText(heap_type))
-            }
-        }
-    }
-}
-
-/// Returns the name of the nullable reference type to an abstract heap type.
-fn short_name(ty: AbstractHeapType) -> &'static str {
-    match ty {
-        AbstractHeapType::Func => "funcref",
-        AbstractHeapType::Extern => "externref",
-        AbstractHeapType::Any => "anyref",
-        AbstractHeapType::None => "nullref",
-        AbstractHeapType::NoExtern => "nullexternref",
-        AbstractHeapType::NoFunc => "nullfuncref",
-        AbstractHeapType::Eq => "eqref",
-        AbstractHeapType::Struct => "structref",
-        AbstractHeapType::Array => "arrayref",
-        AbstractHeapType::I31 => "i31ref",
-        AbstractHeapType::Exn => "exnref",
-        AbstractHeapType::NoExn => "nullexnref",
-        AbstractHeapType::Cont => "contref",
-        AbstractHeapType::NoCont => "nullcontref",
-    }
-}
-
-/// A heap type, as `func` or `3`.
-#[derive(Clone, Copy)]
-pub struct HeapText(pub HeapType);
-
-impl fmt::Display for HeapText {
-    fn fmt<W: fmt::Write>(&self, f: &mut fmt::Formatter<W>) -> fmt::Result {
-        match self.0 {
-            HeapType::Abstract { shared: false, ty } => write!(f, "{}", heap_name(ty)),
-            HeapType::Abstract { shared: true, ty } => write!(f, "(shared {})", heap_name(ty)),
-            HeapType::Concrete(index) => write!(f, "{index}"),
-            HeapType::Exact(index) => write!(f, "(exact {index})"),
-        }
-    }
-}
-
-fn heap_name(ty: AbstractHeapType) -> &'static str {
-    match ty {
-        AbstractHeapType::Func => "func",
-        AbstractHeapType::Extern => "extern",
-        AbstractHeapType::Any => "any",
-        AbstractHeapType::None => "none",
-        AbstractHeapType::NoExtern => "noextern",
-        AbstractHeapType::NoFunc => "nofunc",
-        AbstractHeapType::Eq => "eq",
-        AbstractHeapType::Struct => "struct",
-        AbstractHeapType::Array => "array",
-        AbstractHeapType::I31 => "i31",
-        AbstractHeapType::Exn => "exn",
-        AbstractHeapType::NoExn => "noexn",
-        AbstractHeapType::Cont => "cont",
-        AbstractHeapType::NoCont => "nocont",
-    }
-}
 
 /// An entry of a type section, with the index of its first type. The types of a group are followed by their names.
 #[derive(Clone, Copy)]
@@ -198,7 +105,7 @@ impl fmt::Display for FuncText<'_> {
         write!(f, "func ({}) -> ", ValList(self.0.params()))?;
         match self.0.results() {
             [] => write!(f, "nil"),
-            [ty] => write!(f, "{}", ValText(*ty)),
+            [ty] => write!(f, "{ty}"),
             types => write!(f, "({})", ValList(types)),
         }
     }
@@ -206,13 +113,13 @@ impl fmt::Display for FuncText<'_> {
 
 /// Value types, with commas between them.
 #[derive(Clone, Copy)]
-pub struct ValList<'a>(pub &'a [ValType]);
+struct ValList<'a>(&'a [ValType]);
 
 impl fmt::Display for ValList<'_> {
     fn fmt<W: fmt::Write>(&self, f: &mut fmt::Formatter<W>) -> fmt::Result {
         for (number, ty) in self.0.iter().enumerate() {
             let separator = if number == 0 { "" } else { ", " };
-            write!(f, "{separator}{}", ValText(*ty))?;
+            write!(f, "{separator}{ty}")?;
         }
         Ok(())
     }
@@ -239,7 +146,7 @@ impl fmt::Display for FieldText {
         match self.0.element_type {
             StorageType::I8 => write!(f, "i8"),
             StorageType::I16 => write!(f, "i16"),
-            StorageType::Val(ty) => write!(f, "{}", ValText(ty)),
+            StorageType::Val(ty) => write!(f, "{ty}"),
         }
     }
 }

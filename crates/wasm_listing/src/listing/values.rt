@@ -1,8 +1,8 @@
 //! The listing as JSON, one value at a time.
 use crate::json::{text_value, write_json_text};
 use crate::listing::{
-    CallText, CustomText, FunctionHead, ItemName, ItemText, Listing, LocalsText, Longer, Nesting,
-    Part, SectionHead, Stop, Unnamed,
+    CustomText, FunctionHead, ItemName, ItemText, Listing, LocalsText, Longer, Nesting, Part,
+    SectionHead, Stop, Unnamed,
 };
 use crate::sections::kind_name;
 use serde_json::{Value, json};
@@ -192,7 +192,7 @@ fn call_value(
     depth: usize,
 ) -> Result<Value, AllocError> {
     let (offset, size, minimal) = (part.at, part.bytes.len(), part.minimal);
-    let text = Value::String(format!(in alloc; "{}", CallText(call))?);
+    let text = Value::String(format!(in alloc; "{call}")?);
     let name = name_value(alloc, name)?;
     json!(in alloc; {
         "offset": offset,

@@ -103,6 +103,7 @@ impl HeapType {
 /// };
 /// of_type_5.encode(&mut bytes)?;
 /// assert_eq!(rt; bytes.as_slice(), b"\x6f\x63\x05".as_slice());
+/// assert_eq!(rt; of_type_5.to_string(rt.alloc())?.as_str(), "(ref null 5)");
 /// ```
 #[derive(Clone, Copy, Debug, PartialEq, Eq, Hash, PartialOrd, Ord)]
 pub struct RefType {

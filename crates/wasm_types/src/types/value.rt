@@ -27,6 +27,7 @@ use wasm_lists::encode::Encode;
 /// ValType::FUNCREF.encode(&mut bytes)?;
 /// ValType::Ref(RefType::FUNCREF.nullable(false)).encode(&mut bytes)?;
 /// assert_eq!(rt; bytes.as_slice(), b"\x7f\x70\x64\x70".as_slice());
+/// assert_eq!(rt; ValType::FUNCREF.to_string(rt.alloc())?.as_str(), "funcref");
 /// ```
 #[derive(Clone, Copy, Debug, PartialEq, Eq, Hash, PartialOrd, Ord)]
 pub enum ValType {
