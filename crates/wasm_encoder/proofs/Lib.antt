@@ -6,6 +6,7 @@ pub mod RefusalLaws
 pub mod GivenLists
 pub mod OnLiterals
 pub mod WholeModuleLaws
+pub mod BuiltModuleLaws
 pub mod LocalGroups
 pub mod SameTypes
 pub mod WriterLaws

@@ -1,13 +1,16 @@
 -- Modules that are built section by section (WebAssembly Core 3.0, Modules).
-use Rattle.std.specs.Prelude.{◌≡◌, ◌++◌, ◌∷◌, [], ℕ, List, Result, OnOk, OnErr, IfErr}
-use Rattle.std.specs.List.{AllByRecursion}
+use Rattle.std.specs.Prelude.{◌≡◌, ◌++◌, ◌∷◌, ◌⊎◌, [], ℕ, List, Result, OnOk, OnErr, IfOk, IfErr}
+use Rattle.std.specs.List.{All, AllByRecursion, Any}
 use Rattle.wasm_codec.specs.declared.encode.EncodeError.{EncodeError}
-use Rattle.wasm_codec.specs.Encoding.{byte_list_bytes, IsShortestOrLonger}
+use Rattle.wasm_codec.specs.declared.encode.EncodeError.TheVariants.{Memory}
+use Rattle.wasm_codec.specs.Encoding.{byte_list_bytes, IsShortestOrLonger, OnlyTooLong, Refuses}
 use Rattle.wasm_modules.specs.formats.Sections.{header, SectionParts, section_of}
 use Rattle.wasm_modules.specs.formats.Modules.{raw_module, raw_section}
-use Rattle.wasm_sections.specs.formats.ModuleSectionParts.{ModuleSectionParts}
-use Rattle.wasm_sections.specs.formats.ModuleSections.{ShortestWholeModule}
+use Rattle.wasm_sections.specs.declared.module_sections.ModuleSection.{ModuleSection}
+use Rattle.wasm_sections.specs.formats.ModuleSectionParts.{ModuleSectionParts, all_module_section_parts}
+use Rattle.wasm_sections.specs.formats.ModuleSections.{ShortestWholeModule, whole_module}
 use Rattle.wasm_sections.specs.SectionBytes.{IsSectionAfter}
+use Rattle.wasm_sections.specs.WrittenSections.{CountedContent, IsClosedContent}
 
 module _ (id : ℕ) (encoding : List ℕ) (Can Written : Type 0) (Refused : EncodeError → Type 0) (old new : List ℕ) (result : Result (Unit {0}) EncodeError) where
   -- A call that appends a section of this id and encoding to bytes.
@@ -39,3 +42,18 @@ module _ (id : ℕ) (encoding : List ℕ) (Can Written : Type 0) (Refused : Enco
     pub encodes : (sections : List SectionParts) → AllByRecursion raw_section.InRange sections → raw_module.Encodes (raw_module.bytes sections) sections
     -- Every other encoding of them is longer.
     pub shortest : (sections : List SectionParts) (bytes : List ℕ) → raw_module.Encodes bytes sections → IsShortestOrLonger bytes (raw_module.bytes sections)
+
+-- A call that builds a module of decoded sections.
+pub record BuildsModule (sections : List ModuleSection) (result : Result (List ℕ) EncodeError) : Type 0 where
+  -- The module is the header, and then the bytes that are written of each section.
+  pub bytes : IfOk result (λ m. m ≡ whole_module.bytes (all_module_section_parts sections))
+  -- If the expressions in the sections close their blocks, it is the minimal encoding of a module with these sections.
+  pub closed : IfOk result (λ m. All IsClosedContent sections → ShortestWholeModule m (all_module_section_parts sections))
+  -- So it is if some bytes encode these sections, such as those that they were read from.
+  pub encoded : IfOk result (λ m. (bytes : List ℕ) → whole_module.Encodes bytes (all_module_section_parts sections) → ShortestWholeModule m (all_module_section_parts sections))
+  -- U32s count the lists, names and bytes of each section.
+  pub can : OnOk result (All CountedContent sections)
+  -- It fails with `Memory`, or with `TooLong` if a section can't be written.
+  pub refused : IfErr result (λ e. (e ≡ Memory) ⊎ Any (λ section. Refuses CountedContent OnlyTooLong section e) sections)
+  -- It fails with `Memory` alone if some bytes encode these sections.
+  pub memory : (bytes : List ℕ) → whole_module.Encodes bytes (all_module_section_parts sections) → IfErr result (λ e. e ≡ Memory)

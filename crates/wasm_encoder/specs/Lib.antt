@@ -10,6 +10,7 @@ pub use Rattle.wasm_codec.specs.Outcomes
 pub use Rattle.wasm_codec.specs.Decoding
 pub use Rattle.wasm_lists.specs.Iterators
 pub use Rattle.wasm_codec.specs.Lists
+pub use Rattle.wasm_lists.specs.ItemReading
 pub use Rattle.wasm_codec.specs.Rewriter
 pub use Rattle.wasm_codec.specs.Streams
 pub use Rattle.wasm_types.specs.formats.Types as TypeFormats
@@ -44,6 +45,7 @@ pub use Rattle.wasm_sections.specs.formats.Sections as SectionFormats
 pub use Rattle.wasm_sections.specs.formats.ModuleSectionParts
 pub use Rattle.wasm_sections.specs.formats.ModuleSections as ModuleSectionFormats
 pub use Rattle.wasm_sections.specs.SectionBytes
+pub use Rattle.wasm_sections.specs.WrittenSections
 pub use Rattle.wasm_sections.specs.ClosedEntries
 pub use Rattle.wasm_sections.specs.Prefixes
 pub use Rattle.wasm_whole_modules.specs.ModuleOrder
@@ -65,6 +67,9 @@ pub use Rattle.wasm_custom_sections.specs.formats.BranchHints as HintFormats
 pub use Rattle.wasm_custom_sections.specs.formats.SymbolParts
 pub use Rattle.wasm_custom_sections.specs.formats.Symbols as SymbolFormats
 pub use Rattle.wasm_custom_sections.specs.formats.Linking as LinkingFormats
+pub use Rattle.wasm_custom_sections.specs.formats.CoreDumps as CoreDumpFormats
+pub use Rattle.wasm_custom_sections.specs.formats.CoreStacks as CoreStackFormats
+pub use Rattle.wasm_custom_sections.specs.CoreDumpSections
 pub use Rattle.wasm_custom_sections.specs.LinkingSections
 pub use Rattle.wasm_custom_sections.specs.Gaining
 pub use Rattle.wasm_custom_sections.specs.NamedSections
@@ -74,6 +79,7 @@ pub use Rattle.wasm_sink.specs.Sink
 pub use Rattle.wasm_sink.specs.ListCalls
 pub mod BuiltModules
 pub mod EncodedLists
+pub mod Errors
 pub mod CodeSections
 pub mod RawSections
 pub mod SectionIds

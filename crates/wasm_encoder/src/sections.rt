@@ -9,7 +9,7 @@ ghost use Rattle.wasm_codec.specs.Encoding.{byte_list_bytes, IsRefusal, IsShorte
 ghost use Rattle.wasm_lists.specs.EncodedLists.{EncodedItems};
 ghost use Rattle.wasm_sections.specs.SectionBytes.{CountedCustom, IsSectionAfter};
 ghost use Rattle.wasm_sections.specs.formats.EntryParts.{custom_parts};
-ghost use Rattle.wasm_sections.specs.formats.ModuleSectionParts.{custom};
+ghost use Rattle.wasm_sections.specs.formats.ModuleSectionParts.{custom, module_section_parts, section_id};
 ghost use Rattle.wasm_sections.specs.formats.Sections.{custom_body};
 
 use crate::encoded_section::EncodedSection;
@@ -18,6 +18,14 @@ use std::alloc::Global as GlobalAllocator;
 use wasm_codec::encode::EncodeError;
 pub use wasm_codec::reader::names::{SectionNames, section_names};
 pub use wasm_custom_sections::branch_hints::{BranchHint, BranchHints, FunctionHints};
+pub use wasm_custom_sections::core_dumps::{
+    CoreDumpInstance, CoreDumpInstancesSection, CoreDumpModule, CoreDumpModulesSection,
+    CoreDumpSection,
+};
+pub use wasm_custom_sections::core_stacks::{
+    CoreDumpStack, CoreDumpStackFrame, CoreDumpStackSection,
+};
+pub use wasm_custom_sections::core_values::CoreDumpValue;
 pub use wasm_custom_sections::custom_list::{CustomItem, CustomList};
 pub use wasm_custom_sections::known::{KnownCustomSection, known_custom_section};
 pub use wasm_custom_sections::linking::{LinkingSection, LinkingSubsection};
@@ -86,6 +94,14 @@ impl Section for DataCountSection {
     }
 }
 
+impl<'a> Section for ModuleSection<'a> {
+    ghost id = { λ section. section_id (module_section_parts section) };
+
+    fn id(&self) -> u8 {
+        self.id()
+    }
+}
+
 impl<'a> Section for CustomSection<'a> {
     ghost id = { λ _. 0 };
 
@@ -136,6 +152,22 @@ impl Section for NameSection {
 }
 
 impl Section for LinkingSection {
+    ghost id = { λ _. 0 };
+
+    fn id(&self) -> u8 {
+        CUSTOM_SECTION_ID
+    }
+}
+
+impl<'a> Section for CoreDumpSection<'a> {
+    ghost id = { λ _. 0 };
+
+    fn id(&self) -> u8 {
+        CUSTOM_SECTION_ID
+    }
+}
+
+impl<'a> Section for CoreDumpStackSection<'a> {
     ghost id = { λ _. 0 };
 
     fn id(&self) -> u8 {

@@ -3,7 +3,7 @@ ghost use Rattle.std.specs.Prelude.{◌≡◌, ◌∷◌, ℕ, List, [], IfOk, I
 ghost use Rattle.wasm_codec.specs.Encoding.{IsRefusal};
 ghost use Rattle.wasm_modules.specs.formats.Sections.{header};
 ghost use Rattle.wasm_sections.specs.formats.ModuleSections.{ShortestWholeModule};
-ghost use Rattle.wasm_encoder.specs.BuiltModules.{AppendsTo, AppendsSection};
+ghost use Rattle.wasm_encoder.specs.BuiltModules.{AppendsTo, AppendsSection, BuildsModule};
 ghost use Rattle.wasm_encoder.specs.WrittenModules.{EncodesInParts};
 ghost use Rattle.wasm_encoder.specs.EncodedLists.{Makes};
 ghost use Rattle.wasm_encoder.specs.SectionIds.{section_id};
@@ -15,6 +15,7 @@ use std::marker::Model;
 use wasm_codec::encode::EncodeError;
 use wasm_lists::encode::Encode;
 use wasm_modules::section::{HEADER, RawSection, TYPE_SECTION_ID, append_section};
+use wasm_sections::module_sections::ModuleSection;
 
 /// A section of a module: an id, and an encoding that is the size of a body in bytes and the body.
 ///
@@ -185,6 +186,35 @@ impl Module {
     {
         let bytes = Vec::from_slice(alloc, &Module::HEADER)?;
         Ok(Module { bytes })
+    }
+
+    /// Returns a module of these sections, as `read_whole_module` returns them.
+    ///
+    /// If they were read from a module, it is what `normalise::<WholeModule>` returns for that module. Fails with
+    /// `Memory` if it can't allocate. Fails with `TooLong` if a list in a section has more than 4,294,967,295 items, or
+    /// a name, bytes or the body of a section have more bytes than that.
+    ///
+    /// # Examples
+    ///
+    /// ```
+    /// # use wasm_encoder::{Module, ModuleSection, read_whole_module};
+    /// let padded = b"\0asm\x01\0\0\0\x08\x83\x00\x85\x80\x00"; // a start section, size and index padded
+    /// let mut sections = read_whole_module(rt.alloc(), padded)?;
+    /// sections.push(ModuleSection::DataCount(3))?;
+    /// let module = Module::from_sections(rt.alloc(), &sections)?;
+    /// assert_eq!(rt; module.as_slice(), b"\0asm\x01\0\0\0\x08\x01\x05\x0c\x01\x03".as_slice());
+    /// ```
+    pub fn from_sections(
+        alloc: Global,
+        sections: &[ModuleSection<'_>],
+    ) -> Result<Module, EncodeError>
+        ensures builds { BuildsModule sections.now result }
+    {
+        let mut module = Module::new(alloc)?;
+        for section in sections {
+            module.section(section)?;
+        }
+        Ok(module)
     }
 
     /// Appends the id and the encoding of a section. On error the module is unchanged.

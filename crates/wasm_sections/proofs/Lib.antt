@@ -6,5 +6,7 @@ pub mod ElementLaws
 pub mod ValueReading
 pub mod CustomLaws
 pub mod ModuleSectionLaws
+pub mod CountedSections
+pub mod WrittenSectionLaws
 pub mod RawSections
 pub mod ScannedEntries

@@ -3,6 +3,7 @@
 mod kinds;
 mod reader;
 mod rewriter;
+mod writer;
 
 use crate::custom::CustomSection;
 use crate::data::DataSegment;
