@@ -9,3 +9,7 @@ pub mod HintLaws
 pub mod SymbolLaws
 pub mod LinkingLaws
 pub mod ContentsLaws
+pub mod WholeValueLaws
+pub mod CoreValueLaws
+pub mod CoreDumpLaws
+pub mod CoreStackLaws

@@ -5,6 +5,8 @@ use Rattle.wasm_sections.specs.formats.EntryParts.{CustomParts}
 use Rattle.wasm_custom_sections.specs.declared.known.KnownCustomSection.{KnownCustomSection}
 use Rattle.wasm_custom_sections.specs.declared.known.KnownCustomSection.TheVariants as known
 use Rattle.wasm_custom_sections.specs.formats.BranchHints.{function_hints}
+use Rattle.wasm_custom_sections.specs.formats.CoreDumps.{all_module_names, core_instance, core_name, process_name}
+use Rattle.wasm_custom_sections.specs.formats.CoreStacks.{core_stack, stack_parts}
 use Rattle.wasm_custom_sections.specs.formats.Linking.{all_linking_parts, linking_data, versioned}
 use Rattle.wasm_custom_sections.specs.formats.NameParts.{all_subsection_parts}
 use Rattle.wasm_custom_sections.specs.formats.Names.{name_data}
@@ -27,6 +29,10 @@ IsKnown section (known.Producers fields) = Holds (codes "producers") (items prod
 IsKnown section (known.TargetFeatures features) = Holds (codes "target_features") (items target_feature) section (all_feature_parts features.items)
 IsKnown section (known.BranchHints functions) = Holds (codes "metadata.code.branch_hint") (items function_hints) section functions.items
 IsKnown section (known.Linking subsections) = Holds (codes "linking") linking_data section (versioned (all_linking_parts subsections.items))
+IsKnown section (known.CoreDump process) = Holds (codes "core") core_name section (process_name process)
+IsKnown section (known.CoreDumpModules modules) = Holds (codes "coremodules") (items core_name) section (all_module_names modules.items)
+IsKnown section (known.CoreDumpInstances instances) = Holds (codes "coreinstances") (items core_instance) section instances.items
+IsKnown section (known.CoreDumpStack thread) = Holds (codes "corestack") core_stack section (stack_parts thread)
 IsKnown section (known.Other bytes) =
     (bytes.now ≡ section.data_bytes)
     × HoldsNone (codes "name") name_data section
@@ -34,3 +40,7 @@ IsKnown section (known.Other bytes) =
     × HoldsNone (codes "target_features") (items target_feature) section
     × HoldsNone (codes "metadata.code.branch_hint") (items function_hints) section
     × HoldsNone (codes "linking") linking_data section
+    × HoldsNone (codes "core") core_name section
+    × HoldsNone (codes "coremodules") (items core_name) section
+    × HoldsNone (codes "coreinstances") (items core_instance) section
+    × HoldsNone (codes "corestack") core_stack section

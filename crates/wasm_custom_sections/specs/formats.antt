@@ -7,3 +7,5 @@ pub mod BranchHints
 pub mod SymbolParts
 pub mod Symbols
 pub mod Linking
+pub mod CoreDumps
+pub mod CoreStacks

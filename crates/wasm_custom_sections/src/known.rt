@@ -5,6 +5,11 @@ ghost use Rattle.wasm_sections.specs.formats.EntryParts.{custom_parts};
 ghost use Rattle.wasm_custom_sections.specs.KnownSections.{IsKnown};
 
 use crate::branch_hints::{BranchHints, FunctionHints};
+use crate::core_dumps::{
+    CoreDumpInstance, CoreDumpInstancesSection, CoreDumpModule, CoreDumpModulesSection,
+    CoreDumpSection,
+};
+use crate::core_stacks::{CoreDumpStack, CoreDumpStackSection};
 use crate::linking::{LinkingSection, LinkingSubsection};
 use crate::names::{NameSection, NameSubsection};
 use crate::producers::{Producers, ProducersSection};
@@ -36,12 +41,20 @@ pub enum KnownCustomSection<'a> {
     BranchHints(Vec<FunctionHints>),
     /// Subsections of a section `linking`.
     Linking(Vec<LinkingSubsection<'a>>),
+    /// Process of a section `core`.
+    CoreDump(CoreDumpSection<'a>),
+    /// Modules of a section `coremodules`.
+    CoreDumpModules(Vec<CoreDumpModule<'a>>),
+    /// Instances of a section `coreinstances`.
+    CoreDumpInstances(Vec<CoreDumpInstance>),
+    /// Thread and frames of a section `corestack`.
+    CoreDumpStack(CoreDumpStack<'a>),
     /// Contents that stay bytes: the section has another name, or they are malformed.
     Other(&'a [u8]),
 }
 
 /// Decodes the contents of a custom section if its name is known: `name`, `producers`, `target_features`,
-/// `metadata.code.branch_hint` or `linking`.
+/// `metadata.code.branch_hint`, `linking`, `core`, `coremodules`, `coreinstances` or `corestack`.
 ///
 /// Contents under another name stay bytes, and so do malformed ones. Fails only with `Memory`, if an allocation fails.
 ///
@@ -83,6 +96,22 @@ pub fn known_custom_section<'a>(
         },
         "linking" => match decoded::<LinkingSection>(alloc, bytes)? {
             Some(subsections) => Ok(KnownCustomSection::Linking(subsections)),
+            None => Ok(KnownCustomSection::Other(bytes)),
+        },
+        "core" => match decoded::<CoreDumpSection<'a>>(alloc, bytes)? {
+            Some(process) => Ok(KnownCustomSection::CoreDump(process)),
+            None => Ok(KnownCustomSection::Other(bytes)),
+        },
+        "coremodules" => match decoded::<CoreDumpModulesSection<'a>>(alloc, bytes)? {
+            Some(modules) => Ok(KnownCustomSection::CoreDumpModules(modules)),
+            None => Ok(KnownCustomSection::Other(bytes)),
+        },
+        "coreinstances" => match decoded::<CoreDumpInstancesSection>(alloc, bytes)? {
+            Some(instances) => Ok(KnownCustomSection::CoreDumpInstances(instances)),
+            None => Ok(KnownCustomSection::Other(bytes)),
+        },
+        "corestack" => match decoded::<CoreDumpStackSection<'a>>(alloc, bytes)? {
+            Some(thread) => Ok(KnownCustomSection::CoreDumpStack(thread)),
             None => Ok(KnownCustomSection::Other(bytes)),
         },
         _ => Ok(KnownCustomSection::Other(bytes)),
