@@ -1,7 +1,7 @@
 //! Links the proved static library.
 //!
 //! Takes it from the folder that `NOSGRIVEL_LIB_DIR` names. The default is the folder in which `scripts/c-library` or
-//! `scripts/install` put it.
+//! `scripts/install` put it for the target.
 
 use std::env;
 use std::path::PathBuf;
@@ -12,11 +12,13 @@ fn main() {
     println!("cargo:rerun-if-changed=build.rs");
     println!("cargo:rerun-if-env-changed=NOSGRIVEL_LIB_DIR");
     let target = variable("TARGET");
-    assert!(
-        target.starts_with("x86_64-") && target.contains("-linux-"),
-        "unsupported target: expected Linux on x86-64, found {target}"
-    );
-    let folder = env::var_os("NOSGRIVEL_LIB_DIR").map_or_else(default_folder, PathBuf::from);
+    let built = match target.split_once('-') {
+        Some(("x86_64", system)) if system.contains("-linux-") => "../out",
+        Some(("aarch64", system)) if system.contains("-linux-") => "../out/aarch64",
+        _ => panic!("unsupported target: expected Linux on x86-64 or aarch64, found {target}"),
+    };
+    let folder =
+        env::var_os("NOSGRIVEL_LIB_DIR").map_or_else(|| default_folder(built), PathBuf::from);
     let library = folder.join(LIBRARY);
     println!("cargo:rerun-if-changed={}", library.display());
     assert!(
@@ -28,10 +30,10 @@ fn main() {
     println!("cargo:rustc-link-lib=static=nosgrivel");
 }
 
-/// Returns the folder of the library beside this crate: in a clone, or below the prefix of an installation.
-fn default_folder() -> PathBuf {
+/// Returns the folder of the library beside this crate: `built` in a clone, or below the prefix of an installation.
+fn default_folder(built: &str) -> PathBuf {
     let here = PathBuf::from(variable("CARGO_MANIFEST_DIR"));
-    let (built, installed) = (here.join("../out"), here.join("../../../lib"));
+    let (built, installed) = (here.join(built), here.join("../../../lib"));
     if !built.join(LIBRARY).is_file() && installed.join(LIBRARY).is_file() {
         installed
     } else {

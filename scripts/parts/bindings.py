@@ -37,13 +37,13 @@ def expect(report, name, *words, **how):
     return report.check(name, ran.returncode == 0, f"failed{last_lines(said(ran))}")
 
 
-def try_names(report, folder):
-    """Lists the names of the archive with the kit's nm, which is its clang by another name."""
+def try_names(report, folder, archive=ARCHIVE):
+    """Lists the names of an archive with the kit's nm, which is its clang by another name."""
     names = folder / "llvm-nm"
     names.symlink_to(kit() / "toolchain/bin/clang")
 
     def listed(*options):
-        lines = run_command(names, *options, "-j", ARCHIVE).stdout.decode().splitlines()
+        lines = run_command(names, *options, "-j", archive).stdout.decode().splitlines()
         return {line for line in lines if line and not line.endswith(":")}
 
     declared = {found for found in re.findall(r"(nosgrivel_[a-z_]*)\(", HEADER.read_text("utf-8"))}
@@ -85,10 +85,10 @@ def try_c(report, folder):
     try_sanitized(report, folder)
 
 
-def fault_of_example(example, **how):
-    if not example.exists():
+def fault_of_example(*command, **how):
+    if not command[-1].exists():
         return "not built"
-    right, wrong = (run_command(example, input=data, **how) for data in (LONGER, MALFORMED))
+    right, wrong = (run_command(*command, input=data, **how) for data in (LONGER, MALFORMED))
     if (right.returncode, right.stdout) != (0, MINIMAL):
         return f"status {right.returncode}, output {right.stdout!r}, not {MINIMAL!r}"
     if wrong.returncode == 0 or wrong.stdout or text_of(wrong.stderr) != WHY:
@@ -108,18 +108,18 @@ def fault_beside_plain(example, plain):
     return "" if one.stdout == two.stdout else "they write different bytes"
 
 
-def try_sanitized(report, folder):
+def try_sanitized(report, folder, compiler="cc", archive=ARCHIVE, emulator=(), **how):
     """Runs the tests in C under the sanitizers: failing allocations, refusals and their messages."""
     (folder / "none.c").write_text("int main(void) { return 0; }\n", "utf-8")
-    if run_command("cc", *SANITIZERS, "-o", folder / "none", folder / "none.c").returncode:
-        report.skipped("failing allocations and refusals", "cc has no sanitizers")
+    if run_command(compiler, *SANITIZERS, "-o", folder / "none", folder / "none.c").returncode:
+        report.skipped("failing allocations and refusals", f"{compiler} has no sanitizers")
         return
     wrap = "-Wl,--wrap=malloc,--wrap=realloc,--wrap=free"
     for name, program, words in (("failing allocations", "refused_memory", [wrap]), ("refusals", "refusals", [])):
         source = ROOT / f"bindings/c/{program}.c"
         if expect(report, f"the program of {name} is built",
-                  "cc", *FLAGS, *SANITIZERS, *words, "-o", folder / program, source, ARCHIVE):
-            expect(report, name, folder / program)
+                  compiler, *FLAGS, *SANITIZERS, *words, "-o", folder / program, source, archive):
+            expect(report, name, *emulator, folder / program, **how)
 
 
 def try_rust(report):

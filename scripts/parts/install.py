@@ -68,8 +68,11 @@ def install(report, folder):
     for script, argument in (("install", "PREFIX"), ("release", "FOLDER")):
         for words, status in (([], 2), (["--help"], 0), (["--force"], 2), (["a", "b"], 2)):
             ran = run_command(tree / "scripts" / script, *words, cwd=folder)
-            right = ran.returncode == status and f"usage: {script} {argument}" in said(ran)
+            right = ran.returncode == status and f"usage: {script} [--target MACHINE] {argument}" in said(ran)
             report.check(f"{script}: words {words}", right, f"status {ran.returncode}{last_lines(said(ran))}")
+        ran = run_command(tree / "scripts" / script, "--target", "riscv64", "a", cwd=folder)
+        right = ran.returncode == 2 and "unknown target 'riscv64': expected aarch64 or x86_64" in said(ran)
+        report.check(f"{script}: an unknown target", right, f"status {ran.returncode}{last_lines(said(ran))}")
     try_release(report, folder, tree, {**environment, "SOURCE_DATE_EPOCH": "1700000000"})
     shutil.rmtree(tree)
 
@@ -79,7 +82,7 @@ def try_release(report, folder, tree, environment):
     for name in ("first", "second"):
         ran = run_command(tree / "scripts/release", folder / name, env=environment, cwd=folder)
         report.check(f"the {name} release", ran.returncode == 0, f"status {ran.returncode}{last_lines(said(ran))}")
-    archive = f"nosgrivel-{VERSION}-{os.uname().machine}-linux"
+    archive = f"nosgrivel-{VERSION}-x86_64-linux"
     one, two = (folder / name / f"{archive}.tar.gz" for name in ("first", "second"))
     if not one.exists() or not two.exists():
         return

@@ -73,7 +73,7 @@ FILES = {
     "crates/nosgrivel_c/src/lib.rt": "S",
 }
 COPIED = ["bin/launch.bash", "bin/stamps.sh", "bin/wasmnorm", "bin/wasmcanon", "scripts/builds.bash",
-          "scripts/c-library", "VERSION", *HELP.values()]
+          "scripts/c-library", "scripts/targets.bash", "VERSION", *HELP.values()]
 
 
 class Launchers:
@@ -478,6 +478,13 @@ def libraries(it):
     it.write("crates/nosgrivel_c/src/lib.rt", "T")
     it.check("c-library in a changed clone", build())
     it.proves("c-library in a changed clone: a proof")
+    for words, status, message in ((["--help"], 0, ""), (["--force"], 2, "usage: c-library"),
+                                   (["a", "b"], 2, "usage: c-library"), (["--target"], 2, "usage: c-library"),
+                                   (["--target", "riscv64"], 2, "unknown target 'riscv64': expected aarch64 or x86_64"),
+                                   (["--target=aarch64"], 1, "missing not found: name a C compiler for aarch64 in CC")):
+        it.launch(*words, launcher=it.root / "scripts/c-library", CC="missing")
+        it.check(f"c-library {words}", it.status == status and message in it.err)
+        it.proves_nothing(f"c-library {words}: no proof")
 
 
 def clone(it, root):
