@@ -2,7 +2,7 @@
 //!
 //! The first argument is a number, 1 if there is none, and the second says what to do that often:
 //!
-//! - `read_instructions`, `read_module`, `read_types` and `read_imports` read standard input, and print the number of
+//! - `read_instructions`, `walk_instructions`, `read_module`, `read_types` and `read_imports` read standard input, and print the number of
 //!   values. For 0 they print the values.
 //! - `build_functions`, `build_raw_functions`, `build_types`, `build_imports`, `build_globals`, `build_exports`,
 //!   `build_elements`, `build_data` and `build_custom` build a module of so many items, and write it.
@@ -36,6 +36,7 @@ enum Work {
 fn work_of(word: &str) -> Option<Work> {
     Some(match word {
         "read_instructions" => Work::Read(Form::Instructions),
+        "walk_instructions" => Work::Read(Form::EachInstruction),
         "read_module" => Work::Read(Form::Module),
         "read_types" => Work::Read(Form::Types),
         "read_imports" => Work::Read(Form::Imports),

@@ -3,8 +3,8 @@
 use std::alloc::Global;
 use std::io;
 use wasm_encoder::{
-    ImportSection, read, read_instructions, read_type_section, read_whole_module,
-    rewrite_whole_module,
+    Call, ImportSection, ItemReader, Kind, read, read_instructions, read_type_section,
+    read_whole_module, rewrite_whole_module,
 };
 
 /// What the bytes are.
@@ -12,6 +12,8 @@ use wasm_encoder::{
 pub enum Form {
     /// A list of instructions.
     Instructions,
+    /// Instructions, read one after another.
+    EachInstruction,
     /// A module.
     Module,
     /// The body of a type section.
@@ -33,16 +35,34 @@ pub fn read_times(alloc: Global, bytes: &[u8], form: Form, times: u32) -> Option
 fn count(alloc: Global, bytes: &[u8], form: Form) -> Option<usize> {
     match form {
         Form::Instructions => Some(read_instructions(alloc, bytes).ok()?.len()),
+        Form::EachInstruction => walk(alloc, bytes),
         Form::Module => Some(read_whole_module(alloc, bytes).ok()?.len()),
         Form::Types => Some(read_type_section(alloc, bytes).ok()?.len()),
         Form::Imports => Some(read::<ImportSection>(alloc, bytes).ok()?.len()),
     }
 }
 
+/// Reads instructions one after another, and returns their number. `None` means that one is malformed.
+fn walk(alloc: Global, bytes: &[u8]) -> Option<usize> {
+    let mut count: usize = 0;
+    for next in ItemReader::<Call>::to_end(alloc, bytes) {
+        match next {
+            // Each value is looked at, so that the compiler makes it.
+            Ok((_, call)) => {
+                if call.operands().kind() != Kind::Shuffle {
+                    count = count.saturating_add(1);
+                }
+            }
+            Err(_) => return None,
+        }
+    }
+    Some(count)
+}
+
 /// Reads the bytes, and prints a line for each value. `None` means that the reader failed.
 pub fn print_values(rt: &HostRuntime, bytes: &[u8], form: Form) -> io::Result<Option<()>> {
     match form {
-        Form::Instructions => {
+        Form::Instructions | Form::EachInstruction => {
             let Ok(calls) = read_instructions(rt.alloc(), bytes) else {
                 return Ok(None);
             };

@@ -3,10 +3,12 @@
 
 pub mod code_sections;
 pub mod constants;
+pub mod floats;
 pub mod held_lists;
 pub mod instructions;
 pub mod module_writers;
 pub mod modules;
+pub mod one_by_one;
 pub mod refusals;
 pub mod sections;
 pub mod type_sections;

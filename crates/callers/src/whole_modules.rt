@@ -1,17 +1,20 @@
 //! Modules built from named sections, and read back with every section decoded.
-ghost use Rattle.std.specs.Prelude.{◌≡◌, ◌++◌, ◌∷◌, [], ℕ, List, IfOk, OnOk};
+ghost use Rattle.std.specs.Prelude.{◌≡◌, ◌++◌, ◌∷◌, ◌⊎◌, [], ℕ, List, IfErr, IfOk, OnOk};
+ghost use Rattle.wasm_codec.specs.declared.encode.EncodeError.TheVariants as encode_errors;
+ghost use Rattle.wasm_codec.specs.declared.reader.ReadError.TheVariants as read_errors;
 ghost use Rattle.wasm_codec.specs.formats.Combinators.{u32 as u32_format};
-ghost use Rattle.wasm_encoder.specs.Outcomes.{IsOrMemory};
+ghost use Rattle.wasm_encoder.specs.declared.error.Error.TheVariants as errors;
+ghost use Rattle.wasm_encoder.specs.Outcomes.{IsNormalForm, IsOrMemory};
 ghost use Rattle.wasm_sections.specs.ListSections.{StandsForItems};
 ghost use Rattle.wasm_sections.specs.formats.EntryParts.{ExportParts, custom_parts};
-ghost use Rattle.wasm_sections.specs.formats.ModuleSectionParts.{ModuleSectionParts, all_module_section_parts, custom, exports as holding_exports, functions as holding_functions};
+ghost use Rattle.wasm_sections.specs.formats.ModuleSectionParts.{ModuleSectionParts, all_module_section_parts, custom, exports as holding_exports, functions as holding_functions, module_section_parts};
 ghost use Rattle.wasm_sections.specs.formats.Entries.{export_entry};
-ghost use Rattle.wasm_sections.specs.formats.ModuleSections.{ShortestWholeModule};
+ghost use Rattle.wasm_sections.specs.formats.ModuleSections.{ShortestWholeModule, module_section, whole_module};
 
 use std::alloc::Global;
 use wasm_encoder::{
-    CustomSection, EncodeError, ExportSection, FunctionSection, Module, ModuleSection, ReadError,
-    read_whole_module_strict,
+    CustomSection, EncodeError, Error, ExportSection, FunctionSection, Module, ModuleSection,
+    ReadError, WholeModule, normalise, read_whole_module, read_whole_module_strict,
 };
 
 /// Appends a function section to a module.
@@ -65,4 +68,39 @@ pub fn read_back<'a>(alloc: Global, module: &'a Module) -> Result<Vec<ModuleSect
         IsOrMemory (λ given. all_module_section_parts given.items) sections result }
 {
     read_whole_module_strict(alloc, module.as_slice())
+}
+
+/// Appends a section that was read to a module.
+pub fn read_section(built: &mut Module, section: &ModuleSection<'_>) -> Result<(), EncodeError>
+    ensures { (sections : List ModuleSectionParts) (bytes : List ℕ) → ShortestWholeModule built.old sections →
+        module_section.Encodes bytes (module_section_parts section.now) →
+        OnOk result (ShortestWholeModule built.new (sections ++ module_section_parts section.now ∷ [])) }
+{
+    built.section(section)?;
+    Ok(())
+}
+
+/// Reads a module, and writes its sections back.
+pub fn written_back(alloc: Global, bytes: &[u8]) -> Result<Module, Error>
+    // The module is the normal form of what was read.
+    ensures normal { IfOk result (λ m. IsNormalForm whole_module.Encodes whole_module.bytes bytes.now m) }
+    // It encodes the sections that were read, and is their minimal encoding.
+    ensures same { (sections : List ModuleSectionParts) → whole_module.Encodes bytes.now sections →
+        IfOk result (λ m. ShortestWholeModule m sections) }
+    // If the bytes are a module, it fails only if memory runs out.
+    ensures memory { (sections : List ModuleSectionParts) → whole_module.Encodes bytes.now sections →
+        IfErr result (λ e. (e ≡ errors.Read read_errors.Memory) ⊎ (e ≡ errors.Encode encode_errors.Memory)) }
+{
+    let sections = read_whole_module(alloc, bytes)?;
+    Ok(Module::from_sections(alloc, &sections)?)
+}
+
+/// Writes the sections of a module back, and normalises the module.
+pub fn both_ways(alloc: Global, bytes: &[u8]) -> Result<(Module, Vec<u8>), Error>
+    // Both are the same bytes.
+    ensures { IfOk result (λ both. both.0 ≡ both.1.items) }
+{
+    let built = written_back(alloc, bytes)?;
+    let normal = normalise::<WholeModule>(alloc, bytes)?;
+    Ok((built, normal))
 }

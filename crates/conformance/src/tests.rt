@@ -1,6 +1,8 @@
 //! Worked examples, each public function on its happy path, and what no contract says. The rows of `replay` hold what is
 //! read, refused and normalised, and what is written in one call.
 
+mod core_dumps;
+mod errors;
 mod expressions;
 mod functions;
 mod index_spaces;
@@ -15,9 +17,11 @@ mod reading;
 mod readme;
 mod reasons;
 mod refused_memory;
+mod text;
 mod type_sections;
 mod types;
 mod writing;
+mod written_back;
 
 use std::alloc::Global;
 use std::test::Fail;

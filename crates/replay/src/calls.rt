@@ -4,8 +4,8 @@ use crate::mismatch::Mismatch;
 use std::alloc::Global;
 use wasm_encoder::reader::{DecodeError, Refusal, without_reason};
 use wasm_encoder::{
-    CustomSection, DataCountSection, Decode, ReadError, StartSection, check, normalise, read,
-    read_strict, rewrite,
+    CoreDumpSection, CoreDumpStack, CustomSection, DataCountSection, Decode, ReadError,
+    StartSection, check, normalise, read, read_strict, rewrite,
 };
 
 /// How many items a reader gives, or where it refuses the bytes.
@@ -41,6 +41,18 @@ impl Counted for DataCountSection {
 impl<'a> Counted for CustomSection<'a> {
     fn count(&self) -> usize {
         1
+    }
+}
+
+impl<'a> Counted for CoreDumpSection<'a> {
+    fn count(&self) -> usize {
+        1
+    }
+}
+
+impl<'a> Counted for CoreDumpStack<'a> {
+    fn count(&self) -> usize {
+        self.frames.len()
     }
 }
 

@@ -4,13 +4,15 @@
 use crate::calls::{Count, count};
 use crate::columns::columns;
 use crate::mismatch::Mismatch;
+use crate::one_by_one::all_items;
 use crate::readers::{normalise, refusal};
 use crate::strict::parse_refusal;
 use std::alloc::Global;
 use wasm_encoder::reader::Reason;
 use wasm_encoder::{
-    RawSection, ReadError, read_code_section, read_code_section_strict, read_instructions,
-    read_instructions_strict, read_module, read_module_strict, read_type_section,
+    Call, CodeBody, ItemReader, RawSection, ReadError, TypeEntry, read_code_section,
+    read_code_section_strict, read_instructions, read_instructions_strict, read_module,
+    read_module_strict, read_sections, read_sections_strict, read_type_section,
     read_type_section_strict,
 };
 
@@ -58,6 +60,7 @@ fn check_cuts(
         let cut = input.get(..size).ok_or(Mismatch::NotUnderstood)?;
         let expected = expected_answers(what, ends, size, longer);
         check_readers(alloc, what, cut, expected)?;
+        check_one_by_one(alloc, what, cut, ends, expected)?;
         check_normaliser(alloc, what, cut, expected.wide)?;
         check_reason(alloc, what, cut, ends)?;
     }
@@ -153,6 +156,45 @@ fn check_readers(alloc: Global, what: &str, cut: &[u8], expected: Answers) -> Re
             read_module_strict(alloc, cut),
             expected,
         ),
+    }
+}
+
+/// What is read comes one after another, at the ends of the parts before, and is refused as a whole list is.
+fn check_one_by_one(
+    alloc: Global,
+    what: &str,
+    cut: &[u8],
+    ends: &[usize],
+    expected: Answers,
+) -> Result<(), Mismatch> {
+    match what {
+        "calls" => {
+            let mut offsets = vec![in alloc; 0usize]?;
+            offsets.extend_from_slice(ends)?;
+            let wide = all_items(alloc, Ok(ItemReader::<Call>::to_end(alloc, cut)), &offsets)?;
+            let strict = ItemReader::<Call>::to_end_strict(alloc, cut);
+            let strict = all_items(alloc, Ok(strict), &offsets)?;
+            check_lists(wide, strict, expected)
+        }
+        "types" => {
+            let wide = all_items(alloc, ItemReader::<TypeEntry>::list(alloc, cut), ends)?;
+            let strict = all_items(
+                alloc,
+                ItemReader::<TypeEntry>::list_strict(alloc, cut),
+                ends,
+            )?;
+            check_lists(wide, strict, expected)
+        }
+        "code" => {
+            let wide = all_items(alloc, ItemReader::<CodeBody>::list(alloc, cut), ends)?;
+            let strict = all_items(alloc, ItemReader::<CodeBody>::list_strict(alloc, cut), ends)?;
+            check_lists(wide, strict, expected)
+        }
+        _ => {
+            let wide = all_items(alloc, read_sections(alloc, cut), ends)?;
+            let strict = all_items(alloc, read_sections_strict(alloc, cut), ends)?;
+            check_sections(wide, strict, expected)
+        }
     }
 }
 

@@ -12,6 +12,7 @@ mod encoded;
 mod entries;
 mod kinds;
 mod mismatch;
+mod one_by_one;
 mod readers;
 mod refusals;
 mod sections;

@@ -4,7 +4,9 @@ use super::own::{Long, Never};
 use super::{is, is_encoded, is_refused};
 use std::cmp::Ordering;
 use std::test::Fail;
-use wasm_encoder::{EncodeError, SectionId, encode_bytes, encode_list, encode_str};
+use wasm_encoder::{
+    BoxedItems, EncodeError, Items, SectionId, encode_bytes, encode_list, encode_str,
+};
 
 #[test]
 fn options_and_references(rt: HostRuntime) -> Result<(), Fail> {
@@ -83,4 +85,27 @@ fn refused_lists_leave_nothing(rt: HostRuntime) -> Result<(), Fail> {
     let refused = encode_list(&[Never, Never], &mut list);
     assert!(rt; refused == Err(EncodeError::Memory));
     is(rt.alloc(), list.as_slice(), "2A")
+}
+
+/// The sum of the squares of the items.
+fn squares(items: &Items<u32>) -> u32 {
+    let mut sum: u32 = 0;
+    for item in items {
+        sum = sum.wrapping_add(item.wrapping_mul(*item));
+    }
+    sum
+}
+
+#[test]
+fn items_are_iterated(rt: HostRuntime) -> Result<(), Fail> {
+    assert_eq!(rt; squares(&Items::new(rt.alloc())), 0);
+    assert_eq!(rt; squares(&Items::from_slice(rt.alloc(), &[3, 5, 7])?), 83);
+    let boxed = BoxedItems::new(Items::from_slice(rt.alloc(), &[3, 5, 7])?)?;
+    let mut last = 0;
+    for item in &boxed {
+        assert!(rt; last < *item);
+        last = *item;
+    }
+    assert_eq!(rt; last, 7);
+    Ok(())
 }

@@ -3,10 +3,12 @@
 use crate::mismatch::Mismatch;
 use std::alloc::Global;
 use wasm_encoder::{
-    BranchHints, CustomSection, EncodeError, FunctionHints, IndirectNameMap, IndirectNaming,
-    KnownCustomSection, LinkingSection, LinkingSubsection, NameError, NameMap, NameSection,
-    NameSubsection, Naming, Producers, ProducersField, ProducersSection, ReadError, Symbol,
-    SymbolTable, TargetFeature, TargetFeaturesSection, known_custom_section,
+    BranchHints, CoreDumpInstance, CoreDumpInstancesSection, CoreDumpModule,
+    CoreDumpModulesSection, CoreDumpStack, CoreDumpStackSection, CustomSection, EncodeError,
+    FunctionHints, IndirectNameMap, IndirectNaming, KnownCustomSection, LinkingSection,
+    LinkingSubsection, NameError, NameMap, NameSection, NameSubsection, Naming, Producers,
+    ProducersField, ProducersSection, ReadError, Symbol, SymbolTable, TargetFeature,
+    TargetFeaturesSection, known_custom_section,
 };
 
 /// The builder writes the normal form, of what the reader gives. Subsections in another order can't be built.
@@ -41,6 +43,10 @@ fn name_of(section: &str) -> &'static str {
         "target features" => "target_features",
         "branch hints" => "metadata.code.branch_hint",
         "linking" => "linking",
+        "core" => "core",
+        "coremodules" => "coremodules",
+        "coreinstances" => "coreinstances",
+        "corestack" => "corestack",
         _ => "",
     }
 }
@@ -59,6 +65,14 @@ fn build(alloc: Global, known: &KnownCustomSection<'_>) -> Result<Option<Vec<u8>
             Ok(Some(build_hints(alloc, functions.as_slice())?))
         }
         KnownCustomSection::Linking(subsections) => build_linking(alloc, subsections.as_slice()),
+        KnownCustomSection::CoreDump(process) => Ok(Some(process.contents(alloc)?)),
+        KnownCustomSection::CoreDumpModules(modules) => {
+            Ok(Some(build_modules(alloc, modules.as_slice())?))
+        }
+        KnownCustomSection::CoreDumpInstances(instances) => {
+            Ok(Some(build_instances(alloc, instances.as_slice())?))
+        }
+        KnownCustomSection::CoreDumpStack(thread) => Ok(Some(build_stack(alloc, thread)?)),
         KnownCustomSection::Other(_) => Ok(None),
     }
 }
@@ -157,6 +171,43 @@ fn build_hints(alloc: Global, functions: &[FunctionHints]) -> Result<Vec<u8>, En
     let mut section = BranchHints::new(alloc);
     for function in functions {
         section.function_hints(function.function_index, function.hints.as_slice())?;
+    }
+    section.contents()
+}
+
+/// The contents of a section of these modules.
+fn build_modules(alloc: Global, modules: &[CoreDumpModule<'_>]) -> Result<Vec<u8>, EncodeError> {
+    let mut section = CoreDumpModulesSection::new(alloc);
+    for module in modules {
+        section.module(module.name)?;
+    }
+    section.contents()
+}
+
+/// The contents of a section of these instances.
+fn build_instances(alloc: Global, instances: &[CoreDumpInstance]) -> Result<Vec<u8>, EncodeError> {
+    let mut section = CoreDumpInstancesSection::new(alloc);
+    for instance in instances {
+        section.instance(
+            instance.module_index,
+            instance.memories.as_slice(),
+            instance.globals.as_slice(),
+        )?;
+    }
+    section.contents()
+}
+
+/// The contents of a section of this thread and these frames.
+fn build_stack(alloc: Global, thread: &CoreDumpStack<'_>) -> Result<Vec<u8>, EncodeError> {
+    let mut section = CoreDumpStackSection::new(alloc, thread.name);
+    for frame in thread.frames.as_slice() {
+        section.frame(
+            frame.instance_index,
+            frame.function_index,
+            frame.code_offset,
+            frame.locals.as_slice(),
+            frame.stack.as_slice(),
+        )?;
     }
     section.contents()
 }

@@ -4,7 +4,8 @@ use crate::calls::{Count, Counted, Normal, count_of, normal_of, strict_of};
 use crate::mismatch::Mismatch;
 use std::alloc::Global;
 use wasm_encoder::{
-    BranchHints, CustomSection, DataCountSection, DataSection, Decode, ElementSection,
+    BranchHints, CoreDumpInstancesSection, CoreDumpModulesSection, CoreDumpSection,
+    CoreDumpStackSection, CustomSection, DataCountSection, DataSection, Decode, ElementSection,
     ExportSection, FunctionSection, GlobalSection, ImportSection, LinkingSection, MemorySection,
     NameSection, ProducersSection, StartSection, TableSection, TagSection, TargetFeaturesSection,
     WholeModule,
@@ -40,6 +41,10 @@ pub fn all_answers(alloc: Global, section: &str, body: &[u8]) -> Result<Answers,
         "target features" => answers_of::<TargetFeaturesSection<'_>>(alloc, body),
         "branch hints" => answers_of::<BranchHints>(alloc, body),
         "linking" => answers_of::<LinkingSection>(alloc, body),
+        "core" => answers_of::<CoreDumpSection<'_>>(alloc, body),
+        "coremodules" => answers_of::<CoreDumpModulesSection<'_>>(alloc, body),
+        "coreinstances" => answers_of::<CoreDumpInstancesSection>(alloc, body),
+        "corestack" => answers_of::<CoreDumpStackSection<'_>>(alloc, body),
         "custom" => answers_of::<CustomSection<'_>>(alloc, body),
         "module" => answers_of::<WholeModule>(alloc, body),
         _ => Err(Mismatch::NotUnderstood),

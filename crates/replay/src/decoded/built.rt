@@ -8,15 +8,21 @@ use wasm_encoder::{
     TypeSection, read_whole_module,
 };
 
-/// The builders write the normal form of the module, of what the reader gives.
+/// The builders write the normal form of the module, of what the reader gives. So does `from_sections`.
 pub fn check_built(alloc: Global, module: &[u8], normal: &[u8]) -> Result<(), Mismatch> {
     let sections = match read_whole_module(alloc, module) {
         Ok(sections) => sections,
         Err(ReadError::Memory) => return Err(Mismatch::Memory),
         Err(_) => return Err(Mismatch::Read),
     };
-    match build(alloc, sections.as_slice()) {
-        Ok(built) if built.as_slice() == normal => Ok(()),
+    is_built(build(alloc, sections.as_slice()), normal)?;
+    is_built(Module::from_sections(alloc, &sections), normal)
+}
+
+/// The module was built, and it is the normal form.
+fn is_built(built: Result<Module, EncodeError>, normal: &[u8]) -> Result<(), Mismatch> {
+    match built {
+        Ok(module) if module.as_slice() == normal => Ok(()),
         Err(EncodeError::Memory) => Err(Mismatch::Memory),
         _ => Err(Mismatch::Built),
     }

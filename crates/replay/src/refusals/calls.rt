@@ -5,7 +5,8 @@ use crate::mismatch::Mismatch;
 use crate::refusals::expected::Expected;
 use std::alloc::Global;
 use wasm_encoder::{
-    BranchHints, CodeSection, CustomSection, DataCountSection, DataSection, Decode, ElementSection,
+    BranchHints, CodeSection, CoreDumpInstancesSection, CoreDumpModulesSection, CoreDumpSection,
+    CoreDumpStackSection, CustomSection, DataCountSection, DataSection, Decode, ElementSection,
     ExportSection, FunctionSection, GlobalSection, ImportSection, Instructions, LinkingSection,
     MemorySection, Module, NameSection, ProducersSection, StartSection, TableSection, TagSection,
     TargetFeaturesSection, TypeSection, WholeModule, check, normalise, read, read_strict, rewrite,
@@ -57,6 +58,10 @@ fn check_contents(
         }
         "branch hints" => check_calls::<BranchHints>(alloc, calls, bytes, expected),
         "linking" => check_calls::<LinkingSection>(alloc, calls, bytes, expected),
+        "core" => check_calls::<CoreDumpSection<'_>>(alloc, calls, bytes, expected),
+        "coremodules" => check_calls::<CoreDumpModulesSection<'_>>(alloc, calls, bytes, expected),
+        "coreinstances" => check_calls::<CoreDumpInstancesSection>(alloc, calls, bytes, expected),
+        "corestack" => check_calls::<CoreDumpStackSection<'_>>(alloc, calls, bytes, expected),
         _ => Err(Mismatch::NotUnderstood),
     }
 }

@@ -86,3 +86,61 @@ fn bits_come_back() -> Result<(), Fail> {
     }
     Ok(())
 }
+
+#[test]
+fn bits_of_32_bit_numbers() -> Result<(), Fail> {
+    let rows: [(f32, u32); 9] = [
+        (0.0, 0x0000_0000),
+        (-0.0, 0x8000_0000),
+        (1.0, 0x3f80_0000),
+        (-1.5, 0xbfc0_0000),
+        (0.1, 0x3dcc_cccd),
+        (f32::MAX, 0x7f7f_ffff),
+        (f32::INFINITY, 0x7f80_0000),
+        (f32::NEG_INFINITY, 0xff80_0000),
+        (f32::NAN, 0x7fc0_0000),
+    ];
+    for (value, bits) in rows {
+        if Ieee32::from(value).bits() != bits || Ieee32::from(-value).bits() != negated_32(bits) {
+            return Err(Fail::from(bits));
+        }
+    }
+    Ok(())
+}
+
+#[test]
+fn bits_of_64_bit_numbers() -> Result<(), Fail> {
+    let rows: [(f64, u64); 9] = [
+        (0.0, 0x0000_0000_0000_0000),
+        (-0.0, 0x8000_0000_0000_0000),
+        (1.0, 0x3ff0_0000_0000_0000),
+        (-1.5, 0xbff8_0000_0000_0000),
+        (0.1, 0x3fb9_9999_9999_999a),
+        (f64::MAX, 0x7fef_ffff_ffff_ffff),
+        (f64::INFINITY, 0x7ff0_0000_0000_0000),
+        (f64::NEG_INFINITY, 0xfff0_0000_0000_0000),
+        (f64::NAN, 0x7ff8_0000_0000_0000),
+    ];
+    for (value, bits) in rows {
+        if Ieee64::from(value).bits() != bits || Ieee64::from(-value).bits() != negated_64(bits) {
+            return Err(Fail::from(bits));
+        }
+    }
+    Ok(())
+}
+
+/// The bits of the negated number. A NaN stays as it is.
+fn negated_32(bits: u32) -> u32 {
+    match bits {
+        0x7fc0_0000 => bits,
+        _ => bits ^ 0x8000_0000,
+    }
+}
+
+/// The bits of the negated number. A NaN stays as it is.
+fn negated_64(bits: u64) -> u64 {
+    match bits {
+        0x7ff8_0000_0000_0000 => bits,
+        _ => bits ^ 0x8000_0000_0000_0000,
+    }
+}
