@@ -22,6 +22,7 @@ mod type_sections;
 mod types;
 mod writing;
 mod written_back;
+mod written_names;
 
 use std::alloc::Global;
 use std::test::Fail;

@@ -3,6 +3,7 @@ pub mod NamingLaws
 pub mod GainingLaws
 pub mod SubsectionLaws
 pub mod NameSectionLaws
+pub mod WrittenNameLaws
 pub mod ProducerLaws
 pub mod FeatureLaws
 pub mod HintLaws

@@ -1,5 +1,5 @@
 -- The laws of the subsections of a name section, and what is read and rewritten of them.
-use Rattle.std.proofs.Common.{◌≡◌, ℕ, ◌<◌, ◌==◌, false, List, [], ◌∷◌, ◌++◌, Option, Some, None, Result, Ok, Err, IsOkAnd, MatchResult, refl, sym, ap, subst, ◌∙◌, append_assoc, lit≤, arith}
+use Rattle.std.proofs.Common.{◌≡◌, ℕ, ◌<◌, ◌^◌, ◌==◌, false, List, [], ◌∷◌, ◌++◌, length, Option, Some, None, Result, Ok, Err, IsOkAnd, MatchResult, refl, sym, ap, subst, ◌∙◌, append_assoc, lit≤, arith}
 use Rattle.std.proofs.lemmas.Bool.{lt-ltb, ne_eqb}
 use Rattle.wasm_codec.specs.Decoding.{IsMinimal}
 use Rattle.wasm_codec.specs.Lawful.{IsLawful, IsLawfulBody}
@@ -10,7 +10,7 @@ use Rattle.wasm_codec.specs.declared.reader.cursor.Fault.{Fault}
 use Rattle.wasm_codec.specs.declared.reader.cursor.Fault.TheVariants as faults
 use Rattle.wasm_codec.specs.formats.Bodies.{byte_list, bytes_to_end, sized}
 use Rattle.wasm_codec.specs.formats.Combinators.{Format, ◌⊗◌, a_byte, byte_where, items, made, minimal_only, or_else}
-use Rattle.wasm_codec.specs.formats.Grammar.{Joined, TakesBytes}
+use Rattle.wasm_codec.specs.formats.Grammar.{IsBytes, Joined, TakesBytes}
 use Rattle.wasm_codec.proofs.BodyLaws.{Lawful-body, Lawful-byte-list, Lawful-sized, Lawful-to-end}
 use Rattle.wasm_codec.proofs.FormatLaws.{Every-made, IsTagged, Lawful-both, Lawful-items, Lawful-made, Lawful-or-else, Tagged-or, takes_bytes}
 use Rattle.wasm_codec.proofs.MinimalIfLaws.{joined_minimal_only}
@@ -192,9 +192,13 @@ unfolding name_subsection
 no_id_rewritten old new (faults.Malformed m) none = rw none refl
 no_id_rewritten old new faults.Memory none = none
 
-unknown_bytes : (id : ℕ) → 11 < id → (v : List ℕ) → name_subsection.bytes (unknown id v) ≡ id ∷ byte_list.bytes v
+pub unknown_bytes : (id : ℕ) → 11 < id → (v : List ℕ) → name_subsection.bytes (unknown id v) ≡ id ∷ byte_list.bytes v
 unfolding name_subsection
 unknown_bytes id far v = rw (other id 0 (omega (arith, far)), other id 1 (omega (arith, far)), other id 2 (omega (arith, far)), other id 3 (omega (arith, far)), other id 4 (omega (arith, far)), other id 5 (omega (arith, far)), other id 6 (omega (arith, far)), other id 7 (omega (arith, far)), other id 8 (omega (arith, far)), other id 9 (omega (arith, far)), other id 10 (omega (arith, far)), other id 11 (omega (arith, far))) refl
+
+pub unknown_in_range : (id : ℕ) → 11 < id → id < 256 → (v : List ℕ) → IsBytes v → length v < 2 ^ 32 → name_subsection.InRange (unknown id v)
+unfolding name_subsection
+unknown_in_range id far small v are few = rw (other id 0 (omega (arith, far)), other id 1 (omega (arith, far)), other id 2 (omega (arith, far)), other id 3 (omega (arith, far)), other id 4 (omega (arith, far)), other id 5 (omega (arith, far)), other id 6 (omega (arith, far)), other id 7 (omega (arith, far)), other id 8 (omega (arith, far)), other id 9 (omega (arith, far)), other id 10 (omega (arith, far)), other id 11 (omega (arith, far)), lt-ltb 11 id far) (((small, refl), (are, few)), refl)
 
 pub unknown_rewritten : (id : ℕ) → 11 < id → (old mid new : Rewriting) (result : Result (Unit {0}) Fault) → rewritten_at a_byte old ≡ Some (id, mid) → Rewrites (sized bytes_to_end) mid new result → Rewrites name_subsection old new result
 unknown_rewritten id far old mid new result begun e = rewritten id (unknown id) bytes_to_end (unknown_at id far) (unknown_bytes id far) old mid new result begun e

@@ -1,6 +1,8 @@
 pub mod Gaining
 pub mod NamedSections
 pub mod NameSections
+pub mod MappedNames
+pub mod WrittenNames
 pub mod LinkingSections
 pub mod CoreDumpSections
 pub mod KnownSections

@@ -1,6 +1,6 @@
 //! The section `linking`: what a linker needs to know of an object file (tool conventions, WebAssembly Object File
 //! Linking).
-ghost use Rattle.std.specs.Prelude.{◌≡◌, ◌∷◌, ◌+◌, ◌-◌, ◌<◌, ◌≤◌, ◌⊎◌, ℕ, List, None, [], refl, codes, true, IfOk, IfErr, length, ⊤};
+ghost use Rattle.std.specs.Prelude.{◌≡◌, ◌∷◌, ◌++◌, ◌+◌, ◌-◌, ◌<◌, ◌≤◌, ◌⊎◌, ℕ, List, None, [], refl, codes, true, IfOk, IfErr, OnOk, length, ⊤};
 ghost use Rattle.std.proofs.lemmas.List.{map_push};
 ghost use Rattle.wasm_codec.specs.Decoding.{ChecksAll, IsMinimal, ReadsAll, RewritesAll};
 ghost use Rattle.wasm_codec.specs.Encoding.{byte_list_bytes, IsCount, IsRefusal, OnlyTooLong};
@@ -310,13 +310,14 @@ impl LinkingSection {
         }
     }
 
-    /// Adds a symbol table.
+    /// Adds a symbol table. The subsection has its symbols as they are encoded, also if they don't fit their flags.
     ///
     /// Fails with `TooLong` if the section already has 4,294,967,295 subsections or the symbols are longer than
     /// 4,294,967,295 bytes, and with `Memory` if the section can't grow.
     pub fn symbol_table(&mut self, table: &SymbolTable) -> Result<(), EncodeError>
         ensures adds { Adds (GainsWith symbol linking_subsection symbols) self.old table.now self.new
             (IsMemoryOrTooLong (IsFull self.old ⊎ IsUncounted (length (body_bytes table.now)))) result }
+        ensures bytes { OnOk result (self.new.bytes ≡ self.old.bytes ++ 8 ∷ byte_list_bytes (body_bytes table.now)) }
     {
         self.subsections.add(table)
     }

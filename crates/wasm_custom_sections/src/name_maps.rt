@@ -1,7 +1,7 @@
 //! Names for indices, and lists of them (Core 3.0, Name Section).
 ghost use Rattle.std.specs.Prelude.{◌≡◌, ◌↔◌, ◌++◌, [], refl, IsTrue, OnOk, OnErr, IfErr, length, take};
 ghost use Rattle.std.proofs.lemmas.List.{map_push};
-ghost use Rattle.wasm_codec.specs.Encoding.{IsCount, IsCountRefusal, IsShortest, OnlyTooLong};
+ghost use Rattle.wasm_codec.specs.Encoding.{IsCount, IsCountRefusal, IsRefusal, IsShortest, OnlyTooLong};
 ghost use Rattle.wasm_codec.specs.Lawful.{IsLawful};
 ghost use Rattle.wasm_codec.specs.Leb128.{unsigned_leb128};
 ghost use Rattle.wasm_codec.specs.Inputs.{Passes};
@@ -15,6 +15,7 @@ ghost use Rattle.wasm_entities.specs.Making.{Makes};
 ghost use Rattle.wasm_lists.specs.EncodedLists.{IsFull, IsMemoryOrTooLong, IsUncounted, body_bytes};
 ghost use Rattle.wasm_sections.specs.ListSections.{Adds, GainsItem, StandsForItems};
 ghost use Rattle.wasm_custom_sections.specs.Gaining.{AddsNamed, GainsWith};
+ghost use Rattle.wasm_custom_sections.specs.WrittenNames.{AreCountedNames};
 ghost use Rattle.wasm_custom_sections.specs.formats.NameParts.{NamingParts, naming_parts, all_naming_parts, IndirectParts, indirect_parts, all_indirect_parts};
 ghost use Rattle.wasm_custom_sections.specs.formats.Names.{naming, naming_of, indirect_naming, indirect_of};
 
@@ -26,7 +27,7 @@ use wasm_codec::encode::{EncodeError, keep_or_undo};
 use wasm_codec::reader::cursor::{Cursor, Fault};
 use wasm_codec::rewriter::Rewriter;
 use wasm_entities::names::{NameInput, append_name};
-use wasm_lists::encode::Encode;
+use wasm_lists::encode::{Encode, encode_list};
 use wasm_lists::list::Items;
 use wasm_lists::readable::{Item, Readable};
 use wasm_lists::reading::read_list;
@@ -187,6 +188,41 @@ impl<'a> Encode for Naming<'a> {
     fn encode<A: Allocator>(&self, sink: &mut Vec<u8, A>) -> Result<(), EncodeError> {
         let start = sink.len();
         let result = append_naming(self, sink);
+        keep_or_undo(sink, start, result)
+    }
+}
+
+/// Appends names inside an item. On error a part of them may remain.
+fn append_indirect_naming<A: Allocator>(
+    item: &IndirectNaming<'_>,
+    sink: &mut Vec<u8, A>,
+) -> Result<(), EncodeError>
+    ensures ok { OnOk result (sink.new.items ≡ sink.old.items ++ indirect_naming.bytes (indirect_parts item.now)) }
+    ensures can { OnOk result (AreCountedNames item.now.names) }
+    ensures written { OnOk result (IsShortest indirect_naming.Encodes indirect_naming.bytes (indirect_parts item.now)) }
+    ensures refused { IfErr result (IsRefusal (λ i. AreCountedNames i.names) OnlyTooLong item.now) }
+    ensures kept { take (length sink.old.items) sink.new.items ≡ sink.old.items }
+{
+    sink.reserve(5)?;
+    put_u32(sink, item.index);
+    encode_list(item.names.as_slice(), sink)
+}
+
+/// The index, the number of names, and the names (Core 3.0, Indirect Name Maps).
+///
+/// Fails with `TooLong` if there are more than 4,294,967,295 names, or one is longer than so many bytes.
+impl<'a> Encode for IndirectNaming<'a> {
+    ghost bytes = { λ item. indirect_naming.bytes (indirect_parts item) };
+
+    ghost IsWritten = { λ item. IsShortest indirect_naming.Encodes indirect_naming.bytes (indirect_parts item) };
+
+    ghost CanEncode = { λ item. AreCountedNames item.names };
+
+    ghost refuses = { OnlyTooLong };
+
+    fn encode<A: Allocator>(&self, sink: &mut Vec<u8, A>) -> Result<(), EncodeError> {
+        let start = sink.len();
+        let result = append_indirect_naming(self, sink);
         keep_or_undo(sink, start, result)
     }
 }

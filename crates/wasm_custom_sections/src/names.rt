@@ -20,6 +20,9 @@ ghost use Rattle.wasm_custom_sections.specs.declared.names.NameError.TheVariants
 ghost use Rattle.wasm_custom_sections.specs.formats.NameParts.{SubsectionParts, subsection_parts, all_subsection_parts, module_name, functions, locals, labels, types, tables, memories, globals, elements, data_segments, fields, tags};
 ghost use Rattle.wasm_custom_sections.specs.formats.Names.{indirect_naming, name_data, name_subsection, naming};
 
+mod indices;
+mod writer;
+
 use crate::name_maps::{AnyIndirectNaming, IndirectNameMap, IndirectNaming, NameMap, Naming};
 use crate::sized::{
     ListOf, NameBody, RawBody, append_subsection, read_sized_bytes, read_sized_list,
@@ -46,6 +49,25 @@ use wasm_sections::custom::CustomSection;
 /// A subsection of a name section (Core 3.0, Name Section).
 ///
 /// Names inside an item, such as those of a function's locals, are an [`IndirectNaming`].
+///
+/// # Examples
+///
+/// What was read gets new indices, and is written back:
+///
+/// ```
+/// # use wasm_encoder::{Encode, IndexSpace, InsertedItems, NameSection, map_all_indices, read};
+/// let names = read::<NameSection>(rt.alloc(), b"\x01\x04\x01\x00\x01f")?; // the function 0 is f
+/// let import = InsertedItems {
+///     space: IndexSpace::Functions,
+///     at: 0,
+///     count: 1,
+/// };
+/// let mut contents = Vec::new(rt.alloc());
+/// for subsection in &map_all_indices(rt.alloc(), &import, &names)? {
+///     subsection.encode(&mut contents)?;
+/// }
+/// assert_eq!(rt; contents.as_slice(), b"\x01\x04\x01\x01\x01f".as_slice());
+/// ```
 #[derive(Debug, Drop)]
 pub enum NameSubsection<'a> {
     /// Name of the module, 0.
@@ -440,8 +462,8 @@ impl NameSection {
 
 /// The name of a module.
 #[derive(Drop)]
-struct ModuleName<'a> {
-    name: &'a str,
+pub(crate) struct ModuleName<'a> {
+    pub name: &'a str,
 }
 
 impl<'a> Encode for ModuleName<'a> {

@@ -1,10 +1,12 @@
 //! Contents that follow their size in bytes: a list, a name, or any bytes.
-ghost use Rattle.std.specs.Prelude.{◌≡◌, ◌∷◌, ◌++◌, ◌⊎◌, ℕ, List, OnOk, IfErr, length, take};
-ghost use Rattle.wasm_codec.specs.Encoding.{byte_list_bytes, IsCount, IsRefusal, IsTooLong};
+ghost use Rattle.std.specs.Prelude.{◌≡◌, ◌∷◌, ◌++◌, ◌⊎◌, ℕ, List, Any, OnOk, IfErr, length, take};
+ghost use Rattle.std.specs.List.{All};
+ghost use Rattle.wasm_codec.specs.Encoding.{byte_list_bytes, CanEncodeList, IsCount, IsRefusal, IsTooLong};
+ghost use Rattle.wasm_codec.specs.Lists.{items_bytes};
 ghost use Rattle.wasm_codec.specs.Lawful.{IsLawfulBody};
 ghost use Rattle.wasm_codec.specs.Places.{Reads};
 ghost use Rattle.wasm_codec.specs.Reading.{map_ok};
-ghost use Rattle.wasm_codec.specs.declared.encode.EncodeError.TheVariants.{Memory};
+ghost use Rattle.wasm_codec.specs.declared.encode.EncodeError.TheVariants.{Memory, TooLong};
 ghost use Rattle.wasm_codec.specs.Outcomes.{IsMalformed};
 ghost use Rattle.wasm_codec.specs.formats.Bodies.{sized, byte_list, bytes_to_end};
 ghost use Rattle.wasm_codec.specs.formats.Combinators.{items};
@@ -16,7 +18,7 @@ use wasm_codec::encode::{EncodeError, put_size_before};
 use wasm_codec::reader::cursor::{Cursor, Fault};
 use wasm_codec::rewriter::Rewriter;
 use wasm_entities::names::{read_name, rewrite_name};
-use wasm_lists::encode::Encode;
+use wasm_lists::encode::{Encode, encode_list};
 use wasm_lists::list::Items;
 use wasm_lists::readable::Readable;
 use wasm_lists::reading::read_list;
@@ -116,6 +118,27 @@ impl RewritableBody for RawBody {
     }
 }
 
+/// The items of a list that fills a body, to write.
+#[derive(Drop)]
+pub(crate) struct ListItems<'a, T> {
+    pub items: &'a [T],
+}
+
+/// The number of items, and the items.
+impl<'a, T: Encode> Encode for ListItems<'a, T> {
+    ghost bytes = { λ list. items_bytes T.bytes list.items.now };
+
+    ghost IsWritten = { λ list. All T.IsWritten list.items.now };
+
+    ghost CanEncode = { λ list. CanEncodeList T.CanEncode list.items.now };
+
+    ghost refuses = { λ list e. (e ≡ TooLong) ⊎ Any (λ item. T.refuses item e) list.items.now };
+
+    fn encode<A: Allocator>(&self, sink: &mut Vec<u8, A>) -> Result<(), EncodeError> {
+        encode_list(self.items, sink)
+    }
+}
+
 /// Appends the size of a value's encoding in bytes, and the encoding. On error a part of it may remain.
 ///
 /// Fails with `TooLong` if the encoding is longer than 4,294,967,295 bytes, and with any error of the value.
@@ -124,6 +147,7 @@ pub(crate) fn append_sized<T: Encode, A: Allocator>(
     bytes: &mut Vec<u8, A>,
 ) -> Result<(), EncodeError>
     ensures ok { OnOk result (bytes.new.items ≡ bytes.old.items ++ byte_list_bytes (T.bytes value.now)) }
+    ensures can { OnOk result (T.CanEncode value.now) }
     ensures counted { OnOk result (IsCount (length (T.bytes value.now))) }
     ensures written { OnOk result (T.IsWritten value.now) }
     ensures refused { IfErr result (λ e. IsRefusal T.CanEncode T.refuses value.now e ⊎ IsTooLong (length (T.bytes value.now)) e) }
@@ -144,6 +168,7 @@ pub(crate) fn append_subsection<T: Encode, A: Allocator>(
     bytes: &mut Vec<u8, A>,
 ) -> Result<(), EncodeError>
     ensures ok { OnOk result (bytes.new.items ≡ bytes.old.items ++ id ∷ byte_list_bytes (T.bytes content.now)) }
+    ensures can { OnOk result (T.CanEncode content.now) }
     ensures counted { OnOk result (IsCount (length (T.bytes content.now))) }
     ensures written { OnOk result (T.IsWritten content.now) }
     ensures refused { IfErr result (λ e. IsRefusal T.CanEncode T.refuses content.now e ⊎ IsTooLong (length (T.bytes content.now)) e) }

@@ -74,6 +74,8 @@ pub use Rattle.wasm_custom_sections.specs.LinkingSections
 pub use Rattle.wasm_custom_sections.specs.Gaining
 pub use Rattle.wasm_custom_sections.specs.NamedSections
 pub use Rattle.wasm_custom_sections.specs.NameSections
+pub use Rattle.wasm_custom_sections.specs.WrittenNames
+pub use Rattle.wasm_custom_sections.specs.MappedNames
 pub use Rattle.wasm_custom_sections.specs.KnownSections
 pub use Rattle.wasm_sink.specs.Sink
 pub use Rattle.wasm_sink.specs.ListCalls
