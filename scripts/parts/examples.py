@@ -68,14 +68,15 @@ REFUSED = {
 }
 
 
-# Runs `main` of a module of the example language, or `run` of an edited one, and prints what it printed and returned.
-# `trace.enter` must get the index of a function that the module defines.
+# Runs `main` of a module of the example language and prints what it printed and returned. In an edited module,
+# `trace.enter` must get the index of a function that the module defines, as often as `trace.calls` says.
 RUN = r"""
 import { readFileSync } from "node:fs";
 const shown = [];
 const env = { print: number => shown.push(number), show: address => shown.push({ address }) };
 const entered = [];
-const trace = { enter: index => entered.push(index) };
+const calls = new WebAssembly.Global({ value: "i32", mutable: true }, 0);
+const trace = { enter: index => entered.push(index), calls };
 const module = new WebAssembly.Module(readFileSync(process.argv[2]));
 const { exports } = new WebAssembly.Instance(module, { env, trace });
 const textAt = ({ address }) => {
@@ -83,21 +84,25 @@ const textAt = ({ address }) => {
     const length = new DataView(buffer).getUint32(address, true);
     return new TextDecoder().decode(new Uint8Array(buffer, address + 4, length));
 };
-shown.push((exports.main ?? exports.run)());
-const imported = WebAssembly.Module.imports(module).filter(({ kind }) => kind === "function").length;
-if (!exports.main && entered.length === 0) console.log("no function was traced");
+shown.push(exports.main());
+const imports = WebAssembly.Module.imports(module);
+const imported = imports.filter(({ kind }) => kind === "function").length;
+if (imports.some(({ module }) => module === "trace") && entered.length === 0) console.log("no function was traced");
 if (entered.some(index => index < imported)) console.log("an import was traced");
+if (calls.value !== entered.length) console.log(`${calls.value} calls of ${entered.length} were counted`);
 for (const item of shown) console.log(typeof item === "number" ? item : textAt(item));
 """
 
-# Runs `main` of a module of the example language, or `run` of an edited one, and prints the module's functions in the
-# stack trace of the trap.
+# Runs `main` of a module of the example language, edited or not, and prints the module's functions in the stack trace
+# of the trap.
 TRACE = r"""
 import { readFileSync } from "node:fs";
+const calls = new WebAssembly.Global({ value: "i32", mutable: true }, 0);
+const imports = { env: { print: () => {} }, trace: { enter: () => {}, calls } };
 const module = new WebAssembly.Module(readFileSync(process.argv[2]));
-const { exports } = new WebAssembly.Instance(module, { env: { print: () => {} }, trace: { enter: () => {} } });
+const { exports } = new WebAssembly.Instance(module, imports);
 try {
-    (exports.main ?? exports.run)();
+    exports.main();
 } catch (error) {
     for (const [, name] of error.stack.matchAll(/^ *at (\S+) \(wasm:/gm)) console.log(name);
 }

@@ -1,10 +1,11 @@
 """Modules of clang and wasm-ld, from the C programs of linked/, rewritten and run in node.
 
 Each normal form must be no longer than its module and its own normal form, and that of a linked module must print the
-same in node as the module. The same is asked of each canonical form, which `wasmcanon --check` must accept. Modules
-that wasm-ld writes with and without --compress-relocations must have the same canonical form. wasm-validate (wabt) must
-accept each canonical form. wasm-objdump must disassemble the same instructions as `wasmcanon --list` shows, also of
-bench/linked_json.wasm. The programs are those of `rt ci`; without it, wasmnorm is the one that bin/wasmnorm builds.
+same in node as the module. The same is asked of each canonical form, which `wasmcanon --check` must accept, and of a
+linked module with the trace that example_edit adds. Modules that wasm-ld writes with and without --compress-relocations
+must have the same canonical form. wasm-validate (wabt) must accept each canonical form and each traced module.
+wasm-objdump must disassemble the same instructions as `wasmcanon --list` shows, also of bench/linked_json.wasm. The
+programs are those of `rt ci`; without it, wasmnorm is the one that bin/wasmnorm builds.
 """
 from parts.common import ROOT, lacks, program, room, run as run_command, said, text_of
 from parts.objdump import difference
@@ -37,6 +38,20 @@ def fault_of_canonical(modules, module, *words):
     return ""
 
 
+def fault_of_traced(modules, module):
+    """Writes a module with a trace beside it, and returns what is wrong with it."""
+    traced = beside(module, "traced")
+    ran = run_command(modules.edit, input=module.read_bytes())
+    traced.write_bytes(ran.stdout)
+    if ran.returncode:
+        return text_of(ran.stderr)
+    if modules.validates:
+        checked = run_command("wasm-validate", traced)
+        if checked.returncode:
+            return f"wasm-validate: {said(checked)}"
+    return fault_in_node(module, "traced")
+
+
 def fault_in_node(module, form):
     """Runs a linked module and this form of it, and returns what is wrong."""
     one, two = (run_command("node", ROOT / "linked/run.mjs", file) for file in (module, beside(module, form)))
@@ -56,6 +71,10 @@ class Modules:
         self.report = report
         self.wasmnorm = program("wasmnorm") if program("wasmnorm").exists() else ROOT / "bin/wasmnorm"
         self.wasmcanon = program("wasmcanon")
+        self.edit = program("example_edit")
+        self.edits = self.edit.exists()
+        if not self.edits:
+            report.skipped("traced modules", "crates/example_edit isn't built")
         self.canonicalises = self.wasmcanon.exists()
         if not self.canonicalises:
             report.skipped("canonical forms", "crates/wasmcanon isn't built")
@@ -94,6 +113,8 @@ class Modules:
             if self.holds(f"{name}: canonical form", fault_of_canonical(self, module)):
                 self.holds(f"{name}: canonical form in node", fault_in_node(module, "canonical"))
             self.holds(f"{name}: --compress-relocations", self.fault_of_compressed(module, compiled))
+        if self.edits:
+            self.holds(f"{name}: traced by example_edit", fault_of_traced(self, module))
 
     def fault_of_compressed(self, module, compiled):
         """Links a module with padded numbers and in fewer bytes. Both must have one canonical form."""

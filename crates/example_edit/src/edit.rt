@@ -1,23 +1,33 @@
-//! A module with an import before the others, which each of its functions calls.
+//! A module with a trace: two imports before the others, and what each function does with them first.
 ghost use Rattle.std.specs.Prelude.{◌≤◌, IfOk, length};
-ghost use Rattle.example_edit.specs.Renumbered.{IsRenumbered};
+ghost use Rattle.example_edit.specs.Renumbered.{IsRenumbered, raised};
 
-use crate::names::names;
 use anyhow::Result;
 use std::alloc::Global;
-use wasm_encoder::sections::{Export, Import, ListSection, SectionItem};
 use wasm_encoder::{
-    CodeBody, CodeSection, DataCountSection, EncodeError, EntityType, ExportSection, Function,
-    ImportSection, IndexSpace, InsertedItems, Module, ModuleSection, StartSection, TypeEntry,
-    TypeSection, ValType, WholeModule, map_all_indices, read,
+    CodeBody, CodeSection, CustomSection, Encode, EncodeError, EntityType, Function, GlobalType,
+    Import, ImportSection, IndexSpace, Items, Module, ModuleSection, NameSection, Renumbering,
+    TypeEntry, TypeSection, ValType, WholeModule, map_all_indices, read,
 };
 
-/// The import that is added: a function with the index 0.
-const TRACE: InsertedItems = InsertedItems {
-    space: IndexSpace::Functions,
-    at: 0,
-    count: 1,
-};
+/// The index of each import that is added, in its own index space.
+const ADDED: u32 = 0;
+
+/// The new indices of functions and globals, of which one more is imported before the others.
+pub struct Traced;
+
+impl Renumbering for Traced {
+    ghost new_indices = { raised };
+
+    fn new_index(&self, space: IndexSpace, index: u32) -> Result<u32, EncodeError> {
+        match space {
+            IndexSpace::Functions | IndexSpace::Globals => {
+                index.checked_add(1).ok_or(EncodeError::TooLong)
+            }
+            _ => Ok(index),
+        }
+    }
+}
 
 /// Returns the module with the trace.
 pub fn edit(alloc: Global, bytes: &[u8]) -> Result<Vec<u8>> {
@@ -29,18 +39,19 @@ pub fn edit(alloc: Global, bytes: &[u8]) -> Result<Vec<u8>> {
     let mut module = Module::new(alloc)?;
     append_sections(alloc, &mut module, leading, first_body)?;
     module.section(&add_type(alloc, types)?)?;
-    module.section(&add_import(alloc, count_types(types), imports)?)?;
+    module.section(&add_imports(alloc, count_types(types), imports)?)?;
     append_sections(alloc, &mut module, others, first_body)?;
     Ok(module.finish())
 }
 
-/// Reads the sections, with function indices that leave room for the import.
+/// Reads the sections, with indices that leave room for the imports.
 fn read_renumbered<'a>(alloc: Global, bytes: &'a [u8]) -> Result<Vec<ModuleSection<'a>>>
-    // The sections are those that the bytes encode. Their function indices are raised by 1, and nothing else changes.
+    // The sections are those that the bytes encode. Indices of functions and globals are raised by 1, and nothing else
+    // changes.
     ensures { IfOk result (λ sections. IsRenumbered bytes.now sections.items) }
 {
     let sections = read::<WholeModule>(alloc, bytes)?;
-    Ok(map_all_indices(alloc, &TRACE, &sections)?)
+    Ok(map_all_indices(alloc, &Traced, &sections)?)
 }
 
 /// Returns the number of custom sections before all other sections.
@@ -107,14 +118,16 @@ fn add_type(alloc: Global, types: &[TypeEntry]) -> Result<TypeSection, EncodeErr
     Ok(section)
 }
 
-/// Returns an import section with one more function at the front.
-fn add_import<'a>(
+/// Returns an import section with the function and the counter before the other imports.
+fn add_imports<'a>(
     alloc: Global,
     ty: u32,
     imports: &[Import<'a>],
 ) -> Result<ImportSection<'a>, EncodeError> {
     let mut section = ImportSection::new(alloc);
     section.import("trace", "enter", EntityType::Function(ty))?;
+    let counter = GlobalType::new(ValType::I32, true);
+    section.import("trace", "calls", EntityType::Global(counter))?;
     section.entries(imports)?;
     Ok(section)
 }
@@ -141,69 +154,56 @@ fn append_section(
 ) -> Result<()> {
     match section {
         ModuleSection::Types(_) | ModuleSection::Imports(_) => {}
-        ModuleSection::Functions(types) => append_items(alloc, module, types.as_slice())?,
-        ModuleSection::Tables(tables) => append_items(alloc, module, tables.as_slice())?,
-        ModuleSection::Memories(memories) => append_items(alloc, module, memories.as_slice())?,
-        ModuleSection::Tags(tags) => append_items(alloc, module, tags.as_slice())?,
-        ModuleSection::Globals(globals) => append_items(alloc, module, globals.as_slice())?,
-        ModuleSection::Exports(exports) => {
-            module.section(&rename_export(alloc, exports.as_slice())?)?
-        }
-        ModuleSection::Start(function) => module.section(&StartSection {
-            function_index: *function,
-        })?,
-        ModuleSection::Elements(elements) => append_items(alloc, module, elements.as_slice())?,
-        ModuleSection::DataCount(count) => module.section(&DataCountSection { count: *count })?,
-        ModuleSection::Code(bodies) => {
-            module.section(&trace_calls(alloc, bodies.as_slice(), first_body)?)?
-        }
-        ModuleSection::Data(segments) => append_items(alloc, module, segments.as_slice())?,
+        ModuleSection::Code(bodies) => { module.section(&trace_calls(alloc, bodies, first_body)?)? }
         ModuleSection::Custom(custom) if custom.name == "name" => {
-            module.section(&names(alloc, &TRACE, custom.bytes)?)?
+            let names = renumber_names(alloc, custom.bytes)?;
+            module.section(&CustomSection {
+                name: custom.name,
+                bytes: names.as_slice(),
+            })?
         }
-        ModuleSection::Custom(custom) => module.section(custom)?,
+        _ => module.section(section)?,
     }
     Ok(())
 }
 
-/// Appends a section of items that stay as they are.
-fn append_items<T: SectionItem>(
+/// Returns the bodies, each of which first counts the call and hands the index of its function to the import.
+fn trace_calls(
     alloc: Global,
-    module: &mut Module,
-    items: &[T],
-) -> Result<(), EncodeError> {
-    let mut section = ListSection::new(alloc);
-    section.entries(items)?;
-    module.section(&section)
-}
-
-/// Returns the exports, with `main` renamed `run`.
-fn rename_export<'a>(
-    alloc: Global,
-    exports: &[Export<'a>],
-) -> Result<ExportSection<'a>, EncodeError> {
-    let mut section = ExportSection::new(alloc);
-    for export in exports {
-        let name = if export.name == "main" {
-            "run"
-        } else {
-            export.name
-        };
-        section.export(name, export.kind, export.index)?;
-    }
-    Ok(section)
-}
-
-/// Returns the bodies, each of which first calls the import with the index of its function.
-fn trace_calls(alloc: Global, bodies: &[CodeBody], first: u32) -> Result<CodeSection, EncodeError> {
+    bodies: &Items<CodeBody>,
+    first: u32,
+) -> Result<CodeSection, EncodeError> {
     let mut section = CodeSection::new(alloc);
     let mut index = i32::try_from(first).map_err(|_| EncodeError::TooLong)?;
     for body in bodies {
         let mut function = Function::new(alloc, body.locals.as_slice().iter().copied())?;
-        function.instructions().i32_const(index)?.call(TRACE.at)?;
+        trace(&mut function, index)?;
         function.calls(body.calls.as_slice())?;
         section.function(&function)?;
         index = index.checked_add(1).ok_or(EncodeError::TooLong)?;
     }
     Ok(section)
+}
+
+/// Appends what the function with this index does first.
+fn trace(function: &mut Function, index: i32) -> Result<(), EncodeError> {
+    function
+        .instructions()
+        .global_get(ADDED)?
+        .i32_const(1)?
+        .i32_add()?
+        .global_set(ADDED)?
+        .i32_const(index)?
+        .call(ADDED)?;
+    Ok(())
+}
+
+/// Returns the contents of a name section with new indices.
+fn renumber_names(alloc: Global, contents: &[u8]) -> Result<Vec<u8>> {
+    let names = map_all_indices(alloc, &Traced, &read::<NameSection>(alloc, contents)?)?;
+    let mut renumbered = Vec::new(alloc);
+    for subsection in &names {
+        subsection.encode(&mut renumbered)?;
+    }
+    Ok(renumbered)
 }

@@ -1,15 +1,14 @@
 //! Adds a trace to a module: it reads the module from standard input, edits it, and writes it to standard output.
 //!
-//! The edited module imports the function `enter` of the module `trace` before its other imports. Each of its functions
-//! first calls `enter` with its own index. The export `main` is renamed `run`.
+//! The edited module imports the function `enter` and the global `calls` of the module `trace`, before its other
+//! imports. Each of its functions first adds 1 to `calls`, and calls `enter` with its own index.
 //!
-//! `edit` reads every section, and `map_all_indices` raises the function indices in all of them: in instructions,
-//! element segments, exports and the start section. Each section then goes back through its builder. `names` does the
-//! same for the name section. Other custom sections stay as they are, so indices and offsets in them go stale.
+//! `edit` reads every section, and `map_all_indices` raises the indices of functions and globals in all of them, also in
+//! the name section. Code gets new instructions; the other sections are written back as they are. Indices and offsets in
+//! other custom sections go stale.
 #![tactic(auto)]
 
 mod edit;
-mod names;
 
 use anyhow::Result;
 use std::io::{Read, Write};
