@@ -5,6 +5,19 @@
 //! This crate has modules and their sections (Core 3.0, Modules), and re-exports the public API of the crates below it.
 //! Name this crate alone in your code.
 //!
+//! - **Writers.** [`InstructionSink`] has a method for each instruction. [`Module`] takes the builders: [`TypeSection`],
+//!   [`CodeSection`] with [`Function`], and one for each other section in [`sections`]. [`ModuleWriter`] writes sections
+//!   to a file or stream, and [`Encode`] single values. After an error nothing has changed.
+//! - **Readers.** [`read`] decodes the body of what its type parameter builds: `read::<WholeModule>`,
+//!   `read::<ExportSection>`, `read::<Instructions>`. It accepts every encoding; [`read_strict`] accepts only the minimal
+//!   one, and [`check`] does the same without making the value. [`ItemReader`] hands on one item after another.
+//!   [`Readable`] and [`Decode`] read types of your own.
+//! - **Normalisers.** [`normalise`] writes the minimal encoding of its input into new memory, and [`rewrite`] into the
+//!   memory of its input. [`rewrite_whole_module`] does that for all sections of a module.
+//! - **Editing.** [`MapIndices`] copies values with the new indices of a [`Renumbering`], and [`Module::from_sections`]
+//!   writes what was read. [`check_order`] finds sections out of order.
+//! - **Errors.** [`Error`] holds those of all calls. A [`DecodeError`] says where its input is malformed, and why.
+//!
 //! # Examples
 //!
 //! Instructions go into any list of bytes:
@@ -16,45 +29,38 @@
 //! assert_eq!(rt; code.as_slice(), b"\x20\x00\x20\x01\x6a\x0b".as_slice());
 //! ```
 //!
-//! A module is a list of sections, here a memory of one page and its export:
+//! A module is a list of sections. This one exports a function that adds its parameters:
 //!
 //! ```
-//! # use wasm_encoder::{ExportKind, ExportSection, MemorySection, MemoryType, Module};
-//! let mut memories = MemorySection::new(rt.alloc());
-//! memories.memory(MemoryType::new(1))?;
+//! # use wasm_encoder::{
+//! #     CodeSection, ExportKind, ExportSection, Function, FunctionSection, Module, TypeSection, ValType,
+//! # };
+//! let mut types = TypeSection::new(rt.alloc());
+//! types.ty().function([ValType::I32, ValType::I32], [ValType::I32])?;
+//! let mut functions = FunctionSection::new(rt.alloc());
+//! functions.function(0)?;
 //! let mut exports = ExportSection::new(rt.alloc());
-//! exports.export("memory", ExportKind::Memory, 0)?;
+//! exports.export("f", ExportKind::Func, 0)?;
+//! let mut f = Function::new(rt.alloc(), [])?;
+//! f.instructions().local_get(0)?.local_get(1)?.i32_add()?.end()?;
+//! let mut codes = CodeSection::new(rt.alloc());
+//! codes.function(&f)?;
+//!
 //! let mut module = Module::new(rt.alloc())?;
-//! module.section(&memories)?;
+//! module.section(&types)?;
+//! module.section(&functions)?;
 //! module.section(&exports)?;
-//! let expected = b"\0asm\x01\0\0\0\x05\x03\x01\x00\x01\x07\x0a\x01\x06memory\x02\x00";
-//! assert_eq!(rt; module.as_slice(), expected.as_slice());
+//! module.section(&codes)?;
+//! assert_eq!(rt; module.finish().len(), 39);
 //! ```
 //!
 //! A padded index becomes minimal:
 //!
 //! ```
-//! # use wasm_encoder::normalise_instructions;
-//! let minimal = normalise_instructions(rt.alloc(), b"\x20\xc2\x80\x00")?; // local.get 66
+//! # use wasm_encoder::{Instructions, normalise};
+//! let minimal = normalise::<Instructions>(rt.alloc(), b"\x20\xc2\x80\x00")?; // local.get 66
 //! assert_eq!(rt; minimal.as_slice(), b"\x20\x42".as_slice());
 //! ```
-//!
-//! # Writers
-//!
-//! [`InstructionSink`] has a method for each instruction. [`Module`] takes the builders: [`TypeSection`],
-//! [`CodeSection`] with [`Function`], and one for each other section in [`sections`]. [`Encode`] writes single values.
-//! After an error nothing has changed.
-//!
-//! # Readers
-//!
-//! A reader returns the decoded value, or the offset up to which the input decodes. `read_…` accepts every encoding,
-//! `read_…_strict` only minimal encodings, and `check_…` does the same without making the value. [`Readable`] reads
-//! types of your own.
-//!
-//! # Normalisers
-//!
-//! `normalise_…` writes the minimal encoding of its input into new memory, and `rewrite_…` into the memory of its
-//! input. Both fail if the input is malformed.
 //!
 //! # The guarantee
 //!
@@ -154,10 +160,12 @@ pub use sections::DataSegment;
 pub use sections::DataSegmentMode;
 pub use sections::DataSymbol;
 pub use sections::DataSymbolDefinition;
+pub use sections::Element;
 pub use sections::ElementMode;
 pub use sections::ElementSection;
 pub use sections::Elements;
 pub use sections::EntityType;
+pub use sections::Export;
 pub use sections::ExportKind;
 pub use sections::ExportSection;
 pub use sections::FeaturePrefix;
@@ -165,6 +173,7 @@ pub use sections::FunctionHints;
 pub use sections::FunctionSection;
 pub use sections::GlobalSection;
 pub use sections::GlobalType;
+pub use sections::Import;
 pub use sections::ImportSection;
 pub use sections::IndirectNameMap;
 pub use sections::IndirectNaming;
@@ -172,8 +181,10 @@ pub use sections::ItemSymbol;
 pub use sections::KnownCustomSection;
 pub use sections::LinkingSection;
 pub use sections::LinkingSubsection;
+pub use sections::ListSection;
 pub use sections::MemorySection;
 pub use sections::MemoryType;
+pub use sections::ModuleError;
 pub use sections::ModuleSection;
 pub use sections::NameError;
 pub use sections::NameMap;
@@ -184,10 +195,12 @@ pub use sections::Producer;
 pub use sections::Producers;
 pub use sections::ProducersField;
 pub use sections::ProducersSection;
+pub use sections::SectionItem;
 pub use sections::SectionSymbol;
 pub use sections::StartSection;
 pub use sections::Symbol;
 pub use sections::SymbolTable;
+pub use sections::Table;
 pub use sections::TableSection;
 pub use sections::TableType;
 pub use sections::TagKind;
