@@ -7,6 +7,21 @@ from parts.trial import declared_crates
 
 CRATES = pathlib.Path("crates")
 RECORD, SAMPLE = "nosgrivel.vendored", CRATES / "wasm_codec/src/lib.rt"
+APP = """//! Prints how many sections the module on standard input has.
+#![tactic(auto)]
+
+use anyhow::Result;
+use std::io::Read;
+use wasm_encoder::read_module;
+
+fn main(rt: HostRuntime) -> Result<()> {
+    let mut bytes = Vec::new(rt.alloc());
+    rt.stdin().read_to_end(&mut bytes)?;
+    let sections = read_module(rt.alloc(), &bytes)?;
+    println!(rt; "{}", sections.len())?;
+    Ok(())
+}
+"""
 OWN_LINES = ["# The project's own.", "app: wasm_encoder anyhow", "", "low:"]
 
 
@@ -24,7 +39,7 @@ class Project:
         (self.folder / path).write_text(text, "utf-8")
 
     def check(self, name, right, why=""):
-        self.report.check(f"{self.name}: {name}", right, why)
+        return self.report.check(f"{self.name}: {name}", right, why)
 
     def files(self):
         return {file.relative_to(self.folder): file.read_bytes() for file in self.folder.rglob("*") if file.is_file()}
@@ -110,6 +125,21 @@ def try_own(report, folder):
     project.check("no folder of an older crate", not (project.folder / "crates/wasm_older").exists())
 
 
+def try_trial(report, folder):
+    """A program of the project is built without proof, and runs on a module of a toolchain."""
+    project = Project(report, folder, "trial", {"crates.txt": "app: wasm_encoder anyhow\n", "app/src/main.rt": APP})
+    project.vendor("the first run")
+    for words in (["--keep", "app"], ["--keep", "app", "--project", "there", "app", "more"], ["--project", ".", "app"]):
+        ran = run_command(ROOT / "scripts/trial", *words, cwd=project.folder)
+        project.check(f"trial {words}", ran.returncode == 1 and "usage: trial" in said(ran), said(ran))
+    program = project.folder / "program"
+    ran = run_command(ROOT / "scripts/trial", "--keep", program, "--project", project.folder, "app")
+    if not project.check("trial keeps a program", ran.returncode == 0 and program.exists(), said(ran)):
+        return
+    ran = run_command(program, input=(ROOT / "bench/linked_json.wasm").read_bytes())
+    project.check("it counts sections", (ran.returncode, ran.stdout) == (0, b"19\n"), said(ran))
+
+
 def try_layout(report, folder):
     """Without the folder crates, a project has its crates at the top."""
     project = Project(report, folder, "top", {"crates.txt": "app: wasm_encoder\n", "app/src/main.rt": "A"})
@@ -144,5 +174,5 @@ def try_refusals(report, folder):
 
 def run(report):
     with room() as folder:
-        for use in (try_empty, try_own, try_layout, try_refusals):
+        for use in (try_empty, try_own, try_layout, try_trial, try_refusals):
             use(report, folder)
