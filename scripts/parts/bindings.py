@@ -27,6 +27,9 @@ FLAGS = ["-std=c11", "-Wall", "-Wextra", "-Werror", "-I", ROOT / "bindings/c"]
 # A module in a longer encoding, its minimal encoding, and a malformed module: no locals at 12, an unknown opcode at 13.
 LONGER = b"\0asm\1\0\0\0" + bytes.fromhex("0186 00014F006000 00 03 8100 80")
 MINIMAL = b"\0asm\1\0\0\0" + bytes.fromhex("0104 01600000 03 01 80")
+# A memory section with a padded number, after two custom sections, and the canonical form without the first of them.
+NAMED = MINIMAL[:8] + b"\0\6\5notes" + b"\0\5\4name" + b"\5\4\1\0\x81\0"
+STRIPPED = MINIMAL[:8] + b"\0\5\4name" + b"\5\3\1\0\1"
 MALFORMED = b"\0asm\1\0\0\0" + bytes.fromhex("0A05 0103 00 FF 0B")
 WHY = "code section, function 0, offset 0xd: unknown opcode 0xFF"
 
@@ -88,16 +91,21 @@ def try_c(report, folder):
 def fault_of_example(*command, **how):
     if not command[-1].exists():
         return "not built"
-    right, wrong = (run_command(*command, input=data, **how) for data in (LONGER, MALFORMED))
-    if (right.returncode, right.stdout) != (0, MINIMAL):
-        return f"status {right.returncode}, output {right.stdout!r}, not {MINIMAL!r}"
+    words = [*command, ".debug_*", "not*"]
+    right, wrong = (run_command(*words, input=data, **how) for data in (NAMED, MALFORMED))
+    if (right.returncode, right.stdout) != (0, STRIPPED):
+        return f"status {right.returncode}, output {right.stdout!r}, not {STRIPPED!r}"
+    refused = run_command(*command, b"\xff", input=NAMED, **how)
+    if (refused.returncode, refused.stdout) != (2, b""):
+        return f"status {refused.returncode} for a pattern that isn't UTF-8: {said(refused)}"
     if wrong.returncode == 0 or wrong.stdout or text_of(wrong.stderr) != WHY:
         return f"status {wrong.returncode} for a malformed module: {text_of(wrong.stderr)}"
     return ""
 
 
 def fault_beside_plain(example, plain):
-    """Compares the example with the plain normaliser of the benchmark, on a module of two million bytes."""
+    """Compares the example with the plain normaliser of the benchmark, on a module of two million bytes, in which only
+    types and code aren't in their minimal encoding."""
     if not example.exists() or not plain.exists():
         return "not built"
     data = (ROOT / "bench/linked_code.wasm").read_bytes()

@@ -20,6 +20,7 @@ FILES = [*(f"bin/{name}" for name in PROGRAMS), *(f"share/man/man1/{name}.1" for
          "share/fish/vendor_completions.d/wasmcanon.fish", "include/nosgrivel.h", "lib/libnosgrivel.a",
          "lib/libnosgrivel.so", f"lib/libnosgrivel.so.{VERSION}",
          f"lib/libnosgrivel.so.{VERSION.rpartition('.')[0]}", "lib/pkgconfig/nosgrivel.pc",
+         "lib/cmake/nosgrivel/nosgrivel-config.cmake", "lib/cmake/nosgrivel/nosgrivel-config-version.cmake",
          "share/nosgrivel/example.c", "share/nosgrivel/files", "share/nosgrivel/uninstall",
          "share/doc/nosgrivel/LICENSE", "share/doc/nosgrivel/CHANGELOG.md"]
 # A memory section with a padded number, and its canonical form.
@@ -75,6 +76,16 @@ def install(report, folder):
         report.check(f"{script}: an unknown target", right, f"status {ran.returncode}{last_lines(said(ran))}")
     try_release(report, folder, tree, {**environment, "SOURCE_DATE_EPOCH": "1700000000"})
     shutil.rmtree(tree)
+
+
+CMAKE = """cmake_minimum_required(VERSION 3.10)
+project(example C)
+find_package(nosgrivel {version} REQUIRED)
+add_executable(shared {example})
+target_link_libraries(shared nosgrivel::nosgrivel)
+add_executable(static {example})
+target_link_libraries(static nosgrivel::static)
+"""
 
 
 def try_release(report, folder, tree, environment):
@@ -144,6 +155,21 @@ def try_completion(it):
         it.answers("fish: wasmcanon --li", ["fish", "-c", f"source {fish}; complete -C 'wasmcanon --li'"], b"--list\n")
 
 
+def try_cmake(it, environment):
+    """Builds the example against both libraries by CMake, and asks for versions that there aren't."""
+    source, made = it.room / "cmake", it.room / "cmake/made"
+    source.mkdir()
+    for wanted, is_there in (("0.0.9", False), (VERSION, True), ("0.2", False), (VERSION.rpartition(".")[0], True)):
+        text = CMAKE.format(version=wanted, example=it.prefix / "share/nosgrivel/example.c")
+        (source / "CMakeLists.txt").write_text(text, "utf-8")
+        ran = run_command("cmake", "-S", source, "-B", made, f"-DCMAKE_PREFIX_PATH={it.prefix}", env=environment)
+        it.report.check(f"cmake: version {wanted}", (ran.returncode == 0) == is_there, said(ran))
+    if it.expect("the examples by cmake", "cmake", "--build", made):
+        for kind in ("shared", "static"):
+            fault = fault_of_example(made / kind, env=environment)
+            it.report.check(f"the example by cmake, {kind}: its answers", not fault, fault)
+
+
 def options(text):
     return {word.strip("[]`,.;:") for word in text.split() if word.startswith("--")}
 
@@ -179,6 +205,8 @@ def try_c(it):
             if it.expect(name, compiler, *flags, "-o", example, *source, *linked):
                 fault = fault_of_example(example, env=found)
                 it.report.check(f"{name}: its answers", not fault, fault)
+    if not lacks(it.report, "cmake", "its package isn't tried"):
+        try_cmake(it, found)
     if not lacks(it.report, "readelf", "the shared library isn't read"):
         read = text_of(run_command("readelf", "-Wd", "--dyn-syms", it.prefix / "lib/libnosgrivel.so").stdout)
         named = f"soname: [libnosgrivel.so.{VERSION.rpartition('.')[0]}]" in read
