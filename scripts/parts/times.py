@@ -9,10 +9,13 @@ import resource
 import time
 
 from parts.common import ROOT, kit_line
+from parts.trial import declared_crates
 
 # The page with the tables, and the lines around each.
 PAGE = ROOT / "docs/CONTRIBUTING.md"
 BEGIN, END = "<!-- {}: written by scripts/gate -->", "<!-- end of {} -->"
+# Programs whose first proof has a row: it is that of the program and of all libraries below it. The last only writes.
+FIRST = ("wasmnorm", "wasmcanon", "example_hello")
 
 
 class Clock:
@@ -73,7 +76,22 @@ def crates_table(calls):
     order = sorted(used, key=lambda it: -sum(used[it].values()))
     rows = [[f"`{crate}`", *(seconds(used[crate][kind]) if used[crate][kind] else "" for kind in kinds)]
             for crate in order]
+    for program in FIRST:
+        names = below(program)
+        if names <= set(used):
+            rows.append([f"`{program}` and its libraries", seconds(sum(used[it]["proof"] for it in names)), "", ""])
     return table(["crate", *(f"{kind} s" for kind in kinds)], rows)
+
+
+def below(crate):
+    """A crate of the repository, and those below it."""
+    declared, found, left = declared_crates(), set(), [crate]
+    while left:
+        name = left.pop()
+        if name in declared and name not in found:
+            found.add(name)
+            left += declared[name]
+    return found
 
 
 def calls_of(file):
