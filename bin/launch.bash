@@ -12,11 +12,11 @@ root=$PWD
 speaker=$program
 . bin/stamps.sh
 . scripts/builds.bash
-# The program answers the argument $words at once. With $trial it reads a module from standard input, and writes
-# less than 1 MiB. $usual is the usual time of a proof from a fresh clone, and $help the source of its help text.
+# The program answers the argument $words at once. $usual is the usual time of a proof from a fresh clone, and $help the
+# source of its help text.
 case $program in
-    wasmnorm) words=--version trial=module usual="15 minutes" help=crates/wasmnorm/src/texts.rt ;;
-    wasmcanon) words=--version trial=--check usual="30 minutes" help=crates/canon_cli/src/options.rt ;;
+    wasmnorm) words=--version usual="15 minutes" help=crates/wasmnorm/src/texts.rt ;;
+    wasmcanon) words=--version usual="30 minutes" help=crates/canon_cli/src/options.rt ;;
 esac
 # The exit status if the program can't be built: `git bisect run` skips such a commit.
 not_built=125
@@ -83,6 +83,7 @@ begin() {
 # Keeps the program in this FILE, unless the sources have changed since the build began.
 keep() {
     if [ "$(file_stamps)" != "$before" ]; then
+        rm -f "$1"
         say "the sources changed during the build: run it again"
         exit "$not_built"
     fi
@@ -128,34 +129,15 @@ build() {
     cache "$program" "$now" "$kept/$program"
 }
 
-# Links the program that scripts/trial builds in a folder of this ROOM, before it removes that folder. Ends without it
-# when standard input is closed.
-watch() {
-    local file
-    while tick 0.02; do
-        for file in "$1"/*/program; do [ -e "$file" ] && ln "$file" "$1/kept" && return; done
-    done 2>/dev/null
-}
-
-# Runs the program with scripts/trial, and keeps it. Its temporary files go to this ROOM.
-try() {
-    { TMPDIR=$1 scripts/trial "$program" --stdin "$root/bench/linked_json.wasm" --arg "$trial" >"$1/output" \
-        2>"$kept/log" || true; } | watch "$1" || true
-}
-
-# Builds the sources without proof. scripts/trial builds a program with run-time checks, runs it and removes it, and
-# limits its output to 1 MiB. The program itself has no such limit, so it is kept for all later runs.
+# Builds the sources without proof, and with run-time checks.
 build_unproved() {
-    local began before now room
+    local began before now
     begin
-    room=$(mktemp -d "$kept/room.XXXXXX")
-    trap 'rm -rf "$room"' EXIT
-    with_clock "building all crates without proof" 10 try "$room"
-    grep -q '^run=ended ' "$kept/log" && [ -x "$room/kept" ] || fail "build without proof failed"
-    keep "$room/kept" "built without proof in $((SECONDS - began)) seconds"
-    rm -rf "$room"
-    trap - EXIT
+    with_clock "building all crates without proof" 10 try || fail "build without proof failed"
+    keep "$kept/next" "built without proof in $((SECONDS - began)) seconds"
 }
+
+try() { scripts/trial --keep "$kept/next" "$program" >"$kept/log" 2>&1; }
 
 # Prints the help text of the program from its source, and the lines on this launcher.
 print_help() {

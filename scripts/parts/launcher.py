@@ -39,25 +39,20 @@ case $1 in
 esac
 """
 
-# The stand-in for scripts/trial. What it builds stays until the launcher has linked it.
+# The stand-in for scripts/trial --keep. It keeps nothing if it is to say why.
 TRIAL = r"""#!/bin/bash
 room='{room}'
-echo "try $1" >>"$room/calls"
+echo "try $3" >>"$room/calls"
 echo "$*" >"$room/try"
-cd "crates/$1"
-if [ ! -e "$room/no_program" ]; then
-    mkdir "$TMPDIR/native"
-    sources=$(cat src/main.rt ../low/src/*.rt | tr -d '\n')
-    printf '#!/bin/sh\necho "unproved %s: $*: $PWD: $(cat)"\nexit 7\n' "$sources" >"$TMPDIR/program"
-    chmod 700 "$TMPDIR/program"
-    mv "$TMPDIR/program" "$TMPDIR/native"
+cd "crates/$3"
+if [ -s "$room/trial.err" ]; then
+    cat "$room/trial.err" >&2
+    exit 1
 fi
+sources=$(cat src/main.rt ../low/src/*.rt | tr -d '\n')
+printf '#!/bin/sh\necho "unproved %s: $*: $PWD: $(cat)"\nexit 7\n' "$sources" >"$2"
+chmod 755 "$2"
 [ ! -e "$room/edit" ] || . "$room/edit"
-for _ in {{1..1000}}; do
-    [ ! -e "$TMPDIR/kept" ] && [ ! -e "$room/no_program" ] && sleep 0.05 || break
-done
-rm -rf "$TMPDIR/native"
-cat "$room/trial.err" >&2
 """
 
 # The files of the small repository, beside copies of the launchers and of what they read.
@@ -90,7 +85,7 @@ class Launchers:
         self.write("scripts/trial", TRIAL.format(room=folder))
         for file in (folder / "kit/rt", self.root / "scripts/trial"):
             file.chmod(0o755)
-        self.ends_with("run=ended status=0 runners=1 proved=no\n")
+        self.refuses("")
         for name, text in FILES.items():
             self.write(name, text)
         for name in COPIED:
@@ -104,8 +99,8 @@ class Launchers:
     def write(self, name, text):
         self.put(self.root / name, text)
 
-    def ends_with(self, text):
-        """Sets what scripts/trial writes to standard error."""
+    def refuses(self, text):
+        """Sets why scripts/trial keeps no program."""
         self.put(self.room / "trial.err", text)
 
     def launch(self, *words, program="wasmnorm", launcher=None, **more):
@@ -146,13 +141,13 @@ class Launchers:
         """Checks the calls of rt, in their order, without those that ask for its version."""
         self.check(name, [call for call in self.calls if "version" not in call] == list(calls))
 
-    def tried(self, name, program, word):
+    def tried(self, name, program):
         """Checks the words of scripts/trial."""
-        words = f"{program} --stdin {self.root}/bench/linked_json.wasm --arg {word}"
+        words = f"--keep {self.root}/crates/{program}/out/unproved/next {program}"
         self.check(name, (self.room / "try").read_text("utf-8").rstrip("\n") == words)
 
     def leaves_nothing(self, name):
-        self.check(name, not list((self.root / "crates/wasmnorm/out").rglob("room*")))
+        self.check(name, not list((self.root / "crates/wasmnorm/out").rglob("*next*")))
 
     def fits(self, name):
         self.check(name, all(len(line) <= 80 for line in self.out.splitlines()))
@@ -335,7 +330,7 @@ def unproved(it):
     it.says("unproved, the first use: it says so", "without proof: running the sources as they are")
     it.says("unproved, the first use: what it does", "building all crates without proof")
     it.builds("unproved, the first use: no proof", "try wasmnorm")
-    it.tried("unproved, the first use: the trial", "wasmnorm", "module")
+    it.tried("unproved, the first use: the trial", "wasmnorm")
     it.leaves_nothing("unproved, the first use: no other file is left")
     it.launch("--unproved", "types")
     it.answers("unproved, the second use", 7, f"unproved B6: types: {it.room}: bytes")
@@ -351,13 +346,10 @@ def unproved(it):
 
 def failures_unproved(it):
     it.write("crates/low/src/lib.rt", "8")
-    it.put(it.room / "no_program", "")
-    fails_unproved(it, "no program")
-    (it.room / "no_program").unlink()
-    it.ends_with("error: a name\nrun=none proved=no\n")
+    it.refuses("error: a name\nrun=none proved=no\n")
     fails_unproved(it, "a refused crate")
     it.says("unproved, a refused crate: the output of rt", "error: a name")
-    it.ends_with("run=ended status=0 runners=1 proved=no\n")
+    it.refuses("")
     it.put(it.room / "edit", "printf 9 >../low/src/lib.rt\n")
     fails_unproved(it, "an edit during the build")
     (it.room / "edit").unlink()
@@ -387,7 +379,7 @@ def runs_of_wasmcanon(it):
     it.launch("--unproved", "--diff", "a b", "-", program="wasmcanon")
     it.answers("wasmcanon unproved, the first use", 7, f"unproved C9: --diff a b -: {it.room}: bytes")
     it.builds("wasmcanon unproved, the first use: no proof", "try wasmcanon")
-    it.tried("wasmcanon unproved, the first use: the trial", "wasmcanon", "--check")
+    it.tried("wasmcanon unproved, the first use: the trial", "wasmcanon")
     it.launch("--unproved", program="wasmcanon")
     it.answers("wasmcanon unproved, no arguments", 7, f"unproved C9: : {it.room}: bytes")
     it.proves_nothing("wasmcanon unproved, the second use: no build")
