@@ -13,7 +13,7 @@ use wasm_encoder::{
 /// The index of each import that is added, in its own index space.
 const ADDED: u32 = 0;
 
-/// The new indices of functions and globals, of which one more is imported before the others.
+/// Raises the indices of functions and globals by 1, because one more of each is imported before the others.
 pub struct Traced;
 
 impl Renumbering for Traced {

@@ -20,7 +20,7 @@ use wasm_lists::list::Items;
 /// The id, the size of the contents in bytes, and the contents (Core 3.0, Name Section).
 ///
 /// Fails with `TooLong` if a list in the subsection has more than 4,294,967,295 items, or a name or the contents have
-/// more bytes than that.
+/// more bytes than that. If `Unknown` has an id below 12, the bytes are those of another kind of subsection.
 impl<'a> Encode for NameSubsection<'a> {
     ghost bytes = { subsection_bytes };
 
