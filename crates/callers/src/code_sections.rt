@@ -5,7 +5,7 @@ ghost use Rattle.wasm_encoder.specs.CodeSections.{FunctionStandsFor, StandsForBo
 ghost use Rattle.wasm_encoder.specs.EncodedLists.{CountedSection, body_bytes};
 ghost use Rattle.wasm_encoder.specs.ModuleFormats.{raw_module};
 ghost use Rattle.wasm_encoder.specs.Sections.{SectionParts, all_parts_of, section_of};
-ghost use Rattle.wasm_modules.specs.declared.code.CodeBody.{CodeBody};
+ghost use Rattle.wasm_code.specs.declared.code.CodeBody.{CodeBody};
 ghost use Rattle.wasm_encoder.specs.CodeFormats.{code_section_body};
 
 use std::alloc::Global;

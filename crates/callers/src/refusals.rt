@@ -2,8 +2,8 @@
 ghost use Rattle.std.specs.Prelude.{ℕ, IfSome, drop};
 ghost use Rattle.wasm_codec.specs.formats.Numbers.{EncodesU32};
 ghost use Rattle.wasm_encoder.specs.Lists.{HasItemsBefore};
-ghost use Rattle.wasm_modules.specs.formats.CodeBodies.{code_body};
-ghost use Rattle.wasm_modules.specs.Modules.{HasSectionsBefore};
+ghost use Rattle.wasm_code.specs.formats.CodeBodies.{code_body};
+ghost use Rattle.wasm_code.specs.Modules.{HasSectionsBefore};
 ghost use Rattle.wasm_sections.specs.formats.ModuleSections.{BreaksInSection, module_section};
 
 use std::alloc::Global;

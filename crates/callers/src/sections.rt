@@ -2,7 +2,7 @@
 ghost use Rattle.std.specs.Prelude.{◌≡◌, ◌++◌, ◌∷◌, [], List, OnOk};
 ghost use Rattle.wasm_codec.specs.Encoding.{byte_list_bytes};
 ghost use Rattle.wasm_sections.specs.formats.EntryParts.{ExportParts};
-ghost use Rattle.wasm_entities.specs.declared.types.ExportKind.TheVariants as kinds;
+ghost use Rattle.wasm_externals.specs.declared.types.ExportKind.TheVariants as kinds;
 ghost use Rattle.wasm_sections.specs.formats.Entries.{export_of, export_entry};
 ghost use Rattle.wasm_codec.specs.formats.Combinators.{items};
 ghost use Rattle.wasm_encoder.specs.EncodedLists.{body_bytes};

@@ -1,7 +1,7 @@
 -- The sections of a module with room for one more function and global at the front.
 use Rattle.std.specs.Prelude.{◌≡◌, ◌+◌, ℕ, List, map}
 use Rattle.wasm_sections.specs.declared.module_sections.ModuleSection.{ModuleSection}
-use Rattle.wasm_whole_modules.specs.declared.indices.spaces.IndexSpace.TheVariants as spaces
+use Rattle.wasm_modules.specs.declared.indices.spaces.IndexSpace.TheVariants as spaces
 use Rattle.wasm_encoder.specs.ModuleSectionFormats.{whole_module}
 use Rattle.wasm_encoder.specs.ModuleSectionParts.{all_module_section_parts}
 use Rattle.wasm_encoder.specs.MappedIndices.{NewIndices}

@@ -6,15 +6,15 @@ use Rattle.std.specs.Prelude.{IfOk}
 use Rattle.wasm_codec.specs.declared.reader.ReadError.{ReadError}
 use Rattle.wasm_codec.specs.declared.reader.ReadError.TheVariants as errors
 use Rattle.wasm_codec.specs.Outcomes.{IfRefused, IsLongestPrefix, IsNormalForm}
-use Rattle.wasm_modules.specs.Modules.{IsModulePrefixOf}
-use Rattle.wasm_modules.specs.formats.Sections.{SectionParts}
-use Rattle.wasm_modules.specs.formats.Modules.{raw_module}
+use Rattle.wasm_code.specs.Modules.{IsModulePrefixOf}
+use Rattle.wasm_code.specs.formats.Sections.{SectionParts}
+use Rattle.wasm_code.specs.formats.Modules.{raw_module}
 use Rattle.wasm_sections.specs.formats.ModuleSectionParts.{ModuleSectionParts}
 use Rattle.wasm_sections.specs.formats.ModuleSections.{KeepsMinimal, module_section, whole_module}
 use Rattle.wasm_sections.proofs.RawSections.{minimal_normal, normal_minimal}
-use Rattle.wasm_whole_modules.specs.Selections.{IsSelected}
-use Rattle.wasm_whole_modules.specs.declared.selection.Pattern.{Pattern}
-use Rattle.wasm_whole_modules.specs.declared.selection.Selection.{Selection}
+use Rattle.wasm_modules.specs.Selections.{IsSelected}
+use Rattle.wasm_modules.specs.declared.selection.Pattern.{Pattern}
+use Rattle.wasm_modules.specs.declared.selection.Selection.{Selection}
 use Rattle.nosgrivel_c.specs.Delivery.{IsDelivered, c_bad_pattern}
 use Rattle.nosgrivel_c.specs.Stripping.{AreTexts, HasNoNul, IsStripped, Lists, WritesStripped, none, last, next, nul}
 use Rattle.nosgrivel_c.proofs.DeliveryLaws.{at_count}

@@ -8,7 +8,7 @@ use Rattle.wasm_codec.specs.declared.reader.malformed.Reason.TheVariants as reas
 use Rattle.wasm_codec.specs.declared.reader.refusal.Refusal.{Refusal}
 use Rattle.wasm_codec.specs.declared.reader.refusal.SectionPlace.{SectionPlace}
 use Rattle.wasm_codec.specs.Outcomes.{LiesIn, place_alone}
-use Rattle.wasm_modules.specs.Reasons.{IsTrueOf}
+use Rattle.wasm_code.specs.Reasons.{IsTrueOf}
 use Rattle.nosgrivel_c.specs.declared.delivery.TheConstants.{NORMAL, REFUSED}
 use Rattle.nosgrivel_c.specs.declared.reasons.FlatReason.{FlatReason}
 use Rattle.nosgrivel_c.specs.declared.refusal.FlatRefusal.{FlatRefusal}

@@ -2,13 +2,13 @@
 use Rattle.std.specs.Prelude.{◌≡◌, ◌≢◌, ◌<◌, ◌⊎◌, ℕ, false, List, [], ◌∷◌, ◌++◌, length, get_or}
 use Rattle.std.specs.Str.{IsUtf8}
 use Rattle.wasm_codec.specs.Outcomes.{IsLongestPrefix, IsNormalForm, EncodesSome}
-use Rattle.wasm_modules.specs.Modules.{IsModulePrefixOf}
-use Rattle.wasm_modules.specs.formats.Sections.{SectionParts}
-use Rattle.wasm_modules.specs.formats.Modules.{raw_module}
+use Rattle.wasm_code.specs.Modules.{IsModulePrefixOf}
+use Rattle.wasm_code.specs.formats.Sections.{SectionParts}
+use Rattle.wasm_code.specs.formats.Modules.{raw_module}
 use Rattle.wasm_sections.specs.formats.ModuleSections.{module_section, whole_module}
-use Rattle.wasm_whole_modules.specs.Selections.{IsSelected}
-use Rattle.wasm_whole_modules.specs.declared.selection.Pattern.{Pattern}
-use Rattle.wasm_whole_modules.specs.declared.selection.Selection.{Selection}
+use Rattle.wasm_modules.specs.Selections.{IsSelected}
+use Rattle.wasm_modules.specs.declared.selection.Pattern.{Pattern}
+use Rattle.wasm_modules.specs.declared.selection.Selection.{Selection}
 use Rattle.nosgrivel_c.specs.declared.delivery.TheConstants.{NORMAL, REFUSED, NO_MEMORY, TOO_LONG, BAD_PATTERN}
 use Rattle.nosgrivel_c.specs.Delivery.{BeginsWithNormal, IsOutputTooShort, IsDelivery, c_bad_pattern}
 

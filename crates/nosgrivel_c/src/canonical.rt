@@ -1,12 +1,12 @@
 //! Canonical forms of modules (Core 3.0, Modules). Every section is decoded.
-ghost use Rattle.wasm_modules.specs.Modules.{IsModulePrefixOf};
+ghost use Rattle.wasm_code.specs.Modules.{IsModulePrefixOf};
 ghost use Rattle.wasm_codec.specs.formats.Combinators.{minimal_only};
 ghost use Rattle.wasm_sections.specs.formats.ModuleSections.{ShortestWholeModule, module_section, whole_module};
 ghost use Rattle.nosgrivel_c.specs.Calls.{ChecksNormal, JudgesNormal, WritesInPlace, WritesNormal};
 
 use crate::delivery::{answer, deliver, judge};
 use std::alloc::Global;
-use wasm_whole_modules::modules::{check_whole_module, normalise_whole_module};
+use wasm_modules::modules::{check_whole_module, normalise_whole_module};
 
 /// Writes the canonical form of a module to the start of the output: every number, size, type, index and limit has its
 /// minimal encoding.

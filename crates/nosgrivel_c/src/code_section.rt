@@ -1,11 +1,11 @@
 //! Bodies of code sections (Core 3.0, Code Section).
-ghost use Rattle.wasm_modules.specs.formats.CodeBodies.{code_section_body, IsCodeSectionBodyPrefix, ShortestCodeSectionBody, IsShortestCodeSectionBodyPrefix};
+ghost use Rattle.wasm_code.specs.formats.CodeBodies.{code_section_body, IsCodeSectionBodyPrefix, ShortestCodeSectionBody, IsShortestCodeSectionBodyPrefix};
 ghost use Rattle.nosgrivel_c.specs.Calls.{ChecksNormal, JudgesNormal, WritesInPlace, WritesNormal};
 
 use crate::delivery::{answer, deliver, judge};
 use std::alloc::Global;
-use wasm_modules::code::normaliser::normalise_code_section;
-use wasm_modules::code::reader::check_code_section;
+use wasm_code::code::normaliser::normalise_code_section;
+use wasm_code::code::reader::check_code_section;
 
 /// Writes the minimal encoding of the body of a code section to the start of the output.
 ///

@@ -1,21 +1,21 @@
 //! Why and where whole modules are refused (Core 3.0, Modules).
 ghost use Rattle.std.specs.Prelude.{◌≡◌, true, false, length, IfErr};
 ghost use Rattle.wasm_codec.specs.Outcomes.{IfMalformed, LiesIn, as_read};
-ghost use Rattle.wasm_modules.specs.Reasons.{IsTrueOf};
-ghost use Rattle.wasm_whole_modules.specs.RefusalNumbers.{CountsParts};
+ghost use Rattle.wasm_code.specs.Reasons.{IsTrueOf};
+ghost use Rattle.wasm_modules.specs.RefusalNumbers.{CountsParts};
 ghost use Rattle.nosgrivel_c.specs.Explaining.{Explains, flat_accepted};
 ghost use Rattle.nosgrivel_c.specs.declared.delivery.TheConstants.{NORMAL, REFUSED};
 ghost use Rattle.wasm_codec.specs.Decoding.{ChecksAll};
 ghost use Rattle.wasm_codec.specs.formats.Combinators.{minimal_if, minimal_only};
-ghost use Rattle.wasm_modules.specs.Modules.{IsModulePrefixOf};
+ghost use Rattle.wasm_code.specs.Modules.{IsModulePrefixOf};
 ghost use Rattle.wasm_sections.specs.formats.ModuleSections.{ShortestWholeModule, module_section, whole_module};
 ghost use Rattle.nosgrivel_c.specs.Calls.{ChecksNormal};
 
 use crate::refusal::{FlatRefusal, explain};
 use std::alloc::Global;
+use wasm_code::decode::{check, normalise};
 use wasm_codec::reader::DecodeError;
-use wasm_modules::decode::{check, normalise};
-use wasm_whole_modules::modules::WholeModule;
+use wasm_modules::modules::WholeModule;
 
 /// Checks whether every section of a module decodes, and says why and where one doesn't.
 ///

@@ -1,12 +1,12 @@
 //! Modules (Core 3.0, Modules). The bodies of sections other than type and code sections are not decoded.
-ghost use Rattle.wasm_modules.specs.formats.Modules.{typed_module, ShortestModule};
-ghost use Rattle.wasm_modules.specs.Modules.{IsShortestModulePrefix, IsTypedModulePrefix};
+ghost use Rattle.wasm_code.specs.formats.Modules.{typed_module, ShortestModule};
+ghost use Rattle.wasm_code.specs.Modules.{IsShortestModulePrefix, IsTypedModulePrefix};
 ghost use Rattle.nosgrivel_c.specs.Calls.{ChecksNormal, JudgesNormal, WritesInPlace, WritesNormal};
 
 use crate::delivery::{answer, deliver, judge};
 use std::alloc::Global;
-use wasm_modules::normaliser::normalise_module;
-use wasm_modules::raw::check_module;
+use wasm_code::normaliser::normalise_module;
+use wasm_code::raw::check_module;
 
 /// Writes the minimal encoding of a module to the start of the output.
 ///

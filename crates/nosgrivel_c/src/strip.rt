@@ -1,7 +1,7 @@
 //! Canonical forms of modules without some of their custom sections (Core 3.0, Modules).
 ghost use Rattle.std.specs.Prelude.{IfOk, List};
 ghost use Rattle.wasm_codec.specs.Outcomes.{IfRefused, IsLongestPrefix};
-ghost use Rattle.wasm_modules.specs.Modules.{IsModulePrefixOf};
+ghost use Rattle.wasm_code.specs.Modules.{IsModulePrefixOf};
 ghost use Rattle.wasm_sections.specs.formats.ModuleSectionParts.{ModuleSectionParts};
 ghost use Rattle.wasm_sections.specs.formats.ModuleSections.{module_section, whole_module};
 ghost use Rattle.nosgrivel_c.specs.Stripping.{IsStripped, Lists, WritesStripped};
@@ -10,8 +10,8 @@ use crate::delivery::{BAD_PATTERN, deliver};
 use std::alloc::{AllocError, Global};
 use std::str;
 use wasm_codec::reader::ReadError;
-use wasm_whole_modules::modules::normalise_whole_module;
-use wasm_whole_modules::selection::{Pattern, Selection, select_sections};
+use wasm_modules::modules::normalise_whole_module;
+use wasm_modules::selection::{Pattern, Selection, select_sections};
 
 /// Writes the canonical form of a module, without the custom sections whose names match a pattern of `dropped` and none
 /// of `kept`, to the start of the output.

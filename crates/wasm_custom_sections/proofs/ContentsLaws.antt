@@ -15,12 +15,12 @@ use Rattle.wasm_codec.proofs.BodyLaws.{Lawful-then-body, Lawful-sized, encodes_o
 use Rattle.wasm_codec.proofs.FormatLaws.{Lawful-byte, Lawful-both, not_longer}
 use Rattle.wasm_codec.proofs.Laws.{some_is}
 use Rattle.wasm_codec.proofs.RewriterLaws.{is_after}
-use Rattle.wasm_entities.specs.formats.Names.{name}
-use Rattle.wasm_entities.proofs.NameLaws.{name_is_lawful}
-use Rattle.wasm_modules.specs.formats.Modules.{raw_module, raw_section}
-use Rattle.wasm_modules.specs.formats.Sections.{SectionParts, header}
-use Rattle.wasm_modules.proofs.ModuleFormatLaws.{Lawful-raw-module, Lawful-raw-section}
-use Rattle.wasm_modules.proofs.SectionWalks.{next_section, no_section, none_left, section_takes}
+use Rattle.wasm_externals.specs.formats.Names.{name}
+use Rattle.wasm_externals.proofs.NameLaws.{name_is_lawful}
+use Rattle.wasm_code.specs.formats.Modules.{raw_module, raw_section}
+use Rattle.wasm_code.specs.formats.Sections.{SectionParts, header}
+use Rattle.wasm_code.proofs.ModuleFormatLaws.{Lawful-raw-module, Lawful-raw-section}
+use Rattle.wasm_code.proofs.SectionWalks.{next_section, no_section, none_left, section_takes}
 use Rattle.wasm_sections.specs.formats.EntryParts.{CustomParts}
 use Rattle.wasm_sections.specs.formats.ModuleSectionParts.{custom}
 use Rattle.wasm_sections.specs.formats.ModuleSections.{KeepsMinimal, ShortestWholeModule, module_section}

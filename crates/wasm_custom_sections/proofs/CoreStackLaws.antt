@@ -13,9 +13,9 @@ use Rattle.wasm_codec.specs.formats.Numbers.{EncodesU32}
 use Rattle.wasm_codec.proofs.BodyLaws.{Lawful-body}
 use Rattle.wasm_codec.proofs.FormatLaws.{Lawful-after, Lawful-both, Lawful-items, Lawful-made, Lawful-u32, takes_bytes}
 use Rattle.wasm_codec.proofs.NumberLaws.{written}
-use Rattle.wasm_entities.specs.formats.Names.{name}
-use Rattle.wasm_entities.proofs.NameLaws.{name_is_lawful, in_name}
-use Rattle.wasm_entities.proofs.ExternalLaws.{four, three}
+use Rattle.wasm_externals.specs.formats.Names.{name}
+use Rattle.wasm_externals.proofs.NameLaws.{name_is_lawful, in_name}
+use Rattle.wasm_externals.proofs.ExternalLaws.{four, three}
 use Rattle.wasm_lists.specs.EncodedLists.{EncodedItems, IsFull, IsMemoryOrTooLong, IsUncounted, body_bytes}
 use Rattle.wasm_lists.proofs.EncodedListLaws.{all_in_range, both_or, counted_or, which}
 use Rattle.wasm_lists.proofs.WrittenLists.{in_range_of}

@@ -7,9 +7,9 @@ use Rattle.wasm_codec.specs.Lawful.{IsLawful}
 use Rattle.wasm_codec.specs.formats.Grammar.{TakesBytes}
 use Rattle.wasm_codec.proofs.FormatLaws.{IsFound, Lawful-both, Lawful-made, Lawful-one-byte, takes_bytes}
 use Rattle.wasm_codec.proofs.NumberLaws.{written}
-use Rattle.wasm_entities.specs.formats.Names.{name}
-use Rattle.wasm_entities.proofs.NameLaws.{name_is_lawful, in_name}
-use Rattle.wasm_entities.proofs.ExternalLaws.{two}
+use Rattle.wasm_externals.specs.formats.Names.{name}
+use Rattle.wasm_externals.proofs.NameLaws.{name_is_lawful, in_name}
+use Rattle.wasm_externals.proofs.ExternalLaws.{two}
 use Rattle.wasm_lists.specs.EncodedLists.{EncodedItems}
 use Rattle.wasm_custom_sections.specs.Gaining.{AddsNamed}
 use Rattle.wasm_custom_sections.specs.declared.target_features.FeaturePrefix.{FeaturePrefix}

@@ -9,8 +9,8 @@ use Rattle.wasm_codec.specs.declared.encode.EncodeError.TheVariants.{Memory, Too
 use Rattle.wasm_codec.specs.Encoding.{byte_list_bytes, IsCount, IsShortest, IsTooLong}
 use Rattle.wasm_codec.specs.Leb128.{unsigned_leb128}
 use Rattle.wasm_codec.specs.formats.Combinators.{Format, items}
-use Rattle.wasm_entities.specs.formats.Names.{name}
-use Rattle.wasm_entities.proofs.NameLaws.{in_name}
+use Rattle.wasm_externals.specs.formats.Names.{name}
+use Rattle.wasm_externals.proofs.NameLaws.{in_name}
 use Rattle.wasm_lists.specs.EncodedLists.{EncodedItems, IsMemoryOrTooLong, IsUncounted, body_bytes}
 use Rattle.wasm_sections.specs.ListSections.{StandsForItems}
 use Rattle.wasm_custom_sections.specs.declared.names.NameError.{NameError}

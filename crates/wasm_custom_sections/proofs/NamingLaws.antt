@@ -9,9 +9,9 @@ use Rattle.wasm_codec.specs.formats.Combinators.{items, u32}
 use Rattle.wasm_codec.proofs.FormatLaws.{Lawful-both, Lawful-items, Lawful-made, Lawful-u32, takes_bytes}
 use Rattle.wasm_codec.proofs.NumberLaws.{written}
 use Rattle.wasm_lists.proofs.WrittenLists.{in_range_of}
-use Rattle.wasm_entities.specs.formats.Names.{name}
-use Rattle.wasm_entities.proofs.NameLaws.{name_is_lawful, in_name}
-use Rattle.wasm_entities.proofs.ExternalLaws.{two}
+use Rattle.wasm_externals.specs.formats.Names.{name}
+use Rattle.wasm_externals.proofs.NameLaws.{name_is_lawful, in_name}
+use Rattle.wasm_externals.proofs.ExternalLaws.{two}
 use Rattle.wasm_custom_sections.specs.formats.NameParts.{NamingParts, IndirectParts}
 use Rattle.wasm_custom_sections.specs.formats.Names.{naming, naming_of, indirect_naming, indirect_of}
 

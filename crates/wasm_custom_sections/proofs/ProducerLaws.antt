@@ -7,9 +7,9 @@ use Rattle.wasm_codec.specs.formats.Grammar.{TakesBytes}
 use Rattle.wasm_codec.specs.formats.Combinators.{items}
 use Rattle.wasm_codec.proofs.FormatLaws.{Lawful-both, Lawful-items, Lawful-made, takes_bytes}
 use Rattle.wasm_codec.proofs.NumberLaws.{written}
-use Rattle.wasm_entities.specs.formats.Names.{name}
-use Rattle.wasm_entities.proofs.NameLaws.{name_is_lawful, in_name}
-use Rattle.wasm_entities.proofs.ExternalLaws.{two}
+use Rattle.wasm_externals.specs.formats.Names.{name}
+use Rattle.wasm_externals.proofs.NameLaws.{name_is_lawful, in_name}
+use Rattle.wasm_externals.proofs.ExternalLaws.{two}
 use Rattle.wasm_lists.specs.EncodedLists.{EncodedItems, IsFull, IsMemoryOrTooLong, IsUncounted, body_bytes}
 use Rattle.wasm_lists.proofs.EncodedListLaws.{both_or, counted_or, which}
 use Rattle.wasm_sections.specs.ListSections.{Adds, GainsItem}

@@ -7,8 +7,8 @@ use Rattle.wasm_codec.specs.formats.Combinators.{Format, items}
 use Rattle.wasm_codec.proofs.BodyLaws.{Lawful-body, Lawful-bytes_to_end}
 use Rattle.wasm_codec.proofs.FormatLaws.{Lawful-items}
 use Rattle.wasm_codec.proofs.SizedLaws.{sized_read}
-use Rattle.wasm_entities.specs.formats.Names.{name}
-use Rattle.wasm_entities.proofs.NameLaws.{name_is_lawful}
+use Rattle.wasm_externals.specs.formats.Names.{name}
+use Rattle.wasm_externals.proofs.NameLaws.{name_is_lawful}
 
 pub list_body_is_lawful : {V : Type 0} {F : Format V} → IsLawful F → IsLawfulBody (items F)
 list_body_is_lawful r = Lawful-body (Lawful-items r)

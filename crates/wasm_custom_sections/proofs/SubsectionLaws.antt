@@ -16,8 +16,8 @@ use Rattle.wasm_codec.proofs.FormatLaws.{Every-made, IsTagged, Lawful-both, Lawf
 use Rattle.wasm_codec.proofs.MinimalIfLaws.{joined_minimal_only}
 use Rattle.wasm_codec.proofs.RawFormatLaws.{Lawful-byte-where}
 use Rattle.wasm_codec.proofs.RewriterLaws.{after_is, is_after, is_given}
-use Rattle.wasm_entities.specs.formats.Names.{name}
-use Rattle.wasm_entities.proofs.NameLaws.{name_is_lawful}
+use Rattle.wasm_externals.specs.formats.Names.{name}
+use Rattle.wasm_externals.proofs.NameLaws.{name_is_lawful}
 use Rattle.wasm_custom_sections.specs.formats.NameParts.{SubsectionParts, subsection_id, module_name, functions, locals, labels, types, tables, memories, globals, elements, data_segments, fields, tags, unknown, module_part, functions_part, locals_part, labels_part, types_part, tables_part, memories_part, globals_part, elements_part, data_segments_part, fields_part, tags_part, unknown_of, unknown_part}
 use Rattle.wasm_custom_sections.specs.formats.Names.{naming, indirect_naming, is_unknown, name_data, name_subsection, part_of}
 use Rattle.wasm_custom_sections.proofs.NamingLaws.{naming_is_lawful, indirect_is_lawful}

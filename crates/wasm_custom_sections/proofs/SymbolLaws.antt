@@ -11,11 +11,11 @@ use Rattle.wasm_codec.specs.formats.Grammar.{TakesBytes}
 use Rattle.wasm_codec.specs.formats.Numbers.{EncodesU32}
 use Rattle.wasm_codec.proofs.FormatLaws.{Every-made, Lawful-both, Lawful-made, Lawful-then, Lawful-u32, Tagged-never, Tagged-or, takes_bytes}
 use Rattle.wasm_codec.proofs.NumberLaws.{written}
-use Rattle.wasm_entities.specs.formats.Names.{name}
-use Rattle.wasm_entities.specs.formats.PartCombinators.{part_if, some_of}
-use Rattle.wasm_entities.proofs.ExternalLaws.{four, three}
-use Rattle.wasm_entities.proofs.NameLaws.{name_is_lawful, in_name}
-use Rattle.wasm_entities.proofs.PartCombinatorLaws.{Lawful-part-if}
+use Rattle.wasm_externals.specs.formats.Names.{name}
+use Rattle.wasm_externals.specs.formats.PartCombinators.{part_if, some_of}
+use Rattle.wasm_externals.proofs.ExternalLaws.{four, three}
+use Rattle.wasm_externals.proofs.NameLaws.{name_is_lawful, in_name}
+use Rattle.wasm_externals.proofs.PartCombinatorLaws.{Lawful-part-if}
 use Rattle.wasm_lists.specs.EncodedLists.{EncodedItems, IsUncounted}
 use Rattle.wasm_lists.proofs.EncodedListLaws.{counted_or, gains_one, which}
 use Rattle.wasm_lists.proofs.WrittenLists.{in_range_of}

@@ -16,9 +16,9 @@ use Rattle.wasm_codec.proofs.FormatLaws.{Lawful-u32}
 use Rattle.wasm_codec.proofs.NumberLaws.{written}
 use Rattle.wasm_lists.proofs.WrittenLists.{in_range_of}
 use Rattle.wasm_sections.specs.WrittenSections.{CountedList}
-use Rattle.wasm_entities.specs.formats.Names.{name}
-use Rattle.wasm_entities.proofs.ExternalLaws.{two}
-use Rattle.wasm_entities.proofs.NameLaws.{in_name}
+use Rattle.wasm_externals.specs.formats.Names.{name}
+use Rattle.wasm_externals.proofs.ExternalLaws.{two}
+use Rattle.wasm_externals.proofs.NameLaws.{in_name}
 use Rattle.wasm_custom_sections.specs.declared.name_maps.Naming.{Naming}
 use Rattle.wasm_custom_sections.specs.declared.name_maps.IndirectNaming.{IndirectNaming}
 use Rattle.wasm_custom_sections.specs.declared.names.NameSubsection.{NameSubsection}

@@ -1,7 +1,7 @@
 -- Core dump sections that are written.
 use Rattle.std.specs.Prelude.{ℕ, List, ◌∷◌, ◌++◌}
 use Rattle.wasm_codec.specs.formats.Combinators.{minimal_only}
-use Rattle.wasm_entities.specs.formats.Names.{name as name_format}
+use Rattle.wasm_externals.specs.formats.Names.{name as name_format}
 use Rattle.wasm_lists.specs.EncodedLists.{EncodedItems, body_bytes}
 use Rattle.wasm_sections.specs.ListSections.{StandsForItems}
 use Rattle.wasm_custom_sections.specs.declared.core_stacks.CoreDumpStackFrame.{CoreDumpStackFrame}

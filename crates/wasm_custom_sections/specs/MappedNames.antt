@@ -1,9 +1,9 @@
 -- Names with the new indices of their items (WebAssembly Core 3.0, Name Section).
 use Rattle.std.specs.Prelude.{ℕ, Any, List, map}
-use Rattle.wasm_whole_modules.specs.declared.indices.spaces.IndexSpace.{IndexSpace}
-use Rattle.wasm_whole_modules.specs.declared.indices.spaces.IndexSpace.TheVariants as spaces
-use Rattle.wasm_whole_modules.specs.IndexOverflows.{Exceeds}
-use Rattle.wasm_whole_modules.specs.MappedIndices.{NewIndices}
+use Rattle.wasm_modules.specs.declared.indices.spaces.IndexSpace.{IndexSpace}
+use Rattle.wasm_modules.specs.declared.indices.spaces.IndexSpace.TheVariants as spaces
+use Rattle.wasm_modules.specs.IndexOverflows.{Exceeds}
+use Rattle.wasm_modules.specs.MappedIndices.{NewIndices}
 use Rattle.wasm_custom_sections.specs.declared.name_maps.Naming.{Naming}
 use Rattle.wasm_custom_sections.specs.declared.name_maps.IndirectNaming.{IndirectNaming}
 use Rattle.wasm_custom_sections.specs.declared.names.NameSubsection.{NameSubsection}

@@ -9,10 +9,10 @@ use Rattle.wasm_codec.specs.declared.reader.cursor.Fault.{Fault}
 use Rattle.wasm_codec.specs.declared.reader.cursor.Fault.TheVariants as faults
 use Rattle.wasm_codec.specs.formats.Bodies.{sized}
 use Rattle.wasm_codec.specs.formats.Combinators.{Format, ◌⊗◌, a_byte, items}
-use Rattle.wasm_entities.specs.formats.Names.{name}
-use Rattle.wasm_modules.specs.Modules.{IsModulePrefix}
-use Rattle.wasm_modules.specs.formats.Modules.{raw_module, raw_section}
-use Rattle.wasm_modules.specs.formats.Sections.{SectionParts}
+use Rattle.wasm_externals.specs.formats.Names.{name}
+use Rattle.wasm_code.specs.Modules.{IsModulePrefix}
+use Rattle.wasm_code.specs.formats.Modules.{raw_module, raw_section}
+use Rattle.wasm_code.specs.formats.Sections.{SectionParts}
 use Rattle.wasm_sections.specs.formats.EntryParts.{CustomParts}
 use Rattle.wasm_sections.specs.formats.Sections.{custom_body}
 use Rattle.wasm_custom_sections.specs.KnownSections.{Holds}

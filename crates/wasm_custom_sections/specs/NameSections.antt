@@ -4,7 +4,7 @@ use Rattle.std.specs.List.{All, flat_map}
 use Rattle.wasm_codec.specs.declared.encode.EncodeError.{EncodeError}
 use Rattle.wasm_codec.specs.Encoding.{byte_list_bytes}
 use Rattle.wasm_codec.specs.formats.Combinators.{Format, minimal_only}
-use Rattle.wasm_entities.specs.formats.Names.{name}
+use Rattle.wasm_externals.specs.formats.Names.{name}
 use Rattle.wasm_lists.specs.EncodedLists.{EncodedItems, IsMemoryOrTooLong, IsUncounted, body_bytes}
 use Rattle.wasm_sections.specs.ListSections.{StandsForItems}
 use Rattle.wasm_custom_sections.specs.declared.names.NameError.{NameError}

@@ -4,7 +4,7 @@ use Rattle.wasm_codec.specs.declared.encode.EncodeError.{EncodeError}
 use Rattle.wasm_codec.specs.Encoding.{byte_list_bytes, CanEncodeList, IsCount, IsRefusal, IsShortest, OnlyTooLong}
 use Rattle.wasm_codec.specs.Lists.{items_bytes}
 use Rattle.wasm_sections.specs.WrittenSections.{CountedList}
-use Rattle.wasm_entities.specs.formats.Names.{name}
+use Rattle.wasm_externals.specs.formats.Names.{name}
 use Rattle.wasm_custom_sections.specs.declared.name_maps.Naming.{Naming}
 use Rattle.wasm_custom_sections.specs.declared.name_maps.IndirectNaming.{IndirectNaming}
 use Rattle.wasm_custom_sections.specs.declared.names.NameSubsection.{NameSubsection}

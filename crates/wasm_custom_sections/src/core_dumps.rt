@@ -21,18 +21,18 @@ ghost use Rattle.wasm_custom_sections.specs.formats.CoreDumps.{all_module_names,
 use crate::custom_list::{CustomItem, CustomList};
 use crate::whole_values::{Whole, append_named, read_value_to_end};
 use std::alloc::{Allocator, Global};
+use wasm_code::decode::Decode;
 use wasm_codec::encode::leb128::put_u32;
 use wasm_codec::encode::{EncodeError, keep_or_undo};
 use wasm_codec::reader::DecodeError;
 use wasm_codec::reader::cursor::{Cursor, Fault};
 use wasm_codec::reader::malformed::Construct;
 use wasm_codec::rewriter::Rewriter;
-use wasm_entities::names::{NameInput, append_name};
+use wasm_externals::names::{NameInput, append_name};
 use wasm_lists::encode::{Encode, encode_list};
 use wasm_lists::input::ListInput;
 use wasm_lists::list::Items;
 use wasm_lists::readable::{Item, Readable};
-use wasm_modules::decode::Decode;
 use wasm_sections::bodies::rewrite_body;
 
 /// A section `core`, which names the process of a core dump (tool conventions, Core Dumps).

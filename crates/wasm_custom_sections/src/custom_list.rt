@@ -7,7 +7,7 @@ ghost use Rattle.wasm_codec.specs.Lists.{CountsItems, IsListPrefix, IsListPrefix
 ghost use Rattle.wasm_codec.specs.Outcomes.{IfMalformed, LiesIn, as_read, NeedsNoMemory};
 ghost use Rattle.wasm_codec.specs.declared.encode.EncodeError.TheVariants.{Memory};
 ghost use Rattle.wasm_codec.specs.formats.Combinators.{Format, items};
-ghost use Rattle.wasm_entities.specs.Making.{Makes};
+ghost use Rattle.wasm_externals.specs.Making.{Makes};
 ghost use Rattle.wasm_lists.specs.EncodedLists.{body_bytes};
 ghost use Rattle.wasm_sections.specs.ListSections.{StandsForItems};
 ghost use Rattle.wasm_custom_sections.specs.NamedSections.{CountedNamed, HoldsList, IsNamedSection, named_bytes};
@@ -15,6 +15,7 @@ ghost use Rattle.wasm_custom_sections.specs.NamedSections.{CountedNamed, HoldsLi
 use crate::counted_bytes::CountedBytes;
 use std::alloc::{Allocator, Global};
 use std::marker::{Model, PhantomData};
+use wasm_code::decode::Decode;
 use wasm_codec::encode::EncodeError;
 use wasm_codec::reader::DecodeError;
 use wasm_lists::checking::check_list_to_end;
@@ -22,7 +23,6 @@ use wasm_lists::encode::Encode;
 use wasm_lists::readable::{Item, Readable};
 use wasm_lists::reading::read_list_to_end;
 use wasm_lists::rewriting::rewrite_list_to_end;
-use wasm_modules::decode::Decode;
 use wasm_sections::custom::CustomSection;
 
 /// An item of a custom section that is a list. It tells the section's name and the item's encoding.

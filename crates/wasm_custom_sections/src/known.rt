@@ -15,8 +15,8 @@ use crate::names::{NameSection, NameSubsection};
 use crate::producers::{Producers, ProducersSection};
 use crate::target_features::{TargetFeature, TargetFeaturesSection};
 use std::alloc::Global;
+use wasm_code::decode::{Decode, read};
 use wasm_codec::reader::{DecodeError, ReadError};
-use wasm_modules::decode::{Decode, read};
 use wasm_sections::custom::CustomSection;
 
 /// The contents of a custom section, decoded if its name is known.

@@ -13,7 +13,7 @@ ghost use Rattle.wasm_codec.specs.declared.encode.EncodeError.TheVariants.{Memor
 ghost use Rattle.wasm_codec.specs.declared.reader.ReadError.TheVariants.{Refused};
 ghost use Rattle.wasm_codec.specs.formats.Combinators.{items, minimal_if};
 ghost use Rattle.wasm_codec.specs.formats.Grammar.{TakesBytes};
-ghost use Rattle.wasm_entities.specs.Making.{Makes};
+ghost use Rattle.wasm_externals.specs.Making.{Makes};
 ghost use Rattle.wasm_lists.specs.EncodedLists.{IsFull, IsMemoryOrTooLong, IsUncounted, body_bytes};
 ghost use Rattle.wasm_sections.specs.ListSections.{Adds, StandsForItems};
 ghost use Rattle.wasm_sections.specs.Prefixes.{IsNothingOr};
@@ -29,6 +29,7 @@ use crate::symbol_table::SymbolTable;
 use crate::symbols::Symbol;
 use std::alloc::{Allocator, Global};
 use std::marker::Model;
+use wasm_code::decode::Decode;
 use wasm_codec::encode::EncodeError;
 use wasm_codec::reader::DecodeError;
 use wasm_codec::reader::cursor::{Cursor, Fault};
@@ -41,7 +42,6 @@ use wasm_lists::list::Items;
 use wasm_lists::readable::{Item, Readable};
 use wasm_lists::reading::read_items_to_end;
 use wasm_lists::rewriting::{Joinable, Rewritable, rewrite_joined, rewrite_sized};
-use wasm_modules::decode::Decode;
 use wasm_sections::custom::CustomSection;
 
 /// The version of linking sections.

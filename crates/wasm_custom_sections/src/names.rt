@@ -12,8 +12,8 @@ ghost use Rattle.wasm_codec.specs.Rewriter.{Rewrites};
 ghost use Rattle.wasm_codec.specs.formats.Bodies.{sized};
 ghost use Rattle.wasm_codec.specs.formats.Combinators.{items, minimal_only};
 ghost use Rattle.wasm_codec.specs.formats.Grammar.{Joined, TakesBytes};
-ghost use Rattle.wasm_entities.specs.Making.{Makes};
-ghost use Rattle.wasm_entities.specs.formats.Names.{name as name_format};
+ghost use Rattle.wasm_externals.specs.Making.{Makes};
+ghost use Rattle.wasm_externals.specs.formats.Names.{name as name_format};
 ghost use Rattle.wasm_custom_sections.specs.NamedSections.{CountedNamed, IsNamedSection, named_bytes};
 ghost use Rattle.wasm_custom_sections.specs.NameSections.{AddsName, AddsNames, HoldsNames, IsNameErrorOf, StandsForNames};
 ghost use Rattle.wasm_custom_sections.specs.declared.names.NameError.TheVariants as errors;
@@ -31,19 +31,19 @@ use crate::sized::{
 use std::alloc::{Allocator, Global};
 use std::marker::Model;
 use thiserror::Error;
+use wasm_code::decode::Decode;
 use wasm_codec::encode::{EncodeError, keep_or_undo};
 use wasm_codec::reader::DecodeError;
 use wasm_codec::reader::cursor::{Cursor, Fault};
 use wasm_codec::reader::malformed::Construct;
 use wasm_codec::rewriter::{Rewriter, Scanned};
-use wasm_entities::names::append_name;
+use wasm_externals::names::append_name;
 use wasm_lists::checking::check_items_to_end;
 use wasm_lists::encode::Encode;
 use wasm_lists::list::Items;
 use wasm_lists::readable::{Item, Readable};
 use wasm_lists::reading::read_items_to_end;
 use wasm_lists::rewriting::{Joinable, Rewritable, rewrite_items_to_end, rewrite_sized};
-use wasm_modules::decode::Decode;
 use wasm_sections::custom::CustomSection;
 
 /// A subsection of a name section (Core 3.0, Name Section).

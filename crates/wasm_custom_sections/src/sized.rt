@@ -10,14 +10,14 @@ ghost use Rattle.wasm_codec.specs.declared.encode.EncodeError.TheVariants.{Memor
 ghost use Rattle.wasm_codec.specs.Outcomes.{IsMalformed};
 ghost use Rattle.wasm_codec.specs.formats.Bodies.{sized, byte_list, bytes_to_end};
 ghost use Rattle.wasm_codec.specs.formats.Combinators.{items};
-ghost use Rattle.wasm_entities.specs.formats.Names.{name};
+ghost use Rattle.wasm_externals.specs.formats.Names.{name};
 
 use std::alloc::{Allocator, Global};
 use std::marker::PhantomData;
 use wasm_codec::encode::{EncodeError, put_size_before};
 use wasm_codec::reader::cursor::{Cursor, Fault};
 use wasm_codec::rewriter::Rewriter;
-use wasm_entities::names::{read_name, rewrite_name};
+use wasm_externals::names::{read_name, rewrite_name};
 use wasm_lists::encode::{Encode, encode_list};
 use wasm_lists::list::Items;
 use wasm_lists::readable::Readable;

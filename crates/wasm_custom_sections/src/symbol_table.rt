@@ -3,9 +3,9 @@ ghost use Rattle.std.specs.Prelude.{◌≡◌, ◌↔◌, ◌∷◌, ◌++◌, �
 ghost use Rattle.wasm_codec.specs.Encoding.{byte_list_bytes, IsCount, IsCountRefusal, IsRefusal, IsShortest, OnlyTooLong};
 ghost use Rattle.wasm_codec.specs.declared.encode.EncodeError.TheVariants.{Memory, TooLong};
 ghost use Rattle.wasm_codec.specs.formats.Combinators.{items};
-ghost use Rattle.wasm_entities.specs.Making.{Makes};
-ghost use Rattle.wasm_entities.specs.formats.Names.{name as name_format};
-ghost use Rattle.wasm_entities.specs.formats.PartCombinators.{part_if};
+ghost use Rattle.wasm_externals.specs.Making.{Makes};
+ghost use Rattle.wasm_externals.specs.formats.Names.{name as name_format};
+ghost use Rattle.wasm_externals.specs.formats.PartCombinators.{part_if};
 ghost use Rattle.wasm_lists.specs.EncodedLists.{IsFull, IsMemoryOrTooLong, body_bytes};
 ghost use Rattle.wasm_sections.specs.ListSections.{StandsForItems};
 ghost use Rattle.wasm_custom_sections.specs.LinkingSections.{AddsSymbol, CanName, CountedSymbol, IsWrittenSymbol};
@@ -21,11 +21,11 @@ use std::alloc::{Allocator, Global};
 use std::marker::Model;
 use wasm_codec::encode::leb128::put_u32;
 use wasm_codec::encode::{EncodeError, keep_or_undo};
-use wasm_entities::names::append_name;
+use wasm_externals::names::append_name;
 use wasm_lists::encode::Encode;
 
 /// Appends a name if it is there and a flag says so. Appends nothing if it fails.
-#[tactic(auto, using(crate::proofs::SymbolLaws::no_more, crate::proofs::SymbolLaws::name_there), unfolding(wasm_entities::specs::formats::PartCombinators::part_if))]
+#[tactic(auto, using(crate::proofs::SymbolLaws::no_more, crate::proofs::SymbolLaws::name_there), unfolding(wasm_externals::specs::formats::PartCombinators::part_if))]
 fn append_name_if<A: Allocator>(
     name: Option<&str>,
     there: bool,
@@ -66,7 +66,7 @@ fn append_item<A: Allocator>(
 }
 
 /// Appends the place of data if it is there and a flag says so.
-#[tactic(auto, using(crate::proofs::SymbolLaws::no_more), unfolding(wasm_entities::specs::formats::PartCombinators::part_if))]
+#[tactic(auto, using(crate::proofs::SymbolLaws::no_more), unfolding(wasm_externals::specs::formats::PartCombinators::part_if))]
 fn append_definition_if<A: Allocator>(
     definition: Option<DataSymbolDefinition>,
     there: bool,

@@ -7,8 +7,8 @@ ghost use Rattle.wasm_codec.specs.Inputs.{Passes, Takes};
 ghost use Rattle.wasm_codec.specs.Rewriter.{Rewrites};
 ghost use Rattle.wasm_codec.specs.Outcomes.{IsMalformed};
 ghost use Rattle.wasm_codec.specs.formats.Grammar.{TakesBytes};
-ghost use Rattle.wasm_entities.specs.formats.Names.{name as name_format};
-ghost use Rattle.wasm_entities.specs.formats.PartCombinators.{part_if};
+ghost use Rattle.wasm_externals.specs.formats.Names.{name as name_format};
+ghost use Rattle.wasm_externals.specs.formats.PartCombinators.{part_if};
 ghost use Rattle.wasm_custom_sections.specs.formats.SymbolParts.{SymbolParts, all_symbol_parts, data_parts, item_parts, symbol_parts};
 ghost use Rattle.wasm_custom_sections.specs.formats.Symbols.{data_symbol, definition as definition_format, has_name as names_item, is_defined as defines, item_symbol, section_symbol, symbol};
 
@@ -17,7 +17,7 @@ use wasm_codec::input::Input;
 use wasm_codec::reader::cursor::{Cursor, Fault};
 use wasm_codec::reader::malformed::Construct;
 use wasm_codec::rewriter::Rewriter;
-use wasm_entities::names::NameInput;
+use wasm_externals::names::NameInput;
 use wasm_lists::readable::Readable;
 
 /// A symbol of a function, a global, a tag or a table.
@@ -94,7 +94,7 @@ pub(crate) fn has_name(flags: u32) -> bool
 }
 
 /// Takes a name if a flag says that there is one.
-#[tactic(auto, unfolding(wasm_entities::specs::formats::PartCombinators::part_if))]
+#[tactic(auto, unfolding(wasm_externals::specs::formats::PartCombinators::part_if))]
 fn take_name_if<'a, I: NameInput<'a>>(input: &mut I, there: bool) -> Result<Option<&'a str>, Fault>
     ensures passes { Passes I.writes (option_map (λ text. text.now)) (part_if there name_format) (I.state input.old) (I.state input.new) result }
     ensures err { IfErr result IsMalformed }
@@ -133,7 +133,7 @@ fn take_definition<I: Input>(input: &mut I) -> Result<DataSymbolDefinition, Faul
 }
 
 /// Takes the place of data if a flag says that there is one.
-#[tactic(auto, unfolding(wasm_entities::specs::formats::PartCombinators::part_if))]
+#[tactic(auto, unfolding(wasm_externals::specs::formats::PartCombinators::part_if))]
 fn take_definition_if<I: Input>(
     input: &mut I,
     there: bool,

@@ -18,7 +18,7 @@ use wasm_codec::input::Input;
 use wasm_codec::reader::cursor::{Cursor, Fault};
 use wasm_codec::reader::malformed::Construct;
 use wasm_codec::rewriter::Rewriter;
-use wasm_entities::names::{NameInput, append_name};
+use wasm_externals::names::{NameInput, append_name};
 use wasm_lists::encode::Encode;
 use wasm_lists::readable::Readable;
 

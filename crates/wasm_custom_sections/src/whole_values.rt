@@ -14,7 +14,7 @@ use wasm_codec::encode::{EncodeError, put_size_before};
 use wasm_codec::reader::DecodeError;
 use wasm_codec::reader::cursor::{Cursor, Fault};
 use wasm_codec::rewriter::{Rewriter, are_bytes};
-use wasm_entities::names::append_name;
+use wasm_externals::names::append_name;
 use wasm_lists::encode::Encode;
 use wasm_lists::readable::Readable;
 use wasm_lists::reading::{Number, read_next_item};

@@ -9,7 +9,7 @@ use Rattle.wasm_codec.specs.Encoding.{IsRefusal, OnlyTooLong, Refuses}
 use Rattle.wasm_codec.specs.formats.Combinators.{minimal_only}
 use Rattle.wasm_codec.specs.formats.Grammar.{Joined}
 use Rattle.wasm_lists.proofs.WrittenLists.{one_more}
-use Rattle.wasm_modules.specs.formats.Sections.{header}
+use Rattle.wasm_code.specs.formats.Sections.{header}
 use Rattle.wasm_sections.specs.declared.module_sections.ModuleSection.{ModuleSection}
 use Rattle.wasm_sections.specs.formats.ModuleSectionParts.{all_module_section_parts, module_section_parts, section_id}
 use Rattle.wasm_sections.specs.formats.ModuleSections.{module_section, whole_module}

@@ -16,13 +16,13 @@ use Rattle.wasm_codec.specs.formats.Combinators.{items}
 use Rattle.wasm_instructions.specs.Appending.{CountedCall}
 use Rattle.wasm_instructions.specs.formats.Instructions.{Instruction, Instructions, ShortestInstructions, instruction, instructions_bytes}
 use Rattle.wasm_instructions.proofs.InstructionFormatLaws.{are_shortest}
-use Rattle.wasm_modules.specs.declared.code.CodeBody.{CodeBody}
-use Rattle.wasm_modules.specs.CodeCounts.{CountedBody}
-use Rattle.wasm_modules.specs.formats.CodeBodies.{local_group, code_body, code_section_body}
-use Rattle.wasm_modules.proofs.CodeBodyLaws.{Lawful-code_body, Lawful-code-section-body}
-use Rattle.wasm_modules.proofs.CodeBodyWriting.{calls_counted, calls_in_range, locals_in_range, in_range_by_parts}
-use Rattle.wasm_modules.specs.formats.Sections.{typed_section_of, code_bodies, code_section_id}
-use Rattle.wasm_modules.specs.Modules.{IsTypedSection}
+use Rattle.wasm_code.specs.declared.code.CodeBody.{CodeBody}
+use Rattle.wasm_code.specs.CodeCounts.{CountedBody}
+use Rattle.wasm_code.specs.formats.CodeBodies.{local_group, code_body, code_section_body}
+use Rattle.wasm_code.proofs.CodeBodyLaws.{Lawful-code_body, Lawful-code-section-body}
+use Rattle.wasm_code.proofs.CodeBodyWriting.{calls_counted, calls_in_range, locals_in_range, in_range_by_parts}
+use Rattle.wasm_code.specs.formats.Sections.{typed_section_of, code_bodies, code_section_id}
+use Rattle.wasm_code.specs.Modules.{IsTypedSection}
 use Rattle.wasm_encoder.specs.EncodedLists.{Adds, AddsAll, EncodesSection, EncodedItems, CountedSection, IsFull, IsMemoryOrTooLong, IsRefusalOfEach, IsRefusalOfOne, IsUncounted, OfItems, body_bytes}
 use Rattle.wasm_encoder.specs.CodeSections.{FunctionStandsFor, GainsBodies, GainsFunction, GoesOnWith, GoesOnWithBytes, StandsForBodies, UncountedBody, body_of, followed}
 use Rattle.wasm_sections.specs.formats.ModuleSectionParts.{code}

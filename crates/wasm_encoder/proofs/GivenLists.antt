@@ -19,7 +19,7 @@ use Rattle.wasm_codec.specs.Encoding.{IsShortest, CanEncodeList, OnlyTooLong}
 use Rattle.wasm_codec.specs.formats.Numbers.{EncodesU32}
 use Rattle.wasm_codec.specs.Leb128.{unsigned_leb128}
 use Rattle.wasm_codec.specs.Lists.{items_bytes}
-use Rattle.wasm_modules.specs.formats.CodeBodies.{local_group}
+use Rattle.wasm_code.specs.formats.CodeBodies.{local_group}
 use Rattle.wasm_lists.specs.Iterators.{AppendsItems, IsItemsRefusal}
 use Rattle.wasm_encoder.specs.CodeSections.{FunctionStandsFor, MakesFunction, body_of}
 use Rattle.wasm_encoder.specs.EncodedLists.{EncodedItems, GivesItems, GivesSome, IsFull, IsMemoryOrTooLong, IsUncounted, OfItems}

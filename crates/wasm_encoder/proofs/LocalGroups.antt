@@ -13,8 +13,8 @@ use Rattle.wasm_codec.specs.formats.Combinators.{items}
 use Rattle.wasm_codec.specs.formats.Numbers.{EncodesU32}
 use Rattle.wasm_codec.specs.Leb128.{unsigned_leb128}
 use Rattle.wasm_codec.specs.Lists.{items_bytes}
-use Rattle.wasm_modules.specs.formats.CodeBodies.{local_group}
-use Rattle.wasm_modules.proofs.CodeBodyWriting.{locals_in_range}
+use Rattle.wasm_code.specs.formats.CodeBodies.{local_group}
+use Rattle.wasm_code.proofs.CodeBodyWriting.{locals_in_range}
 use Rattle.wasm_encoder.specs.EncodedLists.{IsMemoryOrTooLong, IsUncounted}
 use Rattle.wasm_encoder.specs.CodeSections.{AreApart, AreGroups, MakesLocals, StartsOtherwise, spread}
 

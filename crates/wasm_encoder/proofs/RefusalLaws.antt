@@ -19,8 +19,8 @@ use Rattle.wasm_instructions.specs.formats.Instructions.{Instruction}
 use Rattle.wasm_instructions.specs.Instructions.{IsCounted}
 use Rattle.wasm_instructions.specs.declared.table.call.Operands.{Operands}
 use Rattle.wasm_instructions.specs.declared.table.call.Operands.TheVariants as operands
-use Rattle.wasm_modules.specs.declared.code.CodeBody.{CodeBody}
-use Rattle.wasm_modules.specs.CodeCounts.{CountedBody, func_bytes}
+use Rattle.wasm_code.specs.declared.code.CodeBody.{CodeBody}
+use Rattle.wasm_code.specs.CodeCounts.{CountedBody, func_bytes}
 use Rattle.wasm_encoder.specs.EncodedLists.{EncodedItems, GivesSome, IsFull, IsMemoryOrTooLong, IsRefusalOfOne, IsRefusalOfEach, IsUncounted}
 use Rattle.wasm_lists.proofs.EncodedListLaws.{which, both_or, counted_or, of_one, of_each}
 use Rattle.wasm_encoder.specs.TypeSections.{UncountedFunc, UncountedInner, UncountedSub, UncountedEntry}

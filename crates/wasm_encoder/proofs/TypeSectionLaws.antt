@@ -13,8 +13,8 @@ use Rattle.wasm_types.specs.declared.types.recursive.TypeEntry.TheVariants as en
 use Rattle.wasm_codec.specs.declared.encode.EncodeError.{EncodeError}
 use Rattle.wasm_codec.specs.declared.encode.EncodeError.TheVariants.{TooLong}
 use Rattle.wasm_codec.specs.Encoding.{byte_list_bytes, IsCount, IsRefusal, IsShortest, OnlyTooLong}
-use Rattle.wasm_modules.specs.formats.Sections.{typed_section_of, type_entries, type_section_id}
-use Rattle.wasm_modules.specs.Modules.{IsTypedSection}
+use Rattle.wasm_code.specs.formats.Sections.{typed_section_of, type_entries, type_section_id}
+use Rattle.wasm_code.specs.Modules.{IsTypedSection}
 use Rattle.wasm_encoder.specs.EncodedLists.{AddsAll, EncodesSection, EncodedItems, CountedSection, IsFull, IsMemoryOrTooLong, IsRefusalOfEach, IsRefusalOfOne, IsUncounted, body_bytes}
 use Rattle.wasm_encoder.specs.TypeSections.{AddsEntry, AddsEntryOr, StandsFor, Gains, GainsAll, UncountedEntry, UncountedFunc, UncountedSub, type_section_bytes, final_entry}
 use Rattle.wasm_types.specs.formats.Types.{composite_type, inner_type, recursive_type, sub_type, type_body}

@@ -4,9 +4,9 @@ use Rattle.std.proofs.lemmas.List.{append-nil}
 use Rattle.wasm_codec.specs.formats.Grammar.{Grammar, Joined}
 use Rattle.wasm_codec.specs.formats.Combinators.{minimal_only}
 use Rattle.wasm_codec.specs.declared.encode.EncodeError.{EncodeError}
-use Rattle.wasm_modules.specs.formats.Sections.{header}
-use Rattle.wasm_modules.proofs.ModuleFormatLaws.{Lawful-raw-module}
-use Rattle.wasm_modules.proofs.ModuleLaws.{goes_on}
+use Rattle.wasm_code.specs.formats.Sections.{header}
+use Rattle.wasm_code.proofs.ModuleFormatLaws.{Lawful-raw-module}
+use Rattle.wasm_code.proofs.ModuleLaws.{goes_on}
 use Rattle.wasm_encoder.specs.BuiltModules.{AppendsSection}
 use Rattle.wasm_sections.specs.formats.ModuleSectionParts.{ModuleSectionParts}
 use Rattle.wasm_sections.specs.SectionBytes.{IsSectionAfter}

@@ -10,7 +10,7 @@ use Rattle.wasm_encoder.specs.declared.module_writer.WriteError.TheVariants as e
 use Rattle.wasm_encoder.proofs.WholeModuleLaws.{appends_section, no_sections}
 use Rattle.wasm_codec.specs.Encoding.{byte_list_bytes, IsRefusal, OnlyTooLong}
 use Rattle.wasm_codec.specs.Streams.{AppendsPrefix, WritesAll}
-use Rattle.wasm_modules.specs.formats.Sections.{header}
+use Rattle.wasm_code.specs.formats.Sections.{header}
 use Rattle.wasm_sections.specs.formats.ModuleSectionParts.{ModuleSectionParts}
 use Rattle.wasm_encoder.specs.BuiltModules.{AppendsSection}
 use Rattle.wasm_encoder.specs.EncodedLists.{EncodedItems, CountedSection, body_bytes}

@@ -4,8 +4,8 @@ use Rattle.std.specs.List.{All, AllByRecursion, Any}
 use Rattle.wasm_codec.specs.declared.encode.EncodeError.{EncodeError}
 use Rattle.wasm_codec.specs.declared.encode.EncodeError.TheVariants.{Memory}
 use Rattle.wasm_codec.specs.Encoding.{byte_list_bytes, IsShortestOrLonger, OnlyTooLong, Refuses}
-use Rattle.wasm_modules.specs.formats.Sections.{header, SectionParts, section_of}
-use Rattle.wasm_modules.specs.formats.Modules.{raw_module, raw_section}
+use Rattle.wasm_code.specs.formats.Sections.{header, SectionParts, section_of}
+use Rattle.wasm_code.specs.formats.Modules.{raw_module, raw_section}
 use Rattle.wasm_sections.specs.declared.module_sections.ModuleSection.{ModuleSection}
 use Rattle.wasm_sections.specs.formats.ModuleSectionParts.{ModuleSectionParts, all_module_section_parts}
 use Rattle.wasm_sections.specs.formats.ModuleSections.{ShortestWholeModule, whole_module}

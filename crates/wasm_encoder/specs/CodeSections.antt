@@ -8,9 +8,9 @@ use Rattle.wasm_codec.specs.Encoding.{byte_list_bytes, IsCount}
 use Rattle.wasm_instructions.specs.Appending.{CountedCall}
 use Rattle.wasm_instructions.specs.formats.Instructions.{Instruction, ShortestInstructions, instruction, instructions_bytes}
 use Rattle.wasm_instructions.specs.declared.table.call.Operands.{Operands}
-use Rattle.wasm_modules.specs.declared.code.CodeBody.{CodeBody}
-use Rattle.wasm_modules.specs.CodeCounts.{CountedBody, func_bytes}
-use Rattle.wasm_modules.specs.formats.CodeBodies.{local_group, code_body, code_section_body}
+use Rattle.wasm_code.specs.declared.code.CodeBody.{CodeBody}
+use Rattle.wasm_code.specs.CodeCounts.{CountedBody, func_bytes}
+use Rattle.wasm_code.specs.formats.CodeBodies.{local_group, code_body, code_section_body}
 use Rattle.wasm_sections.specs.formats.ModuleSectionParts.{code}
 use Rattle.wasm_sections.specs.SectionBytes.{IsSectionAfter}
 use Rattle.wasm_encoder.specs.EncodedLists.{EncodedItems, StandsForAll, GainsEach, GivesItems, OfItems, IsMemoryOrTooLong, IsUncounted, body_bytes}

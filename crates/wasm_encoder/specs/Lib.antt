@@ -20,23 +20,23 @@ pub use Rattle.wasm_instructions.specs.formats.Operands as OperandFormats
 pub use Rattle.wasm_instructions.specs.formats.Instructions as InstructionFormats
 pub use Rattle.wasm_instructions.specs.formats.Opcodes
 pub use Rattle.wasm_instructions.specs.Appending
-pub use Rattle.wasm_modules.specs.formats.CodeBodies as CodeFormats
-pub use Rattle.wasm_modules.specs.CodeCounts
-pub use Rattle.wasm_modules.specs.formats.Modules as ModuleFormats
-pub use Rattle.wasm_modules.specs.formats.Sections
-pub use Rattle.wasm_modules.specs.Judging
-pub use Rattle.wasm_modules.specs.Modules
-pub use Rattle.wasm_modules.specs.Reasons
+pub use Rattle.wasm_code.specs.formats.CodeBodies as CodeFormats
+pub use Rattle.wasm_code.specs.CodeCounts
+pub use Rattle.wasm_code.specs.formats.Modules as ModuleFormats
+pub use Rattle.wasm_code.specs.formats.Sections
+pub use Rattle.wasm_code.specs.Judging
+pub use Rattle.wasm_code.specs.Modules
+pub use Rattle.wasm_code.specs.Reasons
 pub use Rattle.wasm_types.specs.PrefixFree as PrefixFreeTypes
 pub use Rattle.wasm_instructions.specs.PrefixFree as PrefixFreeInstructions
-pub use Rattle.wasm_modules.specs.PrefixFree as PrefixFreeSections
+pub use Rattle.wasm_code.specs.PrefixFree as PrefixFreeSections
 pub use Rattle.wasm_codec.specs.Reading
 pub use Rattle.wasm_codec.specs.Scanning
 pub use Rattle.wasm_instructions.specs.Instructions
 pub use Rattle.wasm_instructions.specs.MemArgs
-pub use Rattle.wasm_entities.specs.formats.Names as NameFormats
-pub use Rattle.wasm_entities.specs.formats.Externals as ExternalFormats
-pub use Rattle.wasm_entities.specs.ClosedExpressions
+pub use Rattle.wasm_externals.specs.formats.Names as NameFormats
+pub use Rattle.wasm_externals.specs.formats.Externals as ExternalFormats
+pub use Rattle.wasm_externals.specs.ClosedExpressions
 pub use Rattle.wasm_sections.specs.formats.Entries as EntryFormats
 pub use Rattle.wasm_sections.specs.formats.EntryParts
 pub use Rattle.wasm_sections.specs.formats.Elements as ElementFormats
@@ -48,12 +48,12 @@ pub use Rattle.wasm_sections.specs.SectionBytes
 pub use Rattle.wasm_sections.specs.WrittenSections
 pub use Rattle.wasm_sections.specs.ClosedEntries
 pub use Rattle.wasm_sections.specs.Prefixes
-pub use Rattle.wasm_whole_modules.specs.ModuleOrder
-pub use Rattle.wasm_whole_modules.specs.IndexSpaces
-pub use Rattle.wasm_whole_modules.specs.MappedIndices
-pub use Rattle.wasm_whole_modules.specs.MappedSections
-pub use Rattle.wasm_whole_modules.specs.IndexOverflows
-pub use Rattle.wasm_whole_modules.specs.RefusalNumbers
+pub use Rattle.wasm_modules.specs.ModuleOrder
+pub use Rattle.wasm_modules.specs.IndexSpaces
+pub use Rattle.wasm_modules.specs.MappedIndices
+pub use Rattle.wasm_modules.specs.MappedSections
+pub use Rattle.wasm_modules.specs.IndexOverflows
+pub use Rattle.wasm_modules.specs.RefusalNumbers
 pub use Rattle.wasm_sections.specs.SectionKinds
 pub use Rattle.wasm_sections.specs.ListSections
 pub use Rattle.wasm_sections.specs.ElementSections

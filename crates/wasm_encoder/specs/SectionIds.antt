@@ -2,7 +2,7 @@
 use Rattle.std.specs.Prelude.{ℕ}
 use Rattle.wasm_encoder.specs.declared.wasm_core.SectionId.{SectionId}
 use Rattle.wasm_encoder.specs.declared.wasm_core.SectionId.TheVariants as ids
-use Rattle.wasm_modules.specs.formats.Sections.{type_section_id}
+use Rattle.wasm_code.specs.formats.Sections.{type_section_id}
 
 -- The id of a section of this kind (Sections).
 abbrev pub section_id : SectionId → ℕ

@@ -13,26 +13,26 @@ ghost use Rattle.wasm_codec.specs.Lists.{CountsItems};
 ghost use Rattle.wasm_types.specs.declared.types.recursive.TypeEntry.{TypeEntry};
 ghost use Rattle.wasm_types.specs.formats.Types.{recursive_type, type_body, IsTypeBodyPrefix, ShortestTypeBody, IsShortestTypeBodyPrefix};
 ghost use Rattle.wasm_instructions.specs.formats.Instructions.{Instruction, Instructions as InstructionList, ShortestInstructions, instruction};
-ghost use Rattle.wasm_modules.specs.declared.code.CodeBody.{CodeBody};
-ghost use Rattle.wasm_modules.specs.formats.CodeBodies.{code_body, code_section_body, IsCodeSectionBodyPrefix, ShortestCodeSectionBody, IsShortestCodeSectionBodyPrefix};
-ghost use Rattle.wasm_modules.specs.formats.Sections.{SectionParts, all_parts_of};
-ghost use Rattle.wasm_modules.specs.formats.Modules.{raw_module, raw_section, ShortestModule};
-ghost use Rattle.wasm_modules.specs.Modules.{CountsSections, IsModulePrefix, IsShortestModulePrefix};
+ghost use Rattle.wasm_code.specs.declared.code.CodeBody.{CodeBody};
+ghost use Rattle.wasm_code.specs.formats.CodeBodies.{code_body, code_section_body, IsCodeSectionBodyPrefix, ShortestCodeSectionBody, IsShortestCodeSectionBodyPrefix};
+ghost use Rattle.wasm_code.specs.formats.Sections.{SectionParts, all_parts_of};
+ghost use Rattle.wasm_code.specs.formats.Modules.{raw_module, raw_section, ShortestModule};
+ghost use Rattle.wasm_code.specs.Modules.{CountsSections, IsModulePrefix, IsShortestModulePrefix};
 
 use crate::code::CodeSection;
 use crate::raw::RawSection;
 use crate::type_section::TypeSection;
 use crate::wasm_core::Module;
 use std::alloc::Global;
+use wasm_code::code::CodeBody;
+pub use wasm_code::decode::{Decode, check, normalise, read, read_strict, rewrite};
+use wasm_code::raw::{check_raw_module, read_module_of, rewrite_raw_module};
 use wasm_codec::reader::DecodeError;
 use wasm_instructions::reader::lists::read_calls_to_end;
 use wasm_instructions::table::Call;
 use wasm_lists::checking::{check_items_to_end, check_list_to_end};
 use wasm_lists::reading::read_list_to_end;
 use wasm_lists::rewriting::{rewrite_items_to_end, rewrite_list_to_end};
-use wasm_modules::code::CodeBody;
-pub use wasm_modules::decode::{Decode, check, normalise, read, read_strict, rewrite};
-use wasm_modules::raw::{check_raw_module, read_module_of, rewrite_raw_module};
 use wasm_types::types::TypeEntry;
 
 /// A list of instructions with nothing between them and nothing after them (Core 3.0, Instructions).
@@ -175,17 +175,17 @@ impl<'a> Decode<'a> for CodeSection {
         ensures minimal { IsMinimal code_section_body ShortestCodeSectionBody }
     {}
 
-    #[tactic(auto, unfolding(wasm_modules::specs::formats::CodeBodies::code_section_body))]
+    #[tactic(auto, unfolding(wasm_code::specs::formats::CodeBodies::code_section_body))]
     fn read_all(alloc: Global, bytes: &'a [u8]) -> Result<Vec<CodeBody>, DecodeError> {
         read_list_to_end::<CodeBody, false>(alloc, bytes)
     }
 
-    #[tactic(auto, unfolding(wasm_modules::specs::formats::CodeBodies::code_section_body))]
+    #[tactic(auto, unfolding(wasm_code::specs::formats::CodeBodies::code_section_body))]
     fn read_all_strict(alloc: Global, bytes: &'a [u8]) -> Result<Vec<CodeBody>, DecodeError> {
         read_list_to_end::<CodeBody, true>(alloc, bytes)
     }
 
-    #[tactic(auto, unfolding(wasm_modules::specs::formats::CodeBodies::code_section_body))]
+    #[tactic(auto, unfolding(wasm_code::specs::formats::CodeBodies::code_section_body))]
     fn check_all(alloc: Global, bytes: &[u8]) -> Result<(), DecodeError>
         ensures checks { ChecksAll ShortestCodeSectionBody IsShortestCodeSectionBodyPrefix bytes.now (as_read result) }
         ensures place { IfErr result (LiesIn (length bytes.now)) }
@@ -194,7 +194,7 @@ impl<'a> Decode<'a> for CodeSection {
         check_list_to_end::<CodeBody>(alloc, bytes)
     }
 
-    #[tactic(auto, unfolding(wasm_modules::specs::formats::CodeBodies::code_section_body))]
+    #[tactic(auto, unfolding(wasm_code::specs::formats::CodeBodies::code_section_body))]
     fn rewrite_all(bytes: Vec<u8>) -> Result<Vec<u8>, DecodeError>
         ensures rewrites { RewritesAll code_section_body IsCodeSectionBodyPrefix bytes.items (as_read result) }
         ensures memory { NeedsNoMemory (as_read result) }

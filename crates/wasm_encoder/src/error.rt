@@ -11,7 +11,7 @@ use thiserror::Error as ThisError;
 use wasm_codec::encode::EncodeError;
 use wasm_codec::reader::{DecodeError, ReadError};
 use wasm_custom_sections::names::NameError;
-use wasm_whole_modules::order::ModuleError;
+use wasm_modules::order::ModuleError;
 
 /// Error of any call of the library. A function that calls readers, writers and checks returns it, and uses `?`.
 ///

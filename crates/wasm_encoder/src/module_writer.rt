@@ -2,7 +2,7 @@
 ghost use Rattle.std.specs.Prelude.{◌≡◌, [], ℕ, List, Option, IfOk};
 ghost use Rattle.std.specs.Io.KnownBytes.{Appends, Keeps};
 ghost use Rattle.wasm_codec.specs.Encoding.{IsRefusal};
-ghost use Rattle.wasm_modules.specs.formats.Sections.{header};
+ghost use Rattle.wasm_code.specs.formats.Sections.{header};
 ghost use Rattle.wasm_sections.specs.formats.ModuleSectionParts.{ModuleSectionParts};
 ghost use Rattle.wasm_encoder.specs.WrittenModules.{IsWrittenModule, WritesSection};
 ghost use Rattle.wasm_encoder.specs.declared.module_writer.WriteError.TheVariants as errors;

@@ -1,9 +1,9 @@
 //! Sections whose body is undecoded bytes.
 ghost use Rattle.std.specs.Prelude.{◌≡◌, Some, None, IfSome, IfNone};
-ghost use Rattle.wasm_modules.specs.formats.Sections.{all_parts_of};
+ghost use Rattle.wasm_code.specs.formats.Sections.{all_parts_of};
 ghost use Rattle.wasm_encoder.specs.RawSections.{first_body_of};
 
-pub use wasm_modules::section::RawSection;
+pub use wasm_code::section::RawSection;
 
 /// Returns the body of the first section whose id is `id`, among sections from [`read_module`](crate::read_module) for
 /// example. Returns `None` if there is none.

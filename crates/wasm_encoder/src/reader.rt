@@ -6,6 +6,14 @@
 //!
 //! Implement [`Readable`] for a type of your own to read lists of it with [`read_list_to_end`].
 
+pub use wasm_code::code::function_body::FunctionBody;
+pub use wasm_code::code::normaliser::{normalise_code_section, rewrite_code_section};
+pub use wasm_code::code::reader::{
+    check_code_section, read_code_section, read_code_section_strict,
+};
+pub use wasm_code::normaliser::{normalise_module, rewrite_module};
+pub use wasm_code::raw::{check_module, read_module, read_module_strict};
+pub use wasm_code::sections::{read_sections, read_sections_strict};
 pub use wasm_codec::reader::cursor::{Cursor, Fault};
 pub use wasm_codec::reader::malformed::{Construct, Malformed, Reason};
 pub use wasm_codec::reader::refusal::{Refusal, SectionPlace};
@@ -20,14 +28,6 @@ pub use wasm_lists::item_reader::ItemReader;
 pub use wasm_lists::readable::{Item, Readable};
 pub use wasm_lists::reading::read_list_to_end;
 pub use wasm_lists::rewriting::{RewritableBody, rewrite_list_to_end, rewrite_sized};
-pub use wasm_modules::code::function_body::FunctionBody;
-pub use wasm_modules::code::normaliser::{normalise_code_section, rewrite_code_section};
-pub use wasm_modules::code::reader::{
-    check_code_section, read_code_section, read_code_section_strict,
-};
-pub use wasm_modules::normaliser::{normalise_module, rewrite_module};
-pub use wasm_modules::raw::{check_module, read_module, read_module_strict};
-pub use wasm_modules::sections::{read_sections, read_sections_strict};
 pub use wasm_types::type_sections::{
     check_type_section, normalise_type_section, read_type_section, read_type_section_strict,
     rewrite_type_section,

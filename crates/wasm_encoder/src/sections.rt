@@ -39,9 +39,14 @@ pub use wasm_custom_sections::symbols::{
 pub use wasm_custom_sections::target_features::{
     FeaturePrefix, TargetFeature, TargetFeaturesSection,
 };
-pub use wasm_entities::const_expr::ConstExpr;
-pub use wasm_entities::limits::{MemoryType, TableType};
-pub use wasm_entities::types::{EntityType, ExportKind, GlobalType, TagKind, TagType};
+pub use wasm_externals::const_expr::ConstExpr;
+pub use wasm_externals::limits::{MemoryType, TableType};
+pub use wasm_externals::types::{EntityType, ExportKind, GlobalType, TagKind, TagType};
+pub use wasm_modules::modules::{
+    Judged, WholeModule, check_whole_module, judge_whole_module, normalise_whole_module,
+    read_whole_module, read_whole_module_strict, rewrite_whole_module,
+};
+pub use wasm_modules::order::{ModuleError, check_order, find_order_error};
 use wasm_sections::custom::append_front;
 pub use wasm_sections::custom::{CustomSection, read_custom};
 pub use wasm_sections::data::{DataSection, DataSegment, DataSegmentMode};
@@ -56,11 +61,6 @@ pub use wasm_sections::module_sections::ModuleSection;
 pub use wasm_sections::numbers::{DataCountSection, StartSection, read_number, read_number_strict};
 pub use wasm_sections::tables::{Table, TableSection};
 pub use wasm_sections::tags::TagSection;
-pub use wasm_whole_modules::modules::{
-    Judged, WholeModule, check_whole_module, judge_whole_module, normalise_whole_module,
-    read_whole_module, read_whole_module_strict, rewrite_whole_module,
-};
-pub use wasm_whole_modules::order::{ModuleError, check_order, find_order_error};
 
 /// The id of sections whose name says what they hold.
 const CUSTOM_SECTION_ID: u8 = 0;

@@ -6,8 +6,8 @@ ghost use Rattle.wasm_encoder.specs.EncodedLists.{AddsAll, EncodesSection, Encod
 ghost use Rattle.wasm_encoder.specs.TypeSections.{AddsEntry, AddsEntryOr, AddsFunction, AddsGiven, StandsFor, GainsAll, HoldsEntries, IsTypeSection, UncountedEntry, UncountedFunc, UncountedSub, type_section_bytes, final_entry, struct_entry, array_entry};
 ghost use Rattle.wasm_codec.specs.Encoding.{OnlyTooLong};
 ghost use Rattle.wasm_types.specs.formats.Types.{type_body};
-ghost use Rattle.wasm_modules.specs.formats.Sections.{typed_section_of, type_entries, type_section_id};
-ghost use Rattle.wasm_modules.specs.Modules.{IsTypedSection};
+ghost use Rattle.wasm_code.specs.formats.Sections.{typed_section_of, type_entries, type_section_id};
+ghost use Rattle.wasm_code.specs.Modules.{IsTypedSection};
 ghost use Rattle.wasm_sections.specs.formats.ModuleSectionParts.{types as holding_types};
 ghost use Rattle.wasm_types.specs.declared.types.recursive.TypeEntry.{TypeEntry};
 ghost use Rattle.wasm_types.specs.declared.types.composite.CompositeInnerType.TheVariants as inner;

@@ -1,7 +1,7 @@
 //! Sections and modules (Core 3.0, Modules).
 ghost use Rattle.std.specs.Prelude.{◌≡◌, ◌∷◌, ℕ, List, [], IfOk, IfErr, length};
 ghost use Rattle.wasm_codec.specs.Encoding.{IsRefusal};
-ghost use Rattle.wasm_modules.specs.formats.Sections.{header};
+ghost use Rattle.wasm_code.specs.formats.Sections.{header};
 ghost use Rattle.wasm_sections.specs.formats.ModuleSections.{ShortestWholeModule};
 ghost use Rattle.wasm_encoder.specs.BuiltModules.{AppendsTo, AppendsSection, BuildsModule};
 ghost use Rattle.wasm_encoder.specs.WrittenModules.{EncodesInParts};
@@ -12,9 +12,9 @@ ghost use Rattle.wasm_codec.specs.declared.encode.EncodeError.TheVariants.{Memor
 use crate::encoded_section::EncodedSection;
 use std::alloc::{Allocator, Global};
 use std::marker::Model;
+use wasm_code::section::{HEADER, RawSection, TYPE_SECTION_ID, append_section};
 use wasm_codec::encode::EncodeError;
 use wasm_lists::encode::Encode;
-use wasm_modules::section::{HEADER, RawSection, TYPE_SECTION_ID, append_section};
 use wasm_sections::module_sections::ModuleSection;
 
 /// A section of a module: an id, and an encoding that is the size of a body in bytes and the body.

@@ -8,17 +8,17 @@ use escaped_text::JsonText;
 use serde_json::{Value, json};
 use std::alloc::{AllocError, Global};
 use std::{fmt, io};
+use wasm_code::decode::normalise;
+use wasm_code::section::{HEADER, RawSection};
 use wasm_codec::encode::leb128::u32_len;
 use wasm_codec::reader::DecodeError;
 use wasm_codec::reader::cursor::Cursor;
 use wasm_custom_sections::contents::{Decoded, contents_of};
 use wasm_custom_sections::names::NameSection;
 use wasm_custom_sections::producers::ProducersSection;
-use wasm_modules::decode::normalise;
-use wasm_modules::section::{HEADER, RawSection};
+use wasm_modules::counting::{ItemCounts, SectionWatcher};
+use wasm_modules::selection::custom_name;
 use wasm_sections::custom::read_custom;
-use wasm_whole_modules::counting::{ItemCounts, SectionWatcher};
-use wasm_whole_modules::selection::custom_name;
 
 /// A writer of the report of a module, which is rewritten meanwhile: a row for each section, and then the totals.
 #[derive(Drop)]

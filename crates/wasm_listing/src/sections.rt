@@ -1,16 +1,16 @@
 //! The sections of a module: their offsets, and their titles in messages.
 ghost use Rattle.std.specs.Prelude.{◌≡◌};
-ghost use Rattle.wasm_modules.specs.formats.Sections.{parts_of};
+ghost use Rattle.wasm_code.specs.formats.Sections.{parts_of};
 ghost use Rattle.wasm_listing.specs.Ranks.{rank};
 
 use escaped_text::Escaped;
 use std::fmt;
+use wasm_code::raw::{after_header, read_section};
+use wasm_code::section::RawSection;
 use wasm_codec::reader::cursor::Cursor;
 use wasm_codec::reader::names::section_names;
-use wasm_modules::raw::{after_header, read_section};
-use wasm_modules::section::RawSection;
-use wasm_whole_modules::counting::ItemCounts;
-use wasm_whole_modules::selection::custom_name;
+use wasm_modules::counting::ItemCounts;
+use wasm_modules::selection::custom_name;
 
 const DATA_COUNT_SECTION: u8 = 12;
 

@@ -1,12 +1,10 @@
-//! Modules of WebAssembly (Core 3.0, Modules) with their bodies as bytes, or with types and code decoded; code bodies; and
-//! what reads, writes and rewrites them.
+//! Modules with every section decoded (Core 3.0, Modules): read, written in minimal encoding, checked, and searched for
+//! what is malformed.
 #![tactic(auto)]
 
-pub mod code;
-pub mod decode;
-pub mod judging;
-pub mod normaliser;
-pub mod raw;
-pub mod reasons;
-pub mod section;
-pub mod sections;
+pub mod counting;
+pub mod indices;
+pub mod modules;
+pub mod offsets;
+pub mod order;
+pub mod selection;

@@ -18,12 +18,12 @@ use Rattle.wasm_types.specs.formats.Types.{composite_type, inner_type, recursive
 use Rattle.wasm_instructions.specs.Appending.{CountedCall}
 use Rattle.wasm_instructions.specs.formats.Instructions.{Instruction, instruction}
 use Rattle.wasm_instructions.proofs.CallRanges.{is_counted}
-use Rattle.wasm_modules.specs.declared.code.CodeBody.{CodeBody}
-use Rattle.wasm_modules.specs.CodeCounts.{CountedBody}
-use Rattle.wasm_modules.specs.formats.CodeBodies.{code_body}
-use Rattle.wasm_entities.specs.ClosedExpressions.{IsCountedExpr}
-use Rattle.wasm_entities.specs.formats.Expressions.{end_call, expr}
-use Rattle.wasm_entities.specs.formats.Names.{name}
+use Rattle.wasm_code.specs.declared.code.CodeBody.{CodeBody}
+use Rattle.wasm_code.specs.CodeCounts.{CountedBody}
+use Rattle.wasm_code.specs.formats.CodeBodies.{code_body}
+use Rattle.wasm_externals.specs.ClosedExpressions.{IsCountedExpr}
+use Rattle.wasm_externals.specs.formats.Expressions.{end_call, expr}
+use Rattle.wasm_externals.specs.formats.Names.{name}
 use Rattle.wasm_sections.specs.declared.data.DataSegmentMode.{DataSegmentMode}
 use Rattle.wasm_sections.specs.declared.data.DataSegmentMode.TheVariants as data_modes
 use Rattle.wasm_sections.specs.declared.elements.Element.{Element}

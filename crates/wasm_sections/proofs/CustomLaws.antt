@@ -21,9 +21,9 @@ use Rattle.wasm_codec.proofs.NumberLaws.{written}
 use Rattle.wasm_lists.proofs.WrittenLists.{in_range_of}
 use Rattle.wasm_sections.specs.formats.EntryParts.{CustomParts}
 use Rattle.wasm_sections.specs.Prefixes.{IsNothingOr, IsRefusedAt, AreLawfulPrefixes}
-use Rattle.wasm_entities.specs.formats.Names.{name}
+use Rattle.wasm_externals.specs.formats.Names.{name}
 use Rattle.wasm_sections.specs.formats.Sections.{custom_of, parts_of_custom, custom_body}
-use Rattle.wasm_entities.proofs.NameLaws.{name_is_lawful}
+use Rattle.wasm_externals.proofs.NameLaws.{name_is_lawful}
 
 pub custom_is_lawful : IsLawfulBody custom_body
 unfolding custom_body

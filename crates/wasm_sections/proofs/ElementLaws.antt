@@ -30,19 +30,19 @@ use Rattle.wasm_instructions.specs.formats.Instructions.{Instruction}
 use Rattle.wasm_sections.specs.declared.elements.ElementMode.{ElementMode}
 use Rattle.wasm_sections.specs.declared.elements.Elements.{Elements}
 use Rattle.wasm_sections.specs.declared.elements.Element.{Element}
-use Rattle.wasm_entities.specs.formats.Expressions.{expr}
+use Rattle.wasm_externals.specs.formats.Expressions.{expr}
 use Rattle.wasm_sections.specs.formats.Elements.{funcref, is_func, is_funcref, element, Exprs, part_0, functions_part, part_2, part_4, expressions_part, part_6, functions_number, expressions_number, element_number, kind_and_functions, element_form, element_segment, typed_of}
 use Rattle.wasm_sections.specs.ElementForms.{place_at, mode_at, elements_at}
-use Rattle.wasm_entities.specs.ClosedExpressions.{IsClosed, IsWrittenExpr}
+use Rattle.wasm_externals.specs.ClosedExpressions.{IsClosed, IsWrittenExpr}
 use Rattle.wasm_sections.specs.ClosedEntries.{IsClosedMode, IsClosedElement, AreClosed}
 use Rattle.wasm_sections.specs.SegmentBytes.{table_and_offset_bytes, is_short, element_mode_bytes, ElementModeFits, elements_bytes, ElementsFit}
-use Rattle.wasm_entities.specs.formats.PartCombinators.{part_if}
+use Rattle.wasm_externals.specs.formats.PartCombinators.{part_if}
 use Rattle.wasm_sections.specs.declared.elements.ElementMode.TheVariants as modes
 use Rattle.wasm_sections.specs.declared.elements.Elements.TheVariants as held
 use Rattle.wasm_sections.proofs.SegmentLaws.{left_out, by_its_number, by_another_number}
-use Rattle.wasm_entities.proofs.PartCombinatorLaws.{Lawful-numbered}
-use Rattle.wasm_entities.proofs.ExpressionLaws.{expr_is_lawful, in_expr}
-use Rattle.wasm_entities.proofs.ExternalLaws.{two}
+use Rattle.wasm_externals.proofs.PartCombinatorLaws.{Lawful-numbered}
+use Rattle.wasm_externals.proofs.ExpressionLaws.{expr_is_lawful, in_expr}
+use Rattle.wasm_externals.proofs.ExternalLaws.{two}
 
 Lawful-kind-and-functions : IsLawful kind_and_functions
 Lawful-kind-and-functions = Lawful-after 0x00 (lit≤ tt) (Lawful-items Lawful-u32)

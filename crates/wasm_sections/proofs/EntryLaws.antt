@@ -12,21 +12,21 @@ use Rattle.wasm_codec.proofs.NumberLaws.{written}
 use Rattle.wasm_types.specs.formats.Types.{ref_type, val_type, abstract_type}
 use Rattle.wasm_lists.proofs.WrittenLists.{in_range_of}
 use Rattle.wasm_instructions.specs.formats.Instructions.{Instruction}
-use Rattle.wasm_entities.specs.formats.Names.{name}
-use Rattle.wasm_entities.specs.formats.Externals.{table_type, global_type, export_kind_byte, export_kind, entity_type}
+use Rattle.wasm_externals.specs.formats.Names.{name}
+use Rattle.wasm_externals.specs.formats.Externals.{table_type, global_type, export_kind_byte, export_kind, entity_type}
 use Rattle.wasm_sections.specs.formats.Entries.{export_of, export_entry, import_of, import_entry, filled_of, filled_part, unfilled, table_entry, global_of, global_entry}
-use Rattle.wasm_entities.specs.declared.types.ExportKind.{ExportKind}
+use Rattle.wasm_externals.specs.declared.types.ExportKind.{ExportKind}
 use Rattle.wasm_sections.specs.formats.EntryParts.{ExportParts, ImportParts}
-use Rattle.wasm_entities.specs.ClosedExpressions.{IsClosed}
+use Rattle.wasm_externals.specs.ClosedExpressions.{IsClosed}
 use Rattle.wasm_sections.specs.ClosedEntries.{IsClosedGlobal, IsClosedTable}
 use Rattle.wasm_sections.specs.declared.globals.Global.{Global}
 use Rattle.wasm_sections.specs.declared.tables.Table.{Table}
-use Rattle.wasm_entities.specs.declared.limits.TableType.{TableType}
-use Rattle.wasm_entities.specs.formats.Expressions.{expr}
-use Rattle.wasm_entities.specs.declared.types.ExportKind.TheVariants as kinds
-use Rattle.wasm_entities.proofs.NameLaws.{name_is_lawful, in_name}
-use Rattle.wasm_entities.proofs.ExternalLaws.{Lawful-entity-type, Lawful-export-kind, Lawful-table-type, Lawful-global-type, three, two, four}
-use Rattle.wasm_entities.proofs.ExpressionLaws.{expr_is_lawful, in_expr}
+use Rattle.wasm_externals.specs.declared.limits.TableType.{TableType}
+use Rattle.wasm_externals.specs.formats.Expressions.{expr}
+use Rattle.wasm_externals.specs.declared.types.ExportKind.TheVariants as kinds
+use Rattle.wasm_externals.proofs.NameLaws.{name_is_lawful, in_name}
+use Rattle.wasm_externals.proofs.ExternalLaws.{Lawful-entity-type, Lawful-export-kind, Lawful-table-type, Lawful-global-type, three, two, four}
+use Rattle.wasm_externals.proofs.ExpressionLaws.{expr_is_lawful, in_expr}
 
 pub export_is_lawful : IsLawful export_entry
 unfolding export_entry

@@ -15,12 +15,12 @@ use Rattle.wasm_sections.specs.declared.elements.ElementMode.TheVariants as mode
 use Rattle.wasm_sections.specs.declared.elements.Elements.{Elements}
 use Rattle.wasm_sections.specs.declared.globals.Global.{Global}
 use Rattle.wasm_sections.specs.declared.tables.Table.{Table}
-use Rattle.wasm_entities.specs.declared.types.GlobalType.{GlobalType}
-use Rattle.wasm_entities.specs.declared.limits.MemoryType.{MemoryType}
-use Rattle.wasm_entities.specs.declared.limits.TableType.{TableType}
-use Rattle.wasm_entities.specs.declared.types.TagType.{TagType}
+use Rattle.wasm_externals.specs.declared.types.GlobalType.{GlobalType}
+use Rattle.wasm_externals.specs.declared.limits.MemoryType.{MemoryType}
+use Rattle.wasm_externals.specs.declared.limits.TableType.{TableType}
+use Rattle.wasm_externals.specs.declared.types.TagType.{TagType}
 use Rattle.wasm_sections.specs.ClosedEntries.{AreClosed, IsClosedData, IsClosedElement, IsClosedGlobal, IsClosedTable, IsCountedData, IsCountedElement, IsCountedGlobal, IsCountedTable}
-use Rattle.wasm_entities.specs.ClosedExpressions.{IsClosed, IsCountedExpr}
+use Rattle.wasm_externals.specs.ClosedExpressions.{IsClosed, IsCountedExpr}
 use Rattle.wasm_sections.specs.formats.Elements.{element, element_segment}
 use Rattle.wasm_sections.specs.formats.Entries.{filled_of, global_entry, global_of, table_entry}
 use Rattle.wasm_sections.specs.formats.Segments.{active_data, data_segment}
@@ -28,7 +28,7 @@ use Rattle.wasm_sections.specs.formats.EntryParts.{data_parts, export_parts, imp
 use Rattle.wasm_sections.specs.formats.ModuleSectionParts.{ModuleSectionParts, data_count, start}
 use Rattle.wasm_sections.specs.SectionBytes.{IsBodyOf, IsSectionAfter}
 use Rattle.wasm_sections.proofs.ElementLaws.{element_is_lawful}
-use Rattle.wasm_entities.proofs.ExternalLaws.{memory_is_lawful, tag_is_lawful}
+use Rattle.wasm_externals.proofs.ExternalLaws.{memory_is_lawful, tag_is_lawful}
 use Rattle.wasm_sections.proofs.EntryLaws.{export_is_lawful, global_is_lawful, import_is_lawful, table_is_lawful}
 use Rattle.wasm_sections.proofs.ModuleSectionLaws.{data_count_kind, data_segments_kind, elements_kind, exports_kind, functions_kind, globals_kind, imports_kind, memories_kind, start_kind, tables_kind, tags_kind, is_body_of, section_written}
 use Rattle.wasm_sections.proofs.SegmentLaws.{data_is_lawful}

@@ -24,22 +24,22 @@ use Rattle.wasm_codec.proofs.NumberLaws.{u32_written}
 use Rattle.wasm_codec.proofs.NumberReading.{byte_took}
 use Rattle.wasm_types.specs.formats.Types.{recursive_type}
 use Rattle.wasm_types.proofs.TypeFormatLaws.{Lawful-recursive-type}
-use Rattle.wasm_modules.specs.formats.CodeBodies.{code_body}
-use Rattle.wasm_modules.proofs.CodeBodyLaws.{Lawful-code_body}
-use Rattle.wasm_modules.proofs.ModuleFormatLaws.{Lawful-module-of, is_shortest_module_of}
+use Rattle.wasm_code.specs.formats.CodeBodies.{code_body}
+use Rattle.wasm_code.proofs.CodeBodyLaws.{Lawful-code_body}
+use Rattle.wasm_code.proofs.ModuleFormatLaws.{Lawful-module-of, is_shortest_module_of}
 use Rattle.wasm_sections.specs.formats.Elements.{element_segment}
 use Rattle.wasm_sections.specs.formats.Entries.{import_entry, table_entry, global_entry, export_entry}
-use Rattle.wasm_entities.specs.formats.Externals.{memory_type, tag_type}
+use Rattle.wasm_externals.specs.formats.Externals.{memory_type, tag_type}
 use Rattle.wasm_sections.specs.formats.ModuleSectionParts.{ModuleSectionParts, section_id, custom, types, imports, functions, tables, memories, globals, exports, start, elements, code, data_segments, data_count, tags, custom_part, type_entries_part, imports_part, function_indexes_part, tables_part, memories_part, globals_part, exports_part, start_part, elements_part, code_part, data_segments_part, data_count_part, tags_part}
 use Rattle.wasm_sections.specs.formats.ModuleSections.{BreaksInList, BreaksInSection, module_section, whole_module, ShortestWholeModule, one_of, list_of, OfKind, of_custom, of_types, of_imports, of_functions, of_tables, of_memories, of_globals, of_exports, of_start, of_elements, of_code, of_data, of_data_count, of_tags, of_unknown}
 use Rattle.wasm_sections.specs.formats.Sections.{custom_body, custom_of}
 use Rattle.wasm_sections.specs.formats.Segments.{data_segment}
 use Rattle.wasm_sections.specs.formats.EntryParts.{CustomParts}
-use Rattle.wasm_entities.specs.formats.Names.{name}
+use Rattle.wasm_externals.specs.formats.Names.{name}
 use Rattle.wasm_sections.specs.SectionBytes.{IsBodyOf, IsSectionAfter}
 use Rattle.wasm_sections.proofs.CustomLaws.{custom_is_lawful, custom_refused}
 use Rattle.wasm_sections.proofs.ElementLaws.{element_is_lawful}
-use Rattle.wasm_entities.proofs.ExternalLaws.{memory_is_lawful, tag_is_lawful}
+use Rattle.wasm_externals.proofs.ExternalLaws.{memory_is_lawful, tag_is_lawful}
 use Rattle.wasm_sections.proofs.EntryLaws.{export_is_lawful, global_is_lawful, import_is_lawful, table_is_lawful}
 use Rattle.wasm_sections.proofs.SegmentLaws.{data_is_lawful}
 

@@ -6,9 +6,9 @@ use Rattle.wasm_codec.specs.Outcomes.{EncodesSome, IsNormalForm}
 use Rattle.wasm_codec.specs.formats.Combinators.{Format, minimal_only}
 use Rattle.wasm_codec.specs.formats.Grammar.{IsBytes, Joined}
 use Rattle.wasm_codec.proofs.Laws.{IsBytes-back}
-use Rattle.wasm_modules.specs.formats.Modules.{raw_module, raw_section}
-use Rattle.wasm_modules.specs.formats.Sections.{SectionParts}
-use Rattle.wasm_modules.proofs.ModuleFormatLaws.{Lawful-raw-section}
+use Rattle.wasm_code.specs.formats.Modules.{raw_module, raw_section}
+use Rattle.wasm_code.specs.formats.Sections.{SectionParts}
+use Rattle.wasm_code.proofs.ModuleFormatLaws.{Lawful-raw-section}
 use Rattle.wasm_sections.specs.formats.ModuleSectionParts.{ModuleSectionParts, custom, types, imports, functions, tables, memories, globals, exports, start, elements, code, data_segments, data_count, tags}
 use Rattle.wasm_sections.specs.formats.ModuleSections.{module_section, whole_module, ShortestWholeModule}
 use Rattle.wasm_sections.proofs.ModuleSectionLaws.{IsKind, module_section_is_lawful, whole_module_is_lawful, whole_module_is_minimal, custom_kind, types_kind, imports_kind, functions_kind, tables_kind, memories_kind, globals_kind, exports_kind, start_kind, elements_kind, code_kind, data_segments_kind, data_count_kind, tags_kind}

@@ -9,10 +9,10 @@ use Rattle.wasm_codec.specs.formats.Combinators.{Format, u32, ◌⊗◌}
 use Rattle.wasm_codec.proofs.NumberReading.{u32_one}
 use Rattle.wasm_instructions.proofs.ScannedCalls.{made_scanned}
 use Rattle.wasm_instructions.proofs.ScannedPrefixed.{pair_scanned}
-use Rattle.wasm_entities.specs.declared.types.ExportKind.TheVariants as kinds
-use Rattle.wasm_entities.specs.formats.Names.{name}
-use Rattle.wasm_entities.specs.formats.Expressions.{expr}
-use Rattle.wasm_entities.specs.formats.Externals.{export_kind, global_type, entity_type}
+use Rattle.wasm_externals.specs.declared.types.ExportKind.TheVariants as kinds
+use Rattle.wasm_externals.specs.formats.Names.{name}
+use Rattle.wasm_externals.specs.formats.Expressions.{expr}
+use Rattle.wasm_externals.specs.formats.Externals.{export_kind, global_type, entity_type}
 use Rattle.wasm_sections.specs.formats.Entries.{export_of, export_entry, import_of, import_entry, global_of, global_entry}
 use Rattle.wasm_sections.specs.formats.Segments.{active_data, passive_data, data_segment}
 

@@ -18,15 +18,15 @@ use Rattle.wasm_instructions.specs.formats.Instructions.{Instruction}
 use Rattle.wasm_sections.specs.declared.data.DataSegmentMode.{DataSegmentMode}
 use Rattle.wasm_sections.specs.formats.EntryParts.{DataParts}
 use Rattle.wasm_sections.specs.formats.Segments.{active_data, passive_data, first_data_part, any_data_part, passive_data_part, data_number, data_form, data_segment}
-use Rattle.wasm_entities.specs.formats.PartCombinators.{numbered, numbered_bytes, part_if}
-use Rattle.wasm_entities.specs.formats.Expressions.{expr}
-use Rattle.wasm_entities.specs.ClosedExpressions.{IsClosed}
+use Rattle.wasm_externals.specs.formats.PartCombinators.{numbered, numbered_bytes, part_if}
+use Rattle.wasm_externals.specs.formats.Expressions.{expr}
+use Rattle.wasm_externals.specs.ClosedExpressions.{IsClosed}
 use Rattle.wasm_sections.specs.ClosedEntries.{IsClosedData}
 use Rattle.wasm_sections.specs.SegmentBytes.{table_and_offset_bytes, data_mode_bytes, DataModeFits}
 use Rattle.wasm_sections.specs.declared.data.DataSegmentMode.TheVariants as data_modes
-use Rattle.wasm_entities.proofs.PartCombinatorLaws.{Lawful-numbered, number_takes}
-use Rattle.wasm_entities.proofs.ExpressionLaws.{expr_is_lawful, in_expr}
-use Rattle.wasm_entities.proofs.ExternalLaws.{two}
+use Rattle.wasm_externals.proofs.PartCombinatorLaws.{Lawful-numbered, number_takes}
+use Rattle.wasm_externals.proofs.ExpressionLaws.{expr_is_lawful, in_expr}
+use Rattle.wasm_externals.proofs.ExternalLaws.{two}
 
 -- what is left out takes a byte at least
 pub left_out : {A : Type 0} {F : Format A} → IsLawful F → (bytes : List ℕ) (n : ℕ) (a : A) → (u32 ⊗ F).Encodes bytes (n, a) → F.InRange a × (length (F.bytes a) < length bytes)

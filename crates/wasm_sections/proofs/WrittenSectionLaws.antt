@@ -17,11 +17,11 @@ use Rattle.wasm_types.specs.TypeCounts.{CountedEntry}
 use Rattle.wasm_types.specs.declared.types.recursive.TypeEntry.{TypeEntry}
 use Rattle.wasm_types.specs.formats.Types.{recursive_type}
 use Rattle.wasm_types.proofs.TypeFormatLaws.{Lawful-recursive-type}
-use Rattle.wasm_modules.specs.CodeCounts.{CountedBody}
-use Rattle.wasm_modules.specs.declared.code.CodeBody.{CodeBody}
-use Rattle.wasm_modules.specs.formats.CodeBodies.{code_body}
-use Rattle.wasm_modules.proofs.CodeBodyLaws.{Lawful-code_body}
-use Rattle.wasm_entities.specs.formats.Externals.{memory_type, tag_type}
+use Rattle.wasm_code.specs.CodeCounts.{CountedBody}
+use Rattle.wasm_code.specs.declared.code.CodeBody.{CodeBody}
+use Rattle.wasm_code.specs.formats.CodeBodies.{code_body}
+use Rattle.wasm_code.proofs.CodeBodyLaws.{Lawful-code_body}
+use Rattle.wasm_externals.specs.formats.Externals.{memory_type, tag_type}
 use Rattle.wasm_sections.specs.declared.custom.CustomSection.{CustomSection}
 use Rattle.wasm_sections.specs.declared.module_sections.ModuleSection.{ModuleSection}
 use Rattle.wasm_sections.specs.declared.module_sections.ModuleSection.TheVariants as sections

@@ -13,7 +13,7 @@ use Rattle.wasm_sections.specs.declared.elements.Element.{Element}
 use Rattle.wasm_sections.specs.formats.EntryParts.{DataParts}
 use Rattle.wasm_sections.specs.declared.globals.Global.{Global}
 use Rattle.wasm_sections.specs.declared.tables.Table.{Table}
-use Rattle.wasm_entities.specs.ClosedExpressions.{IsClosed, IsCountedExpr}
+use Rattle.wasm_externals.specs.ClosedExpressions.{IsClosed, IsCountedExpr}
 
 -- The global's expression closes its blocks.
 abbrev pub IsClosedGlobal : Global → Type 0

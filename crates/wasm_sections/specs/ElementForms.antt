@@ -10,7 +10,7 @@ use Rattle.wasm_sections.specs.declared.elements.ElementMode.{ElementMode}
 use Rattle.wasm_sections.specs.declared.elements.ElementMode.TheVariants as modes
 use Rattle.wasm_sections.specs.declared.elements.Elements.{Elements}
 use Rattle.wasm_sections.specs.declared.elements.Elements.TheVariants as held
-use Rattle.wasm_entities.specs.formats.Expressions.{expr}
+use Rattle.wasm_externals.specs.formats.Expressions.{expr}
 use Rattle.wasm_sections.specs.formats.Elements.{funcref, kind_and_functions, typed_of, typed_part}
 
 -- Reads the offset of an active element segment for this table.

@@ -4,12 +4,12 @@ use Rattle.wasm_codec.specs.formats.Combinators.{Format, u32}
 use Rattle.wasm_sections.specs.declared.elements.Element.{Element}
 use Rattle.wasm_sections.specs.declared.globals.Global.{Global}
 use Rattle.wasm_sections.specs.declared.tables.Table.{Table}
-use Rattle.wasm_entities.specs.declared.limits.MemoryType.{MemoryType}
-use Rattle.wasm_entities.specs.declared.types.TagType.{TagType}
+use Rattle.wasm_externals.specs.declared.limits.MemoryType.{MemoryType}
+use Rattle.wasm_externals.specs.declared.types.TagType.{TagType}
 use Rattle.wasm_sections.specs.formats.Elements.{element_segment}
 use Rattle.wasm_sections.specs.formats.Entries.{import_entry, table_entry, global_entry, export_entry}
 use Rattle.wasm_sections.specs.formats.EntryParts.{ImportParts, ExportParts, DataParts}
-use Rattle.wasm_entities.specs.formats.Externals.{memory_type, tag_type}
+use Rattle.wasm_externals.specs.formats.Externals.{memory_type, tag_type}
 use Rattle.wasm_sections.specs.formats.ModuleSectionParts.{ModuleSectionParts, imports, functions, tables, memories, globals, exports, elements, data_segments, tags}
 use Rattle.wasm_sections.specs.formats.Segments.{data_segment}
 

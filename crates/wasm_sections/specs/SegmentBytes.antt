@@ -10,8 +10,8 @@ use Rattle.wasm_sections.specs.declared.elements.ElementMode.{ElementMode}
 use Rattle.wasm_sections.specs.declared.elements.ElementMode.TheVariants as modes
 use Rattle.wasm_sections.specs.declared.elements.Elements.{Elements}
 use Rattle.wasm_sections.specs.declared.elements.Elements.TheVariants as held
-use Rattle.wasm_entities.specs.formats.PartCombinators.{part_if}
-use Rattle.wasm_entities.specs.formats.Expressions.{expr}
+use Rattle.wasm_externals.specs.formats.PartCombinators.{part_if}
+use Rattle.wasm_externals.specs.formats.Expressions.{expr}
 use Rattle.wasm_sections.specs.formats.Elements.{kind_and_functions}
 
 -- The number of a form, the index of a memory or table if it is named, and the offset in it.

@@ -8,9 +8,9 @@ use Rattle.wasm_codec.specs.Lists.{items_bytes}
 use Rattle.wasm_codec.specs.formats.Combinators.{u32}
 use Rattle.wasm_types.specs.TypeCounts.{CountedEntry}
 use Rattle.wasm_types.specs.formats.Types.{recursive_type}
-use Rattle.wasm_modules.specs.CodeCounts.{CountedBody}
-use Rattle.wasm_modules.specs.formats.CodeBodies.{code_body}
-use Rattle.wasm_entities.specs.formats.Externals.{memory_type, tag_type}
+use Rattle.wasm_code.specs.CodeCounts.{CountedBody}
+use Rattle.wasm_code.specs.formats.CodeBodies.{code_body}
+use Rattle.wasm_externals.specs.formats.Externals.{memory_type, tag_type}
 use Rattle.wasm_sections.specs.declared.module_sections.ModuleSection.{ModuleSection}
 use Rattle.wasm_sections.specs.declared.module_sections.ModuleSection.TheVariants as sections
 use Rattle.wasm_sections.specs.ClosedEntries.{IsClosedData, IsClosedElement, IsClosedGlobal, IsClosedTable, IsCountedData, IsCountedElement, IsCountedGlobal, IsCountedTable}

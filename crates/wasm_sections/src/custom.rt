@@ -13,16 +13,16 @@ ghost use Rattle.wasm_sections.specs.SectionBytes.{CountedCustom, IsSectionAfter
 
 use crate::bodies::{WholeBody, are_bytes, rewrite_body};
 use std::alloc::{Allocator, Global};
+use wasm_code::decode::Decode;
 use wasm_codec::encode::leb128::u32_len;
 use wasm_codec::encode::{EncodeError, keep_or_undo};
 use wasm_codec::reader::cursor::{Cursor, Fault};
 use wasm_codec::reader::malformed::{Construct, Malformed, Reason};
 use wasm_codec::reader::{DecodeError, ReadError, without_reason};
 use wasm_codec::rewriter::Rewriter;
-use wasm_entities::names::{append_name, read_name, rewrite_name};
+use wasm_externals::names::{append_name, read_name, rewrite_name};
 use wasm_lists::encode::Encode;
 use wasm_lists::rewriting::RewritableBody;
-use wasm_modules::decode::Decode;
 
 /// A custom section, which `Module::section` accepts and `read_whole_module` returns (Core 3.0, Custom Section).
 ///

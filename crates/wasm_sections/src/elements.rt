@@ -8,19 +8,19 @@ ghost use Rattle.wasm_sections.specs.ElementForms.{RewritesForm, place_at, mode_
 ghost use Rattle.wasm_sections.specs.formats.Elements.{is_funcref, typed_of, typed_part, element_number, element_form, kind_and_functions, element_segment};
 ghost use Rattle.wasm_types.specs.formats.Types.{ref_type};
 ghost use Rattle.wasm_instructions.specs.formats.Instructions.{Instruction};
-ghost use Rattle.wasm_entities.specs.formats.Expressions.{expr};
+ghost use Rattle.wasm_externals.specs.formats.Expressions.{expr};
 ghost use Rattle.wasm_codec.specs.Lawful.{IsLawful};
 ghost use Rattle.wasm_codec.specs.formats.Grammar.{TakesBytes};
 ghost use Rattle.std.specs.List.{All, Any, flat_map};
 ghost use Rattle.wasm_codec.specs.Encoding.{CanEncodeList, IsListRefusal, IsRefusal, IsShortest, OnlyTooLong, Refuses};
 ghost use Rattle.wasm_codec.specs.declared.encode.EncodeError.TheVariants.{Memory};
 ghost use Rattle.wasm_sections.specs.ClosedEntries.{AreClosed, AreCounted, IsClosedElement, IsClosedMode, IsCountedElement, IsCountedMode};
-ghost use Rattle.wasm_entities.specs.ClosedExpressions.{IsCountedExpr, IsWrittenExpr};
+ghost use Rattle.wasm_externals.specs.ClosedExpressions.{IsCountedExpr, IsWrittenExpr};
 ghost use Rattle.wasm_sections.specs.SegmentBytes.{ElementModeFits, ElementsFit, element_mode_bytes, elements_bytes, is_short};
 ghost use Rattle.wasm_sections.specs.SectionKinds.{element_section};
 ghost use Rattle.wasm_sections.specs.declared.elements.ElementMode.TheVariants as modes;
 ghost use Rattle.wasm_sections.specs.declared.elements.Elements.TheVariants as held;
-ghost use Rattle.wasm_entities.specs.Making.{Makes};
+ghost use Rattle.wasm_externals.specs.Making.{Makes};
 ghost use Rattle.wasm_sections.specs.ElementSections.{AddsSegment};
 
 use crate::bodies::are_bytes;
@@ -32,8 +32,8 @@ use wasm_codec::encode::{EncodeError, keep_or_undo};
 use wasm_codec::reader::cursor::{Cursor, Fault};
 use wasm_codec::reader::malformed::{Construct, Malformed};
 use wasm_codec::rewriter::{Rewriter, Scanned};
-use wasm_entities::const_expr::ConstExpr;
-use wasm_entities::expressions::{encode_expr, read_expr, rewrite_expr, scan_expr};
+use wasm_externals::const_expr::ConstExpr;
+use wasm_externals::expressions::{encode_expr, read_expr, rewrite_expr, scan_expr};
 use wasm_instructions::table::Call;
 use wasm_lists::encode::{Encode, encode_list, encode_list_after};
 use wasm_lists::list::Items;
@@ -288,7 +288,7 @@ impl Rewritable for Expression {
     ghost format = { expr };
 
     #[inline(always)]
-    #[tactic(auto, using(wasm_entities::proofs::ExpressionLaws::expr_is_lawful, crate::proofs::ElementLaws::expr_takes))]
+    #[tactic(auto, using(wasm_externals::proofs::ExpressionLaws::expr_is_lawful, crate::proofs::ElementLaws::expr_takes))]
     fn is_lawful() {}
 
     #[inline(always)]

@@ -11,7 +11,7 @@ ghost use Rattle.wasm_codec.specs.Lawful.{IsLawful};
 ghost use Rattle.wasm_sections.specs.formats.EntryParts.{ExportParts, export_parts, all_export_parts};
 ghost use Rattle.wasm_sections.specs.formats.Entries.{export_entry, export_of};
 ghost use Rattle.wasm_codec.specs.Encoding.{IsCount, IsCountRefusal, IsShortest, OnlyTooLong};
-ghost use Rattle.wasm_entities.specs.formats.Names.{name};
+ghost use Rattle.wasm_externals.specs.formats.Names.{name};
 ghost use Rattle.wasm_sections.specs.SectionKinds.{export_section};
 ghost use Rattle.wasm_sections.specs.ListSections.{AddsOr, IsUncounted, LawfulEntry};
 
@@ -21,8 +21,8 @@ use wasm_codec::encode::leb128::put_u32;
 use wasm_codec::encode::{EncodeError, keep_or_undo};
 use wasm_codec::reader::cursor::{Cursor, Fault};
 use wasm_codec::rewriter::{Rewriter, Scanned, scan_u32};
-use wasm_entities::names::{NameInput, append_name, scan_name};
-use wasm_entities::types::{ExportKind, kind_byte, take_export_kind};
+use wasm_externals::names::{NameInput, append_name, scan_name};
+use wasm_externals::types::{ExportKind, kind_byte, take_export_kind};
 use wasm_lists::encode::Encode;
 use wasm_lists::readable::Readable;
 

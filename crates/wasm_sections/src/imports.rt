@@ -19,8 +19,8 @@ use std::alloc::{Allocator, Global};
 use wasm_codec::encode::{EncodeError, keep_or_undo};
 use wasm_codec::reader::cursor::{Cursor, Fault};
 use wasm_codec::rewriter::{Rewriter, Scanned};
-use wasm_entities::names::{NameInput, append_name, read_short_name, scan_name};
-use wasm_entities::types::{
+use wasm_externals::names::{NameInput, append_name, read_short_name, scan_name};
+use wasm_externals::types::{
     EntityType, put_entity_type, read_frequent_entity_type, scan_entity_type, take_entity_type,
 };
 use wasm_lists::encode::Encode;

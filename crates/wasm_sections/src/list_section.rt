@@ -6,13 +6,14 @@ ghost use Rattle.wasm_codec.specs.formats.Combinators.{items};
 ghost use Rattle.wasm_lists.specs.EncodedLists.{CountedSection, IsRefusalOfOne, IsRefusalOfEach, body_bytes};
 ghost use Rattle.wasm_sections.specs.SectionKinds.{SectionOf};
 ghost use Rattle.wasm_sections.specs.ListSections.{StandsForItems, AddsIf, AddsEachIf, EncodesItems, IsWrittenList, LawfulItem};
-ghost use Rattle.wasm_entities.specs.Making.{Makes};
+ghost use Rattle.wasm_externals.specs.Making.{Makes};
 ghost use Rattle.wasm_codec.specs.Decoding.{ChecksAll, RewritesAll, IsMinimal};
 ghost use Rattle.wasm_codec.specs.Outcomes.{IfMalformed, LiesIn, as_read, NeedsNoMemory};
 ghost use Rattle.wasm_codec.specs.Lists.{CountsItems, ListMinimalIf, IsListPrefix, IsListPrefixMinimalIf};
 
 use std::alloc::{Allocator, Global};
 use std::marker::{Model, PhantomData};
+use wasm_code::decode::Decode;
 use wasm_codec::encode::EncodeError;
 use wasm_codec::reader::DecodeError;
 use wasm_lists::checking::check_list_to_end;
@@ -21,7 +22,6 @@ use wasm_lists::encoded_list::EncodedList;
 use wasm_lists::readable::{Item, Readable};
 use wasm_lists::reading::read_list_to_end;
 use wasm_lists::rewriting::rewrite_list_to_end;
-use wasm_modules::decode::Decode;
 
 /// An item of a section that is a list.
 ///

@@ -4,7 +4,7 @@ ghost use Rattle.wasm_sections.specs.ListSections.{AddsItem};
 
 use crate::list_section::{ListSection, SectionItem};
 use wasm_codec::encode::EncodeError;
-use wasm_entities::limits::MemoryType;
+use wasm_externals::limits::MemoryType;
 
 /// A memory section: the type of each memory that the module defines (Core 3.0, Memory Section).
 ///

@@ -14,10 +14,10 @@ use crate::imports::Import;
 use crate::tables::Table;
 pub use kinds::{SectionKind, SectionVisitor, visit_section};
 pub use rewriter::AnySection;
-use wasm_entities::limits::MemoryType;
-use wasm_entities::types::TagType;
+use wasm_code::code::CodeBody;
+use wasm_externals::limits::MemoryType;
+use wasm_externals::types::TagType;
 use wasm_lists::list::Items;
-use wasm_modules::code::CodeBody;
 use wasm_types::types::TypeEntry;
 
 /// A decoded section (Core 3.0, Modules).

@@ -14,6 +14,7 @@ ghost use Rattle.wasm_sections.specs.NumberSections.{IsWrittenNumber};
 
 use crate::bodies::{WholeBody, rewrite_body};
 use std::alloc::{Allocator, Global};
+use wasm_code::decode::Decode;
 use wasm_codec::encode::EncodeError;
 use wasm_codec::encode::leb128::{put_u32, u32_len};
 use wasm_codec::reader::DecodeError;
@@ -22,7 +23,6 @@ use wasm_codec::reader::malformed::{Malformed, Reason};
 use wasm_codec::rewriter::{Part, Rewriter};
 use wasm_lists::encode::Encode;
 use wasm_lists::rewriting::RewritableBody;
-use wasm_modules::decode::Decode;
 
 /// A start section: the function that instantiating the module calls (Core 3.0, Start Section).
 ///

@@ -4,15 +4,15 @@ ghost use Rattle.wasm_codec.specs.Leb128.{unsigned_leb128};
 ghost use Rattle.wasm_codec.specs.formats.Numbers.{EncodesU32};
 ghost use Rattle.wasm_codec.specs.Encoding.{IsRefusal, IsShortest, OnlyTooLong};
 ghost use Rattle.wasm_codec.specs.formats.Combinators.{items};
-ghost use Rattle.wasm_entities.specs.ClosedExpressions.{IsClosed, IsCountedExpr};
+ghost use Rattle.wasm_externals.specs.ClosedExpressions.{IsClosed, IsCountedExpr};
 ghost use Rattle.wasm_sections.specs.SegmentBytes.{table_and_offset_bytes};
-ghost use Rattle.wasm_entities.specs.formats.Expressions.{expr};
+ghost use Rattle.wasm_externals.specs.formats.Expressions.{expr};
 
 use std::alloc::Allocator;
 use wasm_codec::encode::EncodeError;
 use wasm_codec::encode::leb128::put_u32;
-use wasm_entities::expressions::encode_expr;
-use wasm_entities::limits::put_u32_if;
+use wasm_externals::expressions::encode_expr;
+use wasm_externals::limits::put_u32_if;
 use wasm_instructions::table::Call;
 
 /// Appends the number of a form, the memory or table index if the form has one, and the offset. On error a part of them

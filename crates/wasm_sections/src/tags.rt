@@ -4,7 +4,7 @@ ghost use Rattle.wasm_sections.specs.ListSections.{AddsItem};
 
 use crate::list_section::{ListSection, SectionItem};
 use wasm_codec::encode::EncodeError;
-use wasm_entities::types::TagType;
+use wasm_externals::types::TagType;
 
 /// A tag section: the type of each tag that the module defines (Core 3.0, Tag Section).
 ///

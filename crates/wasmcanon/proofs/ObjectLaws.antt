@@ -8,10 +8,10 @@ use Rattle.wasm_codec.specs.Places.{Place, Reads}
 use Rattle.wasm_codec.specs.declared.reader.cursor.Fault.{Fault}
 use Rattle.wasm_codec.specs.declared.reader.cursor.Fault.TheVariants as faults
 use Rattle.wasm_codec.specs.formats.Grammar.{Joined}
-use Rattle.wasm_modules.specs.formats.Modules.{raw_section}
-use Rattle.wasm_modules.specs.formats.Sections.{SectionParts}
-use Rattle.wasm_modules.proofs.SectionWalks.{next_section, no_section, none_left}
-use Rattle.wasm_whole_modules.specs.Offsets.{IsNameOf, IsObjectName}
+use Rattle.wasm_code.specs.formats.Modules.{raw_section}
+use Rattle.wasm_code.specs.formats.Sections.{SectionParts}
+use Rattle.wasm_code.proofs.SectionWalks.{next_section, no_section, none_left}
+use Rattle.wasm_modules.specs.Offsets.{IsNameOf, IsObjectName}
 use Rattle.wasmcanon.specs.Run.{FormIs, IsForm}
 use Rattle.wasmcanon.specs.declared.run.FormOptions.{FormOptions}
 use Rattle.wasmcanon.specs.Objects.{IsObjectSection, HasNoObject, HasObject, OfRawSections}

@@ -6,17 +6,17 @@ use Rattle.std.specs.Prelude.{IfSome}
 use Rattle.wasm_codec.specs.Decoding.{Checks, NormalisesInPlace}
 use Rattle.wasm_codec.specs.Outcomes.{place_alone}
 use Rattle.wasm_codec.specs.declared.reader.refusal.Refusal.{Refusal}
-use Rattle.wasm_whole_modules.specs.RefusalNumbers.{CountsParts}
+use Rattle.wasm_modules.specs.RefusalNumbers.{CountsParts}
 use Rattle.wasm_codec.specs.formats.Combinators.{minimal_only}
-use Rattle.wasm_modules.specs.Judging.{verdict_of}
-use Rattle.wasm_modules.specs.Modules.{IsModulePrefixOf}
+use Rattle.wasm_code.specs.Judging.{verdict_of}
+use Rattle.wasm_code.specs.Modules.{IsModulePrefixOf}
 use Rattle.wasm_sections.specs.formats.ModuleSections.{KeepsMinimal, ShortestWholeModule, module_section, whole_module}
 use Rattle.wasm_sections.proofs.RawSections.{minimal_normal, normal_minimal}
 use Rattle.wasm_custom_sections.specs.MinimalContents.{MinimisesContents}
-use Rattle.wasm_whole_modules.specs.Selections.{IsChosen}
-use Rattle.wasm_whole_modules.specs.declared.order.ModuleError.{ModuleError}
-use Rattle.wasm_whole_modules.specs.ModuleOrder.{OfModule, IsWhyNot}
-use Rattle.wasm_whole_modules.specs.ModuleOrder as order
+use Rattle.wasm_modules.specs.Selections.{IsChosen}
+use Rattle.wasm_modules.specs.declared.order.ModuleError.{ModuleError}
+use Rattle.wasm_modules.specs.ModuleOrder.{OfModule, IsWhyNot}
+use Rattle.wasm_modules.specs.ModuleOrder as order
 use Rattle.wasmcanon.specs.Run.{Accepts, HasContents, HasLongerContents, IsCanonicalForm, IsForm, IsLonger, IsReadFailure, Judges}
 use Rattle.wasmcanon.specs.declared.order.MisplacedSection.{MisplacedSection}
 use Rattle.wasmcanon.specs.declared.run.FormOptions.{FormOptions}

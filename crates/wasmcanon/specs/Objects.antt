@@ -2,9 +2,9 @@
 use Rattle.std.specs.Prelude.{◌≡◌, ℕ, List, ◌∷◌, ◌++◌}
 use Rattle.std.specs.List.{AllByRecursion}
 use Rattle.wasm_codec.specs.formats.Grammar.{Joined}
-use Rattle.wasm_modules.specs.formats.Modules.{raw_module, raw_section}
-use Rattle.wasm_modules.specs.formats.Sections.{SectionParts}
-use Rattle.wasm_whole_modules.specs.Offsets.{IsNameOf, IsObjectName}
+use Rattle.wasm_code.specs.formats.Modules.{raw_module, raw_section}
+use Rattle.wasm_code.specs.formats.Sections.{SectionParts}
+use Rattle.wasm_modules.specs.Offsets.{IsNameOf, IsObjectName}
 
 -- The section is that of an object file: symbols, or relocations.
 pub record IsObjectSection (section : SectionParts) : Type 0 where

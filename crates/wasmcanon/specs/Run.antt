@@ -7,13 +7,13 @@ use Rattle.wasm_codec.specs.declared.reader.refusal.Refusal.{Refusal}
 use Rattle.wasm_sections.specs.formats.ModuleSectionParts.{ModuleSectionParts}
 use Rattle.wasm_sections.specs.formats.ModuleSections.{module_section, whole_module}
 use Rattle.wasm_codec.specs.formats.Combinators.{minimal_only}
-use Rattle.wasm_modules.specs.Modules.{IsModulePrefixOf}
-use Rattle.wasm_whole_modules.specs.declared.order.ModuleError.{ModuleError}
+use Rattle.wasm_code.specs.Modules.{IsModulePrefixOf}
+use Rattle.wasm_modules.specs.declared.order.ModuleError.{ModuleError}
 use Rattle.sha2.specs.Sha256.{sha256}
-use Rattle.wasm_whole_modules.specs.Selections.{IsChosen}
+use Rattle.wasm_modules.specs.Selections.{IsChosen}
 use Rattle.wasm_custom_sections.specs.MinimalContents.{MinimisesContents}
-use Rattle.wasm_whole_modules.specs.ModuleOrder.{OfModule, IsWhyNot}
-use Rattle.wasm_whole_modules.specs.ModuleOrder as order
+use Rattle.wasm_modules.specs.ModuleOrder.{OfModule, IsWhyNot}
+use Rattle.wasm_modules.specs.ModuleOrder as order
 use Rattle.wasmcanon.specs.declared.run.FormOptions.{FormOptions}
 use Rattle.wasmcanon.specs.declared.run.Verdict.{Verdict}
 use Rattle.wasmcanon.specs.declared.run.Verdict.TheVariants as verdicts

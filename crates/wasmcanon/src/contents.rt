@@ -5,6 +5,8 @@ ghost use Rattle.wasmcanon.specs.Run.{HasContents, HasLongerContents, HasMinimal
 
 use crate::run::Verdict;
 use std::alloc::{AllocError, Global};
+use wasm_code::decode::check;
+use wasm_code::section::RawSection;
 use wasm_codec::encode::leb128::u32_len;
 use wasm_codec::reader::DecodeError;
 use wasm_codec::reader::cursor::Cursor;
@@ -14,8 +16,6 @@ use wasm_custom_sections::contents::{Decoded, contents_of, rewrite_contents};
 use wasm_custom_sections::names::NameSection;
 use wasm_custom_sections::producers::ProducersSection;
 use wasm_listing::sections::SectionWalk;
-use wasm_modules::decode::check;
-use wasm_modules::section::RawSection;
 use wasm_sections::custom::read_custom;
 
 /// Puts the contents of a module's sections `name` and `producers` into their minimal encoding if `names` is set.

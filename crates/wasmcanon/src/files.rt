@@ -11,8 +11,8 @@ use canon_cli::request::{Location, Request};
 use std::alloc::Global;
 use std::io::Write;
 use std::{fs, io};
-use wasm_modules::section::HEADER;
-use wasm_whole_modules::counting::SectionWatcher;
+use wasm_code::section::HEADER;
+use wasm_modules::counting::SectionWatcher;
 
 /// Reads the module at `input`, and writes its canonical form to `output`. Notes which patterns match its custom
 /// sections.

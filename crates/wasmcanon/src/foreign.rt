@@ -1,6 +1,6 @@
 //! Inputs that aren't modules: what they look like.
 use std::fmt;
-use wasm_modules::section::HEADER;
+use wasm_code::section::HEADER;
 
 /// What an input looks like that doesn't begin with the header of a module.
 #[derive(Clone, Copy)]

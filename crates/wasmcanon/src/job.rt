@@ -2,7 +2,7 @@
 use crate::run::FormOptions;
 use canon_cli::request::Request;
 use std::alloc::{AllocError, Global};
-use wasm_whole_modules::selection::{Pattern, Sections, Selection};
+use wasm_modules::selection::{Pattern, Sections, Selection};
 
 /// A request with its patterns of names.
 #[derive(Drop)]

@@ -1,13 +1,13 @@
 //! Object files: a linker changes their code by offsets, which are stale once bytes have moved.
 ghost use Rattle.std.specs.Prelude.{◌≡◌, true, false};
-ghost use Rattle.wasm_modules.specs.formats.Sections.{parts_of};
+ghost use Rattle.wasm_code.specs.formats.Sections.{parts_of};
 ghost use Rattle.wasmcanon.specs.Objects.{IsObjectSection, IsObjectFile, IsNoObjectFile, HasNoObject, HasObject, OfRawSections};
 
+use wasm_code::raw::{after_header, read_section};
+use wasm_code::section::RawSection;
 use wasm_codec::reader::cursor::Cursor;
-use wasm_modules::raw::{after_header, read_section};
-use wasm_modules::section::RawSection;
-use wasm_whole_modules::offsets::is_object_name;
-use wasm_whole_modules::selection::custom_name;
+use wasm_modules::offsets::is_object_name;
+use wasm_modules::selection::custom_name;
 
 /// Checks whether a module is an object file: it has a section `linking`, or one whose name begins with `reloc.`.
 pub fn is_object_file(bytes: &[u8]) -> bool

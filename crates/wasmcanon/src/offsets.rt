@@ -1,9 +1,9 @@
 //! Custom sections that keep offsets into the module. Once bytes have moved, these offsets are stale.
 use std::alloc::{AllocError, Global};
+use wasm_code::raw::{after_header, read_section};
 use wasm_codec::reader::cursor::Cursor;
-use wasm_modules::raw::{after_header, read_section};
-use wasm_whole_modules::offsets::is_offset_name;
-use wasm_whole_modules::selection::custom_name;
+use wasm_modules::offsets::is_offset_name;
+use wasm_modules::selection::custom_name;
 
 /// Returns the names of the custom sections that keep offsets, in their order.
 ///

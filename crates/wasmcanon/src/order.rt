@@ -5,10 +5,10 @@ ghost use Rattle.wasmcanon.specs.Run.{Accepts, IfPlaced, NeverWrites, outcome_of
 use crate::run::Failure;
 use std::alloc::Global;
 use std::fmt;
+use wasm_code::raw::{after_header, read_section};
 use wasm_codec::reader::cursor::Cursor;
 use wasm_listing::sections::kind_name;
-use wasm_modules::raw::{after_header, read_section};
-use wasm_whole_modules::order::{ModuleError, find_order_error};
+use wasm_modules::order::{ModuleError, find_order_error};
 
 /// A section that is out of order.
 #[derive(Clone, Copy)]

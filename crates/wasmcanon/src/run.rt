@@ -2,8 +2,8 @@
 ghost use Rattle.std.specs.Prelude.{◌≡◌, ℕ, List, false, true, IfOk, IfErr, IfSome, OnOk};
 ghost use Rattle.std.specs.Io.KnownBytes.{IsAtEnd, Keeps};
 ghost use Rattle.wasm_sections.specs.formats.ModuleSections.{module_section};
-ghost use Rattle.wasm_whole_modules.specs.Counting.{ShowsModule};
-ghost use Rattle.wasm_whole_modules.specs.RefusalNumbers.{CountsParts};
+ghost use Rattle.wasm_modules.specs.Counting.{ShowsModule};
+ghost use Rattle.wasm_modules.specs.RefusalNumbers.{CountsParts};
 ghost use Rattle.wasmcanon.specs.Objects.{IsObjectFile, IsNoObjectFile};
 ghost use Rattle.wasmcanon.specs.Run.{Accepts, FormIs, IsModule, IsCanonicalForm, AppendsBeginning, AppendsForm, IsForm, IsHash, IfObjectFile, IfPlaced, IfWriteFailed, NeverWrites, OnceAllIsRead, BeforeAnyWrite, IsReadFailure, Judges, outcome_of, status_of};
 ghost use Rattle.wasmcanon.specs.declared.run.Failure.TheVariants.{Memory};
@@ -19,14 +19,14 @@ use sha2::{Digest, Sha256};
 use std::alloc::{AllocError, Global};
 use std::io;
 use std::io::{ErrorKind, Write};
+use wasm_code::decode::rewrite;
 use wasm_codec::reader::DecodeError;
 use wasm_codec::reader::refusal::Refusal;
 use wasm_codec::streams::write_all;
-use wasm_modules::decode::rewrite;
-use wasm_whole_modules::counting::{SectionWatcher, rewrite_watched};
-use wasm_whole_modules::modules::{WholeModule, judge_whole_module};
-use wasm_whole_modules::order::ModuleError;
-use wasm_whole_modules::selection::{Sections, choose_sections};
+use wasm_modules::counting::{SectionWatcher, rewrite_watched};
+use wasm_modules::modules::{WholeModule, judge_whole_module};
+use wasm_modules::order::ModuleError;
+use wasm_modules::selection::{Sections, choose_sections};
 
 /// Why a run failed.
 #[derive(Drop)]

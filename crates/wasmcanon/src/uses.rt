@@ -2,9 +2,9 @@
 use canon_cli::request::Request;
 use canon_cli::text::UnusedPattern;
 use std::alloc::{AllocError, Global};
+use wasm_code::raw::{after_header, read_section};
 use wasm_codec::reader::cursor::Cursor;
-use wasm_modules::raw::{after_header, read_section};
-use wasm_whole_modules::selection::{Pattern, custom_name};
+use wasm_modules::selection::{Pattern, custom_name};
 
 /// The patterns of the options `--strip` and `--keep`, and which of them have matched a custom section.
 #[derive(Drop)]

@@ -5,8 +5,8 @@ use Rattle.wasm_instructions.specs.formats.Instructions.{Instructions, instructi
 use Rattle.wasmnorm.specs.declared.modes.Mode.{Mode}
 use Rattle.wasmnorm.specs.declared.modes.Mode.TheVariants.{Calls, Types, Module}
 use Rattle.wasm_types.specs.formats.Types.{IsTypeBodyPrefix, type_body}
-use Rattle.wasm_modules.specs.formats.Modules.{typed_module}
-use Rattle.wasm_modules.specs.Modules.{IsTypedModulePrefix}
+use Rattle.wasm_code.specs.formats.Modules.{typed_module}
+use Rattle.wasm_code.specs.Modules.{IsTypedModulePrefix}
 
 -- The input encodes a list of calls, type entries or a typed module, as the mode asks.
 abbrev pub IsEncoded : Mode → List ℕ → Type 0

@@ -3,9 +3,9 @@ ghost use Rattle.std.specs.Prelude.{List, ℕ, IfOk};
 ghost use Rattle.wasm_codec.specs.Outcomes.{IsOrMemory, IfRefused, IsLongestPrefix};
 ghost use Rattle.wasmnorm.specs.Modes.{IsEncoded, NormalForm, IsWholePrefix};
 
+use wasm_code::normaliser::rewrite_module;
 use wasm_codec::reader::ReadError;
 use wasm_instructions::normaliser::rewrite_instructions;
-use wasm_modules::normaliser::rewrite_module;
 use wasm_types::type_sections::rewrite_type_section;
 
 /// The form of the input.

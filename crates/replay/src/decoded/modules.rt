@@ -5,11 +5,11 @@ use crate::decoded::built::check_built;
 use crate::decoded::{check_given, cut_at};
 use crate::mismatch::Mismatch;
 use std::alloc::Global;
+use wasm_code::section::HEADER;
 use wasm_codec::reader::ReadError;
 use wasm_lists::encode::encode_bytes;
-use wasm_modules::section::HEADER;
-use wasm_whole_modules::modules::read_whole_module;
-use wasm_whole_modules::order::{check_order, find_order_error};
+use wasm_modules::modules::read_whole_module;
+use wasm_modules::order::{check_order, find_order_error};
 
 /// The id of a section.
 pub fn id_of(section: &str) -> u8 {

@@ -1,7 +1,7 @@
 -- The contents of core dump sections, but for stacks (tool conventions, Core Dumps).
 use Rattle.std.specs.Prelude.{ℕ, List, map, Some}
 use Rattle.wasm_codec.specs.formats.Combinators.{Format, ◌▷◌, ◌⊗◌, made, items, u32}
-use Rattle.wasm_entities.specs.formats.Names.{name}
+use Rattle.wasm_externals.specs.formats.Names.{name}
 use Rattle.wasm_custom_sections.specs.declared.core_dumps.CoreDumpInstance.{CoreDumpInstance}
 use Rattle.wasm_custom_sections.specs.declared.core_dumps.CoreDumpModule.{CoreDumpModule}
 use Rattle.wasm_custom_sections.specs.declared.core_dumps.CoreDumpSection.{CoreDumpSection}

@@ -1,7 +1,7 @@
 -- The contents of core dump sections that hold the stack of a thread (tool conventions, Core Dumps).
 use Rattle.std.specs.Prelude.{ℕ, ℤ, List, map, Option, Some, None}
 use Rattle.wasm_codec.specs.formats.Combinators.{Format, ◌▷◌, ◌⊗◌, made, nothing, any_of, no_other, tagged, items, u32, s32, s64, little_endian}
-use Rattle.wasm_entities.specs.formats.Names.{name}
+use Rattle.wasm_externals.specs.formats.Names.{name}
 use Rattle.wasm_instructions.specs.formats.Operands.{ieee32, ieee64}
 use Rattle.wasm_custom_sections.specs.declared.core_stacks.CoreDumpStack.{CoreDumpStack}
 use Rattle.wasm_custom_sections.specs.declared.core_stacks.CoreDumpStackFrame.{CoreDumpStackFrame}

@@ -2,7 +2,7 @@
 use Rattle.std.specs.Prelude.{ℕ, List, Option, Some, Bool, nat_lt}
 use Rattle.wasm_codec.specs.formats.Bodies.{sized, byte_list, to_end}
 use Rattle.wasm_codec.specs.formats.Combinators.{Format, ◌⊗◌, made, any_of, or_else, tagged, byte_where, items, u32}
-use Rattle.wasm_entities.specs.formats.Names.{name}
+use Rattle.wasm_externals.specs.formats.Names.{name}
 use Rattle.wasm_custom_sections.specs.formats.NameParts.{NamingParts, IndirectParts, SubsectionParts, subsection_id, module_name, functions, locals, labels, types, tables, memories, globals, elements, data_segments, fields, tags, module_part, functions_part, locals_part, labels_part, types_part, tables_part, memories_part, globals_part, elements_part, data_segments_part, fields_part, tags_part, unknown_of, unknown_part}
 
 -- The name with these parts.

@@ -1,7 +1,7 @@
 -- The contents of producers sections (tool conventions, Producers Section).
 use Rattle.std.specs.Prelude.{ℕ, List, Some}
 use Rattle.wasm_codec.specs.formats.Combinators.{Format, ◌⊗◌, made, items}
-use Rattle.wasm_entities.specs.formats.Names.{name}
+use Rattle.wasm_externals.specs.formats.Names.{name}
 use Rattle.wasm_custom_sections.specs.formats.ProducerParts.{FieldParts, ProducerParts}
 
 -- The language or the tool with these parts.

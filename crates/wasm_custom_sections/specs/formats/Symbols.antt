@@ -1,8 +1,8 @@
 -- The symbols of an object file (tool conventions, WebAssembly Object File Linking, Symbol Table Subsection).
 use Rattle.std.specs.Prelude.{◌≡◌, ℕ, ◌==◌, ◌||◌, Bool, not, List, Option, Some, is_some, bit_and}
 use Rattle.wasm_codec.specs.formats.Combinators.{Format, ◌⊗◌, ◌⊗>◌, made, any_of, no_other, tagged, u32}
-use Rattle.wasm_entities.specs.formats.Names.{name}
-use Rattle.wasm_entities.specs.formats.PartCombinators.{part_if}
+use Rattle.wasm_externals.specs.formats.Names.{name}
+use Rattle.wasm_externals.specs.formats.PartCombinators.{part_if}
 use Rattle.wasm_custom_sections.specs.declared.symbols.DataSymbolDefinition.{DataSymbolDefinition}
 use Rattle.wasm_custom_sections.specs.declared.symbols.SectionSymbol.{SectionSymbol}
 use Rattle.wasm_custom_sections.specs.formats.SymbolParts.{ItemParts, DataParts, SymbolParts, symbol_kind, function, data_object, global, section, tag, table, function_part, data_part, global_part, section_part, tag_part, table_part}

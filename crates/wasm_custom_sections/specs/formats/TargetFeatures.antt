@@ -1,7 +1,7 @@
 -- The contents of target features sections (tool conventions, Target Features Section).
 use Rattle.std.specs.Prelude.{ℕ, List, [], ◌∷◌, map, Option, Some}
 use Rattle.wasm_codec.specs.formats.Combinators.{Format, ◌⊗◌, made, one_byte}
-use Rattle.wasm_entities.specs.formats.Names.{name}
+use Rattle.wasm_externals.specs.formats.Names.{name}
 use Rattle.wasm_custom_sections.specs.declared.target_features.FeaturePrefix.{FeaturePrefix}
 use Rattle.wasm_custom_sections.specs.declared.target_features.FeaturePrefix.TheVariants as prefixes
 use Rattle.wasm_custom_sections.specs.declared.target_features.TargetFeature.{TargetFeature}

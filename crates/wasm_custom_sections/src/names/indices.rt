@@ -1,7 +1,7 @@
 //! Subsections of a name section with new indices (Core 3.0, Name Section).
 ghost use Rattle.std.specs.Prelude.{◌≡◌, IfErr, IfOk, map};
 ghost use Rattle.wasm_lists.specs.EncodedLists.{IsMemoryOrTooLong};
-ghost use Rattle.wasm_whole_modules.specs.IndexOverflows.{Exceeds};
+ghost use Rattle.wasm_modules.specs.IndexOverflows.{Exceeds};
 ghost use Rattle.wasm_custom_sections.specs.MappedNames.{ItemsExceed, mapped_indirect_naming, mapped_naming, mapped_subsection, NamesExceed, SubsectionExceeds};
 
 use crate::name_maps::{IndirectNaming, Naming};
@@ -9,7 +9,7 @@ use crate::names::NameSubsection;
 use std::alloc::Global;
 use wasm_codec::encode::EncodeError;
 use wasm_lists::list::Items;
-use wasm_whole_modules::indices::{IndexSpace, MapIndices, Renumbering};
+use wasm_modules::indices::{IndexSpace, MapIndices, Renumbering};
 
 impl<'a> MapIndices for NameSubsection<'a> {
     ghost mapped = { mapped_subsection };

@@ -4,8 +4,8 @@ use crate::sections::{SectionWalk, kind_name};
 use escaped_text::Escaped;
 use std::alloc::{AllocError, Global};
 use std::fmt;
-use wasm_modules::section::RawSection;
-use wasm_whole_modules::selection::custom_name;
+use wasm_code::section::RawSection;
+use wasm_modules::selection::custom_name;
 
 /// The sections that a listing shows.
 #[derive(Drop)]

@@ -5,12 +5,13 @@ use crate::listing::{
 };
 use crate::sections::{LocatedSection, SectionWalk, rank};
 use std::alloc::{AllocError, Global};
-use wasm_entities::limits::MemoryType;
-use wasm_entities::types::TagType;
+use wasm_code::code::CodeBody;
+use wasm_code::section::RawSection;
+use wasm_externals::limits::MemoryType;
+use wasm_externals::types::TagType;
 use wasm_instructions::table::Call;
 use wasm_lists::readable::Readable;
-use wasm_modules::code::CodeBody;
-use wasm_modules::section::RawSection;
+use wasm_modules::selection::custom_name;
 use wasm_sections::custom::read_custom;
 use wasm_sections::data::DataSegment;
 use wasm_sections::elements::Element;
@@ -19,7 +20,6 @@ use wasm_sections::globals::Global as GlobalEntry;
 use wasm_sections::imports::Import;
 use wasm_sections::tables::Table;
 use wasm_types::types::TypeEntry;
-use wasm_whole_modules::selection::custom_name;
 
 /// A part that differs in two modules.
 #[derive(Drop)]

@@ -1,7 +1,8 @@
 //! The indexes of items in a module (Core 3.0, Indices).
 use crate::listing::{ItemName, ItemNames, ItemText};
-use wasm_entities::limits::MemoryType;
-use wasm_entities::types::{EntityType, TagType};
+use wasm_externals::limits::MemoryType;
+use wasm_externals::types::{EntityType, TagType};
+use wasm_modules::indices::IndexSpace;
 use wasm_sections::data::DataSegment;
 use wasm_sections::elements::Element;
 use wasm_sections::exports::Export;
@@ -9,7 +10,6 @@ use wasm_sections::globals::Global;
 use wasm_sections::imports::Import;
 use wasm_sections::tables::Table;
 use wasm_types::types::TypeEntry;
-use wasm_whole_modules::indices::IndexSpace;
 
 /// The next index of each kind of item, and the names of items.
 #[derive(Clone, Copy)]

@@ -1,7 +1,7 @@
 //! Text of instructions.
 use std::fmt;
 use wasm_instructions::table::{Call, Opcode, Operands, Prefix};
-use wasm_whole_modules::indices::{IndexSpace, index_spaces};
+use wasm_modules::indices::{IndexSpace, index_spaces};
 
 /// The instructions of an expression, each in parentheses.
 #[derive(Clone, Copy)]

@@ -9,8 +9,8 @@ use name_maps::NameMaps;
 use named_entries::{EntryKind, NamedEntries};
 use std::alloc::{AllocError, Global};
 use std::fmt;
-use wasm_whole_modules::indices::IndexSpace;
-use wasm_whole_modules::selection::custom_name;
+use wasm_modules::indices::IndexSpace;
+use wasm_modules::selection::custom_name;
 
 /// A name of an item.
 #[derive(Clone, Copy)]

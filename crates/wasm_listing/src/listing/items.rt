@@ -4,10 +4,11 @@ use crate::listing::types::EntryText;
 use crate::listing::{ItemName, ItemNames, NameText};
 use escaped_text::Escaped;
 use std::fmt;
-use wasm_entities::limits::{MemoryType, TableType};
-use wasm_entities::types::{EntityType, ExportKind, GlobalType, TagType};
+use wasm_externals::limits::{MemoryType, TableType};
+use wasm_externals::types::{EntityType, ExportKind, GlobalType, TagType};
 use wasm_instructions::table::Call;
 use wasm_lists::list::Items;
+use wasm_modules::indices::IndexSpace;
 use wasm_sections::data::{DataSegment, DataSegmentMode};
 use wasm_sections::elements::{Element, ElementMode, Elements};
 use wasm_sections::exports::Export;
@@ -15,7 +16,6 @@ use wasm_sections::globals::Global;
 use wasm_sections::imports::Import;
 use wasm_sections::tables::Table;
 use wasm_types::types::{TypeEntry, ValType};
-use wasm_whole_modules::indices::IndexSpace;
 
 /// An item of a section, with the index and the name that it has in the module.
 #[derive(Clone, Copy)]

@@ -2,14 +2,14 @@
 use crate::listing::Stop;
 use crate::sections::LocatedSection;
 use std::alloc::{AllocError, Global};
+use wasm_code::code::normaliser::read_local_group;
 use wasm_codec::encode::EncodeError;
 use wasm_codec::encode::leb128::u32_len;
 use wasm_codec::reader::cursor::Cursor;
 use wasm_codec::rewriter::Rewriter;
-use wasm_entities::names::read_name;
+use wasm_externals::names::read_name;
 use wasm_lists::encode::Encode;
 use wasm_lists::readable::Readable;
-use wasm_modules::code::normaliser::read_local_group;
 use wasm_types::types::ValType;
 
 /// A part of a module.

@@ -1,11 +1,11 @@
 //! Text of types.
 use crate::listing::{ItemNames, NameText};
 use std::fmt;
+use wasm_modules::indices::IndexSpace;
 use wasm_types::types::{
     CompositeInnerType, CompositeType, FieldType, FuncType, StorageType, SubType, TypeEntry,
     ValType,
 };
-use wasm_whole_modules::indices::IndexSpace;
 
 /// An entry of a type section, with the index of its first type. The types of a group are followed by their names.
 #[derive(Clone, Copy)]

@@ -9,8 +9,8 @@ use serde_json::{Value, json};
 use std::alloc::{AllocError, Global};
 use std::io;
 use wasm_instructions::table::Call;
+use wasm_modules::selection::custom_name;
 use wasm_types::types::ValType;
-use wasm_whole_modules::selection::custom_name;
 
 /// A writer of the members of an object that hold a listing.
 #[derive(Drop)]

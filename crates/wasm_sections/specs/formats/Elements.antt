@@ -12,8 +12,8 @@ use Rattle.wasm_sections.specs.declared.elements.ElementMode.TheVariants as mode
 use Rattle.wasm_sections.specs.declared.elements.Elements.{Elements}
 use Rattle.wasm_sections.specs.declared.elements.Elements.TheVariants as held
 use Rattle.wasm_sections.specs.declared.elements.Element.{Element}
-use Rattle.wasm_entities.specs.formats.PartCombinators.{numbered}
-use Rattle.wasm_entities.specs.formats.Expressions.{expr}
+use Rattle.wasm_externals.specs.formats.PartCombinators.{numbered}
+use Rattle.wasm_externals.specs.formats.Expressions.{expr}
 
 -- The type `funcref`.
 abbrev pub funcref : RefType

@@ -2,16 +2,16 @@
 use Rattle.std.specs.Prelude.{ℕ, is_some, List, Option, Some, None}
 use Rattle.wasm_instructions.specs.formats.Instructions.{Instruction}
 use Rattle.wasm_codec.specs.formats.Combinators.{Format, ◌▷◌, ◌⊗◌, made, any_of, or_else, after, u32}
-use Rattle.wasm_entities.specs.declared.types.ExportKind.{ExportKind}
-use Rattle.wasm_entities.specs.declared.types.EntityType.{EntityType}
-use Rattle.wasm_entities.specs.declared.types.GlobalType.{GlobalType}
-use Rattle.wasm_entities.specs.declared.limits.TableType.{TableType}
+use Rattle.wasm_externals.specs.declared.types.ExportKind.{ExportKind}
+use Rattle.wasm_externals.specs.declared.types.EntityType.{EntityType}
+use Rattle.wasm_externals.specs.declared.types.GlobalType.{GlobalType}
+use Rattle.wasm_externals.specs.declared.limits.TableType.{TableType}
 use Rattle.wasm_sections.specs.declared.globals.Global.{Global}
 use Rattle.wasm_sections.specs.declared.tables.Table.{Table}
 use Rattle.wasm_sections.specs.formats.EntryParts.{ExportParts, ImportParts}
-use Rattle.wasm_entities.specs.formats.Names.{name}
-use Rattle.wasm_entities.specs.formats.Externals.{export_kind, entity_type, global_type, table_type}
-use Rattle.wasm_entities.specs.formats.Expressions.{expr}
+use Rattle.wasm_externals.specs.formats.Names.{name}
+use Rattle.wasm_externals.specs.formats.Externals.{export_kind, entity_type, global_type, table_type}
+use Rattle.wasm_externals.specs.formats.Expressions.{expr}
 
 -- The export with these parts.
 abbrev pub export_of : List ℕ × (ExportKind × ℕ) → ExportParts

@@ -1,7 +1,7 @@
 -- The parts of entries, without the borrows from the input.
 use Rattle.std.specs.Prelude.{ℕ, List, map}
-use Rattle.wasm_entities.specs.declared.types.EntityType.{EntityType}
-use Rattle.wasm_entities.specs.declared.types.ExportKind.{ExportKind}
+use Rattle.wasm_externals.specs.declared.types.EntityType.{EntityType}
+use Rattle.wasm_externals.specs.declared.types.ExportKind.{ExportKind}
 use Rattle.wasm_sections.specs.declared.exports.Export.{Export}
 use Rattle.wasm_sections.specs.declared.custom.CustomSection.{CustomSection}
 use Rattle.wasm_sections.specs.declared.data.DataSegment.{DataSegment}

@@ -1,12 +1,12 @@
 -- The contents of sections (WebAssembly Core 3.0, Modules).
 use Rattle.std.specs.Prelude.{ℕ, List, map, Option, Some, None}
 use Rattle.wasm_types.specs.declared.types.recursive.TypeEntry.{TypeEntry}
-use Rattle.wasm_modules.specs.declared.code.CodeBody.{CodeBody}
+use Rattle.wasm_code.specs.declared.code.CodeBody.{CodeBody}
 use Rattle.wasm_sections.specs.declared.elements.Element.{Element}
 use Rattle.wasm_sections.specs.declared.globals.Global.{Global}
 use Rattle.wasm_sections.specs.declared.tables.Table.{Table}
-use Rattle.wasm_entities.specs.declared.limits.MemoryType.{MemoryType}
-use Rattle.wasm_entities.specs.declared.types.TagType.{TagType}
+use Rattle.wasm_externals.specs.declared.limits.MemoryType.{MemoryType}
+use Rattle.wasm_externals.specs.declared.types.TagType.{TagType}
 use Rattle.wasm_sections.specs.declared.module_sections.ModuleSection.{ModuleSection}
 use Rattle.wasm_sections.specs.declared.module_sections.ModuleSection.TheVariants as sections
 use Rattle.wasm_sections.specs.formats.EntryParts.{CustomParts, ExportParts, ImportParts, DataParts, custom_parts, all_export_parts, all_import_parts, all_data_parts}

@@ -7,11 +7,11 @@ use Rattle.wasm_codec.specs.formats.Grammar.{Grammar}
 use Rattle.wasm_codec.specs.formats.Combinators.{Format, made, any_of, no_other, tagged, minimal_only, items, u32}
 use Rattle.wasm_sections.specs.formats.ModuleSectionParts.{ModuleSectionParts, section_id, custom, types, imports, functions, tables, memories, globals, exports, start, elements, code, data_segments, data_count, tags, custom_part, type_entries_part, imports_part, function_indexes_part, tables_part, memories_part, globals_part, exports_part, start_part, elements_part, code_part, data_segments_part, data_count_part, tags_part}
 use Rattle.wasm_types.specs.formats.Types.{recursive_type}
-use Rattle.wasm_modules.specs.formats.CodeBodies.{code_body}
-use Rattle.wasm_modules.specs.formats.Modules.{module_of}
+use Rattle.wasm_code.specs.formats.CodeBodies.{code_body}
+use Rattle.wasm_code.specs.formats.Modules.{module_of}
 use Rattle.wasm_sections.specs.formats.Elements.{element_segment}
 use Rattle.wasm_sections.specs.formats.Entries.{import_entry, table_entry, global_entry, export_entry}
-use Rattle.wasm_entities.specs.formats.Externals.{memory_type, tag_type}
+use Rattle.wasm_externals.specs.formats.Externals.{memory_type, tag_type}
 use Rattle.wasm_sections.specs.formats.Sections.{custom_body}
 use Rattle.wasm_sections.specs.formats.Segments.{data_segment}
 

@@ -4,7 +4,7 @@ use Rattle.std.specs.Prelude.{ℕ, List, Option, Some}
 use Rattle.wasm_codec.specs.formats.Combinators.{Format, ◌⊗◌, made, u32}
 use Rattle.wasm_codec.specs.formats.Bodies.{bytes_to_end}
 use Rattle.wasm_sections.specs.formats.EntryParts.{CustomParts}
-use Rattle.wasm_entities.specs.formats.Names.{name}
+use Rattle.wasm_externals.specs.formats.Names.{name}
 
 abbrev pub custom_of : List ℕ × List ℕ → CustomParts
 custom_of p = record { name = p.0; data_bytes = p.1 }

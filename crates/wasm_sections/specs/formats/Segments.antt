@@ -5,8 +5,8 @@ use Rattle.wasm_codec.specs.formats.Combinators.{Format, never, ◌⊗◌, made,
 use Rattle.wasm_codec.specs.formats.Bodies.{byte_list}
 use Rattle.wasm_sections.specs.declared.data.DataSegmentMode.TheVariants as data_modes
 use Rattle.wasm_sections.specs.formats.EntryParts.{DataParts}
-use Rattle.wasm_entities.specs.formats.PartCombinators.{numbered}
-use Rattle.wasm_entities.specs.formats.Expressions.{expr}
+use Rattle.wasm_externals.specs.formats.PartCombinators.{numbered}
+use Rattle.wasm_externals.specs.formats.Expressions.{expr}
 
 -- The active data segment for this memory, with this offset and these bytes.
 abbrev pub active_data : ℕ → List Instruction × List ℕ → DataParts

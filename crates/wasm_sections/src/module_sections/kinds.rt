@@ -5,10 +5,10 @@ ghost use Rattle.wasm_codec.specs.Outcomes.{IfInItem};
 ghost use Rattle.wasm_codec.specs.Places.{Reads};
 ghost use Rattle.wasm_codec.specs.Reading.{map_ok};
 ghost use Rattle.wasm_types.specs.formats.Types.{recursive_type};
-ghost use Rattle.wasm_modules.specs.formats.CodeBodies.{code_body};
+ghost use Rattle.wasm_code.specs.formats.CodeBodies.{code_body};
 ghost use Rattle.wasm_sections.specs.formats.Elements.{element_segment};
 ghost use Rattle.wasm_sections.specs.formats.Entries.{import_entry, table_entry, global_entry, export_entry};
-ghost use Rattle.wasm_entities.specs.formats.Externals.{memory_type, tag_type};
+ghost use Rattle.wasm_externals.specs.formats.Externals.{memory_type, tag_type};
 ghost use Rattle.wasm_sections.specs.formats.ModuleSectionParts.{ModuleSectionParts, module_section_parts, custom, types, imports, functions, tables, memories, globals, exports, start, elements, code, data_segments, data_count, tags, custom_part, type_entries_part, imports_part, function_indexes_part, tables_part, memories_part, globals_part, exports_part, start_part, elements_part, code_part, data_segments_part, data_count_part, tags_part};
 ghost use Rattle.wasm_sections.specs.formats.ModuleSections.{BreaksInList, OfKind, one_of, list_of};
 ghost use Rattle.wasm_sections.specs.formats.Sections.{custom_body};
@@ -25,12 +25,12 @@ use crate::module_sections::reader::{read_sized_custom, read_sized_list, read_si
 use crate::numbers::Number;
 use crate::tables::Table;
 use std::alloc::Global;
+use wasm_code::code::CodeBody;
 use wasm_codec::reader::cursor::{Cursor, Fault};
-use wasm_entities::limits::MemoryType;
-use wasm_entities::types::TagType;
+use wasm_externals::limits::MemoryType;
+use wasm_externals::types::TagType;
 use wasm_lists::readable::Item;
 use wasm_lists::rewriting::{Rewritable, RewritableBody};
-use wasm_modules::code::CodeBody;
 use wasm_types::types::TypeEntry;
 
 /// A kind of section. It is implemented for the section's items if the section is a list.

@@ -22,7 +22,7 @@ use std::alloc::Global;
 use wasm_codec::reader::cursor::{Cursor, Fault};
 use wasm_codec::reader::malformed::Construct;
 use wasm_codec::rewriter::Rewriter;
-use wasm_entities::names::{read_name, read_short_name};
+use wasm_externals::names::{read_name, read_short_name};
 use wasm_lists::list::Items;
 use wasm_lists::readable::Readable;
 use wasm_lists::reading::read_list;

@@ -2,7 +2,7 @@ use Rattle.std.proofs.Common.{List, ◌++◌, length}
 use denote.Text.{Utf8}
 use denote.Shadow.{shadow}
 use Rattle.nosgrivel_c.specs.Stripping.{Lists}
-use Rattle.wasm_whole_modules.specs.declared.selection.Pattern.{Pattern}
+use Rattle.wasm_modules.specs.declared.selection.Pattern.{Pattern}
 use Rattle.nosgrivel_c.proofs.strip.list_patterns.Given as goal
 
 abbrev pub invariant-loop-part : goal.invariant-loop-part

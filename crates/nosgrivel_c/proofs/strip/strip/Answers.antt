@@ -1,5 +1,5 @@
 use Rattle.std.proofs.Common.{false, refl}
-use Rattle.wasm_whole_modules.specs.declared.selection.Selection.{Selection}
+use Rattle.wasm_modules.specs.declared.selection.Selection.{Selection}
 use Rattle.nosgrivel_c.proofs.StripLaws.{stripped}
 use Rattle.nosgrivel_c.proofs.strip.strip.Goals as goal
 

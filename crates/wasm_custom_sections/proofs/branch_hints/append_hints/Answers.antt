@@ -1,6 +1,6 @@
 use Rattle.std.proofs.Common.{◌≡◌, ◌++◌}
 use Rattle.wasm_codec.specs.Leb128.{unsigned_leb128}
-use Rattle.wasm_entities.proofs.ExternalLaws.{kept_at_last, where_both_ok, where_ok}
+use Rattle.wasm_externals.proofs.ExternalLaws.{kept_at_last, where_both_ok, where_ok}
 use Rattle.wasm_custom_sections.proofs.HintLaws.{hints_appended, hints_written}
 use Rattle.wasm_custom_sections.proofs.branch_hints.append_hints.Goals as goal
 

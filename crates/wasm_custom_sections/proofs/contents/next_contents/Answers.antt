@@ -1,4 +1,4 @@
-use Rattle.wasm_modules.specs.formats.Sections.{parts_of}
+use Rattle.wasm_code.specs.formats.Sections.{parts_of}
 use Rattle.wasm_custom_sections.proofs.ContentsLaws.{next_found}
 use Rattle.wasm_custom_sections.proofs.contents.next_contents.Goals as goal
 

@@ -1,7 +1,7 @@
 use Rattle.std.proofs.Common.{◌≡◌, ◌<◌, ◌++◌, length, Err, subst, arith}
 use Rattle.std.proofs.lemmas.List.{nil_from_length}
 use Rattle.wasm_codec.specs.declared.reader.cursor.Fault.{Fault}
-use Rattle.wasm_modules.specs.formats.Sections.{header}
+use Rattle.wasm_code.specs.formats.Sections.{header}
 use Rattle.wasm_custom_sections.specs.MinimalContents.{MinimisesContents, MinimisesNext}
 use Rattle.wasm_custom_sections.proofs.ContentsLaws.{minimal_contents, minimising_none, minimising_more, minimised_all, minimised_nowhere, written_fewer}
 use Rattle.wasm_custom_sections.proofs.contents.rewrite_contents.Goals as goal

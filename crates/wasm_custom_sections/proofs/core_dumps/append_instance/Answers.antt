@@ -1,5 +1,5 @@
 use Rattle.std.proofs.Common.{◌≡◌, [], ◌∷◌, ◌++◌}
-use Rattle.wasm_entities.proofs.ExternalLaws.{where_both_ok, where_ok}
+use Rattle.wasm_externals.proofs.ExternalLaws.{where_both_ok, where_ok}
 use Rattle.wasm_custom_sections.specs.formats.CoreDumps.{instance_of}
 use Rattle.wasm_custom_sections.proofs.CoreDumpLaws.{instance_appended, instance_written}
 use Rattle.wasm_custom_sections.proofs.core_dumps.append_instance.Goals as goal

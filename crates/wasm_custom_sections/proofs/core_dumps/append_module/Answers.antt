@@ -1,5 +1,5 @@
 use Rattle.std.proofs.Common.{◌≡◌, [], ◌∷◌, ◌++◌}
-use Rattle.wasm_entities.proofs.ExternalLaws.{kept_before, where_ok}
+use Rattle.wasm_externals.proofs.ExternalLaws.{kept_before, where_ok}
 use Rattle.wasm_custom_sections.proofs.CoreDumpLaws.{core_name_appended, core_name_written}
 use Rattle.wasm_custom_sections.proofs.core_dumps.append_module.Goals as goal
 

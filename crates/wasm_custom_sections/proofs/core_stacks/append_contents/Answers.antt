@@ -1,4 +1,4 @@
-use Rattle.wasm_entities.proofs.ExternalLaws.{where_ok}
+use Rattle.wasm_externals.proofs.ExternalLaws.{where_ok}
 use Rattle.wasm_custom_sections.proofs.CoreStackLaws.{stack_holds}
 use Rattle.wasm_custom_sections.proofs.core_stacks.append_contents.Goals as goal
 

@@ -1,5 +1,5 @@
 use Rattle.std.proofs.Common.{◌≡◌, [], ◌∷◌, ◌++◌}
-use Rattle.wasm_entities.proofs.ExternalLaws.{where_both_ok, where_ok}
+use Rattle.wasm_externals.proofs.ExternalLaws.{where_both_ok, where_ok}
 use Rattle.wasm_custom_sections.specs.formats.CoreStacks.{frame_of}
 use Rattle.wasm_custom_sections.proofs.CoreStackLaws.{frame_appended, frame_written}
 use Rattle.wasm_custom_sections.proofs.core_stacks.append_frame.Goals as goal

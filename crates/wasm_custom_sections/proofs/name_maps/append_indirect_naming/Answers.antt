@@ -3,7 +3,7 @@ use Rattle.std.specs.List.{All}
 use Rattle.wasm_codec.specs.Encoding.{IsShortest}
 use Rattle.wasm_codec.specs.Leb128.{unsigned_leb128}
 use Rattle.wasm_codec.specs.Lists.{items_bytes}
-use Rattle.wasm_entities.proofs.ExternalLaws.{kept_at_last, where_both_ok, where_ok}
+use Rattle.wasm_externals.proofs.ExternalLaws.{kept_at_last, where_both_ok, where_ok}
 use Rattle.wasm_custom_sections.specs.declared.name_maps.Naming.{Naming}
 use Rattle.wasm_custom_sections.specs.WrittenNames.{AreCountedNames, naming_bytes}
 use Rattle.wasm_custom_sections.specs.formats.NameParts.{naming_parts}

@@ -1,6 +1,6 @@
 use Rattle.std.proofs.Common.{◌≡◌, ◌++◌}
 use Rattle.wasm_codec.specs.Leb128.{unsigned_leb128}
-use Rattle.wasm_entities.proofs.ExternalLaws.{kept_before, where_ok}
+use Rattle.wasm_externals.proofs.ExternalLaws.{kept_before, where_ok}
 use Rattle.wasm_custom_sections.specs.formats.NameParts.{naming_parts}
 use Rattle.wasm_custom_sections.proofs.NamingLaws.{naming_appended, naming_written}
 use Rattle.wasm_custom_sections.proofs.name_maps.append_naming.Goals as goal

@@ -1,4 +1,4 @@
-use Rattle.wasm_entities.proofs.ExternalLaws.{where_ok}
+use Rattle.wasm_externals.proofs.ExternalLaws.{where_ok}
 use Rattle.wasm_custom_sections.specs.formats.ProducerParts.{producer_parts}
 use Rattle.wasm_custom_sections.proofs.ProducerLaws.{producer_appended, producer_written}
 use Rattle.wasm_custom_sections.proofs.producers.append_producer.Goals as goal

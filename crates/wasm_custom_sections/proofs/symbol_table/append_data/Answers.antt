@@ -1,5 +1,5 @@
 use Rattle.std.proofs.Common.{◌≡◌, [], ◌∷◌, ◌++◌}
-use Rattle.wasm_entities.proofs.ExternalLaws.{where_ok}
+use Rattle.wasm_externals.proofs.ExternalLaws.{where_ok}
 use Rattle.wasm_custom_sections.specs.formats.SymbolParts.{data_parts}
 use Rattle.wasm_custom_sections.proofs.SymbolLaws.{data_appended, data_there}
 use Rattle.wasm_custom_sections.proofs.symbol_table.append_data.Goals as goal

@@ -1,6 +1,6 @@
 use Rattle.std.proofs.Common.{◌≡◌, [], ◌∷◌, ◌++◌}
 use Rattle.wasm_codec.specs.Leb128.{unsigned_leb128}
-use Rattle.wasm_entities.proofs.ExternalLaws.{kept_before, three, where_ok}
+use Rattle.wasm_externals.proofs.ExternalLaws.{kept_before, three, where_ok}
 use Rattle.wasm_custom_sections.specs.formats.SymbolParts.{item_parts}
 use Rattle.wasm_custom_sections.proofs.SymbolLaws.{item_appended, item_there}
 use Rattle.wasm_custom_sections.proofs.symbol_table.append_item.Goals as goal

@@ -1,4 +1,4 @@
-use Rattle.wasm_entities.proofs.ExternalLaws.{where_ok}
+use Rattle.wasm_externals.proofs.ExternalLaws.{where_ok}
 use Rattle.wasm_custom_sections.specs.formats.SymbolParts.{data_parts, item_parts, function, data_object, global, section, tag, table}
 use Rattle.wasm_custom_sections.proofs.SymbolLaws.{symbol_written}
 use Rattle.wasm_custom_sections.proofs.symbol_table.append_symbol.Goals as goal

@@ -1,5 +1,5 @@
 use Rattle.std.proofs.Common.{◌≡◌, [], ◌∷◌, ◌++◌}
-use Rattle.wasm_entities.proofs.ExternalLaws.{kept_before, where_ok}
+use Rattle.wasm_externals.proofs.ExternalLaws.{kept_before, where_ok}
 use Rattle.wasm_custom_sections.specs.formats.TargetFeatures.{feature_parts}
 use Rattle.wasm_custom_sections.proofs.FeatureLaws.{feature_appended, feature_written}
 use Rattle.wasm_custom_sections.proofs.target_features.append_feature.Goals as goal

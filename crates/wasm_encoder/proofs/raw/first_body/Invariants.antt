@@ -1,5 +1,5 @@
 use Rattle.std.proofs.Common.{◌≡◌, drop}
-use Rattle.wasm_modules.specs.formats.Sections.{all_parts_of}
+use Rattle.wasm_code.specs.formats.Sections.{all_parts_of}
 use Rattle.wasm_encoder.specs.RawSections.{first_body_of}
 use Rattle.wasm_encoder.proofs.raw.first_body.Given as goal
 

@@ -3,8 +3,8 @@ use crate::sections::LocatedSection;
 use std::alloc::{AllocError, Global};
 use wasm_codec::reader::cursor::Cursor;
 use wasm_codec::reader::malformed::Construct;
-use wasm_entities::names::read_name;
-use wasm_whole_modules::indices::IndexSpace;
+use wasm_externals::names::read_name;
+use wasm_modules::indices::IndexSpace;
 
 /// Number of entries of a name map of which the offset of the first is kept.
 const GROUP: u32 = 32;

@@ -5,11 +5,11 @@ use crate::sections::LocatedSection;
 use std::alloc::{AllocError, Global};
 use wasm_codec::reader::cursor::Cursor;
 use wasm_custom_sections::symbols::Symbol;
-use wasm_entities::names::read_name;
+use wasm_externals::names::read_name;
 use wasm_lists::readable::Readable;
+use wasm_modules::indices::IndexSpace;
 use wasm_sections::exports::Export;
 use wasm_sections::imports::Import;
-use wasm_whole_modules::indices::IndexSpace;
 
 /// Number of entries of one kind that are taken from any module, beside one for each 256 bytes.
 const MOST_ENTRIES: usize = 131_072;

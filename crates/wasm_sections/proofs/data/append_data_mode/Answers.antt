@@ -5,7 +5,7 @@ use Rattle.wasm_codec.specs.formats.Combinators.{u32}
 use Rattle.wasm_codec.proofs.FormatLaws.{Lawful-u32}
 use Rattle.wasm_lists.proofs.WrittenLists.{in_range_of}
 use Rattle.wasm_sections.proofs.SegmentLaws.{data_mode_fits, first_memory_appended, other_memory_appended}
-use Rattle.wasm_entities.proofs.ExternalLaws.{kept_after, where_ok, where_both_ok}
+use Rattle.wasm_externals.proofs.ExternalLaws.{kept_after, where_ok, where_both_ok}
 use Rattle.wasm_sections.proofs.data.append_data_mode.Goals as goal
 
 pub returns-then-memory_index-eq0-clause-ok : goal.returns-then-memory_index-eq0-clause-ok

@@ -1,6 +1,6 @@
 use Rattle.wasm_sections.specs.formats.EntryParts.{data_parts}
 use Rattle.wasm_sections.proofs.SegmentLaws.{data_written, data_appended}
-use Rattle.wasm_entities.proofs.ExternalLaws.{where_ok, kept_at_last}
+use Rattle.wasm_externals.proofs.ExternalLaws.{where_ok, kept_at_last}
 use Rattle.wasm_sections.proofs.data.append_data_segment.Goals as goal
 
 pub returns-clause-ok : goal.returns-clause-ok

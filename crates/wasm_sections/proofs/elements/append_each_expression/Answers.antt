@@ -3,9 +3,9 @@ use Rattle.std.specs.List.{All}
 use Rattle.std.proofs.lemmas.List.{take_all, take_more}
 use Rattle.std.proofs.lemmas.List.Elements.{All-push}
 use Rattle.wasm_lists.proofs.WrittenLists.{one_more}
-use Rattle.wasm_entities.specs.ClosedExpressions.{IsCountedExpr, IsWrittenExpr}
-use Rattle.wasm_entities.specs.formats.Expressions.{expr}
-use Rattle.wasm_entities.proofs.ExternalLaws.{kept_after}
+use Rattle.wasm_externals.specs.ClosedExpressions.{IsCountedExpr, IsWrittenExpr}
+use Rattle.wasm_externals.specs.formats.Expressions.{expr}
+use Rattle.wasm_externals.proofs.ExternalLaws.{kept_after}
 use Rattle.wasm_sections.proofs.elements.append_each_expression.Goals as goal
 
 pub loop-expression-preserved : goal.loop-expression-preserved

@@ -1,7 +1,7 @@
 use Rattle.std.proofs.Common.{◌≡◌, ◌++◌, take}
 use Rattle.std.specs.List.{All, flat_map}
-use Rattle.wasm_entities.specs.ClosedExpressions.{IsCountedExpr, IsWrittenExpr}
-use Rattle.wasm_entities.specs.formats.Expressions.{expr}
+use Rattle.wasm_externals.specs.ClosedExpressions.{IsCountedExpr, IsWrittenExpr}
+use Rattle.wasm_externals.specs.formats.Expressions.{expr}
 use Rattle.wasm_sections.proofs.elements.append_each_expression.Given as goal
 
 abbrev pub invariant-loop-expression : goal.invariant-loop-expression

@@ -1,5 +1,5 @@
 use Rattle.wasm_sections.proofs.ElementLaws.{element_appended, element_written}
-use Rattle.wasm_entities.proofs.ExternalLaws.{where_ok, kept_before}
+use Rattle.wasm_externals.proofs.ExternalLaws.{where_ok, kept_before}
 use Rattle.wasm_sections.proofs.elements.append_element.Goals as goal
 
 pub returns-clause-ok : goal.returns-clause-ok

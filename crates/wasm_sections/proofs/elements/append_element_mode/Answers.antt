@@ -3,7 +3,7 @@ use Rattle.wasm_codec.specs.formats.Combinators.{u32}
 use Rattle.wasm_codec.proofs.FormatLaws.{Lawful-u32}
 use Rattle.wasm_lists.proofs.WrittenLists.{in_range_of}
 use Rattle.wasm_sections.proofs.ElementLaws.{element_mode_fits, not_both}
-use Rattle.wasm_entities.proofs.ExternalLaws.{where_ok, where_both_ok}
+use Rattle.wasm_externals.proofs.ExternalLaws.{where_ok, where_both_ok}
 use Rattle.wasm_sections.proofs.elements.append_element_mode.Goals as goal
 
 pub returns-then-is_short-clause-fits : goal.returns-then-is_short-clause-fits

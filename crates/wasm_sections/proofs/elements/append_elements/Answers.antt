@@ -1,7 +1,7 @@
 use Rattle.std.proofs.Common.{◌≡◌, ◌++◌}
 use Rattle.wasm_sections.proofs.ElementLaws.{functions_fit, expressions_fit, type_fits, not_both}
-use Rattle.wasm_entities.proofs.ExternalLaws.{kept_either, kept_at_last, where_both_ok}
-use Rattle.wasm_entities.specs.formats.Expressions.{expr}
+use Rattle.wasm_externals.proofs.ExternalLaws.{kept_either, kept_at_last, where_both_ok}
+use Rattle.wasm_externals.specs.formats.Expressions.{expr}
 use Rattle.wasm_codec.specs.formats.Combinators.{items}
 use Rattle.wasm_types.specs.formats.Types.{ref_type}
 use Rattle.wasm_sections.proofs.elements.append_elements.Goals as goal

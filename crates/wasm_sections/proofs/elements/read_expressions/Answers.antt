@@ -1,6 +1,6 @@
 use Rattle.std.proofs.lemmas.Result.{err_from_is_err_and}
 use Rattle.wasm_codec.proofs.PlaceLists.{passed_none, passed_more, passed_fault, passed_all, no_count}
-use Rattle.wasm_entities.specs.formats.Expressions.{expr}
+use Rattle.wasm_externals.specs.formats.Expressions.{expr}
 use Rattle.wasm_sections.proofs.elements.read_expressions.Goals as goal
 use Rattle.wasm_codec.specs.Places.{u32_at}
 

@@ -1,5 +1,5 @@
 use Rattle.wasm_codec.proofs.PlaceLists.{Passed}
-use Rattle.wasm_entities.specs.formats.Expressions.{expr}
+use Rattle.wasm_externals.specs.formats.Expressions.{expr}
 use Rattle.wasm_sections.proofs.elements.read_expressions.Given as goal
 use Rattle.wasm_codec.specs.Places.{u32_at}
 

@@ -1,7 +1,7 @@
 use Rattle.std.proofs.Common.{◌≡◌, [], ◌∷◌, ◌++◌}
 use Rattle.wasm_sections.specs.formats.EntryParts.{export_parts}
 use Rattle.wasm_sections.proofs.EntryLaws.{export_appended, export_written}
-use Rattle.wasm_entities.proofs.ExternalLaws.{kept_after}
+use Rattle.wasm_externals.proofs.ExternalLaws.{kept_after}
 use Rattle.wasm_sections.proofs.exports.append_export.Goals as goal
 
 pub returns-clause-ok : goal.returns-clause-ok

@@ -1,8 +1,8 @@
 use Rattle.std.proofs.Common.{◌≡◌, ◌++◌}
 use Rattle.wasm_sections.proofs.EntryLaws.{global_appended, global_entry_written}
-use Rattle.wasm_entities.proofs.ExternalLaws.{where_ok, kept_at_last}
-use Rattle.wasm_entities.specs.formats.Expressions.{expr}
-use Rattle.wasm_entities.specs.formats.Externals.{global_type}
+use Rattle.wasm_externals.proofs.ExternalLaws.{where_ok, kept_at_last}
+use Rattle.wasm_externals.specs.formats.Expressions.{expr}
+use Rattle.wasm_externals.specs.formats.Externals.{global_type}
 use Rattle.wasm_sections.proofs.globals.append_global.Goals as goal
 
 pub returns-clause-ok : goal.returns-clause-ok

@@ -1,5 +1,5 @@
 use Rattle.wasm_types.proofs.ScannedTypes.{from_start}
-use Rattle.wasm_entities.specs.formats.Expressions.{expr}
+use Rattle.wasm_externals.specs.formats.Expressions.{expr}
 use Rattle.wasm_sections.proofs.ScannedEntries.{global_scanned}
 use Rattle.wasm_sections.proofs.globals.scan_global.Goals as goal
 

@@ -1,6 +1,6 @@
 use Rattle.wasm_sections.specs.formats.EntryParts.{import_parts}
 use Rattle.wasm_sections.proofs.EntryLaws.{import_written, import_appended}
-use Rattle.wasm_entities.proofs.ExternalLaws.{kept_after, kept_before}
+use Rattle.wasm_externals.proofs.ExternalLaws.{kept_after, kept_before}
 use Rattle.wasm_sections.proofs.imports.append_import.Goals as goal
 
 pub returns-clause-written : goal.returns-clause-written

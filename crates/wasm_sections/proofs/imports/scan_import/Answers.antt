@@ -1,7 +1,7 @@
 use Rattle.std.proofs.Common.{◌+◌}
 use Rattle.wasm_types.proofs.ScannedTypes.{from_start}
-use Rattle.wasm_entities.specs.formats.Names.{name}
-use Rattle.wasm_entities.specs.formats.Externals.{entity_type}
+use Rattle.wasm_externals.specs.formats.Names.{name}
+use Rattle.wasm_externals.specs.formats.Externals.{entity_type}
 use Rattle.wasm_sections.proofs.ScannedEntries.{import_scanned}
 use Rattle.wasm_sections.proofs.imports.scan_import.Goals as goal
 

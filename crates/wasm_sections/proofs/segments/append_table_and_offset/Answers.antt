@@ -2,9 +2,9 @@ use Rattle.std.proofs.Common.{◌≡◌, ◌++◌}
 use Rattle.std.specs.Prelude.{is_some}
 use Rattle.wasm_codec.specs.Leb128.{unsigned_leb128}
 use Rattle.wasm_codec.specs.formats.Combinators.{u32}
-use Rattle.wasm_entities.specs.formats.PartCombinators.{part_if}
-use Rattle.wasm_entities.specs.formats.Expressions.{expr}
-use Rattle.wasm_entities.proofs.ExternalLaws.{two, three, where_ok, kept_at_last}
+use Rattle.wasm_externals.specs.formats.PartCombinators.{part_if}
+use Rattle.wasm_externals.specs.formats.Expressions.{expr}
+use Rattle.wasm_externals.proofs.ExternalLaws.{two, three, where_ok, kept_at_last}
 use Rattle.wasm_sections.proofs.segments.append_table_and_offset.Goals as goal
 
 pub returns-clause-ok : goal.returns-clause-ok

@@ -1,8 +1,8 @@
 use Rattle.std.proofs.Common.{◌≡◌, [], ◌∷◌, ◌++◌}
-use Rattle.wasm_entities.specs.formats.Expressions.{expr}
-use Rattle.wasm_entities.specs.formats.Externals.{table_type}
+use Rattle.wasm_externals.specs.formats.Expressions.{expr}
+use Rattle.wasm_externals.specs.formats.Externals.{table_type}
 use Rattle.wasm_sections.proofs.EntryLaws.{unfilled_appended, unfilled_written, filled_appended, filled_written}
-use Rattle.wasm_entities.proofs.ExternalLaws.{three, kept_after, where_ok, kept_at_last}
+use Rattle.wasm_externals.proofs.ExternalLaws.{three, kept_after, where_ok, kept_at_last}
 use Rattle.wasm_sections.proofs.tables.append_table.Goals as goal
 
 pub returns-in_default-clause-ok : goal.returns-in_default-clause-ok

@@ -1,7 +1,7 @@
 use Rattle.std.proofs.Common.{◌<◌, length, ap, arith}
 use Rattle.std.proofs.lemmas.List.{nil_from_length}
-use Rattle.wasm_modules.specs.formats.Sections.{parts_of}
-use Rattle.wasm_modules.proofs.SectionWalks.{section_takes}
+use Rattle.wasm_code.specs.formats.Sections.{parts_of}
+use Rattle.wasm_code.proofs.SectionWalks.{section_takes}
 use Rattle.wasmcanon.specs.Objects.{HasNoObject}
 use Rattle.wasmcanon.proofs.ObjectLaws.{searched_on, object_found, searched_all, searched_nowhere}
 use Rattle.wasmcanon.proofs.objects.has_object_section.Goals as goal

@@ -1,4 +1,4 @@
-use Rattle.wasm_modules.specs.formats.Sections.{parts_of}
+use Rattle.wasm_code.specs.formats.Sections.{parts_of}
 use Rattle.wasmcanon.proofs.ObjectLaws.{not_object}
 use Rattle.wasmcanon.proofs.objects.is_object_section.Goals as goal
 

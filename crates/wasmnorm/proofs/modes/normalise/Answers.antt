@@ -3,7 +3,7 @@ use Rattle.wasm_codec.specs.declared.reader.ReadError.{ReadError}
 use Rattle.wasm_codec.specs.declared.reader.ReadError.TheVariants as errors
 use Rattle.wasm_codec.specs.formats.Grammar.{Grammar}
 use Rattle.wasm_codec.specs.Outcomes.{IsOrMemory, IfRefused, EncodesSome}
-use Rattle.wasm_modules.specs.formats.Modules.{typed_module}
+use Rattle.wasm_code.specs.formats.Modules.{typed_module}
 use Rattle.wasmnorm.specs.Modes.{NormalForm}
 use Rattle.wasmnorm.specs.declared.modes.Mode.TheVariants.{Module}
 use Rattle.wasmnorm.proofs.modes.normalise.Goals as goal

@@ -1,5 +1,5 @@
 use Rattle.wasm_codec.proofs.BodyLaws.{Lawful-body}
-use Rattle.wasm_modules.proofs.CodeBodyLaws.{Lawful-code-section-body, is_shortest_code}
+use Rattle.wasm_code.proofs.CodeBodyLaws.{Lawful-code-section-body, is_shortest_code}
 use Rattle.wasm_encoder.proofs.decode.CodeSectionDecode.is_lawful.Goals as goal
 
 pub returns : goal.returns

@@ -1,4 +1,4 @@
-use Rattle.wasm_modules.proofs.ModuleFormatLaws.{Lawful-raw-module, is_shortest_module}
+use Rattle.wasm_code.proofs.ModuleFormatLaws.{Lawful-raw-module, is_shortest_module}
 use Rattle.wasm_encoder.proofs.decode.ModuleDecode.is_lawful.Goals as goal
 
 pub returns : goal.returns

@@ -1,6 +1,6 @@
 use Rattle.wasm_codec.specs.declared.rewriter.scan.Scanned.TheVariants.{Shortest}
 use Rattle.wasm_codec.proofs.Shortening.{scanned_rewritten}
-use Rattle.wasm_entities.proofs.ExpressionLaws.{expr_is_lawful}
+use Rattle.wasm_externals.proofs.ExpressionLaws.{expr_is_lawful}
 use Rattle.wasm_sections.proofs.elements.ExpressionRewritable.rewrite.Goals as goal
 
 pub returns-in-Some-clause-rewrites : goal.returns-in-Some-clause-rewrites

@@ -1,0 +1,70 @@
+-- What a check of a reason finds is what the reason says.
+use Rattle.std.proofs.Common.{◌≡◌, ◌<◌, ◌≤◌, ◌+◌, ◌||◌, ℕ, Bool, zero, suc, refl, [], ◌∷◌, nat_lt, arith, true, false, List, length, take, drop, Option, Some, None, Ok, nat_eq, subst, sym, ◌∙◌, ap}
+use Rattle.std.proofs.lemmas.Bool.{eqb-true, lt-ltb, le-ltb}
+use Rattle.std.proofs.Math.Seq.{take-length}
+use Rattle.std.specs.Str.{IsUtf8}
+use Rattle.wasm_codec.specs.Inputs.{Took}
+use Rattle.wasm_codec.specs.Places.{Place, place, Reads, u32_at}
+use Rattle.wasm_codec.specs.Rewriter.{rewriting}
+use Rattle.wasm_codec.specs.formats.Bodies.{body_at}
+use Rattle.wasm_instructions.specs.declared.table.opcode.Opcode.{Opcode}
+use Rattle.wasm_instructions.specs.formats.Opcodes.{opcode_kind}
+use Rattle.wasm_instructions.specs.formats.Instructions.{opcode}
+use Rattle.wasm_code.specs.Reasons.{BeginsWithU32, IsUnknownOpcode, IsNoName, ends_within, prefix_byte}
+
+-- among no bytes, none ends a number
+pub none_of_none : (most : ℕ) (bytes : List ℕ) → most ≡ 0 → false ≡ ends_within most bytes
+unfolding ends_within
+none_of_none zero bytes none = refl
+none_of_none (suc most) bytes none = absurd (omega (arith, none))
+
+pub none_in_none : (most : ℕ) (bytes : List ℕ) → length bytes ≡ 0 → false ≡ ends_within most bytes
+unfolding ends_within
+none_in_none zero bytes none = refl
+none_in_none (suc most) [] none = refl
+none_in_none (suc most) (b ∷ bytes) none = absurd (omega (arith, none))
+
+-- one of the first bytes ends a number if the first does or one after it
+first_of : (more b : ℕ) (bytes rest : List ℕ) → bytes ≡ b ∷ rest → (nat_lt b 128 || ends_within more rest) ≡ ends_within (suc more) bytes
+unfolding ends_within
+first_of more b bytes rest parts = rw parts refl
+
+-- the first byte ends a number
+pub here : (most b : ℕ) (bytes rest : List ℕ) → 0 < most → bytes ≡ b ∷ rest → b < 128 → nat_lt b 128 ≡ ends_within most bytes
+here zero b bytes rest some parts ends = absurd (omega (arith, some))
+here (suc more) b bytes rest some parts ends = lt-ltb b 128 ends ∙ (ap (λ (t : Bool). t || ends_within more rest) (sym (lt-ltb b 128 ends)) ∙ first_of more b bytes rest parts)
+
+-- the first byte doesn't
+pub later : (most less b : ℕ) (bytes rest : List ℕ) → less + 1 ≡ most → bytes ≡ b ∷ rest → 128 ≤ b → ends_within less rest ≡ ends_within most bytes
+later zero less b bytes rest more parts ends = absurd (omega (arith, more))
+later (suc more) less b bytes rest same parts ends = ap (λ (n : ℕ). ends_within n rest) (omega (arith, same)) ∙ (ap (λ (t : Bool). t || ends_within more rest) (sym (le-ltb b 128 ends)) ∙ first_of more b bytes rest parts)
+
+-- the number that is read is the one at the start
+pub begins : (read number : ℕ) (bytes : List ℕ) (here after : Place) → here ≡ place true bytes → Reads u32_at here after (Ok read) → nat_eq read number ≡ true → BeginsWithU32 number bytes
+begins read number bytes here after is reads same = record {
+  after = after;
+  is_read = subst (λ (n : ℕ). u32_at (place true bytes) ≡ Some (n, after)) (eqb-true read number same) (subst (λ (p : Place). u32_at p ≡ Some (read, after)) is reads);
+}
+
+-- an opcode that is read and isn't in the table is unknown
+pub unknown : (op : Opcode) (prefix : Option ℕ) (number : ℕ) (bytes : List ℕ) (here after : Place) → here ≡ place true bytes → Took false opcode (rewriting [] here []) (rewriting [] after []) op → prefix_byte op.prefix ≡ prefix → op.number ≡ number → opcode_kind op ≡ None → IsUnknownOpcode prefix number bytes
+unknown op prefix number bytes here after is reads before numbered none = record {
+  op = op;
+  after = after;
+  is_read = subst (λ (p : Place). opcode.at p ≡ Some (op, after)) is reads.read;
+  prefix_is = before;
+  number_is = numbered;
+  unknown = none;
+}
+
+-- a body that isn't UTF-8 is no name
+pub no_name : (at offset start size left : ℕ) (body : Option ℕ) (bytes named name text : List ℕ) (here after : Place) → body ≡ Some start → named ≡ drop start bytes → here ≡ place true named → body_at here ≡ Some (name, after) → size ≡ length name → left ≡ length after.left → text ≡ take size name → (IsUtf8 text → ⊥) → nat_eq (offset + (size + left)) (length bytes + at) ≡ true → IsNoName at offset body bytes
+no_name at offset start size left body bytes named name text here after begins rest is reads sized lefts taken not_utf8 sum = record {
+  start = start;
+  name = name;
+  after = after;
+  body_is = begins;
+  is_read = subst (λ (p : Place). body_at p ≡ Some (name, after)) (is ∙ ap (place true) rest) reads;
+  no_name = λ utf8. not_utf8 (subst IsUtf8 (sym (taken ∙ ap (λ (n : ℕ). take n name) sized ∙ take-length name)) utf8);
+  offset_is = ap (λ (n : ℕ). offset + (n + length after.left)) (sym sized) ∙ ap (λ (n : ℕ). offset + (size + n)) (sym lefts) ∙ eqb-true (offset + (size + left)) (length bytes + at) sum;
+}

@@ -1,0 +1,6 @@
+pub mod formats
+pub mod Modules
+pub mod CodeCounts
+pub mod PrefixFree
+pub mod Reasons
+pub mod Judging

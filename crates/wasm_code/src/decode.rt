@@ -1,0 +1,219 @@
+//! What is decoded from all of its bytes, and the five calls that read, check and normalise it.
+ghost use Rattle.std.specs.Prelude.{ℕ, Bool, true, false, List, ⊤, IfErr, length};
+ghost use Rattle.wasm_codec.specs.Outcomes.{IfMalformed, LiesIn, NeedsNoMemory, as_read};
+ghost use Rattle.wasm_codec.specs.Lawful.{IsLawfulBody};
+ghost use Rattle.wasm_codec.specs.formats.Combinators.{Format};
+ghost use Rattle.wasm_code.specs.Reasons.{IsTrueOf};
+ghost use Rattle.wasm_codec.specs.Decoding.{IsMinimal, ReadsAll, ChecksAll, RewritesAll, Decodes, DecodesMinimal, Checks, NormalisesInPlace, Normalises};
+
+use crate::reasons::explained;
+use std::alloc::Global;
+use wasm_codec::reader::DecodeError;
+
+/// What is decoded from all of its bytes, such as the body of a section.
+///
+/// [`read`], [`read_strict`], [`check`], [`normalise`] and [`rewrite`] call its methods, which promise less.
+///
+/// # Examples
+///
+/// ```
+/// # use wasm_encoder::{Decode, StartSection};
+/// let start = StartSection::read_all(rt.alloc(), b"\x83\x00")?; // the index 3 in two bytes
+/// assert_eq!(rt; start.function_index, 3);
+/// let strict = StartSection::read_all_strict(rt.alloc(), b"\x83\x00");
+/// assert_eq!(rt; strict.err().and_then(|error| error.at()), Some(0));
+/// ```
+pub trait Decode<'a> {
+    ghost use Rattle.wasm_codec.specs.declared.reader.refusal.Refusal.{Refusal};
+
+    /// What reading returns.
+    type Output: Drop;
+
+    /// The values that bytes encode.
+    ghost Value: { Type 0 };
+
+    /// The value that the returned one stands for: itself, unless it borrows from the bytes.
+    ghost view: { Self.Output → Value };
+
+    /// Which bytes encode which value.
+    ghost format: { Format Value };
+
+    /// Which bytes are the minimal encoding of which value.
+    ghost Minimal: { List ℕ → Value → Type 0 };
+
+    /// Which prefixes of the bytes decode.
+    ghost IsPrefix: { List ℕ → Type 0 };
+
+    /// Which prefixes of the bytes are minimally encoded.
+    ghost IsMinimalPrefix: { List ℕ → Type 0 };
+
+    /// Whether reading allocates nothing, and so never fails with `Memory`. By default it may.
+    ghost ReadsInPlace: { Type 0 } = { ⊥ };
+
+    /// What the numbers in a refusal count: the items or the sections before the part that is refused. If the flag is
+    /// set, they are minimally encoded. By default nothing is known.
+    ghost Counts: { Bool → List ℕ → Refusal → Type 0 } = { λ strict bytes refusal. ⊤ };
+
+    /// Tells the proof that the format is lawful. The call does nothing.
+    fn is_lawful()
+        ensures lawful { IsLawfulBody format }
+        ensures minimal { IsMinimal format Minimal };
+
+    /// Reads the value from all of the bytes, in any encoding.
+    fn read_all(alloc: Global, bytes: &'a [u8]) -> Result<Self::Output, DecodeError>
+        ensures reads { ReadsAll view format.Encodes IsPrefix bytes.now (as_read result) }
+        ensures place { IfErr result (LiesIn (length bytes.now)) }
+        ensures counts { IfMalformed result (Counts false bytes.now) }
+        ensures memory { ReadsInPlace → NeedsNoMemory (as_read result) };
+
+    /// Reads the value from all of the bytes, if they are its minimal encoding.
+    fn read_all_strict(alloc: Global, bytes: &'a [u8]) -> Result<Self::Output, DecodeError>
+        ensures reads { ReadsAll view Minimal IsMinimalPrefix bytes.now (as_read result) }
+        ensures place { IfErr result (LiesIn (length bytes.now)) }
+        ensures counts { IfMalformed result (Counts true bytes.now) }
+        ensures memory { ReadsInPlace → NeedsNoMemory (as_read result) };
+
+    /// Checks whether the bytes are the minimal encoding of a value.
+    fn check_all(alloc: Global, bytes: &[u8]) -> Result<(), DecodeError>
+        ensures checks { ChecksAll Minimal IsMinimalPrefix bytes.now (as_read result) }
+        ensures place { IfErr result (LiesIn (length bytes.now)) }
+        ensures counts { IfMalformed result (Counts true bytes.now) };
+
+    /// Rewrites the bytes in place to the minimal encoding of the value that they encode.
+    fn rewrite_all(bytes: Vec<u8>) -> Result<Vec<u8>, DecodeError>
+        ensures rewrites { RewritesAll format IsPrefix bytes.items (as_read result) }
+        ensures place { IfErr result (LiesIn (length bytes.items)) }
+        ensures counts { IfMalformed result (Counts false bytes.items) }
+        ensures memory { NeedsNoMemory (as_read result) };
+}
+
+/// Reads the value that the bytes encode, in any encoding.
+///
+/// Refuses with `at`, the length in bytes of the longest prefix that decodes, if the bytes are malformed. Fails with
+/// `Memory` if memory runs out.
+///
+/// # Examples
+///
+/// ```
+/// # use wasm_encoder::{ExportSection, read};
+/// let body = b"\x01\x83\x00add\x00\x85\x00"; // one export; the length 3 and the index 5 are padded
+/// for export in &read::<ExportSection<'_>>(rt.alloc(), body)? {
+///     assert_eq!(rt; export.name, "add");
+///     assert_eq!(rt; export.index, 5);
+/// }
+/// ```
+pub fn read<'a, T: Decode<'a>>(alloc: Global, bytes: &'a [u8]) -> Result<T::Output, DecodeError>
+    ensures decodes { Decodes T.view T.format T.IsPrefix bytes.now (as_read result) }
+    ensures place { IfErr result (LiesIn (length bytes.now)) }
+    ensures counts { IfMalformed result (T.Counts false bytes.now) }
+    ensures memory { T.ReadsInPlace → NeedsNoMemory (as_read result) }
+    ensures why { IfErr result (IsTrueOf bytes.now) }
+{
+    T::is_lawful();
+    explained(T::read_all(alloc, bytes), bytes)
+}
+
+/// Reads the value that the bytes encode, if they are its minimal encoding.
+///
+/// Otherwise refuses with `at`, the length in bytes of the longest prefix that is minimally encoded. Fails with
+/// `Memory` if memory runs out.
+///
+/// # Examples
+///
+/// ```
+/// # use wasm_encoder::{FunctionSection, read_strict};
+/// let types = read_strict::<FunctionSection>(rt.alloc(), b"\x02\x00\x01")?;
+/// assert_eq!(rt; types.as_slice(), [0, 1].as_slice());
+/// let padded = read_strict::<FunctionSection>(rt.alloc(), b"\x02\x00\x81\x00"); // the index 1 in two bytes
+/// assert_eq!(rt; padded.err().and_then(|error| error.at()), Some(2));
+/// ```
+#[tactic(auto, using(wasm_codec::proofs::DecodingLaws::decodes_minimal))]
+pub fn read_strict<'a, T: Decode<'a>>(
+    alloc: Global,
+    bytes: &'a [u8],
+) -> Result<T::Output, DecodeError>
+    ensures decodes { DecodesMinimal T.view T.format T.Minimal T.IsMinimalPrefix bytes.now (as_read result) }
+    ensures place { IfErr result (LiesIn (length bytes.now)) }
+    ensures counts { IfMalformed result (T.Counts true bytes.now) }
+    ensures memory { T.ReadsInPlace → NeedsNoMemory (as_read result) }
+    ensures why { IfErr result (IsTrueOf bytes.now) }
+{
+    T::is_lawful();
+    explained(T::read_all_strict(alloc, bytes), bytes)
+}
+
+/// Checks whether the bytes are the minimal encoding of a value.
+///
+/// Accepts what [`read_strict`] reads, refuses the rest at the same offset, and makes no value. Fails with `Memory` if
+/// memory runs out.
+///
+/// # Examples
+///
+/// ```
+/// # use wasm_encoder::{MemorySection, check};
+/// check::<MemorySection>(rt.alloc(), b"\x01\x00\x02")?; // one memory of at least two pages
+/// let padded = check::<MemorySection>(rt.alloc(), b"\x01\x00\x82\x00"); // the number of pages in two bytes
+/// assert_eq!(rt; padded.err().and_then(|error| error.at()), Some(1));
+/// ```
+#[tactic(auto, using(wasm_codec::proofs::DecodingLaws::checks))]
+pub fn check<'a, T: Decode<'a>>(alloc: Global, bytes: &[u8]) -> Result<(), DecodeError>
+    ensures checks { Checks T.format T.Minimal T.IsMinimalPrefix bytes.now (as_read result) }
+    ensures place { IfErr result (LiesIn (length bytes.now)) }
+    ensures counts { IfMalformed result (T.Counts true bytes.now) }
+    ensures why { IfErr result (IsTrueOf bytes.now) }
+{
+    T::is_lawful();
+    explained(T::check_all(alloc, bytes), bytes)
+}
+
+/// Returns the minimal encoding of the value that the bytes encode.
+///
+/// Refuses as [`read`] does. Fails with `Memory` if there is no memory for a copy of the bytes.
+///
+/// # Examples
+///
+/// ```
+/// # use wasm_encoder::{StartSection, normalise};
+/// let minimal = normalise::<StartSection>(rt.alloc(), b"\x85\x80\x00")?; // the index 5 in three bytes
+/// assert_eq!(rt; minimal.as_slice(), b"\x05".as_slice());
+/// ```
+pub fn normalise<'a, T: Decode<'a>>(alloc: Global, bytes: &[u8]) -> Result<Vec<u8>, DecodeError>
+    ensures normalises { Normalises T.format T.Minimal T.IsPrefix bytes.now (as_read result) }
+    ensures place { IfErr result (LiesIn (length bytes.now)) }
+    ensures counts { IfMalformed result (T.Counts false bytes.now) }
+    ensures why { IfErr result (IsTrueOf bytes.now) }
+{
+    T::is_lawful();
+    explained(rewrite_copy::<T>(alloc, bytes), bytes)
+}
+
+/// Copies the bytes and rewrites the copy.
+fn rewrite_copy<'a, T: Decode<'a>>(alloc: Global, bytes: &[u8]) -> Result<Vec<u8>, DecodeError>
+    ensures rewrites { RewritesAll T.format T.IsPrefix bytes.now (as_read result) }
+    ensures place { IfErr result (LiesIn (length bytes.now)) }
+    ensures counts { IfMalformed result (T.Counts false bytes.now) }
+{
+    T::rewrite_all(Vec::from_slice(alloc, bytes)?)
+}
+
+/// Rewrites the bytes in place to the minimal encoding of the value that they encode, and returns them.
+///
+/// Refuses as [`read`] does, and needs no memory.
+///
+/// # Examples
+///
+/// ```
+/// # use wasm_encoder::{FunctionSection, rewrite};
+/// let padded = Vec::from_slice(rt.alloc(), b"\x82\x00\x00\x81\x00")?; // the count 2 and the index 1 are padded
+/// let minimal = rewrite::<FunctionSection>(padded)?;
+/// assert_eq!(rt; minimal.as_slice(), b"\x02\x00\x01".as_slice());
+/// ```
+#[tactic(auto, using(wasm_codec::proofs::DecodingLaws::normalises_in_place))]
+pub fn rewrite<'a, T: Decode<'a>>(bytes: Vec<u8>) -> Result<Vec<u8>, DecodeError>
+    ensures normalises { NormalisesInPlace T.format T.IsPrefix bytes.items (as_read result) }
+    ensures place { IfErr result (LiesIn (length bytes.items)) }
+    ensures counts { IfMalformed result (T.Counts false bytes.items) }
+{
+    T::is_lawful();
+    T::rewrite_all(bytes)
+}

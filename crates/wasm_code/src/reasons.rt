@@ -1,0 +1,333 @@
+//! Checks that the reason of a refusal is true of the bytes, before a call gives it.
+//!
+//! Readers note reasons without a promise. Each check looks at the few bytes that a reason is about.
+ghost use Rattle.std.specs.Prelude.{◌≡◌, ◌<◌, ◌≤◌, ◌+◌, ◌-◌, true, false, ℕ, Some, None, drop, length, IfErr, IfSome};
+ghost use Rattle.wasm_codec.specs.Outcomes.{LiesIn, as_read, offsets_of, place_of_error, read_error_of, refused_place};
+ghost use Rattle.wasm_codec.specs.Lawful.{head_of};
+ghost use Rattle.wasm_codec.specs.declared.reader.malformed.Reason.TheVariants.{TrailingBytes};
+ghost use Rattle.wasm_code.specs.Reasons.{BeginsWithU32, HasOtherVersion, HasTooLargeSize, Holds, HoldsAt, IsNoName, IsOutOfRangeOf, IsTrueOf, IsUnknownOpcode, begins_with, end_of, ends_within, prefix_byte, stands_for};
+
+use crate::raw::after_header;
+use std::str;
+use wasm_codec::reader::DecodeError;
+use wasm_codec::reader::cursor::{Cursor, Fault};
+use wasm_codec::reader::malformed::{Construct, Reason};
+use wasm_codec::reader::refusal::Refusal;
+use wasm_instructions::reader::take_opcode;
+use wasm_instructions::table::Prefix;
+
+/// Returns the same result, with a reason for a refusal that is true of the bytes.
+pub fn explained<T>(given: Result<T, DecodeError>, bytes: &[u8]) -> Result<T, DecodeError>
+    ensures same { as_read result ≡ as_read given }
+    ensures place { (len : ℕ) → IfErr given (LiesIn len) → IfErr result (LiesIn len) }
+    ensures refused { refused_place result ≡ refused_place given }
+    ensures why { IfErr result (IsTrueOf bytes.now) }
+{
+    match given {
+        Ok(value) => Ok(value),
+        Err(error) => Err(explained_error(error, bytes)),
+    }
+}
+
+/// Returns the same error, with a reason that is true of the bytes.
+#[cold]
+fn explained_error(error: DecodeError, bytes: &[u8]) -> DecodeError
+    ensures error { read_error_of result ≡ read_error_of error }
+    ensures place { offsets_of result ≡ offsets_of error }
+    ensures refusal { place_of_error result ≡ place_of_error error }
+    ensures why { IsTrueOf bytes.now result }
+{
+    let DecodeError::Malformed(refusal) = error else {
+        return DecodeError::Memory;
+    };
+    if holds(refusal.reason, refusal.body, refusal.offset, bytes) {
+        return DecodeError::Malformed(refusal);
+    }
+    DecodeError::Malformed(Refusal {
+        reason: Reason::Unexplained,
+        ..refusal
+    })
+}
+
+/// Checks whether the reason is true of the bytes at `offset`, in the body whose size begins at `body`.
+fn holds(reason: Reason, body: Option<usize>, offset: usize, bytes: &[u8]) -> bool
+    ensures { result ≡ true → Holds reason body offset bytes.now }
+{
+    let Some(rest) = behind(bytes, offset) else {
+        return false;
+    };
+    match reason {
+        Reason::UnexpectedEnd { construct: _ } => ends_at(body, offset, bytes),
+        Reason::MissingEnd => ends_at(body, offset, bytes),
+        Reason::TrailingBytes { count } => has_trailing(count, body, offset, bytes),
+        Reason::SizeTooLarge { size, left } => {
+            has_too_large_size(size, left, end_of(body, bytes), rest, bytes)
+        }
+        Reason::InvalidUtf8 { at } => is_no_name(at, offset, body, bytes),
+        Reason::NotAModule => after_header(bytes).is_none(),
+        Reason::UnsupportedVersion { version } => has_other_version(version, bytes),
+        Reason::NotMinimal {
+            bytes: count,
+            minimal,
+        } => minimal < count && count <= rest.len(),
+        Reason::LongForm => true,
+        Reason::Unexplained => true,
+        other => holds_at(other, rest),
+    }
+}
+
+/// Checks whether a reason about the next bytes alone is true of them.
+fn holds_at(reason: Reason, bytes: &[u8]) -> bool
+    ensures { result ≡ true → HoldsAt reason bytes.now }
+{
+    match reason {
+        Reason::NumberTooLong { most } => {
+            usize::from(most) <= bytes.len() && !ends_within(u32::from(most), bytes)
+        }
+        Reason::NumberOutOfRange { construct } => is_out_of_range(construct, bytes),
+        Reason::InvalidByte { construct, byte } => {
+            is_next(byte, bytes) && !begins_with(construct, byte)
+        }
+        Reason::InvalidNumber { construct, number } => {
+            !stands_for(construct, number) && begins_with_u32(number, bytes)
+        }
+        Reason::UnknownOpcode { number } => is_unknown_opcode(None, number, bytes),
+        Reason::UnknownPrefixedOpcode { prefix, number } => {
+            is_unknown_opcode(Some(prefix), number, bytes)
+        }
+        Reason::InvalidAlignment { flags } => flags >= 128 && begins_with_u32(flags, bytes),
+        Reason::StrayDelimiter => is_next(0x18, bytes),
+        Reason::UnknownSection { id } => id > 13 && is_next(id, bytes),
+        _ => false,
+    }
+}
+
+/// Returns the bytes from this offset on. `None` means that there are fewer.
+fn behind(bytes: &[u8], offset: usize) -> Option<&[u8]>
+    ensures rest { IfSome result (λ rest. rest.now ≡ drop offset bytes.now) }
+    ensures len { IfSome result (λ rest. length rest.now + offset ≡ length bytes.now) }
+{
+    if bytes.len() < offset {
+        return None;
+    }
+    Some(bytes.split_at(offset).1)
+}
+
+/// Checks whether this is the next byte.
+fn is_next(byte: u8, bytes: &[u8]) -> bool
+    ensures { result ≡ true → head_of bytes.now ≡ Some byte }
+{
+    match bytes {
+        [first, ..] => *first == byte,
+        [] => false,
+    }
+}
+
+/// Returns the offset at which the body ends whose size begins at `body`. Outside of bodies it is the end of the bytes.
+fn end_of(body: Option<usize>, bytes: &[u8]) -> Option<usize>
+    ensures { IfSome result (λ end. end_of body bytes.now ≡ Some end) }
+{
+    let Some(at) = body else {
+        return Some(bytes.len());
+    };
+    let mut cursor = Cursor::new(behind(bytes, at)?);
+    match cursor.body() {
+        Ok(_) => Some(bytes.len().saturating_sub(cursor.len())),
+        Err(_) => None,
+    }
+}
+
+/// Checks whether the body, or the input outside of bodies, ends at this offset.
+fn ends_at(body: Option<usize>, offset: usize, bytes: &[u8]) -> bool
+    ensures { result ≡ true → end_of body bytes.now ≡ Some offset }
+{
+    match end_of(body, bytes) {
+        Some(end) => end == offset,
+        None => false,
+    }
+}
+
+/// Checks whether the body, or the input outside of bodies, has `count` bytes more.
+fn has_trailing(count: usize, body: Option<usize>, offset: usize, bytes: &[u8]) -> bool
+    ensures { result ≡ true → Holds (TrailingBytes count) body offset bytes.now }
+{
+    match offset.checked_add(count) {
+        Some(end) => count > 0 && ends_at(body, end, bytes),
+        None => false,
+    }
+}
+
+/// Checks whether one of the first `most` bytes is the last of a number in LEB128.
+#[tactic(auto, using(crate::proofs::ReasonLaws::none_of_none, crate::proofs::ReasonLaws::none_in_none, crate::proofs::ReasonLaws::here, crate::proofs::ReasonLaws::later))]
+fn ends_within(most: u32, bytes: &[u8]) -> bool
+    ensures { result ≡ ends_within most bytes.now }
+{
+    if most == 0 {
+        return false;
+    }
+    let Some((byte, rest)) = bytes.split_first() else {
+        return false;
+    };
+    *byte < 128 || ends_within(most - 1, rest)
+}
+
+/// Checks whether the bytes begin with a number that is out of range of this part.
+fn is_out_of_range(construct: Construct, bytes: &[u8]) -> bool
+    ensures { result ≡ true → IsOutOfRangeOf construct bytes.now }
+{
+    let mut cursor = Cursor::new(bytes);
+    match construct {
+        Construct::U32 => ends_within(5, bytes) && matches!(cursor.u32(), Err(Fault::Malformed(_))),
+        Construct::U64 => ends_within(10, bytes)
+            && matches!(cursor.u64(), Err(Fault::Malformed(_))),
+        Construct::S32 => ends_within(5, bytes) && matches!(cursor.s32(), Err(Fault::Malformed(_))),
+        Construct::S64 => ends_within(10, bytes)
+            && matches!(cursor.s64(), Err(Fault::Malformed(_))),
+        Construct::TypeIndex => {
+            ends_within(5, bytes) && matches!(cursor.index(), Err(Fault::Malformed(_)))
+        }
+        _ => false,
+    }
+}
+
+/// Checks whether the bytes begin with this number.
+#[tactic(auto, using(crate::proofs::ReasonLaws::begins))]
+fn begins_with_u32(number: u32, bytes: &[u8]) -> bool
+    ensures { result ≡ true → BeginsWithU32 number bytes.now }
+{
+    let mut cursor = Cursor::new(bytes);
+    let Ok(read) = cursor.u32() else {
+        return false;
+    };
+    read == number
+}
+
+/// Checks whether `rest`, the last of the bytes, begins with this size, and whether the `left` bytes after it up to `end`
+/// are fewer.
+fn has_too_large_size(size: u32, left: usize, end: Option<usize>, rest: &[u8], bytes: &[u8]) -> bool
+    ensures { result ≡ true → HasTooLargeSize size left end rest.now bytes.now }
+{
+    let mut cursor = Cursor::new(rest);
+    match (cursor.u32(), end) {
+        (Ok(read), Some(end)) => {
+            let start = bytes.len().saturating_sub(cursor.len());
+            read == size && left < size as usize && start <= end && end - start == left
+        }
+        _ => false,
+    }
+}
+
+/// Checks whether a part of this kind may begin with this byte.
+fn begins_with(construct: Construct, byte: u8) -> bool
+    ensures { result ≡ begins_with construct byte }
+{
+    match construct {
+        Construct::AbstractHeapType => (0x68..=0x75).contains(&byte),
+        Construct::HeapType => {
+            byte <= 0x3f
+                || byte >= 0x80
+                || byte == 0x62
+                || byte == 0x65
+                || (0x68..=0x75).contains(&byte)
+        }
+        Construct::RefType => (0x63..=0x65).contains(&byte) || (0x68..=0x75).contains(&byte),
+        Construct::ValType => {
+            (0x63..=0x65).contains(&byte)
+                || (0x68..=0x75).contains(&byte)
+                || (0x7b..=0x7f).contains(&byte)
+        }
+        Construct::TypeForm => (0x5d..=0x60).contains(&byte),
+        Construct::Mutability | Construct::HandlerClause | Construct::Ordering => byte <= 1,
+        Construct::Clause | Construct::CastFlags => byte <= 3,
+        Construct::Limits => byte <= 7,
+        Construct::MemoryFlags => byte <= 15,
+        Construct::Table | Construct::TagAttribute | Construct::ElementKind => byte == 0,
+        Construct::ImportKind => byte <= 4 || byte == 0x20,
+        Construct::ExportKind => byte <= 4,
+        Construct::Field => false,
+        _ => true,
+    }
+}
+
+/// Checks whether this number stands for a part of this kind.
+fn stands_for(construct: Construct, number: u32) -> bool
+    ensures { result ≡ stands_for construct number }
+{
+    match construct {
+        Construct::ElementForm => number <= 7,
+        Construct::DataForm => number <= 2,
+        Construct::Field => false,
+        _ => true,
+    }
+}
+
+/// Checks whether this byte, or none, comes before the number of an opcode with this prefix.
+fn is_prefix_byte(byte: Option<u8>, prefix: Prefix) -> bool
+    ensures { result ≡ true → prefix_byte prefix ≡ byte }
+{
+    match (prefix, byte) {
+        (Prefix::None, None) => true,
+        (Prefix::Fb, Some(0xfb)) => true,
+        (Prefix::Fc, Some(0xfc)) => true,
+        (Prefix::Fd, Some(0xfd)) => true,
+        (Prefix::Fe, Some(0xfe)) => true,
+        _ => false,
+    }
+}
+
+/// Checks whether the bytes begin with this opcode, and it isn't in the table.
+#[tactic(auto, using(crate::proofs::ReasonLaws::unknown))]
+fn is_unknown_opcode(prefix: Option<u8>, number: u32, bytes: &[u8]) -> bool
+    ensures { result ≡ true → IsUnknownOpcode prefix number bytes.now }
+{
+    let mut cursor = Cursor::new(bytes);
+    let Ok(op) = take_opcode(&mut cursor) else {
+        return false;
+    };
+    if op.number != number || !is_prefix_byte(prefix, op.prefix) {
+        return false;
+    }
+    match op.kind() {
+        Some(_) => false,
+        None => true,
+    }
+}
+
+/// Checks whether the body is a name that isn't UTF-8, and whether `offset` lies `at` bytes behind its start.
+fn is_no_name(at: u32, offset: usize, body: Option<usize>, bytes: &[u8]) -> bool
+    ensures { result ≡ true → IsNoName at offset body bytes.now }
+{
+    let Some(start) = body else {
+        return false;
+    };
+    let Some(named) = behind(bytes, start) else {
+        return false;
+    };
+    let mut cursor = Cursor::new(named);
+    let Ok(mut name) = cursor.body() else {
+        return false;
+    };
+    let size = name.len();
+    let left = cursor.len();
+    let Ok(text) = name.take(size, Construct::Name) else {
+        return false;
+    };
+    let Err(_) = str::from_utf8(text) else {
+        return false;
+    };
+    offset as u128 + (size as u128 + left as u128) == bytes.len() as u128 + at as u128
+}
+
+/// Checks whether the bytes begin with the magic number and this version, which isn't 1.
+fn has_other_version(version: u32, bytes: &[u8]) -> bool
+    ensures { result ≡ true → HasOtherVersion version bytes.now }
+{
+    match bytes {
+        [0x00, 0x61, 0x73, 0x6d, first, second, third, fourth, ..] => {
+            let high = u64::from(*third) + 256 * u64::from(*fourth);
+            let told = u64::from(*first) + 256 * (u64::from(*second) + 256 * high);
+            version != 1 && u64::from(version) == told
+        }
+        _ => false,
+    }
+}

@@ -1,5 +1,0 @@
-use Rattle.std.proofs.Common.{◌≡◌, map, take}
-use Rattle.wasm_whole_modules.proofs.indices.renumbering.map_each.Given as goal
-
-abbrev pub invariant-loop-index : goal.invariant-loop-index
-invariant-loop-index g l = l.copies.items ≡ map (g.M.Renumbering.new_indices l.indices l.space) (take l.index-index l.list)

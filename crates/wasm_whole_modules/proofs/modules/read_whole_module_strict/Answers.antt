@@ -1,4 +1,0 @@
-use Rattle.wasm_whole_modules.proofs.modules.read_whole_module_strict.Goals as goal
-
-pub returns : goal.returns
-returns c = rw c.without_reason.ensures (record { decodes = c.read_strict.ensures.decodes })

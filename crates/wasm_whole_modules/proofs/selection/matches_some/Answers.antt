@@ -1,4 +1,0 @@
-use Rattle.wasm_whole_modules.proofs.selection.matches_some.Goals as goal
-
-pub loop-pattern-init : goal.loop-pattern-init
-loop-pattern-init c = record { back = λ m. m; only = λ m. m }
