@@ -7,4 +7,5 @@ pub mod Instructions
 pub mod ScannedOpcodes
 pub mod formats
 pub mod MemArgs
+pub mod Names
 pub mod PrefixFree

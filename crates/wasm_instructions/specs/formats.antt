@@ -1,3 +1,4 @@
 pub mod Opcodes
+pub mod OpcodeNames
 pub mod Operands
 pub mod Instructions

@@ -1,6 +1,8 @@
 //! Names of instructions (Core 3.0, Text Format, Instructions).
-ghost use Rattle.std.specs.Prelude.{◌≡◌, IfErr, IfOk, IfSome, is_some, true};
+ghost use Rattle.std.specs.Prelude.{◌≡◌, IfErr, IfOk, IfSome, None, Some, false, is_some, map, true};
 ghost use Rattle.wasm_instructions.specs.Instructions.{IsCall};
+ghost use Rattle.wasm_instructions.specs.Names.{FitNoneNamed, HasName, HasNoneAfter, HasNoneNamed, IsFirstNamed, IsNameTable};
+ghost use Rattle.wasm_instructions.specs.formats.OpcodeNames.{opcode_name};
 ghost use Rattle.wasm_instructions.specs.formats.Opcodes.{opcode_kind};
 
 mod opcodes;
@@ -10,6 +12,9 @@ use crate::table::{Call, Kind, Opcode, Operands, Prefix};
 
 /// Length of the longest table of names.
 const MOST_OPCODES: u32 = AFTER_FD.len() as u32;
+
+/// All prefixes, in the order in which names are looked up.
+const PREFIXES: [Prefix; 5] = [Prefix::None, Prefix::Fb, Prefix::Fc, Prefix::Fd, Prefix::Fe];
 
 /// Returns the name of an instruction in the text format, such as `local.get` (Core 3.0, Text Format, Instructions).
 ///
@@ -24,19 +29,30 @@ const MOST_OPCODES: u32 = AFTER_FD.len() as u32;
 /// assert_eq!(rt; opcode_name(Opcode::after_fd(12)), Some("v128.const"));
 /// assert_eq!(rt; opcode_name(Opcode::without_prefix(0xff)), None);
 /// ```
+#[tactic(auto, unfolding(crate::specs::formats::Opcodes::ranges, crate::specs::formats::OpcodeNames::names))]
 pub fn opcode_name(opcode: Opcode) -> Option<&'static str>
     // The opcodes of the table have names, and no others.
-    ensures { is_some result ≡ is_some (opcode_kind opcode) }
+    ensures some { is_some result ≡ is_some (opcode_kind opcode) }
+    ensures name { IfSome result (λ name. opcode_name opcode ≡ Some name.now) }
 {
     opcode.kind()?;
-    let place = opcode.number as usize;
-    match opcode.prefix {
-        Prefix::None => Some(WITHOUT_PREFIX[place]),
-        Prefix::Fb => Some(AFTER_FB[place]),
-        Prefix::Fc => Some(AFTER_FC[place]),
-        Prefix::Fd => Some(AFTER_FD[place]),
-        Prefix::Fe => Some(AFTER_FE[place]),
-    }
+    Some(match opcode.prefix {
+        Prefix::None => name_at(opcode, &WITHOUT_PREFIX),
+        Prefix::Fb => name_at(opcode, &AFTER_FB),
+        Prefix::Fc => name_at(opcode, &AFTER_FC),
+        Prefix::Fd => name_at(opcode, &AFTER_FD),
+        Prefix::Fe => name_at(opcode, &AFTER_FE),
+    })
+}
+
+/// Returns the name of an opcode of the table, from the names with its prefix.
+#[tactic(auto, using(crate::proofs::NameLaws::below_end, crate::proofs::NameLaws::name_is))]
+fn name_at(opcode: Opcode, names: &[&'static str]) -> &'static str
+    requires table { IsNameTable opcode.prefix (map (λ name. name.now) names.now) }
+    requires known { is_some (opcode_kind opcode) ≡ true }
+    ensures { opcode_name opcode ≡ Some result.now }
+{
+    names[opcode.number as usize]
 }
 
 /// Returns the opcode of the instruction that has this name in the text format, such as `local.get` (Core 3.0, Text
@@ -55,53 +71,52 @@ pub fn opcode_name(opcode: Opcode) -> Option<&'static str>
 /// assert_eq!(rt; add.map(|call| call.op()), Some(Opcode::without_prefix(0x6a)));
 /// ```
 pub fn opcode_named(name: &str) -> Option<Opcode>
-    // The opcode is in the table.
-    ensures { IfSome result (λ opcode. is_some (opcode_kind opcode) ≡ true) }
+    ensures found { IfSome result (IsFirstNamed name.now None) }
+    ensures none { result ≡ None → HasNoneNamed name.now None }
 {
-    let prefixes = [Prefix::None, Prefix::Fb, Prefix::Fc, Prefix::Fd, Prefix::Fe];
-    for prefix in prefixes {
-        if let Some(opcode) = named_after(prefix, name) {
+    first_named(name, None)
+}
+
+/// Returns the first opcode with this name, and with operands of this kind if one is given.
+fn first_named(name: &str, kind: Option<Kind>) -> Option<Opcode>
+    ensures found { IfSome result (IsFirstNamed name.now kind) }
+    ensures none { result ≡ None → HasNoneNamed name.now kind }
+{
+    for prefix in PREFIXES {
+        if let Some(opcode) = first_after(prefix, name, kind) {
             return Some(opcode);
         }
     }
     None
 }
 
-/// Returns the opcode with this prefix and name.
-fn named_after(prefix: Prefix, name: &str) -> Option<Opcode>
-    ensures { IfSome result (λ opcode. is_some (opcode_kind opcode) ≡ true) }
+/// Returns the first opcode with this prefix and name, and with operands of this kind if one is given.
+fn first_after(prefix: Prefix, name: &str, kind: Option<Kind>) -> Option<Opcode>
+    ensures found { IfSome result (IsFirstNamed name.now kind) }
+    ensures none { result ≡ None → HasNoneAfter prefix name.now kind }
 {
     for number in 0..MOST_OPCODES {
         let opcode = Opcode { prefix, number };
-        match opcode_name(opcode) {
-            Some(found) if found == name => return Some(opcode),
-            _ => {}
-        }
-    }
-    None
-}
-
-/// Returns the first opcode of this name whose operands are of this kind.
-fn named_with(name: &str, kind: Kind) -> Option<Opcode> {
-    let prefixes = [Prefix::None, Prefix::Fb, Prefix::Fc, Prefix::Fd, Prefix::Fe];
-    for prefix in prefixes {
-        if let Some(opcode) = named_after_with(prefix, name, kind) {
+        if has_name(opcode, name, kind) {
             return Some(opcode);
         }
     }
     None
 }
 
-/// Returns the first opcode with this prefix and name whose operands are of this kind.
-fn named_after_with(prefix: Prefix, name: &str, kind: Kind) -> Option<Opcode> {
-    for number in 0..MOST_OPCODES {
-        let opcode = Opcode { prefix, number };
-        match opcode_name(opcode) {
-            Some(found) if found == name && opcode.kind() == Some(kind) => return Some(opcode),
-            _ => {}
-        }
+/// Checks whether the opcode has this name, and operands of this kind if one is given.
+fn has_name(opcode: Opcode, name: &str, kind: Option<Kind>) -> bool
+    ensures has { result ≡ true → HasName name.now kind opcode }
+    ensures hasnt { result ≡ false → HasName name.now kind opcode → ⊥ }
+{
+    let fits = match kind {
+        Some(kind) => opcode.kind() == Some(kind),
+        None => true,
+    };
+    match opcode_name(opcode) {
+        Some(found) => fits && found == name,
+        None => false,
     }
-    None
 }
 
 /// Calls by name.
@@ -127,9 +142,11 @@ impl Call {
     pub fn named(name: &str, operands: Operands) -> Result<Call, Operands>
         ensures ok { IfOk result (λ call. call.operands ≡ operands) }
         ensures fits { IfOk result (λ call. IsCall call.op operands) }
+        ensures named { IfOk result (λ call. opcode_name call.op ≡ Some name.now) }
         ensures err { IfErr result (λ given. given ≡ operands) }
+        ensures none { IfErr result (λ given. FitNoneNamed name.now operands) }
     {
-        match named_with(name, operands.kind()) {
+        match first_named(name, Some(operands.kind())) {
             Some(opcode) => Call::new(opcode, operands),
             None => Err(operands),
         }
@@ -137,7 +154,13 @@ impl Call {
 
     /// Returns the name of the instruction in the text format, such as `local.get` (Core 3.0, Text Format,
     /// Instructions).
-    pub fn name(&self) -> &'static str {
-        opcode_name(self.op()).unwrap_or("")
+    pub fn name(&self) -> &'static str
+        ensures { opcode_name self.now.op ≡ Some result.now }
+    {
+        // Each call is of an opcode of the table.
+        match opcode_name(self.op()) {
+            Some(name) => name,
+            None => "",
+        }
     }
 }

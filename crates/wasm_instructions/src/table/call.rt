@@ -1,7 +1,8 @@
 //! `Call`, an opcode with operands of its kind.
-ghost use Rattle.std.specs.Prelude.{◌≡◌, IfOk, IfErr, IsOk, IsTrue, ◌↔◌};
+ghost use Rattle.std.specs.Prelude.{◌≡◌, IfOk, IfErr, IsOk, IsTrue, is_some, true, ◌↔◌};
 ghost use Rattle.wasm_instructions.specs.Instructions.{NumbersInRange, IsAligned, IsCall, IsShort, kind_of};
 ghost use Rattle.wasm_instructions.specs.formats.Instructions.{call};
+ghost use Rattle.wasm_instructions.specs.formats.Opcodes.{opcode_kind};
 ghost use Rattle.wasm_codec.specs.declared.encode.EncodeError.TheVariants.{Memory};
 
 use crate::operands::{BlockType, Catch, Handle, Ieee32, Ieee64, Lane, MemArg, Ordering, V128};
@@ -221,6 +222,7 @@ impl Call {
     pub fn op(&self) -> Opcode
         ensures value { result ≡ self.now.op }
         ensures short { IsShort result }
+        ensures known { is_some (opcode_kind result) ≡ true }
     {
         self.op
     }
