@@ -66,7 +66,7 @@ fn types(alloc: Global) -> Result<TypeSection, EncodeError> {
             .function(values[..count].iter().copied(), [ValType::I32])?;
     }
     types.ty().function([ValType::I32], [])?;
-    let nothing = FuncType::new(alloc, [].iter().copied(), [].iter().copied())?;
+    let nothing = FuncType::new(alloc, [], [])?;
     types.ty().func_type(&nothing)?;
     Ok(types)
 }

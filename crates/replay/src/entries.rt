@@ -157,7 +157,7 @@ fn field(token: &str) -> Option<FieldType> {
 fn function(alloc: Global, words: &mut Words<'_>) -> Result<FuncType, Mismatch> {
     let params = words.items(alloc, "list", value_type)?;
     let results = words.items(alloc, "list", value_type)?;
-    Ok(FuncType::new(alloc, params.into_iter(), results.into_iter())?)
+    Ok(FuncType::new(alloc, params, results)?)
 }
 
 /// A storage type, and whether it can be written.

@@ -20,6 +20,11 @@ abbrev pub read_error_of : DecodeError → ReadError
 read_error_of decode_errors.Memory = errors.Memory
 read_error_of (decode_errors.Malformed refusal) = errors.Refused refusal.at
 
+-- The offset of the part that is refused. `Memory` has none.
+abbrev pub offset_of : DecodeError → Option ℕ
+offset_of decode_errors.Memory = None
+offset_of (decode_errors.Malformed refusal) = Some refusal.at
+
 -- The offset of the part that is refused, and the offset of the bytes for which the reason is given.
 abbrev pub offsets_of : DecodeError → Option (ℕ × ℕ)
 offsets_of decode_errors.Memory = None

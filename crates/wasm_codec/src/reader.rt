@@ -4,7 +4,7 @@
 ghost use Rattle.std.specs.Prelude.{◌≡◌, ◌≤◌, ◌-◌, None};
 ghost use Rattle.wasm_codec.specs.declared.reader.ReadError.TheVariants.{Memory, Refused};
 ghost use Rattle.wasm_codec.specs.declared.reader.DecodeError.TheVariants as decode_errors;
-ghost use Rattle.wasm_codec.specs.Outcomes.{LiesIn, IsNumbered, as_read, error_of, item_of, item_of_fault, named_item, offsets_of, read_error_of};
+ghost use Rattle.wasm_codec.specs.Outcomes.{LiesIn, IsNumbered, as_read, offset_of, error_of, item_of, item_of_fault, named_item, offsets_of, read_error_of};
 
 pub mod cursor;
 pub mod malformed;
@@ -155,7 +155,9 @@ impl DecodeError {
     }
 
     /// Returns `at`, the offset of the first part that the call refuses. `None` means that memory ran out.
-    pub fn at(&self) -> Option<usize> {
+    pub fn at(&self) -> Option<usize>
+        ensures { result ≡ offset_of self.now }
+    {
         match self {
             DecodeError::Memory => None,
             DecodeError::Malformed(refusal) => Some(refusal.at),

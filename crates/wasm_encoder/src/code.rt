@@ -10,7 +10,7 @@ ghost use Rattle.wasm_code.specs.formats.CodeBodies.{code_section_body};
 ghost use Rattle.wasm_code.specs.formats.Sections.{typed_section_of, code_bodies, code_section_id};
 ghost use Rattle.wasm_code.specs.Modules.{IsTypedSection};
 ghost use Rattle.wasm_sections.specs.formats.ModuleSectionParts.{code};
-ghost use Rattle.wasm_sink.specs.ListCalls.{OfIterator};
+ghost use Rattle.wasm_lists.specs.Iterators.{OfIterator};
 ghost use Rattle.wasm_encoder.specs.EncodedLists.{Adds, AddsAll, EncodesSection, EncodedItems, CountedSection, IsFull, IsMemoryOrTooLong, IsUncounted, Makes, body_bytes};
 ghost use Rattle.wasm_encoder.specs.CodeSections.{bytes_row};
 ghost use Rattle.wasm_encoder.specs.CodeSections.{AreGroups, GainsBodies, GainsFunction, GoesOnWith, GoesOnWithBytes, HoldsBodies, IsCodeSection, MakesFunction, MakesLocals, StandsForBodies, UncountedBody};

@@ -1,7 +1,7 @@
 //! The type section (Core 3.0, Type Section).
 ghost use Rattle.std.specs.Prelude.{◌≡◌, List, ◌⊎◌, [], OnOk, IsTrue, ◌↔◌};
 ghost use Rattle.std.specs.Iterator.{size};
-ghost use Rattle.wasm_sink.specs.ListCalls.{OfIterator};
+ghost use Rattle.wasm_lists.specs.Iterators.{OfIterator};
 ghost use Rattle.wasm_encoder.specs.EncodedLists.{AddsAll, EncodesSection, EncodedItems, CountedSection, GivesSome, IsUncounted, Makes};
 ghost use Rattle.wasm_encoder.specs.TypeSections.{AddsEntry, AddsEntryOr, AddsFunction, AddsGiven, StandsFor, GainsAll, HoldsEntries, IsTypeSection, UncountedEntry, UncountedFunc, UncountedSub, type_section_bytes, final_entry, struct_entry, array_entry};
 ghost use Rattle.wasm_codec.specs.Encoding.{OnlyTooLong};

@@ -7,6 +7,10 @@ use Rattle.wasm_codec.specs.declared.encode.EncodeError.TheVariants.{Memory}
 use Rattle.wasm_codec.specs.Lists.{items_bytes}
 use Rattle.wasm_codec.specs.Encoding.{IsTooLong, Refuses, CanEncodeList}
 
+-- This holds of an iterator that is made of the value.
+abbrev pub OfIterator : {V S : Type 0} → (V → S → Type 0) → V → (S → Type 0) → Type 0
+OfIterator {V} {S} makes value P = (items : S) × makes value items × P items
+
 module _ {S A : Type 0} (encoding : A → List ℕ) (Can IsWritten : A → Type 0) (gives : S → Option A → S → Type 0) where
   -- The call appends the list that the iterator gives: its count, then each item.
   abbrev pub AppendsItems : S → List ℕ → List ℕ → Type 0

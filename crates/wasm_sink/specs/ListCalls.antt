@@ -34,10 +34,6 @@ module _ {S A : Type 0} (gives : S → Option A → S → Type 0) where
     -- It fails with `Memory`, or with `TooLong` if the list is too long.
     pub err : IfErr r (IsRefusedList len)
 
--- This holds of an iterator that is made of the value.
-abbrev pub OfIterator : {V S : Type 0} → (V → S → Type 0) → V → (S → Type 0) → Type 0
-OfIterator {V} {S} makes value P = (items : S) × makes value items × P items
-
 module _ {Z : Type 0} where
   -- The method appends the minimal encoding of its call with a list of this length, or names the reason.
   abbrev pub WritesList : InstructionSink Z → Opcode → Operands → ℕ → Result (InstructionSink Z) EncodeError → Type 0

@@ -3,7 +3,8 @@
 ghost use Rattle.std.specs.Borrow.{sem};
 ghost use Rattle.std.specs.Iterator.{size};
 ghost use Rattle.wasm_sink.specs.Sink.{IsUnchangedAtErr, Emits};
-ghost use Rattle.wasm_sink.specs.ListCalls.{EmitsItems, OfIterator};
+ghost use Rattle.wasm_lists.specs.Iterators.{OfIterator};
+ghost use Rattle.wasm_sink.specs.ListCalls.{EmitsItems};
 ghost use Rattle.wasm_instructions.specs.formats.Opcodes.{without_prefix};
 ghost use Rattle.wasm_instructions.specs.declared.table.call.Operands.TheVariants as operands;
 

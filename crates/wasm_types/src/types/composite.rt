@@ -5,6 +5,7 @@ ghost use Rattle.wasm_codec.specs.Encoding.{IsRefusal, IsShortest, OnlyTooLong};
 ghost use Rattle.wasm_codec.specs.Inputs.{Passes, Takes};
 ghost use Rattle.wasm_codec.specs.declared.encode.EncodeError.TheVariants.{Memory};
 ghost use Rattle.wasm_codec.specs.formats.Combinators.{optional, u32};
+ghost use Rattle.wasm_lists.specs.Iterators.{OfIterator};
 ghost use Rattle.wasm_types.specs.TypeCounts.{CountedComposite, CountedFunc, CountedInner, CountedStruct};
 ghost use Rattle.wasm_types.specs.TypeRanges.{StorageTypeFits};
 ghost use Rattle.wasm_types.specs.declared.types.composite.CompositeInnerType.TheVariants as inner;
@@ -63,7 +64,7 @@ impl StructType {
 /// ```
 /// # use wasm_encoder::{Encode, FuncType, ValType};
 /// let params = [ValType::I32, ValType::I64];
-/// let ty = FuncType::new(rt.alloc(), params.iter().copied(), [].iter().copied())?;
+/// let ty = FuncType::new(rt.alloc(), params, [])?;
 /// assert_eq!(rt; ty.params(), params.as_slice());
 /// assert!(rt; ty.results().is_empty());
 /// ```
@@ -74,19 +75,20 @@ pub struct FuncType {
 }
 
 impl FuncType {
-    /// Returns a function type with the parameters and results of two iterators. Fails with `Memory` if an allocation
-    /// fails.
-    pub fn new<P: Iterator<Item = ValType>, R: Iterator<Item = ValType>>(
+    /// Returns a function type with these parameters and results: arrays, `vec.into_iter()` or
+    /// `slice.iter().copied()`. Fails with `Memory` if an allocation fails.
+    pub fn new<P: IntoIterator<Item = ValType>, R: IntoIterator<Item = ValType>>(
         alloc: Global,
         params: P,
         results: R,
     ) -> Result<FuncType, EncodeError>
-        requires params { P.can_next params × IsFinite (P.remaining params) }
-        requires results { R.can_next results × IsFinite (R.remaining results) }
-        ensures params { IfOk result (λ ty. Drains P.next_gives params ty.params) }
-        ensures results { IfOk result (λ ty. Drains R.next_gives results ty.results) }
+        requires params { (items : P.IntoIter) → P.into_iter_gives params items → P.IntoIter.can_next items × IsFinite (P.IntoIter.remaining items) }
+        requires results { (items : R.IntoIter) → R.into_iter_gives results items → R.IntoIter.can_next items × IsFinite (R.IntoIter.remaining items) }
+        ensures params { IfOk result (λ ty. OfIterator P.into_iter_gives params (λ items. Drains P.IntoIter.next_gives items ty.params)) }
+        ensures results { IfOk result (λ ty. OfIterator R.into_iter_gives results (λ items. Drains R.IntoIter.next_gives items ty.results)) }
         ensures err { IfErr result (λ e. e ≡ Memory) }
     {
+        let (params, results) = (params.into_iter(), results.into_iter());
         let params: Vec<ValType> = params.collect(alloc)?;
         let results: Vec<ValType> = results.collect(alloc)?;
         Ok(FuncType {
