@@ -17,6 +17,7 @@ mod reading;
 mod readme;
 mod reasons;
 mod refused_memory;
+mod symbols;
 mod text;
 mod type_sections;
 mod types;
@@ -26,7 +27,19 @@ mod written_names;
 
 use std::alloc::Global;
 use std::test::Fail;
-use wasm_encoder::{Encode, EncodeError};
+use wasm_encoder::{Encode, EncodeError, IndexSpace};
+
+/// Every index space.
+const SPACES: [IndexSpace; 8] = [
+    IndexSpace::Types,
+    IndexSpace::Functions,
+    IndexSpace::Tables,
+    IndexSpace::Memories,
+    IndexSpace::Globals,
+    IndexSpace::Tags,
+    IndexSpace::Elements,
+    IndexSpace::Data,
+];
 
 /// The bytes are these in hex.
 fn is(alloc: Global, bytes: &[u8], hex: &str) -> Result<(), Fail> {

@@ -24,6 +24,9 @@ pub enum EncodeError {
     /// The alignment of a memory argument is 64 or more, which the binary format can't encode.
     #[error("alignment out of range")]
     Alignment,
+    /// The flags of a symbol ask for a name or a definition that it lacks, or exclude one that it has.
+    #[error("symbol doesn't fit its flags")]
+    SymbolFlags,
 }
 
 impl From<AllocError> for EncodeError {

@@ -1,5 +1,5 @@
 -- The laws of the symbols of object files, and what is written of them.
-use Rattle.std.proofs.Common.{◌≡◌, ℕ, ◌+◌, ◌<◌, ◌^◌, Bool, true, false, List, [], ◌∷◌, ◌++◌, Option, Some, None, Result, Ok, Err, OnOk, OnErr, IfErr, refl, lit≤, sym, subst, ◌∙◌}
+use Rattle.std.proofs.Common.{◌≡◌, ℕ, ◌+◌, ◌<◌, ◌^◌, ◌⊎◌, Bool, true, false, List, [], ◌∷◌, ◌++◌, Option, Some, None, Result, Ok, Err, OnOk, OnErr, IfErr, inr, refl, lit≤, sym, subst, ◌∙◌}
 use Rattle.std.specs.Prelude.{is_some}
 use Rattle.std.proofs.lemmas.List.{append-nil}
 use Rattle.wasm_codec.specs.declared.encode.EncodeError.{EncodeError}
@@ -16,11 +16,11 @@ use Rattle.wasm_externals.specs.formats.PartCombinators.{part_if, some_of}
 use Rattle.wasm_externals.proofs.ExternalLaws.{four, three}
 use Rattle.wasm_externals.proofs.NameLaws.{name_is_lawful, in_name}
 use Rattle.wasm_externals.proofs.PartCombinatorLaws.{Lawful-part-if}
-use Rattle.wasm_lists.specs.EncodedLists.{EncodedItems, IsUncounted}
+use Rattle.wasm_lists.specs.EncodedLists.{EncodedItems, IsFull, IsMemoryOrTooLong, IsUncounted}
 use Rattle.wasm_lists.proofs.EncodedListLaws.{counted_or, gains_one, which}
 use Rattle.wasm_lists.proofs.WrittenLists.{in_range_of}
 use Rattle.wasm_sections.specs.ListSections.{GainsItem}
-use Rattle.wasm_custom_sections.specs.LinkingSections.{AddsSymbol, CanName, CountedSymbol, IsWrittenSymbol, name_length, text_length}
+use Rattle.wasm_custom_sections.specs.LinkingSections.{AddsSymbol, CanName, CountedSymbol, IsSymbolRefusal, IsWrittenSymbol, name_length, text_length}
 use Rattle.wasm_custom_sections.specs.declared.symbols.DataSymbolDefinition.{DataSymbolDefinition}
 use Rattle.wasm_custom_sections.specs.declared.symbols.SectionSymbol.{SectionSymbol}
 use Rattle.wasm_custom_sections.specs.formats.SymbolParts.{ItemParts, DataParts, SymbolParts, symbol_kind, function, data_object, global, section, tag, table, function_part, data_part, global_part, section_part, tag_part, table_part}
@@ -168,14 +168,18 @@ symbol_fits (tag s) few = name_fits (has_name s.flags) s.name few
 symbol_fits (table s) few = name_fits (has_name s.flags) s.name few
 
 module _ (was old new : EncodedItems) (s : SymbolParts) (r : Result (Unit {0}) EncodeError) (same : was ≡ old) where
-  gained : (t : Result (Unit {0}) EncodeError) → OnOk t (new.count ≡ was.count + 1) → OnOk t (new.bytes ≡ was.bytes ++ symbol.bytes s) → OnOk t (IsWrittenSymbol s) → OnOk t (Agrees s → GainsItem symbol was s new)
-  gained (Ok x) count bytes fits = λ agrees. gains_one symbol (λ item. Unit {0}) was new s count bytes tt (in_range_of symbol symbol_is_lawful s (fits agrees))
-  gained (Err e) count bytes fits = tt
+  gained : (t : Result (Unit {0}) EncodeError) → Agrees s → OnOk t (new.count ≡ was.count + 1) → OnOk t (new.bytes ≡ was.bytes ++ symbol.bytes s) → OnOk t (IsWrittenSymbol s) → OnOk t (GainsItem symbol was s new)
+  gained (Ok x) agrees count bytes fits = gains_one symbol (λ item. Unit {0}) was new s count bytes tt (in_range_of symbol symbol_is_lawful s (fits agrees))
+  gained (Err e) agrees count bytes fits = tt
 
   too_long : (CountedSymbol s → ⊥) → IsUncounted (name_length s)
   too_long cannot = which (counted_or (name_length s)) (λ few. cannot (symbol_fits s few))
 
-  pub adds_symbol : OnOk r (new.count ≡ was.count + 1) → OnOk r (new.bytes ≡ was.bytes ++ symbol.bytes s) → OnOk r (IsWrittenSymbol s) → OnErr r (new ≡ was) → IfErr r (IsRefused (CountedSymbol s) was) → AddsSymbol old s new r
-  adds_symbol count bytes fits unchanged refusal =
+  refused_so : {X : Type 0} (t : Result X EncodeError) → Agrees s → IfErr t (IsMemoryOrTooLong (IsFull was ⊎ IsUncounted (name_length s))) → IfErr t (IsSymbolRefusal was s)
+  refused_so (Ok x) agrees why = tt
+  refused_so (Err e) agrees why = inr (agrees, why)
+
+  pub adds_symbol : Agrees s → OnOk r (new.count ≡ was.count + 1) → OnOk r (new.bytes ≡ was.bytes ++ symbol.bytes s) → OnOk r (IsWrittenSymbol s) → OnErr r (new ≡ was) → IfErr r (IsRefused (CountedSymbol s) was) → AddsSymbol old s new r
+  adds_symbol agrees count bytes fits unchanged refusal =
       subst (λ (list : EncodedItems). AddsSymbol list s new r) same
-      (record { count = count; bytes = bytes; gains = gained r count bytes fits; same = unchanged; refused = refused r was too_long refusal })
+      (record { gains = gained r agrees count bytes fits; same = unchanged; refused = refused_so r agrees (refused r was too_long refusal) })

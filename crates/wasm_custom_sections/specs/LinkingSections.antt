@@ -1,10 +1,11 @@
 -- Symbol tables and linking sections that are built value by value.
 use Rattle.std.specs.Prelude.{◌≡◌, ℕ, ◌⊎◌, List, ◌∷◌, length, true, Bool, Option, Some, None, Result, IfSome}
 use Rattle.wasm_codec.specs.declared.encode.EncodeError.{EncodeError}
+use Rattle.wasm_codec.specs.declared.encode.EncodeError.TheVariants.{SymbolFlags}
 use Rattle.wasm_codec.specs.Encoding.{IsCount, IsShortest}
 use Rattle.wasm_codec.specs.formats.Combinators.{minimal_only}
 use Rattle.wasm_lists.specs.EncodedLists.{EncodedItems, IsFull, IsMemoryOrTooLong, IsUncounted}
-use Rattle.wasm_sections.specs.ListSections.{AddsIf, StandsForItems}
+use Rattle.wasm_sections.specs.ListSections.{Adds, GainsItem, StandsForItems}
 use Rattle.wasm_custom_sections.specs.formats.SymbolParts.{SymbolParts, function, data_object, global, section, tag, table}
 use Rattle.wasm_custom_sections.specs.formats.Symbols.{Agrees, has_name, symbol}
 use Rattle.wasm_custom_sections.specs.formats.Linking.{LinkingParts, linking_data, linking_subsection, versioned}
@@ -40,10 +41,14 @@ name_length (table s) = text_length s.name
 abbrev pub IsWrittenSymbol : SymbolParts → Type 0
 IsWrittenSymbol s = Agrees s → IsShortest symbol.Encodes symbol.bytes s
 
--- A method that adds a symbol, which has an encoding if its parts are those that its flags ask for. It fails with
--- `TooLong` if the table is full, or the name is too long.
+-- The parts of the symbol aren't those that its flags ask for; or they are, and memory ran out, the table is full or the
+-- name is too long.
+abbrev pub IsSymbolRefusal : EncodedItems → SymbolParts → EncodeError → Type 0
+IsSymbolRefusal old s e = ((Agrees s → ⊥) × (e ≡ SymbolFlags)) ⊎ (Agrees s × IsMemoryOrTooLong (IsFull old ⊎ IsUncounted (name_length s)) e)
+
+-- A method that adds a symbol, if its parts are those that its flags ask for.
 abbrev pub AddsSymbol : EncodedItems → SymbolParts → EncodedItems → Result (Unit {0}) EncodeError → Type 0
-AddsSymbol old s new = AddsIf symbol (Agrees s) old s new (IsMemoryOrTooLong (IsFull old ⊎ IsUncounted (name_length s)))
+AddsSymbol old s new = Adds (GainsItem symbol) old s new (IsSymbolRefusal old s)
 
 -- The contents are the minimal encoding of the subsections that the section stands for, after the version.
 abbrev pub HoldsLinking : EncodedItems → Type 0

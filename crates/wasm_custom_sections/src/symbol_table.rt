@@ -10,7 +10,7 @@ ghost use Rattle.wasm_lists.specs.EncodedLists.{IsFull, IsMemoryOrTooLong, body_
 ghost use Rattle.wasm_sections.specs.ListSections.{StandsForItems};
 ghost use Rattle.wasm_custom_sections.specs.LinkingSections.{AddsSymbol, CanName, CountedSymbol, IsWrittenSymbol};
 ghost use Rattle.wasm_custom_sections.specs.formats.SymbolParts.{data_object, data_parts, function, global, item_parts, section as section_entry, symbol_parts, table, tag};
-ghost use Rattle.wasm_custom_sections.specs.formats.Symbols.{data_of, data_symbol, definition as definition_format, ItemAgrees, DataAgrees, has_name as names_item, is_defined as defines, item_of, item_symbol, section_of, section_symbol, symbol};
+ghost use Rattle.wasm_custom_sections.specs.formats.Symbols.{data_of, data_symbol, definition as definition_format, Agrees, ItemAgrees, DataAgrees, has_name as names_item, is_defined as defines, item_of, item_symbol, section_of, section_symbol, symbol};
 
 use crate::counted_bytes::CountedBytes;
 use crate::sized::append_subsection;
@@ -164,6 +164,19 @@ impl<'a> Encode for Symbol<'a> {
     }
 }
 
+/// Checks whether the parts of a symbol are those that its flags ask for.
+fn fits_flags(symbol: &Symbol<'_>) -> bool
+    ensures { IsTrue result ↔ Agrees (symbol_parts symbol.now) }
+{
+    match symbol {
+        Symbol::Function(item) | Symbol::Global(item) | Symbol::Tag(item) | Symbol::Table(item) => {
+            item.name.is_some() == has_name(item.flags)
+        }
+        Symbol::Data(data) => data.definition.is_some() == is_defined(data.flags),
+        Symbol::Section(_) => true,
+    }
+}
+
 /// A symbol table, the subsection 8 of a linking section: you add symbols, and it keeps them encoded.
 ///
 /// On error the table is unchanged. In contracts the table is the number of its symbols and their bytes.
@@ -239,11 +252,11 @@ impl SymbolTable {
 
     /// Adds the symbol of the function `index`.
     ///
-    /// `flags` ask for a name unless they have `WASM_SYM_UNDEFINED` without `WASM_SYM_EXPLICIT_NAME`. If they ask for one
-    /// and `name` is `None`, the table is malformed. A name that they don't ask for isn't written.
+    /// `flags` ask for a name unless they have `WASM_SYM_UNDEFINED` without `WASM_SYM_EXPLICIT_NAME`.
     ///
-    /// Fails with `TooLong` if the table already has 4,294,967,295 symbols or `name` is longer than 4,294,967,295 bytes,
-    /// and with `Memory` if the table can't grow.
+    /// Fails with `SymbolFlags` if they ask for a name and `name` is `None`, or don't and it is `Some`. Fails with
+    /// `TooLong` if the table already has 4,294,967,295 symbols or `name` is longer than 4,294,967,295 bytes, and with
+    /// `Memory` if the table can't grow.
     pub fn function(
         &mut self,
         flags: u32,
@@ -252,15 +265,13 @@ impl SymbolTable {
     ) -> Result<(), EncodeError>
         ensures adds { AddsSymbol self.old (function (item_of (flags, (index, option_map (λ text. text.now) name.entry)))) self.new result }
     {
-        self.symbols
-            .add(&Symbol::Function(ItemSymbol { flags, index, name }))
+        self.add(&Symbol::Function(ItemSymbol { flags, index, name }))
     }
 
     /// Adds the symbol `name` of data, which `definition` places.
     ///
-    /// `flags` ask for a definition unless they have `WASM_SYM_UNDEFINED`. If they ask for one and `definition` is `None`,
-    /// the table is malformed. A definition that they don't ask for isn't written. Fails as
-    /// [`function`](SymbolTable::function) does.
+    /// `flags` ask for a definition unless they have `WASM_SYM_UNDEFINED`. Fails with `SymbolFlags` if they ask for one and
+    /// `definition` is `None`, or don't and it is `Some`, and else as [`function`](SymbolTable::function) does.
     pub fn data(
         &mut self,
         flags: u32,
@@ -269,7 +280,7 @@ impl SymbolTable {
     ) -> Result<(), EncodeError>
         ensures adds { AddsSymbol self.old (data_object (data_of (flags, (name.now, definition)))) self.new result }
     {
-        self.symbols.add(&Symbol::Data(DataSymbol {
+        self.add(&Symbol::Data(DataSymbol {
             flags,
             name,
             definition,
@@ -280,8 +291,7 @@ impl SymbolTable {
     pub fn global(&mut self, flags: u32, index: u32, name: Option<&str>) -> Result<(), EncodeError>
         ensures adds { AddsSymbol self.old (global (item_of (flags, (index, option_map (λ text. text.now) name.entry)))) self.new result }
     {
-        self.symbols
-            .add(&Symbol::Global(ItemSymbol { flags, index, name }))
+        self.add(&Symbol::Global(ItemSymbol { flags, index, name }))
     }
 
     /// Adds the symbol of the section with `section` sections before it.
@@ -290,24 +300,31 @@ impl SymbolTable {
     pub fn section(&mut self, flags: u32, section: u32) -> Result<(), EncodeError>
         ensures adds { AddsSymbol self.old (section_entry (section_of (flags, section))) self.new result }
     {
-        self.symbols
-            .add(&Symbol::Section(SectionSymbol { flags, section }))
+        self.add(&Symbol::Section(SectionSymbol { flags, section }))
     }
 
     /// Adds the symbol of the tag `index`. `name` and errors are as in [`function`](SymbolTable::function).
     pub fn tag(&mut self, flags: u32, index: u32, name: Option<&str>) -> Result<(), EncodeError>
         ensures adds { AddsSymbol self.old (tag (item_of (flags, (index, option_map (λ text. text.now) name.entry)))) self.new result }
     {
-        self.symbols
-            .add(&Symbol::Tag(ItemSymbol { flags, index, name }))
+        self.add(&Symbol::Tag(ItemSymbol { flags, index, name }))
     }
 
     /// Adds the symbol of the table `index`. `name` and errors are as in [`function`](SymbolTable::function).
     pub fn table(&mut self, flags: u32, index: u32, name: Option<&str>) -> Result<(), EncodeError>
         ensures adds { AddsSymbol self.old (table (item_of (flags, (index, option_map (λ text. text.now) name.entry)))) self.new result }
     {
-        self.symbols
-            .add(&Symbol::Table(ItemSymbol { flags, index, name }))
+        self.add(&Symbol::Table(ItemSymbol { flags, index, name }))
+    }
+
+    /// Adds a symbol. Fails with `SymbolFlags` if its parts aren't those that its flags ask for.
+    fn add(&mut self, symbol: &Symbol<'_>) -> Result<(), EncodeError>
+        ensures adds { AddsSymbol self.old (symbol_parts symbol.now) self.new result }
+    {
+        if !fits_flags(symbol) {
+            return Err(EncodeError::SymbolFlags);
+        }
+        self.symbols.add(symbol)
     }
 
     /// Copies the table. Fails with `Memory` if it can't allocate.

@@ -18,6 +18,7 @@ abbrev pub IsOperandsRefusal : Operands → EncodeError → Type 0
 IsOperandsRefusal o errors.Memory = Unit {0}
 IsOperandsRefusal o errors.Alignment = IsAligned o → ⊥
 IsOperandsRefusal o errors.TooLong = IsCounted o → ⊥
+IsOperandsRefusal o errors.SymbolFlags = ⊥
 
 -- A u32 counts the items of the call's list.
 abbrev pub CountedCall : Instruction → Type 0
@@ -28,12 +29,14 @@ abbrev pub IsCallRefusal : Instruction → EncodeError → Type 0
 IsCallRefusal c errors.Memory = Unit {0}
 IsCallRefusal c errors.Alignment = ⊥
 IsCallRefusal c errors.TooLong = IsCounted c.operands → ⊥
+IsCallRefusal c errors.SymbolFlags = ⊥
 
 -- Memory ran out, or a list in one of the calls is too long; `Alignment` never occurs.
 abbrev pub IsCallsRefusal : List Instruction → EncodeError → Type 0
 IsCallsRefusal calls errors.Memory = Unit {0}
 IsCallsRefusal calls errors.Alignment = ⊥
 IsCallsRefusal calls errors.TooLong = AllByRecursion (λ c. IsCounted c.operands) calls → ⊥
+IsCallsRefusal calls errors.SymbolFlags = ⊥
 
 -- The bytes before a list.
 unfoldable pub before_bytes : Before → List ℕ
@@ -56,6 +59,7 @@ abbrev pub IsRefusedList : ℕ → EncodeError → Type 0
 IsRefusedList count errors.Memory = Unit {0}
 IsRefusedList count errors.TooLong = 2 ^ 32 ≤ count
 IsRefusedList count errors.Alignment = ⊥
+IsRefusedList count errors.SymbolFlags = ⊥
 
 module _ {S A : Type 0} (gives : S → Option A → S → Type 0) (InRange : A → Type 0) where
   -- The call appends the list that the iterator gives; a u32 counts its items, and its numbers are in range.

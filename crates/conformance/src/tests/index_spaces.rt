@@ -1,22 +1,11 @@
 //! Items inserted into each index space: the instructions that change, and new indexes that are too large.
 
-use super::is;
+use super::{SPACES, is};
 use std::alloc::Global;
 use std::test::Fail;
 use wasm_encoder::{
     EncodeError, IndexSpace, InsertedItems, InstructionSink, map_all_indices, read_instructions,
 };
-
-const SPACES: [IndexSpace; 8] = [
-    IndexSpace::Types,
-    IndexSpace::Functions,
-    IndexSpace::Tables,
-    IndexSpace::Memories,
-    IndexSpace::Globals,
-    IndexSpace::Tags,
-    IndexSpace::Elements,
-    IndexSpace::Data,
-];
 
 /// Instructions with index 2 in a space and no other index over 0, and the same with index 3.
 const ROWS: [(IndexSpace, &str, &str); 17] = [

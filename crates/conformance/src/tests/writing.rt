@@ -61,6 +61,7 @@ fn error_texts(rt: HostRuntime) -> Result<(), Fail> {
         (EncodeError::Memory, "no memory"),
         (EncodeError::TooLong, "too long"),
         (EncodeError::Alignment, "alignment out of range"),
+        (EncodeError::SymbolFlags, "symbol doesn't fit its flags"),
     ] {
         if error.to_string(rt.alloc())?.as_str() != text {
             return Err(Fail::from(text));

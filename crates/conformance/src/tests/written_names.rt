@@ -1,5 +1,6 @@
 //! Subsections of a name section of each kind: read in long encodings, renumbered, and written back.
 
+use super::SPACES;
 use std::alloc::Global;
 use std::test::Fail;
 use wasm_encoder::{
@@ -51,18 +52,6 @@ const ROWS: [(Option<IndexSpace>, &str, &str); 13] = [
     (Some(IndexSpace::Tags), "0B0401020174", "0B050182000174"),
     // two bytes that an unknown id stands before; their number padded
     (None, "0C02ABCD", "0C8200ABCD"),
-];
-
-/// Every index space.
-const SPACES: [IndexSpace; 8] = [
-    IndexSpace::Types,
-    IndexSpace::Functions,
-    IndexSpace::Tables,
-    IndexSpace::Memories,
-    IndexSpace::Globals,
-    IndexSpace::Tags,
-    IndexSpace::Elements,
-    IndexSpace::Data,
 ];
 
 /// The only subsection is written as these bytes.

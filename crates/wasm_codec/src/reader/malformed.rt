@@ -38,15 +38,16 @@ pub enum Construct {
     AbstractHeapType,
     /// A reference type (Core 3.0, Reference Types).
     RefType,
-    /// A composite, sub or recursive type (Core 3.0, Composite Types).
+    /// The byte that says of which form a type is. Where it can't be that of a recursive type or a sub type, it is
+    /// `0x5D` to `0x60` (Core 3.0, Composite Types).
     TypeForm,
-    /// Whether a field or a global is mutable.
+    /// Whether a field or a global is mutable: 0 or 1. That of a shared global is 2 or 3.
     Mutability,
     /// The flags of limits (Core 3.0, Limits).
     Limits,
     /// The flags of a memory type.
     MemoryFlags,
-    /// A table: its type, or its form with an initial value.
+    /// A table. After `0x40`, the byte 0 begins its form with an initial value.
     Table,
     /// The attribute of a tag type.
     TagAttribute,

@@ -1,7 +1,0 @@
-use Rattle.wasm_custom_sections.specs.formats.SymbolParts.{section}
-use Rattle.wasm_custom_sections.specs.formats.Symbols.{section_of}
-use Rattle.wasm_custom_sections.proofs.SymbolLaws.{adds_symbol}
-use Rattle.wasm_custom_sections.proofs.symbol_table.SymbolTable.section.Goals as goal
-
-pub returns : goal.returns
-returns c = record { adds = adds_symbol c.self.inside.symbols c.args.self.now c.add.new.self (section (section_of (c.args.flags, c.args.section))) c.add.result c.self.view_is c.add.ensures.count c.add.ensures.bytes c.add.ensures.written c.add.ensures.err c.add.ensures.refused }
