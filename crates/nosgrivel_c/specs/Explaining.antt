@@ -1,5 +1,5 @@
 -- Refusals as numbers for C: what the fields of a `nosgrivel_refusal` stand for.
-use Rattle.std.specs.Prelude.{◌≡◌, ℕ, ℤ, pos, negsuc, ◌^◌, ◌<◌, ◌-◌, ⊤, min, List, Option, Some, None, length, option_map}
+use Rattle.std.specs.Prelude.{◌≡◌, ℕ, ℤ, pos, negsuc, ◌^◌, ◌<◌, ◌-◌, ⊤, min, Bool, List, Option, Some, None, length, option_map}
 use Rattle.wasm_codec.specs.declared.reader.DecodeError.TheVariants as decode_errors
 use Rattle.wasm_codec.specs.declared.reader.malformed.Construct.{Construct}
 use Rattle.wasm_codec.specs.declared.reader.malformed.Construct.TheVariants as constructs
@@ -161,9 +161,9 @@ flat_accepted len = record {
 
 -- The numbers are those of a refusal of this input whose reason is true, whose offset lies in the input, and whose
 -- place counts what `Counts` says.
-pub record Explains (Counts : Refusal → Type 0) (input : List ℕ) (told : FlatRefusal) : Type 0 where
+pub record Explains (strict : Bool) (Counts : Refusal → Type 0) (input : List ℕ) (told : FlatRefusal) : Type 0 where
   pub refusal : Refusal
   pub numbers : told ≡ flat_refusal refusal
   pub place : LiesIn (length input) (decode_errors.Malformed refusal)
   pub counts : Counts (place_alone refusal)
-  pub why : IsTrueOf input (decode_errors.Malformed refusal)
+  pub why : IsTrueOf strict input (decode_errors.Malformed refusal)

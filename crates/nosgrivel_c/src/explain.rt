@@ -31,7 +31,7 @@ pub extern "C" fn nosgrivel_explain_module(
     ensures any { strict ≡ false → ChecksNormal whole_module.Encodes (IsModulePrefixOf module_section) input.now refusal.old.at refusal.new.at result }
     ensures status { refusal.new.status ≡ result }
     // The numbers are those of a refusal by the library.
-    ensures explained { result ≡ REFUSED → Explains (CountsParts (minimal_if strict module_section) input.now) input.now refusal.new }
+    ensures explained { result ≡ REFUSED → Explains strict (CountsParts (minimal_if strict module_section) input.now) input.now refusal.new }
     ensures accepted { result ≡ NORMAL → refusal.new ≡ flat_accepted (length input.now) }
 {
     if strict {
@@ -45,7 +45,7 @@ pub extern "C" fn nosgrivel_explain_module(
 fn explain_strict(alloc: Global, input: &[u8], refusal: &mut FlatRefusal) -> u32
     ensures checks { ChecksNormal ShortestWholeModule (IsModulePrefixOf (minimal_only module_section)) input.now refusal.old.at refusal.new.at result }
     ensures status { refusal.new.status ≡ result }
-    ensures explained { result ≡ REFUSED → Explains (CountsParts (minimal_if true module_section) input.now) input.now refusal.new }
+    ensures explained { result ≡ REFUSED → Explains true (CountsParts (minimal_if true module_section) input.now) input.now refusal.new }
     ensures accepted { result ≡ NORMAL → refusal.new ≡ flat_accepted (length input.now) }
 {
     explain(check::<WholeModule>(alloc, input), input, refusal)
@@ -55,7 +55,7 @@ fn explain_strict(alloc: Global, input: &[u8], refusal: &mut FlatRefusal) -> u32
 fn explain_any(alloc: Global, input: &[u8], refusal: &mut FlatRefusal) -> u32
     ensures checks { ChecksNormal whole_module.Encodes (IsModulePrefixOf module_section) input.now refusal.old.at refusal.new.at result }
     ensures status { refusal.new.status ≡ result }
-    ensures explained { result ≡ REFUSED → Explains (CountsParts (minimal_if false module_section) input.now) input.now refusal.new }
+    ensures explained { result ≡ REFUSED → Explains false (CountsParts (minimal_if false module_section) input.now) input.now refusal.new }
     ensures accepted { result ≡ NORMAL → refusal.new ≡ flat_accepted (length input.now) }
 {
     explain(check_any(alloc, input), input, refusal)
@@ -66,7 +66,7 @@ fn check_any(alloc: Global, input: &[u8]) -> Result<(), DecodeError>
     ensures checks { ChecksAll whole_module.Encodes (IsModulePrefixOf module_section) input.now (as_read result) }
     ensures place { IfErr result (LiesIn (length input.now)) }
     ensures counts { IfMalformed result (CountsParts (minimal_if false module_section) input.now) }
-    ensures why { IfErr result (IsTrueOf input.now) }
+    ensures why { IfErr result (IsTrueOf false input.now) }
 {
     match normalise::<WholeModule>(alloc, input) {
         Ok(_canonical) => Ok(()),

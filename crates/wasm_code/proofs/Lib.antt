@@ -4,6 +4,8 @@ pub mod ModuleLaws
 pub mod CodeBodyWriting
 pub mod SectionWalks
 pub mod ReasonLaws
+pub mod ReasonExclusion
+pub mod PrefixLaws
 pub mod SectionStops
 pub mod JudgedModules
 pub mod FunctionBodyLaws

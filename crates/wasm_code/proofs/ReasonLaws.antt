@@ -1,8 +1,10 @@
 -- What a check of a reason finds is what the reason says.
 use Rattle.std.proofs.Common.{◌≡◌, ◌<◌, ◌≤◌, ◌+◌, ◌||◌, ℕ, Bool, zero, suc, refl, [], ◌∷◌, nat_lt, arith, true, false, List, length, take, drop, Option, Some, None, Ok, nat_eq, subst, sym, ◌∙◌, ap}
-use Rattle.std.proofs.lemmas.Bool.{eqb-true, lt-ltb, le-ltb}
+use Rattle.std.proofs.lemmas.Bool.{eqb-true, eq-eqb, lt-ltb, le-ltb}
 use Rattle.std.proofs.Math.Seq.{take-length}
 use Rattle.std.specs.Str.{IsUtf8}
+use Rattle.std.specs.Str.Lossy.{utf8_valid_len}
+use Rattle.wasm_codec.proofs.Laws.{some_is}
 use Rattle.wasm_codec.specs.Inputs.{Took}
 use Rattle.wasm_codec.specs.Places.{Place, place, Reads, u32_at}
 use Rattle.wasm_codec.specs.Rewriter.{rewriting}
@@ -10,7 +12,7 @@ use Rattle.wasm_codec.specs.formats.Bodies.{body_at}
 use Rattle.wasm_instructions.specs.declared.table.opcode.Opcode.{Opcode}
 use Rattle.wasm_instructions.specs.formats.Opcodes.{opcode_kind}
 use Rattle.wasm_instructions.specs.formats.Instructions.{opcode}
-use Rattle.wasm_code.specs.Reasons.{BeginsWithU32, IsUnknownOpcode, IsNoName, ends_within, prefix_byte}
+use Rattle.wasm_code.specs.Reasons.{BeginsWithU32, HasBody, IsUnknownOpcode, IsNoName, ends_within, prefix_byte}
 
 -- among no bytes, none ends a number
 pub none_of_none : (most : ℕ) (bytes : List ℕ) → most ≡ 0 → false ≡ ends_within most bytes
@@ -57,14 +59,43 @@ unknown op prefix number bytes here after is reads before numbered none = record
   unknown = none;
 }
 
+-- a body that is taken whole is the body that is read
+pub found_body : (start size left : ℕ) (bytes body whole : List ℕ) (here after : Place) → here ≡ place true (drop start bytes) → body_at here ≡ Some (whole, after) → size ≡ length whole → left ≡ length after.left → body ≡ take size whole → HasBody start bytes body left
+found_body start size left bytes body whole here after is reads sized lefts taken = record {
+  after = after;
+  is_read = subst (λ (p : Place). body_at p ≡ Some (whole, after)) is reads ∙ ap (λ (b : List ℕ). Some (b, after)) (sym (taken ∙ ap (λ (n : ℕ). take n whole) sized ∙ take-length whole));
+  left_is = sym lefts;
+}
+
 -- a body that isn't UTF-8 is no name
-pub no_name : (at offset start size left : ℕ) (body : Option ℕ) (bytes named name text : List ℕ) (here after : Place) → body ≡ Some start → named ≡ drop start bytes → here ≡ place true named → body_at here ≡ Some (name, after) → size ≡ length name → left ≡ length after.left → text ≡ take size name → (IsUtf8 text → ⊥) → nat_eq (offset + (size + left)) (length bytes + at) ≡ true → IsNoName at offset body bytes
-no_name at offset start size left body bytes named name text here after begins rest is reads sized lefts taken not_utf8 sum = record {
+pub no_name : (at offset start left : ℕ) (body : Option ℕ) (bytes name : List ℕ) → body ≡ Some start → HasBody start bytes name left → (IsUtf8 name → ⊥) → at ≡ utf8_valid_len name → nat_eq (offset + (length name + left)) (length bytes + at) ≡ true → IsNoName at offset body bytes
+no_name at offset start left body bytes name starts_at has not_utf8 valid sum = record {
   start = start;
   name = name;
-  after = after;
-  body_is = begins;
-  is_read = subst (λ (p : Place). body_at p ≡ Some (name, after)) (is ∙ ap (place true) rest) reads;
-  no_name = λ utf8. not_utf8 (subst IsUtf8 (sym (taken ∙ ap (λ (n : ℕ). take n name) sized ∙ take-length name)) utf8);
-  offset_is = ap (λ (n : ℕ). offset + (n + length after.left)) (sym sized) ∙ ap (λ (n : ℕ). offset + (size + n)) (sym lefts) ∙ eqb-true (offset + (size + left)) (length bytes + at) sum;
+  after = has.after;
+  body_is = starts_at;
+  is_read = has.is_read;
+  no_name = not_utf8;
+  valid = valid;
+  offset_is = ap (λ (n : ℕ). offset + (length name + n)) has.left_is ∙ eqb-true (offset + (length name + left)) (length bytes + at) sum;
 }
+
+-- the name that isn't UTF-8 is the body
+pub is_that_body : (at offset start left : ℕ) (body : Option ℕ) (bytes name : List ℕ) → body ≡ Some start → HasBody start bytes name left → (invalid : IsNoName at offset body bytes) → (invalid.name ≡ name) × (length invalid.after.left ≡ left)
+is_that_body at offset start left body bytes name starts_at has invalid = (ap (λ (x : List ℕ × Place). x.0) same, ap (λ (x : List ℕ × Place). length x.1.left) same ∙ has.left_is) where
+  starts : invalid.start ≡ start
+  starts = some_is invalid.start start (sym invalid.body_is ∙ starts_at)
+
+  same : ◌≡◌ {A = List ℕ × Place} (invalid.name, invalid.after) (name, has.after)
+  same = some_is (invalid.name, invalid.after) (name, has.after) (sym invalid.is_read ∙ (ap (λ (n : ℕ). body_at (place true (drop n bytes))) starts ∙ has.is_read))
+
+pub is_utf8_body : (at offset start left : ℕ) (body : Option ℕ) (bytes name : List ℕ) → body ≡ Some start → HasBody start bytes name left → IsUtf8 name → IsNoName at offset body bytes → ⊥
+is_utf8_body at offset start left body bytes name starts_at has utf8 invalid = invalid.no_name (subst IsUtf8 (sym (is_that_body at offset start left body bytes name starts_at has invalid).0) utf8)
+
+pub is_valid_len : (at offset start left : ℕ) (body : Option ℕ) (bytes name : List ℕ) → body ≡ Some start → HasBody start bytes name left → IsNoName at offset body bytes → at ≡ utf8_valid_len name
+is_valid_len at offset start left body bytes name starts_at has invalid = invalid.valid ∙ ap utf8_valid_len (is_that_body at offset start left body bytes name starts_at has invalid).0
+
+pub sums_up : (at offset start left : ℕ) (body : Option ℕ) (bytes name : List ℕ) → body ≡ Some start → HasBody start bytes name left → IsNoName at offset body bytes → nat_eq (offset + (length name + left)) (length bytes + at) ≡ true
+sums_up at offset start left body bytes name starts_at has invalid = eq-eqb _ _ (ap (λ (n : List ℕ). offset + (length n + left)) (sym that.0) ∙ (ap (λ (n : ℕ). offset + (length invalid.name + n)) (sym that.1) ∙ invalid.offset_is)) where
+  that : (invalid.name ≡ name) × (length invalid.after.left ≡ left)
+  that = is_that_body at offset start left body bytes name starts_at has invalid

@@ -3,4 +3,5 @@ pub mod Modules
 pub mod CodeCounts
 pub mod PrefixFree
 pub mod Reasons
+pub mod DecodedPrefixes
 pub mod Judging

@@ -1,9 +1,11 @@
 -- What the reason of a refusal says of the bytes at its offset.
-use Rattle.std.specs.Prelude.{◌≡◌, ◌+◌, ◌-◌, ◌*◌, ◌<◌, ◌≤◌, ℕ, zero, suc, Bool, true, false, ◌||◌, ◌==◌, nat_lt, nat_le, ◌&&◌, List, [], ◌∷◌, ◌++◌, length, drop, Option, Some, None, ⊤}
+use Rattle.std.specs.Prelude.{◌≡◌, ◌+◌, ◌-◌, ◌*◌, ◌<◌, ◌≤◌, ℕ, zero, suc, Bool, true, false, ◌||◌, ◌==◌, nat_lt, nat_le, ◌&&◌, List, [], ◌∷◌, length, take, drop, Option, Some, None, ⊤}
 use Rattle.std.specs.Str.{IsUtf8}
+use Rattle.std.specs.Str.Lossy.{utf8_valid_len}
 use Rattle.wasm_codec.specs.Reading.{◌>>=◌}
 use Rattle.wasm_codec.specs.Places.{Place, place, u32_at, u64_at, s32_at, s64_at, index_at}
 use Rattle.wasm_codec.specs.Lawful.{head_of}
+use Rattle.wasm_codec.specs.Outcomes.{IsLongestPrefix}
 use Rattle.wasm_codec.specs.formats.Bodies.{body_at}
 use Rattle.wasm_codec.specs.declared.reader.DecodeError.{DecodeError}
 use Rattle.wasm_codec.specs.declared.reader.DecodeError.TheVariants as decode_errors
@@ -11,12 +13,12 @@ use Rattle.wasm_codec.specs.declared.reader.malformed.Construct.{Construct}
 use Rattle.wasm_codec.specs.declared.reader.malformed.Construct.TheVariants as parts
 use Rattle.wasm_codec.specs.declared.reader.malformed.Reason.{Reason}
 use Rattle.wasm_codec.specs.declared.reader.malformed.Reason.TheVariants as reasons
+use Rattle.wasm_codec.specs.declared.reader.refusal.Refusal.{Refusal}
 use Rattle.wasm_instructions.specs.declared.table.opcode.Opcode.{Opcode}
 use Rattle.wasm_instructions.specs.declared.table.opcode.Prefix.{Prefix}
 use Rattle.wasm_instructions.specs.declared.table.opcode.Prefix.TheVariants as prefixes
 use Rattle.wasm_instructions.specs.formats.Opcodes.{opcode_kind}
 use Rattle.wasm_instructions.specs.formats.Instructions.{opcode}
-use Rattle.wasm_code.specs.formats.Sections.{header}
 
 -- ---- where bodies end
 
@@ -115,7 +117,13 @@ pub record IsUnknownOpcode (prefix : Option ℕ) (number : ℕ) (bytes : List �
 
 -- ---- names
 
--- The body is a name that isn't UTF-8, and the offset lies this number of bytes behind its start.
+-- At this offset begins the size of this body, and this number of bytes follow after the body.
+pub record HasBody (start : ℕ) (bytes body : List ℕ) (left : ℕ) : Type 0 where
+  pub after : Place
+  pub is_read : body_at (place true (drop start bytes)) ≡ Some (body, after)
+  pub left_is : length after.left ≡ left
+
+-- The body is a name that isn't UTF-8. Its first `at` bytes are, no more of them are, and the offset lies behind these.
 pub record IsNoName (at offset : ℕ) (body : Option ℕ) (bytes : List ℕ) : Type 0 where
   pub start : ℕ
   pub name : List ℕ
@@ -123,6 +131,7 @@ pub record IsNoName (at offset : ℕ) (body : Option ℕ) (bytes : List ℕ) : T
   pub body_is : body ≡ Some start
   pub is_read : body_at (place true (drop start bytes)) ≡ Some (name, after)
   pub no_name : IsUtf8 name → ⊥
+  pub valid : at ≡ utf8_valid_len name
   pub offset_is : offset + (length name + length after.left) ≡ length bytes + at
 
 -- ---- modules
@@ -138,7 +147,17 @@ pub record HasOtherVersion (version : ℕ) (bytes : List ℕ) : Type 0 where
   pub version_is : version ≡ first + 256 * (second + 256 * (third + 256 * fourth))
   pub other : (version == 1) ≡ false
 
+-- The bytes don't begin with the magic number and a version.
+abbrev pub HasNoVersion : List ℕ → Type 0
+HasNoVersion bytes = (rest : List ℕ) → bytes ≡ 0x00 ∷ 0x61 ∷ 0x73 ∷ 0x6d ∷ rest → length rest < 4
+
 -- ---- reasons
+
+-- The part begins at this offset, in the body or in the input outside of bodies, and has this number of bytes.
+pub record LiesInBody (body : Option ℕ) (offset count : ℕ) (bytes : List ℕ) : Type 0 where
+  pub end : ℕ
+  pub end_is : end_of body bytes ≡ Some end
+  pub within : offset + count ≤ end
 
 -- The reason is true of the bytes at its offset, which it is about.
 abbrev pub HoldsAt : Reason → List ℕ → Type 0
@@ -153,21 +172,54 @@ HoldsAt reasons.StrayDelimiter bytes = head_of bytes ≡ Some 0x18
 HoldsAt (reasons.UnknownSection id) bytes = (head_of bytes ≡ Some id) × (13 < id)
 HoldsAt reason bytes = ⊥
 
--- The reason is true of the bytes at this offset, in the body whose size begins at `body`.
-abbrev pub Holds : Reason → Option ℕ → ℕ → List ℕ → Type 0
-Holds (reasons.UnexpectedEnd part) body offset bytes = end_of body bytes ≡ Some offset
-Holds reasons.MissingEnd body offset bytes = end_of body bytes ≡ Some offset
-Holds (reasons.TrailingBytes count) body offset bytes = (0 < count) × (end_of body bytes ≡ Some (offset + count))
-Holds (reasons.SizeTooLarge size left) body offset bytes = HasTooLargeSize size left (end_of body bytes) (drop offset bytes) bytes
-Holds (reasons.InvalidUtf8 at) body offset bytes = IsNoName at offset body bytes
-Holds reasons.NotAModule body offset bytes = (rest : List ℕ) → bytes ≡ header ++ rest → ⊥
-Holds (reasons.UnsupportedVersion version) body offset bytes = HasOtherVersion version bytes
-Holds (reasons.NotMinimal count minimal) body offset bytes = (minimal < count) × (offset + count ≤ length bytes)
-Holds reasons.LongForm body offset bytes = ⊤
-Holds reasons.Unexplained body offset bytes = ⊤
-Holds reason body offset bytes = HoldsAt reason (drop offset bytes)
+-- These are the bytes from the offset up to the end of the body, of which there are some.
+pub record IsInside (body : Option ℕ) (offset : ℕ) (bytes inside : List ℕ) : Type 0 where
+  pub end : ℕ
+  pub end_is : end_of body bytes ≡ Some end
+  pub before : offset < end
+  pub inside_is : inside ≡ take (end - offset) (drop offset bytes)
 
--- The reason that a call gives for refusing these bytes is true of them.
-abbrev pub IsTrueOf : List ℕ → DecodeError → Type 0
-IsTrueOf bytes decode_errors.Memory = ⊤
-IsTrueOf bytes (decode_errors.Malformed refusal) = Holds refusal.reason refusal.body refusal.offset bytes
+-- This holds of the bytes from the offset up to the end of the body, of which there are some.
+abbrev pub HoldsInside : (List ℕ → Type 0) → Option ℕ → ℕ → List ℕ → Type 0
+HoldsInside Is body offset bytes = (inside : List ℕ) × IsInside body offset bytes inside × Is inside
+
+-- The reason is true of the bytes at this offset, in the body whose size begins at `body`. Only if `strict`, it may be
+-- that a part isn't minimally encoded.
+abbrev pub Holds : Bool → Reason → Option ℕ → ℕ → List ℕ → Type 0
+Holds strict (reasons.UnexpectedEnd part) body offset bytes = end_of body bytes ≡ Some offset
+Holds strict reasons.MissingEnd body offset bytes = end_of body bytes ≡ Some offset
+Holds strict (reasons.TrailingBytes count) body offset bytes = (0 < count) × (end_of body bytes ≡ Some (offset + count))
+Holds strict (reasons.SizeTooLarge size left) body offset bytes = HasTooLargeSize size left (end_of body bytes) (drop offset bytes) bytes
+Holds strict (reasons.InvalidUtf8 at) body offset bytes = IsNoName at offset body bytes
+Holds strict reasons.NotAModule body offset bytes = (body ≡ None) × (offset ≡ 0) × HasNoVersion bytes
+Holds strict (reasons.UnsupportedVersion version) body offset bytes = (body ≡ None) × (offset ≡ 0) × HasOtherVersion version bytes
+Holds strict (reasons.NotMinimal count minimal) body offset bytes = (strict ≡ true) × (0 < minimal) × (minimal < count) × LiesInBody body offset count bytes
+Holds strict reasons.LongForm body offset bytes = (strict ≡ true) × LiesInBody body offset 1 bytes
+Holds strict reasons.Unexplained body offset bytes = ⊤
+Holds strict reason body offset bytes = HoldsInside (HoldsAt reason) body offset bytes
+
+-- The reason that a call gives for refusing these bytes is true of them. Only strict calls refuse what isn't minimally
+-- encoded.
+abbrev pub IsTrueOf : Bool → List ℕ → DecodeError → Type 0
+IsTrueOf strict bytes decode_errors.Memory = ⊤
+IsTrueOf strict bytes (decode_errors.Malformed refusal) = Holds strict refusal.reason refusal.body refusal.offset bytes
+
+-- ---- reasons of strict calls
+
+-- The reason agrees with the length of the longest prefix that decodes in any encoding. If it says that a part isn't
+-- minimally encoded, the part decodes; for any other reason, nothing more does.
+abbrev pub AgreesWith : ℕ → Refusal → Reason → Type 0
+AgreesWith len refusal (reasons.NotMinimal count minimal) = (refusal.at < len) × (refusal.offset + count ≤ len)
+AgreesWith len refusal reasons.LongForm = refusal.at < len
+AgreesWith len refusal reasons.Unexplained = ⊤
+AgreesWith len refusal reason = refusal.at ≡ len
+
+-- The reason of the error agrees with this length.
+abbrev pub ErrorAgreesWith : ℕ → DecodeError → Type 0
+ErrorAgreesWith len decode_errors.Memory = ⊤
+ErrorAgreesWith len (decode_errors.Malformed refusal) = AgreesWith len refusal refusal.reason
+
+-- The reason of a strict call agrees with the longest prefix that decodes in any encoding.
+abbrev pub TellsLonger : (List ℕ → Type 0) → List ℕ → DecodeError → Type 0
+TellsLonger IsPrefix bytes decode_errors.Memory = ⊤
+TellsLonger IsPrefix bytes (decode_errors.Malformed refusal) = (len : ℕ) × IsLongestPrefix IsPrefix bytes len × AgreesWith len refusal refusal.reason

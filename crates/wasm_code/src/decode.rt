@@ -1,12 +1,14 @@
 //! What is decoded from all of its bytes, and the five calls that read, check and normalise it.
-ghost use Rattle.std.specs.Prelude.{ℕ, Bool, true, false, List, ⊤, IfErr, length};
-ghost use Rattle.wasm_codec.specs.Outcomes.{IfMalformed, LiesIn, NeedsNoMemory, as_read};
+ghost use Rattle.std.specs.Prelude.{◌≡◌, ℕ, Bool, true, false, List, ⊤, IfErr, IfOk, IsOk, length};
+ghost use Rattle.wasm_codec.specs.Outcomes.{IfMalformed, IsLongestPrefix, LiesIn, NeedsNoMemory, as_read};
 ghost use Rattle.wasm_codec.specs.Lawful.{IsLawfulBody};
+ghost use Rattle.wasm_codec.specs.declared.reader.DecodeError.TheVariants.{Memory};
 ghost use Rattle.wasm_codec.specs.formats.Combinators.{Format};
-ghost use Rattle.wasm_code.specs.Reasons.{IsTrueOf};
+ghost use Rattle.wasm_code.specs.DecodedPrefixes.{ArePrefixes};
+ghost use Rattle.wasm_code.specs.Reasons.{IsTrueOf, TellsLonger};
 ghost use Rattle.wasm_codec.specs.Decoding.{IsMinimal, ReadsAll, ChecksAll, RewritesAll, Decodes, DecodesMinimal, Checks, NormalisesInPlace, Normalises};
 
-use crate::reasons::explained;
+use crate::reasons::{compared, explained};
 use std::alloc::Global;
 use wasm_codec::reader::DecodeError;
 
@@ -41,7 +43,7 @@ pub trait Decode<'a> {
     /// Which bytes are the minimal encoding of which value.
     ghost Minimal: { List ℕ → Value → Type 0 };
 
-    /// Which prefixes of the bytes decode.
+    /// Which prefixes of the bytes decode. Nothing does, and so does what encodes a value.
     ghost IsPrefix: { List ℕ → Type 0 };
 
     /// Which prefixes of the bytes are minimally encoded.
@@ -57,7 +59,9 @@ pub trait Decode<'a> {
     /// Tells the proof that the format is lawful. The call does nothing.
     fn is_lawful()
         ensures lawful { IsLawfulBody format }
-        ensures minimal { IsMinimal format Minimal };
+        ensures minimal { IsMinimal format Minimal }
+        ensures prefixes { ArePrefixes format.Encodes IsPrefix }
+        ensures minimal_prefixes { ArePrefixes Minimal IsMinimalPrefix };
 
     /// Reads the value from all of the bytes, in any encoding.
     fn read_all(alloc: Global, bytes: &'a [u8]) -> Result<Self::Output, DecodeError>
@@ -107,10 +111,10 @@ pub fn read<'a, T: Decode<'a>>(alloc: Global, bytes: &'a [u8]) -> Result<T::Outp
     ensures place { IfErr result (LiesIn (length bytes.now)) }
     ensures counts { IfMalformed result (T.Counts false bytes.now) }
     ensures memory { T.ReadsInPlace → NeedsNoMemory (as_read result) }
-    ensures why { IfErr result (IsTrueOf bytes.now) }
+    ensures why { IfErr result (IsTrueOf false bytes.now) }
 {
     T::is_lawful();
-    explained(T::read_all(alloc, bytes), bytes)
+    explained(T::read_all(alloc, bytes), bytes, false)
 }
 
 /// Reads the value that the bytes encode, if they are its minimal encoding.
@@ -136,10 +140,14 @@ pub fn read_strict<'a, T: Decode<'a>>(
     ensures place { IfErr result (LiesIn (length bytes.now)) }
     ensures counts { IfMalformed result (T.Counts true bytes.now) }
     ensures memory { T.ReadsInPlace → NeedsNoMemory (as_read result) }
-    ensures why { IfErr result (IsTrueOf bytes.now) }
+    ensures why { IfErr result (IsTrueOf true bytes.now) }
+    ensures longer { IfErr result (TellsLonger T.IsPrefix bytes.now) }
 {
     T::is_lawful();
-    explained(T::read_all_strict(alloc, bytes), bytes)
+    match explained(T::read_all_strict(alloc, bytes), bytes, true) {
+        Ok(value) => Ok(value),
+        Err(error) => Err(compared(error, readable_len::<T>(alloc, bytes)?)),
+    }
 }
 
 /// Checks whether the bytes are the minimal encoding of a value.
@@ -160,10 +168,47 @@ pub fn check<'a, T: Decode<'a>>(alloc: Global, bytes: &[u8]) -> Result<(), Decod
     ensures checks { Checks T.format T.Minimal T.IsMinimalPrefix bytes.now (as_read result) }
     ensures place { IfErr result (LiesIn (length bytes.now)) }
     ensures counts { IfMalformed result (T.Counts true bytes.now) }
-    ensures why { IfErr result (IsTrueOf bytes.now) }
+    ensures why { IfErr result (IsTrueOf true bytes.now) }
+    ensures longer { IfErr result (TellsLonger T.IsPrefix bytes.now) }
 {
     T::is_lawful();
-    explained(T::check_all(alloc, bytes), bytes)
+    match explained(T::check_all(alloc, bytes), bytes, true) {
+        Ok(()) => Ok(()),
+        Err(error) => Err(compared(error, rewritable_len::<T>(alloc, bytes)?)),
+    }
+}
+
+/// Returns the length of the longest prefix that decodes in any encoding. Fails with `Memory` if memory runs out, but
+/// never if reading allocates nothing.
+#[cold]
+#[tactic(auto, using(crate::proofs::PrefixLaws::read_is_longest))]
+fn readable_len<'a, T: Decode<'a>>(alloc: Global, bytes: &'a [u8]) -> Result<usize, DecodeError>
+    ensures len { IfOk result (IsLongestPrefix T.IsPrefix bytes.now) }
+    ensures err { IfErr result (λ e. e ≡ Memory) }
+    ensures memory { T.ReadsInPlace → IsOk result }
+{
+    T::is_lawful();
+    match T::read_all(alloc, bytes) {
+        Ok(_) => Ok(bytes.len()),
+        Err(DecodeError::Malformed(refusal)) => Ok(refusal.at),
+        Err(DecodeError::Memory) => Err(DecodeError::Memory),
+    }
+}
+
+/// Returns the length of the longest prefix that decodes in any encoding. Fails with `Memory` if there is no memory for a
+/// copy of the bytes.
+#[cold]
+#[tactic(auto, using(crate::proofs::PrefixLaws::rewritten_is_longest))]
+fn rewritable_len<'a, T: Decode<'a>>(alloc: Global, bytes: &[u8]) -> Result<usize, DecodeError>
+    ensures len { IfOk result (IsLongestPrefix T.IsPrefix bytes.now) }
+    ensures err { IfErr result (λ e. e ≡ Memory) }
+{
+    T::is_lawful();
+    match rewrite_copy::<T>(alloc, bytes) {
+        Ok(_) => Ok(bytes.len()),
+        Err(DecodeError::Malformed(refusal)) => Ok(refusal.at),
+        Err(DecodeError::Memory) => Err(DecodeError::Memory),
+    }
 }
 
 /// Returns the minimal encoding of the value that the bytes encode.
@@ -181,10 +226,10 @@ pub fn normalise<'a, T: Decode<'a>>(alloc: Global, bytes: &[u8]) -> Result<Vec<u
     ensures normalises { Normalises T.format T.Minimal T.IsPrefix bytes.now (as_read result) }
     ensures place { IfErr result (LiesIn (length bytes.now)) }
     ensures counts { IfMalformed result (T.Counts false bytes.now) }
-    ensures why { IfErr result (IsTrueOf bytes.now) }
+    ensures why { IfErr result (IsTrueOf false bytes.now) }
 {
     T::is_lawful();
-    explained(rewrite_copy::<T>(alloc, bytes), bytes)
+    explained(rewrite_copy::<T>(alloc, bytes), bytes, false)
 }
 
 /// Copies the bytes and rewrites the copy.

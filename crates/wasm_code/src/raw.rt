@@ -336,7 +336,7 @@ pub fn rewrite_raw_section(rewriter: &mut Rewriter) -> Result<(), Fault>
     ensures rewrites { Rewrites raw_section rewriter.old rewriter.new result }
 {
     let id = rewriter.byte_of(Construct::SectionId)?;
-    rewrite_section_body::<Bytes>(rewriter, id)
+    rewrite_section_body::<RawBytes>(rewriter, id)
 }
 
 impl Joinable for Section {
@@ -348,10 +348,10 @@ impl Joinable for Section {
     }
 }
 
-/// The body of a section, as bytes.
-struct Bytes;
+/// A body whose bytes stay as they are.
+pub struct RawBytes;
 
-impl RewritableBody for Bytes {
+impl RewritableBody for RawBytes {
     ghost Value = { List ℕ };
 
     ghost format = { bytes_to_end };

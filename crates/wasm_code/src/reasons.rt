@@ -1,13 +1,14 @@
 //! Checks that the reason of a refusal is true of the bytes, before a call gives it.
 //!
 //! Readers note reasons without a promise. Each check looks at the few bytes that a reason is about.
-ghost use Rattle.std.specs.Prelude.{◌≡◌, ◌<◌, ◌≤◌, ◌+◌, ◌-◌, true, false, ℕ, Some, None, drop, length, IfErr, IfSome};
+ghost use Rattle.std.specs.Prelude.{◌≡◌, ◌<◌, ◌≤◌, ◌+◌, ◌-◌, ◌↔◌, true, false, ℕ, List, Some, None, drop, length, IfErr, IfNone, IfSome};
 ghost use Rattle.wasm_codec.specs.Outcomes.{LiesIn, as_read, offsets_of, place_of_error, read_error_of, refused_place};
 ghost use Rattle.wasm_codec.specs.Lawful.{head_of};
+ghost use Rattle.wasm_codec.specs.Places.{place};
+ghost use Rattle.wasm_codec.specs.formats.Bodies.{body_at};
 ghost use Rattle.wasm_codec.specs.declared.reader.malformed.Reason.TheVariants.{TrailingBytes};
-ghost use Rattle.wasm_code.specs.Reasons.{BeginsWithU32, HasOtherVersion, HasTooLargeSize, Holds, HoldsAt, IsNoName, IsOutOfRangeOf, IsTrueOf, IsUnknownOpcode, begins_with, end_of, ends_within, prefix_byte, stands_for};
+ghost use Rattle.wasm_code.specs.Reasons.{AgreesWith, BeginsWithU32, ErrorAgreesWith, HasBody, HasNoVersion, HasOtherVersion, HasTooLargeSize, Holds, HoldsAt, IsInside, IsNoName, IsOutOfRangeOf, IsTrueOf, IsUnknownOpcode, LiesInBody, begins_with, end_of, ends_within, prefix_byte, stands_for};
 
-use crate::raw::after_header;
 use std::str;
 use wasm_codec::reader::DecodeError;
 use wasm_codec::reader::cursor::{Cursor, Fault};
@@ -17,30 +18,37 @@ use wasm_instructions::reader::take_opcode;
 use wasm_instructions::table::Prefix;
 
 /// Returns the same result, with a reason for a refusal that is true of the bytes.
-pub fn explained<T>(given: Result<T, DecodeError>, bytes: &[u8]) -> Result<T, DecodeError>
+pub fn explained<T>(
+    given: Result<T, DecodeError>,
+    bytes: &[u8],
+    strict: bool,
+) -> Result<T, DecodeError>
     ensures same { as_read result ≡ as_read given }
     ensures place { (len : ℕ) → IfErr given (LiesIn len) → IfErr result (LiesIn len) }
     ensures refused { refused_place result ≡ refused_place given }
-    ensures why { IfErr result (IsTrueOf bytes.now) }
+    ensures why { IfErr result (IsTrueOf strict bytes.now) }
+    // A reason that is true stays.
+    ensures kept { IfErr given (λ error. LiesIn (length bytes.now) error → IsTrueOf strict bytes.now error → IfErr result (λ e. e ≡ error)) }
 {
     match given {
         Ok(value) => Ok(value),
-        Err(error) => Err(explained_error(error, bytes)),
+        Err(error) => Err(explained_error(error, bytes, strict)),
     }
 }
 
 /// Returns the same error, with a reason that is true of the bytes.
 #[cold]
-fn explained_error(error: DecodeError, bytes: &[u8]) -> DecodeError
+fn explained_error(error: DecodeError, bytes: &[u8], strict: bool) -> DecodeError
     ensures error { read_error_of result ≡ read_error_of error }
     ensures place { offsets_of result ≡ offsets_of error }
     ensures refusal { place_of_error result ≡ place_of_error error }
-    ensures why { IsTrueOf bytes.now result }
+    ensures why { IsTrueOf strict bytes.now result }
+    ensures kept { LiesIn (length bytes.now) error → IsTrueOf strict bytes.now error → result ≡ error }
 {
     let DecodeError::Malformed(refusal) = error else {
         return DecodeError::Memory;
     };
-    if holds(refusal.reason, refusal.body, refusal.offset, bytes) {
+    if holds(&refusal, bytes, strict) {
         return DecodeError::Malformed(refusal);
     }
     DecodeError::Malformed(Refusal {
@@ -49,36 +57,98 @@ fn explained_error(error: DecodeError, bytes: &[u8]) -> DecodeError
     })
 }
 
-/// Checks whether the reason is true of the bytes at `offset`, in the body whose size begins at `body`.
-fn holds(reason: Reason, body: Option<usize>, offset: usize, bytes: &[u8]) -> bool
-    ensures { result ≡ true → Holds reason body offset bytes.now }
+/// Returns the same error of a strict call, with its reason only if that agrees with the length of the longest prefix that
+/// decodes in any encoding.
+pub(crate) fn compared(error: DecodeError, len: usize) -> DecodeError
+    ensures error { read_error_of result ≡ read_error_of error }
+    ensures place { offsets_of result ≡ offsets_of error }
+    ensures refusal { place_of_error result ≡ place_of_error error }
+    ensures why { (bytes : List ℕ) → IsTrueOf true bytes error → IsTrueOf true bytes result }
+    ensures agrees { ErrorAgreesWith len result }
 {
-    let Some(rest) = behind(bytes, offset) else {
-        return false;
+    let DecodeError::Malformed(refusal) = error else {
+        return DecodeError::Memory;
     };
-    match reason {
+    if agrees_with(&refusal, len) {
+        return DecodeError::Malformed(refusal);
+    }
+    DecodeError::Malformed(Refusal {
+        reason: Reason::Unexplained,
+        ..refusal
+    })
+}
+
+/// Checks whether the reason of a strict call agrees with the length of the longest prefix that decodes in any encoding.
+fn agrees_with(refusal: &Refusal, len: usize) -> bool
+    ensures { result ≡ true ↔ AgreesWith len refusal.now refusal.now.reason }
+{
+    match refusal.reason {
+        Reason::NotMinimal { bytes: count, .. } => match refusal.offset.checked_add(count) {
+            Some(end) => refusal.at < len && end <= len,
+            None => false,
+        },
+        Reason::LongForm => refusal.at < len,
+        Reason::Unexplained => true,
+        _ => refusal.at == len,
+    }
+}
+
+/// Checks whether the reason is true of the bytes at its offset, in the innermost body around them. Only `strict` calls
+/// refuse what isn't minimally encoded.
+fn holds(refusal: &Refusal, bytes: &[u8], strict: bool) -> bool
+    ensures is_true { result ≡ true → Holds strict refusal.now.reason refusal.now.body refusal.now.offset bytes.now }
+    ensures kept { refusal.now.offset ≤ length bytes.now → Holds strict refusal.now.reason refusal.now.body refusal.now.offset bytes.now → result ≡ true }
+{
+    let (body, offset) = (refusal.body, refusal.offset);
+    match refusal.reason {
         Reason::UnexpectedEnd { construct: _ } => ends_at(body, offset, bytes),
         Reason::MissingEnd => ends_at(body, offset, bytes),
         Reason::TrailingBytes { count } => has_trailing(count, body, offset, bytes),
         Reason::SizeTooLarge { size, left } => {
-            has_too_large_size(size, left, end_of(body, bytes), rest, bytes)
+            has_too_large_size(size, left, end_of(body, bytes), from(bytes, offset), bytes)
         }
         Reason::InvalidUtf8 { at } => is_no_name(at, offset, body, bytes),
-        Reason::NotAModule => after_header(bytes).is_none(),
-        Reason::UnsupportedVersion { version } => has_other_version(version, bytes),
+        Reason::NotAModule => body.is_none() && offset == 0 && has_no_version(bytes),
+        Reason::UnsupportedVersion { version } => {
+            body.is_none() && offset == 0 && has_other_version(version, bytes)
+        }
         Reason::NotMinimal {
             bytes: count,
             minimal,
-        } => minimal < count && count <= rest.len(),
-        Reason::LongForm => true,
+        } => strict && 0 < minimal && minimal < count && lies_in_body(body, offset, count, bytes),
+        Reason::LongForm => strict && lies_in_body(body, offset, 1, bytes),
         Reason::Unexplained => true,
-        other => holds_at(other, rest),
+        other => match inside(body, offset, bytes) {
+            Some(inside) => holds_at(other, inside),
+            None => false,
+        },
+    }
+}
+
+/// Checks whether this number of bytes from the offset on lie in the body, or in the input outside of bodies.
+fn lies_in_body(body: Option<usize>, offset: usize, count: usize, bytes: &[u8]) -> bool
+    ensures { result ≡ true ↔ LiesInBody body offset count bytes.now }
+{
+    match (end_of(body, bytes), offset.checked_add(count)) {
+        (Some(end), Some(after)) => after <= end,
+        _ => false,
+    }
+}
+
+/// Returns the bytes from the offset up to the end of the body. `None` means that there are none.
+fn inside(body: Option<usize>, offset: usize, bytes: &[u8]) -> Option<&[u8]>
+    ensures some { IfSome result (λ inside. IsInside body offset bytes.now inside.now) }
+    ensures none { IfNone result ((end : ℕ) → end_of body bytes.now ≡ Some end → end ≤ offset) }
+{
+    match end_of(body, bytes) {
+        Some(end) if offset < end => Some(&bytes[offset..end]),
+        _ => None,
     }
 }
 
 /// Checks whether a reason about the next bytes alone is true of them.
 fn holds_at(reason: Reason, bytes: &[u8]) -> bool
-    ensures { result ≡ true → HoldsAt reason bytes.now }
+    ensures { result ≡ true ↔ HoldsAt reason bytes.now }
 {
     match reason {
         Reason::NumberTooLong { most } => {
@@ -102,20 +172,20 @@ fn holds_at(reason: Reason, bytes: &[u8]) -> bool
     }
 }
 
-/// Returns the bytes from this offset on. `None` means that there are fewer.
-fn behind(bytes: &[u8], offset: usize) -> Option<&[u8]>
-    ensures rest { IfSome result (λ rest. rest.now ≡ drop offset bytes.now) }
-    ensures len { IfSome result (λ rest. length rest.now + offset ≡ length bytes.now) }
+/// Returns the bytes from this offset on: none if there are fewer.
+#[tactic(auto, using(std::proofs::lemmas::List::drop_all))]
+fn from(bytes: &[u8], offset: usize) -> &[u8]
+    ensures { result.now ≡ drop offset bytes.now }
 {
     if bytes.len() < offset {
-        return None;
+        return &[];
     }
-    Some(bytes.split_at(offset).1)
+    bytes.split_at(offset).1
 }
 
 /// Checks whether this is the next byte.
 fn is_next(byte: u8, bytes: &[u8]) -> bool
-    ensures { result ≡ true → head_of bytes.now ≡ Some byte }
+    ensures { result ≡ true ↔ head_of bytes.now ≡ Some byte }
 {
     match bytes {
         [first, ..] => *first == byte,
@@ -125,21 +195,37 @@ fn is_next(byte: u8, bytes: &[u8]) -> bool
 
 /// Returns the offset at which the body ends whose size begins at `body`. Outside of bodies it is the end of the bytes.
 fn end_of(body: Option<usize>, bytes: &[u8]) -> Option<usize>
-    ensures { IfSome result (λ end. end_of body bytes.now ≡ Some end) }
+    ensures { result ≡ end_of body bytes.now }
 {
     let Some(at) = body else {
         return Some(bytes.len());
     };
-    let mut cursor = Cursor::new(behind(bytes, at)?);
-    match cursor.body() {
-        Ok(_) => Some(bytes.len().saturating_sub(cursor.len())),
+    match body_at(at, bytes) {
+        Some((_, left)) => Some(bytes.len().saturating_sub(left)),
+        None => None,
+    }
+}
+
+/// Returns the body whose size begins at this offset, and the number of bytes after it.
+#[tactic(auto, using(crate::proofs::ReasonLaws::found_body))]
+fn body_at(start: usize, bytes: &[u8]) -> Option<(&[u8], usize)>
+    ensures found { IfSome result (λ found. HasBody start bytes.now found.0.now found.1) }
+    ensures none { IfNone result (body_at (place true (drop start bytes.now)) ≡ None) }
+{
+    let mut cursor = Cursor::new(from(bytes, start));
+    let Ok(mut body) = cursor.body() else {
+        return None;
+    };
+    let size = body.len();
+    match body.take(size, Construct::Body) {
+        Ok(body) => Some((body, cursor.len())),
         Err(_) => None,
     }
 }
 
 /// Checks whether the body, or the input outside of bodies, ends at this offset.
 fn ends_at(body: Option<usize>, offset: usize, bytes: &[u8]) -> bool
-    ensures { result ≡ true → end_of body bytes.now ≡ Some offset }
+    ensures { result ≡ true ↔ end_of body bytes.now ≡ Some offset }
 {
     match end_of(body, bytes) {
         Some(end) => end == offset,
@@ -149,7 +235,7 @@ fn ends_at(body: Option<usize>, offset: usize, bytes: &[u8]) -> bool
 
 /// Checks whether the body, or the input outside of bodies, has `count` bytes more.
 fn has_trailing(count: usize, body: Option<usize>, offset: usize, bytes: &[u8]) -> bool
-    ensures { result ≡ true → Holds (TrailingBytes count) body offset bytes.now }
+    ensures { result ≡ true ↔ Holds false (TrailingBytes count) body offset bytes.now }
 {
     match offset.checked_add(count) {
         Some(end) => count > 0 && ends_at(body, end, bytes),
@@ -173,7 +259,7 @@ fn ends_within(most: u32, bytes: &[u8]) -> bool
 
 /// Checks whether the bytes begin with a number that is out of range of this part.
 fn is_out_of_range(construct: Construct, bytes: &[u8]) -> bool
-    ensures { result ≡ true → IsOutOfRangeOf construct bytes.now }
+    ensures { result ≡ true ↔ IsOutOfRangeOf construct bytes.now }
 {
     let mut cursor = Cursor::new(bytes);
     match construct {
@@ -193,7 +279,7 @@ fn is_out_of_range(construct: Construct, bytes: &[u8]) -> bool
 /// Checks whether the bytes begin with this number.
 #[tactic(auto, using(crate::proofs::ReasonLaws::begins))]
 fn begins_with_u32(number: u32, bytes: &[u8]) -> bool
-    ensures { result ≡ true → BeginsWithU32 number bytes.now }
+    ensures { result ≡ true ↔ BeginsWithU32 number bytes.now }
 {
     let mut cursor = Cursor::new(bytes);
     let Ok(read) = cursor.u32() else {
@@ -205,7 +291,7 @@ fn begins_with_u32(number: u32, bytes: &[u8]) -> bool
 /// Checks whether `rest`, the last of the bytes, begins with this size, and whether the `left` bytes after it up to `end`
 /// are fewer.
 fn has_too_large_size(size: u32, left: usize, end: Option<usize>, rest: &[u8], bytes: &[u8]) -> bool
-    ensures { result ≡ true → HasTooLargeSize size left end rest.now bytes.now }
+    ensures { result ≡ true ↔ HasTooLargeSize size left end rest.now bytes.now }
 {
     let mut cursor = Cursor::new(rest);
     match (cursor.u32(), end) {
@@ -263,7 +349,7 @@ fn stands_for(construct: Construct, number: u32) -> bool
 
 /// Checks whether this byte, or none, comes before the number of an opcode with this prefix.
 fn is_prefix_byte(byte: Option<u8>, prefix: Prefix) -> bool
-    ensures { result ≡ true → prefix_byte prefix ≡ byte }
+    ensures { result ≡ true ↔ prefix_byte prefix ≡ byte }
 {
     match (prefix, byte) {
         (Prefix::None, None) => true,
@@ -278,7 +364,7 @@ fn is_prefix_byte(byte: Option<u8>, prefix: Prefix) -> bool
 /// Checks whether the bytes begin with this opcode, and it isn't in the table.
 #[tactic(auto, using(crate::proofs::ReasonLaws::unknown))]
 fn is_unknown_opcode(prefix: Option<u8>, number: u32, bytes: &[u8]) -> bool
-    ensures { result ≡ true → IsUnknownOpcode prefix number bytes.now }
+    ensures { result ≡ true ↔ IsUnknownOpcode prefix number bytes.now }
 {
     let mut cursor = Cursor::new(bytes);
     let Ok(op) = take_opcode(&mut cursor) else {
@@ -294,33 +380,36 @@ fn is_unknown_opcode(prefix: Option<u8>, number: u32, bytes: &[u8]) -> bool
 }
 
 /// Checks whether the body is a name that isn't UTF-8, and whether `offset` lies `at` bytes behind its start.
+#[tactic(auto, using(crate::proofs::ReasonLaws::is_utf8_body))]
 fn is_no_name(at: u32, offset: usize, body: Option<usize>, bytes: &[u8]) -> bool
-    ensures { result ≡ true → IsNoName at offset body bytes.now }
+    ensures { result ≡ true ↔ IsNoName at offset body bytes.now }
 {
     let Some(start) = body else {
         return false;
     };
-    let Some(named) = behind(bytes, start) else {
+    let Some((name, left)) = body_at(start, bytes) else {
         return false;
     };
-    let mut cursor = Cursor::new(named);
-    let Ok(mut name) = cursor.body() else {
+    let Err(error) = str::from_utf8(name) else {
         return false;
     };
-    let size = name.len();
-    let left = cursor.len();
-    let Ok(text) = name.take(size, Construct::Name) else {
-        return false;
-    };
-    let Err(_) = str::from_utf8(text) else {
-        return false;
-    };
-    offset as u128 + (size as u128 + left as u128) == bytes.len() as u128 + at as u128
+    error.valid_up_to() == at as usize
+        && offset as u128 + (name.len() as u128 + left as u128) == bytes.len() as u128 + at as u128
+}
+
+/// Checks whether the bytes don't begin with the magic number and a version.
+fn has_no_version(bytes: &[u8]) -> bool
+    ensures { result ≡ true ↔ HasNoVersion bytes.now }
+{
+    match bytes.strip_prefix(b"\0asm") {
+        Some(rest) => rest.len() < 4,
+        None => true,
+    }
 }
 
 /// Checks whether the bytes begin with the magic number and this version, which isn't 1.
 fn has_other_version(version: u32, bytes: &[u8]) -> bool
-    ensures { result ≡ true → HasOtherVersion version bytes.now }
+    ensures { result ≡ true ↔ HasOtherVersion version bytes.now }
 {
     match bytes {
         [0x00, 0x61, 0x73, 0x6d, first, second, third, fourth, ..] => {

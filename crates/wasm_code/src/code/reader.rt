@@ -7,9 +7,6 @@ ghost use Rattle.wasm_code.specs.declared.code.CodeBody.{CodeBody};
 ghost use Rattle.wasm_code.specs.formats.CodeBodies.{local_group, code_body, code_section_body, IsCodeSectionBodyPrefix, ShortestCodeSectionBody, IsShortestCodeSectionBodyPrefix};
 ghost use Rattle.wasm_codec.specs.Decoding.{Decodes, DecodesMinimal, Checks};
 ghost use Rattle.wasm_code.specs.PrefixFree.{CodeBodiesArePrefixFree};
-ghost use Rattle.wasm_codec.specs.Lawful.{IsLawful};
-ghost use Rattle.wasm_codec.specs.formats.Grammar.{TakesBytes};
-ghost use Rattle.wasm_codec.specs.Rewriter.{Rewrites};
 
 use crate::code::CodeBody;
 use crate::code::normaliser::read_local_group;
@@ -86,14 +83,9 @@ impl<'a> Readable<'a> for CodeBody {
 
     #[inline(always)]
     #[tactic(auto, using(crate::proofs::CodeBodyLaws::code_laws))]
-    fn is_lawful()
-        ensures lawful { IsLawful code_body }
-        ensures some { TakesBytes code_body.Encodes }
-    {}
+    fn is_lawful() {}
 
-    fn rewrite(rewriter: &mut Rewriter) -> Result<(), Fault>
-        ensures rewrites { Rewrites code_body rewriter.old rewriter.new result }
-    {
+    fn rewrite(rewriter: &mut Rewriter) -> Result<(), Fault> {
         <CodeBody as Rewritable>::rewrite(rewriter)
     }
 }

@@ -1,5 +1,10 @@
-use Rattle.wasm_code.proofs.ReasonLaws.{no_name}
+use Rattle.std.proofs.Common.{◌∙◌, sym}
+use Rattle.std.proofs.lemmas.Bool.{eqb-true, eq-eqb}
+use Rattle.wasm_code.proofs.ReasonLaws.{is_valid_len, no_name, sums_up}
 use Rattle.wasm_code.proofs.reasons.is_no_name.Goals as goal
 
-pub returns : goal.returns
-returns c sum = no_name c.args.at c.args.offset c.in-Some.start c.len-size.result c.len-left.result c.args.body c.args.bytes.now c.in-Some-behind.named.now c.in-Ok.name.left c.in-Ok-take.text.now c.new-cursor.result c.body.new.self c.in-Some.is c.in-Some-behind.ensures.rest c.new-cursor.ensures c.in-Ok.ensures.reads c.len-size.ensures c.len-left.ensures c.in-Ok-take.ensures.ok.0 c.in-Err.ensures.cases.0 sum
+pub returns-then-valid_up_to-at : goal.returns-then-valid_up_to-at
+returns-then-valid_up_to-at c = (no_name _ _ _ _ _ _ _ c.in-Some.is c.in-Some-body_at.ensures.found c.in-Err.ensures.cases.0 (sym c.if-valid_up_to-at.true ∙ (c.valid_up_to.ensures ∙ c.in-Err.ensures.valid_len)), sums_up _ _ _ _ _ _ _ c.in-Some.is c.in-Some-body_at.ensures.found)
+
+pub returns-else-valid_up_to-at : goal.returns-else-valid_up_to-at
+returns-else-valid_up_to-at c = (λ same. absurd (c.if-valid_up_to-at.false (eqb-true _ _ same)), λ invalid. eq-eqb _ _ (c.valid_up_to.ensures ∙ (c.in-Err.ensures.valid_len ∙ sym (is_valid_len _ _ _ _ _ _ _ c.in-Some.is c.in-Some-body_at.ensures.found invalid))))
