@@ -35,7 +35,7 @@ use Rattle.wasm_custom_sections.specs.declared.contents.Decoded.TheVariants as d
 use Rattle.wasm_custom_sections.specs.formats.Names.{name_data}
 use Rattle.wasm_custom_sections.specs.formats.Producers.{producers_field}
 use Rattle.wasm_custom_sections.proofs.ProducerLaws.{field_is_lawful}
-use Rattle.wasm_custom_sections.proofs.SizedContents.{list_body_is_lawful}
+use Rattle.wasm_sections.proofs.ModuleSectionLaws.{list_body_is_lawful}
 use Rattle.wasm_custom_sections.proofs.SubsectionLaws.{name_data_is_lawful}
 
 -- a name, and contents to the end

@@ -1,13 +1,11 @@
 //! The section `metadata.code.branch_hint`: which branches are likely taken (WebAssembly proposal, Branch Hinting).
-ghost use Rattle.std.specs.Prelude.{◌≡◌, ◌∷◌, ◌++◌, ◌⊎◌, Bool, List, [], refl, codes, OnOk, IfErr, length, take};
-ghost use Rattle.wasm_codec.specs.Encoding.{CanEncodeList, IsCount, IsCountRefusal, IsShortest, OnlyTooLong};
+ghost use Rattle.std.specs.Prelude.{◌≡◌, ◌∷◌, ◌++◌, Bool, [], refl, codes, OnOk, IfErr, length, take};
+ghost use Rattle.wasm_codec.specs.Encoding.{IsCount, IsCountRefusal, IsShortest, OnlyTooLong};
 ghost use Rattle.wasm_codec.specs.Lawful.{IsLawful};
 ghost use Rattle.wasm_codec.specs.Places.{Reads};
 ghost use Rattle.wasm_codec.specs.Rewriter.{Rewrites};
-ghost use Rattle.wasm_codec.specs.declared.encode.EncodeError.TheVariants.{Memory};
 ghost use Rattle.wasm_codec.specs.Outcomes.{IsMalformed};
 ghost use Rattle.wasm_codec.specs.formats.Bodies.{sized};
-ghost use Rattle.wasm_codec.specs.formats.Grammar.{TakesBytes};
 ghost use Rattle.wasm_custom_sections.specs.Gaining.{AddsNamed};
 ghost use Rattle.wasm_custom_sections.specs.declared.branch_hints.BranchHint.{BranchHint};
 ghost use Rattle.wasm_custom_sections.specs.declared.branch_hints.FunctionHints.{FunctionHints};
@@ -127,18 +125,13 @@ impl<'a> Readable<'a> for BranchHint {
 
     #[inline(always)]
     #[tactic(auto, using(crate::proofs::HintLaws::hint_is_lawful, crate::proofs::HintLaws::hint_takes))]
-    fn is_lawful()
-        ensures lawful { IsLawful branch_hint }
-        ensures some { TakesBytes branch_hint.Encodes }
-    {}
+    fn is_lawful() {}
 
     fn read(_alloc: Global, cursor: &mut Cursor<'a>) -> Result<BranchHint, Fault> {
         read_hint(cursor)
     }
 
-    fn rewrite(rewriter: &mut Rewriter) -> Result<(), Fault>
-        ensures rewrites { Rewrites branch_hint rewriter.old rewriter.new result }
-    {
+    fn rewrite(rewriter: &mut Rewriter) -> Result<(), Fault> {
         rewrite_hint(rewriter)
     }
 }
@@ -192,18 +185,13 @@ impl<'a> Readable<'a> for FunctionHints {
 
     #[inline(always)]
     #[tactic(auto, using(crate::proofs::HintLaws::hints_are_lawful, crate::proofs::HintLaws::hints_take))]
-    fn is_lawful()
-        ensures lawful { IsLawful function_hints }
-        ensures some { TakesBytes function_hints.Encodes }
-    {}
+    fn is_lawful() {}
 
     fn read(alloc: Global, cursor: &mut Cursor<'a>) -> Result<FunctionHints, Fault> {
         read_function_hints(alloc, cursor)
     }
 
-    fn rewrite(rewriter: &mut Rewriter) -> Result<(), Fault>
-        ensures rewrites { Rewrites function_hints rewriter.old rewriter.new result }
-    {
+    fn rewrite(rewriter: &mut Rewriter) -> Result<(), Fault> {
         rewrite_function_hints(rewriter)
     }
 }

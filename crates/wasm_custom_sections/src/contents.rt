@@ -13,7 +13,6 @@ ghost use Rattle.wasm_custom_sections.specs.formats.Names.{name_data};
 
 use crate::names::{AnySubsection, NameSection};
 use crate::producers::{Producers, ProducersSection};
-use crate::sized::ListOf;
 use std::alloc::{AllocError, Global};
 use std::marker::PhantomData;
 use wasm_code::decode::{Decode, normalise};
@@ -26,6 +25,7 @@ use wasm_codec::rewriter::Rewriter;
 use wasm_externals::names::rewrite_name;
 use wasm_lists::readable::Item;
 use wasm_lists::rewriting::{RewritableBody, rewrite_sized, rewrite_to_end};
+use wasm_sections::bodies::ListOf;
 use wasm_sections::custom::read_custom;
 
 /// Replaces the contents of a module's custom sections `name` and `producers` by their minimal encoding.

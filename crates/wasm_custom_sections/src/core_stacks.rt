@@ -19,6 +19,7 @@ ghost use Rattle.wasm_custom_sections.specs.CoreDumpSections.{HoldsStack, stack_
 ghost use Rattle.wasm_custom_sections.specs.NamedSections.{CountedNamed, IsNamedSection, named_bytes};
 ghost use Rattle.wasm_custom_sections.specs.declared.core_stacks.CoreDumpStackFrame.{CoreDumpStackFrame};
 ghost use Rattle.wasm_custom_sections.specs.formats.CoreStacks.{StackParts, all_stack_parts, core_frame, core_stack, frame_of, stack_parts};
+ghost use Rattle.wasm_code.specs.DecodedPrefixes.{ArePrefixes};
 
 use crate::core_values::CoreDumpValue;
 use crate::counted_bytes::CountedBytes;
@@ -101,18 +102,13 @@ impl<'a> Readable<'a> for CoreDumpStackFrame {
 
     #[inline(always)]
     #[tactic(auto, using(crate::proofs::CoreStackLaws::frame_is_lawful, crate::proofs::CoreStackLaws::frame_takes))]
-    fn is_lawful()
-        ensures lawful { IsLawful core_frame }
-        ensures some { TakesBytes core_frame.Encodes }
-    {}
+    fn is_lawful() {}
 
     fn read(alloc: Global, cursor: &mut Cursor<'a>) -> Result<CoreDumpStackFrame, Fault> {
         take_frame(alloc, cursor)
     }
 
-    fn rewrite(rewriter: &mut Rewriter) -> Result<(), Fault>
-        ensures rewrites { Rewrites core_frame rewriter.old rewriter.new result }
-    {
+    fn rewrite(rewriter: &mut Rewriter) -> Result<(), Fault> {
         take_frame(rewriter.allocator(), rewriter)?;
         Ok(())
     }
@@ -435,6 +431,8 @@ impl<'a> Decode<'a> for CoreDumpStackSection<'a> {
     fn is_lawful()
         ensures lawful { IsLawfulBody core_stack }
         ensures minimal { IsMinimal core_stack (minimal_only core_stack).Encodes }
+        ensures prefixes { ArePrefixes core_stack.Encodes (IsNothingOr core_stack) }
+        ensures minimal_prefixes { ArePrefixes (minimal_only core_stack).Encodes (IsNothingOr (minimal_only core_stack)) }
     {}
 
     fn read_all(alloc: Global, bytes: &'a [u8]) -> Result<CoreDumpStack<'a>, DecodeError> {

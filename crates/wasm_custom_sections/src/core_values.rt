@@ -2,11 +2,8 @@
 ghost use Rattle.std.specs.Prelude.{refl, IfErr};
 ghost use Rattle.wasm_codec.specs.Encoding.{IsShortest};
 ghost use Rattle.wasm_codec.specs.Inputs.{Passes, Takes};
-ghost use Rattle.wasm_codec.specs.Lawful.{IsLawful};
 ghost use Rattle.wasm_codec.specs.Outcomes.{IsMalformed};
-ghost use Rattle.wasm_codec.specs.Rewriter.{Rewrites};
 ghost use Rattle.wasm_codec.specs.formats.Combinators.{little_endian, s32 as s32_format, s64 as s64_format};
-ghost use Rattle.wasm_codec.specs.formats.Grammar.{TakesBytes};
 ghost use Rattle.wasm_custom_sections.specs.declared.core_values.CoreDumpValue.{CoreDumpValue};
 ghost use Rattle.wasm_custom_sections.specs.formats.CoreStacks.{core_value};
 
@@ -149,18 +146,13 @@ impl<'a> Readable<'a> for CoreDumpValue {
 
     #[inline(always)]
     #[tactic(auto, using(crate::proofs::CoreValueLaws::value_is_lawful, crate::proofs::CoreValueLaws::value_takes))]
-    fn is_lawful()
-        ensures lawful { IsLawful core_value }
-        ensures some { TakesBytes core_value.Encodes }
-    {}
+    fn is_lawful() {}
 
     fn read(_alloc: Global, cursor: &mut Cursor<'a>) -> Result<CoreDumpValue, Fault> {
         take_value(cursor)
     }
 
-    fn rewrite(rewriter: &mut Rewriter) -> Result<(), Fault>
-        ensures rewrites { Rewrites core_value rewriter.old rewriter.new result }
-    {
+    fn rewrite(rewriter: &mut Rewriter) -> Result<(), Fault> {
         take_value(rewriter)?;
         Ok(())
     }

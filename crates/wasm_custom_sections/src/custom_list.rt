@@ -1,10 +1,8 @@
 //! Custom sections whose contents are one list (Core 3.0, Custom Section and Lists).
-ghost use Rattle.std.specs.Prelude.{◌≡◌, ◌↔◌, ℕ, List, [], IsTrue, true, false, IfOk, IfErr, length};
-ghost use Rattle.wasm_codec.specs.Decoding.{ChecksAll, IsMinimal, RewritesAll};
+ghost use Rattle.std.specs.Prelude.{◌≡◌, ◌↔◌, ℕ, List, [], IsTrue, true, false, IfOk, IfErr};
 ghost use Rattle.wasm_codec.specs.Encoding.{OnlyTooLong};
-ghost use Rattle.wasm_codec.specs.Lawful.{IsLawful, IsLawfulBody};
+ghost use Rattle.wasm_codec.specs.Lawful.{IsLawful};
 ghost use Rattle.wasm_codec.specs.Lists.{CountsItems, IsListPrefix, IsListPrefixMinimalIf, ListMinimalIf};
-ghost use Rattle.wasm_codec.specs.Outcomes.{IfMalformed, LiesIn, as_read, NeedsNoMemory};
 ghost use Rattle.wasm_codec.specs.declared.encode.EncodeError.TheVariants.{Memory};
 ghost use Rattle.wasm_codec.specs.formats.Combinators.{Format, items};
 ghost use Rattle.wasm_externals.specs.Making.{Makes};
@@ -159,10 +157,7 @@ impl<'a, T: CustomItem + Readable<'a>> Decode<'a> for CustomList<T> {
     ghost Counts = { λ strict. CountsItems strict T.Readable.format };
 
     #[inline(always)]
-    fn is_lawful()
-        ensures lawful { IsLawfulBody (items T.Readable.format) }
-        ensures minimal { IsMinimal (items T.Readable.format) (ListMinimalIf true T.Readable.format) }
-    {
+    fn is_lawful() {
         <T as Readable>::is_lawful();
     }
 
@@ -174,20 +169,11 @@ impl<'a, T: CustomItem + Readable<'a>> Decode<'a> for CustomList<T> {
         read_list_to_end::<T, true>(alloc, bytes)
     }
 
-    fn check_all(alloc: Global, bytes: &[u8]) -> Result<(), DecodeError>
-        ensures checks { ChecksAll (ListMinimalIf true T.Readable.format) (IsListPrefixMinimalIf true T.Readable.format) bytes.now (as_read result) }
-        ensures place { IfErr result (LiesIn (length bytes.now)) }
-        ensures counts { IfMalformed result (CountsItems true T.Readable.format bytes.now) }
-    {
+    fn check_all(alloc: Global, bytes: &[u8]) -> Result<(), DecodeError> {
         check_list_to_end::<Item<'a, T>>(alloc, bytes)
     }
 
-    fn rewrite_all(bytes: Vec<u8>) -> Result<Vec<u8>, DecodeError>
-        ensures rewrites { RewritesAll (items T.Readable.format) (IsListPrefix T.Readable.format.Encodes) bytes.items (as_read result) }
-        ensures memory { NeedsNoMemory (as_read result) }
-        ensures place { IfErr result (LiesIn (length bytes.items)) }
-        ensures counts { IfMalformed result (CountsItems false T.Readable.format bytes.items) }
-    {
+    fn rewrite_all(bytes: Vec<u8>) -> Result<Vec<u8>, DecodeError> {
         rewrite_list_to_end::<Item<'a, T>>(bytes)
     }
 }

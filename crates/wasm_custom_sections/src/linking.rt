@@ -3,7 +3,7 @@
 ghost use Rattle.std.specs.Prelude.{◌≡◌, ◌∷◌, ◌++◌, ◌+◌, ◌-◌, ◌<◌, ◌≤◌, ◌⊎◌, ℕ, List, None, [], refl, codes, true, IfOk, IfErr, OnOk, length, ⊤};
 ghost use Rattle.std.proofs.lemmas.List.{map_push};
 ghost use Rattle.wasm_codec.specs.Decoding.{ChecksAll, IsMinimal, ReadsAll, RewritesAll};
-ghost use Rattle.wasm_codec.specs.Encoding.{byte_list_bytes, IsCount, IsRefusal, OnlyTooLong};
+ghost use Rattle.wasm_codec.specs.Encoding.{byte_list_bytes, OnlyTooLong};
 ghost use Rattle.wasm_codec.specs.Lawful.{IsLawful, IsLawfulBody};
 ghost use Rattle.wasm_codec.specs.Outcomes.{IfMalformed, LiesIn, as_read, read_error_of, IsMalformed, NeedsNoMemory};
 ghost use Rattle.wasm_codec.specs.Places.{Reads, WasMinimalIf, place};
@@ -22,14 +22,16 @@ ghost use Rattle.wasm_custom_sections.specs.LinkingSections.{HoldsLinking};
 ghost use Rattle.wasm_custom_sections.specs.NamedSections.{CountedNamed, IsNamedSection, named_bytes};
 ghost use Rattle.wasm_custom_sections.specs.formats.Linking.{LinkingParts, all_linking_parts, linking_data, linking_if, linking_parts, linking_subsection, symbols, version, versioned};
 ghost use Rattle.wasm_custom_sections.specs.formats.Symbols.{symbol};
+ghost use Rattle.wasm_code.specs.DecodedPrefixes.{ArePrefixes};
 
 use crate::counted_bytes::CountedBytes;
-use crate::sized::{ListOf, RawBody, read_sized_bytes, read_sized_list};
+use crate::sized::read_sized_bytes;
 use crate::symbol_table::SymbolTable;
 use crate::symbols::Symbol;
 use std::alloc::{Allocator, Global};
 use std::marker::Model;
 use wasm_code::decode::Decode;
+use wasm_code::raw::RawBytes;
 use wasm_codec::encode::EncodeError;
 use wasm_codec::reader::DecodeError;
 use wasm_codec::reader::cursor::{Cursor, Fault};
@@ -42,6 +44,7 @@ use wasm_lists::list::Items;
 use wasm_lists::readable::{Item, Readable};
 use wasm_lists::reading::read_items_to_end;
 use wasm_lists::rewriting::{Joinable, Rewritable, rewrite_joined, rewrite_sized};
+use wasm_sections::bodies::{ListOf, read_sized_list};
 use wasm_sections::custom::CustomSection;
 
 /// The version of linking sections.
@@ -85,7 +88,7 @@ fn rewrite_subsection(rewriter: &mut Rewriter) -> Result<(), Fault>
     if rewriter.byte_of(Construct::SubsectionId)? == 8 {
         return rewrite_sized::<ListOf<Item<'static, Symbol<'static>>>>(rewriter);
     }
-    rewrite_sized::<RawBody>(rewriter)
+    rewrite_sized::<RawBytes>(rewriter)
 }
 
 impl<'a> Readable<'a> for LinkingSubsection<'a> {
@@ -310,7 +313,7 @@ impl LinkingSection {
         }
     }
 
-    /// Adds a symbol table. The subsection has its symbols as they are encoded, also if they don't fit their flags.
+    /// Adds a symbol table.
     ///
     /// Fails with `TooLong` if the section already has 4,294,967,295 subsections or the symbols are longer than
     /// 4,294,967,295 bytes, and with `Memory` if the section can't grow.
@@ -388,6 +391,8 @@ impl<'a> Decode<'a> for LinkingSection {
     fn is_lawful()
         ensures lawful { IsLawfulBody linking_data }
         ensures minimal { IsMinimal linking_data (linking_if true).Encodes }
+        ensures prefixes { ArePrefixes linking_data.Encodes (IsNothingOr linking_data) }
+        ensures minimal_prefixes { ArePrefixes (linking_if true).Encodes (IsNothingOr (linking_if true)) }
     {}
 
     fn read_all(alloc: Global, bytes: &'a [u8]) -> Result<Vec<LinkingSubsection<'a>>, DecodeError> {

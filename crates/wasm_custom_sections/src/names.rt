@@ -1,8 +1,8 @@
 //! The name section: names of a module, its items, locals, labels and fields (Core 3.0, Name Section, and the proposal
 //! of extended name sections).
-ghost use Rattle.std.specs.Prelude.{◌≡◌, ◌++◌, ◌∷◌, ◌+◌, ◌<◌, ◌≤◌, ◌⊎◌, [], refl, codes, List, OnOk, OnErr, IfErr, IsErrOf, length, take, ⊤};
+ghost use Rattle.std.specs.Prelude.{◌≡◌, ◌++◌, ◌∷◌, ◌+◌, ◌<◌, ◌≤◌, ◌⊎◌, [], refl, codes, List, OnOk, OnErr, IfErr, IsErrOf, length, ⊤};
 ghost use Rattle.std.proofs.lemmas.List.{map_push};
-ghost use Rattle.wasm_codec.specs.Decoding.{ChecksAll, IsMinimal, ReadsAll, RewritesAll};
+ghost use Rattle.wasm_codec.specs.Decoding.{ChecksAll, IsMinimal, RewritesAll};
 ghost use Rattle.wasm_codec.specs.Encoding.{byte_list_bytes, IsCount, IsRefusal, IsShortest, IsTooLong, OnlyTooLong};
 ghost use Rattle.wasm_codec.specs.Lawful.{IsLawful, IsLawfulBody};
 ghost use Rattle.wasm_codec.specs.Outcomes.{IfMalformed, LiesIn, as_read, EncodesSome, NeedsNoMemory};
@@ -17,21 +17,20 @@ ghost use Rattle.wasm_externals.specs.formats.Names.{name as name_format};
 ghost use Rattle.wasm_custom_sections.specs.NamedSections.{CountedNamed, IsNamedSection, named_bytes};
 ghost use Rattle.wasm_custom_sections.specs.NameSections.{AddsName, AddsNames, HoldsNames, IsNameErrorOf, StandsForNames};
 ghost use Rattle.wasm_custom_sections.specs.declared.names.NameError.TheVariants as errors;
-ghost use Rattle.wasm_custom_sections.specs.formats.NameParts.{SubsectionParts, subsection_parts, all_subsection_parts, module_name, functions, locals, labels, types, tables, memories, globals, elements, data_segments, fields, tags};
+ghost use Rattle.wasm_custom_sections.specs.formats.NameParts.{SubsectionParts, subsection_parts, all_subsection_parts, functions, locals, labels, types, tables, memories, globals, elements, data_segments, fields, tags};
 ghost use Rattle.wasm_custom_sections.specs.formats.Names.{indirect_naming, name_data, name_subsection, naming};
+ghost use Rattle.wasm_code.specs.DecodedPrefixes.{ArePrefixes};
 
 mod indices;
 mod writer;
 
 use crate::name_maps::{AnyIndirectNaming, IndirectNameMap, IndirectNaming, NameMap, Naming};
-use crate::sized::{
-    ListOf, NameBody, RawBody, append_subsection, read_sized_bytes, read_sized_list,
-    read_sized_name,
-};
+use crate::sized::{NameBody, append_subsection, read_sized_bytes, read_sized_name};
 use std::alloc::{Allocator, Global};
 use std::marker::Model;
 use thiserror::Error;
 use wasm_code::decode::Decode;
+use wasm_code::raw::RawBytes;
 use wasm_codec::encode::{EncodeError, keep_or_undo};
 use wasm_codec::reader::DecodeError;
 use wasm_codec::reader::cursor::{Cursor, Fault};
@@ -44,6 +43,7 @@ use wasm_lists::list::Items;
 use wasm_lists::readable::{Item, Readable};
 use wasm_lists::reading::read_items_to_end;
 use wasm_lists::rewriting::{Joinable, Rewritable, rewrite_items_to_end, rewrite_sized};
+use wasm_sections::bodies::{ListOf, read_sized_list};
 use wasm_sections::custom::CustomSection;
 
 /// A subsection of a name section (Core 3.0, Name Section).
@@ -145,7 +145,7 @@ fn rewrite_subsection(rewriter: &mut Rewriter) -> Result<(), Fault>
         9 => rewrite_names(rewriter),
         10 => rewrite_indirect_names(rewriter),
         11 => rewrite_names(rewriter),
-        12.. => rewrite_sized::<RawBody>(rewriter),
+        12.. => rewrite_sized::<RawBytes>(rewriter),
     }
 }
 
@@ -525,6 +525,8 @@ impl<'a> Decode<'a> for NameSection {
     fn is_lawful()
         ensures lawful { IsLawfulBody name_data }
         ensures minimal { IsMinimal name_data (Joined (minimal_only name_subsection).Encodes) }
+        ensures prefixes { ArePrefixes name_data.Encodes (EncodesSome (Joined name_subsection.Encodes)) }
+        ensures minimal_prefixes { ArePrefixes (Joined (minimal_only name_subsection).Encodes) (EncodesSome (Joined (minimal_only name_subsection).Encodes)) }
     {}
 
     #[tactic(auto, using(wasm_codec::proofs::ListReading::none_within))]

@@ -1,44 +1,22 @@
-//! Contents that follow their size in bytes: a list, a name, or any bytes.
+//! Contents that follow their size in bytes: a name, any bytes, or what is written.
 ghost use Rattle.std.specs.Prelude.{◌≡◌, ◌∷◌, ◌++◌, ◌⊎◌, ℕ, List, Any, OnOk, IfErr, length, take};
 ghost use Rattle.std.specs.List.{All};
 ghost use Rattle.wasm_codec.specs.Encoding.{byte_list_bytes, CanEncodeList, IsCount, IsRefusal, IsTooLong};
 ghost use Rattle.wasm_codec.specs.Lists.{items_bytes};
-ghost use Rattle.wasm_codec.specs.Lawful.{IsLawfulBody};
 ghost use Rattle.wasm_codec.specs.Places.{Reads};
 ghost use Rattle.wasm_codec.specs.Reading.{map_ok};
-ghost use Rattle.wasm_codec.specs.declared.encode.EncodeError.TheVariants.{Memory, TooLong};
+ghost use Rattle.wasm_codec.specs.declared.encode.EncodeError.TheVariants.{TooLong};
 ghost use Rattle.wasm_codec.specs.Outcomes.{IsMalformed};
-ghost use Rattle.wasm_codec.specs.formats.Bodies.{sized, byte_list, bytes_to_end};
-ghost use Rattle.wasm_codec.specs.formats.Combinators.{items};
+ghost use Rattle.wasm_codec.specs.formats.Bodies.{sized, byte_list};
 ghost use Rattle.wasm_externals.specs.formats.Names.{name};
 
-use std::alloc::{Allocator, Global};
-use std::marker::PhantomData;
+use std::alloc::Allocator;
 use wasm_codec::encode::{EncodeError, put_size_before};
 use wasm_codec::reader::cursor::{Cursor, Fault};
 use wasm_codec::rewriter::Rewriter;
 use wasm_externals::names::{read_name, rewrite_name};
 use wasm_lists::encode::{Encode, encode_list};
-use wasm_lists::list::Items;
-use wasm_lists::readable::Readable;
-use wasm_lists::reading::read_list;
-use wasm_lists::rewriting::{Rewritable, RewritableBody, rewrite_list};
-
-/// Reads a size and a list that fills so many bytes.
-pub(crate) fn read_sized_list<'a, T: Readable<'a>>(
-    alloc: Global,
-    cursor: &mut Cursor<'a>,
-) -> Result<Items<T>, Fault>
-    ensures reads { Reads (sized (items T.format)).at cursor.old cursor.new (map_ok T.views result) }
-{
-    let mut body = cursor.body()?;
-    let items = read_list(alloc, &mut body)?;
-    if body.len() > 0 {
-        return Err(Fault::Malformed(body.trailing()));
-    }
-    cursor.set_shortest(body.is_shortest());
-    Ok(items)
-}
+use wasm_lists::rewriting::RewritableBody;
 
 /// Reads a size and a name that fills so many bytes.
 pub(crate) fn read_sized_name<'a>(cursor: &mut Cursor<'a>) -> Result<&'a str, Fault>
@@ -63,26 +41,6 @@ pub(crate) fn read_sized_bytes<'a>(cursor: &mut Cursor<'a>) -> Result<&'a [u8], 
     cursor.take_sized(size, start)
 }
 
-/// A list that fills a body.
-pub(crate) struct ListOf<T: Rewritable> {
-    _items: PhantomData<T>,
-}
-
-impl<T: Rewritable> RewritableBody for ListOf<T> {
-    ghost Value = { List T.Value };
-
-    ghost format = { items T.format };
-
-    #[inline(always)]
-    fn is_lawful() {
-        T::is_lawful();
-    }
-
-    fn rewrite(rewriter: &mut Rewriter) -> Result<(), Fault> {
-        rewrite_list::<T>(rewriter)
-    }
-}
-
 /// A name that fills a body.
 pub(crate) struct NameBody;
 
@@ -97,24 +55,6 @@ impl RewritableBody for NameBody {
 
     fn rewrite(rewriter: &mut Rewriter) -> Result<(), Fault> {
         rewrite_name(rewriter)
-    }
-}
-
-/// Any bytes, which stay as they are.
-pub(crate) struct RawBody;
-
-impl RewritableBody for RawBody {
-    ghost Value = { List ℕ };
-
-    ghost format = { bytes_to_end };
-
-    #[inline(always)]
-    #[tactic(auto, using(crate::proofs::SizedContents::raw_body_is_lawful))]
-    fn is_lawful() {}
-
-    fn rewrite(rewriter: &mut Rewriter) -> Result<(), Fault> {
-        rewriter.rest();
-        Ok(())
     }
 }
 

@@ -1,4 +1,5 @@
 pub use Rattle.wasm_instructions.proofs.DrainLaws
+pub use Rattle.wasm_code.proofs.PrefixLaws
 pub mod CodeSectionLaws
 pub mod TypeSectionLaws
 pub mod IteratorLaws

@@ -19,9 +19,11 @@ pub use Rattle.wasm_types.specs.TypeCounts
 pub use Rattle.wasm_instructions.specs.formats.Operands as OperandFormats
 pub use Rattle.wasm_instructions.specs.formats.Instructions as InstructionFormats
 pub use Rattle.wasm_instructions.specs.formats.Opcodes
+pub use Rattle.wasm_instructions.specs.formats.OpcodeNames
 pub use Rattle.wasm_instructions.specs.Appending
 pub use Rattle.wasm_code.specs.formats.CodeBodies as CodeFormats
 pub use Rattle.wasm_code.specs.CodeCounts
+pub use Rattle.wasm_code.specs.DecodedPrefixes
 pub use Rattle.wasm_code.specs.formats.Modules as ModuleFormats
 pub use Rattle.wasm_code.specs.formats.Sections
 pub use Rattle.wasm_code.specs.Judging
@@ -34,6 +36,7 @@ pub use Rattle.wasm_codec.specs.Reading
 pub use Rattle.wasm_codec.specs.Scanning
 pub use Rattle.wasm_instructions.specs.Instructions
 pub use Rattle.wasm_instructions.specs.MemArgs
+pub use Rattle.wasm_instructions.specs.Names as InstructionNames
 pub use Rattle.wasm_externals.specs.formats.Names as NameFormats
 pub use Rattle.wasm_externals.specs.formats.Externals as ExternalFormats
 pub use Rattle.wasm_externals.specs.ClosedExpressions

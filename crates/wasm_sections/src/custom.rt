@@ -10,6 +10,7 @@ ghost use Rattle.wasm_codec.specs.Outcomes.{IfMalformed, LiesIn, as_read, NeedsN
 ghost use Rattle.wasm_codec.specs.Encoding.{byte_list_bytes, IsRefusal, IsShortest, IsTooLong, OnlyTooLong};
 ghost use Rattle.wasm_sections.specs.formats.ModuleSectionParts.{custom};
 ghost use Rattle.wasm_sections.specs.SectionBytes.{CountedCustom, IsSectionAfter};
+ghost use Rattle.wasm_code.specs.DecodedPrefixes.{ArePrefixes};
 
 use crate::bodies::{WholeBody, are_bytes, rewrite_body};
 use std::alloc::{Allocator, Global};
@@ -143,10 +144,12 @@ impl<'a> Decode<'a> for CustomSection<'a> {
     ghost ReadsInPlace = { ⊤ };
 
     #[inline(always)]
-    #[tactic(auto, using(crate::proofs::CustomLaws::custom_is_lawful))]
+    #[tactic(auto, using(wasm_code::proofs::PrefixLaws::nothing_or, crate::proofs::CustomLaws::custom_is_lawful))]
     fn is_lawful()
         ensures lawful { IsLawfulBody custom_body }
         ensures minimal { IsMinimal custom_body (minimal_only custom_body).Encodes }
+        ensures prefixes { ArePrefixes custom_body.Encodes (IsNothingOr custom_body) }
+        ensures minimal_prefixes { ArePrefixes (minimal_only custom_body).Encodes (IsNothingOr (minimal_only custom_body)) }
     {}
 
     fn read_all(_alloc: Global, bytes: &'a [u8]) -> Result<CustomSection<'a>, DecodeError> {

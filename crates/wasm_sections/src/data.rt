@@ -9,7 +9,7 @@ ghost use Rattle.std.proofs.lemmas.List.{map_push};
 ghost use Rattle.wasm_codec.specs.formats.Grammar.{TakesBytes};
 ghost use Rattle.wasm_codec.specs.Lawful.{IsLawful};
 ghost use Rattle.wasm_codec.specs.Reading.{map_ok};
-ghost use Rattle.wasm_codec.specs.formats.Bodies.{byte_list, bytes_to_end};
+ghost use Rattle.wasm_codec.specs.formats.Bodies.{byte_list};
 ghost use Rattle.wasm_codec.specs.formats.Combinators.{◌⊗◌, items};
 ghost use Rattle.wasm_sections.specs.formats.EntryParts.{DataParts, data_parts, all_data_parts};
 ghost use Rattle.wasm_externals.specs.formats.Expressions.{expr};
@@ -24,6 +24,7 @@ use crate::bodies::are_bytes;
 use crate::list_section::{ListSection, SectionItem, add};
 use crate::segments::append_table_and_offset;
 use std::alloc::{Allocator, Global};
+use wasm_code::raw::RawBytes;
 use wasm_codec::encode::leb128::put_u32;
 use wasm_codec::encode::{EncodeError, keep_or_undo};
 use wasm_codec::reader::cursor::{Cursor, Fault};
@@ -35,7 +36,7 @@ use wasm_instructions::table::Call;
 use wasm_lists::encode::{Encode, encode_bytes};
 use wasm_lists::list::Items;
 use wasm_lists::readable::Readable;
-use wasm_lists::rewriting::{RewritableBody, rewrite_sized};
+use wasm_lists::rewriting::rewrite_sized;
 
 /// Mode of a data segment.
 #[derive(Debug, PartialEq, Eq, Drop)]
@@ -189,24 +190,6 @@ fn scan_byte_list(bytes: &[u8]) -> Option<usize>
         return None;
     }
     Some(1 + count)
-}
-
-/// All remaining bytes, unchanged.
-struct RawBytes;
-
-impl RewritableBody for RawBytes {
-    ghost Value = { List ℕ };
-
-    ghost format = { bytes_to_end };
-
-    #[inline(always)]
-    #[tactic(auto, using(crate::proofs::SegmentLaws::raw_bytes_are_lawful))]
-    fn is_lawful() {}
-
-    fn rewrite(rewriter: &mut Rewriter) -> Result<(), Fault> {
-        rewriter.rest();
-        Ok(())
-    }
 }
 
 /// Rewrites the offset and the contents of an active data segment to their minimal encodings.

@@ -9,8 +9,6 @@ ghost use Rattle.wasm_sections.specs.formats.Elements.{is_funcref, typed_of, typ
 ghost use Rattle.wasm_types.specs.formats.Types.{ref_type};
 ghost use Rattle.wasm_instructions.specs.formats.Instructions.{Instruction};
 ghost use Rattle.wasm_externals.specs.formats.Expressions.{expr};
-ghost use Rattle.wasm_codec.specs.Lawful.{IsLawful};
-ghost use Rattle.wasm_codec.specs.formats.Grammar.{TakesBytes};
 ghost use Rattle.std.specs.List.{All, Any, flat_map};
 ghost use Rattle.wasm_codec.specs.Encoding.{CanEncodeList, IsListRefusal, IsRefusal, IsShortest, OnlyTooLong, Refuses};
 ghost use Rattle.wasm_codec.specs.declared.encode.EncodeError.TheVariants.{Memory};
@@ -263,18 +261,13 @@ impl<'a> Readable<'a> for Element {
 
     #[inline(always)]
     #[tactic(auto, using(crate::proofs::ElementLaws::element_is_lawful, crate::proofs::ElementLaws::element_takes))]
-    fn is_lawful()
-        ensures lawful { IsLawful element_segment }
-        ensures some { TakesBytes element_segment.Encodes }
-    {}
+    fn is_lawful() {}
 
     fn read(alloc: Global, cursor: &mut Cursor<'a>) -> Result<Element, Fault> {
         read_element(alloc, cursor)
     }
 
-    fn rewrite(rewriter: &mut Rewriter) -> Result<(), Fault>
-        ensures rewrites { Rewrites element_segment rewriter.old rewriter.new result }
-    {
+    fn rewrite(rewriter: &mut Rewriter) -> Result<(), Fault> {
         rewrite_element(rewriter)
     }
 }

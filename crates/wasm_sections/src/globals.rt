@@ -5,9 +5,6 @@ ghost use Rattle.wasm_codec.specs.declared.rewriter.scan.Scanned.TheVariants.{Sh
 ghost use Rattle.wasm_codec.specs.Inputs.{Passes};
 ghost use Rattle.wasm_sections.specs.declared.globals.Global.{Global};
 ghost use Rattle.wasm_sections.specs.formats.Entries.{global_entry, global_of};
-ghost use Rattle.wasm_codec.specs.Lawful.{IsLawful};
-ghost use Rattle.wasm_codec.specs.formats.Grammar.{TakesBytes};
-ghost use Rattle.wasm_codec.specs.Rewriter.{Rewrites};
 ghost use Rattle.wasm_codec.specs.Encoding.{IsRefusal, IsShortest, OnlyTooLong};
 ghost use Rattle.wasm_sections.specs.ClosedEntries.{IsClosedGlobal, IsCountedGlobal};
 ghost use Rattle.wasm_sections.specs.SectionKinds.{global_section};
@@ -59,19 +56,14 @@ impl<'a> Readable<'a> for Global {
 
     #[inline(always)]
     #[tactic(auto, using(crate::proofs::EntryLaws::global_is_lawful, crate::proofs::EntryLaws::global_takes))]
-    fn is_lawful()
-        ensures lawful { IsLawful global_entry }
-        ensures some { TakesBytes global_entry.Encodes }
-    {}
+    fn is_lawful() {}
 
     fn read(alloc: Heap, cursor: &mut Cursor<'a>) -> Result<Global, Fault> {
         take_global(alloc, cursor)
     }
 
     #[inline(always)]
-    fn rewrite(rewriter: &mut Rewriter) -> Result<(), Fault>
-        ensures rewrites { Rewrites global_entry rewriter.old rewriter.new result }
-    {
+    fn rewrite(rewriter: &mut Rewriter) -> Result<(), Fault> {
         rewriter.are_bytes();
         if let Some(count) = scan_global(rewriter.left()) {
             rewriter.rewrite_scanned(Scanned::Shortest(count));

@@ -1,14 +1,11 @@
 //! The builder of a section that is a list, over any kind of item (Core 3.0, Lists).
-ghost use Rattle.std.specs.Prelude.{◌≡◌, ◌↔◌, List, [], IsTrue, ⊤, true, false, IfErr, length};
+ghost use Rattle.std.specs.Prelude.{◌≡◌, ◌↔◌, List, [], IsTrue, ⊤, true, false};
 ghost use Rattle.wasm_codec.specs.Encoding.{byte_list_bytes, OnlyTooLong};
-ghost use Rattle.wasm_codec.specs.Lawful.{IsLawfulBody};
 ghost use Rattle.wasm_codec.specs.formats.Combinators.{items};
 ghost use Rattle.wasm_lists.specs.EncodedLists.{CountedSection, IsRefusalOfOne, IsRefusalOfEach, body_bytes};
 ghost use Rattle.wasm_sections.specs.SectionKinds.{SectionOf};
 ghost use Rattle.wasm_sections.specs.ListSections.{StandsForItems, AddsIf, AddsEachIf, EncodesItems, IsWrittenList, LawfulItem};
 ghost use Rattle.wasm_externals.specs.Making.{Makes};
-ghost use Rattle.wasm_codec.specs.Decoding.{ChecksAll, RewritesAll, IsMinimal};
-ghost use Rattle.wasm_codec.specs.Outcomes.{IfMalformed, LiesIn, as_read, NeedsNoMemory};
 ghost use Rattle.wasm_codec.specs.Lists.{CountsItems, ListMinimalIf, IsListPrefix, IsListPrefixMinimalIf};
 
 use std::alloc::{Allocator, Global};
@@ -189,10 +186,7 @@ impl<'a, T: SectionItem + Readable<'a>> Decode<'a> for ListSection<T> {
     ghost Counts = { λ strict. CountsItems strict T.Readable.format };
 
     #[inline(always)]
-    fn is_lawful()
-        ensures lawful { IsLawfulBody (items T.Readable.format) }
-        ensures minimal { IsMinimal (items T.Readable.format) (ListMinimalIf true T.Readable.format) }
-    {
+    fn is_lawful() {
         <T as Readable>::is_lawful();
     }
 
@@ -204,20 +198,11 @@ impl<'a, T: SectionItem + Readable<'a>> Decode<'a> for ListSection<T> {
         read_list_to_end::<T, true>(alloc, bytes)
     }
 
-    fn check_all(alloc: Global, bytes: &[u8]) -> Result<(), DecodeError>
-        ensures checks { ChecksAll (ListMinimalIf true T.Readable.format) (IsListPrefixMinimalIf true T.Readable.format) bytes.now (as_read result) }
-        ensures place { IfErr result (LiesIn (length bytes.now)) }
-        ensures counts { IfMalformed result (CountsItems true T.Readable.format bytes.now) }
-    {
+    fn check_all(alloc: Global, bytes: &[u8]) -> Result<(), DecodeError> {
         check_list_to_end::<Item<'a, T>>(alloc, bytes)
     }
 
-    fn rewrite_all(bytes: Vec<u8>) -> Result<Vec<u8>, DecodeError>
-        ensures rewrites { RewritesAll (items T.Readable.format) (IsListPrefix T.Readable.format.Encodes) bytes.items (as_read result) }
-        ensures memory { NeedsNoMemory (as_read result) }
-        ensures place { IfErr result (LiesIn (length bytes.items)) }
-        ensures counts { IfMalformed result (CountsItems false T.Readable.format bytes.items) }
-    {
+    fn rewrite_all(bytes: Vec<u8>) -> Result<Vec<u8>, DecodeError> {
         rewrite_list_to_end::<Item<'a, T>>(bytes)
     }
 }

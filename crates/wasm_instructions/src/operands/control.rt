@@ -2,9 +2,6 @@
 //! casts.
 ghost use Rattle.std.specs.Prelude.{◌≡◌, refl};
 ghost use Rattle.wasm_codec.specs.Inputs.{Takes};
-ghost use Rattle.wasm_codec.specs.Lawful.{IsLawful};
-ghost use Rattle.wasm_codec.specs.Rewriter.{Rewrites};
-ghost use Rattle.wasm_codec.specs.formats.Grammar.{TakesBytes};
 ghost use Rattle.wasm_instructions.specs.declared.operands.control.BlockType.TheVariants as block_types;
 ghost use Rattle.wasm_instructions.specs.declared.operands.control.Catch.{Catch};
 ghost use Rattle.wasm_instructions.specs.declared.operands.control.Handle.{Handle};
@@ -190,14 +187,9 @@ impl<'a> Readable<'a> for Catch {
 
     #[inline(always)]
     #[tactic(auto, using(crate::proofs::OperandFormatLaws::item_laws))]
-    fn is_lawful()
-        ensures lawful { IsLawful catch_clause }
-        ensures some { TakesBytes catch_clause.Encodes }
-    {}
+    fn is_lawful() {}
 
-    fn rewrite(rewriter: &mut Rewriter) -> Result<(), Fault>
-        ensures rewrites { Rewrites catch_clause rewriter.old rewriter.new result }
-    {
+    fn rewrite(rewriter: &mut Rewriter) -> Result<(), Fault> {
         <Catch as Rewritable>::rewrite(rewriter)
     }
 }
@@ -234,14 +226,9 @@ impl<'a> Readable<'a> for Handle {
 
     #[inline(always)]
     #[tactic(auto, using(crate::proofs::OperandFormatLaws::item_laws))]
-    fn is_lawful()
-        ensures lawful { IsLawful handle_clause }
-        ensures some { TakesBytes handle_clause.Encodes }
-    {}
+    fn is_lawful() {}
 
-    fn rewrite(rewriter: &mut Rewriter) -> Result<(), Fault>
-        ensures rewrites { Rewrites handle_clause rewriter.old rewriter.new result }
-    {
+    fn rewrite(rewriter: &mut Rewriter) -> Result<(), Fault> {
         <Handle as Rewritable>::rewrite(rewriter)
     }
 }

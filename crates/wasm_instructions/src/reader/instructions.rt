@@ -7,9 +7,6 @@ ghost use Rattle.wasm_instructions.specs.Instructions.{IsCounted};
 ghost use Rattle.wasm_codec.specs.Decoding.{Decodes, DecodesMinimal, Checks};
 ghost use Rattle.wasm_instructions.specs.PrefixFree.{InstructionsArePrefixFree};
 ghost use Rattle.wasm_codec.specs.formats.Bodies.{to_end};
-ghost use Rattle.wasm_codec.specs.Lawful.{IsLawful};
-ghost use Rattle.wasm_codec.specs.formats.Grammar.{TakesBytes};
-ghost use Rattle.wasm_codec.specs.Rewriter.{Rewrites};
 
 use crate::operands::take_mem_arg;
 use crate::reader::lists::{read_calls_to_end, read_next_frequent_call};
@@ -128,14 +125,9 @@ impl<'a> Readable<'a> for Call {
 
     #[inline(always)]
     #[tactic(auto, using(crate::proofs::InstructionFormatLaws::instruction_laws))]
-    fn is_lawful()
-        ensures lawful { IsLawful instruction }
-        ensures some { TakesBytes instruction.Encodes }
-    {}
+    fn is_lawful() {}
 
-    fn rewrite(rewriter: &mut Rewriter) -> Result<(), Fault>
-        ensures rewrites { Rewrites instruction rewriter.old rewriter.new result }
-    {
+    fn rewrite(rewriter: &mut Rewriter) -> Result<(), Fault> {
         <Call as Rewritable>::rewrite(rewriter)
     }
 }

@@ -14,6 +14,7 @@ ghost use Rattle.wasm_sections.specs.formats.ModuleSections.{BreaksInList, OfKin
 ghost use Rattle.wasm_sections.specs.formats.Sections.{custom_body};
 ghost use Rattle.wasm_sections.specs.formats.Segments.{data_segment};
 
+use crate::bodies::read_sized_list;
 use crate::custom::Custom;
 use crate::data::DataSegment;
 use crate::elements::Element;
@@ -21,7 +22,7 @@ use crate::exports::Export;
 use crate::globals::Global as GlobalEntry;
 use crate::imports::Import;
 use crate::module_sections::ModuleSection;
-use crate::module_sections::reader::{read_sized_custom, read_sized_list, read_sized_number};
+use crate::module_sections::reader::{read_sized_custom, read_sized_number};
 use crate::numbers::Number;
 use crate::tables::Table;
 use std::alloc::Global;

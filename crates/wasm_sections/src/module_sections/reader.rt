@@ -23,9 +23,7 @@ use wasm_codec::reader::cursor::{Cursor, Fault};
 use wasm_codec::reader::malformed::Construct;
 use wasm_codec::rewriter::Rewriter;
 use wasm_externals::names::{read_name, read_short_name};
-use wasm_lists::list::Items;
 use wasm_lists::readable::Readable;
-use wasm_lists::reading::read_list;
 use wasm_lists::rewriting::{Rewritable, RewritableBody};
 
 impl<'a> Readable<'a> for ModuleSection<'a> {
@@ -57,25 +55,6 @@ impl<'a> Readable<'a> for ModuleSection<'a> {
     {
         rewrite_module_section(rewriter)
     }
-}
-
-/// Reads a size and a list that fills so many bytes.
-pub(crate) fn read_sized_list<'a, T: Readable<'a>>(
-    alloc: Global,
-    cursor: &mut Cursor<'a>,
-) -> Result<Items<T>, Fault>
-    ensures reads { Reads (sized (items T.format)).at cursor.old cursor.new (map_ok T.views result) }
-    ensures names { IfInItem result (BreaksInList T.format cursor.old.left) }
-{
-    // `fork` shows the proof that all remaining items are bytes.
-    let _start = cursor.fork();
-    let mut body = cursor.body()?;
-    let items = read_list(alloc, &mut body)?;
-    if body.len() > 0 {
-        return Err(Fault::Malformed(body.trailing()));
-    }
-    cursor.set_shortest(body.is_shortest());
-    Ok(items)
 }
 
 /// Reads a size and a number that fills so many bytes.

@@ -1,21 +1,20 @@
 //! Rewriting of single decoded sections.
-ghost use Rattle.std.specs.Prelude.{◌≡◌, ⊤, List, None};
+ghost use Rattle.std.specs.Prelude.{◌≡◌, ⊤, None};
 ghost use Rattle.wasm_codec.specs.formats.Grammar.{TakesBytes};
 ghost use Rattle.wasm_codec.specs.Lawful.{IsLawful, IsLawfulBody};
-ghost use Rattle.wasm_codec.specs.Lists.{BreaksAtItem};
 ghost use Rattle.wasm_codec.specs.Rewriter.{Rewrites};
 ghost use Rattle.wasm_codec.specs.Outcomes.{FailsMalformed, IfInItem};
 ghost use Rattle.wasm_codec.specs.formats.Bodies.{sized};
-ghost use Rattle.wasm_codec.specs.formats.Combinators.{items, u32 as u32_format};
+ghost use Rattle.wasm_codec.specs.formats.Combinators.{items};
 ghost use Rattle.wasm_sections.specs.formats.ModuleSections.{BreaksInList, BreaksInSection, module_section};
 ghost use Rattle.wasm_sections.specs.formats.ModuleSectionParts.{ModuleSectionParts};
 
+use crate::bodies::ListOf;
 use crate::module_sections::kinds::{SectionKind, SectionVisitor, visit_section};
-use std::marker::PhantomData;
 use wasm_codec::reader::cursor::Fault;
 use wasm_codec::reader::malformed::{Construct, Malformed, Reason};
 use wasm_codec::rewriter::{Rewriter, Scanned};
-use wasm_lists::rewriting::{Joinable, Rewritable, RewritableBody, rewrite_list, rewrite_sized};
+use wasm_lists::rewriting::{Joinable, Rewritable, RewritableBody, rewrite_sized};
 
 /// A section of any kind, decoded.
 pub struct AnySection;
@@ -42,28 +41,6 @@ impl Joinable for AnySection {
     #[inline(always)]
     fn scan(_bytes: &[u8]) -> Option<Scanned> {
         None
-    }
-}
-
-/// A section body that is a list.
-struct ListOf<T: Rewritable> {
-    _items: PhantomData<T>,
-}
-
-impl<T: Rewritable> RewritableBody for ListOf<T> {
-    ghost Value = { List T.Value };
-
-    ghost format = { items T.format };
-
-    ghost Breaks = { BreaksAtItem u32_format T.format };
-
-    #[inline(always)]
-    fn is_lawful() {
-        T::is_lawful();
-    }
-
-    fn rewrite(rewriter: &mut Rewriter) -> Result<(), Fault> {
-        rewrite_list::<T>(rewriter)
     }
 }
 

