@@ -4,7 +4,9 @@ Each crate is proved from nothing by one process, as many crates at a time as th
 file when it has checked a module, so the times of these files say what each module took. A function's modules are its
 contract, the borrow checker's part, and its proof.
 
-With --after-gate it takes the libraries that `rt ci` left, and otherwise first proves those that aren't kept.
+With --after-gate it takes the libraries that `rt ci` left, and otherwise first proves those that aren't kept. If it
+measures some crates only, the tables keep the rows of the others. They then end at the function that took least in the
+table before, since faster ones of other crates aren't known.
 """
 import collections
 import concurrent.futures
@@ -22,6 +24,9 @@ from parts.planted_kit import Fault, kit
 # How many functions and law files the table names.
 MOST = 20
 AFTER_GATE = "--after-gate"
+CRATES_HEADING = ["crate", "functions", "processor s"]
+THINGS_HEADING = ["function or law file", "s"]
+CRATES, THINGS = (f"| {' | '.join(heading)} |\n" for heading in (CRATES_HEADING, THINGS_HEADING))
 RUN = "import resource, subprocess, sys; subprocess.run(sys.argv[1:]); " \
       "print('processor', sum(resource.getrusage(resource.RUSAGE_CHILDREN)[:2]))"
 
@@ -80,17 +85,37 @@ def thing(crate, functions, part, name):
     return f"crates/{crate.name}/{part}/{'/'.join(words)}.antt" if file.exists() else f"{crate.name}: types"
 
 
-def crates_table(costs):
-    rows = [[f"`{it.crate}`", it.functions, times.seconds(it.processor)]
-            for it in sorted(costs, key=lambda it: -it.processor)]
-    rows.append(["all", sum(it.functions for it in costs), times.seconds(sum(it.processor for it in costs))])
-    return times.table(["crate", "functions", "processor s"], rows)
+def rows_in(page, heading):
+    """The rows of a table of the page that was written before, by their first cell."""
+    lines = page.partition(heading)[2].partition("\n\n")[0].splitlines()[1:]
+    cells = [[cell.strip() for cell in line.strip("| ").split("|")] for line in lines]
+    return {row[0].strip("`"): [float(cell.replace(",", "")) for cell in row[1:]] for row in cells if row[0] != "all"}
 
 
-def things_table(costs):
-    things = sum((it.things for it in costs), collections.Counter())
-    rows = [[f"`{name}`", f"{took:.0f}"] for name, took in things.most_common(MOST)]
-    return times.table(["function or law file", "s"], rows)
+def crates_table(costs, before):
+    """The table of crates. Those that weren't measured keep their rows."""
+    rows = rows_in(before, CRATES)
+    rows.update({it.crate: [it.functions, it.processor] for it in costs})
+    ordered = sorted(rows.items(), key=lambda it: -it[1][1])
+    ordered.append(("all", [sum(row[number] for row in rows.values()) for number in range(2)]))
+    names = (name if name == "all" else f"`{name}`" for name, _ in ordered)
+    cells = [[name, times.seconds(row[0]), times.seconds(row[1])] for name, (_, row) in zip(names, ordered)]
+    return times.table(CRATES_HEADING, cells)
+
+
+def things_table(costs, before):
+    """The table of functions and law files. Those of crates that weren't measured keep their rows."""
+    measured = {it.crate for it in costs}
+    kept = {name: row[0] for name, row in rows_in(before, THINGS).items() if crate_of(name) not in measured}
+    least = min(kept.values(), default=0)
+    things = sum((it.things for it in costs), collections.Counter(kept))
+    rows = [[f"`{name}`", f"{took:.0f}"] for name, took in things.most_common(MOST) if took >= least]
+    return times.table(THINGS_HEADING, rows)
+
+
+def crate_of(name):
+    """The crate of a row of functions and law files."""
+    return re.match(r"(?:crates/)?(\w+)", name)[1]
 
 
 def run(report, words):
@@ -105,5 +130,6 @@ def run(report, words):
     del held
     for cost in costs:
         report.passed(cost.crate)
-    text = "\n\n".join([crates_table(costs), things_table(costs), f"{times.machine()}."])
+    before = times.read("costs")
+    text = "\n\n".join([crates_table(costs, before), things_table(costs, before), f"{times.machine()}."])
     times.write("costs", text)

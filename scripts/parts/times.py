@@ -99,11 +99,23 @@ def calls_of(file):
     return [json.loads(line) for line in file.read_text("utf-8").splitlines()] if file.exists() else []
 
 
-def write(name, text):
-    """Puts a text into the page between the lines of this name."""
+def find(page, name):
+    """The lines of this name in the page, with those that enclose them."""
     begin, end = BEGIN.format(name), END.format(name)
-    page = PAGE.read_text("utf-8")
     found = re.search(rf"{re.escape(begin)}\n.*?{re.escape(end)}", page, re.DOTALL)
     if not found:
         raise SystemExit(f"{PAGE.name}: no lines {begin} and {end}")
+    return found
+
+
+def read(name):
+    """What the page has between the lines of this name."""
+    return find(PAGE.read_text("utf-8"), name)[0]
+
+
+def write(name, text):
+    """Puts a text into the page between the lines of this name."""
+    page = PAGE.read_text("utf-8")
+    found = find(page, name)
+    begin, end = BEGIN.format(name), END.format(name)
     PAGE.write_text(f"{page[:found.start()]}{begin}\n\n{text}\n\n{end}{page[found.end():]}", "utf-8")

@@ -2,6 +2,7 @@
 ghost use Rattle.std.specs.Prelude.{◌≡◌, IfSome, IfNone};
 
 use crate::sections::{LocatedSection, SectionTitle, SectionWalk};
+use std::alloc::Global;
 use std::fmt;
 
 /// The first sections that differ.
@@ -52,7 +53,11 @@ impl Difference<'_> {
 }
 
 /// Finds the first difference between two canonical forms. Returns `None` if they are equal.
-pub fn find_difference<'a>(first: &'a [u8], second: &'a [u8]) -> Option<Difference<'a>>
+pub fn find_difference<'a>(
+    alloc: Global,
+    first: &'a [u8],
+    second: &'a [u8],
+) -> Option<Difference<'a>>
     // `None` means that they are equal.
     ensures same { IfNone result (first.now ≡ second.now) }
     // A difference means that they are not.
@@ -61,14 +66,15 @@ pub fn find_difference<'a>(first: &'a [u8], second: &'a [u8]) -> Option<Differen
     if first == second {
         return None;
     }
-    Some(difference_of(first, second))
+    Some(difference_of(alloc, first, second))
 }
 
 /// Finds the first sections that differ.
-fn difference_of<'a>(first: &'a [u8], second: &'a [u8]) -> Difference<'a> {
-    let (mut firsts, mut seconds) = (SectionWalk::new(first), SectionWalk::new(second));
+fn difference_of<'a>(alloc: Global, first: &'a [u8], second: &'a [u8]) -> Difference<'a> {
+    let mut firsts = SectionWalk::new(alloc, first);
+    let mut seconds = SectionWalk::new(alloc, second);
     for number in 0..first.len() {
-        let (one, other) = (firsts.advance(), seconds.advance());
+        let (one, other) = (firsts.next(), seconds.next());
         match (one, other) {
             (Some(here), Some(there)) if is_same(&here, &there) => {}
             _ => {
@@ -93,53 +99,70 @@ fn is_same(first: &LocatedSection<'_>, second: &LocatedSection<'_>) -> bool {
 }
 
 /// Returns the length of the longest common prefix.
-fn common_len(first: &[u8], second: &[u8]) -> usize {
-    for (index, (one, other)) in first.iter().zip(second).enumerate() {
-        if one != other {
-            return index;
-        }
-    }
-    first.len().min(second.len())
+pub(crate) fn common_len(first: &[u8], second: &[u8]) -> usize {
+    let differ = first
+        .iter()
+        .zip(second)
+        .position(|(one, other)| one != other);
+    differ.unwrap_or(first.len().min(second.len()))
 }
 
 impl fmt::Display for Difference<'_> {
     fn fmt<W: fmt::Write>(&self, f: &mut fmt::Formatter<W>) -> fmt::Result {
-        let number = self.number;
         match (self.first, self.second) {
             (Some(first), Some(second)) if first.section.id == second.section.id => {
-                let title = SectionTitle(first.section);
-                let common = common_len(first.section.body, second.section.body);
-                let (here, there) = (first.offset_of(common), second.offset_of(common));
-                write!(
-                    f,
-                    "{title} section, offset {here:#x} in the first canonical form, offset {there:#x} in the second"
-                )
+                write_bodies(f, &first, &second)
             }
-            (Some(first), Some(second)) => {
-                let (here, there) = (SectionTitle(first.section), SectionTitle(second.section));
-                write!(
-                    f,
-                    "section {number}, offset {:#x}: {here} in the first canonical form, {there} in the second",
-                    first.at
-                )
-            }
-            (Some(only), None) => {
-                let title = SectionTitle(only.section);
-                write!(
-                    f,
-                    "{title} section, offset {:#x}: only in the first canonical form",
-                    only.at
-                )
-            }
-            (None, Some(only)) => {
-                let title = SectionTitle(only.section);
-                write!(
-                    f,
-                    "{title} section, offset {:#x}: only in the second canonical form",
-                    only.at
-                )
-            }
-            (None, None) => write!(f, "bytes after the last section"),
+            (Some(first), Some(second)) => write_sections(f, self.number, &first, &second),
+            (Some(only), None) => write_only(f, &only, "first"),
+            (None, Some(only)) => write_only(f, &only, "second"),
+            (None, None) => f.write_str("bytes after the last section"),
         }
     }
+}
+
+/// Writes that the bodies of two sections with one id differ.
+fn write_bodies<W: fmt::Write>(
+    f: &mut fmt::Formatter<W>,
+    first: &LocatedSection<'_>,
+    second: &LocatedSection<'_>,
+) -> fmt::Result {
+    let title = SectionTitle(first.section);
+    let common = common_len(first.section.body, second.section.body);
+    let (here, there) = (first.offset_of(common), second.offset_of(common));
+    write!(
+        f,
+        "{title} section, offset {here:#x} in the first canonical form, offset {there:#x} in the second"
+    )
+}
+
+/// Writes that two sections with this number have different ids.
+fn write_sections<W: fmt::Write>(
+    f: &mut fmt::Formatter<W>,
+    number: usize,
+    first: &LocatedSection<'_>,
+    second: &LocatedSection<'_>,
+) -> fmt::Result {
+    let (at, here, there) = (
+        first.at,
+        SectionTitle(first.section),
+        SectionTitle(second.section),
+    );
+    write!(
+        f,
+        "section {number}, offset {at:#x}: {here} in the first canonical form, {there} in the second"
+    )
+}
+
+/// Writes that only one canonical form has a section.
+fn write_only<W: fmt::Write>(
+    f: &mut fmt::Formatter<W>,
+    only: &LocatedSection<'_>,
+    side: &str,
+) -> fmt::Result {
+    let (title, at) = (SectionTitle(only.section), only.at);
+    write!(
+        f,
+        "{title} section, offset {at:#x}: only in the {side} canonical form"
+    )
 }

@@ -1,8 +1,54 @@
 //! Values of JSON.
-use serde_json::Value;
+use serde_json::{Map, ToValue, Value};
 use std::alloc::{AllocError, Global};
 use std::fmt::Write;
 use std::{fmt, io};
+
+/// An object to which members are added one by one.
+#[derive(Drop)]
+pub struct Object {
+    alloc: Global,
+    members: Map<String, Value>,
+}
+
+impl Object {
+    /// Returns an object without members.
+    pub fn new(alloc: Global) -> Object {
+        Object {
+            alloc,
+            members: Map::new(alloc),
+        }
+    }
+
+    /// Adds a member.
+    pub fn put<V: ToValue>(&mut self, name: &str, value: V) -> Result<(), AllocError> {
+        let value = value.to_value(self.alloc)?;
+        serde_json::put(&mut self.members, self.alloc, name, value)
+    }
+
+    /// Adds a member with a text. `None` becomes `null`.
+    pub fn put_text(&mut self, name: &str, text: Option<&str>) -> Result<(), AllocError> {
+        match text {
+            Some(text) => self.put(name, text),
+            None => self.put(name, Value::Null),
+        }
+    }
+
+    /// Adds a member with what a value displays.
+    pub fn put_display<D: fmt::Display>(
+        &mut self,
+        name: &str,
+        value: &D,
+    ) -> Result<(), AllocError> {
+        let text = format!(in self.alloc; "{value}")?;
+        self.put(name, text)
+    }
+
+    /// Returns the object as a value.
+    pub fn into_value(self) -> Value {
+        Value::Object(self.members)
+    }
+}
 
 /// Returns a text.
 pub fn text_value(alloc: Global, text: &str) -> Result<Value, AllocError> {

@@ -15,7 +15,7 @@ mod silent;
 mod types;
 mod values;
 
-use crate::sections::{LocatedSection, has_list, read_located};
+use crate::sections::{LocatedSection, SectionWalk, has_list};
 use choice::{list_chosen, list_heads};
 pub use choice::{Choice, Unmatched};
 use custom::list_custom;
@@ -183,23 +183,21 @@ pub fn list_module<L: Listing>(
     listing: &mut L,
 ) -> Result<(), Stop> {
     if choice.headers {
-        return list_heads(module, choice, listing);
+        return list_heads(alloc, module, choice, listing);
     }
     let names = ItemNames::find(alloc, module)?;
     let Some(rest) = after_header(module) else {
         return Err(Stop::Malformed);
     };
-    let mut cursor = Cursor::new(rest);
+    let mut left = rest.len();
     let mut spaces = IndexSpaces::new(&names);
-    for number in 0..rest.len() {
-        if cursor.len() == 0 {
-            break;
-        }
-        let Some(located) = read_located(&mut cursor, module.len()) else {
-            return Err(Stop::Malformed);
-        };
+    for (number, located) in SectionWalk::new(alloc, module).enumerate() {
+        left = left.saturating_sub(located.len);
         let head = SectionHead::new(number, located, module);
         list_chosen(alloc, &head, choice, &mut spaces, listing)?;
+    }
+    if left > 0 {
+        return Err(Stop::Malformed);
     }
     Ok(())
 }

@@ -1,18 +1,17 @@
 //! The report: the size of each section before and after, and the number of encodings that are not minimal.
-use crate::json::text_value;
+use crate::json::{Object, text_value};
 use crate::listing::Stop;
 use crate::sections::{
-    LocatedSection, SectionTitle, count_number, has_list, kind_name, longer_number, read_located,
+    LocatedSection, SectionTitle, SectionWalk, count_number, has_list, kind_name, longer_number,
 };
 use escaped_text::JsonText;
-use serde_json::{Value, json};
+use serde_json::Value;
 use std::alloc::{AllocError, Global};
 use std::{fmt, io};
 use wasm_code::decode::normalise;
 use wasm_code::section::{HEADER, RawSection};
 use wasm_codec::encode::leb128::u32_len;
 use wasm_codec::reader::DecodeError;
-use wasm_codec::reader::cursor::Cursor;
 use wasm_custom_sections::contents::{Decoded, contents_of};
 use wasm_custom_sections::names::NameSection;
 use wasm_custom_sections::producers::ProducersSection;
@@ -133,7 +132,7 @@ impl SectionFacts {
             id,
             len: located.len,
             number: if is_list { None } else { count_number(body) },
-            has_longer_size: located.has_longer_size,
+            has_longer_size: located.has_longer_size(),
             has_longer_count: is_list && longer_number(body) == Some(true),
         }
     }
@@ -246,7 +245,7 @@ impl<W: io::Write> SectionWatcher for Report<'_, W> {
             return;
         }
         // A malformed section has no row.
-        if let Some(located) = read_located(&mut Cursor::new(left), left.len()) {
+        if let Some(located) = SectionWalk::behind_header(self.alloc, left).next() {
             self.stop = self.look_at(&located).err();
         }
     }
@@ -345,30 +344,23 @@ impl ReportRow<'_> {
 
     /// Returns the row as JSON, without the name.
     fn value(&self, alloc: Global) -> Result<Value, AllocError> {
-        let kind = text_value(alloc, kind_name(self.facts.id))?;
-        let encodings = self.encodings_value(alloc)?;
-        let (number, id) = (self.number, self.facts.id);
-        let (before, after) = (self.facts.len, self.after);
-        json!(in alloc; {
-            "section": number,
-            "id": id,
-            "kind": kind,
-            "before": before,
-            "after": after,
-            "encodings": encodings
-        })
+        let mut object = Object::new(alloc);
+        object.put("section", self.number)?;
+        object.put("id", self.facts.id)?;
+        object.put("kind", kind_name(self.facts.id))?;
+        object.put("before", self.facts.len)?;
+        object.put("after", self.after)?;
+        object.put("encodings", self.encodings_value(alloc)?)?;
+        Ok(object.into_value())
     }
 
     /// Returns the numbers of encodings as JSON.
     fn encodings_value(&self, alloc: Global) -> Result<Value, AllocError> {
-        let (items, longer_items) = (self.items.count, self.items.longer);
-        let facts = self.facts;
-        let (longer_size, longer_count) = (facts.has_longer_size, facts.has_longer_count);
-        json!(in alloc; {
-            "items": items,
-            "longer_items": longer_items,
-            "longer_size": longer_size,
-            "longer_count": longer_count
-        })
+        let mut object = Object::new(alloc);
+        object.put("items", self.items.count)?;
+        object.put("longer_items", self.items.longer)?;
+        object.put("longer_size", self.facts.has_longer_size)?;
+        object.put("longer_count", self.facts.has_longer_count)?;
+        Ok(object.into_value())
     }
 }

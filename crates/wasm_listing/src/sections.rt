@@ -1,14 +1,19 @@
 //! The sections of a module: their offsets, and their titles in messages.
-ghost use Rattle.std.specs.Prelude.{◌≡◌};
+ghost use Rattle.std.specs.Iterator.{at_most};
+ghost use Rattle.std.specs.Prelude.{◌≡◌, ⊤};
 ghost use Rattle.wasm_code.specs.formats.Sections.{parts_of};
+ghost use Rattle.wasm_lists.specs.ItemReading.{most_left};
 ghost use Rattle.wasm_listing.specs.Ranks.{rank};
 
 use escaped_text::Escaped;
+use std::alloc::Global;
 use std::fmt;
-use wasm_code::raw::{after_header, read_section};
 use wasm_code::section::RawSection;
+use wasm_code::sections::read_sections;
+use wasm_codec::encode::leb128::u32_len;
 use wasm_codec::reader::cursor::Cursor;
 use wasm_codec::reader::names::section_names;
+use wasm_lists::item_reader::ItemReader;
 use wasm_modules::counting::ItemCounts;
 use wasm_modules::selection::custom_name;
 
@@ -25,54 +30,67 @@ pub struct LocatedSection<'a> {
     pub len: usize,
     /// The id and the body.
     pub section: RawSection<'a>,
-    /// Whether the size is not minimally encoded.
-    pub has_longer_size: bool,
 }
 
 impl LocatedSection<'_> {
     /// Returns the offset in the module of this offset in the body.
     pub fn offset_of(&self, in_body: usize) -> usize {
-        let header_len = self.len.saturating_sub(self.section.body.len());
-        self.at.saturating_add(header_len).saturating_add(in_body)
+        self.at
+            .saturating_add(self.header_len())
+            .saturating_add(in_body)
+    }
+
+    /// Checks whether the size isn't minimally encoded.
+    pub fn has_longer_size(&self) -> bool {
+        let size = u32::try_from(self.section.body.len()).unwrap_or(u32::MAX);
+        self.header_len() > 1 + u32_len(size)
+    }
+
+    /// Returns the length in bytes of the id and the size.
+    fn header_len(&self) -> usize {
+        self.len.saturating_sub(self.section.body.len())
     }
 }
 
 /// The sections of a module one after another, up to the first malformed one.
 #[derive(Drop)]
 pub struct SectionWalk<'a> {
-    cursor: Cursor<'a>,
-    /// Length of the module in bytes.
-    len: usize,
+    sections: ItemReader<'a, RawSection<'a>>,
 }
 
 impl<'a> SectionWalk<'a> {
-    /// Begins at the first section.
-    pub fn new(module: &'a [u8]) -> SectionWalk<'a> {
-        let sections = after_header(module).unwrap_or(&module[module.len()..]);
-        SectionWalk {
-            cursor: Cursor::new(sections),
-            len: module.len(),
+    /// Begins at the first section. A module without a header has none.
+    pub fn new(alloc: Global, module: &'a [u8]) -> SectionWalk<'a> {
+        match read_sections(alloc, module) {
+            Ok(sections) => SectionWalk { sections },
+            Err(_) => SectionWalk::behind_header(alloc, &[]),
         }
     }
 
-    /// Returns the next section.
-    pub fn advance(&mut self) -> Option<LocatedSection<'a>> {
-        read_located(&mut self.cursor, self.len)
+    /// Begins at the first of sections without a header. Their offsets are those in `bytes`.
+    pub fn behind_header(alloc: Global, bytes: &'a [u8]) -> SectionWalk<'a> {
+        SectionWalk {
+            sections: ItemReader::to_end(alloc, bytes),
+        }
     }
 }
 
-/// Reads the next section of a module that has `len` bytes. Returns `None` if it is malformed.
-pub fn read_located<'a>(cursor: &mut Cursor<'a>, len: usize) -> Option<LocatedSection<'a>> {
-    let left = cursor.len();
-    cursor.set_shortest(true);
-    match read_section(cursor) {
-        Ok(section) => Some(LocatedSection {
-            at: len.saturating_sub(left),
-            len: left.saturating_sub(cursor.len()),
-            section,
-            has_longer_size: !cursor.is_shortest(),
-        }),
-        Err(_) => None,
+impl<'a> Iterator for SectionWalk<'a> {
+    type Item = LocatedSection<'a>;
+
+    ghost next_gives = { λ _ _ _. ⊤ };
+
+    ghost remaining = { λ walk. at_most (most_left walk.sections) };
+
+    fn next(&mut self) -> Option<LocatedSection<'a>> {
+        match self.sections.next()? {
+            Ok((at, section)) => Some(LocatedSection {
+                at,
+                len: self.sections.offset().saturating_sub(at),
+                section,
+            }),
+            Err(_) => None,
+        }
     }
 }
 

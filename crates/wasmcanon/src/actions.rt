@@ -195,7 +195,7 @@ fn diff_modules(rt: &HostRuntime, request: &Request<'_>) -> Result<u8, AllocErro
     let Some(other) = canonical_form_at(rt, request, second, &mut results)? else {
         return Ok(results.finish());
     };
-    let difference = find_difference(&one, &other);
+    let difference = find_difference(rt.alloc(), &one, &other);
     if let Some(difference) = difference {
         results.deny();
         if !request.quiet {

@@ -63,11 +63,7 @@ fn find_longer_contents(alloc: Global, input: &[u8]) -> Result<Option<Refusal>, 
 
 /// Locates the first contents that aren't minimally encoded, in a module that has some.
 fn locate_longer(alloc: Global, input: &[u8]) -> Result<Refusal, AllocError> {
-    let mut sections = SectionWalk::new(input);
-    for number in 0..input.len() {
-        let Some(located) = sections.advance() else {
-            break;
-        };
+    for (number, located) in SectionWalk::new(alloc, input).enumerate() {
         if let Some(longer) = check_contents(alloc, located.section)? {
             let RawSection { id, .. } = located.section;
             let offset = located.offset_of(longer.offset);

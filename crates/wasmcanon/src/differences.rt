@@ -30,7 +30,7 @@ pub fn diff_all(rt: &HostRuntime, request: &Request<'_>) -> Result<u8, AllocErro
     }
     let printed = match accept_two(rt, request, one, other) {
         Ok((one, other)) => {
-            let difference = find_difference(&one, &other);
+            let difference = find_difference(rt.alloc(), &one, &other);
             let item = find_item(rt, request, [one.as_slice(), other.as_slice()], difference)?;
             let printed = listed.and_then(|_| end_parts(
                 rt,

@@ -6,7 +6,7 @@ use serde_json::{Value, json};
 use std::alloc::{AllocError, Global};
 use wasm_codec::reader::refusal::{Refusal, SectionPlace};
 use wasm_listing::diff::Difference;
-use wasm_listing::json::text_value;
+use wasm_listing::json::{Object, text_value};
 use wasm_listing::sections::kind_name;
 
 /// Returns the name of an input.
@@ -20,14 +20,13 @@ pub fn failure_value(
     input: Location<'_>,
     message: &FailureMessage<'_, '_, '_>,
 ) -> Result<Value, AllocError> {
-    let error = Value::String(format!(in alloc; "{message}")?);
-    match message.failure {
-        Failure::Refused { refusal, .. } => refused_value(alloc, input, "error", error, refusal),
-        _ => {
-            let file = file_value(alloc, input)?;
-            json!(in alloc; {"file": file, "error": error})
-        }
+    let mut object = Object::new(alloc);
+    object.put("file", input.word())?;
+    object.put_display("error", message)?;
+    if let Failure::Refused { refusal, .. } = message.failure {
+        put_refusal(&mut object, refusal)?;
     }
+    Ok(object.into_value())
 }
 
 /// Returns the members of the object for a module that failed, and the end of the object.
@@ -47,43 +46,26 @@ pub fn failure_members(
     String::from_str(alloc, text.as_str().strip_prefix("{").unwrap_or("}"))
 }
 
-/// Returns the result for a module that is refused: where and why, beside this member.
-fn refused_value(
-    alloc: Global,
-    input: Location<'_>,
-    name: &str,
-    value: Value,
-    refusal: &Refusal,
-) -> Result<Value, AllocError> {
-    let file = file_value(alloc, input)?;
-    let kind = kind_value(alloc, refusal.section)?;
-    let reason = Value::String(format!(in alloc; "{}", refusal.reason)?);
-    let section = refusal.section.map(|place| place.number);
-    let id = refusal.section.map(|place| place.id);
-    let (item, group, instruction) = (refusal.item, refusal.local_group, refusal.instruction);
-    let section_at = refusal.section.map(|_| refusal.at);
-    let offset = refusal.offset;
-    json!(in alloc; {
-        "file": file,
-        name: value,
-        "section": section,
-        "id": id,
-        "kind": kind,
-        "section_offset": section_at,
-        "item": item,
-        "local_group": group,
-        "instruction": instruction,
-        "offset": offset,
-        "reason": reason
-    })
+/// Adds where and why a module is refused.
+fn put_refusal(object: &mut Object, refusal: &Refusal) -> Result<(), AllocError> {
+    put_section(object, refusal.section, refusal.at)?;
+    object.put("item", refusal.item)?;
+    object.put("local_group", refusal.local_group)?;
+    object.put("instruction", refusal.instruction)?;
+    object.put("offset", refusal.offset)?;
+    object.put_display("reason", &refusal.reason)
 }
 
-/// Returns the name of a section. `Null` means that there is no section.
-fn kind_value(alloc: Global, section: Option<SectionPlace>) -> Result<Value, AllocError> {
-    match section {
-        Some(place) => text_value(alloc, kind_name(place.id)),
-        None => Ok(Value::Null),
-    }
+/// Adds the section that begins at `at`. Without a section, its members are `null`.
+fn put_section(
+    object: &mut Object,
+    section: Option<SectionPlace>,
+    at: usize,
+) -> Result<(), AllocError> {
+    object.put("section", section.map(|place| place.number))?;
+    object.put("id", section.map(|place| place.id))?;
+    object.put_text("kind", section.map(|place| kind_name(place.id)))?;
+    object.put("section_offset", section.map(|_| at))
 }
 
 /// Returns the result of a check.
@@ -92,22 +74,24 @@ pub fn verdict_value(
     input: Location<'_>,
     verdict: Verdict,
 ) -> Result<Value, AllocError> {
+    let mut object = Object::new(alloc);
+    object.put("file", input.word())?;
     match verdict {
-        Verdict::Canonical => {
-            let file = file_value(alloc, input)?;
-            json!(in alloc; {"file": file, "canonical": true})
-        }
+        Verdict::Canonical => object.put("canonical", true)?,
         Verdict::Longer(refusal) => {
-            refused_value(alloc, input, "canonical", Value::Bool(false), &refusal)
+            object.put("canonical", false)?;
+            put_refusal(&mut object, &refusal)?;
         }
     }
+    Ok(object.into_value())
 }
 
 /// Returns the digest of a canonical form.
 pub fn digest_value(alloc: Global, input: Location<'_>, digest: &str) -> Result<Value, AllocError> {
-    let file = file_value(alloc, input)?;
-    let digest = text_value(alloc, digest)?;
-    json!(in alloc; {"file": file, "sha256": digest})
+    let mut object = Object::new(alloc);
+    object.put("file", input.word())?;
+    object.put("sha256", digest)?;
+    Ok(object.into_value())
 }
 
 /// Returns the result of a comparison of two modules. `item` is the number of the first item that differs.
@@ -117,26 +101,29 @@ pub fn difference_value(
     difference: Option<Difference<'_>>,
     item: Option<u32>,
 ) -> Result<Value, AllocError> {
-    let first = file_value(alloc, first)?;
-    let second = file_value(alloc, second)?;
-    let Some(difference) = difference else {
-        return json!(in alloc; {"files": [first, second], "same": true});
-    };
-    let text = Value::String(format!(in alloc; "{difference}")?);
+    let mut object = Object::new(alloc);
+    let (first, second) = (first.word(), second.word());
+    object.put("files", json!(in alloc; [first, second])?)?;
+    object.put("same", difference.is_none())?;
+    if let Some(difference) = difference {
+        put_difference(&mut object, alloc, difference, item)?;
+    }
+    Ok(object.into_value())
+}
+
+/// Adds the first difference.
+fn put_difference(
+    object: &mut Object,
+    alloc: Global,
+    difference: Difference<'_>,
+    item: Option<u32>,
+) -> Result<(), AllocError> {
     let place = difference.place();
-    let kind = match place.id {
-        Some(id) => text_value(alloc, kind_name(id))?,
-        None => Value::Null,
-    };
-    let (section, id, here, there) = (place.section, place.id, place.first, place.second);
-    json!(in alloc; {
-        "files": [first, second],
-        "same": false,
-        "section": section,
-        "id": id,
-        "kind": kind,
-        "item": item,
-        "offsets": [here, there],
-        "difference": text
-    })
+    let (here, there) = (place.first, place.second);
+    object.put("section", place.section)?;
+    object.put("id", place.id)?;
+    object.put_text("kind", place.id.map(kind_name))?;
+    object.put("item", item)?;
+    object.put("offsets", json!(in alloc; [here, there])?)?;
+    object.put_display("difference", &difference)
 }

@@ -1,7 +1,6 @@
 //! Custom sections that keep offsets into the module. Once bytes have moved, these offsets are stale.
 use std::alloc::{AllocError, Global};
-use wasm_code::raw::{after_header, read_section};
-use wasm_codec::reader::cursor::Cursor;
+use wasm_listing::sections::SectionWalk;
 use wasm_modules::offsets::is_offset_name;
 use wasm_modules::selection::custom_name;
 
@@ -10,13 +9,8 @@ use wasm_modules::selection::custom_name;
 /// Fails if memory runs out.
 pub fn offset_names(alloc: Global, module: &[u8]) -> Result<Vec<String>, AllocError> {
     let mut names = Vec::new(alloc);
-    let rest = after_header(module).unwrap_or(&[]);
-    let mut cursor = Cursor::new(rest);
-    for _ in 0..rest.len() {
-        let Ok(section) = read_section(&mut cursor) else {
-            break;
-        };
-        if let Some(name) = custom_name(section) {
+    for located in SectionWalk::new(alloc, module) {
+        if let Some(name) = custom_name(located.section) {
             if is_offset_name(name) {
                 names.push(String::from_str(alloc, name)?)?;
             }

@@ -204,7 +204,7 @@ fn read_form<R: Input>(
     ensures unwritten { NeverWrites result }
 {
     let canonical = read_canonical(alloc, reader, any_order)?;
-    uses.note_module(&canonical.bytes);
+    uses.note_module(alloc, &canonical.bytes);
     let chosen = choose_sections(canonical.bytes, options.sections);
     let len = chosen.len();
     let bytes = with_contents(alloc, chosen, options.names)?;

@@ -2,8 +2,7 @@
 use canon_cli::request::Request;
 use canon_cli::text::UnusedPattern;
 use std::alloc::{AllocError, Global};
-use wasm_code::raw::{after_header, read_section};
-use wasm_codec::reader::cursor::Cursor;
+use wasm_listing::sections::SectionWalk;
 use wasm_modules::selection::{Pattern, custom_name};
 
 /// The patterns of the options `--strip` and `--keep`, and which of them have matched a custom section.
@@ -31,17 +30,12 @@ impl<'a> PatternUses<'a> {
     }
 
     /// Notes which patterns match a custom section of the module.
-    pub fn note_module(&mut self, module: &[u8]) {
+    pub fn note_module(&mut self, alloc: Global, module: &[u8]) {
         if self.uses.is_empty() {
             return;
         }
-        let rest = after_header(module).unwrap_or(&[]);
-        let mut cursor = Cursor::new(rest);
-        for _ in 0..rest.len() {
-            let Ok(section) = read_section(&mut cursor) else {
-                break;
-            };
-            if let Some(name) = custom_name(section) {
+        for located in SectionWalk::new(alloc, module) {
+            if let Some(name) = custom_name(located.section) {
                 self.note_name(name);
             }
         }

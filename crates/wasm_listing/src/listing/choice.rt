@@ -85,15 +85,12 @@ impl fmt::Display for Unmatched<'_> {
 
 /// Lists the sections of a module that are shown, without their items, up to the first malformed one.
 pub fn list_heads<L: Listing>(
+    alloc: Global,
     module: &[u8],
     choice: &mut Choice<'_>,
     listing: &mut L,
 ) -> Result<(), Stop> {
-    let mut sections = SectionWalk::new(module);
-    for number in 0..module.len() {
-        let Some(located) = sections.advance() else {
-            break;
-        };
+    for (number, located) in SectionWalk::new(alloc, module).enumerate() {
         if choice.shows(located.section) {
             listing.section(&SectionHead::new(number, located, module))?;
             listing.section_end()?;

@@ -255,50 +255,54 @@ fn list_name_subsection<L: Listing>(
 ) -> Result<(), Stop> {
     let mut subsection = out.subsection(parts)?;
     match name_kind(subsection.id) {
-        NameKind::Module => {
-            out.head(&subsection, "module name")?;
-            out.name(&mut subsection.body, "module")?;
-        }
-        NameKind::Items(title, kind) => {
-            let count = out.counted(&mut subsection, title)?;
-            list_namings(&mut subsection.body, count, kind, out)?;
-        }
+        NameKind::Module => list_module_name(&mut subsection, out),
+        NameKind::Items(title, kind) => list_namings(&mut subsection, title, kind, out),
         NameKind::Inner(title, kind, outer) => {
-            let count = out.counted(&mut subsection, title)?;
-            list_groups(&mut subsection.body, count, kind, outer, out)?;
+            list_groups(&mut subsection, title, kind, outer, out)
         }
-        NameKind::Unknown => return out.whole(parts, &subsection, ""),
+        NameKind::Unknown => out.whole(parts, &subsection, ""),
     }
+}
+
+/// Lists the name of the module.
+fn list_module_name<L: Listing>(
+    subsection: &mut Subsection<'_>,
+    out: &mut Contents<'_, L>,
+) -> Result<(), Stop> {
+    out.head(subsection, "module name")?;
+    out.name(&mut subsection.body, "module")?;
     out.end(&subsection.body)
 }
 
 /// Lists names of items.
 fn list_namings<'a, L: Listing>(
-    parts: &mut PartReader<'a>,
-    count: u32,
+    subsection: &mut Subsection<'a>,
+    title: &'static str,
     kind: &'static str,
     out: &mut Contents<'_, L>,
 ) -> Result<(), Stop> {
+    let count = out.counted(subsection, title)?;
     for _ in 0..count {
-        let (part, naming) = out.item::<Naming<'a>>(parts)?;
+        let (part, naming) = out.item::<Naming<'a>>(&mut subsection.body)?;
         out.add(&part, &CustomText::Naming(kind, naming))?;
     }
-    Ok(())
+    out.end(&subsection.body)
 }
 
 /// Lists names inside items.
 fn list_groups<L: Listing>(
-    parts: &mut PartReader<'_>,
-    count: u32,
+    subsection: &mut Subsection<'_>,
+    title: &'static str,
     kind: &'static str,
     outer: &'static str,
     out: &mut Contents<'_, L>,
 ) -> Result<(), Stop> {
+    let count = out.counted(subsection, title)?;
     for _ in 0..count {
-        let (index, names) = out.group(parts, outer)?;
-        list_inner(parts, names, kind, index, out)?;
+        let (index, names) = out.group(&mut subsection.body, outer)?;
+        list_inner(&mut subsection.body, names, kind, index, out)?;
     }
-    Ok(())
+    out.end(&subsection.body)
 }
 
 /// Lists names inside the item with this index.

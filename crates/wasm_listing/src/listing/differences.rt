@@ -1,4 +1,5 @@
 //! The parts in which two modules differ.
+use crate::diff::common_len;
 use crate::listing::{
     HeadText, IndexSpaces, ItemNames, ItemText, Listed, LocalsText, Part, PartReader, SectionHead,
     Silent, Stop, is_same, list_section,
@@ -82,9 +83,9 @@ struct Walk<'a> {
 }
 
 impl<'a> Walk<'a> {
-    fn new(module: &'a [u8]) -> Walk<'a> {
-        let mut sections = SectionWalk::new(module);
-        let next = sections.advance();
+    fn new(alloc: Global, module: &'a [u8]) -> Walk<'a> {
+        let mut sections = SectionWalk::new(alloc, module);
+        let next = sections.next();
         Walk {
             module,
             sections,
@@ -101,7 +102,7 @@ impl<'a> Walk<'a> {
 
     /// Goes on to the next section.
     fn go_on(&mut self) {
-        self.next = self.sections.advance();
+        self.next = self.sections.next();
         self.done = self.done.saturating_add(1);
     }
 }
@@ -117,7 +118,7 @@ pub fn list_differences<'a, D: Differences>(
     let second_names = ItemNames::find(alloc, second)?;
     let mut here = IndexSpaces::new(&first_names);
     let mut there = IndexSpaces::new(&second_names);
-    let (mut one, mut other) = (Walk::new(first), Walk::new(second));
+    let (mut one, mut other) = (Walk::new(alloc, first), Walk::new(alloc, second));
     for _ in 0..first.len().saturating_add(second.len()) {
         match next_sections(&mut one, &mut other) {
             Sections::None => break,
@@ -309,19 +310,33 @@ fn compare_items<'a, T: Readable<'a> + Listed, D: Differences>(
         let one = next_item::<T>(&mut pair.one, number, count)?;
         let other = next_item::<T>(&mut pair.other, number, other_count)?;
         if !are_same(pair.alloc, &one, &other)? {
-            let row = rows_of(&one, &other);
-            let first = item_side(pair.alloc, &one, here, row)?;
-            let second = item_side(pair.alloc, &other, there, row)?;
-            out.part(&pair.part(Some(number), first, second))?;
+            list_items(pair, number, (&one, here), (&other, there), out)?;
         }
-        if let Some((_, item)) = &one {
-            item.count(here);
-        }
-        if let Some((_, item)) = &other {
-            item.count(there);
-        }
+        count_item(&one, here);
+        count_item(&other, there);
     }
     Ok(())
+}
+
+/// Lists the different items with this number in two lists, each with the index spaces before it.
+fn list_items<'a, T: Listed, D: Differences>(
+    pair: &Pair<'a, 'a>,
+    number: u32,
+    (one, here): (&Option<(Part<'a>, T)>, &IndexSpaces<'_>),
+    (other, there): (&Option<(Part<'a>, T)>, &IndexSpaces<'_>),
+    out: &mut D,
+) -> Result<(), Stop> {
+    let row = rows_of(one, other);
+    let first = item_side(pair.alloc, one, here, row)?;
+    let second = item_side(pair.alloc, other, there, row)?;
+    out.part(&pair.part(Some(number), first, second))
+}
+
+/// Counts an item, if there is one.
+fn count_item<T: Listed>(item: &Option<(Part<'_>, T)>, spaces: &mut IndexSpaces<'_>) {
+    if let Some((_, item)) = item {
+        item.count(spaces);
+    }
 }
 
 /// Reads the item with this number, if the list has that many.
@@ -450,15 +465,26 @@ fn compare_custom<'a, D: Differences>(
         return Ok(());
     }
     let common = common_len(here.bytes, there.bytes);
-    let rows = [row_at(&here, common), row_at(&there, common)];
+    let first = contents_side(alloc, one, &here, common)?;
+    let second = contents_side(alloc, other, &there, common)?;
     out.part(&DifferentPart {
         section: one.located.section,
         first_number: Some(one.number),
         second_number: Some(other.number),
         item: None,
-        first: Some(head_side(alloc, one, Some(Detail::Row(rows[0])))?),
-        second: Some(head_side(alloc, other, Some(Detail::Row(rows[1])))?),
+        first: Some(first),
+        second: Some(second),
     })
+}
+
+/// Returns a custom section, with its contents from this offset on.
+fn contents_side<'a>(
+    alloc: Global,
+    head: &SectionHead<'a>,
+    contents: &Part<'a>,
+    start: usize,
+) -> Result<Side<'a>, AllocError> {
+    head_side(alloc, head, Some(Detail::Row(row_at(contents, start))))
 }
 
 /// Returns the contents of a custom section after its name.
@@ -478,15 +504,6 @@ fn contents_of<'a>(head: &SectionHead<'a>) -> Part<'a> {
     }
 }
 
-/// Returns the length of the longest common prefix.
-fn common_len(first: &[u8], second: &[u8]) -> usize {
-    let differ = first
-        .iter()
-        .zip(second)
-        .position(|(one, other)| one != other);
-    differ.unwrap_or(first.len().min(second.len()))
-}
-
 /// Lists the functions in which two code sections differ.
 fn compare_functions<'a, D: Differences>(
     pair: &mut Pair<'a, 'a>,
@@ -498,15 +515,16 @@ fn compare_functions<'a, D: Differences>(
     for number in 0..count.max(other_count) {
         let one = next_function(&mut pair.one, number, count)?;
         let other = next_function(&mut pair.other, number, other_count)?;
-        let compared = compare_bodies(pair.alloc, &one, &other)?;
-        let (is_same_body, detail, other_detail) = match compared {
-            Compared::Same => (true, None, None),
-            Compared::Different(detail, other_detail) => (false, detail, other_detail),
-        };
-        let first = function_side(pair.alloc, &one, here, detail)?;
-        let second = function_side(pair.alloc, &other, there, other_detail)?;
-        if !is_same_body {
-            out.part(&pair.part(Some(number), first, second))?;
+        match compare_bodies(pair.alloc, &one, &other)? {
+            Compared::Same => {
+                here.next_body();
+                there.next_body();
+            }
+            Compared::Different(detail, other_detail) => {
+                let first = function_side(pair.alloc, &one, here, detail)?;
+                let second = function_side(pair.alloc, &other, there, other_detail)?;
+                out.part(&pair.part(Some(number), first, second))?;
+            }
         }
     }
     Ok(())

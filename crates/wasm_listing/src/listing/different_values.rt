@@ -1,5 +1,5 @@
 //! The parts in which two modules differ, as JSON.
-use crate::json::text_value;
+use crate::json::Object;
 use crate::listing::{Detail, Differences, DifferentPart, Part, Side, Stop};
 use crate::sections::kind_name;
 use serde_json::{Value, json};
@@ -28,21 +28,7 @@ impl<'w, W: io::Write> DifferentValues<'w, W> {
 
 impl<W: io::Write> Differences for DifferentValues<'_, W> {
     fn part(&mut self, part: &DifferentPart<'_>) -> Result<(), Stop> {
-        let alloc = self.alloc;
-        let id = part.section.id;
-        let kind = text_value(alloc, kind_name(id))?;
-        let first = side_value(alloc, &part.first)?;
-        let second = side_value(alloc, &part.second)?;
-        let (first_number, second_number) = (part.first_number, part.second_number);
-        let item = part.item;
-        let value = json!(in alloc; {
-            "id": id,
-            "kind": kind,
-            "sections": [first_number, second_number],
-            "item": item,
-            "first": first,
-            "second": second
-        })?;
+        let value = part_value(self.alloc, part)?;
         if self.has_members {
             write!(self.writer, ",")?;
         }
@@ -73,26 +59,46 @@ impl Differences for FirstItem {
     }
 }
 
+/// Returns a part that differs.
+fn part_value(alloc: Global, part: &DifferentPart<'_>) -> Result<Value, AllocError> {
+    let (first, second) = (part.first_number, part.second_number);
+    let mut object = Object::new(alloc);
+    object.put("id", part.section.id)?;
+    object.put("kind", kind_name(part.section.id))?;
+    object.put("sections", json!(in alloc; [first, second])?)?;
+    object.put("item", part.item)?;
+    object.put("first", side_value(alloc, &part.first)?)?;
+    object.put("second", side_value(alloc, &part.second)?)?;
+    Ok(object.into_value())
+}
+
 /// Returns what a module has. `Null` means nothing.
 fn side_value(alloc: Global, side: &Option<Side<'_>>) -> Result<Value, AllocError> {
     let Some(side) = side else {
         return Ok(Value::Null);
     };
-    let (offset, size) = (side.part.at, side.part.bytes.len());
-    let text = text_value(alloc, side.text.as_str())?;
-    let detail = detail_value(alloc, &side.detail)?;
-    json!(in alloc; {"offset": offset, "size": size, "text": text, "detail": detail})
+    let mut object = Object::new(alloc);
+    object.put("offset", side.part.at)?;
+    object.put("size", side.part.bytes.len())?;
+    object.put("text", side.text.as_str())?;
+    object.put("detail", detail_value(alloc, &side.detail)?)?;
+    Ok(object.into_value())
 }
 
 /// Returns the first detail that differs. `Null` means that there is none.
 fn detail_value(alloc: Global, detail: &Option<Detail<'_>>) -> Result<Value, AllocError> {
-    let (part, text) = match detail {
-        None => return Ok(Value::Null),
-        Some(Detail::Code(part, text)) => (part, text_value(alloc, text.as_str())?),
-        Some(Detail::Row(part)) => (part, Value::String(format!(in alloc; "{}", RowText(part))?)),
+    let Some(detail) = detail else {
+        return Ok(Value::Null);
     };
-    let (offset, size) = (part.at, part.bytes.len());
-    json!(in alloc; {"offset": offset, "size": size, "text": text})
+    let (Detail::Code(part, _) | Detail::Row(part)) = detail;
+    let mut object = Object::new(alloc);
+    object.put("offset", part.at)?;
+    object.put("size", part.bytes.len())?;
+    match detail {
+        Detail::Code(_, text) => object.put("text", text.as_str())?,
+        Detail::Row(part) => object.put_display("text", &RowText(part))?,
+    }
+    Ok(object.into_value())
 }
 
 /// Bytes in hexadecimal digits.

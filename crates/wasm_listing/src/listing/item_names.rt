@@ -66,11 +66,7 @@ impl<'a> ItemNames<'a> {
             imports: NamedEntries::new(alloc, EntryKind::Import, module),
             symbols: NamedEntries::new(alloc, EntryKind::Symbol, module),
         };
-        let mut sections = SectionWalk::new(module);
-        for _ in 0..module.len() {
-            let Some(located) = sections.advance() else {
-                break;
-            };
+        for located in SectionWalk::new(alloc, module) {
             names.add_section(alloc, &located)?;
         }
         names.exports.sort();

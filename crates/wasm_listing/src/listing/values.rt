@@ -1,5 +1,5 @@
 //! The listing as JSON, one value at a time.
-use crate::json::{text_value, write_json_text};
+use crate::json::{Object, text_value, write_json_text};
 use crate::listing::{
     CustomText, FunctionHead, ItemName, ItemText, Listing, LocalsText, Longer, Nesting, Part,
     SectionHead, Stop, Unnamed,
@@ -96,7 +96,7 @@ fn open<W: io::Write>(
 fn longer_value(alloc: Global, longer: Option<Longer>) -> Result<Value, AllocError> {
     match longer {
         None => Ok(Value::Null),
-        Some(Longer { bytes, minimal }) => { json!(in alloc; {"size": bytes, "minimal": minimal}) }
+        Some(Longer { bytes, minimal }) => json!(in alloc; {"size": bytes, "minimal": minimal}),
     }
 }
 
@@ -114,73 +114,60 @@ fn name_value(alloc: Global, name: Option<ItemName<'_>>) -> Result<Value, AllocE
 /// Returns a section as JSON, without its items.
 fn section_value(alloc: Global, head: &SectionHead<'_>) -> Result<Value, AllocError> {
     let section = head.located.section;
-    let kind = text_value(alloc, kind_name(section.id))?;
-    let name = match custom_name(section) {
-        Some(name) => text_value(alloc, name)?,
-        None => Value::Null,
-    };
-    let longer_size = longer_value(alloc, head.size)?;
-    let longer_first = longer_value(alloc, head.first)?;
-    let (number, id, offset, size) = (head.number, section.id, head.located.at, head.located.len);
-    let count = head.count;
-    json!(in alloc; {
-        "section": number,
-        "id": id,
-        "kind": kind,
-        "name": name,
-        "offset": offset,
-        "size": size,
-        "count": count,
-        "longer_size": longer_size,
-        "longer_number": longer_first
-    })
+    let mut object = Object::new(alloc);
+    object.put("section", head.number)?;
+    object.put("id", section.id)?;
+    object.put("kind", kind_name(section.id))?;
+    object.put_text("name", custom_name(section))?;
+    object.put("offset", head.located.at)?;
+    object.put("size", head.located.len)?;
+    object.put("count", head.count)?;
+    object.put("longer_size", longer_value(alloc, head.size)?)?;
+    object.put("longer_number", longer_value(alloc, head.first)?)?;
+    Ok(object.into_value())
 }
 
 /// Returns a function as JSON, without its code.
 fn function_value(alloc: Global, head: &FunctionHead<'_>) -> Result<Value, AllocError> {
-    let text = format!(in alloc; "{}", ItemText::Body(head.index, None))?;
-    let text = Value::String(text);
-    let name = name_value(alloc, head.name)?;
-    let longer_size = longer_value(alloc, head.size)?;
-    let longer_groups = longer_value(alloc, head.groups)?;
-    let (item, offset, size) = (head.part.number, head.part.at, head.part.bytes.len());
-    json!(in alloc; {
-        "item": item,
-        "offset": offset,
-        "size": size,
-        "text": text,
-        "name": name,
-        "longer_size": longer_size,
-        "longer_number": longer_groups
-    })
+    let mut object = Object::new(alloc);
+    object.put("item", head.part.number)?;
+    object.put("offset", head.part.at)?;
+    object.put("size", head.part.bytes.len())?;
+    object.put_display("text", &ItemText::Body(head.index, None))?;
+    object.put("name", name_value(alloc, head.name)?)?;
+    object.put("longer_size", longer_value(alloc, head.size)?)?;
+    object.put("longer_number", longer_value(alloc, head.groups)?)?;
+    Ok(object.into_value())
 }
 
 /// Returns an item as JSON.
 fn item_value(alloc: Global, part: &Part<'_>, text: &ItemText<'_>) -> Result<Value, AllocError> {
-    let (item, offset, size, minimal) = (part.number, part.at, part.bytes.len(), part.minimal);
-    let name = name_value(alloc, text.name())?;
-    let text = Value::String(format!(in alloc; "{}", Unnamed(text))?);
-    json!(in alloc; {
-        "item": item,
-        "offset": offset,
-        "size": size,
-        "minimal": minimal,
-        "text": text,
-        "name": name
-    })
+    let mut object = Object::new(alloc);
+    put_part(&mut object, part)?;
+    object.put_display("text", &Unnamed(text))?;
+    object.put("name", name_value(alloc, text.name())?)?;
+    Ok(object.into_value())
+}
+
+/// Adds the number, the place and the lengths of a part.
+fn put_part(object: &mut Object, part: &Part<'_>) -> Result<(), AllocError> {
+    object.put("item", part.number)?;
+    put_place(object, part)
+}
+
+/// Adds the place and the lengths of a part.
+fn put_place(object: &mut Object, part: &Part<'_>) -> Result<(), AllocError> {
+    object.put("offset", part.at)?;
+    object.put("size", part.bytes.len())?;
+    object.put("minimal", part.minimal)
 }
 
 /// Returns a group of locals as JSON.
-fn part_value(alloc: Global, part: &Part<'_>, text: String) -> Result<Value, AllocError> {
-    let (item, offset, size, minimal) = (part.number, part.at, part.bytes.len(), part.minimal);
-    let text = Value::String(text);
-    json!(in alloc; {
-        "item": item,
-        "offset": offset,
-        "size": size,
-        "minimal": minimal,
-        "text": text
-    })
+fn locals_value(alloc: Global, part: &Part<'_>, text: &LocalsText) -> Result<Value, AllocError> {
+    let mut object = Object::new(alloc);
+    put_part(&mut object, part)?;
+    object.put_display("text", text)?;
+    Ok(object.into_value())
 }
 
 /// Returns an instruction as JSON.
@@ -191,17 +178,12 @@ fn call_value(
     name: Option<ItemName<'_>>,
     depth: usize,
 ) -> Result<Value, AllocError> {
-    let (offset, size, minimal) = (part.at, part.bytes.len(), part.minimal);
-    let text = Value::String(format!(in alloc; "{call}")?);
-    let name = name_value(alloc, name)?;
-    json!(in alloc; {
-        "offset": offset,
-        "size": size,
-        "minimal": minimal,
-        "depth": depth,
-        "text": text,
-        "name": name
-    })
+    let mut object = Object::new(alloc);
+    put_place(&mut object, part)?;
+    object.put("depth", depth)?;
+    object.put_display("text", call)?;
+    object.put("name", name_value(alloc, name)?)?;
+    Ok(object.into_value())
 }
 
 impl<W: io::Write> Listing for Values<'_, W> {
@@ -250,8 +232,7 @@ impl<W: io::Write> Listing for Values<'_, W> {
 
     fn locals(&mut self, part: &Part<'_>, count: u32, ty: ValType) -> Result<(), Stop> {
         separate(self.writer, &mut self.code)?;
-        let text = format!(in self.alloc; "{}", LocalsText(count, ty))?;
-        let value = part_value(self.alloc, part, text)?;
+        let value = locals_value(self.alloc, part, &LocalsText(count, ty))?;
         write!(self.writer, "{value}")?;
         Ok(())
     }
