@@ -164,7 +164,10 @@ class Tree:
         self.programs.mkdir()
         copy_tree(self.folder)
         for out in ROOT.glob("crates/*/out"):
-            (self.folder / out.relative_to(ROOT)).symlink_to(out)
+            copied = self.folder / out.relative_to(ROOT)
+            # A clone keeps the folder of a crate that was renamed.
+            if copied.parent.is_dir():
+                copied.symlink_to(out)
         (self.folder / "bindings/out").mkdir(parents=True)
         if (ROOT / ARCHIVE).exists():
             shutil.copy2(ROOT / ARCHIVE, self.folder / ARCHIVE)
