@@ -5,6 +5,7 @@ mod core_dumps;
 mod errors;
 mod expressions;
 mod functions;
+mod in_place;
 mod index_spaces;
 mod instructions;
 mod iterators;

@@ -1,5 +1,5 @@
 //! Reads the export section back, checks it and normalises it.
-ghost use Rattle.std.specs.Prelude.{◌≡◌, List, ℕ, IfErr, length, refl, true, false};
+ghost use Rattle.std.specs.Prelude.{◌≡◌, List, ℕ, IfErr, length, refl, true, false, ◌≤◌, IfOk};
 ghost use Rattle.std.proofs.lemmas.List.{map_push};
 ghost use Rattle.wasm_codec.specs.Reading.{map_ok};
 ghost use Rattle.wasm_codec.specs.Outcomes.{IfMalformed, IsMalformed, LiesIn, as_read};
@@ -7,7 +7,7 @@ ghost use Rattle.wasm_encoder.specs.Outcomes.{NeedsNoMemory};
 ghost use Rattle.wasm_encoder.specs.Bodies.{byte_list, bytes_to_end};
 ghost use Rattle.wasm_encoder.specs.Combinators.{items};
 ghost use Rattle.wasm_encoder.specs.DecodedPrefixes.{ArePrefixes};
-ghost use Rattle.wasm_encoder.specs.Decoding.{IsMinimal, ChecksAll, RewritesAll};
+ghost use Rattle.wasm_encoder.specs.Decoding.{IsMinimal, ChecksAll, RewritesInPlace};
 ghost use Rattle.wasm_encoder.specs.Grammar.{TakesBytes};
 ghost use Rattle.wasm_encoder.specs.Lawful.{IsLawful, IsLawfulBody};
 ghost use Rattle.wasm_encoder.specs.Lists.{CountsItems, ListMinimalIf, IsListPrefix, IsListPrefixMinimalIf};
@@ -154,11 +154,12 @@ impl<'a> Decode<'a> for ExportSection<'a> {
         check_list_to_end::<Item<'_, ReadExport<'_>>>(alloc, bytes)
     }
 
-    fn rewrite_all(bytes: Vec<u8>) -> Result<Vec<u8>, DecodeError>
-        ensures rewrites { RewritesAll (items export) (IsListPrefix export.Encodes) bytes.items (as_read result) }
+    fn rewrite_all(bytes: &mut [u8]) -> Result<usize, DecodeError>
+        ensures len { IfOk result (λ len. len ≤ length bytes.new) }
+        ensures rewrites { RewritesInPlace (items export) (IsListPrefix export.Encodes) bytes.old bytes.new (as_read result) }
         ensures memory { NeedsNoMemory (as_read result) }
-        ensures place { IfErr result (LiesIn (length bytes.items)) }
-        ensures counts { IfMalformed result (CountsItems false export bytes.items) }
+        ensures place { IfErr result (LiesIn (length bytes.old)) }
+        ensures counts { IfMalformed result (CountsItems false export bytes.old) }
     {
         rewrite_list_to_end::<Item<'_, ReadExport<'_>>>(bytes)
     }

@@ -1,4 +1,5 @@
 -- The laws of the formats of sections and modules.
+use Rattle.std.specs.Borrow.{GName}
 use Rattle.std.proofs.Common.{◌≡◌, ◌↔◌, ℕ, eqb, List, ◌++◌, refl, sym, ap, ◌∙◌, lit≤, ◌+◌, ◌-◌, ◌<◌, ◌≤◌, ◌⊎◌, true, false, [], length, take, drop, Option, Some, None, Err, subst, append_assoc, length-append, inl, inr, arith}
 use Rattle.std.proofs.lemmas.List.{append_cancel_left, append-nil, take_at, drop_at, take-append-drop}
 use Rattle.std.specs.List.{flat_map}
@@ -16,10 +17,10 @@ use Rattle.std.specs.Prelude.{MatchOption, IfSome, IfNone}
 use lib.Pointwise.{pointwise, bytes_decides}
 use Rattle.wasm_codec.specs.Outcomes.{IsLongestPrefix, IsNormalForm, EncodesSome}
 use Rattle.wasm_codec.specs.declared.reader.ReadError.TheVariants as errors
-use Rattle.wasm_codec.specs.Decoding.{RewritesAll}
+use Rattle.wasm_codec.specs.Decoding.{RewritesTo}
 use Rattle.wasm_codec.specs.Places.{place}
 use Rattle.wasm_codec.specs.formats.Bodies.{to_end}
-use Rattle.wasm_codec.specs.Rewriter.{Rewriting, rewriting, rewriting_after, skipped, StopsAt}
+use Rattle.wasm_codec.specs.Rewriter.{rest_of, Rewriting, rewriting, rewriting_after, skipped, StopsAt}
 use Rattle.wasm_codec.proofs.BodyRewriting.{joined_done, joined_stopped, stopped_within}
 
 -- ---- sections
@@ -121,7 +122,7 @@ module _ {V : Type 0} (F : Format V) (bytes : List ℕ) (missing : (rest : List 
   no_module : (vs : List V) → (module_of F).Encodes bytes vs → ⊥
   no_module vs g = missing g.0 g.1
 
-  pub headless : RewritesAll (module_of F) (IsHeadedPrefix F.Encodes) bytes (Err (errors.Refused 0))
+  pub headless : {X : Type 0} {encoding : X → List ℕ} → RewritesTo (module_of F) (IsHeadedPrefix F.Encodes) bytes encoding (Err (errors.Refused 0))
   headless = record {
     given = tt;
     prefix = record { prefix = []; rest = bytes; parts = refl; len_is = refl; whole = inl refl; longest = longest };
@@ -153,7 +154,7 @@ pub record AfterHeader (bytes body : List ℕ) (start : Rewriting) : Type 0 wher
   pub done : start.done ≡ header
   pub left : start.place.left ≡ body
 
-pub after_header_is : (bytes body : List ℕ) (start : Rewriting) → bytes ≡ header ++ body → start ≡ skipped 8 (rewriting [] (place true bytes) []) → AfterHeader bytes body start
+pub after_header_is : (bytes body : List ℕ) (start : Rewriting) → bytes ≡ header ++ body → {g : GName} → start ≡ skipped 8 (rewriting [] (place true bytes) (rest_of [] g)) → AfterHeader bytes body start
 after_header_is bytes body start e is = record {
   done = ap (λ (s : Rewriting). s.done) is ∙ ap (take 8) e ∙ take_at header body 8 refl;
   left = ap (λ (s : Rewriting). s.place.left) is ∙ ap (drop 8) e ∙ drop_at header body 8 refl;

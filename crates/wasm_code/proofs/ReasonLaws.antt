@@ -7,7 +7,7 @@ use Rattle.std.specs.Str.Lossy.{utf8_valid_len}
 use Rattle.wasm_codec.proofs.Laws.{some_is}
 use Rattle.wasm_codec.specs.Inputs.{Took}
 use Rattle.wasm_codec.specs.Places.{Place, place, Reads, u32_at}
-use Rattle.wasm_codec.specs.Rewriter.{rewriting}
+use Rattle.wasm_codec.specs.Rewriter.{rewriting, no_rest}
 use Rattle.wasm_codec.specs.formats.Bodies.{body_at}
 use Rattle.wasm_instructions.specs.declared.table.opcode.Opcode.{Opcode}
 use Rattle.wasm_instructions.specs.formats.Opcodes.{opcode_kind}
@@ -49,7 +49,7 @@ begins read number bytes here after is reads same = record {
 }
 
 -- an opcode that is read and isn't in the table is unknown
-pub unknown : (op : Opcode) (prefix : Option ℕ) (number : ℕ) (bytes : List ℕ) (here after : Place) → here ≡ place true bytes → Took false opcode (rewriting [] here []) (rewriting [] after []) op → prefix_byte op.prefix ≡ prefix → op.number ≡ number → opcode_kind op ≡ None → IsUnknownOpcode prefix number bytes
+pub unknown : (op : Opcode) (prefix : Option ℕ) (number : ℕ) (bytes : List ℕ) (here after : Place) → here ≡ place true bytes → Took false opcode (rewriting [] here no_rest) (rewriting [] after no_rest) op → prefix_byte op.prefix ≡ prefix → op.number ≡ number → opcode_kind op ≡ None → IsUnknownOpcode prefix number bytes
 unknown op prefix number bytes here after is reads before numbered none = record {
   op = op;
   after = after;

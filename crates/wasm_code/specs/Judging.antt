@@ -1,18 +1,17 @@
 -- Modules that are rewritten in place and judged.
 use Rattle.std.specs.Prelude.{◌≡◌, ℕ, ◌≤◌, ◌-◌, Option, Some, None, IfSome, Result, Ok, Err}
-use Rattle.std.specs.Global.{Vec}
 use Rattle.wasm_codec.specs.Outcomes.{read_error_of}
 use Rattle.wasm_codec.specs.declared.reader.DecodeError.{DecodeError}
 use Rattle.wasm_codec.specs.declared.reader.ReadError.{ReadError}
 use Rattle.wasm_codec.specs.declared.reader.ReadError.TheVariants as errors
 use Rattle.wasm_codec.specs.declared.reader.refusal.Refusal.{Refusal}
 use Rattle.wasm_lists.specs.declared.judging.LongerItem.{LongerItem}
-use Rattle.wasm_code.specs.declared.judging.Judged.{Judged}
+use Rattle.wasm_code.specs.declared.judging.Judgement.{Judgement}
 
 -- The result of the rewriting alone.
-abbrev pub form_of : Result Judged DecodeError → Result (Vec ℕ) ReadError
-form_of (Ok judged) = Ok judged.bytes
-form_of (Err e) = Err (read_error_of e)
+abbrev pub len_of : Result Judgement DecodeError → Result ℕ ReadError
+len_of (Ok judged) = Ok judged.len
+len_of (Err e) = Err (read_error_of e)
 
 -- What a check of the module would have returned.
 abbrev pub verdict_of : Option Refusal → Result (Unit {0}) ReadError

@@ -1,16 +1,17 @@
 //! What is decoded from all of its bytes, and the five calls that read, check and normalise it.
-ghost use Rattle.std.specs.Prelude.{◌≡◌, ℕ, Bool, true, false, List, ⊤, IfErr, IfOk, IsOk, length};
-ghost use Rattle.wasm_codec.specs.Outcomes.{IfMalformed, IsLongestPrefix, LiesIn, NeedsNoMemory, as_read};
+ghost use Rattle.std.specs.Prelude.{◌≡◌, ◌≤◌, ℕ, Bool, true, false, List, ⊤, IfErr, IfOk, IsOk, length};
+ghost use Rattle.wasm_codec.specs.Outcomes.{IfMalformed, IsLongestPrefix, LiesIn, NeedsNoMemory, as_decoded, as_read};
 ghost use Rattle.wasm_codec.specs.Lawful.{IsLawfulBody};
 ghost use Rattle.wasm_codec.specs.declared.reader.DecodeError.TheVariants.{Memory};
 ghost use Rattle.wasm_codec.specs.formats.Combinators.{Format};
 ghost use Rattle.wasm_code.specs.DecodedPrefixes.{ArePrefixes};
 ghost use Rattle.wasm_code.specs.Reasons.{IsTrueOf, TellsLonger};
-ghost use Rattle.wasm_codec.specs.Decoding.{IsMinimal, ReadsAll, ChecksAll, RewritesAll, Decodes, DecodesMinimal, Checks, NormalisesInPlace, Normalises};
+ghost use Rattle.wasm_codec.specs.Decoding.{IsMinimal, ReadsAll, ChecksAll, RewritesAll, RewritesInPlace, Decodes, DecodesMinimal, Checks, NormalisesInPlace, NormalisesSlice, Normalises};
 
 use crate::reasons::{compared, explained};
 use std::alloc::Global;
-use wasm_codec::reader::DecodeError;
+use wasm_codec::reader::refusal::Refusal;
+use wasm_codec::reader::{DecodeError, without_memory};
 
 /// What is decoded from all of its bytes, such as the body of a section.
 ///
@@ -83,11 +84,13 @@ pub trait Decode<'a> {
         ensures place { IfErr result (LiesIn (length bytes.now)) }
         ensures counts { IfMalformed result (Counts true bytes.now) };
 
-    /// Rewrites the bytes in place to the minimal encoding of the value that they encode.
-    fn rewrite_all(bytes: Vec<u8>) -> Result<Vec<u8>, DecodeError>
-        ensures rewrites { RewritesAll format IsPrefix bytes.items (as_read result) }
-        ensures place { IfErr result (LiesIn (length bytes.items)) }
-        ensures counts { IfMalformed result (Counts false bytes.items) }
+    /// Rewrites the bytes in place to the minimal encoding of the value that they encode. Returns the length of it, which
+    /// begins the slice. Allocates nothing. If it fails, the bytes are unspecified.
+    fn rewrite_all(bytes: &mut [u8]) -> Result<usize, DecodeError>
+        ensures len { IfOk result (λ len. len ≤ length bytes.new) }
+        ensures rewrites { RewritesInPlace format IsPrefix bytes.old bytes.new (as_read result) }
+        ensures place { IfErr result (LiesIn (length bytes.old)) }
+        ensures counts { IfMalformed result (Counts false bytes.old) }
         ensures memory { NeedsNoMemory (as_read result) };
 }
 
@@ -238,7 +241,7 @@ fn rewrite_copy<'a, T: Decode<'a>>(alloc: Global, bytes: &[u8]) -> Result<Vec<u8
     ensures place { IfErr result (LiesIn (length bytes.now)) }
     ensures counts { IfMalformed result (T.Counts false bytes.now) }
 {
-    T::rewrite_all(Vec::from_slice(alloc, bytes)?)
+    rewrite::<T>(Vec::from_slice(alloc, bytes)?)
 }
 
 /// Rewrites the bytes in place to the minimal encoding of the value that they encode, and returns them.
@@ -253,12 +256,41 @@ fn rewrite_copy<'a, T: Decode<'a>>(alloc: Global, bytes: &[u8]) -> Result<Vec<u8
 /// let minimal = rewrite::<FunctionSection>(padded)?;
 /// assert_eq!(rt; minimal.as_slice(), b"\x02\x00\x01".as_slice());
 /// ```
-#[tactic(auto, using(wasm_codec::proofs::DecodingLaws::normalises_in_place))]
 pub fn rewrite<'a, T: Decode<'a>>(bytes: Vec<u8>) -> Result<Vec<u8>, DecodeError>
     ensures normalises { NormalisesInPlace T.format T.IsPrefix bytes.items (as_read result) }
     ensures place { IfErr result (LiesIn (length bytes.items)) }
     ensures counts { IfMalformed result (T.Counts false bytes.items) }
 {
     T::is_lawful();
-    T::rewrite_all(bytes)
+    let mut bytes = bytes;
+    match T::rewrite_all(bytes.as_mut_slice()) {
+        Ok(len) => {
+            bytes.truncate(len);
+            Ok(bytes)
+        }
+        Err(error) => Err(error),
+    }
+}
+
+/// Rewrites the bytes in place to the minimal encoding of the value that they encode. Returns the length of it, which
+/// begins the slice.
+///
+/// Refuses as [`read`] does, and allocates nothing. After a refusal the bytes are unspecified: to keep them, call
+/// [`check`] or [`read`] first.
+///
+/// # Examples
+///
+/// ```
+/// # use wasm_encoder::{FunctionSection, rewrite_in_place};
+/// let mut bytes = *b"\x82\x00\x00\x81\x00"; // the count 2 and the index 1 are padded
+/// let len = rewrite_in_place::<FunctionSection>(&mut bytes)?;
+/// assert_eq!(rt; &bytes[..len], b"\x02\x00\x01".as_slice());
+/// ```
+pub fn rewrite_in_place<'a, T: Decode<'a>>(bytes: &mut [u8]) -> Result<usize, Refusal>
+    ensures normalises { NormalisesSlice T.format T.IsPrefix bytes.old bytes.new (as_read (as_decoded result)) }
+    ensures place { IfErr (as_decoded result) (LiesIn (length bytes.old)) }
+    ensures counts { IfMalformed (as_decoded result) (T.Counts false bytes.old) }
+{
+    T::is_lawful();
+    without_memory(T::rewrite_all(bytes))
 }

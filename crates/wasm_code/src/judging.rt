@@ -1,10 +1,10 @@
 //! Modules rewritten in place, and the first part of them that isn't minimally encoded.
-ghost use Rattle.std.specs.Prelude.{◌≡◌, IfOk, IfErr, IfSome, length};
-ghost use Rattle.wasm_codec.specs.Outcomes.{IfMalformed, IfRefusedInItem, LiesIn, NeedsNoMemory};
+ghost use Rattle.std.specs.Prelude.{◌≡◌, ◌≤◌, IfOk, IfErr, IfSome, length};
+ghost use Rattle.wasm_codec.specs.Outcomes.{IfMalformed, IfRefusedInItem, LiesIn, NeedsNoMemory, as_read};
 ghost use Rattle.wasm_codec.specs.formats.Combinators.{minimal_only};
-ghost use Rattle.wasm_codec.specs.Decoding.{RewritesAll, ChecksAll};
+ghost use Rattle.wasm_codec.specs.Decoding.{RewritesInPlace, ChecksAll};
 ghost use Rattle.wasm_code.specs.Modules.{CountsSections, IsModulePrefixOf};
-ghost use Rattle.wasm_code.specs.Judging.{IsLongerAt, form_of, verdict_of, verdict_at, RefusalLiesIn};
+ghost use Rattle.wasm_code.specs.Judging.{IsLongerAt, len_of, verdict_of, verdict_at, RefusalLiesIn};
 ghost use Rattle.wasm_code.specs.formats.Modules.{module_of};
 
 use crate::raw::{after_header, no_header};
@@ -12,41 +12,75 @@ use crate::section::HEADER;
 use wasm_codec::reader::DecodeError;
 use wasm_codec::reader::malformed::{Malformed, Reason};
 use wasm_codec::reader::refusal::{Refusal, SectionPlace};
-use wasm_codec::rewriter::Rewriter;
+use wasm_codec::rewriter::{Finished, Rewriter};
 use wasm_lists::judging::{LongerItem, judge_items};
 use wasm_lists::rewriting::Rewritable;
 
-/// The minimal encoding of a module, and what the module was.
-#[derive(Debug, PartialEq, Eq, Drop)]
-pub struct Judged {
-    /// The minimal encoding.
-    pub bytes: Vec<u8>,
+/// What a module was that is now minimally encoded.
+#[derive(Clone, Copy, Debug, PartialEq, Eq)]
+pub struct Judgement {
+    /// Length in bytes of the minimal encoding.
+    pub len: usize,
     /// The first part of the module that wasn't minimally encoded. Its `at` is the offset of the first such section.
     /// `None` means that the module was minimally encoded, and is unchanged.
     pub longer: Option<Refusal>,
 }
 
+/// A slice that was rewritten and judged.
+#[derive(Drop)]
+struct JudgedSlice<'a> {
+    /// The slice.
+    bytes: &'a mut [u8],
+    /// What it was; or why it is malformed.
+    judged: Result<Judgement, DecodeError>,
+}
+
 /// Replaces a module with sections of type `S` by its minimal encoding in place, and tells whether it was minimally
-/// encoded.
+/// encoded. The minimal encoding begins the slice.
 ///
-/// Fails with `Refused` at the offset of the first malformed section, or at 0 if the header is missing. Allocates nothing.
-pub fn judge_module_of<S: Rewritable>(bytes: Vec<u8>) -> Result<Judged, DecodeError>
-    ensures rewrites { RewritesAll (module_of S.format) (IsModulePrefixOf S.format) bytes.items (form_of result) }
-    ensures judges { IfOk result (λ judged. ChecksAll (module_of (minimal_only S.format)).Encodes (IsModulePrefixOf (minimal_only S.format)) bytes.items (verdict_of judged.longer)) }
-    ensures memory { NeedsNoMemory (form_of result) }
-    ensures place { IfErr result (LiesIn (length bytes.items)) }
-    ensures within { IfOk result (λ judged. IfSome judged.longer (RefusalLiesIn (length bytes.items))) }
+/// Fails with `Malformed` at the offset of the first malformed section, or at 0 if the header is missing; the bytes are
+/// then unspecified. Allocates nothing.
+pub fn judge_module_of<S: Rewritable>(bytes: &mut [u8]) -> Result<Judgement, DecodeError>
+    ensures len { IfOk result (λ judged. judged.len ≤ length bytes.new) }
+    ensures rewrites { RewritesInPlace (module_of S.format) (IsModulePrefixOf S.format) bytes.old bytes.new (len_of result) }
+    ensures judges { IfOk result (λ judged. ChecksAll (module_of (minimal_only S.format)).Encodes (IsModulePrefixOf (minimal_only S.format)) bytes.old (verdict_of judged.longer)) }
+    ensures memory { NeedsNoMemory (as_read result) }
+    ensures place { IfErr result (LiesIn (length bytes.old)) }
+    ensures within { IfOk result (λ judged. IfSome judged.longer (RefusalLiesIn (length bytes.old))) }
     // The section that a refusal names counts the sections before it.
-    ensures counts { IfMalformed result (CountsSections S.format bytes.items) }
+    ensures counts { IfMalformed result (CountsSections S.format bytes.old) }
     // The section begins with a list that breaks off at the item that a refusal names.
-    ensures names { IfMalformed result (IfRefusedInItem S.Breaks bytes.items) }
+    ensures names { IfMalformed result (IfRefusedInItem S.Breaks bytes.old) }
     // The section of the first part that isn't minimal counts the sections before it, which are minimally encoded.
-    ensures numbers { IfOk result (λ judged. IfSome judged.longer (CountsSections (minimal_only S.format) bytes.items)) }
+    ensures numbers { IfOk result (λ judged. IfSome judged.longer (CountsSections (minimal_only S.format) bytes.old)) }
+{
+    let JudgedSlice {
+        bytes: _bytes,
+        judged,
+    } = judged_module_of::<S>(bytes);
+    judged
+}
+
+/// Rewrites and judges a module, and returns the same slice.
+fn judged_module_of<'a, S: Rewritable>(bytes: &'a mut [u8]) -> JudgedSlice<'a>
+    ensures same_reference { IfOk result.judged (λ _. result.bytes.ghost_name ≡ bytes.entry.ghost_name) }
+    ensures len { IfOk result.judged (λ judged. judged.len ≤ length result.bytes.now) }
+    ensures rewrites { RewritesInPlace (module_of S.format) (IsModulePrefixOf S.format) bytes.old result.bytes.now (len_of result.judged) }
+    ensures judges { IfOk result.judged (λ judged. ChecksAll (module_of (minimal_only S.format)).Encodes (IsModulePrefixOf (minimal_only S.format)) bytes.old (verdict_of judged.longer)) }
+    ensures memory { NeedsNoMemory (as_read result.judged) }
+    ensures place { IfErr result.judged (LiesIn (length bytes.old)) }
+    ensures within { IfOk result.judged (λ judged. IfSome judged.longer (RefusalLiesIn (length bytes.old))) }
+    ensures counts { IfMalformed result.judged (CountsSections S.format bytes.old) }
+    ensures names { IfMalformed result.judged (IfRefusedInItem S.Breaks bytes.old) }
+    ensures numbers { IfOk result.judged (λ judged. IfSome judged.longer (CountsSections (minimal_only S.format) bytes.old)) }
 {
     S::is_lawful();
-    let len = bytes.len();
-    let Some(_sections) = after_header(&bytes) else {
-        return Err(no_header(&bytes));
+    let all = bytes.len();
+    let Some(_sections) = after_header(bytes) else {
+        return JudgedSlice {
+            judged: Err(no_header(bytes)),
+            bytes,
+        };
     };
     let mut rewriter = Rewriter::new(bytes);
     rewriter.skip(HEADER.len());
@@ -54,11 +88,17 @@ pub fn judge_module_of<S: Rewritable>(bytes: Vec<u8>) -> Result<Judged, DecodeEr
     match judge_items::<S>(&mut rewriter) {
         Ok(first) => {
             let part = rewriter.longer();
-            let bytes = rewriter.finish();
-            let longer = longer_part(part, first, &bytes, len);
-            Ok(Judged { bytes, longer })
+            let Finished { bytes, len } = rewriter.finish();
+            let longer = longer_part(part, first, bytes, all);
+            JudgedSlice {
+                bytes,
+                judged: Ok(Judgement { len, longer }),
+            }
         }
-        Err(stop) => Err(DecodeError::new(stop.fault, len - stop.left, len).numbered(stop.passed)),
+        Err(stop) => JudgedSlice {
+            bytes: rewriter.finish().bytes,
+            judged: Err(DecodeError::new(stop.fault, all - stop.left, all).numbered(stop.passed)),
+        },
     }
 }
 

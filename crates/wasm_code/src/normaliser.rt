@@ -1,6 +1,6 @@
 //! The normaliser of modules (Core 3.0, Modules). In a typed module, type sections are lists of entries, code
 //! sections are lists of code bodies, and other sections are bytes.
-ghost use Rattle.std.specs.Prelude.{◌≡◌, ⊤, List};
+ghost use Rattle.std.specs.Prelude.{◌≡◌, ⊤, IfErr, List, length};
 ghost use Rattle.std.specs.List.{AllByRecursion};
 ghost use Rattle.wasm_codec.specs.formats.Bodies.{bytes_to_end};
 ghost use Rattle.wasm_codec.specs.formats.Combinators.{made, minimal_only};
@@ -10,17 +10,19 @@ ghost use Rattle.wasm_code.specs.formats.Sections.{Content, TypedSection, type_e
 ghost use Rattle.wasm_code.specs.Modules.{IsTypedModulePrefix, IsTypedSection};
 ghost use Rattle.wasm_code.specs.formats.CodeBodies.{code_section_body};
 ghost use Rattle.wasm_code.specs.formats.Modules.{entries_part, bodies_part, bytes_part, typed_section, typed_module};
-ghost use Rattle.wasm_codec.specs.Decoding.{Normalises, NormalisesInPlace};
+ghost use Rattle.wasm_codec.specs.Decoding.{Normalises, NormalisesInPlace, NormalisesSlice, RewritesAll};
+ghost use Rattle.wasm_codec.specs.Outcomes.{LiesIn, as_decoded, as_read};
 
 pub mod framing;
 
 use crate::code::CodeBody;
-use crate::normaliser::framing::{normalise_module_of, rewrite_module_of, rewrite_section_body};
+use crate::normaliser::framing::{rewrite_module_of, rewrite_section_body};
 use crate::section::{CODE_SECTION_ID, TYPE_SECTION_ID};
 use std::alloc::Global;
 use wasm_codec::reader::cursor::Fault;
 use wasm_codec::reader::malformed::Construct;
-use wasm_codec::reader::{ReadError, without_reason};
+use wasm_codec::reader::refusal::Refusal;
+use wasm_codec::reader::{ReadError, without_memory, without_reason};
 use wasm_codec::rewriter::{Rewriter, Scanned};
 use wasm_lists::rewriting::{Joinable, Rewritable, RewritableBody, rewrite_list};
 use wasm_types::types::TypeEntry;
@@ -47,7 +49,7 @@ pub fn normalise_module(alloc: Global, bytes: &[u8]) -> Result<Vec<u8>, ReadErro
     ensures encodes { (sections : List TypedSection) → AllByRecursion IsTypedSection sections →
         bytes.now ≡ typed_module.bytes sections → typed_module.Encodes bytes.now sections }
 {
-    without_reason(normalise_module_of::<Section>(alloc, bytes))
+    module_bytes_of(alloc, bytes)
 }
 
 /// Replaces a module by its minimal encoding in place, with its type and code sections decoded (Core 3.0, Modules).
@@ -65,7 +67,41 @@ pub fn normalise_module(alloc: Global, bytes: &[u8]) -> Result<Vec<u8>, ReadErro
 pub fn rewrite_module(bytes: Vec<u8>) -> Result<Vec<u8>, ReadError>
     ensures normalises { NormalisesInPlace typed_module IsTypedModulePrefix bytes.items result }
 {
-    without_reason(rewrite_module_of::<Section>(bytes))
+    let mut bytes = bytes;
+    match without_reason(rewrite_module_of::<Section>(bytes.as_mut_slice())) {
+        Ok(len) => {
+            bytes.truncate(len);
+            Ok(bytes)
+        }
+        Err(error) => Err(error),
+    }
+}
+
+/// Replaces a module by its minimal encoding in place, as [`rewrite_module`] does. Returns the length of it, which begins
+/// the slice.
+///
+/// If it fails, the bytes are unspecified.
+///
+/// # Examples
+///
+/// ```
+/// # use wasm_encoder::rewrite_module_in_place;
+/// let mut bytes = *b"\0asm\x01\0\0\0\x01\x06\x01\x4f\x00\x60\x00\x00"; // (sub final (func))
+/// let len = rewrite_module_in_place(&mut bytes)?;
+/// assert_eq!(rt; &bytes[..len], b"\0asm\x01\0\0\0\x01\x04\x01\x60\x00\x00".as_slice());
+/// ```
+pub fn rewrite_module_in_place(bytes: &mut [u8]) -> Result<usize, Refusal>
+    ensures normalises { NormalisesSlice typed_module IsTypedModulePrefix bytes.old bytes.new (as_read (as_decoded result)) }
+    ensures place { IfErr (as_decoded result) (LiesIn (length bytes.old)) }
+{
+    without_memory(rewrite_module_of::<Section>(bytes))
+}
+
+/// Copies the bytes and rewrites the copy.
+fn module_bytes_of(alloc: Global, bytes: &[u8]) -> Result<Vec<u8>, ReadError>
+    ensures rewrites { RewritesAll typed_module IsTypedModulePrefix bytes.now result }
+{
+    rewrite_module(Vec::from_slice(alloc, bytes)?)
 }
 
 /// A section with decoded content.

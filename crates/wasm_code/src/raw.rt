@@ -1,5 +1,5 @@
 //! Readers of the header and of sections of a module (Core 3.0, Modules).
-ghost use Rattle.std.specs.Prelude.{◌≡◌, ◌++◌, ◌-◌, ⊤, List, ℕ, None, drop, IfErr, IfSome, IfNone, refl, length};
+ghost use Rattle.std.specs.Prelude.{◌≡◌, ◌++◌, ◌-◌, ◌≤◌, ⊤, List, ℕ, None, drop, IfErr, IfOk, IfSome, IfNone, refl, length};
 ghost use Rattle.wasm_codec.specs.Reading.{map_ok};
 ghost use Rattle.wasm_codec.specs.Places.{Reads};
 ghost use Rattle.wasm_codec.specs.formats.Bodies.{byte_list, bytes_to_end};
@@ -10,7 +10,7 @@ ghost use Rattle.std.proofs.lemmas.List.{map_push};
 ghost use Rattle.wasm_codec.specs.formats.Combinators.{minimal_if, minimal_only};
 ghost use Rattle.wasm_codec.specs.declared.reader.ReadError.TheVariants.{Refused};
 ghost use Rattle.wasm_code.specs.Modules.{CountsSections, IsModulePrefix, IsModulePrefixOf, IsShortestModulePrefix};
-ghost use Rattle.wasm_codec.specs.Decoding.{Decodes, DecodesMinimal, ReadsAll, Checks, ChecksAll, RewritesAll};
+ghost use Rattle.wasm_codec.specs.Decoding.{Decodes, DecodesMinimal, ReadsAll, Checks, ChecksAll, RewritesInPlace};
 ghost use Rattle.wasm_code.specs.PrefixFree.{SectionsArePrefixFree};
 ghost use Rattle.wasm_code.specs.Modules.{ReadsBack, ReadsBackTyped};
 ghost use Rattle.wasm_codec.specs.Lawful.{IsLawful};
@@ -300,14 +300,16 @@ pub fn check_module_of<T: Joinable>(alloc: Global, bytes: &[u8]) -> Result<(), D
     }
 }
 
-/// Replaces a module by its minimal encoding in place. Only the sizes of sections can shrink: no body is decoded.
+/// Replaces a module by its minimal encoding in place. Returns the length of it, which begins the slice. Only the sizes of
+/// sections can shrink: no body is decoded.
 ///
-/// Fails with `Refused` as `read_module` does. Allocates nothing.
-pub fn rewrite_raw_module(bytes: Vec<u8>) -> Result<Vec<u8>, DecodeError>
-    ensures rewrites { RewritesAll raw_module IsModulePrefix bytes.items (as_read result) }
+/// Fails with `Malformed` as `read_module` does; the bytes are then unspecified. Allocates nothing.
+pub fn rewrite_raw_module(bytes: &mut [u8]) -> Result<usize, DecodeError>
+    ensures len { IfOk result (λ len. len ≤ length bytes.new) }
+    ensures rewrites { RewritesInPlace raw_module IsModulePrefix bytes.old bytes.new (as_read result) }
     ensures memory { NeedsNoMemory (as_read result) }
-    ensures place { IfErr result (LiesIn (length bytes.items)) }
-    ensures counts { IfMalformed result (CountsSections raw_section bytes.items) }
+    ensures place { IfErr result (LiesIn (length bytes.old)) }
+    ensures counts { IfMalformed result (CountsSections raw_section bytes.old) }
 {
     rewrite_module_of::<Section>(bytes)
 }

@@ -1,4 +1,5 @@
 -- The laws of bodies that are rewritten, and of what is rewritten up to the end.
+use Rattle.std.specs.Borrow.{GName}
 use Rattle.std.proofs.Common.{◌≡◌, ℕ, ◌+◌, ◌-◌, ◌<◌, ◌≤◌, true, List, [], ◌++◌, length, take, drop, Some, refl, sym, ap, subst, ◌∙◌, append_assoc, length-append, arith}
 use Rattle.std.proofs.lemmas.Bool.{le-ltb}
 use Rattle.std.proofs.lemmas.List.{take_at, drop_at, length-take-le, length-drop, take-append-drop, drop-drop}
@@ -10,7 +11,7 @@ use Rattle.wasm_codec.specs.Leb128.{unsigned_leb128}
 use Rattle.wasm_codec.specs.Places.{place}
 use Rattle.wasm_codec.specs.formats.Combinators.{Format, u32}
 use Rattle.wasm_codec.specs.formats.Bodies.{sized, to_end}
-use Rattle.wasm_codec.specs.Rewriter.{Rewriting, rewriting, rewritten_at, rewriting_after, limited, widened, resized, IsOpen, StopsAt}
+use Rattle.wasm_codec.specs.Rewriter.{Rest, Rewriting, rest_of, rewriting, rewritten_at, rewriting_after, limited, widened, resized, IsOpen, StopsAt}
 use Rattle.wasm_codec.proofs.FormatLaws.{not_longer}
 use Rattle.wasm_codec.proofs.Laws.{IsBytes-back}
 use Rattle.wasm_codec.proofs.BodyLaws.{Lawful-to-end, IsBytes-prefix, body_sound, unsigned_leb128-mono}
@@ -53,7 +54,7 @@ pub record BodyDone {A : Type 0} (F : Format A) (old end : Rewriting) (mark size
   pub begun : mark + length (unsigned_leb128 size) ≤ length end.done
   pub there : take (length (unsigned_leb128 size)) (drop mark end.done) ≡ unsigned_leb128 size
   pub shorter : length end.done - (mark + length (unsigned_leb128 size)) ≤ size
-  pub within : behind ≤ length end.rest
+  pub within : behind ≤ length end.rest.bytes
   pub rewrites : rewriting_after (sized F) old ≡ Some (widened behind (resized mark (length (unsigned_leb128 size)) end))
 
 pub body_done : {A : Type 0} {F : Format A} → IsLawfulBody F → (old mid end : Rewriting) (mark size behind : ℕ) → IsBytes old.place.left → IsOpen old mid mark size behind → rewriting_after F mid ≡ Some end → end.place.left ≡ [] → BodyDone F old end mark size behind
@@ -72,11 +73,11 @@ body_done {A} {F} r old mid end mark size behind bytes o e none =
     let back : drop mark end.done ≡ digits ++ F.bytes v = ap (drop mark) (written ∙ append_assoc old.done digits (F.bytes v)) ∙ drop_at old.done (digits ++ F.bytes v) mark (sym o.mark_is) in
     let first : take mark end.done ≡ old.done = ap (take mark) (written ∙ append_assoc old.done digits (F.bytes v)) ∙ take_at old.done (digits ++ F.bytes v) mark (sym o.mark_is) in
     let last : drop (mark + length digits) end.done ≡ F.bytes v = ap (drop (mark + length digits)) written ∙ drop_at (old.done ++ digits) (F.bytes v) (mark + length digits) front in
-    let rest : end.rest ≡ o.after.left ++ old.rest = one.given.rest ∙ ap (λ (m : Rewriting). m.rest) o.within in
+    let rest : end.rest ≡ rest_of (o.after.left ++ old.rest.bytes) old.rest.name = one.given.rest ∙ ap (λ (m : Rewriting). m.rest) o.within in
     let count : length end.done - (mark + length digits) ≡ length (F.bytes v) = omega (arith, long) in
     let read : F.at (place o.after.shortest o.body) ≡ Some (v, end.place) = ap (λ (m : Rewriting). F.at m.place) (sym o.within) ∙ one.given.is_read in
-    let left : take behind end.rest ≡ o.after.left = ap (take behind) rest ∙ take_at o.after.left old.rest behind (sym o.behind_is) in
-    let over : drop behind end.rest ≡ old.rest = ap (drop behind) rest ∙ drop_at o.after.left old.rest behind (sym o.behind_is) in
+    let left : take behind end.rest.bytes ≡ o.after.left = ap (λ (t : Rest). take behind t.bytes) rest ∙ take_at o.after.left old.rest.bytes behind (sym o.behind_is) in
+    let over : rest_of (drop behind end.rest.bytes) end.rest.name ≡ old.rest = ap (λ (t : Rest). rest_of (drop behind t.bytes) t.name) rest ∙ ap (λ (t : List ℕ). rest_of t old.rest.name) (drop_at o.after.left old.rest.bytes behind (sym o.behind_is)) in
     let after = widened behind (resized mark (length digits) end) in
     let done : after.done ≡ old.done ++ (sized F).bytes v = rw (first, last, count) refl in
     let there : (sized F).at old.place ≡ Some (v, after.place) = sized_read F old.place o.after end.place o.body v o.is_read read none ∙ ap (λ (l : List ℕ). Some (v, place end.place.shortest l)) (sym left) in
@@ -84,7 +85,7 @@ body_done {A} {F} r old mid end mark size behind bytes o e none =
       begun = omega (arith, long);
       there = ap (take (length digits)) back ∙ take_at digits (F.bytes v) (length digits) refl;
       shorter = omega (arith, long, short, o.size_is);
-      within = omega (arith, ap (length {A = ℕ}) rest, length-append o.after.left old.rest, o.behind_is);
+      within = omega (arith, ap (λ (t : Rest). length t.bytes) rest, length-append o.after.left old.rest.bytes, o.behind_is);
       rewrites = after_is (sized F) old after v there done over;
     }
 
@@ -102,7 +103,7 @@ joined_done {V} {F} r some start end fits e none =
     record { values = one.value; encodes = (Lawful-to-end r some).reads.sound start.place one.value end.place fits one.given.is_read none; written = one.given.written }
 
 -- from the beginning they are the normal form
-pub joined_given : {V : Type 0} {F : Format V} → IsLawful F → TakesBytes F.Encodes → (start end : Rewriting) (bytes : List ℕ) → IsBytes bytes → start ≡ rewriting [] (place true bytes) [] → rewriting_after (to_end F) start ≡ Some end → end.place.left ≡ []
+pub joined_given : {V : Type 0} {F : Format V} → IsLawful F → TakesBytes F.Encodes → (start end : Rewriting) (bytes : List ℕ) → IsBytes bytes → {g : GName} → start ≡ rewriting [] (place true bytes) (rest_of [] g) → rewriting_after (to_end F) start ≡ Some end → end.place.left ≡ []
     → IsNormalForm (Joined F.Encodes) (flat_map F.bytes) bytes end.done
 joined_given {V} {F} r some start end bytes fits start-is e none =
     let all = joined_done r some start end (subst IsBytes (sym (ap (λ (s : Rewriting). s.place.left) start-is)) fits) e none in

@@ -1,6 +1,8 @@
 -- What a caller gets of a call that decodes all of its bytes follows from what its implementation owes, by the law of the format.
-use Rattle.std.proofs.Common.{◌≡◌, refl, ◌≤◌, ℕ, List, length, Result, Ok, Err, IfOk, ap, arith}
+use Rattle.std.proofs.Common.{◌≡◌, ◌∙◌, refl, sym, subst, ◌≤◌, ℕ, List, ◌++◌, length, take, Result, Ok, Err, IfOk, ap, arith}
+use Rattle.std.proofs.lemmas.List.{take_at}
 use Rattle.std.specs.Global.{Vec}
+use Rattle.wasm_codec.specs.declared.reader.DecodeError.{DecodeError}
 use Rattle.wasm_codec.specs.declared.reader.ReadError.{ReadError}
 use Rattle.wasm_codec.specs.declared.reader.ReadError.TheVariants as errors
 use Rattle.wasm_codec.specs.declared.reader.cursor.Fault.{Fault}
@@ -8,8 +10,8 @@ use Rattle.wasm_codec.specs.declared.reader.cursor.Fault.TheVariants as faults
 use Rattle.wasm_codec.specs.formats.Grammar.{Grammar}
 use Rattle.wasm_codec.specs.formats.Combinators.{Format}
 use Rattle.wasm_codec.specs.Lawful.{IsLawfulBody}
-use Rattle.wasm_codec.specs.Outcomes.{error_of, IsMalformed, IsNormalForm, NeedsNoMemory}
-use Rattle.wasm_codec.specs.Decoding.{IsMinimal, ReadsAll, ChecksAll, RewritesAll, Decodes, DecodesMinimal, Checks, NormalisesInPlace, Normalises}
+use Rattle.wasm_codec.specs.Outcomes.{as_read, error_of, IsMalformed, IsNormalForm, NeedsNoMemory}
+use Rattle.wasm_codec.specs.Decoding.{IsMinimal, ReadsAll, ChecksAll, RewritesTo, RewritesAll, RewritesInPlace, Decodes, DecodesMinimal, Checks, NormalisesTo, NormalisesInPlace, NormalisesSlice, Normalises}
 use Rattle.wasm_codec.proofs.FormatLaws.{not_longer}
 use Rattle.wasm_codec.proofs.BodyLaws.{encodes_one}
 use Rattle.wasm_codec.proofs.ListReading.{gives_all, gives_bytes, gives_same, gives_normal, gives_itself, was_shortest}
@@ -27,6 +29,10 @@ no_longer : {V : Type 0} {F : Format V} → IsLawfulBody F → (bytes : List ℕ
 no_longer {F = F} r bytes (Ok encoding) n = omega (arith, not_longer bytes (F.bytes n.value) (r.shortest.least bytes n.value n.encoded), ap (length {A = ℕ}) n.is_shortest)
 no_longer r bytes (Err e) n = tt
 
+-- what is in a vector whose slice was rewritten, once it is truncated
+pub truncated_items : (new tail after : List ℕ) (all len : ℕ) → all ≡ length new → after ≡ take len (take all (new ++ tail)) → after ≡ take len new
+truncated_items new tail after all len whole truncated = truncated ∙ ap (take len) (take_at new tail all (sym whole))
+
 module _ {V : Type 0} {F : Format V} (r : IsLawfulBody F) {IsPrefix : List ℕ → Type 0} (bytes : List ℕ) where
   pub decodes : {X : Type 0} (view : X → V) (result : Result X ReadError) → ReadsAll view F.Encodes IsPrefix bytes result → Decodes view F IsPrefix bytes result
   decodes view result reads = record {
@@ -38,14 +44,38 @@ module _ {V : Type 0} {F : Format V} (r : IsLawfulBody F) {IsPrefix : List ℕ �
     shortest = r.shortest.least bytes;
   }
 
-  pub normalises_in_place : (result : Result (Vec ℕ) ReadError) → RewritesAll F IsPrefix bytes result → NeedsNoMemory result → NormalisesInPlace F IsPrefix bytes result
-  normalises_in_place result rewrites memory = record {
+  pub normalises_to : {X : Type 0} (encoding : X → List ℕ) (result : Result X ReadError) → RewritesTo F IsPrefix bytes encoding result → NeedsNoMemory result → NormalisesTo F IsPrefix bytes encoding result
+  normalises_to encoding result rewrites memory = record {
     given = rewrites.given;
-    complete = gives_bytes (encodes_one r) F.bytes items_of bytes result rewrites.given rewrites.unencoded;
+    complete = gives_bytes (encodes_one r) F.bytes encoding bytes result rewrites.given rewrites.unencoded;
     prefix = rewrites.prefix;
     unencoded = rewrites.unencoded;
     memory = memory;
   }
+
+  pub normalises_in_place : (result : Result (Vec ℕ) ReadError) → RewritesAll F IsPrefix bytes result → NeedsNoMemory result → NormalisesInPlace F IsPrefix bytes result
+  normalises_in_place result rewrites memory = normalises_to items_of result rewrites memory
+
+  -- a slice that was rewritten in place
+  pub normalises_slice : (new : List ℕ) (result : Result ℕ DecodeError) → IfOk result (λ len. len ≤ length new) → RewritesInPlace F IsPrefix bytes new (as_read result) → NeedsNoMemory (as_read result) → NormalisesSlice F IsPrefix bytes new (as_read result)
+  normalises_slice new result len rewrites memory = record { within = within result len; normalises = normalises_to (λ n. take n new) (as_read result) rewrites memory } where
+    within : (result : Result ℕ DecodeError) → IfOk result (λ n. n ≤ length new) → IfOk (as_read result) (λ n. n ≤ length new)
+    within (Ok n) le = le
+    within (Err e) le = tt
+
+  -- a vector that was rewritten in place, and truncated to the length of the encoding
+  pub rewritten_vector : (old new tail : List ℕ) (all len : ℕ) (result : Result ℕ ReadError) (given : Vec ℕ) → result ≡ Ok len → old ≡ bytes → all ≡ length new → given.items ≡ take len (take all (new ++ tail))
+      → RewritesInPlace F IsPrefix old new result → NormalisesInPlace F IsPrefix bytes (Ok given)
+  rewritten_vector old new tail all len result given is same whole truncated rewrites =
+      let items = truncated_items new tail given.items all len whole truncated in
+      let r : RewritesInPlace F IsPrefix old new (Ok len) = subst (λ (r : Result ℕ ReadError). RewritesInPlace F IsPrefix old new r) is rewrites in
+      normalises_in_place (Ok given) (record { given = rw (← same, items) r.given; prefix = tt; unencoded = tt }) tt
+
+  -- one that was refused
+  pub refused_vector : (old new : List ℕ) (error : ReadError) (result : Result ℕ ReadError) → result ≡ Err error → old ≡ bytes → RewritesInPlace F IsPrefix old new result → NeedsNoMemory result → NormalisesInPlace F IsPrefix bytes (Err error)
+  refused_vector old new error result is same rewrites memory =
+      let r : RewritesInPlace F IsPrefix old new (Err error) = subst (λ (r : Result ℕ ReadError). RewritesInPlace F IsPrefix old new r) is rewrites in
+      normalises_in_place (Err error) (record { given = tt; prefix = rw (← same) r.prefix; unencoded = rw (← same) r.unencoded }) (subst (λ (r : Result ℕ ReadError). NeedsNoMemory r) is memory)
 
   module _ {Minimal : Grammar V} (is : IsMinimal F Minimal) where
     pub decodes_minimal : {X : Type 0} (view : X → V) (result : Result X ReadError) → ReadsAll view Minimal IsPrefix bytes result → DecodesMinimal view F Minimal IsPrefix bytes result

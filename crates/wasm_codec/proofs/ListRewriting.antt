@@ -1,4 +1,5 @@
 -- The laws of lists that are rewritten from the beginning, with nothing left over.
+use Rattle.std.specs.Borrow.{GName}
 use Rattle.std.proofs.Common.{◌≡◌, ℕ, ◌+◌, ◌-◌, ◌<◌, ◌≤◌, true, List, [], ◌∷◌, ◌++◌, length, Some, None, Err, refl, sym, ap, subst, ◌∙◌, length-append, arith}
 use Rattle.std.proofs.lemmas.List.{append-nil, flat_map_more}
 use Rattle.std.specs.List.{flat_map}
@@ -13,7 +14,7 @@ use Rattle.wasm_codec.specs.formats.Numbers.{EncodesU32}
 use Rattle.wasm_codec.specs.Leb128.{unsigned_leb128}
 use Rattle.wasm_codec.specs.Places.{place}
 use Rattle.wasm_codec.specs.formats.Combinators.{Format, u32}
-use Rattle.wasm_codec.specs.Rewriter.{RewritesList, Rewriting, rewriting, rewritten_at, rewriting_after, Gives, Rewrites, RefusesList}
+use Rattle.wasm_codec.specs.Rewriter.{RewritesList, Rewriting, rest_of, rewriting, rewritten_at, rewriting_after, Gives, Rewrites, RefusesList}
 use Rattle.wasm_codec.proofs.FormatLaws.{Lawful-u32}
 use Rattle.wasm_codec.proofs.Laws.{IsBytes-after}
 use Rattle.wasm_codec.proofs.ListLaws.{Gone, gone_none, gone_more, all_read, whole_given, left_unencoded, none_unencoded, Answered, count_wanting, item_wanting, all_answered, unread_count, unread_item}
@@ -27,7 +28,7 @@ pub record ListGoing {V : Type 0} (F : Format V) (bytes : List ℕ) (here : Rewr
   pub written : here.done ≡ unsigned_leb128 count ++ flat_map F.bytes values
   pub bytes_left : IsBytes here.place.left
 
-pub list_begun : {V : Type 0} (F : Format V) (bytes : List ℕ) (start here : Rewriting) (count : ℕ) → IsBytes bytes → start ≡ rewriting [] (place true bytes) [] → rewritten_at u32 start ≡ Some (count, here) → ListGoing F bytes here count 0
+pub list_begun : {V : Type 0} (F : Format V) (bytes : List ℕ) (start here : Rewriting) (count : ℕ) → IsBytes bytes → {g : GName} → start ≡ rewriting [] (place true bytes) (rest_of [] g) → rewritten_at u32 start ≡ Some (count, here) → ListGoing F bytes here count 0
 list_begun F bytes start here count fits start-is e =
     let g = is_given u32 start count here e in
     let read : u32.at (place true bytes) ≡ Some (count, here.place) = ap (λ (s : Rewriting). u32.at s.place) (sym start-is) ∙ g.is_read in
@@ -64,7 +65,7 @@ longest_from Whole bytes left a =
 refused_by : {V : Type 0} (F : Format V) (bytes left : List ℕ) {m : Malformed} → Answered {X = List V} EncodesU32 (plain u32.at) F.Encodes (plain F.at) bytes left (Err (faults.Malformed m)) → list_at (plain F.at) bytes ≡ None → RefusesList F bytes (length bytes - length left)
 refused_by F bytes left a none = record { prefix = longest_from (IsListPrefix F.Encodes) bytes left a.prefix; unencoded = none_unencoded bytes a.finds none }
 
-pub no_count_there : {V : Type 0} (F : Format V) (bytes : List ℕ) (start new : Rewriting) (fault : Fault) → IsBytes bytes → start ≡ rewriting [] (place true bytes) [] → Gives u32 start new (Err fault) → RefusesList F bytes 0
+pub no_count_there : {V : Type 0} (F : Format V) (bytes : List ℕ) (start new : Rewriting) (fault : Fault) → IsBytes bytes → {g : GName} → start ≡ rewriting [] (place true bytes) (rest_of [] g) → Gives u32 start new (Err fault) → RefusesList F bytes 0
 no_count_there F bytes start new faults.Memory fits start-is none = absurd none
 no_count_there {V} F bytes start new (faults.Malformed m) fits start-is none =
     let read : plain u32.at bytes ≡ None = plain_none Lawful-u32 (place true bytes) fits (ap (λ (s : Rewriting). u32.at s.place) (sym start-is) ∙ none) in
@@ -80,13 +81,13 @@ no_item_there {V} {F} r some bytes here new count i (faults.Malformed m) w lt no
     refused_by F bytes here.place.left a (unread_item bytes here.place.left here.place.left count i w.values (faults.Malformed m) w.gone lt read)
 
 -- the same, as the error of a call
-pub no_count_error : {V : Type 0} (F : Format V) (bytes : List ℕ) (start new : Rewriting) (fault : Fault) → IsBytes bytes → start ≡ rewriting [] (place true bytes) [] → Gives u32 start new (Err fault) → RewritesList F bytes (Err (error_of fault 0))
-no_count_error F bytes start new faults.Memory fits start-is none = absurd none
-no_count_error F bytes start new (faults.Malformed m) fits start-is none = no_count_there F bytes start new (faults.Malformed m) fits start-is none
+pub no_count_error : {X V : Type 0} (written : X → List ℕ) (F : Format V) (bytes : List ℕ) (start new : Rewriting) (fault : Fault) → IsBytes bytes → {g : GName} → start ≡ rewriting [] (place true bytes) (rest_of [] g) → Gives u32 start new (Err fault) → RewritesList F bytes written (Err (error_of fault 0))
+no_count_error written F bytes start new faults.Memory fits start-is none = absurd none
+no_count_error written F bytes start new (faults.Malformed m) fits start-is none = no_count_there F bytes start new (faults.Malformed m) fits start-is none
 
-pub no_item_error : {V : Type 0} {F : Format V} → IsLawful F → TakesBytes F.Encodes → (bytes : List ℕ) (here new : Rewriting) (count i at : ℕ) (fault : Fault) → ListGoing F bytes here count i → i < count → at ≡ length bytes - length here.place.left → Rewrites F here new (Err fault) → RewritesList F bytes (Err (error_of fault at))
-no_item_error r some bytes here new count i at faults.Memory w lt is none = absurd none
-no_item_error {F = F} r some bytes here new count i at (faults.Malformed m) w lt is none = subst (RefusesList F bytes) (sym is) (no_item_there r some bytes here new count i (faults.Malformed m) w lt none)
+pub no_item_error : {X V : Type 0} (written : X → List ℕ) {F : Format V} → IsLawful F → TakesBytes F.Encodes → (bytes : List ℕ) (here new : Rewriting) (count i at : ℕ) (fault : Fault) → ListGoing F bytes here count i → i < count → at ≡ length bytes - length here.place.left → Rewrites F here new (Err fault) → RewritesList F bytes written (Err (error_of fault at))
+no_item_error written r some bytes here new count i at faults.Memory w lt is none = absurd none
+no_item_error written {F = F} r some bytes here new count i at (faults.Malformed m) w lt is none = subst (RefusesList F bytes) (sym is) (no_item_there r some bytes here new count i (faults.Malformed m) w lt none)
 
 pub left_over : {V : Type 0} (F : Format V) (bytes : List ℕ) (here : Rewriting) (count i : ℕ) → ListGoing F bytes here count i → i ≡ count → 0 < length here.place.left → RefusesList F bytes (length bytes - length here.place.left)
 left_over {V} F bytes here count i w full more =

@@ -10,7 +10,7 @@ use Rattle.wasm_codec.specs.Leb128.{unsigned_leb128}
 use Rattle.wasm_codec.specs.Places.{Place, Reader, place, u32_at}
 use Rattle.wasm_codec.specs.formats.Combinators.{Format, items, u32}
 use Rattle.wasm_codec.specs.formats.Bodies.{at_end, until_end, to_end}
-use Rattle.wasm_codec.specs.Rewriter.{Rewriting, rewriting, rewritten_at, rewriting_after, Rewrites, RewritesAll, skipped}
+use Rattle.wasm_codec.specs.Rewriter.{Rewriting, rest_of, rewriting, rewritten_at, rewriting_after, Rewrites, RewritesAll, skipped}
 use Rattle.wasm_codec.specs.Scanning.{ReadsShort, BeginsShort}
 use Rattle.wasm_codec.proofs.Shortening.{kept_is, without_value, bytes_after, takes_some}
 use Rattle.std.proofs.lemmas.List.{drop_at, take_at}
@@ -230,7 +230,7 @@ pub record ReadsRun {V : Type 0} (F : Format V) (bytes : List ℕ) : Type 0 wher
 pub run_read : {V : Type 0} {F : Format V} → IsLawful F → TakesBytes F.Encodes → (bytes : List ℕ) (run : ℕ) → IsBytes bytes → BeginsShort F bytes run → ReadsRun F (take run bytes)
 run_read {V} {F} law some bytes run fits begins =
     let first = take run bytes in
-    let old = rewriting [] (place true first) [] in
+    let old = rewriting [] (place true first) (rest_of [] 0) in
     let here = skipped run old in
     let size : length first ≤ run = omega (arith, length-take run bytes) in
     let none : drop run first ≡ [] = drop_all run first size in

@@ -3,6 +3,7 @@ use Rattle.std.proofs.Common.{◌≡◌, ℕ, zero, suc, ◌+◌, ◌-◌, ◌%�
 use Rattle.std.proofs.lemmas.List.{append-nil, length-drop, length-take-le, drop-drop, drop-take, take-take, take_at, drop_at, take_more_set, drop-set-lt, get_or-take, take-append-drop, drop_more}
 use lib.Seq.{paste}
 use Rattle.std.proofs.lemmas.List.Edits.{take-paste, drop-paste}
+use Rattle.std.specs.Borrow.{GName}
 use Rattle.wasm_codec.specs.Places.{place, byte_at}
 use Rattle.wasm_codec.specs.Rewriter.{Rewriting, rewritten_at, seen, skipped, shortened, without, with_byte, limited, resized, cut, done_of}
 use Rattle.wasm_codec.specs.Leb128.{unsigned_leb128}
@@ -49,8 +50,8 @@ cut_first (suc zero) (suc m) (b ∷ run) le = refl
 cut_first (suc (suc n)) (suc m) (b ∷ run) le = ap (λ (t : List ℕ). b ∷ t) (cut_first (suc n) m run (omega arith))
 
 -- so many bytes were passed, and stay
-pub stays : (bytes : List ℕ) (written from position end : ℕ) (s : Bool) (n : ℕ) → from ≤ position → position + n ≤ end → seen bytes written from (position + n) end s ≡ skipped n (seen bytes written from position end s)
-stays bytes written from position end s n run fits = rw (run_grows bytes written from position end n run fits, left_after bytes position end n fits) refl
+pub stays : (bytes : List ℕ) (written from position end : ℕ) (s : Bool) (g : GName) (n : ℕ) → from ≤ position → position + n ≤ end → seen bytes written from (position + n) end s g ≡ skipped n (seen bytes written from position end s g)
+stays bytes written from position end s g n run fits = rw (run_grows bytes written from position end n run fits, left_after bytes position end n fits) refl
 
 pub length_done : (bytes : List ℕ) (written from position : ℕ) → written ≤ from → from ≤ position → position ≤ length bytes → length (done_of bytes written from position) ≡ written + (position - from)
 length_done bytes written from position gap run fits =
@@ -71,11 +72,11 @@ end_set moved begin run last k x e le at within is =
     ∙ ap (λ (i : ℕ). take i (begin ++ run) ++ get_or (begin ++ run) i 0 % 128 ∷ []) (sym at) ∙ cut_after begin run k le
 
 -- a number was cut: its first bytes end the run, which was moved, and the last of them was written over
-pub shortens : (bytes moved : List ℕ) (written from position end : ℕ) (s : Bool) (kept n : ℕ) → written ≤ from → from ≤ position → 0 < kept → kept ≤ n → position + n ≤ end → end ≤ length bytes → length moved ≡ length bytes
+pub shortens : (bytes moved : List ℕ) (written from position end : ℕ) (s : Bool) (g : GName) (kept n : ℕ) → written ≤ from → from ≤ position → 0 < kept → kept ≤ n → position + n ≤ end → end ≤ length bytes → length moved ≡ length bytes
     → (to : ℕ) → to ≡ written + (position + kept - from) → take to moved ≡ done_of bytes written from (position + kept) → drop (position + kept) moved ≡ drop (position + kept) bytes
-    → (x : ℕ) → x ≡ get_or moved (to - 1) 0 → seen (set moved (to - 1) (x % 128)) to (position + n) (position + n) end false ≡ shortened kept n (seen bytes written from position end s)
-shortens bytes moved written from position end s zero n gap run some le fits within len to to-is done left x is = absurd (omega arith)
-shortens bytes moved written from position end s (suc k) n gap run some le fits within len to to-is done left x is =
+    → (x : ℕ) → x ≡ get_or moved (to - 1) 0 → seen (set moved (to - 1) (x % 128)) to (position + n) (position + n) end false g ≡ shortened kept n (seen bytes written from position end s g)
+shortens bytes moved written from position end s g zero n gap run some le fits within len to to-is done left x is = absurd (omega arith)
+shortens bytes moved written from position end s g (suc k) n gap run some le fits within len to to-is done left x is =
     let last = to - 1 in
     let begin = done_of bytes written from position in
     let left_here = take (end - position) (drop position bytes) in
@@ -92,40 +93,40 @@ shortens bytes moved written from position end s (suc k) n gap run some le fits 
 
 -- ---- the byte that comes next
 
-pub next_byte : (bytes : List ℕ) (position end x : ℕ) → position < end → end ≤ length bytes → x ≡ get_or bytes position x → take (end - position) (drop position bytes) ≡ x ∷ take (end - (position + 1)) (drop (position + 1) bytes)
+pub next_byte : (bytes : List ℕ) (position end x : ℕ) → position < end → end ≤ length bytes → x ≡ get_or bytes position 0 → take (end - position) (drop position bytes) ≡ x ∷ take (end - (position + 1)) (drop (position + 1) bytes)
 next_byte bytes position end x lt fits is =
     let k : end - position ≡ suc (end - (position + 1)) = omega arith in
-    rw (k, drop_more bytes position x (omega arith)) (ap (λ (b : ℕ). b ∷ take (end - (position + 1)) (drop (position + 1) bytes)) (sym is))
+    rw (k, drop_more bytes position 0 (omega arith)) (ap (λ (b : ℕ). b ∷ take (end - (position + 1)) (drop (position + 1) bytes)) (sym is))
 
 pub nothing_left : (bytes : List ℕ) (position end : ℕ) → position ≡ end → take (end - position) (drop position bytes) ≡ []
 nothing_left bytes position end e =
     let k : end - position ≡ 0 = omega arith in
     ap (λ (i : ℕ). take i (drop position bytes)) k
 
-pub byte_there : (bytes : List ℕ) (written from position end : ℕ) (s : Bool) (x : ℕ) → position < end → end ≤ length bytes → x ≡ get_or bytes position x → byte_at (seen bytes written from position end s).place ≡ Some (x, place s (take (end - (position + 1)) (drop (position + 1) bytes)))
+pub byte_there : (bytes : List ℕ) (written from position end : ℕ) (s : Bool) (g : GName) (x : ℕ) → position < end → end ≤ length bytes → x ≡ get_or bytes position 0 → byte_at (seen bytes written from position end s g).place ≡ Some (x, place s (take (end - (position + 1)) (drop (position + 1) bytes)))
 unfolding byte_at
-byte_there bytes written from position end s x lt fits is = rw (next_byte bytes position end x lt fits is) refl
+byte_there bytes written from position end s g x lt fits is = rw (next_byte bytes position end x lt fits is) refl
 
-pub no_byte : (bytes : List ℕ) (written from position end : ℕ) (s : Bool) → position ≡ end → byte_at (seen bytes written from position end s).place ≡ None
+pub no_byte : (bytes : List ℕ) (written from position end : ℕ) (s : Bool) (g : GName) → position ≡ end → byte_at (seen bytes written from position end s g).place ≡ None
 unfolding byte_at
-no_byte bytes written from position end s e = rw (nothing_left bytes position end e) refl
+no_byte bytes written from position end s g e = rw (nothing_left bytes position end e) refl
 
-pub byte_stays : (bytes : List ℕ) (written from position end : ℕ) (s : Bool) (x : ℕ) → from ≤ position → position < end → end ≤ length bytes → x ≡ get_or bytes position x → rewritten_at a_byte (seen bytes written from position end s) ≡ Some (x, seen bytes written from (position + 1) end s)
-byte_stays bytes written from position end s x run lt fits is =
+pub byte_stays : (bytes : List ℕ) (written from position end : ℕ) (s : Bool) (g : GName) (x : ℕ) → from ≤ position → position < end → end ≤ length bytes → x ≡ get_or bytes position 0 → rewritten_at a_byte (seen bytes written from position end s g) ≡ Some (x, seen bytes written from (position + 1) end s g)
+byte_stays bytes written from position end s g x run lt fits is =
     let one : take 1 (take (end - position) (drop position bytes)) ≡ x ∷ [] = ap (take 1) (next_byte bytes position end x lt fits is) in
     let grown : done_of bytes written from (position + 1) ≡ done_of bytes written from position ++ x ∷ [] = run_grows bytes written from position end 1 run (omega arith) ∙ ap (λ (t : List ℕ). done_of bytes written from position ++ t) one in
-    rw (byte_there bytes written from position end s x lt fits is, grown) refl
+    rw (byte_there bytes written from position end s g x lt fits is, grown) refl
 
 -- ---- how much is left
 
-pub length_left : (bytes : List ℕ) (written from position end : ℕ) (s : Bool) → position ≤ end → end ≤ length bytes → (r : Rewriting) → seen bytes written from position end s ≡ r → length r.place.left ≡ end - position
-length_left bytes written from position end s le fits r is =
+pub length_left : (bytes : List ℕ) (written from position end : ℕ) (s : Bool) (g : GName) → position ≤ end → end ≤ length bytes → (r : Rewriting) → seen bytes written from position end s g ≡ r → length r.place.left ≡ end - position
+length_left bytes written from position end s g le fits r is =
     ap (λ (q : Rewriting). length q.place.left) (sym is) ∙ length-take-le (end - position) (drop position bytes) (omega (arith, length-drop position bytes))
 
 -- ---- the end of what is left
 
-pub limits_the_rest : (bytes : List ℕ) (written from position end : ℕ) (s : Bool) (size : ℕ) → position + size ≤ end → end ≤ length bytes → seen bytes written from position (position + size) s ≡ limited size (seen bytes written from position end s)
-limits_the_rest bytes written from position end s size le fits =
+pub limits_the_rest : (bytes : List ℕ) (written from position end : ℕ) (s : Bool) (g : GName) (size : ℕ) → position + size ≤ end → end ≤ length bytes → seen bytes written from position (position + size) s g ≡ limited size (seen bytes written from position end s g)
+limits_the_rest bytes written from position end s g size le fits =
     let k : position + size - position ≡ size = omega arith in
     let first : take (position + size - position) (drop position bytes) ≡ take size (take (end - position) (drop position bytes)) = ap (λ (i : ℕ). take i (drop position bytes)) k ∙ sym (first_left bytes position end size le) in
     let m : end - (position + size) + (position + size) ≡ end = omega arith in
@@ -157,9 +158,9 @@ closed bytes written position =
     let none : position - position ≡ 0 = omega arith in
     rw none (append-nil (take written bytes))
 
-pub cuts_out : (bytes moved : List ℕ) (written from position end : ℕ) (s : Bool) (to mark count : ℕ) → position ≤ end → to ≤ position → position ≤ length moved → take to moved ≡ done_of bytes written from position → drop position moved ≡ drop position bytes → mark + count ≤ to
-    → seen (paste moved mark (drop (mark + count) moved) (to - (mark + count))) (to - count) position position end false ≡ without mark count (seen bytes written from position end s)
-cuts_out bytes moved written from position end s to mark count fits below within done left le =
+pub cuts_out : (bytes moved : List ℕ) (written from position end : ℕ) (s : Bool) (g : GName) (to mark count : ℕ) → position ≤ end → to ≤ position → position ≤ length moved → take to moved ≡ done_of bytes written from position → drop position moved ≡ drop position bytes → mark + count ≤ to
+    → seen (paste moved mark (drop (mark + count) moved) (to - (mark + count))) (to - count) position position end false g ≡ without mark count (seen bytes written from position end s g)
+cuts_out bytes moved written from position end s g to mark count fits below within done left le =
     let begin = mark + count in
     let cut = paste moved mark (drop begin moved) (to - begin) in
     let some : to - begin ≤ length (drop begin moved) = omega (arith, length-drop begin moved) in
@@ -172,18 +173,18 @@ cuts_out bytes moved written from position end s to mark count fits below within
     let behind : (i : ℕ) → position ≤ i → drop i cut ≡ drop i bytes = λ i far. later cut moved (mark + (to - begin)) i (omega arith) (drop-paste moved mark (drop begin moved) (to - begin) (omega arith) some) ∙ later moved bytes position i far left in
     rw (whole, behind position (omega arith), behind end fits) refl
 
-pub sets_byte : (bytes moved : List ℕ) (written from position end : ℕ) (s : Bool) (to mark x : ℕ) → position ≤ end → to ≤ position → take to moved ≡ done_of bytes written from position → drop position moved ≡ drop position bytes → mark < to
-    → seen (set moved mark x) to position position end s ≡ with_byte mark x (seen bytes written from position end s)
-sets_byte bytes moved written from position end s to mark x fits below done left lt =
+pub sets_byte : (bytes moved : List ℕ) (written from position end : ℕ) (s : Bool) (g : GName) (to mark x : ℕ) → position ≤ end → to ≤ position → take to moved ≡ done_of bytes written from position → drop position moved ≡ drop position bytes → mark < to
+    → seen (set moved mark x) to position position end s g ≡ with_byte mark x (seen bytes written from position end s g)
+sets_byte bytes moved written from position end s g to mark x fits below done left lt =
     let prefix : done_of (set moved mark x) to position position ≡ set (done_of bytes written from position) mark x =
     closed (set moved mark x) to position ∙ take_set to moved mark x ∙ ap (λ (t : List ℕ). set t mark x) done in
     let behind : (i : ℕ) → position ≤ i → drop i (set moved mark x) ≡ drop i bytes = λ i far. drop-set-lt i moved mark x (omega arith) ∙ later moved bytes position i far left in
     rw (prefix, behind position (omega arith), behind end fits) refl
 
-pub resizes : (bytes moved sized : List ℕ) (written from position end : ℕ) (s : Bool) (to mark digits new : ℕ) → position ≤ end → to ≤ position → take to moved ≡ done_of bytes written from position → length (done_of bytes written from position) ≡ to → drop position moved ≡ drop position bytes → mark + digits ≤ to
+pub resizes : (bytes moved sized : List ℕ) (written from position end : ℕ) (s : Bool) (g : GName) (to mark digits new : ℕ) → position ≤ end → to ≤ position → take to moved ≡ done_of bytes written from position → length (done_of bytes written from position) ≡ to → drop position moved ≡ drop position bytes → mark + digits ≤ to
     → take new sized ≡ take mark moved ++ (unsigned_leb128 (to - (mark + digits)) ++ take (to - (mark + digits)) (drop (mark + digits) moved)) → drop to sized ≡ drop to moved
-    → seen sized new position position end s ≡ resized mark digits (seen bytes written from position end s)
-resizes bytes moved sized written from position end s to mark digits new fits below done len left le is behind =
+    → seen sized new position position end s g ≡ resized mark digits (seen bytes written from position end s g)
+resizes bytes moved sized written from position end s g to mark digits new fits below done len left le is behind =
     let begin = mark + digits in
     let first : take mark moved ≡ take mark (done_of bytes written from position) = sym (take-take mark to moved (omega arith)) ∙ ap (take mark) done in
     let k : begin + (to - begin) ≡ to = omega arith in
@@ -194,8 +195,8 @@ resizes bytes moved sized written from position end s to mark digits new fits be
     let after : (i : ℕ) → position ≤ i → drop i sized ≡ drop i bytes = λ i far. later sized moved to i (omega arith) behind ∙ later moved bytes position i far left in
     rw (whole, after position (omega arith), after end fits) refl
 
-pub length_all : (bytes : List ℕ) (written from position end : ℕ) (s : Bool) → written ≤ from → from ≤ position → position ≤ length bytes → (r : Rewriting) → seen bytes written from position end s ≡ r → length r.done ≡ written + (position - from)
-length_all bytes written from position end s gap run fits r is = ap (λ (q : Rewriting). length q.done) (sym is) ∙ length_done bytes written from position gap run fits
+pub length_all : (bytes : List ℕ) (written from position end : ℕ) (s : Bool) (g : GName) → written ≤ from → from ≤ position → position ≤ length bytes → (r : Rewriting) → seen bytes written from position end s g ≡ r → length r.done ≡ written + (position - from)
+length_all bytes written from position end s g gap run fits r is = ap (λ (q : Rewriting). length q.done) (sym is) ∙ length_done bytes written from position gap run fits
 
 -- ---- a size is written before what it counts
 

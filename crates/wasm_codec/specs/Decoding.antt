@@ -1,5 +1,5 @@
 -- Calls that decode all of the bytes that they are given.
-use Rattle.std.specs.Prelude.{◌≡◌, ◌↔◌, ◌≤◌, ℕ, List, length, Result, IfOk}
+use Rattle.std.specs.Prelude.{◌≡◌, ◌↔◌, ◌≤◌, ℕ, List, length, take, Result, IfOk}
 use Rattle.std.specs.Global.{Vec}
 use Rattle.wasm_codec.specs.declared.reader.ReadError.{ReadError}
 use Rattle.wasm_codec.specs.formats.Grammar.{Grammar}
@@ -31,14 +31,22 @@ pub record ChecksAll {V : Type 0} (Minimal : Grammar V) (IsPrefix : List ℕ →
   -- It refuses only bytes that are no minimal encoding.
   pub unencoded : IfRefused result (λ _. (value : V) → Minimal bytes value → ⊥)
 
--- What a call returns that rewrites all of the bytes to their minimal encoding.
-pub record RewritesAll {V : Type 0} (F : Format V) (IsPrefix : List ℕ → Type 0) (bytes : List ℕ) (result : Result (Vec ℕ) ReadError) : Type 0 where
+-- What a call returns that rewrites all of the bytes to their minimal encoding. `encoding` is where its result has it.
+pub record RewritesTo {X V : Type 0} (F : Format V) (IsPrefix : List ℕ → Type 0) (bytes : List ℕ) (encoding : X → List ℕ) (result : Result X ReadError) : Type 0 where
   -- It returns the minimal encoding of a value that the bytes encode.
-  pub given : IfOk result (λ encoding. IsNormalForm F.Encodes F.bytes bytes encoding.items)
+  pub given : IfOk result (λ x. IsNormalForm F.Encodes F.bytes bytes (encoding x))
   -- It refuses at the length of the longest prefix that decodes.
   pub prefix : IfRefused result (IsLongestPrefix IsPrefix bytes)
   -- It refuses only bytes that encode no value.
   pub unencoded : IfRefused result (λ _. (value : V) → F.Encodes bytes value → ⊥)
+
+-- The same of a call that returns the minimal encoding.
+abbrev pub RewritesAll : {V : Type 0} → Format V → (List ℕ → Type 0) → List ℕ → Result (Vec ℕ) ReadError → Type 0
+RewritesAll F IsPrefix bytes result = RewritesTo F IsPrefix bytes (λ given. given.items) result
+
+-- The same of a call that leaves the minimal encoding at the start of the slice, and returns its length.
+abbrev pub RewritesInPlace : {V : Type 0} → Format V → (List ℕ → Type 0) → List ℕ → List ℕ → Result ℕ ReadError → Type 0
+RewritesInPlace F IsPrefix old new result = RewritesTo F IsPrefix old (λ len. take len new) result
 
 -- ---- what a caller gets
 
@@ -83,18 +91,27 @@ pub record Checks {V : Type 0} (F : Format V) (Minimal : Grammar V) (IsPrefix : 
   -- Bytes are the minimal encoding of a value if and only if they encode it and are as it is written.
   pub shortest : (value : V) → Minimal bytes value ↔ (F.Encodes bytes value × (bytes ≡ F.bytes value))
 
--- What a call promises that rewrites bytes in place to their minimal encoding.
-pub record NormalisesInPlace {V : Type 0} (F : Format V) (IsPrefix : List ℕ → Type 0) (bytes : List ℕ) (result : Result (Vec ℕ) ReadError) : Type 0 where
+-- What a call promises that rewrites bytes to their minimal encoding. `encoding` is where its result has it.
+pub record NormalisesTo {X V : Type 0} (F : Format V) (IsPrefix : List ℕ → Type 0) (bytes : List ℕ) (encoding : X → List ℕ) (result : Result X ReadError) : Type 0 where
   -- It returns the minimal encoding of a value that the bytes encode.
-  pub given : IfOk result (λ encoding. IsNormalForm F.Encodes F.bytes bytes encoding.items)
+  pub given : IfOk result (λ x. IsNormalForm F.Encodes F.bytes bytes (encoding x))
   -- If the bytes encode a value, it returns the minimal encoding of this value.
-  pub complete : (value : V) → F.Encodes bytes value → IsOrMemory (λ encoding. encoding.items) (F.bytes value) result
+  pub complete : (value : V) → F.Encodes bytes value → IsOrMemory encoding (F.bytes value) result
   -- It refuses at the length of the longest prefix that decodes.
   pub prefix : IfRefused result (IsLongestPrefix IsPrefix bytes)
   -- It refuses only bytes that encode no value.
   pub unencoded : IfRefused result (λ _. (value : V) → F.Encodes bytes value → ⊥)
   -- It needs no memory.
   pub memory : NeedsNoMemory result
+
+-- The same of a call that returns the minimal encoding, in the memory of the bytes.
+abbrev pub NormalisesInPlace : {V : Type 0} → Format V → (List ℕ → Type 0) → List ℕ → Result (Vec ℕ) ReadError → Type 0
+NormalisesInPlace F IsPrefix bytes result = NormalisesTo F IsPrefix bytes (λ encoding. encoding.items) result
+
+-- The same of a call that leaves the minimal encoding at the start of the slice, and returns its length.
+pub record NormalisesSlice {V : Type 0} (F : Format V) (IsPrefix : List ℕ → Type 0) (old new : List ℕ) (result : Result ℕ ReadError) : Type 0 where
+  pub within : IfOk result (λ len. len ≤ length new)
+  pub normalises : NormalisesTo F IsPrefix old (λ len. take len new) result
 
 -- What a normaliser promises, which writes the minimal encoding of what the bytes encode.
 pub record Normalises {V : Type 0} (F : Format V) (Minimal : Grammar V) (IsPrefix : List ℕ → Type 0) (bytes : List ℕ) (result : Result (Vec ℕ) ReadError) : Type 0 where

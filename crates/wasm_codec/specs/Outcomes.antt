@@ -59,6 +59,11 @@ abbrev pub as_read : {X : Type 0} → Result X DecodeError → Result X ReadErro
 as_read (Ok x) = Ok x
 as_read (Err e) = Err (read_error_of e)
 
+-- The result of a call that allocates nothing, as that of one that may fail with `Memory`.
+abbrev pub as_decoded : {X : Type 0} → Result X Refusal → Result X DecodeError
+as_decoded (Ok x) = Ok x
+as_decoded (Err refusal) = Err (decode_errors.Malformed refusal)
+
 -- The call returns exactly this value, or it fails with `Memory`.
 abbrev pub IsOrMemory : {X V : Type 0} → (X → V) → V → Result X ReadError → Type 0
 IsOrMemory view v (Ok x) = view x ≡ v

@@ -1,11 +1,11 @@
 -- Rewriting in place: minimal encodings of what was read, in front of the bytes that are left.
-use Rattle.std.specs.Prelude.{◌≡◌, ℕ, zero, suc, ◌+◌, ◌<◌, ◌≤◌, ◌%◌, ◌-◌, Bool, false, List, [], ◌∷◌, ◌++◌, length, take, drop, set, Option, Some, None, Result, Ok, Err}
+use Rattle.std.specs.Prelude.{true, ◌≡◌, ℕ, zero, suc, ◌+◌, ◌<◌, ◌≤◌, ◌%◌, ◌-◌, Bool, false, List, [], ◌∷◌, ◌++◌, length, take, drop, set, Option, Some, None, Result, Ok, Err}
 use Rattle.wasm_codec.specs.declared.reader.cursor.Fault.{Fault}
 use Rattle.wasm_codec.specs.declared.reader.cursor.Fault.TheVariants as faults
 use Rattle.wasm_codec.specs.Reading.{◌>>=◌}
 use Rattle.wasm_codec.specs.Places.{Place, place}
 use Rattle.wasm_codec.specs.Leb128.{unsigned_leb128}
-use Rattle.std.specs.Global.{Vec}
+use Rattle.std.specs.Borrow.{GName}
 use Rattle.wasm_codec.specs.declared.reader.ReadError.{ReadError}
 use Rattle.wasm_codec.specs.declared.reader.ReadError.TheVariants as errors
 use Rattle.wasm_codec.specs.declared.reader.malformed.Stop.{Stop}
@@ -16,6 +16,20 @@ use Rattle.wasm_codec.specs.Lawful.{plain}
 use Rattle.wasm_codec.specs.formats.Combinators.{Format}
 use Rattle.wasm_codec.specs.formats.Bodies.{body_at, to_end}
 use Rattle.wasm_codec.specs.declared.rewriter.Body.{Body}
+use Rattle.wasm_codec.specs.declared.rewriter.Finished.{Finished}
+
+-- The bytes after the end, and the name of the reference to the slice that is rewritten.
+pub record Rest : Type 0 where
+  pub bytes : List ℕ
+  pub name : GName
+
+-- The rest with these two parts.
+abbrev pub rest_of : List ℕ → GName → Rest
+rest_of bytes name = record { bytes = bytes; name = name }
+
+-- No bytes after the end. A cursor, which writes to no slice, has this rest.
+abbrev pub no_rest : Rest
+no_rest = rest_of [] 0
 
 -- A rewriting: the bytes that were written, those that are left, and those after the end.
 pub record Rewriting : Type 0 where
@@ -23,12 +37,16 @@ pub record Rewriting : Type 0 where
   pub done : List ℕ
   -- the bytes that are left up to the end, and whether everything read so far was minimally encoded
   pub place : Place
-  -- the bytes after the end
-  pub rest : List ℕ
+  -- the bytes after the end, in the slice of this name
+  pub rest : Rest
 
 -- The rewriting with these three parts.
-abbrev pub rewriting : List ℕ → Place → List ℕ → Rewriting
+abbrev pub rewriting : List ℕ → Place → Rest → Rewriting
 rewriting done place rest = record { done = done; place = place; rest = rest }
+
+-- Nothing was written or read yet, and the end is that of the slice.
+abbrev pub IsNew : Rewriting → Type 0
+IsNew r = r ≡ rewriting [] (place true r.place.left) (rest_of [] r.rest.name)
 
 -- The value at the place, and the rewriting after its minimal encoding was written; or none.
 abbrev pub rewritten_at : {V : Type 0} → Format V → Rewriting → Option (V × Rewriting)
@@ -75,11 +93,11 @@ with_byte mark byte r = rewriting (set r.done mark byte) r.place r.rest
 
 -- The rewriting whose end comes after this number of bytes.
 abbrev pub limited : ℕ → Rewriting → Rewriting
-limited size r = rewriting r.done (place r.place.shortest (take size r.place.left)) (drop size r.place.left ++ r.rest)
+limited size r = rewriting r.done (place r.place.shortest (take size r.place.left)) (rest_of (drop size r.place.left ++ r.rest.bytes) r.rest.name)
 
 -- The rewriting that goes on with this number of bytes after its end.
 abbrev pub widened : ℕ → Rewriting → Rewriting
-widened size r = rewriting r.done (place r.place.shortest (take size r.rest)) (drop size r.rest)
+widened size r = rewriting r.done (place r.place.shortest (take size r.rest.bytes)) (rest_of (drop size r.rest.bytes) r.rest.name)
 
 -- The rewriting after the digits at a mark became the number of the bytes behind them.
 abbrev pub resized : ℕ → ℕ → Rewriting → Rewriting
@@ -92,8 +110,12 @@ abbrev pub done_of : List ℕ → ℕ → ℕ → ℕ → List ℕ
 done_of bytes written from position = take written bytes ++ take (position - from) (drop from bytes)
 
 -- The rewriting that the bytes of a list stand for.
-abbrev pub seen : List ℕ → ℕ → ℕ → ℕ → ℕ → Bool → Rewriting
-seen bytes written from position end shortest = rewriting (done_of bytes written from position) (place shortest (take (end - position) (drop position bytes))) (drop end bytes)
+abbrev pub seen : List ℕ → ℕ → ℕ → ℕ → ℕ → Bool → GName → Rewriting
+seen bytes written from position end shortest name = rewriting (done_of bytes written from position) (place shortest (take (end - position) (drop position bytes))) (rest_of (drop end bytes) name)
+
+-- The bytes that were written to the start of the slice.
+abbrev pub written_of : Finished → List ℕ
+written_of f = take f.len f.bytes.now
 
 -- ---- bodies
 
@@ -102,7 +124,7 @@ pub record IsOpen (old new : Rewriting) (mark size behind : ℕ) : Type 0 where
   pub body : List ℕ
   pub after : Place
   pub is_read : body_at old.place ≡ Some (body, after)
-  pub within : new ≡ rewriting (old.done ++ unsigned_leb128 (length body)) (place after.shortest body) (after.left ++ old.rest)
+  pub within : new ≡ rewriting (old.done ++ unsigned_leb128 (length body)) (place after.shortest body) (rest_of (after.left ++ old.rest.bytes) old.rest.name)
   pub mark_is : mark ≡ length old.done
   pub size_is : size ≡ length body
   pub behind_is : behind ≡ length after.left
@@ -157,7 +179,7 @@ pub record RefusesList {V : Type 0} (F : Format V) (bytes : List ℕ) (at : ℕ)
 
 -- The call rewrites all of the bytes as a list, or refuses them at the length of their longest whole prefix; it needs no
 -- memory.
-abbrev pub RewritesList : {V : Type 0} → Format V → List ℕ → Result (Vec ℕ) ReadError → Type 0
-RewritesList F bytes (Ok given) = IsNormalForm (EncodesList F.Encodes) (items_bytes F.bytes) bytes given.items
-RewritesList F bytes (Err (errors.Refused at)) = RefusesList F bytes at
-RewritesList F bytes (Err errors.Memory) = ⊥
+abbrev pub RewritesList : {X V : Type 0} → Format V → List ℕ → (X → List ℕ) → Result X ReadError → Type 0
+RewritesList F bytes written (Ok given) = IsNormalForm (EncodesList F.Encodes) (items_bytes F.bytes) bytes (written given)
+RewritesList F bytes written (Err (errors.Refused at)) = RefusesList F bytes at
+RewritesList F bytes written (Err errors.Memory) = ⊥

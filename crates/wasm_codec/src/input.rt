@@ -3,7 +3,7 @@ ghost use Rattle.std.specs.Prelude.{◌≡◌, Bool, true, false, [], IfErr, ◌
 ghost use Rattle.wasm_codec.specs.Inputs.{IfWrites, Takes, left_out, overwritten};
 ghost use Rattle.wasm_codec.specs.Outcomes.{IsMalformed};
 ghost use Rattle.wasm_codec.specs.Places.{Sees};
-ghost use Rattle.wasm_codec.specs.Rewriter.{Rewriting, rewriting};
+ghost use Rattle.wasm_codec.specs.Rewriter.{Rewriting, rewriting, no_rest};
 ghost use Rattle.wasm_codec.specs.formats.Combinators.{a_byte, u32 as u32_format, u64 as u64_format, index as index_format};
 
 use crate::reader::cursor::{Cursor, Fault};
@@ -63,7 +63,7 @@ pub trait Input {
 impl<'a> Input for Cursor<'a> {
     ghost writes = { false };
 
-    ghost state = { λ cursor. rewriting [] cursor [] };
+    ghost state = { λ cursor. rewriting [] cursor no_rest };
 
     #[inline(always)]
     fn to_end(&self) -> usize {
@@ -114,7 +114,7 @@ impl<'a> Input for Cursor<'a> {
     }
 }
 
-impl Input for Rewriter {
+impl Input for Rewriter<'_> {
     ghost writes = { true };
 
     ghost state = { λ rewriter. rewriter };

@@ -4,7 +4,7 @@
 ghost use Rattle.std.specs.Prelude.{◌≡◌, ◌≤◌, ◌-◌, None};
 ghost use Rattle.wasm_codec.specs.declared.reader.ReadError.TheVariants.{Memory, Refused};
 ghost use Rattle.wasm_codec.specs.declared.reader.DecodeError.TheVariants as decode_errors;
-ghost use Rattle.wasm_codec.specs.Outcomes.{LiesIn, IsNumbered, as_read, offset_of, error_of, item_of, item_of_fault, named_item, offsets_of, read_error_of};
+ghost use Rattle.wasm_codec.specs.Outcomes.{LiesIn, IsNumbered, NeedsNoMemory, as_decoded, as_read, offset_of, error_of, item_of, item_of_fault, named_item, offsets_of, read_error_of};
 
 pub mod cursor;
 pub mod malformed;
@@ -199,5 +199,17 @@ pub fn without_reason<T>(given: Result<T, DecodeError>) -> Result<T, ReadError>
     match given {
         Ok(value) => Ok(value),
         Err(error) => Err(ReadError::from(error)),
+    }
+}
+
+/// Returns the same result of a call that allocates nothing.
+pub fn without_memory<T>(given: Result<T, DecodeError>) -> Result<T, Refusal>
+    requires { NeedsNoMemory (as_read given) }
+    ensures { as_decoded result ≡ given }
+{
+    match given {
+        Ok(value) => Ok(value),
+        Err(DecodeError::Malformed(refusal)) => Err(refusal),
+        Err(DecodeError::Memory) => unreachable!(),
     }
 }

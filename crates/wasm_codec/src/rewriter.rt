@@ -1,5 +1,5 @@
 //! `Rewriter`, which replaces encodings by minimal ones in place.
-ghost use Rattle.std.specs.Prelude.{◌≡◌, Bool, ◌++◌, ◌+◌, ◌-◌, ◌<◌, ◌≤◌, ◌^◌, [], length, take, drop, true, false, Some, None, vec_len, pos, if◌then◌else◌, IfOk, IfErr};
+ghost use Rattle.std.specs.Prelude.{◌≡◌, Bool, ◌++◌, ◌+◌, ◌-◌, ◌<◌, ◌≤◌, ◌^◌, [], length, take, drop, true, false, Some, None, pos, if◌then◌else◌, IfOk, IfErr};
 ghost use lib.Seq.{paste};
 ghost use Rattle.wasm_codec.specs.formats.Grammar.{IsBytes};
 ghost use Rattle.wasm_codec.specs.Places.{Place, place, Sees};
@@ -8,7 +8,7 @@ ghost use Rattle.wasm_codec.specs.formats.Bodies.{bytes_to_end};
 ghost use Rattle.wasm_codec.specs.formats.Combinators.{a_byte, raw, little_endian, u32 as u32_format, u64 as u64_format, s32 as s32_format, s64 as s64_format, index as index_format};
 ghost use Rattle.wasm_codec.specs.Outcomes.{IsMalformed};
 ghost use Rattle.wasm_codec.specs.Scanning.{IsWithin, RewritesScanned};
-ghost use Rattle.wasm_codec.specs.Rewriter.{rewriting_after, Gives, Rewrites, OpensBody, without, with_byte, limited, widened, resized, rewriting, skipped, shortened, done_of};
+ghost use Rattle.wasm_codec.specs.Rewriter.{rewriting_after, Gives, Rewrites, OpensBody, without, with_byte, limited, widened, resized, rewriting, rest_of, skipped, shortened, done_of};
 
 mod scan;
 
@@ -58,13 +58,22 @@ pub enum Part {
     Code,
 }
 
-/// A list of bytes, rewritten in place from its start on.
+/// A slice that was rewritten.
+#[derive(Drop)]
+pub struct Finished<'a> {
+    /// The slice.
+    pub bytes: &'a mut [u8],
+    /// Number of bytes that were written to its start.
+    pub len: usize,
+}
+
+/// A slice of bytes, rewritten in place from its start on.
 ///
 /// The list consists of the written bytes, a gap, a run of bytes that stay as they are, and the bytes left. The run
 /// moves down to the written bytes only if something after it gets shorter.
 #[derive(Drop)]
-pub struct Rewriter {
-    bytes: Vec<u8>,
+pub struct Rewriter<'a> {
+    bytes: &'a mut [u8],
     written: usize,
     from: usize,
     position: usize,
@@ -80,21 +89,21 @@ pub struct Rewriter {
     in_code: bool,
 }
 
-impl Model for Rewriter {
+impl<'a> Model for Rewriter<'a> {
     ghost use Rattle.std.specs.Prelude.{◌≤◌, length};
     ghost use Rattle.wasm_codec.specs.Rewriter.{Rewriting, seen};
 
     ghost Value = { Rewriting };
 
-    ghost view = { λ r. seen r.bytes.items r.written r.from r.position r.end r.shortest };
+    ghost view = { λ r. seen r.bytes.now r.written r.from r.position r.end r.shortest r.bytes.ghost_name };
 
-    ghost invariant = { λ r. (r.written ≤ r.from) × (r.from ≤ r.position) × (r.position ≤ r.end) × (r.end ≤ length r.bytes.items) };
+    ghost invariant = { λ r. (r.written ≤ r.from) × (r.from ≤ r.position) × (r.position ≤ r.end) × (r.end ≤ length r.bytes.now) };
 }
 
-impl Rewriter {
+impl<'a> Rewriter<'a> {
     /// Returns a rewriter at the start of the bytes.
-    pub fn new(bytes: Vec<u8>) -> Rewriter
-        ensures { result ≡ rewriting [] (place true bytes.items) [] }
+    pub fn new(bytes: &'a mut [u8]) -> Rewriter<'a>
+        ensures { result ≡ rewriting [] (place true bytes.old) (rest_of [] bytes.entry.ghost_name) }
     {
         let end = bytes.len();
         Rewriter {
@@ -111,12 +120,14 @@ impl Rewriter {
         }
     }
 
-    /// Returns the written bytes.
-    pub fn finish(self) -> Vec<u8>
-        ensures { result.items ≡ self.done }
+    /// Returns the slice, and the number of bytes that were written to its start.
+    pub fn finish(self) -> Finished<'a>
+        ensures same_reference { result.bytes.ghost_name ≡ self.entry.rest.name }
+        ensures within { result.len ≤ length result.bytes.now }
+        ensures done { take result.len result.bytes.now ≡ self.entry.done }
     {
         let Rewriter {
-            mut bytes,
+            bytes,
             written,
             from,
             position,
@@ -127,14 +138,8 @@ impl Rewriter {
             longer: _,
             in_code: _,
         } = self;
-        let end = move_run(&mut bytes, written, from, position);
-        bytes.truncate(end);
-        bytes
-    }
-
-    /// Returns the allocator of the bytes.
-    pub fn allocator(&self) -> Global {
-        *self.bytes.allocator()
+        let len = move_run(bytes, written, from, position);
+        Finished { bytes, len }
     }
 
     /// Returns the number of bytes left up to the end.
@@ -352,7 +357,7 @@ impl Rewriter {
     {
         let next = self.position + count;
         let run_end = self.position + kept;
-        self.written = move_run(&mut self.bytes, self.written, self.from, run_end);
+        self.written = move_run(self.bytes, self.written, self.from, run_end);
         let last = self.written - 1;
         self.bytes[last] %= 128;
         self.from = next;
@@ -382,7 +387,7 @@ impl Rewriter {
         requires { mark + count ≤ length self.old.done }
         ensures { self.new ≡ without mark count self.old }
     {
-        let end = move_run(&mut self.bytes, self.written, self.from, self.position);
+        let end = move_run(self.bytes, self.written, self.from, self.position);
         self.bytes.copy_within(mark + count..end, mark);
         self.written = end - count;
         self.from = self.position;
@@ -394,7 +399,7 @@ impl Rewriter {
         requires { mark < length self.old.done }
         ensures { self.new ≡ with_byte mark byte self.old }
     {
-        self.written = move_run(&mut self.bytes, self.written, self.from, self.position);
+        self.written = move_run(self.bytes, self.written, self.from, self.position);
         self.bytes[mark] = byte;
         self.from = self.position;
     }
@@ -410,7 +415,7 @@ impl Rewriter {
     /// Continues with the `size` bytes after the end. No byte may be left.
     fn widen(&mut self, size: usize)
         requires none { self.old.place.left ≡ [] }
-        requires within { size ≤ length self.old.rest }
+        requires within { size ≤ length self.old.rest.bytes }
         ensures { self.new ≡ widened size self.old }
     {
         self.end += size;
@@ -423,8 +428,8 @@ impl Rewriter {
         requires fits { length (unsigned_leb128 (length self.old.done - (mark + digits))) ≤ digits }
         ensures { self.new ≡ resized mark digits self.old }
     {
-        let end = move_run(&mut self.bytes, self.written, self.from, self.position);
-        self.written = write_size(&mut self.bytes, mark, mark + digits, end);
+        let end = move_run(self.bytes, self.written, self.from, self.position);
+        self.written = write_size(self.bytes, mark, mark + digits, end);
         self.from = self.position;
     }
 
@@ -456,7 +461,7 @@ impl Rewriter {
     /// Continues after a body that was rewritten, and corrects its size if the body got shorter.
     pub fn close_body(&mut self, body: Body)
         requires none { self.old.place.left ≡ [] }
-        requires behind { body.behind ≤ length self.old.rest }
+        requires behind { body.behind ≤ length self.old.rest.bytes }
         requires begun { body.mark + length (unsigned_leb128 body.size) ≤ length self.old.done }
         requires sized { take (length (unsigned_leb128 body.size)) (drop body.mark self.old.done) ≡ unsigned_leb128 body.size }
         requires shorter { length self.old.done - (body.mark + length (unsigned_leb128 body.size)) ≤ body.size }
@@ -621,16 +626,16 @@ impl Rewriter {
 
 /// Moves the run to the end of the written bytes. Returns the offset of its new end.
 #[inline(always)]
-fn move_run(bytes: &mut Vec<u8>, written: usize, from: usize, position: usize) -> usize
+fn move_run(bytes: &mut [u8], written: usize, from: usize, position: usize) -> usize
     requires gap { written ≤ from }
     requires run { from ≤ position }
-    requires within { position ≤ vec_len bytes.old }
+    requires within { position ≤ length bytes.old }
     ensures end { result ≡ written + (position - from) }
-    ensures done { take result bytes.new.items ≡ done_of bytes.old.items written from position }
-    ensures left { drop position bytes.new.items ≡ drop position bytes.old.items }
-    ensures len { vec_len bytes.new ≡ vec_len bytes.old }
+    ensures done { take result bytes.new ≡ done_of bytes.old written from position }
+    ensures left { drop position bytes.new ≡ drop position bytes.old }
+    ensures len { length bytes.new ≡ length bytes.old }
 {
-    move_down(bytes.as_mut_slice(), from, position, written);
+    move_down(bytes, from, position, written);
     written + (position - from)
 }
 
@@ -724,26 +729,26 @@ fn index_digit_count(index: u32) -> usize
 /// Writes the number of bytes from `begin` up to `end` at `start`, and moves those bytes down to it.
 ///
 /// The number fits before `begin`. Returns the offset of the new end.
-fn write_size(bytes: &mut Vec<u8>, start: usize, begin: usize, end: usize) -> usize
+fn write_size(bytes: &mut [u8], start: usize, begin: usize, end: usize) -> usize
     requires start { start ≤ begin }
     requires begin { begin ≤ end }
-    requires end { end ≤ vec_len bytes.old }
+    requires end { end ≤ length bytes.old }
     requires size { end - begin < 2 ^ 32 }
     requires fits { start + length (unsigned_leb128 (end - begin)) ≤ begin }
     ensures end { result ≡ start + (length (unsigned_leb128 (end - begin)) + (end - begin)) }
-    ensures done { take result bytes.new.items ≡ take start bytes.old.items ++ (unsigned_leb128 (end - begin) ++ take (end - begin) (drop begin bytes.old.items)) }
-    ensures left { drop end bytes.new.items ≡ drop end bytes.old.items }
-    ensures len { vec_len bytes.new ≡ vec_len bytes.old }
+    ensures done { take result bytes.new ≡ take start bytes.old ++ (unsigned_leb128 (end - begin) ++ take (end - begin) (drop begin bytes.old)) }
+    ensures left { drop end bytes.new ≡ drop end bytes.old }
+    ensures len { length bytes.new ≡ length bytes.old }
 {
     let digits = start + overwrite(bytes, start, (end - begin) as u32);
     move_run(bytes, digits, begin, end)
 }
 
 /// Writes the minimal encoding of a number over the bytes at `start`. Returns its length in bytes.
-fn overwrite(bytes: &mut Vec<u8>, start: usize, number: u32) -> usize
-    requires { start + length (unsigned_leb128 number) ≤ vec_len bytes.old }
+fn overwrite(bytes: &mut [u8], start: usize, number: u32) -> usize
+    requires { start + length (unsigned_leb128 number) ≤ length bytes.old }
     ensures digits { result ≡ length (unsigned_leb128 number) }
-    ensures items { bytes.new.items ≡ take start bytes.old.items ++ (unsigned_leb128 number ++ drop (start + result) bytes.old.items) }
+    ensures items { bytes.new ≡ take start bytes.old ++ (unsigned_leb128 number ++ drop (start + result) bytes.old) }
 {
     let digits = u32_len(number);
     write_u32(&mut bytes[start..start + digits], number);

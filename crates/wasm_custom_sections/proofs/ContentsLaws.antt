@@ -1,4 +1,5 @@
 -- The laws of modules whose custom sections have minimally encoded contents.
+use Rattle.std.specs.Borrow.{GName}
 use Rattle.std.proofs.Common.{◌≡◌, ◌∙◌, ℕ, ◌+◌, ◌^◌, ◌<◌, ◌≤◌, inl, inr, true, List, [], ◌∷◌, ◌++◌, length, take, drop, Option, Some, None, Result, Ok, Err, is_ok, IfOk, refl, sym, ap, subst, append_assoc, length-append, arith}
 use Rattle.std.specs.List.{AllByRecursion}
 use Rattle.std.proofs.lemmas.List.{flat_map_more, append-nil, take_at, drop_at}
@@ -6,7 +7,7 @@ use Rattle.std.specs.Prelude.{codes}
 use Rattle.wasm_codec.specs.Lawful.{IsLawful, IsLawfulBody}
 use Rattle.wasm_codec.specs.Outcomes.{EncodesSome, IsNormalForm}
 use Rattle.wasm_codec.specs.Places.{Place, place, keeps}
-use Rattle.wasm_codec.specs.Rewriter.{Rewriting, rewriting, rewriting_after, Rewrites, skipped}
+use Rattle.wasm_codec.specs.Rewriter.{rest_of, Rewriting, rewriting, rewriting_after, Rewrites, skipped}
 use Rattle.wasm_codec.specs.declared.reader.cursor.Fault.{Fault}
 use Rattle.wasm_codec.specs.declared.reader.cursor.Fault.TheVariants as faults
 use Rattle.wasm_codec.specs.formats.Combinators.{Format, ◌⊗◌, items, minimal_only}
@@ -28,7 +29,7 @@ use Rattle.wasm_sections.specs.formats.Sections.{custom_body}
 use Rattle.wasm_sections.proofs.CustomLaws.{custom_is_lawful}
 use Rattle.wasm_sections.proofs.ModuleSectionLaws.{custom_kind, module_section_is_lawful}
 use Rattle.wasm_sections.proofs.RawSections.{IsMinimalSection, raw_sections, whole_again}
-use Rattle.wasm_custom_sections.specs.MinimalContents.{AreMinimised, none, more, DecodesNext, HasContents, HasMinimalContents, IsDecodedAs, IsMinimised, Minimises, MinimisesContents, MinimisesNext, WritesNext, section_with}
+use Rattle.wasm_custom_sections.specs.MinimalContents.{AreMinimised, none, more, DecodesNext, HasContents, HasMinimalContents, IsDecodedAs, IsMinimised, Minimises, MinimisesContents, MinimisesNext, WritesNext, section_with, Minimising, MinimisesSoFar}
 use Rattle.wasm_custom_sections.specs.NamedSections.{named}
 use Rattle.wasm_custom_sections.specs.declared.contents.Decoded.{Decoded}
 use Rattle.wasm_custom_sections.specs.declared.contents.Decoded.TheVariants as decoded
@@ -139,6 +140,7 @@ module _ {V : Type 0} {F : Format V} (r : IsLawfulBody F) where
           written = one.given.written ∙ ap (λ (t : List ℕ). old.done ++ t) minimal_is;
           left = refl;
           no_longer = omega (arith, shorter, read, wrote);
+          rest = one.given.rest;
         }
 
     -- one that wasn't read is no section
@@ -189,6 +191,7 @@ other_written old new fits (Ok done) has e =
       written = one.given.written;
       left = refl;
       no_longer = omega (arith, shorter, read, wrote);
+      rest = one.given.rest;
     }
 other_written old new fits (Err (faults.Malformed m)) has unread = unread
 other_written old new fits (Err faults.Memory) has never = tt
@@ -199,24 +202,9 @@ more_minimised : {sections minimal : List SectionParts} (s m : SectionParts) →
 more_minimised s m none one = more one none
 more_minimised s m (more first rest) one = more first (more_minimised s m rest one)
 
--- the first sections of the module were written, each minimised
-pub record Minimising (most : ℕ) (sections : List SectionParts) (here : Rewriting) : Type 0 where
-  pub before : List SectionParts
-  pub rest : List SectionParts
-  pub parts : sections ≡ before ++ rest
-  pub encodes : Joined raw_section.Encodes here.place.left rest
-  pub minimal : List SectionParts
-  pub minimised : AreMinimised before minimal
-  pub written : here.done ≡ raw_module.bytes minimal
-  pub no_longer : length here.done + length here.place.left ≤ most
-
--- of each list of sections that the bytes encode
-abbrev pub MinimisesSoFar : List ℕ → Rewriting → Type 0
-MinimisesSoFar bytes here = (sections : List SectionParts) → raw_module.Encodes bytes sections → Minimising (length bytes) sections here
-
-pub minimising_none : (bytes rest : List ℕ) (new here : Rewriting) → bytes ≡ header ++ rest → new ≡ rewriting [] (place true bytes) [] → here ≡ skipped 8 new → MinimisesSoFar bytes here
-minimising_none bytes rest new here found new-is here-is sections g =
-    let is : here ≡ skipped 8 (rewriting [] (place true bytes) []) = here-is ∙ ap (skipped 8) new-is in
+pub minimising_none : (bytes rest : List ℕ) (new here : Rewriting) → bytes ≡ header ++ rest → {name : GName} → new ≡ rewriting [] (place true bytes) (rest_of [] name) → here ≡ skipped 8 new → MinimisesSoFar bytes here
+minimising_none bytes rest new here found {name} new-is here-is sections g =
+    let is : here ≡ skipped 8 (rewriting [] (place true bytes) (rest_of [] name)) = here-is ∙ ap (skipped 8) new-is in
     let done : here.done ≡ header = ap (λ (r : Rewriting). r.done) is ∙ ap (take 8) found ∙ take_at header rest 8 refl in
     let left : here.place.left ≡ g.0 = ap (λ (r : Rewriting). r.place.left) is ∙ ap (drop 8) g.1 ∙ drop_at header g.0 8 refl in
     record {
@@ -265,8 +253,8 @@ minimised_all bytes here so_far none-left sections g =
     }
 
 -- bytes that encode no sections have none
-pub minimised_nowhere : (bytes : List ℕ) (here : Rewriting) (P : List ℕ) → MinimisesSoFar bytes here → 0 < length here.place.left → raw_section.at here.place ≡ None → MinimisesContents bytes P
-minimised_nowhere bytes here P so_far some read sections g = absurd (no_section here.place (so_far sections g).rest some (so_far sections g).encodes read)
+pub minimised_nowhere : (bytes : List ℕ) (here : Rewriting) → MinimisesSoFar bytes here → 0 < length here.place.left → raw_section.at here.place ≡ None → (sections : List SectionParts) → raw_module.Encodes bytes sections → ⊥
+minimised_nowhere bytes here so_far some read sections g = no_section here.place (so_far sections g).rest some (so_far sections g).encodes read
 
 -- ---- a module of any encoding
 

@@ -1,4 +1,5 @@
 -- The laws of linking sections: a version, and then subsections to the end.
+use Rattle.std.specs.Borrow.{GName}
 use Rattle.std.proofs.Common.{◌≡◌, ℕ, ◌+◌, ◌-◌, ◌<◌, ◌≤◌, ◌⊎◌, inl, inr, Bool, true, false, cond, ◌==◌, List, [], ◌∷◌, ◌++◌, length, Option, Some, None, Result, Ok, Err, OnOk, OnErr, IfOk, IfErr, take, refl, lit≤, sym, ap, subst, ◌∙◌, append_assoc, length-append, arith}
 use Rattle.std.specs.Prelude.{codes}
 use Rattle.std.proofs.Math.Seq.{take-length}
@@ -7,7 +8,7 @@ use Rattle.std.proofs.lemmas.List.{append-nil, append_cancel_left}
 use Rattle.std.specs.List.{flat_map}
 use Rattle.wasm_codec.specs.declared.reader.cursor.Fault.{Fault}
 use Rattle.wasm_codec.specs.declared.reader.cursor.Fault.TheVariants as faults
-use Rattle.wasm_codec.specs.Decoding.{IsMinimal, RewritesAll}
+use Rattle.wasm_codec.specs.Decoding.{IsMinimal, RewritesTo}
 use Rattle.wasm_codec.specs.declared.encode.EncodeError.{EncodeError}
 use Rattle.wasm_codec.specs.Encoding.{byte_list_bytes, IsCount, IsShortestOrLonger}
 use Rattle.wasm_codec.specs.Lawful.{IsLawful, IsLawfulBody}
@@ -15,7 +16,7 @@ use Rattle.wasm_codec.specs.Leb128.{digits_of, unsigned_leb128}
 use Rattle.wasm_codec.specs.Outcomes.{error_of, EncodesSome, IsLongestPrefix, IsNormalForm}
 use Rattle.wasm_codec.specs.Places.{Place, place, keeps}
 use Rattle.wasm_codec.specs.Reading.{BeginsWith}
-use Rattle.wasm_codec.specs.Rewriter.{Rewrites, Rewriting, StopsAt, rewriting, rewriting_after}
+use Rattle.wasm_codec.specs.Rewriter.{rest_of, Rewrites, Rewriting, StopsAt, rewriting, rewriting_after}
 use Rattle.wasm_codec.specs.formats.Bodies.{byte_list, to_end}
 use Rattle.wasm_codec.specs.formats.Combinators.{Format, ◌⊗◌, byte_where, items, made, minimal_if, or_else}
 use Rattle.wasm_codec.specs.formats.Grammar.{IsBytes, Joined, TakesBytes}
@@ -170,7 +171,7 @@ module _ {A V : Type 0} {H : Format A} (h : IsLawful H) (F : Format V) where
 
 -- ---- rewriting
 
-module _ {A V : Type 0} {H : Format A} (h : IsLawful H) {F : Format V} (r : IsLawful F) (takes : TakesBytes F.Encodes) (bytes : List ℕ) (start mid : Rewriting) (start-is : start ≡ rewriting [] (place true bytes) []) (fits : IsBytes start.place.left) (begun : rewriting_after H start ≡ Some mid) where
+module _ {A V : Type 0} {H : Format A} (h : IsLawful H) {F : Format V} (r : IsLawful F) (takes : TakesBytes F.Encodes) (bytes : List ℕ) (start mid : Rewriting) {g : GName} (start-is : start ≡ rewriting [] (place true bytes) (rest_of [] g)) (fits : IsBytes start.place.left) (begun : rewriting_after H start ≡ Some mid) where
   head_is : IsAfter H start mid
   head_is = is_after H start mid begun
 
@@ -200,7 +201,7 @@ module _ {A V : Type 0} {H : Format A} (h : IsLawful H) {F : Format V} (r : IsLa
       subst (IsRefusedAt (H ⊗ to_end F) bytes) at (headed_refused h F bytes mid.place.left head_is.value begins n (stopped_within F mid.place.left left stop) (joined_stopped r takes mid.place.left left stop))
 
 -- the head is refused
-pub no_version_rewritten : (bytes : List ℕ) (start new : Rewriting) (fault : Fault) → start ≡ rewriting [] (place true bytes) [] → Rewrites version start new (Err fault) → RewritesAll linking_data (IsNothingOr linking_data) bytes (Err (error_of fault 0))
+pub no_version_rewritten : {X : Type 0} {encoding : X → List ℕ} (bytes : List ℕ) (start new : Rewriting) (fault : Fault) → {g : GName} → start ≡ rewriting [] (place true bytes) (rest_of [] g) → Rewrites version start new (Err fault) → RewritesTo linking_data (IsNothingOr linking_data) bytes encoding (Err (error_of fault 0))
 no_version_rewritten bytes start new faults.Memory is none = absurd none
 no_version_rewritten bytes start new (faults.Malformed m) is none =
     let refused = no_head version_is_lawful linking_subsection bytes (ap (λ (s : Rewriting). version.at s.place) (sym is) ∙ none) in

@@ -1,5 +1,5 @@
 -- Modules whose custom sections `name` and `producers` have minimally encoded contents.
-use Rattle.std.specs.Prelude.{◌≡◌, ◌≤◌, ◌+◌, ◌⊎◌, ℕ, List, [], ◌∷◌, ◌++◌, length, codes, Option, Some, None, Result, Ok, Err, IfOk, true}
+use Rattle.std.specs.Prelude.{◌≡◌, ◌≤◌, ◌+◌, ◌⊎◌, ℕ, List, [], ◌∷◌, ◌++◌, length, codes, Option, Some, None, Result, Ok, Err, IfOk, Bool, true, false}
 use Rattle.std.specs.Global.{Vec}
 use Rattle.wasm_codec.specs.Outcomes.{IfRefused, IsLongestPrefix}
 use Rattle.wasm_codec.specs.Places.{Place, place}
@@ -8,6 +8,8 @@ use Rattle.wasm_codec.specs.declared.reader.ReadError.{ReadError}
 use Rattle.wasm_codec.specs.declared.reader.cursor.Fault.{Fault}
 use Rattle.wasm_codec.specs.declared.reader.cursor.Fault.TheVariants as faults
 use Rattle.wasm_codec.specs.formats.Bodies.{sized}
+use Rattle.wasm_codec.specs.formats.Grammar.{Joined}
+use Rattle.std.specs.declared.alloc.AllocError.{AllocError}
 use Rattle.wasm_codec.specs.formats.Combinators.{Format, ◌⊗◌, a_byte, items}
 use Rattle.wasm_externals.specs.formats.Names.{name}
 use Rattle.wasm_code.specs.Modules.{IsModulePrefix}
@@ -101,9 +103,39 @@ pub record WritesNext (old new : Rewriting) : Type 0 where
   pub written : new.done ≡ old.done ++ raw_section.bytes minimal
   pub left : new.place.left ≡ after.left
   pub no_longer : length new.done + length new.place.left ≤ length old.done + length old.place.left
+  pub rest : new.rest ≡ old.rest
 
 -- The call minimises the next section. It fails with `Malformed` if there is none, or with `Memory`.
 abbrev pub MinimisesNext : Rewriting → Rewriting → Result (Unit {0}) Fault → Type 0
 MinimisesNext old new (Ok done) = WritesNext old new
 MinimisesNext old new (Err (faults.Malformed m)) = raw_section.at old.place ≡ None
 MinimisesNext old new (Err faults.Memory) = Unit {0}
+
+-- ---- all sections
+
+-- The first sections of the module were written, each minimised. What is written and left is at most so many bytes.
+pub record Minimising (most : ℕ) (sections : List SectionParts) (here : Rewriting) : Type 0 where
+  pub before : List SectionParts
+  pub rest : List SectionParts
+  pub parts : sections ≡ before ++ rest
+  pub encodes : Joined raw_section.Encodes here.place.left rest
+  pub minimal : List SectionParts
+  pub minimised : AreMinimised before minimal
+  pub written : here.done ≡ raw_module.bytes minimal
+  pub no_longer : length here.done + length here.place.left ≤ most
+
+-- The same of each list of sections that the bytes encode.
+abbrev pub MinimisesSoFar : List ℕ → Rewriting → Type 0
+MinimisesSoFar bytes here = (sections : List SectionParts) → raw_module.Encodes bytes sections → Minimising (length bytes) sections here
+
+-- The sections that were left were written minimised.
+pub record WritesRest (old new : Rewriting) : Type 0 where
+  pub rest : new.rest ≡ old.rest
+  pub end : new.place.left ≡ []
+  pub minimises : (bytes : List ℕ) → MinimisesSoFar bytes old → MinimisesSoFar bytes new
+
+-- The call minimises the sections that are left. It returns `false` if they aren't those of a module.
+abbrev pub MinimisesRest : Rewriting → Rewriting → Result Bool AllocError → Type 0
+MinimisesRest old new (Ok true) = WritesRest old new
+MinimisesRest old new (Ok false) = (bytes : List ℕ) → MinimisesSoFar bytes old → (sections : List SectionParts) → raw_module.Encodes bytes sections → ⊥
+MinimisesRest old new (Err e) = Unit {0}

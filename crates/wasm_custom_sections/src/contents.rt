@@ -1,13 +1,14 @@
 //! Modules whose custom sections `name` and `producers` have minimally encoded contents.
-ghost use Rattle.std.specs.Prelude.{◌≡◌, ℕ, List, true, false, IfOk, IfErr, length};
+ghost use Rattle.std.specs.Prelude.{◌≡◌, ◌≤◌, ℕ, List, true, false, IfOk, IfErr, IfSome, IfNone, length, take};
 ghost use Rattle.wasm_codec.specs.Lawful.{IsLawful, IsLawfulBody};
 ghost use Rattle.wasm_codec.specs.Outcomes.{EncodesSome, LiesIn, as_read};
 ghost use Rattle.wasm_codec.specs.Rewriter.{Rewrites};
 ghost use Rattle.wasm_codec.specs.formats.Combinators.{◌⊗◌};
 ghost use Rattle.wasm_externals.specs.formats.Names.{name};
-ghost use Rattle.wasm_code.specs.formats.Sections.{parts_of};
+ghost use Rattle.wasm_code.specs.formats.Modules.{raw_module};
+ghost use Rattle.wasm_code.specs.formats.Sections.{SectionParts, parts_of};
 ghost use Rattle.wasm_sections.specs.formats.ModuleSections.{KeepsMinimal};
-ghost use Rattle.wasm_custom_sections.specs.MinimalContents.{DecodesNext, IsDecodedAs, MinimisesContents, MinimisesNext, RewritesContents, section_with};
+ghost use Rattle.wasm_custom_sections.specs.MinimalContents.{DecodesNext, IsDecodedAs, MinimisesContents, MinimisesNext, MinimisesRest, RewritesContents, section_with};
 ghost use Rattle.wasm_custom_sections.specs.formats.NameParts.{SubsectionParts};
 ghost use Rattle.wasm_custom_sections.specs.formats.Names.{name_data};
 
@@ -21,7 +22,7 @@ use wasm_code::section::{HEADER, RawSection};
 use wasm_codec::reader::DecodeError;
 use wasm_codec::reader::cursor::{Cursor, Fault};
 use wasm_codec::reader::malformed::Construct;
-use wasm_codec::rewriter::Rewriter;
+use wasm_codec::rewriter::{Finished, Rewriter};
 use wasm_externals::names::rewrite_name;
 use wasm_lists::readable::Item;
 use wasm_lists::rewriting::{RewritableBody, rewrite_sized, rewrite_to_end};
@@ -37,34 +38,100 @@ pub fn rewrite_module_contents(alloc: Global, bytes: Vec<u8>) -> Result<Vec<u8>,
     ensures rewrites { RewritesContents bytes.items (as_read result) }
     ensures place { IfErr result (LiesIn (length bytes.items)) }
 {
-    let module = rewrite_raw_module(bytes)?;
-    let minimal = rewrite_contents(alloc, module)?;
-    Ok(minimal)
+    let mut bytes = bytes;
+    match rewrite_raw_module(bytes.as_mut_slice()) {
+        Ok(len) => {
+            bytes.truncate(len);
+            let minimal = rewrite_contents(alloc, bytes)?;
+            Ok(minimal)
+        }
+        Err(error) => Err(error),
+    }
 }
 
 /// Replaces the contents of a well-formed module's custom sections `name` and `producers` as `rewrite_module_contents`
-/// does. From a malformed section on, it drops all bytes.
+/// does. A malformed module becomes empty.
 ///
 /// Fails if there is no memory for a copy of one section's contents.
 pub fn rewrite_contents(alloc: Global, bytes: Vec<u8>) -> Result<Vec<u8>, AllocError>
     ensures ok { IfOk result (λ minimal. MinimisesContents bytes.items minimal.items) }
     ensures minimal { IfOk result (λ minimal. KeepsMinimal bytes.items minimal.items) }
 {
-    let Some(_sections) = after_header(&bytes) else {
-        // A malformed module has no sections.
-        return Ok(bytes);
+    let mut bytes = bytes;
+    let len = minimise_contents(alloc, bytes.as_mut_slice())?;
+    bytes.truncate(len);
+    Ok(bytes)
+}
+
+/// Does the same on a slice. Returns the length of the result, which begins the slice.
+fn minimise_contents(alloc: Global, bytes: &mut [u8]) -> Result<usize, AllocError>
+    ensures len { IfOk result (λ len. len ≤ length bytes.new) }
+    ensures ok { IfOk result (λ len. MinimisesContents bytes.old (take len bytes.new)) }
+{
+    let Minimised { bytes: _bytes, len } = minimise_slice(alloc, bytes);
+    let found = len?;
+    match found {
+        Some(len) => Ok(len),
+        None => Ok(0),
+    }
+}
+
+/// A slice with minimal contents.
+#[derive(Drop)]
+struct Minimised<'a> {
+    /// The slice.
+    bytes: &'a mut [u8],
+    /// Length in bytes of the module with minimal contents. `None` means that the module is malformed.
+    len: Result<Option<usize>, AllocError>,
+}
+
+/// Rewrites the sections, and returns the same slice.
+fn minimise_slice<'a>(alloc: Global, bytes: &'a mut [u8]) -> Minimised<'a>
+    ensures same_reference { IfOk result.len (λ found. IfSome found (λ _. result.bytes.ghost_name ≡ bytes.entry.ghost_name)) }
+    ensures len { IfOk result.len (λ found. IfSome found (λ len. len ≤ length result.bytes.now)) }
+    ensures ok { IfOk result.len (λ found. IfSome found (λ len. MinimisesContents bytes.old (take len result.bytes.now))) }
+    ensures none { IfOk result.len (λ found. IfNone found ((sections : List SectionParts) → raw_module.Encodes bytes.old sections → ⊥)) }
+{
+    let Some(_sections) = after_header(bytes) else {
+        return Minimised {
+            bytes,
+            len: Ok(None),
+        };
     };
     let mut rewriter = Rewriter::new(bytes);
     rewriter.skip(HEADER.len());
+    match rewrite_sections(alloc, &mut rewriter) {
+        Ok(true) => {
+            let Finished { bytes, len } = rewriter.finish();
+            Minimised {
+                bytes,
+                len: Ok(Some(len)),
+            }
+        }
+        Ok(false) => Minimised {
+            bytes: rewriter.finish().bytes,
+            len: Ok(None),
+        },
+        Err(error) => Minimised {
+            bytes: rewriter.finish().bytes,
+            len: Err(error),
+        },
+    }
+}
+
+/// Rewrites the sections up to the end. Returns `false` at a malformed one.
+fn rewrite_sections(alloc: Global, rewriter: &mut Rewriter) -> Result<bool, AllocError>
+    ensures rest { MinimisesRest rewriter.old rewriter.new result }
+{
     while rewriter.len() > 0 {
         rewriter.are_bytes();
-        match rewrite_next(alloc, &mut rewriter) {
+        match rewrite_next(alloc, rewriter) {
             Ok(()) => {}
             Err(Fault::Memory) => return Err(AllocError),
-            Err(Fault::Malformed(_)) => return Ok(rewriter.finish()),
+            Err(Fault::Malformed(_)) => return Ok(false),
         }
     }
-    Ok(rewriter.finish())
+    Ok(true)
 }
 
 /// Rewrites the next section: its size, and its contents if they are decoded.

@@ -1,11 +1,12 @@
 //! Core dumps: the process, its modules and their instances (tool conventions, Core Dumps).
-ghost use Rattle.std.specs.Prelude.{◌≡◌, ◌++◌, ◌⊎◌, ℕ, List, refl, codes, ⊤, IfOk, OnOk, IfErr, length, take};
+ghost use Rattle.std.specs.Prelude.{◌≡◌, ◌++◌, ◌⊎◌, ℕ, List, refl, codes, ⊤, IfOk, OnOk, IfErr, length, take, ◌≤◌};
 ghost use Rattle.std.proofs.lemmas.List.{map_push};
-ghost use Rattle.wasm_codec.specs.Decoding.{ChecksAll, IsMinimal, RewritesAll};
+ghost use Rattle.wasm_codec.specs.Decoding.{ChecksAll, IsMinimal, RewritesInPlace};
 ghost use Rattle.wasm_codec.specs.Encoding.{IsCount, IsCountRefusal, IsRefusal, IsShortest, OnlyTooLong};
 ghost use Rattle.wasm_codec.specs.Inputs.{Passes};
 ghost use Rattle.wasm_codec.specs.Lawful.{IsLawful, IsLawfulBody};
 ghost use Rattle.wasm_codec.specs.Outcomes.{IfMalformed, IsMalformed, LiesIn, NeedsNoMemory, as_read};
+ghost use Rattle.wasm_codec.specs.Places.{Reads};
 ghost use Rattle.wasm_codec.specs.Rewriter.{Rewrites};
 ghost use Rattle.wasm_codec.specs.formats.Combinators.{minimal_only};
 ghost use Rattle.wasm_codec.specs.formats.Grammar.{TakesBytes};
@@ -31,9 +32,10 @@ use wasm_codec::reader::malformed::Construct;
 use wasm_codec::rewriter::Rewriter;
 use wasm_externals::names::{NameInput, append_name};
 use wasm_lists::encode::{Encode, encode_list};
-use wasm_lists::input::ListInput;
 use wasm_lists::list::Items;
 use wasm_lists::readable::{Item, Readable};
+use wasm_lists::reading::read_list;
+use wasm_lists::rewriting::rewrite_list;
 use wasm_sections::bodies::rewrite_body;
 
 /// A section `core`, which names the process of a core dump (tool conventions, Core Dumps).
@@ -123,18 +125,18 @@ fn take_module<'a, I: NameInput<'a>>(input: &mut I) -> Result<CoreDumpModule<'a>
     Ok(CoreDumpModule { name })
 }
 
-/// Takes an instance.
+/// Reads an instance.
 #[tactic(auto, unfolding(crate::specs::formats::CoreDumps::core_instance))]
-fn take_instance<I: ListInput>(alloc: Global, input: &mut I) -> Result<CoreDumpInstance, Fault>
-    ensures passes { Passes I.writes (λ x. x) core_instance (I.state input.old) (I.state input.new) result }
+fn read_instance(alloc: Global, cursor: &mut Cursor<'_>) -> Result<CoreDumpInstance, Fault>
+    ensures reads { Reads core_instance.at cursor.old cursor.new result }
 {
-    let byte = input.byte_of(Construct::Field)?;
+    let byte = cursor.byte_of(Construct::Field)?;
     if byte != 0x00 {
-        return Err(Fault::Malformed(input.invalid(Construct::Field, byte)));
+        return Err(Fault::Malformed(cursor.invalid(Construct::Field, byte)));
     }
-    let module_index = input.u32()?;
-    let memories = input.list(alloc)?;
-    let globals = input.list(alloc)?;
+    let module_index = cursor.u32()?;
+    let memories = read_list(alloc, cursor)?;
+    let globals = read_list(alloc, cursor)?;
     Ok(CoreDumpInstance {
         module_index,
         memories,
@@ -188,12 +190,20 @@ impl<'a> Readable<'a> for CoreDumpInstance {
     fn is_lawful() {}
 
     fn read(alloc: Global, cursor: &mut Cursor<'a>) -> Result<CoreDumpInstance, Fault> {
-        take_instance(alloc, cursor)
+        read_instance(alloc, cursor)
     }
 
-    fn rewrite(rewriter: &mut Rewriter) -> Result<(), Fault> {
-        take_instance(rewriter.allocator(), rewriter)?;
-        Ok(())
+    #[tactic(auto, using(std::proofs::Common::append_assoc), unfolding(crate::specs::formats::CoreDumps::core_instance))]
+    fn rewrite(rewriter: &mut Rewriter) -> Result<(), Fault>
+        ensures rewrites { Rewrites core_instance rewriter.old rewriter.new result }
+    {
+        let byte = rewriter.byte_of(Construct::Field)?;
+        if byte != 0x00 {
+            return Err(Fault::Malformed(rewriter.invalid(Construct::Field, byte)));
+        }
+        rewriter.u32()?;
+        rewrite_list::<u32>(rewriter)?;
+        rewrite_list::<u32>(rewriter)
     }
 }
 
@@ -380,10 +390,11 @@ impl<'a> Decode<'a> for CoreDumpSection<'a> {
         Ok(())
     }
 
-    fn rewrite_all(bytes: Vec<u8>) -> Result<Vec<u8>, DecodeError>
-        ensures rewrites { RewritesAll core_name (IsNothingOr core_name) bytes.items (as_read result) }
+    fn rewrite_all(bytes: &mut [u8]) -> Result<usize, DecodeError>
+        ensures len { IfOk result (λ len. len ≤ length bytes.new) }
+        ensures rewrites { RewritesInPlace core_name (IsNothingOr core_name) bytes.old bytes.new (as_read result) }
         ensures memory { NeedsNoMemory (as_read result) }
-        ensures place { IfErr result (LiesIn (length bytes.items)) }
+        ensures place { IfErr result (LiesIn (length bytes.old)) }
         ensures counts { IfMalformed result (λ _. ⊤) }
     {
         rewrite_body::<Whole<Item<'static, CoreDumpModule<'static>>>>(bytes)

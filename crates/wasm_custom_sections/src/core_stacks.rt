@@ -1,9 +1,8 @@
 //! Core dumps: the stack of a thread (tool conventions, Core Dumps).
-ghost use Rattle.std.specs.Prelude.{◌≡◌, ◌↔◌, ◌++◌, ◌⊎◌, [], refl, codes, ⊤, IsTrue, IfOk, OnOk, IfErr, length, take};
+ghost use Rattle.std.specs.Prelude.{◌≡◌, ◌↔◌, ◌++◌, ◌⊎◌, [], refl, codes, ⊤, IsTrue, IfOk, OnOk, IfErr, length, take, ◌≤◌};
 ghost use Rattle.std.proofs.lemmas.List.{map_push};
-ghost use Rattle.wasm_codec.specs.Decoding.{ChecksAll, IsMinimal, RewritesAll};
+ghost use Rattle.wasm_codec.specs.Decoding.{ChecksAll, IsMinimal, RewritesInPlace};
 ghost use Rattle.wasm_codec.specs.Encoding.{IsCount, IsCountRefusal, IsRefusal, IsShortest, OnlyTooLong};
-ghost use Rattle.wasm_codec.specs.Inputs.{Passes};
 ghost use Rattle.wasm_codec.specs.Lawful.{IsLawful, IsLawfulBody};
 ghost use Rattle.wasm_codec.specs.Outcomes.{IfMalformed, LiesIn, NeedsNoMemory, as_read};
 ghost use Rattle.wasm_codec.specs.Places.{Reads};
@@ -35,7 +34,6 @@ use wasm_codec::reader::malformed::Construct;
 use wasm_codec::rewriter::Rewriter;
 use wasm_externals::names::{append_name, read_name, rewrite_name};
 use wasm_lists::encode::{Encode, encode_list};
-use wasm_lists::input::ListInput;
 use wasm_lists::list::Items;
 use wasm_lists::readable::{Item, Readable};
 use wasm_lists::reading::read_list;
@@ -66,20 +64,20 @@ pub struct CoreDumpStack<'a> {
     pub frames: Items<CoreDumpStackFrame>,
 }
 
-/// Takes a frame.
+/// Reads a frame.
 #[tactic(auto, unfolding(crate::specs::formats::CoreStacks::core_frame))]
-fn take_frame<I: ListInput>(alloc: Global, input: &mut I) -> Result<CoreDumpStackFrame, Fault>
-    ensures passes { Passes I.writes (λ x. x) core_frame (I.state input.old) (I.state input.new) result }
+fn read_frame(alloc: Global, cursor: &mut Cursor<'_>) -> Result<CoreDumpStackFrame, Fault>
+    ensures reads { Reads core_frame.at cursor.old cursor.new result }
 {
-    let byte = input.byte_of(Construct::Field)?;
+    let byte = cursor.byte_of(Construct::Field)?;
     if byte != 0x00 {
-        return Err(Fault::Malformed(input.invalid(Construct::Field, byte)));
+        return Err(Fault::Malformed(cursor.invalid(Construct::Field, byte)));
     }
-    let instance_index = input.u32()?;
-    let function_index = input.u32()?;
-    let code_offset = input.u32()?;
-    let locals = input.list(alloc)?;
-    let stack = input.list(alloc)?;
+    let instance_index = cursor.u32()?;
+    let function_index = cursor.u32()?;
+    let code_offset = cursor.u32()?;
+    let locals = read_list(alloc, cursor)?;
+    let stack = read_list(alloc, cursor)?;
     Ok(CoreDumpStackFrame {
         instance_index,
         function_index,
@@ -105,12 +103,22 @@ impl<'a> Readable<'a> for CoreDumpStackFrame {
     fn is_lawful() {}
 
     fn read(alloc: Global, cursor: &mut Cursor<'a>) -> Result<CoreDumpStackFrame, Fault> {
-        take_frame(alloc, cursor)
+        read_frame(alloc, cursor)
     }
 
-    fn rewrite(rewriter: &mut Rewriter) -> Result<(), Fault> {
-        take_frame(rewriter.allocator(), rewriter)?;
-        Ok(())
+    #[tactic(auto, using(std::proofs::Common::append_assoc), unfolding(crate::specs::formats::CoreStacks::core_frame))]
+    fn rewrite(rewriter: &mut Rewriter) -> Result<(), Fault>
+        ensures rewrites { Rewrites core_frame rewriter.old rewriter.new result }
+    {
+        let byte = rewriter.byte_of(Construct::Field)?;
+        if byte != 0x00 {
+            return Err(Fault::Malformed(rewriter.invalid(Construct::Field, byte)));
+        }
+        rewriter.u32()?;
+        rewriter.u32()?;
+        rewriter.u32()?;
+        rewrite_list::<Item<'static, CoreDumpValue>>(rewriter)?;
+        rewrite_list::<Item<'static, CoreDumpValue>>(rewriter)
     }
 }
 
@@ -454,10 +462,11 @@ impl<'a> Decode<'a> for CoreDumpStackSection<'a> {
         }
     }
 
-    fn rewrite_all(bytes: Vec<u8>) -> Result<Vec<u8>, DecodeError>
-        ensures rewrites { RewritesAll core_stack (IsNothingOr core_stack) bytes.items (as_read result) }
+    fn rewrite_all(bytes: &mut [u8]) -> Result<usize, DecodeError>
+        ensures len { IfOk result (λ len. len ≤ length bytes.new) }
+        ensures rewrites { RewritesInPlace core_stack (IsNothingOr core_stack) bytes.old bytes.new (as_read result) }
         ensures memory { NeedsNoMemory (as_read result) }
-        ensures place { IfErr result (LiesIn (length bytes.items)) }
+        ensures place { IfErr result (LiesIn (length bytes.old)) }
         ensures counts { IfMalformed result (λ _. ⊤) }
     {
         rewrite_body::<Whole<Item<'static, CoreDumpStack<'static>>>>(bytes)

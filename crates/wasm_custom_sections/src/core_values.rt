@@ -18,7 +18,6 @@ use wasm_instructions::encode::{put_bits_32, put_bits_64};
 use wasm_instructions::operands::{Ieee32, Ieee64};
 use wasm_instructions::reader::operands::{read_bits_32, read_bits_64};
 use wasm_lists::encode::Encode;
-use wasm_lists::input::OwnedItem;
 use wasm_lists::list::Items;
 use wasm_lists::readable::{Item, Readable};
 use wasm_lists::reading::read_list;
@@ -93,7 +92,7 @@ impl<'a> ConstantInput for Cursor<'a> {
     }
 }
 
-impl ConstantInput for Rewriter {
+impl ConstantInput for Rewriter<'_> {
     #[inline(always)]
     fn s32(&mut self) -> Result<i32, Fault> {
         Rewriter::s32(self)
@@ -155,24 +154,6 @@ impl<'a> Readable<'a> for CoreDumpValue {
     fn rewrite(rewriter: &mut Rewriter) -> Result<(), Fault> {
         take_value(rewriter)?;
         Ok(())
-    }
-}
-
-impl OwnedItem for CoreDumpValue {
-    ghost Value = { CoreDumpValue };
-
-    ghost views = { λ xs. xs };
-
-    ghost format = { core_value };
-
-    #[inline(always)]
-    fn read_items(alloc: Global, cursor: &mut Cursor<'_>) -> Result<Items<CoreDumpValue>, Fault> {
-        read_list(alloc, cursor)
-    }
-
-    #[inline(always)]
-    fn rewrite_items(rewriter: &mut Rewriter) -> Result<(), Fault> {
-        rewrite_list::<Item<'static, CoreDumpValue>>(rewriter)
     }
 }
 

@@ -173,7 +173,7 @@ impl<'a, T: CustomItem + Readable<'a>> Decode<'a> for CustomList<T> {
         check_list_to_end::<Item<'a, T>>(alloc, bytes)
     }
 
-    fn rewrite_all(bytes: Vec<u8>) -> Result<Vec<u8>, DecodeError> {
+    fn rewrite_all(bytes: &mut [u8]) -> Result<usize, DecodeError> {
         rewrite_list_to_end::<Item<'a, T>>(bytes)
     }
 }

@@ -2,13 +2,13 @@
 //! Linking).
 ghost use Rattle.std.specs.Prelude.{◌≡◌, ◌∷◌, ◌++◌, ◌+◌, ◌-◌, ◌<◌, ◌≤◌, ◌⊎◌, ℕ, List, None, [], refl, codes, true, IfOk, IfErr, OnOk, length, ⊤};
 ghost use Rattle.std.proofs.lemmas.List.{map_push};
-ghost use Rattle.wasm_codec.specs.Decoding.{ChecksAll, IsMinimal, ReadsAll, RewritesAll};
+ghost use Rattle.wasm_codec.specs.Decoding.{ChecksAll, IsMinimal, ReadsAll, RewritesInPlace, RewritesTo};
 ghost use Rattle.wasm_codec.specs.Encoding.{byte_list_bytes, OnlyTooLong};
 ghost use Rattle.wasm_codec.specs.Lawful.{IsLawful, IsLawfulBody};
 ghost use Rattle.wasm_codec.specs.Outcomes.{IfMalformed, LiesIn, as_read, read_error_of, IsMalformed, NeedsNoMemory};
 ghost use Rattle.wasm_codec.specs.Places.{Reads, WasMinimalIf, place};
 ghost use Rattle.wasm_codec.specs.Reading.{map_ok, BeginsWith};
-ghost use Rattle.wasm_codec.specs.Rewriter.{Rewrites};
+ghost use Rattle.wasm_codec.specs.Rewriter.{IsNew, Rewrites};
 ghost use Rattle.wasm_codec.specs.declared.encode.EncodeError.TheVariants.{Memory};
 ghost use Rattle.wasm_codec.specs.declared.reader.ReadError.TheVariants.{Refused};
 ghost use Rattle.wasm_codec.specs.formats.Combinators.{items, minimal_if};
@@ -37,13 +37,13 @@ use wasm_codec::reader::DecodeError;
 use wasm_codec::reader::cursor::{Cursor, Fault};
 use wasm_codec::reader::malformed::{Construct, Malformed, Reason};
 use wasm_codec::reader::refusal::Refusal;
-use wasm_codec::rewriter::{Rewriter, Scanned};
+use wasm_codec::rewriter::{Finished, Rewriter, Scanned};
 use wasm_lists::checking::check_items_to_end;
 use wasm_lists::encode::Encode;
 use wasm_lists::list::Items;
 use wasm_lists::readable::{Item, Readable};
 use wasm_lists::reading::read_items_to_end;
-use wasm_lists::rewriting::{Joinable, Rewritable, rewrite_joined, rewrite_sized};
+use wasm_lists::rewriting::{Joinable, Rewritable, Rewritten, rewrite_joined, rewrite_sized};
 use wasm_sections::bodies::{ListOf, read_sized_list};
 use wasm_sections::custom::CustomSection;
 
@@ -240,21 +240,58 @@ fn rewrite_version(rewriter: &mut Rewriter) -> Result<(), Fault>
     Ok(())
 }
 
-/// Rewrites the version and the subsections to their minimal encodings. Allocates nothing.
-fn rewrite_linking(bytes: Vec<u8>) -> Result<Vec<u8>, DecodeError>
-    ensures rewrites { RewritesAll linking_data (IsNothingOr linking_data) bytes.items (as_read result) }
+/// Rewrites the version and the subsections to their minimal encodings in place. Returns the length of these, which begin
+/// the slice. Allocates nothing.
+fn rewrite_linking(bytes: &mut [u8]) -> Result<usize, DecodeError>
+    ensures len { IfOk result (λ len. len ≤ length bytes.new) }
+    ensures rewrites { RewritesInPlace linking_data (IsNothingOr linking_data) bytes.old bytes.new (as_read result) }
     ensures memory { NeedsNoMemory (as_read result) }
-    ensures place { IfErr result (LiesIn (length bytes.items)) }
+    ensures place { IfErr result (LiesIn (length bytes.old)) }
 {
-    let len = bytes.len();
+    let Rewritten { bytes: _bytes, len } = rewritten_linking(bytes);
+    len
+}
+
+/// Rewrites the version and the subsections, and returns the same slice.
+fn rewritten_linking<'a>(bytes: &'a mut [u8]) -> Rewritten<'a>
+    ensures same_reference { IfOk result.len (λ _. result.bytes.ghost_name ≡ bytes.entry.ghost_name) }
+    ensures len { IfOk result.len (λ len. len ≤ length result.bytes.now) }
+    ensures rewrites { RewritesInPlace linking_data (IsNothingOr linking_data) bytes.old result.bytes.now (as_read result.len) }
+    ensures memory { NeedsNoMemory (as_read result.len) }
+    ensures place { IfErr result.len (LiesIn (length bytes.old)) }
+{
     let mut rewriter = Rewriter::new(bytes);
+    match rewrite_whole_linking(&mut rewriter) {
+        Ok(()) => {
+            let Finished { bytes, len } = rewriter.finish();
+            Rewritten {
+                bytes,
+                len: Ok(len),
+            }
+        }
+        Err(error) => Rewritten {
+            bytes: rewriter.finish().bytes,
+            len: Err(error),
+        },
+    }
+}
+
+/// Rewrites the version and the subsections that all bytes left encode.
+fn rewrite_whole_linking(rewriter: &mut Rewriter) -> Result<(), DecodeError>
+    requires { IsNew rewriter.old }
+    ensures rest { IfOk result (λ _. rewriter.new.rest ≡ rewriter.old.rest) }
+    ensures rewrites { RewritesTo linking_data (IsNothingOr linking_data) rewriter.old.place.left (λ _. rewriter.new.done) (as_read result) }
+    ensures memory { NeedsNoMemory (as_read result) }
+    ensures place { IfErr result (LiesIn (length rewriter.old.place.left)) }
+{
+    let len = rewriter.len();
     rewriter.are_bytes();
-    if let Err(fault) = rewrite_version(&mut rewriter) {
+    if let Err(fault) = rewrite_version(rewriter) {
         return Err(DecodeError::new(fault, 0, len));
     }
     rewriter.are_bytes();
-    match rewrite_joined::<AnySubsection>(&mut rewriter) {
-        Ok(()) => Ok(rewriter.finish()),
+    match rewrite_joined::<AnySubsection>(rewriter) {
+        Ok(()) => Ok(()),
         Err(stop) => Err(DecodeError::stopped(stop, len)),
     }
 }
@@ -414,10 +451,11 @@ impl<'a> Decode<'a> for LinkingSection {
         check_linking(alloc, bytes)
     }
 
-    fn rewrite_all(bytes: Vec<u8>) -> Result<Vec<u8>, DecodeError>
-        ensures rewrites { RewritesAll linking_data (IsNothingOr linking_data) bytes.items (as_read result) }
+    fn rewrite_all(bytes: &mut [u8]) -> Result<usize, DecodeError>
+        ensures len { IfOk result (λ len. len ≤ length bytes.new) }
+        ensures rewrites { RewritesInPlace linking_data (IsNothingOr linking_data) bytes.old bytes.new (as_read result) }
         ensures memory { NeedsNoMemory (as_read result) }
-        ensures place { IfErr result (LiesIn (length bytes.items)) }
+        ensures place { IfErr result (LiesIn (length bytes.old)) }
         ensures counts { IfMalformed result (λ _. ⊤) }
     {
         rewrite_linking(bytes)

@@ -1,8 +1,8 @@
 //! The name section: names of a module, its items, locals, labels and fields (Core 3.0, Name Section, and the proposal
 //! of extended name sections).
-ghost use Rattle.std.specs.Prelude.{◌≡◌, ◌++◌, ◌∷◌, ◌+◌, ◌<◌, ◌≤◌, ◌⊎◌, [], refl, codes, List, OnOk, OnErr, IfErr, IsErrOf, length, ⊤};
+ghost use Rattle.std.specs.Prelude.{◌≡◌, ◌++◌, ◌∷◌, ◌+◌, ◌<◌, ◌≤◌, ◌⊎◌, [], refl, codes, List, OnOk, OnErr, IfErr, IsErrOf, length, ⊤, IfOk};
 ghost use Rattle.std.proofs.lemmas.List.{map_push};
-ghost use Rattle.wasm_codec.specs.Decoding.{ChecksAll, IsMinimal, RewritesAll};
+ghost use Rattle.wasm_codec.specs.Decoding.{ChecksAll, IsMinimal, RewritesInPlace};
 ghost use Rattle.wasm_codec.specs.Encoding.{byte_list_bytes, IsCount, IsRefusal, IsShortest, IsTooLong, OnlyTooLong};
 ghost use Rattle.wasm_codec.specs.Lawful.{IsLawful, IsLawfulBody};
 ghost use Rattle.wasm_codec.specs.Outcomes.{IfMalformed, LiesIn, as_read, EncodesSome, NeedsNoMemory};
@@ -552,10 +552,11 @@ impl<'a> Decode<'a> for NameSection {
     }
 
     #[tactic(auto, using(wasm_codec::proofs::ListReading::none_within))]
-    fn rewrite_all(bytes: Vec<u8>) -> Result<Vec<u8>, DecodeError>
-        ensures rewrites { RewritesAll name_data (EncodesSome (Joined name_subsection.Encodes)) bytes.items (as_read result) }
+    fn rewrite_all(bytes: &mut [u8]) -> Result<usize, DecodeError>
+        ensures len { IfOk result (λ len. len ≤ length bytes.new) }
+        ensures rewrites { RewritesInPlace name_data (EncodesSome (Joined name_subsection.Encodes)) bytes.old bytes.new (as_read result) }
         ensures memory { NeedsNoMemory (as_read result) }
-        ensures place { IfErr result (LiesIn (length bytes.items)) }
+        ensures place { IfErr result (LiesIn (length bytes.old)) }
         ensures counts { IfMalformed result (λ _. ⊤) }
     {
         rewrite_items_to_end::<AnySubsection>(bytes)

@@ -51,6 +51,7 @@ pub use Rattle.wasm_sections.specs.SectionBytes
 pub use Rattle.wasm_sections.specs.WrittenSections
 pub use Rattle.wasm_sections.specs.ClosedEntries
 pub use Rattle.wasm_sections.specs.Prefixes
+pub use Rattle.wasm_modules.specs.Judging as JudgedModules
 pub use Rattle.wasm_modules.specs.ModuleOrder
 pub use Rattle.wasm_modules.specs.IndexSpaces
 pub use Rattle.wasm_modules.specs.MappedIndices

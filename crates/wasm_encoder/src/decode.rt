@@ -3,9 +3,9 @@
 //! The type that builds a section is the type that decodes its body: `read::<ExportSection>(alloc, body)` returns the
 //! exports, and so on. [`Instructions`] stands for a list of instructions, [`Module`] for a module with undecoded sections,
 //! and `WholeModule` for one with every section decoded. Implement [`Decode`] for a type of your own.
-ghost use Rattle.std.specs.Prelude.{List, true, false, IfErr, length};
+ghost use Rattle.std.specs.Prelude.{List, true, false, IfErr, length, ◌≤◌, IfOk};
 ghost use Rattle.wasm_codec.specs.Outcomes.{IfMalformed, LiesIn, as_read, NeedsNoMemory, EncodesSome};
-ghost use Rattle.wasm_codec.specs.Decoding.{IsMinimal, ChecksAll, RewritesAll};
+ghost use Rattle.wasm_codec.specs.Decoding.{IsMinimal, ChecksAll, RewritesInPlace};
 ghost use Rattle.wasm_codec.specs.Lawful.{IsLawfulBody};
 ghost use Rattle.wasm_codec.specs.formats.Bodies.{to_end};
 ghost use Rattle.wasm_codec.specs.formats.Combinators.{minimal_if, minimal_only};
@@ -26,7 +26,9 @@ use crate::type_section::TypeSection;
 use crate::wasm_core::Module;
 use std::alloc::Global;
 use wasm_code::code::CodeBody;
-pub use wasm_code::decode::{Decode, check, normalise, read, read_strict, rewrite};
+pub use wasm_code::decode::{
+    Decode, check, normalise, read, read_strict, rewrite, rewrite_in_place,
+};
 use wasm_code::raw::{check_raw_module, read_module_of, rewrite_raw_module};
 use wasm_codec::reader::DecodeError;
 use wasm_instructions::reader::lists::read_calls_to_end;
@@ -83,7 +85,7 @@ impl<'a> Decode<'a> for Instructions {
     }
 
     #[tactic(auto, using(wasm_codec::proofs::ListReading::none_within))]
-    fn rewrite_all(bytes: Vec<u8>) -> Result<Vec<u8>, DecodeError> {
+    fn rewrite_all(bytes: &mut [u8]) -> Result<usize, DecodeError> {
         rewrite_items_to_end::<Call>(bytes)
     }
 }
@@ -124,7 +126,7 @@ impl<'a> Decode<'a> for TypeSection {
     }
 
     #[tactic(auto, unfolding(wasm_types::specs::formats::Types::type_body))]
-    fn rewrite_all(bytes: Vec<u8>) -> Result<Vec<u8>, DecodeError> {
+    fn rewrite_all(bytes: &mut [u8]) -> Result<usize, DecodeError> {
         rewrite_list_to_end::<TypeEntry>(bytes)
     }
 }
@@ -165,7 +167,7 @@ impl<'a> Decode<'a> for CodeSection {
     }
 
     #[tactic(auto, unfolding(wasm_code::specs::formats::CodeBodies::code_section_body))]
-    fn rewrite_all(bytes: Vec<u8>) -> Result<Vec<u8>, DecodeError> {
+    fn rewrite_all(bytes: &mut [u8]) -> Result<usize, DecodeError> {
         rewrite_list_to_end::<CodeBody>(bytes)
     }
 }
@@ -211,11 +213,12 @@ impl<'a> Decode<'a> for Module {
         check_raw_module(alloc, bytes)
     }
 
-    fn rewrite_all(bytes: Vec<u8>) -> Result<Vec<u8>, DecodeError>
-        ensures rewrites { RewritesAll raw_module IsModulePrefix bytes.items (as_read result) }
+    fn rewrite_all(bytes: &mut [u8]) -> Result<usize, DecodeError>
+        ensures len { IfOk result (λ len. len ≤ length bytes.new) }
+        ensures rewrites { RewritesInPlace raw_module IsModulePrefix bytes.old bytes.new (as_read result) }
         ensures memory { NeedsNoMemory (as_read result) }
-        ensures place { IfErr result (LiesIn (length bytes.items)) }
-        ensures counts { IfMalformed result (CountsSections raw_section bytes.items) }
+        ensures place { IfErr result (LiesIn (length bytes.old)) }
+        ensures counts { IfMalformed result (CountsSections raw_section bytes.old) }
     {
         rewrite_raw_module(bytes)
     }

@@ -1,6 +1,7 @@
 //! One error for all calls of the library.
 ghost use Rattle.std.specs.Prelude.{◌≡◌, Option, Some, None};
 ghost use Rattle.wasm_codec.specs.declared.encode.EncodeError.TheVariants as encode_errors;
+ghost use Rattle.wasm_codec.specs.declared.reader.DecodeError.TheVariants as decode_errors;
 ghost use Rattle.wasm_encoder.specs.Errors.{at_of};
 ghost use Rattle.wasm_encoder.specs.declared.error.Error.TheVariants as errors;
 
@@ -9,6 +10,7 @@ use std::alloc::{AllocError, AllocFailed};
 use std::io;
 use thiserror::Error as ThisError;
 use wasm_codec::encode::EncodeError;
+use wasm_codec::reader::refusal::Refusal;
 use wasm_codec::reader::{DecodeError, ReadError};
 use wasm_custom_sections::names::NameError;
 use wasm_modules::order::ModuleError;
@@ -92,6 +94,14 @@ impl From<DecodeError> for Error {
 
     fn from(error: DecodeError) -> Error {
         Error::Decode(error)
+    }
+}
+
+impl From<Refusal> for Error {
+    ghost from_gives = { λ refusal e. e ≡ errors.Decode (decode_errors.Malformed refusal) };
+
+    fn from(refusal: Refusal) -> Error {
+        Error::Decode(DecodeError::Malformed(refusal))
     }
 }
 

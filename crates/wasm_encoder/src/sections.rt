@@ -43,8 +43,8 @@ pub use wasm_externals::const_expr::ConstExpr;
 pub use wasm_externals::limits::{MemoryType, TableType};
 pub use wasm_externals::types::{EntityType, ExportKind, GlobalType, TagKind, TagType};
 pub use wasm_modules::modules::{
-    Judged, WholeModule, check_whole_module, judge_whole_module, normalise_whole_module,
-    read_whole_module, read_whole_module_strict, rewrite_whole_module,
+    Judged, Judgement, WholeModule, check_whole_module, judge_in_place, judge_whole_module,
+    normalise_whole_module, read_whole_module, read_whole_module_strict, rewrite_whole_module,
 };
 pub use wasm_modules::order::{ModuleError, check_order, find_order_error};
 use wasm_sections::custom::append_front;

@@ -4,7 +4,6 @@ ghost use Rattle.wasm_externals.specs.ClosedExpressions.{IsClosed, IsCountedExpr
 ghost use Rattle.wasm_codec.specs.Scanning.{Scans};
 ghost use Rattle.wasm_codec.specs.declared.rewriter.scan.Scanned.TheVariants.{Shortest};
 ghost use Rattle.wasm_codec.specs.Outcomes.{IsMalformed};
-ghost use Rattle.wasm_codec.specs.Inputs.{Passes};
 ghost use Rattle.wasm_codec.specs.Places.{Reads, Sees};
 ghost use Rattle.wasm_instructions.specs.formats.Instructions.{instruction};
 ghost use Rattle.wasm_codec.specs.Rewriter.{Rewrites};
@@ -21,7 +20,6 @@ use wasm_instructions::calls::append_calls;
 use wasm_instructions::reader::instructions::read_call;
 use wasm_instructions::reader::lists::read_next_frequent_call;
 use wasm_instructions::table::{Call, Opcode, Prefix};
-use wasm_lists::input::ListInput;
 use wasm_lists::list::Items;
 use wasm_lists::rewriting::{Joinable, Rewritable};
 
@@ -192,28 +190,6 @@ pub fn rewrite_expr(rewriter: &mut Rewriter) -> Result<(), Fault>
         }
     }
     Err(Fault::Malformed(rewriter.malformed(Reason::MissingEnd)))
-}
-
-/// An input of expressions.
-pub trait ExprInput: ListInput {
-    /// Passes an expression, without its final `end`. Returns its instructions if the input only reads, and else none.
-    fn expr(&mut self, alloc: Global) -> Result<Items<Call>, Fault>
-        ensures passes { Passes Self.writes (λ calls. calls) expr (Self.state self.old) (Self.state self.new) result };
-}
-
-impl<'a> ExprInput for Cursor<'a> {
-    #[inline(always)]
-    fn expr(&mut self, alloc: Global) -> Result<Items<Call>, Fault> {
-        read_expr(alloc, self)
-    }
-}
-
-impl ExprInput for Rewriter {
-    #[inline(always)]
-    fn expr(&mut self, alloc: Global) -> Result<Items<Call>, Fault> {
-        rewrite_expr(self)?;
-        Ok(Items::new(alloc))
-    }
 }
 
 /// Appends the instructions of an expression and the final `end`. Appends nothing if it fails.

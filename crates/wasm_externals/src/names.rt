@@ -99,7 +99,7 @@ impl<'a> NameInput<'a> for Cursor<'a> {
     }
 }
 
-impl<'a> NameInput<'a> for Rewriter {
+impl<'a> NameInput<'a> for Rewriter<'_> {
     #[inline(always)]
     fn name(&mut self) -> Result<&'a str, Fault> {
         rewrite_name(self)?;

@@ -1,9 +1,9 @@
 //! The normaliser of lists of instructions (Core 3.0, Instructions).
-ghost use Rattle.std.specs.Prelude.{◌<◌, length};
-ghost use Rattle.wasm_codec.specs.Outcomes.{EncodesSome};
+ghost use Rattle.std.specs.Prelude.{◌<◌, length, IfErr};
+ghost use Rattle.wasm_codec.specs.Outcomes.{EncodesSome, LiesIn, as_decoded, as_read};
 ghost use Rattle.wasm_instructions.specs.formats.Instructions.{Instruction, Instructions, ShortestInstructions, instruction};
 ghost use Rattle.wasm_codec.specs.Rewriter.{Rewrites};
-ghost use Rattle.wasm_codec.specs.Decoding.{Normalises, NormalisesInPlace, RewritesAll};
+ghost use Rattle.wasm_codec.specs.Decoding.{Normalises, NormalisesInPlace, NormalisesSlice, RewritesAll};
 ghost use Rattle.wasm_codec.specs.formats.Bodies.{to_end};
 
 mod operands;
@@ -16,7 +16,8 @@ use crate::table::Call;
 use std::alloc::Global;
 use wasm_codec::reader::cursor::Fault;
 use wasm_codec::reader::malformed::Malformed;
-use wasm_codec::reader::{ReadError, without_reason};
+use wasm_codec::reader::refusal::Refusal;
+use wasm_codec::reader::{ReadError, without_memory, without_reason};
 use wasm_codec::rewriter::{Part, Rewriter, Scanned};
 use wasm_lists::rewriting::{Joinable, Rewritable, rewrite_items_to_end};
 
@@ -53,7 +54,34 @@ pub fn normalise_instructions(alloc: Global, bytes: &[u8]) -> Result<Vec<u8>, Re
 pub fn rewrite_instructions(bytes: Vec<u8>) -> Result<Vec<u8>, ReadError>
     ensures normalises { NormalisesInPlace (to_end instruction) (EncodesSome Instructions) bytes.items result }
 {
-    without_reason(rewrite_items_to_end::<Call>(bytes))
+    let mut bytes = bytes;
+    match without_reason(rewrite_items_to_end::<Call>(bytes.as_mut_slice())) {
+        Ok(len) => {
+            bytes.truncate(len);
+            Ok(bytes)
+        }
+        Err(error) => Err(error),
+    }
+}
+
+/// Replaces a list of instructions by its minimal encoding in place, as [`rewrite_instructions`] does (Core 3.0, Instructions). Returns the length of it, which begins
+/// the slice.
+///
+/// If it fails, the bytes are unspecified.
+///
+/// # Examples
+///
+/// ```
+/// # use wasm_encoder::rewrite_instructions_in_place;
+/// let mut bytes = *b"\x41\x80\x80\x00\x1a"; // i32.const 0, padded; drop
+/// let len = rewrite_instructions_in_place(&mut bytes)?;
+/// assert_eq!(rt; &bytes[..len], b"\x41\x00\x1a".as_slice());
+/// ```
+pub fn rewrite_instructions_in_place(bytes: &mut [u8]) -> Result<usize, Refusal>
+    ensures normalises { NormalisesSlice (to_end instruction) (EncodesSome Instructions) bytes.old bytes.new (as_read (as_decoded result)) }
+    ensures place { IfErr (as_decoded result) (LiesIn (length bytes.old)) }
+{
+    without_memory(rewrite_items_to_end::<Call>(bytes))
 }
 
 /// Copies the bytes and rewrites the copy.

@@ -1,4 +1,5 @@
 -- What is rewritten only where it is in its shortest encoding: items, and the count before them.
+use Rattle.std.specs.Borrow.{GName}
 use Rattle.std.proofs.Common.{◌≡◌, ℕ, ◌+◌, ◌-◌, ◌<◌, ◌≤◌, true, false, List, [], ◌++◌, length, Option, Some, None, Result, Ok, Err, IfOk, IfErr, refl, sym, ap, subst, ◌∙◌, append_assoc, length-append, inl, inr, arith}
 use Rattle.std.specs.Prelude.{is_some}
 use Rattle.wasm_codec.specs.formats.Grammar.{Grammar, IsBytes, Joined, TakesBytes}
@@ -7,7 +8,7 @@ use Rattle.wasm_codec.specs.Lawful.{IsLawful}
 use Rattle.wasm_codec.specs.Lists.{CountsItems, HasItemsBefore, IsCountedAt, EncodesList, IsListPrefix, IsCountedPrefix, ListMinimalIf, IsListPrefixMinimalIf, items_bytes}
 use Rattle.wasm_codec.specs.formats.Numbers.{EncodesU32}
 use Rattle.wasm_codec.specs.Places.{Place, place, keeps}
-use Rattle.wasm_codec.specs.Rewriter.{Rewriting, rewriting, rewriting_after, Rewrites, RewritesAll, StopsAt, StopsBehind}
+use Rattle.wasm_codec.specs.Rewriter.{rest_of, Rewriting, rewriting, rewriting_after, Rewrites, RewritesAll, StopsAt, StopsBehind}
 use Rattle.wasm_codec.specs.declared.reader.cursor.Fault.{Fault}
 use Rattle.wasm_codec.specs.declared.reader.cursor.Fault.TheVariants as faults
 use Rattle.wasm_codec.specs.declared.reader.ReadError.{ReadError}
@@ -197,10 +198,10 @@ refused_counts F bytes (decode_errors.Malformed refusal) fits there counts = cou
 
 -- ---- items without a count
 
-pub all_taken : {V : Type 0} {F : Format V} → IsLawful F → TakesBytes F.Encodes → (start end : Rewriting) (bytes : List ℕ) (result : Result (Unit {0}) Stop) → IsBytes start.place.left → start ≡ rewriting [] (place true bytes) [] → RewritesAll F start end result → IfOk result (λ _. EncodesSome (Joined F.Encodes) bytes)
+pub all_taken : {V : Type 0} {F : Format V} → IsLawful F → TakesBytes F.Encodes → (start end : Rewriting) (bytes : List ℕ) (result : Result (Unit {0}) Stop) → IsBytes start.place.left → {g : GName} → start ≡ rewriting [] (place true bytes) (rest_of [] g) → RewritesAll F start end result → IfOk result (λ _. EncodesSome (Joined F.Encodes) bytes)
 all_taken r some start end bytes (Err stop) fits is all = tt
 all_taken r some start end bytes (Ok done) fits is all = let n = joined_given r some start end bytes (subst IsBytes (ap (λ (s : Rewriting). s.place.left) is) fits) is all.0 all.1 in (n.value, n.encoded)
 
-pub all_stopped : {V : Type 0} {F : Format V} → IsLawful F → TakesBytes F.Encodes → (start end : Rewriting) (bytes : List ℕ) (result : Result (Unit {0}) Stop) → start ≡ rewriting [] (place true bytes) [] → RewritesAll F start end result → IfErr result (StopsBehind F bytes)
+pub all_stopped : {V : Type 0} {F : Format V} → IsLawful F → TakesBytes F.Encodes → (start end : Rewriting) (bytes : List ℕ) (result : Result (Unit {0}) Stop) → {g : GName} → start ≡ rewriting [] (place true bytes) (rest_of [] g) → RewritesAll F start end result → IfErr result (StopsBehind F bytes)
 all_stopped r some start end bytes (Ok done) is all = tt
 all_stopped {F = F} r some start end bytes (Err stop) is all = stops_at r some bytes stop (subst (λ (s : Rewriting). StopsAt F s.place.left stop.left) is all.0)

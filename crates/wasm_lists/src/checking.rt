@@ -29,7 +29,8 @@ pub fn check_list_to_end<T: Rewritable>(alloc: Global, bytes: &[u8]) -> Result<(
     if let Some(malformed) = fault_in_count(bytes) {
         return Err(DecodeError::refused(&malformed.outside_items(), 0, bytes.len()));
     }
-    let _list = rewrite_list_to_end::<Shortest<T>>(Vec::from_slice(alloc, bytes)?)?;
+    let mut copy = Vec::from_slice(alloc, bytes)?;
+    let _len = rewrite_list_to_end::<Shortest<T>>(copy.as_mut_slice())?;
     Ok(())
 }
 
@@ -70,7 +71,8 @@ pub fn check_joined<T: Joinable>(alloc: Global, bytes: &[u8]) -> Result<(), Stop
     ensures names { IfErr result (StopsInItem T.Breaks bytes.now) }
 {
     Shortest::<T>::is_lawful();
-    let mut rewriter = Rewriter::new(Vec::from_slice(alloc, bytes)?);
+    let mut copy = Vec::from_slice(alloc, bytes)?;
+    let mut rewriter = Rewriter::new(copy.as_mut_slice());
     rewriter.are_bytes();
     rewrite_joined::<Shortest<T>>(&mut rewriter)
 }

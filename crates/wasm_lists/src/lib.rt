@@ -5,7 +5,6 @@
 pub mod checking;
 pub mod encode;
 pub mod encoded_list;
-pub mod input;
 pub mod item_reader;
 pub mod judging;
 pub mod list;

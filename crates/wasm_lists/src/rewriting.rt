@@ -1,5 +1,5 @@
 //! Lists and bodies, rewritten in place.
-ghost use Rattle.std.specs.Prelude.{◌≡◌, ◌-◌, ◌<◌, ◌≤◌, ⊤, List, ℕ, length, true, false, Some, IfSome, IsNone, IfOk, IfErr};
+ghost use Rattle.std.specs.Prelude.{◌≡◌, ◌-◌, ◌<◌, ◌≤◌, ⊤, List, ℕ, length, take, true, false, Some, IfSome, IsNone, IfOk, IfErr};
 ghost use Rattle.std.specs.List.{flat_map};
 ghost use Rattle.wasm_codec.specs.formats.Grammar.{TakesBytes, Joined};
 ghost use Rattle.wasm_codec.specs.Outcomes.{IfMalformed, IfInItem, LiesIn, NamesItem, as_read, IfRefused, NeedsNoMemory, IsLongestPrefix, IsNormalForm, EncodesSome};
@@ -9,7 +9,7 @@ ghost use Rattle.wasm_codec.specs.formats.Combinators.{Format, items, u32 as u32
 ghost use Rattle.wasm_codec.specs.formats.Bodies.{sized, to_end};
 ghost use Rattle.wasm_codec.specs.Scanning.{BeginsShort, Scans, SkipsMinimal};
 ghost use Rattle.wasm_codec.specs.declared.rewriter.scan.Scanned.TheVariants.{Shortest};
-ghost use Rattle.wasm_codec.specs.Rewriter.{CountsPassed, Rewrites, RewritesAll, RewritesList, StopsInItem};
+ghost use Rattle.wasm_codec.specs.Rewriter.{CountsPassed, IsNew, Rewrites, RewritesAll, RewritesList, StopsInItem};
 
 mod numbers;
 
@@ -17,7 +17,7 @@ use crate::rewriting::numbers::number_run;
 use wasm_codec::reader::DecodeError;
 use wasm_codec::reader::cursor::Fault;
 use wasm_codec::reader::malformed::Stop;
-use wasm_codec::rewriter::{Part, Rewriter, Scanned, are_bytes, scan_u32};
+use wasm_codec::rewriter::{Finished, Part, Rewriter, Scanned, are_bytes, scan_u32};
 
 /// An item of a list that can be rewritten in place.
 pub trait Rewritable {
@@ -304,59 +304,122 @@ fn left_after_run<T: Joinable, const AHEAD: usize>(bytes: &[u8], begun: usize) -
     bytes.len() - run
 }
 
-/// Returns the minimal encoding of the items that the bytes encode one after another, without a count.
+/// A slice that was rewritten, and what came of it.
+#[derive(Drop)]
+pub struct Rewritten<'a> {
+    /// The slice.
+    pub bytes: &'a mut [u8],
+    /// Length in bytes of the minimal encoding, which begins the slice; or why the bytes are malformed.
+    pub len: Result<usize, DecodeError>,
+}
+
+/// Replaces the items that the bytes encode one after another, without a count, by their minimal encodings in place.
+/// Returns the length of these, which begin the slice.
 ///
-/// It never fails with `Memory`. Fails with `Malformed` at the offset of the first malformed item.
-pub fn rewrite_items_to_end<T: Joinable>(bytes: Vec<u8>) -> Result<Vec<u8>, DecodeError>
-    ensures given { IfOk (as_read result) (λ given. IsNormalForm (Joined T.format.Encodes) (flat_map T.format.bytes) bytes.items given.items) }
-    ensures prefix { IfRefused (as_read result) (IsLongestPrefix (EncodesSome (Joined T.format.Encodes)) bytes.items) }
-    ensures within { IfRefused (as_read result) (λ at. at < length bytes.items) }
+/// Allocates nothing, and never fails with `Memory`. Fails with `Malformed` at the offset of the first malformed item;
+/// the bytes are then unspecified.
+pub fn rewrite_items_to_end<T: Joinable>(bytes: &mut [u8]) -> Result<usize, DecodeError>
+    ensures len { IfOk result (λ len. len ≤ length bytes.new) }
+    ensures given { IfOk (as_read result) (λ len. IsNormalForm (Joined T.format.Encodes) (flat_map T.format.bytes) bytes.old (take len bytes.new)) }
+    ensures prefix { IfRefused (as_read result) (IsLongestPrefix (EncodesSome (Joined T.format.Encodes)) bytes.old) }
+    ensures within { IfRefused (as_read result) (λ at. at < length bytes.old) }
     ensures memory { NeedsNoMemory (as_read result) }
-    ensures place { IfErr result (LiesIn (length bytes.items)) }
+    ensures place { IfErr result (LiesIn (length bytes.old)) }
+{
+    let Rewritten { bytes: _bytes, len } = rewritten_items::<T>(bytes);
+    len
+}
+
+/// Rewrites the items, and returns the same slice.
+fn rewritten_items<'a, T: Joinable>(bytes: &'a mut [u8]) -> Rewritten<'a>
+    ensures same_reference { IfOk result.len (λ _. result.bytes.ghost_name ≡ bytes.entry.ghost_name) }
+    ensures len { IfOk result.len (λ len. len ≤ length result.bytes.now) }
+    ensures given { IfOk (as_read result.len) (λ len. IsNormalForm (Joined T.format.Encodes) (flat_map T.format.bytes) bytes.old (take len result.bytes.now)) }
+    ensures prefix { IfRefused (as_read result.len) (IsLongestPrefix (EncodesSome (Joined T.format.Encodes)) bytes.old) }
+    ensures within { IfRefused (as_read result.len) (λ at. at < length bytes.old) }
+    ensures memory { NeedsNoMemory (as_read result.len) }
+    ensures place { IfErr result.len (LiesIn (length bytes.old)) }
 {
     T::is_lawful();
-    let len = bytes.len();
+    let all = bytes.len();
     let mut rewriter = Rewriter::new(bytes);
     rewriter.are_bytes();
     match rewrite_joined::<T>(&mut rewriter) {
-        Ok(()) => Ok(rewriter.finish()),
-        Err(stop) => Err(DecodeError::stopped(stop, len)),
+        Ok(()) => {
+            let Finished { bytes, len } = rewriter.finish();
+            Rewritten {
+                bytes,
+                len: Ok(len),
+            }
+        }
+        Err(stop) => Rewritten {
+            bytes: rewriter.finish().bytes,
+            len: Err(DecodeError::stopped(stop, all)),
+        },
     }
 }
 
-/// Returns the minimal encoding of the list that the bytes encode.
+/// Replaces the list that the bytes encode by its minimal encoding in place. Returns the length of it, which begins the
+/// slice.
 ///
-/// It never fails with `Memory`. Fails with `Malformed` at the offset of the first malformed or missing item, or of
-/// trailing bytes. The offset is 0 if the count is malformed.
-pub fn rewrite_list_to_end<T: Rewritable>(bytes: Vec<u8>) -> Result<Vec<u8>, DecodeError>
-    ensures given { IfOk (as_read result) (λ given. IsNormalForm (EncodesList T.format.Encodes) (items_bytes T.format.bytes) bytes.items given.items) }
-    ensures prefix { IfRefused (as_read result) (IsLongestPrefix (IsListPrefix T.format.Encodes) bytes.items) }
-    ensures unencoded { IfRefused (as_read result) (λ _. (items : List T.Value) → EncodesList T.format.Encodes bytes.items items → ⊥) }
+/// Allocates nothing, and never fails with `Memory`. Fails with `Malformed` at the length of the longest well-formed
+/// prefix; the bytes are then unspecified.
+pub fn rewrite_list_to_end<T: Rewritable>(bytes: &mut [u8]) -> Result<usize, DecodeError>
+    ensures len { IfOk result (λ len. len ≤ length bytes.new) }
+    ensures given { IfOk (as_read result) (λ len. IsNormalForm (EncodesList T.format.Encodes) (items_bytes T.format.bytes) bytes.old (take len bytes.new)) }
+    ensures prefix { IfRefused (as_read result) (IsLongestPrefix (IsListPrefix T.format.Encodes) bytes.old) }
+    ensures unencoded { IfRefused (as_read result) (λ _. (items : List T.Value) → EncodesList T.format.Encodes bytes.old items → ⊥) }
     ensures memory { NeedsNoMemory (as_read result) }
-    ensures place { IfErr result (LiesIn (length bytes.items)) }
+    ensures place { IfErr result (LiesIn (length bytes.old)) }
     // The item that a refusal names counts the items before it.
-    ensures counts { IfMalformed result (CountsItems false T.format bytes.items) }
+    ensures counts { IfMalformed result (CountsItems false T.format bytes.old) }
 {
-    rewrite_whole_list::<T>(bytes)
+    let Rewritten { bytes: _bytes, len } = rewritten_list::<T>(bytes);
+    len
 }
 
-/// Rewrites the list that the bytes encode. Fails with the length of the longest well-formed prefix.
-fn rewrite_whole_list<T: Rewritable>(bytes: Vec<u8>) -> Result<Vec<u8>, DecodeError>
-    ensures rewrites { RewritesList T.format bytes.items (as_read result) }
-    ensures place { IfErr result (LiesIn (length bytes.items)) }
-    ensures counts { IfMalformed result (CountsItems false T.format bytes.items) }
+/// Rewrites the list that the bytes encode, and returns the same slice.
+fn rewritten_list<'a, T: Rewritable>(bytes: &'a mut [u8]) -> Rewritten<'a>
+    ensures same_reference { IfOk result.len (λ _. result.bytes.ghost_name ≡ bytes.entry.ghost_name) }
+    ensures len { IfOk result.len (λ len. len ≤ length result.bytes.now) }
+    ensures rewrites { RewritesList T.format bytes.old (λ len. take len result.bytes.now) (as_read result.len) }
+    ensures place { IfErr result.len (LiesIn (length bytes.old)) }
+    ensures counts { IfMalformed result.len (CountsItems false T.format bytes.old) }
+{
+    let mut rewriter = Rewriter::new(bytes);
+    match rewrite_whole_list::<T>(&mut rewriter) {
+        Ok(()) => {
+            let Finished { bytes, len } = rewriter.finish();
+            Rewritten {
+                bytes,
+                len: Ok(len),
+            }
+        }
+        Err(error) => Rewritten {
+            bytes: rewriter.finish().bytes,
+            len: Err(error),
+        },
+    }
+}
+
+/// Rewrites the list that the bytes left encode. Fails with the length of the longest well-formed prefix.
+fn rewrite_whole_list<T: Rewritable>(rewriter: &mut Rewriter) -> Result<(), DecodeError>
+    requires { IsNew rewriter.old }
+    ensures rest { IfOk result (λ _. rewriter.new.rest ≡ rewriter.old.rest) }
+    ensures rewrites { RewritesList T.format rewriter.old.place.left (λ _. rewriter.new.done) (as_read result) }
+    ensures place { IfErr result (LiesIn (length rewriter.old.place.left)) }
+    ensures counts { IfMalformed result (CountsItems false T.format rewriter.old.place.left) }
 {
     T::is_lawful();
-    let len = bytes.len();
-    let mut rewriter = Rewriter::new(bytes);
     rewriter.are_bytes();
+    let len = rewriter.len();
     let count = match rewriter.u32() {
         Ok(count) => count,
         Err(fault) => return Err(DecodeError::new(fault, 0, len).outside_items()),
     };
     for index in 0..count {
         let left = rewriter.len();
-        if let Err(fault) = T::rewrite(&mut rewriter) {
+        if let Err(fault) = T::rewrite(rewriter) {
             return Err(DecodeError::new(fault, len - left, len).in_item(index));
         }
     }
@@ -364,5 +427,5 @@ fn rewrite_whole_list<T: Rewritable>(bytes: Vec<u8>) -> Result<Vec<u8>, DecodeEr
     if left > 0 {
         return Err(DecodeError::refused(&rewriter.trailing(), len - left, len));
     }
-    Ok(rewriter.finish())
+    Ok(())
 }

@@ -1,11 +1,12 @@
 -- The laws of modules without the sections that a selection drops.
+use Rattle.std.specs.Borrow.{GName}
 use Rattle.std.proofs.Common.{◌≡◌, ◌∙◌, ℕ, ◌+◌, ◌-◌, ◌<◌, ◌≤◌, Bool, true, false, List, [], ◌∷◌, ◌++◌, length, take, drop, Some, Result, Ok, Err, is_err, refl, sym, ap, ap₂, subst, append_assoc, length-append, arith}
 use Rattle.std.specs.List.{AllByRecursion}
 use Rattle.std.proofs.lemmas.List.{flat_map_more, append-nil, take_at, drop_at, drop_all}
 use Rattle.wasm_codec.specs.formats.Grammar.{IsBytes, Joined}
 use Rattle.wasm_codec.specs.Outcomes.{EncodesSome}
 use Rattle.wasm_codec.specs.Places.{place}
-use Rattle.wasm_codec.specs.Rewriter.{Rewriting, rewriting, rewriting_after, Rewrites, skipped, without}
+use Rattle.wasm_codec.specs.Rewriter.{rest_of, Rewriting, rewriting, rewriting_after, Rewrites, skipped, without}
 use Rattle.wasm_codec.specs.declared.reader.cursor.Fault.{Fault}
 use Rattle.wasm_codec.specs.declared.reader.cursor.Fault.TheVariants as faults
 use Rattle.wasm_codec.proofs.RewriterLaws.{is_after}
@@ -15,7 +16,7 @@ use Rattle.wasm_code.specs.formats.Modules.{raw_module, raw_section}
 use Rattle.wasm_sections.specs.formats.ModuleSections.{KeepsMinimal, ShortestWholeModule}
 use Rattle.wasm_sections.proofs.RawSections.{IsMinimalSection, raw_sections, whole_again}
 use Rattle.wasm_modules.specs.Offsets.{IsNameOf}
-use Rattle.wasm_modules.specs.Selections.{IsDroppedName, IsDropped, ChoosesNext, Without, none, kept, dropped, IsSelected}
+use Rattle.wasm_modules.specs.Selections.{IsDroppedName, IsDropped, ChoosesNext, Without, none, kept, dropped, IsSelected, Selecting, Selects}
 use Rattle.wasm_modules.specs.declared.selection.Selection.{Selection}
 
 -- ---- sections one after the other
@@ -52,21 +53,9 @@ one_left_out selection sections next s bytes is w k = record {
 
 -- ---- in place
 
--- the first sections of the module were rewritten, without those that the selection drops
-pub record Selecting (selection : Selection) (sections : List SectionParts) (here : Rewriting) : Type 0 where
-  pub before : List SectionParts
-  pub rest : List SectionParts
-  pub parts : sections ≡ before ++ rest
-  pub encodes : Joined raw_section.Encodes here.place.left rest
-  pub selected : IsSelected selection before here.done
-
--- of each list of sections that the bytes encode
-abbrev pub Selects : Selection → List ℕ → Rewriting → Type 0
-Selects selection bytes here = (sections : List SectionParts) → raw_module.Encodes bytes sections → Selecting selection sections here
-
-pub selecting_none : (selection : Selection) (bytes rest : List ℕ) (new here : Rewriting) → bytes ≡ header ++ rest → new ≡ rewriting [] (place true bytes) [] → here ≡ skipped 8 new → Selects selection bytes here
-selecting_none selection bytes rest new here found new-is here-is sections g =
-    let is : here ≡ skipped 8 (rewriting [] (place true bytes) []) = here-is ∙ ap (skipped 8) new-is in
+pub selecting_none : (selection : Selection) (bytes rest : List ℕ) (new here : Rewriting) → bytes ≡ header ++ rest → {name : GName} → new ≡ rewriting [] (place true bytes) (rest_of [] name) → here ≡ skipped 8 new → Selects selection bytes here
+selecting_none selection bytes rest new here found {name} new-is here-is sections g =
+    let is : here ≡ skipped 8 (rewriting [] (place true bytes) (rest_of [] name)) = here-is ∙ ap (skipped 8) new-is in
     let done : here.done ≡ header = ap (λ (r : Rewriting). r.done) is ∙ ap (take 8) found ∙ take_at header rest 8 refl in
     let left : here.place.left ≡ g.0 = ap (λ (r : Rewriting). r.place.left) is ∙ ap (drop 8) g.1 ∙ drop_at header g.0 8 refl in
     record {

@@ -5,7 +5,7 @@ use Rattle.wasm_codec.specs.Lawful.{IsLawful}
 use Rattle.wasm_codec.specs.Outcomes.{IsMalformed}
 use Rattle.wasm_codec.specs.Places.{Place, place, Reads, keeps, u32_at}
 use Rattle.wasm_codec.specs.Reading.{map_ok}
-use Rattle.wasm_codec.specs.Rewriter.{rewriting}
+use Rattle.wasm_codec.specs.Rewriter.{rewriting, no_rest}
 use Rattle.wasm_codec.specs.declared.reader.cursor.Fault.{Fault}
 use Rattle.wasm_codec.specs.declared.reader.cursor.Fault.TheVariants as faults
 use Rattle.wasm_codec.specs.formats.Combinators.{Format, ◌⊗◌, made, items, u32, by_kind}
@@ -152,10 +152,10 @@ passes_read F law old new (Ok x) read = read_skips (λ v. tt {0}) law old new x 
 passes_read F law old new (Err fault) none = fault_skips (λ v. tt {0}) law old new new fault none
 
 -- what a call that takes a value from a cursor says
-pub taken : {V : Type 0} (F : Format V) → IsLawful F → (old new : Place) (v : V) → Takes false F (rewriting [] old []) (rewriting [] new []) (Ok v) → Passes F old new (Ok tt)
+pub taken : {V : Type 0} (F : Format V) → IsLawful F → (old new : Place) (v : V) → Takes false F (rewriting [] old no_rest) (rewriting [] new no_rest) (Ok v) → Passes F old new (Ok tt)
 taken F law old new v takes = read_skips (λ v. tt {0}) law old new v takes.read
 
-pub take_fails : {V : Type 0} (F : Format V) → IsLawful F → (old mid new : Place) (fault : Fault) → Takes {V = V} false F (rewriting [] old []) (rewriting [] mid []) (Err fault) → Passes F old new (Err fault)
+pub take_fails : {V : Type 0} (F : Format V) → IsLawful F → (old mid new : Place) (fault : Fault) → Takes {V = V} false F (rewriting [] old no_rest) (rewriting [] mid no_rest) (Err fault) → Passes F old new (Err fault)
 take_fails F law old mid new (faults.Malformed m) none = fault_skips (λ v. tt {0}) law old mid new (faults.Malformed m) none
 take_fails F law old mid new faults.Memory none = absurd none
 
@@ -219,7 +219,7 @@ call_at old prefix back i parts g =
       encodes = subst (λ (o : Opcode). (by_kind operands_format (opcode_kind o)).Encodes s.1 g.0.1) op s.4;
     }
 
-pub opcode_fails : (old mid new : Place) (fault : Fault) → Takes {V = Opcode} false opcode (rewriting [] old []) (rewriting [] mid []) (Err fault) → Skips (λ (i : Instruction). i.op) instruction old new (Err fault)
+pub opcode_fails : (old mid new : Place) (fault : Fault) → Takes {V = Opcode} false opcode (rewriting [] old no_rest) (rewriting [] mid no_rest) (Err fault) → Skips (λ (i : Instruction). i.op) instruction old new (Err fault)
 opcode_fails old mid new (faults.Malformed m) none prefix back i parts g = not_none (call_at old prefix back i parts g).op none
 opcode_fails old mid new faults.Memory none prefix back i parts g = absurd none
 

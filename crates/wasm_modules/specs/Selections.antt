@@ -1,6 +1,8 @@
 -- Modules without the custom sections that a selection drops.
 use Rattle.std.specs.Prelude.{◌≡◌, ◌≢◌, ◌⊎◌, ℕ, Bool, true, false, List, [], ◌∷◌, ◌++◌, Some}
 use Rattle.wasm_codec.specs.Places.{Place, place}
+use Rattle.wasm_codec.specs.Rewriter.{Rewriting}
+use Rattle.wasm_codec.specs.formats.Grammar.{Joined}
 use Rattle.wasm_code.specs.formats.Sections.{SectionParts}
 use Rattle.wasm_code.specs.formats.Modules.{raw_module, raw_section}
 use Rattle.wasm_modules.specs.Offsets.{IsOffsetName, IsNameOf}
@@ -57,6 +59,18 @@ pub record IsSelected (selection : Selection) (sections : List SectionParts) (by
   pub left : List SectionParts
   pub chosen : Without selection sections left
   pub written : bytes ≡ raw_module.bytes left
+
+-- The first sections of the module were written, without those that the selection drops.
+pub record Selecting (selection : Selection) (sections : List SectionParts) (here : Rewriting) : Type 0 where
+  pub before : List SectionParts
+  pub rest : List SectionParts
+  pub parts : sections ≡ before ++ rest
+  pub encodes : Joined raw_section.Encodes here.place.left rest
+  pub selected : IsSelected selection before here.done
+
+-- The same of each list of sections that the bytes encode.
+abbrev pub Selects : Selection → List ℕ → Rewriting → Type 0
+Selects selection bytes here = (sections : List SectionParts) → raw_module.Encodes bytes sections → Selecting selection sections here
 
 -- The bytes are the canonical form with these sections: with all, or with those that the selection doesn't drop.
 abbrev pub IsChosen : Sections → List ℕ → List ℕ → Type 0

@@ -1,6 +1,6 @@
 //! Modules rewritten section by section, with counts of the items that weren't minimally encoded.
-ghost use Rattle.std.specs.Prelude.{⊤, ℕ, List, [], Option, OnOk, IfOk, IfErr, length};
-ghost use Rattle.wasm_codec.specs.Decoding.{RewritesAll};
+ghost use Rattle.std.specs.Prelude.{◌≡◌, ◌≤◌, ⊤, ℕ, List, [], Option, OnOk, IfOk, IfErr, length};
+ghost use Rattle.wasm_codec.specs.Decoding.{RewritesInPlace};
 ghost use Rattle.wasm_codec.specs.Lawful.{IsLawful};
 ghost use Rattle.wasm_codec.specs.Outcomes.{FailsMalformed, LiesIn, NeedsNoMemory, as_read};
 ghost use Rattle.wasm_codec.specs.Rewriter.{Rewrites, RewritesAll as RewritesToEnd};
@@ -17,8 +17,8 @@ use wasm_code::section::HEADER;
 use wasm_codec::reader::DecodeError;
 use wasm_codec::reader::cursor::Fault;
 use wasm_codec::reader::malformed::{Construct, Malformed, Reason, Stop};
-use wasm_codec::rewriter::Rewriter;
-use wasm_lists::rewriting::{Rewritable, RewritableBody, rewrite_sized};
+use wasm_codec::rewriter::{Finished, Rewriter};
+use wasm_lists::rewriting::{Rewritable, RewritableBody, Rewritten, rewrite_sized};
 use wasm_sections::module_sections::{AnySection, SectionKind, SectionVisitor, visit_section};
 
 /// The number of items in a list, and how many aren't minimally encoded.
@@ -48,24 +48,42 @@ pub trait SectionWatcher {
         ensures takes { Takes len counts self.old self.new };
 }
 
-/// Replaces a module by its minimal encoding in place (Core 3.0, Modules), and shows each section to the watcher.
+/// Replaces a module by its minimal encoding in place (Core 3.0, Modules), and shows each section to the watcher. Returns
+/// the length of the minimal encoding, which begins the slice.
 ///
-/// Fails with `Malformed` as `rewrite::<WholeModule>` does, after the sections before the malformed one were shown.
-/// Allocates nothing.
+/// Fails with `Malformed` as `rewrite::<WholeModule>` does, after the sections before the malformed one were shown; the
+/// bytes are then unspecified. Allocates nothing.
 pub fn rewrite_watched<W: SectionWatcher>(
-    bytes: Vec<u8>,
+    bytes: &mut [u8],
     watcher: &mut W,
-) -> Result<Vec<u8>, DecodeError>
-    ensures rewrites { RewritesAll whole_module (IsModulePrefixOf module_section) bytes.items (as_read result) }
+) -> Result<usize, DecodeError>
+    ensures len { IfOk result (λ len. len ≤ length bytes.new) }
+    ensures rewrites { RewritesInPlace whole_module (IsModulePrefixOf module_section) bytes.old bytes.new (as_read result) }
     ensures memory { NeedsNoMemory (as_read result) }
-    ensures place { IfErr result (LiesIn (length bytes.items)) }
+    ensures place { IfErr result (LiesIn (length bytes.old)) }
     // The watcher is shown each section of a module.
-    ensures shows { OnOk result (ShowsModule W.Sees W.Takes bytes.items watcher.old watcher.new) }
+    ensures shows { OnOk result (ShowsModule W.Sees W.Takes bytes.old watcher.old watcher.new) }
 {
-    let len = bytes.len();
-    let Some(_sections) = after_header(&bytes) else {
+    let Rewritten { bytes: _bytes, len } = watched::<W>(bytes, watcher);
+    len
+}
+
+/// Rewrites a module and shows its sections, and returns the same slice.
+fn watched<'a, W: SectionWatcher>(bytes: &'a mut [u8], watcher: &mut W) -> Rewritten<'a>
+    ensures same_reference { IfOk result.len (λ _. result.bytes.ghost_name ≡ bytes.entry.ghost_name) }
+    ensures len { IfOk result.len (λ len. len ≤ length result.bytes.now) }
+    ensures rewrites { RewritesInPlace whole_module (IsModulePrefixOf module_section) bytes.old result.bytes.now (as_read result.len) }
+    ensures memory { NeedsNoMemory (as_read result.len) }
+    ensures place { IfErr result.len (LiesIn (length bytes.old)) }
+    ensures shows { OnOk result.len (ShowsModule W.Sees W.Takes bytes.old watcher.old watcher.new) }
+{
+    let all = bytes.len();
+    let Some(_sections) = after_header(bytes) else {
         // Without the header it has no sections to show.
-        return rewrite_module_of::<AnySection>(bytes);
+        return Rewritten {
+            len: rewrite_module_of::<AnySection>(bytes),
+            bytes,
+        };
     };
     let mut counting = CountingRewriter {
         rewriter: Rewriter::new(bytes),
@@ -73,14 +91,23 @@ pub fn rewrite_watched<W: SectionWatcher>(
     counting.rewriter.skip(HEADER.len());
     counting.rewriter.are_bytes();
     match rewrite_sections(&mut counting, watcher) {
-        Ok(()) => Ok(counting.rewriter.finish()),
-        Err(stop) => Err(DecodeError::stopped(stop, len).numbered(stop.passed)),
+        Ok(()) => {
+            let Finished { bytes, len } = counting.rewriter.finish();
+            Rewritten {
+                bytes,
+                len: Ok(len),
+            }
+        }
+        Err(stop) => Rewritten {
+            bytes: counting.rewriter.finish().bytes,
+            len: Err(DecodeError::stopped(stop, all).numbered(stop.passed)),
+        },
     }
 }
 
 /// Rewrites sections one after another, up to the end, and shows each to the watcher. Fails with the first malformed one.
 fn rewrite_sections<W: SectionWatcher>(
-    counting: &mut CountingRewriter,
+    counting: &mut CountingRewriter<'_>,
     watcher: &mut W,
 ) -> Result<(), Stop>
     ensures rewrites { RewritesToEnd module_section counting.old.rewriter counting.new.rewriter result }
@@ -106,12 +133,12 @@ fn rewrite_sections<W: SectionWatcher>(
 
 /// A rewriter of sections that counts their items.
 #[derive(Drop)]
-pub struct CountingRewriter {
+pub struct CountingRewriter<'a> {
     /// The rewriter of the module.
-    pub rewriter: Rewriter,
+    pub rewriter: Rewriter<'a>,
 }
 
-impl CountingRewriter {
+impl<'a> CountingRewriter<'a> {
     /// Rewrites the next section to its minimal encoding, and counts its items. `None` means that it isn't a list.
     ///
     /// Fails with `Malformed` if no section can be decoded. The fault carries the section's id.
@@ -131,7 +158,7 @@ impl CountingRewriter {
     }
 }
 
-impl SectionVisitor for CountingRewriter {
+impl<'a> SectionVisitor for CountingRewriter<'a> {
     type Output = Result<Option<ItemCounts>, Fault>;
 
     ghost visits_list = { λ V F C B old new result. CountsList F old.rewriter new.rewriter result };

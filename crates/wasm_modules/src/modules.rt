@@ -1,14 +1,15 @@
 //! Modules with every section decoded (Core 3.0, Modules).
-ghost use Rattle.std.specs.Prelude.{◌≡◌, List, IfOk, IfErr, IfSome, length};
+ghost use Rattle.std.specs.Prelude.{◌≡◌, ◌≤◌, List, IfOk, IfErr, IfSome, length, take};
 ghost use Rattle.std.specs.List.{AllByRecursion};
-ghost use Rattle.wasm_codec.specs.Outcomes.{IfMalformed, LiesIn, as_read, NeedsNoMemory};
+ghost use Rattle.wasm_codec.specs.Outcomes.{IfMalformed, LiesIn, as_decoded, as_read, NeedsNoMemory};
 ghost use Rattle.wasm_codec.specs.formats.Combinators.{minimal_if, minimal_only};
-ghost use Rattle.wasm_code.specs.Judging.{form_of, verdict_of, RefusalLiesIn};
+ghost use Rattle.wasm_code.specs.Judging.{len_of, verdict_of, RefusalLiesIn};
+ghost use Rattle.wasm_modules.specs.Judging.{form_of};
 ghost use Rattle.wasm_code.specs.Modules.{CountsSections, IsModulePrefixOf};
 ghost use Rattle.wasm_modules.specs.RefusalNumbers.{CountsParts};
 ghost use Rattle.wasm_sections.specs.formats.ModuleSectionParts.{ModuleSectionParts, all_module_section_parts};
 ghost use Rattle.wasm_sections.specs.formats.ModuleSections.{module_section, whole_module, ShortestWholeModule};
-ghost use Rattle.wasm_codec.specs.Decoding.{Decodes, DecodesMinimal, Checks, Normalises, NormalisesInPlace, ChecksAll, RewritesAll, IsMinimal};
+ghost use Rattle.wasm_codec.specs.Decoding.{Decodes, DecodesMinimal, Checks, Normalises, NormalisesInPlace, NormalisesTo, ChecksAll, RewritesInPlace, IsMinimal};
 ghost use Rattle.wasm_codec.specs.Lawful.{IsLawfulBody};
 ghost use Rattle.wasm_code.specs.DecodedPrefixes.{ArePrefixes};
 
@@ -16,11 +17,12 @@ pub use crate::counting::ItemCounts;
 pub use crate::order::{ModuleError, check_order};
 use std::alloc::Global;
 use wasm_code::decode::{Decode, check, normalise, read, read_strict, rewrite};
-pub use wasm_code::judging::Judged;
+pub use wasm_code::judging::Judgement;
 use wasm_code::judging::judge_module_of;
 use wasm_code::normaliser::framing::rewrite_module_of;
 use wasm_code::raw::{check_module_of, read_module_of};
-use wasm_codec::reader::{DecodeError, ReadError, without_reason};
+use wasm_codec::reader::refusal::Refusal;
+use wasm_codec::reader::{DecodeError, ReadError, without_memory, without_reason};
 use wasm_sections::module_sections::{AnySection, ModuleSection};
 
 /// A module with every section decoded (Core 3.0, Modules).
@@ -87,11 +89,12 @@ impl<'a> Decode<'a> for WholeModule {
     }
 
     #[tactic(auto, using(crate::proofs::RefusalLaws::counts_parts))]
-    fn rewrite_all(bytes: Vec<u8>) -> Result<Vec<u8>, DecodeError>
-        ensures rewrites { RewritesAll whole_module (IsModulePrefixOf module_section) bytes.items (as_read result) }
+    fn rewrite_all(bytes: &mut [u8]) -> Result<usize, DecodeError>
+        ensures len { IfOk result (λ len. len ≤ length bytes.new) }
+        ensures rewrites { RewritesInPlace whole_module (IsModulePrefixOf module_section) bytes.old bytes.new (as_read result) }
         ensures memory { NeedsNoMemory (as_read result) }
-        ensures place { IfErr result (LiesIn (length bytes.items)) }
-        ensures counts { IfMalformed result (CountsParts module_section bytes.items) }
+        ensures place { IfErr result (LiesIn (length bytes.old)) }
+        ensures counts { IfMalformed result (CountsParts module_section bytes.old) }
     {
         rewrite_module_of::<AnySection>(bytes)
     }
@@ -194,6 +197,16 @@ pub fn rewrite_whole_module(bytes: Vec<u8>) -> Result<Vec<u8>, ReadError>
     without_reason(rewrite::<WholeModule>(bytes))
 }
 
+/// The minimal encoding of a module, and what the module was.
+#[derive(Debug, PartialEq, Eq, Drop)]
+pub struct Judged {
+    /// The minimal encoding.
+    pub bytes: Vec<u8>,
+    /// The first part of the module that wasn't minimally encoded. Its `at` is the offset of the first such section.
+    /// `None` means that the module was minimally encoded, and is unchanged.
+    pub longer: Option<Refusal>,
+}
+
 /// Replaces a module by its minimal encoding in place, and tells whether it was minimally encoded (Core 3.0, Modules).
 ///
 /// If it was, the bytes are unchanged. Fails with `Malformed` as `rewrite::<WholeModule>` does. Allocates nothing.
@@ -220,5 +233,40 @@ pub fn judge_whole_module(bytes: Vec<u8>) -> Result<Judged, DecodeError>
     // The section of the first part that isn't minimal counts the sections before it, which are minimally encoded.
     ensures numbers { IfOk result (λ judged. IfSome judged.longer (CountsSections (minimal_only module_section) bytes.items)) }
 {
-    judge_module_of::<AnySection>(bytes)
+    let mut bytes = bytes;
+    match judge_module_of::<AnySection>(bytes.as_mut_slice()) {
+        Ok(Judgement { len, longer }) => {
+            bytes.truncate(len);
+            Ok(Judged { bytes, longer })
+        }
+        Err(error) => Err(error),
+    }
+}
+
+/// Replaces a module by its minimal encoding in place, as [`judge_whole_module`] does. The minimal encoding begins the
+/// slice.
+///
+/// If it fails, the bytes are unspecified. Allocates nothing.
+///
+/// # Examples
+///
+/// ```
+/// # use wasm_encoder::sections::judge_in_place;
+/// let mut bytes = *b"\0asm\x01\0\0\0\x08\x02\x85\x00"; // the index 5 in two bytes
+/// let judged = judge_in_place(&mut bytes)?;
+/// assert_eq!(rt; &bytes[..judged.len], b"\0asm\x01\0\0\0\x08\x01\x05".as_slice());
+/// assert_eq!(rt; judged.longer.map(|refusal| refusal.offset), Some(10));
+/// ```
+pub fn judge_in_place(bytes: &mut [u8]) -> Result<Judgement, Refusal>
+    ensures len { IfOk result (λ judged. judged.len ≤ length bytes.new) }
+    ensures normalises { NormalisesTo whole_module (IsModulePrefixOf module_section) bytes.old (λ len. take len bytes.new) (len_of (as_decoded result)) }
+    // The result is that of `check_whole_module`.
+    ensures judges { IfOk result (λ judged. Checks whole_module ShortestWholeModule (IsModulePrefixOf (minimal_only module_section)) bytes.old (verdict_of judged.longer)) }
+    ensures place { IfErr (as_decoded result) (LiesIn (length bytes.old)) }
+    ensures within { IfOk result (λ judged. IfSome judged.longer (RefusalLiesIn (length bytes.old))) }
+    ensures counts { IfMalformed (as_decoded result) (CountsParts module_section bytes.old) }
+    // The section of the first part that isn't minimal counts the sections before it, which are minimally encoded.
+    ensures numbers { IfOk result (λ judged. IfSome judged.longer (CountsSections (minimal_only module_section) bytes.old)) }
+{
+    without_memory(judge_module_of::<AnySection>(bytes))
 }

@@ -1,16 +1,16 @@
 //! Modules without some of their custom sections, which are chosen by name.
-ghost use Rattle.std.specs.Prelude.{◌≡◌, ◌∷◌, ℕ, List, true, false, codes, IfSome, IfNone};
+ghost use Rattle.std.specs.Prelude.{◌≡◌, ◌≤◌, ◌∷◌, [], ℕ, List, true, false, codes, length, take, IfSome, IfNone};
 ghost use Rattle.wasm_code.specs.formats.Sections.{SectionParts, parts_of};
 ghost use Rattle.wasm_code.specs.formats.Modules.{raw_module};
 ghost use Rattle.wasm_sections.specs.formats.ModuleSections.{KeepsMinimal};
 ghost use Rattle.wasm_modules.specs.Offsets.{IsNameOf};
-ghost use Rattle.wasm_modules.specs.Selections.{star, IsMatch, Matches, MatchesSome, IsDroppedName, IsDropped, ChoosesNext, IsSelected, IsChosen};
+ghost use Rattle.wasm_modules.specs.Selections.{star, IsMatch, Matches, MatchesSome, IsDroppedName, IsDropped, ChoosesNext, IsSelected, IsChosen, Selects};
 
 use crate::offsets::is_offset_name;
 use wasm_code::raw::{after_header, read_section, rewrite_raw_section};
 use wasm_code::section::{HEADER, RawSection};
 use wasm_codec::reader::cursor::Cursor;
-use wasm_codec::rewriter::Rewriter;
+use wasm_codec::rewriter::{Finished, Rewriter};
 use wasm_sections::custom::read_custom;
 
 /// A pattern of names of custom sections. Each `*` in it stands for any characters, or for none.
@@ -101,31 +101,93 @@ pub fn choose_sections(canonical: Vec<u8>, sections: Sections<'_>) -> Vec<u8>
 
 /// Returns the module without the custom sections that the selection drops. It works in place.
 ///
-/// The sizes of the other sections get their minimal encoding. From a malformed section on, it drops all bytes.
+/// The sizes of the other sections get their minimal encoding. A malformed module becomes empty.
 pub fn select_sections(bytes: Vec<u8>, selection: Selection<'_>) -> Vec<u8>
     // The result is the minimal encoding of the sections that aren't dropped.
     ensures ok { (sections : List SectionParts) → raw_module.Encodes bytes.items sections →
         IsSelected selection.entry sections result.items }
     ensures minimal { KeepsMinimal bytes.items result.items }
 {
-    let Some(_sections) = after_header(&bytes) else {
-        // A malformed module has no sections to drop.
-        return bytes;
+    let mut bytes = bytes;
+    let len = select_in_place(bytes.as_mut_slice(), selection);
+    bytes.truncate(len);
+    bytes
+}
+
+/// Drops the custom sections of the selection from a module, in place. Returns the length of what stays, which begins the
+/// slice.
+///
+/// The sizes of the other sections get their minimal encoding. Returns 0 if the module is malformed.
+pub fn select_in_place(bytes: &mut [u8], selection: Selection<'_>) -> usize
+    ensures len { result ≤ length bytes.new }
+    ensures ok { (sections : List SectionParts) → raw_module.Encodes bytes.old sections →
+        IsSelected selection.entry sections (take result bytes.new) }
+    ensures minimal { KeepsMinimal bytes.old (take result bytes.new) }
+{
+    let Selected { bytes: _bytes, len } = select_slice(bytes, selection);
+    match len {
+        Some(len) => len,
+        None => 0,
+    }
+}
+
+/// A slice of which some sections were kept.
+#[derive(Drop)]
+struct Selected<'a> {
+    /// The slice.
+    bytes: &'a mut [u8],
+    /// Length in bytes of what was kept. `None` means that the module is malformed.
+    len: Option<usize>,
+}
+
+/// Drops the sections, and returns the same slice.
+fn select_slice<'a>(bytes: &'a mut [u8], selection: Selection<'_>) -> Selected<'a>
+    ensures same_reference { IfSome result.len (λ _. result.bytes.ghost_name ≡ bytes.entry.ghost_name) }
+    ensures len { IfSome result.len (λ len. len ≤ length result.bytes.now) }
+    ensures ok { IfSome result.len (λ len. (sections : List SectionParts) → raw_module.Encodes bytes.old sections →
+        IsSelected selection.entry sections (take len result.bytes.now)) }
+    ensures minimal { IfSome result.len (λ len. KeepsMinimal bytes.old (take len result.bytes.now)) }
+    ensures none { IfNone result.len ((sections : List SectionParts) → raw_module.Encodes bytes.old sections → ⊥) }
+{
+    let Some(_sections) = after_header(bytes) else {
+        return Selected { bytes, len: None };
     };
     let mut rewriter = Rewriter::new(bytes);
     rewriter.skip(HEADER.len());
+    if keep_selected(&mut rewriter, selection) {
+        let Finished { bytes, len } = rewriter.finish();
+        Selected {
+            bytes,
+            len: Some(len),
+        }
+    } else {
+        Selected {
+            bytes: rewriter.finish().bytes,
+            len: None,
+        }
+    }
+}
+
+/// Rewrites the sections up to the end, without those that the selection drops. Returns `false` at a malformed one.
+fn keep_selected(rewriter: &mut Rewriter, selection: Selection<'_>) -> bool
+    ensures rest { result ≡ true → rewriter.new.rest ≡ rewriter.old.rest }
+    ensures end { result ≡ true → rewriter.new.place.left ≡ [] }
+    ensures ok { result ≡ true → (bytes : List ℕ) → Selects selection.entry bytes rewriter.old → Selects selection.entry bytes rewriter.new }
+    ensures none { result ≡ false → (bytes : List ℕ) → Selects selection.entry bytes rewriter.old →
+        (sections : List SectionParts) → raw_module.Encodes bytes sections → ⊥ }
+{
     while rewriter.len() > 0 {
         rewriter.are_bytes();
         let dropped = next_is_dropped(rewriter.left(), selection);
         let mark = rewriter.written_len();
-        if rewrite_raw_section(&mut rewriter).is_err() {
-            return rewriter.finish();
+        if rewrite_raw_section(rewriter).is_err() {
+            return false;
         }
         if dropped {
             rewriter.cut_out(mark, rewriter.written_len() - mark);
         }
     }
-    rewriter.finish()
+    true
 }
 
 /// Checks whether the bytes begin with a section that the selection drops.

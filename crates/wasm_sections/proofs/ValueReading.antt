@@ -1,4 +1,5 @@
 -- What is read and rewritten of a value that is all of the bytes.
+use Rattle.std.specs.Borrow.{GName}
 use Rattle.std.proofs.Common.{◌≡◌, ℕ, ◌-◌, ◌<◌, ◌≤◌, true, false, List, [], ◌∷◌, ◌++◌, length, Option, Some, None, Ok, Err, refl, sym, ap, subst, ◌∙◌, length-append, inl, inr, arith}
 use Rattle.std.proofs.lemmas.List.{append-nil}
 use Rattle.std.specs.Global.{Vec}
@@ -7,9 +8,9 @@ use Rattle.wasm_codec.specs.Lawful.{IsLawful, IsLawfulBody}
 use Rattle.wasm_codec.specs.Places.{Place, place, keeps, u32_at, Reads}
 use Rattle.wasm_codec.specs.declared.reader.cursor.Fault.{Fault}
 use Rattle.wasm_codec.specs.formats.Combinators.{Format, u32, minimal_only}
-use Rattle.wasm_codec.specs.Decoding.{ReadsAll, RewritesAll}
+use Rattle.wasm_codec.specs.Decoding.{ReadsAll, RewritesTo}
 use Rattle.wasm_codec.specs.Outcomes.{IsMalformed, IsNormalForm}
-use Rattle.wasm_codec.specs.Rewriter.{Rewriting, rewriting, rewriting_after, Rewrites}
+use Rattle.wasm_codec.specs.Rewriter.{rest_of, Rewriting, rewriting, rewriting_after, Rewrites}
 use Rattle.wasm_codec.specs.declared.reader.cursor.Fault.TheVariants as faults
 use Rattle.wasm_codec.specs.declared.reader.ReadError.TheVariants as errors
 use Rattle.wasm_codec.proofs.Laws.{some_is}
@@ -141,7 +142,7 @@ module _ (bytes : List ℕ) (p : Place) (start : p ≡ place true bytes) where
 
 -- ---- rewriting
 
-module _ {V : Type 0} {F : Format V} (r : IsLawfulBody F) (t : AreLawfulPrefixes F) (bytes : List ℕ) (old new : Rewriting) (begun : old ≡ rewriting [] (place true bytes) []) where
+module _ {V : Type 0} {F : Format V} (r : IsLawfulBody F) (t : AreLawfulPrefixes F) (bytes : List ℕ) (old new : Rewriting) {g : GName} (begun : old ≡ rewriting [] (place true bytes) (rest_of [] g)) where
   no_some : {A : Type 0} (x : A) → None ≡ Some x → ⊥
   no_some x e = absurd cc
 
@@ -188,8 +189,5 @@ module _ {V : Type 0} {F : Format V} (r : IsLawfulBody F) (t : AreLawfulPrefixes
 -- ---- what is returned
 
 module _ {V : Type 0} (F : Format V) (bytes : List ℕ) where
-  pub refuses_rewriting : (at : ℕ) → IsRefusedAt F bytes at → RewritesAll F (IsNothingOr F) bytes (Err (errors.Refused at))
+  pub refuses_rewriting : {X : Type 0} {encoding : X → List ℕ} (at : ℕ) → IsRefusedAt F bytes at → RewritesTo F (IsNothingOr F) bytes encoding (Err (errors.Refused at))
   refuses_rewriting at r = record { given = tt; prefix = r.prefix; unencoded = r.unencoded }
-
-  pub returns_rewritten : (encoding : Vec ℕ) → IsNormalForm F.Encodes F.bytes bytes encoding.items → RewritesAll F (IsNothingOr F) bytes (Ok encoding)
-  returns_rewritten encoding g = record { given = g; prefix = tt; unencoded = tt }

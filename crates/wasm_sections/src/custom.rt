@@ -1,10 +1,10 @@
 //! Custom sections (Core 3.0, Custom Section).
-ghost use Rattle.std.specs.Prelude.{⊤, length, ◌≡◌, ◌++◌, OnOk, IfOk, IfErr, take};
+ghost use Rattle.std.specs.Prelude.{⊤, length, ◌≡◌, ◌++◌, OnOk, IfOk, IfErr, take, ◌≤◌};
 ghost use Rattle.wasm_codec.specs.formats.Combinators.{minimal_only};
 ghost use Rattle.wasm_sections.specs.formats.EntryParts.{CustomParts, custom_parts};
 ghost use Rattle.wasm_sections.specs.Prefixes.{IsNothingOr};
 ghost use Rattle.wasm_sections.specs.formats.Sections.{custom_body};
-ghost use Rattle.wasm_codec.specs.Decoding.{ReadsAll, ChecksAll, RewritesAll, IsMinimal, Decodes};
+ghost use Rattle.wasm_codec.specs.Decoding.{ReadsAll, ChecksAll, RewritesInPlace, IsMinimal, Decodes};
 ghost use Rattle.wasm_codec.specs.Lawful.{IsLawfulBody};
 ghost use Rattle.wasm_codec.specs.Outcomes.{IfMalformed, LiesIn, as_read, NeedsNoMemory};
 ghost use Rattle.wasm_codec.specs.Encoding.{byte_list_bytes, IsRefusal, IsShortest, IsTooLong, OnlyTooLong};
@@ -171,10 +171,11 @@ impl<'a> Decode<'a> for CustomSection<'a> {
         }
     }
 
-    fn rewrite_all(bytes: Vec<u8>) -> Result<Vec<u8>, DecodeError>
-        ensures rewrites { RewritesAll custom_body (IsNothingOr custom_body) bytes.items (as_read result) }
+    fn rewrite_all(bytes: &mut [u8]) -> Result<usize, DecodeError>
+        ensures len { IfOk result (λ len. len ≤ length bytes.new) }
+        ensures rewrites { RewritesInPlace custom_body (IsNothingOr custom_body) bytes.old bytes.new (as_read result) }
         ensures memory { NeedsNoMemory (as_read result) }
-        ensures place { IfErr result (LiesIn (length bytes.items)) }
+        ensures place { IfErr result (LiesIn (length bytes.old)) }
         ensures counts { IfMalformed result (λ _. ⊤) }
     {
         rewrite_body::<Custom>(bytes)

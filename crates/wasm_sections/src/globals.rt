@@ -2,7 +2,8 @@
 ghost use Rattle.std.specs.Prelude.{refl, ◌≡◌, ◌++◌, OnOk, IfErr, length, take, Some, IfSome};
 ghost use Rattle.wasm_codec.specs.Scanning.{Scans};
 ghost use Rattle.wasm_codec.specs.declared.rewriter.scan.Scanned.TheVariants.{Shortest};
-ghost use Rattle.wasm_codec.specs.Inputs.{Passes};
+ghost use Rattle.wasm_codec.specs.Places.{Reads};
+ghost use Rattle.wasm_codec.specs.Rewriter.{Rewrites};
 ghost use Rattle.wasm_sections.specs.declared.globals.Global.{Global};
 ghost use Rattle.wasm_sections.specs.formats.Entries.{global_entry, global_of};
 ghost use Rattle.wasm_codec.specs.Encoding.{IsRefusal, IsShortest, OnlyTooLong};
@@ -16,7 +17,7 @@ use wasm_codec::encode::{EncodeError, keep_or_undo};
 use wasm_codec::reader::cursor::{Cursor, Fault};
 use wasm_codec::rewriter::{Rewriter, Scanned};
 use wasm_externals::const_expr::ConstExpr;
-use wasm_externals::expressions::{ExprInput, encode_expr, scan_expr};
+use wasm_externals::expressions::{encode_expr, read_expr, rewrite_expr, scan_expr};
 use wasm_externals::types::{GlobalType, put_global_type, scan_global_type, take_global_type};
 use wasm_instructions::table::Call;
 use wasm_lists::encode::Encode;
@@ -32,15 +33,24 @@ pub struct Global {
     pub init: Items<Call>,
 }
 
-/// Takes a global (Core 3.0, Global Section).
-#[inline(never)]
+/// Reads a global (Core 3.0, Global Section).
 #[tactic(auto, unfolding(crate::specs::formats::Entries::global_entry))]
-fn take_global<I: ExprInput>(alloc: Heap, input: &mut I) -> Result<Global, Fault>
-    ensures passes { Passes I.writes (λ x. x) global_entry (I.state input.old) (I.state input.new) result }
+fn read_global(alloc: Heap, cursor: &mut Cursor<'_>) -> Result<Global, Fault>
+    ensures reads { Reads global_entry.at cursor.old cursor.new result }
 {
-    let ty = take_global_type(input)?;
-    let init = input.expr(alloc)?;
+    let ty = take_global_type(cursor)?;
+    let init = read_expr(alloc, cursor)?;
     Ok(Global { ty, init })
+}
+
+/// Rewrites a global (Core 3.0, Global Section).
+#[inline(never)]
+#[tactic(auto, using(std::proofs::Common::append_assoc), unfolding(crate::specs::formats::Entries::global_entry))]
+fn rewrite_global(rewriter: &mut Rewriter) -> Result<(), Fault>
+    ensures rewrites { Rewrites global_entry rewriter.old rewriter.new result }
+{
+    take_global_type(rewriter)?;
+    rewrite_expr(rewriter)
 }
 
 impl<'a> Readable<'a> for Global {
@@ -59,7 +69,7 @@ impl<'a> Readable<'a> for Global {
     fn is_lawful() {}
 
     fn read(alloc: Heap, cursor: &mut Cursor<'a>) -> Result<Global, Fault> {
-        take_global(alloc, cursor)
+        read_global(alloc, cursor)
     }
 
     #[inline(always)]
@@ -69,9 +79,7 @@ impl<'a> Readable<'a> for Global {
             rewriter.rewrite_scanned(Scanned::Shortest(count));
             return Ok(());
         }
-        let alloc = rewriter.allocator();
-        take_global(alloc, rewriter)?;
-        Ok(())
+        rewrite_global(rewriter)
     }
 }
 

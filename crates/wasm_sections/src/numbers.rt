@@ -199,7 +199,7 @@ impl<'a> Decode<'a> for StartSection {
         Ok(())
     }
 
-    fn rewrite_all(bytes: Vec<u8>) -> Result<Vec<u8>, DecodeError> {
+    fn rewrite_all(bytes: &mut [u8]) -> Result<usize, DecodeError> {
         rewrite_body::<Number>(bytes)
     }
 }
@@ -240,7 +240,7 @@ impl<'a> Decode<'a> for DataCountSection {
         Ok(())
     }
 
-    fn rewrite_all(bytes: Vec<u8>) -> Result<Vec<u8>, DecodeError> {
+    fn rewrite_all(bytes: &mut [u8]) -> Result<usize, DecodeError> {
         rewrite_body::<Number>(bytes)
     }
 }

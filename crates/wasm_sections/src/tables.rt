@@ -1,6 +1,7 @@
 //! Table sections (Core 3.0, Table Section).
 ghost use Rattle.std.specs.Prelude.{refl, ◌≡◌, ◌++◌, OnOk, IfErr, length, take};
-ghost use Rattle.wasm_codec.specs.Inputs.{Passes};
+ghost use Rattle.wasm_codec.specs.Places.{Reads};
+ghost use Rattle.wasm_codec.specs.Rewriter.{Rewrites};
 ghost use Rattle.wasm_sections.specs.declared.tables.Table.{Table};
 ghost use Rattle.wasm_sections.specs.formats.Entries.{table_entry, filled_of, unfilled};
 ghost use Rattle.wasm_codec.specs.Encoding.{IsRefusal, IsShortest, OnlyTooLong};
@@ -15,7 +16,7 @@ use wasm_codec::reader::cursor::{Cursor, Fault};
 use wasm_codec::reader::malformed::Construct;
 use wasm_codec::rewriter::Rewriter;
 use wasm_externals::const_expr::ConstExpr;
-use wasm_externals::expressions::{ExprInput, encode_expr};
+use wasm_externals::expressions::{encode_expr, read_expr, rewrite_expr};
 use wasm_externals::limits::{TableType, put_table_type, take_table_type};
 use wasm_instructions::table::Call;
 use wasm_lists::encode::Encode;
@@ -31,22 +32,22 @@ pub struct Table {
     pub init: Option<Items<Call>>,
 }
 
-/// Takes a table (Core 3.0, Table Section).
-#[tactic(auto, using(std::proofs::Common::append_assoc), unfolding(crate::specs::formats::Entries::table_entry))]
-fn take_table<I: ExprInput>(alloc: Global, input: &mut I) -> Result<Table, Fault>
-    ensures passes { Passes I.writes (λ x. x) table_entry (I.state input.old) (I.state input.new) result }
+/// Reads a table (Core 3.0, Table Section).
+#[tactic(auto, unfolding(crate::specs::formats::Entries::table_entry))]
+fn read_table(alloc: Global, cursor: &mut Cursor<'_>) -> Result<Table, Fault>
+    ensures reads { Reads table_entry.at cursor.old cursor.new result }
 {
-    if input.peek(Construct::Table)? != 0x40 {
-        let ty = take_table_type(input)?;
+    if cursor.peek(Construct::Table)? != 0x40 {
+        let ty = take_table_type(cursor)?;
         return Ok(Table { ty, init: None });
     }
-    input.byte_of(Construct::Table)?;
-    let byte = input.byte_of(Construct::Table)?;
+    cursor.byte_of(Construct::Table)?;
+    let byte = cursor.byte_of(Construct::Table)?;
     if byte != 0x00 {
-        return Err(Fault::Malformed(input.invalid(Construct::Table, byte)));
+        return Err(Fault::Malformed(cursor.invalid(Construct::Table, byte)));
     }
-    let ty = take_table_type(input)?;
-    let init = input.expr(alloc)?;
+    let ty = take_table_type(cursor)?;
+    let init = read_expr(alloc, cursor)?;
     Ok(Table {
         ty,
         init: Some(init),
@@ -69,13 +70,24 @@ impl<'a> Readable<'a> for Table {
     fn is_lawful() {}
 
     fn read(alloc: Global, cursor: &mut Cursor<'a>) -> Result<Table, Fault> {
-        take_table(alloc, cursor)
+        read_table(alloc, cursor)
     }
 
-    fn rewrite(rewriter: &mut Rewriter) -> Result<(), Fault> {
-        let alloc = rewriter.allocator();
-        take_table(alloc, rewriter)?;
-        Ok(())
+    #[tactic(auto, using(std::proofs::Common::append_assoc), unfolding(crate::specs::formats::Entries::table_entry))]
+    fn rewrite(rewriter: &mut Rewriter) -> Result<(), Fault>
+        ensures rewrites { Rewrites table_entry rewriter.old rewriter.new result }
+    {
+        if rewriter.peek(Construct::Table)? != 0x40 {
+            take_table_type(rewriter)?;
+            return Ok(());
+        }
+        rewriter.byte_of(Construct::Table)?;
+        let byte = rewriter.byte_of(Construct::Table)?;
+        if byte != 0x00 {
+            return Err(Fault::Malformed(rewriter.invalid(Construct::Table, byte)));
+        }
+        take_table_type(rewriter)?;
+        rewrite_expr(rewriter)
     }
 }
 

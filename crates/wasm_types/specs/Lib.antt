@@ -3,5 +3,4 @@ pub mod Types
 pub mod formats
 pub mod TypeCounts
 pub mod TypeRanges
-pub mod TypeInputs
 pub mod PrefixFree

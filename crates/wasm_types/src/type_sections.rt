@@ -1,13 +1,15 @@
 //! Bodies of type sections, read, checked and normalised (Core 3.0, Type Section).
-ghost use Rattle.std.specs.Prelude.{◌<◌, true};
-ghost use Rattle.wasm_codec.specs.Decoding.{Checks, Decodes, DecodesMinimal, Normalises, NormalisesInPlace, RewritesAll};
+ghost use Rattle.std.specs.Prelude.{◌<◌, true, IfErr, length};
+ghost use Rattle.wasm_codec.specs.Outcomes.{LiesIn, as_decoded, as_read};
+ghost use Rattle.wasm_codec.specs.Decoding.{Checks, Decodes, DecodesMinimal, Normalises, NormalisesInPlace, NormalisesSlice, RewritesAll};
 ghost use Rattle.wasm_types.specs.PrefixFree.{TypesArePrefixFree};
 ghost use Rattle.wasm_types.specs.declared.types.recursive.TypeEntry.{TypeEntry};
 ghost use Rattle.wasm_types.specs.formats.Types.{IsShortestTypeBodyPrefix, IsTypeBodyPrefix, ShortestTypeBody, type_body};
 
 use crate::types::TypeEntry;
 use std::alloc::Global;
-use wasm_codec::reader::{ReadError, without_reason};
+use wasm_codec::reader::refusal::Refusal;
+use wasm_codec::reader::{ReadError, without_memory, without_reason};
 use wasm_lists::checking::check_list_to_end;
 use wasm_lists::reading::read_list_to_end;
 use wasm_lists::rewriting::rewrite_list_to_end;
@@ -108,7 +110,34 @@ pub fn normalise_type_section(alloc: Global, body: &[u8]) -> Result<Vec<u8>, Rea
 pub fn rewrite_type_section(body: Vec<u8>) -> Result<Vec<u8>, ReadError>
     ensures normalises { NormalisesInPlace type_body IsTypeBodyPrefix body.items result }
 {
-    without_reason(rewrite_list_to_end::<TypeEntry>(body))
+    let mut body = body;
+    match without_reason(rewrite_list_to_end::<TypeEntry>(body.as_mut_slice())) {
+        Ok(len) => {
+            body.truncate(len);
+            Ok(body)
+        }
+        Err(error) => Err(error),
+    }
+}
+
+/// Replaces a type section body by its minimal encoding in place, as [`rewrite_type_section`] does (Core 3.0, Type Section). Returns the length of it, which begins
+/// the slice.
+///
+/// If it fails, the bytes are unspecified.
+///
+/// # Examples
+///
+/// ```
+/// # use wasm_encoder::rewrite_type_section_in_place;
+/// let mut body = *b"\x01\x5e\x63\x70\x00"; // (array (ref null func))
+/// let len = rewrite_type_section_in_place(&mut body)?;
+/// assert_eq!(rt; &body[..len], b"\x01\x5e\x70\x00".as_slice()); // (array funcref)
+/// ```
+pub fn rewrite_type_section_in_place(body: &mut [u8]) -> Result<usize, Refusal>
+    ensures normalises { NormalisesSlice type_body IsTypeBodyPrefix body.old body.new (as_read (as_decoded result)) }
+    ensures place { IfErr (as_decoded result) (LiesIn (length body.old)) }
+{
+    without_memory(rewrite_list_to_end::<TypeEntry>(body))
 }
 
 /// Copies the body and rewrites the copy.

@@ -380,7 +380,8 @@ fn show_sections<S: SectionWatcher>(input: Vec<u8>, watcher: &mut S) -> Result<(
     ensures accepts { Accepts true input.items (outcome_of result) }
 {
     let foreign = Foreign::find(&input);
-    match rewrite_watched(input, watcher) {
+    let mut input = input;
+    match rewrite_watched(input.as_mut_slice(), watcher) {
         Ok(_) => Ok(()),
         Err(DecodeError::Memory) => Err(Failure::Memory),
         Err(DecodeError::Malformed(malformed)) => Err(Failure::Refused {

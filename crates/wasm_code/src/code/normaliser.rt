@@ -1,20 +1,21 @@
 //! The normaliser of code section bodies (Core 3.0, Code Section).
-ghost use Rattle.std.specs.Prelude.{◌≡◌, ℕ, List, IfErr};
+ghost use Rattle.std.specs.Prelude.{◌≡◌, ℕ, List, IfErr, length};
 ghost use Rattle.wasm_codec.specs.Places.{Reads};
 ghost use Rattle.wasm_codec.specs.Rewriter.{Rewrites};
 ghost use Rattle.wasm_codec.specs.Scanning.{Scans};
 ghost use Rattle.wasm_codec.specs.formats.Combinators.{items};
-ghost use Rattle.wasm_codec.specs.Outcomes.{IsMalformed};
+ghost use Rattle.wasm_codec.specs.Outcomes.{IsMalformed, LiesIn, as_decoded, as_read};
 ghost use Rattle.wasm_types.specs.declared.types.value.ValType.{ValType};
 ghost use Rattle.wasm_instructions.specs.formats.Instructions.{Instruction};
 ghost use Rattle.wasm_code.specs.declared.code.CodeBody.{CodeBody};
 ghost use Rattle.wasm_code.specs.formats.CodeBodies.{local_group, function_code, code_body, code_section_body, IsCodeSectionBodyPrefix, ShortestCodeSectionBody};
-ghost use Rattle.wasm_codec.specs.Decoding.{Normalises, NormalisesInPlace, RewritesAll};
+ghost use Rattle.wasm_codec.specs.Decoding.{Normalises, NormalisesInPlace, NormalisesSlice, RewritesAll};
 
 use crate::code::CodeBody;
 use std::alloc::Global;
 use wasm_codec::reader::cursor::{Cursor, Fault};
-use wasm_codec::reader::{ReadError, without_reason};
+use wasm_codec::reader::refusal::Refusal;
+use wasm_codec::reader::{ReadError, without_memory, without_reason};
 use wasm_codec::rewriter::{Part, Rewriter, Scanned};
 use wasm_instructions::table::Call;
 use wasm_lists::rewriting::{
@@ -57,7 +58,34 @@ pub fn normalise_code_section(alloc: Global, body: &[u8]) -> Result<Vec<u8>, Rea
 pub fn rewrite_code_section(body: Vec<u8>) -> Result<Vec<u8>, ReadError>
     ensures normalises { NormalisesInPlace code_section_body IsCodeSectionBodyPrefix body.items result }
 {
-    without_reason(rewrite_list_to_end::<CodeBody>(body))
+    let mut body = body;
+    match without_reason(rewrite_list_to_end::<CodeBody>(body.as_mut_slice())) {
+        Ok(len) => {
+            body.truncate(len);
+            Ok(body)
+        }
+        Err(error) => Err(error),
+    }
+}
+
+/// Replaces a code section body by its minimal encoding in place, as [`rewrite_code_section`] does (Core 3.0, Code Section). Returns the length of it, which begins
+/// the slice.
+///
+/// If it fails, the bytes are unspecified.
+///
+/// # Examples
+///
+/// ```
+/// # use wasm_encoder::rewrite_code_section_in_place;
+/// let mut body = *b"\x01\x04\x80\x80\x00\x0b"; // a count of locals in three bytes
+/// let len = rewrite_code_section_in_place(&mut body)?;
+/// assert_eq!(rt; &body[..len], b"\x01\x02\x00\x0b".as_slice());
+/// ```
+pub fn rewrite_code_section_in_place(body: &mut [u8]) -> Result<usize, Refusal>
+    ensures normalises { NormalisesSlice code_section_body IsCodeSectionBodyPrefix body.old body.new (as_read (as_decoded result)) }
+    ensures place { IfErr (as_decoded result) (LiesIn (length body.old)) }
+{
+    without_memory(rewrite_list_to_end::<CodeBody>(body))
 }
 
 /// Copies the body and rewrites the copy.

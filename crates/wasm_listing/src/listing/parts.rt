@@ -205,7 +205,8 @@ impl<'a> PartReader<'a> {
 
 /// Returns the length of the minimal encoding of the item that the bytes encode.
 fn minimal_len<'a, T: Readable<'a>>(alloc: Global, bytes: &[u8]) -> Result<usize, AllocError> {
-    let mut rewriter = Rewriter::new(Vec::from_slice(alloc, bytes)?);
+    let mut copy = Vec::from_slice(alloc, bytes)?;
+    let mut rewriter = Rewriter::new(copy.as_mut_slice());
     match T::rewrite(&mut rewriter) {
         Ok(()) => Ok(rewriter.written_len()),
         Err(_) => Ok(bytes.len()),
@@ -228,9 +229,12 @@ pub fn is_same<'a, T: Readable<'a>>(
 
 /// Returns the minimal encoding of the item that the bytes encode.
 fn minimal_bytes<'a, T: Readable<'a>>(alloc: Global, bytes: &[u8]) -> Result<Vec<u8>, AllocError> {
-    let mut rewriter = Rewriter::new(Vec::from_slice(alloc, bytes)?);
+    let mut copy = Vec::from_slice(alloc, bytes)?;
+    let mut rewriter = Rewriter::new(copy.as_mut_slice());
     let _ = T::rewrite(&mut rewriter);
-    Ok(rewriter.finish())
+    let len = rewriter.finish().len;
+    copy.truncate(len);
+    Ok(copy)
 }
 
 /// Returns the length of the minimal encoding of a value type.

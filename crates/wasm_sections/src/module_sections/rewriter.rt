@@ -44,7 +44,7 @@ impl Joinable for AnySection {
     }
 }
 
-impl SectionVisitor for Rewriter {
+impl SectionVisitor for Rewriter<'_> {
     type Output = Result<(), Fault>;
 
     ghost visits_list = { λ V F C B old new result. Rewrites (sized (items F)) old new result × IfInItem result (BreaksInList F old.place.left) };

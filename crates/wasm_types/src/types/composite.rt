@@ -2,7 +2,9 @@
 ghost use Rattle.std.specs.Iterator.{Drains, IsFinite};
 ghost use Rattle.std.specs.Prelude.{◌≡◌, ◌++◌, ◌+◌, ◌≤◌, IfErr, IfOk, OnOk, length, take, vec_len, vec_capacity};
 ghost use Rattle.wasm_codec.specs.Encoding.{IsRefusal, IsShortest, OnlyTooLong};
-ghost use Rattle.wasm_codec.specs.Inputs.{Passes, Takes};
+ghost use Rattle.wasm_codec.specs.Inputs.{Takes};
+ghost use Rattle.wasm_codec.specs.Places.{Reads};
+ghost use Rattle.wasm_codec.specs.Rewriter.{Rewrites};
 ghost use Rattle.wasm_codec.specs.declared.encode.EncodeError.TheVariants.{Memory};
 ghost use Rattle.wasm_codec.specs.formats.Combinators.{optional, u32};
 ghost use Rattle.wasm_lists.specs.Iterators.{OfIterator};
@@ -16,11 +18,13 @@ use std::alloc::{Allocator, Global};
 use wasm_codec::encode::leb128::{put_index, put_u32};
 use wasm_codec::encode::{EncodeError, keep_or_undo};
 use wasm_codec::input::Input;
-use wasm_codec::reader::cursor::Fault;
+use wasm_codec::reader::cursor::{Cursor, Fault};
 use wasm_codec::reader::malformed::Construct;
+use wasm_codec::rewriter::Rewriter;
 use wasm_lists::encode::{Encode, encode_list, encode_list_after};
-use wasm_lists::input::ListInput;
 use wasm_lists::list::Items;
+use wasm_lists::reading::read_list;
+use wasm_lists::rewriting::rewrite_list;
 
 /// The type of a structure's field or an array's elements.
 #[derive(Clone, Copy, Debug, PartialEq, Eq, Hash, PartialOrd, Ord)]
@@ -174,83 +178,142 @@ pub(crate) fn take_field_type<I: Input>(input: &mut I) -> Result<FieldType, Faul
     })
 }
 
-/// Takes a function, structure, array or continuation type.
+/// Reads a function, structure, array or continuation type.
 #[tactic(auto, unfolding(crate::specs::formats::Types::inner_type, crate::specs::formats::Types::result_type))]
-pub(crate) fn take_inner_type<I: ListInput>(
+pub(crate) fn read_inner_type(
     alloc: Global,
-    input: &mut I,
+    cursor: &mut Cursor<'_>,
 ) -> Result<CompositeInnerType, Fault>
-    ensures passes { Passes I.writes (λ x. x) inner_type (I.state input.old) (I.state input.new) result }
+    ensures reads { Reads inner_type.at cursor.old cursor.new result }
 {
-    match input.byte_of(Construct::TypeForm)? {
+    match cursor.byte_of(Construct::TypeForm)? {
         0x60 => {
-            let params = input.list(alloc)?;
-            let results = input.list(alloc)?;
+            let params = read_list(alloc, cursor)?;
+            let results = read_list(alloc, cursor)?;
             Ok(CompositeInnerType::Func(FuncType::from_lists(params, results)))
         }
         0x5f => {
-            let fields = input.list(alloc)?;
+            let fields = read_list(alloc, cursor)?;
             Ok(CompositeInnerType::Struct(StructType { fields }))
         }
-        0x5e => Ok(CompositeInnerType::Array(ArrayType(take_field_type(input)?))),
-        0x5d => Ok(CompositeInnerType::Cont(ContType(input.index()?))),
-        byte => Err(Fault::Malformed(input.invalid(Construct::TypeForm, byte))),
+        0x5e => Ok(CompositeInnerType::Array(ArrayType(take_field_type(cursor)?))),
+        0x5d => Ok(CompositeInnerType::Cont(ContType(cursor.index()?))),
+        byte => Err(Fault::Malformed(cursor.invalid(Construct::TypeForm, byte))),
     }
 }
 
-/// Takes an optional descriptor and the type after it.
-fn take_described_type<I: ListInput>(
-    alloc: Global,
-    input: &mut I,
-) -> Result<(Option<u32>, CompositeInnerType), Fault>
-    ensures passes { Passes I.writes (λ x. x) (optional 0x4d u32 inner_type) (I.state input.old) (I.state input.new) result }
+/// Rewrites a function, structure, array or continuation type.
+#[tactic(auto, using(std::proofs::Common::append_assoc), unfolding(crate::specs::formats::Types::inner_type, crate::specs::formats::Types::result_type))]
+pub(crate) fn rewrite_inner_type(rewriter: &mut Rewriter) -> Result<(), Fault>
+    ensures rewrites { Rewrites inner_type rewriter.old rewriter.new result }
 {
-    if input.peek(Construct::TypeForm)? == 0x4d {
-        input.byte_of(Construct::TypeForm)?;
-        let descriptor = input.u32()?;
-        let inner = take_inner_type(alloc, input)?;
+    match rewriter.byte_of(Construct::TypeForm)? {
+        0x60 => {
+            rewrite_list::<ValType>(rewriter)?;
+            rewrite_list::<ValType>(rewriter)?;
+        }
+        0x5f => rewrite_list::<FieldType>(rewriter)?,
+        0x5e => {
+            take_field_type(rewriter)?;
+        }
+        0x5d => {
+            rewriter.index()?;
+        }
+        byte => return Err(Fault::Malformed(rewriter.invalid(Construct::TypeForm, byte))),
+    }
+    Ok(())
+}
+
+/// Reads an optional descriptor and the type after it.
+fn read_described_type(
+    alloc: Global,
+    cursor: &mut Cursor<'_>,
+) -> Result<(Option<u32>, CompositeInnerType), Fault>
+    ensures reads { Reads (optional 0x4d u32 inner_type).at cursor.old cursor.new result }
+{
+    if cursor.peek(Construct::TypeForm)? == 0x4d {
+        cursor.byte_of(Construct::TypeForm)?;
+        let descriptor = cursor.u32()?;
+        let inner = read_inner_type(alloc, cursor)?;
         return Ok((Some(descriptor), inner));
     }
-    let inner = take_inner_type(alloc, input)?;
+    let inner = read_inner_type(alloc, cursor)?;
     Ok((None, inner))
 }
 
-/// Takes an optional described type, and then the rest of a composite type.
-fn take_describing_type<I: ListInput>(
-    alloc: Global,
-    input: &mut I,
-) -> Result<(Option<u32>, (Option<u32>, CompositeInnerType)), Fault>
-    ensures passes { Passes I.writes (λ x. x) (optional 0x4c u32 (optional 0x4d u32 inner_type)) (I.state input.old) (I.state input.new) result }
+/// Rewrites an optional descriptor and the type after it.
+#[inline(always)]
+#[tactic(auto, using(std::proofs::Common::append_assoc))]
+fn rewrite_described_type(rewriter: &mut Rewriter) -> Result<(), Fault>
+    ensures rewrites { Rewrites (optional 0x4d u32 inner_type) rewriter.old rewriter.new result }
 {
-    if input.peek(Construct::TypeForm)? == 0x4c {
-        input.byte_of(Construct::TypeForm)?;
-        let describes = input.u32()?;
-        let rest = take_described_type(alloc, input)?;
+    if rewriter.peek(Construct::TypeForm)? == 0x4d {
+        rewriter.byte_of(Construct::TypeForm)?;
+        rewriter.u32()?;
+    }
+    rewrite_inner_type(rewriter)
+}
+
+/// Reads an optional described type, and then the rest of a composite type.
+fn read_describing_type(
+    alloc: Global,
+    cursor: &mut Cursor<'_>,
+) -> Result<(Option<u32>, (Option<u32>, CompositeInnerType)), Fault>
+    ensures reads { Reads (optional 0x4c u32 (optional 0x4d u32 inner_type)).at cursor.old cursor.new result }
+{
+    if cursor.peek(Construct::TypeForm)? == 0x4c {
+        cursor.byte_of(Construct::TypeForm)?;
+        let describes = cursor.u32()?;
+        let rest = read_described_type(alloc, cursor)?;
         return Ok((Some(describes), rest));
     }
-    let rest = take_described_type(alloc, input)?;
+    let rest = read_described_type(alloc, cursor)?;
     Ok((None, rest))
 }
 
-/// Takes a composite type (Core 3.0, Composite Types).
-#[tactic(auto, unfolding(crate::specs::formats::Types::composite_type))]
-pub(crate) fn take_composite_type<I: ListInput>(
-    alloc: Global,
-    input: &mut I,
-) -> Result<CompositeType, Fault>
-    ensures passes { Passes I.writes (λ x. x) composite_type (I.state input.old) (I.state input.new) result }
+/// Rewrites an optional described type, and then the rest of a composite type.
+#[inline(always)]
+#[tactic(auto, using(std::proofs::Common::append_assoc))]
+fn rewrite_describing_type(rewriter: &mut Rewriter) -> Result<(), Fault>
+    ensures rewrites { Rewrites (optional 0x4c u32 (optional 0x4d u32 inner_type)) rewriter.old rewriter.new result }
 {
-    let shared = input.peek(Construct::TypeForm)? == 0x65;
-    if shared {
-        input.byte_of(Construct::TypeForm)?;
+    if rewriter.peek(Construct::TypeForm)? == 0x4c {
+        rewriter.byte_of(Construct::TypeForm)?;
+        rewriter.u32()?;
     }
-    let (describes, (descriptor, inner)) = take_describing_type(alloc, input)?;
+    rewrite_described_type(rewriter)
+}
+
+/// Reads a composite type (Core 3.0, Composite Types).
+#[tactic(auto, unfolding(crate::specs::formats::Types::composite_type))]
+pub(crate) fn read_composite_type(
+    alloc: Global,
+    cursor: &mut Cursor<'_>,
+) -> Result<CompositeType, Fault>
+    ensures reads { Reads composite_type.at cursor.old cursor.new result }
+{
+    let shared = cursor.peek(Construct::TypeForm)? == 0x65;
+    if shared {
+        cursor.byte_of(Construct::TypeForm)?;
+    }
+    let (describes, (descriptor, inner)) = read_describing_type(alloc, cursor)?;
     Ok(CompositeType {
         inner,
         shared,
         descriptor,
         describes,
     })
+}
+
+/// Rewrites a composite type (Core 3.0, Composite Types).
+#[tactic(auto, using(std::proofs::Common::append_assoc), unfolding(crate::specs::formats::Types::composite_type))]
+pub(crate) fn rewrite_composite_type(rewriter: &mut Rewriter) -> Result<(), Fault>
+    ensures rewrites { Rewrites composite_type rewriter.old rewriter.new result }
+{
+    if rewriter.peek(Construct::TypeForm)? == 0x65 {
+        rewriter.byte_of(Construct::TypeForm)?;
+    }
+    rewrite_describing_type(rewriter)
 }
 
 /// Writes a field type in 2 to 8 bytes (Core 3.0, Composite Types).

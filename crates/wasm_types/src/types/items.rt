@@ -11,16 +11,15 @@ ghost use Rattle.wasm_types.specs.formats.Types.{field_type, recursive_type, sub
 
 use crate::types::composite::{FieldType, take_field_type};
 use crate::types::function::scan_function_type;
-use crate::types::recursive::{SubType, TypeEntry, take_entry, take_sub_type};
+use crate::types::recursive::{
+    SubType, TypeEntry, read_entry, read_sub_type, rewrite_entry, rewrite_sub_type,
+};
 use crate::types::value::{ValType, take_val_type};
 use std::alloc::Global;
 use wasm_codec::reader::cursor::{Cursor, Fault};
 use wasm_codec::rewriter::Rewriter;
-use wasm_lists::input::OwnedItem;
-use wasm_lists::list::Items;
 use wasm_lists::readable::Readable;
-use wasm_lists::reading::read_list;
-use wasm_lists::rewriting::{Rewritable, rewrite_list};
+use wasm_lists::rewriting::Rewritable;
 
 impl<'a> Readable<'a> for ValType {
     ghost Value = { ValType };
@@ -62,24 +61,6 @@ impl Rewritable for ValType {
     fn rewrite(rewriter: &mut Rewriter) -> Result<(), Fault> {
         take_val_type(rewriter)?;
         Ok(())
-    }
-}
-
-impl OwnedItem for ValType {
-    ghost Value = { ValType };
-
-    ghost views = { λ types. types };
-
-    ghost format = { val_type };
-
-    #[inline(always)]
-    fn read_items(alloc: Global, cursor: &mut Cursor<'_>) -> Result<Items<ValType>, Fault> {
-        read_list(alloc, cursor)
-    }
-
-    #[inline(always)]
-    fn rewrite_items(rewriter: &mut Rewriter) -> Result<(), Fault> {
-        rewrite_list::<ValType>(rewriter)
     }
 }
 
@@ -126,24 +107,6 @@ impl Rewritable for FieldType {
     }
 }
 
-impl OwnedItem for FieldType {
-    ghost Value = { FieldType };
-
-    ghost views = { λ types. types };
-
-    ghost format = { field_type };
-
-    #[inline(always)]
-    fn read_items(alloc: Global, cursor: &mut Cursor<'_>) -> Result<Items<FieldType>, Fault> {
-        read_list(alloc, cursor)
-    }
-
-    #[inline(always)]
-    fn rewrite_items(rewriter: &mut Rewriter) -> Result<(), Fault> {
-        rewrite_list::<FieldType>(rewriter)
-    }
-}
-
 impl<'a> Readable<'a> for SubType {
     ghost Value = { SubType };
 
@@ -156,7 +119,7 @@ impl<'a> Readable<'a> for SubType {
     ghost format = { sub_type };
 
     fn read(alloc: Global, cursor: &mut Cursor<'a>) -> Result<SubType, Fault> {
-        take_sub_type(alloc, cursor)
+        read_sub_type(alloc, cursor)
     }
 
     #[inline(always)]
@@ -178,27 +141,7 @@ impl Rewritable for SubType {
     fn is_lawful() {}
 
     fn rewrite(rewriter: &mut Rewriter) -> Result<(), Fault> {
-        let alloc = rewriter.allocator();
-        take_sub_type(alloc, rewriter)?;
-        Ok(())
-    }
-}
-
-impl OwnedItem for SubType {
-    ghost Value = { SubType };
-
-    ghost views = { λ types. types };
-
-    ghost format = { sub_type };
-
-    #[inline(always)]
-    fn read_items(alloc: Global, cursor: &mut Cursor<'_>) -> Result<Items<SubType>, Fault> {
-        read_list(alloc, cursor)
-    }
-
-    #[inline(always)]
-    fn rewrite_items(rewriter: &mut Rewriter) -> Result<(), Fault> {
-        rewrite_list::<SubType>(rewriter)
+        rewrite_sub_type(rewriter)
     }
 }
 
@@ -214,7 +157,7 @@ impl<'a> Readable<'a> for TypeEntry {
     ghost format = { recursive_type };
 
     fn read(alloc: Global, cursor: &mut Cursor<'a>) -> Result<TypeEntry, Fault> {
-        take_entry(alloc, cursor)
+        read_entry(alloc, cursor)
     }
 
     #[inline(always)]
@@ -242,8 +185,6 @@ impl Rewritable for TypeEntry {
             rewriter.rewrite_scanned(scanned);
             return Ok(());
         }
-        let alloc = rewriter.allocator();
-        take_entry(alloc, rewriter)?;
-        Ok(())
+        rewrite_entry(rewriter)
     }
 }

@@ -2,23 +2,25 @@
 ghost use Rattle.std.specs.List.{All};
 ghost use Rattle.std.specs.Prelude.{◌≡◌, ◌++◌, IfErr, OnOk, Some, length, take};
 ghost use Rattle.wasm_codec.specs.Encoding.{IsCount, IsCountRefusal, IsRefusal, IsShortest, OnlyTooLong};
-ghost use Rattle.wasm_codec.specs.Inputs.{Passes};
 ghost use Rattle.wasm_codec.specs.Leb128.{unsigned_leb128};
-ghost use Rattle.wasm_codec.specs.Places.{Place, byte_at};
+ghost use Rattle.wasm_codec.specs.Places.{Place, Reads, byte_at};
+ghost use Rattle.wasm_codec.specs.Rewriter.{Rewrites};
+ghost use Rattle.wasm_codec.specs.formats.Combinators.{◌⊗◌, items, made, u32};
 ghost use Rattle.wasm_codec.specs.formats.Numbers.{EncodesU32};
 ghost use Rattle.wasm_types.specs.TypeCounts.{CountedEntry, CountedSub, supertypes_bytes};
-ghost use Rattle.wasm_types.specs.TypeInputs.{MayPassFunction, TakesSupertypes};
-ghost use Rattle.wasm_types.specs.formats.Types.{recursive_type, sub_type};
+ghost use Rattle.wasm_types.specs.TypeParts.{sub_parts};
+ghost use Rattle.wasm_types.specs.formats.Types.{composite_type, recursive_type, sub_of, sub_type};
 
-use crate::types::composite::{CompositeType, take_composite_type, take_inner_type};
+use crate::types::composite::{
+    CompositeType, read_composite_type, rewrite_composite_type, rewrite_inner_type,
+};
 use crate::types::function::read_function_type;
-use std::alloc::{AllocError, Allocator, Global};
+use std::alloc::{Allocator, Global};
 use wasm_codec::encode::{EncodeError, keep_or_undo};
 use wasm_codec::reader::cursor::{Cursor, Fault};
 use wasm_codec::reader::malformed::Construct;
 use wasm_codec::rewriter::Rewriter;
 use wasm_lists::encode::{Encode, encode_list_after};
-use wasm_lists::input::ListInput;
 use wasm_lists::list::Items;
 use wasm_lists::reading::read_list;
 use wasm_lists::rewriting::rewrite_list;
@@ -46,105 +48,55 @@ pub enum TypeEntry {
     Rec(Items<SubType>),
 }
 
-/// An input of subtypes.
-pub trait TypeInput: ListInput {
-    /// Passes a list of supertypes. Returns whether there are some, and their indexes if the input only reads.
-    fn supertypes(&mut self, alloc: Global) -> Result<(bool, Items<u32>), Fault>
-        ensures takes { TakesSupertypes Self.writes (Self.state self.old) (Self.state self.new) result };
-
-    /// Takes a final function type without supertypes, if its lists are short and it can be read at once. Returns `None`
-    /// and doesn't move if not.
-    fn short_function_type(&mut self, alloc: Global) -> Result<Option<SubType>, AllocError>
-        ensures passes { MayPassFunction Self.writes (Self.state self.old) (Self.state self.new) result };
-}
-
-impl<'a> TypeInput for Cursor<'a> {
-    #[inline(always)]
-    fn supertypes(&mut self, alloc: Global) -> Result<(bool, Items<u32>), Fault> {
-        let items: Items<u32> = read_list(alloc, self)?;
-        let some = !items.as_slice().is_empty();
-        Ok((some, items))
-    }
-
-    #[inline(always)]
-    fn short_function_type(&mut self, alloc: Global) -> Result<Option<SubType>, AllocError> {
-        let start = self.fork();
-        if let Some(ty) = read_function_type(alloc, self)? {
-            return Ok(Some(ty));
-        }
-        *self = start;
-        Ok(None)
-    }
-}
-
-impl TypeInput for Rewriter {
-    #[inline(always)]
-    fn supertypes(&mut self, alloc: Global) -> Result<(bool, Items<u32>), Fault> {
-        let mark = self.written_len();
-        rewrite_list::<u32>(self)?;
-        let some = self.written_len() - mark > 1;
-        Ok((some, Items::new(alloc)))
-    }
-
-    #[inline(always)]
-    fn short_function_type(&mut self, _alloc: Global) -> Result<Option<SubType>, AllocError> {
-        Ok(None)
-    }
-}
-
-/// Takes a final subtype that begins with `0x4F`. If it has no supertypes, that byte and the empty list are left out.
-#[tactic(auto, unfolding(crate::specs::formats::Types::sub_type))]
-fn take_final_type<I: TypeInput>(alloc: Global, input: &mut I) -> Result<SubType, Fault>
-    requires { (after : Place) × (byte_at (I.state input.old).place ≡ Some (0x4f, after)) }
-    ensures passes { Passes I.writes (λ x. x) sub_type (I.state input.old) (I.state input.new) result }
+/// Reads supertypes and a composite type.
+fn read_with_supertypes(
+    alloc: Global,
+    cursor: &mut Cursor<'_>,
+    is_final: bool,
+) -> Result<SubType, Fault>
+    ensures reads { Reads (made (sub_of is_final) sub_parts (items u32 ⊗ composite_type)).at cursor.old cursor.new result }
 {
-    let mark = input.mark();
-    input.byte_of(Construct::TypeForm)?;
-    let (some, supertype_idxs) = input.supertypes(alloc)?;
-    let composite_type = take_composite_type(alloc, input)?;
-    let ty = SubType {
-        is_final: true,
+    let supertype_idxs = read_list(alloc, cursor)?;
+    let composite_type = read_composite_type(alloc, cursor)?;
+    Ok(SubType {
+        is_final,
         supertype_idxs,
         composite_type,
-    };
-    if some {
-        return Ok(ty);
-    }
-    input.leave_out(mark, 2);
-    Ok(ty)
+    })
 }
 
-/// Takes a subtype (Core 3.0, Recursive Types).
+/// Reads a subtype (Core 3.0, Recursive Types).
 #[inline(always)]
-pub(crate) fn take_sub_type<I: TypeInput>(alloc: Global, input: &mut I) -> Result<SubType, Fault>
-    ensures passes { Passes I.writes (λ x. x) sub_type (I.state input.old) (I.state input.new) result }
+pub(crate) fn read_sub_type(alloc: Global, cursor: &mut Cursor<'_>) -> Result<SubType, Fault>
+    ensures reads { Reads sub_type.at cursor.old cursor.new result }
 {
-    if let Some(ty) = input.short_function_type(alloc)? {
+    let start = cursor.fork();
+    if let Some(ty) = read_function_type(alloc, cursor)? {
         return Ok(ty);
     }
-    take_any_sub_type(alloc, input)
+    *cursor = start;
+    read_any_sub_type(alloc, cursor)
 }
 
-/// Takes a subtype of any form.
-#[tactic(auto, using(std::proofs::Common::append_assoc), unfolding(crate::specs::formats::Types::sub_type))]
-fn take_any_sub_type<I: TypeInput>(alloc: Global, input: &mut I) -> Result<SubType, Fault>
-    ensures passes { Passes I.writes (λ x. x) sub_type (I.state input.old) (I.state input.new) result }
+/// Reads a subtype of any form.
+#[tactic(auto, unfolding(crate::specs::formats::Types::sub_type))]
+fn read_any_sub_type(alloc: Global, cursor: &mut Cursor<'_>) -> Result<SubType, Fault>
+    ensures reads { Reads sub_type.at cursor.old cursor.new result }
 {
-    let first = input.peek(Construct::TypeForm)?;
-    if first == 0x4f {
-        return take_final_type(alloc, input);
-    }
+    let first = cursor.peek(Construct::TypeForm)?;
     if first == 0x50 {
-        input.byte_of(Construct::TypeForm)?;
-        let (_some, supertype_idxs) = input.supertypes(alloc)?;
-        let composite_type = take_composite_type(alloc, input)?;
-        return Ok(SubType {
-            is_final: false,
-            supertype_idxs,
-            composite_type,
-        });
+        cursor.byte_of(Construct::TypeForm)?;
+        return read_with_supertypes(alloc, cursor, false);
     }
-    let composite_type = take_composite_type(alloc, input)?;
+    if first == 0x4f {
+        cursor.byte_of(Construct::TypeForm)?;
+        let ty = read_with_supertypes(alloc, cursor, true)?;
+        if ty.supertype_idxs.as_slice().is_empty() {
+            cursor.note_long_form();
+        }
+        return Ok(ty);
+    }
+    let composite_type = read_composite_type(alloc, cursor)?;
     Ok(SubType {
         is_final: true,
         supertype_idxs: Items::new(alloc),
@@ -152,36 +104,69 @@ fn take_any_sub_type<I: TypeInput>(alloc: Global, input: &mut I) -> Result<SubTy
     })
 }
 
-/// Takes an entry of a type section (Core 3.0, Type Section).
+/// Reads an entry of a type section (Core 3.0, Type Section).
+#[tactic(auto, unfolding(crate::specs::formats::Types::recursive_type))]
+pub(crate) fn read_entry(alloc: Global, cursor: &mut Cursor<'_>) -> Result<TypeEntry, Fault>
+    ensures reads { Reads recursive_type.at cursor.old cursor.new result }
+{
+    if cursor.peek(Construct::TypeForm)? == 0x4e {
+        cursor.byte_of(Construct::TypeForm)?;
+        return Ok(TypeEntry::Rec(read_list(alloc, cursor)?));
+    }
+    Ok(TypeEntry::Sub(read_sub_type(alloc, cursor)?))
+}
+
+/// Rewrites a final subtype that begins with `0x4F`. If it has no supertypes, that byte and the empty list are left out.
+#[tactic(auto, using(crate::proofs::FinalTypes::left_out, crate::proofs::FinalTypes::kept), unfolding(crate::specs::formats::Types::sub_type))]
+fn rewrite_final_type(rewriter: &mut Rewriter) -> Result<(), Fault>
+    requires { (after : Place) × (byte_at rewriter.old.place ≡ Some (0x4f, after)) }
+    ensures rewrites { Rewrites sub_type rewriter.old rewriter.new result }
+{
+    let mark = rewriter.written_len();
+    rewriter.byte_of(Construct::TypeForm)?;
+    rewrite_list::<u32>(rewriter)?;
+    let is_alone = rewriter.written_len() - mark == 2;
+    rewrite_composite_type(rewriter)?;
+    if is_alone {
+        rewriter.cut_out(mark, 2);
+    }
+    Ok(())
+}
+
+/// Rewrites a subtype (Core 3.0, Recursive Types).
+#[tactic(auto, using(std::proofs::Common::append_assoc), unfolding(crate::specs::formats::Types::sub_type))]
+pub(crate) fn rewrite_sub_type(rewriter: &mut Rewriter) -> Result<(), Fault>
+    ensures rewrites { Rewrites sub_type rewriter.old rewriter.new result }
+{
+    let first = rewriter.peek(Construct::TypeForm)?;
+    if first == 0x50 {
+        rewriter.byte_of(Construct::TypeForm)?;
+        rewrite_list::<u32>(rewriter)?;
+        return rewrite_composite_type(rewriter);
+    }
+    if first == 0x4f {
+        return rewrite_final_type(rewriter);
+    }
+    rewrite_composite_type(rewriter)
+}
+
+/// Rewrites an entry of a type section (Core 3.0, Type Section).
 ///
 /// A function type is final and has no supertypes, so it needs no look at the other forms.
 #[inline(never)]
 #[tactic(auto, using(std::proofs::Common::append_assoc), unfolding(crate::specs::formats::Types::recursive_type, crate::specs::formats::Types::sub_type, crate::specs::formats::Types::composite_type))]
-pub(crate) fn take_entry<I: TypeInput>(alloc: Global, input: &mut I) -> Result<TypeEntry, Fault>
-    ensures passes { Passes I.writes (λ x. x) recursive_type (I.state input.old) (I.state input.new) result }
+pub(crate) fn rewrite_entry(rewriter: &mut Rewriter) -> Result<(), Fault>
+    ensures rewrites { Rewrites recursive_type rewriter.old rewriter.new result }
 {
-    let first = input.peek(Construct::TypeForm)?;
+    let first = rewriter.peek(Construct::TypeForm)?;
     if first == 0x4e {
-        input.byte_of(Construct::TypeForm)?;
-        return Ok(TypeEntry::Rec(input.list(alloc)?));
-    }
-    if let Some(ty) = input.short_function_type(alloc)? {
-        return Ok(TypeEntry::Sub(ty));
+        rewriter.byte_of(Construct::TypeForm)?;
+        return rewrite_list::<SubType>(rewriter);
     }
     if first == 0x60 {
-        let inner = take_inner_type(alloc, input)?;
-        return Ok(TypeEntry::Sub(SubType {
-            is_final: true,
-            supertype_idxs: Items::new(alloc),
-            composite_type: CompositeType {
-                inner,
-                shared: false,
-                descriptor: None,
-                describes: None,
-            },
-        }));
+        return rewrite_inner_type(rewriter);
     }
-    Ok(TypeEntry::Sub(take_any_sub_type(alloc, input)?))
+    rewrite_sub_type(rewriter)
 }
 
 /// Appends the supertypes of a subtype, unless its encoding omits them. On error a part of them may remain.

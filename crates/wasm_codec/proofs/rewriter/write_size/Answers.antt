@@ -7,10 +7,10 @@ pub returns-clause-done : goal.returns-clause-done
 returns-clause-done c =
     let o = c.overwrite in
     let m = c.move_run in
-    (size_written c.args.bytes.now.items o.new.bytes.items m.new.bytes.items (unsigned_leb128 (c.args.end - c.args.begin)) c.args.start o.result c.args.begin c.args.end m.result o.ensures.digits (omega arith) c.requires.begin (omega arith) o.ensures.items m.ensures.done m.ensures.left).done
+    (size_written c.args.bytes.now o.new.bytes m.new.bytes (unsigned_leb128 (c.args.end - c.args.begin)) c.args.start o.result c.args.begin c.args.end m.result o.ensures.digits (omega arith) c.requires.begin (omega arith) o.ensures.items m.ensures.done m.ensures.left).done
 
 pub returns-clause-left : goal.returns-clause-left
 returns-clause-left c =
     let o = c.overwrite in
     let m = c.move_run in
-    (size_written c.args.bytes.now.items o.new.bytes.items m.new.bytes.items (unsigned_leb128 (c.args.end - c.args.begin)) c.args.start o.result c.args.begin c.args.end m.result o.ensures.digits (omega arith) c.requires.begin (omega arith) o.ensures.items m.ensures.done m.ensures.left).left
+    (size_written c.args.bytes.now o.new.bytes m.new.bytes (unsigned_leb128 (c.args.end - c.args.begin)) c.args.start o.result c.args.begin c.args.end m.result o.ensures.digits (omega arith) c.requires.begin (omega arith) o.ensures.items m.ensures.done m.ensures.left).left

@@ -1,0 +1,16 @@
+use Rattle.std.proofs.Common.{◌≡◌, [], true, ap, ◌∙◌, sym}
+use Rattle.wasm_codec.specs.Places.{place}
+use Rattle.wasm_codec.specs.Rewriter.{Rest, Rewriting, rest_of, rewriting}
+use Rattle.wasm_custom_sections.proofs.linking.rewritten_linking.Goals as goal
+
+pub rewrite_whole_linking-requires : goal.rewrite_whole_linking-requires
+rewrite_whole_linking-requires c =
+    c.new-rewriter.ensures ∙ ap (λ (r : Rewriting). rewriting [] (place true r.place.left) (rest_of [] r.rest.name)) (sym c.new-rewriter.ensures)
+
+pub returns-in-Ok-clause-same_reference : goal.returns-in-Ok-clause-same_reference
+returns-in-Ok-clause-same_reference c =
+    c.finish-bytes.ensures.same_reference ∙ ap (λ (r : Rest). r.name) (c.in-Ok.ensures.rest ∙ ap (λ (r : Rewriting). r.rest) c.new-rewriter.ensures)
+
+pub returns-in-Ok-clause-rewrites : goal.returns-in-Ok-clause-rewrites
+returns-in-Ok-clause-rewrites c =
+    record { given = rw (c.finish-bytes.ensures.done, ap (λ (r : Rewriting). r.place.left) (sym c.new-rewriter.ensures)) c.in-Ok.ensures.rewrites.given; prefix = tt; unencoded = tt }
