@@ -110,9 +110,10 @@ need_unchanged() {
 }
 
 # Compiles a CRATE for a machine that rt doesn't build for, as over_libraries does, after it proved the libraries below.
-# If the same sources were compiled before, FILE comes from the user's cache.
+# If the same sources were compiled before, FILE comes from the user's cache. A third argument names the target of a
+# machine that doesn't run Linux.
 compile_for_machine() {
-    local crate=$1 file=$2 now
+    local crate=$1 file=$2 target=${3:-$machine-unknown-linux-gnu} now
     now=$(sources_of "$crate")
     if take_cached "$crate-$machine" "$now" "$file"; then
         say "$crate for $machine: taken from the cache: these sources were proved with ${now%%$'\n'*}"
@@ -122,7 +123,7 @@ compile_for_machine() {
     left_by_ci "$crate" "$now" ||
         logged "proving libraries for $crate: about 30 minutes on two cores from a fresh clone" prove_below "$crate"
     logged "proving and compiling $crate for $machine" \
-        over_libraries "$crate" "$file" --target "$machine-unknown-linux-gnu"
+        over_libraries "$crate" "$file" --target "$target"
     need_unchanged "$crate" "$now"
     cache "$crate-$machine" "$now" "$file"
 }

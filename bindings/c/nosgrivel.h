@@ -43,14 +43,14 @@ extern "C" {
 uint32_t nosgrivel_version(void);
 
 /* The statuses of the calls, and the value of *count after each. `normalise` and `canonicalise` return 0, 1, 3 or 5, in
- * place 0, 1 or 3, `judge` 0, 1, 2 or 3, `check` and `explain` 0, 1 or 3, and `strip` 0, 1, 3, 5 or 6. No call returns
- * 4, the exit status of programs that couldn't read or write. */
+ * place 0, 1 or 3, `rewrite` 0 or 1, `judge` 0, 1, 2 or 3, `check` and `explain` 0, 1 or 3, and `strip` 0, 1, 3, 5 or 6.
+ * No call returns 4, the exit status of programs that couldn't read or write. */
 
-/* Success. `normalise` and `canonicalise` have written the minimal encoding; for `judge` and `check` the input is
- * minimally encoded. *count: the length of the minimal encoding. */
+/* Success. `normalise`, `canonicalise` and `rewrite` have written the minimal encoding; for `judge` and `check` the
+ * input is minimally encoded. *count: the length of the minimal encoding. */
 #define NOSGRIVEL_NORMAL 0u
 
-/* The input is malformed; for `check`, it is malformed or not minimally encoded. Nothing was written. *count: the
+/* The input is malformed; for `check`, it is malformed or not minimally encoded. Only `rewrite` has written. *count: the
  * length of the longest prefix that decodes, so the offset of the first section, instruction, entry or code body that
  * doesn't; for `check`, the length of the longest prefix that is minimally encoded. It is 0 if the header of a module,
  * or the count of a body, is malformed. */
@@ -100,6 +100,15 @@ uint32_t nosgrivel_normalise_code_section_in_place(uint8_t *bytes, size_t len, s
 uint32_t nosgrivel_canonicalise(
     const uint8_t *input, size_t input_len, uint8_t *output, size_t output_len, size_t *count);
 uint32_t nosgrivel_canonicalise_in_place(uint8_t *bytes, size_t len, size_t *count);
+
+/* Replace the bytes by their minimal encoding, or a module by its canonical form, without any memory. After
+ * NOSGRIVEL_NORMAL the first *count bytes are that encoding. The others are unspecified, and after NOSGRIVEL_REFUSED all
+ * are: keep a copy, or use the calls in place above, if you need them. */
+uint32_t nosgrivel_rewrite_module(uint8_t *bytes, size_t len, size_t *count);
+uint32_t nosgrivel_rewrite_instructions(uint8_t *bytes, size_t len, size_t *count);
+uint32_t nosgrivel_rewrite_type_section(uint8_t *bytes, size_t len, size_t *count);
+uint32_t nosgrivel_rewrite_code_section(uint8_t *bytes, size_t len, size_t *count);
+uint32_t nosgrivel_rewrite_canonical(uint8_t *bytes, size_t len, size_t *count);
 
 /* Check whether the input is minimally encoded: NOSGRIVEL_NORMAL if it is, NOSGRIVEL_NOT_NORMAL if its minimal encoding
  * is shorter. In both cases *count is the length of the minimal encoding, and the length that a normaliser needs. */

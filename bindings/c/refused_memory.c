@@ -40,7 +40,7 @@ struct row {
     const uint8_t *input, *normal;
     size_t input_len, normal_len, checked;
     normalise *normalise;
-    in_place *in_place;
+    in_place *in_place, *rewrite;
     question *judge, *check;
 };
 
@@ -55,36 +55,39 @@ static void expect(int holds, const char *name, const char *what, long at) {
     }
 }
 
-/* Makes one of the four calls. */
+/* Makes one of the five calls. */
 static uint32_t answer(const struct row *row, int call, uint8_t *output, size_t *count) {
     switch (call) {
     case 0: return row->normalise(row->input, row->input_len, output, row->input_len, count);
     case 1: return row->in_place(output, row->input_len, count);
     case 2: return row->judge(row->input, row->input_len, count);
+    case 3: return row->rewrite(output, row->input_len, count);
     default: return row->check(row->input, row->input_len, count);
     }
 }
 
 static void granted(const struct row *row, int call, uint32_t status, size_t count, const uint8_t *output,
                     const uint8_t *before) {
-    static const uint32_t wanted[] = {NOSGRIVEL_NORMAL, NOSGRIVEL_NORMAL, NOSGRIVEL_NOT_NORMAL, NOSGRIVEL_REFUSED};
-    size_t written = call < 2 ? row->normal_len : 0;
+    static const uint32_t wanted[] = {NOSGRIVEL_NORMAL, NOSGRIVEL_NORMAL, NOSGRIVEL_NOT_NORMAL, NOSGRIVEL_NORMAL,
+                                      NOSGRIVEL_REFUSED};
+    size_t written = call < 2 || call == 3 ? row->normal_len : 0;
+    size_t kept = call == 3 ? row->input_len : written; /* what follows the minimal encoding may be rewritten too */
     expect(status == wanted[call], row->name, "status", call);
-    expect(count == (call < 3 ? row->normal_len : row->checked), row->name, "count", call);
+    expect(count == (call < 4 ? row->normal_len : row->checked), row->name, "count", call);
     expect(memcmp(output, row->normal, written) == 0, row->name, "normal form", call);
-    expect(memcmp(output + written, before + written, ROOM - written) == 0, row->name, "what follows", call);
+    expect(memcmp(output + kept, before + kept, ROOM - kept) == 0, row->name, "what follows", call);
 }
 
-/* The check of a module's section sizes needs no memory; the other calls do. */
+/* Rewriting and the check of a module's section sizes need no memory; the other calls do. */
 static int needs_memory(const struct row *row, int call) {
-    return call < 3 || row->check != nosgrivel_check_module;
+    return call < 3 || (call == 4 && row->check != nosgrivel_check_module);
 }
 
 /* Makes the first allocation fail, then the second, and so on, until none fails. */
 static void sweep(const struct row *row, int call) {
     uint8_t output[ROOM], before[ROOM];
     memset(before, 0xAA, sizeof before);
-    if (call == 1) memcpy(before, row->input, row->input_len);
+    if (call == 1 || call == 3) memcpy(before, row->input, row->input_len);
     for (long refused = 0; refused < 100; refused++) {
         size_t count = 77;
         memcpy(output, before, sizeof output);
@@ -156,7 +159,8 @@ static const uint8_t code_section_normal[] = {0x02, 0x02, 0x00, 0x0B, 0x04, 0x00
 
 #define ROW(kind, checked)                                                                                             \
     {#kind, kind##_input, kind##_normal, sizeof kind##_input, sizeof kind##_normal, checked,                           \
-     nosgrivel_normalise_##kind, nosgrivel_normalise_##kind##_in_place, nosgrivel_judge_##kind, nosgrivel_check_##kind}
+     nosgrivel_normalise_##kind, nosgrivel_normalise_##kind##_in_place, nosgrivel_rewrite_##kind,                      \
+     nosgrivel_judge_##kind, nosgrivel_check_##kind}
 
 /* A call, which uses the output and the count or the refusal. */
 typedef uint32_t call(uint8_t *output, size_t *count, struct nosgrivel_refusal *refusal);
@@ -266,10 +270,11 @@ int main(void) {
     static const struct row rows[] = {
         ROW(module, 11), ROW(instructions, 1), ROW(type_section, 4), ROW(code_section, 4),
         {"canonical forms", canonical_input, canonical_normal, sizeof canonical_input, sizeof canonical_normal, 8,
-         nosgrivel_canonicalise, nosgrivel_canonicalise_in_place, nosgrivel_judge_canonical, nosgrivel_check_canonical}};
+         nosgrivel_canonicalise, nosgrivel_canonicalise_in_place, nosgrivel_rewrite_canonical,
+         nosgrivel_judge_canonical, nosgrivel_check_canonical}};
     expect(nosgrivel_version() == NOSGRIVEL_VERSION_NUMBER, "nosgrivel_version", "version", (long)nosgrivel_version());
     for (size_t i = 0; i < sizeof rows / sizeof *rows; i++) {
-        for (int call = 0; call < 4; call++) sweep(&rows[i], call);
+        for (int call = 0; call < 5; call++) sweep(&rows[i], call);
         short_outputs(&rows[i]);
     }
     sweep_call("nosgrivel_strip", strip_but_one);

@@ -18,7 +18,7 @@ ARCHIVE = OUT / "libnosgrivel.a"
 BUILT = OUT / "nosgrivel_c.a"
 HEADER = ROOT / "bindings/c/nosgrivel.h"
 # The definitions of the numbers that contracts give.
-NUMBERS = ROOT / "crates/nosgrivel_c/specs/Explaining.antt"
+NUMBERS = ROOT / "crates/flat_refusals/specs/FlatRefusals.antt"
 # The functions of the heap, and those that the compiler calls to move and to fill bytes.
 NEEDED = {"free", "malloc", "memcpy", "memmove", "memset", "realloc"}
 SANITIZERS = ["-g", "-fsanitize=address,undefined", "-fno-sanitize-recover=all"]

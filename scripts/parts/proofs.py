@@ -13,8 +13,10 @@ from parts.common import ROOT, counted, program, room
 from parts.kept import keep, sources
 
 # The libraries on which no other library stands.
-LIBRARIES = ("wasm_encoder", "wasm_listing")
+LIBRARIES = ("wasm_encoder", "wasm_listing", "flat_refusals")
 PROGRAMS = ("wasmcanon", "wasmnorm")
+# The static libraries that scripts compile.
+STATIC = ("nosgrivel_c", "nosgrivel_wasm")
 # The sources that this run of the gate proved, by the crates that are built from them.
 proved = {}
 # The calls of rattle in a timed run.
@@ -23,7 +25,7 @@ calls = []
 
 def run(report, is_timed=False):
     """If all is proved, the user's cache keeps the programs, so that launchers and scripts/install prove nothing."""
-    before = {crate: sources(crate) for crate in (*PROGRAMS, "nosgrivel_c")}
+    before = {crate: sources(crate) for crate in (*PROGRAMS, *STATIC)}
     if is_timed:
         prove_timed(report)
     else:
@@ -32,7 +34,9 @@ def run(report, is_timed=False):
         proved.update({crate: known for crate, known in before.items() if sources(crate) == known})
     for crate, known in proved.items():
         # Until the next run removes it, this says that the libraries below the crate are as they were proved.
-        (ROOT / "crates" / crate / "out/proved").write_text(f"{known}\n", "utf-8")
+        folder = ROOT / "crates" / crate / "out"
+        folder.mkdir(exist_ok=True)
+        (folder / "proved").write_text(f"{known}\n", "utf-8")
     for crate in PROGRAMS:
         if crate in proved and program(crate).exists():
             keep(crate, proved[crate], program(crate))

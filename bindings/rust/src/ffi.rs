@@ -58,6 +58,12 @@ extern "C" {
 
     pub fn nosgrivel_canonicalise_in_place(bytes: *mut u8, len: usize, count: *mut usize) -> u32;
 
+    pub fn nosgrivel_rewrite_module(bytes: *mut u8, len: usize, count: *mut usize) -> u32;
+    pub fn nosgrivel_rewrite_instructions(bytes: *mut u8, len: usize, count: *mut usize) -> u32;
+    pub fn nosgrivel_rewrite_type_section(bytes: *mut u8, len: usize, count: *mut usize) -> u32;
+    pub fn nosgrivel_rewrite_code_section(bytes: *mut u8, len: usize, count: *mut usize) -> u32;
+    pub fn nosgrivel_rewrite_canonical(bytes: *mut u8, len: usize, count: *mut usize) -> u32;
+
     pub fn nosgrivel_judge_module(input: *const u8, len: usize, count: *mut usize) -> u32;
     pub fn nosgrivel_judge_instructions(input: *const u8, len: usize, count: *mut usize) -> u32;
     pub fn nosgrivel_judge_type_section(input: *const u8, len: usize, count: *mut usize) -> u32;

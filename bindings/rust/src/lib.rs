@@ -78,7 +78,7 @@ impl std::error::Error for Error {}
 /// [`Error::Refused`] with the offset of the first section that is cut or, if it is a type section or a code section,
 /// malformed. The offset is 0 if the header is malformed. [`Error::NoMemory`] if memory runs out.
 pub fn normalise_module(module: &[u8]) -> Result<Vec<u8>, Error> {
-    normalised(ffi::nosgrivel_normalise_module_in_place, module)
+    normalised(ffi::nosgrivel_rewrite_module, module)
 }
 
 /// Returns the canonical form of a module: every number, size, type, index and limit has its minimal encoding.
@@ -100,7 +100,7 @@ pub fn normalise_module(module: &[u8]) -> Result<Vec<u8>, Error> {
 /// [`Error::Refused`] with the offset of the first malformed section, or 0 if the header is malformed.
 /// [`Error::NoMemory`] if memory runs out.
 pub fn canonicalise(module: &[u8]) -> Result<Vec<u8>, Error> {
-    normalised(ffi::nosgrivel_canonicalise_in_place, module)
+    normalised(ffi::nosgrivel_rewrite_canonical, module)
 }
 
 /// Rewrites a module as its canonical form. After an error the module is unchanged.
@@ -169,7 +169,7 @@ pub fn strip(module: &[u8], dropped: &[&str], kept: &[&str]) -> Result<Vec<u8>, 
 ///
 /// [`Error::Refused`] with the offset of the first malformed instruction. [`Error::NoMemory`] if memory runs out.
 pub fn normalise_instructions(instructions: &[u8]) -> Result<Vec<u8>, Error> {
-    normalised(ffi::nosgrivel_normalise_instructions_in_place, instructions)
+    normalised(ffi::nosgrivel_rewrite_instructions, instructions)
 }
 
 /// Returns the minimal encoding of the body of a type section, without the section's id and size.
@@ -186,7 +186,7 @@ pub fn normalise_instructions(instructions: &[u8]) -> Result<Vec<u8>, Error> {
 /// [`Error::Refused`] with the offset of the first malformed entry or of the trailing bytes, or 0 if the count is
 /// malformed. [`Error::NoMemory`] if memory runs out.
 pub fn normalise_type_section(body: &[u8]) -> Result<Vec<u8>, Error> {
-    normalised(ffi::nosgrivel_normalise_type_section_in_place, body)
+    normalised(ffi::nosgrivel_rewrite_type_section, body)
 }
 
 /// Returns the minimal encoding of the body of a code section, without the section's id and size.
@@ -203,7 +203,7 @@ pub fn normalise_type_section(body: &[u8]) -> Result<Vec<u8>, Error> {
 /// [`Error::Refused`] with the offset of the first malformed code body or of the trailing bytes, or 0 if the count is
 /// malformed. [`Error::NoMemory`] if memory runs out.
 pub fn normalise_code_section(body: &[u8]) -> Result<Vec<u8>, Error> {
-    normalised(ffi::nosgrivel_normalise_code_section_in_place, body)
+    normalised(ffi::nosgrivel_rewrite_code_section, body)
 }
 
 /// Rewrites a module as its minimal encoding. After an error the module is unchanged.

@@ -1,14 +1,15 @@
 -- What a call promises follows from what the normaliser or the check promises that it calls, and from its status.
-use Rattle.std.proofs.Common.{◌≡◌, ℕ, List, length, Result, Ok, Err, inl, inr, refl, sym, subst, arith}
+use Rattle.std.proofs.Common.{◌≡◌, ◌≤◌, ℕ, List, length, take, Result, Ok, Err, inl, inr, refl, sym, subst, arith}
 use Rattle.std.specs.Global.{Vec}
 use Rattle.wasm_codec.specs.declared.reader.ReadError.{ReadError}
 use Rattle.wasm_codec.specs.declared.reader.ReadError.TheVariants as errors
+use Rattle.wasm_codec.specs.declared.reader.refusal.Refusal.{Refusal}
 use Rattle.wasm_codec.specs.formats.Grammar.{Grammar}
 use Rattle.wasm_codec.specs.formats.Combinators.{Format}
-use Rattle.wasm_codec.specs.Outcomes.{IsLongestPrefix}
-use Rattle.wasm_codec.specs.Decoding.{Checks, ChecksAll, Normalises}
-use Rattle.nosgrivel_c.specs.Delivery.{IsAnswer, IsChecked, IsDelivered, IsDelivery, IsJudged, c_too_long}
-use Rattle.nosgrivel_c.specs.Calls.{ChecksNormal, JudgesNormal, WritesInPlace, WritesNormal}
+use Rattle.wasm_codec.specs.Outcomes.{as_decoded, as_read, IsLongestPrefix, IsNormalForm}
+use Rattle.wasm_codec.specs.Decoding.{Checks, ChecksAll, Normalises, NormalisesSlice}
+use Rattle.nosgrivel_c.specs.Delivery.{IsAnswer, IsChecked, IsDelivered, IsDelivery, IsJudged, IsRewritten, c_too_long}
+use Rattle.nosgrivel_c.specs.Calls.{ChecksNormal, JudgesNormal, RewritesNormal, WritesInPlace, WritesNormal}
 
 -- the longest prefix has the length that was reported
 pub at_count : {IsPrefix : List ℕ → Type 0} {input : List ℕ} (at count : ℕ) → count ≡ at → IsLongestPrefix IsPrefix input at → IsLongestPrefix IsPrefix input count
@@ -39,6 +40,23 @@ module _ {V : Type 0} (Minimal : Grammar V) (IsPrefix : List ℕ → Type 0) (in
     encodes_none = λ s some. omega (arith, is, s);
     no_memory = λ s. told;
     status = inr (inr is);
+  }
+
+module _ {V : Type 0} (F : Format V) (IsPrefix : List ℕ → Type 0) (old new : List ℕ) where
+  pub rewrites_normal : (result : Result ℕ Refusal) (count status : ℕ) → NormalisesSlice F IsPrefix old new (as_read (as_decoded result)) → IsRewritten result count status → RewritesNormal F IsPrefix old new count status
+  rewrites_normal (Ok len) count status n (is, told) = record {
+    within = λ s. subst (λ (k : ℕ). k ≤ length new) (sym told) n.within;
+    written = λ s. subst (λ (k : ℕ). IsNormalForm F.Encodes F.bytes old (take k new)) (sym told) n.normalises.given;
+    refused = λ s. absurd (omega (arith, is, s));
+    encodes_none = λ s some. omega (arith, is, s);
+    status = inl is;
+  }
+  rewrites_normal (Err refusal) count status n (is, told) = record {
+    within = λ s. absurd (omega (arith, is, s));
+    written = λ s. absurd (omega (arith, is, s));
+    refused = λ s. at_count refusal.at count told n.normalises.prefix;
+    encodes_none = λ s some. n.normalises.unencoded some.0 some.1;
+    status = inr is;
   }
 
 module _ {V : Type 0} (F : Format V) (Minimal : Grammar V) (IsPrefix : List ℕ → Type 0) (input : List ℕ) where

@@ -1,10 +1,11 @@
 -- What the calls promise, whatever they normalise or check.
-use Rattle.std.specs.Prelude.{◌≡◌, ◌≢◌, ◌≤◌, ℕ, List, length}
+use Rattle.std.specs.Prelude.{◌≡◌, ◌≢◌, ◌≤◌, ℕ, List, length, take}
 use Rattle.wasm_codec.specs.formats.Grammar.{Grammar}
 use Rattle.wasm_codec.specs.formats.Combinators.{Format}
 use Rattle.wasm_codec.specs.Outcomes.{IsLongestPrefix, IsNormalForm, EncodesSome}
-use Rattle.nosgrivel_c.specs.declared.delivery.TheConstants.{NORMAL, REFUSED, NOT_NORMAL, NO_MEMORY, TOO_LONG}
-use Rattle.nosgrivel_c.specs.Delivery.{BeginsWithNormal, IsOutputTooShort, IsShorter, IsDelivery, IsAnswer, IsJudgement}
+use Rattle.flat_refusals.specs.declared.statuses.TheConstants.{NORMAL, REFUSED, NOT_NORMAL, NO_MEMORY}
+use Rattle.nosgrivel_c.specs.declared.delivery.TheConstants.{TOO_LONG}
+use Rattle.nosgrivel_c.specs.Delivery.{BeginsWithNormal, IsOutputTooShort, IsShorter, IsDelivery, IsAnswer, IsJudgement, IsRewriting}
 
 module _ {V : Type 0} (F : Format V) (IsPrefix : List ℕ → Type 0) where
   -- A call that writes the minimal encoding of the input to the output `old`, which becomes `new`.
@@ -38,6 +39,17 @@ module _ {V : Type 0} (F : Format V) (IsPrefix : List ℕ → Type 0) where
     pub no_memory : result ≡ NO_MEMORY → count ≡ before
     -- No other status is returned: the minimal encoding fits.
     pub status : IsAnswer result
+
+  -- A call that replaces the bytes `old`, which it makes `new`, by their minimal encoding, without memory of its own.
+  pub record RewritesNormal (old new : List ℕ) (count result : ℕ) : Type 0 where
+    -- The bytes begin with their minimal encoding, and the count is its length.
+    pub within : result ≡ NORMAL → count ≤ length new
+    pub written : result ≡ NORMAL → IsNormalForm F.Encodes F.bytes old (take count new)
+    -- Only a malformed input is refused, and the count is the length of the longest prefix that decodes.
+    pub refused : result ≡ REFUSED → IsLongestPrefix IsPrefix old count
+    pub encodes_none : result ≡ REFUSED → EncodesSome F.Encodes old → ⊥
+    -- No other status is returned.
+    pub status : IsRewriting result
 
   -- A call that returns whether the input is its own minimal encoding, and the length of that encoding.
   pub record JudgesNormal (input : List ℕ) (before count result : ℕ) : Type 0 where

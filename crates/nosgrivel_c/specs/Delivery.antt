@@ -1,6 +1,7 @@
 -- The caller's memory after a C call, and the status that it returns.
 use Rattle.std.specs.Prelude.{◌≡◌, ℕ, ◌<◌, ◌≤◌, ◌⊎◌, List, ◌++◌, length, drop, Result, Ok, Err}
 use Rattle.wasm_codec.specs.declared.reader.ReadError.{ReadError}
+use Rattle.wasm_codec.specs.declared.reader.refusal.Refusal.{Refusal}
 use Rattle.wasm_codec.specs.declared.reader.ReadError.TheVariants as errors
 
 -- ---- the caller's memory
@@ -63,6 +64,10 @@ IsDelivery status = (status ≡ c_normal) ⊎ (status ≡ c_refused) ⊎ (status
 abbrev pub IsAnswer : ℕ → Type 0
 IsAnswer status = (status ≡ c_normal) ⊎ (status ≡ c_refused) ⊎ (status ≡ c_no_memory)
 
+-- The status is one of those of `nosgrivel_rewrite_…`.
+abbrev pub IsRewriting : ℕ → Type 0
+IsRewriting status = (status ≡ c_normal) ⊎ (status ≡ c_refused)
+
 -- The status is one of those of `nosgrivel_judge_…`.
 abbrev pub IsJudgement : ℕ → Type 0
 IsJudgement status = (status ≡ c_normal) ⊎ (status ≡ c_refused) ⊎ (status ≡ c_not_normal) ⊎ (status ≡ c_no_memory)
@@ -91,3 +96,8 @@ IsJudged view (Err error) len before count status = TellsRefusal error before co
 abbrev pub IsChecked : {X : Type 0} → Result X ReadError → ℕ → ℕ → ℕ → ℕ → Type 0
 IsChecked (Ok x) len before count status = (status ≡ c_normal) × (count ≡ len)
 IsChecked (Err error) len before count status = TellsRefusal error before count status
+
+-- The length of the encoding or the offset of the refusal was reported.
+abbrev pub IsRewritten : Result ℕ Refusal → ℕ → ℕ → Type 0
+IsRewritten (Ok len) count status = (status ≡ c_normal) × (count ≡ len)
+IsRewritten (Err refusal) count status = (status ≡ c_refused) × (count ≡ refusal.at)

@@ -9,7 +9,8 @@ use Rattle.wasm_sections.specs.formats.ModuleSections.{module_section, whole_mod
 use Rattle.wasm_modules.specs.Selections.{IsSelected}
 use Rattle.wasm_modules.specs.declared.selection.Pattern.{Pattern}
 use Rattle.wasm_modules.specs.declared.selection.Selection.{Selection}
-use Rattle.nosgrivel_c.specs.declared.delivery.TheConstants.{NORMAL, REFUSED, NO_MEMORY, TOO_LONG, BAD_PATTERN}
+use Rattle.flat_refusals.specs.declared.statuses.TheConstants.{NORMAL, REFUSED, NO_MEMORY}
+use Rattle.nosgrivel_c.specs.declared.delivery.TheConstants.{TOO_LONG, BAD_PATTERN}
 use Rattle.nosgrivel_c.specs.Delivery.{BeginsWithNormal, IsOutputTooShort, IsDelivery, c_bad_pattern}
 
 -- ---- patterns in a text

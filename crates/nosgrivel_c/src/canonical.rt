@@ -2,11 +2,12 @@
 ghost use Rattle.wasm_code.specs.Modules.{IsModulePrefixOf};
 ghost use Rattle.wasm_codec.specs.formats.Combinators.{minimal_only};
 ghost use Rattle.wasm_sections.specs.formats.ModuleSections.{ShortestWholeModule, module_section, whole_module};
-ghost use Rattle.nosgrivel_c.specs.Calls.{ChecksNormal, JudgesNormal, WritesInPlace, WritesNormal};
+ghost use Rattle.nosgrivel_c.specs.Calls.{ChecksNormal, JudgesNormal, RewritesNormal, WritesInPlace, WritesNormal};
 
-use crate::delivery::{answer, deliver, judge};
+use crate::delivery::{answer, deliver, judge, report};
 use std::alloc::Global;
-use wasm_modules::modules::{check_whole_module, normalise_whole_module};
+use wasm_code::decode::rewrite_in_place;
+use wasm_modules::modules::{WholeModule, check_whole_module, normalise_whole_module};
 
 /// Writes the canonical form of a module to the start of the output: every number, size, type, index and limit has its
 /// minimal encoding.
@@ -39,6 +40,16 @@ pub extern "C" fn nosgrivel_canonicalise_in_place(
 {
     let canonical = normalise_whole_module(alloc, bytes);
     deliver(canonical, bytes, count)
+}
+
+/// Replaces a module by its minimal encoding in its own bytes.
+///
+/// The call needs no memory. If it refuses the bytes, they are unspecified afterwards.
+#[unsafe(no_mangle)]
+pub extern "C" fn nosgrivel_rewrite_canonical(bytes: &mut [u8], count: &mut usize) -> u32
+    ensures rewrites { RewritesNormal whole_module (IsModulePrefixOf module_section) bytes.old bytes.new count.new result }
+{
+    report(rewrite_in_place::<WholeModule>(bytes), count)
 }
 
 /// Checks whether a module is in its canonical form, and returns the length of that form.

@@ -1,10 +1,10 @@
 //! Bodies of code sections (Core 3.0, Code Section).
 ghost use Rattle.wasm_code.specs.formats.CodeBodies.{code_section_body, IsCodeSectionBodyPrefix, ShortestCodeSectionBody, IsShortestCodeSectionBodyPrefix};
-ghost use Rattle.nosgrivel_c.specs.Calls.{ChecksNormal, JudgesNormal, WritesInPlace, WritesNormal};
+ghost use Rattle.nosgrivel_c.specs.Calls.{ChecksNormal, JudgesNormal, RewritesNormal, WritesInPlace, WritesNormal};
 
-use crate::delivery::{answer, deliver, judge};
+use crate::delivery::{answer, deliver, judge, report};
 use std::alloc::Global;
-use wasm_code::code::normaliser::normalise_code_section;
+use wasm_code::code::normaliser::{normalise_code_section, rewrite_code_section_in_place};
 use wasm_code::code::reader::check_code_section;
 
 /// Writes the minimal encoding of the body of a code section to the start of the output.
@@ -35,6 +35,16 @@ pub extern "C" fn nosgrivel_normalise_code_section_in_place(
 {
     let normal = normalise_code_section(alloc, bytes);
     deliver(normal, bytes, count)
+}
+
+/// Replaces the body of a code section by its minimal encoding in its own bytes.
+///
+/// The call needs no memory. If it refuses the bytes, they are unspecified afterwards.
+#[unsafe(no_mangle)]
+pub extern "C" fn nosgrivel_rewrite_code_section(bytes: &mut [u8], count: &mut usize) -> u32
+    ensures rewrites { RewritesNormal code_section_body IsCodeSectionBodyPrefix bytes.old bytes.new count.new result }
+{
+    report(rewrite_code_section_in_place(bytes), count)
 }
 
 /// Checks whether the body of a code section is minimally encoded, and returns the length of its minimal encoding.

@@ -1,23 +1,10 @@
-//! The statuses of the calls, and the copy of a result to the caller's memory.
+//! The copy of a result to the caller's memory, and further statuses.
 ghost use Rattle.std.specs.Prelude.{length};
-ghost use Rattle.nosgrivel_c.specs.Delivery.{IsDelivered, IsJudged, IsChecked, TellsRefusal};
+ghost use Rattle.nosgrivel_c.specs.Delivery.{IsDelivered, IsJudged, IsChecked, IsRewritten, TellsRefusal};
 
+use flat_refusals::statuses::{NO_MEMORY, NORMAL, NOT_NORMAL, REFUSED};
 use wasm_codec::reader::ReadError;
-
-/// The call succeeded. The count is the length of the minimal encoding.
-pub const NORMAL: u32 = 0;
-
-/// The input is malformed. The count is the length of the longest prefix that decodes.
-///
-/// A check also refuses an input that isn't minimally encoded. The count is then the length of the longest prefix that
-/// is.
-pub const REFUSED: u32 = 1;
-
-/// The input isn't minimally encoded. The count is the length of its minimal encoding.
-pub const NOT_NORMAL: u32 = 2;
-
-/// Memory ran out. The caller's memory and the count are unchanged.
-pub const NO_MEMORY: u32 = 3;
+use wasm_codec::reader::refusal::Refusal;
 
 /// The output is too short for the result. The count is the length that it needs.
 pub const TOO_LONG: u32 = 5;
@@ -77,6 +64,22 @@ pub(crate) fn answer(checked: Result<(), ReadError>, input: &[u8], count: &mut u
             NORMAL
         }
         Err(error) => refuse(error, count),
+    }
+}
+
+/// Returns the status of a call that rewrites in place.
+pub(crate) fn report(rewritten: Result<usize, Refusal>, count: &mut usize) -> u32
+    ensures { IsRewritten rewritten count.new result }
+{
+    match rewritten {
+        Ok(len) => {
+            *count = len;
+            NORMAL
+        }
+        Err(refusal) => {
+            *count = refusal.at;
+            REFUSED
+        }
     }
 }
 

@@ -1,17 +1,22 @@
 //! Why and where whole modules are refused (Core 3.0, Modules).
-ghost use Rattle.std.specs.Prelude.{◌≡◌, true, false, length, IfErr};
+ghost use Rattle.std.specs.Prelude.{◌≡◌, true, false, length, IfErr, IfOk};
 ghost use Rattle.wasm_codec.specs.Outcomes.{IfMalformed, LiesIn, as_read};
 ghost use Rattle.wasm_code.specs.Reasons.{IsTrueOf};
 ghost use Rattle.wasm_modules.specs.RefusalNumbers.{CountsParts};
-ghost use Rattle.nosgrivel_c.specs.Explaining.{Explains, flat_accepted};
-ghost use Rattle.nosgrivel_c.specs.declared.delivery.TheConstants.{NORMAL, REFUSED};
+ghost use Rattle.nosgrivel_c.specs.Delivery.{IsChecked};
+ghost use Rattle.nosgrivel_c.specs.Explaining.{Explains};
+ghost use Rattle.flat_refusals.specs.FlatRefusals.{flat_accepted, flat_refusal};
+ghost use Rattle.flat_refusals.specs.declared.statuses.TheConstants.{NORMAL, REFUSED};
+ghost use Rattle.wasm_codec.specs.declared.reader.DecodeError.TheVariants.{Malformed};
+ghost use Rattle.wasm_codec.specs.declared.reader.refusal.Refusal.{Refusal};
 ghost use Rattle.wasm_codec.specs.Decoding.{ChecksAll};
 ghost use Rattle.wasm_codec.specs.formats.Combinators.{minimal_if, minimal_only};
 ghost use Rattle.wasm_code.specs.Modules.{IsModulePrefixOf};
 ghost use Rattle.wasm_sections.specs.formats.ModuleSections.{ShortestWholeModule, module_section, whole_module};
 ghost use Rattle.nosgrivel_c.specs.Calls.{ChecksNormal};
 
-use crate::refusal::{FlatRefusal, explain};
+use flat_refusals::refusal::FlatRefusal;
+use flat_refusals::statuses::{NO_MEMORY, NORMAL, REFUSED};
 use std::alloc::Global;
 use wasm_code::decode::{check, normalise};
 use wasm_codec::reader::DecodeError;
@@ -71,5 +76,28 @@ fn check_any(alloc: Global, input: &[u8]) -> Result<(), DecodeError>
     match normalise::<WholeModule>(alloc, input) {
         Ok(_canonical) => Ok(()),
         Err(error) => Err(error),
+    }
+}
+
+/// Writes what a check found to `told`, and returns the status. If memory ran out, only the status changes.
+fn explain(checked: Result<(), DecodeError>, input: &[u8], told: &mut FlatRefusal) -> u32
+    ensures checked { IsChecked (as_read checked) (length input.now) told.old.at told.new.at result }
+    ensures status { told.new.status ≡ result }
+    ensures accepted { IfOk checked (λ _. told.new ≡ flat_accepted (length input.now)) }
+    ensures refused { IfErr checked (λ error. (refusal : Refusal) → error ≡ Malformed refusal → told.new ≡ flat_refusal refusal) }
+{
+    match checked {
+        Ok(()) => {
+            *told = FlatRefusal::accepted(input.len());
+            NORMAL
+        }
+        Err(DecodeError::Malformed(refusal)) => {
+            *told = FlatRefusal::of(&refusal);
+            REFUSED
+        }
+        Err(DecodeError::Memory) => {
+            told.status = NO_MEMORY;
+            NO_MEMORY
+        }
     }
 }

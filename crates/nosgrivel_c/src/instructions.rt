@@ -2,11 +2,11 @@
 ghost use Rattle.wasm_codec.specs.Outcomes.{EncodesSome};
 ghost use Rattle.wasm_codec.specs.formats.Bodies.{to_end};
 ghost use Rattle.wasm_instructions.specs.formats.Instructions.{Instructions, ShortestInstructions, instruction};
-ghost use Rattle.nosgrivel_c.specs.Calls.{ChecksNormal, JudgesNormal, WritesInPlace, WritesNormal};
+ghost use Rattle.nosgrivel_c.specs.Calls.{ChecksNormal, JudgesNormal, RewritesNormal, WritesInPlace, WritesNormal};
 
-use crate::delivery::{answer, deliver, judge};
+use crate::delivery::{answer, deliver, judge, report};
 use std::alloc::Global;
-use wasm_instructions::normaliser::normalise_instructions;
+use wasm_instructions::normaliser::{normalise_instructions, rewrite_instructions_in_place};
 use wasm_instructions::reader::instructions::check_instructions;
 
 /// Writes the minimal encoding of a list of instructions to the start of the output.
@@ -37,6 +37,16 @@ pub extern "C" fn nosgrivel_normalise_instructions_in_place(
 {
     let normal = normalise_instructions(alloc, bytes);
     deliver(normal, bytes, count)
+}
+
+/// Replaces a list of instructions by its minimal encoding in its own bytes.
+///
+/// The call needs no memory. If it refuses the bytes, they are unspecified afterwards.
+#[unsafe(no_mangle)]
+pub extern "C" fn nosgrivel_rewrite_instructions(bytes: &mut [u8], count: &mut usize) -> u32
+    ensures rewrites { RewritesNormal (to_end instruction) (EncodesSome Instructions) bytes.old bytes.new count.new result }
+{
+    report(rewrite_instructions_in_place(bytes), count)
 }
 
 /// Checks whether a list of instructions is minimally encoded, and returns the length of its minimal encoding.

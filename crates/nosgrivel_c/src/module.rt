@@ -1,11 +1,11 @@
 //! Modules (Core 3.0, Modules). The bodies of sections other than type and code sections are not decoded.
 ghost use Rattle.wasm_code.specs.formats.Modules.{typed_module, ShortestModule};
 ghost use Rattle.wasm_code.specs.Modules.{IsShortestModulePrefix, IsTypedModulePrefix};
-ghost use Rattle.nosgrivel_c.specs.Calls.{ChecksNormal, JudgesNormal, WritesInPlace, WritesNormal};
+ghost use Rattle.nosgrivel_c.specs.Calls.{ChecksNormal, JudgesNormal, RewritesNormal, WritesInPlace, WritesNormal};
 
-use crate::delivery::{answer, deliver, judge};
+use crate::delivery::{answer, deliver, judge, report};
 use std::alloc::Global;
-use wasm_code::normaliser::normalise_module;
+use wasm_code::normaliser::{normalise_module, rewrite_module_in_place};
 use wasm_code::raw::check_module;
 
 /// Writes the minimal encoding of a module to the start of the output.
@@ -38,6 +38,16 @@ pub extern "C" fn nosgrivel_normalise_module_in_place(
 {
     let normal = normalise_module(alloc, bytes);
     deliver(normal, bytes, count)
+}
+
+/// Replaces a module by its minimal encoding in its own bytes.
+///
+/// The call needs no memory. If it refuses the bytes, they are unspecified afterwards.
+#[unsafe(no_mangle)]
+pub extern "C" fn nosgrivel_rewrite_module(bytes: &mut [u8], count: &mut usize) -> u32
+    ensures rewrites { RewritesNormal typed_module IsTypedModulePrefix bytes.old bytes.new count.new result }
+{
+    report(rewrite_module_in_place(bytes), count)
 }
 
 /// Checks whether a module is minimally encoded, and returns the length of its minimal encoding.

@@ -1,10 +1,12 @@
 //! Bodies of type sections (Core 3.0, Type Section).
 ghost use Rattle.wasm_types.specs.formats.Types.{type_body, IsTypeBodyPrefix, ShortestTypeBody, IsShortestTypeBodyPrefix};
-ghost use Rattle.nosgrivel_c.specs.Calls.{ChecksNormal, JudgesNormal, WritesInPlace, WritesNormal};
+ghost use Rattle.nosgrivel_c.specs.Calls.{ChecksNormal, JudgesNormal, RewritesNormal, WritesInPlace, WritesNormal};
 
-use crate::delivery::{answer, deliver, judge};
+use crate::delivery::{answer, deliver, judge, report};
 use std::alloc::Global;
-use wasm_types::type_sections::{check_type_section, normalise_type_section};
+use wasm_types::type_sections::{
+    check_type_section, normalise_type_section, rewrite_type_section_in_place,
+};
 
 /// Writes the minimal encoding of the body of a type section to the start of the output.
 ///
@@ -34,6 +36,16 @@ pub extern "C" fn nosgrivel_normalise_type_section_in_place(
 {
     let normal = normalise_type_section(alloc, bytes);
     deliver(normal, bytes, count)
+}
+
+/// Replaces the body of a type section by its minimal encoding in its own bytes.
+///
+/// The call needs no memory. If it refuses the bytes, they are unspecified afterwards.
+#[unsafe(no_mangle)]
+pub extern "C" fn nosgrivel_rewrite_type_section(bytes: &mut [u8], count: &mut usize) -> u32
+    ensures rewrites { RewritesNormal type_body IsTypeBodyPrefix bytes.old bytes.new count.new result }
+{
+    report(rewrite_type_section_in_place(bytes), count)
 }
 
 /// Checks whether the body of a type section is minimally encoded, and returns the length of its minimal encoding.

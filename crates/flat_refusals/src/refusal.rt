@@ -1,15 +1,11 @@
-//! Refusals as C sees them.
-ghost use Rattle.std.specs.Prelude.{◌≡◌, length, option_map, IfOk, IfErr};
-ghost use Rattle.wasm_codec.specs.declared.reader.DecodeError.TheVariants.{Malformed};
+//! Refusals as numbers.
+ghost use Rattle.std.specs.Prelude.{◌≡◌, option_map};
 ghost use Rattle.wasm_codec.specs.declared.reader.refusal.Refusal.{Refusal};
 ghost use Rattle.wasm_codec.specs.declared.reader.refusal.SectionPlace.{SectionPlace};
-ghost use Rattle.nosgrivel_c.specs.Explaining.{flat_accepted, flat_refusal, or_minus_one, offset_or_minus_one};
-ghost use Rattle.wasm_codec.specs.Outcomes.{as_read};
-ghost use Rattle.nosgrivel_c.specs.Delivery.{IsChecked};
+ghost use Rattle.flat_refusals.specs.FlatRefusals.{flat_accepted, flat_refusal, or_minus_one, offset_or_minus_one};
 
-use crate::delivery::{NO_MEMORY, NORMAL, REFUSED};
 use crate::reasons::FlatReason;
-use wasm_codec::reader::DecodeError;
+use crate::statuses::{NORMAL, REFUSED};
 use wasm_codec::reader::refusal::{Refusal, SectionPlace};
 
 /// Why and where a call refuses its input, as numbers.
@@ -44,7 +40,7 @@ pub struct FlatRefusal {
 
 impl FlatRefusal {
     /// Returns the numbers for an accepted input of this length.
-    fn accepted(len: usize) -> FlatRefusal
+    pub fn accepted(len: usize) -> FlatRefusal
         ensures { result ≡ flat_accepted len }
     {
         FlatRefusal {
@@ -64,7 +60,7 @@ impl FlatRefusal {
     }
 
     /// Returns the numbers of a refusal.
-    fn of(refusal: &Refusal) -> FlatRefusal
+    pub fn of(refusal: &Refusal) -> FlatRefusal
         ensures { result ≡ flat_refusal refusal.now }
     {
         let reason = FlatReason::of(refusal.reason);
@@ -85,7 +81,7 @@ impl FlatRefusal {
     }
 
     /// Returns the refusal that has these numbers. `None` means that none has them.
-    pub(crate) fn refusal(&self) -> Option<Refusal> {
+    pub fn refusal(&self) -> Option<Refusal> {
         let reason = FlatReason {
             code: self.reason,
             construct: self.construct,
@@ -150,28 +146,5 @@ fn offset_or_none(offset: Option<usize>) -> i64
     match offset {
         Some(offset) => i64::try_from(offset).unwrap_or(i64::MAX),
         None => -1,
-    }
-}
-
-/// Writes what a check found to `told`, and returns the status. If memory ran out, only the status changes.
-pub(crate) fn explain(checked: Result<(), DecodeError>, input: &[u8], told: &mut FlatRefusal) -> u32
-    ensures checked { IsChecked (as_read checked) (length input.now) told.old.at told.new.at result }
-    ensures status { told.new.status ≡ result }
-    ensures accepted { IfOk checked (λ _. told.new ≡ flat_accepted (length input.now)) }
-    ensures refused { IfErr checked (λ error. (refusal : Refusal) → error ≡ Malformed refusal → told.new ≡ flat_refusal refusal) }
-{
-    match checked {
-        Ok(()) => {
-            *told = FlatRefusal::accepted(input.len());
-            NORMAL
-        }
-        Err(DecodeError::Malformed(refusal)) => {
-            *told = FlatRefusal::of(&refusal);
-            REFUSED
-        }
-        Err(DecodeError::Memory) => {
-            told.status = NO_MEMORY;
-            NO_MEMORY
-        }
     }
 }

@@ -1,8 +1,8 @@
-//! Reasons as numbers, for C. `bindings/c/nosgrivel.h` lists the codes.
+//! Reasons as numbers. `bindings/c/nosgrivel.h` lists the codes.
 ghost use Rattle.std.specs.Prelude.{◌≡◌, ◌⊎◌, Some, IfSome, IfNone};
 ghost use Rattle.wasm_codec.specs.declared.reader.malformed.Construct.{Construct};
 ghost use Rattle.wasm_codec.specs.declared.reader.malformed.Reason.{Reason};
-ghost use Rattle.nosgrivel_c.specs.Explaining.{Fits, NamesBytes, NamesPart, construct_code, flat_reason, naming, numbers};
+ghost use Rattle.flat_refusals.specs.FlatRefusals.{Fits, NamesBytes, NamesPart, construct_code, flat_reason, naming, numbers};
 
 use wasm_codec::reader::malformed::{Construct, Reason};
 

@@ -1,6 +1,6 @@
--- The laws of texts in buffers of C.
+-- The laws of texts in buffers.
 use Rattle.std.proofs.Common.{◌≡◌, ℕ, ◌-◌, ◌<◌, ◌≤◌, List, length, subst, sym, arith}
-use Rattle.nosgrivel_c.specs.Messages.{ends_at, HoldsText, HoldsTextOf}
+use Rattle.flat_refusals.specs.Messages.{ends_at, HoldsText, HoldsTextOf}
 
 pub holds : (text old new : List ℕ) (count : ℕ) → (length text < length old → count ≡ length text) → (length old ≤ length text → count ≡ length old - 1) → 0 < length old → new ≡ ends_at count text old → HoldsText text old new
 holds text old new count whole cut some is = record {

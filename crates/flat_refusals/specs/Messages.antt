@@ -1,4 +1,4 @@
--- A text in a buffer of C, cut to the buffer's length and ended by NUL.
+-- A text in a buffer, cut to the buffer's length and ended by NUL.
 use Rattle.std.specs.Prelude.{◌≡◌, ℕ, ◌<◌, ◌≤◌, ◌-◌, List, ◌++◌, length, take, drop, set}
 
 -- The first `count` bytes of the text, then a NUL, stand at the start of the buffer. Its other bytes are unchanged.

@@ -1,0 +1,2 @@
+pub mod FlatRefusals
+pub mod Messages
