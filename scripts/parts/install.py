@@ -10,11 +10,12 @@ import shutil
 from parts.bindings import BUILT, FLAGS, LONGER, MINIMAL, expect, fault_of_example
 from parts.common import (ROOT, VERSION, CannotRun, copy_tree, help_of, lacks, last_lines, program, room,
                           run as run_command, said, text_of)
-from parts.kept import keep, sources
+from parts.kept import keep, sources, take
 from parts.proofs import PROGRAMS
 
 # The proved builds, by their crates.
 BUILDS = {**{name: program(name) for name in PROGRAMS}, "nosgrivel_c": BUILT}
+WASM = "nosgrivel_wasm"
 FILES = [*(f"bin/{name}" for name in PROGRAMS), *(f"share/man/man1/{name}.1" for name in PROGRAMS),
          "share/bash-completion/completions/wasmcanon", "share/zsh/site-functions/_wasmcanon",
          "share/fish/vendor_completions.d/wasmcanon.fish", "include/nosgrivel.h", "lib/libnosgrivel.a",
@@ -46,6 +47,16 @@ class Prefix:
         self.report.check(name, right, f"status {ran.returncode}, output {ran.stdout[:200]}, {text_of(ran.stderr)}")
 
 
+def keep_module(report, folder, tree, environment):
+    """Puts the library of the WebAssembly module, which scripts/release links, into the cache of the tree."""
+    made = folder / "javascript"
+    expect(report, "the WebAssembly module", ROOT / "scripts/wasm-module", made)
+    library = made / "library.a"
+    if not take(f"{WASM}-wasm64", sources(WASM), library):
+        raise CannotRun("the user's cache lacks the WebAssembly module")
+    keep(f"{WASM}-wasm64", sources(WASM, cwd=tree), library, cwd=tree, env=environment)
+
+
 def install(report, folder):
     """Installs from a copy of the tree, twice, once below DESTDIR. Removes the copy."""
     for crate, file in BUILDS.items():
@@ -56,6 +67,7 @@ def install(report, folder):
     environment = {**os.environ, "XDG_CACHE_HOME": str(folder / "cache")}
     for crate, file in BUILDS.items():
         keep(crate, sources(crate, cwd=tree), file, cwd=tree, env=environment)
+    keep_module(report, folder, tree, environment)
     words = {"into a folder": (folder / "prefix", {}), "again": (folder / "prefix", {}),
              "below DESTDIR": ("/usr", {"DESTDIR": str(folder / "root")})}
     for name, (prefix, more) in words.items():
@@ -98,6 +110,11 @@ def try_release(report, folder, tree, environment):
     if not one.exists() or not two.exists():
         return
     report.check("the releases are the same", one.read_bytes() == two.read_bytes(), "they differ")
+    packages = [archive.parent / f"nosgrivel-{VERSION}.tgz" for archive in (one, two)]
+    listed = text_of(run_command("tar", "-tf", packages[0]).stdout).split()
+    report.check("the package", "package/nosgrivel.wasm" in listed and "package/LICENSE" in listed, f"holds {listed}")
+    same = all(it.exists() for it in packages) and len({it.read_bytes() for it in packages}) == 1
+    report.check("the packages are the same", same, "they differ")
     ran = run_command("sha256sum", "--check", "--strict", "SHA256SUMS", cwd=one.parent)
     report.check("the digest of a release", ran.returncode == 0, said(ran))
     run_command("tar", "-xf", one, cwd=folder)

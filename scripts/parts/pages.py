@@ -18,7 +18,7 @@ from documentation import sources
 from parts.common import ROOT, copy_tree, last_lines, program as built, room, run as run_command
 
 PAGES = [ROOT / "README.md", ROOT / "CHANGELOG.md", *sorted(ROOT.glob("docs/*.md")), *sorted(ROOT.glob("bench/*.md")),
-         *(ROOT / folder / "README.md" for folder in ("bindings", "built", "linked"))]
+         *(ROOT / folder / "README.md" for folder in ("bindings", "bindings/js", "built", "linked"))]
 MADE = sorted(ROOT.glob("docs/api/*.md"))
 # Limit of a command, for one that hangs: far more than any takes on a busy machine, a build without proof too.
 SECONDS = 900
@@ -27,8 +27,8 @@ WORDS = 13500
 WRITTEN_BY_THE_GATE = re.compile(r"<!-- \w+: written by scripts/gate -->.*?<!-- end of \w+ -->", re.DOTALL)
 
 # Commands that prove or measure, or that the gate runs.
-OF_THE_GATE = re.compile(r"(bash \.ci/run|rt \w+|scripts/(gate|c-library|install|vendor|bench)|cd \S+)( |$)"
-                         r"|.*\bPREFIX/")
+OF_THE_GATE = re.compile(r"(bash \.ci/run|rt \w+|scripts/(gate|c-library|install|vendor|bench|wasm-module)|cd \S+"
+                         r"|npm install|node --\S+)( |$)|.*\bPREFIX/")
 # The tools and built files that commands need.
 ARCHIVE = "bindings/out/libnosgrivel.a"
 NEEDS = {"cc ": ["cc", ARCHIVE], "cargo ": ["cargo", ARCHIVE], "node ": ["node"], "xxd": ["xxd"], "clang ": ["clang"]}

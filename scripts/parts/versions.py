@@ -1,4 +1,4 @@
-"""The version in the file VERSION, and the same one in the sources, the C header, Cargo.toml and CHANGELOG.md."""
+"""The version in the file VERSION, and the same one in the sources, the C header, the packages and CHANGELOG.md."""
 import re
 
 from parts.common import ROOT, VERSION
@@ -10,6 +10,7 @@ HEADER = "bindings/c/nosgrivel.h"
 PLACES = [
     ("CHANGELOG.md", r"^## (\S+)", VERSION),
     ("bindings/rust/Cargo.toml", r'^version = "(.*)"', VERSION),
+    ("bindings/js/package.json", r'"version": "(.*)"', VERSION),
     ("crates/canon_cli/src/options.rt", r'VERSION: &str = "([^,"]*), written', VERSION),
     ("crates/wasmnorm/src/texts.rt", r'VERSION: &str = "wasmnorm (.*)"', VERSION),
     ("crates/nosgrivel_c/src/version.rt", r"ensures version \{ result ≡ (\w+) \}", f"0x{NUMBER:06x}"),
