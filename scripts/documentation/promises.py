@@ -42,6 +42,8 @@ def group_of(entry, item):
     return f"{found[1]}_…{found[2] or ''}" if found and item.name not in ALONE else ""
 
 
+# The crates whose functions other languages call.
+EXPORTS = ("nosgrivel_c", "nosgrivel_wasm")
 # Calls that serve implementations of Decode and Readable. The table leaves them out.
 OF_IMPLEMENTATIONS = re.compile(r"(Decode|Readable|RewritableBody|Rewriter|Cursor)::.*|check_list_to_end"
                                 r"|read_list_to_end|rewrite_list_to_end|rewrite_sized")
@@ -60,11 +62,12 @@ def all_calls(interface):
         for type_text, _, found in entry.of_types:
             stated = [(child.name, child.header.partition("=")[2]) for child in found.children if child.kind == "ghost"]
             yield Call(f"{entry.name} for {type_text}", f"`{entry.name}` for", stated, found)
-    for crate, file in (("nosgrivel_c", "lib.rt"), ("wasmnorm", "main.rt"), ("wasmcanon", "main.rt")):
+    for crate, file in (("nosgrivel_c", "lib.rt"), ("nosgrivel_wasm", "lib.rt"), ("wasmnorm", "main.rt"),
+                        ("wasmcanon", "main.rt")):
         root = interface.crates.module(ROOT / "crates" / crate / "src" / file, None, crate)
         for module in interface.modules(root):
             for item in module.children:
-                if item.kind == "fn" and (item.public and crate != "nosgrivel_c" or 'extern "C"' in item.header):
+                if item.kind == "fn" and (item.public and crate not in EXPORTS or 'extern "C"' in item.header):
                     interface.module_of[id(item)] = module
                     group = group_of(None, item) if crate == "nosgrivel_c" else f"{crate}::"
                     yield Call(item.name, group, ensured(item), item)

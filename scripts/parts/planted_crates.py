@@ -1,15 +1,17 @@
 """The crates whose edits are tried, and what is printed of each."""
 import collections
 import dataclasses
+import math
 import pathlib
 import shutil
 import threading
+import time
 
 from parts.common import room
 from parts.planted_edits import FILE, edits_of, entries_of, without_change
 from parts.planted_kept import Kept
 from parts.planted_kit import Fault, kit
-from parts.planted_rounds import NOT_REFUSED, REFUSED, Trial
+from parts.planted_rounds import NOT_REFUSED, REFUSED, UNTRIED, Trial
 from parts.planted_turns import turn_of
 
 
@@ -25,6 +27,13 @@ class Options:
     searched: bool = False
     verbose: bool = False
     self_test: bool = False
+    seconds: float = math.inf
+    begun: float = dataclasses.field(default_factory=time.monotonic)
+
+    @property
+    def until(self):
+        """When the last round may begin, by the monotonic clock."""
+        return self.begun + self.seconds
 
     @property
     def by_turns(self):
@@ -62,8 +71,9 @@ def chosen(root, options):
         return edits, ""
     turn, counts = turn_of(root), {crate.name: len(names) for crate, names in edits.items()}
     print(f"planted: {turn.about(counts)}", flush=True)
-    tried = turn.chosen(counts)
-    return {crate: names for crate, names in edits.items() if crate.name in tried}, turn.left(counts)
+    tried = sorted(turn.chosen(counts), key=turn.urgency)
+    by_name = {crate.name: crate for crate in edits}
+    return {by_name[name]: edits[by_name[name]] for name in tried}, turn.left(counts)
 
 
 def prepare_libraries(crates, after_gate):
@@ -95,7 +105,7 @@ class Work:
             if self.crate.has_kept() and not self.options.after_gate:
                 incremental = f"{self.crate.folder}/{kit().rtlib.KEPT[1]}"
                 shutil.copytree(incremental, folder, dirs_exist_ok=True, copy_function=shutil.copyfile)
-            trial = Trial(self.crate, sources, folder, jobs)
+            trial = Trial(self.crate, sources, folder, jobs, self.options.until)
             verdicts = trial.verdicts(edits)
             if self.options.searched and not self.options.clauses:
                 verdicts = trial.searched(verdicts)
@@ -107,7 +117,7 @@ class Work:
         """Prints the verdicts that aren't as expected, or all, and how many there are of each kind. Returns them."""
         verdicts = [*self.known, *tried]
         for it in verdicts:
-            if self.options.tells_all or it.kind != self.options.expected:
+            if self.options.tells_all or it.kind not in (self.options.expected, UNTRIED):
                 print(f"planted {self.crate.name}:{it.edit.name}: {it}")
         kept = f", {len(self.known) if tried else 'all'} kept from earlier runs on this machine" * bool(self.known)
         tried = f"{f', {len(tried)} tried' * bool(kept)} in {rounds} rounds" * bool(tried)
@@ -130,18 +140,20 @@ def try_all(edits, options):
 
 
 def try_pending(works, after_gate):
-    """The verdicts on the edits of crates that have edits without a kept verdict."""
+    """The verdicts on the edits of crates that have edits without a kept verdict. The crates are begun in this order.
+
+    The locks last as long as the process, so a process calls this once."""
     crates = [it.crate for it in works]
     held = kit().rtlib.lock(list(dict.fromkeys(it for crate in crates for it in [*crate.below(), crate])))
     prepare_libraries(crates, after_gate)
     kit().rtlib.guarded()
     printing, tasks = threading.Lock(), {}
-    for work in works:
+    for place, work in enumerate(works):
         def task(given, jobs, work=work):
             tried, rounds = work.run(jobs)
             with printing:
                 return work.report(tried, rounds)
-        tasks[work.crate.name, "rounds"] = ([], work.crate.count(rb"\n"), kit().need(work.crate), task)
+        tasks[work.crate.name, "rounds"] = ([], -place, kit().need(work.crate), task)
     verdicts = [it for found in kit().in_lanes(tasks).values() for it in found]
     del held
     return verdicts

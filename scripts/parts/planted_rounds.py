@@ -1,7 +1,9 @@
 """The rounds in which the edits of a crate are tried, and the verdict on each."""
 import dataclasses
+import math
 import re
 import subprocess
+import time
 
 from parts.common import room as temporary_room
 from parts.planted_checks import Checked, is_proved
@@ -9,7 +11,7 @@ from parts.planted_edits import Edit, as_written, by_itself, rounds_of, without_
 from parts.planted_kit import kit
 from parts.planted_room import Room
 
-REFUSED, NOT_REFUSED, BAD = "refused", "NOT REFUSED", "BAD EDIT"
+REFUSED, NOT_REFUSED, BAD, UNTRIED = "refused", "NOT REFUSED", "BAD EDIT", "NOT TRIED"
 
 # How an edit is refused: the search doesn't prove a goal, or only answers fail, which may be for their names alone.
 BY_SEARCH, BY_ANSWER, BY_NAMES = "by the search", "by an answer", "by an answer's names"
@@ -34,10 +36,12 @@ class Verdict:
 
 
 class Trial:
-    """The rounds of a crate, each over what those before it proved, in a folder of this run."""
+    """The rounds of a crate, each over what those before it proved, in a folder of this run. None begins after `until`,
+    by the monotonic clock."""
 
-    def __init__(self, crate, sources, kept, jobs):
-        self.crate, self.sources, self.kept, self.jobs, self.rounds = crate, sources, kept, jobs, 0
+    def __init__(self, crate, sources, kept, jobs, until=math.inf):
+        self.crate, self.sources, self.kept, self.jobs, self.until = crate, sources, kept, jobs, until
+        self.rounds = 0
 
     def verdicts(self, edits):
         bad = [Verdict(it, BAD, it.fault) for it in edits if it.fault]
@@ -45,6 +49,8 @@ class Trial:
         return [*bad, *(it for edits in rounds for it in self.round(edits))]
 
     def round(self, edits):
+        if time.monotonic() > self.until:
+            return [Verdict(it, UNTRIED, "no time is left") for it in edits]
         self.rounds += 1
         checked = self.check(edits)
         if checked.is_stale:

@@ -77,28 +77,34 @@ def paths_of(root, *words):
 
 
 def changed_since(root, base):
-    """The crates that differ between a commit and the working tree."""
+    """The crates that differ between a commit and the working tree, and those of them whose edits do."""
     paths = paths_of(root, "diff", "--name-only", "--relative", "--no-renames", "-z", base, "--", "crates")
     paths += paths_of(root, "ls-files", "--others", "--exclude-standard", "-z", "--", "crates")
     before = crate_lines(git(root, "show", f"{base}:./crates.txt") or "")
     now = crate_lines(pathlib.Path(root, "crates.txt").read_text("utf-8"))
     files = {path[1] for path in paths if len(path) > 2 and path[2] in WATCHED}
-    return files | {name for name, row in now.items() if row != before.get(name)}
+    edited = frozenset(path[1] for path in paths if path[2:] == ["planted.edits"])
+    return frozenset(files | {name for name, row in now.items() if row != before.get(name)}), edited
 
 
 @dataclasses.dataclass
 class Turn:
-    """What the landings say: how many there are, the last one and the crates that changed since. `why_all` says why all
-    crates are tried, if they are."""
+    """What the landings say: how many there are, the last one, the crates that changed since, and those whose edits did.
+    `why_all` says why all crates are tried, if they are."""
 
     landings: int = 0
     base: str = ""
     changed: frozenset = frozenset()
+    edited: frozenset = frozenset()
     why_all: str = ""
 
     def chosen(self, names):
         """Those of the crates that are tried."""
         return list(names) if self.why_all else by_turns(names, self.changed, self.landings)
+
+    def urgency(self, name):
+        """A key that sorts crates whose edits are new before others that changed, and these before the rest."""
+        return name not in self.edited, name not in self.changed
 
     def about(self, names):
         """The line that says which of the crates are tried, and why."""
@@ -130,5 +136,5 @@ def turn_of(root):
     if not landings:
         return Turn(why_all=f"{LANDINGS} lists no landing")
     why = why_not_since(root, landings[-1])
-    changed = frozenset() if why else frozenset(changed_since(root, landings[-1]))
-    return Turn(len(landings), landings[-1], changed, why)
+    changed, edited = (frozenset(), frozenset()) if why else changed_since(root, landings[-1])
+    return Turn(len(landings), landings[-1], changed, edited, why)
